@@ -1,0 +1,6 @@
+pub mod ErrorNames
+pub mod FaultNames
+pub mod Outcome
+pub mod Sizes
+pub mod SwiNames
+pub mod Word

@@ -1,0 +1,16 @@
+//! The names, numbers and limits of the machine, the words that it counts with, and the devices
+//! that scripts are read from and answers written to.
+#![tactic(auto)]
+
+pub mod config;
+pub mod error;
+pub mod fault;
+pub mod memory_map;
+pub mod stop;
+pub mod swi;
+
+pub use config::Config;
+pub use error::{ErrorNumber, error_text};
+pub use fault::Fault;
+pub use stop::Stop;
+pub use swi::SwiName;
