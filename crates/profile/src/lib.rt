@@ -3,14 +3,20 @@
 #![tactic(auto)]
 
 pub mod config;
+pub mod device;
 pub mod error;
 pub mod fault;
 pub mod memory_map;
+pub mod sink;
+pub mod source;
 pub mod stop;
 pub mod swi;
 
 pub use config::Config;
+pub use device::Device;
 pub use error::{ErrorNumber, error_text};
 pub use fault::Fault;
+pub use sink::{MemorySink, Sink, WriteFault, push_all, push_parts};
+pub use source::{MemorySource, ReadFault, Source};
 pub use stop::Stop;
 pub use swi::SwiName;

@@ -1,0 +1,38 @@
+-- Devices over memory: what they hold, how many bytes a call may take or give, how many calls are left before they fail.
+use Rattle.std.specs.Prelude.{ℕ, Bool, true, false, List, ◌-◌, ◌==◌, ◌||◌, ◌++◌, not, min, length, take, drop, if◌then◌else◌}
+
+pub record Store : Type 0 where
+  pub bytes : List ℕ
+  pub most : ℕ
+  pub calls : ℕ
+  pub has_failed : Bool
+
+abbrev pub failed : Store → Store
+failed s = record s { has_failed = true }
+
+-- a source: its bytes are those that it will still give
+abbrev pub can_pull : Store → Bool
+can_pull s = not (s.has_failed || (s.calls == 0))
+
+abbrev pub pull_count : Store → ℕ → ℕ
+pull_count s room = min (min s.most (length s.bytes)) room
+
+abbrev pub pulled : Store → ℕ → Store
+pulled s room = if can_pull s then record s { bytes = drop (pull_count s room) s.bytes; calls = s.calls - 1 } else failed s
+
+-- a sink: its bytes are those that it has taken, and its room is for so many
+pub record Room : Type 0 where
+  pub taken : List ℕ
+  pub room : ℕ
+  pub most : ℕ
+  pub calls : ℕ
+  pub has_failed : Bool
+
+abbrev pub can_push : Room → Bool
+can_push s = not (s.has_failed || (s.calls == 0) || (length s.taken == s.room))
+
+abbrev pub push_count : Room → ℕ → ℕ
+push_count s n = min (min s.most (s.room - length s.taken)) n
+
+abbrev pub pushed : Room → List ℕ → Room
+pushed s bytes = if can_push s then record s { taken = s.taken ++ take (push_count s (length bytes)) bytes; calls = s.calls - 1 } else record s { has_failed = true }
