@@ -4,5 +4,6 @@ pub mod MemoryDevices
 pub mod Outcome
 pub mod Output
 pub mod Sizes
+pub mod Sums
 pub mod SwiNames
 pub mod Word

@@ -11,6 +11,7 @@ pub mod sink;
 pub mod source;
 pub mod stop;
 pub mod swi;
+pub mod word;
 
 pub use config::Config;
 pub use device::Device;

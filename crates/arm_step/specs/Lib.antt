@@ -1,0 +1,3 @@
+pub mod Psr
+pub mod State
+pub mod Turns

@@ -1,0 +1,166 @@
+ghost use Rattle.std.specs.Prelude.{◌≡◌, ◌<◌, ◌≤◌, ◌^◌, ◌%◌};
+ghost use Rattle.arm_step.specs.State.{slot_of, register_in, with_register_in, register_of, with_register, r15_of, with_psr, with_pc, with_overflow, with_mode, start_state};
+
+use crate::psr::{Mode, Psr};
+use profile::memory_map::{ADDRESS_LIMIT, APPLICATION_START, SVC_STACK_END};
+use std::marker::Model;
+
+/// The core: the registers of all four modes, the status and the program counter, which is a
+/// multiple of 4 below 2^26.
+#[derive(Clone, Copy, Debug)]
+pub struct Cpu {
+    file: [u32; 26],
+    psr: Psr,
+    pc: u32,
+}
+
+impl Model for Cpu {
+    ghost use Rattle.std.specs.Prelude.{◌≡◌, ◌<◌, ◌^◌, ◌%◌};
+    ghost use Rattle.arm_step.specs.State.{State};
+
+    ghost Value = { State };
+
+    ghost view = { λ c. record { file = c.file; psr = c.psr; pc = c.pc } };
+
+    ghost invariant = { λ c. (c.pc < 2 ^ 26) × (c.pc % 4 ≡ 0) };
+
+    ghost inverse = { λ s. record { file = s.file; psr = s.psr; pc = s.pc } };
+}
+
+/// Where R0 to R14 lie in the file, as a mode sees them.
+#[tactic(auto, unfolding(crate::specs::State::slot_of))]
+fn slot(mode: Mode, number: u32) -> usize
+    requires { number < 15 }
+    ensures place { result ≡ slot_of mode number }
+    ensures bound { result < 26 }
+{
+    let shared = number as usize;
+    match mode {
+        Mode::User => shared,
+        Mode::FastInterrupt if shared >= 8 => shared + 7,
+        Mode::Interrupt if shared >= 13 => shared + 9,
+        Mode::Supervisor if shared >= 13 => shared + 11,
+        _ => shared,
+    }
+}
+
+impl Cpu {
+    /// The core as the machine starts: USR mode, all flags clear, the program counter at the start
+    /// of the application space, every register 0 but R13 of SVC mode.
+    #[tactic(auto, unfolding(crate::specs::State::start_state))]
+    pub fn new() -> Cpu
+        ensures { result ≡ start_state }
+    {
+        let mut file = [0; 26];
+        file[24] = SVC_STACK_END;
+        Cpu {
+            file,
+            psr: Psr {
+                negative: false,
+                zero: false,
+                carry: false,
+                overflow: false,
+                interrupts_off: false,
+                fast_interrupts_off: false,
+                mode: Mode::User,
+            },
+            pc: APPLICATION_START,
+        }
+    }
+
+    /// R0 to R14 of a mode, whatever the present one.
+    #[tactic(auto, unfolding(crate::specs::State::register_in))]
+    pub fn register_in(&self, mode: Mode, number: u32) -> u32
+        requires { number < 15 }
+        ensures { result ≡ register_in mode self.now number }
+    {
+        self.file[slot(mode, number)]
+    }
+
+    /// R0 to R15 of the present mode; R15 is the program counter with the status.
+    #[tactic(auto, unfolding(crate::specs::State::register_of))]
+    pub fn register(&self, number: u32) -> u32
+        requires { number ≤ 15 }
+        ensures { result ≡ register_of self.now number }
+    {
+        if number == 15 {
+            self.r15()
+        } else {
+            self.register_in(self.psr.mode, number)
+        }
+    }
+
+    /// The program counter with the status.
+    #[tactic(auto, unfolding(crate::specs::State::r15_of))]
+    pub fn r15(&self) -> u32
+        ensures { result ≡ r15_of self.now }
+    {
+        self.psr.bits() + self.pc
+    }
+
+    /// The program counter.
+    pub fn pc(&self) -> u32
+        ensures value { result ≡ self.now.pc }
+        ensures below { result < 2 ^ 26 }
+        ensures aligned { result % 4 ≡ 0 }
+    {
+        self.pc
+    }
+
+    /// The status.
+    pub fn psr(&self) -> Psr
+        ensures { result ≡ self.now.psr }
+    {
+        self.psr
+    }
+
+    /// Sets one of R0 to R14 of a mode, whatever the present one.
+    #[tactic(auto, unfolding(crate::specs::State::with_register_in))]
+    pub fn set_register_in(&mut self, mode: Mode, number: u32, value: u32)
+        requires { number < 15 }
+        ensures { self.new ≡ with_register_in mode self.old number value }
+    {
+        self.file[slot(mode, number)] = value;
+    }
+
+    /// Sets one of R0 to R14 of the present mode.
+    #[tactic(auto, unfolding(crate::specs::State::with_register))]
+    pub fn set_register(&mut self, number: u32, value: u32)
+        requires { number ≤ 14 }
+        ensures { self.new ≡ with_register self.old number value }
+    {
+        self.set_register_in(self.psr.mode, number, value);
+    }
+
+    /// Sets the program counter to bits 25 to 2 of an address; the other bits are left out.
+    #[tactic(auto, unfolding(crate::specs::State::with_pc))]
+    pub fn set_pc(&mut self, address: u32)
+        ensures { self.new ≡ with_pc self.old address }
+    {
+        self.pc = address % ADDRESS_LIMIT / 4 * 4;
+    }
+
+    /// Sets the whole status, the mode too.
+    #[tactic(auto, unfolding(crate::specs::State::with_psr))]
+    pub fn set_psr(&mut self, psr: Psr)
+        ensures { self.new ≡ with_psr self.old psr }
+    {
+        self.psr = psr;
+    }
+
+    /// Sets the flag V.
+    #[tactic(auto, unfolding(crate::specs::State::with_overflow))]
+    pub fn set_overflow(&mut self, overflow: bool)
+        ensures { self.new ≡ with_overflow self.old overflow }
+    {
+        self.psr.overflow = overflow;
+    }
+
+    /// Sets the mode.
+    #[tactic(auto, unfolding(crate::specs::State::with_mode))]
+    pub fn set_mode(&mut self, mode: Mode)
+        ensures { self.new ≡ with_mode self.old mode }
+    {
+        self.psr.mode = mode;
+    }
+}

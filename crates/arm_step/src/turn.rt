@@ -1,0 +1,15 @@
+use profile::Fault;
+
+/// How a step ended. On every answer but `Done` the core and the memory are as they were.
+#[derive(Clone, Copy, Debug, PartialEq, Eq)]
+pub enum Turn {
+    /// One instruction was carried out.
+    Done,
+    /// The instruction is a software interrupt, with the number in its bits 23 to 0. The program
+    /// counter still stands on it.
+    Swi(u32),
+    /// The program counter stands on the address that module code returns to.
+    Gate,
+    /// The instruction can't be fetched or carried out.
+    Fault(Fault),
+}
