@@ -1,1 +1,26 @@
+//! The instructions of the ARM2, from words to values and back.
+//!
+//! The table is that of the ARM2 data sheet; what the data sheet leaves undefined or forbids is
+//! refused by name. `docs/INSTRUCTIONS.md` has it in words.
 #![tactic(auto)]
+
+pub mod action;
+pub mod address;
+pub mod bits;
+pub mod condition;
+pub mod instr;
+pub mod operand;
+pub mod operation;
+pub mod refusals;
+pub mod register;
+pub mod shift;
+
+pub use action::{Action, BlockTransfer, Multiply, Operate, Transfer};
+pub use address::{Address, BlockMode, Direction, Indexing, Offset};
+pub use bits::Bits;
+pub use condition::Condition;
+pub use instr::Instr;
+pub use operand::Operand;
+pub use operation::Operation;
+pub use register::{Register, RegisterList};
+pub use shift::{Shift, ShiftedRegister};

@@ -1,0 +1,38 @@
+ghost use Rattle.std.specs.Prelude.{◌≡◌, ℕ, ◌<◌, ◌^◌};
+ghost use Rattle.profile.specs.Word.{field};
+
+use std::marker::Model;
+
+/// A field of `SIZE` bits of an instruction: a number below 2 to the power of `SIZE`.
+#[derive(Clone, Copy, Debug, PartialEq, Eq)]
+pub struct Bits<const SIZE: u32> {
+    number: u32,
+}
+
+impl<const SIZE: u32> Model for Bits<SIZE> {
+    ghost Value = { ℕ };
+
+    ghost view = { λ b. b.number };
+
+    ghost invariant = { λ b. b.number < 2 ^ SIZE };
+
+    ghost inverse = { λ n. record { number = n } };
+}
+
+impl<const SIZE: u32> Bits<SIZE> {
+    /// The field that holds this number.
+    pub fn new(number: u32) -> Bits<SIZE>
+        requires { number < 2 ^ SIZE }
+        ensures { result ≡ number }
+    {
+        Bits { number }
+    }
+
+    /// The number in the field.
+    pub fn number(self) -> u32
+        ensures value { result ≡ self.entry }
+        ensures below { result < 2 ^ SIZE }
+    {
+        self.number
+    }
+}

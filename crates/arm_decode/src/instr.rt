@@ -1,0 +1,47 @@
+ghost use Rattle.std.specs.Prelude.{◌≡◌, None};
+ghost use Rattle.arm_decode.specs.Refusals.{refusal};
+
+use crate::action::Action;
+use crate::condition::Condition;
+use std::marker::Model;
+
+/// An instruction of the ARM2: a condition, and what is done when it holds.
+///
+/// Contracts see it as that pair. One that the table refuses doesn't exist.
+#[derive(Clone, Copy, Debug, PartialEq, Eq)]
+pub struct Instr {
+    condition: Condition,
+    action: Action,
+}
+
+impl Model for Instr {
+    ghost use Rattle.std.specs.Prelude.{◌≡◌, None};
+    ghost use Rattle.arm_decode.specs.declared.condition.Condition.{Condition};
+    ghost use Rattle.arm_decode.specs.declared.action.Action.{Action};
+    ghost use Rattle.arm_decode.specs.Refusals.{refusal};
+
+    ghost Value = { Condition × Action };
+
+    ghost view = { λ i. (i.condition, i.action) };
+
+    ghost invariant = { λ i. refusal i.action ≡ None };
+
+    ghost inverse = { λ v. record { condition = v.0; action = v.1 } };
+}
+
+impl Instr {
+    /// When the instruction is carried out.
+    pub fn condition(self) -> Condition
+        ensures { result ≡ self.0 }
+    {
+        self.condition
+    }
+
+    /// What the instruction does.
+    pub fn action(self) -> Action
+        ensures value { result ≡ self.1 }
+        ensures allowed { refusal result ≡ None }
+    {
+        self.action
+    }
+}
