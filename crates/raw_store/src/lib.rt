@@ -1,1 +1,6 @@
+//! One region of raw bytes, all of a machine's memory, and the reads and writes of it.
 #![tactic(auto)]
+
+pub mod store;
+
+pub use store::RawStore;

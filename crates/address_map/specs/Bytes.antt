@@ -1,0 +1,69 @@
+-- Memory as the layers above see it: which addresses are mapped, and the byte at each. A load or a store is a function of
+-- that alone. Addresses have 26 bits, words are little-endian and lie at multiples of 4 (ARM2 data sheet, "Memory
+-- interface"); an access past the end of the address space is an address exception there.
+use Rattle.std.specs.Prelude.{◌≡◌, ◌≤◌, ◌<◌, ℕ, ◌+◌, ◌*◌, ◌-◌, ◌/◌, ◌%◌, ◌^◌, ◌==◌, Bool, true, false, nat_le, Option, Some, None, Result, Ok, Err, if◌then◌else◌}
+use Rattle.profile.specs.declared.fault.Fault.{Fault}
+use Rattle.profile.specs.declared.fault.Fault.TheVariants.{AddressException, DataUnmapped, OwnedWord}
+
+-- a byte where no memory is mapped counts as 0
+pub record Bytes : Type 0 where
+  pub mapped : ℕ → Bool
+  pub at : ℕ → ℕ
+
+-- each of the `len` addresses from `at` on is mapped, or none of them is
+abbrev pub AreMapped : (ℕ → Bool) → ℕ → ℕ → Type 0
+AreMapped mapped at len = (a : ℕ) → at ≤ a → a < at + len → mapped a ≡ true
+
+abbrev pub AreUnmapped : (ℕ → Bool) → ℕ → ℕ → Type 0
+AreUnmapped mapped at len = (a : ℕ) → at ≤ a → a < at + len → mapped a ≡ false
+
+-- the address of the word that holds the byte at `a`: bits 1 and 0 are ignored
+abbrev pub word_start : ℕ → ℕ
+word_start a = a - a % 4
+
+-- the word at an address
+abbrev pub word_at : (ℕ → ℕ) → ℕ → ℕ
+word_at bytes a = bytes a + 256 * (bytes (a + 1) + 256 * (bytes (a + 2) + 256 * bytes (a + 3)))
+
+-- the bytes after a byte, or the four bytes of a word, were written at `at`
+abbrev pub with_byte_at : (ℕ → ℕ) → ℕ → ℕ → ℕ → ℕ
+with_byte_at bytes at byte a = if a == at then byte else bytes a
+
+abbrev pub with_word_at : (ℕ → ℕ) → ℕ → ℕ → ℕ → ℕ
+with_word_at bytes at word a =
+    if a == at then word % 256 else (
+    if a == at + 1 then word / 256 % 256 else (
+    if a == at + 2 then word / 65536 % 256 else (
+    if a == at + 3 then word / 16777216 % 256 else bytes a)))
+
+abbrev pub with_byte : Bytes → ℕ → ℕ → Bytes
+with_byte b at byte = record { mapped = b.mapped; at = with_byte_at b.at at byte }
+
+abbrev pub with_word : Bytes → ℕ → ℕ → Bytes
+with_word b at word = record { mapped = b.mapped; at = with_word_at b.at at word }
+
+-- which fault a load or a store meets, the first of these; `owned` says which bytes the store calls keep records in
+abbrev pub load_fault : Bytes → ℕ → Option Fault
+load_fault b a = if nat_le (2 ^ 26) a then Some AddressException else (if b.mapped a then None else Some DataUnmapped)
+
+abbrev pub store_fault : (ℕ → Bool) → Bytes → ℕ → Option Fault
+store_fault owned b a =
+    if nat_le (2 ^ 26) a then Some AddressException else (
+    if b.mapped a then (if owned a then Some OwnedWord else None) else Some DataUnmapped)
+
+abbrev pub unless : {A : Type 0} → Option Fault → A → Result A Fault
+unless None a = Ok a
+unless (Some fault) a = Err fault
+
+unfoldable pub byte_loaded : Bytes → ℕ → Result ℕ Fault
+byte_loaded b a = unless (load_fault b a) (b.at a)
+
+-- a load or a store of a word takes any address, and is one of the word that holds it
+unfoldable pub word_loaded : Bytes → ℕ → Result ℕ Fault
+word_loaded b a = unless (load_fault b (word_start a)) (word_at b.at (word_start a))
+
+unfoldable pub byte_stored : (ℕ → Bool) → Bytes → ℕ → ℕ → Result Bytes Fault
+byte_stored owned b a byte = unless (store_fault owned b a) (with_byte b a byte)
+
+unfoldable pub word_stored : (ℕ → Bool) → Bytes → ℕ → ℕ → Result Bytes Fault
+word_stored owned b a word = unless (store_fault owned b (word_start a)) (with_word b (word_start a) word)

@@ -1,0 +1,57 @@
+-- What an `AddressMap` stands for. The places of bytes in the store are the map's own matter; the layers above speak of
+-- `bytes_of`, `layout`, `free_pages`, `class_of` and `is_owned`.
+use Rattle.std.specs.Prelude.{ℕ, ◌-◌, Bool, true, false, not, List, length, slice_index, Option, Some, None, is_some}
+use Rattle.address_map.specs.declared.class.Class.{Class}
+use Rattle.address_map.specs.declared.class.Class.TheVariants.{Plain, Heap, FlexHeader, Anchor}
+use Rattle.address_map.specs.declared.map.AddressMap.{AddressMap}
+use Rattle.address_map.specs.Bytes.{Bytes}
+use Rattle.address_map.specs.Runs.{place_from}
+
+-- where in the store the byte of an address lies, if the address is mapped
+unfoldable pub place : AddressMap → ℕ → Option ℕ
+place m a = place_from 0 m.runs.items a
+
+abbrev pub is_mapped : AddressMap → ℕ → Bool
+is_mapped m a = is_some (place m a)
+
+abbrev pub byte_in : List ℕ → Option ℕ → ℕ
+byte_in store None = 0
+byte_in store (Some k) = slice_index store k
+
+-- the byte at an address, 0 where none is mapped
+unfoldable pub byte_at : AddressMap → ℕ → ℕ
+byte_at m a = byte_in m.store (place m a)
+
+abbrev pub bytes_of : AddressMap → Bytes
+bytes_of m = record { mapped = is_mapped m; at = byte_at m }
+
+-- the pages of the store that are not mapped
+unfoldable pub free_pages : AddressMap → ℕ
+free_pages m = m.free
+
+-- how many runs of pages can still be mapped apart from the others
+unfoldable pub free_runs : AddressMap → ℕ
+free_runs m = 36 - length m.runs.items
+
+-- all that a write to memory leaves as it is
+pub record Layout : Type 0 where
+  pub place : ℕ → Option ℕ
+  pub free_pages : ℕ
+  pub free_runs : ℕ
+
+abbrev pub layout : AddressMap → Layout
+layout m = record { place = place m; free_pages = free_pages m; free_runs = free_runs m }
+
+-- what the store calls use the byte at an address for
+unfoldable pub class_of : AddressMap → ℕ → Class
+class_of m a = Plain
+
+abbrev pub is_plain : Class → Bool
+is_plain Plain = true
+is_plain Heap = false
+is_plain FlexHeader = false
+is_plain Anchor = false
+
+-- whether a guest's stores must leave the byte at an address alone
+unfoldable pub is_owned : AddressMap → ℕ → Bool
+is_owned m a = not (is_plain (class_of m a))

@@ -1,0 +1,22 @@
+-- Runs of mapped pages, which lie in the store one after another in the order of the table.
+use Rattle.std.specs.Prelude.{◌≡◌, ◌≤◌, ℕ, zero, ◌+◌, ◌-◌, ◌%◌, ◌^◌, Bool, ◌&&◌, nat_le, nat_lt, List, [], ◌∷◌, Option, Some, None, if◌then◌else◌}
+use Rattle.address_map.specs.declared.run.Run.{Run}
+
+abbrev pub in_range : ℕ → ℕ → ℕ → Bool
+in_range at len a = nat_le at a && nat_lt a (at + len)
+
+-- where in the store the byte of an address lies, if the first of the runs begins at `start` there
+abbrev pub place_from : ℕ → List Run → ℕ → Option ℕ
+place_from start [] a = None
+place_from start (run ∷ runs) a = if in_range run.base run.len a then Some (start + (a - run.base)) else place_from (start + run.len) runs a
+
+-- the bytes of all runs
+abbrev pub run_total : List Run → ℕ
+run_total [] = 0
+run_total (run ∷ runs) = run.len + run_total runs
+
+-- a run begins at a page, has whole pages, and ends in the 26-bit address space
+pub record IsWhole (run : Run) : Type 0 where
+  pub base : run.base % 4096 ≡ 0
+  pub len : run.len % 4096 ≡ 0
+  pub end : run.base + run.len ≤ 2 ^ 26

@@ -1,0 +1,201 @@
+ghost use Rattle.std.specs.Prelude.{ℕ, ◌≡◌, ◌≤◌, ◌<◌, ◌+◌, ◌-◌, ◌*◌, ◌%◌, ◌^◌, ◌↔◌, ◌||◌, false, IsTrue, IfOk, MatchResult, Option, Some, None, length, All, slice_index};
+ghost use Rattle.profile.specs.Outcome.{Leaves};
+ghost use Rattle.address_map.specs.Bytes.{AreMapped, AreUnmapped, byte_loaded, word_loaded, byte_stored, word_stored, with_word_at, load_fault, store_fault};
+ghost use Rattle.address_map.specs.Runs.{IsWhole, in_range, run_total};
+
+use std::alloc::{AllocError, Global};
+
+use arrayvec::ArrayVec;
+use profile::Fault;
+use profile::memory_map::{ADDRESS_LIMIT, PAGE_SIZE};
+use raw_store::RawStore;
+
+use crate::class::Class;
+use crate::run::Run;
+
+/// The most runs of mapped pages that don't touch.
+const MOST_RUNS: usize = 36;
+
+/// The address space of a machine: the memory that it has, and the addresses where that is mapped.
+///
+/// Addresses that are not mapped read as 0 in the contracts; a load or a store there is a fault. A
+/// word lies at a multiple of 4 and never meets two pages. No call but `new` takes host memory.
+#[derive(Drop)]
+pub struct AddressMap {
+    store: RawStore,
+    runs: ArrayVec<Run, MOST_RUNS>,
+    free: u32,
+    pub ghost bytes_fit: { All (λ b. b < 256) store },
+    pub ghost in_limit: { length store ≤ 4194304 },
+    pub ghost runs_fit: { run_total runs.items + 4096 * free ≤ length store },
+    pub ghost whole: { All IsWhole runs.items },
+}
+
+impl AddressMap {
+    ghost use Rattle.address_map.specs.Memory.{place, is_mapped, byte_at, bytes_of, free_pages, free_runs, layout, class_of, is_owned};
+
+    /// A memory of that many pages of 4096 bytes, none of which is mapped.
+    ///
+    /// # Errors
+    ///
+    /// `AllocError` where the host has no memory for it.
+    pub fn new(alloc: Global, pages: u32) -> Result<AddressMap, AllocError>
+        requires { pages ≤ 1024 }
+        ensures mapping { IfOk result (λ m. (a : ℕ) → is_mapped m a ≡ false) }
+        ensures pages { IfOk result (λ m. free_pages m ≡ pages) }
+        ensures runs { IfOk result (λ m. free_runs m ≡ 36) }
+    {
+        let store = RawStore::new(alloc, pages)?;
+        Ok(AddressMap {
+            store,
+            runs: ArrayVec::new(),
+            free: pages,
+        })
+    }
+
+    /// The pages that are left to be mapped.
+    pub fn free_pages(&self) -> u32
+        ensures { result ≡ free_pages self.now }
+    {
+        self.free
+    }
+
+    /// Maps `count` pages from the address `base` on, which are zero then.
+    pub fn map_pages(&mut self, base: u32, count: u32)
+        requires aligned { base % 4096 ≡ 0 }
+        requires below { base + 4096 * count ≤ 2 ^ 26 }
+        requires unmapped { AreUnmapped (is_mapped self.old) base (4096 * count) }
+        requires pages { count ≤ free_pages self.old }
+        requires run { 1 ≤ free_runs self.old }
+        ensures mapping { (a : ℕ) → is_mapped self.new a ≡ (in_range base (4096 * count) a || is_mapped self.old a) }
+
+        // The bytes of the new pages are 0, as those of addresses that are not mapped.
+        ensures bytes { (a : ℕ) → byte_at self.new a ≡ byte_at self.old a }
+        ensures pages { free_pages self.new + count ≡ free_pages self.old }
+        ensures runs { free_runs self.old ≤ free_runs self.new + 1 }
+        ensures owned { is_owned self.new ≡ is_owned self.old }
+    {
+        let len = PAGE_SIZE * count;
+        let start = self.store.len() - (PAGE_SIZE * self.free) as usize;
+        self.store.zero(start, len as usize);
+        self.runs.push(Run { base, len });
+        self.free -= count;
+    }
+
+    /// Where in the store the byte of an address lies, or `None` where no memory is mapped.
+    pub fn translate(&self, addr: u32) -> Option<usize>
+        ensures { result ≡ place self.now addr }
+    {
+        let mut start = 0;
+        for run in self.runs.as_slice() {
+            if run.base <= addr && addr - run.base < run.len {
+                return Some(start + (addr - run.base) as usize);
+            }
+            start += run.len as usize;
+        }
+        None
+    }
+
+    /// What the store calls use the byte at an address for.
+    pub fn class(&self, _addr: u32) -> Class
+        ensures { result ≡ class_of self.now _addr }
+    {
+        Class::Plain
+    }
+
+    /// The byte at an address.
+    ///
+    /// # Errors
+    ///
+    /// `AddressException` from 2^26 on, else `DataUnmapped` where no memory is mapped.
+    pub fn load_byte(&self, addr: u32) -> Result<u8, Fault>
+        ensures { result ≡ byte_loaded (bytes_of self.now) addr }
+    {
+        let place = self.readable(addr)?;
+        Ok(self.store.read_byte(place))
+    }
+
+    /// The word that holds the byte at an address.
+    ///
+    /// # Errors
+    ///
+    /// As `load_byte`.
+    pub fn load_word(&self, addr: u32) -> Result<u32, Fault>
+        ensures { result ≡ word_loaded (bytes_of self.now) addr }
+    {
+        let place = self.readable(addr - addr % 4)?;
+        Ok(self.store.read_word(place))
+    }
+
+    /// Stores a byte for a guest.
+    ///
+    /// # Errors
+    ///
+    /// `AddressException` from 2^26 on, else `DataUnmapped` where no memory is mapped, else
+    /// `OwnedWord` where the store calls keep their records. Nothing is changed then.
+    pub fn store_byte(&mut self, addr: u32, byte: u8) -> Result<(), Fault>
+        ensures bytes { Leaves (bytes_of self.old) (byte_stored (is_owned self.old) (bytes_of self.old) addr byte) result (bytes_of self.new) }
+        ensures layout { layout self.new ≡ layout self.old }
+    {
+        let place = self.writable(addr)?;
+        self.store.write_byte(place, byte);
+        Ok(())
+    }
+
+    /// Stores the word that holds the byte at an address, for a guest.
+    ///
+    /// # Errors
+    ///
+    /// As `store_byte`.
+    pub fn store_word(&mut self, addr: u32, word: u32) -> Result<(), Fault>
+        ensures bytes { Leaves (bytes_of self.old) (word_stored (is_owned self.old) (bytes_of self.old) addr word) result (bytes_of self.new) }
+        ensures layout { layout self.new ≡ layout self.old }
+    {
+        let place = self.writable(addr - addr % 4)?;
+        self.store.write_word(place, word);
+        Ok(())
+    }
+
+    /// Writes a word, owned or not.
+    pub fn put_word(&mut self, addr: u32, word: u32)
+        requires aligned { addr % 4 ≡ 0 }
+        requires mapped { IsTrue (is_mapped self.old addr) }
+        ensures bytes { (a : ℕ) → byte_at self.new a ≡ with_word_at (byte_at self.old) addr word a }
+        ensures layout { layout self.new ≡ layout self.old }
+    {
+        if let Some(place) = self.translate(addr) {
+            self.store.write_word(place, word);
+        }
+    }
+
+    /// Where in the store the byte of an address lies that a guest may read.
+    fn readable(&self, addr: u32) -> Result<usize, Fault>
+        ensures { MatchResult result (λ k. (load_fault (bytes_of self.now) addr ≡ None) × (place self.now addr ≡ Some k)) (λ fault. load_fault (bytes_of self.now) addr ≡ Some fault) }
+    {
+        if addr >= ADDRESS_LIMIT {
+            return Err(Fault::AddressException);
+        }
+        match self.translate(addr) {
+            Some(place) => Ok(place),
+            None => Err(Fault::DataUnmapped),
+        }
+    }
+
+    /// Where in the store the byte of an address lies that a guest may write to.
+    fn writable(&self, addr: u32) -> Result<usize, Fault>
+        ensures { MatchResult result (λ k. (store_fault (is_owned self.now) (bytes_of self.now) addr ≡ None) × (place self.now addr ≡ Some k)) (λ fault. store_fault (is_owned self.now) (bytes_of self.now) addr ≡ Some fault) }
+    {
+        let place = self.readable(addr)?;
+        if self.is_owned(addr) {
+            return Err(Fault::OwnedWord);
+        }
+        Ok(place)
+    }
+
+    /// Whether the store calls keep their records in the byte at an address.
+    fn is_owned(&self, addr: u32) -> bool
+        ensures { result ≡ is_owned self.now addr }
+    {
+        self.class(addr) != Class::Plain
+    }
+}

@@ -1,0 +1,23 @@
+-- A region of memory as the list of its bytes: what a read gives and what a write leaves.
+use Rattle.std.specs.Prelude.{ℕ, List, [], ◌∷◌, ◌++◌, ◌+◌, ◌*◌, ◌/◌, ◌%◌, take, drop, length, replicate, slice_index}
+
+-- the word whose lowest byte stands at `at`: the byte at the lowest address is the least significant one (ARM2 data
+-- sheet, "Memory interface", little-endian)
+abbrev pub word_in : List ℕ → ℕ → ℕ
+word_in bytes at = slice_index bytes at + 256 * (slice_index bytes (at + 1) + 256 * (slice_index bytes (at + 2) + 256 * slice_index bytes (at + 3)))
+
+-- the four bytes of a word, the lowest first
+abbrev pub word_bytes : ℕ → List ℕ
+word_bytes word = word % 256 ∷ (word / 256 % 256 ∷ (word / 65536 % 256 ∷ (word / 16777216 % 256 ∷ [])))
+
+-- `bytes` with `new` written over it from `at` on
+abbrev pub written : List ℕ → ℕ → List ℕ → List ℕ
+written bytes at new = take at bytes ++ (new ++ drop (at + length new) bytes)
+
+-- `bytes` with the `len` bytes from `from` on copied to `to`; the two ranges may overlap
+abbrev pub copied : List ℕ → ℕ → ℕ → ℕ → List ℕ
+copied bytes from to len = written bytes to (take len (drop from bytes))
+
+-- `bytes` with zeros in the `len` places from `at` on
+abbrev pub zeroed : List ℕ → ℕ → ℕ → List ℕ
+zeroed bytes at len = written bytes at (replicate len 0)
