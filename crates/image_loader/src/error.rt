@@ -1,0 +1,33 @@
+ghost use Rattle.std.specs.Prelude.{◌≡◌};
+ghost use Rattle.image_loader.specs.declared.error.ImageError.TheVariants.{Memory};
+
+use std::alloc::AllocError;
+use thiserror::Error;
+
+/// Why an image is not taken. Where several reasons hold, the first of this list is given.
+#[derive(Clone, Copy, Debug, PartialEq, Eq, Error)]
+pub enum ImageError {
+    /// The name is not of 1 to 63 printing ASCII characters, or holds a space.
+    #[error("BadName")]
+    BadName,
+    /// An image of that name is there already.
+    #[error("NameTaken")]
+    NameTaken,
+    /// The image has more than 1,048,576 bytes.
+    #[error("TooLarge")]
+    TooLarge,
+    /// There are 64 images already.
+    #[error("TableFull")]
+    TableFull,
+    /// The host has no memory for the bytes.
+    #[error("Memory")]
+    Memory,
+}
+
+impl From<AllocError> for ImageError {
+    ghost from_gives = { λ _ e. e ≡ Memory };
+
+    fn from(_error: AllocError) -> ImageError {
+        ImageError::Memory
+    }
+}

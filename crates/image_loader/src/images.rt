@@ -1,0 +1,116 @@
+ghost use Rattle.std.specs.Prelude.{◌≡◌, ◌≤◌, [], length, MatchOption, IfOk, OnOk, OnErr, IsOkUnless, option_map};
+ghost use Rattle.std.specs.List.{list_all};
+ghost use Rattle.image_loader.specs.Entries.{bytes_of, is_name, is_name_byte, refusal_for, with_entry, IsTable};
+ghost use Rattle.image_loader.specs.Table.{entries_of};
+
+use crate::error::ImageError;
+use crate::image::Image;
+use arrayvec::ArrayVec;
+use profile::memory_map::MOST_BYTES;
+use std::alloc::Global;
+use std::marker::Model;
+
+/// The most bytes of a name.
+pub const MOST_NAME_BYTES: usize = 63;
+
+/// The most images.
+pub const MOST_IMAGES: usize = 64;
+
+/// The images that a machine can boot and load, by name: at most 64, each of at most 1,048,576
+/// bytes. Their names all differ; a name is 1 to 63 bytes from `!` to `~` and compares exactly.
+///
+/// Each image keeps the allocator that its `add` was handed.
+#[derive(Drop)]
+pub struct Images {
+    list: ArrayVec<Image, MOST_IMAGES>,
+}
+
+impl Model for Images {
+    ghost use Rattle.std.specs.Prelude.{List};
+    ghost use Rattle.image_loader.specs.Entries.{Entry, IsTable};
+    ghost use Rattle.image_loader.specs.Table.{entries_of};
+
+    ghost Value = { List Entry };
+
+    ghost view = { λ t. entries_of t.list.items };
+
+    ghost invariant = { λ t. IsTable (entries_of t.list.items) };
+}
+
+impl Images {
+    /// No images.
+    pub fn new() -> Images
+        ensures { result ≡ [] }
+    {
+        Images {
+            list: ArrayVec::new(),
+        }
+    }
+
+    /// The bytes of the image of that name, if there is one.
+    pub fn get(&self, name: &[u8]) -> Option<&[u8]>
+        ensures bytes { option_map (λ bytes. bytes.now) result ≡ bytes_of self.now name.now }
+        ensures table { IsTable self.now }
+    {
+        find(self.list.as_slice(), name)
+    }
+
+    /// Why `add` would refuse an image of that name and of `len` bytes, want of memory aside.
+    pub fn refusal(&self, name: &[u8], len: usize) -> Option<ImageError>
+        ensures { result ≡ refusal_for self.now name.now len }
+    {
+        if !is_image_name(name) {
+            return Some(ImageError::BadName);
+        }
+        if self.get(name).is_some() {
+            return Some(ImageError::NameTaken);
+        }
+        if len > MOST_BYTES {
+            return Some(ImageError::TooLarge);
+        }
+        if self.list.is_full() {
+            return Some(ImageError::TableFull);
+        }
+        None
+    }
+
+    /// Takes a copy of `bytes` under that name, in memory of `alloc`.
+    ///
+    /// Refused as [`ImageError`] says, in the order of its list; nothing is changed then.
+    pub fn add(&mut self, alloc: Global, name: &[u8], bytes: &[u8]) -> Result<(), ImageError>
+        ensures refused { MatchOption (refusal_for self.old name.now (length bytes.now)) (IsOkUnless result ImageError.Memory) (λ e. result ≡ Err e) }
+        ensures ok { OnOk result (self.new ≡ with_entry self.old name.now bytes.now) }
+        ensures err { OnErr result (self.new ≡ self.old) }
+    {
+        if let Some(error) = self.refusal(name, bytes.len()) {
+            return Err(error);
+        }
+        let image = Image::new(alloc, name, bytes)?;
+        self.list.push(image);
+        Ok(())
+    }
+}
+
+/// Whether a text can name an image.
+pub fn is_image_name(name: &[u8]) -> bool
+    ensures { result ≡ is_name name.now }
+{
+    !name.is_empty() && name.len() <= MOST_NAME_BYTES && are_name_bytes(name)
+}
+
+fn are_name_bytes(name: &[u8]) -> bool
+    ensures { result ≡ list_all is_name_byte name.now }
+{
+    name.iter().all(|byte| byte.is_ascii_graphic())
+}
+
+fn find<'a>(images: &'a [Image], name: &[u8]) -> Option<&'a [u8]>
+    ensures { option_map (λ bytes. bytes.now) result ≡ bytes_of (entries_of images.now) name.now }
+{
+    for image in images {
+        if image.name.as_slice() == name {
+            return Some(image.bytes());
+        }
+    }
+    None
+}
