@@ -1,2 +1,3 @@
 pub mod OutputLemmas
 pub mod KnownLemmas
+pub mod Shifting

@@ -3,6 +3,7 @@ pub mod FaultNames
 pub mod MemoryDevices
 pub mod Outcome
 pub mod Output
+pub mod Shift
 pub mod Sizes
 pub mod Sums
 pub mod SwiNames

@@ -7,6 +7,7 @@ pub mod device;
 pub mod error;
 pub mod fault;
 pub mod memory_map;
+pub mod shift;
 pub mod sink;
 pub mod source;
 pub mod stop;

@@ -29,7 +29,8 @@ pub fn add(left: u32, right: u32, carry: bool) -> Sum
     ensures { result ≡ sum_of left right carry }
 {
     let (value, carry) = left.carrying_add(right, carry);
-    let overflow = is_bit_set(left, 31) == is_bit_set(right, 31) && is_bit_set(value, 31) != is_bit_set(left, 31);
+    let overflow = is_bit_set(left, 31) == is_bit_set(right, 31)
+        && is_bit_set(value, 31) != is_bit_set(left, 31);
     Sum {
         value,
         carry,
