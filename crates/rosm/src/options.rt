@@ -1,0 +1,40 @@
+ghost use Rattle.std.specs.Prelude.{◌≡◌};
+ghost use Rattle.rosm.specs.declared.options.SettingsError.TheVariants.{Memory};
+
+use crate::files::Files;
+use profile::Config;
+use std::alloc::AllocError;
+use thiserror::Error;
+
+/// What the command line asks for.
+#[derive(Debug, Drop)]
+pub struct Settings {
+    /// The sizes of the machine, in pages.
+    pub config: Config,
+    /// How many steps the script may take in all.
+    pub budget: u64,
+    /// The words that belong to no option, in order: the files of images.
+    pub files: Files,
+}
+
+/// Why a command line is refused. The line comes before the sizes; memory may run out anywhere.
+#[derive(Clone, Copy, Debug, PartialEq, Eq, Error)]
+pub enum SettingsError {
+    /// Memory ran out.
+    #[error("out of memory")]
+    Memory,
+    /// The words are no command line of this program, or ask for help.
+    #[error("usage: rosm [--pages N] [--app N] [--rma N] [--budget N] [FILE..]")]
+    Line,
+    /// No machine can have these sizes.
+    #[error("no machine has these sizes")]
+    Sizes,
+}
+
+impl From<AllocError> for SettingsError {
+    ghost from_gives = { λ _ e. e ≡ Memory };
+
+    fn from(_error: AllocError) -> SettingsError {
+        SettingsError::Memory
+    }
+}
