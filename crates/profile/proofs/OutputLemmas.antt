@@ -15,9 +15,10 @@ Appends-join (Some a) (Some b) None xs ys h k = absurd k
 Appends-join (Some a) (Some b) (Some c) xs ys h k = k ∙ ap (λ z. z ++ ys) h ∙ append_assoc a xs ys
 
 pub Completes-more : (a b c : Option (List ℕ)) (rest piece more all : List ℕ)
-  → Completes a b rest all → Appends b c piece → rest ≡ piece ++ more → Completes a c more all
+    → Completes a b rest all → Appends b c piece → rest ≡ piece ++ more → Completes a c more all
 Completes-more a b c rest piece more all done here split = record {
-  completes = λ after h. done.completes after (subst (Appends b after) (sym split) (Appends-join b c after piece more here h)) }
+  completes = λ after h. done.completes after (subst (Appends b after) (sym split) (Appends-join b c after piece more here h));
+}
 
 pub Completes-same : (a b : Option (List ℕ)) (rest more all : List ℕ) → Completes a b rest all → rest ≡ more → Completes a b more all
 Completes-same a b rest more all done e = subst (λ (r : List ℕ). Completes a b r all) e done

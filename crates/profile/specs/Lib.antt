@@ -1,3 +1,4 @@
+pub mod Digits
 pub mod ErrorNames
 pub mod FaultNames
 pub mod MemoryDevices

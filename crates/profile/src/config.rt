@@ -1,9 +1,8 @@
 ghost use Rattle.std.specs.Prelude.{◌≡◌, ◌≤◌, ◌+◌};
 ghost use Rattle.profile.specs.Sizes.{Sizes, AreGood};
 
-use std::marker::Model;
-
 use crate::memory_map::{MOST_PAGES, SYSTEM_PAGES};
+use std::marker::Model;
 
 /// The sizes of a machine, in pages of 4096 bytes: all its memory, the application space and the
 /// module area at the start. What is left, past the three system pages, is the pool.

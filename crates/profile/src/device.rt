@@ -13,6 +13,9 @@ impl<T> Device<T> {
         ensures inner { result.inner ≡ inner }
         ensures flag { result.has_failed ≡ false }
     {
-        Device { inner, has_failed: false }
+        Device {
+            inner,
+            has_failed: false,
+        }
     }
 }

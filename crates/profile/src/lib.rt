@@ -4,6 +4,7 @@
 
 pub mod config;
 pub mod device;
+pub mod digits;
 pub mod error;
 pub mod fault;
 pub mod memory_map;
@@ -16,6 +17,7 @@ pub mod word;
 
 pub use config::Config;
 pub use device::Device;
+pub use digits::HexText;
 pub use error::{ErrorNumber, error_text};
 pub use fault::Fault;
 pub use sink::{MemorySink, Sink, WriteFault, push_all, push_parts};

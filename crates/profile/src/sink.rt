@@ -3,11 +3,10 @@ ghost use Rattle.std.specs.List.{flat_map};
 ghost use Rattle.std.specs.Io.KnownBytes.{Appends, WriteAppends};
 ghost use Rattle.profile.specs.MemoryDevices.{Room, can_push, pushed, push_count};
 
+use crate::device::Device;
 use std::io::{ErrorKind, Write};
 use std::marker::Model;
 use thiserror::Error;
-
-use crate::device::Device;
 
 /// A writer failed.
 #[derive(Clone, Copy, Debug, PartialEq, Eq, Error)]

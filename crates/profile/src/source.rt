@@ -2,11 +2,10 @@ ghost use Rattle.std.specs.Prelude.{◌≡◌, ◌≤◌, ◌<◌, ◌-◌, ℕ,
 ghost use Rattle.std.specs.Io.KnownBytes.{ReadConsumes};
 ghost use Rattle.profile.specs.MemoryDevices.{Store, can_pull, pulled, pull_count};
 
+use crate::device::Device;
 use std::io::{ErrorKind, Read};
 use std::marker::Model;
 use thiserror::Error;
-
-use crate::device::Device;
 
 /// A reader failed.
 #[derive(Clone, Copy, Debug, PartialEq, Eq, Error)]
