@@ -1,7 +1,7 @@
 -- Memory as the layers above see it: which addresses are mapped, and the byte at each. A load or a store is a function of
 -- that alone. Addresses have 26 bits, words are little-endian and lie at multiples of 4 (ARM2 data sheet, "Memory
 -- interface"); an access past the end of the address space is an address exception there.
-use Rattle.std.specs.Prelude.{◌≡◌, ◌≤◌, ◌<◌, ℕ, ◌+◌, ◌*◌, ◌-◌, ◌/◌, ◌%◌, ◌^◌, ◌==◌, Bool, true, false, nat_le, Option, Some, None, Result, Ok, Err, if◌then◌else◌}
+use Rattle.std.specs.Prelude.{◌≡◌, ◌≤◌, ◌<◌, ℕ, ◌+◌, ◌*◌, ◌-◌, ◌/◌, ◌%◌, ◌^◌, ◌==◌, Bool, true, false, ◌&&◌, nat_le, nat_lt, List, length, slice_index, Option, Some, None, Result, Ok, Err, if◌then◌else◌}
 use Rattle.profile.specs.declared.fault.Fault.{Fault}
 use Rattle.profile.specs.declared.fault.Fault.TheVariants.{AddressException, DataUnmapped, OwnedWord}
 
@@ -9,6 +9,9 @@ use Rattle.profile.specs.declared.fault.Fault.TheVariants.{AddressException, Dat
 pub record Bytes : Type 0 where
   pub mapped : ℕ → Bool
   pub at : ℕ → ℕ
+
+abbrev pub in_range : ℕ → ℕ → ℕ → Bool
+in_range at len a = nat_le at a && nat_lt a (at + len)
 
 -- each of the `len` addresses from `at` on is mapped, or none of them is
 abbrev pub AreMapped : (ℕ → Bool) → ℕ → ℕ → Type 0
@@ -35,6 +38,10 @@ with_word_at bytes at word a =
     if a == at + 1 then word / 256 % 256 else (
     if a == at + 2 then word / 65536 % 256 else (
     if a == at + 3 then word / 16777216 % 256 else bytes a)))
+
+-- the bytes after those of a list were written, the first of them at `at`
+abbrev pub with_bytes_at : (ℕ → ℕ) → ℕ → List ℕ → ℕ → ℕ
+with_bytes_at bytes at new a = if in_range at (length new) a then slice_index new (a - at) else bytes a
 
 abbrev pub with_byte : Bytes → ℕ → ℕ → Bytes
 with_byte b at byte = record { mapped = b.mapped; at = with_byte_at b.at at byte }

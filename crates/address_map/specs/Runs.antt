@@ -1,9 +1,7 @@
 -- Runs of mapped pages, which lie in the store one after another in the order of the table.
 use Rattle.std.specs.Prelude.{◌≡◌, ◌≤◌, ℕ, zero, ◌+◌, ◌-◌, ◌%◌, ◌^◌, Bool, ◌&&◌, nat_le, nat_lt, List, [], ◌∷◌, Option, Some, None, if◌then◌else◌}
+use Rattle.address_map.specs.Bytes.{in_range}
 use Rattle.address_map.specs.declared.run.Run.{Run}
-
-abbrev pub in_range : ℕ → ℕ → ℕ → Bool
-in_range at len a = nat_le at a && nat_lt a (at + len)
 
 -- where in the store the byte of an address lies, if the first of the runs begins at `start` there
 abbrev pub place_from : ℕ → List Run → ℕ → Option ℕ

@@ -1,7 +1,7 @@
 ghost use Rattle.std.specs.Prelude.{ℕ, ◌≡◌, ◌≤◌, ◌<◌, ◌+◌, ◌-◌, ◌*◌, ◌%◌, ◌^◌, ◌↔◌, ◌||◌, false, IsTrue, IfOk, MatchResult, Option, Some, None, length, All, slice_index};
 ghost use Rattle.profile.specs.Outcome.{Leaves};
-ghost use Rattle.address_map.specs.Bytes.{AreMapped, AreUnmapped, byte_loaded, word_loaded, byte_stored, word_stored, with_word_at, load_fault, store_fault};
-ghost use Rattle.address_map.specs.Runs.{IsWhole, in_range, run_total};
+ghost use Rattle.address_map.specs.Bytes.{in_range, AreMapped, AreUnmapped, byte_loaded, word_loaded, byte_stored, word_stored, with_word_at, load_fault, store_fault};
+ghost use Rattle.address_map.specs.Runs.{IsWhole, run_total};
 
 use std::alloc::{AllocError, Global};
 
@@ -27,7 +27,7 @@ pub struct AddressMap {
     free: u32,
     pub ghost bytes_fit: { All (λ b. b < 256) store },
     pub ghost in_limit: { length store ≤ 4194304 },
-    pub ghost runs_fit: { run_total runs.items + 4096 * free ≤ length store },
+    pub ghost runs_fit: { run_total runs.items + 4096 * free ≡ length store },
     pub ghost whole: { All IsWhole runs.items },
 }
 
@@ -39,6 +39,7 @@ impl AddressMap {
     /// # Errors
     ///
     /// `AllocError` where the host has no memory for it.
+    #[tactic(auto, unfolding(crate::specs::Memory::place, crate::specs::Memory::free_pages, crate::specs::Memory::free_runs))]
     pub fn new(alloc: Global, pages: u32) -> Result<AddressMap, AllocError>
         requires { pages ≤ 1024 }
         ensures mapping { IfOk result (λ m. (a : ℕ) → is_mapped m a ≡ false) }
@@ -54,6 +55,7 @@ impl AddressMap {
     }
 
     /// The pages that are left to be mapped.
+    #[tactic(auto, unfolding(crate::specs::Memory::free_pages))]
     pub fn free_pages(&self) -> u32
         ensures { result ≡ free_pages self.now }
     {
@@ -83,11 +85,13 @@ impl AddressMap {
     }
 
     /// Where in the store the byte of an address lies, or `None` where no memory is mapped.
+    #[tactic(auto, using(crate::proofs::Searches::whole_place, crate::proofs::Searches::place_step, crate::proofs::Searches::place_end), unfolding(crate::specs::Memory::place))]
     pub fn translate(&self, addr: u32) -> Option<usize>
         ensures { result ≡ place self.now addr }
     {
         let mut start = 0;
-        for run in self.runs.as_slice() {
+        let runs = self.runs.as_slice();
+        for run in runs {
             if run.base <= addr && addr - run.base < run.len {
                 return Some(start + (addr - run.base) as usize);
             }
@@ -97,6 +101,7 @@ impl AddressMap {
     }
 
     /// What the store calls use the byte at an address for.
+    #[tactic(auto, unfolding(crate::specs::Memory::class_of))]
     pub fn class(&self, _addr: u32) -> Class
         ensures { result ≡ class_of self.now _addr }
     {
@@ -193,6 +198,7 @@ impl AddressMap {
     }
 
     /// Whether the store calls keep their records in the byte at an address.
+    #[tactic(auto, unfolding(crate::specs::Memory::is_owned))]
     fn is_owned(&self, addr: u32) -> bool
         ensures { result ≡ is_owned self.now addr }
     {

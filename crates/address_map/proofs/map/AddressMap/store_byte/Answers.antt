@@ -1,0 +1,40 @@
+use Rattle.std.proofs.Common.{◌≡◌, ◌+◌, ◌-◌, ◌%◌, ◌≤◌, ◌∙◌, length, arith, refl, [], ◌∷◌}
+use Rattle.std.proofs.lemmas.Result.{err_from_is_err_and}
+use Rattle.raw_store.specs.Region.{word_bytes}
+use Rattle.address_map.specs.Bytes.{word_start}
+use Rattle.address_map.specs.Memory.{bytes_of, is_owned}
+use Rattle.address_map.proofs.Loads.{place_fits, place_fits_word}
+use Rattle.address_map.proofs.Stores.{byte_put, word_put, same_layout, store_written, slice_set-written, All-byte, All-word_bytes}
+use Rattle.address_map.proofs.Equations.{stored_byte, byte_stored-refused, byte_stored-done}
+use Rattle.address_map.proofs.map.AddressMap.store_byte.Goals as goal
+
+pub returns-in_err-place-clause-bytes : goal.returns-in_err-place-clause-bytes
+returns-in_err-place-clause-bytes c =
+    let p = err_from_is_err_and c.from_residual.result c.from_residual.ensures.1 in
+    let m = c.args.self.now in
+    rw (p.1, p.2, byte_stored-refused (is_owned m) (bytes_of m) c.args.addr c.args.byte _ c.in_err-place.ensures) (refl, refl)
+
+pub write_byte-requires : goal.write_byte-requires
+write_byte-requires c = place_fits c.args.self.now c.args.addr _ c.in_ok-place.ensures.1
+
+pub invariant_of-self : goal.invariant_of-self
+invariant_of-self c =
+    let m = c.args.self.now in
+    let fits : c.in_ok-place.place + 1 ≤ length m.store = place_fits c.args.self.now c.args.addr _ c.in_ok-place.ensures.1 in
+    let kept = store_written m c.write_byte.new.self (c.args.byte ∷ []) c.in_ok-place.place (c.write_byte.ensures ∙ slice_set-written m.store c.in_ok-place.place c.args.byte fits) fits (All-byte c.args.byte (omega arith)) in
+    record {
+      bytes_fit = kept.0;
+      in_limit = omega (arith, kept.1, m.in_limit);
+      runs_fit = omega (arith, kept.1, m.runs_fit);
+      whole = m.whole
+    }
+
+pub returns-clause-bytes : goal.returns-clause-bytes
+returns-clause-bytes c =
+    let m = c.args.self.now in
+    rw (byte_stored-done (is_owned m) (bytes_of m) c.args.addr c.args.byte c.in_ok-place.ensures.0)
+    (stored_byte m _ c.args.addr c.args.byte (same_layout _ _ refl refl)
+    (byte_put m _ c.args.addr c.in_ok-place.place c.args.byte c.in_ok-place.ensures.1 (same_layout _ _ refl refl) c.write_byte.ensures))
+
+pub returns-clause-layout : goal.returns-clause-layout
+returns-clause-layout c = same_layout _ _ refl refl

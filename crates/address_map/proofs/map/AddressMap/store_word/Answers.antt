@@ -1,0 +1,40 @@
+use Rattle.std.proofs.Common.{◌≡◌, ◌+◌, ◌-◌, ◌%◌, ◌≤◌, ◌∙◌, length, arith, refl, [], ◌∷◌}
+use Rattle.std.proofs.lemmas.Result.{err_from_is_err_and}
+use Rattle.raw_store.specs.Region.{word_bytes}
+use Rattle.address_map.specs.Bytes.{word_start}
+use Rattle.address_map.specs.Memory.{bytes_of, is_owned}
+use Rattle.address_map.proofs.Loads.{place_fits, place_fits_word}
+use Rattle.address_map.proofs.Stores.{byte_put, word_put, same_layout, store_written, slice_set-written, All-byte, All-word_bytes}
+use Rattle.address_map.proofs.Equations.{stored_word, word_stored-refused, word_stored-done}
+use Rattle.address_map.proofs.map.AddressMap.store_word.Goals as goal
+
+pub returns-in_err-place-clause-bytes : goal.returns-in_err-place-clause-bytes
+returns-in_err-place-clause-bytes c =
+    let p = err_from_is_err_and c.from_residual.result c.from_residual.ensures.1 in
+    let m = c.args.self.now in
+    rw (p.1, p.2, word_stored-refused (is_owned m) (bytes_of m) c.args.addr c.args.word _ c.in_err-place.ensures) (refl, refl)
+
+pub write_word-requires : goal.write_word-requires
+write_word-requires c = place_fits_word c.args.self.now (word_start c.args.addr) _ (omega arith) c.in_ok-place.ensures.1
+
+pub invariant_of-self : goal.invariant_of-self
+invariant_of-self c =
+    let m = c.args.self.now in
+    let fits : c.in_ok-place.place + 4 ≤ length m.store = place_fits_word c.args.self.now (word_start c.args.addr) _ (omega arith) c.in_ok-place.ensures.1 in
+    let kept = store_written m c.write_word.new.self (word_bytes c.args.word) c.in_ok-place.place c.write_word.ensures fits (All-word_bytes c.args.word) in
+    record {
+      bytes_fit = kept.0;
+      in_limit = omega (arith, kept.1, m.in_limit);
+      runs_fit = omega (arith, kept.1, m.runs_fit);
+      whole = m.whole
+    }
+
+pub returns-clause-bytes : goal.returns-clause-bytes
+returns-clause-bytes c =
+    let m = c.args.self.now in
+    rw (word_stored-done (is_owned m) (bytes_of m) c.args.addr c.args.word c.in_ok-place.ensures.0)
+    (stored_word m _ (word_start c.args.addr) c.args.word (same_layout _ _ refl refl)
+    (word_put m _ (word_start c.args.addr) c.in_ok-place.place c.args.word (omega arith) c.in_ok-place.ensures.1 (same_layout _ _ refl refl) c.write_word.ensures))
+
+pub returns-clause-layout : goal.returns-clause-layout
+returns-clause-layout c = same_layout _ _ refl refl
