@@ -1,5 +1,6 @@
 ghost use Rattle.std.specs.Prelude.{◌≡◌};
 ghost use Rattle.image_loader.specs.declared.error.ImageError.TheVariants.{Memory};
+ghost use Rattle.image_loader.specs.ErrorNames.{image_error_name};
 
 use std::alloc::AllocError;
 use thiserror::Error;
@@ -22,6 +23,21 @@ pub enum ImageError {
     /// The host has no memory for the bytes.
     #[error("Memory")]
     Memory,
+}
+
+impl ImageError {
+    /// The refusal's name, as the script language prints it.
+    pub fn name(self) -> &'static str
+        ensures { result.now ≡ image_error_name self }
+    {
+        match self {
+            ImageError::BadName => "BadName",
+            ImageError::NameTaken => "NameTaken",
+            ImageError::TooLarge => "TooLarge",
+            ImageError::TableFull => "TableFull",
+            ImageError::Memory => "Memory",
+        }
+    }
 }
 
 impl From<AllocError> for ImageError {

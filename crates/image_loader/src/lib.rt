@@ -6,7 +6,7 @@ mod image;
 pub mod images;
 
 pub use error::ImageError;
-pub use images::Images;
+pub use images::{Images, is_image_name};
 
 #[cfg(test)]
 mod tests;
