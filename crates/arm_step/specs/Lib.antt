@@ -1,3 +1,9 @@
+pub mod Conditions
+pub mod Effect
+pub mod Operand
+pub mod Operate
 pub mod Psr
 pub mod State
+pub mod Step
+pub mod Transfers
 pub mod Turns

@@ -1,5 +1,5 @@
 ghost use Rattle.std.specs.Prelude.{◌≡◌, ◌<◌, ◌≤◌, ◌^◌, ◌%◌};
-ghost use Rattle.arm_step.specs.State.{slot_of, register_in, with_register_in, register_of, with_register, r15_of, with_psr, with_pc, with_overflow, with_mode, start_state};
+ghost use Rattle.arm_step.specs.State.{slot_of, register_in, with_register_in, register_of, with_register, r15_of, with_psr, with_pc, with_flags, with_overflow, with_mode, start_state};
 
 use crate::psr::{Mode, Psr};
 use profile::memory_map::{ADDRESS_LIMIT, APPLICATION_START, SVC_STACK_END};
@@ -146,6 +146,17 @@ impl Cpu {
         ensures { self.new ≡ with_psr self.old psr }
     {
         self.psr = psr;
+    }
+
+    /// Sets the flags N, Z, C and V.
+    #[tactic(auto, unfolding(crate::specs::State::with_flags))]
+    pub fn set_flags(&mut self, negative: bool, zero: bool, carry: bool, overflow: bool)
+        ensures { self.new ≡ with_flags self.old negative zero carry overflow }
+    {
+        self.psr.negative = negative;
+        self.psr.zero = zero;
+        self.psr.carry = carry;
+        self.psr.overflow = overflow;
     }
 
     /// Sets the flag V.

@@ -1,10 +1,17 @@
 //! The core of the ARM2: its registers and status, and one instruction at a time over the memory map.
 #![tactic(auto)]
 
+pub mod condition;
 pub mod cpu;
+pub mod effect;
+pub mod execute;
+pub mod operand;
+pub mod operate;
 pub mod psr;
+pub mod transfer;
 pub mod turn;
 
 pub use cpu::Cpu;
+pub use execute::step;
 pub use psr::{Mode, Psr};
 pub use turn::Turn;

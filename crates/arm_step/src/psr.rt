@@ -81,7 +81,8 @@ impl Psr {
 
     /// The status as it stands in R15: bits 31 to 26, 1 and 0 of a word, all others being 0.
     pub fn bits(self) -> u32
-        ensures { result ≡ psr_bits self }
+        ensures value { result ≡ psr_bits self }
+        ensures most { result ≤ 0xFC00_0003 }
     {
         let flags = (u32::from(self.negative) << 31)
             + (u32::from(self.zero) << 30)

@@ -1,0 +1,145 @@
+//! LDR and STR.
+
+ghost use Rattle.std.specs.Prelude.{◌≡◌, ◌<◌, ◌≤◌, ◌^◌, ◌%◌};
+ghost use Rattle.profile.specs.Outcome.{Leaves};
+ghost use Rattle.address_map.specs.Memory.{bytes_of, is_owned, layout};
+ghost use Rattle.arm_step.specs.Transfers.{offset_of, moved_base, transfer_address, with_base, value_loaded, value_stored, loaded, stored, transferred};
+
+use crate::cpu::Cpu;
+use address_map::AddressMap;
+use arm_decode::{Address, Direction, Indexing, Offset, Transfer};
+use profile::Fault;
+use profile::shift::rotate_right;
+
+/// The byte at an address, or the word there, rotated so that the byte at the address is lowest.
+#[tactic(auto, unfolding(crate::specs::Transfers::value_loaded))]
+fn load_value(memory: &AddressMap, is_byte: bool, address: u32) -> Result<u32, Fault>
+    ensures { result ≡ value_loaded (bytes_of memory.now) is_byte address }
+{
+    if is_byte {
+        let byte = memory.load_byte(address)?;
+        Ok(u32::from(byte))
+    } else {
+        let word = memory.load_word(address)?;
+        Ok(rotate_right(word, 8 * (address % 4)))
+    }
+}
+
+/// Stores the low byte of a value, or all of it as the word that holds the address.
+#[tactic(auto, unfolding(crate::specs::Transfers::value_stored))]
+fn store_value(
+    memory: &mut AddressMap,
+    is_byte: bool,
+    address: u32,
+    value: u32,
+) -> Result<(), Fault>
+    ensures bytes { Leaves (bytes_of memory.old) (value_stored (is_owned memory.old) (bytes_of memory.old) is_byte address value) result (bytes_of memory.new) }
+    ensures layout { layout memory.new ≡ layout memory.old }
+{
+    if is_byte {
+        memory.store_byte(address, (value % 256) as u8)
+    } else {
+        memory.store_word(address, value)
+    }
+}
+
+impl Cpu {
+    /// The offset of a transfer.
+    #[tactic(auto, unfolding(crate::specs::Transfers::offset_of))]
+    fn offset(&self, offset: &Offset) -> u32
+        ensures { result ≡ offset_of self.now offset.now }
+    {
+        match offset {
+            Offset::Immediate(number) => number.number(),
+            Offset::Shifted(shifted) => self.shifted_register(*shifted).value,
+        }
+    }
+
+    /// The base of a transfer changed by its offset.
+    #[tactic(auto, unfolding(crate::specs::Transfers::moved_base))]
+    fn moved_base(&self, address: &Address) -> u32
+        ensures { result ≡ moved_base self.now address.now }
+    {
+        let base = self.plain_operand(address.rn, 2);
+        let offset = self.offset(&address.offset);
+        match address.direction {
+            Direction::Up => base.wrapping_add(offset),
+            Direction::Down => base.wrapping_sub(offset),
+        }
+    }
+
+    /// Where a transfer reads or writes.
+    #[tactic(auto, unfolding(crate::specs::Transfers::transfer_address))]
+    fn transfer_address(&self, address: &Address) -> u32
+        ensures { result ≡ transfer_address self.now address.now }
+    {
+        match address.indexing {
+            Indexing::Pre { .. } => self.moved_base(address),
+            Indexing::Post { .. } => self.plain_operand(address.rn, 2),
+        }
+    }
+
+    /// Writes the changed base back where the transfer does that.
+    #[tactic(auto, unfolding(crate::specs::Transfers::with_base))]
+    fn write_base(&mut self, address: &Address, moved: u32)
+        ensures { self.new ≡ with_base self.old address.now moved }
+    {
+        if address.indexing.writes_base() {
+            self.set_result(address.rn, moved);
+        }
+    }
+
+    /// LDR: the base is written first, so a loaded base wins.
+    #[tactic(auto, unfolding(crate::specs::Transfers::loaded))]
+    fn load(&mut self, memory: &AddressMap, transfer: &Transfer) -> Result<(), Fault>
+        ensures { Leaves (self.old, bytes_of memory.now) (loaded self.old (bytes_of memory.now) transfer.now) result (self.new, bytes_of memory.now) }
+    {
+        let value = load_value(
+            memory,
+            transfer.is_byte,
+            self.transfer_address(&transfer.address),
+        )?;
+        let moved = self.moved_base(&transfer.address);
+        self.advance();
+        self.write_base(&transfer.address, moved);
+        self.set_result(transfer.rd, value);
+        Ok(())
+    }
+
+    /// STR: R15 is stored three words ahead with the status, the base with its old value.
+    #[tactic(auto, unfolding(crate::specs::Transfers::stored))]
+    fn store(&mut self, memory: &mut AddressMap, transfer: &Transfer) -> Result<(), Fault>
+        ensures state { Leaves (self.old, bytes_of memory.old) (stored (is_owned memory.old) self.old (bytes_of memory.old) transfer.now) result (self.new, bytes_of memory.new) }
+        ensures layout { layout memory.new ≡ layout memory.old }
+    {
+        let value = self.status_operand(self.psr().mode, transfer.rd, 3);
+        store_value(
+            memory,
+            transfer.is_byte,
+            self.transfer_address(&transfer.address),
+            value,
+        )?;
+        let moved = self.moved_base(&transfer.address);
+        self.advance();
+        self.write_base(&transfer.address, moved);
+        Ok(())
+    }
+
+    /// LDR and STR.
+    ///
+    /// # Errors
+    ///
+    /// `AddressException`, `DataUnmapped`, and for a store `OwnedWord`, in this order. Core and
+    /// memory are then as before.
+    #[tactic(auto, unfolding(crate::specs::Transfers::transferred))]
+    pub fn transfer(&mut self, memory: &mut AddressMap, transfer: &Transfer) -> Result<(), Fault>
+        ensures state { Leaves (self.old, bytes_of memory.old) (transferred (is_owned memory.old) self.old (bytes_of memory.old) transfer.now) result (self.new, bytes_of memory.new) }
+        ensures layout { layout memory.new ≡ layout memory.old }
+    {
+        if transfer.loads {
+            self.load(memory, transfer)
+        } else {
+            self.store(memory, transfer)
+        }
+    }
+}
