@@ -1,1 +1,9 @@
+pub mod Decoded
+pub mod Diagrams
+pub mod Fields
+pub mod Laws
+pub mod Names
+pub mod Places
+pub mod Ranges
 pub mod Refusals
+pub mod Table

@@ -1,6 +1,7 @@
 ghost use Rattle.std.specs.Prelude.{◌≡◌, ℕ, ◌<◌, ◌^◌};
 ghost use Rattle.profile.specs.Word.{field};
 
+use crate::fields::field_of;
 use std::marker::Model;
 
 /// A field of `SIZE` bits of an instruction: a number below 2 to the power of `SIZE`.
@@ -26,6 +27,15 @@ impl<const SIZE: u32> Bits<SIZE> {
         ensures { result ≡ number }
     {
         Bits { number }
+    }
+
+    /// The field of a word from bit `low` on.
+    pub fn in_word(word: u32, low: u32) -> Bits<SIZE>
+        requires low_inside { low < 32 }
+        requires size_inside { SIZE < 32 }
+        ensures { result ≡ field word low SIZE }
+    {
+        Bits::new(field_of(word, low, SIZE))
     }
 
     /// The number in the field.

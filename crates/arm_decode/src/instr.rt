@@ -1,8 +1,10 @@
 ghost use Rattle.std.specs.Prelude.{◌≡◌, None};
+ghost use Rattle.arm_decode.specs.Decoded.{checked};
 ghost use Rattle.arm_decode.specs.Refusals.{refusal};
 
 use crate::action::Action;
 use crate::condition::Condition;
+use profile::Fault;
 use std::marker::Model;
 
 /// An instruction of the ARM2: a condition, and what is done when it holds.
@@ -30,6 +32,20 @@ impl Model for Instr {
 }
 
 impl Instr {
+    /// The instruction of a condition and an action.
+    ///
+    /// # Errors
+    ///
+    /// The fault by which the table refuses it, as `Action::refusal` has it.
+    pub fn new(condition: Condition, action: Action) -> Result<Instr, Fault>
+        ensures { result ≡ checked (condition, action) }
+    {
+        match action.refusal() {
+            Some(fault) => Err(fault),
+            None => Ok(Instr { condition, action }),
+        }
+    }
+
     /// When the instruction is carried out.
     pub fn condition(self) -> Condition
         ensures { result ≡ self.0 }

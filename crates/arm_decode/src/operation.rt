@@ -1,3 +1,9 @@
+ghost use Rattle.std.specs.Prelude.{◌≡◌, ◌<◌};
+ghost use Rattle.profile.specs.Word.{field};
+ghost use Rattle.arm_decode.specs.Names.{operation_of, operation_code};
+
+use crate::fields::field_of;
+
 /// What a data processing instruction computes ("Data processing" in the data sheet). Its code
 /// stands in bits 24 to 21.
 #[derive(Clone, Copy, Debug, PartialEq, Eq)]
@@ -34,4 +40,38 @@ pub enum Operation {
     BitClear,
     /// MVN: not operand 2.
     MoveNot,
+}
+
+impl Operation {
+    /// The operation of a data processing word.
+    pub fn in_word(word: u32) -> Operation
+        ensures { result ≡ operation_of (field word 21 4) }
+    {
+        match field_of(word, 21, 4) {
+            0 => Operation::And,
+            1 => Operation::ExclusiveOr,
+            2 => Operation::Subtract,
+            3 => Operation::ReverseSubtract,
+            4 => Operation::Add,
+            5 => Operation::AddWithCarry,
+            6 => Operation::SubtractWithCarry,
+            7 => Operation::ReverseSubtractWithCarry,
+            8 => Operation::Test,
+            9 => Operation::TestEquivalence,
+            10 => Operation::Compare,
+            11 => Operation::CompareNegated,
+            12 => Operation::Or,
+            13 => Operation::Move,
+            14 => Operation::BitClear,
+            _ => Operation::MoveNot,
+        }
+    }
+
+    /// The operation's code, 0 to 15.
+    pub fn code(self) -> u32
+        ensures value { result ≡ operation_code self }
+        ensures below { result < 16 }
+    {
+        self as u32
+    }
 }

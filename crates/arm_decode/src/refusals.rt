@@ -60,14 +60,14 @@ impl Offset {
 impl Action {
     /// The fault by which the table refuses an instruction that does this, if it does: the first
     /// of Unallocated, PcOperand, MultiplySame, EmptyList and UserBankWriteback that applies.
-    pub fn refusal(self) -> Option<Fault>
-        ensures { result ≡ refusal self }
+    pub fn refusal(&self) -> Option<Fault>
+        ensures { result ≡ refusal self.now }
     {
         match self {
-            Action::Operate(operate) => operate_refusal(operate),
-            Action::Multiply(multiply) => multiply_refusal(multiply),
-            Action::Transfer(transfer) => transfer_refusal(transfer),
-            Action::BlockTransfer(block) => block_refusal(block),
+            Action::Operate(operate) => operate_refusal(*operate),
+            Action::Multiply(multiply) => multiply_refusal(*multiply),
+            Action::Transfer(transfer) => transfer_refusal(*transfer),
+            Action::BlockTransfer(block) => block_refusal(*block),
             Action::Branch { .. } | Action::SoftwareInterrupt(_) => None,
         }
     }

@@ -1,6 +1,7 @@
 ghost use Rattle.std.specs.Prelude.{◌≡◌, ◌==◌, ℕ, ◌<◌, ◌^◌};
-ghost use Rattle.profile.specs.Word.{bit_of};
+ghost use Rattle.profile.specs.Word.{bit_of, field};
 
+use crate::fields::field_of;
 use std::marker::Model;
 
 /// One of the registers R0 to R15. R15 holds the program counter.
@@ -26,6 +27,14 @@ impl Register {
         ensures { result ≡ number }
     {
         Register { number }
+    }
+
+    /// The register that the four bits of a word from `low` on name.
+    pub fn in_word(word: u32, low: u32) -> Register
+        requires { low < 32 }
+        ensures { result ≡ field word low 4 }
+    {
+        Register::new(field_of(word, low, 4) as u8)
     }
 
     /// The register's number, 0 to 15.
@@ -64,6 +73,13 @@ impl RegisterList {
         ensures { result ≡ bits }
     {
         RegisterList { bits }
+    }
+
+    /// The list of a word, its bits 15 to 0.
+    pub fn in_word(word: u32) -> RegisterList
+        ensures { result ≡ field word 0 16 }
+    {
+        RegisterList::new(field_of(word, 0, 16) as u16)
     }
 
     /// The list's 16 bits.

@@ -1,4 +1,10 @@
+ghost use Rattle.std.specs.Prelude.{◌≡◌, ◌<◌};
+ghost use Rattle.profile.specs.Word.{field};
+ghost use Rattle.arm_decode.specs.Fields.{shifted_in};
+ghost use Rattle.arm_decode.specs.Names.{shift_of, shift_code};
+
 use crate::bits::Bits;
+use crate::fields::field_of;
 use crate::register::Register;
 
 /// How a register is shifted ("Shifts" in the data sheet). Its code stands in bits 6 and 5.
@@ -26,4 +32,39 @@ pub struct ShiftedRegister {
     pub shift: Shift,
     /// The amount as it stands in bits 11 to 7.
     pub amount: Bits<5>,
+}
+
+impl Shift {
+    /// The type of shift of a word that shifts a register.
+    pub fn in_word(word: u32) -> Shift
+        ensures { result ≡ shift_of (field word 5 2) }
+    {
+        match field_of(word, 5, 2) {
+            0 => Shift::LogicalLeft,
+            1 => Shift::LogicalRight,
+            2 => Shift::ArithmeticRight,
+            _ => Shift::RotateRight,
+        }
+    }
+
+    /// The code of the type, 0 to 3.
+    pub fn code(self) -> u32
+        ensures value { result ≡ shift_code self }
+        ensures below { result < 4 }
+    {
+        self as u32
+    }
+}
+
+impl ShiftedRegister {
+    /// The register, type and amount of a word that shifts a register by a number.
+    pub fn in_word(word: u32) -> ShiftedRegister
+        ensures { result ≡ shifted_in word }
+    {
+        ShiftedRegister {
+            rm: Register::in_word(word, 0),
+            shift: Shift::in_word(word),
+            amount: Bits::in_word(word, 7),
+        }
+    }
 }

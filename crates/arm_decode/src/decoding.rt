@@ -1,0 +1,162 @@
+//! From a word to its instruction.
+ghost use Rattle.std.specs.Prelude.{◌≡◌, IfOk};
+ghost use Rattle.arm_decode.specs.Decoded.{decoded};
+ghost use Rattle.arm_decode.specs.Diagrams.{word_of};
+ghost use Rattle.arm_decode.specs.Fields.{operand_by_register_in, immediate_in, operate_in, multiply_in, address_in, transfer_in, block_transfer_in, action_in};
+
+use crate::action::{Action, BlockTransfer, Multiply, Operate, Transfer};
+use crate::address::{Address, BlockMode, Direction, Indexing, Offset};
+use crate::bits::Bits;
+use crate::condition::Condition;
+use crate::fields::field_of;
+use crate::form::{Form, row_of};
+use crate::instr::Instr;
+use crate::operand::Operand;
+use crate::operation::Operation;
+use crate::register::{Register, RegisterList};
+use crate::shift::{Shift, ShiftedRegister};
+use profile::Fault;
+use profile::word::is_bit_set;
+
+/// The instruction that a word is.
+///
+/// # Errors
+///
+/// The first fault of the table: `UndefinedInstruction` or `Unallocated` where the word meets no
+/// form, else what refuses the instruction's parts, as `Action::refusal` has it.
+#[tactic(auto, unfolding(crate::specs::Decoded::decoded))]
+pub fn decode(word: u32) -> Result<Instr, Fault>
+    ensures table { result ≡ decoded word }
+    ensures back { IfOk result (λ i. word_of i ≡ word) }
+{
+    let form = row_of(word)?;
+    Instr::new(Condition::in_word(word), Action::in_word(form, word))
+}
+
+impl Action {
+    /// What a word of this form does: its fields, whether the table refuses them or not.
+    pub fn in_word(form: Form, word: u32) -> Action
+        ensures { result ≡ action_in form word }
+    {
+        match form {
+            Form::Multiply => Action::Multiply(Multiply::in_word(word)),
+            Form::ShiftByNumber => {
+                Action::Operate(Operate::in_word(
+                    Operand::Shifted(ShiftedRegister::in_word(word)),
+                    word,
+                ))
+            }
+            Form::ShiftByRegister => Action::Operate(Operate::in_word(
+                Operand::by_register_in(word),
+                word,
+            )),
+            Form::Immediate => Action::Operate(Operate::in_word(Operand::immediate_in(word), word)),
+            Form::OffsetByNumber => {
+                Action::Transfer(Transfer::in_word(Offset::Immediate(Bits::in_word(word, 0)), word))
+            }
+            Form::OffsetByRegister => {
+                Action::Transfer(Transfer::in_word(
+                    Offset::Shifted(ShiftedRegister::in_word(word)),
+                    word,
+                ))
+            }
+            Form::BlockTransfer => Action::BlockTransfer(BlockTransfer::in_word(word)),
+            Form::Branch => Action::Branch {
+                links: is_bit_set(word, 24),
+                distance: Bits::in_word(word, 0),
+            },
+            Form::SoftwareInterrupt => Action::SoftwareInterrupt(Bits::in_word(word, 0)),
+        }
+    }
+}
+
+impl Operand {
+    fn immediate_in(word: u32) -> Operand
+        ensures { result ≡ immediate_in word }
+    {
+        Operand::Immediate {
+            rotation: Bits::in_word(word, 8),
+            byte: field_of(word, 0, 8) as u8,
+        }
+    }
+
+    fn by_register_in(word: u32) -> Operand
+        ensures { result ≡ operand_by_register_in word }
+    {
+        Operand::ShiftedByRegister {
+            rm: Register::in_word(word, 0),
+            shift: Shift::in_word(word),
+            rs: Register::in_word(word, 8),
+        }
+    }
+}
+
+impl Operate {
+    fn in_word(operand: Operand, word: u32) -> Operate
+        ensures { result ≡ operate_in operand word }
+    {
+        Operate {
+            operation: Operation::in_word(word),
+            sets_flags: is_bit_set(word, 20),
+            rn: Register::in_word(word, 16),
+            rd: Register::in_word(word, 12),
+            operand,
+        }
+    }
+}
+
+impl Multiply {
+    fn in_word(word: u32) -> Multiply
+        ensures { result ≡ multiply_in word }
+    {
+        Multiply {
+            accumulates: is_bit_set(word, 21),
+            sets_flags: is_bit_set(word, 20),
+            rd: Register::in_word(word, 16),
+            rn: Register::in_word(word, 12),
+            rs: Register::in_word(word, 8),
+            rm: Register::in_word(word, 0),
+        }
+    }
+}
+
+impl Transfer {
+    fn in_word(offset: Offset, word: u32) -> Transfer
+        ensures { result ≡ transfer_in offset word }
+    {
+        Transfer {
+            loads: is_bit_set(word, 20),
+            is_byte: is_bit_set(word, 22),
+            rd: Register::in_word(word, 12),
+            address: Address::in_word(offset, word),
+        }
+    }
+}
+
+impl Address {
+    fn in_word(offset: Offset, word: u32) -> Address
+        ensures { result ≡ address_in offset word }
+    {
+        Address {
+            indexing: Indexing::in_word(word),
+            direction: Direction::in_word(word),
+            rn: Register::in_word(word, 16),
+            offset,
+        }
+    }
+}
+
+impl BlockTransfer {
+    fn in_word(word: u32) -> BlockTransfer
+        ensures { result ≡ block_transfer_in word }
+    {
+        BlockTransfer {
+            loads: is_bit_set(word, 20),
+            mode: BlockMode::in_word(word),
+            psr_or_user: is_bit_set(word, 22),
+            writes_back: is_bit_set(word, 21),
+            rn: Register::in_word(word, 16),
+            list: RegisterList::in_word(word),
+        }
+    }
+}
