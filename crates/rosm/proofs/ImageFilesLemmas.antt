@@ -1,0 +1,35 @@
+-- A file's front of one byte more than an image can have tells whether the file can be an image.
+use Rattle.std.proofs.Common.{◌≡◌, ◌≤◌, ◌<◌, ◌∙◌, ℕ, List, length, take, Option, Some, None, Result, Ok, Err, MatchOption, arith, refl, sym, ap}
+use Rattle.std.proofs.lemmas.Bool.Decides.{nat_tests}
+use Rattle.std.proofs.lemmas.List.{length-take, take_all}
+use Rattle.image_loader.specs.Entries.{Entry, refusal_for, with_entry}
+use Rattle.image_loader.specs.declared.error.ImageError.{ImageError}
+use Rattle.std.specs.Path.{path_file_name}
+use Rattle.rosm.specs.ImageFiles.{AddsImage}
+
+in_limit : (entries : List Entry) (name : List ℕ) (len : ℕ) → refusal_for entries name len ≡ None → len ≤ 1048576
+in_limit entries name len none = grind (arith, nat_tests, none)
+
+-- a front that is shorter than it may be is all
+front_is_all : (all : List ℕ) (most : ℕ) → length (take most all) < most → take most all ≡ all
+front_is_all all most short = take_all most all (omega (arith, length-take most all))
+
+let_in : {U : Type 0} (u : U) (o : Option ImageError) (P : Type 0) → MatchOption o P (λ e. ◌≡◌ {A = Result U ImageError} (Ok u) (Err e)) → o ≡ None
+let_in u None P h = refl
+let_in u (Some e) P h = absurd (cc)
+
+pub adds_image : {U : Type 0} (u : U) (P : Type 0) (old new : List Entry) (path name bytes all : List ℕ)
+    → Some name ≡ path_file_name path → bytes ≡ take 1048577 all
+    → MatchOption (refusal_for old name (length bytes)) P (λ e. ◌≡◌ {A = Result U ImageError} (Ok u) (Err e))
+    → new ≡ with_entry old name bytes → AddsImage old path new all
+adds_image u P old new path name bytes all part front refused added =
+    let free : refusal_for old name (length bytes) ≡ None = let_in u _ P refused in
+    let limit : length bytes ≤ 1048576 = in_limit old name (length bytes) free in
+    let short : length (take 1048577 all) < 1048577 = rw (← front) (omega arith) in
+    let whole : bytes ≡ all = front ∙ front_is_all all 1048577 short in
+    record {
+      name = name;
+      last_part = sym part;
+      let_in = rw (← whole) free;
+      added = added ∙ ap (with_entry old name) whole;
+    }

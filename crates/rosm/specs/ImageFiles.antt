@@ -1,0 +1,11 @@
+-- Files as images: a file's image is named by the last part of its path.
+use Rattle.std.specs.Prelude.{◌≡◌, ℕ, List, length, Some, None}
+use Rattle.std.specs.Path.{path_file_name}
+use Rattle.image_loader.specs.Entries.{Entry, refusal_for, with_entry}
+
+-- the file of that path, which holds these bytes, is taken into the table
+pub record AddsImage (old : List Entry) (path : List ℕ) (new : List Entry) (bytes : List ℕ) : Type 0 where
+  pub name : List ℕ
+  pub last_part : path_file_name path ≡ Some name
+  pub let_in : refusal_for old name (length bytes) ≡ None
+  pub added : new ≡ with_entry old name bytes

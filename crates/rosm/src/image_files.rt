@@ -1,0 +1,82 @@
+ghost use Rattle.std.specs.Prelude.{◌≡◌, IfOk, IfSome, OnErr, OnOk, take};
+ghost use Rattle.rosm.specs.ImageFiles.{AddsImage};
+
+use crate::files::Files;
+use crate::refusal::Refusal;
+use image_loader::{ImageError, Images};
+use profile::memory_map::MOST_BYTES;
+use std::alloc::Global;
+use std::fs::File;
+use std::io::{ErrorKind, Read};
+use std::path::Path;
+use std::{fs, io};
+use thiserror::Error;
+
+/// Why a file gives no image.
+#[derive(Clone, Copy, Debug, PartialEq, Eq, Error)]
+pub enum FileError {
+    /// It can't be opened or read to its end, or its path has no last part.
+    #[error("can't be read")]
+    Unreadable,
+    /// The table of images refuses it.
+    #[error("refused {0}")]
+    Image(#[from] ImageError),
+}
+
+impl From<io::Error> for FileError {
+    fn from(error: io::Error) -> FileError {
+        match error.kind() {
+            ErrorKind::OutOfMemory => FileError::Image(ImageError::Memory),
+            _ => FileError::Unreadable,
+        }
+    }
+}
+
+/// Adds an image for each file in turn, named by the last part of its path.
+pub fn add_files<'a, R>(rt: &R, files: &'a Files, images: &mut Images) -> Result<(), Refusal<'a>>
+where
+    R: AllocGlobal + fs::Files,
+{
+    for n in 0..files.len() {
+        let path = files.get(n);
+        add_file(rt, path, images).map_err(|error| Refusal::File(path, error))?;
+    }
+    Ok(())
+}
+
+fn add_file<R>(rt: &R, path: &str, images: &mut Images) -> Result<(), FileError>
+where
+    R: AllocGlobal + fs::Files,
+{
+    let file = File::open(rt, path)?;
+    add_image(rt.alloc(), path, file, images)
+}
+
+// Adds the bytes of a reader under the last part of a path.
+fn add_image<R: Read + Drop>(
+    alloc: Global,
+    path: &str,
+    reader: R,
+    images: &mut Images,
+) -> Result<(), FileError>
+    ensures ok { OnOk result (IfSome (R.remaining reader) (λ bytes. AddsImage images.old path.now images.new bytes)) }
+    ensures err { OnErr result (images.new ≡ images.old) }
+{
+    let name = Path::new(path).file_name().ok_or(FileError::Unreadable)?;
+    // One byte more than an image can have is enough to refuse it.
+    let bytes = read_front(alloc, reader, MOST_BYTES as u64 + 1)?;
+    images.add(alloc, name.as_bytes(), bytes.as_slice())?;
+    Ok(())
+}
+
+// The bytes of a reader, or only so many of them.
+fn read_front<R: Read + Drop>(alloc: Global, reader: R, most: u64) -> io::Result<Vec<u8>>
+    ensures { IfOk result (λ bytes. IfSome (R.remaining reader) (λ all. bytes.items ≡ take most all)) }
+{
+    let mut bytes = Vec::new(alloc);
+    reader.take(most).read_to_end(&mut bytes)?;
+    Ok(bytes)
+}
+
+#[cfg(test)]
+mod tests;
