@@ -1,1 +1,6 @@
+//! Printed views of the machine.
 #![tactic(auto)]
+
+pub mod registers;
+
+pub use registers::show_regs;

@@ -1,1 +1,15 @@
+//! The machine: the core over its memory, the store calls, one step at a time or many.
 #![tactic(auto)]
+
+pub mod boot_error;
+pub mod breaks;
+pub mod halt;
+pub mod laws;
+pub mod machine;
+pub mod running;
+
+pub use boot_error::BootError;
+pub use breaks::{BreakError, Breaks};
+pub use halt::Halt;
+pub use machine::Machine;
+pub use running::Ran;

@@ -1,0 +1,119 @@
+ghost use Rattle.std.specs.Prelude.{◌≡◌, ◌≤◌, true, OnOk, OnErr};
+ghost use Rattle.std.specs.Io.KnownBytes.{Appends};
+ghost use Rattle.swi_dispatch.specs.Parts.{state_of};
+ghost use Rattle.debugger.specs.Registers.{register_label, row_text, status_text, registers_text, flag_letter, flag_letters, mode_text};
+
+use arm_step::{Cpu, Mode, Psr};
+use profile::{HexText, Sink, WriteFault, push_parts};
+use swi_dispatch::Machine;
+
+/// Writes the registers of the present mode, four on a line, and a line of the status, in which a
+/// set flag stands in capitals.
+pub fn show_regs<W: Sink>(machine: &Machine, sink: &mut W) -> Result<(), WriteFault>
+    ensures text { OnOk result (Appends (W.contents sink.old) (W.contents sink.new) (registers_text (state_of machine.now).cpu)) }
+    ensures flag { OnErr result (W.has_failed sink.new ≡ true) }
+    ensures same_flag { OnOk result (W.has_failed sink.new ≡ W.has_failed sink.old) }
+{
+    show_core(machine.cpu(), sink)
+}
+
+#[tactic(auto, unfolding(crate::specs::Registers::registers_text))]
+fn show_core<W: Sink>(cpu: &Cpu, sink: &mut W) -> Result<(), WriteFault>
+    ensures text { OnOk result (Appends (W.contents sink.old) (W.contents sink.new) (registers_text cpu.now)) }
+    ensures flag { OnErr result (W.has_failed sink.new ≡ true) }
+    ensures same_flag { OnOk result (W.has_failed sink.new ≡ W.has_failed sink.old) }
+{
+    show_row(cpu, 0, sink)?;
+    show_row(cpu, 4, sink)?;
+    show_row(cpu, 8, sink)?;
+    show_row(cpu, 12, sink)?;
+    show_status(cpu.psr(), sink)
+}
+
+// Four registers from the `first` on.
+#[tactic(auto, unfolding(crate::specs::Registers::row_text))]
+fn show_row<W: Sink>(cpu: &Cpu, first: u32, sink: &mut W) -> Result<(), WriteFault>
+    requires { first ≤ 12 }
+    ensures text { OnOk result (Appends (W.contents sink.old) (W.contents sink.new) (row_text cpu.now first)) }
+    ensures flag { OnErr result (W.has_failed sink.new ≡ true) }
+    ensures same_flag { OnOk result (W.has_failed sink.new ≡ W.has_failed sink.old) }
+{
+    push_parts(
+        sink,
+        &[
+            label(first).as_slice(),
+            HexText::word(cpu.register(first)).as_slice(),
+            b" ".as_slice(),
+            label(first + 1).as_slice(),
+            HexText::word(cpu.register(first + 1)).as_slice(),
+            b" ".as_slice(),
+            label(first + 2).as_slice(),
+            HexText::word(cpu.register(first + 2)).as_slice(),
+            b" ".as_slice(),
+            label(first + 3).as_slice(),
+            HexText::word(cpu.register(first + 3)).as_slice(),
+            b"\n".as_slice(),
+        ],
+    )
+}
+
+#[tactic(auto, unfolding(crate::specs::Registers::status_text))]
+fn show_status<W: Sink>(psr: Psr, sink: &mut W) -> Result<(), WriteFault>
+    ensures text { OnOk result (Appends (W.contents sink.old) (W.contents sink.new) (status_text psr)) }
+    ensures flag { OnErr result (W.has_failed sink.new ≡ true) }
+    ensures same_flag { OnOk result (W.has_failed sink.new ≡ W.has_failed sink.old) }
+{
+    push_parts(
+        sink,
+        &[
+            b"PSR ".as_slice(),
+            letters(psr).as_slice(),
+            b" ".as_slice(),
+            mode_name(psr.mode).as_slice(),
+            b"\n".as_slice(),
+        ],
+    )
+}
+
+// A register's name, padded to three places, and a space.
+fn label(number: u32) -> [u8; 4]
+    requires { number ≤ 15 }
+    ensures { result ≡ register_label number }
+{
+    if number < 10 {
+        [b'R', number as u8 + b'0', b' ', b' ']
+    } else {
+        [b'R', b'1', number as u8 + 38, b' ']
+    }
+}
+
+fn letters(psr: Psr) -> [u8; 6]
+    ensures { result ≡ flag_letters psr }
+{
+    [
+        letter(psr.negative, b'N'),
+        letter(psr.zero, b'Z'),
+        letter(psr.carry, b'C'),
+        letter(psr.overflow, b'V'),
+        letter(psr.interrupts_off, b'I'),
+        letter(psr.fast_interrupts_off, b'F'),
+    ]
+}
+
+fn letter(is_set: bool, capital: u8) -> u8
+    requires { capital ≤ 90 }
+    ensures { result ≡ flag_letter is_set capital }
+{
+    if is_set { capital } else { capital + 32 }
+}
+
+fn mode_name(mode: Mode) -> [u8; 3]
+    ensures { result ≡ mode_text mode }
+{
+    match mode {
+        Mode::User => *b"USR",
+        Mode::FastInterrupt => *b"FIQ",
+        Mode::Interrupt => *b"IRQ",
+        Mode::Supervisor => *b"SVC",
+    }
+}

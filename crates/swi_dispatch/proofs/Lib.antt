@@ -1,0 +1,4 @@
+pub mod RunLoop
+pub mod Runs
+pub mod Starting
+pub mod Turning

@@ -1,0 +1,5 @@
+use Rattle.swi_dispatch.proofs.Runs.{runs_on}
+use Rattle.swi_dispatch.proofs.laws.runs_add_up.Goals as goal
+
+pub returns : goal.returns
+returns c = λ breaks s n m. runs_on breaks n m s

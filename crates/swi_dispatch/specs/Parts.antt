@@ -1,0 +1,40 @@
+-- The parts of the real machine, and the written machine that they stand for.
+use Rattle.std.specs.Prelude.{◌≡◌, ℕ, Bool, true, ◌*◌, Option, List, IsTrue}
+use Rattle.profile.specs.Sizes.{Sizes}
+use Rattle.address_map.specs.declared.map.AddressMap.{AddressMap}
+use Rattle.address_map.specs.Memory.{bytes_of, is_mapped}
+use Rattle.arm_step.specs.declared.turn.Turn.{Turn}
+use Rattle.arm_step.specs.State.{State}
+use Rattle.arm_step.specs.Step.{stepped}
+use Rattle.swi_dispatch.specs.declared.halt.Halt.{Halt}
+use Rattle.swi_dispatch.specs.Situation.{Situation, start_of, is_start_mapped}
+use Rattle.swi_dispatch.specs.Step.{After, Turned, nothing_owned}
+
+pub record Parts : Type 0 where
+  pub cpu : State
+  pub map : AddressMap
+  pub halt : Option Halt
+  pub sizes : Sizes
+  pub is_fresh : Bool
+  pub printed : List ℕ
+
+unfoldable pub state_of : Parts → Situation
+state_of p = record { cpu = p.cpu; memory = bytes_of p.map; halt = p.halt }
+
+-- the written machine, and what the last step printed
+abbrev pub after_of : Parts → After
+after_of p = record { now = state_of p; printed = p.printed }
+
+-- What holds of every machine: the fixed ranges are mapped, and one that can still be booted stands as at the start.
+pub record IsWellFormed (p : Parts) : Type 0 where
+  pub mapped : (a : ℕ) → is_mapped p.map a ≡ is_start_mapped p.sizes a
+  pub fresh : p.is_fresh ≡ true → state_of p ≡ start_of p.sizes
+
+-- what no step touches
+pub record OnlySteps (old new : Parts) : Type 0 where
+  pub fresh : new.is_fresh ≡ old.is_fresh
+  pub sizes : new.sizes ≡ old.sizes
+
+-- the core takes a turn, and the rest of the machine stays
+abbrev pub TakesTurn : Situation → Turn → Situation → Type 0
+TakesTurn s t s' = Turned s (stepped nothing_owned s.cpu s.memory) t s'

@@ -1,0 +1,62 @@
+-- A run: steps until the machine is halted, or the new program counter is among the breaks, or the budget is used up, tested in that
+-- order after each step. A start on a break isn't tested. A step that ends in a fault isn't counted; that of OS_Exit is.
+use Rattle.std.specs.Prelude.{◌≡◌, ℕ, Bool, zero, suc, ◌+◌, ◌==◌, Option, Some, None, List, [], ◌++◌, if◌then◌else◌}
+use Rattle.std.specs.List.{list_any}
+use Rattle.profile.specs.declared.stop.Stop.{Stop}
+use Rattle.profile.specs.declared.stop.Stop.TheVariants as stop
+use Rattle.swi_dispatch.specs.declared.halt.Halt.{Halt}
+use Rattle.swi_dispatch.specs.declared.halt.Halt.TheVariants as halt
+use Rattle.swi_dispatch.specs.Situation.{Situation, stop_of}
+use Rattle.swi_dispatch.specs.Step.{After, machine_step}
+
+-- what a run leaves: the machine, all that was printed, the steps that count, and why it ended
+pub record Run : Type 0 where
+  pub now : Situation
+  pub printed : List ℕ
+  pub taken : ℕ
+  pub stop : Stop
+
+abbrev pub resting : Situation → Stop → Run
+resting s x = record { now = s; printed = []; taken = 0; stop = x }
+
+abbrev pub counted : Halt → ℕ
+counted halt.Exit = 1
+counted (halt.Fault f) = 0
+
+-- a run after one step more before it
+abbrev pub joined : List ℕ → ℕ → Run → Run
+joined printed taken r = record { now = r.now; printed = printed ++ r.printed; taken = taken + r.taken; stop = r.stop }
+
+unfoldable pub is_among : List ℕ → ℕ → Bool
+is_among breaks a = list_any (λ b. b == a) breaks
+
+abbrev pub go_on : List ℕ → After → Option Halt → (Situation → Run) → Run
+go_on breaks a (Some h) rest = record { now = a.now; printed = a.printed; taken = counted h; stop = stop_of h }
+go_on breaks a None rest = if is_among breaks a.now.cpu.pc
+    then record { now = a.now; printed = a.printed; taken = 1; stop = stop.Break a.now.cpu.pc }
+    else joined a.printed 1 (rest a.now)
+
+abbrev pub begun : Situation → Option Halt → Run → Run
+begun s (Some h) r = resting s (stop_of h)
+begun s None r = r
+
+unfoldable pub ran : List ℕ → ℕ → Situation → Run
+ran breaks zero s = begun s s.halt (resting s stop.Budget)
+ran breaks (suc n) s = begun s s.halt (go_on breaks (machine_step s) (machine_step s).now.halt (ran breaks n))
+
+-- one run and then another from where it stopped
+abbrev pub then_run : Run → Run → Run
+then_run first second = record { now = second.now; printed = first.printed ++ second.printed; taken = first.taken + second.taken; stop = second.stop }
+
+-- Runs add up: where n steps end with the budget used up, n steps and then m are n + m.
+abbrev pub RunsOn : List ℕ → Situation → ℕ → ℕ → Type 0
+RunsOn breaks s n m = (ran breaks n s).stop ≡ stop.Budget → ran breaks (n + m) s ≡ then_run (ran breaks n s) (ran breaks m (ran breaks n s).now)
+
+-- why a run of one step ended, and how it counts, by what the step left
+abbrev pub stop_after : List ℕ → Situation → Option Halt → Stop
+stop_after breaks s (Some h) = stop_of h
+stop_after breaks s None = if is_among breaks s.cpu.pc then stop.Break s.cpu.pc else stop.Budget
+
+abbrev pub count_after : Option Halt → ℕ
+count_after (Some h) = counted h
+count_after None = 1

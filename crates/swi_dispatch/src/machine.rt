@@ -1,0 +1,215 @@
+ghost use Rattle.std.specs.Prelude.{◌≡◌, ◌&&◌, ℕ, Bool, true, false, not, [], List, Option, Some, None, IfOk, IsSome, is_err};
+ghost use Rattle.std.specs.Option.{option_map};
+ghost use Rattle.profile.specs.Outcome.{Leaves};
+ghost use Rattle.address_map.specs.Memory.{is_mapped, byte_at};
+ghost use Rattle.swi_dispatch.specs.Situation.{is_start_mapped, start_bytes};
+ghost use Rattle.swi_dispatch.specs.Step.{halt_called, without_x};
+
+use std::alloc::{AllocError, Global};
+use std::marker::Model;
+
+use address_map::AddressMap;
+use arm_step::{Cpu, Turn, step};
+use arrayvec::ArrayVec;
+use image_loader::Images;
+use profile::memory_map::{
+    APPLICATION_START, HEAP_DESCRIPTOR, HEAP_NAME, PAGE_SIZE, RMA_START, SYSTEM_PAGES, SYSTEM_START,
+};
+use profile::word::is_bit_set;
+use profile::{Config, ErrorNumber, Fault, Stop, SwiName};
+
+use crate::boot_error::BootError;
+use crate::halt::Halt;
+
+const MOST_PRINTED: usize = 4096;
+
+/// The bit of a call's number that asks for errors to be returned.
+const X_BIT: u32 = 1 << 17;
+
+/// A machine: a core, its memory, and what keeps it from further steps.
+#[derive(Drop)]
+pub struct Machine {
+    cpu: Cpu,
+    memory: AddressMap,
+    halt: Option<Halt>,
+    config: Config,
+    is_fresh: bool,
+    printed: ArrayVec<u8, MOST_PRINTED>,
+}
+
+impl Model for Machine {
+    ghost use Rattle.swi_dispatch.specs.Parts.{Parts, IsWellFormed};
+
+    ghost Value = { Parts };
+
+    ghost view = { λ m. record { cpu = m.cpu; map = m.memory; halt = m.halt; sizes = m.config; is_fresh = m.is_fresh; printed = m.printed.items } };
+
+    ghost invariant = { λ m. IsWellFormed (record { cpu = m.cpu; map = m.memory; halt = m.halt; sizes = m.config; is_fresh = m.is_fresh; printed = m.printed.items }) };
+}
+
+impl Machine {
+    ghost use Rattle.profile.specs.SwiNames.{swi_of};
+    ghost use Rattle.address_map.specs.Memory.{bytes_of};
+    ghost use Rattle.swi_dispatch.specs.Parts.{state_of, after_of, OnlySteps, TakesTurn};
+    ghost use Rattle.swi_dispatch.specs.Situation.{start_of, stop_of};
+    ghost use Rattle.swi_dispatch.specs.Boot.{booted};
+    ghost use Rattle.swi_dispatch.specs.Step.{machine_step, called, quiet, halted, turn_end};
+
+    /// A machine of these sizes at its start: user mode at &8000, each register 0 but the stack
+    /// pointer of supervisor mode, all mapped memory 0 but the descriptor of the module area's heap.
+    pub fn new(alloc: Global, config: Config) -> Result<Machine, AllocError>
+        ensures start { IfOk result (λ m. state_of m ≡ start_of config) }
+        ensures sizes { IfOk result (λ m. m.sizes ≡ config) }
+        ensures fresh { IfOk result (λ m. m.is_fresh ≡ true) }
+        ensures printed { IfOk result (λ m. m.printed ≡ []) }
+    {
+        let memory = start_memory(alloc, config)?;
+        Ok(Machine {
+            cpu: Cpu::new(),
+            memory,
+            halt: None,
+            config,
+            is_fresh: true,
+            printed: ArrayVec::new(),
+        })
+    }
+
+    /// Takes one step: an instruction or a store call. Answers why the machine is halted, if it is;
+    /// a halted machine stays as it is.
+    #[tactic(auto, using(crate::proofs::Turning::turned_by), unfolding(crate::specs::Step::machine_step))]
+    pub fn step(&mut self, _images: &Images) -> Option<Stop>
+        ensures after { after_of self.new ≡ machine_step (state_of self.old) }
+        ensures stop { result ≡ option_map stop_of (state_of self.new).halt }
+        ensures fresh { self.new.is_fresh ≡ false }
+        ensures sizes { self.new.sizes ≡ self.old.sizes }
+    {
+        self.begin();
+        if self.stop().is_some() {
+            return self.stop();
+        }
+        let turn = self.instruction();
+        self.finish(turn);
+        self.stop()
+    }
+
+    /// The bytes that the last step printed; none before the first.
+    pub fn output(&self) -> &[u8]
+        ensures { result.now ≡ self.now.printed }
+    {
+        self.printed.as_slice()
+    }
+
+    /// The core.
+    #[tactic(auto, unfolding(crate::specs::Parts::state_of))]
+    pub fn cpu(&self) -> &Cpu
+        ensures { result.now ≡ (state_of self.now).cpu }
+    {
+        &self.cpu
+    }
+
+    /// The memory.
+    #[tactic(auto, unfolding(crate::specs::Parts::state_of))]
+    pub fn memory(&self) -> &AddressMap
+        ensures { bytes_of result.now ≡ (state_of self.now).memory }
+    {
+        &self.memory
+    }
+
+    /// Why the machine is halted, if it is.
+    #[tactic(auto, unfolding(crate::specs::Parts::state_of))]
+    pub fn stop(&self) -> Option<Stop>
+        ensures halt { result ≡ option_map stop_of (state_of self.now).halt }
+        ensures stepped { IsSome result → self.now.is_fresh ≡ false }
+    {
+        self.halt.map(Halt::stop)
+    }
+
+    // A step prints into an empty list, and a machine that has been stepped can't be booted.
+    #[tactic(auto, unfolding(crate::specs::Parts::state_of))]
+    fn begin(&mut self)
+        ensures after { after_of self.new ≡ quiet (state_of self.old) }
+        ensures state { state_of self.new ≡ state_of self.old }
+        ensures printed { self.new.printed ≡ [] }
+        ensures fresh { self.new.is_fresh ≡ false }
+        ensures sizes { self.new.sizes ≡ self.old.sizes }
+    {
+        self.printed.clear();
+        self.is_fresh = false;
+    }
+
+    #[tactic(auto, unfolding(crate::specs::Parts::state_of))]
+    fn instruction(&mut self) -> Turn
+        requires { self.old.is_fresh ≡ false }
+        ensures turn { TakesTurn (state_of self.old) result (state_of self.new) }
+        ensures printed { self.new.printed ≡ self.old.printed }
+        ensures others { OnlySteps self.old self.new }
+    {
+        step(&mut self.cpu, &mut self.memory)
+    }
+
+    // What a turn of the core leaves to the machine.
+    fn finish(&mut self, turn: Turn)
+        requires printed { self.old.printed ≡ [] }
+        requires stepped { self.old.is_fresh ≡ false }
+        ensures after { after_of self.new ≡ turn_end (state_of self.old) turn }
+        ensures others { OnlySteps self.old self.new }
+    {
+        match turn {
+            Turn::Done => {}
+            Turn::Swi(number) => self.call(number),
+            Turn::Gate => self.end(Halt::Fault(Fault::FetchUnmapped)),
+            Turn::Fault(fault) => self.end(Halt::Fault(fault)),
+        }
+    }
+
+    fn call(&mut self, number: u32)
+        requires printed { self.old.printed ≡ [] }
+        requires stepped { self.old.is_fresh ≡ false }
+        ensures after { after_of self.new ≡ called (state_of self.old) (swi_of (without_x number)) }
+        ensures others { OnlySteps self.old self.new }
+    {
+        self.end(halt_of(SwiName::of(without_x_bit(number))));
+    }
+
+    #[tactic(auto, unfolding(crate::specs::Parts::state_of))]
+    fn end(&mut self, halt: Halt)
+        requires printed { self.old.printed ≡ [] }
+        requires stepped { self.old.is_fresh ≡ false }
+        ensures after { after_of self.new ≡ halted (state_of self.old) halt }
+        ensures others { OnlySteps self.old self.new }
+    {
+        self.halt = Some(halt);
+    }
+}
+
+// OS_Exit ends the guest. No other call is there yet.
+fn halt_of(call: Option<SwiName>) -> Halt
+    ensures { result ≡ halt_called call }
+{
+    match call {
+        Some(SwiName::Exit) => Halt::Exit,
+        _ => Halt::Fault(Fault::ErrorStop(ErrorNumber::SwiUnknown.number())),
+    }
+}
+
+fn without_x_bit(number: u32) -> u32
+    ensures { result ≡ without_x number }
+{
+    if is_bit_set(number, 17) { number - X_BIT } else { number }
+}
+
+// The memory of a machine at its start: the fixed ranges, and the descriptor of the module area.
+fn start_memory(alloc: Global, config: Config) -> Result<AddressMap, AllocError>
+    ensures mapping { IfOk result (λ m. (a : ℕ) → is_mapped m a ≡ is_start_mapped config a) }
+    ensures bytes { IfOk result (λ m. (a : ℕ) → byte_at m a ≡ start_bytes config a) }
+{
+    let mut memory = AddressMap::new(alloc, config.pages())?;
+    memory.map_pages(APPLICATION_START, config.app());
+    memory.map_pages(RMA_START, config.rma());
+    memory.map_pages(SYSTEM_START, SYSTEM_PAGES);
+    memory.put_word(RMA_START, HEAP_NAME);
+    memory.put_word(RMA_START + 4, 0);
+    memory.put_word(RMA_START + 8, HEAP_DESCRIPTOR);
+    memory.put_word(RMA_START + 12, PAGE_SIZE * config.rma());
+    Ok(memory)
+}
