@@ -1,10 +1,9 @@
 -- From the bytes one by one to memory as a whole: what a call that writes leaves of `bytes_of`, for the layers above.
-use Rattle.std.proofs.Common.{◌≡◌, ℕ, ◌+◌, ◌-◌, ◌%◌, ◌<◌, ◌^◌, Bool, true, false, Option, Some, None, Result, Ok, Err, refl, ap, is_some}
+use Rattle.std.proofs.Common.{◌≡◌, ℕ, Bool, List, Some, None, Ok, Err, refl, is_some}
 use Rattle.profile.specs.declared.fault.Fault.{Fault}
-use Rattle.profile.specs.Outcome.{Leaves}
 use Rattle.address_map.specs.declared.map.AddressMap.{AddressMap}
-use Rattle.address_map.specs.Bytes.{Bytes, with_byte, with_word, with_byte_at, with_word_at, store_fault, byte_stored, word_stored, word_start, unless}
-use Rattle.address_map.specs.Memory.{place, byte_at, is_mapped, bytes_of, layout, is_owned}
+use Rattle.address_map.specs.Bytes.{Bytes, with_byte, with_word, with_bytes, with_zeros, with_bytes_at, with_zeros_at, with_byte_at, with_word_at, store_fault, byte_stored, word_stored, word_start}
+use Rattle.address_map.specs.Memory.{place, byte_at, is_mapped, bytes_of, layout}
 use Rattle.address_map.proofs.Stores.{layout-place}
 
 -- the same addresses are mapped, and each byte is that of a function
@@ -21,6 +20,14 @@ stored_byte m n a byte same h = same_bytes m n (with_byte_at (byte_at m) a byte)
 pub stored_word : (m n : AddressMap) (a word : ℕ) → layout n ≡ layout m
     → ((b : ℕ) → byte_at n b ≡ with_word_at (byte_at m) a word b) → bytes_of n ≡ with_word (bytes_of m) a word
 stored_word m n a word same h = same_bytes m n (with_word_at (byte_at m) a word) same h
+
+pub stored_bytes : (m n : AddressMap) (a : ℕ) (new : List ℕ) → layout n ≡ layout m
+    → ((b : ℕ) → byte_at n b ≡ with_bytes_at (byte_at m) a new b) → bytes_of n ≡ with_bytes (bytes_of m) a new
+stored_bytes m n a new same h = same_bytes m n (with_bytes_at (byte_at m) a new) same h
+
+pub stored_zeros : (m n : AddressMap) (a len : ℕ) → layout n ≡ layout m
+    → ((b : ℕ) → byte_at n b ≡ with_zeros_at (byte_at m) a len b) → bytes_of n ≡ with_zeros (bytes_of m) a len
+stored_zeros m n a len same h = same_bytes m n (with_zeros_at (byte_at m) a len) same h
 
 -- a guest's store, where it is refused and where not
 pub byte_stored-refused : (owned : ℕ → Bool) (b : Bytes) (a byte : ℕ) (fault : Fault) → store_fault owned b a ≡ Some fault

@@ -1,10 +1,10 @@
 -- What a mapped address reads: the byte, or the word, at its place in the store.
-use Rattle.std.proofs.Common.{◌≡◌, ℕ, ◌+◌, ◌-◌, ◌*◌, ◌%◌, ◌^◌, ◌<◌, ◌≤◌, List, length, Option, Some, None, Result, Ok, Err, arith, refl, sym, ◌∙◌, ap, slice_index}
+use Rattle.std.proofs.Common.{◌≡◌, ℕ, ◌+◌, ◌%◌, ◌^◌, ◌<◌, ◌≤◌, length, Some, None, Ok, Err, arith, refl, sym, ap, slice_index}
 use Rattle.profile.specs.declared.fault.Fault.{Fault}
 use Rattle.raw_store.specs.Region.{word_in}
 use Rattle.address_map.specs.declared.map.AddressMap.{AddressMap}
-use Rattle.address_map.specs.Bytes.{Bytes, load_fault, word_start, word_at, unless, byte_loaded, word_loaded}
-use Rattle.address_map.specs.Memory.{place, byte_in, byte_at, is_mapped, bytes_of}
+use Rattle.address_map.specs.Bytes.{Bytes, load_fault, word_start, word_at, byte_loaded, word_loaded}
+use Rattle.address_map.specs.Memory.{place, byte_in, byte_at, bytes_of}
 use Rattle.address_map.proofs.Places.{place_within, place_same, place_word, place_limit}
 
 pub place_fits : (m : AddressMap) (a k : ℕ) → place m a ≡ Some k → k + 1 ≤ length m.store

@@ -1,9 +1,7 @@
 -- The place of an address among the runs: inside the runs' bytes, at one address only, and the bytes of a word in a row.
-use Rattle.std.proofs.Common.{◌≡◌, ℕ, ◌+◌, ◌-◌, ◌%◌, ◌^◌, ◌<◌, ◌≤◌, ◌⊎◌, Bool, true, false, List, [], ◌∷◌, ◌++◌, Option, Some, None, arith, inl, inr, suc, zero, ap, ◌∙◌, sym, refl}
+use Rattle.std.proofs.Common.{◌≡◌, ℕ, ◌+◌, ◌%◌, ◌^◌, ◌<◌, ◌≤◌, List, [], ◌∷◌, Some, arith, suc}
 use Rattle.std.specs.List.{All}
-use Rattle.std.proofs.lemmas.Bool.{cases_Bool, and_parts, leb-true, leb-false, ltb-true, ltb-false, and_cases, le-leb, lt-ltb}
 use Rattle.address_map.specs.declared.run.Run.{Run}
-use Rattle.address_map.specs.Bytes.{in_range}
 use Rattle.address_map.specs.Runs.{place_from, run_total, IsWhole}
 
 pub place_within : (start : ℕ) (runs : List Run) (a k : ℕ) → place_from start runs a ≡ Some k → (start ≤ k) × (k < start + run_total runs)

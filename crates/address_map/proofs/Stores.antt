@@ -1,27 +1,26 @@
 -- What a write to the store leaves in memory.
-use Rattle.std.proofs.Common.{◌≡◌, ℕ, ◌+◌, ◌-◌, ◌*◌, ◌/◌, ◌%◌, ◌^◌, ◌<◌, ◌≤◌, ◌⊎◌, Bool, true, false, List, [], ◌∷◌, ◌++◌, length, take, drop, slice_set, Option, Some, None, Result, Ok, Err, arith, refl, sym, ◌∙◌, ap, subst, slice_index, get_or, inl, inr, nat_le, nat_lt, if◌then◌else◌, add-zero}
+use Rattle.std.proofs.Common.{◌≡◌, ℕ, ◌+◌, ◌-◌, ◌/◌, ◌%◌, ◌<◌, ◌≤◌, ◌⊎◌, true, false, List, [], ◌∷◌, length, slice_set, Option, Some, None, arith, refl, ◌∙◌, ap, inl, inr, add-zero}
 use Rattle.std.specs.List.{All}
-use Rattle.std.proofs.lemmas.Bool.{cases_lt, cases_eq, le-leb, lt-ltb, lt-leb, le-ltb}
+use Rattle.std.proofs.lemmas.Bool.{cases_lt, le-leb, lt-ltb, lt-leb, le-ltb}
 use Rattle.std.proofs.lemmas.List.Elements.{All-cons, All-nil}
 use Rattle.std.proofs.lemmas.List.{set_split, places}
-use Rattle.profile.specs.declared.fault.Fault.{Fault}
 use Rattle.raw_store.specs.Region.{written, word_bytes}
 use Rattle.raw_store.proofs.Written.{length-written, written_inside, written_before, written_past}
 use Rattle.std.proofs.lemmas.Bool.Decides.{nat_tests}
 use Rattle.address_map.specs.declared.map.AddressMap.{AddressMap}
-use Rattle.address_map.specs.Bytes.{Bytes, in_range, with_bytes_at, with_word_at, with_byte_at, store_fault, word_start}
+use Rattle.address_map.specs.Bytes.{in_range, with_bytes_at, with_word_at, with_byte_at}
 use Rattle.address_map.specs.Runs.{place_from}
-use Rattle.address_map.specs.Memory.{place, byte_in, byte_at, is_mapped, bytes_of, free_pages, free_runs, layout}
+use Rattle.address_map.specs.Memory.{place, byte_in, byte_at, free_pages, free_runs, layout}
 use Rattle.address_map.proofs.Loads.{place_next, place_only, place_fits, place_fits_word}
 
 pub in_range-cases : (at len a : ℕ)
     → ((in_range at len a ≡ true) × (at ≤ a) × (a < at + len)) ⊎ ((in_range at len a ≡ false) × ((a < at) ⊎ (at + len ≤ a)))
 in_range-cases at len a =
     elim (cases_lt a at) [
-      inl low ↦ inr (rw lt-leb refl, inl low)
-    | inr high ↦ elim (cases_lt a (at + len)) [
-        inl below ↦ inl (rw (le-leb at a high, lt-ltb a (at + len) below) refl, high, below)
-      | inr past ↦ inr (rw (le-leb at a high, le-ltb a (at + len) past) refl, inr past)
+      | inl low ↦ inr (rw (lt-leb at a low) refl, inl low)
+      | inr high ↦ elim (cases_lt a (at + len)) [
+        | inl below ↦ inl (rw (le-leb at a high, lt-ltb a (at + len) below) refl, high, below)
+        | inr past ↦ inr (rw (le-leb at a high, le-ltb a (at + len) past) refl, inr past)
       ]
     ]
 
@@ -36,29 +35,29 @@ written_over : (place : ℕ → Option ℕ) (old new : List ℕ) (at k : ℕ) �
     → byte_in (written old k new) there ≡ with_bytes_at (λ b. byte_in old (place b)) at new a
 written_over place old new at k fits run only a None h =
     elim (in_range-cases at (length new) a) [
-      inl r ↦
-        let e : at + (a - at) ≡ a = omega arith in
-        let g : place (at + (a - at)) ≡ Some (k + (a - at)) = run (a - at) (omega arith) in
-        let g' = rw e at g in cc
-    | inr r ↦ rw (r.0, h) refl
+      | inl r ↦
+          let e : at + (a - at) ≡ a = omega arith in
+          let g : place (at + (a - at)) ≡ Some (k + (a - at)) = run (a - at) (omega arith) in
+          let g' = rw e at g in cc
+      | inr r ↦ rw (r.0, h) refl
     ]
 written_over place old new at k fits run only a (Some p) h =
     elim (in_range-cases at (length new) a) [
-      inl r ↦
-        let e : at + (a - at) ≡ a = omega arith in
-        let g : place (at + (a - at)) ≡ Some (k + (a - at)) = run (a - at) (omega arith) in
-        let g' = rw e at g in
-        let same : p ≡ k + (a - at) = cc in
-        rw (r.0, same) (written_inside old new k (a - at) 0 fits (omega arith))
-    | inr r ↦ rw (r.0, h) (elim (cases_lt p k) [
-        inl low ↦ written_before old new k p 0 fits low
-      | inr high ↦ elim (cases_lt p (k + length new)) [
-          inl inside ↦
-            let e : k + (p - k) ≡ p = omega arith in
-            let g : place (at + (p - k)) ≡ Some (k + (p - k)) = run (p - k) (omega arith) in
-            let same : a ≡ at + (p - k) = only a (at + (p - k)) p h (rw e at g) in
-            absurd (omega (arith, r.1))
-        | inr past ↦ written_past old new k p 0 fits past
+      | inl r ↦
+          let e : at + (a - at) ≡ a = omega arith in
+          let g : place (at + (a - at)) ≡ Some (k + (a - at)) = run (a - at) (omega arith) in
+          let g' = rw e at g in
+          let same : p ≡ k + (a - at) = cc in
+          rw (r.0, same) (written_inside old new k (a - at) 0 fits (omega arith))
+      | inr r ↦ rw (r.0, h) (elim (cases_lt p k) [
+        | inl low ↦ written_before old new k p 0 fits low
+        | inr high ↦ elim (cases_lt p (k + length new)) [
+          | inl inside ↦
+              let e : k + (p - k) ≡ p = omega arith in
+              let g : place (at + (p - k)) ≡ Some (k + (p - k)) = run (p - k) (omega arith) in
+              let same : a ≡ at + (p - k) = only a (at + (p - k)) p h (rw e at g) in
+              absurd (omega (arith, r.1))
+          | inr past ↦ written_past old new k p 0 fits past
         ]
       ])
     ]
@@ -100,14 +99,14 @@ pub All-written : (bytes new : List ℕ) (at : ℕ) → at + length new ≤ leng
 All-written bytes new at fits old fresh k d below =
     let below' : k < length bytes = rw length-written at below in
     elim (cases_lt k at) [
-      inl low ↦ rw (written_before bytes new at k d fits low) (old k d below')
-    | inr high ↦ elim (cases_lt k (at + length new)) [
-        inl inside ↦
-          let e : at + (k - at) ≡ k = omega arith in
-          let g = written_inside bytes new at (k - at) d fits (omega arith) in
-          let g' = rw e at g in
-          rw g' (fresh (k - at) d (omega arith))
-      | inr past ↦ rw (written_past bytes new at k d fits past) (old k d below')
+      | inl low ↦ rw (written_before bytes new at k d fits low) (old k d below')
+      | inr high ↦ elim (cases_lt k (at + length new)) [
+        | inl inside ↦
+            let e : at + (k - at) ≡ k = omega arith in
+            let g = written_inside bytes new at (k - at) d fits (omega arith) in
+            let g' = rw e at g in
+            rw g' (fresh (k - at) d (omega arith))
+        | inr past ↦ rw (written_past bytes new at k d fits past) (old k d below')
       ]
     ]
 
@@ -136,4 +135,4 @@ pub byte_put : (m n : AddressMap) (a k byte : ℕ) → place m a ≡ Some k → 
 byte_put m n a k byte h same store b =
     let fits : k + 1 ≤ length m.store = place_fits m a k h in
     bytes_written m n a k (byte ∷ []) (layout-place m n same) (store ∙ slice_set-written m.store k byte fits) fits
-    (λ j below. let e : j ≡ 0 = omega arith in rw (e, add-zero, add-zero) h) b ∙ with_bytes-byte (byte_at m) a byte b
+    (λ j below. let e : j ≡ 0 = omega arith in rw (e, add-zero a, add-zero k) h) b ∙ with_bytes-byte (byte_at m) a byte b

@@ -43,11 +43,21 @@ with_word_at bytes at word a =
 abbrev pub with_bytes_at : (ℕ → ℕ) → ℕ → List ℕ → ℕ → ℕ
 with_bytes_at bytes at new a = if in_range at (length new) a then slice_index new (a - at) else bytes a
 
+-- the bytes after `len` of them were made zero
+abbrev pub with_zeros_at : (ℕ → ℕ) → ℕ → ℕ → ℕ → ℕ
+with_zeros_at bytes at len a = if in_range at len a then 0 else bytes a
+
 abbrev pub with_byte : Bytes → ℕ → ℕ → Bytes
 with_byte b at byte = record { mapped = b.mapped; at = with_byte_at b.at at byte }
 
 abbrev pub with_word : Bytes → ℕ → ℕ → Bytes
 with_word b at word = record { mapped = b.mapped; at = with_word_at b.at at word }
+
+abbrev pub with_bytes : Bytes → ℕ → List ℕ → Bytes
+with_bytes b at new = record { mapped = b.mapped; at = with_bytes_at b.at at new }
+
+abbrev pub with_zeros : Bytes → ℕ → ℕ → Bytes
+with_zeros b at len = record { mapped = b.mapped; at = with_zeros_at b.at at len }
 
 -- which fault a load or a store meets, the first of these; `owned` says which bytes the store calls keep records in
 abbrev pub load_fault : Bytes → ℕ → Option Fault

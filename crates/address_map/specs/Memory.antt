@@ -1,6 +1,6 @@
 -- What an `AddressMap` stands for. The places of bytes in the store are the map's own matter; the layers above speak of
 -- `bytes_of`, `layout`, `free_pages`, `class_of` and `is_owned`.
-use Rattle.std.specs.Prelude.{ℕ, ◌-◌, Bool, true, false, not, List, length, slice_index, Option, Some, None, is_some}
+use Rattle.std.specs.Prelude.{◌≡◌, ◌≤◌, ◌<◌, ℕ, ◌+◌, ◌-◌, Bool, true, false, not, List, length, slice_index, Option, Some, None, is_some}
 use Rattle.address_map.specs.declared.class.Class.{Class}
 use Rattle.address_map.specs.declared.class.Class.TheVariants.{Plain, Heap, FlexHeader, Anchor}
 use Rattle.address_map.specs.declared.map.AddressMap.{AddressMap}
@@ -24,6 +24,12 @@ byte_at m a = byte_in m.store (place m a)
 
 abbrev pub bytes_of : AddressMap → Bytes
 bytes_of m = record { mapped = is_mapped m; at = byte_at m }
+
+-- the `len` bytes from the address `a` on lie in the store one after another, from the place `k` on
+pub record IsSpan (m : AddressMap) (a k len : ℕ) : Type 0 where
+  pub some : 0 < len
+  pub within : k + len ≤ length m.store
+  pub places : (j : ℕ) → j < len → place m (a + j) ≡ Some (k + j)
 
 -- the pages of the store that are not mapped
 unfoldable pub free_pages : AddressMap → ℕ

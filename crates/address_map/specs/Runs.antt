@@ -1,5 +1,5 @@
 -- Runs of mapped pages, which lie in the store one after another in the order of the table.
-use Rattle.std.specs.Prelude.{◌≡◌, ◌≤◌, ℕ, zero, ◌+◌, ◌-◌, ◌%◌, ◌^◌, Bool, ◌&&◌, nat_le, nat_lt, List, [], ◌∷◌, Option, Some, None, if◌then◌else◌}
+use Rattle.std.specs.Prelude.{◌≡◌, ◌≤◌, ℕ, ◌+◌, ◌-◌, ◌%◌, ◌^◌, true, false, List, [], ◌∷◌, Option, Some, None, if◌then◌else◌}
 use Rattle.address_map.specs.Bytes.{in_range}
 use Rattle.address_map.specs.declared.run.Run.{Run}
 
@@ -18,3 +18,7 @@ pub record IsWhole (run : Run) : Type 0 where
   pub base : run.base % 4096 ≡ 0
   pub len : run.len % 4096 ≡ 0
   pub end : run.base + run.len ≤ 2 ^ 26
+
+-- no address is in both of two runs
+abbrev pub AreApart : Run → Run → Type 0
+AreApart run other = (a : ℕ) → in_range run.base run.len a ≡ true → in_range other.base other.len a ≡ false

@@ -7,3 +7,6 @@ pub mod run;
 
 pub use class::Class;
 pub use map::AddressMap;
+
+#[cfg(test)]
+mod tests;

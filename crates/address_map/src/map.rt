@@ -1,17 +1,16 @@
-ghost use Rattle.std.specs.Prelude.{ℕ, ◌≡◌, ◌≤◌, ◌<◌, ◌+◌, ◌-◌, ◌*◌, ◌%◌, ◌^◌, ◌↔◌, ◌||◌, false, IsTrue, IfOk, MatchResult, Option, Some, None, length, All, slice_index};
+ghost use Rattle.std.specs.Prelude.{ℕ, ◌≡◌, ◌≤◌, ◌<◌, ◌+◌, ◌-◌, ◌*◌, ◌%◌, ◌^◌, ◌↔◌, ◌||◌, false, IsTrue, IfOk, MatchResult, MatchOption, Option, Some, None, length, All, slice_index};
+ghost use Rattle.std.specs.List.{AllPairs};
 ghost use Rattle.profile.specs.Outcome.{Leaves};
-ghost use Rattle.address_map.specs.Bytes.{in_range, AreMapped, AreUnmapped, byte_loaded, word_loaded, byte_stored, word_stored, with_word_at, load_fault, store_fault};
-ghost use Rattle.address_map.specs.Runs.{IsWhole, run_total};
+ghost use Rattle.address_map.specs.Bytes.{in_range, AreMapped, AreUnmapped, byte_loaded, word_loaded, byte_stored, word_stored, with_word_at, with_bytes_at, with_zeros_at, load_fault, store_fault};
+ghost use Rattle.address_map.specs.Runs.{IsWhole, AreApart, run_total};
 
-use std::alloc::{AllocError, Global};
-
+use crate::class::Class;
+use crate::run::Run;
 use arrayvec::ArrayVec;
 use profile::Fault;
 use profile::memory_map::{ADDRESS_LIMIT, PAGE_SIZE};
 use raw_store::RawStore;
-
-use crate::class::Class;
-use crate::run::Run;
+use std::alloc::{AllocError, Global};
 
 /// The most runs of mapped pages that don't touch.
 const MOST_RUNS: usize = 36;
@@ -29,17 +28,26 @@ pub struct AddressMap {
     pub ghost in_limit: { length store ≤ 4194304 },
     pub ghost runs_fit: { run_total runs.items + 4096 * free ≡ length store },
     pub ghost whole: { All IsWhole runs.items },
+    pub ghost apart: { AllPairs AreApart runs.items },
+}
+
+/// Bytes of memory that lie one after another in the store too.
+#[derive(Clone, Copy)]
+struct Span {
+    addr: u32,
+    place: usize,
+    len: u32,
 }
 
 impl AddressMap {
-    ghost use Rattle.address_map.specs.Memory.{place, is_mapped, byte_at, bytes_of, free_pages, free_runs, layout, class_of, is_owned};
+    ghost use Rattle.address_map.specs.Memory.{IsSpan, place, is_mapped, byte_at, bytes_of, free_pages, free_runs, layout, class_of, is_owned};
 
     /// A memory of that many pages of 4096 bytes, none of which is mapped.
     ///
     /// # Errors
     ///
     /// `AllocError` where the host has no memory for it.
-    #[tactic(auto, unfolding(crate::specs::Memory::place, crate::specs::Memory::free_pages, crate::specs::Memory::free_runs))]
+    #[tactic(auto, using(crate::proofs::Searches::no_pairs), unfolding(crate::specs::Memory::place, crate::specs::Memory::free_pages, crate::specs::Memory::free_runs))]
     pub fn new(alloc: Global, pages: u32) -> Result<AddressMap, AllocError>
         requires { pages ≤ 1024 }
         ensures mapping { IfOk result (λ m. (a : ℕ) → is_mapped m a ≡ false) }
@@ -85,15 +93,29 @@ impl AddressMap {
     }
 
     /// Where in the store the byte of an address lies, or `None` where no memory is mapped.
-    #[tactic(auto, using(crate::proofs::Searches::whole_place, crate::proofs::Searches::place_step, crate::proofs::Searches::place_end), unfolding(crate::specs::Memory::place))]
     pub fn translate(&self, addr: u32) -> Option<usize>
         ensures { result ≡ place self.now addr }
+    {
+        self.span(addr).map(|span| span.place)
+    }
+
+    /// The bytes from an address on that lie one after another in the store, or `None` where no
+    /// memory is mapped.
+    #[tactic(auto, using(crate::proofs::Searches::place_end), unfolding(crate::specs::Memory::place))]
+    fn span(&self, addr: u32) -> Option<Span>
+        ensures { MatchOption result (place self.now addr ≡ None) (λ span. (span.addr ≡ addr) × IsSpan self.now addr span.place span.len) }
     {
         let mut start = 0;
         let runs = self.runs.as_slice();
         for run in runs {
-            if run.base <= addr && addr - run.base < run.len {
-                return Some(start + (addr - run.base) as usize);
+            // Below the run's base the difference wraps, to more than any run has bytes.
+            let offset = addr.wrapping_sub(run.base);
+            if offset < run.len {
+                return Some(Span {
+                    addr,
+                    place: start + offset as usize,
+                    len: run.len - offset,
+                });
             }
             start += run.len as usize;
         }
@@ -173,16 +195,81 @@ impl AddressMap {
         }
     }
 
+    fn write_span(&mut self, span: Span, bytes: &[u8])
+        requires span { IsSpan self.old span.addr span.place span.len }
+        requires within { length bytes.now ≤ span.len }
+        ensures bytes { (a : ℕ) → byte_at self.new a ≡ with_bytes_at (byte_at self.old) span.addr bytes.now a }
+        ensures layout { layout self.new ≡ layout self.old }
+    {
+        self.store.write(span.place, bytes);
+    }
+
+    fn zero_span(&mut self, span: Span, len: u32)
+        requires span { IsSpan self.old span.addr span.place span.len }
+        requires within { len ≤ span.len }
+        ensures bytes { (a : ℕ) → byte_at self.new a ≡ with_zeros_at (byte_at self.old) span.addr len a }
+        ensures layout { layout self.new ≡ layout self.old }
+    {
+        self.store.zero(span.place, len as usize);
+    }
+
+    /// Writes bytes, owned or not, the first of them at an address.
+    pub fn put_bytes(&mut self, addr: u32, bytes: &[u8])
+        requires { AreMapped (is_mapped self.old) addr (length bytes.now) }
+        ensures bytes { (a : ℕ) → byte_at self.new a ≡ with_bytes_at (byte_at self.old) addr bytes.now a }
+        ensures layout { layout self.new ≡ layout self.old }
+    {
+        let mut done = 0;
+        while done < bytes.len() {
+            let Some(span) = self.span(addr + done as u32) else {
+                return;
+            };
+            let end = bytes.len().min(done + span.len as usize);
+            self.write_span(span, &bytes[done..end]);
+            done = end;
+        }
+    }
+
+    /// Makes `len` bytes zero, owned or not, the first of them at an address.
+    pub fn zero_bytes(&mut self, addr: u32, len: u32)
+        requires { AreMapped (is_mapped self.old) addr len }
+        ensures bytes { (a : ℕ) → byte_at self.new a ≡ with_zeros_at (byte_at self.old) addr len a }
+        ensures layout { layout self.new ≡ layout self.old }
+    {
+        let mut done = 0;
+        while done < len {
+            let Some(span) = self.span(addr + done) else {
+                return;
+            };
+            let now = span.len.min(len - done);
+            self.zero_span(span, now);
+            done += now;
+        }
+    }
+
+    /// Whether each of the `len` addresses from `addr` on is mapped.
+    pub fn maps(&self, addr: u32, len: u32) -> bool
+        ensures { IsTrue result ↔ AreMapped (is_mapped self.now) addr len }
+    {
+        let mut done = 0;
+        while done < len {
+            let Some(span) = self.span(addr + done) else {
+                return false;
+            };
+            done += span.len;
+        }
+        true
+    }
+
     /// Where in the store the byte of an address lies that a guest may read.
+    #[tactic(auto, using(crate::proofs::Loads::place_below))]
     fn readable(&self, addr: u32) -> Result<usize, Fault>
         ensures { MatchResult result (λ k. (load_fault (bytes_of self.now) addr ≡ None) × (place self.now addr ≡ Some k)) (λ fault. load_fault (bytes_of self.now) addr ≡ Some fault) }
     {
-        if addr >= ADDRESS_LIMIT {
-            return Err(Fault::AddressException);
-        }
         match self.translate(addr) {
             Some(place) => Ok(place),
-            None => Err(Fault::DataUnmapped),
+            None if addr < ADDRESS_LIMIT => Err(Fault::DataUnmapped),
+            None => Err(Fault::AddressException),
         }
     }
 

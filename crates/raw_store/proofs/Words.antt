@@ -10,5 +10,5 @@ pub written_rest : (bytes new rest : List ℕ) (at : ℕ) → at + length new �
 written_rest bytes new rest at fits is =
     let past : post_of at (length bytes - at) bytes ≡ [] = drop_all (length bytes - at) (drop at bytes) (omega (arith, length-drop at bytes)) in
     let kept : drop (length new) (take (length bytes - at) (drop at bytes)) ≡ drop (at + length new) bytes =
-        rw take_rest (drop-drop (length new) at bytes) in
+    rw take_rest (drop-drop (length new) at bytes) in
     rw (past, append-nil, is, kept) refl

@@ -1,9 +1,7 @@
 -- The bytes of a region after a write, one by one.
-use Rattle.std.proofs.Common.{◌≡◌, ℕ, ◌+◌, ◌-◌, ◌<◌, ◌≤◌, ◌⊎◌, List, [], ◌∷◌, ◌++◌, length, take, drop, get_or, arith, inl, inr}
-use Rattle.std.specs.List.{All}
-use Rattle.std.proofs.lemmas.Bool.{cases_lt}
+use Rattle.std.proofs.Common.{◌≡◌, ℕ, ◌+◌, ◌<◌, ◌≤◌, List, length, get_or, arith}
 use Rattle.std.proofs.lemmas.List.{places}
-use Rattle.raw_store.specs.Region.{written, word_bytes}
+use Rattle.raw_store.specs.Region.{written}
 
 pub length-written : (bytes new : List ℕ) (at : ℕ) → at + length new ≤ length bytes → length (written bytes at new) ≡ length bytes
 length-written bytes new at fits = grind (arith, places)

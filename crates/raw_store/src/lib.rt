@@ -4,3 +4,6 @@
 pub mod store;
 
 pub use store::RawStore;
+
+#[cfg(test)]
+mod tests;

@@ -1,11 +1,10 @@
 ghost use Rattle.std.specs.Prelude.{List, ℕ, ◌≡◌, ◌≤◌, ◌<◌, ◌+◌, ◌*◌, ◌↔◌, IsTrue, IfOk, length, replicate, slice_index, slice_set, slice_range};
 ghost use Rattle.raw_store.specs.Region.{word_in, word_bytes, written, copied, zeroed};
 
-use std::alloc::{AllocError, Global};
-use std::marker::Model;
-
 use byteorder::{ByteOrder, LittleEndian};
 use profile::memory_map::PAGE_SIZE;
+use std::alloc::{AllocError, Global};
+use std::marker::Model;
 
 /// All bytes of a machine's memory, in one region that never grows.
 ///
@@ -105,6 +104,14 @@ impl RawStore {
         ensures { result.now ≡ slice_range self.now at (at + len) }
     {
         &self.bytes[at..at + len]
+    }
+
+    /// Writes bytes, the first of them at a place.
+    pub fn write(&mut self, at: usize, bytes: &[u8])
+        requires { at + length bytes.now ≤ length self.old }
+        ensures { self.new ≡ written self.old at bytes.now }
+    {
+        self.bytes[at..at + bytes.len()].copy_from_slice(bytes);
     }
 }
 

@@ -1,5 +1,3 @@
-use Rattle.std.proofs.Common.{◌≡◌}
-use Rattle.address_map.specs.Memory.{bytes_of}
 use Rattle.address_map.proofs.Loads.{place_fits, byte_read, byte_refused}
 use Rattle.address_map.proofs.map.AddressMap.load_byte.Goals as goal
 use Rattle.std.proofs.lemmas.Result.{err_from_is_err_and}

@@ -1,6 +1,5 @@
-use Rattle.std.proofs.Common.{◌≡◌, ◌%◌, arith}
+use Rattle.std.proofs.Common.{arith}
 use Rattle.address_map.specs.Bytes.{word_start}
-use Rattle.address_map.specs.Memory.{bytes_of}
 use Rattle.address_map.proofs.Loads.{place_fits_word, word_read, word_refused}
 use Rattle.address_map.proofs.map.AddressMap.load_word.Goals as goal
 use Rattle.std.proofs.lemmas.Result.{err_from_is_err_and}

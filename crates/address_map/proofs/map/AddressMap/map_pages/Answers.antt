@@ -1,8 +1,8 @@
-use Rattle.std.proofs.Common.{◌≡◌, ◌+◌, ◌-◌, ◌*◌, ◌%◌, ◌≤◌, ◌∙◌, length, arith, refl, [], ◌∷◌, lit<}
-use Rattle.address_map.specs.Memory.{place, byte_at, is_mapped, free_pages, free_runs, is_owned, class_of}
+use Rattle.std.proofs.Common.{◌≡◌, ◌+◌, ◌-◌, ◌*◌, ◌≤◌, length, arith, refl, lit<}
+use Rattle.address_map.specs.Memory.{place, byte_at, free_pages, free_runs, is_owned, class_of}
 use Rattle.address_map.specs.declared.run.Run.{Run}
 use Rattle.address_map.specs.Runs.{run_total}
-use Rattle.address_map.proofs.Mapping.{mapped_more, bytes_more, store_zeroed, whole_more, total_more}
+use Rattle.address_map.proofs.Mapping.{mapped_more, bytes_more, store_zeroed, whole_more, total_more, apart_more}
 use Rattle.address_map.proofs.map.AddressMap.map_pages.Goals as goal
 
 pub zero-requires : goal.zero-requires
@@ -31,7 +31,8 @@ invariant_of-self c =
       bytes_fit = kept.0;
       in_limit = omega (arith, kept.1, m.in_limit);
       runs_fit = omega (arith, kept.1, m.runs_fit, total);
-      whole = whole_more m c.push.new.self.items run c.push.ensures.items (record { base = c.requires.aligned; len = omega arith; end = c.requires.below })
+      whole = whole_more m c.push.new.self.items run c.push.ensures.items (record { base = c.requires.aligned; len = omega arith; end = c.requires.below });
+      apart = apart_more m c.push.new.self.items c.args.base (4096 * c.args.count) c.push.ensures.items c.requires.unmapped;
     }
 
 pub returns-clause-mapping : goal.returns-clause-mapping

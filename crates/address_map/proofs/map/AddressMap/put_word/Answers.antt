@@ -1,4 +1,4 @@
-use Rattle.std.proofs.Common.{◌≡◌, ◌+◌, ◌≤◌, length, arith, refl, sym}
+use Rattle.std.proofs.Common.{◌+◌, ◌≤◌, length, arith, refl, sym}
 use Rattle.raw_store.specs.Region.{word_bytes}
 use Rattle.address_map.proofs.Loads.{place_fits_word}
 use Rattle.address_map.proofs.Stores.{word_put, same_layout, store_written, All-word_bytes}
@@ -16,7 +16,8 @@ invariant_of-self c =
       bytes_fit = kept.0;
       in_limit = omega (arith, kept.1, m.in_limit);
       runs_fit = omega (arith, kept.1, m.runs_fit);
-      whole = m.whole
+      whole = m.whole;
+      apart = m.apart;
     }
 
 pub returns-in-Some-clause-bytes : goal.returns-in-Some-clause-bytes

@@ -1,10 +1,8 @@
-use Rattle.std.proofs.Common.{◌≡◌, ◌+◌, ◌-◌, ◌%◌, ◌≤◌, ◌∙◌, length, arith, refl, [], ◌∷◌}
+use Rattle.std.proofs.Common.{◌+◌, ◌≤◌, ◌∙◌, length, arith, refl, [], ◌∷◌}
 use Rattle.std.proofs.lemmas.Result.{err_from_is_err_and}
-use Rattle.raw_store.specs.Region.{word_bytes}
-use Rattle.address_map.specs.Bytes.{word_start}
 use Rattle.address_map.specs.Memory.{bytes_of, is_owned}
-use Rattle.address_map.proofs.Loads.{place_fits, place_fits_word}
-use Rattle.address_map.proofs.Stores.{byte_put, word_put, same_layout, store_written, slice_set-written, All-byte, All-word_bytes}
+use Rattle.address_map.proofs.Loads.{place_fits}
+use Rattle.address_map.proofs.Stores.{byte_put, same_layout, store_written, slice_set-written, All-byte}
 use Rattle.address_map.proofs.Equations.{stored_byte, byte_stored-refused, byte_stored-done}
 use Rattle.address_map.proofs.map.AddressMap.store_byte.Goals as goal
 
@@ -26,7 +24,8 @@ invariant_of-self c =
       bytes_fit = kept.0;
       in_limit = omega (arith, kept.1, m.in_limit);
       runs_fit = omega (arith, kept.1, m.runs_fit);
-      whole = m.whole
+      whole = m.whole;
+      apart = m.apart;
     }
 
 pub returns-clause-bytes : goal.returns-clause-bytes

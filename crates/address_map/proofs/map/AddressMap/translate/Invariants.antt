@@ -1,9 +1,0 @@
-use Rattle.std.proofs.Common.{◌≡◌, ◌+◌, drop}
-use Rattle.address_map.specs.Runs.{place_from, run_total}
-use Rattle.address_map.proofs.map.AddressMap.translate.Given as goal
-
-abbrev pub invariant-loop-run : goal.invariant-loop-run
-invariant-loop-run l = record {
-  found : place_from l.start (drop l.run-index l.runs) l.addr ≡ place_from 0 l.runs l.addr;
-  passed : l.start + run_total (drop l.run-index l.runs) ≡ run_total l.runs
-}

@@ -1,0 +1,28 @@
+use Rattle.std.proofs.Common.{◌+◌, ◌≤◌, length, arith, refl}
+use Rattle.address_map.proofs.Mapping.{store_zeroed}
+use Rattle.address_map.proofs.Spans.{bytes_zeroed}
+use Rattle.address_map.proofs.Stores.{same_layout}
+use Rattle.address_map.proofs.map.AddressMap.zero_span.Goals as goal
+
+pub zero-requires : goal.zero-requires
+zero-requires c = omega (arith, c.requires.span.within)
+
+pub invariant_of-self : goal.invariant_of-self
+invariant_of-self c =
+    let m = c.args.self.now in
+    let fits : c.args.span.place + c.args.len ≤ length m.store = omega (arith, c.requires.span.within) in
+    let kept = store_zeroed m c.zero.new.self c.args.span.place c.args.len c.zero.ensures fits in
+    record {
+      bytes_fit = kept.0;
+      in_limit = omega (arith, kept.1, m.in_limit);
+      runs_fit = omega (arith, kept.1, m.runs_fit);
+      whole = m.whole;
+      apart = m.apart;
+    }
+
+pub returns-clause-bytes : goal.returns-clause-bytes
+returns-clause-bytes c =
+    bytes_zeroed c.args.self.now _ c.args.span.addr c.args.span.place c.args.span.len c.args.len c.requires.span c.requires.within (same_layout _ _ refl refl) c.zero.ensures
+
+pub returns-clause-layout : goal.returns-clause-layout
+returns-clause-layout c = same_layout _ _ refl refl
