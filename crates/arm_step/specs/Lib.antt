@@ -1,3 +1,4 @@
+pub mod Blocks
 pub mod Conditions
 pub mod Effect
 pub mod Operand
@@ -7,3 +8,4 @@ pub mod State
 pub mod Step
 pub mod Transfers
 pub mod Turns
+pub mod Words

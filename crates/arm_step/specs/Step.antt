@@ -1,7 +1,7 @@
 -- One step of the core over memory. `owned` says which bytes the store calls keep their records in.
 use Rattle.std.specs.Prelude.{ℕ, Bool, ◌==◌, if◌then◌else◌, Result, Ok, Err}
 use Rattle.profile.specs.declared.fault.Fault.{Fault}
-use Rattle.profile.specs.declared.fault.Fault.TheVariants.{FetchUnmapped, Unallocated}
+use Rattle.profile.specs.declared.fault.Fault.TheVariants.{FetchUnmapped}
 use Rattle.address_map.specs.Bytes.{Bytes, word_loaded}
 use Rattle.arm_decode.specs.Decoded.{decoded}
 use Rattle.arm_decode.specs.Fields.{condition_in}
@@ -15,6 +15,7 @@ use Rattle.arm_step.specs.State.{State}
 use Rattle.arm_step.specs.Effect.{advanced}
 use Rattle.arm_step.specs.Operate.{operated, multiplied, branched}
 use Rattle.arm_step.specs.Transfers.{transferred}
+use Rattle.arm_step.specs.Blocks.{block_transferred}
 
 -- a fault of memory ends the step
 abbrev pub or_fault : {A : Type 0} → Result A Fault → Result A Turn
@@ -25,7 +26,7 @@ unfoldable pub acted : (ℕ → Bool) → State → Bytes → Action → Result 
 acted owned s b (action.Operate o) = Ok (operated s o, b)
 acted owned s b (action.Multiply m) = Ok (multiplied s m, b)
 acted owned s b (action.Transfer t) = or_fault (transferred owned s b t)
-acted owned s b (action.BlockTransfer t) = Err (turn.Fault Unallocated)
+acted owned s b (action.BlockTransfer t) = or_fault (block_transferred owned s b t)
 acted owned s b (action.Branch links distance) = Ok (branched s links distance, b)
 acted owned s b (action.SoftwareInterrupt n) = Err (turn.Swi n)
 

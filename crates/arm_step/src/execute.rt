@@ -63,7 +63,11 @@ impl Cpu {
             Action::Multiply(multiply) => self.multiply(multiply),
             Action::Branch { links, distance } => self.branch(*links, distance.number()),
             Action::SoftwareInterrupt(number) => return Turn::Swi(number.number()),
-            Action::BlockTransfer(_) => return Turn::Fault(Fault::Unallocated),
+            Action::BlockTransfer(block) => {
+                if let Err(fault) = self.transfer_block(memory, block) {
+                    return Turn::Fault(fault);
+                }
+            }
             Action::Transfer(transfer) => {
                 if let Err(fault) = self.transfer(memory, transfer) {
                     return Turn::Fault(fault);

@@ -1,6 +1,7 @@
 //! The core of the ARM2: its registers and status, and one instruction at a time over the memory map.
 #![tactic(auto)]
 
+pub mod block;
 pub mod condition;
 pub mod cpu;
 pub mod effect;
@@ -10,6 +11,7 @@ pub mod operate;
 pub mod psr;
 pub mod transfer;
 pub mod turn;
+pub mod words;
 
 pub use cpu::Cpu;
 pub use execute::step;

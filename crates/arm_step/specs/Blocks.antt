@@ -1,0 +1,91 @@
+-- LDM and STM (ARM2 data sheet, "Block data transfer"). Which base is stored, and that a fault moves nothing, are this project's choice.
+use Rattle.std.specs.Prelude.{ℕ, zero, suc, ◌++◌, Bool, true, false, not, ◌&&◌, ◌+◌, ◌-◌, ◌*◌, ◌%◌, ◌^◌, ◌==◌, if◌then◌else◌, List, [], ◌∷◌, length, map, slice_get, Option, Some, None, Result, Ok}
+use Rattle.profile.specs.Outcome.{bind}
+use Rattle.profile.specs.Word.{bit_of}
+use Rattle.profile.specs.declared.fault.Fault.{Fault}
+use Rattle.address_map.specs.Bytes.{Bytes, word_start}
+use Rattle.arm_decode.specs.declared.action.BlockTransfer.{BlockTransfer}
+use Rattle.arm_decode.specs.declared.address.BlockMode.{BlockMode}
+use Rattle.arm_decode.specs.declared.address.BlockMode.TheVariants.{DecrementAfter, IncrementAfter, DecrementBefore, IncrementBefore}
+use Rattle.arm_step.specs.declared.psr.Mode.{Mode}
+use Rattle.arm_step.specs.declared.psr.Mode.TheVariants.{User}
+use Rattle.arm_step.specs.State.{State, register_in}
+use Rattle.arm_step.specs.Effect.{advanced, plain_operand, status_operand, with_result, with_result_in, with_status}
+use Rattle.arm_step.specs.Words.{words_loaded, words_stored}
+
+-- The registers of a list below a number, lowest first; all of them.
+unfoldable pub listed_below : ℕ → ℕ → List ℕ
+listed_below zero list = []
+listed_below (suc n) list = listed_below n list ++ (if bit_of list n then n ∷ [] else [])
+
+unfoldable pub listed : ℕ → List ℕ
+listed list = listed_below 16 list
+
+-- The lowest address, with the base and the number of registers; its bits 1 and 0 are ignored.
+unfoldable pub lowest : BlockMode → ℕ → ℕ → ℕ
+lowest IncrementAfter base n = base
+lowest IncrementBefore base n = (base + 4) % 2 ^ 32
+lowest DecrementAfter base n = (2 ^ 32 + base + 4 - 4 * n) % 2 ^ 32
+lowest DecrementBefore base n = (2 ^ 32 + base - 4 * n) % 2 ^ 32
+
+-- The base that is written back.
+unfoldable pub stepped_base : BlockMode → ℕ → ℕ → ℕ
+stepped_base IncrementAfter base n = (base + 4 * n) % 2 ^ 32
+stepped_base IncrementBefore base n = (base + 4 * n) % 2 ^ 32
+stepped_base DecrementAfter base n = (2 ^ 32 + base - 4 * n) % 2 ^ 32
+stepped_base DecrementBefore base n = (2 ^ 32 + base - 4 * n) % 2 ^ 32
+
+abbrev pub block_size : BlockTransfer → ℕ
+block_size t = length (listed t.list)
+
+unfoldable pub block_start : State → BlockTransfer → ℕ
+block_start s t = word_start (lowest t.mode (plain_operand s t.rn 2) (block_size t))
+
+unfoldable pub block_base : State → BlockTransfer → ℕ
+block_base s t = stepped_base t.mode (plain_operand s t.rn 2) (block_size t)
+
+-- S in LDM with R15 loads the status; else it means the registers of the user bank.
+unfoldable pub loads_status : BlockTransfer → Bool
+loads_status t = t.psr_or_user && (t.loads && bit_of t.list 15)
+
+unfoldable pub bank_of : State → BlockTransfer → Mode
+bank_of s t = if t.psr_or_user then (if t.loads && bit_of t.list 15 then s.psr.mode else User) else s.psr.mode
+
+unfoldable pub with_block_base : State → BlockTransfer → ℕ → State
+with_block_base s t base = if t.writes_back then with_result s t.rn base else s
+
+-- The words of a load placed in the registers of a list, one by one.
+unfoldable pub with_loaded : Mode → State → List ℕ → List ℕ → State
+with_loaded m s [] ws = s
+with_loaded m s (r ∷ rs) [] = s
+with_loaded m s (r ∷ rs) (w ∷ ws) = with_loaded m (with_result_in m s r w) rs ws
+
+-- R15 is the last of the list, so its word is the last.
+abbrev pub with_status_if : State → Option ℕ → State
+with_status_if s None = s
+with_status_if s (Some w) = with_status s w
+
+unfoldable pub with_block_status : State → BlockTransfer → List ℕ → State
+with_block_status s t ws = if loads_status t then with_status_if s (slice_get ws (length ws - 1)) else s
+
+-- The base is written first, so a loaded base wins.
+unfoldable pub block_loaded : State → Bytes → BlockTransfer → Result (State × Bytes) Fault
+block_loaded s b t =
+    bind (words_loaded b (block_start s t) (block_size t))
+    (λ ws. Ok (with_block_status (with_loaded (bank_of s t) (with_block_base (advanced s) t (block_base s t)) (listed t.list) ws) t ws, b))
+
+-- R15 is stored three words ahead with the status. A base that is written back is stored as it was where no lower register is listed, and
+-- else as it will be.
+unfoldable pub block_value : State → BlockTransfer → ℕ → ℕ
+block_value s t r =
+    if t.writes_back && (r == t.rn && not (t.list % 2 ^ r == 0)) then block_base s t else status_operand (bank_of s t) s r 3
+
+unfoldable pub block_values : State → BlockTransfer → List ℕ
+block_values s t = map (block_value s t) (listed t.list)
+
+unfoldable pub block_stored : (ℕ → Bool) → State → Bytes → BlockTransfer → Result (State × Bytes) Fault
+block_stored owned s b t =
+    bind (words_stored owned b (block_start s t) (block_values s t)) (λ c. Ok (with_block_base (advanced s) t (block_base s t), c))
+
+unfoldable pub block_transferred : (ℕ → Bool) → State → Bytes → BlockTransfer → Result (State × Bytes) Fault
+block_transferred owned s b t = if t.loads then block_loaded s b t else block_stored owned s b t
