@@ -5,7 +5,7 @@ use crate::fields::field_of;
 use std::marker::Model;
 
 /// One of the registers R0 to R15. R15 holds the program counter.
-#[derive(Clone, Copy, Debug, PartialEq, Eq)]
+#[derive(Clone, Copy, Debug, Default, PartialEq, Eq)]
 pub struct Register {
     number: u8,
 }
