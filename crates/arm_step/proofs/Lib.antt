@@ -1,2 +1,5 @@
+pub mod Comparing
+pub mod Framing
 pub mod Listing
 pub mod SeveralWords
+pub mod Turning

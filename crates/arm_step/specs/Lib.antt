@@ -1,6 +1,8 @@
 pub mod Blocks
 pub mod Conditions
 pub mod Effect
+pub mod Frame
+pub mod Laws
 pub mod Operand
 pub mod Operate
 pub mod Psr

@@ -6,6 +6,7 @@ pub mod condition;
 pub mod cpu;
 pub mod effect;
 pub mod execute;
+pub mod laws;
 pub mod operand;
 pub mod operate;
 pub mod psr;

@@ -1,0 +1,16 @@
+-- No instruction writes to the bytes that the store calls keep their records in.
+use Rattle.std.specs.Prelude.{◌≡◌, ◌<◌, ◌+◌, ◌%◌, ℕ, Bool, true, Result, Ok}
+use Rattle.address_map.specs.Bytes.{Bytes}
+use Rattle.arm_step.specs.State.{State}
+use Rattle.arm_step.specs.Step.{stepped}
+
+-- The four bytes of a word are owned together.
+abbrev pub IsByWords : (ℕ → Bool) → Type 0
+IsByWords owned = (a k : ℕ) → a % 4 ≡ 0 → k < 4 → owned (a + k) ≡ owned a
+
+pub record Keeps (owned : ℕ → Bool) (old new : Bytes) : Type 0 where
+  pub mapped : new.mapped ≡ old.mapped
+  pub bytes : (a : ℕ) → owned a ≡ true → new.at a ≡ old.at a
+
+abbrev pub StepKeeps : (ℕ → Bool) → State → Bytes → Type 0
+StepKeeps owned s b = IsByWords owned → (t : State) (c : Bytes) → stepped owned s b ≡ Ok (t, c) → Keeps owned b c
