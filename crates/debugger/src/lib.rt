@@ -4,3 +4,6 @@
 pub mod registers;
 
 pub use registers::show_regs;
+
+#[cfg(test)]
+mod tests;

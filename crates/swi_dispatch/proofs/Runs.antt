@@ -1,12 +1,12 @@
 -- Runs add up, and a run that ended for another reason than its budget goes no further.
-use Rattle.std.proofs.Common.{◌≡◌, ◌≢◌, ℕ, Bool, true, false, zero, suc, ◌+◌, Option, Some, None, List, [], ◌++◌, refl, sym, ◌∙◌, ap, arith, append_assoc, if◌then◌else◌}
+use Rattle.std.proofs.Common.{◌≡◌, ℕ, Bool, true, false, zero, suc, ◌+◌, Option, Some, None, List, ◌++◌, sym, ◌∙◌, ap, arith, append_assoc, if◌then◌else◌}
 use Rattle.profile.specs.declared.stop.Stop.{Stop}
 use Rattle.profile.specs.declared.stop.Stop.TheVariants as stop
 use Rattle.swi_dispatch.specs.declared.halt.Halt.{Halt}
 use Rattle.swi_dispatch.specs.declared.halt.Halt.TheVariants as halt
 use Rattle.swi_dispatch.specs.Situation.{Situation, stop_of}
 use Rattle.swi_dispatch.specs.Step.{After, machine_step}
-use Rattle.swi_dispatch.specs.Run.{Run, resting, counted, joined, is_among, go_on, begun, ran, then_run, RunsOn, stop_after, count_after}
+use Rattle.swi_dispatch.specs.Run.{Run, resting, joined, is_among, go_on, begun, ran, then_run, RunsOn}
 
 -- the stop that a machine keeps is no budget
 pub halt-no_budget : (h : Halt) → stop_of h ≡ stop.Budget → ⊥
@@ -18,31 +18,31 @@ then_run-resting s x r = let e : 0 + r.taken ≡ r.taken = omega arith in ap (λ
 
 pub then_run-joined : (printed : List ℕ) (k : ℕ) (r q : Run) → then_run (joined printed k r) q ≡ joined printed k (then_run r q)
 then_run-joined printed k r q =
-  let texts : (printed ++ r.printed) ++ q.printed ≡ printed ++ (r.printed ++ q.printed) = append_assoc printed r.printed q.printed in
-  let counts : (k + r.taken) + q.taken ≡ k + (r.taken + q.taken) = omega arith in
-  cc
+    let texts : (printed ++ r.printed) ++ q.printed ≡ printed ++ (r.printed ++ q.printed) = append_assoc printed r.printed q.printed in
+    let counts : (k + r.taken) + q.taken ≡ k + (r.taken + q.taken) = omega arith in
+    cc
 
 -- one step and the run after it add up as that run does
 pub branch_adds : (b : Bool) (now : Situation) (printed : List ℕ) (r r' : Run) (more : Situation → Run)
-  → (r.stop ≡ stop.Budget → r' ≡ then_run r (more r.now))
-  → (let broken : Run = record { now = now; printed = printed; taken = 1; stop = stop.Break now.cpu.pc } in
-     (if b then broken else joined printed 1 r).stop ≡ stop.Budget
-     → (if b then broken else joined printed 1 r') ≡ then_run (if b then broken else joined printed 1 r) (more (if b then broken else joined printed 1 r).now))
+    → (r.stop ≡ stop.Budget → r' ≡ then_run r (more r.now))
+    → (let broken : Run = record { now = now; printed = printed; taken = 1; stop = stop.Break now.cpu.pc } in
+    (if b then broken else joined printed 1 r).stop ≡ stop.Budget
+    → (if b then broken else joined printed 1 r') ≡ then_run (if b then broken else joined printed 1 r) (more (if b then broken else joined printed 1 r).now))
 branch_adds true now printed r r' more h e = cc
 branch_adds false now printed r r' more h e = ap (joined printed 1) (h e) ∙ sym (then_run-joined printed 1 r (more r.now))
 
 pub step_adds : (breaks : List ℕ) (s : Situation) (o : Option Halt) (a : After) (ao : Option Halt) (rest rest' more : Situation → Run)
-  → ((x : Situation) → (rest x).stop ≡ stop.Budget → rest' x ≡ then_run (rest x) (more (rest x).now))
-  → (begun s o (go_on breaks a ao rest)).stop ≡ stop.Budget
-  → begun s o (go_on breaks a ao rest') ≡ then_run (begun s o (go_on breaks a ao rest)) (more (begun s o (go_on breaks a ao rest)).now)
+    → ((x : Situation) → (rest x).stop ≡ stop.Budget → rest' x ≡ then_run (rest x) (more (rest x).now))
+    → (begun s o (go_on breaks a ao rest)).stop ≡ stop.Budget
+    → begun s o (go_on breaks a ao rest') ≡ then_run (begun s o (go_on breaks a ao rest)) (more (begun s o (go_on breaks a ao rest)).now)
 step_adds breaks s (Some h) a ao rest rest' more adds e = absurd (halt-no_budget h e)
 step_adds breaks s None a (Some h) rest rest' more adds e = absurd (halt-no_budget h e)
 step_adds breaks s None a None rest rest' more adds e =
-  branch_adds (is_among breaks a.now.cpu.pc) a.now a.printed (rest a.now) (rest' a.now) more (adds a.now) e
+    branch_adds (is_among breaks a.now.cpu.pc) a.now a.printed (rest a.now) (rest' a.now) more (adds a.now) e
 
 pub start_adds : (s : Situation) (o : Option Halt) (more : Situation → Run)
-  → (begun s o (resting s stop.Budget)).stop ≡ stop.Budget
-  → more s ≡ then_run (begun s o (resting s stop.Budget)) (more (begun s o (resting s stop.Budget)).now)
+    → (begun s o (resting s stop.Budget)).stop ≡ stop.Budget
+    → more s ≡ then_run (begun s o (resting s stop.Budget)) (more (begun s o (resting s stop.Budget)).now)
 start_adds s (Some h) more e = absurd (halt-no_budget h e)
 start_adds s None more e = sym (then_run-resting s stop.Budget (more s))
 
@@ -50,6 +50,6 @@ pub runs_on : (breaks : List ℕ) (n m : ℕ) (s : Situation) → RunsOn breaks 
 unfolding ran
 runs_on breaks zero m s e = let k : 0 + m ≡ m = omega arith in ap (λ (x : ℕ). ran breaks x s) k ∙ start_adds s s.halt (ran breaks m) e
 runs_on breaks (suc n) m s e =
-  let k : suc n + m ≡ suc (n + m) = omega arith in
-  ap (λ (x : ℕ). ran breaks x s) k
-  ∙ step_adds breaks s s.halt (machine_step s) (machine_step s).now.halt (ran breaks n) (ran breaks (n + m)) (ran breaks m) (λ x h. runs_on breaks n m x h) e
+    let k : suc n + m ≡ suc (n + m) = omega arith in
+    ap (λ (x : ℕ). ran breaks x s) k
+    ∙ step_adds breaks s s.halt (machine_step s) (machine_step s).now.halt (ran breaks n) (ran breaks (n + m)) (ran breaks m) (λ x h. runs_on breaks n m x h) e

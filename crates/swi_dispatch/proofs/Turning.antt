@@ -1,5 +1,5 @@
 -- The core's part of a step, and then what its turn asks of the machine, are the written step.
-use Rattle.std.proofs.Common.{◌≡◌, ℕ, Bool, Result, Ok, Err, refl, sym, ◌∙◌, ap, subst}
+use Rattle.std.proofs.Common.{◌≡◌, ℕ, Bool, Result, Ok, Err, refl, ◌∙◌, ap, subst}
 use Rattle.address_map.specs.declared.map.AddressMap.{AddressMap}
 use Rattle.address_map.specs.Bytes.{Bytes}
 use Rattle.address_map.specs.Memory.{is_owned, class_of}
@@ -9,7 +9,7 @@ use Rattle.arm_step.specs.State.{State}
 use Rattle.arm_step.specs.Step.{stepped}
 use Rattle.arm_step.specs.Turns.{Turns}
 use Rattle.swi_dispatch.specs.Situation.{Situation}
-use Rattle.swi_dispatch.specs.Step.{turned, turn_end, Turned, moved_on, quiet, nothing_owned}
+use Rattle.swi_dispatch.specs.Step.{turned, turn_end, Turned, quiet, nothing_owned}
 use Rattle.swi_dispatch.specs.Parts.{TakesTurn}
 
 pub turned_by : (s : Situation) (r : Result (State × Bytes) Turn) (t : Turn) (s' : Situation) → Turned s r t s' → turn_end s' t ≡ turned s r
@@ -33,6 +33,6 @@ unfolding is_owned class_of
 unowned m = refl
 
 pub takes_turn : (s : Situation) (m : AddressMap) (t : Turn) (cpu : State) (memory : Bytes)
-  → Turns (s.cpu, s.memory) (stepped (is_owned m) s.cpu s.memory) t (cpu, memory) → TakesTurn s t (with_core s (cpu, memory))
+    → Turns (s.cpu, s.memory) (stepped (is_owned m) s.cpu s.memory) t (cpu, memory) → TakesTurn s t (with_core s (cpu, memory))
 takes_turn s m t cpu memory h = turned_core s (stepped nothing_owned s.cpu s.memory) t (cpu, memory)
-  (subst (λ (owned : ℕ → Bool). Turns (s.cpu, s.memory) (stepped owned s.cpu s.memory) t (cpu, memory)) (unowned m) h)
+    (subst (λ (owned : ℕ → Bool). Turns (s.cpu, s.memory) (stepped owned s.cpu s.memory) t (cpu, memory)) (unowned m) h)

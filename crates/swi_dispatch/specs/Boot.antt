@@ -1,7 +1,7 @@
 -- A program is copied to the start of the application space of a machine that is still as it was made.
-use Rattle.std.specs.Prelude.{ℕ, Bool, true, false, ◌+◌, ◌-◌, ◌*◌, ◌&&◌, nat_le, nat_lt, Option, Some, None, Result, Ok, Err, List, length, slice_index, if◌then◌else◌}
+use Rattle.std.specs.Prelude.{ℕ, Bool, true, false, ◌*◌, nat_le, Result, Ok, Err, List, length, if◌then◌else◌}
 use Rattle.profile.specs.Sizes.{Sizes}
-use Rattle.address_map.specs.Bytes.{Bytes, with_bytes_at}
+use Rattle.address_map.specs.Bytes.{with_bytes_at}
 use Rattle.swi_dispatch.specs.declared.boot_error.BootError.{BootError}
 use Rattle.swi_dispatch.specs.declared.boot_error.BootError.TheVariants.{Booted, TooLarge}
 use Rattle.swi_dispatch.specs.Situation.{Situation}

@@ -1,5 +1,5 @@
 -- The written machine: its core, its memory as a function from addresses to bytes, and the halt that keeps it from further steps.
-use Rattle.std.specs.Prelude.{ℕ, Bool, ◌+◌, ◌*◌, ◌-◌, ◌||◌, ◌&&◌, nat_le, nat_lt, Option, Some, None, List, [], if◌then◌else◌}
+use Rattle.std.specs.Prelude.{ℕ, Bool, ◌*◌, ◌||◌, Option, None}
 use Rattle.profile.specs.declared.stop.Stop.{Stop}
 use Rattle.profile.specs.declared.stop.Stop.TheVariants as stop
 use Rattle.profile.specs.Sizes.{Sizes}

@@ -1,9 +1,8 @@
 ghost use Rattle.std.specs.Prelude.{◌≡◌, ℕ, [], List};
 ghost use Rattle.profile.specs.Outcome.{Leaves};
 
-use std::marker::Model;
-
 use arrayvec::ArrayVec;
+use std::marker::Model;
 use thiserror::Error;
 
 /// Why a break was not set or not taken away.
@@ -41,7 +40,9 @@ impl Breaks {
     pub fn new() -> Breaks
         ensures { result ≡ [] }
     {
-        Breaks { addresses: ArrayVec::new() }
+        Breaks {
+            addresses: ArrayVec::new(),
+        }
     }
 
     /// Whether a run stops at the address.

@@ -8,5 +8,4 @@ ghost use Rattle.swi_dispatch.specs.Run.{RunsOn};
 /// steps after it are the run of `n + m`, in the machine, the bytes printed, the count and the stop.
 pub fn runs_add_up()
     ensures { (breaks : List ℕ) (s : Situation) (n m : ℕ) → RunsOn breaks s n m }
-{
-}
+{}

@@ -13,3 +13,6 @@ pub use breaks::{BreakError, Breaks};
 pub use halt::Halt;
 pub use machine::Machine;
 pub use running::Ran;
+
+#[cfg(test)]
+mod tests;

@@ -5,9 +5,8 @@ ghost use Rattle.address_map.specs.Memory.{is_mapped, byte_at};
 ghost use Rattle.swi_dispatch.specs.Situation.{is_start_mapped, start_bytes};
 ghost use Rattle.swi_dispatch.specs.Step.{halt_called, without_x};
 
-use std::alloc::{AllocError, Global};
-use std::marker::Model;
-
+use crate::boot_error::BootError;
+use crate::halt::Halt;
 use address_map::AddressMap;
 use arm_step::{Cpu, Turn, step};
 use arrayvec::ArrayVec;
@@ -17,9 +16,8 @@ use profile::memory_map::{
 };
 use profile::word::is_bit_set;
 use profile::{Config, ErrorNumber, Fault, Stop, SwiName};
-
-use crate::boot_error::BootError;
-use crate::halt::Halt;
+use std::alloc::{AllocError, Global};
+use std::marker::Model;
 
 const MOST_PRINTED: usize = 4096;
 
@@ -72,6 +70,31 @@ impl Machine {
             is_fresh: true,
             printed: ArrayVec::new(),
         })
+    }
+
+    /// Copies a program to the start of the application space of a machine that stands as it was
+    /// made. A refusal changes nothing.
+    ///
+    /// # Errors
+    ///
+    /// `Booted` where the machine was stepped or written to before, else `TooLarge` where the
+    /// program is longer than the application space.
+    #[tactic(auto, unfolding(crate::specs::Parts::state_of, crate::specs::Boot::booted))]
+    pub fn boot(&mut self, program: &[u8]) -> Result<(), BootError>
+        ensures state { Leaves (state_of self.old) (booted self.old.sizes self.old.is_fresh (state_of self.old) program.now) result (state_of self.new) }
+        ensures fresh { self.new.is_fresh ≡ (self.old.is_fresh && is_err result) }
+        ensures sizes { self.new.sizes ≡ self.old.sizes }
+        ensures printed { self.new.printed ≡ self.old.printed }
+    {
+        if !self.is_fresh {
+            return Err(BootError::Booted);
+        }
+        if program.len() > (PAGE_SIZE * self.config.app()) as usize {
+            return Err(BootError::TooLarge);
+        }
+        self.memory.put_bytes(APPLICATION_START, program);
+        self.is_fresh = false;
+        Ok(())
     }
 
     /// Takes one step: an instruction or a store call. Answers why the machine is halted, if it is;
@@ -195,7 +218,11 @@ fn halt_of(call: Option<SwiName>) -> Halt
 fn without_x_bit(number: u32) -> u32
     ensures { result ≡ without_x number }
 {
-    if is_bit_set(number, 17) { number - X_BIT } else { number }
+    if is_bit_set(number, 17) {
+        number - X_BIT
+    } else {
+        number
+    }
 }
 
 // The memory of a machine at its start: the fixed ranges, and the descriptor of the module area.

@@ -5,11 +5,10 @@ ghost use Rattle.swi_dispatch.specs.Run.{ran, stop_after, count_after};
 ghost use Rattle.swi_dispatch.specs.Situation.{stop_of};
 ghost use Rattle.swi_dispatch.specs.Ending.{Ends, StandsAfter};
 
-use image_loader::Images;
-use profile::{Sink, Stop, WriteFault, push_all};
-
 use crate::breaks::Breaks;
 use crate::machine::Machine;
+use image_loader::Images;
+use profile::{Sink, Stop, WriteFault, push_all};
 
 /// Why a run ended, and how many of its steps count against a budget: all but one that ended in a
 /// fault.
@@ -37,7 +36,13 @@ impl Machine {
     ///
     /// `WriteFault` where the sink failed; the machine then stands after the step whose output
     /// failed.
-    pub fn run<W: Sink>(&mut self, images: &Images, breaks: &Breaks, sink: &mut W, budget: u64) -> Result<Ran, WriteFault>
+    pub fn run<W: Sink>(
+        &mut self,
+        images: &Images,
+        breaks: &Breaks,
+        sink: &mut W,
+        budget: u64,
+    ) -> Result<Ran, WriteFault>
         ensures ends { IfOk result (λ r. Ends (ran breaks.now budget (state_of self.old)) (state_of self.new) (W.contents sink.old) (W.contents sink.new) r.taken r.stop) }
         ensures count { IfOk result (λ r. r.taken ≤ budget) }
         ensures fresh { self.new.is_fresh ≡ (self.old.is_fresh && (budget == 0)) }
@@ -65,7 +70,12 @@ impl Machine {
     }
 
     // A run of one step of a machine that isn't halted.
-    fn run_one<W: Sink>(&mut self, images: &Images, breaks: &Breaks, sink: &mut W) -> Result<Ran, WriteFault>
+    fn run_one<W: Sink>(
+        &mut self,
+        images: &Images,
+        breaks: &Breaks,
+        sink: &mut W,
+    ) -> Result<Ran, WriteFault>
         requires { (state_of self.old).halt ≡ None }
         ensures ends { IfOk result (λ r. Ends (ran breaks.now 1 (state_of self.old)) (state_of self.new) (W.contents sink.old) (W.contents sink.new) r.taken r.stop) }
         ensures awake { IfOk result (λ r. r.stop ≡ Stop.Budget → (state_of self.new).halt ≡ None) }
@@ -94,8 +104,14 @@ impl Machine {
         }
         let at = self.cpu().pc();
         if breaks.has(at) {
-            return Ran { stop: Stop::Break(at), taken: 1 };
+            return Ran {
+                stop: Stop::Break(at),
+                taken: 1,
+            };
         }
-        Ran { stop: Stop::Budget, taken: 1 }
+        Ran {
+            stop: Stop::Budget,
+            taken: 1,
+        }
     }
 }

@@ -4,7 +4,7 @@ use Rattle.swi_dispatch.proofs.machine.start_memory.Goals as goal
 
 pub returns-clause-bytes : goal.returns-clause-bytes
 returns-clause-bytes c = λ a. rw (← c.rma-2.ensures.value)
-  (words_written _ _ _ _ _ 0x01800000 0x70616548 0x01800004 0 0x01800008 16 0x0180000C (4096 * c.rma-2.result)
+    (words_written _ _ _ _ _ 0x01800000 0x70616548 0x01800004 0 0x01800008 16 0x0180000C (4096 * c.rma-2.result)
     (λ b. c.map_pages-3.ensures.bytes b ∙ c.map_pages-2.ensures.bytes b ∙ c.map_pages.ensures.bytes b
-      ∙ unmapped_zero c.in_ok-memory.memory b (c.in_ok-memory.ensures.mapping b))
+    ∙ unmapped_zero c.in_ok-memory.memory b (c.in_ok-memory.ensures.mapping b))
     c.put_word.ensures.bytes c.put_word-2.ensures.bytes c.put_word-3.ensures.bytes c.put_word-4.ensures.bytes a)
