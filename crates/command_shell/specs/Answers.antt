@@ -1,0 +1,53 @@
+-- The lines that a script's requests are answered with.
+use Rattle.std.specs.Prelude.{ℕ, List, [], ◌++◌, codes}
+use Rattle.std.specs.Fmt.{decimal}
+use Rattle.profile.specs.Digits.{hex_number}
+use Rattle.profile.specs.declared.stop.Stop.{Stop}
+use Rattle.profile.specs.declared.stop.Stop.TheVariants as stop
+use Rattle.profile.specs.declared.fault.Fault.{Fault}
+use Rattle.profile.specs.declared.fault.Fault.TheVariants.{ErrorStop}
+use Rattle.profile.specs.FaultNames.{fault_name}
+
+-- a space and an address, in capitals without leading zeros
+unfoldable pub address_text : ℕ → List ℕ
+address_text address = codes " &" ++ hex_number address
+
+-- `? line n`, for a line outside the language
+unfoldable pub unknown_text : ℕ → List ℕ
+unknown_text number = codes "? line " ++ (decimal number ++ codes "\n")
+
+-- `hex name: n bytes`
+unfoldable pub hex_text : List ℕ → ℕ → List ℕ
+hex_text name len = codes "hex " ++ (name ++ (codes ": " ++ (decimal len ++ codes " bytes\n")))
+
+-- `hex name: line k: Syntax`
+unfoldable pub hex_syntax_text : List ℕ → ℕ → List ℕ
+hex_syntax_text name line = codes "hex " ++ (name ++ (codes ": line " ++ (decimal line ++ codes ": Syntax\n")))
+
+-- `hex name: NameTaken`
+unfoldable pub hex_refused_text : List ℕ → List ℕ → List ℕ
+hex_refused_text name reason = codes "hex " ++ (name ++ (codes ": " ++ (reason ++ codes "\n")))
+
+-- `boot name`
+unfoldable pub boot_text : List ℕ → List ℕ
+boot_text name = codes "boot " ++ (name ++ codes "\n")
+
+-- `refused NoImage`
+unfoldable pub refused_text : List ℕ → List ℕ
+refused_text reason = codes "refused " ++ (reason ++ codes "\n")
+
+-- some words, a number and the program counter
+unfoldable pub numbered_text : List ℕ → ℕ → ℕ → List ℕ
+numbered_text words number pc = words ++ (decimal number ++ (address_text pc ++ codes "\n"))
+
+-- `stop OwnedWord &8004`, `stop ErrorStop 6 &8004`
+abbrev pub fault_text : Fault → ℕ → List ℕ
+fault_text (ErrorStop number) pc = numbered_text (codes "stop ErrorStop ") number pc
+fault_text fault pc = codes "stop " ++ (fault_name fault ++ (address_text pc ++ codes "\n"))
+
+-- A stop line: `stop Exit`, `stop Budget`, `stop Break &8004`, or that of a fault.
+unfoldable pub stop_text : Stop → ℕ → List ℕ
+stop_text stop.Exit pc = codes "stop Exit\n"
+stop_text stop.Budget pc = codes "stop Budget\n"
+stop_text (stop.Break address) pc = codes "stop Break" ++ (address_text address ++ codes "\n")
+stop_text (stop.Fault fault) pc = fault_text fault pc

@@ -1,0 +1,10 @@
+pub mod Answers
+pub mod Blocks
+pub mod Commands
+pub mod HexPairs
+pub mod Places
+pub mod ReadBlocks
+pub mod Requests
+pub mod RunErrors
+pub mod Script
+pub mod Sessions

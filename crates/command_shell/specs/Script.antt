@@ -1,0 +1,129 @@
+-- What a script does and what it is answered, line by line, over the written machine.
+use Rattle.std.specs.Prelude.{ℕ, Bool, true, false, ◌+◌, ◌-◌, ◌==◌, ◌&&◌, List, [], ◌∷◌, ◌++◌, length, codes, Option, Some, None, Result, Ok, Err}
+use Rattle.std.specs.Str.Lines.{lines}
+use Rattle.profile.specs.Sizes.{Sizes}
+use Rattle.profile.specs.declared.stop.Stop.{Stop}
+use Rattle.image_loader.specs.Entries.{Entry, bytes_of, refusal_for, with_entry}
+use Rattle.image_loader.specs.declared.error.ImageError.{ImageError}
+use Rattle.image_loader.specs.ErrorNames.{image_error_name}
+use Rattle.swi_dispatch.specs.Situation.{Situation, start_of}
+use Rattle.swi_dispatch.specs.Boot.{booted}
+use Rattle.swi_dispatch.specs.Run as machine
+use Rattle.swi_dispatch.specs.declared.boot_error.BootError.{BootError}
+use Rattle.swi_dispatch.specs.declared.boot_error.BootError.TheVariants as boot
+use Rattle.debugger.specs.Registers.{registers_text}
+use Rattle.command_shell.specs.Answers.{unknown_text, hex_text, hex_syntax_text, hex_refused_text, boot_text, refused_text, stop_text}
+use Rattle.command_shell.specs.Blocks.{block_bytes}
+use Rattle.command_shell.specs.Requests.{Request, Nothing, Hex, Boot, Run, Regs, Unknown, request_of, is_end}
+
+-- What a script works on: the machine, whether it still stands as it was made, the images, what is left of the budget, and the last stop
+-- that a line was answered with.
+pub record World : Type 0 where
+  pub machine : Situation
+  pub is_fresh : Bool
+  pub sizes : Sizes
+  pub images : List Entry
+  pub left : ℕ
+  pub last : Option Stop
+
+-- the world after some lines, and their answers
+pub record Told : Type 0 where
+  pub world : World
+  pub text : List ℕ
+
+abbrev pub answered : World → List ℕ → Told
+answered w text = record { world = w; text = text }
+
+-- an answer, and then those of the lines that follow
+abbrev pub then_told : Told → (World → Told) → Told
+then_told first next = record { world = (next first.world).world; text = first.text ++ (next first.world).text }
+
+-- HEX: the name and the table are tested first, then the lines, then the size.
+abbrev pub hex_added : World → List ℕ → List ℕ → Option ImageError → Told
+hex_added w name bytes (Some error) = answered w (hex_refused_text name (image_error_name error))
+hex_added w name bytes None = answered (record w { images = with_entry w.images name bytes }) (hex_text name (length bytes))
+
+abbrev pub hex_block : World → List ℕ → Result (List ℕ) ℕ → Told
+hex_block w name (Err line) = answered w (hex_syntax_text name line)
+hex_block w name (Ok bytes) = hex_added w name bytes (refusal_for w.images name (length bytes))
+
+abbrev pub hex_opened : World → List ℕ → List (List ℕ) → Option ImageError → Told
+hex_opened w name block (Some error) = answered w (hex_refused_text name (image_error_name error))
+hex_opened w name block None = hex_block w name (block_bytes 0 block)
+
+unfoldable pub hex_told : World → List ℕ → List (List ℕ) → Told
+hex_told w name block = hex_opened w name block (refusal_for w.images name 0)
+
+-- BOOT: the image must be there, the machine as it was made, and the image no longer than the application space, in this order.
+abbrev pub boot_refusal_name : BootError → List ℕ
+boot_refusal_name boot.Booted = codes "Booted"
+boot_refusal_name boot.TooLarge = codes "TooLarge"
+
+abbrev pub boot_done : World → List ℕ → Result Situation BootError → Told
+boot_done w name (Ok machine) = answered (record w { machine = machine; is_fresh = false }) (boot_text name)
+boot_done w name (Err error) = answered w (refused_text (boot_refusal_name error))
+
+abbrev pub boot_found : World → List ℕ → Option (List ℕ) → Told
+boot_found w name None = answered w (refused_text (codes "NoImage"))
+boot_found w name (Some program) = boot_done w name (booted w.sizes w.is_fresh w.machine program)
+
+unfoldable pub boot_told : World → List ℕ → Told
+boot_told w name = boot_found w name (bytes_of w.images name)
+
+-- RUN: all that is left of the budget may be used. What the guest prints comes first, then the stop line.
+abbrev pub run_done : World → machine.Run → Told
+run_done w r =
+    answered (record w { machine = r.now; is_fresh = w.is_fresh && (w.left == 0); left = w.left - r.taken; last = Some r.stop })
+    (r.printed ++ stop_text r.stop r.now.cpu.pc)
+
+unfoldable pub run_told : World → Told
+run_told w = run_done w (machine.ran [] w.left w.machine)
+
+-- A request at the line of that number; of a HEX line, with the lines of its block.
+abbrev pub request_told : World → ℕ → Request → List (List ℕ) → Told
+request_told w number Nothing block = answered w []
+request_told w number (Hex name) block = hex_told w name block
+request_told w number (Boot name) block = boot_told w name
+request_told w number Run block = run_told w
+request_told w number Regs block = answered w (registers_text w.machine.cpu)
+request_told w number Unknown block = answered w (unknown_text number)
+
+-- a block whose end has not come yet: its name, and its lines so far
+pub record Open : Type 0 where
+  pub name : List ℕ
+  pub block : List (List ℕ)
+
+-- A HEX line opens a block; any other is answered at once.
+abbrev pub on_request : World → ℕ → Request → (World → Option Open → Told) → Told
+on_request w number (Hex name) next = next w (Some (record { name = name; block = [] }))
+on_request w number Nothing next = then_told (request_told w number Nothing []) (λ after. next after None)
+on_request w number (Boot name) next = then_told (request_told w number (Boot name) []) (λ after. next after None)
+on_request w number Run next = then_told (request_told w number Run []) (λ after. next after None)
+on_request w number Regs next = then_told (request_told w number Regs []) (λ after. next after None)
+on_request w number Unknown next = then_told (request_told w number Unknown []) (λ after. next after None)
+
+abbrev pub in_block : World → Open → List ℕ → Bool → (World → Option Open → Told) → Told
+in_block w open_block line true next = then_told (hex_told w open_block.name open_block.block) (λ after. next after None)
+in_block w open_block line false next = next w (Some (record open_block { block = open_block.block ++ line ∷ [] }))
+
+abbrev pub on_line : World → ℕ → Option Open → List ℕ → (World → Option Open → Told) → Told
+on_line w number None line next = on_request w number (request_of line) next
+on_line w number (Some open_block) line next = in_block w open_block line (is_end line) next
+
+-- A block without its last line ends with the script.
+abbrev pub at_the_end : World → Option Open → Told
+at_the_end w None = answered w []
+at_the_end w (Some open_block) = hex_told w open_block.name open_block.block
+
+-- lines, where so many came before
+unfoldable pub lines_told : ℕ → World → Option Open → List (List ℕ) → Told
+lines_told number w open_block [] = at_the_end w open_block
+lines_told number w open_block (line ∷ rest) =
+    on_line w (number + 1) open_block line (λ after still_open. lines_told (number + 1) after still_open rest)
+
+unfoldable pub start_world : Sizes → List Entry → ℕ → World
+start_world sizes images budget =
+    record { machine = start_of sizes; is_fresh = true; sizes = sizes; images = images; left = budget; last = None }
+
+unfoldable pub script_told : Sizes → List Entry → ℕ → List ℕ → Told
+script_told sizes images budget script = lines_told 0 (start_world sizes images budget) None (lines script)

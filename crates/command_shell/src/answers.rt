@@ -1,0 +1,173 @@
+//! The lines that requests are answered with.
+
+ghost use Rattle.std.specs.Prelude.{◌≡◌, true, OnOk, OnErr};
+ghost use Rattle.std.specs.Io.KnownBytes.{Appends};
+ghost use Rattle.command_shell.specs.Answers.{unknown_text, hex_text, hex_syntax_text, hex_refused_text, boot_text, refused_text, numbered_text, fault_text, stop_text};
+
+use itoa::Buffer;
+use profile::{Fault, HexText, Sink, Stop, WriteFault, push_all, push_parts};
+
+/// `? line n`: the line is outside the language.
+#[tactic(auto, unfolding(crate::specs::Answers::unknown_text))]
+pub fn tell_unknown<W: Sink>(sink: &mut W, line: usize) -> Result<(), WriteFault>
+    ensures text { OnOk result (Appends (W.contents sink.old) (W.contents sink.new) (unknown_text line)) }
+    ensures flag { OnErr result (W.has_failed sink.new ≡ true) }
+    ensures same_flag { OnOk result (W.has_failed sink.new ≡ W.has_failed sink.old) }
+{
+    let mut number = Buffer::new();
+    push_parts(
+        sink,
+        &[
+            b"? line ".as_slice(),
+            number.format(line).as_bytes(),
+            b"\n".as_slice(),
+        ],
+    )
+}
+
+/// `hex name: n bytes`: the image was taken.
+#[tactic(auto, unfolding(crate::specs::Answers::hex_text))]
+pub fn tell_hex<W: Sink>(sink: &mut W, name: &[u8], len: usize) -> Result<(), WriteFault>
+    ensures text { OnOk result (Appends (W.contents sink.old) (W.contents sink.new) (hex_text name.now len)) }
+    ensures flag { OnErr result (W.has_failed sink.new ≡ true) }
+    ensures same_flag { OnOk result (W.has_failed sink.new ≡ W.has_failed sink.old) }
+{
+    let mut number = Buffer::new();
+    push_parts(
+        sink,
+        &[
+            b"hex ".as_slice(),
+            name,
+            b": ".as_slice(),
+            number.format(len).as_bytes(),
+            b" bytes\n".as_slice(),
+        ],
+    )
+}
+
+/// `hex name: line k: Syntax`: that line of the block spells no bytes.
+#[tactic(auto, unfolding(crate::specs::Answers::hex_syntax_text))]
+pub fn tell_hex_syntax<W: Sink>(sink: &mut W, name: &[u8], line: usize) -> Result<(), WriteFault>
+    ensures text { OnOk result (Appends (W.contents sink.old) (W.contents sink.new) (hex_syntax_text name.now line)) }
+    ensures flag { OnErr result (W.has_failed sink.new ≡ true) }
+    ensures same_flag { OnOk result (W.has_failed sink.new ≡ W.has_failed sink.old) }
+{
+    let mut number = Buffer::new();
+    push_parts(
+        sink,
+        &[
+            b"hex ".as_slice(),
+            name,
+            b": line ".as_slice(),
+            number.format(line).as_bytes(),
+            b": Syntax\n".as_slice(),
+        ],
+    )
+}
+
+/// `hex name: NameTaken`, and the like: the image was refused.
+#[tactic(auto, unfolding(crate::specs::Answers::hex_refused_text))]
+pub fn tell_hex_refused<W: Sink>(sink: &mut W, name: &[u8], reason: &[u8]) -> Result<(), WriteFault>
+    ensures text { OnOk result (Appends (W.contents sink.old) (W.contents sink.new) (hex_refused_text name.now reason.now)) }
+    ensures flag { OnErr result (W.has_failed sink.new ≡ true) }
+    ensures same_flag { OnOk result (W.has_failed sink.new ≡ W.has_failed sink.old) }
+{
+    push_parts(
+        sink,
+        &[
+            b"hex ".as_slice(),
+            name,
+            b": ".as_slice(),
+            reason,
+            b"\n".as_slice(),
+        ],
+    )
+}
+
+/// `boot name`: the program was copied.
+#[tactic(auto, unfolding(crate::specs::Answers::boot_text))]
+pub fn tell_boot<W: Sink>(sink: &mut W, name: &[u8]) -> Result<(), WriteFault>
+    ensures text { OnOk result (Appends (W.contents sink.old) (W.contents sink.new) (boot_text name.now)) }
+    ensures flag { OnErr result (W.has_failed sink.new ≡ true) }
+    ensures same_flag { OnOk result (W.has_failed sink.new ≡ W.has_failed sink.old) }
+{
+    push_parts(sink, &[b"boot ".as_slice(), name, b"\n".as_slice()])
+}
+
+/// `refused NoImage`, and the like.
+#[tactic(auto, unfolding(crate::specs::Answers::refused_text))]
+pub fn tell_refused<W: Sink>(sink: &mut W, reason: &[u8]) -> Result<(), WriteFault>
+    ensures text { OnOk result (Appends (W.contents sink.old) (W.contents sink.new) (refused_text reason.now)) }
+    ensures flag { OnErr result (W.has_failed sink.new ≡ true) }
+    ensures same_flag { OnOk result (W.has_failed sink.new ≡ W.has_failed sink.old) }
+{
+    push_parts(sink, &[b"refused ".as_slice(), reason, b"\n".as_slice()])
+}
+
+/// A stop line: `stop Exit`, `stop Budget`, `stop Break &8004`, `stop OwnedWord &8004`,
+/// `stop ErrorStop 6 &8004`. After a fault stands the program counter.
+#[tactic(auto, unfolding(crate::specs::Answers::stop_text, crate::specs::Answers::address_text))]
+pub fn tell_stop<W: Sink>(sink: &mut W, stop: Stop, pc: u32) -> Result<(), WriteFault>
+    ensures text { OnOk result (Appends (W.contents sink.old) (W.contents sink.new) (stop_text stop pc)) }
+    ensures flag { OnErr result (W.has_failed sink.new ≡ true) }
+    ensures same_flag { OnOk result (W.has_failed sink.new ≡ W.has_failed sink.old) }
+{
+    match stop {
+        Stop::Exit => push_all(sink, b"stop Exit\n"),
+        Stop::Budget => push_all(sink, b"stop Budget\n"),
+        Stop::Break(address) => push_parts(
+            sink,
+            &[
+                b"stop Break &".as_slice(),
+                HexText::number(address).as_slice(),
+                b"\n".as_slice(),
+            ],
+        ),
+        Stop::Fault(fault) => tell_fault(sink, fault, pc),
+    }
+}
+
+#[tactic(auto, unfolding(crate::specs::Answers::numbered_text, crate::specs::Answers::address_text))]
+fn tell_numbered<W: Sink>(
+    sink: &mut W,
+    words: &[u8],
+    number: u32,
+    pc: u32,
+) -> Result<(), WriteFault>
+    ensures text { OnOk result (Appends (W.contents sink.old) (W.contents sink.new) (numbered_text words.now number pc)) }
+    ensures flag { OnErr result (W.has_failed sink.new ≡ true) }
+    ensures same_flag { OnOk result (W.has_failed sink.new ≡ W.has_failed sink.old) }
+{
+    let mut digits = Buffer::new();
+    push_parts(
+        sink,
+        &[
+            words,
+            digits.format(number).as_bytes(),
+            b" &".as_slice(),
+            HexText::number(pc).as_slice(),
+            b"\n".as_slice(),
+        ],
+    )
+}
+
+#[tactic(auto, unfolding(crate::specs::Answers::address_text))]
+fn tell_fault<W: Sink>(sink: &mut W, fault: Fault, pc: u32) -> Result<(), WriteFault>
+    ensures text { OnOk result (Appends (W.contents sink.old) (W.contents sink.new) (fault_text fault pc)) }
+    ensures flag { OnErr result (W.has_failed sink.new ≡ true) }
+    ensures same_flag { OnOk result (W.has_failed sink.new ≡ W.has_failed sink.old) }
+{
+    match fault {
+        Fault::ErrorStop(code) => tell_numbered(sink, b"stop ErrorStop ", code, pc),
+        _ => push_parts(
+            sink,
+            &[
+                b"stop ".as_slice(),
+                fault.name().as_bytes(),
+                b" &".as_slice(),
+                HexText::number(pc).as_slice(),
+                b"\n".as_slice(),
+            ],
+        ),
+    }
+}

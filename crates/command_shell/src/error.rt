@@ -1,0 +1,47 @@
+ghost use Rattle.std.specs.Prelude.{◌≡◌};
+ghost use Rattle.command_shell.specs.declared.error.RunError.TheVariants.{Memory, ReadFault as IsReadFault, WriteFault as IsWriteFault};
+
+use profile::{ReadFault, WriteFault};
+use std::alloc::AllocError;
+use thiserror::Error;
+
+/// Why the run of a script ended before its end.
+#[derive(Clone, Copy, Debug, PartialEq, Eq, Error)]
+pub enum RunError {
+    /// The host has no memory for the script, the machine or an image.
+    #[error("no memory for the script, the machine or an image")]
+    Memory,
+    /// The script can't be read.
+    #[error("the script can't be read")]
+    ReadFault,
+    /// The answers can't be written.
+    #[error("the answers can't be written")]
+    WriteFault,
+    /// The script has more than 1,048,576 bytes.
+    #[error("the script has more than 1,048,576 bytes")]
+    ScriptTooLong,
+}
+
+impl From<AllocError> for RunError {
+    ghost from_gives = { λ _ e. e ≡ Memory };
+
+    fn from(_error: AllocError) -> RunError {
+        RunError::Memory
+    }
+}
+
+impl From<ReadFault> for RunError {
+    ghost from_gives = { λ _ e. e ≡ IsReadFault };
+
+    fn from(_fault: ReadFault) -> RunError {
+        RunError::ReadFault
+    }
+}
+
+impl From<WriteFault> for RunError {
+    ghost from_gives = { λ _ e. e ≡ IsWriteFault };
+
+    fn from(_fault: WriteFault) -> RunError {
+        RunError::WriteFault
+    }
+}

@@ -1,0 +1,38 @@
+ghost use Rattle.std.specs.Prelude.{◌≡◌, ◌≤◌, ◌<◌, true, length, IfOk, IfErr, IfSome};
+ghost use Rattle.command_shell.specs.RunErrors.{IsReadingError};
+
+use crate::error::RunError;
+use profile::Source;
+use profile::memory_map::MOST_BYTES;
+use std::alloc::Global;
+
+const CHUNK: usize = 4096;
+
+/// Reads a script to its end, in at most 1,048,577 pulls: each but the last gives a byte at least,
+/// and that many bytes are too many.
+///
+/// # Errors
+///
+/// `Memory`, `ReadFault`, and `ScriptTooLong` past 1,048,576 bytes.
+#[tactic(auto, using(crate::proofs::ReadLemmas::read_steps))]
+pub fn read_script<R: Source>(alloc: Global, reader: &mut R) -> Result<Vec<u8>, RunError>
+    ensures bytes { IfOk result (λ script. IfSome (R.remaining reader.old) (λ told. script.items ≡ told)) }
+    ensures in_limit { IfOk result (λ script. length script.items ≤ 1048576) }
+    ensures read_fault { result ≡ Err RunError.ReadFault → R.has_failed reader.new ≡ true }
+    ensures too_long { result ≡ Err RunError.ScriptTooLong → IfSome (R.remaining reader.old) (λ told. 1048576 < length told) }
+    ensures errors { IfErr result IsReadingError }
+{
+    let mut script = Vec::new(alloc);
+    let mut chunk = [0u8; CHUNK];
+    for _pulls in 0..MOST_BYTES + 1 {
+        let count = reader.pull(&mut chunk)?;
+        if count == 0 {
+            return Ok(script);
+        }
+        script.extend_from_slice(&chunk[..count])?;
+        if script.len() > MOST_BYTES {
+            return Err(RunError::ScriptTooLong);
+        }
+    }
+    Err(RunError::ScriptTooLong)
+}

@@ -1,0 +1,79 @@
+ghost use Rattle.std.specs.Prelude.{◌≡◌, ◌≤◌, ◌<◌, true, None, length, IfOk, IfErr, IfSome, IsErr, OnOk};
+ghost use Rattle.std.specs.Str.Lines.{lines};
+ghost use Rattle.std.specs.Io.KnownBytes.{Appends};
+ghost use Rattle.profile.specs.Output.{AppendsFront};
+ghost use Rattle.command_shell.specs.RunErrors.{IsLineError};
+ghost use Rattle.command_shell.specs.Script.{lines_told, script_told};
+ghost use Rattle.command_shell.specs.Sessions.{world_of};
+
+use crate::error::RunError;
+use crate::lines::Lines;
+use crate::reading::read_script;
+use crate::requests::command_of;
+use crate::session::Session;
+use image_loader::Images;
+use profile::{Config, Sink, Source, Stop};
+use std::alloc::Global;
+
+/// What a script came to.
+#[derive(Clone, Copy, Debug, PartialEq, Eq)]
+pub struct Summary {
+    /// The last stop that a line was answered with.
+    pub last: Option<Stop>,
+}
+
+/// Reads a script whole, and then answers its lines one after another on a fresh machine of these
+/// sizes. The guest's steps count against one budget.
+///
+/// # Errors
+///
+/// `ReadFault` and `ScriptTooLong`, past 1,048,576 bytes, before anything is written; `Memory`, when
+/// a part of the answers may stand written; `WriteFault`. The images may then hold those that the
+/// script has added.
+#[tactic(auto, using(crate::proofs::ScriptLemmas::whole_steps), unfolding(crate::specs::Script::script_told))]
+pub fn run_script<R: Source, W: Sink>(
+    alloc: Global,
+    reader: &mut R,
+    images: &mut Images,
+    writer: &mut W,
+    config: Config,
+    budget: u64,
+) -> Result<Summary, RunError>
+    ensures text { OnOk result (IfSome (R.remaining reader.old) (λ script. Appends (W.contents writer.old) (W.contents writer.new) (script_told config images.old budget script).text)) }
+    ensures last { IfOk result (λ summary. IfSome (R.remaining reader.old) (λ script. summary.last ≡ (script_told config images.old budget script).world.last)) }
+    ensures memory { result ≡ Err RunError.Memory → IfSome (R.remaining reader.old) (λ script. AppendsFront (W.contents writer.old) (W.contents writer.new) (script_told config images.old budget script).text) }
+    ensures read_fault { result ≡ Err RunError.ReadFault → (R.has_failed reader.new ≡ true) × (writer.new ≡ writer.old) }
+    ensures write_fault { result ≡ Err RunError.WriteFault → W.has_failed writer.new ≡ true }
+    ensures too_long { result ≡ Err RunError.ScriptTooLong → (writer.new ≡ writer.old) × IfSome (R.remaining reader.old) (λ script. 1048576 < length script) }
+    ensures never_long { IfSome (R.remaining reader.old) (λ script. 1048576 < length script → IsErr result) }
+    ensures same_flag { OnOk result (W.has_failed writer.new ≡ W.has_failed writer.old) }
+{
+    let script = read_script(alloc, reader)?;
+    let mut session = Session::new(alloc, config, budget)?;
+    run_lines(&mut session, images, writer, script.as_slice())?;
+    Ok(Summary {
+        last: session.last(),
+    })
+}
+
+#[tactic(auto, using(crate::proofs::ScriptLemmas::line_steps))]
+fn run_lines<W: Sink>(
+    session: &mut Session,
+    images: &mut Images,
+    sink: &mut W,
+    script: &[u8],
+) -> Result<(), RunError>
+    requires { length script.now ≤ 1048576 }
+    ensures text { OnOk result (Appends (W.contents sink.old) (W.contents sink.new) (lines_told 0 (world_of session.old images.old) None (lines script.now)).text) }
+    ensures world { OnOk result (world_of session.new images.new ≡ (lines_told 0 (world_of session.old images.old) None (lines script.now)).world) }
+    ensures memory { result ≡ Err RunError.Memory → AppendsFront (W.contents sink.old) (W.contents sink.new) (lines_told 0 (world_of session.old images.old) None (lines script.now)).text }
+    ensures write_fault { result ≡ Err RunError.WriteFault → W.has_failed sink.new ≡ true }
+    ensures errors { IfErr result IsLineError }
+    ensures same_flag { OnOk result (W.has_failed sink.new ≡ W.has_failed sink.old) }
+{
+    let mut place = Lines::new(script);
+    while let Some(line) = place.next_line() {
+        session.answer(images, sink, command_of(line), &mut place)?;
+    }
+    Ok(())
+}
