@@ -1,11 +1,12 @@
 -- A file's front of one byte more than an image can have tells whether the file can be an image.
-use Rattle.std.proofs.Common.{◌≡◌, ◌≤◌, ◌<◌, ◌∙◌, ℕ, List, length, take, Option, Some, None, Result, Ok, Err, MatchOption, arith, refl, sym, ap}
+use Rattle.std.proofs.Common.{◌≡◌, ◌≤◌, ◌<◌, ◌∙◌, ◌+◌, ◌++◌, ◌∷◌, [], ℕ, List, length, take, append_assoc, slice_get, Option, Some, None, Result, Ok, Err, MatchOption, arith, refl, sym, ap}
 use Rattle.std.proofs.lemmas.Bool.Decides.{nat_tests}
-use Rattle.std.proofs.lemmas.List.{length-take, take_all}
+use Rattle.std.proofs.lemmas.List.{length-take, map-append, take_all, take_more}
+use Rattle.std.proofs.lemmas.Option.{get_or_from_slice_get, slice_get_within}
 use Rattle.image_loader.specs.Entries.{Entry, refusal_for, with_entry}
 use Rattle.image_loader.specs.declared.error.ImageError.{ImageError}
 use Rattle.std.specs.Path.{path_file_name}
-use Rattle.rosm.specs.ImageFiles.{AddsImage}
+use Rattle.rosm.specs.ImageFiles.{AddsImage, names_for}
 
 in_limit : (entries : List Entry) (name : List ℕ) (len : ℕ) → refusal_for entries name len ≡ None → len ≤ 1048576
 in_limit entries name len none = grind (arith, nat_tests, none)
@@ -33,3 +34,15 @@ adds_image u P old new path name bytes all part front refused added =
       let_in = rw (← whole) free;
       added = added ∙ ap (with_entry old name) whole;
     }
+
+-- one more file
+pub names_more : (paths : List (List ℕ)) (n : ℕ) (path : List ℕ) (before between after : List (Option (List ℕ)))
+    → between ≡ before ++ names_for (take n paths) → after ≡ between ++ path_file_name path ∷ [] → slice_get paths n ≡ Some path
+    → after ≡ before ++ names_for (take (n + 1) paths)
+names_more paths n path before between after first then at =
+    let taken : take (n + 1) paths ≡ take n paths ++ path ∷ [] =
+    take_more paths n path (slice_get_within paths n path at) ∙ ap (λ x. take n paths ++ x ∷ []) (get_or_from_slice_get paths n path path at) in
+    let names : names_for (take (n + 1) paths) ≡ names_for (take n paths) ++ path_file_name path ∷ [] =
+    ap names_for taken ∙ map-append path_file_name (take n paths) (path ∷ []) in
+    then ∙ ap (λ x. x ++ path_file_name path ∷ []) first
+    ∙ append_assoc before (names_for (take n paths)) (path_file_name path ∷ []) ∙ ap (λ x. before ++ x) (sym names)

@@ -1,5 +1,5 @@
 -- Files as images: a file's image is named by the last part of its path.
-use Rattle.std.specs.Prelude.{◌≡◌, ℕ, List, length, Some, None}
+use Rattle.std.specs.Prelude.{◌≡◌, ℕ, List, length, map, Option, Some, None}
 use Rattle.std.specs.Path.{path_file_name}
 use Rattle.image_loader.specs.Entries.{Entry, refusal_for, with_entry}
 
@@ -9,3 +9,11 @@ pub record AddsImage (old : List Entry) (path : List ℕ) (new : List Entry) (by
   pub last_part : path_file_name path ≡ Some name
   pub let_in : refusal_for old name (length bytes) ≡ None
   pub added : new ≡ with_entry old name bytes
+
+-- the names of the images, in order
+abbrev pub names_of : List Entry → List (Option (List ℕ))
+names_of entries = map (λ e. Some e.name) entries
+
+-- the names of the files' images; a path without a last part has none
+abbrev pub names_for : List (List ℕ) → List (Option (List ℕ))
+names_for paths = map path_file_name paths

@@ -1,5 +1,6 @@
-ghost use Rattle.std.specs.Prelude.{◌≡◌, IfOk, IfSome, OnErr, OnOk, take};
-ghost use Rattle.rosm.specs.ImageFiles.{AddsImage};
+ghost use Rattle.std.specs.Prelude.{◌≡◌, [], ◌∷◌, ◌++◌, IfOk, IfSome, OnErr, OnOk, take};
+ghost use Rattle.std.specs.Path.{path_file_name};
+ghost use Rattle.rosm.specs.ImageFiles.{AddsImage, names_for, names_of};
 
 use crate::files::Files;
 use crate::refusal::Refusal;
@@ -33,13 +34,20 @@ impl From<io::Error> for FileError {
 }
 
 /// Adds an image for each file in turn, named by the last part of its path.
+///
+/// # Errors
+///
+/// `Refusal::File` of the first file that gives no image; those before it are added.
 pub fn add_files<'a, R>(rt: &R, files: &'a Files, images: &mut Images) -> Result<(), Refusal<'a>>
 where
     R: AllocGlobal + fs::Files,
+    ensures { OnOk result (names_of images.new ≡ names_of images.old ++ names_for files.entry.now) }
 {
     for n in 0..files.len() {
         let path = files.get(n);
-        add_file(rt, path, images).map_err(|error| Refusal::File(path, error))?;
+        if let Err(error) = add_file(rt, path, images) {
+            return Err(Refusal::File(path, error));
+        }
     }
     Ok(())
 }
@@ -47,6 +55,8 @@ where
 fn add_file<R>(rt: &R, path: &str, images: &mut Images) -> Result<(), FileError>
 where
     R: AllocGlobal + fs::Files,
+    ensures named { OnOk result (names_of images.new ≡ names_of images.old ++ path_file_name path.now ∷ []) }
+    ensures err { OnErr result (images.new ≡ images.old) }
 {
     let file = File::open(rt, path)?;
     add_image(rt.alloc(), path, file, images)
@@ -60,6 +70,7 @@ fn add_image<R: Read + Drop>(
     images: &mut Images,
 ) -> Result<(), FileError>
     ensures ok { OnOk result (IfSome (R.remaining reader) (λ bytes. AddsImage images.old path.now images.new bytes)) }
+    ensures named { OnOk result (names_of images.new ≡ names_of images.old ++ path_file_name path.now ∷ []) }
     ensures err { OnErr result (images.new ≡ images.old) }
 {
     let name = Path::new(path).file_name().ok_or(FileError::Unreadable)?;

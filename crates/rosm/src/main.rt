@@ -9,7 +9,7 @@ pub mod image_files;
 pub mod options;
 pub mod refusal;
 
-ghost use Rattle.std.specs.Prelude.{◌≡◌};
+ghost use Rattle.std.specs.Prelude.{◌≡◌, ◌≢◌};
 ghost use Rattle.std.specs.Process.{exit_status};
 ghost use Rattle.rosm.specs.Status.{status_of};
 
@@ -42,10 +42,14 @@ fn chosen<R: Env + AllocGlobal>(rt: &R) -> Result<Settings, SettingsError> {
     settings(rt.alloc(), texts.as_slice())
 }
 
-fn word_refusal(kind: ErrorKind) -> SettingsError {
-    match kind {
-        ErrorKind::OutOfMemory => SettingsError::Memory,
-        _ => SettingsError::Line,
+fn word_refusal(kind: ErrorKind) -> SettingsError
+    ensures memory { kind ≡ ErrorKind.OutOfMemory → result ≡ SettingsError.Memory }
+    ensures line { kind ≢ ErrorKind.OutOfMemory → result ≡ SettingsError.Line }
+{
+    if kind == ErrorKind::OutOfMemory {
+        SettingsError::Memory
+    } else {
+        SettingsError::Line
     }
 }
 
