@@ -1,10 +1,9 @@
-use profile::Fault;
-
-use super::{multiply, register};
+use super::register;
 use crate::{
-    Action, Bits, BlockMode, Condition, Direction, Form, Indexing, Instr, Offset, Operation,
-    Register, RegisterList, Shift, ShiftedRegister, field_of, row_of,
+    Action, Bits, BlockMode, Condition, Direction, Form, Indexing, Instr, Multiply, Offset,
+    Operation, Register, RegisterList, Shift, ShiftedRegister, field_of, row_of,
 };
+use profile::Fault;
 
 #[test]
 fn forms(rt: HostRuntime) {
@@ -25,11 +24,18 @@ fn forms(rt: HostRuntime) {
 
 #[test]
 fn refused_parts(rt: HostRuntime) {
-    let same = multiply(false, false, 1, 0, 2, 1);
-    assert_eq!(rt; same.refusal(), Some(Fault::MultiplySame));
-    assert_eq!(rt; Instr::new(Condition::Always, same), Err(Fault::MultiplySame));
-    let other = multiply(false, false, 0, 0, 2, 1);
-    assert_eq!(rt; other.refusal(), None);
+    for (rd, refusal) in [(0, None), (1, Some(Fault::MultiplySame))] {
+        let action = Action::Multiply(Multiply {
+            accumulates: false,
+            sets_flags: false,
+            rd: register(rd),
+            rn: register(0),
+            rs: register(2),
+            rm: register(1),
+        });
+        assert_eq!(rt; action.refusal(), refusal);
+        assert_eq!(rt; Instr::new(Condition::Always, action).err(), refusal);
+    }
 }
 
 #[test]
@@ -40,7 +46,10 @@ fn parts_of_words(rt: HostRuntime) {
     assert_eq!(rt; Register::in_word(word, 16).number(), 2);
     assert_eq!(rt; Bits::<5>::in_word(word, 7).number(), 30);
     assert_eq!(rt; Shift::in_word(word), Shift::RotateRight);
-    assert_eq!(rt; Indexing::in_word(word), Indexing::Pre { writes_back: true });
+    assert_eq!(rt;
+        Indexing::in_word(word),
+        Indexing::Pre { writes_back: true }
+    );
     assert_eq!(rt; Direction::in_word(word), Direction::Up);
     assert_eq!(rt; Operation::in_word(word), Operation::Move);
     assert_eq!(rt; BlockMode::in_word(word), BlockMode::IncrementBefore);

@@ -1,6 +1,5 @@
-use profile::Fault;
-
 use crate::{decode, row_of};
+use profile::Fault;
 
 /// Each word is refused by this fault, and by no other that comes later in the order.
 #[test]
@@ -48,9 +47,21 @@ fn program_counters(rt: HostRuntime) {
 #[test]
 fn first_in_order(rt: HostRuntime) {
     for (word, fault, both) in [
-        (0xE100_0F10, Fault::Unallocated, "TST without S, shifted by PC"),
-        (0xE00F_1291, Fault::Unallocated, "MUL with an Rn field of 1, to PC"),
-        (0xE000_1290, Fault::Unallocated, "MUL with an Rn field of 1, Rd the same as Rm"),
+        (
+            0xE100_0F10,
+            Fault::Unallocated,
+            "TST without S, shifted by PC",
+        ),
+        (
+            0xE00F_1291,
+            Fault::Unallocated,
+            "MUL with an Rn field of 1, to PC",
+        ),
+        (
+            0xE000_1290,
+            Fault::Unallocated,
+            "MUL with an Rn field of 1, Rd the same as Rm",
+        ),
         (0xE00F_029F, Fault::PcOperand, "MUL PC,PC,R2"),
         (0xE89F_0000, Fault::PcOperand, "LDMIA PC,{}"),
         (0xE8E0_0000, Fault::EmptyList, "STMIA R0!,{}^"),
