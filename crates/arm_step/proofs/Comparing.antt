@@ -1,6 +1,5 @@
 -- Conditions in pairs, and the flags of CMP.
-use Rattle.std.proofs.Common.{◌≡◌, ℕ, zero, suc, Bool, true, false, not, ◌&&◌, ◌||◌, refl, arith}
-use Rattle.arm_decode.specs.Refusals.{is_test}
+use Rattle.std.proofs.Common.{◌≡◌, zero, suc, Bool, true, false, not, ◌&&◌, ◌||◌, refl, arith}
 use Rattle.arm_step.specs.Conditions.{holds}
 use Rattle.arm_step.specs.State.{with_pc, with_flags}
 use Rattle.arm_step.specs.Effect.{advanced, flagged}

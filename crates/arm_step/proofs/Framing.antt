@@ -1,10 +1,10 @@
 -- Each way to store keeps the owned bytes, so a step does.
-use Rattle.std.proofs.Common.{◌≡◌, ℕ, zero, suc, ◌+◌, ◌-◌, ◌%◌, ◌^◌, ◌<◌, ◌≤◌, Bool, true, false, cond, not, ◌&&◌, nat_le, nat_lt, nat_eq, List, [], ◌∷◌, length, refl, ap, sym, ◌∙◌, arith, Option, Some, None, Result, Ok, Err, subst, lit<}
+use Rattle.std.proofs.Common.{◌≡◌, ℕ, ◌+◌, ◌-◌, ◌%◌, ◌^◌, Bool, true, false, cond, not, ◌&&◌, nat_le, nat_lt, nat_eq, List, [], ◌∷◌, length, refl, ap, sym, ◌∙◌, arith, Option, Some, None, Result, Ok, Err, subst, lit<}
 use Rattle.std.proofs.lemmas.Bool.Decides.{nat_tests}
 use Rattle.profile.specs.Outcome.{bind}
 use Rattle.profile.specs.declared.fault.Fault.{Fault}
 use Rattle.profile.specs.declared.fault.Fault.TheVariants.{AddressException, DataUnmapped, OwnedWord}
-use Rattle.address_map.specs.Bytes.{Bytes, unless, store_fault, with_byte, with_word, with_byte_at, with_word_at, byte_stored, word_stored, word_loaded}
+use Rattle.address_map.specs.Bytes.{Bytes, unless, store_fault, with_byte, with_word, byte_stored, word_stored, word_loaded}
 use Rattle.arm_decode.specs.Decoded.{decoded}
 use Rattle.arm_decode.specs.Fields.{condition_in}
 use Rattle.arm_decode.specs.declared.action.Action.{Action}
@@ -17,7 +17,7 @@ use Rattle.arm_step.specs.Conditions.{holds}
 use Rattle.arm_step.specs.State.{State}
 use Rattle.arm_step.specs.Effect.{advanced}
 use Rattle.arm_step.specs.Words.{are_free, are_mapped, with_words, words_stored, words_store_fault}
-use Rattle.arm_step.specs.Transfers.{loaded, stored, transferred, value_stored, value_loaded, transfer_address}
+use Rattle.arm_step.specs.Transfers.{loaded, stored, transferred, value_stored, transfer_address}
 use Rattle.arm_step.specs.Blocks.{block_loaded, block_stored, block_transferred, block_start, block_values}
 use Rattle.arm_step.specs.Step.{or_fault, acted, acted_if_decoded, executed, executed_if_fetched, stepped}
 use Rattle.arm_step.specs.Frame.{IsByWords, Keeps, StepKeeps}

@@ -1,10 +1,10 @@
 -- Words one after another: the next of them, and what one load says of it.
-use Rattle.std.proofs.Common.{◌≡◌, ℕ, zero, suc, ◌+◌, ◌-◌, ◌*◌, ◌%◌, ◌^◌, ◌<◌, ◌≤◌, Bool, true, false, cond, ◌&&◌, List, [], ◌∷◌, ◌++◌, length, drop, get_or, refl, ap, sym, ◌∙◌, arith, append_assoc, append-nil, add-one, drop-cons, Option, Some, None, is_some, Result, Ok, Err, nat_le, ltb}
+use Rattle.std.proofs.Common.{◌≡◌, ℕ, suc, ◌+◌, ◌-◌, ◌*◌, ◌%◌, ◌^◌, ◌<◌, ◌≤◌, Bool, true, false, cond, ◌&&◌, List, [], ◌∷◌, ◌++◌, length, drop, get_or, refl, ap, sym, ◌∙◌, arith, append_assoc, add-one, drop-cons, Some, None, is_some, Ok, Err, nat_le, ltb}
 use Rattle.std.proofs.lemmas.Bool.{le-ltb}
 use Rattle.std.proofs.lemmas.Bool.Decides.{nat_tests}
 use Rattle.std.proofs.lemmas.List.{drop_all}
-use Rattle.address_map.specs.Bytes.{Bytes, word_at, word_start, word_loaded, unless, with_word, with_word_at}
-use Rattle.address_map.specs.Memory.{bytes_of, byte_at, is_mapped, layout}
+use Rattle.address_map.specs.Bytes.{Bytes, word_at, word_loaded, unless, with_word, with_word_at}
+use Rattle.address_map.specs.Memory.{bytes_of, byte_at, layout}
 use Rattle.address_map.specs.declared.map.AddressMap.{AddressMap}
 use Rattle.arm_step.specs.Words.{are_mapped, are_free, words_at, with_words, words_load_fault, words_loaded}
 use Rattle.profile.specs.declared.fault.Fault.{Fault}

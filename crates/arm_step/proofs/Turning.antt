@@ -1,12 +1,11 @@
 -- ROR as two shifts, and RRX as a rotation of 33 bits.
-use Rattle.std.proofs.Common.{◌≡◌, ℕ, zero, suc, ◌+◌, ◌-◌, ◌*◌, ◌/◌, ◌%◌, ◌^◌, ◌<◌, ◌≤◌, Bool, true, false, refl, ap, sym, ◌∙◌, arith, nat_eq, ◌==◌}
+use Rattle.std.proofs.Common.{◌≡◌, ℕ, zero, suc, ◌+◌, ◌-◌, ◌*◌, ◌/◌, ◌%◌, ◌^◌, ◌<◌, ◌≤◌, Bool, true, false, ap, sym, ◌∙◌, arith, ◌==◌}
 use Rattle.std.specs.Int.{from_bool}
 use Rattle.std.proofs.lemmas.Bool.Decides.{nat_tests}
 use Rattle.std.proofs.lemmas.Nat.{pow-add, shl-shr, shr-shr, mod-pow-add}
 use Rattle.std.proofs.Math.Nat.{mul-mod_left}
-use Rattle.profile.specs.Shift.{rotated_right, rotated_through}
+use Rattle.profile.specs.Shift.{rotated_through}
 use Rattle.profile.specs.declared.shift.Shifted.{Shifted}
-use Rattle.arm_decode.specs.declared.shift.Shift.TheVariants as shift
 use Rattle.arm_step.specs.Operand.{shifted_by, shifted_by_number, shifted_by_zero, kept}
 use Rattle.arm_step.specs.Laws.{turned_times, RotatesByShifting, TurnsRound}
 

@@ -1,5 +1,5 @@
 -- LDM and STM (ARM2 data sheet, "Block data transfer"). Which base is stored, and that a fault moves nothing, are this project's choice.
-use Rattle.std.specs.Prelude.{ℕ, zero, suc, ◌++◌, Bool, true, false, not, ◌&&◌, ◌+◌, ◌-◌, ◌*◌, ◌%◌, ◌^◌, ◌==◌, if◌then◌else◌, List, [], ◌∷◌, length, map, slice_get, Option, Some, None, Result, Ok}
+use Rattle.std.specs.Prelude.{ℕ, zero, suc, ◌++◌, Bool, not, ◌&&◌, ◌+◌, ◌-◌, ◌*◌, ◌%◌, ◌^◌, ◌==◌, if◌then◌else◌, List, [], ◌∷◌, length, map, slice_get, Option, Some, None, Result, Ok}
 use Rattle.profile.specs.Outcome.{bind}
 use Rattle.profile.specs.Word.{bit_of}
 use Rattle.profile.specs.declared.fault.Fault.{Fault}
@@ -9,7 +9,7 @@ use Rattle.arm_decode.specs.declared.address.BlockMode.{BlockMode}
 use Rattle.arm_decode.specs.declared.address.BlockMode.TheVariants.{DecrementAfter, IncrementAfter, DecrementBefore, IncrementBefore}
 use Rattle.arm_step.specs.declared.psr.Mode.{Mode}
 use Rattle.arm_step.specs.declared.psr.Mode.TheVariants.{User}
-use Rattle.arm_step.specs.State.{State, register_in}
+use Rattle.arm_step.specs.State.{State}
 use Rattle.arm_step.specs.Effect.{advanced, plain_operand, status_operand, with_result, with_result_in, with_status}
 use Rattle.arm_step.specs.Words.{words_loaded, words_stored}
 

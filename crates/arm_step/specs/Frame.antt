@@ -1,5 +1,5 @@
 -- No instruction writes to the bytes that the store calls keep their records in.
-use Rattle.std.specs.Prelude.{◌≡◌, ◌<◌, ◌+◌, ◌%◌, ℕ, Bool, true, Result, Ok}
+use Rattle.std.specs.Prelude.{◌≡◌, ◌<◌, ◌+◌, ◌%◌, ℕ, Bool, true, Ok}
 use Rattle.address_map.specs.Bytes.{Bytes}
 use Rattle.arm_step.specs.State.{State}
 use Rattle.arm_step.specs.Step.{stepped}

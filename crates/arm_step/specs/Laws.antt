@@ -1,13 +1,12 @@
 -- What the definitions of this crate must satisfy beside being the table: laws that go another way than the table does.
 use Rattle.std.specs.Prelude.{◌≡◌, ◌↔◌, ◌≤◌, ◌<◌, ◌≤ℤ◌, ◌<ℤ◌, ◌+◌, ◌-◌, ◌*◌, ◌^◌, ◌==◌, ℕ, zero, suc, Bool, true, false, not, IsTrue}
 use Rattle.std.specs.Int.{bit_not, w32}
-use Rattle.profile.specs.Sums.{signed, sum_of, difference_of}
+use Rattle.profile.specs.Sums.{signed, difference_of}
 use Rattle.profile.specs.Word.{bit_of}
 use Rattle.profile.specs.declared.shift.Shifted.{Shifted}
 use Rattle.profile.specs.declared.word.Sum.{Sum}
 use Rattle.arm_decode.specs.Names.{condition_of}
 use Rattle.arm_decode.specs.declared.action.Operate.{Operate}
-use Rattle.arm_decode.specs.declared.condition.Condition.{Condition}
 use Rattle.arm_decode.specs.declared.condition.Condition.TheVariants as condition
 use Rattle.arm_decode.specs.declared.operation.Operation.TheVariants as operation
 use Rattle.arm_decode.specs.declared.shift.Shift.TheVariants as shift

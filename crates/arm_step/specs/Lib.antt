@@ -1,3 +1,4 @@
+pub mod Back
 pub mod Blocks
 pub mod Conditions
 pub mod Effect

@@ -2,6 +2,7 @@
 
 ghost use Rattle.std.specs.Prelude.{ℕ, Bool, ◌<◌, ◌^◌};
 ghost use Rattle.arm_step.specs.declared.psr.Psr.{Psr};
+ghost use Rattle.arm_step.specs.Back.{ComesBack};
 ghost use Rattle.arm_step.specs.Frame.{StepKeeps};
 ghost use Rattle.arm_step.specs.State.{State};
 ghost use Rattle.address_map.specs.Bytes.{Bytes};
@@ -48,4 +49,10 @@ pub fn rotation_through_carry_turns_round()
 #[tactic(auto, using(crate::proofs::Framing::step_keeps))]
 pub fn step_keeps_owned_bytes()
     ensures { (owned : ℕ → Bool) (s : State) (b : Bytes) → StepKeeps owned s b }
+{}
+
+/// What STM with write-back puts away, LDM by the opposite way of counting brings back.
+#[tactic(auto, using(crate::proofs::Back::comes_back))]
+pub fn store_then_load_comes_back()
+    ensures { ComesBack }
 {}

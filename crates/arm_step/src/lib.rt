@@ -18,3 +18,6 @@ pub use cpu::Cpu;
 pub use execute::step;
 pub use psr::{Mode, Psr};
 pub use turn::Turn;
+
+#[cfg(test)]
+mod tests;

@@ -1,5 +1,5 @@
-use Rattle.std.proofs.Common.{◌≡◌, ◌+◌, ◌-◌, ◌*◌, ◌<◌, ◌≤◌, ◌^◌, ◌%◌, ◌∙◌, ap, arith, append-nil, true, false, ◌++◌, length}
-use Rattle.arm_step.proofs.SeveralWords.{IsLoaded, load_gave, load_refused, mapped_step, mapped_stop, words_step, grown, mapped_end, words_end, words_all, words_missing}
+use Rattle.std.proofs.Common.{◌≡◌, ◌+◌, ◌*◌, ◌<◌, ◌≤◌, ◌^◌, ◌%◌, ◌∙◌, ap, arith, append-nil, ◌++◌}
+use Rattle.arm_step.proofs.SeveralWords.{load_gave, load_refused, mapped_step, mapped_stop, words_step, grown, mapped_end, words_end, words_all, words_missing}
 use Rattle.address_map.specs.Memory.{bytes_of}
 use Rattle.arm_step.proofs.words.load_words.Goals as goal
 

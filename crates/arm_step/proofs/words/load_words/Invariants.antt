@@ -1,4 +1,4 @@
-use Rattle.std.proofs.Common.{ℕ, ◌≡◌, ◌+◌, ◌*◌, ◌-◌, ◌++◌, length}
+use Rattle.std.proofs.Common.{◌≡◌, ◌+◌, ◌*◌, ◌-◌, ◌++◌, length}
 use Rattle.address_map.specs.Memory.{bytes_of}
 use Rattle.arm_step.specs.Words.{are_mapped, words_at}
 use Rattle.arm_step.proofs.words.load_words.Given as goal

@@ -1,4 +1,4 @@
-use Rattle.std.proofs.Common.{◌≡◌, ◌+◌, ◌*◌, ◌-◌, ◌<◌, ◌∙◌, ap, sym, refl, length, get_or, is_some, drop}
+use Rattle.std.proofs.Common.{◌+◌, ◌*◌, ◌∙◌, ap, sym, length, get_or, is_some, drop}
 use Rattle.address_map.specs.Memory.{bytes_of}
 use Rattle.arm_step.specs.Words.{with_words}
 use Rattle.arm_step.proofs.SeveralWords.{mapped_head, mapped_tail, words_put, with_words_step, with_words_end}
