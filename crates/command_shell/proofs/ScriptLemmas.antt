@@ -110,6 +110,6 @@ lines_after-shorter Unknown rest = omega arith
 pub fewer_left : (line : List ℕ) (all rest left : List (List ℕ)) (r : Request) → all ≡ line ∷ rest → left ≡ lines_after r rest → length left < length all
 fewer_left line all rest left r first stays = rw (first, stays) (omega (arith, lines_after-shorter r rest))
 
-pub ruleset line_steps = (Completes-start, Completes-more, Completes-same, Appends-from_completes, AppendsFront-from_completes, text_step, world_step, text_end, world_end, fewer_left)
+pub ruleset line_steps = (Completes-start, Completes-more, Completes-same, Appends-from_completes, AppendsFront-from_completes, text_step, world_step, text_end, world_end)
 
 pub ruleset whole_steps = (AppendsFront-start)
