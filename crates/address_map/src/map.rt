@@ -47,12 +47,14 @@ impl AddressMap {
     /// # Errors
     ///
     /// `AllocError` where the host has no memory for it.
-    #[tactic(auto, using(crate::proofs::Searches::no_pairs), unfolding(crate::specs::Memory::place, crate::specs::Memory::free_pages, crate::specs::Memory::free_runs))]
+    #[tactic(auto, using(crate::proofs::Searches::no_pairs), unfolding(crate::specs::Memory::place, crate::specs::Memory::free_pages, crate::specs::Memory::free_runs, crate::specs::Memory::class_of, crate::specs::Memory::is_owned))]
     pub fn new(alloc: Global, pages: u32) -> Result<AddressMap, AllocError>
         requires { pages ≤ 1024 }
         ensures mapping { IfOk result (λ m. (a : ℕ) → is_mapped m a ≡ false) }
         ensures pages { IfOk result (λ m. free_pages m ≡ pages) }
         ensures runs { IfOk result (λ m. free_runs m ≡ 36) }
+        ensures classes { IfOk result (λ m. (a : ℕ) → class_of m a ≡ Class.Plain) }
+        ensures owned { IfOk result (λ m. (a : ℕ) → is_owned m a ≡ false) }
     {
         let store = RawStore::new(alloc, pages)?;
         Ok(AddressMap {
@@ -83,6 +85,7 @@ impl AddressMap {
         ensures bytes { (a : ℕ) → byte_at self.new a ≡ byte_at self.old a }
         ensures pages { free_pages self.new + count ≡ free_pages self.old }
         ensures runs { free_runs self.old ≤ free_runs self.new + 1 }
+        ensures classes { class_of self.new ≡ class_of self.old }
         ensures owned { is_owned self.new ≡ is_owned self.old }
     {
         let len = PAGE_SIZE * count;
@@ -124,8 +127,8 @@ impl AddressMap {
 
     /// What the store calls use the byte at an address for.
     #[tactic(auto, unfolding(crate::specs::Memory::class_of))]
-    pub fn class(&self, _addr: u32) -> Class
-        ensures { result ≡ class_of self.now _addr }
+    pub fn class(&self, addr: u32) -> Class
+        ensures { result ≡ class_of self.now addr }
     {
         Class::Plain
     }
@@ -190,9 +193,8 @@ impl AddressMap {
         ensures bytes { (a : ℕ) → byte_at self.new a ≡ with_word_at (byte_at self.old) addr word a }
         ensures layout { layout self.new ≡ layout self.old }
     {
-        if let Some(place) = self.translate(addr) {
-            self.store.write_word(place, word);
-        }
+        let place = self.translate(addr).unwrap();
+        self.store.write_word(place, word);
     }
 
     fn write_span(&mut self, span: Span, bytes: &[u8])
@@ -221,9 +223,7 @@ impl AddressMap {
     {
         let mut done = 0;
         while done < bytes.len() {
-            let Some(span) = self.span(addr + done as u32) else {
-                return;
-            };
+            let span = self.span(addr + done as u32).unwrap();
             let end = bytes.len().min(done + span.len as usize);
             self.write_span(span, &bytes[done..end]);
             done = end;
@@ -238,9 +238,7 @@ impl AddressMap {
     {
         let mut done = 0;
         while done < len {
-            let Some(span) = self.span(addr + done) else {
-                return;
-            };
+            let span = self.span(addr + done).unwrap();
             let now = span.len.min(len - done);
             self.zero_span(span, now);
             done += now;

@@ -1,5 +1,6 @@
 use Rattle.std.proofs.Common.{◌≡◌, ◌+◌, ◌-◌, ◌*◌, ◌≤◌, length, arith, refl, lit<}
 use Rattle.address_map.specs.Memory.{place, byte_at, free_pages, free_runs, is_owned, class_of}
+use Rattle.address_map.specs.declared.class.Class.TheVariants.{Plain}
 use Rattle.address_map.specs.declared.run.Run.{Run}
 use Rattle.address_map.specs.Runs.{run_total}
 use Rattle.address_map.proofs.Mapping.{mapped_more, bytes_more, store_zeroed, whole_more, total_more, apart_more}
@@ -62,3 +63,7 @@ returns-clause-runs c = let h = c.push.ensures.len in omega arith
 pub returns-clause-owned : goal.returns-clause-owned
 unfolding is_owned class_of
 returns-clause-owned c = refl
+
+pub returns-clause-classes : goal.returns-clause-classes
+unfolding class_of
+returns-clause-classes c = λ i a. Plain

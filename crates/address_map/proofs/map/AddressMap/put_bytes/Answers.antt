@@ -10,9 +10,11 @@ pub overflow_add-addr : goal.overflow_add-addr
 overflow_add-addr c = omega (arith, range_below c.args.self.now c.args.addr (length c.args.bytes.now) c.loop-done.done c.requires (omega arith))
 
 pub loop-done-preserved : goal.loop-done-preserved
-loop-done-preserved c = record {
+loop-done-preserved c =
+    let span = rw c.unwrap-span.ensures at c.span.ensures in
+    record {
   within = omega arith;
-  bytes = λ a. rw (c.write_span.ensures.bytes a, c.in-Some.ensures.0, c.loop-done.invariant.bytes a)
+  bytes = λ a. rw (c.write_span.ensures.bytes a, span.0, c.loop-done.invariant.bytes a)
       (with_bytes-more (byte_at c.args.self.now) c.args.addr c.args.bytes.now c.loop-done.done c.min-end.result a (omega arith) (omega arith));
   layout = cc;
 }

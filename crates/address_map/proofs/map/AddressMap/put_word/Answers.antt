@@ -1,17 +1,17 @@
-use Rattle.std.proofs.Common.{◌+◌, ◌≤◌, length, arith, refl, sym}
+use Rattle.std.proofs.Common.{◌+◌, ◌≤◌, ◌∙◌, length, arith, refl, sym}
 use Rattle.raw_store.specs.Region.{word_bytes}
 use Rattle.address_map.proofs.Loads.{place_fits_word}
 use Rattle.address_map.proofs.Stores.{word_put, same_layout, store_written, All-word_bytes}
 use Rattle.address_map.proofs.map.AddressMap.put_word.Goals as goal
 
 pub write_word-requires : goal.write_word-requires
-write_word-requires c = place_fits_word c.args.self.now c.args.addr _ c.requires.aligned (sym c.in-Some.ensures)
+write_word-requires c = place_fits_word c.args.self.now c.args.addr _ c.requires.aligned (sym c.translate.ensures ∙ c.unwrap-place.ensures)
 
 pub invariant_of-self : goal.invariant_of-self
 invariant_of-self c =
     let m = c.args.self.now in
-    let fits : c.in-Some.place + 4 ≤ length m.store = place_fits_word m c.args.addr _ c.requires.aligned (sym c.in-Some.ensures) in
-    let kept = store_written m c.write_word.new.self (word_bytes c.args.word) c.in-Some.place c.write_word.ensures fits (All-word_bytes c.args.word) in
+    let fits : c.unwrap-place.result + 4 ≤ length m.store = place_fits_word m c.args.addr _ c.requires.aligned (sym c.translate.ensures ∙ c.unwrap-place.ensures) in
+    let kept = store_written m c.write_word.new.self (word_bytes c.args.word) c.unwrap-place.result c.write_word.ensures fits (All-word_bytes c.args.word) in
     record {
       bytes_fit = kept.0;
       in_limit = omega (arith, kept.1, m.in_limit);
@@ -20,9 +20,9 @@ invariant_of-self c =
       apart = m.apart;
     }
 
-pub returns-in-Some-clause-bytes : goal.returns-in-Some-clause-bytes
-returns-in-Some-clause-bytes c =
-    word_put c.args.self.now _ c.args.addr c.in-Some.place c.args.word c.requires.aligned (sym c.in-Some.ensures) (same_layout _ _ refl refl) c.write_word.ensures
+pub returns-clause-bytes : goal.returns-clause-bytes
+returns-clause-bytes c =
+    word_put c.args.self.now _ c.args.addr c.unwrap-place.result c.args.word c.requires.aligned (sym c.translate.ensures ∙ c.unwrap-place.ensures) (same_layout _ _ refl refl) c.write_word.ensures
 
-pub returns-in-Some-clause-layout : goal.returns-in-Some-clause-layout
-returns-in-Some-clause-layout c = same_layout _ _ refl refl
+pub returns-clause-layout : goal.returns-clause-layout
+returns-clause-layout c = same_layout _ _ refl refl
