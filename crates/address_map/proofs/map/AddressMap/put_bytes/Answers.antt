@@ -13,8 +13,8 @@ pub loop-done-preserved : goal.loop-done-preserved
 loop-done-preserved c =
     let span = rw c.unwrap-span.ensures at c.span.ensures in
     record {
-  within = omega arith;
-  bytes = λ a. rw (c.write_span.ensures.bytes a, span.0, c.loop-done.invariant.bytes a)
-      (with_bytes-more (byte_at c.args.self.now) c.args.addr c.args.bytes.now c.loop-done.done c.min-end.result a (omega arith) (omega arith));
-  layout = cc;
-}
+      within = omega arith;
+      bytes = λ a. rw (c.write_span.ensures.bytes a, span.0, c.loop-done.invariant.bytes a)
+          (with_bytes-more (byte_at c.args.self.now) c.args.addr c.args.bytes.now c.loop-done.done c.min-end.result a (omega arith) (omega arith));
+      layout = cc;
+    }
