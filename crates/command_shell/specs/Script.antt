@@ -1,6 +1,7 @@
 -- What a script does and what it is answered, line by line, over the written machine.
-use Rattle.std.specs.Prelude.{ℕ, Bool, true, false, ◌+◌, ◌-◌, ◌==◌, ◌&&◌, List, [], ◌∷◌, ◌++◌, length, codes, Option, Some, None, Result, Ok, Err}
+use Rattle.std.specs.Prelude.{◌≡◌, ℕ, Bool, true, false, ◌+◌, ◌-◌, ◌==◌, ◌&&◌, List, [], ◌∷◌, ◌++◌, length, codes, Option, Some, None, Result, Ok, Err}
 use Rattle.std.specs.Str.Lines.{lines}
+use Rattle.std.specs.Io.KnownBytes.{Appends}
 use Rattle.profile.specs.Sizes.{Sizes}
 use Rattle.profile.specs.declared.stop.Stop.{Stop}
 use Rattle.image_loader.specs.Entries.{Entry, bytes_of, refusal_for, with_entry}
@@ -34,6 +35,11 @@ pub record Told : Type 0 where
 abbrev pub answered : World → List ℕ → Told
 answered w text = record { world = w; text = text }
 
+-- A writer and a world after an answer: what was written is its text, and the world is its world.
+pub record Tells (before after : Option (List ℕ)) (now : World) (told : Told) : Type 0 where
+  pub text : Appends before after told.text
+  pub world : now ≡ told.world
+
 -- an answer, and then those of the lines that follow
 abbrev pub then_told : Told → (World → Told) → Told
 then_told first next = record { world = (next first.world).world; text = first.text ++ (next first.world).text }
@@ -43,9 +49,12 @@ abbrev pub hex_added : World → List ℕ → List ℕ → Option ImageError →
 hex_added w name bytes (Some error) = answered w (hex_refused_text name (image_error_name error))
 hex_added w name bytes None = answered (record w { images = with_entry w.images name bytes }) (hex_text name (length bytes))
 
+abbrev pub hex_sized : World → List ℕ → List ℕ → Told
+hex_sized w name bytes = hex_added w name bytes (refusal_for w.images name (length bytes))
+
 abbrev pub hex_block : World → List ℕ → Result (List ℕ) ℕ → Told
 hex_block w name (Err line) = answered w (hex_syntax_text name line)
-hex_block w name (Ok bytes) = hex_added w name bytes (refusal_for w.images name (length bytes))
+hex_block w name (Ok bytes) = hex_sized w name bytes
 
 abbrev pub hex_opened : World → List ℕ → List (List ℕ) → Option ImageError → Told
 hex_opened w name block (Some error) = answered w (hex_refused_text name (image_error_name error))

@@ -14,3 +14,6 @@ pub mod session;
 
 pub use error::RunError;
 pub use script::{Summary, run_script};
+
+#[cfg(test)]
+mod tests;

@@ -3,7 +3,7 @@ ghost use Rattle.std.specs.Str.Lines.{lines};
 ghost use Rattle.std.specs.Io.KnownBytes.{Appends};
 ghost use Rattle.profile.specs.Output.{AppendsFront};
 ghost use Rattle.command_shell.specs.RunErrors.{IsLineError};
-ghost use Rattle.command_shell.specs.Script.{lines_told, script_told};
+ghost use Rattle.command_shell.specs.Script.{Tells, lines_told, script_told};
 ghost use Rattle.command_shell.specs.Sessions.{world_of};
 
 use crate::error::RunError;
@@ -39,12 +39,16 @@ pub fn run_script<R: Source, W: Sink>(
     config: Config,
     budget: u64,
 ) -> Result<Summary, RunError>
-    ensures text { OnOk result (IfSome (R.remaining reader.old) (λ script. Appends (W.contents writer.old) (W.contents writer.new) (script_told config images.old budget script).text)) }
-    ensures last { IfOk result (λ summary. IfSome (R.remaining reader.old) (λ script. summary.last ≡ (script_told config images.old budget script).world.last)) }
-    ensures memory { result ≡ Err RunError.Memory → IfSome (R.remaining reader.old) (λ script. AppendsFront (W.contents writer.old) (W.contents writer.new) (script_told config images.old budget script).text) }
+    ensures text { OnOk result (IfSome (R.remaining reader.old) (λ script.
+        Appends (W.contents writer.old) (W.contents writer.new) (script_told config images.old budget script).text)) }
+    ensures last { IfOk result (λ summary. IfSome (R.remaining reader.old) (λ script.
+        summary.last ≡ (script_told config images.old budget script).world.last)) }
+    ensures memory { result ≡ Err RunError.Memory → IfSome (R.remaining reader.old) (λ script.
+        AppendsFront (W.contents writer.old) (W.contents writer.new) (script_told config images.old budget script).text) }
     ensures read_fault { result ≡ Err RunError.ReadFault → (R.has_failed reader.new ≡ true) × (writer.new ≡ writer.old) }
     ensures write_fault { result ≡ Err RunError.WriteFault → W.has_failed writer.new ≡ true }
-    ensures too_long { result ≡ Err RunError.ScriptTooLong → (writer.new ≡ writer.old) × IfSome (R.remaining reader.old) (λ script. 1048576 < length script) }
+    ensures too_long { result ≡ Err RunError.ScriptTooLong → (writer.new ≡ writer.old)
+        × IfSome (R.remaining reader.old) (λ script. 1048576 < length script) }
     ensures never_long { IfSome (R.remaining reader.old) (λ script. 1048576 < length script → IsErr result) }
     ensures same_flag { OnOk result (W.has_failed writer.new ≡ W.has_failed writer.old) }
 {
@@ -64,9 +68,10 @@ fn run_lines<W: Sink>(
     script: &[u8],
 ) -> Result<(), RunError>
     requires { length script.now ≤ 1048576 }
-    ensures text { OnOk result (Appends (W.contents sink.old) (W.contents sink.new) (lines_told 0 (world_of session.old images.old) None (lines script.now)).text) }
-    ensures world { OnOk result (world_of session.new images.new ≡ (lines_told 0 (world_of session.old images.old) None (lines script.now)).world) }
-    ensures memory { result ≡ Err RunError.Memory → AppendsFront (W.contents sink.old) (W.contents sink.new) (lines_told 0 (world_of session.old images.old) None (lines script.now)).text }
+    ensures told { OnOk result (Tells (W.contents sink.old) (W.contents sink.new) (world_of session.new images.new)
+        (lines_told 0 (world_of session.old images.old) None (lines script.now))) }
+    ensures memory { result ≡ Err RunError.Memory → AppendsFront (W.contents sink.old) (W.contents sink.new)
+        (lines_told 0 (world_of session.old images.old) None (lines script.now)).text }
     ensures write_fault { result ≡ Err RunError.WriteFault → W.has_failed sink.new ≡ true }
     ensures errors { IfErr result IsLineError }
     ensures same_flag { OnOk result (W.has_failed sink.new ≡ W.has_failed sink.old) }

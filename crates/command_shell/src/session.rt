@@ -1,4 +1,4 @@
-ghost use Rattle.std.specs.Prelude.{◌≡◌, ◌+◌, true, List, IfOk, IfErr, OnOk, OnErr, length};
+ghost use Rattle.std.specs.Prelude.{◌≡◌, ◌+◌, true, List, IfOk, IfErr, OnOk, OnErr};
 ghost use Rattle.std.specs.Io.KnownBytes.{Appends};
 ghost use Rattle.command_shell.specs.RunErrors.{IsLineError};
 ghost use Rattle.command_shell.specs.Blocks.{block_lines, after_block, block_size, lines_after, lines_taken};
@@ -27,10 +27,10 @@ pub struct Session {
 }
 
 impl Session {
-    ghost use Rattle.image_loader.specs.Entries.{Entry, refusal_for};
+    ghost use Rattle.image_loader.specs.Entries.{Entry};
     ghost use Rattle.debugger.specs.Registers.{registers_text};
     ghost use Rattle.command_shell.specs.Commands.{request_of_command};
-    ghost use Rattle.command_shell.specs.Script.{start_world, hex_told, boot_told, run_told, request_told, hex_block, hex_added};
+    ghost use Rattle.command_shell.specs.Script.{start_world, hex_told, boot_told, run_told, request_told, hex_block, hex_sized, Tells};
     ghost use Rattle.command_shell.specs.ReadBlocks.{result_of_block};
     ghost use Rattle.command_shell.specs.Sessions.{world_of};
 
@@ -68,8 +68,8 @@ impl Session {
         command: Command,
         script: &mut Lines,
     ) -> Result<(), RunError>
-        ensures text { OnOk result (Appends (W.contents sink.old) (W.contents sink.new) (request_told (world_of self.old images.old) script.old.number (request_of_command command.entry) (block_lines script.old.left)).text) }
-        ensures world { OnOk result (world_of self.new images.new ≡ (request_told (world_of self.old images.old) script.old.number (request_of_command command.entry) (block_lines script.old.left)).world) }
+        ensures told { OnOk result (Tells (W.contents sink.old) (W.contents sink.new) (world_of self.new images.new)
+            (request_told (world_of self.old images.old) script.old.number (request_of_command command.entry) (block_lines script.old.left))) }
         ensures left { OnOk result (script.new.left ≡ lines_after (request_of_command command.entry) script.old.left) }
         ensures number { OnOk result (script.new.number ≡ script.old.number + lines_taken (request_of_command command.entry) script.old.left) }
         ensures memory { result ≡ Err RunError.Memory → sink.new ≡ sink.old }
@@ -95,8 +95,8 @@ impl Session {
         name: &[u8],
         script: &mut Lines,
     ) -> Result<(), RunError>
-        ensures text { OnOk result (Appends (W.contents sink.old) (W.contents sink.new) (hex_told (world_of self.now images.old) name.now (block_lines script.old.left)).text) }
-        ensures world { OnOk result (world_of self.now images.new ≡ (hex_told (world_of self.now images.old) name.now (block_lines script.old.left)).world) }
+        ensures told { OnOk result (Tells (W.contents sink.old) (W.contents sink.new) (world_of self.now images.new)
+            (hex_told (world_of self.now images.old) name.now (block_lines script.old.left))) }
         ensures left { OnOk result (script.new.left ≡ after_block script.old.left) }
         ensures number { OnOk result (script.new.number ≡ script.old.number + block_size script.old.left) }
         ensures memory { result ≡ Err RunError.Memory → sink.new ≡ sink.old }
@@ -121,8 +121,8 @@ impl Session {
         name: &[u8],
         block: &Block,
     ) -> Result<(), RunError>
-        ensures text { OnOk result (Appends (W.contents sink.old) (W.contents sink.new) (hex_block (world_of self.now images.old) name.now (result_of_block block.now)).text) }
-        ensures world { OnOk result (world_of self.now images.new ≡ (hex_block (world_of self.now images.old) name.now (result_of_block block.now)).world) }
+        ensures told { OnOk result (Tells (W.contents sink.old) (W.contents sink.new) (world_of self.now images.new)
+            (hex_block (world_of self.now images.old) name.now (result_of_block block.now))) }
         ensures memory { result ≡ Err RunError.Memory → sink.new ≡ sink.old }
         ensures write_fault { result ≡ Err RunError.WriteFault → W.has_failed sink.new ≡ true }
         ensures errors { IfErr result IsLineError }
@@ -142,8 +142,8 @@ impl Session {
         name: &[u8],
         bytes: &[u8],
     ) -> Result<(), RunError>
-        ensures text { OnOk result (Appends (W.contents sink.old) (W.contents sink.new) (hex_added (world_of self.now images.old) name.now bytes.now (refusal_for images.old name.now (length bytes.now))).text) }
-        ensures world { OnOk result (world_of self.now images.new ≡ (hex_added (world_of self.now images.old) name.now bytes.now (refusal_for images.old name.now (length bytes.now))).world) }
+        ensures told { OnOk result (Tells (W.contents sink.old) (W.contents sink.new) (world_of self.now images.new)
+            (hex_sized (world_of self.now images.old) name.now bytes.now)) }
         ensures memory { result ≡ Err RunError.Memory → sink.new ≡ sink.old }
         ensures write_fault { result ≡ Err RunError.WriteFault → W.has_failed sink.new ≡ true }
         ensures errors { IfErr result IsLineError }
@@ -165,8 +165,8 @@ impl Session {
         sink: &mut W,
         name: &[u8],
     ) -> Result<(), WriteFault>
-        ensures text { OnOk result (Appends (W.contents sink.old) (W.contents sink.new) (boot_told (world_of self.old images.now) name.now).text) }
-        ensures world { OnOk result (world_of self.new images.now ≡ (boot_told (world_of self.old images.now) name.now).world) }
+        ensures told { OnOk result (Tells (W.contents sink.old) (W.contents sink.new) (world_of self.new images.now)
+            (boot_told (world_of self.old images.now) name.now)) }
         ensures flag { OnErr result (W.has_failed sink.new ≡ true) }
         ensures same_flag { OnOk result (W.has_failed sink.new ≡ W.has_failed sink.old) }
     {
@@ -182,8 +182,8 @@ impl Session {
 
     #[tactic(auto, unfolding(crate::specs::Script::run_told, crate::specs::Sessions::world_of))]
     fn run<W: Sink>(&mut self, images: &Images, sink: &mut W) -> Result<(), WriteFault>
-        ensures text { OnOk result (Appends (W.contents sink.old) (W.contents sink.new) (run_told (world_of self.old images.now)).text) }
-        ensures world { OnOk result (world_of self.new images.now ≡ (run_told (world_of self.old images.now)).world) }
+        ensures told { OnOk result (Tells (W.contents sink.old) (W.contents sink.new) (world_of self.new images.now)
+            (run_told (world_of self.old images.now))) }
         ensures flag { OnErr result (W.has_failed sink.new ≡ true) }
         ensures same_flag { OnOk result (W.has_failed sink.new ≡ W.has_failed sink.old) }
     {
