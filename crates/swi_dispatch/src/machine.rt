@@ -140,7 +140,7 @@ impl Machine {
 
     /// Why the machine is halted, if it is.
     #[tactic(auto, unfolding(crate::specs::Parts::state_of))]
-    pub fn stop(&self) -> Option<Stop>
+    pub(crate) fn stop(&self) -> Option<Stop>
         ensures halt { result ≡ option_map stop_of (state_of self.now).halt }
         ensures stepped { IsSome result → self.now.is_fresh ≡ false }
     {
