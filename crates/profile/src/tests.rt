@@ -1,12 +1,11 @@
-use std::io;
-use std::io::{ErrorKind, Read, Write};
-use std::test::Fail;
-
 use crate::memory_map::APPLICATION_START;
 use crate::{
     Config, Device, ErrorNumber, Fault, HexText, MemorySink, MemorySource, ReadFault, Sink, Source,
     SwiName, WriteFault, error_text, push_all, push_parts,
 };
+use std::io;
+use std::io::{ErrorKind, Read, Write};
+use std::test::Fail;
 
 #[test]
 fn sizes_have_limits(rt: HostRuntime) -> Result<(), Fail> {
@@ -15,7 +14,10 @@ fn sizes_have_limits(rt: HostRuntime) -> Result<(), Fail> {
     assert_eq!(rt; (least.pages(), least.app(), least.rma()), (11, 6, 2));
     assert!(rt; Config::new(1024, 1020, 1).is_some());
     for (pages, app, rma) in [(1025, 64, 16), (256, 0, 16), (256, 64, 0), (1024, 1021, 1)] {
-        assert!(rt; Config::new(pages, app, rma).is_none(), "{pages} {app} {rma}");
+        assert!(rt;
+            Config::new(pages, app, rma).is_none(),
+            "{pages} {app} {rma}"
+        );
     }
     assert!(rt; Config::new(256, u32::MAX, u32::MAX).is_none());
     Ok(())
@@ -59,7 +61,10 @@ fn hexadecimal(rt: HostRuntime) {
     assert_eq!(rt; HexText::word(0x8014).as_slice(), b"00008014".as_slice());
     assert_eq!(rt; HexText::number(0x8014).as_slice(), b"8014".as_slice());
     assert_eq!(rt; HexText::number(0).as_slice(), b"0".as_slice());
-    assert_eq!(rt; HexText::number(0xFEDC_BA98).as_slice(), b"FEDCBA98".as_slice());
+    assert_eq!(rt;
+        HexText::number(0xFEDC_BA98).as_slice(),
+        b"FEDCBA98".as_slice()
+    );
 }
 
 #[test]
@@ -81,7 +86,10 @@ fn a_sink_fills_its_room(rt: HostRuntime) {
     let mut sink = MemorySink::new(&mut room, 2, 9);
     assert_eq!(rt; sink.push(b"abc"), Ok(2));
     assert_eq!(rt; push_all(&mut sink, b"cd"), Ok(()));
-    assert_eq!(rt; push_parts(&mut sink, &[b"e".as_slice(), b"fg".as_slice()]), Err(WriteFault));
+    assert_eq!(rt;
+        push_parts(&mut sink, &[b"e".as_slice(), b"fg".as_slice()]),
+        Err(WriteFault)
+    );
     assert_eq!(rt; sink.written(), b"abcde".as_slice());
     assert_eq!(rt; sink.push(b"f"), Err(WriteFault));
 }
