@@ -1,7 +1,11 @@
 -- Files as images: a file's image is named by the last part of its path.
-use Rattle.std.specs.Prelude.{◌≡◌, ℕ, List, length, map, Option, Some, None}
+use Rattle.std.specs.Prelude.{◌≡◌, ℕ, List, length, map, take, Option, Some, None}
 use Rattle.std.specs.Path.{path_file_name}
 use Rattle.image_loader.specs.Entries.{Entry, refusal_for, with_entry}
+
+-- at most so many bytes of a file
+unfoldable pub front_of : ℕ → List ℕ → List ℕ
+front_of most bytes = take most bytes
 
 -- the file of that path, which holds these bytes, is taken into the table
 pub record AddsImage (old : List Entry) (path : List ℕ) (new : List Entry) (bytes : List ℕ) : Type 0 where

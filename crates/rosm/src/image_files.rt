@@ -1,6 +1,6 @@
-ghost use Rattle.std.specs.Prelude.{◌≡◌, [], ◌∷◌, ◌++◌, IfOk, IfSome, OnErr, OnOk, take};
+ghost use Rattle.std.specs.Prelude.{◌≡◌, [], ◌∷◌, ◌++◌, IfOk, IfSome, OnErr, OnOk};
 ghost use Rattle.std.specs.Path.{path_file_name};
-ghost use Rattle.rosm.specs.ImageFiles.{AddsImage, names_for, names_of};
+ghost use Rattle.rosm.specs.ImageFiles.{AddsImage, front_of, names_for, names_of};
 
 use crate::files::Files;
 use crate::refusal::Refusal;
@@ -81,8 +81,9 @@ fn add_image<R: Read + Drop>(
 }
 
 // The bytes of a reader, or only so many of them.
+#[tactic(auto, unfolding(crate::specs::ImageFiles::front_of))]
 fn read_front<R: Read + Drop>(alloc: Global, reader: R, most: u64) -> io::Result<Vec<u8>>
-    ensures { IfOk result (λ bytes. IfSome (R.remaining reader) (λ all. bytes.items ≡ take most all)) }
+    ensures { IfOk result (λ bytes. IfSome (R.remaining reader) (λ all. bytes.items ≡ front_of most all)) }
 {
     let mut bytes = Vec::new(alloc);
     reader.take(most).read_to_end(&mut bytes)?;
