@@ -112,9 +112,10 @@ fn sixty_five_images_are_too_many(rt: HostRuntime) -> Result<(), Fail> {
 #[test]
 fn boot_is_refused_in_order(rt: HostRuntime) -> Result<(), Fail> {
     let large = vec![in rt.alloc(); 0u8; 262_145]?;
+    let all = vec![in rt.alloc(); 0u8; 262_144]?;
     let mut images = Images::new();
     images.add(rt.alloc(), b"large", large.as_slice())?;
-    images.add(rt.alloc(), b"all", &large.as_slice()[..262_144])?;
+    images.add(rt.alloc(), b"all", all.as_slice())?;
     run_with(
         &rt,
         rt.alloc(),
