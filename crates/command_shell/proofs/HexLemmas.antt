@@ -1,7 +1,7 @@
 -- How the spelling of a line goes on, by its first bytes.
-use Rattle.std.proofs.Common.{◌≡◌, ℕ, Bool, true, false, List, [], ◌∷◌, ◌++◌, length, Option, Some, None, sym, ap, ◌∙◌, append_assoc, arith, refl}
+use Rattle.std.proofs.Common.{◌≡◌, ℕ, false, List, [], ◌∷◌, ◌++◌, length, Option, Some, None, sym, ap, ◌∙◌, append_assoc, arith, refl}
 use Rattle.std.specs.Io.KnownBytes.{prepend_known}
-use Rattle.std.specs.Prelude.{◌==◌, ◌≢◌, cond}
+use Rattle.std.specs.Prelude.{◌==◌, ◌≢◌}
 use Rattle.std.proofs.lemmas.Bool.Decides.{nat_tests}
 use Rattle.std.proofs.lemmas.List.{append-nil}
 use Rattle.command_shell.specs.HexPairs.{pair_value, onto_bytes, spelled, with_spelled}

@@ -1,5 +1,5 @@
 -- The lines that a script's requests are answered with.
-use Rattle.std.specs.Prelude.{ℕ, List, [], ◌++◌, codes}
+use Rattle.std.specs.Prelude.{ℕ, List, ◌++◌, codes}
 use Rattle.std.specs.Fmt.{decimal}
 use Rattle.profile.specs.Digits.{hex_number}
 use Rattle.profile.specs.declared.stop.Stop.{Stop}

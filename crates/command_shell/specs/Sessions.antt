@@ -1,5 +1,5 @@
 -- The world of a script, as the code holds it.
-use Rattle.std.specs.Prelude.{ℕ, List}
+use Rattle.std.specs.Prelude.{List}
 use Rattle.image_loader.specs.Entries.{Entry}
 use Rattle.swi_dispatch.specs.Parts.{state_of}
 use Rattle.command_shell.specs.declared.session.Session.{Session}

@@ -1,5 +1,4 @@
-use Rattle.std.proofs.Common.{◌≡◌, ℕ, Option, Some, None, sym, ap, ◌∙◌}
-use Rattle.command_shell.specs.HexPairs.{with_spelled, pair_value}
+use Rattle.std.proofs.Common.{ℕ, Option, sym, ap, ◌∙◌}
 use Rattle.command_shell.proofs.HexLemmas.{with_pair, takes_two, no_pair, takes_pair}
 use Rattle.command_shell.proofs.hex_pairs.append_spelled.Goals as goal
 
