@@ -65,7 +65,7 @@ pub enum BlockMode {
 
 impl Direction {
     /// The direction that bit U of a word gives.
-    pub fn in_word(word: u32) -> Direction
+    pub(crate) fn in_word(word: u32) -> Direction
         ensures { result ≡ direction_of (bit_of word 23) }
     {
         if is_bit_set(word, 23) {
@@ -76,7 +76,7 @@ impl Direction {
     }
 
     /// Bit U.
-    pub fn is_up(self) -> bool
+    pub(crate) fn is_up(self) -> bool
         ensures { result ≡ is_up self }
     {
         match self {
@@ -88,7 +88,7 @@ impl Direction {
 
 impl Indexing {
     /// The indexing that bits P and W of a word give.
-    pub fn in_word(word: u32) -> Indexing
+    pub(crate) fn in_word(word: u32) -> Indexing
         ensures { result ≡ indexing_of (bit_of word 24) (bit_of word 21) }
     {
         let w = is_bit_set(word, 21);
@@ -100,7 +100,7 @@ impl Indexing {
     }
 
     /// Bit P.
-    pub fn is_pre(self) -> bool
+    pub(crate) fn is_pre(self) -> bool
         ensures { result ≡ is_pre_indexed self }
     {
         match self {
@@ -110,7 +110,7 @@ impl Indexing {
     }
 
     /// Bit W: whether the address is written back, or after post-indexing T.
-    pub fn has_w(self) -> bool
+    pub(crate) fn has_w(self) -> bool
         ensures { result ≡ has_w self }
     {
         match self {
@@ -122,7 +122,7 @@ impl Indexing {
 
 impl BlockMode {
     /// The mode that bits P and U of a word give.
-    pub fn in_word(word: u32) -> BlockMode
+    pub(crate) fn in_word(word: u32) -> BlockMode
         ensures { result ≡ block_mode_of (field word 23 2) }
     {
         match field_of(word, 23, 2) {
@@ -134,7 +134,7 @@ impl BlockMode {
     }
 
     /// Bits P and U as a number, 0 to 3.
-    pub fn code(self) -> u32
+    pub(crate) fn code(self) -> u32
         ensures value { result ≡ block_mode_code self }
         ensures below { result < 4 }
     {

@@ -30,7 +30,7 @@ impl<const SIZE: u32> Bits<SIZE> {
     }
 
     /// The field of a word from bit `low` on.
-    pub fn in_word(word: u32, low: u32) -> Bits<SIZE>
+    pub(crate) fn in_word(word: u32, low: u32) -> Bits<SIZE>
         requires low_inside { low < 32 }
         requires size_inside { SIZE < 32 }
         ensures { result ≡ field word low SIZE }

@@ -68,7 +68,7 @@ impl Condition {
     }
 
     /// The condition's code, 0 to 15.
-    pub fn code(self) -> u32
+    pub(crate) fn code(self) -> u32
         ensures value { result ≡ condition_code self }
         ensures below { result < 16 }
     {

@@ -35,7 +35,7 @@ pub fn decode(word: u32) -> Result<Instr, Fault>
 
 impl Action {
     /// What a word of this form does: its fields, whether the table refuses them or not.
-    pub fn in_word(form: Form, word: u32) -> Action
+    pub(crate) fn in_word(form: Form, word: u32) -> Action
         ensures { result ≡ action_in form word }
     {
         match form {

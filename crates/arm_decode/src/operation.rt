@@ -44,7 +44,7 @@ pub enum Operation {
 
 impl Operation {
     /// The operation of a data processing word.
-    pub fn in_word(word: u32) -> Operation
+    pub(crate) fn in_word(word: u32) -> Operation
         ensures { result ≡ operation_of (field word 21 4) }
     {
         match field_of(word, 21, 4) {
@@ -68,7 +68,7 @@ impl Operation {
     }
 
     /// The operation's code, 0 to 15.
-    pub fn code(self) -> u32
+    pub(crate) fn code(self) -> u32
         ensures value { result ≡ operation_code self }
         ensures below { result < 16 }
     {

@@ -23,7 +23,7 @@ impl Operation {
     }
 
     /// Whether this is MOV or MVN, which have no first operand.
-    pub fn is_move(self) -> bool
+    pub(crate) fn is_move(self) -> bool
         ensures { result ≡ is_move self }
     {
         match self {
@@ -47,7 +47,7 @@ impl Indexing {
 
 impl Offset {
     /// Whether the offset is R15, shifted or not.
-    pub fn is_pc(self) -> bool
+    pub(crate) fn is_pc(self) -> bool
         ensures { result ≡ offset_is_pc self }
     {
         match self {

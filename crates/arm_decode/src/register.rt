@@ -30,7 +30,7 @@ impl Register {
     }
 
     /// The register that the four bits of a word from `low` on name.
-    pub fn in_word(word: u32, low: u32) -> Register
+    pub(crate) fn in_word(word: u32, low: u32) -> Register
         requires { low < 32 }
         ensures { result ≡ field word low 4 }
     {
@@ -76,7 +76,7 @@ impl RegisterList {
     }
 
     /// The list of a word, its bits 15 to 0.
-    pub fn in_word(word: u32) -> RegisterList
+    pub(crate) fn in_word(word: u32) -> RegisterList
         ensures { result ≡ field word 0 16 }
     {
         RegisterList::new(field_of(word, 0, 16) as u16)

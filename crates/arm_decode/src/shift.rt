@@ -36,7 +36,7 @@ pub struct ShiftedRegister {
 
 impl Shift {
     /// The type of shift of a word that shifts a register.
-    pub fn in_word(word: u32) -> Shift
+    pub(crate) fn in_word(word: u32) -> Shift
         ensures { result ≡ shift_of (field word 5 2) }
     {
         match field_of(word, 5, 2) {
@@ -48,7 +48,7 @@ impl Shift {
     }
 
     /// The code of the type, 0 to 3.
-    pub fn code(self) -> u32
+    pub(crate) fn code(self) -> u32
         ensures value { result ≡ shift_code self }
         ensures below { result < 4 }
     {
@@ -58,7 +58,7 @@ impl Shift {
 
 impl ShiftedRegister {
     /// The register, type and amount of a word that shifts a register by a number.
-    pub fn in_word(word: u32) -> ShiftedRegister
+    pub(crate) fn in_word(word: u32) -> ShiftedRegister
         ensures { result ≡ shifted_in word }
     {
         ShiftedRegister {

@@ -1,23 +1,25 @@
 use super::register;
 use crate::{
-    Action, Bits, BlockMode, Condition, Direction, Form, Indexing, Instr, Multiply, Offset,
-    Operation, Register, RegisterList, Shift, ShiftedRegister, field_of, row_of,
+    Action, Bits, Condition, Form, Indexing, Instr, Multiply, Operation, RegisterList, row_of,
 };
 use profile::Fault;
 
+/// One word of each form.
+static FORMS: [(u32, Form); 9] = [
+    (0xE000_0291, Form::Multiply),
+    (0xE1A0_0000, Form::ShiftByNumber),
+    (0xE1A0_0211, Form::ShiftByRegister),
+    (0xE3A0_0000, Form::Immediate),
+    (0xE592_1004, Form::OffsetByNumber),
+    (0xE792_1003, Form::OffsetByRegister),
+    (0xE8A1_0003, Form::BlockTransfer),
+    (0xEAFF_FFFE, Form::Branch),
+    (0xEF00_0011, Form::SoftwareInterrupt),
+];
+
 #[test]
 fn forms(rt: HostRuntime) {
-    for (word, form) in [
-        (0xE000_0291, Form::Multiply),
-        (0xE1A0_0000, Form::ShiftByNumber),
-        (0xE1A0_0211, Form::ShiftByRegister),
-        (0xE3A0_0000, Form::Immediate),
-        (0xE592_1004, Form::OffsetByNumber),
-        (0xE792_1003, Form::OffsetByRegister),
-        (0xE8A1_0003, Form::BlockTransfer),
-        (0xEAFF_FFFE, Form::Branch),
-        (0xEF00_0011, Form::SoftwareInterrupt),
-    ] {
+    for &(word, form) in &FORMS {
         assert_eq!(rt; row_of(word), Ok(form), "{word:08X}");
     }
 }
@@ -39,26 +41,16 @@ fn refused_parts(rt: HostRuntime) {
 }
 
 #[test]
-fn parts_of_words(rt: HostRuntime) {
-    let word = 0xE7A2_1F63;
-    assert_eq!(rt; field_of(word, 12, 8), 0x21);
-    assert_eq!(rt; Condition::in_word(word), Condition::Always);
-    assert_eq!(rt; Register::in_word(word, 16).number(), 2);
-    assert_eq!(rt; Bits::<5>::in_word(word, 7).number(), 30);
-    assert_eq!(rt; Shift::in_word(word), Shift::RotateRight);
-    assert_eq!(rt;
-        Indexing::in_word(word),
-        Indexing::Pre { writes_back: true }
-    );
-    assert_eq!(rt; Direction::in_word(word), Direction::Up);
-    assert_eq!(rt; Operation::in_word(word), Operation::Move);
-    assert_eq!(rt; BlockMode::in_word(word), BlockMode::IncrementBefore);
-    let list = RegisterList::in_word(0xE8FD_8001);
+fn readers(rt: HostRuntime) {
+    // the condition of a word that is no instruction
+    assert_eq!(rt; Condition::in_word(0x8600_0010), Condition::Higher);
+    assert_eq!(rt; register(14).number(), 14);
+    assert!(rt; register(15).is_pc() && !register(14).is_pc());
+    assert_eq!(rt; Bits::<24>::new(0x00AB_CDEF).number(), 0x00AB_CDEF);
+    let list = RegisterList::new(0x8001);
     assert_eq!(rt; list.bits(), 0x8001);
-    assert!(rt; list.contains(register(0)) && list.contains_pc() && !list.is_empty());
-    assert!(rt; !list.contains(register(14)));
-    let form = Form::OffsetByRegister;
-    assert!(rt; matches!(Action::in_word(form, word), Action::Transfer(_)));
-    let register = ShiftedRegister::in_word(word);
-    assert!(rt; Offset::Shifted(register).is_pc() == register.rm.is_pc());
+    assert!(rt; list.contains(register(0)) && !list.contains(register(14)));
+    assert!(rt; list.contains_pc() && !list.is_empty());
+    assert!(rt; Operation::Compare.is_test() && !Operation::Move.is_test());
+    assert!(rt; Indexing::Post { translates: false }.writes_base());
 }
