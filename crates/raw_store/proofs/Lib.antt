@@ -1,2 +1,6 @@
-pub mod Words
+pub mod Lent
+pub mod Memory
+pub mod Two
+pub mod Values
+pub mod Walks
 pub mod Written

@@ -1,1 +1,5 @@
+pub mod Lends
+pub mod Ownership
 pub mod Region
+pub mod Store
+pub mod StoreLends

@@ -1,6 +1,7 @@
 //! One region of raw bytes, all of a machine's memory, and the reads and writes of it.
 #![tactic(auto)]
 
+pub mod block;
 pub mod store;
 
 pub use store::RawStore;
