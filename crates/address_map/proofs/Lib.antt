@@ -1,8 +1,14 @@
 pub mod Bytes
+pub mod Cutting
 pub mod Equations
 pub mod Loads
 pub mod Mapping
+pub mod Unmapping
+pub mod Walks
+pub mod Words
+pub mod Moving
 pub mod Places
+pub mod Removing
 pub mod Searches
 pub mod Spans
 pub mod Stores

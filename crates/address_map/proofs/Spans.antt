@@ -2,13 +2,13 @@
 use Rattle.std.proofs.Common.{◌≡◌, ℕ, ◌+◌, ◌-◌, ◌%◌, ◌^◌, ◌<◌, ◌≤◌, true, false, List, length, take, drop, get_or, Option, Some, None, is_some, arith, refl, sym, ◌∙◌, ap, subst, inl, inr, slice_range}
 use Rattle.std.proofs.lemmas.Bool.{le-leb, lt-ltb, cases_lt, both_ways}
 use Rattle.std.proofs.lemmas.Bool.Decides.{nat_tests}
-use Rattle.std.proofs.lemmas.List.{places, get_or-replicate}
+use Rattle.std.proofs.lemmas.List.{places, get_or-replicate, get_or_default}
 use Rattle.raw_store.specs.Region.{zeroed}
 use Rattle.address_map.specs.declared.run.Run.{Run}
 use Rattle.address_map.specs.declared.map.AddressMap.{AddressMap}
 use Rattle.address_map.specs.Bytes.{in_range, AreMapped, with_bytes_at, with_zeros_at}
 use Rattle.address_map.specs.Runs.{place_from, run_total}
-use Rattle.address_map.specs.Memory.{place, is_mapped, byte_at, layout, IsSpan}
+use Rattle.address_map.specs.Memory.{place, is_mapped, byte_at, layout, IsSpan, IsFound}
 use Rattle.address_map.proofs.Loads.{place_fits, place_below}
 use Rattle.address_map.proofs.Searches.{place_at, place_step}
 use Rattle.address_map.proofs.Stores.{in_range-cases, bytes_written, layout-place}
@@ -52,16 +52,64 @@ run_end m runs i d is below =
     let P : List Run → Type 0 = λ rs. i < length rs → (get_or rs i d).base + (get_or rs i d).len ≤ 2 ^ 26 in
     subst P (sym is) (λ less. (m.whole i d less).end) below
 
-pub span_by : (m : AddressMap) (runs : List Run) (a i start offset : ℕ) (d : Run) → runs ≡ m.runs.items → i < length runs
+span_whole : (m : AddressMap) (a k len : ℕ) → IsSpan m a (k + 0) (len - 0) → IsSpan m a k len
+span_whole m a k len is =
+    let e : k + 0 ≡ k = omega arith in
+    let e' : len - 0 ≡ len = omega arith in
+    rw (e, e') at is
+
+pub found_by : (m : AddressMap) (runs : List Run) (a i start offset : ℕ) (d : Run) → runs ≡ m.runs.items → i < length runs
     → start ≡ run_total (take i runs) → a < 2 ^ 32
     → offset ≡ (a + (2 ^ 32 - (get_or runs i d).base)) % 2 ^ 32 → offset < (get_or runs i d).len
-    → IsSpan m a (start + offset) ((get_or runs i d).len - offset)
-span_by m runs a i start offset d is below passed fits off high =
-    let P : List Run → Type 0 = λ rs. i < length rs → start ≡ run_total (take i rs) → a ≡ (get_or rs i d).base + offset
-    → offset < (get_or rs i d).len → IsSpan m a (start + offset) ((get_or rs i d).len - offset) in
+    → IsFound m a i start (get_or runs i d)
+found_by m runs a i start offset d is below passed fits off high =
     let there : a ≡ (get_or runs i d).base + offset =
     offset_inside a (get_or runs i d).base (get_or runs i d).len offset (run_end m runs i d is below) fits off high in
-    subst P (sym is) (λ b p e h. span_found m a i start offset d b p e h) below passed there high
+    let P : List Run → Type 0 = λ rs. i < length rs in
+    let Q : List Run → Type 0 = λ rs. start ≡ run_total (take i rs) in
+    let R : List Run → Type 0 = λ rs. (e : Run) → get_or rs i e ≡ get_or runs i d in
+    record {
+      below = subst P is below;
+      is = subst R is (λ e. get_or_default runs i e d below);
+      passed = subst Q is passed;
+      low = omega arith;
+      high = omega arith;
+    }
+
+pub run_span : (m : AddressMap) (a i start : ℕ) (run : Run) → IsFound m a i start run → IsSpan m run.base start run.len
+run_span m a i start run found =
+    let e : get_or m.runs.items i run ≡ run = found.is run in
+    let span = span_found m (get_or m.runs.items i run).base i start 0 run found.below found.passed (omega arith)
+    (let low : run.base ≤ a = found.low in let high : a < run.base + run.len = found.high in rw e (omega arith)) in
+    let span' = rw e at span in
+    span_whole m run.base start run.len span'
+
+-- parts of a span: from a byte on, and up to one
+pub span_from : (m : AddressMap) (a k len offset : ℕ) → IsSpan m a k len → offset < len → IsSpan m (a + offset) (k + offset) (len - offset)
+span_from m a k len offset is below = record {
+  some = omega arith;
+  within = omega (arith, is.within);
+  places = λ j more.
+      let there : place m (a + (offset + j)) ≡ Some (k + (offset + j)) = is.places (offset + j) (omega arith) in
+      let e : a + (offset + j) ≡ a + offset + j = omega arith in
+      let e' : k + (offset + j) ≡ k + offset + j = omega arith in
+      rw (e, e') at there;
+}
+
+pub span_last : (m : AddressMap) (a k len less a' k' len' : ℕ) → IsSpan m a k len → 0 < less → less ≤ len
+    → a' ≡ a + (len - less) → k' ≡ k + (len - less) → len' ≡ less → IsSpan m a' k' len'
+span_last m a k len less a' k' len' is some below ea ek el =
+    let e : len - (len - less) ≡ less = omega arith in
+    let part = span_from m a k len (len - less) is (omega arith) in
+    let part' = rw e at part in
+    rw (ea, ek, el) part'
+
+pub span_up_to : (m : AddressMap) (a k len less : ℕ) → IsSpan m a k len → 0 < less → less ≤ len → IsSpan m a k less
+span_up_to m a k len less is some below = record {
+  some = some;
+  within = omega (arith, is.within);
+  places = λ j more. is.places j (omega arith);
+}
 
 pub run_passed : (m : AddressMap) (runs : List Run) (a i start offset : ℕ) (d : Run) → runs ≡ m.runs.items → i < length runs → a < 2 ^ 32
     → offset ≡ (a + (2 ^ 32 - (get_or runs i d).base)) % 2 ^ 32 → (get_or runs i d).len ≤ offset

@@ -10,7 +10,7 @@ use Rattle.std.proofs.lemmas.Bool.Decides.{nat_tests}
 use Rattle.address_map.specs.declared.map.AddressMap.{AddressMap}
 use Rattle.address_map.specs.Bytes.{in_range, with_bytes_at, with_word_at, with_byte_at}
 use Rattle.address_map.specs.Runs.{place_from}
-use Rattle.address_map.specs.Memory.{place, byte_in, byte_at, free_pages, free_runs, layout}
+use Rattle.address_map.specs.Memory.{place, byte_in, byte_at, free_pages, free_runs, regions, layout}
 use Rattle.address_map.proofs.Loads.{place_next, place_only, place_fits, place_fits_word}
 
 pub in_range-cases : (at len a : ℕ)
@@ -78,10 +78,10 @@ with_bytes-word bytes at word a = grind (arith, nat_tests, places)
 pub with_bytes-byte : (bytes : ℕ → ℕ) (at byte a : ℕ) → with_bytes_at bytes at (byte ∷ []) a ≡ with_byte_at bytes at byte a
 with_bytes-byte bytes at byte a = grind (arith, nat_tests, places)
 
-pub same_layout : (m n : AddressMap) → n.runs ≡ m.runs → n.free ≡ m.free → layout n ≡ layout m
-unfolding place free_pages free_runs
-same_layout m n runs free =
-    λ i. record { place = place_from 0 (runs i).items; free_pages = free i; free_runs = 36 - length (runs i).items }
+pub same_layout : (m n : AddressMap) → n.runs ≡ m.runs → n.free ≡ m.free → n.regions ≡ m.regions → layout n ≡ layout m
+unfolding place free_pages free_runs regions
+same_layout m n runs free records =
+    λ i. record { regions = (records i).items; place = place_from 0 (runs i).items; free_pages = free i; free_runs = 36 - length (runs i).items }
 
 pub layout-place : (m n : AddressMap) → layout n ≡ layout m → place n ≡ place m
 layout-place m n same = ap (λ l. l.place) same

@@ -47,6 +47,10 @@ with_bytes_at bytes at new a = if in_range at (length new) a then slice_index ne
 abbrev pub with_zeros_at : (ℕ → ℕ) → ℕ → ℕ → ℕ → ℕ
 with_zeros_at bytes at len a = if in_range at len a then 0 else bytes a
 
+-- the bytes after the `len` of them from `from` on were copied to `to`; the two ranges may overlap
+abbrev pub with_moved_at : (ℕ → ℕ) → ℕ → ℕ → ℕ → ℕ → ℕ
+with_moved_at bytes from to len a = if in_range to len a then bytes (from + (a - to)) else bytes a
+
 abbrev pub with_byte : Bytes → ℕ → ℕ → Bytes
 with_byte b at byte = record { mapped = b.mapped; at = with_byte_at b.at at byte }
 
@@ -58,6 +62,9 @@ with_bytes b at new = record { mapped = b.mapped; at = with_bytes_at b.at at new
 
 abbrev pub with_zeros : Bytes → ℕ → ℕ → Bytes
 with_zeros b at len = record { mapped = b.mapped; at = with_zeros_at b.at at len }
+
+abbrev pub with_moved : Bytes → ℕ → ℕ → ℕ → Bytes
+with_moved b from to len = record { mapped = b.mapped; at = with_moved_at b.at from to len }
 
 -- which fault a load or a store meets, the first of these; `owned` says which bytes the store calls keep records in
 abbrev pub load_fault : Bytes → ℕ → Option Fault

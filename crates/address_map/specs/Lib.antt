@@ -1,3 +1,6 @@
 pub mod Bytes
+pub mod Flex
+pub mod Items
 pub mod Memory
+pub mod Records
 pub mod Runs

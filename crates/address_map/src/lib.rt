@@ -2,11 +2,20 @@
 #![tactic(auto)]
 
 pub mod class;
+pub mod flex;
+pub mod item;
 pub mod map;
+pub mod moves;
+pub mod owned;
+pub mod records;
+pub mod region;
 pub mod run;
+pub mod unmap;
 
 pub use class::Class;
+pub use item::Item;
 pub use map::AddressMap;
+pub use region::{Kind, Region};
 
 #[cfg(test)]
 mod tests;

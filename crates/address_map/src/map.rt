@@ -1,10 +1,12 @@
-ghost use Rattle.std.specs.Prelude.{ℕ, ◌≡◌, ◌≤◌, ◌<◌, ◌+◌, ◌-◌, ◌*◌, ◌%◌, ◌^◌, ◌↔◌, ◌||◌, false, IsTrue, IfOk, MatchResult, MatchOption, Option, Some, None, length, All, slice_index};
+ghost use Rattle.std.specs.Prelude.{ℕ, [], ◌≡◌, ◌≤◌, ◌<◌, ◌+◌, ◌-◌, ◌*◌, ◌%◌, ◌^◌, ◌↔◌, ◌||◌, false, IsTrue, IfOk, MatchResult, MatchOption, Option, Some, None, length, All, slice_index};
 ghost use Rattle.std.specs.List.{AllPairs};
 ghost use Rattle.profile.specs.Outcome.{Leaves};
+ghost use Rattle.address_map.specs.declared.class.Class.{Class};
 ghost use Rattle.address_map.specs.Bytes.{in_range, AreMapped, AreUnmapped, byte_loaded, word_loaded, byte_stored, word_stored, with_word_at, with_bytes_at, with_zeros_at, load_fault, store_fault};
+ghost use Rattle.address_map.specs.Records.{IsRegion};
 ghost use Rattle.address_map.specs.Runs.{IsWhole, AreApart, run_total};
 
-use crate::class::Class;
+use crate::region::Region;
 use crate::run::Run;
 use arrayvec::ArrayVec;
 use profile::Fault;
@@ -13,7 +15,10 @@ use raw_store::RawStore;
 use std::alloc::{AllocError, Global};
 
 /// The most runs of mapped pages that don't touch.
-const MOST_RUNS: usize = 36;
+pub(crate) const MOST_RUNS: usize = 36;
+
+/// The most ranges that can be recorded: 64 heaps, the module area, one flex store and its used part, 65 images, the system pages.
+pub(crate) const MOST_REGIONS: usize = 133;
 
 /// The address space of a machine: the memory that it has, and the addresses where that is mapped.
 ///
@@ -21,38 +26,49 @@ const MOST_RUNS: usize = 36;
 /// word lies at a multiple of 4 and never meets two pages. No call but `new` takes host memory.
 #[derive(Drop)]
 pub struct AddressMap {
-    store: RawStore,
-    runs: ArrayVec<Run, MOST_RUNS>,
-    free: u32,
+    pub(crate) store: RawStore,
+    pub(crate) runs: ArrayVec<Run, MOST_RUNS>,
+    pub(crate) free: u32,
+    pub(crate) regions: ArrayVec<Region, MOST_REGIONS>,
     pub ghost bytes_fit: { All (λ b. b < 256) store },
     pub ghost in_limit: { length store ≤ 4194304 },
     pub ghost runs_fit: { run_total runs.items + 4096 * free ≡ length store },
     pub ghost whole: { All IsWhole runs.items },
     pub ghost apart: { AllPairs AreApart runs.items },
+    pub ghost recorded: { All IsRegion regions.items },
 }
 
 /// Bytes of memory that lie one after another in the store too.
 #[derive(Clone, Copy)]
-struct Span {
-    addr: u32,
-    place: usize,
-    len: u32,
+pub(crate) struct Span {
+    pub(crate) addr: u32,
+    pub(crate) place: usize,
+    pub(crate) len: u32,
+}
+
+/// A run in the table: which one it is, and where in the store its bytes begin.
+#[derive(Clone, Copy)]
+pub(crate) struct Found {
+    pub(crate) index: usize,
+    pub(crate) start: usize,
+    pub(crate) run: Run,
 }
 
 impl AddressMap {
-    ghost use Rattle.address_map.specs.Memory.{IsSpan, place, is_mapped, byte_at, bytes_of, free_pages, free_runs, layout, class_of, is_owned};
+    ghost use Rattle.address_map.specs.Memory.{IsSpan, IsFound, place, is_mapped, byte_at, bytes_of, free_pages, free_runs, regions, layout, class_of, is_owned};
 
     /// A memory of that many pages of 4096 bytes, none of which is mapped.
     ///
     /// # Errors
     ///
     /// `AllocError` where the host has no memory for it.
-    #[tactic(auto, using(crate::proofs::Searches::no_pairs), unfolding(crate::specs::Memory::place, crate::specs::Memory::free_pages, crate::specs::Memory::free_runs, crate::specs::Memory::class_of, crate::specs::Memory::is_owned))]
+    #[tactic(auto, using(crate::proofs::Searches::no_pairs), unfolding(crate::specs::Memory::place, crate::specs::Memory::free_pages, crate::specs::Memory::free_runs, crate::specs::Memory::class_of, crate::specs::Memory::is_owned, crate::specs::Memory::regions))]
     pub fn new(alloc: Global, pages: u32) -> Result<AddressMap, AllocError>
         requires { pages ≤ 1024 }
         ensures mapping { IfOk result (λ m. (a : ℕ) → is_mapped m a ≡ false) }
         ensures pages { IfOk result (λ m. free_pages m ≡ pages) }
         ensures runs { IfOk result (λ m. free_runs m ≡ 36) }
+        ensures regions { IfOk result (λ m. regions m ≡ []) }
         ensures classes { IfOk result (λ m. (a : ℕ) → class_of m a ≡ Class.Plain) }
         ensures owned { IfOk result (λ m. (a : ℕ) → is_owned m a ≡ false) }
     {
@@ -61,6 +77,7 @@ impl AddressMap {
             store,
             runs: ArrayVec::new(),
             free: pages,
+            regions: ArrayVec::new(),
         })
     }
 
@@ -85,6 +102,7 @@ impl AddressMap {
         ensures bytes { (a : ℕ) → byte_at self.new a ≡ byte_at self.old a }
         ensures pages { free_pages self.new + count ≡ free_pages self.old }
         ensures runs { free_runs self.old ≤ free_runs self.new + 1 }
+        ensures regions { regions self.new ≡ regions self.old }
         ensures classes { class_of self.new ≡ class_of self.old }
         ensures owned { is_owned self.new ≡ is_owned self.old }
     {
@@ -104,33 +122,50 @@ impl AddressMap {
 
     /// The bytes from an address on that lie one after another in the store, or `None` where no
     /// memory is mapped.
-    #[tactic(auto, using(crate::proofs::Searches::place_end), unfolding(crate::specs::Memory::place))]
-    fn span(&self, addr: u32) -> Option<Span>
+    pub(crate) fn span(&self, addr: u32) -> Option<Span>
         ensures { MatchOption result (place self.now addr ≡ None) (λ span. (span.addr ≡ addr) × IsSpan self.now addr span.place span.len) }
+    {
+        let run = self.run_at(addr)?;
+        let offset = addr - run.addr;
+        Some(Span {
+            addr,
+            place: run.place + offset as usize,
+            len: run.len - offset,
+        })
+    }
+
+    /// All bytes of the run that an address lies in, or `None` where no memory is mapped.
+    pub(crate) fn run_at(&self, addr: u32) -> Option<Span>
+        ensures { MatchOption result (place self.now addr ≡ None) (λ run. (run.addr ≤ addr) × (addr < run.addr + run.len) × IsSpan self.now run.addr run.place run.len) }
+    {
+        let found = self.find_run(addr)?;
+        Some(Span {
+            addr: found.run.base,
+            place: found.start,
+            len: found.run.len,
+        })
+    }
+
+    /// The run that an address lies in, or `None` where no memory is mapped.
+    #[tactic(auto, using(crate::proofs::Searches::place_end), unfolding(crate::specs::Memory::place))]
+    pub(crate) fn find_run(&self, addr: u32) -> Option<Found>
+        ensures { MatchOption result (place self.now addr ≡ None) (λ found. IsFound self.now addr found.index found.start found.run) }
     {
         let mut start = 0;
         let runs = self.runs.as_slice();
-        for run in runs {
+        for (index, run) in runs.iter().enumerate() {
             // Below the run's base the difference wraps, to more than any run has bytes.
             let offset = addr.wrapping_sub(run.base);
             if offset < run.len {
-                return Some(Span {
-                    addr,
-                    place: start + offset as usize,
-                    len: run.len - offset,
+                return Some(Found {
+                    index,
+                    start,
+                    run: *run,
                 });
             }
             start += run.len as usize;
         }
         None
-    }
-
-    /// What the store calls use the byte at an address for.
-    #[tactic(auto, unfolding(crate::specs::Memory::class_of))]
-    pub fn class(&self, addr: u32) -> Class
-        ensures { result ≡ class_of self.now addr }
-    {
-        Class::Plain
     }
 
     /// The byte at an address.
@@ -276,17 +311,9 @@ impl AddressMap {
         ensures { MatchResult result (λ k. (store_fault (is_owned self.now) (bytes_of self.now) addr ≡ None) × (place self.now addr ≡ Some k)) (λ fault. store_fault (is_owned self.now) (bytes_of self.now) addr ≡ Some fault) }
     {
         let place = self.readable(addr)?;
-        if self.is_owned(addr) {
+        if self.owns(addr) {
             return Err(Fault::OwnedWord);
         }
         Ok(place)
-    }
-
-    /// Whether the store calls keep their records in the byte at an address.
-    #[tactic(auto, unfolding(crate::specs::Memory::is_owned))]
-    fn is_owned(&self, addr: u32) -> bool
-        ensures { result ≡ is_owned self.now addr }
-    {
-        self.class(addr) != Class::Plain
     }
 }

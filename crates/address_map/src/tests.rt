@@ -1,4 +1,4 @@
-use crate::{AddressMap, Class};
+use crate::{AddressMap, Class, Kind};
 use profile::Fault;
 use std::test::Fail;
 
@@ -67,5 +67,185 @@ fn writes_across_ranges_that_lie_apart_in_the_store(rt: HostRuntime) -> Result<(
     assert!(rt; map.maps(0x9004, 1));
     map.put_word(0x9004, 0xDEAD_BEEF);
     assert_eq!(rt; map.load_word(0x9004), Ok(0xDEAD_BEEF));
+    Ok(())
+}
+
+/// A heap of 256 bytes at &9000, written by hand: its descriptor, a block of 24 bytes and one of 8.
+const HEAP: [u8; 48] = [
+    0x48, 0x65, 0x61, 0x70, 0, 0, 0, 0, 48, 0, 0, 0, 0, 1, 0, 0, // the descriptor
+    24, 0, 0, 0, 0, 0, 0, 0, 0, 0, 0, 0, 0, 0, 0, 0, 0, 0, 0, 0, 0, 0, 0, 0, // 24 bytes
+    8, 0, 0, 0, 0, 0, 0, 0, // 8 bytes
+];
+
+/// The same, but that the second block is free.
+const HEAP_WITH_ROOM: [u8; 48] = [
+    0x48, 0x65, 0x61, 0x70, 40, 0, 0, 0, 48, 0, 0, 0, 0, 1, 0, 0, // the descriptor
+    24, 0, 0, 0, 0, 0, 0, 0, 0, 0, 0, 0, 0, 0, 0, 0, 0, 0, 0, 0, 0, 0, 0, 0, // 24 bytes
+    0, 0, 0, 0, 8, 0, 0, 0, // no next free item, and 8 bytes
+];
+
+/// Two flex blocks at &A000: 5 bytes with the anchor &9100, and 4 bytes with the anchor &9200.
+const BLOCKS: [u8; 28] = [
+    0, 0x91, 0, 0, 5, 0, 0, 0, 1, 2, 3, 4, 5, 0, 0, 0, // 5 bytes, and 3 to the next word
+    0, 0x92, 0, 0, 4, 0, 0, 0, 1, 2, 3, 4, // 4 bytes
+];
+
+#[test]
+fn owns_the_words_of_a_heap(rt: HostRuntime) -> Result<(), Fail> {
+    let mut map = AddressMap::new(rt.alloc(), 1)?;
+    map.map_pages(0x9000, 1);
+    map.own(Kind::Heap, 0x9000, 256);
+    assert!(rt; map.maps(0x9000, 48));
+    map.put_bytes(0x9000, &HEAP);
+    for (addr, class) in [
+        (0x8FFF, Class::Plain),
+        (0x9000, Class::Heap),
+        (0x900F, Class::Heap),
+        (0x9010, Class::Heap),
+        (0x9013, Class::Heap),
+        (0x9014, Class::Plain),
+        (0x9027, Class::Plain),
+        (0x9028, Class::Heap),
+        (0x902C, Class::Plain),
+        (0x9030, Class::Plain),
+    ] {
+        assert_eq!(rt; map.class(addr), class, "class of {addr:x}");
+    }
+    assert_eq!(rt; map.store_byte(0x9013, 1), Err(Fault::OwnedWord));
+    assert_eq!(rt; map.load_word(0x9010), Ok(24));
+    assert_eq!(rt; map.store_byte(0x9014, 1), Ok(()));
+    assert_eq!(rt; map.load_word(0x9014), Ok(1));
+    assert!(rt; map.owns(0x9028));
+    Ok(())
+}
+
+#[test]
+fn owns_both_words_of_a_free_item_of_the_module_area(rt: HostRuntime) -> Result<(), Fail> {
+    let mut map = AddressMap::new(rt.alloc(), 1)?;
+    map.map_pages(0x9000, 1);
+    map.own(Kind::Rma, 0x9000, 44);
+    assert!(rt; map.maps(0x9000, 48));
+    map.put_bytes(0x9000, &HEAP_WITH_ROOM);
+    assert_eq!(rt; map.class(0x9027), Class::Plain);
+    assert_eq!(rt; map.class(0x9028), Class::Heap);
+    // The range of 44 bytes ends before the item's second word.
+    assert_eq!(rt; map.class(0x902C), Class::Plain);
+    map.disown(Kind::Rma, 0x9000);
+    map.own(Kind::Rma, 0x9000, 48);
+    assert_eq!(rt; map.class(0x902F), Class::Heap);
+    assert_eq!(rt; map.class(0x9030), Class::Plain);
+    Ok(())
+}
+
+#[test]
+fn owns_the_headers_and_anchors_of_flex_blocks(rt: HostRuntime) -> Result<(), Fail> {
+    let mut map = AddressMap::new(rt.alloc(), 2)?;
+    map.map_pages(0x9000, 2);
+    map.own(Kind::FlexHeader, 0xA000, 28);
+    assert!(rt; map.maps(0xA000, 28));
+    map.put_bytes(0xA000, &BLOCKS);
+    for (addr, class) in [
+        (0x90FF, Class::Plain),
+        (0x9100, Class::Anchor),
+        (0x9103, Class::Anchor),
+        (0x9104, Class::Plain),
+        (0x9200, Class::Anchor),
+        (0x9FFF, Class::Plain),
+        (0xA000, Class::FlexHeader),
+        (0xA007, Class::FlexHeader),
+        (0xA008, Class::Plain),
+        (0xA00F, Class::Plain),
+        (0xA010, Class::FlexHeader),
+        (0xA017, Class::FlexHeader),
+        (0xA018, Class::Plain),
+        (0xA01C, Class::Plain),
+    ] {
+        assert_eq!(rt; map.class(addr), class, "class of {addr:x}");
+    }
+    for (at, len, met) in [
+        (0x90FD, 3, false),
+        (0x90FD, 4, true),
+        (0x9103, 1, true),
+        (0x9104, 0xFC, false),
+        (0x9104, 0xFD, true),
+    ] {
+        assert_eq!(rt; map.anchor_in(at, len), met, "{len} bytes from {at:x}");
+    }
+    Ok(())
+}
+
+#[test]
+fn leaves_the_other_ranges_to_the_guest(rt: HostRuntime) -> Result<(), Fail> {
+    let mut map = AddressMap::new(rt.alloc(), 1)?;
+    map.map_pages(0x9000, 1);
+    map.own(Kind::Image, 0x9000, 256);
+    map.own(Kind::SystemPage, 0x9100, 256);
+    map.own(Kind::FlexStore, 0x9200, 256);
+    map.own(Kind::Anchor, 0x9300, 4);
+    assert_eq!(rt; map.regions().len(), 3);
+    for addr in [0x9000, 0x90FF, 0x9100, 0x91FF, 0x9200, 0x92FF, 0x9300] {
+        assert_eq!(rt; map.class(addr), Class::Plain, "class of {addr:x}");
+    }
+    Ok(())
+}
+
+#[test]
+fn forgets_one_of_two_heaps(rt: HostRuntime) -> Result<(), Fail> {
+    let mut map = AddressMap::new(rt.alloc(), 1)?;
+    map.map_pages(0x9000, 1);
+    map.own(Kind::Heap, 0x9000, 256);
+    map.own(Kind::Heap, 0x9100, 256);
+    map.disown(Kind::Rma, 0x9000);
+    map.disown(Kind::Anchor, 0x9000);
+    map.disown(Kind::Heap, 0x9004);
+    assert_eq!(rt; map.regions().len(), 2);
+    map.disown(Kind::Heap, 0x9000);
+    assert_eq!(rt; map.class(0x9000), Class::Plain);
+    assert_eq!(rt; map.class(0x9100), Class::Heap);
+    map.disown(Kind::Heap, 0x9100);
+    assert!(rt; map.regions().is_empty());
+    Ok(())
+}
+
+#[test]
+fn moves_bytes_over_page_ends_and_over_themselves(rt: HostRuntime) -> Result<(), Fail> {
+    let mut map = AddressMap::new(rt.alloc(), 2)?;
+    map.map_pages(0x9000, 1);
+    map.map_pages(0x8000, 1);
+    assert!(rt; map.maps(0x8FFA, 12));
+    map.put_bytes(0x8FFA, &[1, 2, 3, 4, 5, 6, 7, 8]);
+    assert!(rt; map.maps(0x8FFA, 8));
+    assert!(rt; map.maps(0x8FFD, 8));
+    map.move_bytes(0x8FFA, 0x8FFD, 8);
+    assert_eq!(rt; map.load_word(0x8FF8), Ok(0x0201_0000));
+    assert_eq!(rt; map.load_word(0x8FFC), Ok(0x0302_0103));
+    assert_eq!(rt; map.load_word(0x9000), Ok(0x0706_0504));
+    assert!(rt; map.maps(0x8FFD, 8));
+    assert!(rt; map.maps(0x8FF8, 8));
+    map.move_bytes(0x8FFD, 0x8FF8, 8);
+    assert_eq!(rt; map.load_word(0x8FF8), Ok(0x0403_0201));
+    assert_eq!(rt; map.load_word(0x8FFC), Ok(0x0807_0605));
+    assert_eq!(rt; map.load_word(0x9000), Ok(0x0706_0504));
+    Ok(())
+}
+
+#[test]
+fn unmaps_pages_from_the_middle_and_maps_them_anew(rt: HostRuntime) -> Result<(), Fail> {
+    let mut map = AddressMap::new(rt.alloc(), 4)?;
+    map.map_pages(0x8000, 3);
+    map.map_pages(0xC000, 1);
+    assert!(rt; map.maps(0x8FFE, 0x1004));
+    map.put_bytes(0x8FFE, &[1, 2, 3, 4]);
+    map.put_bytes(0x9FFE, &[5, 6, 7, 8]);
+    map.unmap_pages(0x9000, 1);
+    assert_eq!(rt; map.free_pages(), 1);
+    assert_eq!(rt; map.translate(0xA000), Some(0x1000));
+    assert_eq!(rt; map.translate(0xC000), Some(0x2000));
+    assert_eq!(rt; map.load_word(0x8FFC), Ok(0x0201_0000));
+    assert_eq!(rt; map.load_byte(0x9000), Err(Fault::DataUnmapped));
+    assert_eq!(rt; map.load_word(0xA000), Ok(0x0000_0807));
+    map.map_pages(0x9000, 1);
+    assert_eq!(rt; map.load_word(0x9000), Ok(0));
+    assert_eq!(rt; map.load_word(0x9FFC), Ok(0));
     Ok(())
 }

@@ -1,8 +1,8 @@
 use Rattle.std.proofs.Common.{◌≡◌, ◌+◌, ◌-◌, ◌*◌, ◌≤◌, length, arith, refl, lit<}
-use Rattle.address_map.specs.Memory.{place, byte_at, free_pages, free_runs, is_owned, class_of}
-use Rattle.address_map.specs.declared.class.Class.TheVariants.{Plain}
+use Rattle.address_map.specs.Memory.{place, byte_at, free_pages, free_runs, regions}
 use Rattle.address_map.specs.declared.run.Run.{Run}
 use Rattle.address_map.specs.Runs.{run_total}
+use Rattle.address_map.proofs.Words.{class_of-same, is_owned-same}
 use Rattle.address_map.proofs.Mapping.{mapped_more, bytes_more, store_zeroed, whole_more, total_more, apart_more}
 use Rattle.address_map.proofs.map.AddressMap.map_pages.Goals as goal
 
@@ -34,6 +34,7 @@ invariant_of-self c =
       runs_fit = omega (arith, kept.1, m.runs_fit, total);
       whole = whole_more m c.push.new.self.items run c.push.ensures.items (record { base = c.requires.aligned; len = omega arith; end = c.requires.below });
       apart = apart_more m c.push.new.self.items c.args.base (4096 * c.args.count) c.push.ensures.items c.requires.unmapped;
+      recorded = m.recorded;
     }
 
 pub returns-clause-mapping : goal.returns-clause-mapping
@@ -60,10 +61,13 @@ pub returns-clause-runs : goal.returns-clause-runs
 unfolding free_runs
 returns-clause-runs c = let h = c.push.ensures.len in omega arith
 
-pub returns-clause-owned : goal.returns-clause-owned
-unfolding is_owned class_of
-returns-clause-owned c = refl
-
 pub returns-clause-classes : goal.returns-clause-classes
-unfolding class_of
-returns-clause-classes c = λ i a. Plain
+unfolding regions
+returns-clause-classes c = class_of-same c.args.self.now _ refl (returns-clause-bytes c)
+
+pub returns-clause-owned : goal.returns-clause-owned
+returns-clause-owned c = is_owned-same c.args.self.now _ (returns-clause-classes c)
+
+pub returns-clause-regions : goal.returns-clause-regions
+unfolding regions
+returns-clause-regions c = refl

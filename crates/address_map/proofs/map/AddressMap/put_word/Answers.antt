@@ -18,11 +18,12 @@ invariant_of-self c =
       runs_fit = omega (arith, kept.1, m.runs_fit);
       whole = m.whole;
       apart = m.apart;
+      recorded = m.recorded;
     }
 
 pub returns-clause-bytes : goal.returns-clause-bytes
 returns-clause-bytes c =
-    word_put c.args.self.now _ c.args.addr c.unwrap-place.result c.args.word c.requires.aligned (sym c.translate.ensures ∙ c.unwrap-place.ensures) (same_layout _ _ refl refl) c.write_word.ensures
+    word_put c.args.self.now _ c.args.addr c.unwrap-place.result c.args.word c.requires.aligned (sym c.translate.ensures ∙ c.unwrap-place.ensures) (same_layout _ _ refl refl refl) c.write_word.ensures
 
 pub returns-clause-layout : goal.returns-clause-layout
-returns-clause-layout c = same_layout _ _ refl refl
+returns-clause-layout c = same_layout _ _ refl refl refl

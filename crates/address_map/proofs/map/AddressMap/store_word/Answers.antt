@@ -28,14 +28,15 @@ invariant_of-self c =
       runs_fit = omega (arith, kept.1, m.runs_fit);
       whole = m.whole;
       apart = m.apart;
+      recorded = m.recorded;
     }
 
 pub returns-clause-bytes : goal.returns-clause-bytes
 returns-clause-bytes c =
     let m = c.args.self.now in
     rw (word_stored-done (is_owned m) (bytes_of m) c.args.addr c.args.word c.in_ok-place.ensures.0)
-    (stored_word m _ (word_start c.args.addr) c.args.word (same_layout _ _ refl refl)
-    (word_put m _ (word_start c.args.addr) c.in_ok-place.place c.args.word (omega arith) c.in_ok-place.ensures.1 (same_layout _ _ refl refl) c.write_word.ensures))
+    (stored_word m _ (word_start c.args.addr) c.args.word (same_layout _ _ refl refl refl)
+    (word_put m _ (word_start c.args.addr) c.in_ok-place.place c.args.word (omega arith) c.in_ok-place.ensures.1 (same_layout _ _ refl refl refl) c.write_word.ensures))
 
 pub returns-clause-layout : goal.returns-clause-layout
-returns-clause-layout c = same_layout _ _ refl refl
+returns-clause-layout c = same_layout _ _ refl refl refl

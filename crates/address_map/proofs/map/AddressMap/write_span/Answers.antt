@@ -17,14 +17,15 @@ invariant_of-self c =
       runs_fit = omega (arith, kept.1, m.runs_fit);
       whole = m.whole;
       apart = m.apart;
+      recorded = m.recorded;
     }
 
 pub returns-clause-bytes : goal.returns-clause-bytes
 returns-clause-bytes c =
     let m = c.args.self.now in
     let fits : c.args.span.place + length c.args.bytes.now ≤ length m.store = omega (arith, c.requires.span.within) in
-    bytes_written m _ c.args.span.addr c.args.span.place c.args.bytes.now (layout-place m _ (same_layout m _ refl refl)) c.write.ensures fits
+    bytes_written m _ c.args.span.addr c.args.span.place c.args.bytes.now (layout-place m _ (same_layout m _ refl refl refl)) c.write.ensures fits
     (λ j below. c.requires.span.places j (omega arith))
 
 pub returns-clause-layout : goal.returns-clause-layout
-returns-clause-layout c = same_layout _ _ refl refl
+returns-clause-layout c = same_layout _ _ refl refl refl

@@ -18,11 +18,12 @@ invariant_of-self c =
       runs_fit = omega (arith, kept.1, m.runs_fit);
       whole = m.whole;
       apart = m.apart;
+      recorded = m.recorded;
     }
 
 pub returns-clause-bytes : goal.returns-clause-bytes
 returns-clause-bytes c =
-    bytes_zeroed c.args.self.now _ c.args.span.addr c.args.span.place c.args.span.len c.args.len c.requires.span c.requires.within (same_layout _ _ refl refl) c.zero.ensures
+    bytes_zeroed c.args.self.now _ c.args.span.addr c.args.span.place c.args.span.len c.args.len c.requires.span c.requires.within (same_layout _ _ refl refl refl) c.zero.ensures
 
 pub returns-clause-layout : goal.returns-clause-layout
-returns-clause-layout c = same_layout _ _ refl refl
+returns-clause-layout c = same_layout _ _ refl refl refl

@@ -1,0 +1,14 @@
+use Rattle.address_map.proofs.Removing.{recorded_less}
+use Rattle.address_map.proofs.map.AddressMap.disown.Goals as goal
+
+pub invariant_of-self : goal.invariant_of-self
+invariant_of-self c =
+    let m = c.args.self.now in
+    record {
+      bytes_fit = m.bytes_fit;
+      in_limit = m.in_limit;
+      runs_fit = m.runs_fit;
+      whole = m.whole;
+      apart = m.apart;
+      recorded = recorded_less m c.remove.new.self.items c.in-Some.index c.remove.ensures.items;
+    }

@@ -1,0 +1,63 @@
+ghost use Rattle.std.specs.Prelude.{◌≡◌, ◌<◌, ℕ, length, MatchOption};
+ghost use Rattle.address_map.specs.Records.{IsRegion, with_region, without_region};
+ghost use Rattle.std.specs.List.{remove};
+
+use crate::map::AddressMap;
+use crate::region::{Kind, Region};
+
+impl AddressMap {
+    ghost use Rattle.address_map.specs.Memory.{place, byte_at, free_pages, free_runs, regions};
+
+    /// The recorded ranges, the first recorded first.
+    #[tactic(auto, unfolding(crate::specs::Memory::regions))]
+    pub fn regions(&self) -> &[Region]
+        ensures { result.now ≡ regions self.now }
+    {
+        self.regions.as_slice()
+    }
+
+    /// Records a range that store calls use. Words in it that only they may write are owned from now on: the words that the
+    /// items of a heap spell, the headers of flex blocks, and the anchors that these name. No byte is changed.
+    #[tactic(auto, unfolding(crate::specs::Memory::regions, crate::specs::Memory::place, crate::specs::Memory::byte_at, crate::specs::Memory::free_pages, crate::specs::Memory::free_runs))]
+    pub fn own(&mut self, kind: Kind, at: u32, len: u32)
+        requires region { IsRegion (record { kind = kind; at = at; len = len }) }
+        requires room { length (regions self.old) < 133 }
+        ensures regions { regions self.new ≡ with_region (regions self.old) (record { kind = kind; at = at; len = len }) }
+        ensures place { place self.new ≡ place self.old }
+        ensures bytes { byte_at self.new ≡ byte_at self.old }
+        ensures pages { free_pages self.new ≡ free_pages self.old }
+        ensures runs { free_runs self.new ≡ free_runs self.old }
+    {
+        if kind != Kind::Anchor {
+            self.regions.push(Region { kind, at, len });
+        }
+    }
+
+    /// Takes away the first record of that kind that starts at `at`, if there is one; its words are the guest's from now on. No
+    /// byte is changed, and the other records keep their order. An anchor is no record.
+    #[tactic(auto, unfolding(crate::specs::Memory::regions, crate::specs::Memory::place, crate::specs::Memory::byte_at, crate::specs::Memory::free_pages, crate::specs::Memory::free_runs))]
+    pub fn disown(&mut self, kind: Kind, at: u32)
+        ensures regions { regions self.new ≡ without_region (regions self.old) kind at }
+        ensures place { place self.new ≡ place self.old }
+        ensures bytes { byte_at self.new ≡ byte_at self.old }
+        ensures pages { free_pages self.new ≡ free_pages self.old }
+        ensures runs { free_runs self.new ≡ free_runs self.old }
+    {
+        if let Some(index) = self.record_index(kind, at) {
+            self.regions.remove(index);
+        }
+    }
+
+    /// Which of the records is the first of that kind that starts at `at`.
+    fn record_index(&self, kind: Kind, at: u32) -> Option<usize>
+        ensures { MatchOption result (without_region (regions self.now) kind at ≡ regions self.now) (λ i. (i < length (regions self.now)) × (without_region (regions self.now) kind at ≡ remove (regions self.now) i)) }
+    {
+        let regions = self.regions();
+        for (index, region) in regions.iter().enumerate() {
+            if region.is_record(kind, at) {
+                return Some(index);
+            }
+        }
+        None
+    }
+}

@@ -1,0 +1,63 @@
+ghost use Rattle.std.specs.Prelude.{◌≡◌};
+ghost use Rattle.address_map.specs.Bytes.{in_range};
+ghost use Rattle.address_map.specs.Records.{is_heap_kind, is_flex_kind, is_record};
+
+/// What the store calls use a range of memory for.
+#[derive(Clone, Copy, Debug, Default, PartialEq, Eq)]
+pub enum Kind {
+    /// A heap that a guest has made.
+    #[default]
+    Heap,
+    /// The module area, which is a heap too.
+    Rma,
+    /// The range that sliding blocks lie in.
+    FlexStore,
+    /// The part of it that is used, from the first block's header to the last block's end.
+    FlexHeader,
+    /// A word that holds the address of a sliding block. The headers name these words, so no record of them is kept.
+    Anchor,
+    /// A module image that was not copied.
+    Image,
+    /// The pages of the system: stack, private words, error block, environment text.
+    SystemPage,
+}
+
+impl Kind {
+    /// Whether a range is a heap.
+    pub(crate) fn is_heap(&self) -> bool
+        ensures { result ≡ is_heap_kind self.now }
+    {
+        matches!(self, Kind::Heap | Kind::Rma)
+    }
+
+    /// Whether a range is the used part of the flex store.
+    pub(crate) fn is_flex(&self) -> bool
+        ensures { result ≡ is_flex_kind self.now }
+    {
+        matches!(self, Kind::FlexHeader)
+    }
+}
+
+/// A recorded range of memory: `len` bytes from `at` on.
+#[derive(Clone, Copy, Debug, Default, PartialEq, Eq)]
+pub struct Region {
+    pub kind: Kind,
+    pub at: u32,
+    pub len: u32,
+}
+
+impl Region {
+    /// Whether an address is in the range.
+    pub(crate) fn holds(&self, addr: u32) -> bool
+        ensures { result ≡ in_range self.now.at self.now.len addr }
+    {
+        self.at <= addr && addr - self.at < self.len
+    }
+
+    /// Whether this is the record of a range of that kind that starts at `at`. No record is an anchor.
+    pub(crate) fn is_record(&self, kind: Kind, at: u32) -> bool
+        ensures { result ≡ is_record kind at self.now }
+    {
+        kind != Kind::Anchor && self.kind == kind && self.at == at
+    }
+}
