@@ -1,0 +1,308 @@
+-- A heap more, behind all others: its descriptor is written, and its range recorded.
+use Rattle.std.proofs.Common.{◌≡◌, ◌⊎◌, ◌↔◌, ℕ, zero, suc, leb, ◌+◌, ◌-◌, ◌%◌, ◌^◌, ◌≤◌, ◌<◌, Bool, true, false, List, [], ◌∷◌, ◌++◌, length, Ok, Err, ◌&&◌, ◌||◌, ◌==◌, arith, refl, sym, ◌∙◌, inl, inr}
+use Rattle.std.specs.List.{list_any}
+use Rattle.std.proofs.lemmas.Bool.{cases_Bool, cases_lt, or_parts, and_parts, leb-true, leb-false, eqb-true, eq-eqb, le-leb, lt-ltb, both_ways, false_from_ne_true, false≢true}
+use Rattle.std.proofs.lemmas.Bool.Decides.{nat_tests}
+use Rattle.address_map.specs.declared.region.Kind.TheVariants as kind
+use Rattle.address_map.specs.declared.region.Kind.{Kind}
+use Rattle.address_map.specs.declared.region.Region.{Region}
+use Rattle.address_map.specs.declared.map.AddressMap.{AddressMap}
+use Rattle.address_map.specs.Bytes.{Bytes, in_range, AreMapped, word_at, with_word_at}
+use Rattle.address_map.specs.Items.{items_in}
+use Rattle.address_map.specs.Records.{is_heap_kind, with_region}
+use Rattle.address_map.specs.Memory.{byte_at, is_mapped, bytes_of, regions}
+use Rattle.address_map.proofs.Spans.{mapped_below}
+use Rattle.profile.specs.declared.error.ErrorNumber.TheVariants.{HeapBadRegion, HeapOverlaps, HeapTableFull}
+use Rattle.os_heap.specs.Heap.{Part, IsHeapIn, with_part}
+use Rattle.os_heap.specs.Begin.{MayBegin}
+use Rattle.os_heap.specs.Store.{Store, part_in, parts_in, others_in, store_of, AreClear, IsClearOfHeaps, ArePartsIn, AreOthersClear, IsSound, is_heap_region, are_mapped, meets, meets_any, begun, begun_with}
+use Rattle.os_heap.proofs.Unique.{items_in-heap}
+use Rattle.os_heap.proofs.Frame.{clear_parts, parts_in-spelled}
+
+-- the tests of ranges, and what they say
+pub are_mapped_all : (mapped : ℕ → Bool) (at n : ℕ) → are_mapped mapped at n ≡ true → AreMapped mapped at n
+are_mapped_all mapped at zero h a low high = absurd (omega arith)
+are_mapped_all mapped at (suc n) h a low high =
+    let parts = and_parts (mapped at) (are_mapped mapped (at + 1) n) h in
+    elim (cases_lt at a) [
+      | inl later ↦ are_mapped_all mapped (at + 1) n parts.1 a (omega arith) (omega arith)
+      | inr here ↦ let e : a ≡ at = omega arith in rw e parts.0
+    ]
+
+pub are_mapped_from : (mapped : ℕ → Bool) (at n : ℕ) → AreMapped mapped at n → are_mapped mapped at n ≡ true
+are_mapped_from mapped at zero h = refl
+are_mapped_from mapped at (suc n) h =
+    rw (h at (omega arith) (omega arith)) (are_mapped_from mapped (at + 1) n (λ a low high. h a (omega arith) (omega arith)))
+
+pub clear_unless : (at len other other_len : ℕ) → meets at len other other_len ≡ false → AreClear at len other other_len
+clear_unless at len other other_len h a inside = grind (arith, nat_tests)
+
+pub clear_turned : (at len other other_len : ℕ) → AreClear at len other other_len → AreClear other other_len at len
+clear_turned at len other other_len h a inside = false_from_ne_true _ (λ there. both_ways (in_range other other_len a) (h a there) inside)
+
+clear_of_heaps : (at len : ℕ) (hs : List Part) → list_any (λ h. meets at len h.start h.end) hs ≡ false → IsClearOfHeaps at len hs
+clear_of_heaps at len [] none = tt
+clear_of_heaps at len (h ∷ hs) none =
+    let parts = or_parts (meets at len h.start h.end) (list_any (λ h. meets at len h.start h.end) hs) none in
+    (clear_unless at len h.start h.end parts.0, clear_of_heaps at len hs parts.1)
+
+-- a heap more that another range does not meet
+clear_more : (at len : ℕ) (hs : List Part) (h : Part) → IsClearOfHeaps at len hs → AreClear at len h.start h.end → IsClearOfHeaps at len (hs ++ h ∷ [])
+clear_more at len [] h clear last = (last, tt)
+clear_more at len (g ∷ hs) h clear last = (clear.0, clear_more at len hs h clear.1 last)
+
+parts_more : (b : Bytes) (hs : List Part) (h : Part) → ArePartsIn b hs → IsClearOfHeaps h.start h.end hs → IsHeapIn b h.start h.end h.items
+    → ArePartsIn b (hs ++ h ∷ [])
+parts_more b [] h parts clear last = (last, (tt, tt))
+parts_more b (g ∷ hs) h parts clear last =
+    (parts.0, (clear_more g.start g.end hs h parts.1.0 (clear_turned h.start h.end g.start g.end clear.0), parts_more b hs h parts.1.1 clear.1 last))
+
+others_more : (hs : List Part) (h : Part) (rs : List Region) → AreOthersClear hs rs → list_any (λ r. meets h.start h.end r.at r.len) rs ≡ false
+    → AreOthersClear (hs ++ h ∷ []) rs
+others_more hs h [] clear none = tt
+others_more hs h (r ∷ rs) clear none =
+    let parts = or_parts (meets h.start h.end r.at r.len) (list_any (λ r. meets h.start h.end r.at r.len) rs) none in (
+      clear_more r.at r.len hs h clear.0 (clear_turned h.start h.end r.at r.len (clear_unless h.start h.end r.at r.len parts.0)),
+      others_more hs h rs clear.1 parts.1,
+    )
+
+-- what the test of a heap's range says
+pub record CanHold (b : Bytes) (at size : ℕ) : Type 0 where
+  pub aligned : at % 4 ≡ 0
+  pub whole : size % 4 ≡ 0
+  pub low : 16 ≤ size
+  pub high : size ≤ 16777216
+  pub mapped : AreMapped b.mapped at size
+
+pub can_hold : (b : Bytes) (at size : ℕ) → is_heap_region b at size ≡ true → CanHold b at size
+can_hold b at size h =
+    let outer = and_parts (at % 4 == 0 && size % 4 == 0) ((leb 16 size && leb size 16777216) && are_mapped b.mapped at size) h in
+    let multiples = and_parts (at % 4 == 0) (size % 4 == 0) outer.0 in
+    let inner = and_parts (leb 16 size && leb size 16777216) (are_mapped b.mapped at size) outer.1 in
+    let limits = and_parts (leb 16 size) (leb size 16777216) inner.0 in
+    record {
+      aligned = eqb-true (at % 4) 0 multiples.0;
+      whole = eqb-true (size % 4) 0 multiples.1;
+      low = leb-true 16 size limits.0;
+      high = leb-true size 16777216 limits.1;
+      mapped = are_mapped_all b.mapped at size inner.1;
+    }
+
+-- a word that was written, and all else
+word_here : (f : ℕ → ℕ) (at v : ℕ) → v < 2 ^ 32 → word_at (with_word_at f at v) at ≡ v
+word_here f at v fits = grind (arith, nat_tests)
+
+byte_other : (f : ℕ → ℕ) (at v a : ℕ) → (a + 1 ≤ at) ⊎ (at + 4 ≤ a) → with_word_at f at v a ≡ f a
+byte_other f at v a apart = grind (arith, nat_tests)
+
+word_other : (f : ℕ → ℕ) (at v a : ℕ) → (a + 4 ≤ at) ⊎ (at + 4 ≤ a) → word_at (with_word_at f at v) a ≡ word_at f a
+word_other f at v a apart =
+    let b0 : with_word_at f at v a ≡ f a = byte_other f at v a (elim apart [ inl low ↦ inl (omega arith) | inr high ↦ inr (omega arith) ]) in
+    let b1 : with_word_at f at v (a + 1) ≡ f (a + 1) = byte_other f at v (a + 1) (elim apart [ inl low ↦ inl (omega arith) | inr high ↦ inr (omega arith) ]) in
+    let b2 : with_word_at f at v (a + 2) ≡ f (a + 2) = byte_other f at v (a + 2) (elim apart [ inl low ↦ inl (omega arith) | inr high ↦ inr (omega arith) ]) in
+    let b3 : with_word_at f at v (a + 3) ≡ f (a + 3) = byte_other f at v (a + 3) (elim apart [ inl low ↦ inl (omega arith) | inr high ↦ inr (omega arith) ]) in
+    rw (b0, b1, b2, b3) refl
+
+-- the four words of the descriptor of an empty heap
+abbrev pub empty : ℕ → ℕ → Part
+empty at size = record { start = at; end = size; items = [] }
+
+module _ (f : ℕ → ℕ) (at size : ℕ) (fits : size < 2 ^ 32) where
+  named : ℕ → ℕ
+  named = with_word_at f at 0x70616548
+
+  linked : ℕ → ℕ
+  linked = with_word_at named (at + 4) (0 - at)
+
+  based : ℕ → ℕ
+  based = with_word_at linked (at + 8) 16
+
+  written_name : word_at (with_part f (empty at size)) at ≡ 0x70616548
+  unfolding named linked based
+  written_name = word_other based (at + 12) size at (inl (omega arith)) ∙ word_other linked (at + 8) 16 at (inl (omega arith))
+      ∙ word_other named (at + 4) (0 - at) at (inl (omega arith)) ∙ word_here f at 0x70616548 (omega arith)
+
+  written_link : word_at (with_part f (empty at size)) (at + 4) ≡ 0 - at
+  unfolding named linked based
+  written_link = word_other based (at + 12) size (at + 4) (inl (omega arith)) ∙ word_other linked (at + 8) 16 (at + 4) (inl (omega arith))
+      ∙ word_here named (at + 4) (0 - at) (omega arith)
+
+  written_base : word_at (with_part f (empty at size)) (at + 8) ≡ 16
+  unfolding named linked based
+  written_base = word_other based (at + 12) size (at + 8) (inl (omega arith)) ∙ word_here linked (at + 8) 16 (omega arith)
+
+  written_end : word_at (with_part f (empty at size)) (at + 12) ≡ size
+  unfolding named linked based
+  written_end = word_here based (at + 12) size fits
+
+  written_other : (a : ℕ) → (a + 1 ≤ at) ⊎ (at + 16 ≤ a) → with_part f (empty at size) a ≡ f a
+  unfolding named linked based
+  written_other a apart =
+      byte_other based (at + 12) size a (elim apart [ inl low ↦ inl (omega arith) | inr high ↦ inr (omega arith) ])
+      ∙ byte_other linked (at + 8) 16 a (elim apart [ inl low ↦ inl (omega arith) | inr high ↦ inr (omega arith) ])
+      ∙ byte_other named (at + 4) (0 - at) a (elim apart [ inl low ↦ inl (omega arith) | inr high ↦ inr (omega arith) ])
+      ∙ byte_other f at 0x70616548 a (elim apart [ inl low ↦ inl (omega arith) | inr high ↦ inr (omega arith) ])
+
+pub empty_heap : (b : Bytes) (at size : ℕ) → CanHold b at size
+    → IsHeapIn (record { mapped = b.mapped; at = with_part b.at (empty at size) }) at size []
+empty_heap b at size can =
+    let fits : size < 2 ^ 32 = omega (arith, can.high) in
+    record {
+      aligned = can.aligned;
+      whole = can.whole;
+      mapped = can.mapped;
+      name = written_name b.at at size fits;
+      first = written_link b.at at size fits;
+      base = written_base b.at at size fits;
+      limit = written_end b.at at size fits;
+      spelled = tt;
+      totals = tt;
+      spaced = tt;
+      inside = can.low;
+    }
+
+pub begun_old : (s : Store) (at size : ℕ) → MayBegin s at size → IsSound s → ArePartsIn (begun_with s at size).bytes s.heaps
+begun_old s at size may sound =
+    let can : CanHold s.bytes at size = can_hold s.bytes at size may.region in
+    let none = or_parts (list_any (λ h. meets at size h.start h.end) s.heaps) (list_any (λ r. meets at size r.at r.len) s.others) may.clear in
+    clear_parts s.bytes (begun_with s at size).bytes s.heaps at size refl sound.parts (clear_of_heaps at size s.heaps none.0)
+    (λ a outside. written_other s.bytes.at at size (omega (arith, can.high)) a (elim (cases_lt a at) [
+      | inl low ↦ inl (omega arith)
+      | inr high ↦ inr (elim (cases_lt a (at + size)) [
+        | inl below ↦ absurd (both_ways (in_range at size a) outside (rw (le-leb at a high, lt-ltb a (at + size) below) refl))
+        | inr past ↦ omega (arith, can.low)
+      ])
+    ]))
+
+-- the store with a heap more is sound too
+pub begun_sound : (s : Store) (at size : ℕ) → MayBegin s at size → IsSound s → IsSound (begun_with s at size)
+begun_sound s at size may sound =
+    let can : CanHold s.bytes at size = can_hold s.bytes at size may.region in
+    let none = or_parts (list_any (λ h. meets at size h.start h.end) s.heaps) (list_any (λ r. meets at size r.at r.len) s.others) may.clear in
+    record {
+      parts = parts_more (begun_with s at size).bytes s.heaps (empty at size) (begun_old s at size may sound)
+          (clear_of_heaps at size s.heaps none.0) (empty_heap s.bytes at size can);
+      clear = others_more s.heaps (empty at size) s.others sound.clear none.1;
+      few = sound.few;
+    }
+
+-- the record with a heap more
+parts_in-more : (b : Bytes) (rs : List Region) (r : Region) → is_heap_kind r.kind ≡ true → parts_in b (rs ++ r ∷ []) ≡ parts_in b rs ++ part_in b r ∷ []
+parts_in-more b [] r heap = rw heap refl
+parts_in-more b (g ∷ rs) r heap =
+    elim (cases_Bool (is_heap_kind g.kind)) [
+      | inl is ↦ rw (is, parts_in-more b rs r heap) refl
+      | inr other ↦ rw (other, parts_in-more b rs r heap) refl
+    ]
+
+others_in-more : (rs : List Region) (r : Region) → is_heap_kind r.kind ≡ true → others_in (rs ++ r ∷ []) ≡ others_in rs
+others_in-more [] r heap = rw heap refl
+others_in-more (g ∷ rs) r heap =
+    elim (cases_Bool (is_heap_kind g.kind)) [
+      | inl is ↦ rw (is, others_in-more rs r heap) refl
+      | inr other ↦ rw (other, others_in-more rs r heap) refl
+    ]
+
+-- a range of any kind but an anchor is recorded at the end
+pub recorded : (rs : List Region) (k : Kind) (at len : ℕ) → is_heap_kind k ≡ true
+    → with_region rs (record { kind = k; at = at; len = len }) ≡ rs ++ record { kind = k; at = at; len = len } ∷ []
+recorded rs kind.Heap at len heap = refl
+recorded rs kind.Rma at len heap = refl
+recorded rs kind.FlexStore at len heap = absurd (false≢true heap)
+recorded rs kind.FlexHeader at len heap = absurd (false≢true heap)
+recorded rs kind.Anchor at len heap = absurd (false≢true heap)
+recorded rs kind.Image at len heap = absurd (false≢true heap)
+recorded rs kind.SystemPage at len heap = absurd (false≢true heap)
+
+pub store_begun : (m n : AddressMap) (k : Kind) (at size : ℕ) → is_heap_kind k ≡ true → MayBegin (store_of m) at size → IsSound (store_of m)
+    → regions n ≡ regions m ++ record { kind = k; at = at; len = size } ∷ []
+    → bytes_of n ≡ record { mapped = is_mapped m; at = with_part (byte_at m) (empty at size) }
+    → store_of n ≡ begun_with (store_of m) at size
+unfolding store_of
+store_begun m n k at size heap may sound records bytes =
+    let c : Bytes = record { mapped = is_mapped m; at = with_part (byte_at m) (empty at size) } in
+    let r : Region = record { kind = k; at = at; len = size } in
+    let old : parts_in c (regions m) ≡ parts_in (bytes_of m) (regions m) =
+    parts_in-spelled (bytes_of m) c (regions m) (begun_old (store_of m) at size may sound) in
+    let items : items_in (word_at c.at) at ≡ [] =
+    items_in-heap c at size [] (empty_heap (bytes_of m) at size (can_hold (bytes_of m) at size may.region)) in
+    let heaps : parts_in c (regions m ++ r ∷ []) ≡ parts_in (bytes_of m) (regions m) ++ empty at size ∷ [] =
+    parts_in-more c (regions m) r heap ∙ (rw (old, items) refl) in
+    let others : others_in (regions m ++ r ∷ []) ≡ others_in (regions m) = others_in-more (regions m) r heap in
+    rw (bytes, records) (λ i. record { bytes = c; heaps = heaps i; others = others i })
+
+-- the tests that the code makes
+same_tests : (t u : Bool) → (t ≡ true → u ≡ true) → (u ≡ true → t ≡ true) → t ≡ u
+same_tests true u h g = sym (h refl)
+same_tests false u h g = sym (false_from_ne_true u (λ e. false≢true (g e)))
+
+pub region_tested : (b : Bytes) (at size : ℕ) (mapped : Bool) → at % 4 ≡ 0 → size % 4 ≡ 0 → 16 ≤ size → size ≤ 16777216
+    → ((mapped ≡ true) ↔ AreMapped b.mapped at size) → mapped ≡ is_heap_region b at size
+region_tested b at size mapped aligned whole low high tested =
+    rw (eq-eqb (at % 4) 0 aligned, eq-eqb (size % 4) 0 whole, le-leb 16 size low, le-leb size 16777216 high)
+    (same_tests mapped (are_mapped b.mapped at size) (λ e. are_mapped_from b.mapped at size (tested.0 e)) (λ e. tested.1 (are_mapped_all b.mapped at size e)))
+
+or_middle : (a b c : Bool) → (a || (b || c)) ≡ (b || (a || c))
+or_middle true true c = refl
+or_middle true false c = refl
+or_middle false true c = refl
+or_middle false false c = refl
+
+or_next : (a b c : Bool) → ((a || b) || c) ≡ (a || (b || c))
+or_next true b c = refl
+or_next false b c = refl
+
+meets_ranges : (b : Bytes) (at len : ℕ) (rs : List Region)
+    → list_any (λ r. meets at len r.at r.len) rs ≡ (list_any (λ h. meets at len h.start h.end) (parts_in b rs) || list_any (λ r. meets at len r.at r.len) (others_in rs))
+meets_ranges b at len [] = refl
+meets_ranges b at len (r ∷ rs) =
+    let parts : Bool = list_any (λ h. meets at len h.start h.end) (parts_in b rs) in
+    let others : Bool = list_any (λ r. meets at len r.at r.len) (others_in rs) in
+    elim (cases_Bool (is_heap_kind r.kind)) [
+      | inl heap ↦ rw (heap, meets_ranges b at len rs) (sym (or_next (meets at len r.at r.len) parts others))
+      | inr other ↦ rw (other, meets_ranges b at len rs) (or_middle (meets at len r.at r.len) parts others)
+    ]
+
+pub meets_recorded : (m : AddressMap) (at len : ℕ) → list_any (λ r. meets at len r.at r.len) (regions m) ≡ meets_any at len (store_of m)
+unfolding store_of
+meets_recorded m at len = meets_ranges (bytes_of m) at len (regions m)
+
+records_counted : (b : Bytes) (rs : List Region) → length rs ≡ length (parts_in b rs) + length (others_in rs)
+records_counted b [] = refl
+records_counted b (r ∷ rs) =
+    elim (cases_Bool (is_heap_kind r.kind)) [
+      | inl heap ↦ rw heap (omega (arith, records_counted b rs))
+      | inr other ↦ rw other (omega (arith, records_counted b rs))
+    ]
+
+pub records_room : (m : AddressMap) → IsSound (store_of m) → leb 65 (length (store_of m).heaps) ≡ false → length (regions m) < 133
+unfolding store_of
+records_room m sound room =
+    let heaps : length (parts_in (bytes_of m) (regions m)) < 65 = leb-false 65 (length (parts_in (bytes_of m) (regions m))) room in
+    omega (arith, records_counted (bytes_of m) (regions m), sound.few)
+
+-- the refusals in their order
+pub begun_bad : (s : Store) (at size : ℕ) → is_heap_region s.bytes at size ≡ false → begun s at size ≡ Err HeapBadRegion
+unfolding begun
+begun_bad s at size bad = rw bad refl
+
+pub begun_over : (s : Store) (at size : ℕ) → is_heap_region s.bytes at size ≡ true → meets_any at size s ≡ true → begun s at size ≡ Err HeapOverlaps
+unfolding begun
+begun_over s at size good over = rw (good, over) refl
+
+pub begun_full : (s : Store) (at size : ℕ) → is_heap_region s.bytes at size ≡ true → meets_any at size s ≡ false
+    → leb 65 (length s.heaps) ≡ true → begun s at size ≡ Err HeapTableFull
+unfolding begun
+begun_full s at size good clear full = rw (good, clear, full) refl
+
+pub begun_done : (s : Store) (at size : ℕ) → MayBegin s at size → begun s at size ≡ Ok (begun_with s at size)
+unfolding begun
+begun_done s at size may = rw (may.region, may.clear, may.room) refl
+
+pub range_end : (m : AddressMap) (at len : ℕ) → AreMapped (is_mapped m) at len → 0 < len → at + len ≤ 2 ^ 26
+range_end m at len mapped some = omega (arith, mapped_below m (at + len - 1) (mapped (at + len - 1) (omega arith) (omega arith)))
+
+-- a store with no record is sound
+pub sound_empty : (m : AddressMap) → regions m ≡ [] → IsSound (store_of m)
+unfolding store_of
+sound_empty m none = rw none (record { parts = tt; clear = tt; few = omega arith })

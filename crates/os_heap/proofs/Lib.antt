@@ -1,0 +1,17 @@
+pub mod Added
+pub mod Calls
+pub mod Claiming
+pub mod Found
+pub mod Freeing
+pub mod Frame
+pub mod Owned
+pub mod Recorded
+pub mod Replace
+pub mod Rest
+pub mod Searching
+pub mod Spelling
+pub mod Stores
+pub mod Tally
+pub mod Unique
+pub mod Walking
+pub mod Writing

@@ -1,0 +1,55 @@
+use Rattle.std.proofs.Common.{◌≡◌, ◌+◌, ◌∙◌, arith}
+use Rattle.address_map.specs.Items.{size_of}
+use Rattle.os_heap.specs.Links.{end_at, items_at}
+use Rattle.os_heap.proofs.Replace.{heap_below}
+use Rattle.os_heap.proofs.Spelling.{size_of-multiple}
+use Rattle.os_heap.proofs.Claiming.{claims_base}
+use Rattle.os_heap.proofs.claim.append.Goals as goal
+
+pub overflow_add-heap : goal.overflow_add-heap
+overflow_add-heap c =
+    omega (arith, heap_below c.args.map.now c.args.heap (end_at c.args.map.now c.args.heap) _ c.requires.heap, c.requires.heap.inside)
+
+pub overflow_add-heap-2 : goal.overflow_add-heap-2
+overflow_add-heap-2 c =
+    omega (arith, heap_below c.args.map.now c.args.heap (end_at c.args.map.now c.args.heap) _ c.requires.heap, c.requires.heap.inside)
+
+pub overflow_add-heap-4 : goal.overflow_add-heap-4
+overflow_add-heap-4 c =
+    omega (arith, heap_below c.args.map.now c.args.heap (end_at c.args.map.now c.args.heap) _ c.requires.heap, c.requires.heap.inside)
+
+pub overflow_add-from : goal.overflow_add-from
+overflow_add-from c =
+    let top = heap_below c.args.map.now c.args.heap (end_at c.args.map.now c.args.heap) _ c.requires.heap in
+    let base : c.word-base.result ≡ 16 + size_of (items_at c.args.map.now c.args.heap) = c.word-base.ensures ∙ c.requires.heap.base in
+    omega (arith, top, base, c.requires.heap.inside, c.requires.small)
+
+pub overflow_add-heap-3 : goal.overflow_add-heap-3
+overflow_add-heap-3 c =
+    let top = heap_below c.args.map.now c.args.heap (end_at c.args.map.now c.args.heap) _ c.requires.heap in
+    let base : c.word-base.result ≡ 16 + size_of (items_at c.args.map.now c.args.heap) = c.word-base.ensures ∙ c.requires.heap.base in
+    omega (arith, top, base, c.requires.heap.inside, c.word-end.ensures)
+
+pub overflow_add-result : goal.overflow_add-result
+overflow_add-result c =
+    let top = heap_below c.args.map.now c.args.heap (end_at c.args.map.now c.args.heap) _ c.requires.heap in
+    let base : c.word-base.result ≡ 16 + size_of (items_at c.args.map.now c.args.heap) = c.word-base.ensures ∙ c.requires.heap.base in
+    omega (arith, top, base, c.requires.heap.inside, c.word-end.ensures)
+
+pub overflow_add-result-2 : goal.overflow_add-result-2
+overflow_add-result-2 c =
+    let top = heap_below c.args.map.now c.args.heap (end_at c.args.map.now c.args.heap) _ c.requires.heap in
+    let base : c.word-base.result ≡ 16 + size_of (items_at c.args.map.now c.args.heap) = c.word-base.ensures ∙ c.requires.heap.base in
+    omega (arith, top, base, c.requires.heap.inside, c.word-end.ensures)
+
+pub put-requires-clause-aligned : goal.put-requires-clause-aligned
+put-requires-clause-aligned c =
+    let top = heap_below c.args.map.now c.args.heap (end_at c.args.map.now c.args.heap) _ c.requires.heap in
+    let base : c.word-base.result ≡ 16 + size_of (items_at c.args.map.now c.args.heap) = c.word-base.ensures ∙ c.requires.heap.base in
+    omega (arith, base, c.requires.heap.aligned, size_of-multiple (items_at c.args.map.now c.args.heap) c.requires.heap.totals)
+
+pub returns : goal.returns
+returns c =
+    let base : c.word-base.result ≡ 16 + size_of (items_at c.args.map.now c.args.heap) = c.word-base.ensures ∙ c.requires.heap.base in
+    claims_base c.args.map.now _ c.args.heap (end_at c.args.map.now c.args.heap) c.args.needed c.word-base.result _ _ c.requires.heap
+    (c.put-2.ensures.layout ∙ c.put.ensures.layout) c.requires.total base (omega (arith, c.word-end.ensures)) c.put.ensures.word c.put-2.ensures.word

@@ -1,0 +1,237 @@
+use Rattle.std.proofs.Common.{◌≡◌, ◌≢◌, ◌+◌, ◌∙◌, arith, sym, ap, inl}
+use Rattle.address_map.specs.Bytes.{word_at}
+use Rattle.address_map.specs.Memory.{byte_at}
+use Rattle.os_heap.specs.Links.{end_at}
+use Rattle.os_heap.proofs.Replace.{heap_below, heap_mapped}
+use Rattle.os_heap.proofs.Freeing.{block_facts, next_free_facts, releases_sunk, releases_joined, releases_alone}
+use Rattle.os_heap.proofs.free.give_back.Goals as goal
+
+pub overflow_add-base : goal.overflow_add-base
+overflow_add-base c =
+    omega (arith, heap_below c.args.map.now c.args.heap (end_at c.args.map.now c.args.heap) _ c.requires.heap, c.requires.heap.inside, c.word.ensures, c.requires.heap.base)
+
+pub overflow_sub-at : goal.overflow_sub-at
+overflow_sub-at c =
+    let f = block_facts c.args.map.now c.args.heap (end_at c.args.map.now c.args.heap) c.args.block c.args.cursor.now.from c.args.cursor.now.at c.args.cursor.now.free c.args.cursor.now.gap c.requires.heap c.requires.block in
+    omega (arith, f.low)
+
+pub word-own-requires-clause-aligned : goal.word-own-requires-clause-aligned
+word-own-requires-clause-aligned c =
+    let f = block_facts c.args.map.now c.args.heap (end_at c.args.map.now c.args.heap) c.args.block c.args.cursor.now.from c.args.cursor.now.at c.args.cursor.now.free c.args.cursor.now.gap c.requires.heap c.requires.block in
+    f.facts.whole
+
+pub word-own-requires-clause-mapped : goal.word-own-requires-clause-mapped
+word-own-requires-clause-mapped c =
+    let f = block_facts c.args.map.now c.args.heap (end_at c.args.map.now c.args.heap) c.args.block c.args.cursor.now.from c.args.cursor.now.at c.args.cursor.now.free c.args.cursor.now.gap c.requires.heap c.requires.block in
+    heap_mapped c.args.map.now c.args.heap (end_at c.args.map.now c.args.heap) _ _ c.requires.heap (omega (arith, f.facts.low)) (omega (arith, f.facts.high, f.facts.size))
+
+pub overflow_add-total : goal.overflow_add-total
+overflow_add-total c =
+    let f = block_facts c.args.map.now c.args.heap (end_at c.args.map.now c.args.heap) c.args.block c.args.cursor.now.from c.args.cursor.now.at c.args.cursor.now.free c.args.cursor.now.gap c.requires.heap c.requires.block in
+    let own = c.word-own.ensures ∙ f.facts.total_word in
+    omega (arith, own, f.low, f.facts.high, f.facts.top)
+
+pub overflow_add-behind : goal.overflow_add-behind
+overflow_add-behind c =
+    let f = block_facts c.args.map.now c.args.heap (end_at c.args.map.now c.args.heap) c.args.block c.args.cursor.now.from c.args.cursor.now.at c.args.cursor.now.free c.args.cursor.now.gap c.requires.heap c.requires.block in
+    let own = c.word-own.ensures ∙ f.facts.total_word in
+    omega (arith, own, f.facts.high, f.facts.top)
+
+pub put_link-requires-clause-below : goal.put_link-requires-clause-below
+put_link-requires-clause-below c =
+    let f = block_facts c.args.map.now c.args.heap (end_at c.args.map.now c.args.heap) c.args.block c.args.cursor.now.from c.args.cursor.now.at c.args.cursor.now.free c.args.cursor.now.gap c.requires.heap c.requires.block in
+    omega (arith, f.last.below, f.facts.high, f.facts.top)
+
+pub put_link-requires-clause-aligned : goal.put_link-requires-clause-aligned
+put_link-requires-clause-aligned c =
+    let f = block_facts c.args.map.now c.args.heap (end_at c.args.map.now c.args.heap) c.args.block c.args.cursor.now.from c.args.cursor.now.at c.args.cursor.now.free c.args.cursor.now.gap c.requires.heap c.requires.block in
+    f.last.aligned
+
+pub put_link-requires-clause-mapped : goal.put_link-requires-clause-mapped
+put_link-requires-clause-mapped c =
+    let f = block_facts c.args.map.now c.args.heap (end_at c.args.map.now c.args.heap) c.args.block c.args.cursor.now.from c.args.cursor.now.at c.args.cursor.now.free c.args.cursor.now.gap c.requires.heap c.requires.block in
+    heap_mapped c.args.map.now c.args.heap (end_at c.args.map.now c.args.heap) _ _ c.requires.heap (omega (arith, f.last.low)) (omega (arith, f.last.high, f.facts.high))
+
+pub put_free-requires-clause-below : goal.put_free-requires-clause-below
+put_free-requires-clause-below c =
+    let f = block_facts c.args.map.now c.args.heap (end_at c.args.map.now c.args.heap) c.args.block c.args.cursor.now.from c.args.cursor.now.at c.args.cursor.now.free c.args.cursor.now.gap c.requires.heap c.requires.block in
+    omega (arith, f.last.below, f.facts.high, f.facts.top)
+
+pub put_free-requires-clause-link_aligned : goal.put_free-requires-clause-link_aligned
+put_free-requires-clause-link_aligned c =
+    let f = block_facts c.args.map.now c.args.heap (end_at c.args.map.now c.args.heap) c.args.block c.args.cursor.now.from c.args.cursor.now.at c.args.cursor.now.free c.args.cursor.now.gap c.requires.heap c.requires.block in
+    f.last.aligned
+
+pub put_free-requires-clause-link_mapped : goal.put_free-requires-clause-link_mapped
+put_free-requires-clause-link_mapped c =
+    let f = block_facts c.args.map.now c.args.heap (end_at c.args.map.now c.args.heap) c.args.block c.args.cursor.now.from c.args.cursor.now.at c.args.cursor.now.free c.args.cursor.now.gap c.requires.heap c.requires.block in
+    heap_mapped c.args.map.now c.args.heap (end_at c.args.map.now c.args.heap) _ _ c.requires.heap (omega (arith, f.last.low)) (omega (arith, f.last.high, f.facts.high))
+
+pub put_free-requires-clause-aligned : goal.put_free-requires-clause-aligned
+put_free-requires-clause-aligned c =
+    let f = block_facts c.args.map.now c.args.heap (end_at c.args.map.now c.args.heap) c.args.block c.args.cursor.now.from c.args.cursor.now.at c.args.cursor.now.free c.args.cursor.now.gap c.requires.heap c.requires.block in
+    f.whole
+
+pub put_free-requires-clause-fits : goal.put_free-requires-clause-fits
+put_free-requires-clause-fits c =
+    let f = block_facts c.args.map.now c.args.heap (end_at c.args.map.now c.args.heap) c.args.block c.args.cursor.now.from c.args.cursor.now.at c.args.cursor.now.free c.args.cursor.now.gap c.requires.heap c.requires.block in
+    omega (arith, f.facts.high, f.facts.top, f.facts.size)
+
+pub put_free-requires-clause-mapped : goal.put_free-requires-clause-mapped
+put_free-requires-clause-mapped c =
+    let f = block_facts c.args.map.now c.args.heap (end_at c.args.map.now c.args.heap) c.args.block c.args.cursor.now.from c.args.cursor.now.at c.args.cursor.now.free c.args.cursor.now.gap c.requires.heap c.requires.block in
+    heap_mapped c.args.map.now c.args.heap (end_at c.args.map.now c.args.heap) _ _ c.requires.heap (omega (arith, f.low)) (omega (arith, f.facts.high, f.facts.size))
+
+pub put_free-requires-clause-total_mapped : goal.put_free-requires-clause-total_mapped
+put_free-requires-clause-total_mapped c =
+    let f = block_facts c.args.map.now c.args.heap (end_at c.args.map.now c.args.heap) c.args.block c.args.cursor.now.from c.args.cursor.now.at c.args.cursor.now.free c.args.cursor.now.gap c.requires.heap c.requires.block in
+    heap_mapped c.args.map.now c.args.heap (end_at c.args.map.now c.args.heap) _ _ c.requires.heap (omega (arith, f.low)) (omega (arith, f.facts.high, f.facts.size))
+
+pub put_free-requires-clause-apart : goal.put_free-requires-clause-apart
+put_free-requires-clause-apart c =
+    let f = block_facts c.args.map.now c.args.heap (end_at c.args.map.now c.args.heap) c.args.block c.args.cursor.now.from c.args.cursor.now.at c.args.cursor.now.free c.args.cursor.now.gap c.requires.heap c.requires.block in
+    inl f.last.high
+
+pub put_free-requires-2-clause-below : goal.put_free-requires-2-clause-below
+put_free-requires-2-clause-below c =
+    let f = block_facts c.args.map.now c.args.heap (end_at c.args.map.now c.args.heap) c.args.block c.args.cursor.now.from c.args.cursor.now.at c.args.cursor.now.free c.args.cursor.now.gap c.requires.heap c.requires.block in
+    omega (arith, f.last.below, f.facts.high, f.facts.top)
+
+pub put_free-requires-2-clause-link_aligned : goal.put_free-requires-2-clause-link_aligned
+put_free-requires-2-clause-link_aligned c =
+    let f = block_facts c.args.map.now c.args.heap (end_at c.args.map.now c.args.heap) c.args.block c.args.cursor.now.from c.args.cursor.now.at c.args.cursor.now.free c.args.cursor.now.gap c.requires.heap c.requires.block in
+    f.last.aligned
+
+pub put_free-requires-2-clause-link_mapped : goal.put_free-requires-2-clause-link_mapped
+put_free-requires-2-clause-link_mapped c =
+    let f = block_facts c.args.map.now c.args.heap (end_at c.args.map.now c.args.heap) c.args.block c.args.cursor.now.from c.args.cursor.now.at c.args.cursor.now.free c.args.cursor.now.gap c.requires.heap c.requires.block in
+    heap_mapped c.args.map.now c.args.heap (end_at c.args.map.now c.args.heap) _ _ c.requires.heap (omega (arith, f.last.low)) (omega (arith, f.last.high, f.facts.high))
+
+pub put_free-requires-2-clause-aligned : goal.put_free-requires-2-clause-aligned
+put_free-requires-2-clause-aligned c =
+    let f = block_facts c.args.map.now c.args.heap (end_at c.args.map.now c.args.heap) c.args.block c.args.cursor.now.from c.args.cursor.now.at c.args.cursor.now.free c.args.cursor.now.gap c.requires.heap c.requires.block in
+    f.whole
+
+pub put_free-requires-2-clause-fits : goal.put_free-requires-2-clause-fits
+put_free-requires-2-clause-fits c =
+    let f = block_facts c.args.map.now c.args.heap (end_at c.args.map.now c.args.heap) c.args.block c.args.cursor.now.from c.args.cursor.now.at c.args.cursor.now.free c.args.cursor.now.gap c.requires.heap c.requires.block in
+    omega (arith, f.facts.high, f.facts.top, f.facts.size)
+
+pub put_free-requires-2-clause-mapped : goal.put_free-requires-2-clause-mapped
+put_free-requires-2-clause-mapped c =
+    let f = block_facts c.args.map.now c.args.heap (end_at c.args.map.now c.args.heap) c.args.block c.args.cursor.now.from c.args.cursor.now.at c.args.cursor.now.free c.args.cursor.now.gap c.requires.heap c.requires.block in
+    heap_mapped c.args.map.now c.args.heap (end_at c.args.map.now c.args.heap) _ _ c.requires.heap (omega (arith, f.low)) (omega (arith, f.facts.high, f.facts.size))
+
+pub put_free-requires-2-clause-total_mapped : goal.put_free-requires-2-clause-total_mapped
+put_free-requires-2-clause-total_mapped c =
+    let f = block_facts c.args.map.now c.args.heap (end_at c.args.map.now c.args.heap) c.args.block c.args.cursor.now.from c.args.cursor.now.at c.args.cursor.now.free c.args.cursor.now.gap c.requires.heap c.requires.block in
+    heap_mapped c.args.map.now c.args.heap (end_at c.args.map.now c.args.heap) _ _ c.requires.heap (omega (arith, f.low)) (omega (arith, f.facts.high, f.facts.size))
+
+pub put_free-requires-2-clause-apart : goal.put_free-requires-2-clause-apart
+put_free-requires-2-clause-apart c =
+    let f = block_facts c.args.map.now c.args.heap (end_at c.args.map.now c.args.heap) c.args.block c.args.cursor.now.from c.args.cursor.now.at c.args.cursor.now.free c.args.cursor.now.gap c.requires.heap c.requires.block in
+    inl f.last.high
+
+pub overflow_sub-at-then-behind-base : goal.overflow_sub-at-then-behind-base
+overflow_sub-at-then-behind-base c =
+    let f = block_facts c.args.map.now c.args.heap (end_at c.args.map.now c.args.heap) c.args.block c.args.cursor.now.from c.args.cursor.now.at c.args.cursor.now.free c.args.cursor.now.gap c.requires.heap c.requires.block in
+    omega (arith, f.low)
+
+pub returns-then-behind-base : goal.returns-then-behind-base
+returns-then-behind-base c =
+    let f = block_facts c.args.map.now c.args.heap (end_at c.args.map.now c.args.heap) c.args.block c.args.cursor.now.from c.args.cursor.now.at c.args.cursor.now.free c.args.cursor.now.gap c.requires.heap c.requires.block in
+    let own = c.word-own.ensures ∙ f.facts.total_word in
+    let ends : c.args.cursor.now.at + c.requires.block.total ≡ c.args.heap + word_at (byte_at c.args.map.now) (c.args.heap + 8) =
+    sym (ap (λ n. c.args.cursor.now.at + n) own) ∙ c.if-behind-base.true ∙ ap (λ n. c.args.heap + n) c.word.ensures in
+    releases_sunk c.args.map.now _ c.args.heap (end_at c.args.map.now c.args.heap) c.args.block c.args.cursor.now.from c.args.cursor.now.at c.args.cursor.now.free c.args.cursor.now.gap _ c.requires.heap c.requires.block ends
+    (c.put.ensures.layout ∙ c.put_link.ensures.layout) c.put_link.ensures.word c.put.ensures.word
+
+pub overflow_add-behind-then-behind-cursor : goal.overflow_add-behind-then-behind-cursor
+overflow_add-behind-then-behind-cursor c =
+    let f = block_facts c.args.map.now c.args.heap (end_at c.args.map.now c.args.heap) c.args.block c.args.cursor.now.from c.args.cursor.now.at c.args.cursor.now.free c.args.cursor.now.gap c.requires.heap c.requires.block in
+    let own = c.word-own.ensures ∙ f.facts.total_word in
+    let here : c.args.cursor.now.at + c.requires.block.total ≡ c.args.cursor.now.free = sym (ap (λ n. c.args.cursor.now.at + n) own) ∙ c.if-behind-cursor.true in
+    let k = next_free_facts c.args.map.now c.args.heap (end_at c.args.map.now c.args.heap) c.args.block c.args.cursor.now.from c.args.cursor.now.at c.args.cursor.now.free c.args.cursor.now.gap c.requires.heap c.requires.block here in
+    omega (arith, own, k.facts.high, k.facts.top, k.facts.size)
+
+pub word-requires-then-behind-cursor-clause-aligned : goal.word-requires-then-behind-cursor-clause-aligned
+word-requires-then-behind-cursor-clause-aligned c =
+    let f = block_facts c.args.map.now c.args.heap (end_at c.args.map.now c.args.heap) c.args.block c.args.cursor.now.from c.args.cursor.now.at c.args.cursor.now.free c.args.cursor.now.gap c.requires.heap c.requires.block in
+    let own = c.word-own.ensures ∙ f.facts.total_word in
+    let here : c.args.cursor.now.at + c.requires.block.total ≡ c.args.cursor.now.free = sym (ap (λ n. c.args.cursor.now.at + n) own) ∙ c.if-behind-cursor.true in
+    let k = next_free_facts c.args.map.now c.args.heap (end_at c.args.map.now c.args.heap) c.args.block c.args.cursor.now.from c.args.cursor.now.at c.args.cursor.now.free c.args.cursor.now.gap c.requires.heap c.requires.block here in
+    rw own (omega (arith, k.facts.whole))
+
+pub word-requires-then-behind-cursor-clause-mapped : goal.word-requires-then-behind-cursor-clause-mapped
+word-requires-then-behind-cursor-clause-mapped c =
+    let f = block_facts c.args.map.now c.args.heap (end_at c.args.map.now c.args.heap) c.args.block c.args.cursor.now.from c.args.cursor.now.at c.args.cursor.now.free c.args.cursor.now.gap c.requires.heap c.requires.block in
+    let own = c.word-own.ensures ∙ f.facts.total_word in
+    let here : c.args.cursor.now.at + c.requires.block.total ≡ c.args.cursor.now.free = sym (ap (λ n. c.args.cursor.now.at + n) own) ∙ c.if-behind-cursor.true in
+    let k = next_free_facts c.args.map.now c.args.heap (end_at c.args.map.now c.args.heap) c.args.block c.args.cursor.now.from c.args.cursor.now.at c.args.cursor.now.free c.args.cursor.now.gap c.requires.heap c.requires.block here in
+    rw own (heap_mapped c.args.map.now c.args.heap (end_at c.args.map.now c.args.heap) _ _ c.requires.heap (omega (arith, k.facts.low)) (omega (arith, k.facts.high, k.facts.size)))
+
+pub overflow_add-joined : goal.overflow_add-joined
+overflow_add-joined c =
+    let f = block_facts c.args.map.now c.args.heap (end_at c.args.map.now c.args.heap) c.args.block c.args.cursor.now.from c.args.cursor.now.at c.args.cursor.now.free c.args.cursor.now.gap c.requires.heap c.requires.block in
+    let own = c.word-own.ensures ∙ f.facts.total_word in
+    let here : c.args.cursor.now.at + c.requires.block.total ≡ c.args.cursor.now.free = sym (ap (λ n. c.args.cursor.now.at + n) own) ∙ c.if-behind-cursor.true in
+    let k = next_free_facts c.args.map.now c.args.heap (end_at c.args.map.now c.args.heap) c.args.block c.args.cursor.now.from c.args.cursor.now.at c.args.cursor.now.free c.args.cursor.now.gap c.requires.heap c.requires.block here in
+    let other = rw own at c.word-then-behind-cursor.ensures in
+    let sum = other ∙ k.facts.total_word in
+    omega (arith, own, sum, f.low, k.facts.high, k.facts.top)
+
+pub follow-next-requires-clause-below : goal.follow-next-requires-clause-below
+follow-next-requires-clause-below c =
+    let f = block_facts c.args.map.now c.args.heap (end_at c.args.map.now c.args.heap) c.args.block c.args.cursor.now.from c.args.cursor.now.at c.args.cursor.now.free c.args.cursor.now.gap c.requires.heap c.requires.block in
+    let own = c.word-own.ensures ∙ f.facts.total_word in
+    let here : c.args.cursor.now.at + c.requires.block.total ≡ c.args.cursor.now.free = sym (ap (λ n. c.args.cursor.now.at + n) own) ∙ c.if-behind-cursor.true in
+    let k = next_free_facts c.args.map.now c.args.heap (end_at c.args.map.now c.args.heap) c.args.block c.args.cursor.now.from c.args.cursor.now.at c.args.cursor.now.free c.args.cursor.now.gap c.requires.heap c.requires.block here in
+    omega (arith, own, k.facts.high, k.facts.top, k.facts.size)
+
+pub follow-next-requires-clause-aligned : goal.follow-next-requires-clause-aligned
+follow-next-requires-clause-aligned c =
+    let f = block_facts c.args.map.now c.args.heap (end_at c.args.map.now c.args.heap) c.args.block c.args.cursor.now.from c.args.cursor.now.at c.args.cursor.now.free c.args.cursor.now.gap c.requires.heap c.requires.block in
+    let own = c.word-own.ensures ∙ f.facts.total_word in
+    let here : c.args.cursor.now.at + c.requires.block.total ≡ c.args.cursor.now.free = sym (ap (λ n. c.args.cursor.now.at + n) own) ∙ c.if-behind-cursor.true in
+    let k = next_free_facts c.args.map.now c.args.heap (end_at c.args.map.now c.args.heap) c.args.block c.args.cursor.now.from c.args.cursor.now.at c.args.cursor.now.free c.args.cursor.now.gap c.requires.heap c.requires.block here in
+    rw (own, k.link) k.facts.whole
+
+pub follow-next-requires-clause-mapped : goal.follow-next-requires-clause-mapped
+follow-next-requires-clause-mapped c =
+    let f = block_facts c.args.map.now c.args.heap (end_at c.args.map.now c.args.heap) c.args.block c.args.cursor.now.from c.args.cursor.now.at c.args.cursor.now.free c.args.cursor.now.gap c.requires.heap c.requires.block in
+    let own = c.word-own.ensures ∙ f.facts.total_word in
+    let here : c.args.cursor.now.at + c.requires.block.total ≡ c.args.cursor.now.free = sym (ap (λ n. c.args.cursor.now.at + n) own) ∙ c.if-behind-cursor.true in
+    let k = next_free_facts c.args.map.now c.args.heap (end_at c.args.map.now c.args.heap) c.args.block c.args.cursor.now.from c.args.cursor.now.at c.args.cursor.now.free c.args.cursor.now.gap c.requires.heap c.requires.block here in
+    rw (own, k.link) (heap_mapped c.args.map.now c.args.heap (end_at c.args.map.now c.args.heap) _ _ c.requires.heap (omega (arith, k.facts.low)) (omega (arith, k.facts.high, k.facts.size)))
+
+pub follow-next-requires-clause-fits : goal.follow-next-requires-clause-fits
+follow-next-requires-clause-fits c =
+    let f = block_facts c.args.map.now c.args.heap (end_at c.args.map.now c.args.heap) c.args.block c.args.cursor.now.from c.args.cursor.now.at c.args.cursor.now.free c.args.cursor.now.gap c.requires.heap c.requires.block in
+    let own = c.word-own.ensures ∙ f.facts.total_word in
+    let here : c.args.cursor.now.at + c.requires.block.total ≡ c.args.cursor.now.free = sym (ap (λ n. c.args.cursor.now.at + n) own) ∙ c.if-behind-cursor.true in
+    let k = next_free_facts c.args.map.now c.args.heap (end_at c.args.map.now c.args.heap) c.args.block c.args.cursor.now.from c.args.cursor.now.at c.args.cursor.now.free c.args.cursor.now.gap c.requires.heap c.requires.block here in
+    rw (own, k.onward) (omega (arith, k.facts.next_high))
+
+pub returns-then-behind-cursor : goal.returns-then-behind-cursor
+returns-then-behind-cursor c =
+    let f = block_facts c.args.map.now c.args.heap (end_at c.args.map.now c.args.heap) c.args.block c.args.cursor.now.from c.args.cursor.now.at c.args.cursor.now.free c.args.cursor.now.gap c.requires.heap c.requires.block in
+    let own = c.word-own.ensures ∙ f.facts.total_word in
+    let here : c.args.cursor.now.at + c.requires.block.total ≡ c.args.cursor.now.free = sym (ap (λ n. c.args.cursor.now.at + n) own) ∙ c.if-behind-cursor.true in
+    let k = next_free_facts c.args.map.now c.args.heap (end_at c.args.map.now c.args.heap) c.args.block c.args.cursor.now.from c.args.cursor.now.at c.args.cursor.now.free c.args.cursor.now.gap c.requires.heap c.requires.block here in
+    let other = rw own at c.word-then-behind-cursor.ensures in
+    let sum = other ∙ k.facts.total_word in
+    let next = rw own at c.follow-next.ensures in
+    let words = rw (own, sum) at c.put_free.ensures.words in
+    releases_joined c.args.map.now _ c.args.heap (end_at c.args.map.now c.args.heap) c.args.block c.args.cursor.now.from c.args.cursor.now.at c.args.cursor.now.free c.args.cursor.now.gap c.follow-next.result c.requires.heap c.requires.block k
+    c.put_free.ensures.layout (next ∙ k.onward) words
+
+pub returns : goal.returns
+returns c =
+    let f = block_facts c.args.map.now c.args.heap (end_at c.args.map.now c.args.heap) c.args.block c.args.cursor.now.from c.args.cursor.now.at c.args.cursor.now.free c.args.cursor.now.gap c.requires.heap c.requires.block in
+    let own = c.word-own.ensures ∙ f.facts.total_word in
+    let words = rw own at c.put_free-2.ensures.words in
+    let inside : c.args.cursor.now.at + c.requires.block.total ≢ c.args.heap + word_at (byte_at c.args.map.now) (c.args.heap + 8) =
+    λ e. c.if-behind-base.false (ap (λ n. c.args.cursor.now.at + n) own ∙ e ∙ sym (ap (λ n. c.args.heap + n) c.word.ensures)) in
+    let other : c.args.cursor.now.at + c.requires.block.total ≢ c.args.cursor.now.free = λ e. c.if-behind-cursor.false (ap (λ n. c.args.cursor.now.at + n) own ∙ e) in
+    releases_alone c.args.map.now _ c.args.heap (end_at c.args.map.now c.args.heap) c.args.block c.args.cursor.now.from c.args.cursor.now.at c.args.cursor.now.free c.args.cursor.now.gap c.requires.heap c.requires.block inside other
+    c.put_free-2.ensures.layout words

@@ -1,0 +1,51 @@
+use Rattle.std.proofs.Common.{◌≡◌, [], ◌∷◌, ◌++◌, is_some, ap, sym, subst, ◌∙◌, arith}
+use Rattle.address_map.specs.declared.region.Region.{Region}
+use Rattle.address_map.specs.Memory.{byte_at, bytes_of, regions}
+use Rattle.address_map.proofs.Equations.{same_bytes}
+use Rattle.os_heap.specs.Heap.{with_part}
+use Rattle.os_heap.specs.Store.{store_of, IsSound, begun_with}
+use Rattle.os_heap.proofs.Frame.{layout-regions}
+use Rattle.os_heap.proofs.Added.{CanHold, can_hold, empty, range_end, records_room, recorded, store_begun, begun_sound}
+use Rattle.os_heap.proofs.init.make.Goals as goal
+
+pub write_descriptor-requires-clause-aligned : goal.write_descriptor-requires-clause-aligned
+unfolding store_of
+write_descriptor-requires-clause-aligned c = (can_hold (bytes_of c.args.map.now) c.args.heap c.args.size c.requires.may.region).aligned
+
+pub write_descriptor-requires-clause-room : goal.write_descriptor-requires-clause-room
+unfolding store_of
+write_descriptor-requires-clause-room c = (can_hold (bytes_of c.args.map.now) c.args.heap c.args.size c.requires.may.region).low
+
+pub write_descriptor-requires-clause-mapped : goal.write_descriptor-requires-clause-mapped
+unfolding store_of
+write_descriptor-requires-clause-mapped c = (can_hold (bytes_of c.args.map.now) c.args.heap c.args.size c.requires.may.region).mapped
+
+pub own-requires-clause-region : goal.own-requires-clause-region
+unfolding store_of
+own-requires-clause-region c =
+    let can : CanHold (bytes_of c.args.map.now) c.args.heap c.args.size = can_hold (bytes_of c.args.map.now) c.args.heap c.args.size c.requires.may.region in
+    record {
+      aligned = can.aligned;
+      end = range_end c.args.map.now c.args.heap c.args.size can.mapped (omega (arith, can.low));
+    }
+
+pub own-requires-clause-room : goal.own-requires-clause-room
+own-requires-clause-room c =
+    let same : regions c.write_descriptor.new.map ≡ regions c.args.map.now = layout-regions _ _ c.write_descriptor.ensures.layout in
+    rw same (records_room c.args.map.now c.requires.sound c.requires.may.room)
+
+pub returns-clause-store : goal.returns-clause-store
+returns-clause-store c =
+    let r : Region = record { kind = c.args.kind; at = c.args.heap; len = c.args.size } in
+    let records : regions c.own.new.self ≡ regions c.args.map.now ++ r ∷ [] =
+    c.own.ensures.regions ∙ recorded (regions c.write_descriptor.new.map) c.args.kind c.args.heap c.args.size c.requires.kind ∙ ap (λ rs. rs ++ r ∷ []) (layout-regions _ _ c.write_descriptor.ensures.layout) in
+    let moved : bytes_of c.own.new.self ≡ bytes_of c.write_descriptor.new.map =
+    λ i. record { mapped = λ a. is_some (c.own.ensures.place i a); at = c.own.ensures.bytes i } in
+    let written = same_bytes c.args.map.now c.write_descriptor.new.map (with_part (byte_at c.args.map.now) (empty c.args.heap c.args.size))
+    c.write_descriptor.ensures.layout c.write_descriptor.ensures.bytes in
+    store_begun c.args.map.now c.own.new.self c.args.kind c.args.heap c.args.size c.requires.kind c.requires.may c.requires.sound records (moved ∙ written)
+
+pub returns-clause-sound : goal.returns-clause-sound
+returns-clause-sound c =
+    let store : store_of c.own.new.self ≡ begun_with (store_of c.args.map.now) c.args.heap c.args.size = returns-clause-store c in
+    subst IsSound (sym store) (begun_sound (store_of c.args.map.now) c.args.heap c.args.size c.requires.may c.requires.sound)

@@ -1,0 +1,9 @@
+pub mod Begin
+pub mod Claims
+pub mod Heap
+pub mod Links
+pub mod Lists
+pub mod Releases
+pub mod Rest
+pub mod Store
+pub mod Tally

@@ -1,0 +1,146 @@
+ghost use Rattle.std.specs.Prelude.{◌≡◌, ◌≤◌, ◌<◌, ◌-◌, ◌+◌, ◌^◌, Ok, Some, None, MatchOption, true};
+ghost use Rattle.profile.specs.Outcome.{Gives};
+ghost use Rattle.address_map.specs.Items.{is_total, size_of};
+ghost use Rattle.address_map.specs.Memory.{layout};
+ghost use Rattle.os_heap.specs.Lists.{total_for, first_fit, claimed, or_at_base, looked_at};
+ghost use Rattle.os_heap.specs.Links.{HasHeapAt, end_at, items_at};
+ghost use Rattle.os_heap.specs.Claims.{IsFit, Claims};
+ghost use Rattle.os_heap.specs.Store.{store_of, IsSound, got, get_probes};
+
+use crate::counted::Counted;
+use crate::heaps::{Heaps, find};
+use crate::words::{follow, put, put_free, put_link, word};
+use address_map::AddressMap;
+use profile::ErrorNumber;
+
+/// A free item, and the one before it along the links, or the heap itself.
+#[derive(Clone, Copy)]
+struct Fit {
+    from: u32,
+    at: u32,
+    total: u32,
+}
+
+/// What a search came to, and how many free items it looked at.
+#[derive(Clone, Copy)]
+struct Search {
+    fit: Option<Fit>,
+    probes: u32,
+}
+
+/// The total of a block for `size` bytes: its length word too, a multiple of 8.
+fn total_for(size: u32) -> u64
+    ensures { result ≡ total_for size }
+{
+    (u64::from(size) + 11) / 8 * 8
+}
+
+/// The first free item, along the links, that has `needed` bytes.
+fn find_fit(map: &AddressMap, heap: u32, needed: u64) -> Search
+    requires { HasHeapAt map.now heap }
+    ensures fit { MatchOption result.fit (first_fit needed (items_at map.now heap) ≡ None) (λ fit. IsFit heap (items_at map.now heap) needed fit.from fit.at fit.total) }
+    ensures probes { result.probes ≡ looked_at needed (items_at map.now heap) }
+{
+    let mut probes = 0;
+    let mut from = heap;
+    let mut at = follow(map, heap, heap);
+    while at != 0 {
+        let total = word(map, at + 4);
+        probes += 1;
+        if u64::from(total) >= needed {
+            let fit = Some(Fit { from, at, total });
+            return Search { fit, probes };
+        }
+        from = at;
+        at = follow(map, heap, at);
+    }
+    Search { fit: None, probes }
+}
+
+/// Makes a block of `needed` bytes at the front of a free item. What is left of it stays free.
+fn take(map: &mut AddressMap, heap: u32, fit: &Fit, needed: u32) -> u32
+    requires heap { HasHeapAt map.old heap }
+    requires total { is_total needed ≡ true }
+    requires fit { IsFit heap (items_at map.old heap) needed fit.now.from fit.now.at fit.now.total }
+    ensures { Claims map.old map.new heap (end_at map.old heap) (Ok result) (first_fit needed (items_at map.old heap)) }
+{
+    let next = follow(map, heap, fit.at);
+    let left = fit.total - needed;
+    if left == 0 {
+        put_link(map, heap, fit.from, next);
+        put(map, fit.at, needed);
+        return fit.at + 4;
+    }
+    put_free(map, heap, fit.from, fit.at + needed, left, next);
+    put(map, fit.at, needed);
+    fit.at + 4
+}
+
+/// Makes a block of `needed` bytes behind all items, where the heap has room.
+fn append(map: &mut AddressMap, heap: u32, needed: u64) -> Result<u32, ErrorNumber>
+    requires heap { HasHeapAt map.old heap }
+    requires total { is_total needed ≡ true }
+    requires small { needed < 2 ^ 33 }
+    ensures { Claims map.old map.new heap (end_at map.old heap) result (or_at_base needed (end_at map.old heap - 16) (items_at map.old heap) None) }
+{
+    let base = word(map, heap + 8);
+    let end = word(map, heap + 12);
+    if u64::from(base) + needed > u64::from(end) {
+        return Err(ErrorNumber::HeapNoRoom);
+    }
+    let total = needed as u32;
+    put(map, heap + base, total);
+    put(map, heap + 8, base + total);
+    Ok(heap + base + 4)
+}
+
+/// Claims a block in one heap.
+#[tactic(auto, unfolding(crate::specs::Lists::claimed))]
+fn claim(map: &mut AddressMap, heap: u32, size: u32) -> Counted<u32>
+    requires { HasHeapAt map.old heap }
+    ensures claim { Claims map.old map.new heap (end_at map.old heap) result.answer (claimed (total_for size) (end_at map.old heap - 16) (items_at map.old heap)) }
+    ensures probes { result.probes ≡ looked_at (total_for size) (items_at map.old heap) }
+{
+    let needed = total_for(size);
+    let search = find_fit(map, heap, needed);
+    match search.fit {
+        Some(fit) => {
+            let block = take(map, heap, &fit, needed as u32);
+            Counted {
+                answer: Ok(block),
+                probes: search.probes,
+            }
+        }
+        None => Counted {
+            answer: append(map, heap, needed),
+            probes: search.probes,
+        },
+    }
+}
+
+impl Heaps {
+    /// Claims a block of `size` bytes in the heap that starts at `heap`, and answers the address of its first byte. The
+    /// block is the front of the first free block, along the links, that has room; else it is made at the base.
+    ///
+    /// # Errors
+    ///
+    /// `HeapBadDesc` where no heap starts at `heap`; `HeapNoRoom` where neither a free block nor the room above the base
+    /// suffices. Nothing is changed then.
+    ///
+    /// RISC OS 3 Programmer's Reference Manual, "OS_Heap", reason 2.
+    pub fn get(&self, map: &mut AddressMap, heap: u32, size: u32) -> Counted<u32>
+        requires { IsSound (store_of map.old) }
+        ensures store { Gives (store_of map.old) (got (store_of map.old) heap size) result.answer (store_of map.new) }
+        ensures sound { IsSound (store_of map.new) }
+        ensures layout { layout map.new ≡ layout map.old }
+        ensures probes { result.probes ≡ get_probes (store_of map.old) heap size }
+    {
+        match find(map, heap) {
+            Some(_) => claim(map, heap, size),
+            None => Counted {
+                answer: Err(ErrorNumber::HeapBadDesc),
+                probes: 0,
+            },
+        }
+    }
+}

@@ -1,0 +1,38 @@
+ghost use Rattle.std.specs.Prelude.{◌≡◌, Some, None, MatchOption};
+ghost use Rattle.address_map.specs.Memory.{bytes_of};
+ghost use Rattle.address_map.specs.Records.{is_heap_kind};
+ghost use Rattle.os_heap.specs.Store.{store_of, part_in, find_part};
+
+use address_map::{AddressMap, Kind, Region};
+
+/// The heaps of a machine. Their starts stand in the record of the address map, and all else of them in the words of memory alone.
+#[derive(Clone, Copy, Debug, Default)]
+pub struct Heaps;
+
+impl Heaps {
+    /// The heaps of a machine at its start.
+    pub fn new() -> Heaps {
+        Heaps
+    }
+}
+
+/// The recorded range of the heap that starts at an address.
+#[tactic(auto, unfolding(crate::specs::Store::store_of))]
+pub(crate) fn find(map: &AddressMap, heap: u32) -> Option<Region>
+    ensures { MatchOption result (find_part heap (store_of map.now).heaps ≡ None) (λ region. (region.at ≡ heap) × (find_part heap (store_of map.now).heaps ≡ Some (part_in (bytes_of map.now) region))) }
+{
+    let regions = map.regions();
+    for region in regions {
+        if region.at == heap && is_heap(region.kind) {
+            return Some(*region);
+        }
+    }
+    None
+}
+
+/// Whether a range of that kind is a heap.
+pub(crate) fn is_heap(kind: Kind) -> bool
+    ensures { result ≡ is_heap_kind kind }
+{
+    matches!(kind, Kind::Heap | Kind::Rma)
+}

@@ -1,0 +1,178 @@
+ghost use Rattle.std.specs.Prelude.{ℕ, [], true, ◌≡◌, ◌≤◌, ◌%◌, length, IsTrue, MatchResult, Err};
+ghost use Rattle.std.specs.List.{list_any};
+ghost use Rattle.profile.specs.Outcome.{Leaves};
+ghost use Rattle.address_map.specs.Bytes.{Bytes, AreMapped};
+ghost use Rattle.address_map.specs.Memory.{place, byte_at, is_mapped, bytes_of, layout, free_pages, free_runs};
+ghost use Rattle.address_map.specs.Records.{is_heap_kind};
+ghost use Rattle.os_heap.specs.Begin.{MayBegin};
+ghost use Rattle.os_heap.specs.Heap.{with_part};
+ghost use Rattle.os_heap.specs.Store.{store_of, parts_in, IsSound, is_heap_region, meets, meets_any, begun, begun_with};
+
+use crate::counted::Counted;
+use crate::heaps::{Heaps, is_heap};
+use address_map::{AddressMap, Kind, Region};
+use profile::ErrorNumber;
+use profile::memory_map::{HEAP_DESCRIPTOR, HEAP_NAME};
+
+/// The most bytes of a heap.
+const MOST_HEAP: u32 = 16_777_216;
+
+/// The most heaps: 64, and the module area.
+const MOST_HEAPS: usize = 65;
+
+impl Heaps {
+    /// Makes a heap of `size` bytes at an address, without items. It takes up its bytes from then on.
+    ///
+    /// # Errors
+    ///
+    /// The first of these, and nothing is changed then: `HeapBadRegion` where the address or the size is no multiple of 4, the size
+    /// is not within 16 to 16,777,216, or not all of the range is mapped; `HeapOverlaps` where it meets a recorded range;
+    /// `HeapTableFull` where there are 64 heaps besides that of the module area.
+    pub fn init(&self, map: &mut AddressMap, heap: u32, size: u32) -> Counted<()>
+        requires { IsSound (store_of map.old) }
+        ensures store { Leaves (store_of map.old) (begun (store_of map.old) heap size) result.answer (store_of map.new) }
+        ensures sound { IsSound (store_of map.new) }
+        ensures place { place map.new ≡ place map.old }
+        ensures pages { free_pages map.new ≡ free_pages map.old }
+        ensures runs { free_runs map.new ≡ free_runs map.old }
+        ensures probes { result.probes ≡ 0 }
+    {
+        Counted {
+            answer: begin(map, heap, size),
+            probes: 0,
+        }
+    }
+
+    /// Makes the heap of the module area, without items, as `init` makes one that it does not refuse.
+    pub fn init_module_area(&self, map: &mut AddressMap, area: u32, size: u32)
+        requires may { MayBegin (store_of map.old) area size }
+        requires sound { IsSound (store_of map.old) }
+        ensures store { store_of map.new ≡ begun_with (store_of map.old) area size }
+        ensures sound { IsSound (store_of map.new) }
+        ensures place { place map.new ≡ place map.old }
+        ensures pages { free_pages map.new ≡ free_pages map.old }
+        ensures runs { free_runs map.new ≡ free_runs map.old }
+    {
+        make(map, Kind::Rma, area, size);
+    }
+}
+
+/// Makes a heap, where nothing speaks against it.
+fn begin(map: &mut AddressMap, heap: u32, size: u32) -> Result<(), ErrorNumber>
+    requires { IsSound (store_of map.old) }
+    ensures store { Leaves (store_of map.old) (begun (store_of map.old) heap size) result (store_of map.new) }
+    ensures sound { IsSound (store_of map.new) }
+    ensures place { place map.new ≡ place map.old }
+    ensures pages { free_pages map.new ≡ free_pages map.old }
+    ensures runs { free_runs map.new ≡ free_runs map.old }
+{
+    may_begin(map, heap, size)?;
+    make(map, Kind::Heap, heap, size);
+    Ok(())
+}
+
+/// Writes the descriptor of a heap without items, and records its range.
+fn make(map: &mut AddressMap, kind: Kind, heap: u32, size: u32)
+    requires kind { is_heap_kind kind ≡ true }
+    requires may { MayBegin (store_of map.old) heap size }
+    requires sound { IsSound (store_of map.old) }
+    ensures store { store_of map.new ≡ begun_with (store_of map.old) heap size }
+    ensures sound { IsSound (store_of map.new) }
+    ensures place { place map.new ≡ place map.old }
+    ensures pages { free_pages map.new ≡ free_pages map.old }
+    ensures runs { free_runs map.new ≡ free_runs map.old }
+{
+    write_descriptor(map, heap, size);
+    map.own(kind, heap, size);
+}
+
+/// Writes the words of a heap without items: its name, no link, the base behind these words, and the end.
+fn write_descriptor(map: &mut AddressMap, heap: u32, size: u32)
+    requires aligned { heap % 4 ≡ 0 }
+    requires room { 16 ≤ size }
+    requires mapped { AreMapped (is_mapped map.old) heap size }
+    ensures bytes { (a : ℕ) → byte_at map.new a ≡ with_part (byte_at map.old) (record { start = heap; end = size; items = [] }) a }
+    ensures layout { layout map.new ≡ layout map.old }
+{
+    map.put_word(heap, HEAP_NAME);
+    map.put_word(heap + 4, 0);
+    map.put_word(heap + 8, HEAP_DESCRIPTOR);
+    map.put_word(heap + 12, size);
+}
+
+/// Whether a heap may be made of a range.
+fn may_begin(map: &AddressMap, heap: u32, size: u32) -> Result<(), ErrorNumber>
+    ensures { MatchResult result (λ _. MayBegin (store_of map.now) heap size) (λ e. begun (store_of map.now) heap size ≡ Err e) }
+{
+    if !is_heap_region(map, heap, size) {
+        return Err(ErrorNumber::HeapBadRegion);
+    }
+    if meets_any(map, heap, size) {
+        return Err(ErrorNumber::HeapOverlaps);
+    }
+    if count_heaps(map) >= MOST_HEAPS {
+        return Err(ErrorNumber::HeapTableFull);
+    }
+    Ok(())
+}
+
+/// Whether a range is one that a heap may have: of whole words, with a size in the limits, and mapped.
+fn is_heap_region(map: &AddressMap, heap: u32, size: u32) -> bool
+    ensures { result ≡ is_heap_region (bytes_of map.now) heap size }
+{
+    if heap % 4 != 0 || size % 4 != 0 {
+        return false;
+    }
+    if size < HEAP_DESCRIPTOR || size > MOST_HEAP {
+        return false;
+    }
+    map.maps(heap, size)
+}
+
+/// Whether a range meets a recorded one.
+fn meets_any(map: &AddressMap, heap: u32, size: u32) -> bool
+    ensures { result ≡ meets_any heap size (store_of map.now) }
+{
+    meets_regions(map.regions(), heap, size)
+}
+
+fn meets_regions(regions: &[Region], heap: u32, size: u32) -> bool
+    ensures { result ≡ list_any (λ r. meets heap size r.at r.len) regions.now }
+{
+    for region in regions {
+        if meets(region, heap, size) {
+            return true;
+        }
+    }
+    false
+}
+
+/// Whether two ranges share an address.
+fn meets(region: &Region, heap: u32, size: u32) -> bool
+    ensures { result ≡ meets heap size region.now.at region.now.len }
+{
+    let end = u64::from(region.at) + u64::from(region.len);
+    if region.len == 0 || u64::from(heap) >= end {
+        return false;
+    }
+    u64::from(region.at) < u64::from(heap) + u64::from(size)
+}
+
+/// How many heaps are recorded.
+fn count_heaps(map: &AddressMap) -> usize
+    ensures { result ≡ length (store_of map.now).heaps }
+{
+    count_regions(map.regions())
+}
+
+fn count_regions(regions: &[Region]) -> usize
+    ensures { (b : Bytes) → length (parts_in b regions.now) ≡ result }
+{
+    let mut count = 0;
+    for region in regions {
+        if is_heap(region.kind) {
+            count += 1;
+        }
+    }
+    count
+}

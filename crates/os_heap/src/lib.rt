@@ -1,0 +1,22 @@
+//! Heaps whose only record is the guest's own memory: blocks are found by the words before them, free room by links kept in it.
+#![tactic(auto)]
+
+pub mod blocks;
+mod claim;
+pub mod counted;
+pub mod describe;
+mod free;
+pub mod heaps;
+pub mod init;
+mod links;
+mod words;
+
+pub use address_map::Item;
+pub use blocks::Blocks;
+pub use counted::Counted;
+pub use heaps::Heaps;
+
+#[cfg(test)]
+mod block_tests;
+#[cfg(test)]
+mod tests;
