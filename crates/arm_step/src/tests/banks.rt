@@ -19,25 +19,27 @@ fn starts_as_the_machine_does(rt: HostRuntime) -> Result<(), Fail> {
     Ok(())
 }
 
+static WRITES: [(u32, u32, u32, [u32; 4]); 14] = [
+    (0, 0xE3A0_7011, 7, [0x11, 0x11, 0x11, 0x11]),
+    (1, 0xE3A0_7011, 7, [0x11, 0x11, 0x11, 0x11]),
+    (0, 0xE3A0_8012, 8, [0x12, 0, 0x12, 0x12]),
+    (1, 0xE3A0_8012, 8, [0, 0x12, 0, 0]),
+    (2, 0xE3A0_C013, 12, [0x13, 0, 0x13, 0x13]),
+    (1, 0xE3A0_C013, 12, [0, 0x13, 0, 0]),
+    (0, 0xE3A0_D014, 13, [0x14, 0, 0, 0x01C0_2000]),
+    (1, 0xE3A0_D014, 13, [0, 0x14, 0, 0x01C0_2000]),
+    (2, 0xE3A0_D014, 13, [0, 0, 0x14, 0x01C0_2000]),
+    (3, 0xE3A0_D014, 13, [0, 0, 0, 0x14]),
+    (0, 0xE3A0_E015, 14, [0x15, 0, 0, 0]),
+    (1, 0xE3A0_E015, 14, [0, 0x15, 0, 0]),
+    (2, 0xE3A0_E015, 14, [0, 0, 0x15, 0]),
+    (3, 0xE3A0_E015, 14, [0, 0, 0, 0x15]),
+];
+
 #[test]
 fn keeps_the_registers_of_each_mode_apart(rt: HostRuntime) -> Result<(), Fail> {
     // MOV Rn,#value in one mode, read in the four.
-    for (mode, word, number, seen) in [
-        (0, 0xE3A0_7011, 7, [0x11, 0x11, 0x11, 0x11]),
-        (1, 0xE3A0_7011, 7, [0x11, 0x11, 0x11, 0x11]),
-        (0, 0xE3A0_8012, 8, [0x12, 0, 0x12, 0x12]),
-        (1, 0xE3A0_8012, 8, [0, 0x12, 0, 0]),
-        (2, 0xE3A0_C013, 12, [0x13, 0, 0x13, 0x13]),
-        (1, 0xE3A0_C013, 12, [0, 0x13, 0, 0]),
-        (0, 0xE3A0_D014, 13, [0x14, 0, 0, 0x01C0_2000]),
-        (1, 0xE3A0_D014, 13, [0, 0x14, 0, 0x01C0_2000]),
-        (2, 0xE3A0_D014, 13, [0, 0, 0x14, 0x01C0_2000]),
-        (3, 0xE3A0_D014, 13, [0, 0, 0, 0x14]),
-        (0, 0xE3A0_E015, 14, [0x15, 0, 0, 0]),
-        (1, 0xE3A0_E015, 14, [0, 0x15, 0, 0]),
-        (2, 0xE3A0_E015, 14, [0, 0, 0x15, 0]),
-        (3, 0xE3A0_E015, 14, [0, 0, 0, 0x15]),
-    ] {
+    for &(mode, word, number, seen) in &WRITES {
         let mut board = Board::new(rt.alloc())?;
         board.status(mode);
         assert_eq!(rt; board.run(word), Turn::Done, "{word:08X}");

@@ -27,19 +27,21 @@ fn stores_three_registers_in_four_ways(rt: HostRuntime) -> Result<(), Fail> {
     Ok(())
 }
 
+static LOADS: [(u32, u32, u32); 8] = [
+    (0xE8B1_001C, 4, 0x901C),
+    (0xE9B1_001C, 5, 0x901C),
+    (0xE831_001C, 2, 0x9004),
+    (0xE931_001C, 1, 0x9004),
+    (0xE891_001C, 4, 0x9010),
+    (0xE991_001C, 5, 0x9010),
+    (0xE811_001C, 2, 0x9010),
+    (0xE911_001C, 1, 0x9010),
+];
+
 #[test]
 fn loads_three_registers_in_four_ways(rt: HostRuntime) -> Result<(), Fail> {
     // LDM R1!,{R2,R3,R4} and LDM R1,{R2,R3,R4} by IA, IB, DA, DB.
-    for (word, first, base) in [
-        (0xE8B1_001C, 4, 0x901C),
-        (0xE9B1_001C, 5, 0x901C),
-        (0xE831_001C, 2, 0x9004),
-        (0xE931_001C, 1, 0x9004),
-        (0xE891_001C, 4, 0x9010),
-        (0xE991_001C, 5, 0x9010),
-        (0xE811_001C, 2, 0x9010),
-        (0xE911_001C, 1, 0x9010),
-    ] {
+    for &(word, first, base) in &LOADS {
         let mut board = Board::new(rt.alloc())?;
         board.put(&[
             (0x9000, 0),
@@ -178,17 +180,19 @@ fn means_the_user_bank_by_s(rt: HostRuntime) -> Result<(), Fail> {
     Ok(())
 }
 
+static FAULTS: [(u32, u32, Fault); 7] = [
+    (0x03FF_FFF8, 0xE891_001C, Fault::AddressException), // LDMIA R1,{R2,R3,R4}
+    (0x03FF_FFFC, 0xE981_0004, Fault::AddressException), // STMIB R1,{R2}
+    (0xFFFF_FFFC, 0xE891_0004, Fault::AddressException), // LDMIA R1,{R2} past 2^26
+    (0x0000_0004, 0xE911_001C, Fault::AddressException), // LDMDB R1,{R2,R3,R4} below 0
+    (0x0000_7FFC, 0xE8B1_0004, Fault::DataUnmapped), // LDMIA R1!,{R2}
+    (0x0000_9FFC, 0xE8A1_000C, Fault::DataUnmapped), // STMIA R1!,{R2,R3}
+    (0x0000_8000, 0xE921_000C, Fault::DataUnmapped), // STMDB R1!,{R2,R3}
+];
+
 #[test]
 fn moves_nothing_on_a_fault(rt: HostRuntime) -> Result<(), Fail> {
-    for (base, word, fault) in [
-        (0x03FF_FFF8, 0xE891_001C, Fault::AddressException), // LDMIA R1,{R2,R3,R4}
-        (0x03FF_FFFC, 0xE981_0004, Fault::AddressException), // STMIB R1,{R2}
-        (0xFFFF_FFFC, 0xE891_0004, Fault::AddressException), // LDMIA R1,{R2} past 2^26
-        (0x0000_0004, 0xE911_001C, Fault::AddressException), // LDMDB R1,{R2,R3,R4} below 0
-        (0x0000_7FFC, 0xE8B1_0004, Fault::DataUnmapped), // LDMIA R1!,{R2}
-        (0x0000_9FFC, 0xE8A1_000C, Fault::DataUnmapped), // STMIA R1!,{R2,R3}
-        (0x0000_8000, 0xE921_000C, Fault::DataUnmapped), // STMDB R1!,{R2,R3}
-    ] {
+    for &(base, word, fault) in &FAULTS {
         let mut board = Board::new(rt.alloc())?;
         board.set(&[(1, base), (2, 2), (3, 3), (4, 4)]);
         assert_eq!(rt;

@@ -5,27 +5,29 @@ use crate::{Cpu, Turn, step};
 use profile::Fault;
 use std::test::Fail;
 
+static CONDITIONS: [(u32, u32); 16] = [
+    (0, 0xF0F0), // EQ
+    (1, 0x0F0F),
+    (2, 0xCCCC), // CS
+    (3, 0x3333),
+    (4, 0xFF00), // MI
+    (5, 0x00FF),
+    (6, 0xAAAA), // VS
+    (7, 0x5555),
+    (8, 0x0C0C), // HI
+    (9, 0xF3F3),
+    (10, 0xAA55), // GE
+    (11, 0x55AA),
+    (12, 0x0A05), // GT
+    (13, 0xF5FA),
+    (14, 0xFFFF),
+    (15, 0x0000),
+];
+
 #[test]
 fn meets_conditions_by_the_flags(rt: HostRuntime) -> Result<(), Fail> {
     // MOVcc R0,#1: for each condition the sixteen settings of N, Z, C, V where it holds, as bits.
-    for (code, holds) in [
-        (0, 0xF0F0_u32), // EQ
-        (1, 0x0F0F),
-        (2, 0xCCCC), // CS
-        (3, 0x3333),
-        (4, 0xFF00), // MI
-        (5, 0x00FF),
-        (6, 0xAAAA), // VS
-        (7, 0x5555),
-        (8, 0x0C0C), // HI
-        (9, 0xF3F3),
-        (10, 0xAA55), // GE
-        (11, 0x55AA),
-        (12, 0x0A05), // GT
-        (13, 0xF5FA),
-        (14, 0xFFFF),
-        (15, 0x0000),
-    ] {
+    for &(code, holds) in &CONDITIONS {
         for flags in 0..16u32 {
             let mut board = Board::new(rt.alloc())?;
             board.status(flags << 28);
@@ -58,17 +60,19 @@ fn ignores_all_else_where_the_condition_fails(rt: HostRuntime) -> Result<(), Fai
     Ok(())
 }
 
+static BRANCHES: [(u32, u32, u32); 7] = [
+    (0x8000, 0xEA00_0000, 0x8008),
+    (0x8000, 0xEAFF_FFFE, 0x8000),
+    (0x8000, 0xEA00_03FE, 0x9000),
+    (0x8004, 0xEAFF_FFFD, 0x8000),
+    (0x03FF_FFF8, 0xEA00_0000, 0),
+    (0x8000, 0xEAFF_DFFD, 0x03FF_FFFC),
+    (0x8000, 0xEA80_0000, 0x0200_8008),
+];
+
 #[test]
 fn branches_both_ways(rt: HostRuntime) -> Result<(), Fail> {
-    for (from, word, to) in [
-        (0x8000, 0xEA00_0000, 0x8008),
-        (0x8000, 0xEAFF_FFFE, 0x8000),
-        (0x8000, 0xEA00_03FE, 0x9000),
-        (0x8004, 0xEAFF_FFFD, 0x8000),
-        (0x03FF_FFF8, 0xEA00_0000, 0),
-        (0x8000, 0xEAFF_DFFD, 0x03FF_FFFC),
-        (0x8000, 0xEA80_0000, 0x0200_8008),
-    ] {
+    for &(from, word, to) in &BRANCHES {
         let mut board = Board::new(rt.alloc())?;
         board.cpu.set_pc(from);
         assert_eq!(rt; board.run(word), Turn::Done, "{word:08X}");
@@ -97,19 +101,21 @@ fn goes_on_modulo_the_address_space(rt: HostRuntime) -> Result<(), Fail> {
     Ok(())
 }
 
+static TURNS: [(u32, Turn); 9] = [
+    (0xEF00_0011, Turn::Swi(0x11)),
+    (0xEFFF_FFFF, Turn::Swi(0xFF_FFFF)),
+    (0xE600_0010, Turn::Fault(Fault::UndefinedInstruction)),
+    (0xEC00_0000, Turn::Fault(Fault::UndefinedInstruction)),
+    (0xE100_0090, Turn::Fault(Fault::Unallocated)),
+    (0xE081_0F12, Turn::Fault(Fault::PcOperand)),
+    (0xE001_0291, Turn::Fault(Fault::MultiplySame)),
+    (0xE890_0000, Turn::Fault(Fault::EmptyList)),
+    (0xE8E0_0002, Turn::Fault(Fault::UserBankWriteback)),
+];
+
 #[test]
 fn answers_turns_that_change_nothing(rt: HostRuntime) -> Result<(), Fail> {
-    for (word, turn) in [
-        (0xEF00_0011, Turn::Swi(0x11)),
-        (0xEFFF_FFFF, Turn::Swi(0xFF_FFFF)),
-        (0xE600_0010, Turn::Fault(Fault::UndefinedInstruction)),
-        (0xEC00_0000, Turn::Fault(Fault::UndefinedInstruction)),
-        (0xE100_0090, Turn::Fault(Fault::Unallocated)),
-        (0xE081_0F12, Turn::Fault(Fault::PcOperand)),
-        (0xE001_0291, Turn::Fault(Fault::MultiplySame)),
-        (0xE890_0000, Turn::Fault(Fault::EmptyList)),
-        (0xE8E0_0002, Turn::Fault(Fault::UserBankWriteback)),
-    ] {
+    for &(word, turn) in &TURNS {
         let mut board = Board::new(rt.alloc())?;
         board.status(0x5000_0000);
         board.set(&[(0, 3), (14, 5)]);

@@ -96,19 +96,21 @@ fn adds_to_the_program_counter(rt: HostRuntime) -> Result<(), Fail> {
     Ok(())
 }
 
+static STATUSES: [(u32, u32, u32); 8] = [
+    (0xE33F_F4FC, 3, 0xFC00_8004),
+    (0xE33F_F4FC, 0, 0xF000_8004),
+    (0xE33F_F003, 0, 0x0000_8004),
+    (0xE33F_F003, 0xF000_0003, 0x0000_8007),
+    (0xE311_F4FC, 3, 0x8000_8004),
+    (0xE311_F4FC, 0xF000_0000, 0x8000_8004),
+    (0xE351_F001, 3, 0x8000_8006),
+    (0xE371_F001, 0x0000_0001, 0x8000_8004),
+];
+
 #[test]
 fn sets_the_status_alone_in_form_p(rt: HostRuntime) -> Result<(), Fail> {
     // TEQP PC,#&FC000000; TEQP PC,#3; TSTP R1,#&FC000000; CMPP R1,#1; CMNP R1,#1.
-    for (word, status, after) in [
-        (0xE33F_F4FC, 3, 0xFC00_8004),
-        (0xE33F_F4FC, 0, 0xF000_8004),
-        (0xE33F_F003, 0, 0x0000_8004),
-        (0xE33F_F003, 0xF000_0003, 0x0000_8007),
-        (0xE311_F4FC, 3, 0x8000_8004),
-        (0xE311_F4FC, 0xF000_0000, 0x8000_8004),
-        (0xE351_F001, 3, 0x8000_8006),
-        (0xE371_F001, 0x0000_0001, 0x8000_8004),
-    ] {
+    for &(word, status, after) in &STATUSES {
         let mut board = Board::new(rt.alloc())?;
         board.status(status);
         board.set(&[(1, 0x8000_0003)]);

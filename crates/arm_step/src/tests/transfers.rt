@@ -50,26 +50,28 @@ fn stores(
     Ok(())
 }
 
+static WORD_LOADS: [(u32, u32, u32); 16] = [
+    (0xE591_0000, 0x4433_2211, 0x9008), // LDR R0,[R1]
+    (0xE591_0004, 0x13, 0x9008), // LDR R0,[R1,#4]
+    (0xE511_0004, 0x11, 0x9008), // LDR R0,[R1,#-4]
+    (0xE5B1_0008, 0x14, 0x9010), // LDR R0,[R1,#8]!
+    (0xE531_0008, 0x10, 0x9000), // LDR R0,[R1,#-8]!
+    (0xE491_0004, 0x4433_2211, 0x900C), // LDR R0,[R1],#4
+    (0xE411_0FFF, 0x4433_2211, 0x8009), // LDR R0,[R1],#-&FFF
+    (0xE4B1_0004, 0x4433_2211, 0x900C), // LDRT R0,[R1],#4
+    (0xE791_0002, 0x13, 0x9008), // LDR R0,[R1,R2]
+    (0xE711_0002, 0x11, 0x9008), // LDR R0,[R1,-R2]
+    (0xE791_0082, 0x14, 0x9008), // LDR R0,[R1,R2,LSL #1]
+    (0xE731_0082, 0x10, 0x9000), // LDR R0,[R1,-R2,LSL #1]!
+    (0xE691_0102, 0x4433_2211, 0x9018), // LDR R0,[R1],R2,LSL #2
+    (0xE791_00A2, 0x2211_4433, 0x9008), // LDR R0,[R1,R2,LSR #1]: &900A
+    (0xE691_0022, 0x4433_2211, 0x9008), // LDR R0,[R1],R2,LSR #32
+    (0xE691_0062, 0x4433_2211, 0x8000_900A), // LDR R0,[R1],R2,RRX
+];
+
 #[test]
 fn loads_words_by_every_address(rt: HostRuntime) -> Result<(), Fail> {
-    for (word, value, base) in [
-        (0xE591_0000, 0x4433_2211, 0x9008), // LDR R0,[R1]
-        (0xE591_0004, 0x13, 0x9008), // LDR R0,[R1,#4]
-        (0xE511_0004, 0x11, 0x9008), // LDR R0,[R1,#-4]
-        (0xE5B1_0008, 0x14, 0x9010), // LDR R0,[R1,#8]!
-        (0xE531_0008, 0x10, 0x9000), // LDR R0,[R1,#-8]!
-        (0xE491_0004, 0x4433_2211, 0x900C), // LDR R0,[R1],#4
-        (0xE411_0FFF, 0x4433_2211, 0x8009), // LDR R0,[R1],#-&FFF
-        (0xE4B1_0004, 0x4433_2211, 0x900C), // LDRT R0,[R1],#4
-        (0xE791_0002, 0x13, 0x9008), // LDR R0,[R1,R2]
-        (0xE711_0002, 0x11, 0x9008), // LDR R0,[R1,-R2]
-        (0xE791_0082, 0x14, 0x9008), // LDR R0,[R1,R2,LSL #1]
-        (0xE731_0082, 0x10, 0x9000), // LDR R0,[R1,-R2,LSL #1]!
-        (0xE691_0102, 0x4433_2211, 0x9018), // LDR R0,[R1],R2,LSL #2
-        (0xE791_00A2, 0x2211_4433, 0x9008), // LDR R0,[R1,R2,LSR #1]: &900A
-        (0xE691_0022, 0x4433_2211, 0x9008), // LDR R0,[R1],R2,LSR #32
-        (0xE691_0062, 0x4433_2211, 0x8000_900A), // LDR R0,[R1],R2,RRX
-    ] {
+    for &(word, value, base) in &WORD_LOADS {
         loads(&rt, rt.alloc(), word, value, base)?;
     }
     Ok(())
@@ -102,19 +104,21 @@ fn loads_bytes_alone(rt: HostRuntime) -> Result<(), Fail> {
     Ok(())
 }
 
+static STORES: [(u32, u32, u32, u32); 9] = [
+    (0xE581_0000, 0x9008, 0xA1B2_C3D4, 0x9008), // STR R0,[R1]
+    (0xE581_0003, 0x9008, 0xA1B2_C3D4, 0x9008), // STR R0,[R1,#3]
+    (0xE5A1_0004, 0x900C, 0xA1B2_C3D4, 0x900C), // STR R0,[R1,#4]!
+    (0xE401_0004, 0x9008, 0xA1B2_C3D4, 0x9004), // STR R0,[R1],#-4
+    (0xE781_0102, 0x9018, 0xA1B2_C3D4, 0x9008), // STR R0,[R1,R2,LSL #2]
+    (0xE5C1_0000, 0x9008, 0x4433_22D4, 0x9008), // STRB R0,[R1]
+    (0xE5C1_0002, 0x9008, 0x44D4_2211, 0x9008), // STRB R0,[R1,#2]
+    (0xE4C1_0001, 0x9008, 0x4433_22D4, 0x9009), // STRB R0,[R1],#1
+    (0xE581_F000, 0x9008, 0x2000_800C, 0x9008), // STR PC,[R1]
+];
+
 #[test]
 fn stores_words_and_bytes(rt: HostRuntime) -> Result<(), Fail> {
-    for (word, address, value, base) in [
-        (0xE581_0000, 0x9008, 0xA1B2_C3D4, 0x9008), // STR R0,[R1]
-        (0xE581_0003, 0x9008, 0xA1B2_C3D4, 0x9008), // STR R0,[R1,#3]
-        (0xE5A1_0004, 0x900C, 0xA1B2_C3D4, 0x900C), // STR R0,[R1,#4]!
-        (0xE401_0004, 0x9008, 0xA1B2_C3D4, 0x9004), // STR R0,[R1],#-4
-        (0xE781_0102, 0x9018, 0xA1B2_C3D4, 0x9008), // STR R0,[R1,R2,LSL #2]
-        (0xE5C1_0000, 0x9008, 0x4433_22D4, 0x9008), // STRB R0,[R1]
-        (0xE5C1_0002, 0x9008, 0x44D4_2211, 0x9008), // STRB R0,[R1,#2]
-        (0xE4C1_0001, 0x9008, 0x4433_22D4, 0x9009), // STRB R0,[R1],#1
-        (0xE581_F000, 0x9008, 0x2000_800C, 0x9008), // STR PC,[R1]
-    ] {
+    for &(word, address, value, base) in &STORES {
         stores(&rt, rt.alloc(), word, address, value, base)?;
     }
     Ok(())
@@ -170,18 +174,20 @@ fn faults(rt: &impl Abort, alloc: Global, base: u32, word: u32, fault: Fault) ->
     Ok(())
 }
 
+static FAULTS: [(u32, u32, Fault); 8] = [
+    (0x0400_0000, 0xE591_0000, Fault::AddressException), // LDR R0,[R1]
+    (0x0400_0003, 0xE5D1_0000, Fault::AddressException), // LDRB
+    (0xFFFF_FFFF, 0xE581_0000, Fault::AddressException), // STR
+    (0x0000_0004, 0xE511_0008, Fault::AddressException), // LDR R0,[R1,#-8]
+    (0x03FF_FFFC, 0xE5B1_0004, Fault::AddressException), // LDR R0,[R1,#4]!
+    (0x0000_7FFC, 0xE491_0004, Fault::DataUnmapped), // LDR R0,[R1],#4
+    (0x0000_A000, 0xE481_0004, Fault::DataUnmapped), // STR R0,[R1],#4
+    (0x03FF_EFFF, 0xE5C1_0000, Fault::DataUnmapped), // STRB
+];
+
 #[test]
 fn faults_at_the_edges(rt: HostRuntime) -> Result<(), Fail> {
-    for (base, word, fault) in [
-        (0x0400_0000, 0xE591_0000, Fault::AddressException), // LDR R0,[R1]
-        (0x0400_0003, 0xE5D1_0000, Fault::AddressException), // LDRB
-        (0xFFFF_FFFF, 0xE581_0000, Fault::AddressException), // STR
-        (0x0000_0004, 0xE511_0008, Fault::AddressException), // LDR R0,[R1,#-8]
-        (0x03FF_FFFC, 0xE5B1_0004, Fault::AddressException), // LDR R0,[R1,#4]!
-        (0x0000_7FFC, 0xE491_0004, Fault::DataUnmapped), // LDR R0,[R1],#4
-        (0x0000_A000, 0xE481_0004, Fault::DataUnmapped), // STR R0,[R1],#4
-        (0x03FF_EFFF, 0xE5C1_0000, Fault::DataUnmapped), // STRB
-    ] {
+    for &(base, word, fault) in &FAULTS {
         faults(&rt, rt.alloc(), base, word, fault)?;
     }
     // The last word and the last byte before the edge.
