@@ -8,8 +8,8 @@ use Rattle.std.specs.Io.KnownBytes.{Appends}
 use Rattle.profile.specs.declared.stop.Stop.{Stop}
 use Rattle.profile.specs.declared.stop.Stop.TheVariants as stop
 use Rattle.swi_dispatch.specs.declared.halt.Halt.{Halt}
-use Rattle.swi_dispatch.specs.Situation.{Situation, stop_of}
-use Rattle.swi_dispatch.specs.Step.{After, machine_step}
+use Rattle.swi_dispatch.specs.Situation.{Situation, After, stop_of}
+use Rattle.swi_dispatch.specs.Step.{machine_step}
 use Rattle.swi_dispatch.specs.Run.{Run, resting, joined, is_among, go_on, begun, ran, then_run, stop_after, count_after}
 use Rattle.swi_dispatch.specs.Ending.{Ends, StandsAfter}
 use Rattle.swi_dispatch.proofs.Runs.{halt-no_budget, runs_on}

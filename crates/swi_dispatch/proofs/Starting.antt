@@ -1,16 +1,18 @@
 -- The memory of a machine at its start, address by address, is that of the written start.
 use Rattle.std.proofs.lemmas.Bool.Decides.{nat_tests}
-use Rattle.address_map.proofs.Equations.{same_bytes}
-use Rattle.std.proofs.Common.{◌≡◌, ◌≤◌, ◌<◌, ◌+◌, ◌*◌, arith, ℕ, Bool, false, true, IsSome, List, Option, Some, None, refl, ◌∙◌, ap}
-use Rattle.profile.specs.Sizes.{Sizes}
+use Rattle.std.proofs.Common.{◌≡◌, ◌≤◌, ◌<◌, ◌+◌, ◌*◌, arith, ℕ, Bool, false, true, IsSome, List, [], ◌∷◌, Option, Some, None, refl, ◌∙◌, ap}
+use Rattle.profile.specs.Sizes.{Sizes, AreGood}
 use Rattle.address_map.specs.declared.map.AddressMap.{AddressMap}
-use Rattle.address_map.specs.Bytes.{Bytes, with_word_at, with_bytes_at}
-use Rattle.address_map.specs.Memory.{is_mapped, byte_at, byte_in, place, bytes_of, layout}
-use Rattle.arm_step.specs.State.{State, start_state}
+use Rattle.address_map.specs.Bytes.{Bytes, in_range, word_at, with_word_at}
+use Rattle.address_map.specs.declared.item.Item.{Item}
+use Rattle.address_map.specs.Items.{items_in}
+use Rattle.address_map.specs.Memory.{is_mapped, byte_at, byte_in, place, bytes_of, regions}
+use Rattle.arm_step.specs.State.{start_state}
 use Rattle.std.specs.Prelude.{is_some}
 use Rattle.swi_dispatch.specs.declared.halt.Halt.{Halt}
-use Rattle.swi_dispatch.specs.Boot.{with_program}
-use Rattle.swi_dispatch.specs.Situation.{Situation, start_of, is_start_mapped, start_bytes}
+use Rattle.os_heap.specs.Heap.{Part}
+use Rattle.os_heap.specs.Store.{Store, store_of, parts_in, others_in, IsSound}
+use Rattle.swi_dispatch.specs.Situation.{Situation, start_of, is_start_mapped, start_bytes, start_regions, start_store, system_pages, module_area}
 
 -- four words written over a memory of zeros
 pub words_written : (b0 b1 b2 b3 b4 : ℕ → ℕ) (p1 w1 p2 w2 p3 w3 p4 w4 : ℕ)
@@ -38,10 +40,68 @@ pub unmapped_zero : (m : AddressMap) (a : ℕ) → is_mapped m a ≡ false → b
 unfolding byte_at
 unmapped_zero m a e = none_zero m.store (place m a) e
 
-pub starts : (m : AddressMap) (s : Sizes) → ((a : ℕ) → is_mapped m a ≡ is_start_mapped s a) → ((a : ℕ) → byte_at m a ≡ start_bytes s a)
-    → (let now : Situation = record { cpu = start_state; memory = bytes_of m; halt = None } in now ≡ start_of s)
+-- the words of the module area's descriptor at the start
+start_words : (s : Sizes) → AreGood s → (word_at (start_bytes s) 0x01800000 ≡ 0x70616548) × (word_at (start_bytes s) 0x01800004 ≡ 0)
+    × (word_at (start_bytes s) 0x01800008 ≡ 16) × (word_at (start_bytes s) 0x0180000C ≡ 4096 * s.rma)
+start_words s good =
+    let limit = good.in_limit in
+    let room = good.has_room in
+    (refl, refl, refl, omega arith)
+
+-- the store at the start
+pub start_sound : (s : Sizes) → AreGood s → IsSound (start_store s)
+start_sound s good =
+    let limit = good.in_limit in
+    let room = good.has_room in
+    let some = good.has_rma in
+    let words = start_words s good in
+    record {
+      parts = (
+        record {
+          aligned = refl;
+          whole = omega arith;
+          mapped = λ a low high. module_mapped s a low high;
+          name = words.0;
+          first = words.1;
+          base = words.2;
+          limit = words.3;
+          spelled = tt;
+          totals = tt;
+          spaced = tt;
+          inside = omega arith;
+        },
+        (tt, tt),
+      );
+      clear = ((λ a inside. apart s a good inside, tt), tt);
+      few = omega arith;
+    } where
+      module_mapped : (s : Sizes) (a : ℕ) → 0x01800000 ≤ a → a < 0x01800000 + 4096 * s.rma → is_start_mapped s a ≡ true
+      module_mapped s a low high = grind (arith, nat_tests)
+
+      apart : (s : Sizes) (a : ℕ) → AreGood s → in_range 0x01C00000 0x3000 a ≡ true → in_range 0x01800000 (4096 * s.rma) a ≡ false
+      apart s a good inside = let limit = good.in_limit in let room = good.has_room in grind (arith, nat_tests)
+
+start_items : (s : Sizes) → AreGood s → items_in (word_at (start_bytes s)) 0x01800000 ≡ []
+unfolding items_in
+start_items s good = refl
+
+pub store_starts : (m : AddressMap) (s : Sizes) → AreGood s → ((a : ℕ) → is_mapped m a ≡ is_start_mapped s a) → ((a : ℕ) → byte_at m a ≡ start_bytes s a)
+    → regions m ≡ start_regions s → store_of m ≡ start_store s
+unfolding store_of
+store_starts m s good mapped bytes records =
+    let start : Bytes = record { mapped = is_start_mapped s; at = start_bytes s } in
+    let memory : bytes_of m ≡ start = λ i. record { mapped = λ a. mapped a i; at = λ a. bytes a i } in
+    let item : items_in (word_at (start_bytes s)) 0x01800000 ≡ [] = start_items s good in
+    let heaps : parts_in (bytes_of m) (regions m) ≡ module_area s ∷ [] =
+    ap (λ (b : Bytes). parts_in b (regions m)) memory ∙ ap (parts_in start) records
+    ∙ ap (λ (xs : List Item). let h : Part = record { start = 0x01800000; end = 4096 * s.rma; items = xs } in h ∷ []) item in
+    let others : others_in (regions m) ≡ system_pages ∷ [] = ap others_in records in
+    λ i. record { bytes = memory i; heaps = heaps i; others = others i }
+
+pub starts : (m : AddressMap) (s : Sizes) → store_of m ≡ start_store s
+    → (let now : Situation = record { cpu = start_state; store = store_of m; halt = None } in now ≡ start_of s)
 unfolding start_of
-starts m s mapped bytes = λ i. record { cpu = start_state; memory = record { mapped = λ a. mapped a i; at = λ a. bytes a i }; halt = None }
+starts m s e = ap (λ (t : Store). let now : Situation = record { cpu = start_state; store = t; halt = None } in now) e
 
 -- a machine that stands as it was made isn't halted
 pub fresh_awake : (s : Situation) (sizes : Sizes) (b : Bool) (o : Option Halt) → (b ≡ true → s ≡ start_of sizes) → s.halt ≡ o → IsSome o → b ≡ false
@@ -53,13 +113,3 @@ fresh_awake s sizes true (Some h) start e some = let k : s.halt ≡ None = ap (�
 -- the application space is mapped
 pub application_mapped : (s : Sizes) (len a : ℕ) → len ≤ 4096 * s.app → 0x8000 ≤ a → a < 0x8000 + len → is_start_mapped s a ≡ true
 application_mapped s len a room low high = grind (arith, nat_tests)
-
--- a program put into memory is the program of the written machine
-pub program_put : (m n : AddressMap) (cpu : State) (halt : Option Halt) (program : List ℕ) → layout n ≡ layout m
-    → ((a : ℕ) → byte_at n a ≡ with_bytes_at (byte_at m) 0x8000 program a)
-    → (let old : Situation = record { cpu = cpu; memory = bytes_of m; halt = halt } in
-    let new : Situation = record { cpu = cpu; memory = bytes_of n; halt = halt } in
-    new ≡ with_program old program)
-program_put m n cpu halt program same bytes =
-    ap (λ (b : Bytes). let s : Situation = record { cpu = cpu; memory = b; halt = halt } in s)
-    (same_bytes m n (with_bytes_at (byte_at m) 0x8000 program) same bytes)

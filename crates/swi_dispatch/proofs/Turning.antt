@@ -1,16 +1,21 @@
 -- The core's part of a step, and then what its turn asks of the machine, are the written step.
-use Rattle.std.proofs.Common.{◌≡◌, ℕ, Bool, Result, Ok, Err, refl, ◌∙◌, ap, subst}
+use Rattle.std.proofs.Common.{◌≡◌, ℕ, Bool, [], ◌∷◌, Option, Result, Ok, Err, refl, ◌∙◌, ap, subst}
 use Rattle.address_map.specs.declared.map.AddressMap.{AddressMap}
 use Rattle.address_map.specs.Bytes.{Bytes}
-use Rattle.address_map.specs.Memory.{is_owned, class_of}
+use Rattle.address_map.specs.Memory.{bytes_of, layout, is_owned}
 use Rattle.arm_step.specs.declared.turn.Turn.{Turn}
 use Rattle.arm_step.specs.declared.turn.Turn.TheVariants as turn
 use Rattle.arm_step.specs.State.{State}
 use Rattle.arm_step.specs.Step.{stepped}
 use Rattle.arm_step.specs.Turns.{Turns}
-use Rattle.swi_dispatch.specs.Situation.{Situation}
-use Rattle.swi_dispatch.specs.Step.{turned, turn_end, Turned, quiet, nothing_owned}
+use Rattle.arm_step.proofs.Framing.{step_keeps}
+use Rattle.os_heap.specs.Store.{store_of, owned_in, IsSound}
+use Rattle.os_heap.proofs.Frame.{IsKept}
+use Rattle.swi_dispatch.specs.declared.halt.Halt.{Halt}
+use Rattle.swi_dispatch.specs.Situation.{Situation, quiet, system_pages}
+use Rattle.swi_dispatch.specs.Step.{turned, turn_end, Turned}
 use Rattle.swi_dispatch.specs.Parts.{TakesTurn}
+use Rattle.swi_dispatch.proofs.Kept.{owned_same, by_words, keeps_kept, same_kept, kept_memory, kept_all, with_core}
 
 pub turned_by : (s : Situation) (r : Result (State × Bytes) Turn) (t : Turn) (s' : Situation) → Turned s r t s' → turn_end s' t ≡ turned s r
 turned_by s (Ok w) t s' h = ap (λ (x : Turn). turn_end s' x) h.0 ∙ ap quiet h.1
@@ -19,20 +24,29 @@ turned_by s (Err (turn.Swi n)) t s' h = ap (λ (x : Turn). turn_end s' x) h.0 �
 turned_by s (Err turn.Gate) t s' h = ap (λ (x : Turn). turn_end s' x) h.0 ∙ ap (λ (x : Situation). turn_end x turn.Gate) h.1
 turned_by s (Err (turn.Fault f)) t s' h = ap (λ (x : Turn). turn_end s' x) h.0 ∙ ap (λ (x : Situation). turn_end x (turn.Fault f)) h.1
 
--- the core's turn, as a turn of the whole machine
-abbrev pub with_core : Situation → State × Bytes → Situation
-with_core s w = record { cpu = w.0; memory = w.1; halt = s.halt }
+-- the core's turn, as a turn of the whole machine: an instruction keeps the list of each heap
+turned_core : (m n : AddressMap) (cpu cpu' : State) (halt : Option Halt) (r : Result (State × Bytes) Turn) (t : Turn)
+    → layout n ≡ layout m → IsSound (store_of m) → stepped (owned_in (store_of m)) cpu (bytes_of m) ≡ r
+    → Turns (cpu, bytes_of m) r t (cpu', bytes_of n)
+    → IsKept m n × Turned (with_core cpu halt (store_of m)) r t (with_core cpu' halt (store_of n))
+turned_core m n cpu cpu' halt (Ok w) t same sound e h =
+    let core : cpu' ≡ w.0 = ap (λ (x : State × Bytes). x.0) h.1 in
+    let memory : bytes_of n ≡ w.1 = ap (λ (x : State × Bytes). x.1) h.1 in
+    let kept : IsKept m n = keeps_kept m n w.1 same sound memory (step_keeps (owned_in (store_of m)) cpu (bytes_of m) (by_words (store_of m)) w.0 w.1 e) in
+    let store = kept_memory m n w.1 kept memory in
+    (kept, (h.0, λ i. with_core (core i) halt (store i)))
+turned_core m n cpu cpu' halt (Err f) t same sound e h =
+    let core : cpu' ≡ cpu = ap (λ (x : State × Bytes). x.0) h.1 in
+    let memory : bytes_of n ≡ bytes_of m = ap (λ (x : State × Bytes). x.1) h.1 in
+    let kept : IsKept m n = same_kept m n same sound memory in
+    let store = kept_all m n kept memory in
+    (kept, (h.0, λ i. with_core (core i) halt (store i)))
 
-turned_core : (s : Situation) (r : Result (State × Bytes) Turn) (t : Turn) (w : State × Bytes) → Turns (s.cpu, s.memory) r t w → Turned s r t (with_core s w)
-turned_core s (Ok v) t w h = (h.0, ap (with_core s) h.1)
-turned_core s (Err e) t w h = (h.0, ap (with_core s) h.1)
-
--- nothing is recorded in the map yet
-pub unowned : (m : AddressMap) → is_owned m ≡ nothing_owned
-unfolding is_owned class_of
-unowned m = refl
-
-pub takes_turn : (s : Situation) (m : AddressMap) (t : Turn) (cpu : State) (memory : Bytes)
-    → Turns (s.cpu, s.memory) (stepped (is_owned m) s.cpu s.memory) t (cpu, memory) → TakesTurn s t (with_core s (cpu, memory))
-takes_turn s m t cpu memory h = turned_core s (stepped nothing_owned s.cpu s.memory) t (cpu, memory)
-    (subst (λ (owned : ℕ → Bool). Turns (s.cpu, s.memory) (stepped owned s.cpu s.memory) t (cpu, memory)) (unowned m) h)
+pub takes_turn : (m n : AddressMap) (cpu cpu' : State) (halt : Option Halt) (t : Turn)
+    → layout n ≡ layout m → IsSound (store_of m) → (store_of m).others ≡ system_pages ∷ []
+    → Turns (cpu, bytes_of m) (stepped (is_owned m) cpu (bytes_of m)) t (cpu', bytes_of n)
+    → IsKept m n × TakesTurn (with_core cpu halt (store_of m)) t (with_core cpu' halt (store_of n))
+unfolding store_of
+takes_turn m n cpu cpu' halt t same sound others h =
+    turned_core m n cpu cpu' halt (stepped (owned_in (store_of m)) cpu (bytes_of m)) t same sound refl
+    (subst (λ (owned : ℕ → Bool). Turns (cpu, bytes_of m) (stepped owned cpu (bytes_of m)) t (cpu', bytes_of n)) (owned_same m sound others) h)

@@ -1,13 +1,18 @@
 -- A program is copied to the start of the application space of a machine that is still as it was made.
 use Rattle.std.specs.Prelude.{ℕ, Bool, true, false, ◌*◌, nat_le, Result, Ok, Err, List, length, if◌then◌else◌}
 use Rattle.profile.specs.Sizes.{Sizes}
-use Rattle.address_map.specs.Bytes.{with_bytes_at}
+use Rattle.address_map.specs.Bytes.{with_bytes}
 use Rattle.swi_dispatch.specs.declared.boot_error.BootError.{BootError}
 use Rattle.swi_dispatch.specs.declared.boot_error.BootError.TheVariants.{Booted, TooLarge}
-use Rattle.swi_dispatch.specs.Situation.{Situation}
+use Rattle.address_map.specs.Bytes.{word_stored}
+use Rattle.profile.specs.Outcome.{bind}
+use Rattle.profile.specs.declared.fault.Fault.{Fault}
+use Rattle.arm_step.specs.State.{with_register}
+use Rattle.os_heap.specs.Store.{owned_in}
+use Rattle.swi_dispatch.specs.Situation.{Situation, with_memory}
 
 abbrev pub with_program : Situation → List ℕ → Situation
-with_program s program = record s { memory = record s.memory { at = with_bytes_at s.memory.at 0x8000 program } }
+with_program s program = record { cpu = s.cpu; store = with_memory s.store (with_bytes s.store.bytes 0x8000 program); halt = s.halt }
 
 abbrev pub fits_application : Sizes → List ℕ → Bool
 fits_application sizes program = nat_le (length program) (4096 * sizes.app)
@@ -15,3 +20,11 @@ fits_application sizes program = nat_le (length program) (4096 * sizes.app)
 unfoldable pub booted : Sizes → Bool → Situation → List ℕ → Result Situation BootError
 booted sizes false s program = Err Booted
 booted sizes true s program = if fits_application sizes program then Ok (with_program s program) else Err TooLarge
+
+-- what a user does to a machine from outside: one register set, or one word stored as a guest's store instruction would
+unfoldable pub registered : Situation → ℕ → ℕ → Situation
+registered s n v = record { cpu = with_register s.cpu n v; store = s.store; halt = s.halt }
+
+unfoldable pub poked : Situation → ℕ → ℕ → Result Situation Fault
+poked s at word = bind (word_stored (owned_in s.store) s.store.bytes at word)
+    (λ b. Ok (record { cpu = s.cpu; store = with_memory s.store b; halt = s.halt }))

@@ -1,14 +1,14 @@
 -- The parts of the real machine, and the written machine that they stand for.
-use Rattle.std.specs.Prelude.{◌≡◌, ℕ, Bool, true, Option, List}
+use Rattle.std.specs.Prelude.{◌≡◌, ℕ, Bool, true, Option, List, [], ◌∷◌}
 use Rattle.profile.specs.Sizes.{Sizes}
 use Rattle.address_map.specs.declared.map.AddressMap.{AddressMap}
-use Rattle.address_map.specs.Memory.{bytes_of, is_mapped}
+use Rattle.address_map.specs.Memory.{is_mapped}
+use Rattle.os_heap.specs.Store.{IsSound, store_of}
 use Rattle.arm_step.specs.declared.turn.Turn.{Turn}
 use Rattle.arm_step.specs.State.{State}
-use Rattle.arm_step.specs.Step.{stepped}
 use Rattle.swi_dispatch.specs.declared.halt.Halt.{Halt}
-use Rattle.swi_dispatch.specs.Situation.{Situation, start_of, is_start_mapped}
-use Rattle.swi_dispatch.specs.Step.{After, Turned, nothing_owned}
+use Rattle.swi_dispatch.specs.Situation.{Situation, After, start_of, is_start_mapped, system_pages}
+use Rattle.swi_dispatch.specs.Step.{Turned, instructed}
 
 pub record Parts : Type 0 where
   pub cpu : State
@@ -19,14 +19,17 @@ pub record Parts : Type 0 where
   pub printed : List ℕ
 
 unfoldable pub state_of : Parts → Situation
-state_of p = record { cpu = p.cpu; memory = bytes_of p.map; halt = p.halt }
+state_of p = record { cpu = p.cpu; store = store_of p.map; halt = p.halt }
 
 -- the written machine, and what the last step printed
 abbrev pub after_of : Parts → After
 after_of p = record { now = state_of p; printed = p.printed }
 
--- What holds of every machine: the fixed ranges are mapped, and one that can still be booted stands as at the start.
+-- What holds of every machine, whatever its guest does: memory spells the lists of all heaps, which share no byte with one another and with the
+-- system pages; the fixed ranges are mapped; and a machine that can still be booted stands as at the start.
 pub record IsWellFormed (p : Parts) : Type 0 where
+  pub sound : IsSound (store_of p.map)
+  pub others : (store_of p.map).others ≡ system_pages ∷ []
   pub mapped : (a : ℕ) → is_mapped p.map a ≡ is_start_mapped p.sizes a
   pub fresh : p.is_fresh ≡ true → state_of p ≡ start_of p.sizes
 
@@ -37,4 +40,4 @@ pub record OnlySteps (old new : Parts) : Type 0 where
 
 -- the core takes a turn, and the rest of the machine stays
 abbrev pub TakesTurn : Situation → Turn → Situation → Type 0
-TakesTurn s t s' = Turned s (stepped nothing_owned s.cpu s.memory) t s'
+TakesTurn s t s' = Turned s (instructed s) t s'

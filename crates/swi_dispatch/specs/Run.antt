@@ -6,8 +6,8 @@ use Rattle.profile.specs.declared.stop.Stop.{Stop}
 use Rattle.profile.specs.declared.stop.Stop.TheVariants as stop
 use Rattle.swi_dispatch.specs.declared.halt.Halt.{Halt}
 use Rattle.swi_dispatch.specs.declared.halt.Halt.TheVariants as halt
-use Rattle.swi_dispatch.specs.Situation.{Situation, stop_of}
-use Rattle.swi_dispatch.specs.Step.{After, machine_step}
+use Rattle.swi_dispatch.specs.Situation.{Situation, After, stop_of}
+use Rattle.swi_dispatch.specs.Step.{machine_step}
 
 -- what a run leaves: the machine, all that was printed, the steps that count, and why it ended
 pub record Run : Type 0 where

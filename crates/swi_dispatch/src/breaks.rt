@@ -1,4 +1,5 @@
-ghost use Rattle.std.specs.Prelude.{◌≡◌, ℕ, [], List};
+ghost use Rattle.std.specs.Prelude.{◌≡◌, ◌==◌, ℕ, [], List};
+ghost use Rattle.std.specs.List.{position};
 ghost use Rattle.profile.specs.Outcome.{Leaves};
 
 use arrayvec::ArrayVec;
@@ -34,6 +35,7 @@ impl Model for Breaks {
 }
 
 impl Breaks {
+    ghost use Rattle.swi_dispatch.specs.Breaks.{with_break, without_break};
     ghost use Rattle.swi_dispatch.specs.Run.{is_among};
 
     /// No break.
@@ -43,6 +45,49 @@ impl Breaks {
         Breaks {
             addresses: ArrayVec::new(),
         }
+    }
+
+    /// One more. An address that is there already is there once.
+    ///
+    /// # Errors
+    ///
+    /// `Unaligned` where the address is no multiple of 4, else `BreakTableFull` where 16 others are
+    /// there.
+    #[tactic(auto, unfolding(crate::specs::Breaks::with_break))]
+    pub fn add(&mut self, address: u32) -> Result<(), BreakError>
+        ensures { Leaves self.old (with_break self.old address) result self.new }
+    {
+        if !address.is_multiple_of(4) {
+            return Err(BreakError::Unaligned);
+        }
+        if self.has(address) {
+            return Ok(());
+        }
+        if self.addresses.is_full() {
+            return Err(BreakError::BreakTableFull);
+        }
+        self.addresses.push(address);
+        Ok(())
+    }
+
+    /// One less.
+    ///
+    /// # Errors
+    ///
+    /// `NoBreak` where none is at the address.
+    #[tactic(auto, unfolding(crate::specs::Breaks::without_break))]
+    pub fn remove(&mut self, address: u32) -> Result<(), BreakError>
+        ensures { Leaves self.old (without_break self.old address) result self.new }
+    {
+        let place = self.place_of(address).ok_or(BreakError::NoBreak)?;
+        self.addresses.remove(place);
+        Ok(())
+    }
+
+    fn place_of(&self, address: u32) -> Option<usize>
+        ensures { result ≡ position (λ b. b == address) self.now }
+    {
+        self.addresses.iter().position(|at| *at == address)
     }
 
     /// Whether a run stops at the address.

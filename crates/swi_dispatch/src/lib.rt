@@ -3,16 +3,23 @@
 
 pub mod boot_error;
 pub mod breaks;
+pub mod calls;
 pub mod halt;
+pub mod heap_calls;
 pub mod laws;
 pub mod machine;
+pub mod refusal;
 pub mod running;
+pub mod strings;
 
 pub use boot_error::BootError;
 pub use breaks::{BreakError, Breaks};
 pub use halt::Halt;
 pub use machine::Machine;
+pub use refusal::Refusal;
 pub use running::Ran;
 
+#[cfg(test)]
+mod argument_tests;
 #[cfg(test)]
 mod tests;

@@ -1,25 +1,29 @@
-ghost use Rattle.std.specs.Prelude.{◌≡◌, ◌&&◌, ℕ, Bool, true, false, not, [], List, Option, Some, None, IfOk, IsSome, is_err};
+ghost use Rattle.std.specs.Prelude.{◌≡◌, ◌≤◌, ◌%◌, ◌&&◌, ℕ, Bool, true, false, not, [], ◌∷◌, List, Option, Some, None, IfOk, IsSome, is_err};
 ghost use Rattle.std.specs.Option.{option_map};
 ghost use Rattle.profile.specs.Outcome.{Leaves};
-ghost use Rattle.address_map.specs.Memory.{is_mapped, byte_at};
-ghost use Rattle.swi_dispatch.specs.Situation.{is_start_mapped, start_bytes};
-ghost use Rattle.swi_dispatch.specs.Step.{halt_called, without_x};
+ghost use Rattle.profile.specs.Sizes.{AreGood};
+ghost use Rattle.address_map.specs.Memory.{is_mapped, byte_at, regions};
+ghost use Rattle.swi_dispatch.specs.Situation.{is_start_mapped, start_bytes, start_regions};
+ghost use Rattle.swi_dispatch.specs.Step.{without_x};
 
 use crate::boot_error::BootError;
 use crate::halt::Halt;
-use address_map::AddressMap;
+use address_map::{AddressMap, Kind};
 use arm_step::{Cpu, Turn, step};
 use arrayvec::ArrayVec;
 use image_loader::Images;
+use os_heap::Heaps;
 use profile::memory_map::{
-    APPLICATION_START, HEAP_DESCRIPTOR, HEAP_NAME, PAGE_SIZE, RMA_START, SYSTEM_PAGES, SYSTEM_START,
+    ADDRESS_LIMIT, APPLICATION_START, HEAP_DESCRIPTOR, HEAP_NAME, PAGE_SIZE, RMA_START,
+    SYSTEM_PAGES, SYSTEM_START,
 };
 use profile::word::is_bit_set;
-use profile::{Config, ErrorNumber, Fault, Stop, SwiName};
+use profile::{Config, Fault, Stop};
 use std::alloc::{AllocError, Global};
 use std::marker::Model;
 
-const MOST_PRINTED: usize = 4096;
+/// The most bytes that a step can print.
+pub(crate) const MOST_PRINTED: usize = 4096;
 
 /// The bit of a call's number that asks for errors to be returned.
 const X_BIT: u32 = 1 << 17;
@@ -27,12 +31,13 @@ const X_BIT: u32 = 1 << 17;
 /// A machine: a core, its memory, and what keeps it from further steps.
 #[derive(Drop)]
 pub struct Machine {
-    cpu: Cpu,
-    memory: AddressMap,
-    halt: Option<Halt>,
+    pub(crate) cpu: Cpu,
+    pub(crate) memory: AddressMap,
+    pub(crate) heaps: Heaps,
+    pub(crate) halt: Option<Halt>,
     config: Config,
     is_fresh: bool,
-    printed: ArrayVec<u8, MOST_PRINTED>,
+    pub(crate) printed: ArrayVec<u8, MOST_PRINTED>,
 }
 
 impl Model for Machine {
@@ -46,12 +51,12 @@ impl Model for Machine {
 }
 
 impl Machine {
-    ghost use Rattle.profile.specs.SwiNames.{swi_of};
     ghost use Rattle.address_map.specs.Memory.{bytes_of};
+    ghost use Rattle.os_heap.specs.Store.{store_of, IsSound};
     ghost use Rattle.swi_dispatch.specs.Parts.{state_of, after_of, OnlySteps, TakesTurn};
-    ghost use Rattle.swi_dispatch.specs.Situation.{start_of, stop_of};
-    ghost use Rattle.swi_dispatch.specs.Boot.{booted};
-    ghost use Rattle.swi_dispatch.specs.Step.{machine_step, called, quiet, halted, turn_end};
+    ghost use Rattle.swi_dispatch.specs.Situation.{start_of, stop_of, quiet};
+    ghost use Rattle.swi_dispatch.specs.Boot.{booted, registered, poked};
+    ghost use Rattle.swi_dispatch.specs.Step.{machine_step, store_called, swi_called, halted, turn_end};
 
     /// A machine of these sizes at its start: user mode at &8000, each register 0 but the stack
     /// pointer of supervisor mode, all mapped memory 0 but the descriptor of the module area's heap.
@@ -60,11 +65,13 @@ impl Machine {
         ensures sizes { IfOk result (λ m. m.sizes ≡ config) }
         ensures fresh { IfOk result (λ m. m.is_fresh ≡ true) }
         ensures printed { IfOk result (λ m. m.printed ≡ []) }
+        ensures sound { IfOk result (λ m. IsSound (state_of m).store) }
     {
         let memory = start_memory(alloc, config)?;
         Ok(Machine {
             cpu: Cpu::new(),
             memory,
+            heaps: Heaps::new(),
             halt: None,
             config,
             is_fresh: true,
@@ -85,6 +92,7 @@ impl Machine {
         ensures fresh { self.new.is_fresh ≡ (self.old.is_fresh && is_err result) }
         ensures sizes { self.new.sizes ≡ self.old.sizes }
         ensures printed { self.new.printed ≡ self.old.printed }
+        ensures sound { IsSound (state_of self.new).store }
     {
         if !self.is_fresh {
             return Err(BootError::Booted);
@@ -105,6 +113,7 @@ impl Machine {
         ensures stop { result ≡ option_map stop_of (state_of self.new).halt }
         ensures fresh { self.new.is_fresh ≡ false }
         ensures sizes { self.new.sizes ≡ self.old.sizes }
+        ensures sound { IsSound (state_of self.new).store }
     {
         self.begin();
         if self.stop().is_some() {
@@ -115,7 +124,64 @@ impl Machine {
         self.stop()
     }
 
-    /// The bytes that the last step printed; none before the first.
+    /// Makes a store call as a guest would by an instruction with the X bit that stands before the
+    /// program counter: the guest goes on at the present program counter. Bits 31 to 24 of the
+    /// number and its X bit are left out. A halted machine stays as it is.
+    #[tactic(auto, unfolding(crate::specs::Step::store_called))]
+    pub fn store_call(&mut self, _images: &Images, number: u32) -> Option<Stop>
+        ensures after { after_of self.new ≡ store_called (state_of self.old) number }
+        ensures stop { result ≡ option_map stop_of (state_of self.new).halt }
+        ensures fresh { self.new.is_fresh ≡ false }
+        ensures sizes { self.new.sizes ≡ self.old.sizes }
+        ensures sound { IsSound (state_of self.new).store }
+    {
+        self.begin();
+        if let Some(stop) = self.stop() {
+            return Some(stop);
+        }
+        let next = self.cpu().pc();
+        self.call(true, next, without_x_bit(number % (1 << 24)));
+        self.stop()
+    }
+
+    /// Sets one of R0 to R14 of the present mode. The machine can't be booted after that.
+    #[tactic(auto, unfolding(crate::specs::Parts::state_of, crate::specs::Boot::registered))]
+    pub fn set_register(&mut self, number: u32, value: u32)
+        requires { number ≤ 14 }
+        ensures state { state_of self.new ≡ registered (state_of self.old) number value }
+        ensures fresh { self.new.is_fresh ≡ false }
+        ensures sizes { self.new.sizes ≡ self.old.sizes }
+        ensures printed { self.new.printed ≡ self.old.printed }
+        ensures sound { IsSound (state_of self.new).store }
+    {
+        self.is_fresh = false;
+        self.cpu.set_register(number, value);
+    }
+
+    /// Stores a word as a guest's store instruction would. The machine can't be booted after that;
+    /// a refusal changes nothing.
+    ///
+    /// # Errors
+    ///
+    /// `AddressException` from 2^26 on, else `DataUnmapped` where no memory is mapped, else
+    /// `OwnedWord` where the store calls keep their records.
+    #[tactic(auto, unfolding(crate::specs::Parts::state_of))]
+    pub fn poke(&mut self, at: u32, value: u32) -> Result<(), Fault>
+        requires { at % 4 ≡ 0 }
+        ensures state { Leaves (state_of self.old) (poked (state_of self.old) at value) result (state_of self.new) }
+        ensures fresh { self.new.is_fresh ≡ (self.old.is_fresh && is_err result) }
+        ensures sizes { self.new.sizes ≡ self.old.sizes }
+        ensures printed { self.new.printed ≡ self.old.printed }
+        ensures sound { IsSound (state_of self.new).store }
+    {
+        if let Err(fault) = self.memory.store_word(at, value) {
+            return Err(fault);
+        }
+        self.is_fresh = false;
+        Ok(())
+    }
+
+    /// The bytes that the last step or store call printed; none before the first.
     pub fn output(&self) -> &[u8]
         ensures { result.now ≡ self.now.printed }
     {
@@ -131,11 +197,25 @@ impl Machine {
     }
 
     /// The memory.
-    #[tactic(auto, unfolding(crate::specs::Parts::state_of))]
+    #[tactic(auto, unfolding(crate::specs::Parts::state_of, os_heap::specs::Store::store_of))]
     pub fn memory(&self) -> &AddressMap
-        ensures { bytes_of result.now ≡ (state_of self.now).memory }
+        ensures store { store_of result.now ≡ (state_of self.now).store }
+        ensures bytes { bytes_of result.now ≡ (state_of self.now).store.bytes }
+        ensures sound { IsSound (store_of result.now) }
     {
         &self.memory
+    }
+
+    /// The heaps, which lie in the memory.
+    pub fn heaps(&self) -> &Heaps {
+        &self.heaps
+    }
+
+    /// How many frames of module code are open: none ever is.
+    pub fn frames(&self) -> usize
+        ensures { result ≡ 0 }
+    {
+        0
     }
 
     /// Why the machine is halted, if it is.
@@ -143,6 +223,7 @@ impl Machine {
     pub(crate) fn stop(&self) -> Option<Stop>
         ensures halt { result ≡ option_map stop_of (state_of self.now).halt }
         ensures stepped { IsSome result → self.now.is_fresh ≡ false }
+        ensures sound { IsSound (state_of self.now).store }
     {
         self.halt.map(Halt::stop)
     }
@@ -179,39 +260,31 @@ impl Machine {
     {
         match turn {
             Turn::Done => {}
-            Turn::Swi(number) => self.call(number),
+            Turn::Swi(number) => self.interrupt(number),
             Turn::Gate => self.end(Halt::Fault(Fault::FetchUnmapped)),
             Turn::Fault(fault) => self.end(Halt::Fault(fault)),
         }
     }
 
-    fn call(&mut self, number: u32)
+    // A call by an instruction; the guest goes on after it.
+    fn interrupt(&mut self, number: u32)
         requires printed { self.old.printed ≡ [] }
         requires stepped { self.old.is_fresh ≡ false }
-        ensures after { after_of self.new ≡ called (state_of self.old) (swi_of (without_x number)) }
+        ensures after { after_of self.new ≡ swi_called (state_of self.old) number }
         ensures others { OnlySteps self.old self.new }
     {
-        self.end(halt_of(SwiName::of(without_x_bit(number))));
+        let next = (self.cpu().pc() + 4) % ADDRESS_LIMIT;
+        self.call(is_bit_set(number, 17), next, without_x_bit(number));
     }
 
     #[tactic(auto, unfolding(crate::specs::Parts::state_of))]
-    fn end(&mut self, halt: Halt)
+    pub(crate) fn end(&mut self, halt: Halt)
         requires printed { self.old.printed ≡ [] }
         requires stepped { self.old.is_fresh ≡ false }
         ensures after { after_of self.new ≡ halted (state_of self.old) halt }
         ensures others { OnlySteps self.old self.new }
     {
         self.halt = Some(halt);
-    }
-}
-
-// OS_Exit ends the guest. No other call is there yet.
-fn halt_of(call: Option<SwiName>) -> Halt
-    ensures { result ≡ halt_called call }
-{
-    match call {
-        Some(SwiName::Exit) => Halt::Exit,
-        _ => Halt::Fault(Fault::ErrorStop(ErrorNumber::SwiUnknown.number())),
     }
 }
 
@@ -225,15 +298,20 @@ fn without_x_bit(number: u32) -> u32
     }
 }
 
-// The memory of a machine at its start: the fixed ranges, and the descriptor of the module area.
+// The memory of a machine at its start: the fixed ranges, the descriptor of the module area, and
+// the records of both.
 fn start_memory(alloc: Global, config: Config) -> Result<AddressMap, AllocError>
     ensures mapping { IfOk result (λ m. (a : ℕ) → is_mapped m a ≡ is_start_mapped config a) }
     ensures bytes { IfOk result (λ m. (a : ℕ) → byte_at m a ≡ start_bytes config a) }
+    ensures regions { IfOk result (λ m. regions m ≡ start_regions config) }
+    ensures sizes { AreGood config }
 {
     let mut memory = AddressMap::new(alloc, config.pages())?;
     memory.map_pages(APPLICATION_START, config.app());
     memory.map_pages(RMA_START, config.rma());
     memory.map_pages(SYSTEM_START, SYSTEM_PAGES);
+    memory.own(Kind::Rma, RMA_START, PAGE_SIZE * config.rma());
+    memory.own(Kind::SystemPage, SYSTEM_START, PAGE_SIZE * SYSTEM_PAGES);
     memory.put_word(RMA_START, HEAP_NAME);
     memory.put_word(RMA_START + 4, 0);
     memory.put_word(RMA_START + 8, HEAP_DESCRIPTOR);

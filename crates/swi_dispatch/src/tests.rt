@@ -1,4 +1,5 @@
 use crate::{BootError, Breaks, Machine};
+use arm_step::Mode;
 use image_loader::Images;
 use profile::{Config, Fault, MemorySink, Stop};
 use std::test::Fail;
@@ -119,20 +120,156 @@ fn a_step_ends_booting(rt: HostRuntime) -> Result<(), Fail> {
 }
 
 #[test]
-fn unknown_calls_stop(rt: HostRuntime) -> Result<(), Fail> {
-    // SWI &99, and the same with the X bit
-    for word in [[0x99u8, 0, 0, 0xEF], [0x99, 0, 2, 0xEF]] {
-        let mut machine = usual_machine(&rt)?;
-        machine.boot(&word).ok().ok_or("boot")?;
-        let stop = Some(Stop::Fault(Fault::ErrorStop(80)));
-        assert_eq!(rt; machine.step(&Images::new()), stop);
-        assert_eq!(rt; machine.stop(), stop);
-        assert_eq!(rt; machine.cpu().register(15), 0x8000);
-    }
-    // OS_Exit with the X bit
+fn calls_print(rt: HostRuntime) -> Result<(), Fail> {
+    // SWI OS_WriteI+"H"; SWI OS_WriteI+"i"; SWI OS_NewLine; SWI OS_Exit
     let mut machine = usual_machine(&rt)?;
-    machine.boot(&[0x11, 0, 2, 0xEF]).ok().ok_or("boot")?;
-    assert_eq!(rt; machine.step(&Images::new()), Some(Stop::Exit));
+    machine
+        .boot(&[
+            0x48, 1, 0, 0xEF, 0x69, 1, 0, 0xEF, 3, 0, 0, 0xEF, 0x11, 0, 0, 0xEF,
+        ])
+        .ok()
+        .ok_or("boot")?;
+    let mut room = [0u8; 8];
+    let mut sink = MemorySink::new(&mut room, 8, 9);
+    let ran = machine
+        .run(&Images::new(), &Breaks::new(), &mut sink, 9)
+        .ok()
+        .ok_or("run")?;
+    assert_eq!(rt; (ran.stop, ran.taken), (Stop::Exit, 4));
+    assert_eq!(rt; sink.written(), b"Hi\n\r".as_slice());
+    Ok(())
+}
+
+#[test]
+fn unknown_calls_are_errors(rt: HostRuntime) -> Result<(), Fail> {
+    // SWI &99 without the X bit
+    let mut machine = usual_machine(&rt)?;
+    machine.boot(&[0x99, 0, 0, 0xEF]).ok().ok_or("boot")?;
+    let stop = Some(Stop::Fault(Fault::ErrorStop(80)));
+    assert_eq!(rt; machine.step(&Images::new()), stop);
+    assert_eq!(rt; machine.cpu().register(0), 0);
+    assert_eq!(rt; machine.cpu().register(15), 0x8000);
+    assert_eq!(rt; machine.store_call(&Images::new(), 0x11), stop);
+
+    // the same made from outside, so with the X bit
+    let mut machine = usual_machine(&rt)?;
+    assert_eq!(rt; machine.store_call(&Images::new(), 0x99), None);
+    assert_eq!(rt; machine.cpu().register(0), 0x01C0_2100);
+    assert_eq!(rt; machine.cpu().register(15), 0x1000_8000);
+    assert_eq!(rt; machine.cpu().register_in(Mode::Supervisor, 14), 0x8000);
+    let block = machine.memory();
+    assert_eq!(rt; block.load_word(0x01C0_2100), Ok(80));
+    for (index, byte) in b"SwiUnknown\0".iter().enumerate() {
+        assert_eq!(rt; block.load_byte(0x01C0_2104 + index as u32), Ok(*byte));
+    }
+    assert_eq!(rt; machine.boot(&SIX_WORDS), Err(BootError::Booted));
+    assert_eq!(rt; machine.store_call(&Images::new(), 0x11), Some(Stop::Exit));
+    Ok(())
+}
+
+#[test]
+fn own_errors_keep_their_block(rt: HostRuntime) -> Result<(), Fail> {
+    let mut machine = usual_machine(&rt)?;
+    machine.set_register(0, 0x9000);
+    assert_eq!(rt; machine.poke(0x9000, 0x123), Ok(()));
+    assert_eq!(rt; machine.boot(&SIX_WORDS), Err(BootError::Booted));
+    assert_eq!(rt; machine.store_call(&Images::new(), 0x2B), None);
+    assert_eq!(rt; machine.cpu().register(0), 0x9000);
+    assert!(rt; machine.cpu().psr().overflow);
+    machine.set_register(0, 0x9002);
+    assert_eq!(rt; machine.store_call(&Images::new(), 0x2B), None);
+    assert_eq!(rt; machine.memory().load_word(0x01C0_2100), Ok(82));
+    Ok(())
+}
+
+#[test]
+fn texts_follow_their_call(rt: HostRuntime) -> Result<(), Fail> {
+    // SWI OS_WriteS; "abcd", 0; SWI OS_EnterOS
+    let text = [
+        1, 0, 0, 0xEF, b'a', b'b', b'c', b'd', 0, 0, 0, 0, 0x16, 0, 0, 0xEF,
+    ];
+    let mut machine = usual_machine(&rt)?;
+    machine.boot(&text).ok().ok_or("boot")?;
+    assert_eq!(rt; machine.step(&Images::new()), None);
+    assert_eq!(rt; machine.output(), b"abcd".as_slice());
+    assert_eq!(rt; machine.cpu().pc(), 0x800C);
+    assert_eq!(rt; machine.step(&Images::new()), None);
+    assert!(rt; machine.output().is_empty());
+    assert_eq!(rt; machine.cpu().register(15), 0x8013);
+    assert_eq!(rt; machine.cpu().register(14), 0x8010);
+
+    // made from outside, at the text itself
+    let mut machine = usual_machine(&rt)?;
+    machine.boot(&text[4..]).ok().ok_or("boot")?;
+    assert_eq!(rt; machine.store_call(&Images::new(), 1), None);
+    assert_eq!(rt; machine.output(), b"abcd".as_slice());
+    assert_eq!(rt; machine.cpu().pc(), 0x8008);
+    Ok(())
+}
+
+#[test]
+fn texts_have_a_limit(rt: HostRuntime) -> Result<(), Fail> {
+    let text = vec![in rt.alloc(); b'x'; 4097]?;
+    let mut machine = usual_machine(&rt)?;
+    machine.boot(&text.as_slice()[1..]).ok().ok_or("boot")?;
+    machine.set_register(0, 0x8000);
+    assert_eq!(rt; machine.store_call(&Images::new(), 2), None);
+    assert_eq!(rt; machine.output().len(), 4096);
+    assert_eq!(rt; machine.cpu().register(0), 0x9001);
+    let mut machine = usual_machine(&rt)?;
+    machine.boot(text.as_slice()).ok().ok_or("boot")?;
+    machine.set_register(0, 0x8000);
+    assert_eq!(rt; machine.store_call(&Images::new(), 2), None);
+    assert!(rt; machine.output().is_empty());
+    assert_eq!(rt; machine.memory().load_word(0x01C0_2100), Ok(81));
+    Ok(())
+}
+
+// OS_Heap of the heap at &9000, with a reason, a block and a size.
+fn call_heap(machine: &mut Machine, reason: u32, block: u32, size: u32) -> Option<Stop> {
+    set_heap_call(machine, reason, block, size);
+    machine.store_call(&Images::new(), 0x1D)
+}
+
+fn set_heap_call(machine: &mut Machine, reason: u32, block: u32, size: u32) {
+    machine.set_register(0, reason);
+    machine.set_register(1, 0x9000);
+    machine.set_register(2, block);
+    machine.set_register(3, size);
+}
+
+#[test]
+fn heap_calls(rt: HostRuntime) -> Result<(), Fail> {
+    // SWI OS_Heap
+    let mut machine = usual_machine(&rt)?;
+    machine.boot(&[0x1D, 0, 0, 0xEF]).ok().ok_or("boot")?;
+    assert_eq!(rt; call_heap(&mut machine, 0, 0, 256), None);
+    assert_eq!(rt; call_heap(&mut machine, 2, 0, 20), None);
+    assert_eq!(rt; machine.cpu().register(2), 0x9014);
+    assert_eq!(rt; call_heap(&mut machine, 1, 0, 0), None);
+    assert_eq!(rt; machine.cpu().register(2), 212);
+    assert_eq!(rt; machine.cpu().register(3), 216);
+    assert!(rt; !machine.cpu().psr().overflow);
+    assert_eq!(rt; machine.poke(0x9010, 0), Err(Fault::OwnedWord));
+    assert_eq!(rt; machine.poke(0x9014, 1), Ok(()));
+
+    // no block is there: first with the X bit, then without
+    assert_eq!(rt; call_heap(&mut machine, 3, 0x9018, 0), None);
+    assert!(rt; machine.cpu().psr().overflow);
+    assert_eq!(rt; machine.cpu().register(0), 0x01C0_2100);
+    assert_eq!(rt; machine.memory().load_word(0x01C0_2100), Ok(6));
+    for (index, byte) in b"HeapNotABlock\0".iter().enumerate() {
+        assert_eq!(rt;
+            machine.memory().load_byte(0x01C0_2104 + index as u32),
+            Ok(*byte)
+        );
+    }
+    set_heap_call(&mut machine, 3, 0x9018, 5);
+    let stop = Some(Stop::Fault(Fault::ErrorStop(6)));
+    assert_eq!(rt; machine.step(&Images::new()), stop);
+    for (number, value) in [(0, 3), (1, 0x9000), (2, 0x9018), (3, 5)] {
+        assert_eq!(rt; machine.cpu().register(number), value);
+    }
     Ok(())
 }
 

@@ -1,0 +1,195 @@
+-- What writes to memory leave of the store: every heap keeps its list.
+use Rattle.std.proofs.Common.{◌≡◌, ℕ, ◌+◌, ◌-◌, ◌*◌, ◌%◌, ◌^◌, ◌≤◌, Bool, true, false, cond, nat_le, nat_eq, List, [], ◌∷◌, length, ◌++◌, Option, Some, None, Result, Ok, Err, refl, sym, ◌∙◌, ap, subst, arith, lit<, length-append, rules}
+use Rattle.std.proofs.lemmas.List.{places}
+use Rattle.std.proofs.lemmas.Bool.{true≢false, le-leb}
+use Rattle.profile.specs.declared.error.ErrorNumber.{ErrorNumber}
+use Rattle.profile.specs.ErrorNames.{error_name}
+use Rattle.std.proofs.lemmas.Bool.Decides.{nat_tests}
+use Rattle.profile.specs.Outcome.{bind, Leaves}
+use Rattle.profile.specs.Sizes.{Sizes, AreGood}
+use Rattle.profile.specs.declared.fault.Fault.{Fault}
+use Rattle.profile.specs.declared.fault.Fault.TheVariants.{AddressException, DataUnmapped, OwnedWord}
+use Rattle.address_map.specs.declared.map.AddressMap.{AddressMap}
+use Rattle.address_map.specs.Bytes.{Bytes, in_range, unless, store_fault, word_stored, with_word, with_word_at, with_bytes_at, with_bytes}
+use Rattle.address_map.specs.Memory.{bytes_of, byte_at, is_mapped, layout, is_owned}
+use Rattle.address_map.proofs.Bytes.{is_mapped-layout}
+use Rattle.address_map.proofs.Equations.{stored_word, stored_bytes}
+use Rattle.arm_step.specs.State.{State}
+use Rattle.arm_step.specs.Frame.{IsByWords, Keeps}
+use Rattle.os_heap.specs.Store.{Store, store_of, owned_in, IsSound}
+use Rattle.os_heap.proofs.Frame.{IsKept, clear_kept, heads_kept, owned_word}
+use Rattle.os_heap.proofs.Owned.{owned_heads, has_flex}
+use Rattle.swi_dispatch.specs.declared.halt.Halt.{Halt}
+use Rattle.swi_dispatch.specs.Situation.{Situation, with_memory, system_pages, module_area, is_start_mapped, start_of}
+use Rattle.swi_dispatch.specs.Step.{error_block}
+use Rattle.swi_dispatch.specs.Boot.{booted, poked}
+use Rattle.swi_dispatch.specs.Parts.{Parts, IsWellFormed, state_of}
+
+-- the owned bytes of a machine's map are those of its heaps
+pub owned_same : (m : AddressMap) → IsSound (store_of m) → (store_of m).others ≡ system_pages ∷ [] → is_owned m ≡ owned_in (store_of m)
+owned_same m sound others = owned_heads m sound (ap has_flex others)
+
+pub by_words : (s : Store) → IsByWords (owned_in s)
+by_words s a k aligned below = owned_word s a k aligned below
+
+-- a map whose heaps kept their lists stands for the store with other memory
+pub kept_memory : (m n : AddressMap) (b : Bytes) → IsKept m n → bytes_of n ≡ b → store_of n ≡ with_memory (store_of m) b
+kept_memory m n b kept e = kept.store ∙ ap (with_memory (store_of m)) e
+
+pub kept_all : (m n : AddressMap) → IsKept m n → bytes_of n ≡ bytes_of m → store_of n ≡ store_of m
+unfolding store_of
+kept_all m n kept e = kept_memory m n (bytes_of m) kept e
+
+-- memory that is the same, and memory whose owned bytes are
+pub same_kept : (m n : AddressMap) → layout n ≡ layout m → IsSound (store_of m) → bytes_of n ≡ bytes_of m → IsKept m n
+same_kept m n same sound e = heads_kept m n same sound (λ a _. ap (λ (b : Bytes). b.at a) e)
+
+pub keeps_kept : (m n : AddressMap) (b : Bytes) → layout n ≡ layout m → IsSound (store_of m) → bytes_of n ≡ b
+    → Keeps (owned_in (store_of m)) (bytes_of m) b → IsKept m n
+keeps_kept m n b same sound e keeps = heads_kept m n same sound (λ a is. ap (λ (c : Bytes). c.at a) e ∙ keeps.bytes a is)
+
+-- writes to the system pages
+pub system_kept : (m n : AddressMap) → layout n ≡ layout m → IsSound (store_of m) → (store_of m).others ≡ system_pages ∷ []
+    → ((a : ℕ) → in_range 0x01C00000 0x3000 a ≡ false → byte_at n a ≡ byte_at m a) → IsKept m n
+system_kept m n same sound others kept = clear_kept m n 0x01C00000 0x3000 same sound (rw others at sound.clear).0 kept
+
+outside_word : (old : ℕ → ℕ) (a number : ℕ) → in_range 0x01C00000 0x3000 a ≡ false → with_word_at old 0x01C02100 number a ≡ old a
+outside_word old a number out = grind (arith, nat_tests)
+
+outside_bytes : (old : ℕ → ℕ) (a : ℕ) (text : List ℕ) → length text ≤ 128 → in_range 0x01C00000 0x3000 a ≡ false → with_bytes_at old 0x01C02104 text a ≡ old a
+outside_bytes old a text short out = grind (arith, nat_tests)
+
+-- the bytes of a store to a word are none that a heap owns
+free_by : (far mapped owned : Bool) → cond far (Some AddressException) (cond mapped (cond owned (Some OwnedWord) None) (Some DataUnmapped)) ≡ None → owned ≡ false
+free_by true mapped owned h = cc
+free_by false false owned h = cc
+free_by false true true h = cc
+free_by false true false h = refl
+
+apart_by : (owned : ℕ → Bool) (x a v y z : ℕ) (met : Bool) → nat_eq x a ≡ met → owned x ≡ true → owned a ≡ false → z ≡ y → cond met v z ≡ y
+apart_by owned x a v y z true e o f h =
+    let here : x ≡ a = grind (arith, nat_tests) in
+    let both : owned x ≡ owned a = ap owned here in cc
+apart_by owned x a v y z false e o f h = h
+
+word_kept : (owned : ℕ → Bool) (b : Bytes) (a w : ℕ) → IsByWords owned → a % 4 ≡ 0 → owned a ≡ false → Keeps owned b (with_word b a w)
+word_kept owned b a w words aligned free =
+    let one : owned (a + 1) ≡ false = words a 1 aligned (lit< tt) ∙ free in
+    let two : owned (a + 2) ≡ false = words a 2 aligned (lit< tt) ∙ free in
+    let three : owned (a + 3) ≡ false = words a 3 aligned (lit< tt) ∙ free in
+    record {
+      mapped = refl;
+      bytes = λ x o. apart_by owned x a _ (b.at x) _ (nat_eq x a) refl o free (apart_by owned x (a + 1) _ (b.at x) _ (nat_eq x (a + 1)) refl o one (
+          apart_by owned x (a + 2) _ (b.at x) _ (nat_eq x (a + 2)) refl o two (apart_by owned x (a + 3) _ (b.at x) _ (nat_eq x (a + 3)) refl o three refl)));
+    }
+
+abbrev StoredBy : (m n : AddressMap) → Result Bytes Fault → Type 0
+StoredBy m n (Ok b) = IsKept m n × (bytes_of n ≡ b)
+StoredBy m n (Err f) = IsKept m n × (bytes_of n ≡ bytes_of m)
+
+-- what a user's store leaves, whether it was refused or not
+abbrev pub with_core : State → Option Halt → Store → Situation
+with_core cpu halt s = record { cpu = cpu; store = s; halt = halt }
+
+poked_by : (m n : AddressMap) (cpu : State) (halt : Option Halt) (a w : ℕ) (result : Result Unit Fault) (f : Option Fault)
+    → layout n ≡ layout m → IsSound (store_of m) → (store_of m).others ≡ system_pages ∷ []
+    → (f ≡ None → owned_in (store_of m) (a - a % 4) ≡ false)
+    → Leaves (bytes_of m) (unless f (with_word (bytes_of m) (a - a % 4) w)) result (bytes_of n)
+    → IsKept m n × Leaves (with_core cpu halt (store_of m)) (bind (unless f (with_word (bytes_of m) (a - a % 4) w)) (λ b. Ok (with_core cpu halt (with_memory (store_of m) b)))) result (with_core cpu halt (store_of n))
+poked_by m n cpu halt a w (Ok u) None same sound others free left =
+    let kept : IsKept m n = keeps_kept m n _ same sound left (word_kept (owned_in (store_of m)) (bytes_of m) (a - a % 4) w (by_words (store_of m)) (omega arith) (free refl)) in
+    (kept, ap (with_core cpu halt) (kept_memory m n _ kept left))
+poked_by m n cpu halt a w (Err e) None same sound others free left = absurd left
+poked_by m n cpu halt a w (Ok u) (Some f) same sound others free left = absurd left
+poked_by m n cpu halt a w (Err e) (Some f) same sound others free left =
+    let kept : IsKept m n = same_kept m n same sound left.1 in
+    (kept, (left.0, ap (with_core cpu halt) (kept_all m n kept left.1)))
+
+pub pokes : (m n : AddressMap) (cpu : State) (halt : Option Halt) (a w : ℕ) (result : Result Unit Fault)
+    → layout n ≡ layout m → IsSound (store_of m) → (store_of m).others ≡ system_pages ∷ []
+    → Leaves (bytes_of m) (word_stored (is_owned m) (bytes_of m) a w) result (bytes_of n)
+    → IsKept m n × Leaves (with_core cpu halt (store_of m)) (poked (with_core cpu halt (store_of m)) a w) result (with_core cpu halt (store_of n))
+unfolding poked word_stored store_of
+pokes m n cpu halt a w result same sound others left =
+    poked_by m n cpu halt a w result (store_fault (owned_in (store_of m)) (bytes_of m) (a - a % 4)) same sound others
+    (λ e. free_by (nat_le (2 ^ 26) (a - a % 4)) ((bytes_of m).mapped (a - a % 4)) (owned_in (store_of m) (a - a % 4)) e)
+    (subst (λ (owned : ℕ → Bool). Leaves (bytes_of m) (word_stored owned (bytes_of m) a w) result (bytes_of n)) (owned_same m sound others) left)
+
+-- a program in the application space, which the module area doesn't meet
+pub program_kept : (m n : AddressMap) (s : Sizes) (program : List ℕ) → layout n ≡ layout m → IsSound (store_of m) → AreGood s
+    → (store_of m).heaps ≡ module_area s ∷ [] → length program ≤ 4096 * s.app
+    → ((a : ℕ) → byte_at n a ≡ with_bytes_at (byte_at m) 0x8000 program a) → IsKept m n
+program_kept m n s program same sound good heaps fits bytes =
+    clear_kept m n 0x8000 (length program) same sound (rw heaps (λ a inside. apart s (length program) a good fits inside, tt))
+    (λ a outside. bytes a ∙ untouched (byte_at m) program a outside) where
+      apart : (s : Sizes) (len a : ℕ) → AreGood s → len ≤ 4096 * s.app → in_range 0x8000 len a ≡ true → in_range 0x01800000 (4096 * s.rma) a ≡ false
+      apart s len a good fits inside = let limit = good.in_limit in let room = good.has_room in grind (arith, nat_tests)
+
+      untouched : (old : ℕ → ℕ) (program : List ℕ) (a : ℕ) → in_range 0x8000 (length program) a ≡ false → with_bytes_at old 0x8000 program a ≡ old a
+      untouched old program a outside = rw outside refl
+
+-- the error block
+pub error_kept : (m n : AddressMap) (number : ℕ) (text : List ℕ) → layout n ≡ layout m → IsSound (store_of m) → (store_of m).others ≡ system_pages ∷ []
+    → length text ≤ 128 → bytes_of n ≡ with_bytes (with_word (bytes_of m) 0x01C02100 number) 0x01C02104 text → IsKept m n
+error_kept m n number text same sound others short e =
+    system_kept m n same sound others (λ a out. ap (λ (b : Bytes). b.at a) e
+    ∙ outside_bytes (with_word_at (byte_at m) 0x01C02100 number) a text short out ∙ outside_word (byte_at m) a number out)
+
+-- the parts of a machine after a call that kept every list, and that isn't as it was made
+pub well_kept : (old new : Parts) → IsWellFormed old → IsKept old.map new.map → layout new.map ≡ layout old.map
+    → new.is_fresh ≡ false → new.sizes ≡ old.sizes → IsWellFormed new
+well_kept old new well kept same stepped sizes = record {
+  sound = kept.sound;
+  others = ap (λ (s : Store). s.others) kept.store ∙ well.others;
+  mapped = λ a. ap (λ (f : ℕ → Bool). f a) (is_mapped-layout old.map new.map same) ∙ well.mapped a ∙ ap (λ (s : Sizes). is_start_mapped s a) (sym sizes);
+  fresh = λ e. absurd (true≢false (sym e ∙ stepped));
+}
+
+-- the application space holds the program of the written machine
+pub boots : (m n : AddressMap) (cpu : State) (halt : Option Halt) (s : Sizes) (is_fresh : Bool) (program : List ℕ) → is_fresh ≡ true
+    → length program ≤ 4096 * s.app → layout n ≡ layout m → IsKept m n
+    → ((a : ℕ) → byte_at n a ≡ with_bytes_at (byte_at m) 0x8000 program a)
+    → Leaves {U = Unit {0}} (with_core cpu halt (store_of m)) (booted s is_fresh (with_core cpu halt (store_of m)) program) (Ok tt) (with_core cpu halt (store_of n))
+unfolding booted store_of
+boots m n cpu halt s is_fresh program fresh fits same kept bytes =
+    let room : nat_le (length program) (4096 * s.app) ≡ true = le-leb _ _ fits in
+    rw (fresh, room) (ap (with_core cpu halt) (kept_memory m n _ kept (stored_bytes m n 0x8000 program same bytes)))
+
+-- two writes side by side are one
+pub two_writes : (old : ℕ → ℕ) (at : ℕ) (xs : List ℕ) (y a : ℕ)
+    → with_bytes_at (with_bytes_at old at xs) (at + length xs) (y ∷ []) a ≡ with_bytes_at old at (xs ++ y ∷ []) a
+two_writes old at xs y a = grind (arith, nat_tests, places, length-append)
+
+pub error_written : (m n1 n2 n : AddressMap) (number code : ℕ) (text name : List ℕ) → number ≡ code → text ≡ name
+    → layout n1 ≡ layout m → ((a : ℕ) → byte_at n1 a ≡ with_word_at (byte_at m) 0x01C02100 number a)
+    → layout n2 ≡ layout n1 → ((a : ℕ) → byte_at n2 a ≡ with_bytes_at (byte_at n1) 0x01C02104 text a)
+    → layout n ≡ layout n2 → ((a : ℕ) → byte_at n a ≡ with_bytes_at (byte_at n2) (0x01C02104 + length text) (0 ∷ []) a)
+    → bytes_of n ≡ error_block (bytes_of m) code name
+error_written m n1 n2 n number code text name is_code is_name same1 put1 same2 put2 same put =
+    let one : bytes_of n1 ≡ with_word (bytes_of m) 0x01C02100 code = stored_word m n1 0x01C02100 number same1 put1 ∙ ap (λ (k : ℕ). with_word (bytes_of m) 0x01C02100 k) is_code in
+    let two : bytes_of n2 ≡ with_bytes (with_word (bytes_of m) 0x01C02100 code) 0x01C02104 text =
+    stored_bytes n1 n2 0x01C02104 text same2 put2 ∙ ap (λ (b : Bytes). with_bytes b 0x01C02104 text) one in
+    let three : bytes_of n ≡ with_bytes (with_bytes (with_word (bytes_of m) 0x01C02100 code) 0x01C02104 text) (0x01C02104 + length text) (0 ∷ []) =
+    stored_bytes n2 n (0x01C02104 + length text) (0 ∷ []) same put ∙ ap (λ (b : Bytes). with_bytes b (0x01C02104 + length text) (0 ∷ [])) two in
+    let whole : with_bytes (with_bytes (with_word (bytes_of m) 0x01C02100 code) 0x01C02104 text) (0x01C02104 + length text) (0 ∷ [])
+    ≡ with_bytes (with_word (bytes_of m) 0x01C02100 code) 0x01C02104 (text ++ 0 ∷ []) =
+    λ i. record { mapped = is_mapped m; at = λ a. two_writes (with_word_at (byte_at m) 0x01C02100 code) 0x01C02104 text 0 a i } in
+    three ∙ whole ∙ ap (λ (xs : List ℕ). with_bytes (with_word (bytes_of m) 0x01C02100 code) 0x01C02104 (xs ++ 0 ∷ [])) is_name
+
+-- the names of errors are short
+pub short_name : (e : ErrorNumber) → length (error_name e ++ 0 ∷ []) ≤ 128
+short_name e = search rules
+
+-- the same of a machine that may be as it was made, where nothing changed
+pub well_same : (old new : Parts) → IsWellFormed old → IsKept old.map new.map → layout new.map ≡ layout old.map
+    → state_of new ≡ state_of old → new.is_fresh ≡ old.is_fresh → new.sizes ≡ old.sizes → IsWellFormed new
+well_same old new well kept same state fresh sizes = record {
+  sound = kept.sound;
+  others = ap (λ (s : Store). s.others) kept.store ∙ well.others;
+  mapped = λ a. ap (λ (f : ℕ → Bool). f a) (is_mapped-layout old.map new.map same) ∙ well.mapped a ∙ ap (λ (s : Sizes). is_start_mapped s a) (sym sizes);
+  fresh = λ e. state ∙ well.fresh (sym fresh ∙ e) ∙ ap start_of (sym sizes);
+}
+
+pub refused_same : {S E : Type 0} (old new : S) (r : Result S E) (e : E) → Leaves {U = Unit {0}} old r (Err e) new → new ≡ old
+refused_same old new (Ok s) e left = absurd left
+refused_same old new (Err f) e left = left.1

@@ -1,0 +1,41 @@
+use Rattle.std.proofs.Common.{refl}
+use Rattle.swi_dispatch.specs.Parts.{state_of}
+use Rattle.swi_dispatch.proofs.Kept.{well_kept, well_same, refused_same, pokes}
+use Rattle.swi_dispatch.proofs.machine.Machine.poke.Goals as goal
+
+pub invariant_of-self : goal.invariant_of-self
+unfolding state_of
+invariant_of-self c =
+    let well = c.self.invariant in
+    let left = pokes _ _ c.self.inside.cpu c.self.inside.halt _ _ _ c.store_word.ensures.layout well.sound well.others c.in-Err.ensures.bytes in
+    well_same _ _ well left.0 c.store_word.ensures.layout (refused_same _ _ _ _ left.1) refl refl
+
+pub returns-in-Err-clause-state : goal.returns-in-Err-clause-state
+unfolding state_of
+returns-in-Err-clause-state c =
+    let well = c.self.invariant in
+    rw (← c.self.view_is) (pokes _ _ _ _ _ _ _ c.store_word.ensures.layout well.sound well.others c.in-Err.ensures.bytes).1
+
+pub returns-in-Err-clause-sound : goal.returns-in-Err-clause-sound
+unfolding state_of
+returns-in-Err-clause-sound c =
+    let well = c.self.invariant in
+    (pokes _ _ c.self.inside.cpu c.self.inside.halt _ _ _ c.store_word.ensures.layout well.sound well.others c.in-Err.ensures.bytes).0.sound
+
+pub invariant_of-self-2 : goal.invariant_of-self-2
+invariant_of-self-2 c =
+    let well = c.self.invariant in
+    let left = pokes _ _ c.self.inside.cpu c.self.inside.halt _ _ _ c.store_word.ensures.layout well.sound well.others c.in_default.ensures.bytes in
+    well_kept _ _ well left.0 c.store_word.ensures.layout refl refl
+
+pub returns-clause-state : goal.returns-clause-state
+unfolding state_of
+returns-clause-state c =
+    let well = c.self.invariant in
+    rw (← c.self.view_is) (pokes _ _ _ _ _ _ _ c.store_word.ensures.layout well.sound well.others c.in_default.ensures.bytes).1
+
+pub returns-clause-sound : goal.returns-clause-sound
+unfolding state_of
+returns-clause-sound c =
+    let well = c.self.invariant in
+    (pokes _ _ c.self.inside.cpu c.self.inside.halt _ _ _ c.store_word.ensures.layout well.sound well.others c.in_default.ensures.bytes).0.sound

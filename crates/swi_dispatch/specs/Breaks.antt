@@ -1,0 +1,22 @@
+-- The addresses at which a run stops: multiples of 4, at most 16.
+use Rattle.std.specs.Prelude.{ℕ, not, ◌+◌, ◌%◌, ◌==◌, nat_le, Option, Some, None, Result, Ok, Err, List, [], ◌∷◌, ◌++◌, length, take, drop, if◌then◌else◌}
+use Rattle.std.specs.List.{position}
+use Rattle.swi_dispatch.specs.declared.breaks.BreakError.{BreakError}
+use Rattle.swi_dispatch.specs.declared.breaks.BreakError.TheVariants.{Unaligned, BreakTableFull, NoBreak}
+use Rattle.swi_dispatch.specs.Run.{is_among}
+
+-- one more; one that is there already is there once
+unfoldable pub with_break : List ℕ → ℕ → Result (List ℕ) BreakError
+with_break breaks a =
+    if not (a % 4 == 0) then Err Unaligned else (
+    if is_among breaks a then Ok breaks else (
+    if nat_le 16 (length breaks) then Err BreakTableFull else
+    Ok (breaks ++ a ∷ [])))
+
+-- one less: the list without the item at the place where the address is first found
+abbrev pub without_place : List ℕ → Option ℕ → Result (List ℕ) BreakError
+without_place breaks None = Err NoBreak
+without_place breaks (Some k) = Ok (take k breaks ++ drop (k + 1) breaks)
+
+unfoldable pub without_break : List ℕ → ℕ → Result (List ℕ) BreakError
+without_break breaks a = without_place breaks (position (λ b. b == a) breaks)

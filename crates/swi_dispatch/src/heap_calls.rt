@@ -1,0 +1,92 @@
+//! OS_Heap (RISC OS 3 Programmer's Reference Manual, "OS_Heap").
+
+ghost use Rattle.std.specs.Prelude.{◌≡◌, false};
+ghost use Rattle.profile.specs.Outcome.{Leaves};
+
+use crate::machine::Machine;
+use crate::refusal::Refusal;
+use profile::ErrorNumber;
+
+impl Machine {
+    ghost use Rattle.swi_dispatch.specs.Parts.{state_of, OnlySteps};
+    ghost use Rattle.swi_dispatch.specs.Calls.{heap_called, heap_began, heap_described, heap_got, heap_freed};
+
+    /// A heap call by its reason in R0. The heap is in R1, a block in R2, a size in R3.
+    #[tactic(auto, unfolding(crate::specs::Calls::heap_called))]
+    pub(crate) fn call_heap(&mut self) -> Result<(), Refusal>
+        requires stepped { self.old.is_fresh ≡ false }
+        ensures state { Leaves (state_of self.old) (heap_called (state_of self.old)) result (state_of self.new) }
+        ensures printed { self.new.printed ≡ self.old.printed }
+        ensures others { OnlySteps self.old self.new }
+    {
+        match self.cpu().register(0) {
+            0 => self.init_heap(),
+            1 => self.describe_heap(),
+            2 => self.get_block(),
+            3 => self.free_block(),
+            _ => Err(Refusal::System(ErrorNumber::HeapBadReason)),
+        }
+    }
+
+    #[tactic(auto, unfolding(crate::specs::Parts::state_of))]
+    fn init_heap(&mut self) -> Result<(), Refusal>
+        requires stepped { self.old.is_fresh ≡ false }
+        ensures state { Leaves (state_of self.old) (heap_began (state_of self.old)) result (state_of self.new) }
+        ensures printed { self.new.printed ≡ self.old.printed }
+        ensures others { OnlySteps self.old self.new }
+    {
+        let heap = self.cpu.register(1);
+        let size = self.cpu.register(3);
+        let made = self.heaps.init(&mut self.memory, heap, size);
+        made.answer.map_err(Refusal::System)
+    }
+
+    #[tactic(auto, unfolding(crate::specs::Parts::state_of))]
+    fn describe_heap(&mut self) -> Result<(), Refusal>
+        requires stepped { self.old.is_fresh ≡ false }
+        ensures state { Leaves (state_of self.old) (heap_described (state_of self.old)) result (state_of self.new) }
+        ensures printed { self.new.printed ≡ self.old.printed }
+        ensures others { OnlySteps self.old self.new }
+    {
+        let heap = self.cpu.register(1);
+        match self.heaps.describe(&self.memory, heap).answer {
+            Ok((largest, free)) => {
+                self.cpu.set_register(2, largest);
+                self.cpu.set_register(3, free);
+                Ok(())
+            }
+            Err(error) => Err(Refusal::System(error)),
+        }
+    }
+
+    #[tactic(auto, unfolding(crate::specs::Parts::state_of))]
+    fn get_block(&mut self) -> Result<(), Refusal>
+        requires stepped { self.old.is_fresh ≡ false }
+        ensures state { Leaves (state_of self.old) (heap_got (state_of self.old)) result (state_of self.new) }
+        ensures printed { self.new.printed ≡ self.old.printed }
+        ensures others { OnlySteps self.old self.new }
+    {
+        let heap = self.cpu.register(1);
+        let wanted = self.cpu.register(3);
+        match self.heaps.get(&mut self.memory, heap, wanted).answer {
+            Ok(block) => {
+                self.cpu.set_register(2, block);
+                Ok(())
+            }
+            Err(error) => Err(Refusal::System(error)),
+        }
+    }
+
+    #[tactic(auto, unfolding(crate::specs::Parts::state_of))]
+    fn free_block(&mut self) -> Result<(), Refusal>
+        requires stepped { self.old.is_fresh ≡ false }
+        ensures state { Leaves (state_of self.old) (heap_freed (state_of self.old)) result (state_of self.new) }
+        ensures printed { self.new.printed ≡ self.old.printed }
+        ensures others { OnlySteps self.old self.new }
+    {
+        let heap = self.cpu.register(1);
+        let block = self.cpu.register(2);
+        let freed = self.heaps.free(&mut self.memory, heap, block);
+        freed.answer.map_err(Refusal::System)
+    }
+}
