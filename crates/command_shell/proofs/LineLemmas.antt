@@ -53,16 +53,16 @@ lines_last bs line some parts =
     let same : line ≡ bs = rw parts at whole in
     ap lines_of_parts parts ∙ lines_of-one line (omega (arith, ap length same))
 
-unknown_words : (word name : List ℕ) (more : List (List ℕ)) → 0 < length more → request_of_words (word ∷ name ∷ more) ≡ Unknown
-unknown_words word name [] some = absurd (omega (arith, some))
-unknown_words word name (other ∷ others) some = refl
+unknown_words : (word first second : List ℕ) (more : List (List ℕ)) → 0 < length more → request_of_words (word ∷ first ∷ second ∷ more) ≡ Unknown
+unknown_words word first second [] some = absurd (omega (arith, some))
+unknown_words word first second (other ∷ others) some = refl
 
--- a line of three words or more asks for nothing that there is
-pub three_words : (word name line rest : List ℕ) → slice_split (λ b. b == 32) line ≡ name ∷ slice_split (λ b. b == 32) rest
-    → request_of_words (word ∷ slice_split (λ b. b == 32) line) ≡ Unknown
-three_words word name line rest parts =
-    ap (λ (ws : List (List ℕ)). request_of_words (word ∷ ws)) parts
-    ∙ unknown_words word name (slice_split (λ b. b == 32) rest) (some_part (λ b. b == 32) rest)
+-- a line of four words or more asks for nothing that there is
+pub four_words : (word first second line rest : List ℕ) → slice_split (λ b. b == 32) line ≡ second ∷ slice_split (λ b. b == 32) rest
+    → request_of_words (word ∷ first ∷ slice_split (λ b. b == 32) line) ≡ Unknown
+four_words word first second line rest parts =
+    ap (λ (ws : List (List ℕ)). request_of_words (word ∷ first ∷ ws)) parts
+    ∙ unknown_words word first second (slice_split (λ b. b == 32) rest) (some_part (λ b. b == 32) rest)
 
 pub ruleset cut_steps = (split_at_place, split_nowhere)
 

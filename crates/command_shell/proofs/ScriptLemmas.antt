@@ -4,7 +4,10 @@ use Rattle.std.proofs.lemmas.List.{append-nil}
 use Rattle.std.specs.Prelude.{if◌then◌else◌}
 use Rattle.profile.proofs.OutputLemmas.{Completes-start, Completes-more, Completes-same, Appends-from_completes, AppendsFront-from_completes, AppendsFront-start}
 use Rattle.command_shell.specs.Blocks.{block_lines, after_block, block_size, lines_after, lines_taken}
-use Rattle.command_shell.specs.Requests.{Request, Nothing, Hex, Boot, Run, Regs, Unknown, request_of, is_end}
+use Rattle.command_shell.specs.Requests.{Request, Nothing, Hex, Boot, Run, Regs, Set, Poke, Call, Step, Unknown, request_of, is_end}
+use Rattle.image_loader.specs.Entries.{Entry}
+use Rattle.command_shell.specs.declared.session.Session.{Session}
+use Rattle.command_shell.specs.Sessions.{world_of}
 use Rattle.command_shell.specs.Script.{World, Told, Open, then_told, answered, hex_told, request_told, on_request, in_block, lines_told}
 
 -- an answer, and then the lines that are left
@@ -55,6 +58,10 @@ told_by_request number w rest Nothing = no_lines_more (request_told w (number + 
 told_by_request number w rest (Boot name) = no_lines_more (request_told w (number + 1) (Boot name) []) (number + 1) rest
 told_by_request number w rest Run = no_lines_more (request_told w (number + 1) Run []) (number + 1) rest
 told_by_request number w rest Regs = no_lines_more (request_told w (number + 1) Regs []) (number + 1) rest
+told_by_request number w rest (Set register value) = no_lines_more (request_told w (number + 1) (Set register value) []) (number + 1) rest
+told_by_request number w rest (Poke address value) = no_lines_more (request_told w (number + 1) (Poke address value) []) (number + 1) rest
+told_by_request number w rest (Call called) = no_lines_more (request_told w (number + 1) (Call called) []) (number + 1) rest
+told_by_request number w rest (Step count) = no_lines_more (request_told w (number + 1) (Step count) []) (number + 1) rest
 told_by_request number w rest Unknown = no_lines_more (request_told w (number + 1) Unknown []) (number + 1) rest
 
 -- a line and the rest of the script
@@ -104,12 +111,21 @@ lines_after-shorter (Hex name) rest = after_block-shorter rest
 lines_after-shorter (Boot name) rest = omega arith
 lines_after-shorter Run rest = omega arith
 lines_after-shorter Regs rest = omega arith
+lines_after-shorter (Set register value) rest = omega arith
+lines_after-shorter (Poke address value) rest = omega arith
+lines_after-shorter (Call called) rest = omega arith
+lines_after-shorter (Step count) rest = omega arith
 lines_after-shorter Unknown rest = omega arith
 
 -- a request leaves fewer lines
 pub fewer_left : (line : List ℕ) (all rest left : List (List ℕ)) (r : Request) → all ≡ line ∷ rest → left ≡ lines_after r rest → length left < length all
 fewer_left line all rest left r first stays = rw (first, stays) (omega (arith, lines_after-shorter r rest))
 
+-- the images of a session's world
+pub world_images : (session : Session) (images : List Entry) → (world_of session images).images ≡ images
+unfolding world_of
+world_images session images = refl
+
 pub ruleset line_steps = (Completes-start, Completes-more, Completes-same, Appends-from_completes, AppendsFront-from_completes, text_step, world_step, text_end, world_end)
 
-pub ruleset whole_steps = (AppendsFront-start)
+pub ruleset whole_steps = (AppendsFront-start, world_images)

@@ -1,5 +1,5 @@
 -- The lines that a script's requests are answered with.
-use Rattle.std.specs.Prelude.{ℕ, List, ◌++◌, codes}
+use Rattle.std.specs.Prelude.{ℕ, Bool, true, List, ◌++◌, codes}
 use Rattle.std.specs.Fmt.{decimal}
 use Rattle.profile.specs.Digits.{hex_number}
 use Rattle.profile.specs.declared.stop.Stop.{Stop}
@@ -36,6 +36,18 @@ boot_text name = codes "boot " ++ (name ++ codes "\n")
 unfoldable pub refused_text : List ℕ → List ℕ
 refused_text reason = codes "refused " ++ (reason ++ codes "\n")
 
+-- `ok`
+unfoldable pub ok_text : List ℕ
+ok_text = codes "ok\n"
+
+-- `error n`
+unfoldable pub call_error_text : ℕ → List ℕ
+call_error_text number = codes "error " ++ (decimal number ++ codes "\n")
+
+-- `at &8004`
+unfoldable pub at_text : ℕ → List ℕ
+at_text pc = codes "at" ++ (address_text pc ++ codes "\n")
+
 -- some words, a number and the program counter
 unfoldable pub numbered_text : List ℕ → ℕ → ℕ → List ℕ
 numbered_text words number pc = words ++ (decimal number ++ (address_text pc ++ codes "\n"))
@@ -51,3 +63,8 @@ stop_text stop.Exit pc = codes "stop Exit\n"
 stop_text stop.Budget pc = codes "stop Budget\n"
 stop_text (stop.Break address) pc = codes "stop Break" ++ (address_text address ++ codes "\n")
 stop_text (stop.Fault fault) pc = fault_text fault pc
+
+-- What follows on the steps of a STEP line: where the machine stands if all of them could be taken and were, else the stop line.
+unfoldable pub stepped_text : Bool → Stop → ℕ → List ℕ
+stepped_text true stop.Budget pc = at_text pc
+stepped_text could_all stop pc = stop_text stop pc

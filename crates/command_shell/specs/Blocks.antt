@@ -1,7 +1,7 @@
 -- A block of a script: the lines up to one that ends it, or up to the script's end.
 use Rattle.std.specs.Prelude.{ℕ, ◌+◌, List, [], ◌∷◌, ◌++◌, Option, Some, None, Result, Ok, Err, if◌then◌else◌}
 use Rattle.command_shell.specs.HexPairs.{spelled}
-use Rattle.command_shell.specs.Requests.{Request, Nothing, Hex, Boot, Run, Regs, Unknown, is_end}
+use Rattle.command_shell.specs.Requests.{Request, Nothing, Hex, Boot, Run, Regs, Set, Poke, Call, Step, Unknown, is_end}
 
 unfoldable pub block_lines : List (List ℕ) → List (List ℕ)
 block_lines [] = []
@@ -34,6 +34,10 @@ lines_after (Hex name) rest = after_block rest
 lines_after (Boot name) rest = rest
 lines_after Run rest = rest
 lines_after Regs rest = rest
+lines_after (Set register value) rest = rest
+lines_after (Poke address value) rest = rest
+lines_after (Call number) rest = rest
+lines_after (Step count) rest = rest
 lines_after Unknown rest = rest
 
 abbrev pub lines_taken : Request → List (List ℕ) → ℕ
@@ -42,4 +46,8 @@ lines_taken (Hex name) rest = block_size rest
 lines_taken (Boot name) rest = 0
 lines_taken Run rest = 0
 lines_taken Regs rest = 0
+lines_taken (Set register value) rest = 0
+lines_taken (Poke address value) rest = 0
+lines_taken (Call number) rest = 0
+lines_taken (Step count) rest = 0
 lines_taken Unknown rest = 0

@@ -2,6 +2,7 @@ pub mod Answers
 pub mod Blocks
 pub mod Commands
 pub mod HexPairs
+pub mod Numbers
 pub mod Places
 pub mod ReadBlocks
 pub mod Requests

@@ -1,21 +1,31 @@
 -- What a script does and what it is answered, line by line, over the written machine.
-use Rattle.std.specs.Prelude.{◌≡◌, ℕ, Bool, true, false, ◌+◌, ◌-◌, ◌==◌, ◌&&◌, List, [], ◌∷◌, ◌++◌, length, codes, Option, Some, None, Result, Ok, Err}
+use Rattle.std.specs.Prelude.{◌≡◌, ℕ, Bool, true, false, ◌+◌, ◌-◌, ◌%◌, ◌==◌, ◌&&◌, nat_le, min, List, [], ◌∷◌, ◌++◌, length, codes, Option, Some, None, Result, Ok, Err, if◌then◌else◌}
 use Rattle.std.specs.Str.Lines.{lines}
 use Rattle.std.specs.Io.KnownBytes.{Appends}
 use Rattle.profile.specs.Sizes.{Sizes}
+use Rattle.profile.specs.ErrorNames.{error_code}
+use Rattle.profile.specs.FaultNames.{fault_name}
+use Rattle.profile.specs.declared.error.ErrorNumber.TheVariants.{BadPointer}
+use Rattle.profile.specs.declared.fault.Fault.{Fault}
 use Rattle.profile.specs.declared.stop.Stop.{Stop}
+use Rattle.profile.specs.declared.stop.Stop.TheVariants as stop
+use Rattle.address_map.specs.Bytes.{Bytes, word_loaded}
+use Rattle.arm_step.specs.State.{register_of}
 use Rattle.image_loader.specs.Entries.{Entry, bytes_of, refusal_for, with_entry}
 use Rattle.image_loader.specs.declared.error.ImageError.{ImageError}
 use Rattle.image_loader.specs.ErrorNames.{image_error_name}
-use Rattle.swi_dispatch.specs.Situation.{Situation, start_of}
-use Rattle.swi_dispatch.specs.Boot.{booted}
+use Rattle.swi_dispatch.specs.declared.halt.Halt.{Halt}
+use Rattle.swi_dispatch.specs.Situation.{Situation, After, start_of, stop_of}
+use Rattle.swi_dispatch.specs.Boot.{booted, registered, poked}
+use Rattle.swi_dispatch.specs.Step.{store_called}
+use Rattle.swi_dispatch.specs.Run.{count_after}
 use Rattle.swi_dispatch.specs.Run as machine
 use Rattle.swi_dispatch.specs.declared.boot_error.BootError.{BootError}
 use Rattle.swi_dispatch.specs.declared.boot_error.BootError.TheVariants as boot
 use Rattle.debugger.specs.Registers.{registers_text}
-use Rattle.command_shell.specs.Answers.{unknown_text, hex_text, hex_syntax_text, hex_refused_text, boot_text, refused_text, stop_text}
+use Rattle.command_shell.specs.Answers.{unknown_text, hex_text, hex_syntax_text, hex_refused_text, boot_text, refused_text, ok_text, call_error_text, stop_text, stepped_text}
 use Rattle.command_shell.specs.Blocks.{block_bytes}
-use Rattle.command_shell.specs.Requests.{Request, Nothing, Hex, Boot, Run, Regs, Unknown, request_of, is_end}
+use Rattle.command_shell.specs.Requests.{Request, Nothing, Hex, Boot, Run, Regs, Set, Poke, Call, Step, Unknown, request_of, is_end}
 
 -- What a script works on: the machine, whether it still stands as it was made, the images, what is left of the budget, and the last stop
 -- that a line was answered with.
@@ -88,6 +98,81 @@ run_done w r =
 unfoldable pub run_told : World → Told
 run_told w = run_done w (machine.ran [] w.left w.machine)
 
+-- SET changes a register of the present mode.
+abbrev pub set_told : World → ℕ → ℕ → Told
+set_told w register value = answered (record w { machine = registered w.machine register value; is_fresh = false }) []
+
+-- POKE stores a word as a guest's store would.
+abbrev pub poke_done : World → Result Situation Fault → Told
+poke_done w (Ok machine) = answered (record w { machine = machine; is_fresh = false }) []
+poke_done w (Err fault) = answered w (refused_text (fault_name fault))
+
+unfoldable pub poke_told : World → ℕ → ℕ → Told
+poke_told w address value = poke_done w (poked w.machine address value)
+
+-- the stop of a run of no steps
+abbrev pub stop_at_rest : Option Halt → Stop
+stop_at_rest (Some halt) = stop_of halt
+stop_at_rest None = stop.Budget
+
+-- Why no step can be taken, by what halts the machine and what is left of the budget.
+abbrev pub hindrance_by : Option Halt → ℕ → Option Stop
+hindrance_by (Some halt) left = Some (stop_of halt)
+hindrance_by None left = if left == 0 then Some stop.Budget else None
+
+abbrev pub hindrance : World → Option Stop
+hindrance w = hindrance_by w.machine.halt w.left
+
+-- The number of the error that a call answered: that of the block at `at`, or 82 (BadPointer) where no block can stand there.
+abbrev pub word_or : ℕ → Result ℕ Fault → ℕ
+word_or other (Ok word) = word
+word_or other (Err fault) = other
+
+unfoldable pub error_number : Bytes → ℕ → ℕ
+error_number b at = if at % 4 == 0 then word_or (error_code BadPointer) (word_loaded b at) else error_code BadPointer
+
+-- what a call tells that did not halt the machine: V says whether it was refused, and R0 points to the error then
+unfoldable pub call_text : Situation → List ℕ
+call_text s = if s.cpu.psr.overflow then call_error_text (error_number s.store.bytes (register_of s.cpu 0)) else ok_text
+
+-- a stop line, which is the last one then
+abbrev pub stop_told : World → Stop → Told
+stop_told w stop = answered (record w { last = Some stop }) (stop_text stop w.machine.cpu.pc)
+
+abbrev pub call_ended : World → Option Halt → Told
+call_ended w (Some halt) = stop_told w (stop_of halt)
+call_ended w None = answered w (call_text w.machine)
+
+-- the world after a store call, which is one step
+abbrev pub call_made : World → After → World
+call_made w a = record w { machine = a.now; is_fresh = false; left = w.left - count_after a.now.halt }
+
+-- what the call prints, and then how it ended
+abbrev pub call_done : World → After → Told
+call_done w a = then_told (answered (call_made w a) a.printed) (λ after. call_ended after after.machine.halt)
+
+abbrev pub call_unless : World → ℕ → Option Stop → Told
+call_unless w number (Some stop) = stop_told w stop
+call_unless w number None = call_done w (store_called w.machine number)
+
+-- CALL makes a store call, unless no step can be taken.
+unfoldable pub call_told : World → ℕ → Told
+call_told w number = call_unless w number (hindrance w)
+
+-- STEP takes so many steps, or as many as are left.
+abbrev pub step_done : World → ℕ → machine.Run → Told
+step_done w count r =
+    answered (record w {
+      machine = r.now;
+      is_fresh = w.is_fresh && (min count w.left == 0);
+      left = w.left - r.taken;
+      last = Some r.stop;
+    })
+    (r.printed ++ stepped_text (nat_le count w.left) r.stop r.now.cpu.pc)
+
+unfoldable pub step_told : World → ℕ → Told
+step_told w count = step_done w count (machine.ran [] (min count w.left) w.machine)
+
 -- A request at the line of that number; of a HEX line, with the lines of its block.
 abbrev pub request_told : World → ℕ → Request → List (List ℕ) → Told
 request_told w number Nothing block = answered w []
@@ -95,6 +180,10 @@ request_told w number (Hex name) block = hex_told w name block
 request_told w number (Boot name) block = boot_told w name
 request_told w number Run block = run_told w
 request_told w number Regs block = answered w (registers_text w.machine.cpu)
+request_told w number (Set register value) block = set_told w register value
+request_told w number (Poke address value) block = poke_told w address value
+request_told w number (Call called) block = call_told w called
+request_told w number (Step count) block = step_told w count
 request_told w number Unknown block = answered w (unknown_text number)
 
 -- a block whose end has not come yet: its name, and its lines so far
@@ -109,6 +198,10 @@ on_request w number Nothing next = then_told (request_told w number Nothing []) 
 on_request w number (Boot name) next = then_told (request_told w number (Boot name) []) (λ after. next after None)
 on_request w number Run next = then_told (request_told w number Run []) (λ after. next after None)
 on_request w number Regs next = then_told (request_told w number Regs []) (λ after. next after None)
+on_request w number (Set register value) next = then_told (request_told w number (Set register value) []) (λ after. next after None)
+on_request w number (Poke address value) next = then_told (request_told w number (Poke address value) []) (λ after. next after None)
+on_request w number (Call called) next = then_told (request_told w number (Call called) []) (λ after. next after None)
+on_request w number (Step count) next = then_told (request_told w number (Step count) []) (λ after. next after None)
 on_request w number Unknown next = then_told (request_told w number Unknown []) (λ after. next after None)
 
 abbrev pub in_block : World → Open → List ℕ → Bool → (World → Option Open → Told) → Told

@@ -2,7 +2,7 @@
 
 ghost use Rattle.std.specs.Prelude.{◌≡◌, true, OnOk, OnErr};
 ghost use Rattle.std.specs.Io.KnownBytes.{Appends};
-ghost use Rattle.command_shell.specs.Answers.{unknown_text, hex_text, hex_syntax_text, hex_refused_text, boot_text, refused_text, numbered_text, fault_text, stop_text};
+ghost use Rattle.command_shell.specs.Answers.{unknown_text, hex_text, hex_syntax_text, hex_refused_text, boot_text, refused_text, ok_text, call_error_text, at_text, numbered_text, fault_text, stop_text, stepped_text};
 
 use itoa::Buffer;
 use profile::{Fault, HexText, Sink, Stop, WriteFault, push_all, push_parts};
@@ -104,6 +104,51 @@ pub fn tell_refused<W: Sink>(sink: &mut W, reason: &[u8]) -> Result<(), WriteFau
     push_parts(sink, &[b"refused ".as_slice(), reason, b"\n".as_slice()])
 }
 
+/// `ok`: the store call succeeded.
+#[tactic(auto, unfolding(crate::specs::Answers::ok_text))]
+pub fn tell_ok<W: Sink>(sink: &mut W) -> Result<(), WriteFault>
+    ensures text { OnOk result (Appends (W.contents sink.old) (W.contents sink.new) ok_text) }
+    ensures flag { OnErr result (W.has_failed sink.new ≡ true) }
+    ensures same_flag { OnOk result (W.has_failed sink.new ≡ W.has_failed sink.old) }
+{
+    push_all(sink, b"ok\n")
+}
+
+/// `error n`: the store call was refused with that error.
+#[tactic(auto, unfolding(crate::specs::Answers::call_error_text))]
+pub fn tell_error<W: Sink>(sink: &mut W, number: u32) -> Result<(), WriteFault>
+    ensures text { OnOk result (Appends (W.contents sink.old) (W.contents sink.new) (call_error_text number)) }
+    ensures flag { OnErr result (W.has_failed sink.new ≡ true) }
+    ensures same_flag { OnOk result (W.has_failed sink.new ≡ W.has_failed sink.old) }
+{
+    let mut digits = Buffer::new();
+    push_parts(
+        sink,
+        &[
+            b"error ".as_slice(),
+            digits.format(number).as_bytes(),
+            b"\n".as_slice(),
+        ],
+    )
+}
+
+/// `at &8004`: the steps are taken, and the machine stands there.
+#[tactic(auto, unfolding(crate::specs::Answers::at_text, crate::specs::Answers::address_text))]
+pub fn tell_at<W: Sink>(sink: &mut W, pc: u32) -> Result<(), WriteFault>
+    ensures text { OnOk result (Appends (W.contents sink.old) (W.contents sink.new) (at_text pc)) }
+    ensures flag { OnErr result (W.has_failed sink.new ≡ true) }
+    ensures same_flag { OnOk result (W.has_failed sink.new ≡ W.has_failed sink.old) }
+{
+    push_parts(
+        sink,
+        &[
+            b"at &".as_slice(),
+            HexText::number(pc).as_slice(),
+            b"\n".as_slice(),
+        ],
+    )
+}
+
 /// A stop line: `stop Exit`, `stop Budget`, `stop Break &8004`, `stop OwnedWord &8004`,
 /// `stop ErrorStop 6 &8004`. After a fault stands the program counter.
 #[tactic(auto, unfolding(crate::specs::Answers::stop_text, crate::specs::Answers::address_text))]
@@ -124,6 +169,25 @@ pub fn tell_stop<W: Sink>(sink: &mut W, stop: Stop, pc: u32) -> Result<(), Write
             ],
         ),
         Stop::Fault(fault) => tell_fault(sink, fault, pc),
+    }
+}
+
+/// What follows on the steps of a STEP line: where the machine stands, if all of them could be taken
+/// and were, else the stop line.
+#[tactic(auto, unfolding(crate::specs::Answers::stepped_text))]
+pub fn tell_stepped<W: Sink>(
+    sink: &mut W,
+    could_all: bool,
+    stop: Stop,
+    pc: u32,
+) -> Result<(), WriteFault>
+    ensures text { OnOk result (Appends (W.contents sink.old) (W.contents sink.new) (stepped_text could_all stop pc)) }
+    ensures flag { OnErr result (W.has_failed sink.new ≡ true) }
+    ensures same_flag { OnOk result (W.has_failed sink.new ≡ W.has_failed sink.old) }
+{
+    match stop {
+        Stop::Budget if could_all => tell_at(sink, pc),
+        _ => tell_stop(sink, stop, pc),
     }
 }
 

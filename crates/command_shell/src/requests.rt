@@ -1,8 +1,12 @@
 ghost use Rattle.std.specs.Prelude.{◌≡◌, [], ◌∷◌};
-ghost use Rattle.command_shell.specs.Requests.{is_word, is_end, words, request_of, request_of_word, request_of_words};
+ghost use Rattle.command_shell.specs.Numbers.{number_of};
+ghost use Rattle.command_shell.specs.Requests.{Hex, Boot, Set, Poke, Call, Step, is_word, is_end, words, named, numbered, both_numbered, register_named, word_address, request_of, request_of_word, request_of_two, request_of_three, request_of_words};
+ghost use Rattle.image_loader.specs.Entries.{is_name};
 ghost use Rattle.command_shell.specs.Commands.{request_of_command};
 
 use crate::lines::cut;
+use crate::numbers::number_of;
+use crate::operands::{Register, WordAddress};
 use image_loader::is_image_name;
 
 /// What a line of a script asks for.
@@ -18,6 +22,14 @@ pub enum Command<'a> {
     Run,
     /// `REGS`.
     Regs,
+    /// `SET Rn v`.
+    Set(Register, u32),
+    /// `POKE a v`.
+    Poke(WordAddress, u32),
+    /// `CALL n`.
+    Call(u32),
+    /// `STEP n`.
+    Step(u32),
     /// Any other line.
     Unknown,
 }
@@ -56,28 +68,108 @@ fn command_of_word(word: &[u8]) -> Command<'static>
     }
 }
 
-#[tactic(auto, using(crate::proofs::LineLemmas::three_words))]
 fn command_of_words<'a>(word: &[u8], rest: &'a [u8]) -> Command<'a>
     ensures { request_of_command result ≡ request_of_words (word.now ∷ words rest.now) }
 {
-    let (name, more) = cut(rest, b' ');
+    let (other, more) = cut(rest, b' ');
     match more {
-        Some(_) => Command::Unknown,
-        None => command_of_name(word, name),
+        Some(more) => command_of_more(word, other, more),
+        None => command_of_two(word, other),
     }
 }
 
-fn command_of_name<'a>(word: &[u8], name: &'a [u8]) -> Command<'a>
-    ensures { request_of_command result ≡ request_of_words (word.now ∷ name.now ∷ []) }
+#[tactic(auto, using(crate::proofs::LineLemmas::four_words))]
+fn command_of_more(word: &[u8], first: &[u8], rest: &[u8]) -> Command<'static>
+    ensures { request_of_command result ≡ request_of_words (word.now ∷ first.now ∷ words rest.now) }
 {
-    if !is_image_name(name) {
-        Command::Unknown
-    } else if has_letters(word, b"HEX") {
-        Command::Hex(name)
+    let (second, more) = cut(rest, b' ');
+    match more {
+        Some(_) => Command::Unknown,
+        None => command_of_three(word, first, second),
+    }
+}
+
+fn command_of_two<'a>(word: &[u8], other: &'a [u8]) -> Command<'a>
+    ensures { request_of_command result ≡ request_of_two word.now other.now }
+{
+    if has_letters(word, b"HEX") {
+        hex_command(other)
     } else if has_letters(word, b"BOOT") {
+        boot_command(other)
+    } else if has_letters(word, b"CALL") {
+        call_command(other)
+    } else if has_letters(word, b"STEP") {
+        step_command(other)
+    } else {
+        Command::Unknown
+    }
+}
+
+fn command_of_three(word: &[u8], first: &[u8], second: &[u8]) -> Command<'static>
+    ensures { request_of_command result ≡ request_of_three word.now first.now second.now }
+{
+    if has_letters(word, b"SET") {
+        set_command(first, second)
+    } else if has_letters(word, b"POKE") {
+        poke_command(first, second)
+    } else {
+        Command::Unknown
+    }
+}
+
+fn hex_command(name: &[u8]) -> Command<'_>
+    ensures { request_of_command result ≡ named (is_name name.now) (Hex name.now) }
+{
+    if is_image_name(name) {
+        Command::Hex(name)
+    } else {
+        Command::Unknown
+    }
+}
+
+fn boot_command(name: &[u8]) -> Command<'_>
+    ensures { request_of_command result ≡ named (is_name name.now) (Boot name.now) }
+{
+    if is_image_name(name) {
         Command::Boot(name)
     } else {
         Command::Unknown
+    }
+}
+
+fn call_command(number: &[u8]) -> Command<'static>
+    ensures { request_of_command result ≡ numbered (number_of number.now) Call }
+{
+    match number_of(number) {
+        Some(number) => Command::Call(number),
+        None => Command::Unknown,
+    }
+}
+
+fn step_command(count: &[u8]) -> Command<'static>
+    ensures { request_of_command result ≡ numbered (number_of count.now) Step }
+{
+    match number_of(count) {
+        Some(count) => Command::Step(count),
+        None => Command::Unknown,
+    }
+}
+
+fn set_command(register: &[u8], value: &[u8]) -> Command<'static>
+    ensures { request_of_command result ≡ both_numbered (register_named register.now) (number_of value.now) Set }
+{
+    match (Register::named(register), number_of(value)) {
+        (Some(register), Some(value)) => Command::Set(register, value),
+        _ => Command::Unknown,
+    }
+}
+
+fn poke_command(address: &[u8], value: &[u8]) -> Command<'static>
+    ensures { request_of_command result ≡ both_numbered (word_address address.now) (number_of value.now) Poke }
+{
+    match (WordAddress::spelled(address), number_of(value)) {
+        (Some(address), Some(value)) => Command::Poke(address, value),
+        _ => Command::Unknown,
     }
 }
 

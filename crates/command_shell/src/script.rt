@@ -43,6 +43,8 @@ pub fn run_script<R: Source, W: Sink>(
         Appends (W.contents writer.old) (W.contents writer.new) (script_told config images.old budget script).text)) }
     ensures last { IfOk result (λ summary. IfSome (R.remaining reader.old) (λ script.
         summary.last ≡ (script_told config images.old budget script).world.last)) }
+    ensures images { IfOk result (λ _. IfSome (R.remaining reader.old) (λ script.
+        images.new ≡ (script_told config images.old budget script).world.images)) }
     ensures memory { result ≡ Err RunError.Memory → IfSome (R.remaining reader.old) (λ script.
         AppendsFront (W.contents writer.old) (W.contents writer.new) (script_told config images.old budget script).text) }
     ensures read_fault { result ≡ Err RunError.ReadFault → (R.has_failed reader.new ≡ true) × (writer.new ≡ writer.old) }

@@ -83,6 +83,13 @@ impl Session {
             Command::Boot(name) => Ok(self.boot(images, sink, name)?),
             Command::Run => Ok(self.run(images, sink)?),
             Command::Regs => Ok(self.regs(sink)?),
+            Command::Set(register, value) => {
+                self.set(register, value);
+                Ok(())
+            }
+            Command::Poke(address, value) => Ok(self.poke(sink, address, value)?),
+            Command::Call(number) => Ok(self.call(images, sink, number)?),
+            Command::Step(count) => Ok(self.step(images, sink, count)?),
             Command::Unknown => Ok(tell_unknown(sink, script.number())?),
         }
     }

@@ -1,5 +1,6 @@
 mod answers;
 mod failures;
+mod monitor;
 
 use crate::{RunError, Summary, run_script};
 use image_loader::Images;
