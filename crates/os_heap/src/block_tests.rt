@@ -92,11 +92,11 @@ fn takes_the_first_free_block_that_fits(rt: HostRuntime) -> Result<(), Fail> {
 fn takes_the_front_of_a_free_block(rt: HostRuntime) -> Result<(), Fail> {
     let mut map = AddressMap::new(rt.alloc(), 1)?;
     map.map_pages(0x9000, 1);
+    assert_eq!(rt; map.store_word(0x9028, 0x1234_5678), Ok(()));
     let heaps = Heaps::new();
     assert_eq!(rt; heaps.init(&mut map, 0x9000, 256).answer, Ok(()));
     assert_eq!(rt; heaps.get(&mut map, 0x9000, 36).answer, Ok(0x9014));
     assert_eq!(rt; heaps.get(&mut map, 0x9000, 4).answer, Ok(0x903C));
-    assert_eq!(rt; map.store_word(0x9028, 0x1234_5678), Ok(()));
     assert_eq!(rt; heaps.free(&mut map, 0x9000, 0x9014).answer, Ok(()));
     assert_eq!(rt; map.load_word(0x9028), Ok(0x1234_5678));
     assert_eq!(rt; heaps.get(&mut map, 0x9000, 8).answer, Ok(0x9014));
