@@ -1,6 +1,7 @@
 pub mod Bytes
 pub mod Cutting
 pub mod Equations
+pub mod Guests
 pub mod Loads
 pub mod Mapping
 pub mod Unmapping

@@ -1,6 +1,6 @@
 -- The record of the ranges that the store calls use, and the words in them that only store calls may write: descriptors, lengths and links
 -- of heaps, headers of flex blocks, and anchors.
-use Rattle.std.specs.Prelude.{ℕ, ◌≡◌, ◌≤◌, Bool, true, false, ◌+◌, ◌%◌, ◌^◌, ◌&&◌, List, [], ◌∷◌, ◌++◌, Option, Some, None, if◌then◌else◌, ◌==◌}
+use Rattle.std.specs.Prelude.{ℕ, ◌≡◌, ◌≤◌, Bool, true, false, ◌+◌, ◌%◌, ◌^◌, ◌&&◌, ◌||◌, List, [], ◌∷◌, ◌++◌, Option, Some, None, if◌then◌else◌, ◌==◌}
 use Rattle.std.specs.List.{list_any}
 use Rattle.address_map.specs.declared.class.Class.{Class}
 use Rattle.address_map.specs.declared.class.Class.TheVariants as class
@@ -85,6 +85,10 @@ is_heap_word_of w a region = is_heap_kind region.kind && (in_range region.at reg
 
 abbrev pub flex_blocks_of : (ℕ → ℕ) → Region → List FlexBlock
 flex_blocks_of w region = if is_flex_kind region.kind then flex_in w region.at region.len else []
+
+-- whether a range holds the word at `a`, or names anchors, which may lie anywhere
+abbrev pub may_own : ℕ → Region → Bool
+may_own a region = in_range region.at region.len a || is_flex_kind region.kind
 
 -- what the store calls use the word at `a` for, a multiple of 4
 abbrev pub word_class : List Region → (ℕ → ℕ) → ℕ → Class

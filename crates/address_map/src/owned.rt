@@ -3,7 +3,7 @@ ghost use Rattle.std.specs.List.{list_any};
 ghost use Rattle.address_map.specs.Bytes.{word_at};
 ghost use Rattle.address_map.specs.Items.{linked, item_at, free_after, items_in, is_head, is_total};
 ghost use Rattle.address_map.specs.Flex.{block_at, is_sought, whole_words};
-ghost use Rattle.address_map.specs.Records.{IsRegion, is_heap_word_of, flex_blocks_of, anchor_meets};
+ghost use Rattle.address_map.specs.Records.{IsRegion, may_own, is_heap_word_of, flex_blocks_of, anchor_meets};
 
 use crate::class::Class;
 use crate::flex::Sought;
@@ -22,11 +22,14 @@ impl AddressMap {
     ghost use Rattle.address_map.specs.Memory.{byte_at, regions, class_of, is_owned};
 
     /// What the store calls use the byte at an address for.
-    #[tactic(auto, unfolding(crate::specs::Memory::class_of))]
+    #[tactic(auto, using(crate::proofs::Guests::plain_word), unfolding(crate::specs::Memory::class_of))]
     pub fn class(&self, addr: u32) -> Class
         ensures { result ≡ class_of self.now addr }
     {
         let word = addr - addr % 4;
+        if !self.may_own(word) {
+            return Class::Plain;
+        }
         if self.is_heap_word(word) {
             return Class::Heap;
         }
@@ -52,6 +55,20 @@ impl AddressMap {
         ensures { result ≡ anchor_meets (regions self.now) (byte_at self.now) at len }
     {
         self.has_block(&Sought::AnchorIn { at, len })
+    }
+
+    /// Whether a recorded range holds a word, or names anchors, which may lie anywhere. Most words are none of these, and then are
+    /// nobody's but the guest's.
+    fn may_own(&self, word: u32) -> bool
+        ensures { result ≡ list_any (may_own word) (regions self.now) }
+    {
+        let regions = self.regions();
+        for region in regions {
+            if region.holds(word) || region.kind.is_flex() {
+                return true;
+            }
+        }
+        false
     }
 
     /// Whether the word at an address is one that a recorded heap spells.
