@@ -118,10 +118,12 @@ fn lends_two_ranges_that_touch(rt: HostRuntime) -> Result<(), Fail> {
     let (upper, lower) = store.lend_two(7, 4, 3, 4);
     lower.fill(b'l');
     upper.fill(b'u');
+    assert!(rt; store.fits(0, 16));
     assert_eq!(rt; store.lend(2, 10), b"\0lllluuuu\0".as_slice());
     let (first, second) = store.lend_two(3, 2, 5, 6);
-    first.copy_from_slice(b"ab");
-    second[5] = b'z';
-    assert_eq!(rt; store.lend(2, 10), b"\0ablluuuz\0".as_slice());
+    first.fill(b'a');
+    second.fill(b'z');
+    assert!(rt; store.fits(0, 16));
+    assert_eq!(rt; store.lend(2, 10), b"\0aazzzzzz\0".as_slice());
     Ok(())
 }
