@@ -1,11 +1,11 @@
 -- Facts of memory that need no call: bytes are below 256 and words below 2^32, addresses that are not mapped read as 0, and
 -- pages are mapped whole.
-use Rattle.std.proofs.Common.{◌≡◌, ℕ, ◌+◌, ◌-◌, ◌/◌, ◌%◌, ◌^◌, ◌<◌, Bool, true, false, List, [], ◌∷◌, Option, Some, None, is_some, cond, arith, refl, sym, ◌∙◌, ap, inl, inr, suc}
+use Rattle.std.proofs.Common.{◌≡◌, ℕ, ◌+◌, ◌-◌, ◌/◌, ◌%◌, ◌<◌, Bool, true, false, List, [], ◌∷◌, Option, Some, None, is_some, cond, arith, refl, sym, ◌∙◌, ap, inl, inr, suc}
 use Rattle.std.specs.List.{All}
 use Rattle.std.proofs.lemmas.Bool.{false≢true}
 use Rattle.address_map.specs.declared.run.Run.{Run}
 use Rattle.address_map.specs.declared.map.AddressMap.{AddressMap}
-use Rattle.address_map.specs.Bytes.{in_range, word_at, word_start}
+use Rattle.address_map.specs.Bytes.{in_range}
 use Rattle.address_map.specs.Runs.{place_from, IsWhole}
 use Rattle.address_map.specs.Memory.{place, byte_in, byte_at, is_mapped, layout}
 use Rattle.address_map.proofs.Loads.{place_fits}
@@ -17,9 +17,6 @@ byte_at-lt m a = below (place m a) refl where
   below : (there : Option ℕ) → place m a ≡ there → byte_in m.store there < 256
   below None none = omega arith
   below (Some k) some = m.bytes_fit k 0 (omega (arith, place_fits m a k some))
-
-pub word_at-lt : (m : AddressMap) (a : ℕ) → word_at (byte_at m) a < 2 ^ 32
-word_at-lt m a = omega (arith, byte_at-lt m a, byte_at-lt m (a + 1), byte_at-lt m (a + 2), byte_at-lt m (a + 3))
 
 pub byte_at-unmapped : (m : AddressMap) (a : ℕ) → is_mapped m a ≡ false → byte_at m a ≡ 0
 unfolding byte_at
@@ -59,6 +56,3 @@ is_mapped-page m a b same = place_from-page 0 m.runs.items a b m.whole same
 
 pub is_mapped-word : (m : AddressMap) (a j : ℕ) → a % 4 ≡ 0 → j < 4 → is_mapped m (a + j) ≡ is_mapped m a
 is_mapped-word m a j aligned below = is_mapped-page m (a + j) a (omega arith)
-
-pub word_start-multiple : (a : ℕ) → a % 4 ≡ 0 → word_start a ≡ a
-word_start-multiple a aligned = omega arith

@@ -2,7 +2,7 @@
 use Rattle.std.proofs.Common.{◌≡◌, ℕ, Bool, List, Some, None, Ok, Err, refl, is_some}
 use Rattle.profile.specs.declared.fault.Fault.{Fault}
 use Rattle.address_map.specs.declared.map.AddressMap.{AddressMap}
-use Rattle.address_map.specs.Bytes.{Bytes, with_byte, with_word, with_bytes, with_zeros, with_moved, with_moved_at, with_bytes_at, with_zeros_at, with_byte_at, with_word_at, store_fault, byte_stored, word_stored, word_start}
+use Rattle.address_map.specs.Bytes.{Bytes, with_byte, with_word, with_bytes, with_moved, with_moved_at, with_bytes_at, with_byte_at, with_word_at, store_fault, byte_stored, word_stored, word_start}
 use Rattle.address_map.specs.Memory.{place, byte_at, is_mapped, bytes_of, layout}
 use Rattle.address_map.proofs.Stores.{layout-place}
 
@@ -24,10 +24,6 @@ stored_word m n a word same h = same_bytes m n (with_word_at (byte_at m) a word)
 pub stored_bytes : (m n : AddressMap) (a : ℕ) (new : List ℕ) → layout n ≡ layout m
     → ((b : ℕ) → byte_at n b ≡ with_bytes_at (byte_at m) a new b) → bytes_of n ≡ with_bytes (bytes_of m) a new
 stored_bytes m n a new same h = same_bytes m n (with_bytes_at (byte_at m) a new) same h
-
-pub stored_zeros : (m n : AddressMap) (a len : ℕ) → layout n ≡ layout m
-    → ((b : ℕ) → byte_at n b ≡ with_zeros_at (byte_at m) a len b) → bytes_of n ≡ with_zeros (bytes_of m) a len
-stored_zeros m n a len same h = same_bytes m n (with_zeros_at (byte_at m) a len) same h
 
 pub stored_moved : (m n : AddressMap) (from to len : ℕ) → layout n ≡ layout m
     → ((b : ℕ) → byte_at n b ≡ with_moved_at (byte_at m) from to len b) → bytes_of n ≡ with_moved (bytes_of m) from to len

@@ -4,7 +4,7 @@ use Rattle.std.specs.List.{list_any}
 use Rattle.address_map.specs.declared.class.Class.TheVariants.{Plain}
 use Rattle.address_map.specs.declared.region.Region.{Region}
 use Rattle.address_map.specs.Bytes.{word_at, word_start, in_range}
-use Rattle.address_map.specs.Flex.{is_flex_header, is_anchor}
+use Rattle.address_map.specs.Flex.{FlexBlock, is_header_word, is_anchor}
 use Rattle.address_map.specs.Items.{is_heap_word, items_in}
 use Rattle.address_map.specs.Records.{is_heap_kind, is_flex_kind, is_heap_word_of, flex_blocks_of, may_own, byte_class}
 
@@ -31,18 +31,13 @@ no_heap_words w a (r ∷ rs) e =
     let both = neither (may_own a r) (list_any (may_own a) rs) e in
     rw (no_heap_word w a r both.0, no_heap_words w a rs both.1) refl
 
-no_headers : (w : ℕ → ℕ) (a : ℕ) (rs : List Region) → list_any (may_own a) rs ≡ false → list_any (λ region. is_flex_header (flex_blocks_of w region) a) rs ≡ false
-no_headers w a [] e = refl
-no_headers w a (r ∷ rs) e =
+no_such_block : (test : FlexBlock → Bool) (w : ℕ → ℕ) (a : ℕ) (rs : List Region) → list_any (may_own a) rs ≡ false
+    → list_any (λ region. list_any test (flex_blocks_of w region)) rs ≡ false
+no_such_block test w a [] e = refl
+no_such_block test w a (r ∷ rs) e =
     let both = neither (may_own a r) (list_any (may_own a) rs) e in
-    rw (no_blocks w a r both.0, no_headers w a rs both.1) refl
-
-no_anchors : (w : ℕ → ℕ) (a : ℕ) (rs : List Region) → list_any (may_own a) rs ≡ false → list_any (λ region. is_anchor (flex_blocks_of w region) a) rs ≡ false
-no_anchors w a [] e = refl
-no_anchors w a (r ∷ rs) e =
-    let both = neither (may_own a r) (list_any (may_own a) rs) e in
-    rw (no_blocks w a r both.0, no_anchors w a rs both.1) refl
+    rw (no_blocks w a r both.0, no_such_block test w a rs both.1) refl
 
 pub plain_word : (rs : List Region) (bytes : ℕ → ℕ) (a : ℕ) → list_any (may_own (word_start a)) rs ≡ false → Plain ≡ byte_class rs bytes a
 plain_word rs bytes a e =
-    rw (no_heap_words (word_at bytes) (word_start a) rs e, no_headers (word_at bytes) (word_start a) rs e, no_anchors (word_at bytes) (word_start a) rs e) refl
+    rw (no_heap_words (word_at bytes) (word_start a) rs e, no_such_block (is_header_word (word_start a)) (word_at bytes) (word_start a) rs e, no_such_block (is_anchor (word_start a)) (word_at bytes) (word_start a) rs e) refl

@@ -2,6 +2,7 @@ pub mod Bytes
 pub mod Cutting
 pub mod Equations
 pub mod Guests
+pub mod Lengths
 pub mod Loads
 pub mod Mapping
 pub mod Unmapping
@@ -11,5 +12,6 @@ pub mod Moving
 pub mod Places
 pub mod Removing
 pub mod Searches
+pub mod Spelling
 pub mod Spans
 pub mod Stores

@@ -1,7 +1,7 @@
 -- A search for a record, and the records that are left without it.
-use Rattle.std.proofs.Common.{◌≡◌, ℕ, ◌+◌, ◌<◌, ◌≤◌, ◌++◌, true, false, List, length, take, drop, get_or, refl, ◌∙◌, append_assoc, add-one, suc}
+use Rattle.std.proofs.Common.{◌≡◌, ℕ, ◌<◌, ◌++◌, true, List, length, take, drop, get_or, add-one, suc}
 use Rattle.std.specs.List.{remove, All}
-use Rattle.std.proofs.lemmas.List.{drop_more, drop_all, take_more, take_all, append-nil}
+use Rattle.std.proofs.lemmas.List.{drop_more}
 use Rattle.std.proofs.lemmas.List.Elements.{All-append, All-take, All-drop}
 use Rattle.address_map.specs.declared.map.AddressMap.{AddressMap}
 use Rattle.address_map.specs.declared.region.Kind.{Kind}
@@ -12,21 +12,10 @@ use Rattle.address_map.specs.Records.{is_record, without_region, IsRegion}
 abbrev pub IsSearched : List Region → Kind → ℕ → ℕ → Type 0
 IsSearched records kind at i = without_region records kind at ≡ take i records ++ without_region (drop i records) kind at
 
-pub record_passed : (records : List Region) (kind : Kind) (at i : ℕ) (d : Region) → i < length records
-    → is_record kind at (get_or records i d) ≡ false → IsSearched records kind at i → IsSearched records kind at (i + 1)
-record_passed records kind at i d below other so_far =
-    let e = rw (drop_more records i d below, other) at so_far in
-    e ∙ rw (take_more records i d below, append_assoc) refl
-
 pub record_found : (records : List Region) (kind : Kind) (at i : ℕ) (d : Region) → i < length records
     → is_record kind at (get_or records i d) ≡ true → IsSearched records kind at i → without_region records kind at ≡ remove records i
 record_found records kind at i d below here so_far =
     let e = rw (drop_more records i d below, here, add-one i) at so_far in e
-
-pub record_none : (records : List Region) (kind : Kind) (at i : ℕ) → length records ≤ i → IsSearched records kind at i
-    → without_region records kind at ≡ records
-record_none records kind at i past so_far =
-    so_far ∙ rw (drop_all i records past, take_all i records past) (append-nil records)
 
 pub recorded_less : (m : AddressMap) (items : List Region) (i : ℕ) → items ≡ remove m.regions.items i → All IsRegion items
 recorded_less m items i is =

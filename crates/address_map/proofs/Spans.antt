@@ -158,10 +158,6 @@ pub with_bytes-more : (bytes : ℕ → ℕ) (at : ℕ) (new : List ℕ) (done en
     → with_bytes_at (with_bytes_at bytes at (take done new)) (at + done) (slice_range new done end) a ≡ with_bytes_at bytes at (take end new) a
 with_bytes-more bytes at new done end a low high = grind (arith, nat_tests, places)
 
-pub with_zeros-more : (bytes : ℕ → ℕ) (at done more a : ℕ)
-    → with_zeros_at (with_zeros_at bytes at done) (at + done) more a ≡ with_zeros_at bytes at (done + more) a
-with_zeros-more bytes at done more a = grind (arith, nat_tests)
-
 with_bytes-zeros : (bytes : ℕ → ℕ) (at len a : ℕ) → with_bytes_at bytes at (zeros len) a ≡ with_zeros_at bytes at len a
 with_bytes-zeros bytes at len a =
     elim (in_range-cases at len a) [

@@ -1,9 +1,11 @@
 -- What is mapped, and with which bytes, after some bytes of a run were taken out of the store.
-use Rattle.std.proofs.Common.{◌≡◌, ℕ, ◌+◌, ◌-◌, ◌%◌, ◌<◌, ◌≤◌, ◌&&◌, not, List, length, take, drop, get_or, Option, Some, None, is_some, arith, refl, sym, ◌∙◌, ap, inl, inr}
+use Rattle.std.proofs.Common.{◌≡◌, ℕ, ◌+◌, ◌-◌, ◌%◌, ◌<◌, ◌≤◌, ◌&&◌, ◌⊎◌, true, false, not, List, length, take, drop, get_or, Option, Some, None, is_some, arith, refl, sym, ◌∙◌, ap, inl, inr}
+use Rattle.std.specs.Prelude.{MatchOption}
 use Rattle.std.specs.List.{All, AllPairs}
 use Rattle.std.proofs.lemmas.Bool.{cases_lt}
 use Rattle.raw_store.specs.Region.{copied}
 use Rattle.raw_store.proofs.Written.{written_inside, written_before}
+use Rattle.address_map.specs.declared.map.Found.{Found}
 use Rattle.address_map.specs.declared.run.Run.{Run}
 use Rattle.address_map.specs.declared.map.AddressMap.{AddressMap}
 use Rattle.address_map.specs.Bytes.{in_range, with_zeros_at}
@@ -16,6 +18,12 @@ use Rattle.address_map.proofs.Spans.{run_span, span_from, span_up_to}
 use Rattle.address_map.proofs.Moving.{length-piece, get_or-piece}
 use Rattle.address_map.proofs.Cutting.{closed_up, closed_low, closed_gone, closed_high, place_cut, before, behind, All-cut, pairs_cut, total_cut}
 
+-- the run that a search gave, where it gave one
+pub run_there : (m : AddressMap) (a : ℕ) (answer : Option Found) (found : Found) → answer ≡ Some found
+    → MatchOption answer (place m a ≡ None) (λ found. IsFound m a found.index found.start found.run)
+    → IsFound m a found.index found.start found.run
+run_there m a answer found is there = rw is at there
+
 -- the run ends within the part of the store that is used
 pub found_end : (m : AddressMap) (a i start : ℕ) (run : Run) → IsFound m a i start run → start + run.len ≤ run_total m.runs.items
 unfolding place
@@ -24,6 +32,10 @@ found_end m a i start run found =
     let high : a < run.base + run.len = found.high in
     let there = (run_span m a i start run found).places (run.len - 1) (omega arith) in
     omega (arith, (place_within 0 m.runs.items (run.base + (run.len - 1)) (start + (run.len - 1)) there).1)
+
+pub found_bounds : (m : AddressMap) (a i start : ℕ) (run : Run) → IsFound m a i start run
+    → (run.base ≤ a) × (a < run.base + run.len) × (start + run.len ≤ run_total m.runs.items)
+found_bounds m a i start run found = (found.low, found.high, found_end m a i start run found)
 
 pub found_whole : (m : AddressMap) (a i start : ℕ) (run : Run) → IsFound m a i start run → IsWhole run
 found_whole m a i start run found = let whole = m.whole i run found.below in rw (found.is run) at whole
@@ -47,19 +59,19 @@ place_closed m n a i start len run found fits is b =
     let fits' : a - run.base + len ≤ (get_or m.runs.items i run).len = rw (found.is run) fits in
     rw is (place_cut 0 m.runs.items i (a - run.base) len b (start + (a - run.base)) run found.below fits' m.apart (let passed = found.passed in omega arith))
 
-closed_mapped : (m : AddressMap) (a at len b : ℕ) → IsSpan m a at len → (there : Option ℕ) → place m b ≡ there
-    → is_some (closed_up at len there) ≡ (is_some there && not (in_range a len b))
-closed_mapped m a at len b span None h = refl
-closed_mapped m a at len b span (Some k) h =
+-- a place in the store lies in the bytes that are taken out just where its address does, or else before them or behind them
+taken_or_kept : (m : AddressMap) (a at len b k : ℕ) → IsSpan m a at len → place m b ≡ Some k
+    → ((in_range a len b ≡ true) × (at ≤ k) × (k < at + len)) ⊎ ((in_range a len b ≡ false) × ((k < at) ⊎ (at + len ≤ k)))
+taken_or_kept m a at len b k span h =
     elim (in_range-cases a len b) [
       | inl r ↦
           let e : a + (b - a) ≡ b = omega arith in
           let there : place m (a + (b - a)) ≡ Some (at + (b - a)) = span.places (b - a) (omega arith) in
           let there' = rw e at there in
           let same : k ≡ at + (b - a) = cc in
-          rw (closed_gone at len k (omega arith) (omega arith), r.0) refl
+          inl (r.0, omega arith, omega arith)
       | inr r ↦ elim (cases_lt k at) [
-        | inl low ↦ rw (closed_low at len k low, r.0) refl
+        | inl low ↦ inr (r.0, inl low)
         | inr past ↦ elim (cases_lt k (at + len)) [
           | inl inside ↦
               let e : at + (k - at) ≡ k = omega arith in
@@ -67,8 +79,20 @@ closed_mapped m a at len b span (Some k) h =
               let there' = rw e at there in
               let same : b ≡ a + (k - at) = place_only m b (a + (k - at)) k h there' in
               absurd (omega (arith, r.1))
-          | inr high ↦ rw (closed_high at len k high, r.0) refl
+          | inr high ↦ inr (r.0, inr high)
         ]
+      ]
+    ]
+
+closed_mapped : (m : AddressMap) (a at len b : ℕ) → IsSpan m a at len → (there : Option ℕ) → place m b ≡ there
+    → is_some (closed_up at len there) ≡ (is_some there && not (in_range a len b))
+closed_mapped m a at len b span None h = refl
+closed_mapped m a at len b span (Some k) h =
+    elim (taken_or_kept m a at len b k span h) [
+      | inl taken ↦ rw (closed_gone at len k taken.1 taken.2, taken.0) refl
+      | inr kept ↦ elim kept.1 [
+        | inl low ↦ rw (closed_low at len k low, kept.0) refl
+        | inr high ↦ rw (closed_high at len k high, kept.0) refl
       ]
     ]
 
@@ -89,32 +113,19 @@ closed_bytes m store a at len used b span most fits is (Some k) h within =
     let new : List ℕ = take (used - (at + len)) (drop (at + len) m.store) in
     let size : length new ≡ used - (at + len) = length-piece m.store (at + len) (used - (at + len)) (omega arith) in
     let room : at + length new ≤ length m.store = rw size (omega arith) in
-    elim (in_range-cases a len b) [
-      | inl r ↦
-          let e : a + (b - a) ≡ b = omega arith in
-          let there : place m (a + (b - a)) ≡ Some (at + (b - a)) = span.places (b - a) (omega arith) in
-          let there' = rw e at there in
-          let same : k ≡ at + (b - a) = cc in
-          rw (closed_gone at len k (omega arith) (omega arith), r.0) refl
-      | inr r ↦ elim (cases_lt k at) [
-        | inl low ↦ rw (closed_low at len k low, r.0, is) (written_before m.store new at k 0 room low ∙ sym byte)
-        | inr past ↦ elim (cases_lt k (at + len)) [
-          | inl inside ↦
-              let e : at + (k - at) ≡ k = omega arith in
-              let there : place m (a + (k - at)) ≡ Some (at + (k - at)) = span.places (k - at) (omega arith) in
-              let there' = rw e at there in
-              let same : b ≡ a + (k - at) = place_only m b (a + (k - at)) k h there' in
-              absurd (omega (arith, r.1))
-          | inr high ↦
-              let below : k < used = within k refl in
-              let e : at + (k - len - at) ≡ k - len = omega arith in
-              let e' : at + len + (k - len - at) ≡ k = omega arith in
-              let first = written_inside m.store new at (k - len - at) 0 room (rw size (omega arith)) in
-              let first' = rw e at first in
-              let second = get_or-piece m.store (at + len) (used - (at + len)) (k - len - at) 0 (omega arith) (omega arith) in
-              let second' = rw e' at second in
-              rw (closed_high at len k high, r.0, is) (first' ∙ (second' ∙ sym byte))
-        ]
+    elim (taken_or_kept m a at len b k span h) [
+      | inl taken ↦ rw (closed_gone at len k taken.1 taken.2, taken.0) refl
+      | inr kept ↦ elim kept.1 [
+        | inl low ↦ rw (closed_low at len k low, kept.0, is) (written_before m.store new at k 0 room low ∙ sym byte)
+        | inr high ↦
+            let below : k < used = within k refl in
+            let e : at + (k - len - at) ≡ k - len = omega arith in
+            let e' : at + len + (k - len - at) ≡ k = omega arith in
+            let first = written_inside m.store new at (k - len - at) 0 room (rw size (omega arith)) in
+            let first' = rw e at first in
+            let second = get_or-piece m.store (at + len) (used - (at + len)) (k - len - at) 0 (omega arith) (omega arith) in
+            let second' = rw e' at second in
+            rw (closed_high at len k high, kept.0, is) (first' ∙ (second' ∙ sym byte))
       ]
     ]
 

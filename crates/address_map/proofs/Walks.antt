@@ -5,27 +5,13 @@ use Rattle.std.proofs.lemmas.Bool.{cases_lt, cases_Bool, le-leb, lt-leb}
 use Rattle.std.proofs.lemmas.Bool.Decides.{nat_tests}
 use Rattle.address_map.specs.declared.item.Item.{Item}
 use Rattle.address_map.specs.declared.item.Item.TheVariants.{Live, Free}
-use Rattle.address_map.specs.Items.{total_of, is_total, linked, items_from, items_in, item_at, free_after, is_head, is_head_of}
+use Rattle.address_map.specs.Items.{total_of, is_total, linked, items_from, items_in, item_at, free_after, followed, is_head, is_head_of}
 use Rattle.address_map.specs.Flex.{FlexBlock, block_at, flex_from, flex_in, whole_words}
 
--- the items from the one at `at` on
-abbrev pub items_after : ℕ → (ℕ → ℕ) → ℕ → ℕ → ℕ → Option Item → List Item
-items_after most w at free base None = []
-items_after most w at free base (Some item) = item ∷ items_from most w (at + total_of item) (free_after w at free item) base
-
 pub items_step : (most : ℕ) (w : ℕ → ℕ) (at free base : ℕ) → at < base
-    → items_from (suc most) w at free base ≡ items_after most w at free base (item_at w at free)
-items_step most w at free base below =
-    elim (cases_Bool (at == free)) [
-      | inl here ↦ elim (cases_Bool (is_total (w (at + 4)))) [
-        | inl t ↦ rw (lt-leb base at below, here, t) refl
-        | inr t ↦ rw (lt-leb base at below, here, t) refl
-      ]
-      | inr later ↦ elim (cases_Bool (is_total (w at))) [
-        | inl t ↦ rw (lt-leb base at below, later, t) refl
-        | inr t ↦ rw (lt-leb base at below, later, t) refl
-      ]
-    ]
+    → items_from (suc most) w at free base
+    ≡ followed (item_at w at free) (λ item. items_from most w (at + total_of item) (free_after w at free item) base)
+items_step most w at free base below = rw (lt-leb base at below) refl
 
 pub items_past : (most : ℕ) (w : ℕ → ℕ) (at free base : ℕ) → base ≤ at → items_from most w at free base ≡ []
 items_past zero w at free base past = refl
@@ -50,11 +36,10 @@ item_total w at free item h =
       ]
     ]
 
-items_alike : (most more : ℕ) (w : ℕ → ℕ) (at free base : ℕ) (found : Option Item)
-    → ((item : Item) → found ≡ Some item → items_from most w (at + total_of item) (free_after w at free item) base ≡ items_from more w (at + total_of item) (free_after w at free item) base)
-    → items_after most w at free base found ≡ items_after more w at free base found
-items_alike most more w at free base None rest = refl
-items_alike most more w at free base (Some item) rest = ap (λ items. item ∷ items) (rest item refl)
+followed_alike : (rest other : Item → List Item) (found : Option Item) → ((item : Item) → found ≡ Some item → rest item ≡ other item)
+    → followed found rest ≡ followed found other
+followed_alike rest other None same = refl
+followed_alike rest other (Some item) same = ap (λ items. item ∷ items) (same item refl)
 
 -- How many items are looked at makes no difference, if it is enough.
 pub items_enough : (most more : ℕ) (w : ℕ → ℕ) (at free base : ℕ) → base ≤ at + most → base ≤ at + more
@@ -64,7 +49,7 @@ items_enough (suc most) zero w at free base few many = items_past (suc most) w a
 items_enough (suc most) (suc more) w at free base few many =
     elim (cases_lt at base) [
       | inl below ↦ items_step most w at free base below
-          ∙ (items_alike most more w at free base (item_at w at free) (λ item h. items_enough most more w (at + total_of item) (free_after w at free item) base
+          ∙ (followed_alike _ _ (item_at w at free) (λ item h. items_enough most more w (at + total_of item) (free_after w at free item) base
           (let some : 8 ≤ total_of item = (item_total w at free item h).0 in omega arith)
           (let some : 8 ≤ total_of item = (item_total w at free item h).0 in omega arith))
           ∙ sym (items_step more w at free base below))
@@ -138,9 +123,6 @@ pub head_low : (w : ℕ → ℕ) (a at free base : ℕ) (answer : Bool) → IsHe
 head_low w a at free base answer from below =
     sym (is_head-below at (items_from base w at free base) a below) ∙ from base (omega arith)
 
-pub head_none : (w : ℕ → ℕ) (a at free base : ℕ) (answer : Bool) → IsHeadFrom w a at free base answer → base ≤ at → false ≡ answer
-head_none w a at free base answer from past = from 0 (omega arith)
-
 abbrev pub IsSoughtFrom : (FlexBlock → Bool) → (ℕ → ℕ) → ℕ → ℕ → Bool → Type 0
 IsSoughtFrom test w at end answer = (most : ℕ) → end ≤ at + most → list_any test (flex_from most w at end) ≡ answer
 
@@ -159,6 +141,3 @@ pub sought_passed : (test : FlexBlock → Bool) (w : ℕ → ℕ) (at end : ℕ)
 sought_passed test w at end answer from below apart most enough =
     ap (list_any test) (flex_enough most (most + end) w (at + (8 + whole_words (w (at + 4)))) end enough (omega arith))
     ∙ (let e = from (suc (most + end)) (omega arith) in rw (flex_step (most + end) w at end below, apart) at e)
-
-pub sought_none : (test : FlexBlock → Bool) (w : ℕ → ℕ) (at end : ℕ) (answer : Bool) → IsSoughtFrom test w at end answer → end ≤ at → false ≡ answer
-sought_none test w at end answer from past = from 0 (omega arith)

@@ -1,9 +1,8 @@
 -- Words of memory, the walks over items and blocks that they spell, and what classes depend on.
-use Rattle.std.proofs.Common.{◌≡◌, ℕ, ◌+◌, ◌%◌, ◌^◌, ◌<◌, ◌≤◌, not, false, List, [], Option, Some, None, is_some, arith, refl, sym, ◌∙◌, ap, subst, get_or, length}
-use Rattle.address_map.specs.declared.class.Class.TheVariants.{Plain}
+use Rattle.std.proofs.Common.{◌≡◌, ℕ, ◌+◌, ◌%◌, ◌^◌, ◌<◌, ◌≤◌, not, false, List, Option, Some, None, is_some, arith, refl, sym, ◌∙◌, ap, subst, get_or, length}
 use Rattle.address_map.specs.declared.map.AddressMap.{AddressMap}
 use Rattle.address_map.specs.declared.region.Region.{Region}
-use Rattle.address_map.specs.Bytes.{word_at, word_start}
+use Rattle.address_map.specs.Bytes.{word_at}
 use Rattle.address_map.specs.Records.{byte_class, IsRegion}
 use Rattle.address_map.specs.Memory.{place, byte_at, is_mapped, regions, class_of, is_owned, is_plain}
 use Rattle.address_map.proofs.Loads.{place_below}
@@ -40,19 +39,3 @@ class_of-same m n same bytes = λ i a. byte_class (same i) (λ b. bytes b i) a
 pub is_owned-same : (m n : AddressMap) → class_of n ≡ class_of m → is_owned n ≡ is_owned m
 unfolding is_owned
 is_owned-same m n same = λ i a. not (is_plain (same i a))
-
--- a byte is used as its whole word is
-pub is_owned-word : (m : AddressMap) (a k : ℕ) → a % 4 ≡ 0 → k < 4 → is_owned m (a + k) ≡ is_owned m a
-unfolding is_owned class_of
-is_owned-word m a k aligned below =
-    let e : word_start (a + k) ≡ word_start a = omega arith in
-    rw e refl
-
--- Where no range is recorded, nothing is owned.
-pub class_of-none : (m : AddressMap) → regions m ≡ [] → class_of m ≡ (λ (a : ℕ). Plain)
-unfolding class_of
-class_of-none m none = λ i a. byte_class (none i) (byte_at m) a
-
-pub is_owned-none : (m : AddressMap) → regions m ≡ [] → is_owned m ≡ (λ (a : ℕ). false)
-unfolding is_owned
-is_owned-none m none = λ i a. not (is_plain (class_of-none m none i a))

@@ -60,9 +60,6 @@ with_word b at word = record { mapped = b.mapped; at = with_word_at b.at at word
 abbrev pub with_bytes : Bytes → ℕ → List ℕ → Bytes
 with_bytes b at new = record { mapped = b.mapped; at = with_bytes_at b.at at new }
 
-abbrev pub with_zeros : Bytes → ℕ → ℕ → Bytes
-with_zeros b at len = record { mapped = b.mapped; at = with_zeros_at b.at at len }
-
 abbrev pub with_moved : Bytes → ℕ → ℕ → ℕ → Bytes
 with_moved b from to len = record { mapped = b.mapped; at = with_moved_at b.at from to len }
 

@@ -2,7 +2,7 @@
 -- `bytes_of`, `layout`, `free_pages`, `class_of` and `is_owned`.
 use Rattle.std.specs.Prelude.{◌≡◌, ◌≤◌, ◌<◌, ℕ, ◌+◌, ◌-◌, Bool, true, false, not, List, length, take, slice_index, slice_index_or, Option, Some, None, is_some}
 use Rattle.address_map.specs.declared.class.Class.{Class}
-use Rattle.address_map.specs.declared.class.Class.TheVariants.{Plain, Heap, FlexHeader, Anchor}
+use Rattle.address_map.specs.declared.class.Class.TheVariants.{Plain}
 use Rattle.address_map.specs.declared.region.Region.{Region}
 use Rattle.address_map.specs.declared.run.Run.{Run}
 use Rattle.address_map.specs.declared.map.AddressMap.{AddressMap}
@@ -70,9 +70,7 @@ class_of m a = byte_class (regions m) (byte_at m) a
 
 abbrev pub is_plain : Class → Bool
 is_plain Plain = true
-is_plain Heap = false
-is_plain FlexHeader = false
-is_plain Anchor = false
+is_plain other = false
 
 -- whether a guest's stores must leave the byte at an address alone
 unfoldable pub is_owned : AddressMap → ℕ → Bool

@@ -1,6 +1,6 @@
 -- The record of the ranges that the store calls use, and the words in them that only store calls may write: descriptors, lengths and links
 -- of heaps, headers of flex blocks, and anchors.
-use Rattle.std.specs.Prelude.{ℕ, ◌≡◌, ◌≤◌, Bool, true, false, ◌+◌, ◌%◌, ◌^◌, ◌&&◌, ◌||◌, List, [], ◌∷◌, ◌++◌, Option, Some, None, if◌then◌else◌, ◌==◌}
+use Rattle.std.specs.Prelude.{ℕ, ◌≡◌, ◌≤◌, Bool, true, false, ◌+◌, ◌%◌, ◌^◌, ◌&&◌, ◌||◌, List, [], ◌∷◌, ◌++◌, if◌then◌else◌, ◌==◌}
 use Rattle.std.specs.List.{list_any}
 use Rattle.address_map.specs.declared.class.Class.{Class}
 use Rattle.address_map.specs.declared.class.Class.TheVariants as class
@@ -9,34 +9,21 @@ use Rattle.address_map.specs.declared.region.Kind.TheVariants as kind
 use Rattle.address_map.specs.declared.region.Region.{Region}
 use Rattle.address_map.specs.Bytes.{in_range, word_at, word_start}
 use Rattle.address_map.specs.Items.{items_in, is_heap_word}
-use Rattle.address_map.specs.Flex.{FlexBlock, flex_in, is_flex_header, is_anchor, meets_anchor}
+use Rattle.address_map.specs.Flex.{FlexBlock, flex_in, is_header_word, is_anchor, has_anchor_in}
 
 abbrev pub is_heap_kind : Kind → Bool
 is_heap_kind kind.Heap = true
 is_heap_kind kind.Rma = true
-is_heap_kind kind.FlexStore = false
-is_heap_kind kind.FlexHeader = false
-is_heap_kind kind.Anchor = false
-is_heap_kind kind.Image = false
-is_heap_kind kind.SystemPage = false
+is_heap_kind other = false
 
 abbrev pub is_flex_kind : Kind → Bool
 is_flex_kind kind.FlexHeader = true
-is_flex_kind kind.Heap = false
-is_flex_kind kind.Rma = false
-is_flex_kind kind.FlexStore = false
-is_flex_kind kind.Anchor = false
-is_flex_kind kind.Image = false
-is_flex_kind kind.SystemPage = false
+is_flex_kind other = false
 
 -- A range that may be recorded: it begins at a whole word and ends in the 26-bit address space.
 pub record IsRegion (region : Region) : Type 0 where
   pub aligned : region.at % 4 ≡ 0
   pub end : region.at + region.len ≤ 2 ^ 26
-
--- no address is in both of two ranges
-abbrev pub AreRegionsApart : Region → Region → Type 0
-AreRegionsApart r other = (a : ℕ) → in_range r.at r.len a ≡ true → in_range other.at other.len a ≡ false
 
 -- none of the `len` addresses from `at` on is in one of the ranges
 abbrev pub AreNotMet : ℕ → ℕ → List Region → Type 0
@@ -44,40 +31,37 @@ AreNotMet at len regions = (a : ℕ) → in_range at len a ≡ true → list_any
 
 abbrev pub with_region_of : List Region → Region → Kind → List Region
 with_region_of regions region kind.Anchor = regions
-with_region_of regions region kind.Heap = regions ++ region ∷ []
-with_region_of regions region kind.Rma = regions ++ region ∷ []
-with_region_of regions region kind.FlexStore = regions ++ region ∷ []
-with_region_of regions region kind.FlexHeader = regions ++ region ∷ []
-with_region_of regions region kind.Image = regions ++ region ∷ []
-with_region_of regions region kind.SystemPage = regions ++ region ∷ []
+with_region_of regions region other = regions ++ region ∷ []
 
 -- the record after a range more, which goes to its end; anchors are named by the headers of their blocks, and need no record
 abbrev pub with_region : List Region → Region → List Region
 with_region regions region = with_region_of regions region region.kind
 
--- Kinds by number, which tells them apart. An anchor has none, since it is no record.
-abbrev pub kind_number : Kind → Option ℕ
-kind_number kind.Heap = Some 0
-kind_number kind.Rma = Some 1
-kind_number kind.FlexStore = Some 2
-kind_number kind.FlexHeader = Some 3
-kind_number kind.Anchor = None
-kind_number kind.Image = Some 4
-kind_number kind.SystemPage = Some 5
-
-abbrev pub are_same : Option ℕ → Option ℕ → Bool
-are_same None other = false
-are_same (Some n) None = false
-are_same (Some n) (Some k) = n == k
+-- are two kinds the same one, of those that are recorded? An anchor is no record.
+abbrev pub are_same : Kind → Kind → Bool
+are_same kind.Heap kind.Heap = true
+are_same kind.Rma kind.Rma = true
+are_same kind.FlexStore kind.FlexStore = true
+are_same kind.FlexHeader kind.FlexHeader = true
+are_same kind.Image kind.Image = true
+are_same kind.SystemPage kind.SystemPage = true
+are_same kind other = false
 
 -- is a record that of a range of this kind that starts at `at`?
 abbrev pub is_record : Kind → ℕ → Region → Bool
-is_record kind at region = are_same (kind_number kind) (kind_number region.kind) && region.at == at
+is_record kind at region = are_same kind region.kind && region.at == at
 
 -- the record without the first range of that kind that starts at `at`, or all of it where there is none
 abbrev pub without_region : List Region → Kind → ℕ → List Region
 without_region [] kind at = []
 without_region (region ∷ regions) kind at = if is_record kind at region then regions else region ∷ without_region regions kind at
+
+-- the record after the first range of that kind that starts at `at` got another length
+abbrev pub with_len : List Region → Kind → ℕ → ℕ → List Region
+with_len [] kind at len = []
+with_len (region ∷ regions) kind at len = if is_record kind at region
+    then record { kind = region.kind; at = region.at; len = len } ∷ regions
+    else region ∷ with_len regions kind at len
 
 -- the words of a recorded range, one word at a time: `a` is a multiple of 4, and `w` tells the word at each address
 abbrev pub is_heap_word_of : (ℕ → ℕ) → ℕ → Region → Bool
@@ -94,8 +78,8 @@ may_own a region = in_range region.at region.len a || is_flex_kind region.kind
 abbrev pub word_class : List Region → (ℕ → ℕ) → ℕ → Class
 word_class regions w a =
     if list_any (is_heap_word_of w a) regions then class.Heap else (
-    if list_any (λ region. is_flex_header (flex_blocks_of w region) a) regions then class.FlexHeader else (
-    if list_any (λ region. is_anchor (flex_blocks_of w region) a) regions then class.Anchor else
+    if list_any (λ region. list_any (is_header_word a) (flex_blocks_of w region)) regions then class.FlexHeader else (
+    if list_any (λ region. list_any (is_anchor a) (flex_blocks_of w region)) regions then class.Anchor else
     class.Plain))
 
 -- A byte is used as its whole word is.
@@ -104,4 +88,4 @@ byte_class regions bytes a = word_class regions (word_at bytes) (word_start a)
 
 -- whether an anchor has a byte in the `len` bytes from `at` on
 abbrev pub anchor_meets : List Region → (ℕ → ℕ) → ℕ → ℕ → Bool
-anchor_meets regions bytes at len = list_any (λ region. meets_anchor (flex_blocks_of (word_at bytes) region) at len) regions
+anchor_meets regions bytes at len = list_any (λ region. list_any (has_anchor_in at len) (flex_blocks_of (word_at bytes) region)) regions

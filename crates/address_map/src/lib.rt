@@ -4,6 +4,7 @@
 pub mod class;
 pub mod flex;
 pub mod item;
+pub mod laws;
 pub mod map;
 pub mod moves;
 pub mod owned;

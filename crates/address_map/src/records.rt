@@ -1,5 +1,5 @@
-ghost use Rattle.std.specs.Prelude.{◌≡◌, ◌<◌, ℕ, length, MatchOption};
-ghost use Rattle.address_map.specs.Records.{IsRegion, with_region, without_region};
+ghost use Rattle.std.specs.Prelude.{◌≡◌, ◌<◌, ℕ, length, slice_set, MatchOption};
+ghost use Rattle.address_map.specs.Records.{IsRegion, with_region, without_region, with_len};
 ghost use Rattle.std.specs.List.{remove};
 
 use crate::map::AddressMap;
@@ -48,9 +48,26 @@ impl AddressMap {
         }
     }
 
+    /// Gives the first record of that kind that starts at `at`, if there is one, another length. No byte is changed, and the records keep
+    /// their order.
+    #[tactic(auto, unfolding(crate::specs::Memory::regions, crate::specs::Memory::place, crate::specs::Memory::byte_at, crate::specs::Memory::free_pages, crate::specs::Memory::free_runs))]
+    pub fn set_len(&mut self, kind: Kind, at: u32, len: u32)
+        requires region { IsRegion (record { kind = kind; at = at; len = len }) }
+        ensures regions { regions self.new ≡ with_len (regions self.old) kind at len }
+        ensures place { place self.new ≡ place self.old }
+        ensures bytes { byte_at self.new ≡ byte_at self.old }
+        ensures pages { free_pages self.new ≡ free_pages self.old }
+        ensures runs { free_runs self.new ≡ free_runs self.old }
+    {
+        if let Some(index) = self.record_index(kind, at) {
+            self.regions[index] = Region { kind, at, len };
+        }
+    }
+
     /// Which of the records is the first of that kind that starts at `at`.
     fn record_index(&self, kind: Kind, at: u32) -> Option<usize>
-        ensures { MatchOption result (without_region (regions self.now) kind at ≡ regions self.now) (λ i. (i < length (regions self.now)) × (without_region (regions self.now) kind at ≡ remove (regions self.now) i)) }
+        ensures found { MatchOption result (without_region (regions self.now) kind at ≡ regions self.now) (λ i. (i < length (regions self.now)) × (without_region (regions self.now) kind at ≡ remove (regions self.now) i)) }
+        ensures len { MatchOption result ((len : ℕ) → with_len (regions self.now) kind at len ≡ regions self.now) (λ i. (len : ℕ) → with_len (regions self.now) kind at len ≡ slice_set (regions self.now) i (record { kind = kind; at = at; len = len })) }
     {
         let regions = self.regions();
         for (index, region) in regions.iter().enumerate() {

@@ -23,8 +23,8 @@ pub enum Kind {
 }
 
 impl Kind {
-    /// Whether a range is a heap.
-    pub(crate) fn is_heap(&self) -> bool
+    /// Whether a range of this kind is a heap: the module area is one too.
+    pub fn is_heap(&self) -> bool
         ensures { result ≡ is_heap_kind self.now }
     {
         matches!(self, Kind::Heap | Kind::Rma)

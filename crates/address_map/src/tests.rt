@@ -249,3 +249,19 @@ fn unmaps_pages_from_the_middle_and_maps_them_anew(rt: HostRuntime) -> Result<()
     assert_eq!(rt; map.load_word(0x9FFC), Ok(0));
     Ok(())
 }
+
+#[test]
+fn changes_the_length_of_a_heap(rt: HostRuntime) -> Result<(), Fail> {
+    let mut map = AddressMap::new(rt.alloc(), 1)?;
+    map.map_pages(0x9000, 1);
+    map.own(Kind::Rma, 0x9000, 256);
+    map.own(Kind::Heap, 0x9000, 256);
+    map.set_len(Kind::Heap, 0x9100, 64);
+    map.set_len(Kind::Heap, 0x9000, 512);
+    let lens = [256, 512];
+    assert_eq!(rt; map.regions().len(), 2);
+    for (region, len) in map.regions().iter().zip(lens) {
+        assert_eq!(rt; region.len, len);
+    }
+    Ok(())
+}

@@ -4,58 +4,38 @@ use Rattle.address_map.specs.Runs.{run_total}
 use Rattle.address_map.specs.Memory.{free_pages, free_runs, regions, IsSpan, IsFound}
 use Rattle.address_map.proofs.Moving.{store_copied}
 use Rattle.address_map.proofs.Cutting.{length-cut, length-cut_end}
-use Rattle.address_map.proofs.Unmapping.{found_end, found_whole, found_span, place_closed, mapped_less, bytes_less, whole_less, apart_less, total_less}
+use Rattle.address_map.proofs.Unmapping.{run_there, found_bounds, found_end, found_whole, found_span, place_closed, mapped_less, bytes_less, whole_less, apart_less, total_less}
 use Rattle.address_map.proofs.map.AddressMap.unmap_next.Goals as goal
 
 pub overflow_add-place : goal.overflow_add-place
 overflow_add-place c =
     let m = c.args.self.now in
-    let run : Run = c.unwrap-found.result.run in
-    let found : IsFound m c.args.addr c.unwrap-found.result.index c.unwrap-found.result.start run = rw c.unwrap-found.ensures at c.find_run.ensures in
-    let low : run.base ≤ c.args.addr = found.low in
-    let high : c.args.addr < run.base + run.len = found.high in
-    let end = found_end m c.args.addr c.unwrap-found.result.index c.unwrap-found.result.start run found in
-    omega (arith, end, m.runs_fit, m.in_limit)
+    let found = run_there m c.args.addr _ _ c.unwrap-found.ensures c.find_run.ensures in
+    omega (arith, found_bounds _ _ _ _ _ found, m.runs_fit, m.in_limit)
 
 pub overflow_add-behind : goal.overflow_add-behind
 overflow_add-behind c =
     let m = c.args.self.now in
-    let run : Run = c.unwrap-found.result.run in
-    let found : IsFound m c.args.addr c.unwrap-found.result.index c.unwrap-found.result.start run = rw c.unwrap-found.ensures at c.find_run.ensures in
-    let low : run.base ≤ c.args.addr = found.low in
-    let high : c.args.addr < run.base + run.len = found.high in
-    let end = found_end m c.args.addr c.unwrap-found.result.index c.unwrap-found.result.start run found in
-    omega (arith, end, m.runs_fit, m.in_limit)
+    let found = run_there m c.args.addr _ _ c.unwrap-found.ensures c.find_run.ensures in
+    omega (arith, found_bounds _ _ _ _ _ found, m.runs_fit, m.in_limit)
 
 pub overflow_sub-used-2 : goal.overflow_sub-used-2
 overflow_sub-used-2 c =
     let m = c.args.self.now in
-    let run : Run = c.unwrap-found.result.run in
-    let found : IsFound m c.args.addr c.unwrap-found.result.index c.unwrap-found.result.start run = rw c.unwrap-found.ensures at c.find_run.ensures in
-    let low : run.base ≤ c.args.addr = found.low in
-    let high : c.args.addr < run.base + run.len = found.high in
-    let end = found_end m c.args.addr c.unwrap-found.result.index c.unwrap-found.result.start run found in
-    omega (arith, end, m.runs_fit, c.len.ensures)
+    let found = run_there m c.args.addr _ _ c.unwrap-found.ensures c.find_run.ensures in
+    omega (arith, found_bounds _ _ _ _ _ found, m.runs_fit, c.len.ensures)
 
 pub copy-requires-clause-source : goal.copy-requires-clause-source
 copy-requires-clause-source c =
     let m = c.args.self.now in
-    let run : Run = c.unwrap-found.result.run in
-    let found : IsFound m c.args.addr c.unwrap-found.result.index c.unwrap-found.result.start run = rw c.unwrap-found.ensures at c.find_run.ensures in
-    let low : run.base ≤ c.args.addr = found.low in
-    let high : c.args.addr < run.base + run.len = found.high in
-    let end = found_end m c.args.addr c.unwrap-found.result.index c.unwrap-found.result.start run found in
-    omega (arith, end, m.runs_fit, c.len.ensures)
+    let found = run_there m c.args.addr _ _ c.unwrap-found.ensures c.find_run.ensures in
+    omega (arith, found_bounds _ _ _ _ _ found, m.runs_fit, c.len.ensures)
 
 pub copy-requires-clause-target : goal.copy-requires-clause-target
 copy-requires-clause-target c =
     let m = c.args.self.now in
-    let run : Run = c.unwrap-found.result.run in
-    let found : IsFound m c.args.addr c.unwrap-found.result.index c.unwrap-found.result.start run = rw c.unwrap-found.ensures at c.find_run.ensures in
-    let low : run.base ≤ c.args.addr = found.low in
-    let high : c.args.addr < run.base + run.len = found.high in
-    let end = found_end m c.args.addr c.unwrap-found.result.index c.unwrap-found.result.start run found in
-    omega (arith, end, m.runs_fit, c.len.ensures)
+    let found = run_there m c.args.addr _ _ c.unwrap-found.ensures c.find_run.ensures in
+    omega (arith, found_bounds _ _ _ _ _ found, m.runs_fit, c.len.ensures)
 
 pub cut_run-requires-clause-room : goal.cut_run-requires-clause-room
 unfolding free_runs
@@ -66,11 +46,11 @@ pub invariant_of-self : goal.invariant_of-self
 invariant_of-self c =
     let m = c.args.self.now in
     let run : Run = c.unwrap-found.result.run in
-    let found : IsFound m c.args.addr c.unwrap-found.result.index c.unwrap-found.result.start run = rw c.unwrap-found.ensures at c.find_run.ensures in
+    let found : IsFound m c.args.addr c.unwrap-found.result.index c.unwrap-found.result.start run = run_there m c.args.addr _ _ c.unwrap-found.ensures c.find_run.ensures in
     let low : run.base ≤ c.args.addr = found.low in
     let high : c.args.addr < run.base + run.len = found.high in
     let end = found_end m c.args.addr c.unwrap-found.result.index c.unwrap-found.result.start run found in
-    let fits : c.args.addr - run.base + c.min-len.result ≤ run.len = (let low : run.base ≤ c.args.addr = found.low in let high : c.args.addr < run.base + run.len = found.high in omega arith) in
+    let fits : c.args.addr - run.base + c.min-len.result ≤ run.len = omega arith in
     let whole = found_whole m c.args.addr c.unwrap-found.result.index c.unwrap-found.result.start run found in
     let base : run.base % 4096 ≡ 0 = whole.base in
     let size : run.len % 4096 ≡ 0 = whole.len in
@@ -95,10 +75,10 @@ pub returns-clause-mapping : goal.returns-clause-mapping
 returns-clause-mapping c b =
     let m = c.args.self.now in
     let run : Run = c.unwrap-found.result.run in
-    let found : IsFound m c.args.addr c.unwrap-found.result.index c.unwrap-found.result.start run = rw c.unwrap-found.ensures at c.find_run.ensures in
+    let found : IsFound m c.args.addr c.unwrap-found.result.index c.unwrap-found.result.start run = run_there m c.args.addr _ _ c.unwrap-found.ensures c.find_run.ensures in
     let low : run.base ≤ c.args.addr = found.low in
     let high : c.args.addr < run.base + run.len = found.high in
-    let fits : c.args.addr - run.base + c.min-len.result ≤ run.len = (let low : run.base ≤ c.args.addr = found.low in let high : c.args.addr < run.base + run.len = found.high in omega arith) in
+    let fits : c.args.addr - run.base + c.min-len.result ≤ run.len = omega arith in
     let at : ℕ = c.unwrap-found.result.start + (c.args.addr - run.base) in
     let span : IsSpan m c.args.addr at c.min-len.result =
     found_span m c.args.addr c.unwrap-found.result.index c.unwrap-found.result.start c.min-len.result run found (omega arith) fits in
@@ -108,11 +88,11 @@ pub returns-clause-bytes : goal.returns-clause-bytes
 returns-clause-bytes c b =
     let m = c.args.self.now in
     let run : Run = c.unwrap-found.result.run in
-    let found : IsFound m c.args.addr c.unwrap-found.result.index c.unwrap-found.result.start run = rw c.unwrap-found.ensures at c.find_run.ensures in
+    let found : IsFound m c.args.addr c.unwrap-found.result.index c.unwrap-found.result.start run = run_there m c.args.addr _ _ c.unwrap-found.ensures c.find_run.ensures in
     let low : run.base ≤ c.args.addr = found.low in
     let high : c.args.addr < run.base + run.len = found.high in
     let end = found_end m c.args.addr c.unwrap-found.result.index c.unwrap-found.result.start run found in
-    let fits : c.args.addr - run.base + c.min-len.result ≤ run.len = (let low : run.base ≤ c.args.addr = found.low in let high : c.args.addr < run.base + run.len = found.high in omega arith) in
+    let fits : c.args.addr - run.base + c.min-len.result ≤ run.len = omega arith in
     let at : ℕ = c.unwrap-found.result.start + (c.args.addr - run.base) in
     let span : IsSpan m c.args.addr at c.min-len.result =
     found_span m c.args.addr c.unwrap-found.result.index c.unwrap-found.result.start c.min-len.result run found (omega arith) fits in
@@ -125,7 +105,7 @@ unfolding free_pages
 returns-clause-pages c =
     let m = c.args.self.now in
     let run : Run = c.unwrap-found.result.run in
-    let found : IsFound m c.args.addr c.unwrap-found.result.index c.unwrap-found.result.start run = rw c.unwrap-found.ensures at c.find_run.ensures in
+    let found : IsFound m c.args.addr c.unwrap-found.result.index c.unwrap-found.result.start run = run_there m c.args.addr _ _ c.unwrap-found.ensures c.find_run.ensures in
     let low : run.base ≤ c.args.addr = found.low in
     let high : c.args.addr < run.base + run.len = found.high in
     let whole = found_whole m c.args.addr c.unwrap-found.result.index c.unwrap-found.result.start run found in
@@ -145,7 +125,7 @@ unfolding free_runs
 returns-clause-no_split c less =
     let m = c.args.self.now in
     let run : Run = c.unwrap-found.result.run in
-    let found : IsFound m c.args.addr c.unwrap-found.result.index c.unwrap-found.result.start run = rw c.unwrap-found.ensures at c.find_run.ensures in
+    let found : IsFound m c.args.addr c.unwrap-found.result.index c.unwrap-found.result.start run = run_there m c.args.addr _ _ c.unwrap-found.ensures c.find_run.ensures in
     let low : run.base ≤ c.args.addr = found.low in
     let high : c.args.addr < run.base + run.len = found.high in
     let offset : ℕ = c.args.addr - run.base in
