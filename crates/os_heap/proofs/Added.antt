@@ -40,7 +40,7 @@ clear_unless at len other other_len h a inside = grind (arith, nat_tests)
 pub clear_turned : (at len other other_len : ℕ) → AreClear at len other other_len → AreClear other other_len at len
 clear_turned at len other other_len h a inside = false_from_ne_true _ (λ there. both_ways (in_range other other_len a) (h a there) inside)
 
-clear_of_heaps : (at len : ℕ) (hs : List Part) → list_any (λ h. meets at len h.start h.end) hs ≡ false → IsClearOfHeaps at len hs
+pub clear_of_heaps : (at len : ℕ) (hs : List Part) → list_any (λ h. meets at len h.start h.end) hs ≡ false → IsClearOfHeaps at len hs
 clear_of_heaps at len [] none = tt
 clear_of_heaps at len (h ∷ hs) none =
     let parts = or_parts (meets at len h.start h.end) (list_any (λ h. meets at len h.start h.end) hs) none in
@@ -104,8 +104,8 @@ word_other f at v a apart =
     rw (b0, b1, b2, b3) refl
 
 -- the four words of the descriptor of an empty heap
-abbrev pub empty : ℕ → ℕ → Part
-empty at size = record { start = at; end = size; items = [] }
+abbrev pub empty : Kind → ℕ → ℕ → Part
+empty kind at size = record { kind = kind; start = at; end = size; items = [] }
 
 module _ (f : ℕ → ℕ) (at size : ℕ) (fits : size < 2 ^ 32) where
   named : ℕ → ℕ
@@ -117,25 +117,25 @@ module _ (f : ℕ → ℕ) (at size : ℕ) (fits : size < 2 ^ 32) where
   based : ℕ → ℕ
   based = with_word_at linked (at + 8) 16
 
-  written_name : word_at (with_part f (empty at size)) at ≡ 0x70616548
+  written_name : word_at (with_part f at size []) at ≡ 0x70616548
   unfolding named linked based
   written_name = word_other based (at + 12) size at (inl (omega arith)) ∙ word_other linked (at + 8) 16 at (inl (omega arith))
       ∙ word_other named (at + 4) (0 - at) at (inl (omega arith)) ∙ word_here f at 0x70616548 (omega arith)
 
-  written_link : word_at (with_part f (empty at size)) (at + 4) ≡ 0 - at
+  written_link : word_at (with_part f at size []) (at + 4) ≡ 0 - at
   unfolding named linked based
   written_link = word_other based (at + 12) size (at + 4) (inl (omega arith)) ∙ word_other linked (at + 8) 16 (at + 4) (inl (omega arith))
       ∙ word_here named (at + 4) (0 - at) (omega arith)
 
-  written_base : word_at (with_part f (empty at size)) (at + 8) ≡ 16
+  written_base : word_at (with_part f at size []) (at + 8) ≡ 16
   unfolding named linked based
   written_base = word_other based (at + 12) size (at + 8) (inl (omega arith)) ∙ word_here linked (at + 8) 16 (omega arith)
 
-  written_end : word_at (with_part f (empty at size)) (at + 12) ≡ size
+  written_end : word_at (with_part f at size []) (at + 12) ≡ size
   unfolding named linked based
   written_end = word_here based (at + 12) size fits
 
-  written_other : (a : ℕ) → (a + 1 ≤ at) ⊎ (at + 16 ≤ a) → with_part f (empty at size) a ≡ f a
+  written_other : (a : ℕ) → (a + 1 ≤ at) ⊎ (at + 16 ≤ a) → with_part f at size [] a ≡ f a
   unfolding named linked based
   written_other a apart =
       byte_other based (at + 12) size a (elim apart [ inl low ↦ inl (omega arith) | inr high ↦ inr (omega arith) ])
@@ -144,7 +144,7 @@ module _ (f : ℕ → ℕ) (at size : ℕ) (fits : size < 2 ^ 32) where
       ∙ byte_other f at 0x70616548 a (elim apart [ inl low ↦ inl (omega arith) | inr high ↦ inr (omega arith) ])
 
 pub empty_heap : (b : Bytes) (at size : ℕ) → CanHold b at size
-    → IsHeapIn (record { mapped = b.mapped; at = with_part b.at (empty at size) }) at size []
+    → IsHeapIn (record { mapped = b.mapped; at = with_part b.at at size [] }) at size []
 empty_heap b at size can =
     let fits : size < 2 ^ 32 = omega (arith, can.high) in
     record {
@@ -161,11 +161,11 @@ empty_heap b at size can =
       inside = can.low;
     }
 
-pub begun_old : (s : Store) (at size : ℕ) → MayBegin s at size → IsSound s → ArePartsIn (begun_with s at size).bytes s.heaps
-begun_old s at size may sound =
+pub begun_old : (kind : Kind) (s : Store) (at size : ℕ) → MayBegin s at size → IsSound s → ArePartsIn (begun_with kind s at size).bytes s.heaps
+begun_old kind s at size may sound =
     let can : CanHold s.bytes at size = can_hold s.bytes at size may.region in
     let none = or_parts (list_any (λ h. meets at size h.start h.end) s.heaps) (list_any (λ r. meets at size r.at r.len) s.others) may.clear in
-    clear_parts s.bytes (begun_with s at size).bytes s.heaps at size refl sound.parts (clear_of_heaps at size s.heaps none.0)
+    clear_parts s.bytes (begun_with kind s at size).bytes s.heaps at size refl sound.parts (clear_of_heaps at size s.heaps none.0)
     (λ a outside. written_other s.bytes.at at size (omega (arith, can.high)) a (elim (cases_lt a at) [
       | inl low ↦ inl (omega arith)
       | inr high ↦ inr (elim (cases_lt a (at + size)) [
@@ -175,14 +175,14 @@ begun_old s at size may sound =
     ]))
 
 -- the store with a heap more is sound too
-pub begun_sound : (s : Store) (at size : ℕ) → MayBegin s at size → IsSound s → IsSound (begun_with s at size)
-begun_sound s at size may sound =
+pub begun_sound : (kind : Kind) (s : Store) (at size : ℕ) → MayBegin s at size → IsSound s → IsSound (begun_with kind s at size)
+begun_sound kind s at size may sound =
     let can : CanHold s.bytes at size = can_hold s.bytes at size may.region in
     let none = or_parts (list_any (λ h. meets at size h.start h.end) s.heaps) (list_any (λ r. meets at size r.at r.len) s.others) may.clear in
     record {
-      parts = parts_more (begun_with s at size).bytes s.heaps (empty at size) (begun_old s at size may sound)
+      parts = parts_more (begun_with kind s at size).bytes s.heaps (empty kind at size) (begun_old kind s at size may sound)
           (clear_of_heaps at size s.heaps none.0) (empty_heap s.bytes at size can);
-      clear = others_more s.heaps (empty at size) s.others sound.clear none.1;
+      clear = others_more s.heaps (empty kind at size) s.others sound.clear none.1;
       few = sound.few;
     }
 
@@ -216,17 +216,17 @@ recorded rs kind.SystemPage at len heap = absurd (false≢true heap)
 
 pub store_begun : (m n : AddressMap) (k : Kind) (at size : ℕ) → is_heap_kind k ≡ true → MayBegin (store_of m) at size → IsSound (store_of m)
     → regions n ≡ regions m ++ record { kind = k; at = at; len = size } ∷ []
-    → bytes_of n ≡ record { mapped = is_mapped m; at = with_part (byte_at m) (empty at size) }
-    → store_of n ≡ begun_with (store_of m) at size
+    → bytes_of n ≡ record { mapped = is_mapped m; at = with_part (byte_at m) at size [] }
+    → store_of n ≡ begun_with k (store_of m) at size
 unfolding store_of
 store_begun m n k at size heap may sound records bytes =
-    let c : Bytes = record { mapped = is_mapped m; at = with_part (byte_at m) (empty at size) } in
+    let c : Bytes = record { mapped = is_mapped m; at = with_part (byte_at m) at size [] } in
     let r : Region = record { kind = k; at = at; len = size } in
     let old : parts_in c (regions m) ≡ parts_in (bytes_of m) (regions m) =
-    parts_in-spelled (bytes_of m) c (regions m) (begun_old (store_of m) at size may sound) in
+    parts_in-spelled (bytes_of m) c (regions m) (begun_old k (store_of m) at size may sound) in
     let items : items_in (word_at c.at) at ≡ [] =
     items_in-heap c at size [] (empty_heap (bytes_of m) at size (can_hold (bytes_of m) at size may.region)) in
-    let heaps : parts_in c (regions m ++ r ∷ []) ≡ parts_in (bytes_of m) (regions m) ++ empty at size ∷ [] =
+    let heaps : parts_in c (regions m ++ r ∷ []) ≡ parts_in (bytes_of m) (regions m) ++ empty k at size ∷ [] =
     parts_in-more c (regions m) r heap ∙ (rw (old, items) refl) in
     let others : others_in (regions m ++ r ∷ []) ≡ others_in (regions m) = others_in-more (regions m) r heap in
     rw (bytes, records) (λ i. record { bytes = c; heaps = heaps i; others = others i })
@@ -295,7 +295,7 @@ pub begun_full : (s : Store) (at size : ℕ) → is_heap_region s.bytes at size 
 unfolding begun
 begun_full s at size good clear full = rw (good, clear, full) refl
 
-pub begun_done : (s : Store) (at size : ℕ) → MayBegin s at size → begun s at size ≡ Ok (begun_with s at size)
+pub begun_done : (s : Store) (at size : ℕ) → MayBegin s at size → begun s at size ≡ Ok (begun_with kind.Heap s at size)
 unfolding begun
 begun_done s at size may = rw (may.region, may.clear, may.room) refl
 

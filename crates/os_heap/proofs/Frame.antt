@@ -154,7 +154,7 @@ unfolding owned_in
 store_kept s c mapping sound kept = sound_spelled s c sound (parts_kept s.bytes c s.heaps mapping kept sound.parts)
 
 -- the words of items lie in the items
-head_inside : (at : ℕ) (xs : List Item) (p : ℕ) → AreTotals xs → is_head at xs p ≡ true → (at ≤ p) × (p + 4 ≤ at + size_of xs)
+pub head_inside : (at : ℕ) (xs : List Item) (p : ℕ) → AreTotals xs → is_head at xs p ≡ true → (at ≤ p) × (p + 4 ≤ at + size_of xs)
 head_inside at [] p totals is = absurd (both_ways false refl is)
 head_inside at (Live t ∷ xs) p totals is =
     let total = total_facts t totals.0 in

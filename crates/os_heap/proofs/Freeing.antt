@@ -9,14 +9,14 @@ use Rattle.address_map.specs.Items.{size_of, is_total, linked}
 use Rattle.address_map.specs.Memory.{bytes_of, byte_at, layout}
 use Rattle.address_map.proofs.Bytes.{is_mapped-layout}
 use Rattle.os_heap.specs.Heap.{next_free, Spells, AreTotals, AreSpaced, begins_live, IsHeapIn}
-use Rattle.os_heap.specs.Lists.{left_free, freed, released, begun_below}
+use Rattle.os_heap.specs.Lists.{left_free, freed, glued, released, begun_below}
 use Rattle.os_heap.specs.Links.{last_free, link_at, items_at, IsHeapAt, IsWritten, IsFreed, Becomes}
-use Rattle.os_heap.specs.Releases.{glued, IsWalkedTo, IsWalked, IsBlock, Releases}
+use Rattle.os_heap.specs.Releases.{IsWalkedTo, IsWalked, IsBlock, Releases}
 use Rattle.os_heap.proofs.Unique.{total_facts}
 use Rattle.os_heap.proofs.Spelling.{size_of-append, size_of-multiple, totals-front, totals-back, spaced-join, total_of-numbers, spells-kept}
 use Rattle.os_heap.proofs.Replace.{LinkFacts, link_facts, link_of-item, becomes}
 use Rattle.os_heap.proofs.Searching.{FreeFacts, free_facts}
-use Rattle.os_heap.proofs.Walking.{size_of-gap, LiveFacts, live_facts, AtFree, AtLive, base_past, released_past, begun_past, released_free-none, released_live-none, released_here, begun_more, next_apart}
+use Rattle.os_heap.proofs.Walking.{size_of-gap, LiveFacts, live_facts, AtFree, AtLive, base_past, released_past, released_before, begun_past, released_free-none, released_here, begun_more, next_apart}
 
 -- the walk ends, and there is no such block
 over : (m : AddressMap) (start end block from at free gap probes : ℕ) (before rest : List Item) → IsHeapAt m start end
@@ -43,30 +43,21 @@ pub walk_over : (m : AddressMap) (start end block from at free gap probes : ℕ)
     → (released block (start + 16) (items_at m start) ≡ None) × (probes ≡ begun_below block (start + 16) (items_at m start))
 walk_over m start end block from at free gap probes heap w past = over m start end block from at free gap probes w.before w.rest heap w.walk past
 
-pub walk_past : (start : ℕ) (items : List Item) (block from at free gap probes : ℕ) → IsWalked start items block from at free gap probes → block ≤ at
+pub walk_past : (start : ℕ) (items : List Item) (block from at free gap probes : ℕ) → IsWalked start items block from at free gap probes → block < at + 4
     → (released block (start + 16) items ≡ None) × (probes ≡ begun_below block (start + 16) items)
 walk_past start items block from at free gap probes w past =
-    (w.walk.absent (released_past block at w.rest past), omega (arith, w.walk.count, begun_past block at w.rest past))
+    (w.walk.absent (released_before block at w.rest past), omega (arith, w.walk.count, begun_past block at w.rest past))
 
 pub near : (block at base : ℕ) → (at + 4 < block → base ≤ at) → at < base → block ≤ at + 4
 near block at base far below = elim (cases_lt (at + 4) block) [ inl less ↦ absurd (let past = far less in omega arith) | inr more ↦ more ]
 
 pub free_ends : (m : AddressMap) (start end block from at free gap probes : ℕ) → (w : AtFree m start end block from at free gap probes)
-    → at < block → block ≤ at + 4
+    → at + 4 ≤ block → block ≤ at + 4
     → (released block (start + 16) (items_at m start) ≡ None) × (probes + 1 ≡ begun_below block (start + 16) (items_at m start))
 free_ends m start end block from at free gap probes w low near =
     let past : block ≤ at + w.total = omega (arith, w.facts.size) in (
       w.walk.absent (released_free-none block at w.total w.rest (released_past block (at + w.total) w.rest past)),
-      omega (arith, w.walk.count, (begun_more block at w.total w.rest low).1, begun_past block (at + w.total) w.rest past),
-    )
-
-pub live_ends : (m : AddressMap) (start end block from at free gap probes : ℕ) → (w : AtLive m start end block from at free gap probes)
-    → at < block → block ≤ at + 4 → at + 4 ≢ block
-    → (released block (start + 16) (items_at m start) ≡ None) × (probes + 1 ≡ begun_below block (start + 16) (items_at m start))
-live_ends m start end block from at free gap probes w low near other =
-    let past : block ≤ at + w.total = omega (arith, w.facts.size) in (
-      w.walk.absent (released_live-none block at w.total w.rest other (released_past block (at + w.total) w.rest past)),
-      omega (arith, w.walk.count, (begun_more block at w.total w.rest low).0, begun_past block (at + w.total) w.rest past),
+      omega (arith, w.walk.count, (begun_more block at w.total w.rest low).1, begun_past block (at + w.total) w.rest (omega (arith, w.facts.size))),
     )
 
 pub block_found : (m : AddressMap) (start end block from at free gap probes : ℕ) → (w : AtLive m start end block from at free gap probes)
@@ -80,12 +71,13 @@ block_found m start end block from at free gap probes w here =
         rest = w.rest;
         split = w.walk.split;
         place = w.walk.place;
+        here = here;
         last = w.walk.last;
         next = w.walk.next;
         closed = w.walk.closed;
         given = w.walk.found (freed w.total w.rest) (released_here block at w.total w.rest here);
       },
-      omega (arith, w.walk.count, (begun_more block at w.total w.rest (omega arith)).0, begun_past block (at + w.total) w.rest past),
+      omega (arith, w.walk.count, (begun_more block at w.total w.rest (omega arith)).0, begun_past block (at + w.total) w.rest (omega (arith, w.facts.size))),
     )
 
 -- what the words around the block say
@@ -203,7 +195,7 @@ loosed m n start end before old xs s heap same closed total size totals spaced l
       );
     }) same (λ a head apart out. one.other a apart out.0)
 
-glued_free : (gap t : ℕ) (xs : List Item) → glued gap (Free t ∷ xs) ≡ Free (gap + t) ∷ xs
+pub glued_free : (gap t : ℕ) (xs : List Item) → glued gap (Free t ∷ xs) ≡ Free (gap + t) ∷ xs
 glued_free gap t xs = elim (cases_Bool (gap == 0)) [
   | inl none ↦
       let e : gap ≡ 0 = eqb-true gap 0 none in
@@ -212,7 +204,7 @@ glued_free gap t xs = elim (cases_Bool (gap == 0)) [
   | inr some ↦ rw some refl
 ]
 
-glued_nothing : (gap : ℕ) → glued gap [] ≡ []
+pub glued_nothing : (gap : ℕ) → glued gap [] ≡ []
 glued_nothing gap = elim (cases_Bool (gap == 0)) [ inl none ↦ rw none refl | inr some ↦ rw some refl ]
 
 size_of-old : (gap total : ℕ) (rest : List Item) → size_of (left_free gap ++ Live total ∷ rest) ≡ gap + (total + size_of rest)
@@ -226,7 +218,7 @@ given : (m n : AddressMap) (start end : ℕ) (items : Option (List Item)) (ys zs
 given m n start end items ys zs some e b = rw (some, e) (refl, b)
 
 -- the block ends at the base
-rest_none : (start at total base : ℕ) (rest : List Item) → AreTotals rest → base ≡ at + total + size_of rest → at + total ≡ base → rest ≡ []
+pub rest_none : (start at total base : ℕ) (rest : List Item) → AreTotals rest → base ≡ at + total + size_of rest → at + total ≡ base → rest ≡ []
 rest_none start at total base [] totals end here = refl
 rest_none start at total base (Live t ∷ xs) totals end here = absurd (omega (arith, total_facts t totals.0))
 rest_none start at total base (Free t ∷ xs) totals end here = absurd (omega (arith, total_facts t totals.0))
@@ -273,7 +265,7 @@ releases_joined m n start end block from at free gap next heap b k same onward o
     size totals.1 spaced.1 spaced.0 (rw place spelled.1.1) one')
 
 -- a block behind stays
-rest_live : (at total base free : ℕ) (rest : List Item) → free ≡ next_free (at + total) rest 0 → at + total ≢ free → at + total ≢ base
+pub rest_live : (at total base free : ℕ) (rest : List Item) → free ≡ next_free (at + total) rest 0 → at + total ≢ free → at + total ≢ base
     → base ≡ at + total + size_of rest → (begins_live rest ≡ true) × ((n : ℕ) → freed n rest ≡ Free n ∷ rest)
 rest_live at total base free [] next other inside end = absurd (inside (omega arith))
 rest_live at total base free (Live t ∷ xs) next other inside end = (refl, λ n. refl)

@@ -9,7 +9,7 @@ use Rattle.address_map.specs.declared.region.Region.{Region}
 use Rattle.address_map.specs.declared.map.AddressMap.{AddressMap}
 use Rattle.address_map.specs.Bytes.{Bytes, in_range, word_at, word_start}
 use Rattle.address_map.specs.Items.{items_in, is_heap_word}
-use Rattle.address_map.specs.Flex.{is_flex_header, is_anchor}
+use Rattle.address_map.specs.Flex.{FlexBlock, is_header_word, is_anchor}
 use Rattle.address_map.specs.Records.{is_heap_kind, is_flex_kind, is_heap_word_of, flex_blocks_of, byte_class}
 use Rattle.address_map.specs.Memory.{byte_at, bytes_of, regions, is_plain, class_of, is_owned}
 use Rattle.os_heap.specs.Store.{parts_in, others_in, store_of, ArePartsIn, IsSound, owned_in}
@@ -37,17 +37,12 @@ has_flex-others (r ∷ rs) =
       | inr other ↦ rw other (ap (λ t. is_flex_kind r.kind || t) (has_flex-others rs))
     ]
 
-no_header : (w : ℕ → ℕ) (rs : List Region) (p : ℕ) → has_flex rs ≡ false → list_any (λ region. is_flex_header (flex_blocks_of w region) p) rs ≡ false
-no_header w [] p none = refl
-no_header w (r ∷ rs) p none =
+no_such_block : (test : FlexBlock → Bool) (w : ℕ → ℕ) (rs : List Region) → has_flex rs ≡ false
+    → list_any (λ region. list_any test (flex_blocks_of w region)) rs ≡ false
+no_such_block test w [] none = refl
+no_such_block test w (r ∷ rs) none =
     let parts = or_parts (is_flex_kind r.kind) (has_flex rs) none in
-    rw parts.0 (no_header w rs p parts.1)
-
-no_anchor : (w : ℕ → ℕ) (rs : List Region) (p : ℕ) → has_flex rs ≡ false → list_any (λ region. is_anchor (flex_blocks_of w region) p) rs ≡ false
-no_anchor w [] p none = refl
-no_anchor w (r ∷ rs) p none =
-    let parts = or_parts (is_flex_kind r.kind) (has_flex rs) none in
-    rw parts.0 (no_anchor w rs p parts.1)
+    rw parts.0 (no_such_block test w rs parts.1)
 
 guarded : (guard test : Bool) → (test ≡ true → guard ≡ true) → (guard && test) ≡ test
 guarded guard true h = rw (h refl) refl
@@ -84,7 +79,8 @@ unfolding store_of owned_in
 owned_class m a sound none =
     let w : ℕ → ℕ = word_at (byte_at m) in
     let flexless : has_flex (regions m) ≡ false = has_flex-others (regions m) ∙ none in
-    plain_unless (list_any (is_heap_word_of w (word_start a)) (regions m)) _ _ (no_header w (regions m) (word_start a) flexless) (no_anchor w (regions m) (word_start a) flexless)
+    plain_unless (list_any (is_heap_word_of w (word_start a)) (regions m)) _ _
+    (no_such_block (is_header_word (word_start a)) w (regions m) flexless) (no_such_block (is_anchor (word_start a)) w (regions m) flexless)
     ∙ heap_words (bytes_of m) (regions m) (word_start a) (omega arith) sound.parts
 
 pub owned_heads : (m : AddressMap) → IsSound (store_of m) → has_flex (store_of m).others ≡ false → is_owned m ≡ owned_in (store_of m)

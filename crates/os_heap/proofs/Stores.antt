@@ -69,9 +69,9 @@ beside_head a start (inr high) a1 a2 a3 = elim a3 [
 ]
 
 -- the new words over the old bytes
-part_back : (f : ℕ → ℕ) (c : Bytes) (start end : ℕ) (items : List Item) → IsHeapIn c start end items → ((a : ℕ) → c.at a < 256)
+pub part_back : (f : ℕ → ℕ) (c : Bytes) (start end : ℕ) (items : List Item) → IsHeapIn c start end items → ((a : ℕ) → c.at a < 256)
     → (a : ℕ) → (AreApart a 1 start 16 → IsOutside (start + 16) items a → c.at a ≡ f a)
-    → c.at a ≡ with_part f (record { start = start; end = end; items = items }) a
+    → c.at a ≡ with_part f start end items a
 part_back f c start end items heap small a same =
     let h0 : ℕ → ℕ = with_heads f (start + 16) items 0 in
     let h1 : ℕ → ℕ = with_word_at h0 start 0x70616548 in
@@ -85,9 +85,9 @@ part_back f c start end items heap small a same =
     (λ out. same (beside_head a start a0 a1 a2 a3) out)))))
 
 pub bytes_held : (m n : AddressMap) (start end : ℕ) (items : List Item) → Becomes m n start end items
-    → bytes_of n ≡ record { mapped = is_mapped m; at = with_part (byte_at m) (record { start = start; end = end; items = items }) }
+    → bytes_of n ≡ record { mapped = is_mapped m; at = with_part (byte_at m) start end items }
 bytes_held m n start end items b =
-    same_bytes m n (with_part (byte_at m) (record { start = start; end = end; items = items })) b.same
+    same_bytes m n (with_part (byte_at m) start end items) b.same
     (λ a. part_back (byte_at m) (bytes_of n) start end items b.heap (byte_at-lt n) a (b.others a))
 
 -- a heap none of whose bytes changed
@@ -143,11 +143,11 @@ kept_beyond m n start end items b a clear =
       ]
     ]
 
-clear_both_ways : (at len other other_len : ℕ) → AreClear at len other other_len → AreClear other other_len at len
+pub clear_both_ways : (at len other other_len : ℕ) → AreClear at len other other_len → AreClear other other_len at len
 clear_both_ways at len other other_len clear a h =
     elim (cases_Bool (in_range at len a)) [ inl here ↦ absurd (false≢true (sym (clear a here) ∙ h)) | inr other_byte ↦ other_byte ]
 
-clear_of-found : (at len start : ℕ) (hs : List Part) (h : Part) → IsClearOfHeaps at len hs → find_part start hs ≡ Some h → AreClear at len h.start h.end
+pub clear_of-found : (at len start : ℕ) (hs : List Part) (h : Part) → IsClearOfHeaps at len hs → find_part start hs ≡ Some h → AreClear at len h.start h.end
 clear_of-found at len start [] h clear e = absurd (let none : None ≡ Some h = e in cc)
 clear_of-found at len start (g ∷ hs) h clear e =
     elim (cases_Bool (g.start == start)) [
@@ -159,10 +159,10 @@ clear_of-found at len start (g ∷ hs) h clear e =
     ]
 
 -- each heap is the one, or shares no byte with it
-abbrev IsOther : Part → Part → Type 0
+abbrev pub IsOther : Part → Part → Type 0
 IsOther h g = (g ≡ h) ⊎ ((g.start ≢ h.start) × AreClear h.start h.end g.start g.end)
 
-abbrev AreOthers : Part → List Part → Type 0
+abbrev pub AreOthers : Part → List Part → Type 0
 AreOthers h [] = Unit {0}
 AreOthers h (g ∷ gs) = IsOther h g × AreOthers h gs
 
@@ -181,7 +181,7 @@ others_clear b h [] some clear parts = tt
 others_clear b h (g ∷ gs) some clear parts =
     (inr (other_start b g h parts.0 clear.0 some, clear.0), others_clear b h gs some clear.1 parts.1.1)
 
-are_others : (b : Bytes) (start : ℕ) (hs : List Part) (h : Part) → ArePartsIn b hs → find_part start hs ≡ Some h → AreOthers h hs
+pub are_others : (b : Bytes) (start : ℕ) (hs : List Part) (h : Part) → ArePartsIn b hs → find_part start hs ≡ Some h → AreOthers h hs
 are_others b start [] h parts e = tt
 are_others b start (g ∷ hs) h parts e =
     elim (cases_Bool (g.start == start)) [
@@ -235,7 +235,7 @@ parts_held m n h items (g ∷ hs) b others parts =
     ]
 
 -- reading the words gives these lists
-cons_part : (g k : Part) (gs ks : List Part) → g ≡ k → gs ≡ ks → g ∷ gs ≡ k ∷ ks
+pub cons_part : (g k : Part) (gs ks : List Part) → g ≡ k → gs ≡ ks → g ∷ gs ≡ k ∷ ks
 cons_part g k gs ks e f = λ i. e i ∷ f i
 
 read_parts : (m n : AddressMap) (h : Part) (items : List Item) (rs : List Region) → Becomes m n h.start h.end items
@@ -257,12 +257,12 @@ read_parts m n h items (r ∷ rs) b others parts =
           let start : r.at ≡ h.start = ap (λ (x : Part). x.start) same in
           let test : (r.at == h.start) ≡ true = eq-eqb r.at h.start start in
           let list : items_in (word_at (byte_at n)) r.at ≡ items = rw start (items_in-heap (bytes_of n) h.start h.end items b.heap) in
-          rw test (cons_part _ _ _ _ (ap (λ (xs : List Item). let p : Part = record { start = r.at; end = r.len; items = xs } in p) list) rest)
+          rw test (cons_part _ _ _ _ (ap (λ (xs : List Item). let p : Part = record { kind = r.kind; start = r.at; end = r.len; items = xs } in p) list) rest)
       read_part (inr apart) heap rest =
           let test : (r.at == h.start) ≡ false = ne_eqb r.at h.start apart.0 in
           let list : items_in (word_at (byte_at n)) r.at ≡ items_in (word_at (byte_at m)) r.at =
           items_in-heap (bytes_of n) r.at r.len (items_in (word_at (byte_at m)) r.at) (other_kept m n h (part_in (bytes_of m) r) items b apart.1 heap) in
-          rw test (cons_part _ _ _ _ (ap (λ (xs : List Item). let p : Part = record { start = r.at; end = r.len; items = xs } in p) list) rest)
+          rw test (cons_part _ _ _ _ (ap (λ (xs : List Item). let p : Part = record { kind = r.kind; start = r.at; end = r.len; items = xs } in p) list) rest)
 
 store_parts : (b c : Bytes) (hs gs : List Part) (rs : List Region) → b ≡ c → hs ≡ gs
     → (let s : Store = record { bytes = b; heaps = hs; others = rs } in let t : Store = record { bytes = c; heaps = gs; others = rs } in s ≡ t)

@@ -1,6 +1,6 @@
 -- A walk from item to item, with the free item that ends where it stands.
 use Rattle.std.proofs.Common.{◌≡◌, ◌≢◌, ◌⊎◌, ℕ, ◌+◌, ◌-◌, ◌%◌, ◌^◌, ◌<◌, ◌≤◌, ◌==◌, Some, None, option_map, List, [], ◌∷◌, ◌++◌, inl, inr, arith, refl, sym, ◌∙◌, ap, subst, add-zero, zero-add, append_assoc, append-nil}
-use Rattle.std.proofs.lemmas.Bool.{cases_Bool, false≢true, lt-ltb, le-ltb, eq-eqb, ne_eqb, eqb-true, cases_lt}
+use Rattle.std.proofs.lemmas.Bool.{cases_Bool, false≢true, le-leb, lt-leb, eq-eqb, ne_eqb, eqb-true, cases_lt}
 use Rattle.address_map.specs.declared.item.Item.{Item}
 use Rattle.address_map.specs.declared.item.Item.TheVariants.{Live, Free}
 use Rattle.address_map.specs.declared.map.AddressMap.{AddressMap}
@@ -8,9 +8,9 @@ use Rattle.address_map.specs.Bytes.{word_at}
 use Rattle.address_map.specs.Items.{size_of, linked}
 use Rattle.address_map.specs.Memory.{bytes_of, byte_at}
 use Rattle.os_heap.specs.Heap.{next_free, Spells, AreTotals, AreSpaced, IsHeapIn}
-use Rattle.os_heap.specs.Lists.{left_free, freed, released, begun_below}
+use Rattle.os_heap.specs.Lists.{left_free, freed, glued, released, begun_below}
 use Rattle.os_heap.specs.Links.{last_free, link_at, items_at, IsHeapAt}
-use Rattle.os_heap.specs.Releases.{glued, last_link, IsWalkedTo, IsWalked}
+use Rattle.os_heap.specs.Releases.{last_link, IsWalkedTo, IsWalked}
 use Rattle.os_heap.proofs.Unique.{total_facts}
 use Rattle.os_heap.proofs.Spelling.{size_of-append, size_of-multiple, totals-front, totals-back, spaced-join, spaced-back, last_free-append, next_free-bounds, spells-back}
 use Rattle.os_heap.proofs.Replace.{heap_below, link_of-item}
@@ -103,14 +103,14 @@ pub record AtLive (m : AddressMap) (start end block from at free gap probes : �
 begun_small : (block at : ℕ) (xs : List Item) → AreTotals xs → begun_below block at xs ≤ size_of xs
 begun_small block at [] totals = omega arith
 begun_small block at (Live t ∷ xs) totals =
-    elim (cases_lt at block) [
-      | inl low ↦ rw (lt-ltb at block low) (omega (arith, begun_small block (at + t) xs totals.1, total_facts t totals.0))
-      | inr high ↦ rw (le-ltb at block high) (omega arith)
+    elim (cases_lt block (at + 4)) [
+      | inl high ↦ rw (lt-leb (at + 4) block high) (omega arith)
+      | inr low ↦ rw (le-leb (at + 4) block low) (omega (arith, begun_small block (at + t) xs totals.1, total_facts t totals.0))
     ]
 begun_small block at (Free t ∷ xs) totals =
-    elim (cases_lt at block) [
-      | inl low ↦ rw (lt-ltb at block low) (omega (arith, begun_small block (at + t) xs totals.1, total_facts t totals.0))
-      | inr high ↦ rw (le-ltb at block high) (omega arith)
+    elim (cases_lt block (at + 4)) [
+      | inl high ↦ rw (lt-leb (at + 4) block high) (omega arith)
+      | inr low ↦ rw (le-leb (at + 4) block low) (omega (arith, begun_small block (at + t) xs totals.1, total_facts t totals.0))
     ]
 
 pub begun_few : (m : AddressMap) (start end block : ℕ) (items : List Item) → IsHeapIn (bytes_of m) start end items → begun_below block (start + 16) items ≤ 2 ^ 26
@@ -195,7 +195,7 @@ walk_begun start items block = record {
 }
 
 -- two free items are not side by side
-gap_shut : (before : List Item) (gap t : ℕ) (xs : List Item) → AreSpaced ((before ++ left_free gap) ++ Free t ∷ xs) → gap ≡ 0
+pub gap_shut : (before : List Item) (gap t : ℕ) (xs : List Item) → AreSpaced ((before ++ left_free gap) ++ Free t ∷ xs) → gap ≡ 0
 gap_shut before gap t xs spaced = elim (cases_Bool (gap == 0)) [
   | inl none ↦ eqb-true gap 0 none
   | inr some ↦
@@ -220,9 +220,9 @@ released_live-none block at t xs other h = rw (ne_eqb (at + 4) block other) (ap 
 pub released_here : (block at t : ℕ) (xs : List Item) → at + 4 ≡ block → released block at (Live t ∷ xs) ≡ Some (freed t xs)
 released_here block at t xs here = rw (eq-eqb (at + 4) block here) refl
 
-pub begun_more : (block at t : ℕ) (xs : List Item) → at < block → (begun_below block at (Live t ∷ xs) ≡ 1 + begun_below block (at + t) xs)
+pub begun_more : (block at t : ℕ) (xs : List Item) → at + 4 ≤ block → (begun_below block at (Live t ∷ xs) ≡ 1 + begun_below block (at + t) xs)
     × (begun_below block at (Free t ∷ xs) ≡ 1 + begun_below block (at + t) xs)
-begun_more block at t xs low = rw (lt-ltb at block low) (refl, refl)
+begun_more block at t xs low = rw (le-leb (at + 4) block low) (refl, refl)
 
 pub released_past : (block at : ℕ) (xs : List Item) → block ≤ at → released block at xs ≡ None
 released_past block at [] past = refl
@@ -230,38 +230,49 @@ released_past block at (Live t ∷ xs) past =
     released_live-none block at t xs (λ (e : at + 4 ≡ block). omega arith) (released_past block (at + t) xs (omega arith))
 released_past block at (Free t ∷ xs) past = released_free-none block at t xs (released_past block (at + t) xs (omega arith))
 
-pub begun_past : (block at : ℕ) (xs : List Item) → block ≤ at → begun_below block at xs ≡ 0
+-- a block's bytes begin behind its length word
+pub released_before : (block at : ℕ) (xs : List Item) → block < at + 4 → released block at xs ≡ None
+released_before block at [] past = refl
+released_before block at (Live t ∷ xs) past =
+    released_live-none block at t xs (λ (e : at + 4 ≡ block). omega arith) (released_before block (at + t) xs (omega arith))
+released_before block at (Free t ∷ xs) past = released_free-none block at t xs (released_before block (at + t) xs (omega arith))
+
+pub begun_past : (block at : ℕ) (xs : List Item) → block < at + 4 → begun_below block at xs ≡ 0
 begun_past block at [] past = refl
-begun_past block at (Live t ∷ xs) past = rw (le-ltb at block past) refl
-begun_past block at (Free t ∷ xs) past = rw (le-ltb at block past) refl
+begun_past block at (Live t ∷ xs) past = rw (lt-leb (at + 4) block past) refl
+begun_past block at (Free t ∷ xs) past = rw (lt-leb (at + 4) block past) refl
 
 -- a free item is passed
-pub free_passed : (m : AddressMap) (start end block from at free gap probes : ℕ) → IsHeapAt m start end
-    → (w : AtFree m start end block from at free gap probes) → at < block
-    → IsWalked start (items_at m start) block from (at + w.total) (next_free (at + w.total) w.rest 0) w.total (probes + 1)
-free_passed m start end block from at free gap probes heap w low =
-    let spaced : AreSpaced ((w.before ++ left_free gap) ++ Free w.total ∷ w.rest) = subst AreSpaced w.walk.split heap.spaced in
-    let none : gap ≡ 0 = gap_shut w.before gap w.total w.rest spaced in
-    let some : w.total ≢ 0 = λ (e : w.total ≡ 0). omega (arith, w.facts.size) in
-    let front : w.before ++ left_free gap ≡ w.before = gap_none gap w.before none in
-    let joined : (w.before ++ left_free gap) ++ Free w.total ∷ w.rest ≡ (w.before ++ left_free w.total) ++ w.rest =
-    ap (λ (ys : List Item). ys ++ Free w.total ∷ w.rest) front ∙ sym (append_assoc w.before (Free w.total ∷ []) w.rest)
-    ∙ ap (λ (ys : List Item). (w.before ++ ys) ++ w.rest) (sym (gap_some w.total some)) in
+pub free_walked : (start : ℕ) (items : List Item) (block from at free gap probes : ℕ) (before rest : List Item) (t : ℕ) → AreSpaced items → 8 ≤ t
+    → IsWalkedTo start items block before (Free t ∷ rest) from at free gap probes → at + 4 ≤ block
+    → IsWalkedTo start items block before rest from (at + t) (next_free (at + t) rest 0) t (probes + 1)
+free_walked start items block from at free gap probes before rest t spaced size w low =
+    let none : gap ≡ 0 = gap_shut before gap t rest (subst AreSpaced w.split spaced) in
+    let some : t ≢ 0 = λ (e : t ≡ 0). omega arith in
+    let front : before ++ left_free gap ≡ before = gap_none gap before none in
+    let joined : (before ++ left_free gap) ++ Free t ∷ rest ≡ (before ++ left_free t) ++ rest =
+    ap (λ (ys : List Item). ys ++ Free t ∷ rest) front ∙ sym (append_assoc before (Free t ∷ []) rest)
+    ∙ ap (λ (ys : List Item). (before ++ ys) ++ rest) (sym (gap_some t some)) in
     record {
-      before = w.before;
-      rest = w.rest;
-      walk = record {
-        split = w.walk.split ∙ joined;
-        place = omega (arith, w.walk.place, size_of-gap w.before gap, size_of-gap w.before w.total);
-        last = w.walk.last;
-        next = refl;
-        closed = w.walk.closed;
-        absent = λ h. w.walk.absent (released_free-none block at w.total w.rest h);
-        found = λ ys h. w.walk.found (freed w.total ys) (released_free block at w.total w.rest ys h)
-            ∙ ap (λ (zs : List Item). Some (w.before ++ zs)) (glued_none gap (freed w.total ys) none ∙ sym (glued_some w.total ys some));
-        count = omega (arith, w.walk.count, (begun_more block at w.total w.rest low).1);
-      };
+      split = w.split ∙ joined;
+      place = omega (arith, w.place, size_of-gap before gap, size_of-gap before t);
+      last = w.last;
+      next = refl;
+      closed = w.closed;
+      absent = λ h. w.absent (released_free-none block at t rest h);
+      found = λ ys h. w.found (freed t ys) (released_free block at t rest ys h)
+          ∙ ap (λ (zs : List Item). Some (before ++ zs)) (glued_none gap (freed t ys) none ∙ sym (glued_some t ys some));
+      count = omega (arith, w.count, (begun_more block at t rest low).1);
     }
+
+pub free_passed : (m : AddressMap) (start end block from at free gap probes : ℕ) → IsHeapAt m start end
+    → (w : AtFree m start end block from at free gap probes) → at + 4 ≤ block
+    → IsWalked start (items_at m start) block from (at + w.total) (next_free (at + w.total) w.rest 0) w.total (probes + 1)
+free_passed m start end block from at free gap probes heap w low = record {
+  before = w.before;
+  rest = w.rest;
+  walk = free_walked start (items_at m start) block from at free gap probes w.before w.rest w.total heap.spaced w.facts.size w.walk low;
+}
 
 -- a block is passed
 gap_closed : (before : List Item) (gap t : ℕ) → AreSpaced before → AreSpaced ((before ++ left_free gap) ++ Live t ∷ [])
@@ -287,27 +298,31 @@ gap_glued before gap t ys = elim (cases_Bool (gap == 0)) [
   | inr some ↦ rw (some, append_assoc before (Free gap ∷ []) (Live t ∷ [])) (sym (append_assoc before (Free gap ∷ (Live t ∷ [])) ys))
 ]
 
-pub live_passed : (m : AddressMap) (start end block from at free gap probes : ℕ)
-    → (w : AtLive m start end block from at free gap probes) → at < block → at + 4 ≢ block
-    → IsWalked start (items_at m start) block (last_link from at gap) (at + w.total) free 0 (probes + 1)
-live_passed m start end block from at free gap probes w low other =
-    let front : List Item = (w.before ++ left_free gap) ++ Live w.total ∷ [] in
-    let size : size_of front ≡ size_of (w.before ++ left_free gap) + (w.total + 0) = size_of-append (w.before ++ left_free gap) (Live w.total ∷ []) in
+pub live_walked : (start : ℕ) (items : List Item) (block from at free gap probes : ℕ) (before rest : List Item) (t : ℕ)
+    → IsWalkedTo start items block before (Live t ∷ rest) from at free gap probes → at + 4 < block
+    → IsWalkedTo start items block ((before ++ left_free gap) ++ Live t ∷ []) rest (last_link from at gap) (at + t) free 0 (probes + 1)
+live_walked start items block from at free gap probes before rest t w low =
+    let other : at + 4 ≢ block = λ (e : at + 4 ≡ block). omega arith in
+    let front : List Item = (before ++ left_free gap) ++ Live t ∷ [] in
+    let size : size_of front ≡ size_of (before ++ left_free gap) + (t + 0) = size_of-append (before ++ left_free gap) (Live t ∷ []) in
     let none : front ++ [] ≡ front = append-nil front in
-    let place : at + w.total ≡ start + 16 + size_of front = omega (arith, w.walk.place) in
+    let place : at + t ≡ start + 16 + size_of front = omega (arith, w.place) in
     record {
-      before = front;
-      rest = w.rest;
-      walk = record {
-        split = w.walk.split ∙ sym (append_assoc (w.before ++ left_free gap) (Live w.total ∷ []) w.rest)
-            ∙ ap (λ (ys : List Item). ys ++ w.rest) (sym none);
-        place = place ∙ ap (λ (ys : List Item). start + 16 + size_of ys) (sym none);
-        last = gap_last start w.before from at gap w.total w.walk.last w.walk.place;
-        next = w.walk.next;
-        closed = gap_closed w.before gap w.total w.walk.closed;
-        absent = λ h. w.walk.absent (released_live-none block at w.total w.rest other h);
-        found = λ ys h. w.walk.found (Live w.total ∷ ys) (released_live block at w.total w.rest ys other h)
-            ∙ ap (λ (zs : List Item). Some zs) (gap_glued w.before gap w.total ys);
-        count = omega (arith, w.walk.count, (begun_more block at w.total w.rest low).0);
-      };
+      split = w.split ∙ sym (append_assoc (before ++ left_free gap) (Live t ∷ []) rest) ∙ ap (λ (ys : List Item). ys ++ rest) (sym none);
+      place = place ∙ ap (λ (ys : List Item). start + 16 + size_of ys) (sym none);
+      last = gap_last start before from at gap t w.last w.place;
+      next = w.next;
+      closed = gap_closed before gap t w.closed;
+      absent = λ h. w.absent (released_live-none block at t rest other h);
+      found = λ ys h. w.found (Live t ∷ ys) (released_live block at t rest ys other h) ∙ ap (λ (zs : List Item). Some zs) (gap_glued before gap t ys);
+      count = omega (arith, w.count, (begun_more block at t rest (omega arith)).0);
     }
+
+pub live_passed : (m : AddressMap) (start end block from at free gap probes : ℕ)
+    → (w : AtLive m start end block from at free gap probes) → at + 4 < block
+    → IsWalked start (items_at m start) block (last_link from at gap) (at + w.total) free 0 (probes + 1)
+live_passed m start end block from at free gap probes w low = record {
+  before = (w.before ++ left_free gap) ++ Live w.total ∷ [];
+  rest = w.rest;
+  walk = live_walked start (items_at m start) block from at free gap probes w.before w.rest w.total w.walk low;
+}

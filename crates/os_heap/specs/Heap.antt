@@ -3,11 +3,13 @@
 use Rattle.std.specs.Prelude.{ℕ, ◌≡◌, ◌≤◌, Bool, true, false, ◌+◌, ◌-◌, ◌%◌, List, [], ◌∷◌}
 use Rattle.address_map.specs.declared.item.Item.{Item}
 use Rattle.address_map.specs.declared.item.Item.TheVariants.{Live, Free}
+use Rattle.address_map.specs.declared.region.Kind.{Kind}
 use Rattle.address_map.specs.Items.{size_of, is_total}
 use Rattle.address_map.specs.Bytes.{Bytes, AreMapped, word_at, with_word_at}
 
--- a heap as a list: `end` counts from its start, as its items do from 16 on
+-- a heap as a list: its kind tells whether a guest made it or it is the module area, and `end` counts from its start, as its items do from 16 on
 pub record Part : Type 0 where
+  pub kind : Kind
   pub start : ℕ
   pub end : ℕ
   pub items : List Item
@@ -63,10 +65,10 @@ with_heads bytes at (Live t ∷ xs) other = with_word_at (with_heads bytes (at +
 with_heads bytes at (Free t ∷ xs) other = with_word_at (with_word_at (with_heads bytes (at + t) xs other) (at + 4) t) at (next_free (at + t) xs other - at)
 
 -- the bytes after all words of a heap were written over them
-abbrev pub with_part : (ℕ → ℕ) → Part → ℕ → ℕ
-with_part bytes h =
-    with_word_at (with_word_at (with_word_at (with_word_at (with_heads bytes (h.start + 16) h.items 0)
-    h.start 0x70616548)
-    (h.start + 4) (next_free (h.start + 16) h.items 0 - h.start))
-    (h.start + 8) (16 + size_of h.items))
-    (h.start + 12) h.end
+abbrev pub with_part : (ℕ → ℕ) → ℕ → ℕ → List Item → ℕ → ℕ
+with_part bytes start end items =
+    with_word_at (with_word_at (with_word_at (with_word_at (with_heads bytes (start + 16) items 0)
+    start 0x70616548)
+    (start + 4) (next_free (start + 16) items 0 - start))
+    (start + 8) (16 + size_of items))
+    (start + 12) end

@@ -1,6 +1,6 @@
 -- What the heap calls do to a heap's list of items (RISC OS 3 Programmer's Reference Manual, "OS_Heap", reasons 1 to 3; that the first block that
 -- fits is taken, and the rounding of lengths, are this project's own). Nothing here speaks of words or links.
-use Rattle.std.specs.Prelude.{ℕ, ◌+◌, ◌-◌, ◌*◌, ◌/◌, ◌==◌, nat_le, nat_lt, Option, Some, None, List, [], ◌∷◌, ◌++◌, if◌then◌else◌}
+use Rattle.std.specs.Prelude.{ℕ, ◌+◌, ◌-◌, ◌*◌, ◌/◌, ◌==◌, nat_le, Option, Some, None, List, [], ◌∷◌, ◌++◌, if◌then◌else◌}
 use Rattle.std.specs.Option.{option_map}
 use Rattle.address_map.specs.declared.item.Item.{Item}
 use Rattle.address_map.specs.declared.item.Item.TheVariants.{Live, Free}
@@ -61,6 +61,10 @@ freed n [] = []
 freed n (Live t ∷ xs) = Free n ∷ (Live t ∷ xs)
 freed n (Free t ∷ xs) = Free (n + t) ∷ xs
 
+-- a free item of `gap` bytes before a list, which it joins where that begins with a free one; none where `gap` is 0
+abbrev pub glued : ℕ → List Item → List Item
+glued gap xs = if gap == 0 then xs else freed gap xs
+
 -- The block whose bytes begin at the address `block` is given back, where the first item is at `at`; none, if there is no such block.
 abbrev pub released : ℕ → ℕ → List Item → Option (List Item)
 released block at [] = None
@@ -69,11 +73,12 @@ released block at (Live t ∷ xs) = if at + 4 == block
     else option_map (λ ys. Live t ∷ ys) (released block (at + t) xs)
 released block at (Free t ∷ xs) = option_map (λ ys. freed t ys) (released block (at + t) xs)
 
--- the items that begin below the address `block`, where the first is at `at`: a walk to that block passes them
+-- the items that begin at least 4 bytes below the address `block`, where the first is at `at`: a walk to that block passes them, and the block
+-- itself too, since its bytes begin behind its length word
 abbrev pub begun_below : ℕ → ℕ → List Item → ℕ
 begun_below block at [] = 0
-begun_below block at (Live t ∷ xs) = if nat_lt at block then 1 + begun_below block (at + t) xs else 0
-begun_below block at (Free t ∷ xs) = if nat_lt at block then 1 + begun_below block (at + t) xs else 0
+begun_below block at (Live t ∷ xs) = if nat_le (at + 4) block then 1 + begun_below block (at + t) xs else 0
+begun_below block at (Free t ∷ xs) = if nat_le (at + 4) block then 1 + begun_below block (at + t) xs else 0
 
 -- the bytes of all free items, the most of one, and how many there are
 abbrev pub free_total : List Item → ℕ

@@ -1,5 +1,5 @@
 -- A walk from item to item to a block that is given back, and the joins that follow.
-use Rattle.std.specs.Prelude.{ℕ, ◌≡◌, ◌+◌, ◌-◌, ◌==◌, Option, Some, None, Result, Ok, Err, List, ◌∷◌, ◌++◌, if◌then◌else◌}
+use Rattle.std.specs.Prelude.{ℕ, ◌≡◌, true, is_some, ◌+◌, ◌-◌, ◌==◌, Option, Some, None, Result, Ok, Err, List, ◌∷◌, ◌++◌, if◌then◌else◌}
 use Rattle.profile.specs.declared.error.ErrorNumber.{ErrorNumber}
 use Rattle.profile.specs.declared.error.ErrorNumber.TheVariants.{HeapNotABlock}
 use Rattle.address_map.specs.declared.item.Item.{Item}
@@ -7,12 +7,9 @@ use Rattle.address_map.specs.declared.item.Item.TheVariants.{Live}
 use Rattle.address_map.specs.declared.map.AddressMap.{AddressMap}
 use Rattle.address_map.specs.Items.{size_of}
 use Rattle.os_heap.specs.Heap.{next_free, AreSpaced}
-use Rattle.os_heap.specs.Lists.{left_free, freed, released, begun_below}
+use Rattle.os_heap.specs.Lists.{left_free, freed, glued, released, begun_below}
 use Rattle.os_heap.specs.Links.{last_free, Becomes}
-
--- a free item of `gap` bytes before a list, which it joins where that begins with a free one; none where `gap` is 0
-abbrev pub glued : ℕ → List Item → List Item
-glued gap xs = if gap == 0 then xs else freed gap xs
+use Rattle.os_heap.specs.Resizes.{live_total, free_below}
 
 -- the last free item, where one of `gap` bytes ends at `at`
 abbrev pub last_link : ℕ → ℕ → ℕ → ℕ
@@ -35,6 +32,15 @@ pub record IsWalked (start : ℕ) (items : List Item) (block from at free gap pr
   pub rest : List Item
   pub walk : IsWalkedTo start items block before rest from at free gap probes
 
+-- A walk along the links to a block that is there: it has passed `probes` free items, and the items between them unseen.
+pub record IsLinked (start : ℕ) (items : List Item) (block from at free gap probes : ℕ) : Type 0 where
+  pub passed : ℕ
+  pub before : List Item
+  pub rest : List Item
+  pub walk : IsWalkedTo start items block before rest from at free gap passed
+  pub live : is_some (live_total block at rest) ≡ true
+  pub count : probes + free_below block at rest ≡ free_below block (start + 16) items
+
 -- the walk's end is the block
 pub record IsBlock (start : ℕ) (items : List Item) (block from at free gap : ℕ) : Type 0 where
   pub before : List Item
@@ -42,6 +48,7 @@ pub record IsBlock (start : ℕ) (items : List Item) (block from at free gap : �
   pub rest : List Item
   pub split : items ≡ (before ++ left_free gap) ++ Live total ∷ rest
   pub place : at ≡ start + 16 + size_of (before ++ left_free gap)
+  pub here : at + 4 ≡ block
   pub last : from ≡ last_free start (start + 16) before
   pub next : free ≡ next_free (at + total) rest 0
   pub closed : AreSpaced before

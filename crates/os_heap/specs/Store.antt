@@ -6,6 +6,8 @@ use Rattle.std.specs.List.{list_any}
 use Rattle.profile.specs.declared.error.ErrorNumber.{ErrorNumber}
 use Rattle.profile.specs.declared.error.ErrorNumber.TheVariants.{HeapBadDesc, HeapBadRegion, HeapOverlaps, HeapTableFull, HeapNotABlock, HeapNoRoom}
 use Rattle.address_map.specs.declared.item.Item.{Item}
+use Rattle.address_map.specs.declared.region.Kind.{Kind}
+use Rattle.address_map.specs.declared.region.Kind.TheVariants.{Heap}
 use Rattle.address_map.specs.declared.region.Region.{Region}
 use Rattle.address_map.specs.declared.map.AddressMap.{AddressMap}
 use Rattle.address_map.specs.Bytes.{Bytes, in_range, word_at, word_start}
@@ -23,7 +25,7 @@ pub record Store : Type 0 where
 
 -- The store that a map stands for: the heaps are those that its words spell at the recorded places.
 abbrev pub part_in : Bytes → Region → Part
-part_in b r = record { start = r.at; end = r.len; items = items_in (word_at b.at) r.at }
+part_in b r = record { kind = r.kind; start = r.at; end = r.len; items = items_in (word_at b.at) r.at }
 
 abbrev pub parts_in : Bytes → List Region → List Part
 parts_in b [] = []
@@ -72,12 +74,12 @@ find_part start (h ∷ hs) = if h.start == start then Some h else find_part star
 abbrev pub with_items : ℕ → List Item → List Part → List Part
 with_items start items [] = []
 with_items start items (h ∷ hs) =
-    (if h.start == start then record { start = h.start; end = h.end; items = items } else h) ∷ with_items start items hs
+    (if h.start == start then record { kind = h.kind; start = h.start; end = h.end; items = items } else h) ∷ with_items start items hs
 
 -- the store after a heap got another list
 abbrev pub holding : Store → Part → List Item → Store
 holding s h items = record {
-  bytes = record { mapped = s.bytes.mapped; at = with_part s.bytes.at (record { start = h.start; end = h.end; items = items }) };
+  bytes = record { mapped = s.bytes.mapped; at = with_part s.bytes.at h.start h.end items };
   heaps = with_items h.start items s.heaps;
   others = s.others;
 }
@@ -132,17 +134,17 @@ meets at len other other_len = nat_lt 0 other_len && (nat_lt at (other + other_l
 abbrev pub meets_any : ℕ → ℕ → Store → Bool
 meets_any at len s = list_any (λ h. meets at len h.start h.end) s.heaps || list_any (λ r. meets at len r.at r.len) s.others
 
-abbrev pub begun_with : Store → ℕ → ℕ → Store
-begun_with s at size =
-    let h : Part = record { start = at; end = size; items = [] } in
-    record { bytes = record { mapped = s.bytes.mapped; at = with_part s.bytes.at h }; heaps = s.heaps ++ h ∷ []; others = s.others }
+abbrev pub begun_with : Kind → Store → ℕ → ℕ → Store
+begun_with kind s at size =
+    let h : Part = record { kind = kind; start = at; end = size; items = [] } in
+    record { bytes = record { mapped = s.bytes.mapped; at = with_part s.bytes.at at size [] }; heaps = s.heaps ++ h ∷ []; others = s.others }
 
 unfoldable pub begun : Store → ℕ → ℕ → Result Store ErrorNumber
 begun s at size =
     if not (is_heap_region s.bytes at size) then Err HeapBadRegion else (
     if meets_any at size s then Err HeapOverlaps else (
     if nat_le 65 (length s.heaps) then Err HeapTableFull else
-    Ok (begun_with s at size)))
+    Ok (begun_with Heap s at size)))
 
 -- What the calls look at: free items along the links of a search, items passed in a walk. Where there is no heap, none.
 abbrev pub counted_of : (Part → ℕ) → Option Part → ℕ
@@ -152,8 +154,8 @@ counted_of count (Some h) = count h
 unfoldable pub get_probes : Store → ℕ → ℕ → ℕ
 get_probes s heap size = counted_of (λ h. looked_at (total_for size) h.items) (find_part heap s.heaps)
 
-unfoldable pub free_probes : Store → ℕ → ℕ → ℕ
-free_probes s heap block = counted_of (λ h. begun_below block (h.start + 16) h.items) (find_part heap s.heaps)
+unfoldable pub walk_probes : Store → ℕ → ℕ → ℕ
+walk_probes s heap block = counted_of (λ h. begun_below block (h.start + 16) h.items) (find_part heap s.heaps)
 
 unfoldable pub describe_probes : Store → ℕ → ℕ
 describe_probes s heap = counted_of (λ h. free_count h.items) (find_part heap s.heaps)

@@ -80,7 +80,7 @@ fn take(map: &mut AddressMap, heap: u32, fit: &Fit, needed: u32) -> u32
 fn append(map: &mut AddressMap, heap: u32, needed: u64) -> Result<u32, ErrorNumber>
     requires heap { HasHeapAt map.old heap }
     requires total { is_total needed ≡ true }
-    requires small { needed < 2 ^ 33 }
+    requires small { needed < 2 ^ 34 }
     ensures { Claims map.old map.new heap (end_at map.old heap) result (or_at_base needed (end_at map.old heap - 16) (items_at map.old heap) None) }
 {
     let base = word(map, heap + 8);
@@ -94,14 +94,15 @@ fn append(map: &mut AddressMap, heap: u32, needed: u64) -> Result<u32, ErrorNumb
     Ok(heap + base + 4)
 }
 
-/// Claims a block in one heap.
+/// Claims a block of `needed` bytes in one heap, its length word among them.
 #[tactic(auto, unfolding(crate::specs::Lists::claimed))]
-fn claim(map: &mut AddressMap, heap: u32, size: u32) -> Counted<u32>
-    requires { HasHeapAt map.old heap }
-    ensures claim { Claims map.old map.new heap (end_at map.old heap) result.answer (claimed (total_for size) (end_at map.old heap - 16) (items_at map.old heap)) }
-    ensures probes { result.probes ≡ looked_at (total_for size) (items_at map.old heap) }
+pub(crate) fn claim_total(map: &mut AddressMap, heap: u32, needed: u64) -> Counted<u32>
+    requires heap { HasHeapAt map.old heap }
+    requires total { is_total needed ≡ true }
+    requires small { needed < 2 ^ 34 }
+    ensures claim { Claims map.old map.new heap (end_at map.old heap) result.answer (claimed needed (end_at map.old heap - 16) (items_at map.old heap)) }
+    ensures probes { result.probes ≡ looked_at needed (items_at map.old heap) }
 {
-    let needed = total_for(size);
     let search = find_fit(map, heap, needed);
     match search.fit {
         Some(fit) => {
@@ -136,7 +137,7 @@ impl Heaps {
         ensures probes { result.probes ≡ get_probes (store_of map.old) heap size }
     {
         match find(map, heap) {
-            Some(_) => claim(map, heap, size),
+            Some(_) => claim_total(map, heap, total_for(size)),
             None => Counted {
                 answer: Err(ErrorNumber::HeapBadDesc),
                 probes: 0,

@@ -1,9 +1,8 @@
 ghost use Rattle.std.specs.Prelude.{◌≡◌, Some, None, MatchOption};
 ghost use Rattle.address_map.specs.Memory.{bytes_of};
-ghost use Rattle.address_map.specs.Records.{is_heap_kind};
 ghost use Rattle.os_heap.specs.Store.{store_of, part_in, find_part};
 
-use address_map::{AddressMap, Kind, Region};
+use address_map::{AddressMap, Region};
 
 /// The heaps of a machine. Their starts stand in the record of the address map, and all else of them in the words of memory alone.
 #[derive(Clone, Copy, Debug, Default)]
@@ -23,16 +22,9 @@ pub(crate) fn find(map: &AddressMap, heap: u32) -> Option<Region>
 {
     let regions = map.regions();
     for region in regions {
-        if region.at == heap && is_heap(region.kind) {
+        if region.at == heap && region.kind.is_heap() {
             return Some(*region);
         }
     }
     None
-}
-
-/// Whether a range of that kind is a heap.
-pub(crate) fn is_heap(kind: Kind) -> bool
-    ensures { result ≡ is_heap_kind kind }
-{
-    matches!(kind, Kind::Heap | Kind::Rma)
 }

@@ -4,18 +4,19 @@ ghost use Rattle.profile.specs.Outcome.{Leaves};
 ghost use Rattle.address_map.specs.Bytes.{Bytes, AreMapped};
 ghost use Rattle.address_map.specs.Memory.{place, byte_at, is_mapped, bytes_of, layout, free_pages, free_runs};
 ghost use Rattle.address_map.specs.Records.{is_heap_kind};
+ghost use Rattle.address_map.specs.declared.region.Kind.TheVariants.{Rma};
 ghost use Rattle.os_heap.specs.Begin.{MayBegin};
 ghost use Rattle.os_heap.specs.Heap.{with_part};
 ghost use Rattle.os_heap.specs.Store.{store_of, parts_in, IsSound, is_heap_region, meets, meets_any, begun, begun_with};
 
 use crate::counted::Counted;
-use crate::heaps::{Heaps, is_heap};
+use crate::heaps::Heaps;
 use address_map::{AddressMap, Kind, Region};
 use profile::ErrorNumber;
 use profile::memory_map::{HEAP_DESCRIPTOR, HEAP_NAME};
 
 /// The most bytes of a heap.
-const MOST_HEAP: u32 = 16_777_216;
+pub(crate) const MOST_HEAP: u32 = 16_777_216;
 
 /// The most heaps: 64, and the module area.
 const MOST_HEAPS: usize = 65;
@@ -47,7 +48,7 @@ impl Heaps {
     pub fn init_module_area(&self, map: &mut AddressMap, area: u32, size: u32)
         requires may { MayBegin (store_of map.old) area size }
         requires sound { IsSound (store_of map.old) }
-        ensures store { store_of map.new ≡ begun_with (store_of map.old) area size }
+        ensures store { store_of map.new ≡ begun_with Rma (store_of map.old) area size }
         ensures sound { IsSound (store_of map.new) }
         ensures place { place map.new ≡ place map.old }
         ensures pages { free_pages map.new ≡ free_pages map.old }
@@ -76,7 +77,7 @@ fn make(map: &mut AddressMap, kind: Kind, heap: u32, size: u32)
     requires kind { is_heap_kind kind ≡ true }
     requires may { MayBegin (store_of map.old) heap size }
     requires sound { IsSound (store_of map.old) }
-    ensures store { store_of map.new ≡ begun_with (store_of map.old) heap size }
+    ensures store { store_of map.new ≡ begun_with kind (store_of map.old) heap size }
     ensures sound { IsSound (store_of map.new) }
     ensures place { place map.new ≡ place map.old }
     ensures pages { free_pages map.new ≡ free_pages map.old }
@@ -91,7 +92,7 @@ fn write_descriptor(map: &mut AddressMap, heap: u32, size: u32)
     requires aligned { heap % 4 ≡ 0 }
     requires room { 16 ≤ size }
     requires mapped { AreMapped (is_mapped map.old) heap size }
-    ensures bytes { (a : ℕ) → byte_at map.new a ≡ with_part (byte_at map.old) (record { start = heap; end = size; items = [] }) a }
+    ensures bytes { (a : ℕ) → byte_at map.new a ≡ with_part (byte_at map.old) heap size [] a }
     ensures layout { layout map.new ≡ layout map.old }
 {
     map.put_word(heap, HEAP_NAME);
@@ -117,7 +118,7 @@ fn may_begin(map: &AddressMap, heap: u32, size: u32) -> Result<(), ErrorNumber>
 }
 
 /// Whether a range is one that a heap may have: of whole words, with a size in the limits, and mapped.
-fn is_heap_region(map: &AddressMap, heap: u32, size: u32) -> bool
+pub(crate) fn is_heap_region(map: &AddressMap, heap: u32, size: u32) -> bool
     ensures { result ≡ is_heap_region (bytes_of map.now) heap size }
 {
     if heap % 4 != 0 || size % 4 != 0 {
@@ -130,7 +131,7 @@ fn is_heap_region(map: &AddressMap, heap: u32, size: u32) -> bool
 }
 
 /// Whether a range meets a recorded one.
-fn meets_any(map: &AddressMap, heap: u32, size: u32) -> bool
+pub(crate) fn meets_any(map: &AddressMap, heap: u32, size: u32) -> bool
     ensures { result ≡ meets_any heap size (store_of map.now) }
 {
     meets_regions(map.regions(), heap, size)
@@ -170,7 +171,7 @@ fn count_regions(regions: &[Region]) -> usize
 {
     let mut count = 0;
     for region in regions {
-        if is_heap(region.kind) {
+        if region.kind.is_heap() {
             count += 1;
         }
     }

@@ -2,6 +2,7 @@
 #![tactic(auto)]
 
 pub mod blocks;
+pub mod change;
 mod claim;
 pub mod counted;
 pub mod describe;
@@ -9,6 +10,12 @@ mod free;
 pub mod heaps;
 pub mod init;
 mod links;
+mod refit;
+mod relocate;
+pub mod resize;
+pub mod size;
+mod sums;
+mod walk;
 mod words;
 
 pub use address_map::Item;
@@ -18,5 +25,9 @@ pub use heaps::Heaps;
 
 #[cfg(test)]
 mod block_tests;
+#[cfg(test)]
+mod change_tests;
+#[cfg(test)]
+mod resize_tests;
 #[cfg(test)]
 mod tests;

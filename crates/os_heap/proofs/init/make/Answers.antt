@@ -5,7 +5,7 @@ use Rattle.address_map.proofs.Equations.{same_bytes}
 use Rattle.os_heap.specs.Heap.{with_part}
 use Rattle.os_heap.specs.Store.{store_of, IsSound, begun_with}
 use Rattle.os_heap.proofs.Frame.{layout-regions}
-use Rattle.os_heap.proofs.Added.{CanHold, can_hold, empty, range_end, records_room, recorded, store_begun, begun_sound}
+use Rattle.os_heap.proofs.Added.{CanHold, can_hold, range_end, records_room, recorded, store_begun, begun_sound}
 use Rattle.os_heap.proofs.init.make.Goals as goal
 
 pub write_descriptor-requires-clause-aligned : goal.write_descriptor-requires-clause-aligned
@@ -41,11 +41,11 @@ returns-clause-store c =
     c.own.ensures.regions ∙ recorded (regions c.write_descriptor.new.map) c.args.kind c.args.heap c.args.size c.requires.kind ∙ ap (λ rs. rs ++ r ∷ []) (layout-regions _ _ c.write_descriptor.ensures.layout) in
     let moved : bytes_of c.own.new.self ≡ bytes_of c.write_descriptor.new.map =
     λ i. record { mapped = λ a. is_some (c.own.ensures.place i a); at = c.own.ensures.bytes i } in
-    let written = same_bytes c.args.map.now c.write_descriptor.new.map (with_part (byte_at c.args.map.now) (empty c.args.heap c.args.size))
+    let written = same_bytes c.args.map.now c.write_descriptor.new.map (with_part (byte_at c.args.map.now) c.args.heap c.args.size [])
     c.write_descriptor.ensures.layout c.write_descriptor.ensures.bytes in
     store_begun c.args.map.now c.own.new.self c.args.kind c.args.heap c.args.size c.requires.kind c.requires.may c.requires.sound records (moved ∙ written)
 
 pub returns-clause-sound : goal.returns-clause-sound
 returns-clause-sound c =
-    let store : store_of c.own.new.self ≡ begun_with (store_of c.args.map.now) c.args.heap c.args.size = returns-clause-store c in
-    subst IsSound (sym store) (begun_sound (store_of c.args.map.now) c.args.heap c.args.size c.requires.may c.requires.sound)
+    let store : store_of c.own.new.self ≡ begun_with c.args.kind (store_of c.args.map.now) c.args.heap c.args.size = returns-clause-store c in
+    subst IsSound (sym store) (begun_sound c.args.kind (store_of c.args.map.now) c.args.heap c.args.size c.requires.may c.requires.sound)

@@ -3,17 +3,17 @@ use Rattle.os_heap.proofs.Calls.{found_part, heap_there, free_left, free_refused
 use Rattle.os_heap.proofs.heaps.Heaps.free.Goals as goal
 
 pub release-requires : goal.release-requires
-release-requires c = heap_there c.args.map.now c.args.heap c.in-Some.field-0.len c.requires (found_part c.args.map.now c.args.heap c.in-Some.field-0 c.in-Some.ensures)
+release-requires c = heap_there c.in-Some.field-0.kind c.args.map.now c.args.heap c.in-Some.field-0.len c.requires (found_part c.args.map.now c.args.heap c.in-Some.field-0 c.in-Some.ensures)
 
 pub returns-in-Some : goal.returns-in-Some
 returns-in-Some c =
     let found = found_part c.args.map.now c.args.heap c.in-Some.field-0 c.in-Some.ensures in
-    let g = free_left c.args.map.now _ c.args.heap c.args.block c.in-Some.field-0.len _ c.requires found c.release.ensures.release in
+    let g = free_left c.in-Some.field-0.kind c.args.map.now _ c.args.heap c.args.block c.in-Some.field-0.len _ c.requires found c.release.ensures.release in
     record {
       store = g.store;
       sound = g.sound;
       layout = g.same;
-      probes = c.release.ensures.probes ∙ sym (free_counted c.args.map.now c.args.heap c.args.block c.in-Some.field-0.len found);
+      probes = c.release.ensures.probes ∙ sym (free_counted c.in-Some.field-0.kind c.args.map.now c.args.heap c.args.block c.in-Some.field-0.len found);
     }
 
 pub returns-in-None : goal.returns-in-None

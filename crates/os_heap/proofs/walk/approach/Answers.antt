@@ -3,7 +3,7 @@ use Rattle.os_heap.specs.Links.{end_at}
 use Rattle.os_heap.proofs.Replace.{heap_below}
 use Rattle.os_heap.proofs.Searching.{first_link, first_below}
 use Rattle.os_heap.proofs.Walking.{walk_begun}
-use Rattle.os_heap.proofs.free.approach.Goals as goal
+use Rattle.os_heap.proofs.walk.approach.Goals as goal
 
 pub overflow_add-heap : goal.overflow_add-heap
 overflow_add-heap c =

@@ -1,7 +1,7 @@
 use Rattle.std.proofs.Common.{◌-◌, ◌^◌}
 use Rattle.os_heap.specs.Links.{items_at}
 use Rattle.os_heap.specs.Releases.{IsWalked}
-use Rattle.os_heap.proofs.free.approach.Given as goal
+use Rattle.os_heap.proofs.walk.approach.Given as goal
 
 abbrev pub invariant-loop-cursor : goal.invariant-loop-cursor
 invariant-loop-cursor l = IsWalked l.heap (items_at l.map l.heap) l.block l.cursor.from l.cursor.at l.cursor.free l.cursor.gap l.cursor.probes

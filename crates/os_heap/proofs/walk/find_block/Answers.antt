@@ -2,8 +2,8 @@ use Rattle.std.proofs.Common.{arith}
 use Rattle.os_heap.specs.Links.{end_at}
 use Rattle.os_heap.proofs.Replace.{heap_below}
 use Rattle.os_heap.proofs.Walking.{walk_free, walk_live, begun_few}
-use Rattle.os_heap.proofs.Freeing.{near, walk_over, walk_past, free_ends, live_ends, block_found}
-use Rattle.os_heap.proofs.free.find_block.Goals as goal
+use Rattle.os_heap.proofs.Freeing.{near, walk_over, walk_past, free_ends, block_found}
+use Rattle.os_heap.proofs.walk.find_block.Goals as goal
 
 pub overflow_add-heap : goal.overflow_add-heap
 overflow_add-heap c =
@@ -43,27 +43,16 @@ returns-then-cursor-clause-probes c =
     let f = walk_free c.args.map.now c.args.heap (end_at c.args.map.now c.args.heap) c.args.block _ _ _ _ _ c.requires c.approach-cursor.ensures.walk (omega (arith, c.word.ensures)) c.if-cursor.true in
     (free_ends c.args.map.now c.args.heap (end_at c.args.map.now c.args.heap) c.args.block _ _ _ _ _ f c.if-cursor-block.false (near c.args.block c.approach-cursor.result.at _ c.approach-cursor.ensures.end (omega (arith, c.word.ensures)))).1
 
-pub overflow_add-cursor : goal.overflow_add-cursor
-overflow_add-cursor c =
-    let f = walk_live c.args.map.now c.args.heap (end_at c.args.map.now c.args.heap) c.args.block _ _ _ _ _ c.requires c.approach-cursor.ensures.walk (omega (arith, c.word.ensures)) c.if-cursor.false in
-    omega (arith, f.facts.high, f.facts.top, f.facts.size)
-
-pub returns-then-cursor-block-2-clause-block : goal.returns-then-cursor-block-2-clause-block
-returns-then-cursor-block-2-clause-block c =
-    let f = walk_live c.args.map.now c.args.heap (end_at c.args.map.now c.args.heap) c.args.block _ _ _ _ _ c.requires c.approach-cursor.ensures.walk (omega (arith, c.word.ensures)) c.if-cursor.false in
-    (live_ends c.args.map.now c.args.heap (end_at c.args.map.now c.args.heap) c.args.block _ _ _ _ _ f c.if-cursor-block.false (near c.args.block c.approach-cursor.result.at _ c.approach-cursor.ensures.end (omega (arith, c.word.ensures))) c.if-cursor-block-2.true).0
-
-pub returns-then-cursor-block-2-clause-probes : goal.returns-then-cursor-block-2-clause-probes
-returns-then-cursor-block-2-clause-probes c =
-    let f = walk_live c.args.map.now c.args.heap (end_at c.args.map.now c.args.heap) c.args.block _ _ _ _ _ c.requires c.approach-cursor.ensures.walk (omega (arith, c.word.ensures)) c.if-cursor.false in
-    (live_ends c.args.map.now c.args.heap (end_at c.args.map.now c.args.heap) c.args.block _ _ _ _ _ f c.if-cursor-block.false (near c.args.block c.approach-cursor.result.at _ c.approach-cursor.ensures.end (omega (arith, c.word.ensures))) c.if-cursor-block-2.true).1
-
 pub returns-clause-block : goal.returns-clause-block
 returns-clause-block c =
     let f = walk_live c.args.map.now c.args.heap (end_at c.args.map.now c.args.heap) c.args.block _ _ _ _ _ c.requires c.approach-cursor.ensures.walk (omega (arith, c.word.ensures)) c.if-cursor.false in
-    (block_found c.args.map.now c.args.heap (end_at c.args.map.now c.args.heap) c.args.block _ _ _ _ _ f c.if-cursor-block-2.false).0
+    (block_found c.args.map.now c.args.heap (end_at c.args.map.now c.args.heap) c.args.block _ _ _ _ _ f (omega (arith, c.if-cursor-block.false, near c.args.block c.approach-cursor.result.at _ c.approach-cursor.ensures.end (omega (arith, c.word.ensures))))).0
 
 pub returns-clause-probes : goal.returns-clause-probes
 returns-clause-probes c =
     let f = walk_live c.args.map.now c.args.heap (end_at c.args.map.now c.args.heap) c.args.block _ _ _ _ _ c.requires c.approach-cursor.ensures.walk (omega (arith, c.word.ensures)) c.if-cursor.false in
-    (block_found c.args.map.now c.args.heap (end_at c.args.map.now c.args.heap) c.args.block _ _ _ _ _ f c.if-cursor-block-2.false).1
+    (block_found c.args.map.now c.args.heap (end_at c.args.map.now c.args.heap) c.args.block _ _ _ _ _ f (omega (arith, c.if-cursor-block.false, near c.args.block c.approach-cursor.result.at _ c.approach-cursor.ensures.end (omega (arith, c.word.ensures))))).1
+
+pub overflow_add-cursor : goal.overflow_add-cursor
+overflow_add-cursor c =
+    omega (arith, heap_below c.args.map.now c.args.heap (end_at c.args.map.now c.args.heap) _ c.requires, c.requires.inside, c.word.ensures, c.requires.base, c.if-cursor-base.false)

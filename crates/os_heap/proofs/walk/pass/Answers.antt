@@ -2,7 +2,7 @@ use Rattle.std.proofs.Common.{◌+◌, ◌∙◌, arith}
 use Rattle.os_heap.specs.Links.{end_at}
 use Rattle.os_heap.proofs.Replace.{heap_mapped}
 use Rattle.os_heap.proofs.Walking.{walk_free, walk_live, free_passed, live_passed}
-use Rattle.os_heap.proofs.free.pass.Goals as goal
+use Rattle.os_heap.proofs.walk.pass.Goals as goal
 
 pub word-total-requires-clause-aligned : goal.word-total-requires-clause-aligned
 word-total-requires-clause-aligned c =
@@ -82,7 +82,7 @@ pub returns-clause-walk : goal.returns-clause-walk
 returns-clause-walk c =
     let f = walk_live c.args.map.now c.args.heap (end_at c.args.map.now c.args.heap) c.args.block _ _ _ _ _ c.requires.heap c.requires.walk c.requires.more c.if-at-cursor.false in
     let total = c.word-total-2.ensures ∙ f.facts.total_word in
-    rw (c.last_link-from.ensures, total) (live_passed c.args.map.now c.args.heap (end_at c.args.map.now c.args.heap) c.args.block _ _ _ _ _ f (omega (arith, c.requires.before)) (λ e. omega (arith, c.requires.before)))
+    rw (c.last_link-from.ensures, total) (live_passed c.args.map.now c.args.heap (end_at c.args.map.now c.args.heap) c.args.block _ _ _ _ _ f (omega (arith, c.requires.before)))
 
 pub returns-clause-grows : goal.returns-clause-grows
 returns-clause-grows c =

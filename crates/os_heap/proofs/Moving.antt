@@ -1,0 +1,320 @@
+-- A block that is moved: the claim of a new one, the copy of the bytes, and the release of the old one.
+use Rattle.std.proofs.Common.{◌≡◌, ℕ, ◌+◌, ◌-◌, ◌%◌, ◌≤◌, ◌<◌, ◌^◌, ◌==◌, true, false, is_some, Option, Some, None, Result, Ok, Err, List, [], ◌∷◌, arith, refl, sym, ◌∙◌, ap, subst, inl, inr}
+use Rattle.std.proofs.lemmas.Bool.{cases_Bool, false≢true, or_from, both_ways, false_from_ne_true, le-leb, lt-ltb}
+use Rattle.profile.specs.Outcome.{bind, Gives, Leaves}
+use Rattle.profile.specs.declared.error.ErrorNumber.{ErrorNumber}
+use Rattle.profile.specs.declared.error.ErrorNumber.TheVariants.{HeapNoRoom}
+use Rattle.address_map.specs.declared.item.Item.{Item}
+use Rattle.address_map.specs.declared.region.Kind.{Kind}
+use Rattle.address_map.specs.declared.map.AddressMap.{AddressMap}
+use Rattle.address_map.specs.Bytes.{Bytes, AreMapped, in_range, word_start, with_moved_at}
+use Rattle.address_map.specs.Items.{size_of, is_head, is_heap_word}
+use Rattle.address_map.specs.Memory.{byte_at, bytes_of, is_mapped, layout}
+use Rattle.address_map.proofs.Equations.{stored_moved}
+use Rattle.address_map.proofs.Stores.{in_range-cases}
+use Rattle.os_heap.specs.Changes.{copied, handed_over, moved, move_probes}
+use Rattle.os_heap.specs.Heap.{Part, IsHeapIn}
+use Rattle.os_heap.specs.Lists.{Claim, claimed, looked_at, released}
+use Rattle.os_heap.specs.Links.{items_at, end_at, HasHeapAt, Becomes}
+use Rattle.os_heap.specs.Claims.{Claims}
+use Rattle.os_heap.specs.Releases.{Releases}
+use Rattle.os_heap.specs.Resizes.{live_total, free_below}
+use Rattle.os_heap.specs.Store.{Store, store_of, ArePartsIn, IsSound, owned_in, find_part, with_items, holding, gave_back}
+use Rattle.os_heap.proofs.Unique.{items_in-heap}
+use Rattle.os_heap.proofs.Found.{found_start, found_heap}
+use Rattle.os_heap.proofs.Frame.{are_owned, byte_inside, heads_kept, IsKept, store_bytes}
+use Rattle.os_heap.proofs.Replace.{heap_below}
+use Rattle.os_heap.proofs.Searching.{looked-below}
+use Rattle.os_heap.proofs.Linking.{below_few}
+use Rattle.os_heap.proofs.Stores.{IsOther, AreOthers, are_others, store_held, sound_held}
+use Rattle.os_heap.proofs.Calls.{part_at, heap_there, IsLeft, free_left}
+use Rattle.os_heap.proofs.Moved.{claim_fresh, claim_still, IsFresh, IsStill, LiveBytes, live_bytes, live_unspelled}
+
+-- the part of a heap, by what memory spells of it
+part_same : (h : Part) (start end : ℕ) (items : List Item) → h.start ≡ start → h.end ≡ end → h.items ≡ items
+    → (let p : Part = record { kind = h.kind; start = start; end = end; items = items } in h ≡ p)
+part_same h start end items s e l = λ i. record { kind = h.kind; start = s i; end = e i; items = l i }
+
+found_in : (m : AddressMap) (heap : ℕ) (h : Part) → IsSound (store_of m) → find_part heap (store_of m).heaps ≡ Some h → IsHeapIn (bytes_of m) h.start h.end h.items
+unfolding store_of
+found_in m heap h sound found = found_heap (bytes_of m) heap (store_of m).heaps h sound.parts found
+
+pub part_known : (m : AddressMap) (heap : ℕ) (h : Part) → IsSound (store_of m) → find_part heap (store_of m).heaps ≡ Some h
+    → h ≡ part_at h.kind m heap (end_at m heap)
+part_known m heap h sound found =
+    let start : h.start ≡ heap = found_start heap (store_of m).heaps h found in
+    let there : IsHeapIn (bytes_of m) h.start h.end h.items = found_in m heap h sound found in
+    let there' : IsHeapIn (bytes_of m) heap h.end h.items = subst (λ (s : ℕ). IsHeapIn (bytes_of m) s h.end h.items) start there in
+    part_same h heap (end_at m heap) (items_at m heap) start (sym there'.limit) (sym (items_in-heap (bytes_of m) heap h.end h.items there'))
+
+-- the heap that is there
+pub record HasPart (start : ℕ) (hs : List Part) : Type 0 where
+  pub part : Part
+  pub found : find_part start hs ≡ Some part
+
+part_of : (start : ℕ) (hs : List Part) (o : Option Part) → find_part start hs ≡ o → is_some o ≡ true → HasPart start hs
+part_of start hs None e some = absurd (false≢true some)
+part_of start hs (Some h) e some = record { part = h; found = e }
+
+pub part_there : (start : ℕ) (hs : List Part) → is_some (find_part start hs) ≡ true → HasPart start hs
+part_there start hs some = part_of start hs (find_part start hs) refl some
+
+-- a claim that made a block
+record Made (m n : AddressMap) (start end new : ℕ) (o : Option Claim) : Type 0 where
+  claim : Claim
+  is : o ≡ Some claim
+  place : new ≡ start + 16 + claim.offset + 4
+  becomes : Becomes m n start end claim.items
+
+made : (m n : AddressMap) (start end new : ℕ) (o : Option Claim) → Claims m n start end (Ok new) o → Made m n start end new o
+made m n start end new None claims = absurd (let e : Ok new ≡ Err HeapNoRoom = claims.0 in cc)
+made m n start end new (Some c) claims =
+    let e : Ok new ≡ Ok (start + 16 + c.offset + 4) = claims.0 in
+    record { claim = c; is = refl; place = cc; becomes = claims.1 }
+
+-- what is so when the new block is claimed
+pub record IsClaimed (m n : AddressMap) (kind : Kind) (heap block total needed new : ℕ) : Type 0 where
+  pub claim : Claim
+  pub found : find_part heap (store_of m).heaps ≡ Some (part_at kind m heap (end_at m heap))
+  pub claims : claimed needed (end_at m heap - 16) (items_at m heap) ≡ Some claim
+  pub place : new ≡ heap + 16 + claim.offset + 4
+  pub heap_then : IsHeapIn (bytes_of n) heap (end_at m heap) claim.items
+  pub below : heap + end_at m heap ≤ 2 ^ 26
+  pub same : layout n ≡ layout m
+  pub fresh : live_total new (heap + 16) claim.items ≡ Some needed
+  pub still : live_total block (heap + 16) claim.items ≡ Some total
+  pub store : store_of n ≡ holding (store_of m) (part_at kind m heap (end_at m heap)) claim.items
+  pub sound : IsSound (store_of n)
+
+pub is_claimed : (m n : AddressMap) (heap block total needed new : ℕ) (answer : Result ℕ ErrorNumber) (p : HasPart heap (store_of m).heaps)
+    → IsSound (store_of m) → live_total block (heap + 16) (items_at m heap) ≡ Some total
+    → Claims m n heap (end_at m heap) answer (claimed needed (end_at m heap - 16) (items_at m heap)) → answer ≡ Ok new
+    → IsClaimed m n p.part.kind heap block total needed new
+is_claimed m n heap block total needed new answer p sound live claims ok =
+    let end : ℕ = end_at m heap in
+    let items : List Item = items_at m heap in
+    let kind : Kind = p.part.kind in
+    let found : find_part heap (store_of m).heaps ≡ Some (part_at kind m heap end) = p.found ∙ ap Some (part_known m heap p.part sound p.found) in
+    let there : HasHeapAt m heap = heap_there kind m heap end sound found in
+    let b : Made m n heap end new (claimed needed (end - 16) items) = made m n heap end new (claimed needed (end - 16) items)
+    (subst (λ (a : Result ℕ ErrorNumber). Claims m n heap end a (claimed needed (end - 16) items)) ok claims) in
+    let fresh : IsFresh needed (heap + 16) (Some b.claim) = subst (IsFresh needed (heap + 16)) b.is (claim_fresh needed (end - 16) (heap + 16) items there.totals) in
+    let still : IsStill block total (heap + 16) (Some b.claim) =
+    subst (IsStill block total (heap + 16)) b.is (claim_still needed (end - 16) block total (heap + 16) items live there.totals) in
+    record {
+      claim = b.claim;
+      found = found;
+      claims = b.is;
+      place = b.place;
+      heap_then = b.becomes.heap;
+      below = heap_below m heap end items there;
+      same = b.becomes.same;
+      fresh = subst (λ (a : ℕ). live_total a (heap + 16) b.claim.items ≡ Some needed) (sym b.place) fresh;
+      still = still;
+      store = store_held m n (part_at kind m heap end) b.claim.items sound found b.becomes;
+      sound = sound_held m n (part_at kind m heap end) b.claim.items sound found b.becomes;
+    }
+
+-- where the bytes of the two blocks lie
+pub record AreInside (m n : AddressMap) (heap block total needed new : ℕ) : Type 0 where
+  pub least : 4 ≤ total
+  pub source : AreMapped (is_mapped n) block (total - 4)
+  pub target : AreMapped (is_mapped n) new (total - 4)
+  pub low : heap + 20 ≤ new
+  pub high : new + (needed - 4) ≤ heap + end_at m heap
+  pub whole : new % 4 ≡ 0
+
+pub are_inside : (m n : AddressMap) (kind : Kind) (heap block total needed new : ℕ) → total < needed → IsClaimed m n kind heap block total needed new
+    → AreInside m n heap block total needed new
+are_inside m n kind heap block total needed new larger c =
+    let from : LiveBytes block total (heap + 16) (heap + 16 + size_of c.claim.items) =
+    live_bytes block total (heap + 16) c.claim.items c.heap_then.totals c.still in
+    let to : LiveBytes new needed (heap + 16) (heap + 16 + size_of c.claim.items) =
+    live_bytes new needed (heap + 16) c.claim.items c.heap_then.totals c.fresh in
+    let inside : 16 + size_of c.claim.items ≤ end_at m heap = c.heap_then.inside in
+    record {
+      least = omega (arith, from.size);
+      source = λ a low high. c.heap_then.mapped a (omega (arith, from.low)) (omega (arith, from.high, from.size));
+      target = λ a low high. c.heap_then.mapped a (omega (arith, to.low)) (omega (arith, to.high, from.size));
+      low = omega (arith, to.low);
+      high = omega (arith, to.high, to.size);
+      whole = to.whole (omega (arith, c.heap_then.aligned));
+    }
+
+-- no byte of a heap's range is spelled by another heap
+unowned : (b : Bytes) (hs : List Part) (h : Part) (a : ℕ) → ArePartsIn b hs → AreOthers h hs → is_heap_word h.start h.items (word_start a) ≡ false
+    → in_range h.start h.end a ≡ true → are_owned hs a ≡ false
+unowned b [] h a parts others free inside = refl
+unowned b (g ∷ hs) h a parts others free inside =
+    or_from (is_heap_word g.start g.items (word_start a)) (are_owned hs a) (head_free others.0)
+    (unowned b hs h a parts.1.1 others.1 free inside) where
+      head_free : IsOther h g → is_heap_word g.start g.items (word_start a) ≡ false
+      head_free (inl same) = ap (λ (x : Part). is_heap_word x.start x.items (word_start a)) same ∙ free
+      head_free (inr apart) =
+          false_from_ne_true _ (λ is. both_ways (in_range g.start g.end a) (apart.1 a inside) (byte_inside b g.start g.end g.items a parts.0 is))
+
+unowned_in : (m : AddressMap) (h : Part) (a : ℕ) → IsSound (store_of m) → find_part h.start (store_of m).heaps ≡ Some h
+    → is_heap_word h.start h.items (word_start a) ≡ false → in_range h.start h.end a ≡ true → owned_in (store_of m) a ≡ false
+unfolding store_of owned_in
+unowned_in m h a sound found free inside =
+    unowned (bytes_of m) (store_of m).heaps h a sound.parts (are_others (bytes_of m) h.start (store_of m).heaps h sound.parts found) free inside
+
+-- the same heap is found after it got another list
+found_held : (start : ℕ) (items : List Item) (hs : List Part) (h : Part) → find_part start hs ≡ Some h
+    → (let p : Part = record { kind = h.kind; start = h.start; end = h.end; items = items } in find_part start (with_items start items hs) ≡ Some p)
+found_held start items [] h e = absurd (let none : None ≡ Some h = e in cc)
+found_held start items (g ∷ hs) h e = elim (cases_Bool (g.start == start)) [
+  | inl here ↦
+      let e' = rw here at e in
+      let same : g ≡ h = cc in
+      rw (here, here) (ap (λ (x : Part). let p : Part = record { kind = x.kind; start = x.start; end = x.end; items = items } in Some p) same)
+  | inr other ↦ rw (other, other) (found_held start items hs h (rw other at e))
+]
+
+pub claim_part : (m n : AddressMap) (kind : Kind) (heap block total needed new : ℕ) → (c : IsClaimed m n kind heap block total needed new)
+    → (let p : Part = record { kind = kind; start = heap; end = end_at m heap; items = c.claim.items } in find_part heap (store_of n).heaps ≡ Some p)
+claim_part m n kind heap block total needed new c =
+    ap (λ (s : Store). find_part heap s.heaps) c.store ∙ found_held heap c.claim.items (store_of m).heaps (part_at kind m heap (end_at m heap)) c.found
+
+-- no byte that the move writes is one that a heap spells
+payload_free : (m n : AddressMap) (kind : Kind) (heap block total needed new a : ℕ) → total < needed → (c : IsClaimed m n kind heap block total needed new)
+    → new ≤ a → a < new + (total - 4) → owned_in (store_of n) a ≡ false
+payload_free m n kind heap block total needed new a larger c low high =
+    let i : AreInside m n heap block total needed new = are_inside m n kind heap block total needed new larger c in
+    let p : Part = record { kind = kind; start = heap; end = end_at m heap; items = c.claim.items } in
+    let whole = i.whole in
+    let least = i.least in
+    let head : is_head (heap + 16) c.claim.items (word_start a) ≡ false =
+    live_unspelled new needed (heap + 16) c.claim.items (word_start a) c.heap_then.totals c.fresh (omega arith) (omega arith) in
+    let beyond : in_range heap 16 (word_start a) ≡ false = elim (in_range-cases heap 16 (word_start a)) [
+      | inl r ↦ absurd (omega (arith, r.2, i.low))
+      | inr r ↦ r.0
+    ] in
+    let inside : in_range heap (end_at m heap) a ≡ true = rw (le-leb heap a (omega (arith, i.low)), lt-ltb a (heap + end_at m heap) (omega (arith, i.high))) refl in
+    unowned_in n p a c.sound (claim_part m n kind heap block total needed new c)
+    (or_from (in_range heap 16 (word_start a)) (is_head (heap + 16) c.claim.items (word_start a)) beyond head) inside
+
+-- what is so when the bytes are copied
+pub record IsCopied (m n p : AddressMap) (kind : Kind) (heap block total needed new : ℕ) (claim : Claim) : Type 0 where
+  pub store : store_of p ≡ copied (holding (store_of m) (part_at kind m heap (end_at m heap)) claim.items) block new (total - 4)
+  pub sound : IsSound (store_of p)
+  pub there : HasHeapAt p heap
+  pub items : items_at p heap ≡ claim.items
+  pub found : find_part heap (store_of p).heaps ≡ Some (part_at kind p heap (end_at p heap))
+  pub live : is_some (live_total block (heap + 16) (items_at p heap)) ≡ true
+
+store_bytes-same : (b c : Bytes) (s : Store) → b ≡ c
+    → (let x : Store = record { bytes = b; heaps = s.heaps; others = s.others } in let y : Store = record { bytes = c; heaps = s.heaps; others = s.others } in x ≡ y)
+store_bytes-same b c s e = λ i. record { bytes = e i; heaps = s.heaps; others = s.others }
+
+pub is_copied : (m n p : AddressMap) (kind : Kind) (heap block total needed new : ℕ) → total < needed → (c : IsClaimed m n kind heap block total needed new)
+    → layout p ≡ layout n → ((a : ℕ) → byte_at p a ≡ with_moved_at (byte_at n) block new (total - 4) a)
+    → IsCopied m n p kind heap block total needed new c.claim
+is_copied m n p kind heap block total needed new larger c same bytes =
+    let kept : IsKept n p = heads_kept n p same c.sound (λ a owned. bytes a ∙ elim (in_range-cases new (total - 4) a) [
+      | inl r ↦ absurd (both_ways (owned_in (store_of n) a) (payload_free m n kind heap block total needed new a larger c r.1 r.2) owned)
+      | inr r ↦ rw r.0 refl
+    ]) in
+    let moved_bytes : bytes_of p ≡ (copied (store_of n) block new (total - 4)).bytes =
+    stored_moved n p block new (total - 4) same bytes ∙ ap (λ (b : Bytes). let c : Bytes = record { mapped = b.mapped; at = with_moved_at b.at block new (total - 4) } in c) (sym (store_bytes n)) in
+    let store : store_of p ≡ copied (store_of n) block new (total - 4) = kept.store ∙ store_bytes-same _ _ (store_of n) moved_bytes in
+    let part : Part = record { kind = kind; start = heap; end = end_at m heap; items = c.claim.items } in
+    let found : find_part heap (store_of p).heaps ≡ Some part =
+    ap (λ (s : Store). find_part heap s.heaps) kept.store ∙ claim_part m n kind heap block total needed new c in
+    let known : part ≡ part_at kind p heap (end_at p heap) = part_known p heap part kept.sound found in
+    let items : items_at p heap ≡ c.claim.items = sym (ap (λ (x : Part). x.items) known) in
+    let found' : find_part heap (store_of p).heaps ≡ Some (part_at kind p heap (end_at p heap)) = found ∙ ap Some known in
+    record {
+      store = store ∙ ap (λ (s : Store). copied s block new (total - 4)) c.store;
+      sound = kept.sound;
+      there = heap_there kind p heap (end_at p heap) kept.sound found';
+      items = items;
+      found = found';
+      live = ap (λ (xs : List Item). is_some (live_total block (heap + 16) xs)) items ∙ ap is_some c.still;
+    }
+
+-- the whole move
+then_given : (s t : Store) (r : Result Store ErrorNumber) (n : ℕ) → Leaves s r (let done : Result (Unit {0}) ErrorNumber = Ok tt in done) t → (u : Store) → Gives u (bind r (λ x. Ok (x, n))) (Ok n) t
+then_given s t (Ok x) n left u = (left, refl)
+then_given s t (Err e) n left u = absurd left
+
+pub record IsMoved (m q : AddressMap) (heap block total needed new : ℕ) : Type 0 where
+  pub store : (h : Part) → find_part heap (store_of m).heaps ≡ Some h → Gives (store_of m) (moved (store_of m) h block total needed) (Ok new) (store_of q)
+  pub sound : IsSound (store_of q)
+  pub same : layout q ≡ layout m
+
+pub is_moved : (m n p q : AddressMap) (kind : Kind) (heap block total needed new : ℕ) (c : IsClaimed m n kind heap block total needed new)
+    → IsCopied m n p kind heap block total needed new c.claim → layout p ≡ layout n
+    → Releases p q heap (end_at p heap) (Ok tt) (released block (heap + 16) (items_at p heap))
+    → IsMoved m q heap block total needed new
+is_moved m n p q kind heap block total needed new c d same releases =
+    let left : IsLeft p q (gave_back (store_of p) heap block) (Ok tt) =
+    free_left kind p q heap block (end_at p heap) (Ok tt) d.sound d.found releases in
+    let s : Store = store_of m in
+    let part : Part = part_at kind m heap (end_at m heap) in
+    let back : Leaves (store_of p) (gave_back (copied (holding s part c.claim.items) block new (total - 4)) heap block) (Ok tt) (store_of q) =
+    subst (λ (t : Store). Leaves (store_of p) (gave_back t heap block) (Ok tt) (store_of q)) d.store left.store in
+    let over : Gives s (handed_over heap block (total - 4) (holding s part c.claim.items) new) (Ok new) (store_of q) =
+    then_given (store_of p) (store_of q) _ new back s in
+    let given : Gives s (moved s part block total needed) (Ok new) (store_of q) =
+    rw c.claims (subst (λ (a : ℕ). Gives s (handed_over heap block (total - 4) (holding s part c.claim.items) a) (Ok new) (store_of q)) c.place over) in
+    record {
+      store = λ h found. let e : Some part ≡ Some h = sym c.found ∙ found in let same : part ≡ h = cc in
+          subst (λ (x : Part). Gives s (moved s x block total needed) (Ok new) (store_of q)) same given;
+      sound = left.sound;
+      same = left.same ∙ same ∙ c.same;
+    }
+
+pub moved_probes : (m n p : AddressMap) (kind : Kind) (heap block total needed new : ℕ) (h : Part) (c : IsClaimed m n kind heap block total needed new)
+    → IsCopied m n p kind heap block total needed new c.claim → find_part heap (store_of m).heaps ≡ Some h
+    → looked_at needed (items_at m heap) + free_below block (heap + 16) (items_at p heap)
+    ≡ move_probes h block needed (claimed needed (h.end - 16) h.items)
+moved_probes m n p kind heap block total needed new h c d found =
+    let part : Part = part_at kind m heap (end_at m heap) in
+    let e : Some part ≡ Some h = sym c.found ∙ found in
+    let same : part ≡ h = cc in
+    let probes : looked_at needed (items_at m heap) + free_below block (heap + 16) (items_at p heap)
+    ≡ move_probes part block needed (claimed needed (end_at m heap - 16) (items_at m heap)) =
+    rw (c.claims, d.items) refl in
+    subst (λ (x : Part). looked_at needed (items_at m heap) + free_below block (heap + 16) (items_at p heap)
+    ≡ move_probes x block needed (claimed needed (x.end - 16) x.items)) same probes
+
+pub probes_fit : (m n p : AddressMap) (kind : Kind) (heap block total needed new : ℕ) (c : IsClaimed m n kind heap block total needed new)
+    → IsCopied m n p kind heap block total needed new c.claim → HasHeapAt m heap
+    → looked_at needed (items_at m heap) + free_below block (heap + 16) (items_at p heap) < 2 ^ 32
+probes_fit m n p kind heap block total needed new c d there =
+    let top : heap + end_at p heap ≤ 2 ^ 26 = heap_below p heap (end_at p heap) (items_at p heap) d.there in
+    omega (
+      arith,
+      looked-below m heap (end_at m heap) needed (items_at m heap) there,
+      below_few block (heap + 16) (items_at p heap) d.there.totals,
+      d.there.inside,
+    )
+
+-- where there is no room for a new block
+record IsNone (m n : AddressMap) (e : ErrorNumber) (o : Option Claim) : Type 0 where
+  none : o ≡ None
+  error : e ≡ HeapNoRoom
+  same : n ≡ m
+
+is_none : (m n : AddressMap) (start end : ℕ) (e : ErrorNumber) (o : Option Claim) → Claims m n start end (Err e) o → IsNone m n e o
+is_none m n start end e None claims = let no : Err e ≡ Err HeapNoRoom = claims.0 in record { none = refl; error = cc; same = claims.1 }
+is_none m n start end e (Some c) claims = absurd (let ok : Err e ≡ Ok (start + 16 + c.offset + 4) = claims.0 in cc)
+
+pub is_refused : (m n : AddressMap) (heap block total needed : ℕ) (h : Part) (answer : Result ℕ ErrorNumber) (e : ErrorNumber) → IsSound (store_of m)
+    → find_part heap (store_of m).heaps ≡ Some h
+    → Claims m n heap (end_at m heap) answer (claimed needed (end_at m heap - 16) (items_at m heap)) → answer ≡ Err e
+    → Gives (store_of m) (moved (store_of m) h block total needed) answer (store_of n)
+    × (looked_at needed (items_at m heap) ≡ move_probes h block needed (claimed needed (h.end - 16) h.items))
+is_refused m n heap block total needed h answer e sound found claims err =
+    let end : ℕ = end_at m heap in
+    let items : List Item = items_at m heap in
+    let part : Part = part_at h.kind m heap end in
+    let same : part ≡ h = sym (part_known m heap h sound found) in
+    let r : IsNone m n e (claimed needed (end - 16) items) = is_none m n heap end e (claimed needed (end - 16) items)
+    (subst (λ (a : Result ℕ ErrorNumber). Claims m n heap end a (claimed needed (end - 16) items)) err claims) in
+    let given : Gives (store_of m) (moved (store_of m) part block total needed) answer (store_of n) = rw (err, r.none) (r.error, ap store_of r.same) in
+    let probes : looked_at needed items ≡ move_probes part block needed (claimed needed (end - 16) items) = rw r.none refl in (
+      subst (λ (x : Part). Gives (store_of m) (moved (store_of m) x block total needed) answer (store_of n)) same given,
+      subst (λ (x : Part). looked_at needed items ≡ move_probes x block needed (claimed needed (x.end - 16) x.items)) same probes,
+    )

@@ -1,0 +1,235 @@
+-- What a change of a block's total in place answers, and the heap then.
+use Rattle.std.proofs.Common.{◌≡◌, ◌≢◌, ℕ, ◌+◌, ◌-◌, ◌<◌, ◌≤◌, true, false, Some, None, List, [], ◌∷◌, ◌++◌, inl, inr, arith, refl, sym, ◌∙◌, ap, subst}
+use Rattle.std.proofs.lemmas.Bool.{le-leb, lt-leb, ne_eqb, eq-eqb, cases_lt}
+use Rattle.address_map.specs.declared.item.Item.{Item}
+use Rattle.address_map.specs.declared.item.Item.TheVariants.{Live, Free}
+use Rattle.address_map.specs.declared.map.AddressMap.{AddressMap}
+use Rattle.address_map.specs.Bytes.{word_at}
+use Rattle.address_map.specs.Items.{size_of, is_total}
+use Rattle.address_map.specs.Memory.{bytes_of, byte_at, layout}
+use Rattle.os_heap.specs.Heap.{next_free, Spells, AreTotals, AreSpaced, begins_live, IsHeapIn}
+use Rattle.os_heap.specs.Lists.{left_free, glued}
+use Rattle.os_heap.specs.Links.{link_at, items_at, IsHeapAt, IsWritten, Becomes}
+use Rattle.os_heap.specs.Releases.{last_link, IsBlock}
+use Rattle.os_heap.specs.Refits.{IsDivided, Refits}
+use Rattle.os_heap.specs.Resizes.{grown, refitted, resized_in_place}
+use Rattle.os_heap.proofs.Unique.{total_facts}
+use Rattle.os_heap.proofs.Spelling.{total_of-numbers}
+use Rattle.os_heap.proofs.Walking.{glued_none, glued_some}
+use Rattle.os_heap.proofs.Freeing.{NextFree, glued_free, glued_nothing, rest_none, rest_live}
+use Rattle.os_heap.proofs.Sized.{block_in_place}
+use Rattle.os_heap.proofs.Refitting.{PlaceFacts, place_facts, divided, swallowed, rebased}
+
+-- what the list becomes
+fewer : (room new old : ℕ) (xs : List Item) → new ≤ old → refitted room new old xs ≡ Some (Live new ∷ glued (old - new) xs)
+fewer room new old xs less = rw (le-leb new old less) refl
+
+more : (room new old : ℕ) (xs : List Item) → old < new → refitted room new old xs ≡ grown room new old xs
+more room new old xs larger = rw (lt-leb new old larger) refl
+
+last_some : (room new old : ℕ) → new ≤ room → refitted room new old [] ≡ Some (Live new ∷ [])
+last_some room new old fits = elim (cases_lt old new) [
+  | inl larger ↦ more room new old [] larger ∙ (rw (le-leb new room fits) refl)
+  | inr less ↦ fewer room new old [] less ∙ ap (λ (ys : List Item). Some (Live new ∷ ys)) (glued_nothing (old - new))
+]
+
+last_none : (room new old : ℕ) → room < new → old < new → refitted room new old [] ≡ None
+last_none room new old full larger = more room new old [] larger ∙ (rw (lt-leb new room full) refl)
+
+grown_some : (room new old t : ℕ) (xs : List Item) → old < new → new ≤ old + t
+    → refitted room new old (Free t ∷ xs) ≡ Some (Live new ∷ (left_free (old + t - new) ++ xs))
+grown_some room new old t xs larger fits = more room new old (Free t ∷ xs) larger ∙ (rw (le-leb new (old + t) fits) refl)
+
+grown_none : (room new old t : ℕ) (xs : List Item) → old + t < new → refitted room new old (Free t ∷ xs) ≡ None
+grown_none room new old t xs full = more room new old (Free t ∷ xs) (omega arith) ∙ (rw (lt-leb new (old + t) full) refl)
+
+left_none : (n : ℕ) (xs : List Item) → n ≡ 0 → left_free n ++ xs ≡ xs
+left_none n xs none = rw (eq-eqb n 0 none) refl
+
+left_some : (n : ℕ) (xs : List Item) → n ≢ 0 → left_free n ++ xs ≡ Free n ∷ xs
+left_some n xs some = rw (ne_eqb n 0 some) refl
+
+-- behind a block that is not the last, and that no free item touches, stands a block
+grown_blocked : (room new at total base free : ℕ) (rest : List Item) → free ≡ next_free (at + total) rest 0 → at + total ≢ free → at + total ≢ base
+    → base ≡ at + total + size_of rest → total < new → refitted room new total rest ≡ None
+grown_blocked room new at total base free [] next other inside end larger = absurd (inside (omega arith))
+grown_blocked room new at total base free (Live t ∷ xs) next other inside end larger = more room new total (Live t ∷ xs) larger
+grown_blocked room new at total base free (Free t ∷ xs) next other inside end larger = absurd (other (sym next))
+
+-- whether it could be done
+done : (m n : AddressMap) (start end limit new block from at free gap : ℕ) → IsHeapAt m start end → (b : IsBlock start (items_at m start) block from at free gap)
+    → (ys : List Item) → refitted (limit - at) new b.total b.rest ≡ Some ys → Becomes m n start end ((b.before ++ left_free gap) ++ ys)
+    → Refits m n start end true (resized_in_place block limit new (start + 16) (items_at m start))
+done m n start end limit new block from at free gap heap b ys some becomes =
+    rw (block_in_place m start end limit new block from at free gap heap b, some) (refl, becomes)
+
+not_done : (m : AddressMap) (start end limit new block from at free gap : ℕ) → IsHeapAt m start end → (b : IsBlock start (items_at m start) block from at free gap)
+    → refitted (limit - at) new b.total b.rest ≡ None → Refits m m start end false (resized_in_place block limit new (start + 16) (items_at m start))
+not_done m start end limit new block from at free gap heap b none =
+    rw (block_in_place m start end limit new block from at free gap heap b, none) (refl, refl)
+
+-- the total stays
+pub refits_same : (m : AddressMap) (start end limit new block from at free gap : ℕ) → IsHeapAt m start end
+    → (b : IsBlock start (items_at m start) block from at free gap) → new ≡ b.total
+    → Refits m m start end true (resized_in_place block limit new (start + 16) (items_at m start))
+refits_same m start end limit new block from at free gap heap b same =
+    let kept : Live new ∷ glued (b.total - new) b.rest ≡ Live b.total ∷ b.rest =
+    ap (λ (ys : List Item). Live new ∷ ys) (glued_none (b.total - new) b.rest (omega arith)) ∙ ap (λ (n : ℕ). Live n ∷ b.rest) same in
+    done m m start end limit new block from at free gap heap b (Live b.total ∷ b.rest)
+    (fewer (limit - at) new b.total b.rest (omega arith) ∙ ap (λ (ys : List Item). Some ys) kept)
+    (record {
+      heap = subst (λ (ys : List Item). IsHeapIn (bytes_of m) start end ys) b.split heap;
+      same = refl;
+      others = λ a head out. refl;
+    })
+
+-- the block is the last
+pub refits_last : (m n : AddressMap) (start end new block from at free gap : ℕ) (g : ℕ → ℕ) → IsHeapAt m start end
+    → (b : IsBlock start (items_at m start) block from at free gap) → at + b.total ≡ start + word_at (byte_at m) (start + 8)
+    → layout n ≡ layout m → is_total new ≡ true → at + new ≤ start + end
+    → IsWritten (byte_at m) g at new → IsWritten g (byte_at n) (start + 8) (at + new - start)
+    → Refits m n start end true (resized_in_place block (start + end) new (start + 16) (items_at m start))
+refits_last m n start end new block from at free gap g heap b ends same total room one two =
+    let front : List Item = b.before ++ left_free gap in
+    let f : PlaceFacts m start end from at gap b.total front b.rest = place_facts m start end block from at free gap heap b in
+    let none : b.rest ≡ [] = rest_none start at b.total (start + word_at (byte_at m) (start + 8)) b.rest f.facts.totals f.facts.base ends in
+    let one' = rw b.place at one in
+    let base : at + new - start ≡ 16 + size_of front + new = omega (arith, b.place) in
+    let two' = rw base at two in
+    let heap' : IsHeapIn (bytes_of m) start end (front ++ Live b.total ∷ []) =
+    subst (λ (ys : List Item). IsHeapIn (bytes_of m) start end (front ++ Live b.total ∷ ys)) none f.heap in
+    done m n start end (start + end) new block from at free gap heap b (Live new ∷ [])
+    (ap (refitted (start + end - at) new b.total) none ∙ last_some (start + end - at) new b.total (omega arith))
+    (rebased m n start end front b.total new g heap' same total (omega (arith, b.place)) one' two')
+
+pub refits_last-full : (m : AddressMap) (start end new block from at free gap : ℕ) → IsHeapAt m start end
+    → (b : IsBlock start (items_at m start) block from at free gap) → at + b.total ≡ start + word_at (byte_at m) (start + 8)
+    → start + end < at + new
+    → Refits m m start end false (resized_in_place block (start + end) new (start + 16) (items_at m start))
+refits_last-full m start end new block from at free gap heap b ends full =
+    let front : List Item = b.before ++ left_free gap in
+    let f : PlaceFacts m start end from at gap b.total front b.rest = place_facts m start end block from at free gap heap b in
+    let none : b.rest ≡ [] = rest_none start at b.total (start + word_at (byte_at m) (start + 8)) b.rest f.facts.totals f.facts.base ends in
+    not_done m start end (start + end) new block from at free gap heap b
+    (ap (refitted (start + end - at) new b.total) none ∙ last_none (start + end - at) new b.total (omega (arith, f.facts.low, f.facts.high)) (omega (arith, f.facts.high)))
+
+-- a free item is written behind the block
+parted : (m n : AddressMap) (start end new left next block from at free gap : ℕ) (xs : List Item) → IsHeapAt m start end
+    → (b : IsBlock start (items_at m start) block from at free gap) → layout n ≡ layout m → is_total new ≡ true → is_total left ≡ true
+    → b.total + size_of b.rest ≡ new + (left + size_of xs) → AreTotals xs → AreSpaced xs → begins_live xs ≡ true
+    → Spells (word_at (byte_at m)) (at + new + left) xs 0 → next ≡ next_free (at + new + left) xs 0
+    → IsDivided (byte_at m) (byte_at n) start (last_link from at gap) at new left next
+    → Becomes m n start end ((b.before ++ left_free gap) ++ Live new ∷ (Free left ∷ xs))
+parted m n start end new left next block from at free gap xs heap b same total left_total size totals spaced live spelled onward one =
+    let front : List Item = b.before ++ left_free gap in
+    let f : PlaceFacts m start end from at gap b.total front b.rest = place_facts m start end block from at free gap heap b in
+    let spelled' = rw b.place at spelled in
+    let one' = rw (f.link, onward, b.place) at one in
+    divided m n start end front b.rest xs b.total new left f.heap same total left_total size totals spaced live spelled' one'
+
+-- bytes are cut off, and join a free item
+pub refits_joined : (m n : AddressMap) (start end limit new next block from at free gap : ℕ) → IsHeapAt m start end
+    → (b : IsBlock start (items_at m start) block from at free gap) → (k : NextFree m start end (at + b.total) b.rest) → layout n ≡ layout m
+    → is_total new ≡ true → new < b.total → next ≡ next_free (at + b.total + k.total) k.after 0
+    → IsDivided (byte_at m) (byte_at n) start (last_link from at gap) at new (b.total - new + k.total) next
+    → Refits m n start end true (resized_in_place block limit new (start + 16) (items_at m start))
+refits_joined m n start end limit new next block from at free gap heap b k same total less onward one =
+    let left : ℕ = b.total - new + k.total in
+    let f : PlaceFacts m start end from at gap b.total (b.before ++ left_free gap) b.rest = place_facts m start end block from at free gap heap b in
+    let place : at + b.total + k.total ≡ at + new + left = omega arith in
+    let totals : AreTotals (Free k.total ∷ k.after) = subst AreTotals k.split f.facts.totals in
+    let spaced : AreSpaced (Free k.total ∷ k.after) = subst AreSpaced k.split f.facts.spaced in
+    let spelled : Spells (word_at (byte_at m)) (at + b.total) (Free k.total ∷ k.after) 0 =
+    subst (λ (ys : List Item). Spells (word_at (byte_at m)) (at + b.total) ys 0) k.split f.facts.spelled in
+    let size : size_of b.rest ≡ k.total + size_of k.after = ap size_of k.split in
+    done m n start end limit new block from at free gap heap b (Live new ∷ (Free left ∷ k.after))
+    (ap (refitted (limit - at) new b.total) k.split ∙ fewer (limit - at) new b.total (Free k.total ∷ k.after) (omega arith)
+    ∙ ap (λ (ys : List Item). Some (Live new ∷ ys)) (glued_free (b.total - new) k.total k.after))
+    (parted m n start end new left next block from at free gap k.after heap b same total
+    (total_of-numbers left (omega (arith, k.facts.size)) (omega (arith, (total_facts new total).1, f.facts.eighths, k.facts.eighths)))
+    (omega arith) totals.1 spaced.1 spaced.0 (subst (λ (p : ℕ). Spells (word_at (byte_at m)) p k.after 0) place spelled.1.1)
+    (onward ∙ ap (λ (p : ℕ). next_free p k.after 0) place) one)
+
+-- bytes are cut off, and a block stands behind them
+pub refits_alone : (m n : AddressMap) (start end limit new block from at free gap : ℕ) → IsHeapAt m start end
+    → (b : IsBlock start (items_at m start) block from at free gap)
+    → at + b.total ≢ start + word_at (byte_at m) (start + 8) → at + b.total ≢ free → layout n ≡ layout m
+    → is_total new ≡ true → new < b.total
+    → IsDivided (byte_at m) (byte_at n) start (last_link from at gap) at new (b.total - new) free
+    → Refits m n start end true (resized_in_place block limit new (start + 16) (items_at m start))
+refits_alone m n start end limit new block from at free gap heap b inside other same total less one =
+    let left : ℕ = b.total - new in
+    let f : PlaceFacts m start end from at gap b.total (b.before ++ left_free gap) b.rest = place_facts m start end block from at free gap heap b in
+    let live = rest_live at b.total (start + word_at (byte_at m) (start + 8)) free b.rest b.next other inside f.facts.base in
+    let place : at + b.total ≡ at + new + left = omega arith in
+    let some : left ≢ 0 = λ (e : left ≡ 0). omega arith in
+    done m n start end limit new block from at free gap heap b (Live new ∷ (Free left ∷ b.rest))
+    (fewer (limit - at) new b.total b.rest (omega arith)
+    ∙ ap (λ (ys : List Item). Some (Live new ∷ ys)) (glued_some left b.rest some ∙ live.1 left))
+    (parted m n start end new left free block from at free gap b.rest heap b same total
+    (total_of-numbers left (omega (arith, (total_facts new total).1, f.facts.eighths)) (omega (arith, (total_facts new total).1, f.facts.eighths)))
+    (omega arith) f.facts.totals f.facts.spaced live.0 (subst (λ (p : ℕ). Spells (word_at (byte_at m)) p b.rest 0) place f.facts.spelled)
+    (b.next ∙ ap (λ (p : ℕ). next_free p b.rest 0) place) one)
+
+-- the front of a free item is added
+pub refits_part : (m n : AddressMap) (start end limit new next block from at free gap : ℕ) → IsHeapAt m start end
+    → (b : IsBlock start (items_at m start) block from at free gap) → (k : NextFree m start end (at + b.total) b.rest) → layout n ≡ layout m
+    → is_total new ≡ true → b.total < new → new ≤ b.total + k.total → b.total + k.total - new ≢ 0 → next ≡ next_free (at + b.total + k.total) k.after 0
+    → IsDivided (byte_at m) (byte_at n) start (last_link from at gap) at new (b.total + k.total - new) next
+    → Refits m n start end true (resized_in_place block limit new (start + 16) (items_at m start))
+refits_part m n start end limit new next block from at free gap heap b k same total larger fits some onward one =
+    let left : ℕ = b.total + k.total - new in
+    let f : PlaceFacts m start end from at gap b.total (b.before ++ left_free gap) b.rest = place_facts m start end block from at free gap heap b in
+    let place : at + b.total + k.total ≡ at + new + left = omega arith in
+    let totals : AreTotals (Free k.total ∷ k.after) = subst AreTotals k.split f.facts.totals in
+    let spaced : AreSpaced (Free k.total ∷ k.after) = subst AreSpaced k.split f.facts.spaced in
+    let spelled : Spells (word_at (byte_at m)) (at + b.total) (Free k.total ∷ k.after) 0 =
+    subst (λ (ys : List Item). Spells (word_at (byte_at m)) (at + b.total) ys 0) k.split f.facts.spelled in
+    let size : size_of b.rest ≡ k.total + size_of k.after = ap size_of k.split in
+    done m n start end limit new block from at free gap heap b (Live new ∷ (Free left ∷ k.after))
+    (ap (refitted (limit - at) new b.total) k.split ∙ grown_some (limit - at) new b.total k.total k.after larger fits
+    ∙ ap (λ (ys : List Item). Some (Live new ∷ ys)) (left_some left k.after some))
+    (parted m n start end new left next block from at free gap k.after heap b same total
+    (total_of-numbers left (omega (arith, (total_facts new total).1, f.facts.eighths, k.facts.eighths)) (omega (arith, (total_facts new total).1, f.facts.eighths, k.facts.eighths)))
+    (omega arith) totals.1 spaced.1 spaced.0 (subst (λ (p : ℕ). Spells (word_at (byte_at m)) p k.after 0) place spelled.1.1)
+    (onward ∙ ap (λ (p : ℕ). next_free p k.after 0) place) one)
+
+-- all of a free item is added
+pub refits_whole : (m n : AddressMap) (start end limit new next block from at free gap : ℕ) (g : ℕ → ℕ) → IsHeapAt m start end
+    → (b : IsBlock start (items_at m start) block from at free gap) → (k : NextFree m start end (at + b.total) b.rest) → layout n ≡ layout m
+    → is_total new ≡ true → b.total < new → new ≤ b.total + k.total → b.total + k.total - new ≡ 0 → next ≡ next_free (at + b.total + k.total) k.after 0
+    → IsWritten (byte_at m) g (link_at start (last_link from at gap)) (next - last_link from at gap) → IsWritten g (byte_at n) at new
+    → Refits m n start end true (resized_in_place block limit new (start + 16) (items_at m start))
+refits_whole m n start end limit new next block from at free gap g heap b k same total larger fits none onward one two =
+    let front : List Item = b.before ++ left_free gap in
+    let f : PlaceFacts m start end from at gap b.total front b.rest = place_facts m start end block from at free gap heap b in
+    let place : at + b.total + k.total ≡ start + 16 + size_of front + new = omega (arith, b.place) in
+    let totals : AreTotals (Free k.total ∷ k.after) = subst AreTotals k.split f.facts.totals in
+    let spaced : AreSpaced (Free k.total ∷ k.after) = subst AreSpaced k.split f.facts.spaced in
+    let spelled : Spells (word_at (byte_at m)) (at + b.total) (Free k.total ∷ k.after) 0 =
+    subst (λ (ys : List Item). Spells (word_at (byte_at m)) (at + b.total) ys 0) k.split f.facts.spelled in
+    let size : size_of b.rest ≡ k.total + size_of k.after = ap size_of k.split in
+    let one' = rw (f.link, onward ∙ ap (λ (p : ℕ). next_free p k.after 0) place) at one in
+    let two' = rw b.place at two in
+    done m n start end limit new block from at free gap heap b (Live new ∷ k.after)
+    (ap (refitted (limit - at) new b.total) k.split ∙ grown_some (limit - at) new b.total k.total k.after larger fits
+    ∙ ap (λ (ys : List Item). Some (Live new ∷ ys)) (left_none (b.total + k.total - new) k.after none))
+    (swallowed m n start end front b.rest k.after b.total new g f.heap same total (omega arith) totals.1 spaced.1
+    (subst (λ (p : ℕ). Spells (word_at (byte_at m)) p k.after 0) place spelled.1.1) one' two')
+
+-- there is no room
+pub refits_full : (m : AddressMap) (start end limit new block from at free gap : ℕ) → IsHeapAt m start end
+    → (b : IsBlock start (items_at m start) block from at free gap) → (k : NextFree m start end (at + b.total) b.rest) → b.total + k.total < new
+    → Refits m m start end false (resized_in_place block limit new (start + 16) (items_at m start))
+refits_full m start end limit new block from at free gap heap b k full =
+    not_done m start end limit new block from at free gap heap b
+    (ap (refitted (limit - at) new b.total) k.split ∙ grown_none (limit - at) new b.total k.total k.after full)
+
+pub refits_blocked : (m : AddressMap) (start end limit new block from at free gap : ℕ) → IsHeapAt m start end
+    → (b : IsBlock start (items_at m start) block from at free gap)
+    → at + b.total ≢ start + word_at (byte_at m) (start + 8) → at + b.total ≢ free → b.total < new
+    → Refits m m start end false (resized_in_place block limit new (start + 16) (items_at m start))
+refits_blocked m start end limit new block from at free gap heap b inside other larger =
+    let f : PlaceFacts m start end from at gap b.total (b.before ++ left_free gap) b.rest = place_facts m start end block from at free gap heap b in
+    not_done m start end limit new block from at free gap heap b
+    (grown_blocked (limit - at) new at b.total (start + word_at (byte_at m) (start + 8)) free b.rest b.next other inside f.facts.base larger)

@@ -1,0 +1,246 @@
+-- What a change of a block's size leaves of all heaps, by the ways that it can go.
+use Rattle.std.proofs.Common.{◌≡◌, ℕ, ◌+◌, ◌-◌, ◌*◌, ◌^◌, ◌%◌, ◌<◌, ◌≤◌, ◌==◌, true, false, is_some, Option, Some, None, option_map, Result, Ok, Err, List, [], ◌∷◌, inl, inr, arith, refl, sym, ◌∙◌, ap, subst}
+use Rattle.std.specs.Prelude.{nat_le}
+use Rattle.std.proofs.lemmas.Bool.{cases_Bool, eqb-true, false≢true, le-leb, lt-leb, leb-false}
+use Rattle.profile.specs.Outcome.{bind, Gives, Leaves}
+use Rattle.profile.specs.declared.error.ErrorNumber.{ErrorNumber}
+use Rattle.profile.specs.declared.error.ErrorNumber.TheVariants.{HeapNotABlock, HeapBadDesc}
+use Rattle.address_map.specs.declared.item.Item.{Item}
+use Rattle.address_map.specs.declared.item.Item.TheVariants.{Live, Free}
+use Rattle.address_map.specs.declared.region.Kind.{Kind}
+use Rattle.address_map.specs.declared.region.Region.{Region}
+use Rattle.address_map.specs.declared.map.AddressMap.{AddressMap}
+use Rattle.address_map.specs.Bytes.{Bytes, word_at}
+use Rattle.address_map.specs.Items.{items_in, size_of}
+use Rattle.address_map.specs.Memory.{bytes_of, byte_at, is_mapped, regions}
+use Rattle.address_map.specs.Records.{is_heap_kind}
+use Rattle.os_heap.specs.Changes.{resized_block, resized_of, resized, resized_or_moved, moved, move_probes, refit_probes, probes_after_walk, resize_probes}
+use Rattle.os_heap.specs.Heap.{Part, IsHeapIn, AreTotals}
+use Rattle.os_heap.specs.Links.{items_at, end_at}
+use Rattle.os_heap.specs.Lists.{round_up_8, claimed, released, begun_below, free_count}
+use Rattle.os_heap.specs.Refits.{Refits}
+use Rattle.os_heap.specs.Releases.{IsBlock, Releases}
+use Rattle.os_heap.specs.Resizes.{changed_by, live_total, refitted, resized_in_place}
+use Rattle.os_heap.specs.Store.{Store, store_of, part_in, parts_in, IsSound, find_part, released_in, counted_of}
+use Rattle.os_heap.proofs.Bounds.{move_most, claim_no_more}
+use Rattle.os_heap.proofs.Calls.{part_at, heap_of-part, heap_there, leaves_release, IsGiven, IsLeft}
+use Rattle.os_heap.proofs.Freeing.{block_facts}
+use Rattle.os_heap.proofs.Replace.{heap_below, heap_mapped}
+use Rattle.os_heap.proofs.Sized.{block_total}
+use Rattle.os_heap.proofs.Stores.{store_held, sound_held}
+use Rattle.os_heap.proofs.Unique.{total_facts}
+
+-- the heap that is found is the one that memory spells there
+found_in : (b : Bytes) (heap : ℕ) (rs : List Region) (h : Part) → find_part heap (parts_in b rs) ≡ Some h
+    → h ≡ record { kind = h.kind; start = heap; end = h.end; items = items_in (word_at b.at) heap }
+found_in b heap [] h e = absurd (let none : None ≡ Some h = e in cc)
+found_in b heap (r ∷ rs) h e = elim (cases_Bool (is_heap_kind r.kind)) [
+  | inr other ↦ found_in b heap rs h (rw other at e)
+  | inl is ↦
+      let e' = rw is at e in
+      elim (cases_Bool (r.at == heap)) [
+        | inr later ↦ found_in b heap rs h (rw later at e')
+        | inl here ↦
+            let e'' = rw here at e' in
+            let same : part_in b r ≡ h = cc in
+            let at : r.at ≡ heap = eqb-true r.at heap here in
+            subst (λ (x : Part). x ≡ record { kind = x.kind; start = heap; end = x.end; items = items_in (word_at b.at) heap }) same
+            (ap (λ (a : ℕ). let p : Part = record { kind = r.kind; start = a; end = r.len; items = items_in (word_at b.at) a } in p) at)
+      ]
+]
+
+pub found_is : (m : AddressMap) (heap : ℕ) (h : Part) → find_part heap (store_of m).heaps ≡ Some h → h ≡ part_at h.kind m heap h.end
+unfolding store_of
+found_is m heap h e = found_in (bytes_of m) heap (regions m) h e
+
+pub record IsThere (m : AddressMap) (heap : ℕ) : Type 0 where
+  pub kind : Kind
+  pub end : ℕ
+  pub found : find_part heap (store_of m).heaps ≡ Some (part_at kind m heap end)
+
+from_option : (m : AddressMap) (heap : ℕ) (o : Option Part) → find_part heap (store_of m).heaps ≡ o → is_some o ≡ true → IsThere m heap
+from_option m heap None e is = absurd (false≢true is)
+from_option m heap (Some h) e is = record { kind = h.kind; end = h.end; found = e ∙ ap (λ (x : Part). Some x) (found_is m heap h e) }
+
+pub is_there : (m : AddressMap) (heap : ℕ) → is_some (find_part heap (store_of m).heaps) ≡ true → IsThere m heap
+is_there m heap is = from_option m heap (find_part heap (store_of m).heaps) refl is
+
+pub there_heap : (m : AddressMap) (heap : ℕ) → IsSound (store_of m) → is_some (find_part heap (store_of m).heaps) ≡ true
+    → IsHeapIn (bytes_of m) heap (end_at m heap) (items_at m heap)
+there_heap m heap sound is = let t : IsThere m heap = is_there m heap is in heap_there t.kind m heap t.end sound t.found
+
+-- the call, by the block's total
+by_total : (m : AddressMap) (heap block change : ℕ) (t : IsThere m heap) (total : Option ℕ) → live_total block (heap + 16) (items_at m heap) ≡ total
+    → resized (store_of m) heap block change ≡ resized_block (store_of m) (part_at t.kind m heap t.end) block change total
+unfolding resized
+by_total m heap block change t total e = ap (resized_of (store_of m) block change) t.found ∙ ap (resized_block (store_of m) (part_at t.kind m heap t.end) block change) e
+
+probes_by_total : (m : AddressMap) (heap block change : ℕ) (t : IsThere m heap) (total : Option ℕ) → live_total block (heap + 16) (items_at m heap) ≡ total
+    → resize_probes (store_of m) heap block change
+    ≡ begun_below block (heap + 16) (items_at m heap) + probes_after_walk (part_at t.kind m heap t.end) block change total
+unfolding resize_probes
+probes_by_total m heap block change t total e =
+    ap (counted_of (λ h. begun_below block (h.start + 16) h.items + probes_after_walk h block change (live_total block (h.start + 16) h.items))) t.found
+    ∙ ap (λ (o : Option ℕ). begun_below block (heap + 16) (items_at m heap) + probes_after_walk (part_at t.kind m heap t.end) block change o) e
+
+-- what a walk to the block tells
+pub record IsHere (m : AddressMap) (heap block at : ℕ) : Type 0 where
+  pub whole : at % 4 ≡ 0
+  pub mapped : is_mapped m at ≡ true
+  pub live : live_total block (heap + 16) (items_at m heap) ≡ Some (word_at (byte_at m) at)
+
+pub block_here : (m : AddressMap) (heap block from at free gap : ℕ) → IsSound (store_of m) → is_some (find_part heap (store_of m).heaps) ≡ true
+    → IsBlock heap (items_at m heap) block from at free gap → IsHere m heap block at
+block_here m heap block from at free gap sound is b =
+    let h : IsHeapIn (bytes_of m) heap (end_at m heap) (items_at m heap) = there_heap m heap sound is in
+    let f = block_facts m heap (end_at m heap) block from at free gap h b in
+    record {
+      whole = f.facts.whole;
+      mapped = heap_mapped m heap (end_at m heap) at (items_at m heap) h (omega (arith, f.facts.low)) (omega (arith, f.facts.high, f.facts.size));
+      live = block_total m heap (end_at m heap) block from at free gap h b ∙ ap (λ (n : ℕ). Some n) (sym f.facts.total_word);
+    }
+
+-- no such block
+pub resize_refused : (m : AddressMap) (heap block change : ℕ) → is_some (find_part heap (store_of m).heaps) ≡ true
+    → live_total block (heap + 16) (items_at m heap) ≡ None
+    → (resized (store_of m) heap block change ≡ Err HeapNotABlock) × (resize_probes (store_of m) heap block change ≡ begun_below block (heap + 16) (items_at m heap))
+resize_refused m heap block change is none =
+    let t : IsThere m heap = is_there m heap is in
+    (by_total m heap block change t None none, omega (arith, probes_by_total m heap block change t None none))
+
+-- no heap
+pub resize_nowhere : (m : AddressMap) (heap block change : ℕ) → find_part heap (store_of m).heaps ≡ None
+    → (resized (store_of m) heap block change ≡ Err HeapBadDesc) × (resize_probes (store_of m) heap block change ≡ 0)
+unfolding resized resize_probes
+resize_nowhere m heap block change none = rw none (refl, refl)
+
+-- what the call leaves, and what it has looked at beyond the walk
+pub record IsResized (m n : AddressMap) (heap block change : ℕ) (answer : Result ℕ ErrorNumber) (more : ℕ) : Type 0 where
+  pub store : Gives (store_of m) (resized (store_of m) heap block change) answer (store_of n)
+  pub sound : IsSound (store_of n)
+  pub probes : begun_below block (heap + 16) (items_at m heap) + more ≡ resize_probes (store_of m) heap block change
+
+-- nothing is left of the block
+freed_given : (old new : Store) (o : Result Store ErrorNumber) (answer : Result ℕ ErrorNumber) → answer ≡ Ok 0 → (let done : Result (Unit {0}) ErrorNumber = Ok tt in Leaves old o done new)
+    → Gives old (bind o (λ t. Ok (t, 0))) answer new
+freed_given old new (Ok s) answer zero left = rw zero (left, refl)
+freed_given old new (Err e) answer zero left = absurd left
+
+pub resize_freed : (m n : AddressMap) (heap block change total : ℕ) → IsSound (store_of m) → is_some (find_part heap (store_of m).heaps) ≡ true
+    → live_total block (heap + 16) (items_at m heap) ≡ Some total → changed_by total change ≤ 4
+    → Releases m n heap (end_at m heap) (Ok tt) (released block (heap + 16) (items_at m heap)) → IsResized m n heap block change (Ok 0) 0
+resize_freed m n heap block change total sound is live few releases =
+    let t : IsThere m heap = is_there m heap is in
+    let h : Part = part_at t.kind m heap t.end in
+    let test : nat_le (changed_by total change) 4 ≡ true = le-leb (changed_by total change) 4 few in
+    let limit : end_at m heap ≡ t.end = (heap_of-part t.kind m heap t.end sound t.found).limit in
+    let l : IsLeft m n (released_in (store_of m) h (released block (heap + 16) (items_at m heap))) (Ok tt) =
+    leaves_release t.kind m n heap t.end (Ok tt) (released block (heap + 16) (items_at m heap)) sound t.found
+    (subst (λ (e : ℕ). Releases m n heap e (Ok tt) (released block (heap + 16) (items_at m heap))) limit releases) in
+    record {
+      store = rw (by_total m heap block change t (Some total) live, test) (freed_given (store_of m) (store_of n) (released_in (store_of m) h (released block (heap + 16) (items_at m heap))) (Ok 0) refl l.store);
+      sound = l.sound;
+      probes = sym (rw test at (probes_by_total m heap block change t (Some total) live));
+    }
+
+-- the block stays where it is
+in_place_given : (m n : AddressMap) (kind : Kind) (heap end block old new : ℕ) (o : Option (List Item)) → IsSound (store_of m)
+    → find_part heap (store_of m).heaps ≡ Some (part_at kind m heap end) → Refits m n heap end true o
+    → IsGiven m n (resized_or_moved (store_of m) (part_at kind m heap end) block old new o) (Ok block)
+in_place_given m n kind heap end block old new None sound found refits = absurd (false≢true (sym refits.0))
+in_place_given m n kind heap end block old new (Some items) sound found refits = record {
+  store = (store_held m n (part_at kind m heap end) items sound found refits.1, refl);
+  sound = sound_held m n (part_at kind m heap end) items sound found refits.1;
+  same = refits.1.same;
+}
+
+in_place_unmoved : (m n : AddressMap) (h : Part) (heap end block new : ℕ) (o : Option (List Item)) → Refits m n heap end true o → refit_probes h block new o ≡ 0
+in_place_unmoved m n h heap end block new None refits = absurd (false≢true (sym refits.0))
+in_place_unmoved m n h heap end block new (Some items) refits = refl
+
+pub resize_refitted : (m n : AddressMap) (heap block change total : ℕ) → IsSound (store_of m) → is_some (find_part heap (store_of m).heaps) ≡ true
+    → live_total block (heap + 16) (items_at m heap) ≡ Some total → 4 < changed_by total change
+    → Refits m n heap (end_at m heap) true (resized_in_place block (heap + end_at m heap) (round_up_8 (changed_by total change)) (heap + 16) (items_at m heap))
+    → IsResized m n heap block change (Ok block) 0
+resize_refitted m n heap block change total sound is live more refits =
+    let t : IsThere m heap = is_there m heap is in
+    let h : Part = part_at t.kind m heap t.end in
+    let new : ℕ = round_up_8 (changed_by total change) in
+    let test : nat_le (changed_by total change) 4 ≡ false = lt-leb (changed_by total change) 4 more in
+    let limit : end_at m heap ≡ t.end = (heap_of-part t.kind m heap t.end sound t.found).limit in
+    let here : Refits m n heap t.end true (resized_in_place block (heap + t.end) new (heap + 16) (items_at m heap)) =
+    subst (λ (e : ℕ). Refits m n heap e true (resized_in_place block (heap + e) new (heap + 16) (items_at m heap))) limit refits in
+    let g = in_place_given m n t.kind heap t.end block total new (resized_in_place block (heap + t.end) new (heap + 16) (items_at m heap)) sound t.found here in
+    let none = in_place_unmoved m n h heap t.end block new (resized_in_place block (heap + t.end) new (heap + 16) (items_at m heap)) here in
+    record {
+      store = rw (by_total m heap block change t (Some total) live, test) g.store;
+      sound = g.sound;
+      probes = sym (rw (test, none) at (probes_by_total m heap block change t (Some total) live));
+    }
+
+-- it cannot stay where it is
+pub unrefitted : (m n : AddressMap) (heap end : ℕ) (o : Option (List Item)) → Refits m n heap end false o → (o ≡ None) × (n ≡ m)
+unrefitted m n heap end None refits = (refl, refits.1)
+unrefitted m n heap end (Some items) refits = absurd (false≢true refits.0)
+
+mapped_none : (f : List Item → List Item) (x : Option (List Item)) → option_map f x ≡ None → x ≡ None
+mapped_none f None h = refl
+mapped_none f (Some xs) h = absurd (let some : Some (f xs) ≡ None = h in cc)
+
+refitted_none : (room new old : ℕ) (xs : List Item) → refitted room new old xs ≡ None → old < new
+refitted_none room new old xs none = elim (cases_Bool (nat_le new old)) [
+  | inl less ↦ let none' = rw less at none in absurd (let some = none' in cc)
+  | inr more ↦ leb-false new old more
+]
+
+pub larger_where_none : (block end new at total : ℕ) (xs : List Item) → live_total block at xs ≡ Some total → resized_in_place block end new at xs ≡ None → total < new
+larger_where_none block end new at total [] live none = absurd (let nothing : None ≡ Some total = live in cc)
+larger_where_none block end new at total (Live t ∷ xs) live none = elim (cases_Bool (at + 4 == block)) [
+  | inl here ↦
+      let live' = rw here at live in
+      let same : t ≡ total = cc in
+      subst (λ (n : ℕ). n < new) same (refitted_none (end - at) new t xs (rw here at none))
+  | inr other ↦ larger_where_none block end new (at + t) total xs (rw other at live) (mapped_none (λ ys. Live t ∷ ys) (resized_in_place block end new (at + t) xs) (rw other at none))
+]
+larger_where_none block end new at total (Free t ∷ xs) live none =
+    larger_where_none block end new (at + t) total xs live (mapped_none (λ ys. Free t ∷ ys) (resized_in_place block end new (at + t) xs) none)
+
+pub resize_moved : (m n : AddressMap) (heap block change total more : ℕ) (answer : Result ℕ ErrorNumber) → IsSound (store_of m)
+    → is_some (find_part heap (store_of m).heaps) ≡ true → live_total block (heap + 16) (items_at m heap) ≡ Some total → 4 < changed_by total change
+    → resized_in_place block (heap + end_at m heap) (round_up_8 (changed_by total change)) (heap + 16) (items_at m heap) ≡ None
+    → ((h : Part) → find_part heap (store_of m).heaps ≡ Some h
+    → Gives (store_of m) (moved (store_of m) h block total (round_up_8 (changed_by total change))) answer (store_of n))
+    → IsSound (store_of n)
+    → ((h : Part) → find_part heap (store_of m).heaps ≡ Some h
+    → more ≡ move_probes h block (round_up_8 (changed_by total change)) (claimed (round_up_8 (changed_by total change)) (h.end - 16) h.items))
+    → IsResized m n heap block change answer more
+resize_moved m n heap block change total more answer sound is live large none store kept probes =
+    let t : IsThere m heap = is_there m heap is in
+    let h : Part = part_at t.kind m heap t.end in
+    let new : ℕ = round_up_8 (changed_by total change) in
+    let test : nat_le (changed_by total change) 4 ≡ false = lt-leb (changed_by total change) 4 large in
+    let limit : end_at m heap ≡ t.end = (heap_of-part t.kind m heap t.end sound t.found).limit in
+    let none' : resized_in_place block (heap + t.end) new (heap + 16) (items_at m heap) ≡ None =
+    subst (λ (e : ℕ). resized_in_place block (heap + e) new (heap + 16) (items_at m heap) ≡ None) limit none in
+    record {
+      store = rw (by_total m heap block change t (Some total) live, test, none') (store h t.found);
+      sound = kept;
+      probes = ap (λ (k : ℕ). begun_below block (heap + 16) (items_at m heap) + k) (probes h t.found)
+          ∙ sym (rw (test, none') at (probes_by_total m heap block change t (Some total) live));
+    }
+
+-- the counts are small
+free_small : (xs : List Item) → AreTotals xs → free_count xs ≤ size_of xs
+free_small [] totals = omega arith
+free_small (Live t ∷ xs) totals = omega (arith, free_small xs totals.1)
+free_small (Free t ∷ xs) totals = omega (arith, free_small xs totals.1, total_facts t totals.0)
+
+pub move_few : (m : AddressMap) (heap block new more : ℕ) → IsSound (store_of m) → is_some (find_part heap (store_of m).heaps) ≡ true
+    → ((h : Part) → find_part heap (store_of m).heaps ≡ Some h → more ≡ move_probes h block new (claimed new (h.end - 16) h.items))
+    → more ≤ 2 * 2 ^ 26
+move_few m heap block new more sound is probes =
+    let t : IsThere m heap = is_there m heap is in
+    let h : Part = part_at t.kind m heap t.end in
+    let i : IsHeapIn (bytes_of m) heap t.end (items_at m heap) = heap_of-part t.kind m heap t.end sound t.found in
+    let top : heap + t.end ≤ 2 ^ 26 = heap_below m heap t.end (items_at m heap) i in
+    omega (arith, probes h t.found, move_most h block new (claimed new (h.end - 16) h.items) (claim_no_more new (h.end - 16) h.items), free_small (items_at m heap) i.totals, i.inside)

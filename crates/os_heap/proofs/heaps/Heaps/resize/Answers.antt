@@ -1,0 +1,29 @@
+use Rattle.std.proofs.Common.{refl, sym}
+use Rattle.os_heap.specs.Store.{store_of}
+use Rattle.os_heap.proofs.Bounds.{in_bounds}
+use Rattle.os_heap.proofs.Resizing.{resize_nowhere}
+use Rattle.os_heap.proofs.heaps.Heaps.resize.Goals as goal
+
+pub resize_block-requires-clause-found : goal.resize_block-requires-clause-found
+resize_block-requires-clause-found c = rw c.in-Some.ensures.1 refl
+
+pub returns-in-Some : goal.returns-in-Some
+returns-in-Some c =
+    record {
+      store = c.resize_block.ensures.store;
+      sound = c.resize_block.ensures.sound;
+      layout = c.resize_block.ensures.layout;
+      probes = c.resize_block.ensures.probes;
+      bounds = rw c.resize_block.ensures.probes (in_bounds (store_of c.args.map.now) c.args.heap c.args.block c.args.change);
+    }
+
+pub returns-in-None : goal.returns-in-None
+returns-in-None c =
+    let none = resize_nowhere c.args.map.now c.args.heap c.args.block c.args.change c.in-None.ensures in
+    record {
+      store = rw none.0 (refl, refl);
+      sound = c.requires;
+      layout = refl;
+      probes = sym none.1;
+      bounds = rw c.in-None.ensures refl;
+    }

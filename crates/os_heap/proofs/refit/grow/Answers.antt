@@ -1,0 +1,196 @@
+use Rattle.std.proofs.Common.{◌≡◌, ◌≢◌, ◌+◌, ◌-◌, ◌<◌, ◌≤◌, ◌∙◌, ap, sym, arith}
+use Rattle.address_map.specs.Bytes.{word_at}
+use Rattle.address_map.specs.Memory.{byte_at}
+use Rattle.os_heap.specs.Links.{end_at}
+use Rattle.os_heap.proofs.Unique.{total_facts}
+use Rattle.os_heap.proofs.Replace.{heap_mapped}
+use Rattle.os_heap.proofs.Writing.{still_mapped}
+use Rattle.os_heap.proofs.Freeing.{next_free_facts}
+use Rattle.os_heap.proofs.Refitting.{place_facts}
+use Rattle.os_heap.proofs.Refitted.{refits_part, refits_whole, refits_full, refits_blocked}
+use Rattle.os_heap.proofs.refit.grow.Goals as goal
+
+pub word-total-requires-clause-aligned : goal.word-total-requires-clause-aligned
+word-total-requires-clause-aligned c =
+    let f = place_facts c.args.map.now c.args.heap (end_at c.args.map.now c.args.heap) c.args.block c.args.cursor.now.from c.args.cursor.now.at c.args.cursor.now.free c.args.cursor.now.gap c.requires.heap c.requires.block in
+    f.facts.whole
+
+pub word-total-requires-clause-mapped : goal.word-total-requires-clause-mapped
+word-total-requires-clause-mapped c =
+    let f = place_facts c.args.map.now c.args.heap (end_at c.args.map.now c.args.heap) c.args.block c.args.cursor.now.from c.args.cursor.now.at c.args.cursor.now.free c.args.cursor.now.gap c.requires.heap c.requires.block in
+    heap_mapped c.args.map.now c.args.heap (end_at c.args.map.now c.args.heap) _ _ c.requires.heap (omega (arith, f.facts.low)) (omega (arith, f.facts.high, f.facts.size))
+
+pub overflow_add-behind : goal.overflow_add-behind
+overflow_add-behind c =
+    let f = place_facts c.args.map.now c.args.heap (end_at c.args.map.now c.args.heap) c.args.block c.args.cursor.now.from c.args.cursor.now.at c.args.cursor.now.free c.args.cursor.now.gap c.requires.heap c.requires.block in
+    let own = c.word-total.ensures ∙ f.facts.total_word in
+    omega (arith, own, f.facts.high, f.facts.top)
+
+pub overflow_add-behind-2 : goal.overflow_add-behind-2
+overflow_add-behind-2 c =
+    let f = place_facts c.args.map.now c.args.heap (end_at c.args.map.now c.args.heap) c.args.block c.args.cursor.now.from c.args.cursor.now.at c.args.cursor.now.free c.args.cursor.now.gap c.requires.heap c.requires.block in
+    let own = c.word-total.ensures ∙ f.facts.total_word in
+    let here : c.args.cursor.now.at + c.requires.block.total ≡ c.args.cursor.now.free = sym (ap (λ n. c.args.cursor.now.at + n) own) ∙ c.if-behind-cursor.false in
+    let k = next_free_facts c.args.map.now c.args.heap (end_at c.args.map.now c.args.heap) c.args.block c.args.cursor.now.from c.args.cursor.now.at c.args.cursor.now.free c.args.cursor.now.gap c.requires.heap c.requires.block here in
+    omega (arith, own, k.facts.high, k.facts.top, k.facts.size)
+
+pub word-requires-clause-aligned : goal.word-requires-clause-aligned
+word-requires-clause-aligned c =
+    let f = place_facts c.args.map.now c.args.heap (end_at c.args.map.now c.args.heap) c.args.block c.args.cursor.now.from c.args.cursor.now.at c.args.cursor.now.free c.args.cursor.now.gap c.requires.heap c.requires.block in
+    let own = c.word-total.ensures ∙ f.facts.total_word in
+    let here : c.args.cursor.now.at + c.requires.block.total ≡ c.args.cursor.now.free = sym (ap (λ n. c.args.cursor.now.at + n) own) ∙ c.if-behind-cursor.false in
+    let k = next_free_facts c.args.map.now c.args.heap (end_at c.args.map.now c.args.heap) c.args.block c.args.cursor.now.from c.args.cursor.now.at c.args.cursor.now.free c.args.cursor.now.gap c.requires.heap c.requires.block here in
+    rw own (omega (arith, k.facts.whole))
+
+pub word-requires-clause-mapped : goal.word-requires-clause-mapped
+word-requires-clause-mapped c =
+    let f = place_facts c.args.map.now c.args.heap (end_at c.args.map.now c.args.heap) c.args.block c.args.cursor.now.from c.args.cursor.now.at c.args.cursor.now.free c.args.cursor.now.gap c.requires.heap c.requires.block in
+    let own = c.word-total.ensures ∙ f.facts.total_word in
+    let here : c.args.cursor.now.at + c.requires.block.total ≡ c.args.cursor.now.free = sym (ap (λ n. c.args.cursor.now.at + n) own) ∙ c.if-behind-cursor.false in
+    let k = next_free_facts c.args.map.now c.args.heap (end_at c.args.map.now c.args.heap) c.args.block c.args.cursor.now.from c.args.cursor.now.at c.args.cursor.now.free c.args.cursor.now.gap c.requires.heap c.requires.block here in
+    rw own (heap_mapped c.args.map.now c.args.heap (end_at c.args.map.now c.args.heap) _ _ c.requires.heap (omega (arith, k.facts.low)) (omega (arith, k.facts.high, k.facts.size)))
+
+pub overflow_add-room : goal.overflow_add-room
+overflow_add-room c =
+    let f = place_facts c.args.map.now c.args.heap (end_at c.args.map.now c.args.heap) c.args.block c.args.cursor.now.from c.args.cursor.now.at c.args.cursor.now.free c.args.cursor.now.gap c.requires.heap c.requires.block in
+    let own = c.word-total.ensures ∙ f.facts.total_word in
+    let here : c.args.cursor.now.at + c.requires.block.total ≡ c.args.cursor.now.free = sym (ap (λ n. c.args.cursor.now.at + n) own) ∙ c.if-behind-cursor.false in
+    let k = next_free_facts c.args.map.now c.args.heap (end_at c.args.map.now c.args.heap) c.args.block c.args.cursor.now.from c.args.cursor.now.at c.args.cursor.now.free c.args.cursor.now.gap c.requires.heap c.requires.block here in
+    let other = rw own at c.word.ensures in
+    let sum = other ∙ k.facts.total_word in
+    omega (arith, own, sum, k.facts.high, k.facts.top)
+
+pub follow-next-requires-clause-below : goal.follow-next-requires-clause-below
+follow-next-requires-clause-below c =
+    let f = place_facts c.args.map.now c.args.heap (end_at c.args.map.now c.args.heap) c.args.block c.args.cursor.now.from c.args.cursor.now.at c.args.cursor.now.free c.args.cursor.now.gap c.requires.heap c.requires.block in
+    let own = c.word-total.ensures ∙ f.facts.total_word in
+    let here : c.args.cursor.now.at + c.requires.block.total ≡ c.args.cursor.now.free = sym (ap (λ n. c.args.cursor.now.at + n) own) ∙ c.if-behind-cursor.false in
+    let k = next_free_facts c.args.map.now c.args.heap (end_at c.args.map.now c.args.heap) c.args.block c.args.cursor.now.from c.args.cursor.now.at c.args.cursor.now.free c.args.cursor.now.gap c.requires.heap c.requires.block here in
+    rw own (omega (arith, k.facts.high, k.facts.top, k.facts.size))
+
+pub follow-next-requires-clause-aligned : goal.follow-next-requires-clause-aligned
+follow-next-requires-clause-aligned c =
+    let f = place_facts c.args.map.now c.args.heap (end_at c.args.map.now c.args.heap) c.args.block c.args.cursor.now.from c.args.cursor.now.at c.args.cursor.now.free c.args.cursor.now.gap c.requires.heap c.requires.block in
+    let own = c.word-total.ensures ∙ f.facts.total_word in
+    let here : c.args.cursor.now.at + c.requires.block.total ≡ c.args.cursor.now.free = sym (ap (λ n. c.args.cursor.now.at + n) own) ∙ c.if-behind-cursor.false in
+    let k = next_free_facts c.args.map.now c.args.heap (end_at c.args.map.now c.args.heap) c.args.block c.args.cursor.now.from c.args.cursor.now.at c.args.cursor.now.free c.args.cursor.now.gap c.requires.heap c.requires.block here in
+    rw (own, k.link) k.facts.whole
+
+pub follow-next-requires-clause-mapped : goal.follow-next-requires-clause-mapped
+follow-next-requires-clause-mapped c =
+    let f = place_facts c.args.map.now c.args.heap (end_at c.args.map.now c.args.heap) c.args.block c.args.cursor.now.from c.args.cursor.now.at c.args.cursor.now.free c.args.cursor.now.gap c.requires.heap c.requires.block in
+    let own = c.word-total.ensures ∙ f.facts.total_word in
+    let here : c.args.cursor.now.at + c.requires.block.total ≡ c.args.cursor.now.free = sym (ap (λ n. c.args.cursor.now.at + n) own) ∙ c.if-behind-cursor.false in
+    let k = next_free_facts c.args.map.now c.args.heap (end_at c.args.map.now c.args.heap) c.args.block c.args.cursor.now.from c.args.cursor.now.at c.args.cursor.now.free c.args.cursor.now.gap c.requires.heap c.requires.block here in
+    rw (own, k.link) (heap_mapped c.args.map.now c.args.heap (end_at c.args.map.now c.args.heap) _ _ c.requires.heap (omega (arith, k.facts.low)) (omega (arith, k.facts.high, k.facts.size)))
+
+pub follow-next-requires-clause-fits : goal.follow-next-requires-clause-fits
+follow-next-requires-clause-fits c =
+    let f = place_facts c.args.map.now c.args.heap (end_at c.args.map.now c.args.heap) c.args.block c.args.cursor.now.from c.args.cursor.now.at c.args.cursor.now.free c.args.cursor.now.gap c.requires.heap c.requires.block in
+    let own = c.word-total.ensures ∙ f.facts.total_word in
+    let here : c.args.cursor.now.at + c.requires.block.total ≡ c.args.cursor.now.free = sym (ap (λ n. c.args.cursor.now.at + n) own) ∙ c.if-behind-cursor.false in
+    let k = next_free_facts c.args.map.now c.args.heap (end_at c.args.map.now c.args.heap) c.args.block c.args.cursor.now.from c.args.cursor.now.at c.args.cursor.now.free c.args.cursor.now.gap c.requires.heap c.requires.block here in
+    rw (own, k.onward) (omega (arith, k.facts.next_high))
+
+pub returns-then-behind-cursor : goal.returns-then-behind-cursor
+returns-then-behind-cursor c =
+    let f = place_facts c.args.map.now c.args.heap (end_at c.args.map.now c.args.heap) c.args.block c.args.cursor.now.from c.args.cursor.now.at c.args.cursor.now.free c.args.cursor.now.gap c.requires.heap c.requires.block in
+    let own = c.word-total.ensures ∙ f.facts.total_word in
+    let larger : c.requires.block.total < c.args.needed = rw f.facts.total_word at c.requires.larger in
+    let inside : c.args.cursor.now.at + c.requires.block.total ≢ c.args.heap + word_at (byte_at c.args.map.now) (c.args.heap + 8) =
+    λ e. c.requires.inside (ap (λ n. c.args.cursor.now.at + n) f.facts.total_word ∙ e) in
+    let other : c.args.cursor.now.at + c.requires.block.total ≢ c.args.cursor.now.free = λ e. c.if-behind-cursor.true (ap (λ n. c.args.cursor.now.at + n) own ∙ e) in
+    refits_blocked c.args.map.now c.args.heap (end_at c.args.map.now c.args.heap) _ c.args.needed c.args.block c.args.cursor.now.from c.args.cursor.now.at c.args.cursor.now.free c.args.cursor.now.gap c.requires.heap c.requires.block inside other larger
+
+pub returns-then-needed-from : goal.returns-then-needed-from
+returns-then-needed-from c =
+    let f = place_facts c.args.map.now c.args.heap (end_at c.args.map.now c.args.heap) c.args.block c.args.cursor.now.from c.args.cursor.now.at c.args.cursor.now.free c.args.cursor.now.gap c.requires.heap c.requires.block in
+    let own = c.word-total.ensures ∙ f.facts.total_word in
+    let here : c.args.cursor.now.at + c.requires.block.total ≡ c.args.cursor.now.free = sym (ap (λ n. c.args.cursor.now.at + n) own) ∙ c.if-behind-cursor.false in
+    let k = next_free_facts c.args.map.now c.args.heap (end_at c.args.map.now c.args.heap) c.args.block c.args.cursor.now.from c.args.cursor.now.at c.args.cursor.now.free c.args.cursor.now.gap c.requires.heap c.requires.block here in
+    let other = rw own at c.word.ensures in
+    let sum = other ∙ k.facts.total_word in
+    refits_full c.args.map.now c.args.heap (end_at c.args.map.now c.args.heap) _ c.args.needed c.args.block c.args.cursor.now.from c.args.cursor.now.at c.args.cursor.now.free c.args.cursor.now.gap c.requires.heap c.requires.block k (omega (arith, own, sum))
+
+pub overflow_cast-grown : goal.overflow_cast-grown
+overflow_cast-grown c =
+    let f = place_facts c.args.map.now c.args.heap (end_at c.args.map.now c.args.heap) c.args.block c.args.cursor.now.from c.args.cursor.now.at c.args.cursor.now.free c.args.cursor.now.gap c.requires.heap c.requires.block in
+    let own = c.word-total.ensures ∙ f.facts.total_word in
+    let here : c.args.cursor.now.at + c.requires.block.total ≡ c.args.cursor.now.free = sym (ap (λ n. c.args.cursor.now.at + n) own) ∙ c.if-behind-cursor.false in
+    let k = next_free_facts c.args.map.now c.args.heap (end_at c.args.map.now c.args.heap) c.args.block c.args.cursor.now.from c.args.cursor.now.at c.args.cursor.now.free c.args.cursor.now.gap c.requires.heap c.requires.block here in
+    let other = rw own at c.word.ensures in
+    let sum = other ∙ k.facts.total_word in
+    omega (arith, own, sum, k.facts.high, k.facts.top)
+
+pub last_link-from-requires : goal.last_link-from-requires
+last_link-from-requires c =
+    let f = place_facts c.args.map.now c.args.heap (end_at c.args.map.now c.args.heap) c.args.block c.args.cursor.now.from c.args.cursor.now.at c.args.cursor.now.free c.args.cursor.now.gap c.requires.heap c.requires.block in
+    f.gap_low
+
+pub put_link-requires-clause-below : goal.put_link-requires-clause-below
+put_link-requires-clause-below c =
+    let f = place_facts c.args.map.now c.args.heap (end_at c.args.map.now c.args.heap) c.args.block c.args.cursor.now.from c.args.cursor.now.at c.args.cursor.now.free c.args.cursor.now.gap c.requires.heap c.requires.block in
+    rw c.last_link-from.ensures (omega (arith, f.last.below, f.facts.high, f.facts.top))
+
+pub put_link-requires-clause-aligned : goal.put_link-requires-clause-aligned
+put_link-requires-clause-aligned c =
+    let f = place_facts c.args.map.now c.args.heap (end_at c.args.map.now c.args.heap) c.args.block c.args.cursor.now.from c.args.cursor.now.at c.args.cursor.now.free c.args.cursor.now.gap c.requires.heap c.requires.block in
+    rw c.last_link-from.ensures f.last.aligned
+
+pub put_link-requires-clause-mapped : goal.put_link-requires-clause-mapped
+put_link-requires-clause-mapped c =
+    let f = place_facts c.args.map.now c.args.heap (end_at c.args.map.now c.args.heap) c.args.block c.args.cursor.now.from c.args.cursor.now.at c.args.cursor.now.free c.args.cursor.now.gap c.requires.heap c.requires.block in
+    rw c.last_link-from.ensures (heap_mapped c.args.map.now c.args.heap (end_at c.args.map.now c.args.heap) _ _ c.requires.heap (omega (arith, f.last.low)) (omega (arith, f.last.high, f.facts.high)))
+
+pub put-requires-clause-aligned : goal.put-requires-clause-aligned
+put-requires-clause-aligned c =
+    let f = place_facts c.args.map.now c.args.heap (end_at c.args.map.now c.args.heap) c.args.block c.args.cursor.now.from c.args.cursor.now.at c.args.cursor.now.free c.args.cursor.now.gap c.requires.heap c.requires.block in
+    f.facts.whole
+
+pub put-requires-clause-mapped : goal.put-requires-clause-mapped
+put-requires-clause-mapped c =
+    let f = place_facts c.args.map.now c.args.heap (end_at c.args.map.now c.args.heap) c.args.block c.args.cursor.now.from c.args.cursor.now.at c.args.cursor.now.free c.args.cursor.now.gap c.requires.heap c.requires.block in
+    still_mapped _ _ _ c.put_link.ensures.layout (heap_mapped c.args.map.now c.args.heap (end_at c.args.map.now c.args.heap) _ _ c.requires.heap (omega (arith, f.facts.low)) (omega (arith, f.facts.high, f.facts.size)))
+
+pub returns-then-left-eq0 : goal.returns-then-left-eq0
+returns-then-left-eq0 c =
+    let f = place_facts c.args.map.now c.args.heap (end_at c.args.map.now c.args.heap) c.args.block c.args.cursor.now.from c.args.cursor.now.at c.args.cursor.now.free c.args.cursor.now.gap c.requires.heap c.requires.block in
+    let own = c.word-total.ensures ∙ f.facts.total_word in
+    let here : c.args.cursor.now.at + c.requires.block.total ≡ c.args.cursor.now.free = sym (ap (λ n. c.args.cursor.now.at + n) own) ∙ c.if-behind-cursor.false in
+    let k = next_free_facts c.args.map.now c.args.heap (end_at c.args.map.now c.args.heap) c.args.block c.args.cursor.now.from c.args.cursor.now.at c.args.cursor.now.free c.args.cursor.now.gap c.requires.heap c.requires.block here in
+    let other = rw own at c.word.ensures in
+    let sum = other ∙ k.facts.total_word in
+    let larger : c.requires.block.total < c.args.needed = rw f.facts.total_word at c.requires.larger in
+    let fits : c.args.needed ≤ c.requires.block.total + k.total = omega (arith, own, sum) in
+    let next = rw own at c.follow-next.ensures in
+    let none : c.requires.block.total + k.total - c.args.needed ≡ 0 = omega (arith, own, sum) in
+    let one = rw c.last_link-from.ensures at c.put_link.ensures.word in
+    refits_whole c.args.map.now _ c.args.heap (end_at c.args.map.now c.args.heap) _ c.args.needed c.follow-next.result c.args.block c.args.cursor.now.from c.args.cursor.now.at c.args.cursor.now.free c.args.cursor.now.gap _ c.requires.heap c.requires.block k
+    (c.put.ensures.layout ∙ c.put_link.ensures.layout) c.requires.total larger fits none (next ∙ k.onward) one c.put.ensures.word
+
+pub divide-requires-clause-room : goal.divide-requires-clause-room
+divide-requires-clause-room c =
+    let f = place_facts c.args.map.now c.args.heap (end_at c.args.map.now c.args.heap) c.args.block c.args.cursor.now.from c.args.cursor.now.at c.args.cursor.now.free c.args.cursor.now.gap c.requires.heap c.requires.block in
+    let own = c.word-total.ensures ∙ f.facts.total_word in
+    let here : c.args.cursor.now.at + c.requires.block.total ≡ c.args.cursor.now.free = sym (ap (λ n. c.args.cursor.now.at + n) own) ∙ c.if-behind-cursor.false in
+    let k = next_free_facts c.args.map.now c.args.heap (end_at c.args.map.now c.args.heap) c.args.block c.args.cursor.now.from c.args.cursor.now.at c.args.cursor.now.free c.args.cursor.now.gap c.requires.heap c.requires.block here in
+    let other = rw own at c.word.ensures in
+    let sum = other ∙ k.facts.total_word in
+    let n = total_facts c.args.needed c.requires.total in
+    omega (arith, own, sum, n.1, f.facts.eighths, k.facts.eighths, k.facts.high)
+
+pub returns : goal.returns
+returns c =
+    let f = place_facts c.args.map.now c.args.heap (end_at c.args.map.now c.args.heap) c.args.block c.args.cursor.now.from c.args.cursor.now.at c.args.cursor.now.free c.args.cursor.now.gap c.requires.heap c.requires.block in
+    let own = c.word-total.ensures ∙ f.facts.total_word in
+    let here : c.args.cursor.now.at + c.requires.block.total ≡ c.args.cursor.now.free = sym (ap (λ n. c.args.cursor.now.at + n) own) ∙ c.if-behind-cursor.false in
+    let k = next_free_facts c.args.map.now c.args.heap (end_at c.args.map.now c.args.heap) c.args.block c.args.cursor.now.from c.args.cursor.now.at c.args.cursor.now.free c.args.cursor.now.gap c.requires.heap c.requires.block here in
+    let other = rw own at c.word.ensures in
+    let sum = other ∙ k.facts.total_word in
+    let larger : c.requires.block.total < c.args.needed = rw f.facts.total_word at c.requires.larger in
+    let fits : c.args.needed ≤ c.requires.block.total + k.total = omega (arith, own, sum) in
+    let next = rw own at c.follow-next.ensures in
+    let some : c.requires.block.total + k.total - c.args.needed ≢ 0 = λ e. c.if-left-eq0.false (omega (arith, own, sum)) in
+    let words = rw (own, sum) at c.divide.ensures.words in
+    refits_part c.args.map.now _ c.args.heap (end_at c.args.map.now c.args.heap) _ c.args.needed c.follow-next.result c.args.block c.args.cursor.now.from c.args.cursor.now.at c.args.cursor.now.free c.args.cursor.now.gap c.requires.heap c.requires.block k
+    c.divide.ensures.layout c.requires.total larger fits some (next ∙ k.onward) words

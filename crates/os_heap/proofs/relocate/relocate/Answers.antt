@@ -1,0 +1,106 @@
+use Rattle.std.proofs.Common.{◌∙◌, arith}
+use Rattle.os_heap.specs.Store.{store_of}
+use Rattle.os_heap.proofs.Moving.{part_there, is_claimed, are_inside, is_copied, is_moved, moved_probes, probes_fit, is_refused}
+use Rattle.os_heap.proofs.relocate.relocate.Goals as goal
+
+pub returns-in_default-clause-store : goal.returns-in_default-clause-store
+returns-in_default-clause-store c =
+    λ h found. (is_refused c.args.map.now c.claim_total-claim.new.map c.args.heap c.args.block c.args.total c.args.needed h c.claim_total-claim.result.answer c.in_default.field-0 c.requires.sound found c.claim_total-claim.ensures.claim c.in_default.is).0
+
+pub returns-in_default-clause-probes : goal.returns-in_default-clause-probes
+returns-in_default-clause-probes c =
+    λ h found. c.claim_total-claim.ensures.probes ∙ (is_refused c.args.map.now c.claim_total-claim.new.map c.args.heap c.args.block c.args.total c.args.needed h c.claim_total-claim.result.answer c.in_default.field-0 c.requires.sound found c.claim_total-claim.ensures.claim c.in_default.is).1
+
+pub overflow_sub-total : goal.overflow_sub-total
+overflow_sub-total c =
+    let part = part_there c.args.heap (store_of c.args.map.now).heaps c.requires.found in
+    let claim = is_claimed c.args.map.now c.claim_total-claim.new.map c.args.heap c.args.block c.args.total c.args.needed c.in-Ok.new _ part c.requires.sound c.requires.live
+    c.claim_total-claim.ensures.claim c.in-Ok.is in
+    let inside = are_inside c.args.map.now c.claim_total-claim.new.map part.part.kind c.args.heap c.args.block c.args.total c.args.needed c.in-Ok.new c.requires.larger claim in
+    inside.least
+
+pub move_bytes-requires-clause-source : goal.move_bytes-requires-clause-source
+move_bytes-requires-clause-source c =
+    let part = part_there c.args.heap (store_of c.args.map.now).heaps c.requires.found in
+    let claim = is_claimed c.args.map.now c.claim_total-claim.new.map c.args.heap c.args.block c.args.total c.args.needed c.in-Ok.new _ part c.requires.sound c.requires.live
+    c.claim_total-claim.ensures.claim c.in-Ok.is in
+    let inside = are_inside c.args.map.now c.claim_total-claim.new.map part.part.kind c.args.heap c.args.block c.args.total c.args.needed c.in-Ok.new c.requires.larger claim in
+    inside.source
+
+pub move_bytes-requires-clause-target : goal.move_bytes-requires-clause-target
+move_bytes-requires-clause-target c =
+    let part = part_there c.args.heap (store_of c.args.map.now).heaps c.requires.found in
+    let claim = is_claimed c.args.map.now c.claim_total-claim.new.map c.args.heap c.args.block c.args.total c.args.needed c.in-Ok.new _ part c.requires.sound c.requires.live
+    c.claim_total-claim.ensures.claim c.in-Ok.is in
+    let inside = are_inside c.args.map.now c.claim_total-claim.new.map part.part.kind c.args.heap c.args.block c.args.total c.args.needed c.in-Ok.new c.requires.larger claim in
+    inside.target
+
+pub find_by_links-cursor-requires-clause-heap : goal.find_by_links-cursor-requires-clause-heap
+find_by_links-cursor-requires-clause-heap c =
+    let part = part_there c.args.heap (store_of c.args.map.now).heaps c.requires.found in
+    let claim = is_claimed c.args.map.now c.claim_total-claim.new.map c.args.heap c.args.block c.args.total c.args.needed c.in-Ok.new _ part c.requires.sound c.requires.live
+    c.claim_total-claim.ensures.claim c.in-Ok.is in
+    let copy = is_copied c.args.map.now c.claim_total-claim.new.map c.move_bytes.new.self part.part.kind c.args.heap c.args.block c.args.total c.args.needed c.in-Ok.new
+    c.requires.larger claim c.move_bytes.ensures.layout c.move_bytes.ensures.bytes in
+    copy.there
+
+pub find_by_links-cursor-requires-clause-live : goal.find_by_links-cursor-requires-clause-live
+find_by_links-cursor-requires-clause-live c =
+    let part = part_there c.args.heap (store_of c.args.map.now).heaps c.requires.found in
+    let claim = is_claimed c.args.map.now c.claim_total-claim.new.map c.args.heap c.args.block c.args.total c.args.needed c.in-Ok.new _ part c.requires.sound c.requires.live
+    c.claim_total-claim.ensures.claim c.in-Ok.is in
+    let copy = is_copied c.args.map.now c.claim_total-claim.new.map c.move_bytes.new.self part.part.kind c.args.heap c.args.block c.args.total c.args.needed c.in-Ok.new
+    c.requires.larger claim c.move_bytes.ensures.layout c.move_bytes.ensures.bytes in
+    copy.live
+
+pub give_back-requires-clause-heap : goal.give_back-requires-clause-heap
+give_back-requires-clause-heap c =
+    let part = part_there c.args.heap (store_of c.args.map.now).heaps c.requires.found in
+    let claim = is_claimed c.args.map.now c.claim_total-claim.new.map c.args.heap c.args.block c.args.total c.args.needed c.in-Ok.new _ part c.requires.sound c.requires.live
+    c.claim_total-claim.ensures.claim c.in-Ok.is in
+    let copy = is_copied c.args.map.now c.claim_total-claim.new.map c.move_bytes.new.self part.part.kind c.args.heap c.args.block c.args.total c.args.needed c.in-Ok.new
+    c.requires.larger claim c.move_bytes.ensures.layout c.move_bytes.ensures.bytes in
+    copy.there
+
+pub overflow_add-result : goal.overflow_add-result
+overflow_add-result c =
+    let part = part_there c.args.heap (store_of c.args.map.now).heaps c.requires.found in
+    let claim = is_claimed c.args.map.now c.claim_total-claim.new.map c.args.heap c.args.block c.args.total c.args.needed c.in-Ok.new _ part c.requires.sound c.requires.live
+    c.claim_total-claim.ensures.claim c.in-Ok.is in
+    let copy = is_copied c.args.map.now c.claim_total-claim.new.map c.move_bytes.new.self part.part.kind c.args.heap c.args.block c.args.total c.args.needed c.in-Ok.new
+    c.requires.larger claim c.move_bytes.ensures.layout c.move_bytes.ensures.bytes in
+    let fit = probes_fit c.args.map.now c.claim_total-claim.new.map c.move_bytes.new.self part.part.kind c.args.heap c.args.block c.args.total c.args.needed c.in-Ok.new
+    claim copy c.requires.heap in
+    omega (arith, fit, c.claim_total-claim.ensures.probes, c.find_by_links-cursor.ensures.probes)
+
+pub returns-clause-store : goal.returns-clause-store
+returns-clause-store c =
+    let part = part_there c.args.heap (store_of c.args.map.now).heaps c.requires.found in
+    let claim = is_claimed c.args.map.now c.claim_total-claim.new.map c.args.heap c.args.block c.args.total c.args.needed c.in-Ok.new _ part c.requires.sound c.requires.live
+    c.claim_total-claim.ensures.claim c.in-Ok.is in
+    let copy = is_copied c.args.map.now c.claim_total-claim.new.map c.move_bytes.new.self part.part.kind c.args.heap c.args.block c.args.total c.args.needed c.in-Ok.new
+    c.requires.larger claim c.move_bytes.ensures.layout c.move_bytes.ensures.bytes in
+    let moved = is_moved c.args.map.now c.claim_total-claim.new.map c.move_bytes.new.self c.give_back.new.map part.part.kind c.args.heap c.args.block c.args.total c.args.needed
+    c.in-Ok.new claim copy c.move_bytes.ensures.layout c.give_back.ensures in
+    moved.store
+
+pub returns-clause-sound : goal.returns-clause-sound
+returns-clause-sound c =
+    let part = part_there c.args.heap (store_of c.args.map.now).heaps c.requires.found in
+    let claim = is_claimed c.args.map.now c.claim_total-claim.new.map c.args.heap c.args.block c.args.total c.args.needed c.in-Ok.new _ part c.requires.sound c.requires.live
+    c.claim_total-claim.ensures.claim c.in-Ok.is in
+    let copy = is_copied c.args.map.now c.claim_total-claim.new.map c.move_bytes.new.self part.part.kind c.args.heap c.args.block c.args.total c.args.needed c.in-Ok.new
+    c.requires.larger claim c.move_bytes.ensures.layout c.move_bytes.ensures.bytes in
+    let moved = is_moved c.args.map.now c.claim_total-claim.new.map c.move_bytes.new.self c.give_back.new.map part.part.kind c.args.heap c.args.block c.args.total c.args.needed
+    c.in-Ok.new claim copy c.move_bytes.ensures.layout c.give_back.ensures in
+    moved.sound
+
+pub returns-clause-probes : goal.returns-clause-probes
+returns-clause-probes c =
+    let part = part_there c.args.heap (store_of c.args.map.now).heaps c.requires.found in
+    let claim = is_claimed c.args.map.now c.claim_total-claim.new.map c.args.heap c.args.block c.args.total c.args.needed c.in-Ok.new _ part c.requires.sound c.requires.live
+    c.claim_total-claim.ensures.claim c.in-Ok.is in
+    let copy = is_copied c.args.map.now c.claim_total-claim.new.map c.move_bytes.new.self part.part.kind c.args.heap c.args.block c.args.total c.args.needed c.in-Ok.new
+    c.requires.larger claim c.move_bytes.ensures.layout c.move_bytes.ensures.bytes in
+    λ h found. rw (c.claim_total-claim.ensures.probes, c.find_by_links-cursor.ensures.probes)
+    (moved_probes c.args.map.now c.claim_total-claim.new.map c.move_bytes.new.self part.part.kind c.args.heap c.args.block c.args.total c.args.needed c.in-Ok.new h claim copy found)

@@ -1,0 +1,114 @@
+ghost use Rattle.std.specs.Prelude.{ℕ, ◌≡◌, ◌<◌, ◌+◌, ◌-◌, ◌%◌, ◌^◌, ◌&&◌, true, nat_lt, Some, Err, MatchResult};
+ghost use Rattle.profile.specs.Outcome.{Leaves};
+ghost use Rattle.address_map.specs.Memory.{place, bytes_of, free_pages, free_runs};
+ghost use Rattle.os_heap.specs.Changes.{changed, end_changed, ending, has_own_size};
+ghost use Rattle.os_heap.specs.Ends.{MayEnd};
+ghost use Rattle.os_heap.specs.Links.{IsHeapAt};
+ghost use Rattle.os_heap.specs.Store.{store_of, part_in, find_part, meets_any, IsSound};
+
+use crate::counted::Counted;
+use crate::heaps::{Heaps, find};
+use crate::init::{MOST_HEAP, is_heap_region, meets_any};
+use crate::sums::changed_by;
+use crate::words::{put, word};
+use address_map::{AddressMap, Kind, Region};
+use profile::ErrorNumber;
+
+impl Heaps {
+    /// Changes the size of a heap by `change`, a signed word in two's complement. Its items stay as they are.
+    ///
+    /// # Errors
+    ///
+    /// The first of these, and nothing is changed then: `HeapBadDesc` where no heap starts at `heap`, or it is that of the module area;
+    /// `HeapBadRegion` where `change` is no multiple of 4, the new size is not within 16 to 16,777,216, or not all of the range is mapped;
+    /// `HeapOverlaps` where what the heap grows by meets a recorded range; `HeapBadShrink` where the heap would end below its base.
+    ///
+    /// RISC OS 3 Programmer's Reference Manual, "OS_Heap", reason 5.
+    pub fn change_size(&self, map: &mut AddressMap, heap: u32, change: u32) -> Counted<()>
+        requires { IsSound (store_of map.old) }
+        ensures store { Leaves (store_of map.old) (changed (store_of map.old) heap change) result.answer (store_of map.new) }
+        ensures sound { IsSound (store_of map.new) }
+        ensures place { place map.new ≡ place map.old }
+        ensures pages { free_pages map.new ≡ free_pages map.old }
+        ensures runs { free_runs map.new ≡ free_runs map.old }
+        ensures probes { result.probes ≡ 0 }
+    {
+        Counted {
+            answer: change_end(map, heap, change),
+            probes: 0,
+        }
+    }
+}
+
+/// Whether a range of that kind is a heap whose size can change.
+fn has_own_size(kind: Kind) -> bool
+    ensures { result ≡ has_own_size kind }
+{
+    matches!(kind, Kind::Heap)
+}
+
+/// Changes the end of a heap, where nothing speaks against it.
+fn change_end(map: &mut AddressMap, heap: u32, change: u32) -> Result<(), ErrorNumber>
+    requires { IsSound (store_of map.old) }
+    ensures store { Leaves (store_of map.old) (changed (store_of map.old) heap change) result (store_of map.new) }
+    ensures sound { IsSound (store_of map.new) }
+    ensures place { place map.new ≡ place map.old }
+    ensures pages { free_pages map.new ≡ free_pages map.old }
+    ensures runs { free_runs map.new ≡ free_runs map.old }
+{
+    let Some(region) = find(map, heap) else {
+        return Err(ErrorNumber::HeapBadDesc);
+    };
+    if !has_own_size(region.kind) {
+        return Err(ErrorNumber::HeapBadDesc);
+    }
+    let end = changed_by(region.len, change);
+    if change % 4 != 0 || end > u64::from(MOST_HEAP) {
+        return Err(ErrorNumber::HeapBadRegion);
+    }
+    let end = end as u32;
+    may_end(map, &region, end)?;
+    set_end(map, &region, end);
+    Ok(())
+}
+
+/// Whether a heap may have another end.
+fn may_end(map: &AddressMap, region: &Region, end: u32) -> Result<(), ErrorNumber>
+    requires { IsHeapAt map.now region.now.at region.now.len }
+    ensures { MatchResult result (λ _. MayEnd (store_of map.now) (part_in (bytes_of map.now) region.now) end) (λ e. (change : ℕ) → change % 4 ≡ 0 → end_changed (store_of map.now) (part_in (bytes_of map.now) region.now) change end ≡ Err e) }
+{
+    if !is_heap_region(map, region.at, end) {
+        return Err(ErrorNumber::HeapBadRegion);
+    }
+    if overlaps(map, region, end) {
+        return Err(ErrorNumber::HeapOverlaps);
+    }
+    if end < word(map, region.at + 8) {
+        return Err(ErrorNumber::HeapBadShrink);
+    }
+    Ok(())
+}
+
+/// Whether what a heap grows by up to another end meets a recorded range.
+fn overlaps(map: &AddressMap, region: &Region, end: u32) -> bool
+    requires { region.now.at + region.now.len < 2 ^ 32 }
+    ensures { result ≡ (nat_lt region.now.len end && meets_any (region.now.at + region.now.len) (end - region.now.len) (store_of map.now)) }
+{
+    region.len < end && meets_any(map, region.at + region.len, end - region.len)
+}
+
+/// Writes the end of a heap, and records its range anew.
+fn set_end(map: &mut AddressMap, region: &Region, end: u32)
+    requires kind { has_own_size region.now.kind ≡ true }
+    requires found { find_part region.now.at (store_of map.old).heaps ≡ Some (part_in (bytes_of map.old) region.now) }
+    requires may { MayEnd (store_of map.old) (part_in (bytes_of map.old) region.now) end }
+    requires sound { IsSound (store_of map.old) }
+    ensures store { store_of map.new ≡ ending (store_of map.old) (part_in (bytes_of map.old) region.now) end }
+    ensures sound { IsSound (store_of map.new) }
+    ensures place { place map.new ≡ place map.old }
+    ensures pages { free_pages map.new ≡ free_pages map.old }
+    ensures runs { free_runs map.new ≡ free_runs map.old }
+{
+    put(map, region.at + 12, end);
+    map.set_len(Kind::Heap, region.at, end);
+}

@@ -1,0 +1,125 @@
+ghost use Rattle.std.specs.Prelude.{◌≡◌, ◌≢◌, ◌≤◌, ◌<◌, ◌+◌, ◌^◌, true};
+ghost use Rattle.address_map.specs.Bytes.{word_at};
+ghost use Rattle.address_map.specs.Items.{is_total};
+ghost use Rattle.address_map.specs.Memory.{byte_at, layout};
+ghost use Rattle.os_heap.specs.Links.{HasHeapAt, end_at, items_at};
+ghost use Rattle.os_heap.specs.Refits.{IsDivided, Refits};
+ghost use Rattle.os_heap.specs.Releases.{last_link, IsBlock};
+ghost use Rattle.os_heap.specs.Resizes.{resized_in_place};
+
+use crate::walk::{Cursor, last_link};
+use crate::words::{follow, put, put_free, put_link, word};
+use address_map::AddressMap;
+
+/// Gives a block another total where it stands, if it can, and tells whether it did.
+pub(crate) fn refit(
+    map: &mut AddressMap,
+    heap: u32,
+    block: u32,
+    cursor: &Cursor,
+    needed: u64,
+) -> bool
+    requires heap { HasHeapAt map.old heap }
+    requires block { IsBlock heap (items_at map.old heap) block cursor.now.from cursor.now.at cursor.now.free cursor.now.gap }
+    requires total { is_total needed ≡ true }
+    requires small { needed < 2 ^ 34 }
+    ensures { Refits map.old map.new heap (end_at map.old heap) result (resized_in_place block (heap + end_at map.old heap) needed (heap + 16) (items_at map.old heap)) }
+{
+    let total = word(map, cursor.at);
+    if needed == u64::from(total) {
+        return true;
+    }
+    if cursor.at + total == heap + word(map, heap + 8) {
+        return refit_last(map, heap, block, cursor, needed);
+    }
+    if needed > u64::from(total) {
+        return grow(map, heap, block, cursor, needed);
+    }
+    cut(map, heap, block, cursor, needed as u32);
+    true
+}
+
+/// Gives the block that ends at the base another total, where the heap has room for that. The base moves with the block's end.
+fn refit_last(map: &mut AddressMap, heap: u32, block: u32, cursor: &Cursor, needed: u64) -> bool
+    requires heap { HasHeapAt map.old heap }
+    requires block { IsBlock heap (items_at map.old heap) block cursor.now.from cursor.now.at cursor.now.free cursor.now.gap }
+    requires total { is_total needed ≡ true }
+    requires small { needed < 2 ^ 34 }
+    requires last { cursor.now.at + word_at (byte_at map.old) cursor.now.at ≡ heap + word_at (byte_at map.old) (heap + 8) }
+    ensures { Refits map.old map.new heap (end_at map.old heap) result (resized_in_place block (heap + end_at map.old heap) needed (heap + 16) (items_at map.old heap)) }
+{
+    let end = heap + word(map, heap + 12);
+    if u64::from(cursor.at) + needed > u64::from(end) {
+        return false;
+    }
+    let total = needed as u32;
+    put(map, cursor.at, total);
+    put(map, heap + 8, cursor.at + total - heap);
+    true
+}
+
+/// Cuts bytes off a block that is not the last. They are free then, and join what is free behind them.
+fn cut(map: &mut AddressMap, heap: u32, block: u32, cursor: &Cursor, needed: u32)
+    requires heap { HasHeapAt map.old heap }
+    requires block { IsBlock heap (items_at map.old heap) block cursor.now.from cursor.now.at cursor.now.free cursor.now.gap }
+    requires total { is_total needed ≡ true }
+    requires inside { cursor.now.at + word_at (byte_at map.old) cursor.now.at ≢ heap + word_at (byte_at map.old) (heap + 8) }
+    requires smaller { needed < word_at (byte_at map.old) cursor.now.at }
+    ensures { Refits map.old map.new heap (end_at map.old heap) true (resized_in_place block (heap + end_at map.old heap) needed (heap + 16) (items_at map.old heap)) }
+{
+    let total = word(map, cursor.at);
+    let behind = cursor.at + total;
+    let left = total - needed;
+    if behind == cursor.free {
+        let joined = left + word(map, behind + 4);
+        let next = follow(map, heap, behind);
+        divide(map, heap, cursor, needed, joined, next);
+        return;
+    }
+    divide(map, heap, cursor, needed, left, cursor.free);
+}
+
+/// Gives a block that is not the last more bytes where it stands: those of the free item behind it.
+fn grow(map: &mut AddressMap, heap: u32, block: u32, cursor: &Cursor, needed: u64) -> bool
+    requires heap { HasHeapAt map.old heap }
+    requires block { IsBlock heap (items_at map.old heap) block cursor.now.from cursor.now.at cursor.now.free cursor.now.gap }
+    requires total { is_total needed ≡ true }
+    requires inside { cursor.now.at + word_at (byte_at map.old) cursor.now.at ≢ heap + word_at (byte_at map.old) (heap + 8) }
+    requires larger { word_at (byte_at map.old) cursor.now.at < needed }
+    ensures { Refits map.old map.new heap (end_at map.old heap) result (resized_in_place block (heap + end_at map.old heap) needed (heap + 16) (items_at map.old heap)) }
+{
+    let total = word(map, cursor.at);
+    let behind = cursor.at + total;
+    if behind != cursor.free {
+        return false;
+    }
+    let room = total + word(map, behind + 4);
+    if needed > u64::from(room) {
+        return false;
+    }
+    let next = follow(map, heap, behind);
+    let grown = needed as u32;
+    let left = room - grown;
+    if left == 0 {
+        let from = last_link(cursor);
+        put_link(map, heap, from, next);
+        put(map, cursor.at, grown);
+        return true;
+    }
+    divide(map, heap, cursor, grown, left, next);
+    true
+}
+
+/// Gives a block another total, and makes what is behind its new end a free item.
+fn divide(map: &mut AddressMap, heap: u32, cursor: &Cursor, total: u32, left: u32, next: u32)
+    requires heap { HasHeapAt map.old heap }
+    requires block { IsBlock heap (items_at map.old heap) (cursor.now.at + 4) cursor.now.from cursor.now.at cursor.now.free cursor.now.gap }
+    requires total { is_total total ≡ true }
+    requires room { cursor.now.at + total + 8 ≤ heap + end_at map.old heap }
+    ensures words { IsDivided (byte_at map.old) (byte_at map.new) heap (last_link cursor.now.from cursor.now.at cursor.now.gap) cursor.now.at total left next }
+    ensures layout { layout map.new ≡ layout map.old }
+{
+    let from = last_link(cursor);
+    put_free(map, heap, from, cursor.at + total, left, next);
+    put(map, cursor.at, total);
+}

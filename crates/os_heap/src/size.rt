@@ -1,0 +1,56 @@
+ghost use Rattle.std.specs.Prelude.{◌≡◌, ◌+◌};
+ghost use Rattle.os_heap.specs.Changes.{bytes_held, block_sized};
+ghost use Rattle.os_heap.specs.Links.{HasHeapAt, items_at};
+ghost use Rattle.os_heap.specs.Lists.{begun_below};
+ghost use Rattle.os_heap.specs.Resizes.{live_total};
+ghost use Rattle.os_heap.specs.Store.{store_of, IsSound, walk_probes};
+
+use crate::counted::Counted;
+use crate::heaps::{Heaps, find};
+use crate::walk::find_block;
+use crate::words::word;
+use address_map::AddressMap;
+use profile::ErrorNumber;
+
+impl Heaps {
+    /// The bytes that the block whose first byte is at `block` holds: its total, less the 4 bytes of its length word. A probe is an
+    /// item that the walk to the block passes.
+    ///
+    /// # Errors
+    ///
+    /// `HeapBadDesc` where no heap starts at `heap`; `HeapNotABlock` where no block's bytes begin at `block`.
+    ///
+    /// RISC OS 3 Programmer's Reference Manual, "OS_Heap", reason 6.
+    pub fn block_size(&self, map: &AddressMap, heap: u32, block: u32) -> Counted<u32>
+        requires { IsSound (store_of map.now) }
+        ensures answer { result.answer ≡ block_sized (store_of map.now) heap block }
+        ensures probes { result.probes ≡ walk_probes (store_of map.now) heap block }
+    {
+        match find(map, heap) {
+            Some(_) => measure(map, heap, block),
+            None => Counted {
+                answer: Err(ErrorNumber::HeapBadDesc),
+                probes: 0,
+            },
+        }
+    }
+}
+
+/// The bytes that a block of one heap holds.
+fn measure(map: &AddressMap, heap: u32, block: u32) -> Counted<u32>
+    requires { HasHeapAt map.now heap }
+    ensures answer { result.answer ≡ bytes_held (live_total block (heap + 16) (items_at map.now heap)) }
+    ensures probes { result.probes ≡ begun_below block (heap + 16) (items_at map.now heap) }
+{
+    let walk = find_block(map, heap, block);
+    match walk.block {
+        Some(cursor) => Counted {
+            answer: Ok(word(map, cursor.at) - 4),
+            probes: walk.probes,
+        },
+        None => Counted {
+            answer: Err(ErrorNumber::HeapNotABlock),
+            probes: walk.probes,
+        },
+    }
+}

@@ -1,0 +1,14 @@
+ghost use Rattle.std.specs.Prelude.{◌≡◌};
+ghost use Rattle.os_heap.specs.Resizes.{changed_by};
+
+/// A size after a change of it, a signed word in two's complement; a sum below 0 counts as 0.
+pub(crate) fn changed_by(size: u32, change: u32) -> u64
+    ensures { result ≡ changed_by size change }
+{
+    let sum = u64::from(size) + u64::from(change);
+    if change < 0x8000_0000 {
+        sum
+    } else {
+        sum.saturating_sub(0x1_0000_0000)
+    }
+}

@@ -1,0 +1,132 @@
+ghost use Rattle.std.specs.Prelude.{◌≡◌, ◌≢◌, ◌≤◌, ◌<◌, ◌-◌, ◌+◌, ◌^◌, None, MatchOption};
+ghost use Rattle.address_map.specs.Bytes.{word_at};
+ghost use Rattle.address_map.specs.Memory.{byte_at};
+ghost use Rattle.os_heap.specs.Lists.{released, begun_below};
+ghost use Rattle.os_heap.specs.Links.{HasHeapAt, items_at};
+ghost use Rattle.os_heap.specs.Releases.{last_link, IsWalked, IsBlock};
+
+use crate::words::{follow, word};
+use address_map::AddressMap;
+
+/// Where a walk from item to item stands.
+#[derive(Clone, Copy)]
+pub(crate) struct Cursor {
+    /// The last free item before the gap, or the heap itself.
+    pub(crate) from: u32,
+
+    /// The item that comes next.
+    pub(crate) at: u32,
+
+    /// The next free item from there on, or 0.
+    pub(crate) free: u32,
+
+    /// The bytes of a free item that ends at `at`, or 0.
+    pub(crate) gap: u32,
+    pub(crate) probes: u32,
+}
+
+/// What a walk came to, and how many items it passed.
+#[derive(Clone, Copy)]
+pub(crate) struct Walk {
+    pub(crate) block: Option<Cursor>,
+    pub(crate) probes: u32,
+}
+
+/// The last free item before the cursor, also where that ends at the cursor.
+pub(crate) fn last_link(cursor: &Cursor) -> u32
+    requires { cursor.now.gap ≤ cursor.now.at }
+    ensures { result ≡ last_link cursor.now.from cursor.now.at cursor.now.gap }
+{
+    if cursor.gap == 0 {
+        cursor.from
+    } else {
+        cursor.at - cursor.gap
+    }
+}
+
+/// The walk after one more item.
+fn pass(map: &AddressMap, heap: u32, block: u32, cursor: &Cursor) -> Cursor
+    requires heap { HasHeapAt map.now heap }
+    requires walk { IsWalked heap (items_at map.now heap) block cursor.now.from cursor.now.at cursor.now.free cursor.now.gap cursor.now.probes }
+    requires more { cursor.now.at < heap + word_at (byte_at map.now) (heap + 8) }
+    requires before { cursor.now.at + 4 < block }
+    ensures walk { IsWalked heap (items_at map.now heap) block result.from result.at result.free result.gap result.probes }
+    ensures grows { cursor.now.at < result.at }
+{
+    let at = cursor.at;
+    if at == cursor.free {
+        let total = word(map, at + 4);
+        let free = follow(map, heap, at);
+        return Cursor {
+            from: cursor.from,
+            at: at + total,
+            free,
+            gap: total,
+            probes: cursor.probes + 1,
+        };
+    }
+    let total = word(map, at);
+    let from = last_link(cursor);
+    Cursor {
+        from,
+        at: at + total,
+        free: cursor.free,
+        gap: 0,
+        probes: cursor.probes + 1,
+    }
+}
+
+/// A walk to the item that begins at most 4 bytes before `block`, or to the base.
+fn approach(map: &AddressMap, heap: u32, block: u32) -> Cursor
+    requires { HasHeapAt map.now heap }
+    ensures walk { IsWalked heap (items_at map.now heap) block result.from result.at result.free result.gap result.probes }
+    ensures end { (result.at + 4 < block) → heap + word_at (byte_at map.now) (heap + 8) ≤ result.at }
+{
+    let base = heap + word(map, heap + 8);
+    let limit = base.min(block.saturating_sub(4));
+    let free = follow(map, heap, heap);
+    let mut cursor = Cursor {
+        from: heap,
+        at: heap + 16,
+        free,
+        gap: 0,
+        probes: 0,
+    };
+    while cursor.at < limit {
+        cursor = pass(map, heap, block, &cursor);
+    }
+    cursor
+}
+
+/// The block whose bytes begin at `block`, by a walk from the first item on.
+pub(crate) fn find_block(map: &AddressMap, heap: u32, block: u32) -> Walk
+    requires { HasHeapAt map.now heap }
+    ensures block { MatchOption result.block (released block (heap + 16) (items_at map.now heap) ≡ None) (λ c. IsBlock heap (items_at map.now heap) block c.from c.at c.free c.gap) }
+    ensures probes { result.probes ≡ begun_below block (heap + 16) (items_at map.now heap) }
+{
+    let base = heap + word(map, heap + 8);
+    let cursor = approach(map, heap, block);
+    if cursor.at >= base {
+        return Walk {
+            block: None,
+            probes: cursor.probes,
+        };
+    }
+    if cursor.at + 4 > block {
+        return Walk {
+            block: None,
+            probes: cursor.probes,
+        };
+    }
+    let probes = cursor.probes + 1;
+    if cursor.at == cursor.free {
+        return Walk {
+            block: None,
+            probes,
+        };
+    }
+    Walk {
+        block: Some(cursor),
+        probes,
+    }
+}
