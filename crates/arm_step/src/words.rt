@@ -6,7 +6,7 @@ ghost use Rattle.profile.specs.Outcome.{Leaves};
 ghost use Rattle.address_map.specs.Memory.{bytes_of, is_owned, layout};
 ghost use Rattle.arm_step.specs.Words.{are_mapped, are_free, words_loaded, words_store_fault, words_stored, with_words};
 
-use address_map::{AddressMap, Class};
+use address_map::AddressMap;
 use arrayvec::ArrayVec;
 use profile::Fault;
 use profile::memory_map::ADDRESS_LIMIT;
@@ -57,14 +57,6 @@ fn are_mapped(memory: &AddressMap, first: u32, count: u32) -> bool
     true
 }
 
-/// Whether the store calls keep records in the byte at an address.
-#[tactic(auto, unfolding(address_map::specs::Memory::is_owned))]
-fn is_owned(memory: &AddressMap, address: u32) -> bool
-    ensures { result ≡ is_owned memory.now address }
-{
-    memory.class(address) != Class::Plain
-}
-
 /// Whether a guest may store to each of some words from an address on.
 #[tactic(auto, using(crate::proofs::SeveralWords::freedom))]
 fn are_free(memory: &AddressMap, first: u32, count: u32) -> bool
@@ -72,7 +64,7 @@ fn are_free(memory: &AddressMap, first: u32, count: u32) -> bool
     ensures { result ≡ are_free (is_owned memory.now) first count }
 {
     for index in 0..count {
-        if is_owned(memory, first + 4 * index) {
+        if memory.owns(first + 4 * index) {
             return false;
         }
     }

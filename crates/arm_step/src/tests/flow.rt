@@ -1,7 +1,8 @@
 //! Conditions, branches, software interrupts, fetches and refused words.
 
-use super::Board;
-use crate::{Cpu, Turn, step};
+use super::Line::{At, Ends, Has, Holds, Lowest, New, Pc, Run, Set, Steps};
+use super::{Line, play, takes};
+use crate::Turn;
 use profile::Fault;
 use std::test::Fail;
 
@@ -29,131 +30,200 @@ fn meets_conditions_by_the_flags(rt: HostRuntime) -> Result<(), Fail> {
     // MOVcc R0,#1: for each condition the sixteen settings of N, Z, C, V where it holds, as bits.
     for &(code, holds) in &CONDITIONS {
         for flags in 0..16u32 {
-            let mut board = Board::new(rt.alloc())?;
-            board.status(flags << 28);
-            assert_eq!(rt; board.run((code % 16 << 28) + 0x03A0_0001), Turn::Done);
-            assert_eq!(rt;
-                board.register(0),
-                (holds >> flags) & 1,
-                "{code} at {flags:X}"
-            );
-            assert_eq!(rt; board.register(15), (flags << 28) + 0x8004);
+            let word = (code % 16 << 28) + 0x03A0_0001;
+            let done = (holds >> flags) & 1;
+            takes(&rt, rt.alloc(), flags, (0, 0, 0, 0), word, done, flags)?;
         }
     }
     Ok(())
 }
 
-#[test]
-fn ignores_all_else_where_the_condition_fails(rt: HostRuntime) -> Result<(), Fail> {
-    for word in [
-        0xF600_0010,
-        0xF100_0090,
-        0x0E00_0000,
-        0x0F00_0011,
-        0xF8E0_0002,
-    ] {
-        let mut board = Board::new(rt.alloc())?;
-        board.set(&[(0, 3)]);
-        assert_eq!(rt; board.run(word), Turn::Done, "{word:08X}");
-        board.has(&rt, word, &[(0, 3), (15, 0x8004)]);
-    }
-    Ok(())
-}
-
-static BRANCHES: [(u32, u32, u32); 7] = [
-    (0x8000, 0xEA00_0000, 0x8008),
-    (0x8000, 0xEAFF_FFFE, 0x8000),
-    (0x8000, 0xEA00_03FE, 0x9000),
-    (0x8004, 0xEAFF_FFFD, 0x8000),
-    (0x03FF_FFF8, 0xEA00_0000, 0),
-    (0x8000, 0xEAFF_DFFD, 0x03FF_FFFC),
-    (0x8000, 0xEA80_0000, 0x0200_8008),
+static LINES: [Line; 176] = [
+    // where the condition fails, nothing else of the word counts
+    New(0),
+    Set(0, 3),
+    Run(0xF600_0010),
+    Has(0, 3),
+    Has(15, 0x8004),
+    New(0),
+    Set(0, 3),
+    Run(0xF100_0090),
+    Has(0, 3),
+    Has(15, 0x8004),
+    New(0),
+    Set(0, 3),
+    Run(0x0E00_0000),
+    Has(0, 3),
+    Has(15, 0x8004),
+    New(0),
+    Set(0, 3),
+    Run(0x0F00_0011),
+    Has(0, 3),
+    Has(15, 0x8004),
+    New(0),
+    Set(0, 3),
+    Run(0xF8E0_0002),
+    Has(0, 3),
+    Has(15, 0x8004),
+    // branches both ways
+    New(0),
+    Pc(0x8000),
+    Run(0xEA00_0000),
+    At(0x8008),
+    Has(14, 0),
+    New(0),
+    Pc(0x8000),
+    Run(0xEAFF_FFFE),
+    At(0x8000),
+    Has(14, 0),
+    New(0),
+    Pc(0x8000),
+    Run(0xEA00_03FE),
+    At(0x9000),
+    Has(14, 0),
+    New(0),
+    Pc(0x8004),
+    Run(0xEAFF_FFFD),
+    At(0x8000),
+    Has(14, 0),
+    New(0),
+    Pc(0x03FF_FFF8),
+    Run(0xEA00_0000),
+    At(0),
+    Has(14, 0),
+    New(0),
+    Pc(0x8000),
+    Run(0xEAFF_DFFD),
+    At(0x03FF_FFFC),
+    Has(14, 0),
+    New(0),
+    Pc(0x8000),
+    Run(0xEA80_0000),
+    At(0x0200_8008),
+    Has(14, 0),
+    // MOV R0,PC at the last word: two words ahead is 4. BL there: the link is 0
+    New(0),
+    Pc(0x03FF_FFFC),
+    Run(0xE1A0_000F),
+    Has(0, 4),
+    At(0),
+    Steps(Turn::Fault(Fault::FetchUnmapped)),
+    Pc(0x03FF_FFFC),
+    Run(0xEB00_0000),
+    Has(14, 0),
+    At(4),
+    // turns that change nothing
+    New(0x5000_0000),
+    Set(0, 3),
+    Set(14, 5),
+    Ends(0xEF00_0011, Turn::Swi(0x11)),
+    Has(0, 3),
+    Has(14, 5),
+    Has(15, 0x5000_8000),
+    Holds(0x8000, 0xEF00_0011),
+    New(0x5000_0000),
+    Set(0, 3),
+    Set(14, 5),
+    Ends(0xEFFF_FFFF, Turn::Swi(0xFF_FFFF)),
+    Has(0, 3),
+    Has(14, 5),
+    Has(15, 0x5000_8000),
+    Holds(0x8000, 0xEFFF_FFFF),
+    New(0x5000_0000),
+    Set(0, 3),
+    Set(14, 5),
+    Ends(0xE600_0010, Turn::Fault(Fault::UndefinedInstruction)),
+    Has(0, 3),
+    Has(14, 5),
+    Has(15, 0x5000_8000),
+    Holds(0x8000, 0xE600_0010),
+    New(0x5000_0000),
+    Set(0, 3),
+    Set(14, 5),
+    Ends(0xEC00_0000, Turn::Fault(Fault::UndefinedInstruction)),
+    Has(0, 3),
+    Has(14, 5),
+    Has(15, 0x5000_8000),
+    Holds(0x8000, 0xEC00_0000),
+    New(0x5000_0000),
+    Set(0, 3),
+    Set(14, 5),
+    Ends(0xE100_0090, Turn::Fault(Fault::Unallocated)),
+    Has(0, 3),
+    Has(14, 5),
+    Has(15, 0x5000_8000),
+    Holds(0x8000, 0xE100_0090),
+    New(0x5000_0000),
+    Set(0, 3),
+    Set(14, 5),
+    Ends(0xE081_0F12, Turn::Fault(Fault::PcOperand)),
+    Has(0, 3),
+    Has(14, 5),
+    Has(15, 0x5000_8000),
+    Holds(0x8000, 0xE081_0F12),
+    New(0x5000_0000),
+    Set(0, 3),
+    Set(14, 5),
+    Ends(0xE001_0291, Turn::Fault(Fault::MultiplySame)),
+    Has(0, 3),
+    Has(14, 5),
+    Has(15, 0x5000_8000),
+    Holds(0x8000, 0xE001_0291),
+    New(0x5000_0000),
+    Set(0, 3),
+    Set(14, 5),
+    Ends(0xE890_0000, Turn::Fault(Fault::EmptyList)),
+    Has(0, 3),
+    Has(14, 5),
+    Has(15, 0x5000_8000),
+    Holds(0x8000, 0xE890_0000),
+    New(0x5000_0000),
+    Set(0, 3),
+    Set(14, 5),
+    Ends(0xE8E0_0002, Turn::Fault(Fault::UserBankWriteback)),
+    Has(0, 3),
+    Has(14, 5),
+    Has(15, 0x5000_8000),
+    Holds(0x8000, 0xE8E0_0002),
+    // MOV PC,#&3800000, then the gate; other unmapped words are FetchUnmapped
+    New(0),
+    Run(0xE3A0_F50E),
+    Has(15, 0x0380_0000),
+    Steps(Turn::Gate),
+    Has(15, 0x0380_0000),
+    Pc(0),
+    Steps(Turn::Fault(Fault::FetchUnmapped)),
+    At(0),
+    Pc(0x7FFC),
+    Steps(Turn::Fault(Fault::FetchUnmapped)),
+    At(0x7FFC),
+    Pc(0xA000),
+    Steps(Turn::Fault(Fault::FetchUnmapped)),
+    At(0xA000),
+    Pc(0x0380_0004),
+    Steps(Turn::Fault(Fault::FetchUnmapped)),
+    At(0x0380_0004),
+    Pc(0x03FF_EFFC),
+    Steps(Turn::Fault(Fault::FetchUnmapped)),
+    At(0x03FF_EFFC),
+    // an instruction whose condition never holds changes the program counter alone
+    New(0),
+    Run(0xF600_0010),
+    Lowest(0, 0, 0, 0, 0),
+    Has(5, 0),
+    Has(6, 0),
+    Has(7, 0),
+    Has(8, 0),
+    Has(9, 0),
+    Has(10, 0),
+    Has(11, 0),
+    Has(12, 0),
+    Has(13, 0),
+    Has(14, 0),
+    Has(15, 0x8004),
 ];
 
 #[test]
-fn branches_both_ways(rt: HostRuntime) -> Result<(), Fail> {
-    for &(from, word, to) in &BRANCHES {
-        let mut board = Board::new(rt.alloc())?;
-        board.cpu.set_pc(from);
-        assert_eq!(rt; board.run(word), Turn::Done, "{word:08X}");
-        assert_eq!(rt; board.cpu.pc(), to, "{word:08X}");
-        assert_eq!(rt; board.register(14), 0);
-    }
-    Ok(())
-}
-
-#[test]
-fn goes_on_modulo_the_address_space(rt: HostRuntime) -> Result<(), Fail> {
-    // MOV R0,PC at the last word: two words ahead is 4. BL there: the link is 0.
-    let mut board = Board::new(rt.alloc())?;
-    board.cpu.set_pc(0x03FF_FFFC);
-    assert_eq!(rt; board.run(0xE1A0_000F), Turn::Done);
-    assert_eq!(rt; board.register(0), 4);
-    assert_eq!(rt; board.cpu.pc(), 0);
-    assert_eq!(rt;
-        step(&mut board.cpu, &mut board.memory),
-        Turn::Fault(Fault::FetchUnmapped)
-    );
-    board.cpu.set_pc(0x03FF_FFFC);
-    assert_eq!(rt; board.run(0xEB00_0000), Turn::Done);
-    assert_eq!(rt; board.register(14), 0);
-    assert_eq!(rt; board.cpu.pc(), 4);
-    Ok(())
-}
-
-static TURNS: [(u32, Turn); 9] = [
-    (0xEF00_0011, Turn::Swi(0x11)),
-    (0xEFFF_FFFF, Turn::Swi(0xFF_FFFF)),
-    (0xE600_0010, Turn::Fault(Fault::UndefinedInstruction)),
-    (0xEC00_0000, Turn::Fault(Fault::UndefinedInstruction)),
-    (0xE100_0090, Turn::Fault(Fault::Unallocated)),
-    (0xE081_0F12, Turn::Fault(Fault::PcOperand)),
-    (0xE001_0291, Turn::Fault(Fault::MultiplySame)),
-    (0xE890_0000, Turn::Fault(Fault::EmptyList)),
-    (0xE8E0_0002, Turn::Fault(Fault::UserBankWriteback)),
-];
-
-#[test]
-fn answers_turns_that_change_nothing(rt: HostRuntime) -> Result<(), Fail> {
-    for &(word, turn) in &TURNS {
-        let mut board = Board::new(rt.alloc())?;
-        board.status(0x5000_0000);
-        board.set(&[(0, 3), (14, 5)]);
-        assert_eq!(rt; board.run(word), turn, "{word:08X}");
-        board.has(&rt, word, &[(0, 3), (14, 5), (15, 0x5000_8000)]);
-        assert_eq!(rt; board.memory.load_word(0x8000), Ok(word));
-    }
-    Ok(())
-}
-
-#[test]
-fn fetches_from_mapped_memory_alone(rt: HostRuntime) -> Result<(), Fail> {
-    // MOV PC,#&3800000, then the gate; other unmapped words are FetchUnmapped.
-    let mut board = Board::new(rt.alloc())?;
-    assert_eq!(rt; board.run(0xE3A0_F50E), Turn::Done);
-    assert_eq!(rt; board.register(15), 0x0380_0000);
-    assert_eq!(rt; step(&mut board.cpu, &mut board.memory), Turn::Gate);
-    assert_eq!(rt; board.register(15), 0x0380_0000);
-    for pc in [0, 0x7FFC, 0xA000, 0x0380_0004, 0x03FF_EFFC] {
-        board.cpu.set_pc(pc);
-        assert_eq!(rt;
-            step(&mut board.cpu, &mut board.memory),
-            Turn::Fault(Fault::FetchUnmapped)
-        );
-        assert_eq!(rt; board.cpu.pc(), pc);
-    }
-    Ok(())
-}
-
-#[test]
-fn never_instruction_changes_the_program_counter_alone(rt: HostRuntime) -> Result<(), Fail> {
-    let mut board = Board::new(rt.alloc())?;
-    let before = Cpu::new();
-    assert_eq!(rt; board.run(0xF600_0010), Turn::Done);
-    for number in 0..15 {
-        assert_eq!(rt; board.cpu.register(number), before.register(number));
-    }
-    assert_eq!(rt; board.cpu.psr(), before.psr());
-    assert_eq!(rt; board.cpu.pc(), 0x8004);
-    Ok(())
+fn goes_where_the_words_say(rt: HostRuntime) -> Result<(), Fail> {
+    play(&rt, rt.alloc(), &LINES)
 }
