@@ -5,6 +5,7 @@ use Rattle.profile.specs.Sizes.{Sizes, AreGood}
 use Rattle.address_map.specs.declared.map.AddressMap.{AddressMap}
 use Rattle.address_map.specs.Bytes.{Bytes, in_range, word_at, with_word_at}
 use Rattle.address_map.specs.declared.item.Item.{Item}
+use Rattle.address_map.specs.declared.region.Kind.TheVariants.{Rma}
 use Rattle.address_map.specs.Items.{items_in}
 use Rattle.address_map.specs.Memory.{is_mapped, byte_at, byte_in, place, bytes_of, regions}
 use Rattle.arm_step.specs.State.{start_state}
@@ -94,7 +95,7 @@ store_starts m s good mapped bytes records =
     let item : items_in (word_at (start_bytes s)) 0x01800000 ≡ [] = start_items s good in
     let heaps : parts_in (bytes_of m) (regions m) ≡ module_area s ∷ [] =
     ap (λ (b : Bytes). parts_in b (regions m)) memory ∙ ap (parts_in start) records
-    ∙ ap (λ (xs : List Item). let h : Part = record { start = 0x01800000; end = 4096 * s.rma; items = xs } in h ∷ []) item in
+    ∙ ap (λ (xs : List Item). let h : Part = record { kind = Rma; start = 0x01800000; end = 4096 * s.rma; items = xs } in h ∷ []) item in
     let others : others_in (regions m) ≡ system_pages ∷ [] = ap others_in records in
     λ i. record { bytes = memory i; heaps = heaps i; others = others i }
 

@@ -9,6 +9,7 @@ use Rattle.profile.specs.declared.swi.SwiName.TheVariants as swi
 use Rattle.address_map.specs.Bytes.{word_at}
 use Rattle.arm_step.specs.declared.psr.Mode.TheVariants.{Supervisor}
 use Rattle.arm_step.specs.State.{register_of, with_register, with_mode}
+use Rattle.os_heap.specs.Changes.{resized, changed, block_sized}
 use Rattle.os_heap.specs.Store.{Store, got, gave_back, described, begun}
 use Rattle.swi_dispatch.specs.declared.refusal.Refusal.{Refusal}
 use Rattle.swi_dispatch.specs.declared.refusal.Refusal.TheVariants as refusal
@@ -50,7 +51,7 @@ abbrev pub or_error : {A : Type 0} → Result A ErrorNumber → Result A Refusal
 or_error (Ok a) = Ok a
 or_error (Err e) = system_error e
 
--- OS_Heap, by its reason in R0: the heap is in R1, a size in R3, a block in R2; what is answered goes to R2 and R3.
+-- OS_Heap, by its reason in R0: the heap is in R1, a block in R2, a size or a change of one in R3; what is answered goes to R2 and R3.
 abbrev pub heap_began : Situation → Result Situation Refusal
 heap_began s = bind (or_error (begun s.store (register_of s.cpu 1) (register_of s.cpu 3))) (λ t. Ok (with_store s t))
 
@@ -63,14 +64,26 @@ heap_got s = bind (or_error (got s.store (register_of s.cpu 1) (register_of s.cp
 abbrev pub heap_freed : Situation → Result Situation Refusal
 heap_freed s = bind (or_error (gave_back s.store (register_of s.cpu 1) (register_of s.cpu 2))) (λ t. Ok (with_store s t))
 
+abbrev pub heap_resized : Situation → Result Situation Refusal
+heap_resized s = bind (or_error (resized s.store (register_of s.cpu 1) (register_of s.cpu 2) (register_of s.cpu 3))) (λ r. Ok (with_answer (with_store s r.0) 2 r.1))
+
+abbrev pub heap_changed : Situation → Result Situation Refusal
+heap_changed s = bind (or_error (changed s.store (register_of s.cpu 1) (register_of s.cpu 3))) (λ t. Ok (with_store s t))
+
+abbrev pub heap_sized : Situation → Result Situation Refusal
+heap_sized s = bind (or_error (block_sized s.store (register_of s.cpu 1) (register_of s.cpu 2))) (λ n. Ok (with_answer s 3 n))
+
 unfoldable pub heap_called : Situation → Result Situation Refusal
 heap_called s =
     let reason : ℕ = register_of s.cpu 0 in
     if reason == 0 then heap_began s else (
     if reason == 1 then heap_described s else (
     if reason == 2 then heap_got s else (
-    if reason == 3 then heap_freed s else
-    system_error HeapBadReason)))
+    if reason == 3 then heap_freed s else (
+    if reason == 4 then heap_resized s else (
+    if reason == 5 then heap_changed s else (
+    if reason == 6 then heap_sized s else
+    system_error HeapBadReason))))))
 
 abbrev pub went_on : ℕ → Result Situation Refusal → Result (After × ℕ) Refusal
 went_on next (Ok s) = done s [] next

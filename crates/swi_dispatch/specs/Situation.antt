@@ -45,7 +45,7 @@ start_bytes s = with_word_at (with_word_at (with_word_at (with_word_at (λ _. 0)
 
 -- the module area is the one heap, and has no item; the system pages are the one other recorded range
 abbrev pub module_area : Sizes → Part
-module_area s = record { start = 0x01800000; end = 4096 * s.rma; items = [] }
+module_area s = record { kind = Rma; start = 0x01800000; end = 4096 * s.rma; items = [] }
 
 abbrev pub system_pages : Region
 system_pages = record { kind = SystemPage; at = 0x01C00000; len = 0x3000 }

@@ -1,18 +1,13 @@
-//! Every store call with doubtful words in its registers, each answered by its row of the manual.
+//! Every store call with doubtful words in its registers, each answered by its row of the manual. Doubtful are 0, all bits, the last word of the
+//! address space, a word that a heap owns (the module area's link), and one of a system page.
 
-use crate::{BreakError, Breaks, Machine};
+use crate::tests::{set_registers, usual_machine};
+use crate::{BreakError, Breaks};
 use image_loader::Images;
-use profile::{Config, Stop};
 use std::test::Fail;
 
-/// Nothing, all bits, the last word of the address space, a word that a heap owns (the module area's link), and one of a system page.
-const DOUBTFUL: [u32; 5] = [0, 0xFFFF_FFFF, 0x03FF_FFFC, 0x0180_0004, 0x01C0_2100];
-
-/// Calls that take any word: OS_WriteC, OS_WriteS, OS_NewLine, OS_EnterOS, OS_WriteI.
-static EASY: [u32; 5] = [0, 1, 3, 0x16, 0x1FF];
-
 /// Number, R0, R1, R2, R3; the error's number, or 0 where the call succeeds.
-static CALLS: [(u32, u32, u32, u32, u32, u32); 47] = [
+static CALLS: [(u32, u32, u32, u32, u32, u32); 78] = [
     (0x02, 0, 0, 0, 0, 81),
     (0x02, 0xFFFF_FFFF, 0, 0, 0, 81),
     (0x02, 0x03FF_FFFC, 0, 0, 0, 81),
@@ -64,45 +59,58 @@ static CALLS: [(u32, u32, u32, u32, u32, u32); 47] = [
     (0x1D, 3, 0x0180_0000, 0x03FF_FFFC, 0, 6),
     (0x1D, 3, 0x0180_0000, 0x0180_0004, 0, 6),
     (0x1D, 3, 0x0180_0000, 0x01C0_2100, 0, 6),
+    // no block whose size could change, or be asked for; the module area's own size stays; no heap
+    (0x1D, 4, 0x0180_0000, 0xFFFF_FFFF, 8, 6),
+    (0x1D, 4, 0x03FF_FFFC, 0, 8, 2),
+    (0x1D, 5, 0x0180_0000, 0, 64, 2),
+    (0x1D, 5, 0xFFFF_FFFF, 0, 64, 2),
+    (0x1D, 6, 0x0180_0000, 0x0180_0004, 0, 6),
+    (0x1D, 6, 0x01C0_2100, 0, 0, 2),
+    // calls that take any word: OS_WriteC, OS_WriteS, OS_NewLine, OS_EnterOS, OS_WriteI
+    (0x00, 0, 0, 0, 0, 0),
+    (0x00, 0xFFFF_FFFF, 0xFFFF_FFFF, 0, 0, 0),
+    (0x00, 0x03FF_FFFC, 0x03FF_FFFC, 0, 0, 0),
+    (0x00, 0x0180_0004, 0x0180_0004, 0, 0, 0),
+    (0x00, 0x01C0_2100, 0x01C0_2100, 0, 0, 0),
+    (0x01, 0, 0, 0, 0, 0),
+    (0x01, 0xFFFF_FFFF, 0xFFFF_FFFF, 0, 0, 0),
+    (0x01, 0x03FF_FFFC, 0x03FF_FFFC, 0, 0, 0),
+    (0x01, 0x0180_0004, 0x0180_0004, 0, 0, 0),
+    (0x01, 0x01C0_2100, 0x01C0_2100, 0, 0, 0),
+    (0x03, 0, 0, 0, 0, 0),
+    (0x03, 0xFFFF_FFFF, 0xFFFF_FFFF, 0, 0, 0),
+    (0x03, 0x03FF_FFFC, 0x03FF_FFFC, 0, 0, 0),
+    (0x03, 0x0180_0004, 0x0180_0004, 0, 0, 0),
+    (0x03, 0x01C0_2100, 0x01C0_2100, 0, 0, 0),
+    (0x16, 0, 0, 0, 0, 0),
+    (0x16, 0xFFFF_FFFF, 0xFFFF_FFFF, 0, 0, 0),
+    (0x16, 0x03FF_FFFC, 0x03FF_FFFC, 0, 0, 0),
+    (0x16, 0x0180_0004, 0x0180_0004, 0, 0, 0),
+    (0x16, 0x01C0_2100, 0x01C0_2100, 0, 0, 0),
+    (0x1FF, 0, 0, 0, 0, 0),
+    (0x1FF, 0xFFFF_FFFF, 0xFFFF_FFFF, 0, 0, 0),
+    (0x1FF, 0x03FF_FFFC, 0x03FF_FFFC, 0, 0, 0),
+    (0x1FF, 0x0180_0004, 0x0180_0004, 0, 0, 0),
+    (0x1FF, 0x01C0_2100, 0x01C0_2100, 0, 0, 0),
 ];
-
-fn usual_machine(rt: &HostRuntime) -> Result<Machine, Fail> {
-    let config = Config::new(256, 64, 16).ok_or("sizes")?;
-    Ok(Machine::new(rt.alloc(), config)?)
-}
-
-#[test]
-fn easy_calls_take_any_word(rt: HostRuntime) -> Result<(), Fail> {
-    let mut machine = usual_machine(&rt)?;
-    for &number in &EASY {
-        for word in DOUBTFUL {
-            machine.set_register(0, word);
-            machine.set_register(1, word);
-            assert_eq!(rt; machine.store_call(&Images::new(), number), None);
-            assert!(rt; !machine.cpu().psr().overflow, "{number:X} of {word:X}");
-            assert_eq!(rt; machine.cpu().register(0), word);
-        }
-    }
-    Ok(())
-}
 
 #[test]
 fn calls_answer_by_their_rows(rt: HostRuntime) -> Result<(), Fail> {
-    let mut machine = usual_machine(&rt)?;
-    for &(number, reason, heap, block, size, error) in &CALLS {
-        machine.set_register(0, reason);
-        machine.set_register(1, heap);
-        machine.set_register(2, block);
-        machine.set_register(3, size);
+    let mut machine = usual_machine(rt.alloc())?;
+    for &(number, r0, r1, r2, r3, error) in &CALLS {
+        set_registers(&mut machine, r0, r1, r2, r3);
         assert_eq!(rt; machine.store_call(&Images::new(), number), None);
         assert_eq!(rt;
             machine.cpu().psr().overflow,
             error != 0,
-            "{number:X} of {reason:X}, {heap:X}, {block:X}, {size:X}"
+            "{number:X} of {r0:X}, {r1:X}, {r2:X}, {r3:X}"
         );
+        // OS_Write0 alone moves R0 where it succeeds
         if error != 0 {
             assert_eq!(rt; machine.cpu().register(0), 0x01C0_2100);
             assert_eq!(rt; machine.memory().load_word(0x01C0_2100), Ok(error));
+        } else if number != 2 {
+            assert_eq!(rt; machine.cpu().register(0), r0);
         }
         // the next row starts with an empty error block
         assert_eq!(rt; machine.poke(0x01C0_2100, 0), Ok(()));
@@ -110,33 +118,47 @@ fn calls_answer_by_their_rows(rt: HostRuntime) -> Result<(), Fail> {
     Ok(())
 }
 
-#[test]
-fn an_own_error_may_lie_anywhere(rt: HostRuntime) -> Result<(), Fail> {
-    let mut machine = usual_machine(&rt)?;
-    for word in [0x0180_0004, 0x01C0_2100] {
-        machine.set_register(0, word);
-        assert_eq!(rt; machine.store_call(&Images::new(), 0x2B), None);
-        assert!(rt; machine.cpu().psr().overflow);
-        assert_eq!(rt; machine.cpu().register(0), word);
-    }
-    assert_eq!(rt; machine.store_call(&Images::new(), 0x11), Some(Stop::Exit));
-    Ok(())
-}
+/// Whether a break is added or removed, its address, the refusal, and whether it is there then.
+static BREAKS: [(bool, u32, Option<BreakError>, bool); 23] = [
+    (false, 0, Some(BreakError::NoBreak), false),
+    (true, 2, Some(BreakError::Unaligned), false),
+    (true, 0, None, true),
+    (true, 4, None, true),
+    (true, 8, None, true),
+    (true, 12, None, true),
+    (true, 16, None, true),
+    (true, 20, None, true),
+    (true, 24, None, true),
+    (true, 28, None, true),
+    (true, 32, None, true),
+    (true, 36, None, true),
+    (true, 40, None, true),
+    (true, 44, None, true),
+    (true, 48, None, true),
+    (true, 52, None, true),
+    (true, 56, None, true),
+    (true, 60, None, true),
+    (true, 60, None, true),
+    (true, 64, Some(BreakError::BreakTableFull), false),
+    (true, 65, Some(BreakError::Unaligned), false),
+    (false, 60, None, false),
+    (true, 64, None, true),
+];
 
 #[test]
 fn breaks_come_and_go(rt: HostRuntime) {
     let mut breaks = Breaks::new();
-    assert_eq!(rt; breaks.remove(0), Err(BreakError::NoBreak));
-    assert_eq!(rt; breaks.add(2), Err(BreakError::Unaligned));
-    for number in 0..16u32 {
-        assert_eq!(rt; breaks.add(4 * number), Ok(()));
+    for &(is_added, address, refusal, is_there) in &BREAKS {
+        let done = if is_added {
+            breaks.add(address)
+        } else {
+            breaks.remove(address)
+        };
+        assert_eq!(rt;
+            (done.err(), breaks.has(address)),
+            (refusal, is_there),
+            "{address}"
+        );
     }
-    assert_eq!(rt; breaks.add(60), Ok(()));
-    assert_eq!(rt; breaks.add(64), Err(BreakError::BreakTableFull));
-    assert_eq!(rt; breaks.add(65), Err(BreakError::Unaligned));
-    assert_eq!(rt; breaks.remove(60), Ok(()));
-    assert!(rt; !breaks.has(60));
-    assert_eq!(rt; breaks.add(64), Ok(()));
-    assert!(rt; breaks.has(64));
     assert!(rt; breaks.has(0));
 }

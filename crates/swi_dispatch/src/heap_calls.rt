@@ -9,9 +9,9 @@ use profile::ErrorNumber;
 
 impl Machine {
     ghost use Rattle.swi_dispatch.specs.Parts.{state_of, OnlySteps};
-    ghost use Rattle.swi_dispatch.specs.Calls.{heap_called, heap_began, heap_described, heap_got, heap_freed};
+    ghost use Rattle.swi_dispatch.specs.Calls.{heap_called, heap_began, heap_described, heap_got, heap_freed, heap_resized, heap_changed, heap_sized};
 
-    /// A heap call by its reason in R0. The heap is in R1, a block in R2, a size in R3.
+    /// A heap call by its reason in R0. The heap is in R1, a block in R2, a size or a change of one in R3.
     #[tactic(auto, unfolding(crate::specs::Calls::heap_called))]
     pub(crate) fn call_heap(&mut self) -> Result<(), Refusal>
         requires stepped { self.old.is_fresh ≡ false }
@@ -24,6 +24,9 @@ impl Machine {
             1 => self.describe_heap(),
             2 => self.get_block(),
             3 => self.free_block(),
+            4 => self.resize_block(),
+            5 => self.change_heap(),
+            6 => self.size_block(),
             _ => Err(Refusal::System(ErrorNumber::HeapBadReason)),
         }
     }
@@ -88,5 +91,56 @@ impl Machine {
         let block = self.cpu.register(2);
         let freed = self.heaps.free(&mut self.memory, heap, block);
         freed.answer.map_err(Refusal::System)
+    }
+
+    #[tactic(auto, unfolding(crate::specs::Parts::state_of))]
+    fn resize_block(&mut self) -> Result<(), Refusal>
+        requires stepped { self.old.is_fresh ≡ false }
+        ensures state { Leaves (state_of self.old) (heap_resized (state_of self.old)) result (state_of self.new) }
+        ensures printed { self.new.printed ≡ self.old.printed }
+        ensures others { OnlySteps self.old self.new }
+    {
+        let heap = self.cpu.register(1);
+        let block = self.cpu.register(2);
+        let change = self.cpu.register(3);
+        let resized = self.heaps.resize(&mut self.memory, heap, block, change);
+        match resized.answer {
+            Ok(place) => {
+                self.cpu.set_register(2, place);
+                Ok(())
+            }
+            Err(error) => Err(Refusal::System(error)),
+        }
+    }
+
+    #[tactic(auto, unfolding(crate::specs::Parts::state_of))]
+    fn change_heap(&mut self) -> Result<(), Refusal>
+        requires stepped { self.old.is_fresh ≡ false }
+        ensures state { Leaves (state_of self.old) (heap_changed (state_of self.old)) result (state_of self.new) }
+        ensures printed { self.new.printed ≡ self.old.printed }
+        ensures others { OnlySteps self.old self.new }
+    {
+        let heap = self.cpu.register(1);
+        let change = self.cpu.register(3);
+        let changed = self.heaps.change_size(&mut self.memory, heap, change);
+        changed.answer.map_err(Refusal::System)
+    }
+
+    #[tactic(auto, unfolding(crate::specs::Parts::state_of))]
+    fn size_block(&mut self) -> Result<(), Refusal>
+        requires stepped { self.old.is_fresh ≡ false }
+        ensures state { Leaves (state_of self.old) (heap_sized (state_of self.old)) result (state_of self.new) }
+        ensures printed { self.new.printed ≡ self.old.printed }
+        ensures others { OnlySteps self.old self.new }
+    {
+        let heap = self.cpu.register(1);
+        let block = self.cpu.register(2);
+        match self.heaps.block_size(&self.memory, heap, block).answer {
+            Ok(size) => {
+                self.cpu.set_register(3, size);
+                Ok(())
+            }
+            Err(error) => Err(Refusal::System(error)),
+        }
     }
 }

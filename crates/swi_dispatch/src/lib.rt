@@ -22,4 +22,6 @@ pub use running::Ran;
 #[cfg(test)]
 mod argument_tests;
 #[cfg(test)]
+mod heap_tests;
+#[cfg(test)]
 mod tests;

@@ -1,7 +1,15 @@
+//! Machines taken step by step, with values worked out by hand.
+
 use crate::{BootError, Breaks, Machine};
+use Line::{
+    At, Boot, BootText, Call, Has, Holds, In, Lacks, New, Overflow, Prints, PrintsMany, Put, Run,
+    Set, Step, Text,
+};
 use arm_step::Mode;
 use image_loader::Images;
 use profile::{Config, Fault, MemorySink, Stop};
+use std::alloc::Global;
+use std::process::Abort;
 use std::test::Fail;
 
 // MOV R0,#3; ADD R1,R1,R0; SUB R0,R0,#1; CMP R0,#0; BNE to the second; SWI OS_Exit
@@ -10,285 +18,322 @@ const SIX_WORDS: [u8; 24] = [
     0xFB, 0xFF, 0xFF, 0x1A, 0x11, 0x00, 0x00, 0xEF,
 ];
 
-fn usual_machine(rt: &HostRuntime) -> Result<Machine, Fail> {
-    let config = Config::new(256, 64, 16).ok_or("sizes")?;
-    Ok(Machine::new(rt.alloc(), config)?)
+/// What a test does to a machine, or finds there. An address comes before what it holds, a register before its value, and what is asked for
+/// before the answer.
+#[derive(Clone, Copy)]
+pub(crate) enum Line {
+    /// A new machine of some pages, of which the application space and the module area have so many.
+    New(u32, u32, u32),
+    /// The six words are booted, or refused.
+    Boot(Option<BootError>),
+    /// As many bytes "x" are booted, or refused.
+    BootText(usize, Option<BootError>),
+    Set(u32, u32),
+    /// R0 to R3 are set.
+    Registers(u32, u32, u32, u32),
+    /// A word is poked.
+    Put(u32, u32),
+    /// A poke is refused.
+    Refuses(u32, u32, Fault),
+    Step(Option<Stop>),
+    /// A store call is made from outside.
+    Call(u32, Option<Stop>),
+    /// A run with a budget: why it ends, after how many steps, and what it writes.
+    Run(u64, Stop, u64, &'static str),
+    Has(u32, u32),
+    /// A register, as a mode sees it, has this value.
+    In(Mode, u32, u32),
+    Overflow(bool),
+    /// The program counter has this value.
+    At(u32),
+    Holds(u32, u32),
+    /// Bytes of memory.
+    Text(u32, &'static str),
+    /// Nothing is mapped at this address.
+    Lacks(u32),
+    /// What the last step printed.
+    Prints(&'static str),
+    /// How many bytes it printed.
+    PrintsMany(usize),
 }
 
-#[test]
-fn six_words_run(rt: HostRuntime) -> Result<(), Fail> {
-    let mut machine = usual_machine(&rt)?;
-    machine.boot(&SIX_WORDS).ok().ok_or("boot")?;
-    let mut room = [0u8; 4];
-    let mut sink = MemorySink::new(&mut room, 1, 1);
-    let ran = machine
-        .run(&Images::new(), &Breaks::new(), &mut sink, 1_000_000)
-        .ok()
-        .ok_or("run")?;
-    assert_eq!(rt; ran.stop, Stop::Exit);
-    assert_eq!(rt; ran.taken, 14);
-    assert_eq!(rt; machine.cpu().register(0), 0);
-    assert_eq!(rt; machine.cpu().register(1), 6);
-    assert_eq!(rt; machine.cpu().register(15), 0x6000_8014);
-    assert_eq!(rt; machine.step(&Images::new()), Some(Stop::Exit));
-    assert_eq!(rt; machine.cpu().register(15), 0x6000_8014);
-    assert!(rt; machine.output().is_empty());
-    Ok(())
+/// A machine of 256 pages.
+pub(crate) fn usual_machine(alloc: Global) -> Result<Machine, Fail> {
+    machine_of(alloc, 256, 64, 16)
 }
 
-#[test]
-fn budgets_add_up(rt: HostRuntime) -> Result<(), Fail> {
-    let mut machine = usual_machine(&rt)?;
-    machine.boot(&SIX_WORDS).ok().ok_or("boot")?;
-    let mut room = [0u8; 4];
-    let mut sink = MemorySink::new(&mut room, 1, 1);
-    let none = machine
-        .run(&Images::new(), &Breaks::new(), &mut sink, 0)
-        .ok()
-        .ok_or("run")?;
-    assert_eq!(rt; (none.stop, none.taken), (Stop::Budget, 0));
-    let first = machine
-        .run(&Images::new(), &Breaks::new(), &mut sink, 13)
-        .ok()
-        .ok_or("run")?;
-    assert_eq!(rt; (first.stop, first.taken), (Stop::Budget, 13));
-    assert_eq!(rt; machine.cpu().register(1), 6);
-    assert_eq!(rt; machine.cpu().register(15), 0x6000_8014);
-    let last = machine
-        .run(&Images::new(), &Breaks::new(), &mut sink, 5)
-        .ok()
-        .ok_or("run")?;
-    assert_eq!(rt; (last.stop, last.taken), (Stop::Exit, 1));
-    Ok(())
+fn machine_of(alloc: Global, pages: u32, app: u32, rma: u32) -> Result<Machine, Fail> {
+    let config = Config::new(pages, app, rma).ok_or("sizes")?;
+    Ok(Machine::new(alloc, config)?)
 }
 
-#[test]
-fn starts_as_written(rt: HostRuntime) -> Result<(), Fail> {
-    let machine = usual_machine(&rt)?;
-    assert_eq!(rt; machine.cpu().register(13), 0);
-    assert_eq!(rt; machine.cpu().register(15), 0x8000);
-    let memory = machine.memory();
-    for (address, word) in [
-        (0x0180_0000, 0x7061_6548),
-        (0x0180_0004, 0),
-        (0x0180_0008, 16),
-        (0x0180_000C, 65536),
-        (0x0180_FFFC, 0),
-        (0x8000, 0),
-        (0x0004_7FFC, 0),
-        (0x01C0_2FFC, 0),
-    ] {
-        assert_eq!(rt; memory.load_word(address), Ok(word), "at {address}");
+/// Does what the lines say, in turn, from a machine of 256 pages on.
+pub(crate) fn play(rt: &impl Abort, alloc: Global, lines: &[Line]) -> Result<(), Fail> {
+    let mut machine = usual_machine(alloc)?;
+    for (index, line) in lines.iter().enumerate() {
+        match *line {
+            Line::New(pages, app, rma) => machine = machine_of(alloc, pages, app, rma)?,
+            Line::Boot(refusal) => assert_eq!(rt;
+                machine.boot(&SIX_WORDS).err(),
+                refusal,
+                "line {index}"
+            ),
+            Line::BootText(count, refusal) => {
+                let text = vec![in alloc; b'x'; count]?;
+                assert_eq!(rt;
+                    machine.boot(text.as_slice()).err(),
+                    refusal,
+                    "line {index}"
+                );
+            }
+            Line::Set(number, value) => machine.set_register(number.min(14), value),
+            Line::Registers(r0, r1, r2, r3) => set_registers(&mut machine, r0, r1, r2, r3),
+            Line::Run(budget, stop, taken, text) => run(
+                rt,
+                &mut machine,
+                index,
+                budget,
+                (stop, taken),
+                text,
+            ),
+            Line::Text(address, text) => has_text(rt, &machine, address, text),
+            Line::Prints(text) => assert_eq!(rt; machine.output(), text.as_bytes(), "line {index}"),
+            Line::PrintsMany(count) => assert_eq!(rt;
+                machine.output().len(),
+                count,
+                "line {index}"
+            ),
+            _ => {
+                let (stop, wanted) = step(&mut machine, *line);
+                assert_eq!(rt; stop, wanted, "line {index}");
+                let (word, wanted) = word(&mut machine, *line);
+                assert_eq!(rt; word, wanted, "line {index}");
+            }
+        }
     }
-    for address in [
-        0,
-        0x7FFC,
-        0x0004_8000,
-        0x017F_FFFC,
-        0x0181_0000,
-        0x01BF_FFFC,
-        0x01C0_3000,
-    ] {
-        assert_eq!(rt;
-            memory.load_word(address),
+    Ok(())
+}
+
+/// Takes the step of a line that has one: why the machine stops, and why it should.
+fn step(machine: &mut Machine, line: Line) -> (Option<Stop>, Option<Stop>) {
+    match line {
+        Line::Step(stop) => (machine.step(&Images::new()), stop),
+        Line::Call(number, stop) => (machine.store_call(&Images::new(), number), stop),
+        _ => (None, None),
+    }
+}
+
+/// Pokes a word or finds one, for a line that does: what that answers, and what it should.
+fn word(machine: &mut Machine, line: Line) -> (Result<u32, Fault>, Result<u32, Fault>) {
+    match line {
+        Line::Put(address, word) => (poke(machine, address, word), Ok(word)),
+        Line::Refuses(address, word, fault) => (poke(machine, address, word), Err(fault)),
+        Line::Holds(address, word) => (machine.memory().load_word(address), Ok(word)),
+        Line::Lacks(address) => (
+            machine.memory().load_word(address),
             Err(Fault::DataUnmapped),
-            "at {address}"
-        );
+        ),
+        Line::Has(number, value) => (Ok(machine.cpu().register(number.min(15))), Ok(value)),
+        Line::In(mode, number, value) => (
+            Ok(machine.cpu().register_in(mode, number.min(14))),
+            Ok(value),
+        ),
+        Line::At(address) => (Ok(machine.cpu().pc()), Ok(address)),
+        Line::Overflow(is_set) => (
+            Ok(u32::from(machine.cpu().psr().overflow)),
+            Ok(u32::from(is_set)),
+        ),
+        _ => (Ok(0), Ok(0)),
     }
-    Ok(())
 }
 
-#[test]
-fn boots_once(rt: HostRuntime) -> Result<(), Fail> {
-    let config = Config::new(11, 6, 2).ok_or("sizes")?;
-    let mut machine = Machine::new(rt.alloc(), config)?;
-    let long = vec![in rt.alloc(); 0u8; 24577]?;
-    assert_eq!(rt; machine.boot(long.as_slice()), Err(BootError::TooLarge));
-    assert_eq!(rt; machine.boot(&SIX_WORDS), Ok(()));
-    assert_eq!(rt; machine.memory().load_word(0x8014), Ok(0xEF00_0011));
-    assert_eq!(rt; machine.boot(&SIX_WORDS), Err(BootError::Booted));
-    Ok(())
+/// Pokes a word at the word that holds an address, and answers the word.
+fn poke(machine: &mut Machine, address: u32, word: u32) -> Result<u32, Fault> {
+    machine.poke(address - address % 4, word)?;
+    Ok(word)
 }
 
-#[test]
-fn a_step_ends_booting(rt: HostRuntime) -> Result<(), Fail> {
-    let mut machine = usual_machine(&rt)?;
-    assert_eq!(rt; machine.step(&Images::new()), None);
-    assert_eq!(rt; machine.cpu().pc(), 0x8004);
-    assert_eq!(rt; machine.boot(&SIX_WORDS), Err(BootError::Booted));
-    Ok(())
-}
-
-#[test]
-fn calls_print(rt: HostRuntime) -> Result<(), Fail> {
-    // SWI OS_WriteI+"H"; SWI OS_WriteI+"i"; SWI OS_NewLine; SWI OS_Exit
-    let mut machine = usual_machine(&rt)?;
-    machine
-        .boot(&[
-            0x48, 1, 0, 0xEF, 0x69, 1, 0, 0xEF, 3, 0, 0, 0xEF, 0x11, 0, 0, 0xEF,
-        ])
-        .ok()
-        .ok_or("boot")?;
+/// A run whose sink would fail after a call for each byte.
+fn run(
+    rt: &impl Abort,
+    machine: &mut Machine,
+    index: usize,
+    budget: u64,
+    end: (Stop, u64),
+    text: &str,
+) {
     let mut room = [0u8; 8];
-    let mut sink = MemorySink::new(&mut room, 8, 9);
-    let ran = machine
-        .run(&Images::new(), &Breaks::new(), &mut sink, 9)
-        .ok()
-        .ok_or("run")?;
-    assert_eq!(rt; (ran.stop, ran.taken), (Stop::Exit, 4));
-    assert_eq!(rt; sink.written(), b"Hi\n\r".as_slice());
-    Ok(())
+    let mut sink = MemorySink::new(&mut room, 8, text.len() as u64 + 1);
+    let ran = machine.run(&Images::new(), &Breaks::new(), &mut sink, budget);
+    assert_eq!(rt;
+        ran.map(|ran| (ran.stop, ran.taken)).ok(),
+        Some(end),
+        "line {index}"
+    );
+    assert_eq!(rt; sink.written(), text.as_bytes(), "line {index}");
 }
 
-#[test]
-fn unknown_calls_are_errors(rt: HostRuntime) -> Result<(), Fail> {
-    // SWI &99 without the X bit
-    let mut machine = usual_machine(&rt)?;
-    machine.boot(&[0x99, 0, 0, 0xEF]).ok().ok_or("boot")?;
-    let stop = Some(Stop::Fault(Fault::ErrorStop(80)));
-    assert_eq!(rt; machine.step(&Images::new()), stop);
-    assert_eq!(rt; machine.cpu().register(0), 0);
-    assert_eq!(rt; machine.cpu().register(15), 0x8000);
-    assert_eq!(rt; machine.store_call(&Images::new(), 0x11), stop);
-
-    // the same made from outside, so with the X bit
-    let mut machine = usual_machine(&rt)?;
-    assert_eq!(rt; machine.store_call(&Images::new(), 0x99), None);
-    assert_eq!(rt; machine.cpu().register(0), 0x01C0_2100);
-    assert_eq!(rt; machine.cpu().register(15), 0x1000_8000);
-    assert_eq!(rt; machine.cpu().register_in(Mode::Supervisor, 14), 0x8000);
-    let block = machine.memory();
-    assert_eq!(rt; block.load_word(0x01C0_2100), Ok(80));
-    for (index, byte) in b"SwiUnknown\0".iter().enumerate() {
-        assert_eq!(rt; block.load_byte(0x01C0_2104 + index as u32), Ok(*byte));
-    }
-    assert_eq!(rt; machine.boot(&SIX_WORDS), Err(BootError::Booted));
-    assert_eq!(rt; machine.store_call(&Images::new(), 0x11), Some(Stop::Exit));
-    Ok(())
+pub(crate) fn set_registers(machine: &mut Machine, r0: u32, r1: u32, r2: u32, r3: u32) {
+    machine.set_register(0, r0);
+    machine.set_register(1, r1);
+    machine.set_register(2, r2);
+    machine.set_register(3, r3);
 }
 
-#[test]
-fn own_errors_keep_their_block(rt: HostRuntime) -> Result<(), Fail> {
-    let mut machine = usual_machine(&rt)?;
-    machine.set_register(0, 0x9000);
-    assert_eq!(rt; machine.poke(0x9000, 0x123), Ok(()));
-    assert_eq!(rt; machine.boot(&SIX_WORDS), Err(BootError::Booted));
-    assert_eq!(rt; machine.store_call(&Images::new(), 0x2B), None);
-    assert_eq!(rt; machine.cpu().register(0), 0x9000);
-    assert!(rt; machine.cpu().psr().overflow);
-    machine.set_register(0, 0x9002);
-    assert_eq!(rt; machine.store_call(&Images::new(), 0x2B), None);
-    assert_eq!(rt; machine.memory().load_word(0x01C0_2100), Ok(82));
-    Ok(())
-}
-
-#[test]
-fn texts_follow_their_call(rt: HostRuntime) -> Result<(), Fail> {
-    // SWI OS_WriteS; "abcd", 0; SWI OS_EnterOS
-    let text = [
-        1, 0, 0, 0xEF, b'a', b'b', b'c', b'd', 0, 0, 0, 0, 0x16, 0, 0, 0xEF,
-    ];
-    let mut machine = usual_machine(&rt)?;
-    machine.boot(&text).ok().ok_or("boot")?;
-    assert_eq!(rt; machine.step(&Images::new()), None);
-    assert_eq!(rt; machine.output(), b"abcd".as_slice());
-    assert_eq!(rt; machine.cpu().pc(), 0x800C);
-    assert_eq!(rt; machine.step(&Images::new()), None);
-    assert!(rt; machine.output().is_empty());
-    assert_eq!(rt; machine.cpu().register(15), 0x8013);
-    assert_eq!(rt; machine.cpu().register(14), 0x8010);
-
-    // made from outside, at the text itself
-    let mut machine = usual_machine(&rt)?;
-    machine.boot(&text[4..]).ok().ok_or("boot")?;
-    assert_eq!(rt; machine.store_call(&Images::new(), 1), None);
-    assert_eq!(rt; machine.output(), b"abcd".as_slice());
-    assert_eq!(rt; machine.cpu().pc(), 0x8008);
-    Ok(())
-}
-
-#[test]
-fn texts_have_a_limit(rt: HostRuntime) -> Result<(), Fail> {
-    let text = vec![in rt.alloc(); b'x'; 4097]?;
-    let mut machine = usual_machine(&rt)?;
-    machine.boot(&text.as_slice()[1..]).ok().ok_or("boot")?;
-    machine.set_register(0, 0x8000);
-    assert_eq!(rt; machine.store_call(&Images::new(), 2), None);
-    assert_eq!(rt; machine.output().len(), 4096);
-    assert_eq!(rt; machine.cpu().register(0), 0x9001);
-    let mut machine = usual_machine(&rt)?;
-    machine.boot(text.as_slice()).ok().ok_or("boot")?;
-    machine.set_register(0, 0x8000);
-    assert_eq!(rt; machine.store_call(&Images::new(), 2), None);
-    assert!(rt; machine.output().is_empty());
-    assert_eq!(rt; machine.memory().load_word(0x01C0_2100), Ok(81));
-    Ok(())
-}
-
-// OS_Heap of the heap at &9000, with a reason, a block and a size.
-fn call_heap(machine: &mut Machine, reason: u32, block: u32, size: u32) -> Option<Stop> {
-    set_heap_call(machine, reason, block, size);
-    machine.store_call(&Images::new(), 0x1D)
-}
-
-fn set_heap_call(machine: &mut Machine, reason: u32, block: u32, size: u32) {
-    machine.set_register(0, reason);
-    machine.set_register(1, 0x9000);
-    machine.set_register(2, block);
-    machine.set_register(3, size);
-}
-
-#[test]
-fn heap_calls(rt: HostRuntime) -> Result<(), Fail> {
-    // SWI OS_Heap
-    let mut machine = usual_machine(&rt)?;
-    machine.boot(&[0x1D, 0, 0, 0xEF]).ok().ok_or("boot")?;
-    assert_eq!(rt; call_heap(&mut machine, 0, 0, 256), None);
-    assert_eq!(rt; call_heap(&mut machine, 2, 0, 20), None);
-    assert_eq!(rt; machine.cpu().register(2), 0x9014);
-    assert_eq!(rt; call_heap(&mut machine, 1, 0, 0), None);
-    assert_eq!(rt; machine.cpu().register(2), 212);
-    assert_eq!(rt; machine.cpu().register(3), 216);
-    assert!(rt; !machine.cpu().psr().overflow);
-    assert_eq!(rt; machine.poke(0x9010, 0), Err(Fault::OwnedWord));
-    assert_eq!(rt; machine.poke(0x9014, 1), Ok(()));
-
-    // no block is there: first with the X bit, then without
-    assert_eq!(rt; call_heap(&mut machine, 3, 0x9018, 0), None);
-    assert!(rt; machine.cpu().psr().overflow);
-    assert_eq!(rt; machine.cpu().register(0), 0x01C0_2100);
-    assert_eq!(rt; machine.memory().load_word(0x01C0_2100), Ok(6));
-    for (index, byte) in b"HeapNotABlock\0".iter().enumerate() {
+fn has_text(rt: &impl Abort, machine: &Machine, address: u32, text: &str) {
+    assert!(rt; address < 0x0400_0000 && text.len() < 256);
+    for (index, byte) in text.as_bytes().iter().enumerate() {
         assert_eq!(rt;
-            machine.memory().load_byte(0x01C0_2104 + index as u32),
+            machine.memory().load_byte(address + index as u32),
             Ok(*byte)
         );
     }
-    set_heap_call(&mut machine, 3, 0x9018, 5);
-    let stop = Some(Stop::Fault(Fault::ErrorStop(6)));
-    assert_eq!(rt; machine.step(&Images::new()), stop);
-    for (number, value) in [(0, 3), (1, 0x9000), (2, 0x9018), (3, 5)] {
-        assert_eq!(rt; machine.cpu().register(number), value);
-    }
-    Ok(())
 }
 
-#[test]
-fn faults_keep_the_pc(rt: HostRuntime) -> Result<(), Fail> {
+static LINES: [Line; 126] = [
+    // the six words: a loop of three turns, and OS_Exit; nothing is written, and a halted machine stays as it is
+    Boot(None),
+    Run(1_000_000, Stop::Exit, 14, ""),
+    Has(0, 0),
+    Has(1, 6),
+    Has(15, 0x6000_8014),
+    Step(Some(Stop::Exit)),
+    Has(15, 0x6000_8014),
+    Prints(""),
+    // budgets add up
+    New(256, 64, 16),
+    Boot(None),
+    Run(0, Stop::Budget, 0, ""),
+    Run(13, Stop::Budget, 13, ""),
+    Has(1, 6),
+    Has(15, 0x6000_8014),
+    Run(5, Stop::Exit, 1, ""),
+    // the start: the module area's descriptor, and the first and last words of what is mapped
+    New(256, 64, 16),
+    Has(13, 0),
+    Has(15, 0x8000),
+    Holds(0x0180_0000, 0x7061_6548),
+    Holds(0x0180_0004, 0),
+    Holds(0x0180_0008, 16),
+    Holds(0x0180_000C, 65536),
+    Holds(0x0180_FFFC, 0),
+    Holds(0x8000, 0),
+    Holds(0x0004_7FFC, 0),
+    Holds(0x01C0_2FFC, 0),
+    Lacks(0),
+    Lacks(0x7FFC),
+    Lacks(0x0004_8000),
+    Lacks(0x017F_FFFC),
+    Lacks(0x0181_0000),
+    Lacks(0x01BF_FFFC),
+    Lacks(0x01C0_3000),
+    // a program must fit, and a machine boots once
+    New(11, 6, 2),
+    BootText(24577, Some(BootError::TooLarge)),
+    Boot(None),
+    Holds(0x8014, 0xEF00_0011),
+    Boot(Some(BootError::Booted)),
+    // a step ends booting
+    New(256, 64, 16),
+    Step(None),
+    At(0x8004),
+    Boot(Some(BootError::Booted)),
+    // SWI OS_WriteI+"H"; SWI OS_WriteI+"i"; SWI OS_NewLine; SWI OS_Exit
+    New(256, 64, 16),
+    Put(0x8000, 0xEF00_0148),
+    Put(0x8004, 0xEF00_0169),
+    Put(0x8008, 0xEF00_0003),
+    Put(0x800C, 0xEF00_0011),
+    Run(9, Stop::Exit, 4, "Hi\n\r"),
+    // SWI &99 without the X bit
+    New(256, 64, 16),
+    Put(0x8000, 0xEF00_0099),
+    Step(Some(Stop::Fault(Fault::ErrorStop(80)))),
+    Has(0, 0),
+    Has(15, 0x8000),
+    Call(0x11, Some(Stop::Fault(Fault::ErrorStop(80)))),
+    // the same made from outside, so with the X bit
+    New(256, 64, 16),
+    Call(0x99, None),
+    Has(0, 0x01C0_2100),
+    Has(15, 0x1000_8000),
+    In(Mode::Supervisor, 14, 0x8000),
+    Holds(0x01C0_2100, 80),
+    Text(0x01C0_2104, "SwiUnknown\0"),
+    Boot(Some(BootError::Booted)),
+    Call(0x11, Some(Stop::Exit)),
+    // OS_GenerateError: an error of the guest keeps its block, and one whose pointer is bad is another
+    New(256, 64, 16),
+    Set(0, 0x9000),
+    Put(0x9000, 0x123),
+    Boot(Some(BootError::Booted)),
+    Call(0x2B, None),
+    Has(0, 0x9000),
+    Overflow(true),
+    Set(0, 0x9002),
+    Call(0x2B, None),
+    Holds(0x01C0_2100, 82),
+    // its block may lie where a heap keeps its records, and in a system page
+    New(256, 64, 16),
+    Set(0, 0x0180_0004),
+    Call(0x2B, None),
+    Overflow(true),
+    Has(0, 0x0180_0004),
+    Set(0, 0x01C0_2100),
+    Call(0x2B, None),
+    Overflow(true),
+    Has(0, 0x01C0_2100),
+    Call(0x11, Some(Stop::Exit)),
+    // SWI OS_WriteS; "abcd", 0; SWI OS_EnterOS
+    New(256, 64, 16),
+    Put(0x8000, 0xEF00_0001),
+    Put(0x8004, 0x6463_6261),
+    Put(0x8008, 0),
+    Put(0x800C, 0xEF00_0016),
+    Step(None),
+    Prints("abcd"),
+    At(0x800C),
+    Step(None),
+    Prints(""),
+    Has(15, 0x8013),
+    Has(14, 0x8010),
+    // the same text, by a call made from outside
+    New(256, 64, 16),
+    Put(0x8000, 0x6463_6261),
+    Put(0x8004, 0),
+    Put(0x8008, 0xEF00_0016),
+    Call(1, None),
+    Prints("abcd"),
+    At(0x8008),
+    // a text of OS_Write0 has at most 4096 bytes
+    New(256, 64, 16),
+    BootText(4096, None),
+    Set(0, 0x8000),
+    Call(2, None),
+    PrintsMany(4096),
+    Has(0, 0x9001),
+    New(256, 64, 16),
+    BootText(4097, None),
+    Set(0, 0x8000),
+    Call(2, None),
+    Prints(""),
+    Holds(0x01C0_2100, 81),
     // B to &3800000, the return gate, with no frame open; B to &48000, where nothing is mapped
-    for (word, pc) in [
-        ([0xFEu8, 0xDF, 0xDF, 0xEA], 0x0380_0000),
-        ([0xFE, 0xFF, 0x00, 0xEA], 0x0004_8000),
-    ] {
-        let mut machine = usual_machine(&rt)?;
-        machine.boot(&word).ok().ok_or("boot")?;
-        assert_eq!(rt; machine.step(&Images::new()), None);
-        assert_eq!(rt; machine.cpu().pc(), pc);
-        assert_eq!(rt;
-            machine.step(&Images::new()),
-            Some(Stop::Fault(Fault::FetchUnmapped))
-        );
-        assert_eq!(rt; machine.cpu().pc(), pc);
-    }
-    Ok(())
+    New(256, 64, 16),
+    Put(0x8000, 0xEADF_DFFE),
+    Step(None),
+    At(0x0380_0000),
+    Step(Some(Stop::Fault(Fault::FetchUnmapped))),
+    At(0x0380_0000),
+    New(256, 64, 16),
+    Put(0x8000, 0xEA00_FFFE),
+    Step(None),
+    At(0x0004_8000),
+    Step(Some(Stop::Fault(Fault::FetchUnmapped))),
+    At(0x0004_8000),
+];
+
+#[test]
+fn steps_and_calls(rt: HostRuntime) -> Result<(), Fail> {
+    play(&rt, rt.alloc(), &LINES)
 }
