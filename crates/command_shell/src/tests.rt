@@ -1,5 +1,6 @@
 mod answers;
 mod failures;
+mod heaps;
 mod monitor;
 
 use crate::{RunError, Summary, run_script};
