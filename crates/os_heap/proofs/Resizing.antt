@@ -1,5 +1,5 @@
 -- What a change of a block's size leaves of all heaps, by the ways that it can go.
-use Rattle.std.proofs.Common.{◌≡◌, ℕ, ◌+◌, ◌-◌, ◌*◌, ◌^◌, ◌%◌, ◌<◌, ◌≤◌, ◌==◌, true, false, is_some, Option, Some, None, option_map, Result, Ok, Err, List, [], ◌∷◌, inl, inr, arith, refl, sym, ◌∙◌, ap, subst}
+use Rattle.std.proofs.Common.{◌≡◌, ℕ, ◌+◌, ◌-◌, ◌*◌, ◌^◌, ◌%◌, ◌<◌, ◌≤◌, ◌==◌, true, false, is_some, Option, Some, None, Result, Ok, Err, List, [], ◌∷◌, inl, inr, arith, refl, sym, ◌∙◌, ap, subst}
 use Rattle.std.specs.Prelude.{nat_le}
 use Rattle.std.proofs.lemmas.Bool.{cases_Bool, eqb-true, false≢true, le-leb, lt-leb, leb-false}
 use Rattle.profile.specs.Outcome.{bind, Gives, Leaves}
@@ -12,7 +12,7 @@ use Rattle.address_map.specs.declared.region.Region.{Region}
 use Rattle.address_map.specs.declared.map.AddressMap.{AddressMap}
 use Rattle.address_map.specs.Bytes.{Bytes, word_at}
 use Rattle.address_map.specs.Items.{items_in, size_of}
-use Rattle.address_map.specs.Memory.{bytes_of, byte_at, is_mapped, regions}
+use Rattle.address_map.specs.Memory.{bytes_of, byte_at, is_mapped, regions, layout}
 use Rattle.address_map.specs.Records.{is_heap_kind}
 use Rattle.os_heap.specs.Changes.{resized_block, resized_of, resized, resized_or_moved, moved, move_probes, refit_probes, probes_after_walk, resize_probes}
 use Rattle.os_heap.specs.Heap.{Part, IsHeapIn, AreTotals}
@@ -25,8 +25,9 @@ use Rattle.os_heap.specs.Store.{Store, store_of, part_in, parts_in, IsSound, fin
 use Rattle.os_heap.proofs.Bounds.{move_most, claim_no_more}
 use Rattle.os_heap.proofs.Calls.{part_at, heap_of-part, heap_there, leaves_release, IsGiven, IsLeft}
 use Rattle.os_heap.proofs.Freeing.{block_facts}
+use Rattle.os_heap.proofs.Moving.{HasPart, part_there}
 use Rattle.os_heap.proofs.Replace.{heap_below, heap_mapped}
-use Rattle.os_heap.proofs.Sized.{block_total}
+use Rattle.os_heap.proofs.Sized.{map_none, block_total}
 use Rattle.os_heap.proofs.Stores.{store_held, sound_held}
 use Rattle.os_heap.proofs.Unique.{total_facts}
 
@@ -58,12 +59,10 @@ pub record IsThere (m : AddressMap) (heap : ℕ) : Type 0 where
   pub end : ℕ
   pub found : find_part heap (store_of m).heaps ≡ Some (part_at kind m heap end)
 
-from_option : (m : AddressMap) (heap : ℕ) (o : Option Part) → find_part heap (store_of m).heaps ≡ o → is_some o ≡ true → IsThere m heap
-from_option m heap None e is = absurd (false≢true is)
-from_option m heap (Some h) e is = record { kind = h.kind; end = h.end; found = e ∙ ap (λ (x : Part). Some x) (found_is m heap h e) }
-
 pub is_there : (m : AddressMap) (heap : ℕ) → is_some (find_part heap (store_of m).heaps) ≡ true → IsThere m heap
-is_there m heap is = from_option m heap (find_part heap (store_of m).heaps) refl is
+is_there m heap is =
+    let p : HasPart heap (store_of m).heaps = part_there heap (store_of m).heaps is in
+    record { kind = p.part.kind; end = p.part.end; found = p.found ∙ ap (λ (x : Part). Some x) (found_is m heap p.part p.found) }
 
 pub there_heap : (m : AddressMap) (heap : ℕ) → IsSound (store_of m) → is_some (find_part heap (store_of m).heaps) ≡ true
     → IsHeapIn (bytes_of m) heap (end_at m heap) (items_at m heap)
@@ -118,6 +117,7 @@ resize_nowhere m heap block change none = rw none (refl, refl)
 pub record IsResized (m n : AddressMap) (heap block change : ℕ) (answer : Result ℕ ErrorNumber) (more : ℕ) : Type 0 where
   pub store : Gives (store_of m) (resized (store_of m) heap block change) answer (store_of n)
   pub sound : IsSound (store_of n)
+  pub same : layout n ≡ layout m
   pub probes : begun_below block (heap + 16) (items_at m heap) + more ≡ resize_probes (store_of m) heap block change
 
 -- nothing is left of the block
@@ -140,6 +140,7 @@ resize_freed m n heap block change total sound is live few releases =
     record {
       store = rw (by_total m heap block change t (Some total) live, test) (freed_given (store_of m) (store_of n) (released_in (store_of m) h (released block (heap + 16) (items_at m heap))) (Ok 0) refl l.store);
       sound = l.sound;
+      same = l.same;
       probes = sym (rw test at (probes_by_total m heap block change t (Some total) live));
     }
 
@@ -175,6 +176,7 @@ resize_refitted m n heap block change total sound is live more refits =
     record {
       store = rw (by_total m heap block change t (Some total) live, test) g.store;
       sound = g.sound;
+      same = g.same;
       probes = sym (rw (test, none) at (probes_by_total m heap block change t (Some total) live));
     }
 
@@ -182,10 +184,6 @@ resize_refitted m n heap block change total sound is live more refits =
 pub unrefitted : (m n : AddressMap) (heap end : ℕ) (o : Option (List Item)) → Refits m n heap end false o → (o ≡ None) × (n ≡ m)
 unrefitted m n heap end None refits = (refl, refits.1)
 unrefitted m n heap end (Some items) refits = absurd (false≢true refits.0)
-
-mapped_none : (f : List Item → List Item) (x : Option (List Item)) → option_map f x ≡ None → x ≡ None
-mapped_none f None h = refl
-mapped_none f (Some xs) h = absurd (let some : Some (f xs) ≡ None = h in cc)
 
 refitted_none : (room new old : ℕ) (xs : List Item) → refitted room new old xs ≡ None → old < new
 refitted_none room new old xs none = elim (cases_Bool (nat_le new old)) [
@@ -200,21 +198,21 @@ larger_where_none block end new at total (Live t ∷ xs) live none = elim (cases
       let live' = rw here at live in
       let same : t ≡ total = cc in
       subst (λ (n : ℕ). n < new) same (refitted_none (end - at) new t xs (rw here at none))
-  | inr other ↦ larger_where_none block end new (at + t) total xs (rw other at live) (mapped_none (λ ys. Live t ∷ ys) (resized_in_place block end new (at + t) xs) (rw other at none))
+  | inr other ↦ larger_where_none block end new (at + t) total xs (rw other at live) (map_none (λ ys. Live t ∷ ys) (resized_in_place block end new (at + t) xs) (rw other at none))
 ]
 larger_where_none block end new at total (Free t ∷ xs) live none =
-    larger_where_none block end new (at + t) total xs live (mapped_none (λ ys. Free t ∷ ys) (resized_in_place block end new (at + t) xs) none)
+    larger_where_none block end new (at + t) total xs live (map_none (λ ys. Free t ∷ ys) (resized_in_place block end new (at + t) xs) none)
 
 pub resize_moved : (m n : AddressMap) (heap block change total more : ℕ) (answer : Result ℕ ErrorNumber) → IsSound (store_of m)
     → is_some (find_part heap (store_of m).heaps) ≡ true → live_total block (heap + 16) (items_at m heap) ≡ Some total → 4 < changed_by total change
     → resized_in_place block (heap + end_at m heap) (round_up_8 (changed_by total change)) (heap + 16) (items_at m heap) ≡ None
     → ((h : Part) → find_part heap (store_of m).heaps ≡ Some h
     → Gives (store_of m) (moved (store_of m) h block total (round_up_8 (changed_by total change))) answer (store_of n))
-    → IsSound (store_of n)
+    → IsSound (store_of n) → layout n ≡ layout m
     → ((h : Part) → find_part heap (store_of m).heaps ≡ Some h
     → more ≡ move_probes h block (round_up_8 (changed_by total change)) (claimed (round_up_8 (changed_by total change)) (h.end - 16) h.items))
     → IsResized m n heap block change answer more
-resize_moved m n heap block change total more answer sound is live large none store kept probes =
+resize_moved m n heap block change total more answer sound is live large none store kept same probes =
     let t : IsThere m heap = is_there m heap is in
     let h : Part = part_at t.kind m heap t.end in
     let new : ℕ = round_up_8 (changed_by total change) in
@@ -225,6 +223,7 @@ resize_moved m n heap block change total more answer sound is live large none st
     record {
       store = rw (by_total m heap block change t (Some total) live, test, none') (store h t.found);
       sound = kept;
+      same = same;
       probes = ap (λ (k : ℕ). begun_below block (heap + 16) (items_at m heap) + k) (probes h t.found)
           ∙ sym (rw (test, none') at (probes_by_total m heap block change t (Some total) live));
     }

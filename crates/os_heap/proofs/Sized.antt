@@ -18,7 +18,8 @@ use Rattle.os_heap.proofs.Calls.{part_at}
 use Rattle.os_heap.proofs.Unique.{total_facts}
 use Rattle.os_heap.proofs.Spelling.{totals-front}
 
-map_none : (f : List Item → List Item) (x : Option (List Item)) → option_map f x ≡ None → x ≡ None
+-- nothing comes of nothing alone
+pub map_none : (f : List Item → List Item) (x : Option (List Item)) → option_map f x ≡ None → x ≡ None
 map_none f None h = refl
 map_none f (Some xs) h = absurd (let some : Some (f xs) ≡ None = h in cc)
 

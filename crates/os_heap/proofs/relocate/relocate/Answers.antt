@@ -19,39 +19,22 @@ overflow_sub-total c =
     let inside = are_inside c.args.map.now c.claim_total-claim.new.map part.part.kind c.args.heap c.args.block c.args.total c.args.needed c.in-Ok.new c.requires.larger claim in
     inside.least
 
-pub move_bytes-requires-clause-source : goal.move_bytes-requires-clause-source
-move_bytes-requires-clause-source c =
+pub move_bytes-requires : goal.move_bytes-requires
+move_bytes-requires c =
     let part = part_there c.args.heap (store_of c.args.map.now).heaps c.requires.found in
     let claim = is_claimed c.args.map.now c.claim_total-claim.new.map c.args.heap c.args.block c.args.total c.args.needed c.in-Ok.new _ part c.requires.sound c.requires.live
     c.claim_total-claim.ensures.claim c.in-Ok.is in
     let inside = are_inside c.args.map.now c.claim_total-claim.new.map part.part.kind c.args.heap c.args.block c.args.total c.args.needed c.in-Ok.new c.requires.larger claim in
-    inside.source
+    record { source = inside.source; target = inside.target }
 
-pub move_bytes-requires-clause-target : goal.move_bytes-requires-clause-target
-move_bytes-requires-clause-target c =
-    let part = part_there c.args.heap (store_of c.args.map.now).heaps c.requires.found in
-    let claim = is_claimed c.args.map.now c.claim_total-claim.new.map c.args.heap c.args.block c.args.total c.args.needed c.in-Ok.new _ part c.requires.sound c.requires.live
-    c.claim_total-claim.ensures.claim c.in-Ok.is in
-    let inside = are_inside c.args.map.now c.claim_total-claim.new.map part.part.kind c.args.heap c.args.block c.args.total c.args.needed c.in-Ok.new c.requires.larger claim in
-    inside.target
-
-pub find_by_links-cursor-requires-clause-heap : goal.find_by_links-cursor-requires-clause-heap
-find_by_links-cursor-requires-clause-heap c =
+pub find_by_links-cursor-requires : goal.find_by_links-cursor-requires
+find_by_links-cursor-requires c =
     let part = part_there c.args.heap (store_of c.args.map.now).heaps c.requires.found in
     let claim = is_claimed c.args.map.now c.claim_total-claim.new.map c.args.heap c.args.block c.args.total c.args.needed c.in-Ok.new _ part c.requires.sound c.requires.live
     c.claim_total-claim.ensures.claim c.in-Ok.is in
     let copy = is_copied c.args.map.now c.claim_total-claim.new.map c.move_bytes.new.self part.part.kind c.args.heap c.args.block c.args.total c.args.needed c.in-Ok.new
     c.requires.larger claim c.move_bytes.ensures.layout c.move_bytes.ensures.bytes in
-    copy.there
-
-pub find_by_links-cursor-requires-clause-live : goal.find_by_links-cursor-requires-clause-live
-find_by_links-cursor-requires-clause-live c =
-    let part = part_there c.args.heap (store_of c.args.map.now).heaps c.requires.found in
-    let claim = is_claimed c.args.map.now c.claim_total-claim.new.map c.args.heap c.args.block c.args.total c.args.needed c.in-Ok.new _ part c.requires.sound c.requires.live
-    c.claim_total-claim.ensures.claim c.in-Ok.is in
-    let copy = is_copied c.args.map.now c.claim_total-claim.new.map c.move_bytes.new.self part.part.kind c.args.heap c.args.block c.args.total c.args.needed c.in-Ok.new
-    c.requires.larger claim c.move_bytes.ensures.layout c.move_bytes.ensures.bytes in
-    copy.live
+    record { heap = copy.there; live = copy.live }
 
 pub give_back-requires-clause-heap : goal.give_back-requires-clause-heap
 give_back-requires-clause-heap c =
@@ -73,8 +56,8 @@ overflow_add-result c =
     claim copy c.requires.heap in
     omega (arith, fit, c.claim_total-claim.ensures.probes, c.find_by_links-cursor.ensures.probes)
 
-pub returns-clause-store : goal.returns-clause-store
-returns-clause-store c =
+pub returns : goal.returns
+returns c =
     let part = part_there c.args.heap (store_of c.args.map.now).heaps c.requires.found in
     let claim = is_claimed c.args.map.now c.claim_total-claim.new.map c.args.heap c.args.block c.args.total c.args.needed c.in-Ok.new _ part c.requires.sound c.requires.live
     c.claim_total-claim.ensures.claim c.in-Ok.is in
@@ -82,25 +65,10 @@ returns-clause-store c =
     c.requires.larger claim c.move_bytes.ensures.layout c.move_bytes.ensures.bytes in
     let moved = is_moved c.args.map.now c.claim_total-claim.new.map c.move_bytes.new.self c.give_back.new.map part.part.kind c.args.heap c.args.block c.args.total c.args.needed
     c.in-Ok.new claim copy c.move_bytes.ensures.layout c.give_back.ensures in
-    moved.store
-
-pub returns-clause-sound : goal.returns-clause-sound
-returns-clause-sound c =
-    let part = part_there c.args.heap (store_of c.args.map.now).heaps c.requires.found in
-    let claim = is_claimed c.args.map.now c.claim_total-claim.new.map c.args.heap c.args.block c.args.total c.args.needed c.in-Ok.new _ part c.requires.sound c.requires.live
-    c.claim_total-claim.ensures.claim c.in-Ok.is in
-    let copy = is_copied c.args.map.now c.claim_total-claim.new.map c.move_bytes.new.self part.part.kind c.args.heap c.args.block c.args.total c.args.needed c.in-Ok.new
-    c.requires.larger claim c.move_bytes.ensures.layout c.move_bytes.ensures.bytes in
-    let moved = is_moved c.args.map.now c.claim_total-claim.new.map c.move_bytes.new.self c.give_back.new.map part.part.kind c.args.heap c.args.block c.args.total c.args.needed
-    c.in-Ok.new claim copy c.move_bytes.ensures.layout c.give_back.ensures in
-    moved.sound
-
-pub returns-clause-probes : goal.returns-clause-probes
-returns-clause-probes c =
-    let part = part_there c.args.heap (store_of c.args.map.now).heaps c.requires.found in
-    let claim = is_claimed c.args.map.now c.claim_total-claim.new.map c.args.heap c.args.block c.args.total c.args.needed c.in-Ok.new _ part c.requires.sound c.requires.live
-    c.claim_total-claim.ensures.claim c.in-Ok.is in
-    let copy = is_copied c.args.map.now c.claim_total-claim.new.map c.move_bytes.new.self part.part.kind c.args.heap c.args.block c.args.total c.args.needed c.in-Ok.new
-    c.requires.larger claim c.move_bytes.ensures.layout c.move_bytes.ensures.bytes in
-    λ h found. rw (c.claim_total-claim.ensures.probes, c.find_by_links-cursor.ensures.probes)
-    (moved_probes c.args.map.now c.claim_total-claim.new.map c.move_bytes.new.self part.part.kind c.args.heap c.args.block c.args.total c.args.needed c.in-Ok.new h claim copy found)
+    record {
+      store = moved.store;
+      sound = moved.sound;
+      layout = moved.same;
+      probes = λ h found. rw (c.claim_total-claim.ensures.probes, c.find_by_links-cursor.ensures.probes)
+          (moved_probes c.args.map.now c.claim_total-claim.new.map c.move_bytes.new.self part.part.kind c.args.heap c.args.block c.args.total c.args.needed c.in-Ok.new h claim copy found);
+    }

@@ -10,25 +10,21 @@ use Rattle.os_heap.proofs.resize.resize_block.Goals as goal
 pub find_block-walk-requires : goal.find_block-walk-requires
 find_block-walk-requires c = there_heap c.args.map.now c.args.heap c.requires.sound c.requires.found
 
-pub returns-in_default-clause-store : goal.returns-in_default-clause-store
-returns-in_default-clause-store c =
+pub returns-in_default : goal.returns-in_default
+returns-in_default c =
     let none = unreleased c.args.block (c.args.heap + 16) (items_at c.args.map.now c.args.heap) (rw c.in_default.is at c.find_block-walk.ensures.block) in
-    rw (resize_refused c.args.map.now c.args.heap c.args.block c.args.change c.requires.found none).0 (refl, refl)
+    let refused = resize_refused c.args.map.now c.args.heap c.args.block c.args.change c.requires.found none in
+    record {
+      store = rw refused.0 (refl, refl);
+      sound = c.requires.sound;
+      layout = refl;
+      probes = c.find_block-walk.ensures.probes ∙ sym refused.1;
+    }
 
-pub returns-in_default-clause-probes : goal.returns-in_default-clause-probes
-returns-in_default-clause-probes c =
-    let none = unreleased c.args.block (c.args.heap + 16) (items_at c.args.map.now c.args.heap) (rw c.in_default.is at c.find_block-walk.ensures.block) in
-    c.find_block-walk.ensures.probes ∙ sym (resize_refused c.args.map.now c.args.heap c.args.block c.args.change c.requires.found none).1
-
-pub word-total-requires-clause-aligned : goal.word-total-requires-clause-aligned
-word-total-requires-clause-aligned c =
+pub word-total-requires : goal.word-total-requires
+word-total-requires c =
     let here = block_here c.args.map.now c.args.heap c.args.block _ c.in-Some.cursor.at _ _ c.requires.sound c.requires.found (rw c.in-Some.is at c.find_block-walk.ensures.block) in
-    here.whole
-
-pub word-total-requires-clause-mapped : goal.word-total-requires-clause-mapped
-word-total-requires-clause-mapped c =
-    let here = block_here c.args.map.now c.args.heap c.args.block _ c.in-Some.cursor.at _ _ c.requires.sound c.requires.found (rw c.in-Some.is at c.find_block-walk.ensures.block) in
-    here.mapped
+    record { aligned = here.whole; mapped = here.mapped }
 
 pub give_back-requires-clause-heap : goal.give_back-requires-clause-heap
 give_back-requires-clause-heap c = there_heap c.args.map.now c.args.heap c.requires.sound c.requires.found
@@ -36,64 +32,48 @@ give_back-requires-clause-heap c = there_heap c.args.map.now c.args.heap c.requi
 pub refit-requires-clause-heap : goal.refit-requires-clause-heap
 refit-requires-clause-heap c = there_heap c.args.map.now c.args.heap c.requires.sound c.requires.found
 
-pub returns-then-size-le4-clause-store : goal.returns-then-size-le4-clause-store
-returns-then-size-le4-clause-store c =
+pub returns-then-size-le4 : goal.returns-then-size-le4
+returns-then-size-le4 c =
     let here = block_here c.args.map.now c.args.heap c.args.block _ c.in-Some.cursor.at _ _ c.requires.sound c.requires.found (rw c.in-Some.is at c.find_block-walk.ensures.block) in
     let live : live_total c.args.block (c.args.heap + 16) (items_at c.args.map.now c.args.heap) ≡ Some c.word-total.result = here.live ∙ ap (λ n. Some n) (sym c.word-total.ensures) in
     let done = resize_freed c.args.map.now c.give_back.new.map c.args.heap c.args.block c.args.change c.word-total.result c.requires.sound c.requires.found live
     (omega (arith, c.changed_by-size.ensures, c.if-size-le4.true)) c.give_back.ensures in
-    done.store
+    record {
+      store = done.store;
+      sound = done.sound;
+      layout = done.same;
+      probes = c.find_block-walk.ensures.probes ∙ omega (arith, done.probes);
+    }
 
-pub returns-then-size-le4-clause-sound : goal.returns-then-size-le4-clause-sound
-returns-then-size-le4-clause-sound c =
-    let here = block_here c.args.map.now c.args.heap c.args.block _ c.in-Some.cursor.at _ _ c.requires.sound c.requires.found (rw c.in-Some.is at c.find_block-walk.ensures.block) in
-    let live : live_total c.args.block (c.args.heap + 16) (items_at c.args.map.now c.args.heap) ≡ Some c.word-total.result = here.live ∙ ap (λ n. Some n) (sym c.word-total.ensures) in
-    let done = resize_freed c.args.map.now c.give_back.new.map c.args.heap c.args.block c.args.change c.word-total.result c.requires.sound c.requires.found live
-    (omega (arith, c.changed_by-size.ensures, c.if-size-le4.true)) c.give_back.ensures in
-    done.sound
-
-pub returns-then-size-le4-clause-probes : goal.returns-then-size-le4-clause-probes
-returns-then-size-le4-clause-probes c =
-    let here = block_here c.args.map.now c.args.heap c.args.block _ c.in-Some.cursor.at _ _ c.requires.sound c.requires.found (rw c.in-Some.is at c.find_block-walk.ensures.block) in
-    let live : live_total c.args.block (c.args.heap + 16) (items_at c.args.map.now c.args.heap) ≡ Some c.word-total.result = here.live ∙ ap (λ n. Some n) (sym c.word-total.ensures) in
-    let done = resize_freed c.args.map.now c.give_back.new.map c.args.heap c.args.block c.args.change c.word-total.result c.requires.sound c.requires.found live
-    (omega (arith, c.changed_by-size.ensures, c.if-size-le4.true)) c.give_back.ensures in
-    c.find_block-walk.ensures.probes ∙ omega (arith, done.probes)
-
-pub returns-then-refit-clause-store : goal.returns-then-refit-clause-store
-returns-then-refit-clause-store c =
+pub returns-then-refit : goal.returns-then-refit
+returns-then-refit c =
     let here = block_here c.args.map.now c.args.heap c.args.block _ c.in-Some.cursor.at _ _ c.requires.sound c.requires.found (rw c.in-Some.is at c.find_block-walk.ensures.block) in
     let live : live_total c.args.block (c.args.heap + 16) (items_at c.args.map.now c.args.heap) ≡ Some c.word-total.result = here.live ∙ ap (λ n. Some n) (sym c.word-total.ensures) in
     let size : c.changed_by-size.result ≡ changed_by c.word-total.result c.args.change = c.changed_by-size.ensures in
     let needed : (c.changed_by-size.result + 7) / 8 * 8 ≡ round_up_8 (changed_by c.word-total.result c.args.change) = omega (arith, ap round_up_8 size) in
     let done = resize_refitted c.args.map.now c.refit.new.map c.args.heap c.args.block c.args.change c.word-total.result c.requires.sound c.requires.found live
     (omega (arith, size, c.if-size-le4.false)) (rw (c.if-refit.true, needed) at c.refit.ensures) in
-    done.store
+    record {
+      store = done.store;
+      sound = done.sound;
+      layout = done.same;
+      probes = c.find_block-walk.ensures.probes ∙ omega (arith, done.probes);
+    }
 
-pub returns-then-refit-clause-sound : goal.returns-then-refit-clause-sound
-returns-then-refit-clause-sound c =
-    let here = block_here c.args.map.now c.args.heap c.args.block _ c.in-Some.cursor.at _ _ c.requires.sound c.requires.found (rw c.in-Some.is at c.find_block-walk.ensures.block) in
-    let live : live_total c.args.block (c.args.heap + 16) (items_at c.args.map.now c.args.heap) ≡ Some c.word-total.result = here.live ∙ ap (λ n. Some n) (sym c.word-total.ensures) in
-    let size : c.changed_by-size.result ≡ changed_by c.word-total.result c.args.change = c.changed_by-size.ensures in
-    let needed : (c.changed_by-size.result + 7) / 8 * 8 ≡ round_up_8 (changed_by c.word-total.result c.args.change) = omega (arith, ap round_up_8 size) in
-    let done = resize_refitted c.args.map.now c.refit.new.map c.args.heap c.args.block c.args.change c.word-total.result c.requires.sound c.requires.found live
-    (omega (arith, size, c.if-size-le4.false)) (rw (c.if-refit.true, needed) at c.refit.ensures) in
-    done.sound
-
-pub returns-then-refit-clause-probes : goal.returns-then-refit-clause-probes
-returns-then-refit-clause-probes c =
-    let here = block_here c.args.map.now c.args.heap c.args.block _ c.in-Some.cursor.at _ _ c.requires.sound c.requires.found (rw c.in-Some.is at c.find_block-walk.ensures.block) in
-    let live : live_total c.args.block (c.args.heap + 16) (items_at c.args.map.now c.args.heap) ≡ Some c.word-total.result = here.live ∙ ap (λ n. Some n) (sym c.word-total.ensures) in
-    let size : c.changed_by-size.result ≡ changed_by c.word-total.result c.args.change = c.changed_by-size.ensures in
-    let needed : (c.changed_by-size.result + 7) / 8 * 8 ≡ round_up_8 (changed_by c.word-total.result c.args.change) = omega (arith, ap round_up_8 size) in
-    let done = resize_refitted c.args.map.now c.refit.new.map c.args.heap c.args.block c.args.change c.word-total.result c.requires.sound c.requires.found live
-    (omega (arith, size, c.if-size-le4.false)) (rw (c.if-refit.true, needed) at c.refit.ensures) in
-    c.find_block-walk.ensures.probes ∙ omega (arith, done.probes)
+pub relocate-moved-requires-clause-sound : goal.relocate-moved-requires-clause-sound
+relocate-moved-requires-clause-sound c =
+    let un = unrefitted c.args.map.now c.refit.new.map c.args.heap (end_at c.args.map.now c.args.heap) _ (rw c.if-refit.false at c.refit.ensures) in
+    rw un.1 c.requires.sound
 
 pub relocate-moved-requires-clause-heap : goal.relocate-moved-requires-clause-heap
 relocate-moved-requires-clause-heap c =
     let un = unrefitted c.args.map.now c.refit.new.map c.args.heap (end_at c.args.map.now c.args.heap) _ (rw c.if-refit.false at c.refit.ensures) in
     rw un.1 (there_heap c.args.map.now c.args.heap c.requires.sound c.requires.found)
+
+pub relocate-moved-requires-clause-found : goal.relocate-moved-requires-clause-found
+relocate-moved-requires-clause-found c =
+    let un = unrefitted c.args.map.now c.refit.new.map c.args.heap (end_at c.args.map.now c.args.heap) _ (rw c.if-refit.false at c.refit.ensures) in
+    rw un.1 c.requires.found
 
 pub relocate-moved-requires-clause-live : goal.relocate-moved-requires-clause-live
 relocate-moved-requires-clause-live c =
@@ -109,16 +89,6 @@ relocate-moved-requires-clause-larger c =
     let un = unrefitted c.args.map.now c.refit.new.map c.args.heap (end_at c.args.map.now c.args.heap) _ (rw c.if-refit.false at c.refit.ensures) in
     larger_where_none c.args.block _ _ (c.args.heap + 16) c.word-total.result (items_at c.args.map.now c.args.heap) live un.0
 
-pub relocate-moved-requires-clause-sound : goal.relocate-moved-requires-clause-sound
-relocate-moved-requires-clause-sound c =
-    let un = unrefitted c.args.map.now c.refit.new.map c.args.heap (end_at c.args.map.now c.args.heap) _ (rw c.if-refit.false at c.refit.ensures) in
-    rw un.1 c.requires.sound
-
-pub relocate-moved-requires-clause-found : goal.relocate-moved-requires-clause-found
-relocate-moved-requires-clause-found c =
-    let un = unrefitted c.args.map.now c.refit.new.map c.args.heap (end_at c.args.map.now c.args.heap) _ (rw c.if-refit.false at c.refit.ensures) in
-    rw un.1 c.requires.found
-
 pub overflow_add-result : goal.overflow_add-result
 overflow_add-result c =
     let un = unrefitted c.args.map.now c.refit.new.map c.args.heap (end_at c.args.map.now c.args.heap) _ (rw c.if-refit.false at c.refit.ensures) in
@@ -127,26 +97,19 @@ overflow_add-result c =
     let heap = there_heap c.args.map.now c.args.heap c.requires.sound c.requires.found in
     omega (arith, few, c.find_block-walk.ensures.probes, begun_few c.args.map.now c.args.heap (end_at c.args.map.now c.args.heap) c.args.block (items_at c.args.map.now c.args.heap) heap)
 
-pub returns-clause-store : goal.returns-clause-store
-returns-clause-store c =
+pub returns : goal.returns
+returns c =
     let here = block_here c.args.map.now c.args.heap c.args.block _ c.in-Some.cursor.at _ _ c.requires.sound c.requires.found (rw c.in-Some.is at c.find_block-walk.ensures.block) in
     let live : live_total c.args.block (c.args.heap + 16) (items_at c.args.map.now c.args.heap) ≡ Some c.word-total.result = here.live ∙ ap (λ n. Some n) (sym c.word-total.ensures) in
     let size : c.changed_by-size.result ≡ changed_by c.word-total.result c.args.change = c.changed_by-size.ensures in
     let needed : (c.changed_by-size.result + 7) / 8 * 8 ≡ round_up_8 (changed_by c.word-total.result c.args.change) = omega (arith, ap round_up_8 size) in
     let un = unrefitted c.args.map.now c.refit.new.map c.args.heap (end_at c.args.map.now c.args.heap) _ (rw c.if-refit.false at c.refit.ensures) in
     let done = resize_moved c.args.map.now c.relocate-moved.new.map c.args.heap c.args.block c.args.change c.word-total.result c.relocate-moved.result.probes _ c.requires.sound c.requires.found live
-    (omega (arith, size, c.if-size-le4.false)) (rw needed at un.0) (rw (un.1, needed) at c.relocate-moved.ensures.store) c.relocate-moved.ensures.sound
+    (omega (arith, size, c.if-size-le4.false)) (rw needed at un.0) (rw (un.1, needed) at c.relocate-moved.ensures.store) c.relocate-moved.ensures.sound (rw un.1 at c.relocate-moved.ensures.layout)
     (rw (un.1, needed) at c.relocate-moved.ensures.probes) in
-    done.store
-
-pub returns-clause-probes : goal.returns-clause-probes
-returns-clause-probes c =
-    let here = block_here c.args.map.now c.args.heap c.args.block _ c.in-Some.cursor.at _ _ c.requires.sound c.requires.found (rw c.in-Some.is at c.find_block-walk.ensures.block) in
-    let live : live_total c.args.block (c.args.heap + 16) (items_at c.args.map.now c.args.heap) ≡ Some c.word-total.result = here.live ∙ ap (λ n. Some n) (sym c.word-total.ensures) in
-    let size : c.changed_by-size.result ≡ changed_by c.word-total.result c.args.change = c.changed_by-size.ensures in
-    let needed : (c.changed_by-size.result + 7) / 8 * 8 ≡ round_up_8 (changed_by c.word-total.result c.args.change) = omega (arith, ap round_up_8 size) in
-    let un = unrefitted c.args.map.now c.refit.new.map c.args.heap (end_at c.args.map.now c.args.heap) _ (rw c.if-refit.false at c.refit.ensures) in
-    let done = resize_moved c.args.map.now c.relocate-moved.new.map c.args.heap c.args.block c.args.change c.word-total.result c.relocate-moved.result.probes _ c.requires.sound c.requires.found live
-    (omega (arith, size, c.if-size-le4.false)) (rw needed at un.0) (rw (un.1, needed) at c.relocate-moved.ensures.store) c.relocate-moved.ensures.sound
-    (rw (un.1, needed) at c.relocate-moved.ensures.probes) in
-    rw (sym c.find_block-walk.ensures.probes) at done.probes
+    record {
+      store = done.store;
+      sound = done.sound;
+      layout = done.same;
+      probes = rw (sym c.find_block-walk.ensures.probes) at done.probes;
+    }
