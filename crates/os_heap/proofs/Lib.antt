@@ -17,6 +17,7 @@ pub mod Refusals
 pub mod Replace
 pub mod Resizing
 pub mod Rest
+pub mod Returning
 pub mod Searching
 pub mod Sized
 pub mod Spelling

@@ -5,6 +5,7 @@ use Rattle.address_map.specs.declared.item.Item.{Item}
 use Rattle.address_map.specs.declared.item.Item.TheVariants.{Live, Free}
 use Rattle.address_map.specs.Bytes.{Bytes, word_at}
 use Rattle.address_map.specs.Items.{size_of, is_total, linked, items_from, items_in}
+use Rattle.os_heap.specs.Laws.{ReadsHeap}
 use Rattle.os_heap.specs.Heap.{next_free, Spells, AreTotals, IsHeapIn}
 
 -- a total is a multiple of 8 above 0
@@ -66,3 +67,6 @@ items_in-heap b start end items heap =
     rw heap.first (linked_to start (start + 16) items (omega arith)) in
     rw (here, heap.base) (items_from-spelled (word_at b.at) (16 + size_of items) (start + 16) (start + (16 + size_of items)) items
     (omega arith) (omega arith) (omega arith) heap.totals heap.spelled)
+
+pub reads_heap : ReadsHeap
+reads_heap b start end items heap = items_in-heap b start end items heap

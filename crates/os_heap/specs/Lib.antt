@@ -3,6 +3,7 @@ pub mod Changes
 pub mod Claims
 pub mod Ends
 pub mod Heap
+pub mod Laws
 pub mod Links
 pub mod Lists
 pub mod Refits

@@ -5,7 +5,7 @@ use crate::tests::{Line, play};
 use profile::{Fault, Stop};
 use std::test::Fail;
 
-static LINES: [Line; 51] = [
+static LINES: [Line; 61] = [
     // SWI OS_Heap, of a heap of 256 bytes at &9000: init; get of 20; describe
     Put(0x8000, 0xEF00_001D),
     Registers(0, 0x9000, 0, 256),
@@ -61,6 +61,17 @@ static LINES: [Line; 51] = [
     Call(0x1D, None),
     Has(2, 252),
     Has(3, 280),
+    Overflow(false),
+    // the module area's heap: its one block, and so its last, grows by 8 at the base
+    Registers(2, 0x0180_0000, 0, 20),
+    Call(0x1D, None),
+    Has(2, 0x0180_0014),
+    Registers(4, 0x0180_0000, 0x0180_0014, 8),
+    Call(0x1D, None),
+    Has(2, 0x0180_0014),
+    Registers(6, 0x0180_0000, 0x0180_0014, 0),
+    Call(0x1D, None),
+    Has(3, 28),
     Overflow(false),
 ];
 
