@@ -161,7 +161,13 @@ fn play(rt: &impl Abort, alloc: Global, lines: &[Line]) -> Result<(), Fail> {
             }
             Line::Registers(r0, r1, r2, r3, r4) => board.set_registers((r0, r1, r2, r3, r4)),
             Line::Set(number, value) => board.set(number, value),
-            Line::Put(address, word) => board.put(address, word),
+            Line::Put(address, word) => {
+                assert_eq!(rt;
+                    board.memory.store_word(address, word),
+                    Ok(()),
+                    "at {address:X}"
+                );
+            }
             Line::Pc(address) => board.cpu.set_pc(address),
             Line::Run(word) => {
                 last = word;
