@@ -9,6 +9,7 @@ ghost use Rattle.os_heap.specs.Store.{store_of, IsSound, got, get_probes};
 
 use crate::counted::Counted;
 use crate::heaps::{Heaps, find};
+use crate::sums::round_up_8;
 use crate::words::{follow, put, put_free, put_link, word};
 use address_map::AddressMap;
 use profile::ErrorNumber;
@@ -32,7 +33,7 @@ struct Search {
 fn total_for(size: u32) -> u64
     ensures { result ≡ total_for size }
 {
-    (u64::from(size) + 11) / 8 * 8
+    round_up_8(u64::from(size) + 4)
 }
 
 /// The first free item, along the links, that has `needed` bytes.

@@ -9,7 +9,7 @@ use crate::free::give_back;
 use crate::heaps::{Heaps, find};
 use crate::refit::refit;
 use crate::relocate::relocate;
-use crate::sums::changed_by;
+use crate::sums::{changed_by, round_up_8};
 use crate::walk::find_block;
 use crate::words::word;
 use address_map::AddressMap;
@@ -73,7 +73,7 @@ fn resize_block(map: &mut AddressMap, heap: u32, block: u32, change: u32) -> Cou
             probes: walk.probes,
         };
     }
-    let needed = (size + 7) / 8 * 8;
+    let needed = round_up_8(size);
     if refit(map, heap, block, &cursor, needed) {
         return Counted {
             answer: Ok(block),

@@ -1,4 +1,5 @@
-ghost use Rattle.std.specs.Prelude.{◌≡◌};
+ghost use Rattle.std.specs.Prelude.{◌≡◌, ◌<◌, ◌^◌};
+ghost use Rattle.os_heap.specs.Lists.{round_up_8};
 ghost use Rattle.os_heap.specs.Resizes.{changed_by};
 
 /// A size after a change of it, a signed word in two's complement; a sum below 0 counts as 0.
@@ -11,4 +12,12 @@ pub(crate) fn changed_by(size: u32, change: u32) -> u64
     } else {
         sum.saturating_sub(0x1_0000_0000)
     }
+}
+
+/// The least multiple of 8 that is no less.
+pub(crate) fn round_up_8(size: u64) -> u64
+    requires { size < 2 ^ 34 }
+    ensures { result ≡ round_up_8 size }
+{
+    (size + 7) / 8 * 8
 }

@@ -1,4 +1,4 @@
-use Rattle.std.proofs.Common.{◌≡◌, ◌+◌, ◌*◌, ◌/◌, Some, refl, sym, ◌∙◌, ap, arith}
+use Rattle.std.proofs.Common.{◌≡◌, ◌+◌, Some, refl, sym, ◌∙◌, ap, arith}
 use Rattle.os_heap.specs.Links.{items_at, end_at}
 use Rattle.os_heap.specs.Lists.{round_up_8}
 use Rattle.os_heap.specs.Resizes.{changed_by, live_total}
@@ -50,7 +50,7 @@ returns-then-refit c =
     let here = block_here c.args.map.now c.args.heap c.args.block _ c.in-Some.cursor.at _ _ c.requires.sound c.requires.found (rw c.in-Some.is at c.find_block-walk.ensures.block) in
     let live : live_total c.args.block (c.args.heap + 16) (items_at c.args.map.now c.args.heap) ≡ Some c.word-total.result = here.live ∙ ap (λ n. Some n) (sym c.word-total.ensures) in
     let size : c.changed_by-size.result ≡ changed_by c.word-total.result c.args.change = c.changed_by-size.ensures in
-    let needed : (c.changed_by-size.result + 7) / 8 * 8 ≡ round_up_8 (changed_by c.word-total.result c.args.change) = omega (arith, ap round_up_8 size) in
+    let needed : c.round_up_8-needed.result ≡ round_up_8 (changed_by c.word-total.result c.args.change) = c.round_up_8-needed.ensures ∙ ap round_up_8 size in
     let done = resize_refitted c.args.map.now c.refit.new.map c.args.heap c.args.block c.args.change c.word-total.result c.requires.sound c.requires.found live
     (omega (arith, size, c.if-size-le4.false)) (rw (c.if-refit.true, needed) at c.refit.ensures) in
     record {
@@ -92,7 +92,7 @@ relocate-moved-requires-clause-larger c =
 pub overflow_add-result : goal.overflow_add-result
 overflow_add-result c =
     let un = unrefitted c.args.map.now c.refit.new.map c.args.heap (end_at c.args.map.now c.args.heap) _ (rw c.if-refit.false at c.refit.ensures) in
-    let few = move_few c.args.map.now c.args.heap c.args.block ((c.changed_by-size.result + 7) / 8 * 8) c.relocate-moved.result.probes c.requires.sound c.requires.found
+    let few = move_few c.args.map.now c.args.heap c.args.block c.round_up_8-needed.result c.relocate-moved.result.probes c.requires.sound c.requires.found
     (rw un.1 at c.relocate-moved.ensures.probes) in
     let heap = there_heap c.args.map.now c.args.heap c.requires.sound c.requires.found in
     omega (arith, few, c.find_block-walk.ensures.probes, begun_few c.args.map.now c.args.heap (end_at c.args.map.now c.args.heap) c.args.block (items_at c.args.map.now c.args.heap) heap)
@@ -102,7 +102,7 @@ returns c =
     let here = block_here c.args.map.now c.args.heap c.args.block _ c.in-Some.cursor.at _ _ c.requires.sound c.requires.found (rw c.in-Some.is at c.find_block-walk.ensures.block) in
     let live : live_total c.args.block (c.args.heap + 16) (items_at c.args.map.now c.args.heap) ≡ Some c.word-total.result = here.live ∙ ap (λ n. Some n) (sym c.word-total.ensures) in
     let size : c.changed_by-size.result ≡ changed_by c.word-total.result c.args.change = c.changed_by-size.ensures in
-    let needed : (c.changed_by-size.result + 7) / 8 * 8 ≡ round_up_8 (changed_by c.word-total.result c.args.change) = omega (arith, ap round_up_8 size) in
+    let needed : c.round_up_8-needed.result ≡ round_up_8 (changed_by c.word-total.result c.args.change) = c.round_up_8-needed.ensures ∙ ap round_up_8 size in
     let un = unrefitted c.args.map.now c.refit.new.map c.args.heap (end_at c.args.map.now c.args.heap) _ (rw c.if-refit.false at c.refit.ensures) in
     let done = resize_moved c.args.map.now c.relocate-moved.new.map c.args.heap c.args.block c.args.change c.word-total.result c.relocate-moved.result.probes _ c.requires.sound c.requires.found live
     (omega (arith, size, c.if-size-le4.false)) (rw needed at un.0) (rw (un.1, needed) at c.relocate-moved.ensures.store) c.relocate-moved.ensures.sound (rw un.1 at c.relocate-moved.ensures.layout)
