@@ -6,5 +6,5 @@ use Rattle.swi_dispatch.proofs.machine.Machine.change_heap.Goals as goal
 pub invariant_of-self : goal.invariant_of-self
 invariant_of-self c =
     let changed = c.change_size-changed.ensures in
-    well_called _ _ c.self.invariant changed.sound (others_left _ _ _ _ (changed_others _ _ _) changed.store) changed.place
+    well_called _ _ c.self.invariant changed.sound (others_left _ _ _ _ (changed_others _ _ _) changed.store) changed.place changed.pages
     (ap (λ (p : Parts). p.is_fresh) c.self.view_is ∙ c.requires.stepped) refl

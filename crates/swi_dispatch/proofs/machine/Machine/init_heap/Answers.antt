@@ -6,5 +6,5 @@ use Rattle.swi_dispatch.proofs.machine.Machine.init_heap.Goals as goal
 pub invariant_of-self : goal.invariant_of-self
 invariant_of-self c =
     let made = c.init-made.ensures in
-    well_called _ _ c.self.invariant made.sound (others_left _ _ _ _ (begun_others _ _ _) made.store) made.place
+    well_called _ _ c.self.invariant made.sound (others_left _ _ _ _ (begun_others _ _ _) made.store) made.place made.pages
     (ap (λ (p : Parts). p.is_fresh) c.self.view_is ∙ c.requires.stepped) refl
