@@ -8,4 +8,5 @@ pub invariant_of-self : goal.invariant_of-self
 invariant_of-self c =
     let changed = c.change_size-changed.ensures in
     well_called _ _ c.self.invariant changed.sound (others_left _ _ _ _ (changed_others _ _ _) changed.store) (ap (λ (m : Mapping). m.place) changed.mapping)
+    (ap (λ (m : Mapping). m.free_pages) changed.mapping)
     (ap (λ (p : Parts). p.is_fresh) c.self.view_is ∙ c.requires.stepped) refl

@@ -8,4 +8,5 @@ pub invariant_of-self : goal.invariant_of-self
 invariant_of-self c =
     let made = c.init-made.ensures in
     well_called _ _ c.self.invariant made.sound (others_left _ _ _ _ (begun_others _ _ _) made.store) (ap (λ (m : Mapping). m.place) made.mapping)
+    (ap (λ (m : Mapping). m.free_pages) made.mapping)
     (ap (λ (p : Parts). p.is_fresh) c.self.view_is ∙ c.requires.stepped) refl
