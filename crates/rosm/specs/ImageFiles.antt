@@ -1,10 +1,9 @@
 -- Files as images: a file's image is named by the last part of its path.
-use Rattle.std.specs.Prelude.{◌≡◌, ◌++◌, ◌∷◌, [], ℕ, Bool, true, false, List, length, map, take, slice_get, Option, Some, None, IfSome, option_map}
+use Rattle.std.specs.Prelude.{◌≡◌, ◌++◌, ℕ, Bool, true, false, List, length, map, take, slice_get, Option, Some, None, IfSome, option_map}
 use Rattle.std.specs.Path.{path_file_name}
 use Rattle.std.specs.declared.io.ErrorKind.{ErrorKind}
 use Rattle.std.specs.declared.io.ErrorKind.TheVariants as kind
 use Rattle.image_loader.specs.Entries.{Entry, refusal_for, with_entry}
-use Rattle.image_loader.specs.declared.error.ImageError.{ImageError}
 use Rattle.image_loader.specs.declared.error.ImageError.TheVariants as image
 use Rattle.rosm.specs.declared.image_files.FileError.{FileError}
 use Rattle.rosm.specs.declared.image_files.FileError.TheVariants as file
