@@ -12,26 +12,21 @@ pub mod options;
 pub mod refusal;
 
 ghost use Rattle.std.specs.Prelude.{◌≡◌, ◌≢◌, IfErr, IfOk, Ok, map, string_bytes};
-ghost use Rattle.std.specs.Io.Buffered.{writer_contents, writer_inner};
 ghost use Rattle.std.specs.Process.{exit_status};
-ghost use Rattle.rosm.specs.Answering.{AnswersScript};
 ghost use Rattle.rosm.specs.CommandLine.{IsRefusalOf, settings_for};
 ghost use Rattle.rosm.specs.Status.{status_of};
 
-use crate::image_files::add_files;
 use crate::line_reason::line_reason;
 use crate::refusal::stop_status;
-pub use answering::answer_script;
+pub use answering::{answer_script, run};
 pub use command_line::settings;
-use command_shell::RunError;
 pub use files::Files;
-use image_loader::Images;
 pub use options::{Settings, SettingsError};
-use profile::{Device, Source, Stop};
+use profile::{Device, Stop};
 pub use refusal::Refusal;
 use std::alloc::{AllocError, Global};
 use std::env::Env;
-use std::io::{BufWriter, ErrorKind, Write};
+use std::io::{BufWriter, ErrorKind};
 use std::process::ExitCode;
 use std::{env, fs, io};
 
@@ -97,35 +92,10 @@ fn run_on_standard_streams<'a, R>(
 where
     R: AllocGlobal + fs::Files + Input + Print,
 {
-    let buffered = match BufWriter::new(rt.alloc(), io::writer(rt)) {
-        Ok(buffered) => buffered,
-        Err(_) => return Err(Refusal::Script(RunError::Memory)),
-    };
-    run(
-        rt,
-        settings,
-        &mut Device::new(rt.reader()),
-        &mut Device::new(buffered),
-    )
-}
-
-// Adds the files' images, and runs the script; answers the last stop.
-fn run<'a, F, R, W>(
-    files: &F,
-    settings: &'a Settings,
-    reader: &mut R,
-    writer: &mut Device<BufWriter<W>>,
-) -> Result<Option<Stop>, Refusal<'a>>
-where
-    F: AllocGlobal + fs::Files,
-    R: Source,
-    W: Write + Drop,
-    ensures { IfOk result (AnswersScript settings.entry.now (R.remaining reader.old)
-        (writer_contents W.contents writer.old.inner) (W.contents (writer_inner writer.new.inner))) }
-{
-    let mut images = Images::new();
-    add_files(files, &settings.files, &mut images)?;
-    Ok(answer_script(files.alloc(), settings, &mut images, reader, writer)?)
+    match BufWriter::new(rt.alloc(), io::writer(rt)) {
+        Ok(mut writer) => run(rt, settings, &mut Device::new(rt.reader()), &mut writer),
+        Err(_) => Err(Refusal::Memory),
+    }
 }
 
 // The exit status, with one line on standard error where the program is refused.
