@@ -1,0 +1,11 @@
+//! The text of instructions: each word has one at its address.
+#![tactic(auto)]
+
+pub mod names;
+pub mod numbers;
+pub mod operands;
+pub mod printing;
+pub mod transfers;
+
+pub use printing::disassemble;
+
