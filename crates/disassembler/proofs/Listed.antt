@@ -36,7 +36,7 @@ pub listed_more : (a b c : Option (List ℕ)) (list n : ℕ) (is_first next : Bo
     → next ≡ (is_first && not (bit_of list n)) → Completes a c (listed_rest list (n + 1) next) all
 listed_more a b c list n is_first next all done here h e =
     subst (λ (f : Bool). Completes a c (listed_rest list (n + 1) f) all) (sym e)
-        (Completes-more a b c _ _ _ all done here (listed_goes_on list n is_first (bit_of list n) h refl))
+    (Completes-more a b c _ _ _ all done here (listed_goes_on list n is_first (bit_of list n) h refl))
 
 pub listed_done : (a b : Option (List ℕ)) (list n : ℕ) (is_first : Bool) (all : List ℕ)
     → Completes a b (listed_rest list n is_first) all → 16 ≤ n → Appends a b all

@@ -9,3 +9,5 @@ pub mod transfers;
 
 pub use printing::disassemble;
 
+#[cfg(test)]
+mod tests;

@@ -10,7 +10,11 @@ use profile::{HexText, Sink, WriteFault, push_parts};
 
 /// Writes `#v` where the rotation field is the least that gives v, else `#b,r`.
 #[tactic(auto, unfolding(crate::specs::Numbers::immediate_text))]
-pub(crate) fn push_immediate<W: Sink>(rotation: u32, byte: u8, sink: &mut W) -> Result<(), WriteFault>
+pub(crate) fn push_immediate<W: Sink>(
+    rotation: u32,
+    byte: u8,
+    sink: &mut W,
+) -> Result<(), WriteFault>
     requires { rotation < 16 }
     ensures text { OnOk result (Appends (W.contents sink.old) (W.contents sink.new) (immediate_text rotation byte)) }
     ensures flag { OnErr result (W.has_failed sink.new ≡ true) }

@@ -26,7 +26,10 @@ pub(crate) fn push_operand<W: Sink>(operand: Operand, sink: &mut W) -> Result<()
 
 /// Writes a register with its shift by a number.
 #[tactic(auto, using(crate::proofs::Pieces::pieces), unfolding(crate::specs::Operands::shifted_text))]
-pub(crate) fn push_shifted<W: Sink>(shifted: ShiftedRegister, sink: &mut W) -> Result<(), WriteFault>
+pub(crate) fn push_shifted<W: Sink>(
+    shifted: ShiftedRegister,
+    sink: &mut W,
+) -> Result<(), WriteFault>
     ensures text { OnOk result (Appends (W.contents sink.old) (W.contents sink.new) (shifted_text shifted)) }
     ensures flag { OnErr result (W.has_failed sink.new ≡ true) }
     ensures same_flag { OnOk result (W.has_failed sink.new ≡ W.has_failed sink.old) }

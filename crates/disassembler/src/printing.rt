@@ -120,7 +120,12 @@ fn push_registers<W: Sink>(operate: &Operate, sink: &mut W) -> Result<(), WriteF
     } else {
         push_parts(
             sink,
-            &[rd.as_slice(), b",".as_slice(), rn.as_slice(), b",".as_slice()],
+            &[
+                rd.as_slice(),
+                b",".as_slice(),
+                rn.as_slice(),
+                b",".as_slice(),
+            ],
         )
     }
 }
@@ -214,7 +219,11 @@ fn branch_target(address: u32, distance: u32) -> u32
 }
 
 #[tactic(auto, unfolding(crate::specs::Printing::interrupt_text))]
-fn push_interrupt<W: Sink>(condition: Condition, number: u32, sink: &mut W) -> Result<(), WriteFault>
+fn push_interrupt<W: Sink>(
+    condition: Condition,
+    number: u32,
+    sink: &mut W,
+) -> Result<(), WriteFault>
     ensures text { OnOk result (Appends (W.contents sink.old) (W.contents sink.new) (interrupt_text condition number)) }
     ensures flag { OnErr result (W.has_failed sink.new ≡ true) }
     ensures same_flag { OnOk result (W.has_failed sink.new ≡ W.has_failed sink.old) }

@@ -8,7 +8,8 @@ ghost use Rattle.disassembler.specs.Transfers.{address_text, after_text, base_te
 use crate::names::{RegisterName, block_mode_text, choose_text, condition_text, text_if};
 use crate::operands::push_shifted;
 use arm_decode::{
-    Address, BlockTransfer, Condition, Direction, Indexing, Offset, Register, RegisterList, Transfer,
+    Address, BlockTransfer, Condition, Direction, Indexing, Offset, Register, RegisterList,
+    Transfer,
 };
 use profile::{HexText, Sink, WriteFault, push_all, push_parts};
 
@@ -75,7 +76,11 @@ fn push_address<W: Sink>(address: &Address, sink: &mut W) -> Result<(), WriteFau
 
 // `[Rn]`, `[Rn,offset]`, `[Rn,offset]!`
 #[tactic(auto, using(crate::proofs::Pieces::pieces), unfolding(crate::specs::Transfers::before_text))]
-fn push_before<W: Sink>(writes_back: bool, address: &Address, sink: &mut W) -> Result<(), WriteFault>
+fn push_before<W: Sink>(
+    writes_back: bool,
+    address: &Address,
+    sink: &mut W,
+) -> Result<(), WriteFault>
     ensures text { OnOk result (Appends (W.contents sink.old) (W.contents sink.new) (before_text writes_back address.now)) }
     ensures flag { OnErr result (W.has_failed sink.new ≡ true) }
     ensures same_flag { OnOk result (W.has_failed sink.new ≡ W.has_failed sink.old) }
@@ -106,7 +111,10 @@ fn push_base<W: Sink>(rn: Register, after: &[u8], sink: &mut W) -> Result<(), Wr
     ensures flag { OnErr result (W.has_failed sink.new ≡ true) }
     ensures same_flag { OnOk result (W.has_failed sink.new ≡ W.has_failed sink.old) }
 {
-    push_parts(sink, &[b"[".as_slice(), RegisterName::of(rn).as_slice(), after])
+    push_parts(
+        sink,
+        &[b"[".as_slice(), RegisterName::of(rn).as_slice(), after],
+    )
 }
 
 #[tactic(auto, unfolding(crate::specs::Transfers::close_text))]
@@ -130,7 +138,11 @@ fn is_nothing(direction: Direction, offset: Offset) -> bool
 
 // `#v`, `#-v`, `Rm`, `-Rm`
 #[tactic(auto, using(crate::proofs::Pieces::pieces), unfolding(crate::specs::Transfers::offset_text))]
-fn push_offset<W: Sink>(direction: Direction, offset: Offset, sink: &mut W) -> Result<(), WriteFault>
+fn push_offset<W: Sink>(
+    direction: Direction,
+    offset: Offset,
+    sink: &mut W,
+) -> Result<(), WriteFault>
     ensures text { OnOk result (Appends (W.contents sink.old) (W.contents sink.new) (offset_text direction offset)) }
     ensures flag { OnErr result (W.has_failed sink.new ≡ true) }
     ensures same_flag { OnOk result (W.has_failed sink.new ≡ W.has_failed sink.old) }
@@ -250,7 +262,10 @@ fn push_register<W: Sink>(
     }
     push_parts(
         sink,
-        &[text_if(!is_first, b","), RegisterName::of(register).as_slice()],
+        &[
+            text_if(!is_first, b","),
+            RegisterName::of(register).as_slice(),
+        ],
     )?;
     Ok(false)
 }
