@@ -20,8 +20,4 @@ pub use refusal::Refusal;
 pub use running::Ran;
 
 #[cfg(test)]
-mod argument_tests;
-#[cfg(test)]
-mod heap_tests;
-#[cfg(test)]
 mod tests;

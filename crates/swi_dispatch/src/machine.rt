@@ -265,6 +265,7 @@ impl Machine {
     }
 
     #[tactic(auto, unfolding(crate::specs::Parts::state_of))]
+    #[inline(always)]
     pub(crate) fn instruction(&mut self) -> Turn
         requires { self.old.is_fresh ≡ false }
         ensures turn { TakesTurn (state_of self.old) result (state_of self.new) }

@@ -1,5 +1,8 @@
 //! Machines taken step by step, with values worked out by hand.
 
+mod arguments;
+mod heaps;
+
 use crate::{BootError, Breaks, Machine};
 use Line::{
     At, Boot, BootText, Call, Has, Holds, In, Lacks, New, Overflow, Prints, PrintsMany, Put, Run,

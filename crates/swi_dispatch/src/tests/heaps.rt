@@ -5,7 +5,7 @@ use crate::tests::{Line, play};
 use profile::{Fault, Stop};
 use std::test::Fail;
 
-static LINES: [Line; 61] = [
+static LINES: [Line; 63] = [
     // SWI OS_Heap, of a heap of 256 bytes at &9000: init; get of 20; describe
     Put(0x8000, 0xEF00_001D),
     Registers(0, 0x9000, 0, 256),
@@ -20,15 +20,17 @@ static LINES: [Line; 61] = [
     Overflow(false),
     Refuses(0x9010, 0, Fault::OwnedWord),
     Put(0x9014, 1),
-    // free, where no block is: first with the X bit, then without
+    // free, where no block is: first with the X bit, then without, which leaves the error block as it was
     Registers(3, 0x9000, 0x9018, 0),
     Call(0x1D, None),
     Overflow(true),
     Has(0, 0x01C0_2100),
     Holds(0x01C0_2100, 6),
     Text(0x01C0_2104, "HeapNotABlock\0"),
+    Put(0x01C0_2100, 77),
     Registers(3, 0x9000, 0x9018, 5),
     Step(Some(Stop::Fault(Fault::ErrorStop(6)))),
+    Holds(0x01C0_2100, 77),
     Has(0, 3),
     Has(1, 0x9000),
     Has(2, 0x9018),
