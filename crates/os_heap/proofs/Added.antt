@@ -1,23 +1,23 @@
 -- A heap more, behind all others: its descriptor is written, and its range recorded.
-use Rattle.std.proofs.Common.{◌≡◌, ◌⊎◌, ◌↔◌, ℕ, zero, suc, leb, ◌+◌, ◌-◌, ◌%◌, ◌^◌, ◌≤◌, ◌<◌, Bool, true, false, List, [], ◌∷◌, ◌++◌, length, Ok, Err, ◌&&◌, ◌||◌, ◌==◌, arith, refl, sym, ◌∙◌, inl, inr}
-use Rattle.std.specs.List.{list_any}
-use Rattle.std.proofs.lemmas.Bool.{cases_Bool, cases_lt, or_parts, and_parts, leb-true, leb-false, eqb-true, eq-eqb, le-leb, lt-ltb, both_ways, false_from_ne_true, false≢true}
+use Rattle.std.proofs.Common.{Bool, arith, inl, ◌+◌, ◌≡◌, ℕ, true, inr, suc, zero, refl, false, [], List, ◌∷◌, ◌++◌, ◌≤◌, ◌%◌, ◌==◌, ◌&&◌, ◌-◌, leb, ◌^◌, ◌<◌, ◌⊎◌, ◌∙◌, sym, ◌↔◌, ◌||◌, length, Err, Ok}
+use Rattle.std.proofs.lemmas.Bool.{cases_lt, and_parts, both_ways, false_from_ne_true, or_parts, leb-true, eqb-true, le-leb, lt-ltb, cases_Bool, false≢true, eq-eqb, leb-false}
 use Rattle.std.proofs.lemmas.Bool.Decides.{nat_tests}
-use Rattle.address_map.specs.declared.region.Kind.TheVariants as kind
+use Rattle.std.specs.List.{list_any}
+use Rattle.profile.specs.declared.error.ErrorNumber.TheVariants.{HeapBadRegion, HeapOverlaps, HeapTableFull}
+use Rattle.address_map.proofs.Spans.{mapped_below}
+use Rattle.address_map.specs.Bytes.{AreMapped, in_range, Bytes, with_word_at, word_at}
+use Rattle.address_map.specs.Items.{items_in}
+use Rattle.address_map.specs.Memory.{is_mapped, bytes_of, byte_at, regions}
+use Rattle.address_map.specs.Records.{is_heap_kind, with_region}
+use Rattle.address_map.specs.declared.map.AddressMap.{AddressMap}
 use Rattle.address_map.specs.declared.region.Kind.{Kind}
 use Rattle.address_map.specs.declared.region.Region.{Region}
-use Rattle.address_map.specs.declared.map.AddressMap.{AddressMap}
-use Rattle.address_map.specs.Bytes.{Bytes, in_range, AreMapped, word_at, with_word_at}
-use Rattle.address_map.specs.Items.{items_in}
-use Rattle.address_map.specs.Records.{is_heap_kind, with_region}
-use Rattle.address_map.specs.Memory.{byte_at, is_mapped, bytes_of, regions}
-use Rattle.address_map.proofs.Spans.{mapped_below}
-use Rattle.profile.specs.declared.error.ErrorNumber.TheVariants.{HeapBadRegion, HeapOverlaps, HeapTableFull}
-use Rattle.os_heap.specs.Heap.{Part, IsHeapIn, with_part}
+use Rattle.os_heap_lists.proofs.Reading.{items_in-heap}
+use Rattle.os_heap_lists.specs.Heap.{HeapList, IsHeapIn, with_heap}
+use Rattle.os_heap.proofs.Frame.{clear_parts, heaps_in-spelled}
 use Rattle.os_heap.specs.Begin.{MayBegin}
-use Rattle.os_heap.specs.Store.{Store, part_in, parts_in, others_in, store_of, AreClear, IsClearOfHeaps, ArePartsIn, AreOthersClear, IsSound, is_heap_region, are_mapped, meets, meets_any, begun, begun_with}
-use Rattle.os_heap.proofs.Unique.{items_in-heap}
-use Rattle.os_heap.proofs.Frame.{clear_parts, parts_in-spelled}
+use Rattle.os_heap.specs.Store.{are_mapped, AreClear, meets, IsClearOfHeaps, AreHeapsIn, AreOthersClear, is_heap_region, Store, IsSound, begun_with, heap_in, heaps_in, others_in, store_of, meets_any, begun}
+use Rattle.address_map.specs.declared.region.Kind.TheVariants as kind
 
 -- the tests of ranges, and what they say
 pub are_mapped_all : (mapped : ℕ → Bool) (at n : ℕ) → are_mapped mapped at n ≡ true → AreMapped mapped at n
@@ -40,24 +40,24 @@ clear_unless at len other other_len h a inside = grind (arith, nat_tests)
 pub clear_turned : (at len other other_len : ℕ) → AreClear at len other other_len → AreClear other other_len at len
 clear_turned at len other other_len h a inside = false_from_ne_true _ (λ there. both_ways (in_range other other_len a) (h a there) inside)
 
-pub clear_of_heaps : (at len : ℕ) (hs : List Part) → list_any (λ h. meets at len h.start h.end) hs ≡ false → IsClearOfHeaps at len hs
+pub clear_of_heaps : (at len : ℕ) (hs : List HeapList) → list_any (λ h. meets at len h.start h.end) hs ≡ false → IsClearOfHeaps at len hs
 clear_of_heaps at len [] none = tt
 clear_of_heaps at len (h ∷ hs) none =
     let parts = or_parts (meets at len h.start h.end) (list_any (λ h. meets at len h.start h.end) hs) none in
     (clear_unless at len h.start h.end parts.0, clear_of_heaps at len hs parts.1)
 
 -- a heap more that another range does not meet
-clear_more : (at len : ℕ) (hs : List Part) (h : Part) → IsClearOfHeaps at len hs → AreClear at len h.start h.end → IsClearOfHeaps at len (hs ++ h ∷ [])
+clear_more : (at len : ℕ) (hs : List HeapList) (h : HeapList) → IsClearOfHeaps at len hs → AreClear at len h.start h.end → IsClearOfHeaps at len (hs ++ h ∷ [])
 clear_more at len [] h clear last = (last, tt)
 clear_more at len (g ∷ hs) h clear last = (clear.0, clear_more at len hs h clear.1 last)
 
-parts_more : (b : Bytes) (hs : List Part) (h : Part) → ArePartsIn b hs → IsClearOfHeaps h.start h.end hs → IsHeapIn b h.start h.end h.items
-    → ArePartsIn b (hs ++ h ∷ [])
+parts_more : (b : Bytes) (hs : List HeapList) (h : HeapList) → AreHeapsIn b hs → IsClearOfHeaps h.start h.end hs → IsHeapIn b h.start h.end h.items
+    → AreHeapsIn b (hs ++ h ∷ [])
 parts_more b [] h parts clear last = (last, (tt, tt))
 parts_more b (g ∷ hs) h parts clear last =
     (parts.0, (clear_more g.start g.end hs h parts.1.0 (clear_turned h.start h.end g.start g.end clear.0), parts_more b hs h parts.1.1 clear.1 last))
 
-others_more : (hs : List Part) (h : Part) (rs : List Region) → AreOthersClear hs rs → list_any (λ r. meets h.start h.end r.at r.len) rs ≡ false
+others_more : (hs : List HeapList) (h : HeapList) (rs : List Region) → AreOthersClear hs rs → list_any (λ r. meets h.start h.end r.at r.len) rs ≡ false
     → AreOthersClear (hs ++ h ∷ []) rs
 others_more hs h [] clear none = tt
 others_more hs h (r ∷ rs) clear none =
@@ -104,7 +104,7 @@ word_other f at v a apart =
     rw (b0, b1, b2, b3) refl
 
 -- the four words of the descriptor of an empty heap
-abbrev pub empty : Kind → ℕ → ℕ → Part
+abbrev pub empty : Kind → ℕ → ℕ → HeapList
 empty kind at size = record { kind = kind; start = at; end = size; items = [] }
 
 module _ (f : ℕ → ℕ) (at size : ℕ) (fits : size < 2 ^ 32) where
@@ -117,25 +117,25 @@ module _ (f : ℕ → ℕ) (at size : ℕ) (fits : size < 2 ^ 32) where
   based : ℕ → ℕ
   based = with_word_at linked (at + 8) 16
 
-  written_name : word_at (with_part f at size []) at ≡ 0x70616548
+  written_name : word_at (with_heap f at size []) at ≡ 0x70616548
   unfolding named linked based
   written_name = word_other based (at + 12) size at (inl (omega arith)) ∙ word_other linked (at + 8) 16 at (inl (omega arith))
       ∙ word_other named (at + 4) (0 - at) at (inl (omega arith)) ∙ word_here f at 0x70616548 (omega arith)
 
-  written_link : word_at (with_part f at size []) (at + 4) ≡ 0 - at
+  written_link : word_at (with_heap f at size []) (at + 4) ≡ 0 - at
   unfolding named linked based
   written_link = word_other based (at + 12) size (at + 4) (inl (omega arith)) ∙ word_other linked (at + 8) 16 (at + 4) (inl (omega arith))
       ∙ word_here named (at + 4) (0 - at) (omega arith)
 
-  written_base : word_at (with_part f at size []) (at + 8) ≡ 16
+  written_base : word_at (with_heap f at size []) (at + 8) ≡ 16
   unfolding named linked based
   written_base = word_other based (at + 12) size (at + 8) (inl (omega arith)) ∙ word_here linked (at + 8) 16 (omega arith)
 
-  written_end : word_at (with_part f at size []) (at + 12) ≡ size
+  written_end : word_at (with_heap f at size []) (at + 12) ≡ size
   unfolding named linked based
   written_end = word_here based (at + 12) size fits
 
-  written_other : (a : ℕ) → (a + 1 ≤ at) ⊎ (at + 16 ≤ a) → with_part f at size [] a ≡ f a
+  written_other : (a : ℕ) → (a + 1 ≤ at) ⊎ (at + 16 ≤ a) → with_heap f at size [] a ≡ f a
   unfolding named linked based
   written_other a apart =
       byte_other based (at + 12) size a (elim apart [ inl low ↦ inl (omega arith) | inr high ↦ inr (omega arith) ])
@@ -144,7 +144,7 @@ module _ (f : ℕ → ℕ) (at size : ℕ) (fits : size < 2 ^ 32) where
       ∙ byte_other f at 0x70616548 a (elim apart [ inl low ↦ inl (omega arith) | inr high ↦ inr (omega arith) ])
 
 pub empty_heap : (b : Bytes) (at size : ℕ) → CanHold b at size
-    → IsHeapIn (record { mapped = b.mapped; at = with_part b.at at size [] }) at size []
+    → IsHeapIn (record { mapped = b.mapped; at = with_heap b.at at size [] }) at size []
 empty_heap b at size can =
     let fits : size < 2 ^ 32 = omega (arith, can.high) in
     record {
@@ -161,7 +161,7 @@ empty_heap b at size can =
       inside = can.low;
     }
 
-pub begun_old : (kind : Kind) (s : Store) (at size : ℕ) → MayBegin s at size → IsSound s → ArePartsIn (begun_with kind s at size).bytes s.heaps
+pub begun_old : (kind : Kind) (s : Store) (at size : ℕ) → MayBegin s at size → IsSound s → AreHeapsIn (begun_with kind s at size).bytes s.heaps
 begun_old kind s at size may sound =
     let can : CanHold s.bytes at size = can_hold s.bytes at size may.region in
     let none = or_parts (list_any (λ h. meets at size h.start h.end) s.heaps) (list_any (λ r. meets at size r.at r.len) s.others) may.clear in
@@ -187,12 +187,12 @@ begun_sound kind s at size may sound =
     }
 
 -- the record with a heap more
-parts_in-more : (b : Bytes) (rs : List Region) (r : Region) → is_heap_kind r.kind ≡ true → parts_in b (rs ++ r ∷ []) ≡ parts_in b rs ++ part_in b r ∷ []
-parts_in-more b [] r heap = rw heap refl
-parts_in-more b (g ∷ rs) r heap =
+heaps_in-more : (b : Bytes) (rs : List Region) (r : Region) → is_heap_kind r.kind ≡ true → heaps_in b (rs ++ r ∷ []) ≡ heaps_in b rs ++ heap_in b r ∷ []
+heaps_in-more b [] r heap = rw heap refl
+heaps_in-more b (g ∷ rs) r heap =
     elim (cases_Bool (is_heap_kind g.kind)) [
-      | inl is ↦ rw (is, parts_in-more b rs r heap) refl
-      | inr other ↦ rw (other, parts_in-more b rs r heap) refl
+      | inl is ↦ rw (is, heaps_in-more b rs r heap) refl
+      | inr other ↦ rw (other, heaps_in-more b rs r heap) refl
     ]
 
 others_in-more : (rs : List Region) (r : Region) → is_heap_kind r.kind ≡ true → others_in (rs ++ r ∷ []) ≡ others_in rs
@@ -216,18 +216,18 @@ recorded rs kind.SystemPage at len heap = absurd (false≢true heap)
 
 pub store_begun : (m n : AddressMap) (k : Kind) (at size : ℕ) → is_heap_kind k ≡ true → MayBegin (store_of m) at size → IsSound (store_of m)
     → regions n ≡ regions m ++ record { kind = k; at = at; len = size } ∷ []
-    → bytes_of n ≡ record { mapped = is_mapped m; at = with_part (byte_at m) at size [] }
+    → bytes_of n ≡ record { mapped = is_mapped m; at = with_heap (byte_at m) at size [] }
     → store_of n ≡ begun_with k (store_of m) at size
 unfolding store_of
 store_begun m n k at size heap may sound records bytes =
-    let c : Bytes = record { mapped = is_mapped m; at = with_part (byte_at m) at size [] } in
+    let c : Bytes = record { mapped = is_mapped m; at = with_heap (byte_at m) at size [] } in
     let r : Region = record { kind = k; at = at; len = size } in
-    let old : parts_in c (regions m) ≡ parts_in (bytes_of m) (regions m) =
-    parts_in-spelled (bytes_of m) c (regions m) (begun_old k (store_of m) at size may sound) in
+    let old : heaps_in c (regions m) ≡ heaps_in (bytes_of m) (regions m) =
+    heaps_in-spelled (bytes_of m) c (regions m) (begun_old k (store_of m) at size may sound) in
     let items : items_in (word_at c.at) at ≡ [] =
     items_in-heap c at size [] (empty_heap (bytes_of m) at size (can_hold (bytes_of m) at size may.region)) in
-    let heaps : parts_in c (regions m ++ r ∷ []) ≡ parts_in (bytes_of m) (regions m) ++ empty k at size ∷ [] =
-    parts_in-more c (regions m) r heap ∙ (rw (old, items) refl) in
+    let heaps : heaps_in c (regions m ++ r ∷ []) ≡ heaps_in (bytes_of m) (regions m) ++ empty k at size ∷ [] =
+    heaps_in-more c (regions m) r heap ∙ (rw (old, items) refl) in
     let others : others_in (regions m ++ r ∷ []) ≡ others_in (regions m) = others_in-more (regions m) r heap in
     rw (bytes, records) (λ i. record { bytes = c; heaps = heaps i; others = others i })
 
@@ -253,10 +253,10 @@ or_next true b c = refl
 or_next false b c = refl
 
 meets_ranges : (b : Bytes) (at len : ℕ) (rs : List Region)
-    → list_any (λ r. meets at len r.at r.len) rs ≡ (list_any (λ h. meets at len h.start h.end) (parts_in b rs) || list_any (λ r. meets at len r.at r.len) (others_in rs))
+    → list_any (λ r. meets at len r.at r.len) rs ≡ (list_any (λ h. meets at len h.start h.end) (heaps_in b rs) || list_any (λ r. meets at len r.at r.len) (others_in rs))
 meets_ranges b at len [] = refl
 meets_ranges b at len (r ∷ rs) =
-    let parts : Bool = list_any (λ h. meets at len h.start h.end) (parts_in b rs) in
+    let parts : Bool = list_any (λ h. meets at len h.start h.end) (heaps_in b rs) in
     let others : Bool = list_any (λ r. meets at len r.at r.len) (others_in rs) in
     elim (cases_Bool (is_heap_kind r.kind)) [
       | inl heap ↦ rw (heap, meets_ranges b at len rs) (sym (or_next (meets at len r.at r.len) parts others))
@@ -267,7 +267,7 @@ pub meets_recorded : (m : AddressMap) (at len : ℕ) → list_any (λ r. meets a
 unfolding store_of
 meets_recorded m at len = meets_ranges (bytes_of m) at len (regions m)
 
-records_counted : (b : Bytes) (rs : List Region) → length rs ≡ length (parts_in b rs) + length (others_in rs)
+records_counted : (b : Bytes) (rs : List Region) → length rs ≡ length (heaps_in b rs) + length (others_in rs)
 records_counted b [] = refl
 records_counted b (r ∷ rs) =
     elim (cases_Bool (is_heap_kind r.kind)) [
@@ -278,7 +278,7 @@ records_counted b (r ∷ rs) =
 pub records_room : (m : AddressMap) → IsSound (store_of m) → leb 65 (length (store_of m).heaps) ≡ false → length (regions m) < 133
 unfolding store_of
 records_room m sound room =
-    let heaps : length (parts_in (bytes_of m) (regions m)) < 65 = leb-false 65 (length (parts_in (bytes_of m) (regions m))) room in
+    let heaps : length (heaps_in (bytes_of m) (regions m)) < 65 = leb-false 65 (length (heaps_in (bytes_of m) (regions m))) room in
     omega (arith, records_counted (bytes_of m) (regions m), sound.few)
 
 -- the refusals in their order

@@ -1,39 +1,38 @@
 -- From one heap to the calls on all heaps.
-use Rattle.std.proofs.Common.{◌≡◌, ℕ, ◌+◌, ◌-◌, Option, Some, None, Result, Err, List, refl, sym, ◌∙◌, ap, subst}
+use Rattle.std.proofs.Common.{ℕ, ◌≡◌, ◌∙◌, Some, ap, ◌-◌, subst, sym, Result, refl, Err, None, Option, List, ◌+◌}
 use Rattle.profile.specs.Outcome.{Gives, Leaves}
 use Rattle.profile.specs.declared.error.ErrorNumber.{ErrorNumber}
-use Rattle.profile.specs.declared.error.ErrorNumber.TheVariants.{HeapBadDesc, HeapNoRoom}
-use Rattle.address_map.specs.declared.item.Item.{Item}
-use Rattle.address_map.specs.declared.region.Kind.{Kind}
-use Rattle.address_map.specs.declared.region.Region.{Region}
-use Rattle.address_map.specs.declared.map.AddressMap.{AddressMap}
+use Rattle.profile.specs.declared.error.ErrorNumber.TheVariants.{HeapNoRoom, HeapBadDesc}
 use Rattle.address_map.specs.Bytes.{word_at}
 use Rattle.address_map.specs.Items.{items_in}
-use Rattle.address_map.specs.Memory.{byte_at, bytes_of, layout, regions}
-use Rattle.os_heap.specs.Heap.{Part, IsHeapIn}
-use Rattle.os_heap.specs.Lists.{Claim, total_for, claimed, looked_at, released, begun_below}
-use Rattle.os_heap.specs.Links.{items_at, end_at, HasHeapAt}
-use Rattle.os_heap.specs.Claims.{Claims}
-use Rattle.os_heap.specs.Releases.{Releases}
-use Rattle.os_heap.specs.Store.{Store, part_in, store_of, parts_in, IsSound, find_part, claimed_in, got_from, got, counted_of, get_probes, released_in, gave_back_to, gave_back, walk_probes}
+use Rattle.address_map.specs.Memory.{bytes_of, byte_at, regions, layout}
+use Rattle.address_map.specs.declared.item.Item.{Item}
+use Rattle.address_map.specs.declared.map.AddressMap.{AddressMap}
+use Rattle.address_map.specs.declared.region.Kind.{Kind}
+use Rattle.address_map.specs.declared.region.Region.{Region}
+use Rattle.os_heap_lists.specs.Counts.{looked_at, begun_below}
+use Rattle.os_heap_lists.specs.Heap.{HeapList, IsHeapIn}
+use Rattle.os_heap_lists.specs.Lists.{Claim, claimed, total_for, released}
 use Rattle.os_heap.proofs.Found.{found_heap}
-use Rattle.os_heap.proofs.Stores.{store_held, sound_held}
+use Rattle.os_heap.proofs.Stores.{sound_held, store_held}
+use Rattle.os_heap.specs.Outcomes.{items_at, HasHeapAt, Claims, end_at, Releases}
+use Rattle.os_heap.specs.Store.{heap_in, find_heap, store_of, IsSound, heaps_in, Store, claimed_in, got, got_from, get_probes, counted_of, released_in, gave_back, gave_back_to, walk_probes}
 
-abbrev pub part_at : Kind → AddressMap → ℕ → ℕ → Part
+abbrev pub part_at : Kind → AddressMap → ℕ → ℕ → HeapList
 part_at kind m start end = record { kind = kind; start = start; end = end; items = items_at m start }
 
 -- the part of the heap that a search in the records found
-pub found_part : (m : AddressMap) (heap : ℕ) (r : Region) → (r.at ≡ heap) × (find_part heap (store_of m).heaps ≡ Some (part_in (bytes_of m) r))
-    → find_part heap (store_of m).heaps ≡ Some (part_at r.kind m heap r.len)
+pub found_part : (m : AddressMap) (heap : ℕ) (r : Region) → (r.at ≡ heap) × (find_heap heap (store_of m).heaps ≡ Some (heap_in (bytes_of m) r))
+    → find_heap heap (store_of m).heaps ≡ Some (part_at r.kind m heap r.len)
 found_part m heap r found =
-    found.1 ∙ ap (λ (a : ℕ). let p : Part = record { kind = r.kind; start = a; end = r.len; items = items_in (word_at (byte_at m)) a } in Some p) found.0
+    found.1 ∙ ap (λ (a : ℕ). let p : HeapList = record { kind = r.kind; start = a; end = r.len; items = items_in (word_at (byte_at m)) a } in Some p) found.0
 
-pub heap_of-part : (kind : Kind) (m : AddressMap) (heap end : ℕ) → IsSound (store_of m) → find_part heap (store_of m).heaps ≡ Some (part_at kind m heap end)
+pub heap_of-part : (kind : Kind) (m : AddressMap) (heap end : ℕ) → IsSound (store_of m) → find_heap heap (store_of m).heaps ≡ Some (part_at kind m heap end)
     → IsHeapIn (bytes_of m) heap end (items_at m heap)
 unfolding store_of
-heap_of-part kind m heap end sound found = found_heap (bytes_of m) heap (parts_in (bytes_of m) (regions m)) (part_at kind m heap end) sound.parts found
+heap_of-part kind m heap end sound found = found_heap (bytes_of m) heap (heaps_in (bytes_of m) (regions m)) (part_at kind m heap end) sound.parts found
 
-pub heap_there : (kind : Kind) (m : AddressMap) (heap end : ℕ) → IsSound (store_of m) → find_part heap (store_of m).heaps ≡ Some (part_at kind m heap end) → HasHeapAt m heap
+pub heap_there : (kind : Kind) (m : AddressMap) (heap end : ℕ) → IsSound (store_of m) → find_heap heap (store_of m).heaps ≡ Some (part_at kind m heap end) → HasHeapAt m heap
 heap_there kind m heap end sound found =
     let h : IsHeapIn (bytes_of m) heap end (items_at m heap) = heap_of-part kind m heap end sound found in
     subst (λ (e : ℕ). IsHeapIn (bytes_of m) heap e (items_at m heap)) (sym h.limit) h
@@ -52,7 +51,7 @@ gives_none m n e answer sound refused same = record {
 }
 
 pub gives_claim : (kind : Kind) (m n : AddressMap) (heap end : ℕ) (answer : Result ℕ ErrorNumber) (c : Option Claim) → IsSound (store_of m)
-    → find_part heap (store_of m).heaps ≡ Some (part_at kind m heap end) → Claims m n heap end answer c
+    → find_heap heap (store_of m).heaps ≡ Some (part_at kind m heap end) → Claims m n heap end answer c
     → IsGiven m n (claimed_in (store_of m) (part_at kind m heap end) c) answer
 gives_claim kind m n heap end answer None sound found claims = gives_none m n HeapNoRoom answer sound claims.0 claims.1
 gives_claim kind m n heap end answer (Some c) sound found claims = record {
@@ -62,7 +61,7 @@ gives_claim kind m n heap end answer (Some c) sound found claims = record {
 }
 
 pub get_given : (kind : Kind) (m n : AddressMap) (heap size end : ℕ) (answer : Result ℕ ErrorNumber) → IsSound (store_of m)
-    → find_part heap (store_of m).heaps ≡ Some (part_at kind m heap end)
+    → find_heap heap (store_of m).heaps ≡ Some (part_at kind m heap end)
     → Claims m n heap (end_at m heap) answer (claimed (total_for size) (end_at m heap - 16) (items_at m heap))
     → IsGiven m n (got (store_of m) heap size) answer
 unfolding got
@@ -71,16 +70,16 @@ get_given kind m n heap size end answer sound found claims =
     rw found (gives_claim kind m n heap end answer (claimed (total_for size) (end - 16) (items_at m heap)) sound found
     (subst (λ (e : ℕ). Claims m n heap e answer (claimed (total_for size) (e - 16) (items_at m heap))) limit claims))
 
-pub get_refused : (m : AddressMap) (heap size : ℕ) → find_part heap (store_of m).heaps ≡ None → got (store_of m) heap size ≡ Err HeapBadDesc
+pub get_refused : (m : AddressMap) (heap size : ℕ) → find_heap heap (store_of m).heaps ≡ None → got (store_of m) heap size ≡ Err HeapBadDesc
 unfolding got
 get_refused m heap size none = ap (got_from (store_of m) size) none
 
-pub get_counted : (kind : Kind) (m : AddressMap) (heap size end : ℕ) → find_part heap (store_of m).heaps ≡ Some (part_at kind m heap end)
+pub get_counted : (kind : Kind) (m : AddressMap) (heap size end : ℕ) → find_heap heap (store_of m).heaps ≡ Some (part_at kind m heap end)
     → get_probes (store_of m) heap size ≡ looked_at (total_for size) (items_at m heap)
 unfolding get_probes
 get_counted kind m heap size end found = ap (counted_of (λ h. looked_at (total_for size) h.items)) found
 
-pub get_counted_none : (m : AddressMap) (heap size : ℕ) → find_part heap (store_of m).heaps ≡ None → get_probes (store_of m) heap size ≡ 0
+pub get_counted_none : (m : AddressMap) (heap size : ℕ) → find_heap heap (store_of m).heaps ≡ None → get_probes (store_of m) heap size ≡ 0
 unfolding get_probes
 get_counted_none m heap size none = ap (counted_of (λ h. looked_at (total_for size) h.items)) none
 
@@ -91,7 +90,7 @@ pub record IsLeft (m n : AddressMap) (outcome : Result Store ErrorNumber) (answe
   pub same : layout n ≡ layout m
 
 pub leaves_release : (kind : Kind) (m n : AddressMap) (heap end : ℕ) (answer : Result (Unit {0}) ErrorNumber) (items : Option (List Item)) → IsSound (store_of m)
-    → find_part heap (store_of m).heaps ≡ Some (part_at kind m heap end) → Releases m n heap end answer items
+    → find_heap heap (store_of m).heaps ≡ Some (part_at kind m heap end) → Releases m n heap end answer items
     → IsLeft m n (released_in (store_of m) (part_at kind m heap end) items) answer
 leaves_release kind m n heap end answer None sound found releases = record {
   store = rw releases.0 (refl, ap store_of releases.1);
@@ -105,7 +104,7 @@ leaves_release kind m n heap end answer (Some items) sound found releases = reco
 }
 
 pub free_left : (kind : Kind) (m n : AddressMap) (heap block end : ℕ) (answer : Result (Unit {0}) ErrorNumber) → IsSound (store_of m)
-    → find_part heap (store_of m).heaps ≡ Some (part_at kind m heap end)
+    → find_heap heap (store_of m).heaps ≡ Some (part_at kind m heap end)
     → Releases m n heap (end_at m heap) answer (released block (heap + 16) (items_at m heap))
     → IsLeft m n (gave_back (store_of m) heap block) answer
 unfolding gave_back
@@ -114,15 +113,15 @@ free_left kind m n heap block end answer sound found releases =
     rw found (leaves_release kind m n heap end answer (released block (heap + 16) (items_at m heap)) sound found
     (subst (λ (e : ℕ). Releases m n heap e answer (released block (heap + 16) (items_at m heap))) limit releases))
 
-pub free_refused : (m : AddressMap) (heap block : ℕ) → find_part heap (store_of m).heaps ≡ None → gave_back (store_of m) heap block ≡ Err HeapBadDesc
+pub free_refused : (m : AddressMap) (heap block : ℕ) → find_heap heap (store_of m).heaps ≡ None → gave_back (store_of m) heap block ≡ Err HeapBadDesc
 unfolding gave_back
 free_refused m heap block none = ap (gave_back_to (store_of m) block) none
 
-pub free_counted : (kind : Kind) (m : AddressMap) (heap block end : ℕ) → find_part heap (store_of m).heaps ≡ Some (part_at kind m heap end)
+pub free_counted : (kind : Kind) (m : AddressMap) (heap block end : ℕ) → find_heap heap (store_of m).heaps ≡ Some (part_at kind m heap end)
     → walk_probes (store_of m) heap block ≡ begun_below block (heap + 16) (items_at m heap)
 unfolding walk_probes
 free_counted kind m heap block end found = ap (counted_of (λ h. begun_below block (h.start + 16) h.items)) found
 
-pub free_counted_none : (m : AddressMap) (heap block : ℕ) → find_part heap (store_of m).heaps ≡ None → walk_probes (store_of m) heap block ≡ 0
+pub free_counted_none : (m : AddressMap) (heap block : ℕ) → find_heap heap (store_of m).heaps ≡ None → walk_probes (store_of m) heap block ≡ 0
 unfolding walk_probes
 free_counted_none m heap block none = ap (counted_of (λ h. begun_below block (h.start + 16) h.items)) none

@@ -1,20 +1,20 @@
 -- A recorded range more that is no heap, as the system pages or an image.
-use Rattle.std.proofs.Common.{◌≡◌, ◌<◌, false, List, [], ◌∷◌, ◌++◌, length, arith, refl, inl, inr, length-append}
+use Rattle.std.proofs.Common.{false, inl, [], ◌≡◌, refl, List, ◌++◌, inr, ◌∷◌, length, arith, length-append, ◌<◌}
 use Rattle.std.proofs.lemmas.Bool.{cases_Bool}
-use Rattle.address_map.specs.declared.region.Region.{Region}
-use Rattle.address_map.specs.declared.map.AddressMap.{AddressMap}
 use Rattle.address_map.specs.Bytes.{Bytes}
-use Rattle.address_map.specs.Records.{is_heap_kind}
 use Rattle.address_map.specs.Memory.{bytes_of, regions}
-use Rattle.os_heap.specs.Heap.{Part}
-use Rattle.os_heap.specs.Store.{Store, parts_in, others_in, store_of, IsClearOfHeaps, AreOthersClear, IsSound}
+use Rattle.address_map.specs.Records.{is_heap_kind}
+use Rattle.address_map.specs.declared.map.AddressMap.{AddressMap}
+use Rattle.address_map.specs.declared.region.Region.{Region}
+use Rattle.os_heap_lists.specs.Heap.{HeapList}
+use Rattle.os_heap.specs.Store.{heaps_in, others_in, IsClearOfHeaps, AreOthersClear, store_of, IsSound, Store}
 
-parts_in-other : (b : Bytes) (rs : List Region) (r : Region) → is_heap_kind r.kind ≡ false → parts_in b (rs ++ r ∷ []) ≡ parts_in b rs
-parts_in-other b [] r other = rw other refl
-parts_in-other b (g ∷ rs) r other =
+heaps_in-other : (b : Bytes) (rs : List Region) (r : Region) → is_heap_kind r.kind ≡ false → heaps_in b (rs ++ r ∷ []) ≡ heaps_in b rs
+heaps_in-other b [] r other = rw other refl
+heaps_in-other b (g ∷ rs) r other =
     elim (cases_Bool (is_heap_kind g.kind)) [
-      | inl heap ↦ rw (heap, parts_in-other b rs r other) refl
-      | inr plain ↦ rw (plain, parts_in-other b rs r other) refl
+      | inl heap ↦ rw (heap, heaps_in-other b rs r other) refl
+      | inr plain ↦ rw (plain, heaps_in-other b rs r other) refl
     ]
 
 others_in-other : (rs : List Region) (r : Region) → is_heap_kind r.kind ≡ false → others_in (rs ++ r ∷ []) ≡ others_in rs ++ r ∷ []
@@ -25,7 +25,7 @@ others_in-other (g ∷ rs) r other =
       | inr plain ↦ rw (plain, others_in-other rs r other) refl
     ]
 
-clear_other : (hs : List Part) (rs : List Region) (r : Region) → AreOthersClear hs rs → IsClearOfHeaps r.at r.len hs → AreOthersClear hs (rs ++ r ∷ [])
+clear_other : (hs : List HeapList) (rs : List Region) (r : Region) → AreOthersClear hs rs → IsClearOfHeaps r.at r.len hs → AreOthersClear hs (rs ++ r ∷ [])
 clear_other hs [] r clear last = (last, tt)
 clear_other hs (g ∷ rs) r clear last = (clear.0, clear_other hs rs r clear.1 last)
 
@@ -34,7 +34,7 @@ pub store_recorded : (m n : AddressMap) (r : Region) → is_heap_kind r.kind ≡
     → store_of n ≡ record { bytes = bytes_of m; heaps = (store_of m).heaps; others = (store_of m).others ++ r ∷ [] }
 unfolding store_of
 store_recorded m n r other records bytes =
-    let heaps : parts_in (bytes_of m) (regions m ++ r ∷ []) ≡ parts_in (bytes_of m) (regions m) = parts_in-other (bytes_of m) (regions m) r other in
+    let heaps : heaps_in (bytes_of m) (regions m ++ r ∷ []) ≡ heaps_in (bytes_of m) (regions m) = heaps_in-other (bytes_of m) (regions m) r other in
     let others : others_in (regions m ++ r ∷ []) ≡ others_in (regions m) ++ r ∷ [] = others_in-other (regions m) r other in
     rw (bytes, records) (λ i. record { bytes = bytes_of m; heaps = heaps i; others = others i })
 

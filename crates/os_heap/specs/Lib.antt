@@ -1,14 +1,5 @@
 pub mod Begin
 pub mod Changes
-pub mod Claims
 pub mod Ends
-pub mod Heap
-pub mod Laws
-pub mod Links
-pub mod Lists
-pub mod Refits
-pub mod Releases
-pub mod Resizes
-pub mod Rest
+pub mod Outcomes
 pub mod Store
-pub mod Tally

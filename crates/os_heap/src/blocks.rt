@@ -2,8 +2,8 @@ ghost use Rattle.std.specs.Prelude.{◌≡◌, ◌+◌, ◌≤◌, List};
 ghost use Rattle.std.specs.Iterator.{YieldsFirst, item_count};
 ghost use Rattle.address_map.specs.declared.item.Item.{Item};
 ghost use Rattle.address_map.specs.Memory.{bytes_of};
-ghost use Rattle.os_heap.specs.Rest.{rest_from, IsRest};
-ghost use Rattle.os_heap.specs.Links.{IsHeapAt, items_at};
+ghost use Rattle.os_heap_lists.specs.Walks.{rest_from, IsRest};
+ghost use Rattle.os_heap.specs.Outcomes.{IsHeapAt, items_at};
 ghost use Rattle.os_heap.specs.Store.{store_of, IsSound, items_of};
 
 use crate::heaps::{Heaps, find};

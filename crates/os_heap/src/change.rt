@@ -3,8 +3,8 @@ ghost use Rattle.profile.specs.Outcome.{Leaves};
 ghost use Rattle.address_map.specs.Memory.{place, bytes_of, free_pages, free_runs};
 ghost use Rattle.os_heap.specs.Changes.{changed, end_changed, ending, has_own_size};
 ghost use Rattle.os_heap.specs.Ends.{MayEnd};
-ghost use Rattle.os_heap.specs.Links.{IsHeapAt};
-ghost use Rattle.os_heap.specs.Store.{store_of, part_in, find_part, meets_any, IsSound};
+ghost use Rattle.os_heap.specs.Outcomes.{IsHeapAt};
+ghost use Rattle.os_heap.specs.Store.{store_of, heap_in, find_heap, meets_any, IsSound};
 
 use crate::counted::Counted;
 use crate::heaps::{Heaps, find};
@@ -75,7 +75,7 @@ fn change_end(map: &mut AddressMap, heap: u32, change: u32) -> Result<(), ErrorN
 /// Whether a heap may have another end.
 fn may_end(map: &AddressMap, region: &Region, end: u32) -> Result<(), ErrorNumber>
     requires { IsHeapAt map.now region.now.at region.now.len }
-    ensures { MatchResult result (λ _. MayEnd (store_of map.now) (part_in (bytes_of map.now) region.now) end) (λ e. (change : ℕ) → change % 4 ≡ 0 → end_changed (store_of map.now) (part_in (bytes_of map.now) region.now) change end ≡ Err e) }
+    ensures { MatchResult result (λ _. MayEnd (store_of map.now) (heap_in (bytes_of map.now) region.now) end) (λ e. (change : ℕ) → change % 4 ≡ 0 → end_changed (store_of map.now) (heap_in (bytes_of map.now) region.now) change end ≡ Err e) }
 {
     if !is_heap_region(map, region.at, end) {
         return Err(ErrorNumber::HeapBadRegion);
@@ -100,10 +100,10 @@ fn overlaps(map: &AddressMap, region: &Region, end: u32) -> bool
 /// Writes the end of a heap, and records its range anew.
 fn set_end(map: &mut AddressMap, region: &Region, end: u32)
     requires kind { has_own_size region.now.kind ≡ true }
-    requires found { find_part region.now.at (store_of map.old).heaps ≡ Some (part_in (bytes_of map.old) region.now) }
-    requires may { MayEnd (store_of map.old) (part_in (bytes_of map.old) region.now) end }
+    requires found { find_heap region.now.at (store_of map.old).heaps ≡ Some (heap_in (bytes_of map.old) region.now) }
+    requires may { MayEnd (store_of map.old) (heap_in (bytes_of map.old) region.now) end }
     requires sound { IsSound (store_of map.old) }
-    ensures store { store_of map.new ≡ ending (store_of map.old) (part_in (bytes_of map.old) region.now) end }
+    ensures store { store_of map.new ≡ ending (store_of map.old) (heap_in (bytes_of map.old) region.now) end }
     ensures sound { IsSound (store_of map.new) }
     ensures place { place map.new ≡ place map.old }
     ensures pages { free_pages map.new ≡ free_pages map.old }

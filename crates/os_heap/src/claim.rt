@@ -2,9 +2,10 @@ ghost use Rattle.std.specs.Prelude.{◌≡◌, ◌≤◌, ◌<◌, ◌-◌, ◌+
 ghost use Rattle.profile.specs.Outcome.{Gives};
 ghost use Rattle.address_map.specs.Items.{is_total, size_of};
 ghost use Rattle.address_map.specs.Memory.{layout};
-ghost use Rattle.os_heap.specs.Lists.{total_for, first_fit, claimed, or_at_base, looked_at};
-ghost use Rattle.os_heap.specs.Links.{HasHeapAt, end_at, items_at};
-ghost use Rattle.os_heap.specs.Claims.{IsFit, Claims};
+ghost use Rattle.os_heap_lists.specs.Lists.{total_for, first_fit, claimed, or_at_base};
+ghost use Rattle.os_heap_lists.specs.Counts.{looked_at};
+ghost use Rattle.os_heap.specs.Outcomes.{HasHeapAt, end_at, items_at, Claims};
+ghost use Rattle.os_heap_lists.specs.Walks.{IsFit};
 ghost use Rattle.os_heap.specs.Store.{store_of, IsSound, got, get_probes};
 
 use crate::counted::Counted;
@@ -96,7 +97,7 @@ fn append(map: &mut AddressMap, heap: u32, needed: u64) -> Result<u32, ErrorNumb
 }
 
 /// Claims a block of `needed` bytes in one heap, its length word among them.
-#[tactic(auto, unfolding(crate::specs::Lists::claimed))]
+#[tactic(auto, unfolding(os_heap_lists::specs::Lists::claimed))]
 pub(crate) fn claim_total(map: &mut AddressMap, heap: u32, needed: u64) -> Counted<u32>
     requires heap { HasHeapAt map.old heap }
     requires total { is_total needed ≡ true }

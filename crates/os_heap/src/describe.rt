@@ -1,9 +1,9 @@
 ghost use Rattle.std.specs.Prelude.{◌≡◌, ◌≢◌, ◌<◌, ◌+◌};
 ghost use Rattle.address_map.specs.Bytes.{word_at};
 ghost use Rattle.address_map.specs.Memory.{byte_at};
-ghost use Rattle.os_heap.specs.Lists.{free_count, free_total, largest_free};
-ghost use Rattle.os_heap.specs.Links.{IsHeapAt, items_at};
-ghost use Rattle.os_heap.specs.Tally.{IsTallied};
+ghost use Rattle.os_heap_lists.specs.Counts.{free_count, free_total, largest_free};
+ghost use Rattle.os_heap.specs.Outcomes.{IsHeapAt, items_at};
+ghost use Rattle.os_heap_lists.specs.Walks.{IsTallied};
 ghost use Rattle.os_heap.specs.Store.{store_of, IsSound, described, describe_probes};
 
 use crate::counted::Counted;

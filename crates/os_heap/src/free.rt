@@ -1,9 +1,10 @@
 ghost use Rattle.std.specs.Prelude.{◌≡◌, ◌+◌, Ok};
 ghost use Rattle.profile.specs.Outcome.{Leaves};
 ghost use Rattle.address_map.specs.Memory.{layout};
-ghost use Rattle.os_heap.specs.Lists.{released, begun_below};
-ghost use Rattle.os_heap.specs.Links.{HasHeapAt, end_at, items_at};
-ghost use Rattle.os_heap.specs.Releases.{IsBlock, Releases};
+ghost use Rattle.os_heap_lists.specs.Lists.{released};
+ghost use Rattle.os_heap_lists.specs.Counts.{begun_below};
+ghost use Rattle.os_heap.specs.Outcomes.{HasHeapAt, end_at, items_at, Releases};
+ghost use Rattle.os_heap_lists.specs.Walks.{IsBlock};
 ghost use Rattle.os_heap.specs.Store.{store_of, IsSound, gave_back, walk_probes};
 
 use crate::counted::Counted;

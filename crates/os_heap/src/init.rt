@@ -6,8 +6,8 @@ ghost use Rattle.address_map.specs.Memory.{place, byte_at, is_mapped, bytes_of, 
 ghost use Rattle.address_map.specs.Records.{is_heap_kind};
 ghost use Rattle.address_map.specs.declared.region.Kind.TheVariants.{Rma};
 ghost use Rattle.os_heap.specs.Begin.{MayBegin};
-ghost use Rattle.os_heap.specs.Heap.{with_part};
-ghost use Rattle.os_heap.specs.Store.{store_of, parts_in, IsSound, is_heap_region, meets, meets_any, begun, begun_with};
+ghost use Rattle.os_heap_lists.specs.Heap.{with_heap};
+ghost use Rattle.os_heap.specs.Store.{store_of, heaps_in, IsSound, is_heap_region, meets, meets_any, begun, begun_with};
 
 use crate::counted::Counted;
 use crate::heaps::Heaps;
@@ -92,7 +92,7 @@ fn write_descriptor(map: &mut AddressMap, heap: u32, size: u32)
     requires aligned { heap % 4 ≡ 0 }
     requires room { 16 ≤ size }
     requires mapped { AreMapped (is_mapped map.old) heap size }
-    ensures bytes { (a : ℕ) → byte_at map.new a ≡ with_part (byte_at map.old) heap size [] a }
+    ensures bytes { (a : ℕ) → byte_at map.new a ≡ with_heap (byte_at map.old) heap size [] a }
     ensures layout { layout map.new ≡ layout map.old }
 {
     map.put_word(heap, HEAP_NAME);
@@ -167,7 +167,7 @@ fn count_heaps(map: &AddressMap) -> usize
 }
 
 fn count_regions(regions: &[Region]) -> usize
-    ensures { (b : Bytes) → length (parts_in b regions.now) ≡ result }
+    ensures { (b : Bytes) → length (heaps_in b regions.now) ≡ result }
 {
     let mut count = 0;
     for region in regions {

@@ -9,7 +9,6 @@ pub mod describe;
 mod free;
 pub mod heaps;
 pub mod init;
-pub mod laws;
 mod links;
 mod refit;
 mod relocate;

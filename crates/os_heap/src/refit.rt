@@ -2,10 +2,10 @@ ghost use Rattle.std.specs.Prelude.{◌≡◌, ◌≢◌, ◌≤◌, ◌<◌, �
 ghost use Rattle.address_map.specs.Bytes.{word_at};
 ghost use Rattle.address_map.specs.Items.{is_total};
 ghost use Rattle.address_map.specs.Memory.{byte_at, layout};
-ghost use Rattle.os_heap.specs.Links.{HasHeapAt, end_at, items_at};
-ghost use Rattle.os_heap.specs.Refits.{IsDivided, Refits};
-ghost use Rattle.os_heap.specs.Releases.{last_link, IsBlock};
-ghost use Rattle.os_heap.specs.Resizes.{resized_in_place};
+ghost use Rattle.os_heap.specs.Outcomes.{HasHeapAt, end_at, items_at, Refits};
+ghost use Rattle.os_heap_lists.specs.Words.{IsDivided};
+ghost use Rattle.os_heap_lists.specs.Walks.{last_link, IsBlock};
+ghost use Rattle.os_heap_lists.specs.Lists.{resized_in_place};
 
 use crate::walk::{Cursor, last_link};
 use crate::words::{follow, put, put_free, put_link, word};

@@ -2,7 +2,7 @@ ghost use Rattle.std.specs.Prelude.{◌≡◌, is_some, true};
 ghost use Rattle.profile.specs.Outcome.{Gives};
 ghost use Rattle.address_map.specs.Memory.{layout};
 ghost use Rattle.os_heap.specs.Changes.{resized, resize_probes, AreInBounds};
-ghost use Rattle.os_heap.specs.Store.{store_of, find_part, IsSound};
+ghost use Rattle.os_heap.specs.Store.{store_of, find_heap, IsSound};
 
 use crate::counted::Counted;
 use crate::free::give_back;
@@ -36,7 +36,7 @@ impl Heaps {
         ensures sound { IsSound (store_of map.new) }
         ensures layout { layout map.new ≡ layout map.old }
         ensures probes { result.probes ≡ resize_probes (store_of map.old) heap block change }
-        ensures bounds { AreInBounds result.probes block (find_part heap (store_of map.old).heaps) }
+        ensures bounds { AreInBounds result.probes block (find_heap heap (store_of map.old).heaps) }
     {
         match find(map, heap) {
             Some(_) => resize_block(map, heap, block, change),
@@ -51,7 +51,7 @@ impl Heaps {
 /// Changes the total of a block, where the heap is there.
 fn resize_block(map: &mut AddressMap, heap: u32, block: u32, change: u32) -> Counted<u32>
     requires sound { IsSound (store_of map.old) }
-    requires found { is_some (find_part heap (store_of map.old).heaps) ≡ true }
+    requires found { is_some (find_heap heap (store_of map.old).heaps) ≡ true }
     ensures store { Gives (store_of map.old) (resized (store_of map.old) heap block change) result.answer (store_of map.new) }
     ensures sound { IsSound (store_of map.new) }
     ensures layout { layout map.new ≡ layout map.old }

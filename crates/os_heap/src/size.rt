@@ -1,8 +1,8 @@
 ghost use Rattle.std.specs.Prelude.{◌≡◌, ◌+◌};
 ghost use Rattle.os_heap.specs.Changes.{bytes_held, block_sized};
-ghost use Rattle.os_heap.specs.Links.{HasHeapAt, items_at};
-ghost use Rattle.os_heap.specs.Lists.{begun_below};
-ghost use Rattle.os_heap.specs.Resizes.{live_total};
+ghost use Rattle.os_heap.specs.Outcomes.{HasHeapAt, items_at};
+ghost use Rattle.os_heap_lists.specs.Counts.{begun_below};
+ghost use Rattle.os_heap_lists.specs.Lists.{live_total};
 ghost use Rattle.os_heap.specs.Store.{store_of, IsSound, walk_probes};
 
 use crate::counted::Counted;

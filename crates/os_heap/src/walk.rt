@@ -1,9 +1,10 @@
 ghost use Rattle.std.specs.Prelude.{◌≡◌, ◌≢◌, ◌≤◌, ◌<◌, ◌-◌, ◌+◌, ◌^◌, None, MatchOption};
 ghost use Rattle.address_map.specs.Bytes.{word_at};
 ghost use Rattle.address_map.specs.Memory.{byte_at};
-ghost use Rattle.os_heap.specs.Lists.{released, begun_below};
-ghost use Rattle.os_heap.specs.Links.{HasHeapAt, items_at};
-ghost use Rattle.os_heap.specs.Releases.{last_link, IsWalked, IsBlock};
+ghost use Rattle.os_heap_lists.specs.Lists.{released};
+ghost use Rattle.os_heap_lists.specs.Counts.{begun_below};
+ghost use Rattle.os_heap.specs.Outcomes.{HasHeapAt, items_at};
+ghost use Rattle.os_heap_lists.specs.Walks.{last_link, IsWalked, IsBlock};
 
 use crate::words::{follow, word};
 use address_map::AddressMap;

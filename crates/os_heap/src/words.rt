@@ -2,7 +2,7 @@ ghost use Rattle.std.specs.Prelude.{◌≡◌, ◌<◌, ◌+◌, ◌-◌, ◌%�
 ghost use Rattle.address_map.specs.Bytes.{word_at};
 ghost use Rattle.address_map.specs.Items.{linked};
 ghost use Rattle.address_map.specs.Memory.{byte_at, is_mapped, layout};
-ghost use Rattle.os_heap.specs.Links.{link_at, AreApart, IsWritten, IsFreed};
+ghost use Rattle.os_heap_lists.specs.Words.{link_at, AreApart, IsWritten, IsFreed};
 
 use crate::links::linked;
 use address_map::AddressMap;

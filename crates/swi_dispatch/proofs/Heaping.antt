@@ -10,10 +10,9 @@ use Rattle.address_map.specs.Memory.{place}
 use Rattle.address_map.specs.declared.item.Item.{Item}
 use Rattle.address_map.specs.declared.region.Kind.TheVariants.{Heap}
 use Rattle.os_heap.specs.Changes.{resized, resized_of, resized_block, resized_or_moved, copied, handed_over, changed, changed_of, end_changed, ending, has_own_size}
-use Rattle.os_heap.specs.Heap.{Part}
-use Rattle.os_heap.specs.Lists.{Claim, round_up_8, claimed, released, total_for}
-use Rattle.os_heap.specs.Resizes.{changed_by, live_total, resized_in_place}
-use Rattle.os_heap.specs.Store.{Store, store_of, IsSound, find_part, got, got_from, claimed_in, gave_back, gave_back_to, released_in, begun, begun_with, holding, is_heap_region, meets_any}
+use Rattle.os_heap_lists.specs.Heap.{HeapList}
+use Rattle.os_heap_lists.specs.Lists.{Claim, round_up_8, claimed, released, total_for, changed_by, live_total, resized_in_place}
+use Rattle.os_heap.specs.Store.{Store, store_of, IsSound, find_heap, got, got_from, claimed_in, gave_back, gave_back_to, released_in, begun, begun_with, holding, is_heap_region, meets_any}
 use Rattle.swi_dispatch.specs.Situation.{is_start_mapped}
 use Rattle.swi_dispatch.specs.Parts.{Parts, IsWellFormed}
 
@@ -40,23 +39,23 @@ others_given s t (Err f) (Err e) same left = ap (λ (x : Store). x.others) left.
 
 pub got_others : (s : Store) (heap size : ℕ) → SameOthersWith s (got s heap size)
 unfolding got
-got_others s heap size = from (find_part heap s.heaps) where
-  in_heap : (h : Part) (c : Option Claim) → SameOthersWith s (claimed_in s h c)
+got_others s heap size = from (find_heap heap s.heaps) where
+  in_heap : (h : HeapList) (c : Option Claim) → SameOthersWith s (claimed_in s h c)
   in_heap h None = tt
   in_heap h (Some c) = refl
 
-  from : (there : Option Part) → SameOthersWith s (got_from s size there)
+  from : (there : Option HeapList) → SameOthersWith s (got_from s size there)
   from None = tt
   from (Some h) = in_heap h (claimed (total_for size) (h.end - 16) h.items)
 
 pub gave_back_others : (s : Store) (heap block : ℕ) → SameOthers s (gave_back s heap block)
 unfolding gave_back
-gave_back_others s heap block = from (find_part heap s.heaps) where
-  in_heap : (h : Part) (c : Option (List Item)) → SameOthers s (released_in s h c)
+gave_back_others s heap block = from (find_heap heap s.heaps) where
+  in_heap : (h : HeapList) (c : Option (List Item)) → SameOthers s (released_in s h c)
   in_heap h None = tt
   in_heap h (Some c) = refl
 
-  from : (there : Option Part) → SameOthers s (gave_back_to s block there)
+  from : (there : Option HeapList) → SameOthers s (gave_back_to s block there)
   from None = tt
   from (Some h) = in_heap h (released block (h.start + 16) h.items)
 
@@ -73,53 +72,53 @@ answered_others : (s t : Store) (n : ℕ) (r : Result Store ErrorNumber) → t.o
 answered_others s t n (Ok u) e same = same ∙ e
 answered_others s t n (Err f) e same = tt
 
-moved_others : (s : Store) (h : Part) (block old : ℕ) (c : Option Claim) → SameOthersWith s (bind (claimed_in s h c) (λ r. handed_over h.start block (old - 4) r.0 r.1))
+moved_others : (s : Store) (h : HeapList) (block old : ℕ) (c : Option Claim) → SameOthersWith s (bind (claimed_in s h c) (λ r. handed_over h.start block (old - 4) r.0 r.1))
 moved_others s h block old None = tt
 moved_others s h block old (Some c) =
     let new : Store = copied (holding s h c.items) block (h.start + 16 + c.offset + 4) (old - 4) in
     answered_others s new _ _ refl (gave_back_others new h.start block)
 
-freed_others : (s : Store) (h : Part) (c : Option (List Item)) → SameOthersWith s (bind (released_in s h c) (λ t. Ok (t, 0)))
+freed_others : (s : Store) (h : HeapList) (c : Option (List Item)) → SameOthersWith s (bind (released_in s h c) (λ t. Ok (t, 0)))
 freed_others s h None = tt
 freed_others s h (Some c) = refl
 
-placed_others : (s : Store) (h : Part) (block old new : ℕ) (there : Option (List Item)) → SameOthersWith s (resized_or_moved s h block old new there)
+placed_others : (s : Store) (h : HeapList) (block old new : ℕ) (there : Option (List Item)) → SameOthersWith s (resized_or_moved s h block old new there)
 placed_others s h block old new None = moved_others s h block old (claimed new (h.end - 16) h.items)
 placed_others s h block old new (Some items) = refl
 
 pub resized_others : (s : Store) (heap block change : ℕ) → SameOthersWith s (resized s heap block change)
 unfolding resized
-resized_others s heap block change = from (find_part heap s.heaps) where
-  to : (h : Part) (old sum : ℕ) (none_left : Bool) → SameOthersWith s (cond none_left (bind (released_in s h (released block (h.start + 16) h.items)) (λ t. Ok (t, 0)))
+resized_others s heap block change = from (find_heap heap s.heaps) where
+  to : (h : HeapList) (old sum : ℕ) (none_left : Bool) → SameOthersWith s (cond none_left (bind (released_in s h (released block (h.start + 16) h.items)) (λ t. Ok (t, 0)))
       (resized_or_moved s h block old (round_up_8 sum) (resized_in_place block (h.start + h.end) (round_up_8 sum) (h.start + 16) h.items)))
   to h old sum true = freed_others s h (released block (h.start + 16) h.items)
   to h old sum false = placed_others s h block old (round_up_8 sum) (resized_in_place block (h.start + h.end) (round_up_8 sum) (h.start + 16) h.items)
 
-  of_block : (h : Part) (total : Option ℕ) → SameOthersWith s (resized_block s h block change total)
+  of_block : (h : HeapList) (total : Option ℕ) → SameOthersWith s (resized_block s h block change total)
   of_block h None = tt
   of_block h (Some total) = to h total (changed_by total change) (nat_le (changed_by total change) 4)
 
-  from : (there : Option Part) → SameOthersWith s (resized_of s block change there)
+  from : (there : Option HeapList) → SameOthersWith s (resized_of s block change there)
   from None = tt
   from (Some h) = of_block h (live_total block (h.start + 16) h.items)
 
 pub changed_others : (s : Store) (heap change : ℕ) → SameOthers s (changed s heap change)
 unfolding changed
-changed_others s heap change = from (find_part heap s.heaps) where
-  by : (h : Part) (end : ℕ) (good meets below : Bool) → SameOthers s (cond (not good) (Err HeapBadRegion) (cond meets (Err HeapOverlaps) (cond below (Err HeapBadShrink) (Ok (ending s h end)))))
+changed_others s heap change = from (find_heap heap s.heaps) where
+  by : (h : HeapList) (end : ℕ) (good meets below : Bool) → SameOthers s (cond (not good) (Err HeapBadRegion) (cond meets (Err HeapOverlaps) (cond below (Err HeapBadShrink) (Ok (ending s h end)))))
   by h end false meets below = tt
   by h end true true below = tt
   by h end true false true = tt
   by h end true false false = refl
 
-  sized : (h : Part) (end : ℕ) → SameOthers s (end_changed s h change end)
+  sized : (h : HeapList) (end : ℕ) → SameOthers s (end_changed s h change end)
   sized h end = by h end (change % 4 == 0 && is_heap_region s.bytes h.start end) (nat_lt h.end end && meets_any (h.start + h.end) (end - h.end) s) (nat_lt end (16 + size_of h.items))
 
-  own : (h : Part) (is_own : Bool) → SameOthers s (cond is_own (end_changed s h change (changed_by h.end change)) (Err HeapBadDesc))
+  own : (h : HeapList) (is_own : Bool) → SameOthers s (cond is_own (end_changed s h change (changed_by h.end change)) (Err HeapBadDesc))
   own h true = sized h (changed_by h.end change)
   own h false = tt
 
-  from : (there : Option Part) → SameOthers s (changed_of s change there)
+  from : (there : Option HeapList) → SameOthers s (changed_of s change there)
   from None = tt
   from (Some h) = own h (has_own_size h.kind)
 

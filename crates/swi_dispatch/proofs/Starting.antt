@@ -11,8 +11,8 @@ use Rattle.address_map.specs.Memory.{is_mapped, byte_at, byte_in, place, bytes_o
 use Rattle.arm_step.specs.State.{start_state}
 use Rattle.std.specs.Prelude.{is_some}
 use Rattle.swi_dispatch.specs.declared.halt.Halt.{Halt}
-use Rattle.os_heap.specs.Heap.{Part}
-use Rattle.os_heap.specs.Store.{Store, store_of, parts_in, others_in, IsSound}
+use Rattle.os_heap_lists.specs.Heap.{HeapList}
+use Rattle.os_heap.specs.Store.{Store, store_of, heaps_in, others_in, IsSound}
 use Rattle.swi_dispatch.specs.Situation.{Situation, start_of, is_start_mapped, start_bytes, start_regions, start_store, system_pages, module_area}
 
 -- four words written over a memory of zeros
@@ -93,9 +93,9 @@ store_starts m s good mapped bytes records =
     let start : Bytes = record { mapped = is_start_mapped s; at = start_bytes s } in
     let memory : bytes_of m ≡ start = λ i. record { mapped = λ a. mapped a i; at = λ a. bytes a i } in
     let item : items_in (word_at (start_bytes s)) 0x01800000 ≡ [] = start_items s good in
-    let heaps : parts_in (bytes_of m) (regions m) ≡ module_area s ∷ [] =
-    ap (λ (b : Bytes). parts_in b (regions m)) memory ∙ ap (parts_in start) records
-    ∙ ap (λ (xs : List Item). let h : Part = record { kind = Rma; start = 0x01800000; end = 4096 * s.rma; items = xs } in h ∷ []) item in
+    let heaps : heaps_in (bytes_of m) (regions m) ≡ module_area s ∷ [] =
+    ap (λ (b : Bytes). heaps_in b (regions m)) memory ∙ ap (heaps_in start) records
+    ∙ ap (λ (xs : List Item). let h : HeapList = record { kind = Rma; start = 0x01800000; end = 4096 * s.rma; items = xs } in h ∷ []) item in
     let others : others_in (regions m) ≡ system_pages ∷ [] = ap others_in records in
     λ i. record { bytes = memory i; heaps = heaps i; others = others i }
 

@@ -1,8 +1,8 @@
 use Rattle.std.proofs.Common.{◌≡◌, ◌+◌, is_some, refl, arith}
 use Rattle.address_map.specs.Memory.{bytes_of}
-use Rattle.os_heap.specs.Heap.{Part}
-use Rattle.os_heap.specs.Links.{IsHeapAt}
-use Rattle.os_heap.specs.Store.{store_of, part_in}
+use Rattle.os_heap_lists.specs.Heap.{HeapList}
+use Rattle.os_heap.specs.Outcomes.{IsHeapAt}
+use Rattle.os_heap.specs.Store.{store_of, heap_in}
 use Rattle.os_heap.proofs.Added.{CanHold, can_hold, range_end}
 use Rattle.os_heap.proofs.Ending.{EndsAt, store_ended, sound_ended}
 use Rattle.os_heap.proofs.Found.{found_at}
@@ -43,7 +43,7 @@ set_len-requires c =
 pub returns-clause-store : goal.returns-clause-store
 returns-clause-store c =
     let m = c.args.map.now in
-    let h : Part = part_in (bytes_of m) c.args.region.now in
+    let h : HeapList = heap_in (bytes_of m) c.args.region.now in
     let ends : EndsAt m c.put.new.map h c.args.end = record {
       sound = c.requires.sound;
       found = c.requires.found;
@@ -61,7 +61,7 @@ returns-clause-store c =
 pub returns-clause-sound : goal.returns-clause-sound
 returns-clause-sound c =
     let m = c.args.map.now in
-    let h : Part = part_in (bytes_of m) c.args.region.now in
+    let h : HeapList = heap_in (bytes_of m) c.args.region.now in
     let ends : EndsAt m c.put.new.map h c.args.end = record {
       sound = c.requires.sound;
       found = c.requires.found;

@@ -1,9 +1,8 @@
 use Rattle.std.proofs.Common.{◌≡◌, ◌+◌, Some, refl, sym, ◌∙◌, ap, arith}
-use Rattle.os_heap.specs.Links.{items_at, end_at}
-use Rattle.os_heap.specs.Lists.{round_up_8}
-use Rattle.os_heap.specs.Resizes.{changed_by, live_total}
+use Rattle.os_heap.specs.Outcomes.{items_at, end_at}
+use Rattle.os_heap_lists.specs.Lists.{round_up_8, changed_by, live_total}
 use Rattle.os_heap.proofs.Resizing.{there_heap, block_here, resize_refused, resize_freed, resize_refitted, unrefitted, larger_where_none, resize_moved, move_few}
-use Rattle.os_heap.proofs.Sized.{unreleased}
+use Rattle.os_heap_lists.proofs.Resizes.{unreleased}
 use Rattle.os_heap.proofs.Walking.{begun_few}
 use Rattle.os_heap.proofs.resize.resize_block.Goals as goal
 

@@ -1,9 +1,10 @@
 use Rattle.std.proofs.Common.{◌+◌, ◌∙◌, sym, ap, arith}
 use Rattle.os_heap.specs.Changes.{bytes_held}
-use Rattle.os_heap.specs.Links.{end_at, items_at}
+use Rattle.os_heap.specs.Outcomes.{end_at, items_at}
 use Rattle.os_heap.proofs.Replace.{heap_mapped}
 use Rattle.os_heap.proofs.Freeing.{block_facts}
-use Rattle.os_heap.proofs.Sized.{sized_of, block_total, unreleased}
+use Rattle.os_heap.proofs.Sized.{sized_of, block_total}
+use Rattle.os_heap_lists.proofs.Resizes.{unreleased}
 use Rattle.os_heap.proofs.size.measure.Goals as goal
 
 pub word-requires-clause-aligned : goal.word-requires-clause-aligned

@@ -1,15 +1,14 @@
--- What a claim leaves of a heap's list: the new block is live in it, and so is each block that was.
-use Rattle.std.proofs.Common.{◌≡◌, ◌≢◌, ℕ, ◌+◌, ◌-◌, ◌%◌, ◌≤◌, ◌<◌, ◌==◌, true, false, is_some, Option, Some, None, List, [], ◌∷◌, ◌++◌, nat_le, arith, refl, sym, ◌∙◌, ap, subst, inl, inr}
-use Rattle.std.proofs.lemmas.Bool.{cases_Bool, leb-true, eq-eqb, ne_eqb, eqb-true, or_from, false_from_ne_true}
+-- The blocks of a list: a claim leaves each that was there and makes one more; and where their bytes lie.
+use Rattle.std.proofs.Common.{◌-◌, ◌≡◌, ◌+◌, refl, List, ℕ, Some, ◌∷◌, None, Option, arith, ◌≤◌, subst, ◌≢◌, ◌∙◌, sym, inl, [], ◌++◌, nat_le, inr, ◌==◌, true, false, ap, is_some, ◌%◌, ◌<◌}
+use Rattle.std.proofs.lemmas.Bool.{eq-eqb, cases_Bool, eqb-true, leb-true, false_from_ne_true, ne_eqb, or_from}
+use Rattle.address_map.specs.Items.{size_of, is_head}
 use Rattle.address_map.specs.declared.item.Item.{Item}
 use Rattle.address_map.specs.declared.item.Item.TheVariants.{Live, Free}
-use Rattle.address_map.specs.Items.{size_of, is_head}
-use Rattle.os_heap.specs.Heap.{AreTotals}
-use Rattle.os_heap.specs.Lists.{Claim, first_fit, or_at_base, claimed, behind, left_free}
-use Rattle.os_heap.specs.Resizes.{live_total}
-use Rattle.os_heap.proofs.Unique.{total_facts}
-use Rattle.os_heap.proofs.Frame.{head_inside}
-use Rattle.os_heap.proofs.Linking.{live_low, live_next}
+use Rattle.os_heap_lists.proofs.HeadWords.{head_inside}
+use Rattle.os_heap_lists.proofs.LinkWalk.{live_next, live_low}
+use Rattle.os_heap_lists.proofs.Reading.{total_facts}
+use Rattle.os_heap_lists.specs.Heap.{AreTotals}
+use Rattle.os_heap_lists.specs.Lists.{live_total, Claim, behind, left_free, first_fit, or_at_base, claimed}
 
 live_here : (block at t : ℕ) (xs : List Item) → at + 4 ≡ block → live_total block at (Live t ∷ xs) ≡ Some t
 live_here block at t xs here = rw (eq-eqb (at + 4) block here) refl

@@ -1,14 +1,14 @@
 -- A heap: where it starts, its end, and its list of items; and what it is for memory to spell it (RISC OS 3 Programmer's Reference Manual,
 -- "OS_Heap", the internal format).
-use Rattle.std.specs.Prelude.{ℕ, ◌≡◌, ◌≤◌, Bool, true, false, ◌+◌, ◌-◌, ◌%◌, List, [], ◌∷◌}
+use Rattle.std.specs.Prelude.{ℕ, List, ◌+◌, [], ◌∷◌, ◌-◌, ◌≡◌, true, Bool, false, ◌≤◌, ◌%◌}
+use Rattle.address_map.specs.Bytes.{AreMapped, Bytes, word_at, with_word_at}
+use Rattle.address_map.specs.Items.{is_total, size_of}
 use Rattle.address_map.specs.declared.item.Item.{Item}
-use Rattle.address_map.specs.declared.item.Item.TheVariants.{Live, Free}
+use Rattle.address_map.specs.declared.item.Item.TheVariants.{Free, Live}
 use Rattle.address_map.specs.declared.region.Kind.{Kind}
-use Rattle.address_map.specs.Items.{size_of, is_total}
-use Rattle.address_map.specs.Bytes.{Bytes, AreMapped, word_at, with_word_at}
 
 -- a heap as a list: its kind tells whether a guest made it or it is the module area, and `end` counts from its start, as its items do from 16 on
-pub record Part : Type 0 where
+pub record HeapList : Type 0 where
   pub kind : Kind
   pub start : ℕ
   pub end : ℕ
@@ -65,10 +65,16 @@ with_heads bytes at (Live t ∷ xs) other = with_word_at (with_heads bytes (at +
 with_heads bytes at (Free t ∷ xs) other = with_word_at (with_word_at (with_heads bytes (at + t) xs other) (at + 4) t) at (next_free (at + t) xs other - at)
 
 -- the bytes after all words of a heap were written over them
-abbrev pub with_part : (ℕ → ℕ) → ℕ → ℕ → List Item → ℕ → ℕ
-with_part bytes start end items =
+abbrev pub with_heap : (ℕ → ℕ) → ℕ → ℕ → List Item → ℕ → ℕ
+with_heap bytes start end items =
     with_word_at (with_word_at (with_word_at (with_word_at (with_heads bytes (start + 16) items 0)
     start 0x70616548)
     (start + 4) (next_free (start + 16) items 0 - start))
     (start + 8) (16 + size_of items))
     (start + 12) end
+
+-- the address of the last free item, where the first item is at `at`; `other` where none is free
+abbrev pub last_free : ℕ → ℕ → List Item → ℕ
+last_free other at [] = other
+last_free other at (Live t ∷ xs) = last_free other (at + t) xs
+last_free other at (Free t ∷ xs) = last_free at (at + t) xs

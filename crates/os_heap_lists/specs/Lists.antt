@@ -1,23 +1,18 @@
--- What the heap calls do to a heap's list of items (RISC OS 3 Programmer's Reference Manual, "OS_Heap", reasons 1 to 3; that the first block that
--- fits is taken, and the rounding of lengths, are this project's own). Nothing here speaks of words or links.
-use Rattle.std.specs.Prelude.{ℕ, ◌+◌, ◌-◌, ◌*◌, ◌/◌, ◌==◌, nat_le, Option, Some, None, List, [], ◌∷◌, ◌++◌, if◌then◌else◌}
+-- What the heap calls do to a heap's list of items (RISC OS 3 Programmer's Reference Manual, "OS_Heap", reasons 2 to 4; that the first block that
+-- fits is taken, that a block changes its size in place where there is room, and the rounding of lengths, are this project's own). Nothing here
+-- speaks of words or links.
 use Rattle.std.specs.Option.{option_map}
-use Rattle.address_map.specs.declared.item.Item.{Item}
-use Rattle.address_map.specs.declared.item.Item.TheVariants.{Live, Free}
+use Rattle.std.specs.Prelude.{ℕ, ◌+◌, ◌/◌, ◌*◌, ◌==◌, [], List, if◌then◌else◌, ◌∷◌, None, Option, Some, ◌-◌, ◌++◌, nat_le, nat_lt, ◌^◌}
 use Rattle.address_map.specs.Items.{size_of}
+use Rattle.address_map.specs.declared.item.Item.{Item}
+use Rattle.address_map.specs.declared.item.Item.TheVariants.{Free, Live}
 
 abbrev pub round_up_8 : ℕ → ℕ
 round_up_8 n = 8 * ((n + 7) / 8)
 
-abbrev pub round_down_8 : ℕ → ℕ
-round_down_8 n = 8 * (n / 8)
-
 -- the total of a block for `n` bytes: its length word too, a multiple of 8, at least 8 (which the rounding gives, 4 being more than none)
 abbrev pub total_for : ℕ → ℕ
 total_for n = round_up_8 (n + 4)
-
-abbrev pub larger : ℕ → ℕ → ℕ
-larger a b = if nat_le a b then b else a
 
 -- what is left of a free item of `t` bytes whose first `n` are taken
 abbrev pub left_free : ℕ → List Item
@@ -49,12 +44,6 @@ or_at_base n room xs None = if nat_le (size_of xs + n) room
 unfoldable pub claimed : ℕ → ℕ → List Item → Option Claim
 claimed n room xs = or_at_base n room xs (first_fit n xs)
 
--- the free items that a search for `n` bytes looks at: up to the first that fits, or all
-abbrev pub looked_at : ℕ → List Item → ℕ
-looked_at n [] = 0
-looked_at n (Live t ∷ xs) = looked_at n xs
-looked_at n (Free t ∷ xs) = if nat_le n t then 1 else 1 + looked_at n xs
-
 -- An item is freed: it joins the free item behind it, and the one before it, if there are such. A free item at the end is dropped.
 abbrev pub freed : ℕ → List Item → List Item
 freed n [] = []
@@ -73,33 +62,32 @@ released block at (Live t ∷ xs) = if at + 4 == block
     else option_map (λ ys. Live t ∷ ys) (released block (at + t) xs)
 released block at (Free t ∷ xs) = option_map (λ ys. freed t ys) (released block (at + t) xs)
 
--- the items that begin at least 4 bytes below the address `block`, where the first is at `at`: a walk to that block passes them, and the block
--- itself too, since its bytes begin behind its length word
-abbrev pub begun_below : ℕ → ℕ → List Item → ℕ
-begun_below block at [] = 0
-begun_below block at (Live t ∷ xs) = if nat_le (at + 4) block then 1 + begun_below block (at + t) xs else 0
-begun_below block at (Free t ∷ xs) = if nat_le (at + 4) block then 1 + begun_below block (at + t) xs else 0
+-- a number and a change of it, a signed word in two's complement; a sum below 0 counts as 0
+abbrev pub changed_by : ℕ → ℕ → ℕ
+changed_by n change = if nat_lt change (2 ^ 31) then n + change else (n + change) - 2 ^ 32
 
--- the bytes of all free items, the most of one, and how many there are
-abbrev pub free_total : List Item → ℕ
-free_total [] = 0
-free_total (Live t ∷ xs) = free_total xs
-free_total (Free t ∷ xs) = t + free_total xs
+-- the total of the block whose bytes begin at the address `block`, where the first item is at `at`
+abbrev pub live_total : ℕ → ℕ → List Item → Option ℕ
+live_total block at [] = None
+live_total block at (Live t ∷ xs) = if at + 4 == block then Some t else live_total block (at + t) xs
+live_total block at (Free t ∷ xs) = live_total block (at + t) xs
 
-abbrev pub largest_free : List Item → ℕ
-largest_free [] = 0
-largest_free (Live t ∷ xs) = largest_free xs
-largest_free (Free t ∷ xs) = larger t (largest_free xs)
+-- A block of `old` bytes, with the items behind it, gets more bytes where it stands: the front of the free item behind it, or, as the last
+-- item, some of the `room` bytes from its start to the heap's end.
+abbrev pub grown : ℕ → ℕ → ℕ → List Item → Option (List Item)
+grown room new old [] = if nat_le new room then Some (Live new ∷ []) else None
+grown room new old (Live t ∷ xs) = None
+grown room new old (Free t ∷ xs) = if nat_le new (old + t) then Some (Live new ∷ (left_free (old + t - new) ++ xs)) else None
 
-abbrev pub free_count : List Item → ℕ
-free_count [] = 0
-free_count (Live t ∷ xs) = free_count xs
-free_count (Free t ∷ xs) = 1 + free_count xs
+-- The same for any new total. What is cut off is free, and joins what is free behind it; at the base it is dropped.
+abbrev pub refitted : ℕ → ℕ → ℕ → List Item → Option (List Item)
+refitted room new old xs = if nat_le new old then Some (Live new ∷ glued (old - new) xs) else grown room new old xs
 
--- what a heap says of itself, where `room` bytes lie between its base and its end: all that is free, and the largest block that can be
--- claimed, without its length word
-abbrev pub all_free : ℕ → List Item → ℕ
-all_free room xs = free_total xs + room
-
-abbrev pub largest_block : ℕ → List Item → ℕ
-largest_block room xs = larger (largest_free xs) (round_down_8 room) - 4
+-- The list after the block whose bytes begin at `block` got the total `new` where it stands, if it can. The first item is at `at`, and the
+-- heap ends at `end`.
+abbrev pub resized_in_place : ℕ → ℕ → ℕ → ℕ → List Item → Option (List Item)
+resized_in_place block end new at [] = None
+resized_in_place block end new at (Live t ∷ xs) = if at + 4 == block
+    then refitted (end - at) new t xs
+    else option_map (λ ys. Live t ∷ ys) (resized_in_place block end new (at + t) xs)
+resized_in_place block end new at (Free t ∷ xs) = option_map (λ ys. Free t ∷ ys) (resized_in_place block end new (at + t) xs)

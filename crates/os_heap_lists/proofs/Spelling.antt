@@ -1,13 +1,13 @@
 -- Lists of items and the words that they spell: parts of a list, and a list whose last link changes.
-use Rattle.std.proofs.Common.{◌≡◌, ◌⊎◌, ℕ, ◌+◌, ◌-◌, ◌%◌, ◌<◌, ◌≤◌, true, List, [], ◌∷◌, ◌++◌, inl, inr, arith, refl, sym, ◌∙◌, ap, add_assoc, add-zero}
+use Rattle.std.proofs.Common.{◌-◌, arith, ◌+◌, [], ◌≡◌, List, ◌++◌, ◌∷◌, refl, ◌%◌, true, ℕ, add_assoc, ◌∙◌, add-zero, sym, ap, inl, ◌≤◌, ◌⊎◌, inr, ◌<◌}
 use Rattle.std.proofs.lemmas.Bool.{false≢true}
 use Rattle.std.proofs.lemmas.Bool.Decides.{nat_tests}
-use Rattle.address_map.specs.declared.item.Item.{Item}
-use Rattle.address_map.specs.declared.item.Item.TheVariants.{Live, Free}
 use Rattle.address_map.specs.Items.{size_of, is_total}
-use Rattle.os_heap.specs.Heap.{next_free, Spells, AreTotals, AreSpaced, begins_live}
-use Rattle.os_heap.specs.Links.{last_free, AreApart}
-use Rattle.os_heap.proofs.Unique.{total_facts}
+use Rattle.address_map.specs.declared.item.Item.{Item}
+use Rattle.address_map.specs.declared.item.Item.TheVariants.{Free, Live}
+use Rattle.os_heap_lists.proofs.Reading.{total_facts}
+use Rattle.os_heap_lists.specs.Heap.{AreTotals, begins_live, AreSpaced, next_free, last_free, Spells}
+use Rattle.os_heap_lists.specs.Words.{AreApart}
 
 pub size_of-append : (xs ys : List Item) → size_of (xs ++ ys) ≡ size_of xs + size_of ys
 size_of-append [] ys = omega arith

@@ -1,10 +1,10 @@
 -- What holds of the definitions of heaps, said another way than they are.
-use Rattle.std.specs.Prelude.{ℕ, ◌≡◌, ◌+◌, Some, List}
-use Rattle.address_map.specs.declared.item.Item.{Item}
+use Rattle.std.specs.Prelude.{◌≡◌, List, ℕ, ◌+◌, Some}
 use Rattle.address_map.specs.Bytes.{Bytes, word_at}
 use Rattle.address_map.specs.Items.{items_in}
-use Rattle.os_heap.specs.Heap.{AreTotals, AreSpaced, IsHeapIn}
-use Rattle.os_heap.specs.Lists.{Claim, claimed, released}
+use Rattle.address_map.specs.declared.item.Item.{Item}
+use Rattle.os_heap_lists.specs.Heap.{IsHeapIn, AreSpaced, AreTotals}
+use Rattle.os_heap_lists.specs.Lists.{released, claimed, Claim}
 
 -- Memory that spells a heap is read as just its list.
 abbrev pub ReadsHeap : Type 0

@@ -1,14 +1,14 @@
--- A block that is claimed and given back at once leaves the list as it was.
-use Rattle.std.proofs.Common.{◌≡◌, ◌≢◌, ℕ, ◌+◌, ◌-◌, ◌≤◌, ◌==◌, true, false, Option, Some, None, option_map, List, [], ◌∷◌, ◌++◌, inl, inr, arith, refl, ◌∙◌, ap, subst}
+-- A block that is claimed and given back leaves the list as it was.
+use Rattle.std.proofs.Common.{false, [], ◌≡◌, refl, List, ℕ, true, ◌∷◌, ◌==◌, ◌-◌, arith, inl, ◌+◌, ◌≤◌, ◌++◌, ◌∙◌, inr, ap, None, Option, Some, subst, ◌≢◌, option_map}
+use Rattle.std.proofs.lemmas.Bool.{cases_Bool, eqb-true, ne_eqb, leb-true, eq-eqb}
 use Rattle.std.specs.Prelude.{nat_le}
-use Rattle.std.proofs.lemmas.Bool.{cases_Bool, eqb-true, eq-eqb, ne_eqb, leb-true}
-use Rattle.address_map.specs.declared.item.Item.{Item}
-use Rattle.address_map.specs.declared.item.Item.TheVariants.{Live, Free}
 use Rattle.address_map.specs.Items.{size_of}
-use Rattle.os_heap.specs.Heap.{AreTotals, AreSpaced, begins_live}
-use Rattle.os_heap.specs.Laws.{GivesBack}
-use Rattle.os_heap.specs.Lists.{Claim, left_free, behind, first_fit, or_at_base, claimed, freed, released}
-use Rattle.os_heap.proofs.Unique.{total_facts}
+use Rattle.address_map.specs.declared.item.Item.{Item}
+use Rattle.address_map.specs.declared.item.Item.TheVariants.{Free, Live}
+use Rattle.os_heap_lists.proofs.Reading.{total_facts}
+use Rattle.os_heap_lists.specs.Heap.{begins_live, AreSpaced, AreTotals}
+use Rattle.os_heap_lists.specs.Laws.{GivesBack}
+use Rattle.os_heap_lists.specs.Lists.{freed, left_free, released, Claim, behind, first_fit, or_at_base, claimed}
 
 -- an item before a list that begins with a live one, or is all there is, stays apart from it
 freed_live : (t : ℕ) (xs : List Item) → begins_live xs ≡ true → freed t xs ≡ Free t ∷ xs

@@ -1,12 +1,12 @@
 -- A heap has one list: where memory spells a list of items, reading the words gives that list.
-use Rattle.std.proofs.Common.{◌≡◌, ℕ, zero, suc, ◌+◌, ◌-◌, ◌%◌, ◌≤◌, ◌<◌, ◌⊎◌, true, List, [], ◌∷◌, arith, refl, inl, inr}
-use Rattle.std.proofs.lemmas.Bool.{lt-leb, le-leb, leb-true, eqb-true, ne_eqb, eq-eqb, and_parts}
-use Rattle.address_map.specs.declared.item.Item.{Item}
-use Rattle.address_map.specs.declared.item.Item.TheVariants.{Live, Free}
+use Rattle.std.proofs.Common.{◌-◌, ◌≡◌, ◌≤◌, ℕ, true, ◌%◌, arith, inl, ◌+◌, [], ◌⊎◌, refl, List, inr, ◌∷◌, ◌<◌, suc, zero}
+use Rattle.std.proofs.lemmas.Bool.{and_parts, leb-true, eqb-true, ne_eqb, lt-leb, eq-eqb, le-leb}
 use Rattle.address_map.specs.Bytes.{Bytes, word_at}
-use Rattle.address_map.specs.Items.{size_of, is_total, linked, items_from, items_in}
-use Rattle.os_heap.specs.Laws.{ReadsHeap}
-use Rattle.os_heap.specs.Heap.{next_free, Spells, AreTotals, IsHeapIn}
+use Rattle.address_map.specs.Items.{is_total, linked, items_from, size_of, items_in}
+use Rattle.address_map.specs.declared.item.Item.{Item}
+use Rattle.address_map.specs.declared.item.Item.TheVariants.{Free, Live}
+use Rattle.os_heap_lists.specs.Heap.{next_free, AreTotals, Spells, IsHeapIn}
+use Rattle.os_heap_lists.specs.Laws.{ReadsHeap}
 
 -- a total is a multiple of 8 above 0
 pub total_facts : (t : ℕ) → is_total t ≡ true → (8 ≤ t) × (t % 8 ≡ 0)
