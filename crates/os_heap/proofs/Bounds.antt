@@ -7,8 +7,10 @@ use Rattle.os_heap_lists.proofs.Counts.{below_most, IsNoMore, looked_most, claim
 use Rattle.os_heap_lists.specs.Counts.{free_count, begun_below}
 use Rattle.os_heap_lists.specs.Heap.{HeapList}
 use Rattle.os_heap_lists.specs.Lists.{Claim, claimed, resized_in_place, round_up_8, changed_by, live_total}
-use Rattle.os_heap.specs.Changes.{move_probes, refit_probes, sum_probes, probes_after_walk, AreInBounds, resize_probes}
-use Rattle.os_heap.specs.Store.{counted_of, find_heap, Store}
+use Rattle.os_heap.specs.Probes.{move_probes, refit_probes, sum_probes, probes_after_walk, AreInBounds, resize_probes, counted_of}
+use Rattle.address_map.specs.declared.region.Region.{Region}
+use Rattle.os_heap.specs.Calls.{unless_image}
+use Rattle.os_heap.specs.Store.{find_heap, has_image, Store}
 
 pub move_most : (h : HeapList) (block new : ℕ) (c : Option Claim) → IsNoMore h.items c → move_probes h block new c ≤ 2 * free_count h.items
 move_most h block new None more = omega (arith, looked_most new h.items)
@@ -28,13 +30,13 @@ after_walk_most : (h : HeapList) (block change : ℕ) (total : Option ℕ) → p
 after_walk_most h block change None = omega arith
 after_walk_most h block change (Some total) = sum_most h block (changed_by total change)
 
-part_in_bounds : (block change : ℕ) (found : Option HeapList)
-    → AreInBounds (counted_of (λ h. begun_below block (h.start + 16) h.items + probes_after_walk h block change (live_total block (h.start + 16) h.items)) found) block found
-part_in_bounds block change None = refl
-part_in_bounds block change (Some h) =
-    let most = after_walk_most h block change (live_total block (h.start + 16) h.items) in
+part_in_bounds : (rs : List Region) (block change : ℕ) (found : Option HeapList)
+    → AreInBounds (counted_of (λ h. begun_below block (h.start + 16) h.items + probes_after_walk h block change (unless_image (has_image block rs) (live_total block (h.start + 16) h.items))) found) block found
+part_in_bounds rs block change None = refl
+part_in_bounds rs block change (Some h) =
+    let most = after_walk_most h block change (unless_image (has_image block rs) (live_total block (h.start + 16) h.items)) in
     (omega arith, omega (arith, begun_most block (h.start + 16) h.items))
 
 pub in_bounds : (s : Store) (heap block change : ℕ) → AreInBounds (resize_probes s heap block change) block (find_heap heap s.heaps)
 unfolding resize_probes
-in_bounds s heap block change = part_in_bounds block change (find_heap heap s.heaps)
+in_bounds s heap block change = part_in_bounds s.others block change (find_heap heap s.heaps)

@@ -8,7 +8,7 @@ use Rattle.address_map.proofs.Stores.{in_range-cases}
 use Rattle.address_map.specs.Bytes.{word_at, Bytes, in_range}
 use Rattle.address_map.specs.Items.{size_of, items_in}
 use Rattle.address_map.specs.Memory.{layout, byte_at, bytes_of, regions, is_mapped}
-use Rattle.address_map.specs.Records.{is_heap_kind, with_len, is_record}
+use Rattle.address_map.specs.Records.{is_heap_kind, with_len, is_record, are_same}
 use Rattle.address_map.specs.declared.item.Item.{Item}
 use Rattle.address_map.specs.declared.map.AddressMap.{AddressMap}
 use Rattle.address_map.specs.declared.region.Kind.{Kind}
@@ -20,11 +20,11 @@ use Rattle.os_heap_lists.specs.Heap.{IsHeapIn, HeapList, with_heap}
 use Rattle.os_heap_lists.specs.Words.{IsWritten, AreApart}
 use Rattle.os_heap.proofs.Added.{CanHold, clear_unless, clear_of_heaps, can_hold}
 use Rattle.os_heap.proofs.Found.{found_heap}
-use Rattle.os_heap.proofs.Stores.{AreOthers, clear_both_ways, clear_of-found, are_others, bytes_held}
-use Rattle.os_heap.specs.Changes.{with_end, has_own_size, ending}
-use Rattle.os_heap.specs.Ends.{MayEnd}
+use Rattle.os_heap.proofs.Stores.{SamePlaces, same_limits, AreOthers, clear_both_ways, clear_of-found, are_others, bytes_held}
+use Rattle.os_heap.specs.Calls.{with_end, has_own_size, ending}
+use Rattle.os_heap.specs.Ranges.{MayEnd, meets, meets_any}
 use Rattle.os_heap.specs.Outcomes.{Becomes}
-use Rattle.os_heap.specs.Store.{AreClear, IsClearOfHeaps, AreHeapsIn, AreOthersClear, find_heap, meets, Store, meets_any, others_in, heap_in, heaps_in, IsSound, store_of}
+use Rattle.os_heap.specs.Store.{AreClear, IsClearOfHeaps, AreHeapsIn, ArePlaced, IsImageIn, find_heap, Store, others_in, heap_in, heaps_in, IsSound, store_of}
 use Rattle.address_map.specs.declared.region.Kind.TheVariants as kind
 
 -- the heap with the other end, spelled by the bytes after the word was written
@@ -159,15 +159,38 @@ parts_ended b c h end (g ∷ hs) long mapped kept heap beside parts =
           )
     ]
 
+image_ended : (r : Region) (start end : ℕ) (hs : List HeapList) → IsImageIn hs r → IsImageIn (with_end start end hs) r
+image_ended r start end [] image = image
+image_ended r start end (g ∷ hs) image = elim (cases_Bool (g.start == start)) [
+  | inl here ↦ rw here (elim image [
+    | inl own ↦ inl (record { image = own.image; area = own.area; live = own.live })
+    | inr later ↦ inr (image_ended r start end hs later)
+  ])
+  | inr other ↦ rw other (elim image [ inl own ↦ inl own | inr later ↦ inr (image_ended r start end hs later) ])
+]
+
 others_ended : (h : HeapList) (end : ℕ) (hs : List HeapList) (rs : List Region) → find_heap h.start hs ≡ Some h
     → (h.end < end → list_any (λ r. meets (h.start + h.end) (end - h.end) r.at r.len) rs ≡ false)
-    → AreOthersClear hs rs → AreOthersClear (with_end h.start end hs) rs
-others_ended h end hs [] found grown clear = tt
-others_ended h end hs (r ∷ rs) found grown clear =
-    let own : AreClear h.start h.end r.at r.len = clear_both_ways r.at r.len h.start h.end (clear_of-found r.at r.len h.start hs h clear.0 found) in
-    let parts = λ (more : h.end < end). or_parts (meets (h.start + h.end) (end - h.end) r.at r.len) (list_any (λ r. meets (h.start + h.end) (end - h.end) r.at r.len) rs) (grown more) in
-    let apart : AreClear h.start end r.at r.len = clear_grown h.start h.end end r.at r.len own (λ more. clear_unless (h.start + h.end) (end - h.end) r.at r.len (parts more).0) in
-    (clear-ended r.at r.len h.start end hs clear.0 (clear_both_ways h.start end r.at r.len apart), others_ended h end hs rs found (λ more. (parts more).1) clear.1)
+    → ArePlaced hs rs → ArePlaced (with_end h.start end hs) rs
+others_ended h end hs [] found grown placed = tt
+others_ended h end hs (r ∷ rs) found grown placed =
+    let parts = λ (more : h.end < end). or_parts (meets (h.start + h.end) (end - h.end) r.at r.len) (list_any (λ r. meets (h.start + h.end) (end - h.end) r.at r.len) rs) (grown more) in (
+      elim placed.0 [
+        | inr image ↦ inr (image_ended r h.start end hs image)
+        | inl clear ↦
+            let own : AreClear h.start h.end r.at r.len = clear_both_ways r.at r.len h.start h.end (clear_of-found r.at r.len h.start hs h clear found) in
+            let apart : AreClear h.start end r.at r.len = clear_grown h.start h.end end r.at r.len own (λ more. clear_unless (h.start + h.end) (end - h.end) r.at r.len (parts more).0) in
+            inl (clear-ended r.at r.len h.start end hs clear (clear_both_ways h.start end r.at r.len apart))
+      ],
+      others_ended h end hs rs found (λ more. (parts more).1) placed.1,
+    )
+
+places-ended : (start end : ℕ) (hs : List HeapList) → SamePlaces hs (with_end start end hs)
+places-ended start end [] = tt
+places-ended start end (h ∷ hs) = elim (cases_Bool (h.start == start)) [
+  | inl here ↦ rw here ((refl, refl), places-ended start end hs)
+  | inr other ↦ rw other ((refl, refl), places-ended start end hs)
+]
 
 -- what MayEnd says of the ranges
 may_grow : (s : Store) (h : HeapList) (end : ℕ) → MayEnd s h end → h.end < end → meets_any (h.start + h.end) (end - h.end) s ≡ false
@@ -191,25 +214,34 @@ ranges_clear s h end may more =
     none.1
 
 -- the records after the length of one changed
-own_kind : (k : Kind) → has_own_size k ≡ true → k ≡ kind.Heap
-own_kind kind.Heap own = refl
-own_kind kind.Rma own = absurd (false≢true own)
-own_kind kind.FlexStore own = absurd (false≢true own)
-own_kind kind.FlexHeader own = absurd (false≢true own)
-own_kind kind.Anchor own = absurd (false≢true own)
-own_kind kind.Image own = absurd (false≢true own)
-own_kind kind.SystemPage own = absurd (false≢true own)
+same_kind : (k : Kind) → is_heap_kind k ≡ true → are_same k k ≡ true
+same_kind kind.Heap heap = refl
+same_kind kind.Rma heap = refl
+same_kind kind.FlexStore heap = absurd (false≢true heap)
+same_kind kind.FlexHeader heap = absurd (false≢true heap)
+same_kind kind.Anchor heap = absurd (false≢true heap)
+same_kind kind.Image heap = absurd (false≢true heap)
+same_kind kind.SystemPage heap = absurd (false≢true heap)
 
-others_in-ended : (at len : ℕ) (rs : List Region) → others_in (with_len rs kind.Heap at len) ≡ others_in rs
-others_in-ended at len [] = refl
-others_in-ended at len (r ∷ rs) =
-    elim (cases_Bool (is_record kind.Heap at r)) [
+pub own_heap : (k : Kind) → has_own_size k ≡ true → is_heap_kind k ≡ true
+own_heap kind.Heap own = refl
+own_heap kind.Rma own = refl
+own_heap kind.FlexStore own = absurd (false≢true own)
+own_heap kind.FlexHeader own = absurd (false≢true own)
+own_heap kind.Anchor own = absurd (false≢true own)
+own_heap kind.Image own = absurd (false≢true own)
+own_heap kind.SystemPage own = absurd (false≢true own)
+
+others_in-ended : (k : Kind) (at len : ℕ) (rs : List Region) → is_heap_kind k ≡ true → others_in (with_len rs k at len) ≡ others_in rs
+others_in-ended k at len [] own = refl
+others_in-ended k at len (r ∷ rs) own =
+    elim (cases_Bool (is_record k at r)) [
       | inl here ↦
-          let heap : is_heap_kind r.kind ≡ true = rw (record_parts kind.Heap at r here).0 refl in
+          let heap : is_heap_kind r.kind ≡ true = ap is_heap_kind (record_parts k at r here).0 ∙ own in
           rw (here, heap) refl
       | inr other ↦ rw other (elim (cases_Bool (is_heap_kind r.kind)) [
-        | inl heap ↦ rw heap (others_in-ended at len rs)
-        | inr plain ↦ rw plain (ap (λ (xs : List Region). r ∷ xs) (others_in-ended at len rs))
+        | inl heap ↦ rw heap (others_in-ended k at len rs own)
+        | inr plain ↦ rw plain (ap (λ (xs : List Region). r ∷ xs) (others_in-ended k at len rs own))
       ])
     ]
 
@@ -245,34 +277,34 @@ read_elsewhere b c h end (r ∷ rs) ended others parts =
       | inr plain ↦ rw plain (read_elsewhere b c h end rs ended (rw plain at others) (rw plain at parts))
     ]
 
-read_ended : (b c : Bytes) (h : HeapList) (end : ℕ) (rs : List Region) → h.kind ≡ kind.Heap → IsEnded b c h end
+read_ended : (b c : Bytes) (h : HeapList) (end : ℕ) (rs : List Region) → is_heap_kind h.kind ≡ true → IsEnded b c h end
     → AreBeside h end (heaps_in b rs) → AreHeapsIn b (heaps_in b rs)
-    → heaps_in c (with_len rs kind.Heap h.start end) ≡ with_end h.start end (heaps_in b rs)
+    → heaps_in c (with_len rs h.kind h.start end) ≡ with_end h.start end (heaps_in b rs)
 read_ended b c h end [] own ended beside parts = refl
 read_ended b c h end (r ∷ rs) own ended beside parts =
     elim (cases_Bool (is_heap_kind r.kind)) [
       | inl heap ↦
           let beside' = rw heap at beside in
           let parts' = rw heap at parts in
-          rw heap (elim (cases_Bool (is_record kind.Heap h.start r)) [
+          rw heap (elim (cases_Bool (is_record h.kind h.start r)) [
             | inl here ↦ read_here here heap beside'.0 beside'.1 parts'.1.0 parts'.1.1
             | inr other ↦ read_other other heap beside'.0 parts'.0 (read_ended b c h end rs own ended beside'.1 parts'.1.1)
           ])
       | inr plain ↦
-          let other : is_record kind.Heap h.start r ≡ false = not_record plain in
+          let other : is_record h.kind h.start r ≡ false = not_record plain in
           rw (other, plain) (read_ended b c h end rs own ended (rw plain at beside) (rw plain at parts))
     ] where
-      not_record : is_heap_kind r.kind ≡ false → is_record kind.Heap h.start r ≡ false
-      not_record plain = elim (cases_Bool (is_record kind.Heap h.start r)) [
+      not_record : is_heap_kind r.kind ≡ false → is_record h.kind h.start r ≡ false
+      not_record plain = elim (cases_Bool (is_record h.kind h.start r)) [
         | inl here ↦
-            let heap : is_heap_kind r.kind ≡ true = rw (record_parts kind.Heap h.start r here).0 refl in
+            let heap : is_heap_kind r.kind ≡ true = ap is_heap_kind (record_parts h.kind h.start r here).0 ∙ own in
             absurd (both_ways (is_heap_kind r.kind) plain heap)
         | inr other ↦ other
       ]
 
-      read_here : is_record kind.Heap h.start r ≡ true → is_heap_kind r.kind ≡ true → IsBeside h end (heap_in b r) → AreBeside h end (heaps_in b rs)
+      read_here : is_record h.kind h.start r ≡ true → is_heap_kind r.kind ≡ true → IsBeside h end (heap_in b r) → AreBeside h end (heaps_in b rs)
           → IsClearOfHeaps r.at r.len (heaps_in b rs) → AreHeapsIn b (heaps_in b rs)
-          → heaps_in c (with_len (r ∷ rs) kind.Heap h.start end) ≡ with_end h.start end (heap_in b r ∷ heaps_in b rs)
+          → heaps_in c (with_len (r ∷ rs) h.kind h.start end) ≡ with_end h.start end (heap_in b r ∷ heaps_in b rs)
       read_here here heap (inl same) beside clear parts =
           let start : r.at ≡ h.start = ap (λ (x : HeapList). x.start) same in
           let clear' : IsClearOfHeaps h.start h.end (heaps_in b rs) = subst (λ (x : HeapList). IsClearOfHeaps x.start x.end (heaps_in b rs)) same clear in
@@ -283,17 +315,17 @@ read_ended b c h end (r ∷ rs) own ended beside parts =
           cons_part _ _ _ _ (same_part r.kind r.at end _ _ list)
           (read_elsewhere b c h end rs ended (elsewhere h end (heaps_in b rs) (omega (arith, ended.long)) clear' beside) parts)
           )
-      read_here here heap (inr apart) beside clear parts = absurd (apart.0 (record_parts kind.Heap h.start r here).1)
+      read_here here heap (inr apart) beside clear parts = absurd (apart.0 (record_parts h.kind h.start r here).1)
 
-      read_other : is_record kind.Heap h.start r ≡ false → is_heap_kind r.kind ≡ true → IsBeside h end (heap_in b r)
+      read_other : is_record h.kind h.start r ≡ false → is_heap_kind r.kind ≡ true → IsBeside h end (heap_in b r)
           → IsHeapIn b r.at r.len (items_in (word_at b.at) r.at)
-          → heaps_in c (with_len rs kind.Heap h.start end) ≡ with_end h.start end (heaps_in b rs)
-          → heaps_in c (with_len (r ∷ rs) kind.Heap h.start end) ≡ with_end h.start end (heap_in b r ∷ heaps_in b rs)
+          → heaps_in c (with_len rs h.kind h.start end) ≡ with_end h.start end (heaps_in b rs)
+          → heaps_in c (with_len (r ∷ rs) h.kind h.start end) ≡ with_end h.start end (heap_in b r ∷ heaps_in b rs)
       read_other other heap (inl same) here rest =
           let start : r.at ≡ h.start = ap (λ (x : HeapList). x.start) same in
-          let k : r.kind ≡ kind.Heap = ap (λ (x : HeapList). x.kind) same ∙ own in
-          let is : is_record kind.Heap h.start r ≡ true = rw (k, eq-eqb r.at h.start start) refl in
-          absurd (both_ways (is_record kind.Heap h.start r) other is)
+          let k : r.kind ≡ h.kind = ap (λ (x : HeapList). x.kind) same in
+          let is : is_record h.kind h.start r ≡ true = rw (k, same_kind h.kind own, eq-eqb r.at h.start start) refl in
+          absurd (both_ways (is_record h.kind h.start r) other is)
       read_other other heap (inr apart) here rest =
           rw (other, heap, ne_eqb r.at h.start apart.0) (cons_part _ _ _ _ (read_beside b c h end r ended apart.1.0 here) rest)
 
@@ -301,14 +333,14 @@ read_ended b c h end (r ∷ rs) own ended beside parts =
 pub record EndsAt (m n : AddressMap) (h : HeapList) (end : ℕ) : Type 0 where
   pub sound : IsSound (store_of m)
   pub found : find_heap h.start (store_of m).heaps ≡ Some h
-  pub own : has_own_size h.kind ≡ true
+  pub own : is_heap_kind h.kind ≡ true
   pub may : MayEnd (store_of m) h end
   pub same : layout n ≡ layout m
   pub word : IsWritten (byte_at m) (byte_at n) (h.start + 12) end
 
 old_heap : (m n : AddressMap) (h : HeapList) (end : ℕ) → EndsAt m n h end → IsHeapIn (bytes_of m) h.start h.end h.items
 unfolding store_of
-old_heap m n h end e = found_heap (bytes_of m) h.start (heaps_in (bytes_of m) (regions m)) h e.sound.parts e.found
+old_heap m n h end e = found_heap (bytes_of m) h.start (heaps_in (bytes_of m) (regions m)) h e.sound.heaps e.found
 
 new_heap : (m n : AddressMap) (h : HeapList) (end : ℕ) → EndsAt m n h end → IsHeapIn (bytes_of n) h.start end h.items
 unfolding store_of
@@ -335,32 +367,34 @@ all_beside : (m n : AddressMap) (h : HeapList) (end : ℕ) → EndsAt m n h end 
 unfolding store_of
 all_beside m n h end e =
     are_beside h end (heaps_in (bytes_of m) (regions m))
-    (are_others (bytes_of m) h.start (heaps_in (bytes_of m) (regions m)) h e.sound.parts e.found) (heaps_clear (store_of m) h end e.may)
+    (are_others (bytes_of m) h.start (heaps_in (bytes_of m) (regions m)) h e.sound.heaps e.found) (heaps_clear (store_of m) h end e.may)
 
 pub store_ended : (m n o : AddressMap) (h : HeapList) (end : ℕ) → EndsAt m n h end → bytes_of o ≡ bytes_of n
-    → regions o ≡ with_len (regions m) kind.Heap h.start end → store_of o ≡ ending (store_of m) h end
+    → regions o ≡ with_len (regions m) h.kind h.start end → store_of o ≡ ending (store_of m) h end
 unfolding store_of
 store_ended m n o h end e bytes records =
     let c : Bytes = bytes_of n in
-    let rs : List Region = with_len (regions m) kind.Heap h.start end in
+    let rs : List Region = with_len (regions m) h.kind h.start end in
     let heaps : heaps_in c rs ≡ with_end h.start end (heaps_in (bytes_of m) (regions m)) =
-    read_ended (bytes_of m) c h end (regions m) (own_kind h.kind e.own) (ended_bytes m n h end e) (all_beside m n h end e) e.sound.parts in
-    let others : others_in rs ≡ others_in (regions m) = others_in-ended h.start end (regions m) in
+    read_ended (bytes_of m) c h end (regions m) e.own (ended_bytes m n h end e) (all_beside m n h end e) e.sound.heaps in
+    let others : others_in rs ≡ others_in (regions m) = others_in-ended h.kind h.start end (regions m) e.own in
     let written : c ≡ record { mapped = is_mapped m; at = with_heap (byte_at m) h.start end h.items } = bytes_held m n h.start end h.items (becomes_ended m n h end e) in
     rw (bytes, records) (λ i. record { bytes = written i; heaps = heaps i; others = others i })
 
 pub sound_ended : (m n o : AddressMap) (h : HeapList) (end : ℕ) → EndsAt m n h end → bytes_of o ≡ bytes_of n
-    → regions o ≡ with_len (regions m) kind.Heap h.start end → IsSound (store_of o)
+    → regions o ≡ with_len (regions m) h.kind h.start end → IsSound (store_of o)
 unfolding store_of
 sound_ended m n o h end e bytes records =
     let c : Bytes = bytes_of n in
     let hs : List HeapList = heaps_in (bytes_of m) (regions m) in
-    let heaps : heaps_in c (with_len (regions m) kind.Heap h.start end) ≡ with_end h.start end hs =
-    read_ended (bytes_of m) c h end (regions m) (own_kind h.kind e.own) (ended_bytes m n h end e) (all_beside m n h end e) e.sound.parts in
-    let others : others_in (with_len (regions m) kind.Heap h.start end) ≡ others_in (regions m) = others_in-ended h.start end (regions m) in
+    let heaps : heaps_in c (with_len (regions m) h.kind h.start end) ≡ with_end h.start end hs =
+    read_ended (bytes_of m) c h end (regions m) e.own (ended_bytes m n h end e) (all_beside m n h end e) e.sound.heaps in
+    let others : others_in (with_len (regions m) h.kind h.start end) ≡ others_in (regions m) = others_in-ended h.kind h.start end (regions m) e.own in
     let ended : IsEnded (bytes_of m) c h end = ended_bytes m n h end e in
     rw (bytes, records, heaps, others) (record {
-      parts = parts_ended (bytes_of m) c h end hs ended.long ended.mapped ended.kept ended.heap (all_beside m n h end e) e.sound.parts;
-      clear = others_ended h end hs (others_in (regions m)) e.found (ranges_clear (store_of m) h end e.may) e.sound.clear;
+      heaps = parts_ended (bytes_of m) c h end hs ended.long ended.mapped ended.kept ended.heap (all_beside m n h end e) e.sound.heaps;
+      limits = same_limits hs _ (places-ended h.start end hs) e.sound.limits;
+      placed = others_ended h end hs (others_in (regions m)) e.found (ranges_clear (store_of m) h end e.may) e.sound.placed;
+      apart = e.sound.apart;
       few = e.sound.few;
     })

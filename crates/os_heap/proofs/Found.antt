@@ -1,16 +1,19 @@
 -- The heap that starts at an address is one of those that memory spells.
-use Rattle.std.proofs.Common.{◌==◌, ◌-◌, inl, ◌≡◌, [], List, subst, ℕ, Some, inr, ◌∷◌, None, refl, Err, ◌+◌, Ok}
+use Rattle.std.proofs.Common.{true, ◌==◌, ◌-◌, inl, ◌≡◌, [], List, subst, ℕ, Some, inr, ◌∷◌, None, refl, Err, ◌+◌, Ok}
 use Rattle.std.proofs.lemmas.Bool.{eqb-true, cases_Bool}
 use Rattle.profile.specs.declared.error.ErrorNumber.TheVariants.{HeapBadDesc}
 use Rattle.address_map.specs.Bytes.{Bytes}
 use Rattle.address_map.specs.Items.{size_of}
-use Rattle.address_map.specs.Memory.{bytes_of}
+use Rattle.address_map.specs.Records.{is_heap_kind}
+use Rattle.address_map.specs.Memory.{regions, bytes_of}
 use Rattle.address_map.specs.declared.map.AddressMap.{AddressMap}
 use Rattle.address_map.specs.declared.region.Region.{Region}
 use Rattle.os_heap_lists.specs.Counts.{larger, largest_free, free_total, round_down_8, free_count}
 use Rattle.os_heap_lists.specs.Heap.{HeapList, IsHeapIn}
 use Rattle.os_heap.specs.Outcomes.{IsHeapAt, items_at}
-use Rattle.os_heap.specs.Store.{find_heap, AreHeapsIn, IsSound, heap_in, store_of, Store, described, describe_probes, items_of}
+use Rattle.os_heap.specs.Store.{heaps_in, find_heap, AreHeapsIn, IsSound, heap_in, store_of, Store}
+use Rattle.os_heap.specs.Calls.{described, items_of}
+use Rattle.os_heap.specs.Probes.{describe_probes}
 
 pub found_start : (start : ℕ) (hs : List HeapList) (h : HeapList) → find_heap start hs ≡ Some h → h.start ≡ start
 found_start start [] h e = cc
@@ -40,7 +43,7 @@ pub found_at : (m : AddressMap) (heap : ℕ) (r : Region) → IsSound (store_of 
     → find_heap heap (store_of m).heaps ≡ Some (heap_in (bytes_of m) r) → IsHeapAt m heap r.len
 unfolding store_of
 found_at m heap r sound at e =
-    let is : IsHeapAt m r.at r.len = found_heap (bytes_of m) heap (store_of m).heaps (heap_in (bytes_of m) r) sound.parts e in
+    let is : IsHeapAt m r.at r.len = found_heap (bytes_of m) heap (store_of m).heaps (heap_in (bytes_of m) r) sound.heaps e in
     rw at at is
 
 -- what the calls that read answer of it
@@ -73,3 +76,23 @@ pub items_found : (m : AddressMap) (heap : ℕ) (r : Region) → r.at ≡ heap �
     → items_of (store_of m) heap ≡ Some (items_at m heap)
 unfolding items_of
 items_found m heap r at e = rw (e, ← at) refl
+
+-- and it is recorded as a heap
+pub found_kind : (b : Bytes) (start : ℕ) (rs : List Region) (h : HeapList) → find_heap start (heaps_in b rs) ≡ Some h → is_heap_kind h.kind ≡ true
+found_kind b start [] h e = absurd (let none : None ≡ Some h = e in cc)
+found_kind b start (r ∷ rs) h e = elim (cases_Bool (is_heap_kind r.kind)) [
+  | inr other ↦ found_kind b start rs h (rw other at e)
+  | inl heap ↦
+      let e' = rw heap at e in
+      elim (cases_Bool (r.at == start)) [
+        | inr later ↦ found_kind b start rs h (rw later at e')
+        | inl here ↦
+            let e'' = rw here at e' in
+            let same : heap_in b r ≡ h = cc in
+            subst (λ (x : HeapList). is_heap_kind x.kind ≡ true) same heap
+      ]
+]
+
+pub found_heap_kind : (m : AddressMap) (start : ℕ) (h : HeapList) → find_heap start (store_of m).heaps ≡ Some h → is_heap_kind h.kind ≡ true
+unfolding store_of
+found_heap_kind m start h e = found_kind (bytes_of m) start (regions m) h e

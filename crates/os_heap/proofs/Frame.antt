@@ -58,7 +58,7 @@ layout-regions m n same = ap (λ l. l.regions) same
 
 -- A sound store stays sound, with the same lists, where the bytes of memory change but memory spells its heaps still.
 pub sound_spelled : (s : Store) (c : Bytes) → IsSound s → AreHeapsIn c s.heaps → IsSound (record { bytes = c; heaps = s.heaps; others = s.others })
-sound_spelled s c sound parts = record { parts = parts; clear = sound.clear; few = sound.few }
+sound_spelled s c sound parts = record { heaps = parts; limits = sound.limits; placed = sound.placed; apart = sound.apart; few = sound.few }
 
 -- what is so of a map after a write that left the bytes of all heap words alone
 pub record IsKept (m n : AddressMap) : Type 0 where
@@ -79,13 +79,13 @@ pub heads_kept : (m n : AddressMap) → layout n ≡ layout m → IsSound (store
     → ((a : ℕ) → owned_in (store_of m) a ≡ true → byte_at n a ≡ byte_at m a) → IsKept m n
 unfolding store_of owned_in
 heads_kept m n same sound kept =
-    kept_by_parts m n same sound (parts_kept (bytes_of m) (bytes_of n) (store_of m).heaps (is_mapped-layout m n same) kept sound.parts)
+    kept_by_parts m n same sound (parts_kept (bytes_of m) (bytes_of n) (store_of m).heaps (is_mapped-layout m n same) kept sound.heaps)
 
 -- the same of a pure store
 pub store_kept : (s : Store) (c : Bytes) → c.mapped ≡ s.bytes.mapped → IsSound s
     → ((a : ℕ) → owned_in s a ≡ true → c.at a ≡ s.bytes.at a) → IsSound (record { bytes = c; heaps = s.heaps; others = s.others })
 unfolding owned_in
-store_kept s c mapping sound kept = sound_spelled s c sound (parts_kept s.bytes c s.heaps mapping kept sound.parts)
+store_kept s c mapping sound kept = sound_spelled s c sound (parts_kept s.bytes c s.heaps mapping kept sound.heaps)
 
 -- a range that meets no heap has no byte of a heap's words
 pub clear_unowned : (b : Bytes) (hs : List HeapList) (at len a : ℕ) → AreHeapsIn b hs → IsClearOfHeaps at len hs → in_range at len a ≡ true
@@ -106,12 +106,12 @@ pub clear_kept : (m n : AddressMap) (at len : ℕ) → layout n ≡ layout m →
     → ((a : ℕ) → in_range at len a ≡ false → byte_at n a ≡ byte_at m a) → IsKept m n
 unfolding store_of
 clear_kept m n at len same sound clear kept =
-    kept_by_parts m n same sound (clear_parts (bytes_of m) (bytes_of n) (store_of m).heaps at len (is_mapped-layout m n same) sound.parts clear kept)
+    kept_by_parts m n same sound (clear_parts (bytes_of m) (bytes_of n) (store_of m).heaps at len (is_mapped-layout m n same) sound.heaps clear kept)
 
 -- the same of a pure store
 pub store_clear : (s : Store) (c : Bytes) (at len : ℕ) → c.mapped ≡ s.bytes.mapped → IsSound s → IsClearOfHeaps at len s.heaps
     → ((a : ℕ) → in_range at len a ≡ false → c.at a ≡ s.bytes.at a) → IsSound (record { bytes = c; heaps = s.heaps; others = s.others })
-store_clear s c at len mapping sound clear kept = sound_spelled s c sound (clear_parts s.bytes c s.heaps at len mapping sound.parts clear kept)
+store_clear s c at len mapping sound clear kept = sound_spelled s c sound (clear_parts s.bytes c s.heaps at len mapping sound.heaps clear kept)
 
 -- a byte is owned as its whole word is
 pub owned_word : (s : Store) (a k : ℕ) → a % 4 ≡ 0 → k < 4 → owned_in s (a + k) ≡ owned_in s a

@@ -1,5 +1,5 @@
 -- A walk along the links of free items to a block that is there.
-use Rattle.std.proofs.Common.{◌+◌, ◌≡◌, ◌≤◌, List, ℕ, ◌^◌, subst, ◌≢◌, ◌++◌, arith, ◌∙◌, ◌<◌, ◌-◌, sym, ap}
+use Rattle.std.proofs.Common.{◌+◌, ◌≡◌, ◌≤◌, List, ℕ, ◌^◌, subst, ◌≢◌, ◌++◌, arith, ◌∙◌, ◌<◌, sym, ap}
 use Rattle.address_map.specs.Bytes.{word_at}
 use Rattle.address_map.specs.Items.{linked}
 use Rattle.address_map.specs.Memory.{byte_at}

@@ -1,14 +1,14 @@
 -- A block that is moved: the claim of a new one, the copy of the bytes, and the release of the old one.
 use Rattle.std.proofs.Common.{◌≡◌, List, ℕ, Some, ◌-◌, subst, sym, None, Option, true, is_some, refl, ◌+◌, Ok, Err, ◌≤◌, ◌^◌, Result, ◌∙◌, ap, ◌%◌, arith, ◌<◌, false, inl, [], inr, ◌∷◌, ◌==◌}
 use Rattle.std.proofs.lemmas.Bool.{false≢true, both_ways, or_from, false_from_ne_true, cases_Bool, le-leb, lt-ltb}
-use Rattle.profile.specs.Outcome.{bind, Leaves, Gives}
+use Rattle.profile.specs.Outcome.{bind, Gives}
 use Rattle.profile.specs.declared.error.ErrorNumber.{ErrorNumber}
 use Rattle.profile.specs.declared.error.ErrorNumber.TheVariants.{HeapNoRoom}
 use Rattle.address_map.proofs.Equations.{stored_moved}
 use Rattle.address_map.proofs.Stores.{in_range-cases}
 use Rattle.address_map.specs.Bytes.{AreMapped, Bytes, word_start, in_range, with_moved_at}
 use Rattle.address_map.specs.Items.{size_of, is_heap_word, is_head}
-use Rattle.address_map.specs.Memory.{bytes_of, layout, is_mapped, byte_at}
+use Rattle.address_map.specs.Memory.{bytes_of, layout, is_mapped, byte_at, regions}
 use Rattle.address_map.specs.declared.item.Item.{Item}
 use Rattle.address_map.specs.declared.map.AddressMap.{AddressMap}
 use Rattle.address_map.specs.declared.region.Kind.{Kind}
@@ -19,15 +19,16 @@ use Rattle.os_heap_lists.proofs.Reading.{items_in-heap}
 use Rattle.os_heap_lists.specs.Counts.{looked_at, free_below}
 use Rattle.os_heap_lists.specs.Heap.{HeapList, IsHeapIn}
 use Rattle.os_heap_lists.specs.Lists.{Claim, claimed, live_total, released}
-use Rattle.os_heap.proofs.Calls.{part_at, heap_there, free_left, IsLeft}
+use Rattle.os_heap.proofs.Calls.{part_at, heap_there, free_given, IsGiven}
 use Rattle.os_heap.proofs.Found.{found_heap, found_start}
 use Rattle.os_heap.proofs.Frame.{store_bytes, heads_kept, IsKept}
 use Rattle.os_heap.proofs.Replace.{heap_below}
 use Rattle.os_heap.proofs.Searching.{looked-below}
 use Rattle.os_heap.proofs.Stores.{sound_held, store_held, IsOther, AreOthers, are_others}
-use Rattle.os_heap.specs.Changes.{copied, moved, handed_over, move_probes}
+use Rattle.os_heap.specs.Calls.{copied, moved, handed_over, holding, with_items, gave_back}
+use Rattle.os_heap.specs.Probes.{move_probes}
 use Rattle.os_heap.specs.Outcomes.{items_at, end_at, Becomes, Claims, HasHeapAt, Releases}
-use Rattle.os_heap.specs.Store.{IsSound, find_heap, store_of, holding, AreHeapsIn, owned_in, with_items, Store, gave_back}
+use Rattle.os_heap.specs.Store.{has_image, IsSound, find_heap, store_of, AreHeapsIn, owned_in, Store}
 
 -- the part of a heap, by what memory spells of it
 part_same : (h : HeapList) (start end : ℕ) (items : List Item) → h.start ≡ start → h.end ≡ end → h.items ≡ items
@@ -36,7 +37,7 @@ part_same h start end items s e l = λ i. record { kind = h.kind; start = s i; e
 
 found_in : (m : AddressMap) (heap : ℕ) (h : HeapList) → IsSound (store_of m) → find_heap heap (store_of m).heaps ≡ Some h → IsHeapIn (bytes_of m) h.start h.end h.items
 unfolding store_of
-found_in m heap h sound found = found_heap (bytes_of m) heap (store_of m).heaps h sound.parts found
+found_in m heap h sound found = found_heap (bytes_of m) heap (store_of m).heaps h sound.heaps found
 
 pub part_known : (m : AddressMap) (heap : ℕ) (h : HeapList) → IsSound (store_of m) → find_heap heap (store_of m).heaps ≡ Some h
     → h ≡ part_at h.kind m heap (end_at m heap)
@@ -111,7 +112,8 @@ is_claimed m n heap block total needed new answer p sound live claims ok =
       fresh = subst (λ (a : ℕ). live_total a (heap + 16) b.claim.items ≡ Some needed) (sym b.place) fresh;
       still = still;
       store = store_held m n (part_at kind m heap end) b.claim.items sound found b.becomes;
-      sound = sound_held m n (part_at kind m heap end) b.claim.items sound found b.becomes;
+      sound = sound_held m n (part_at kind m heap end) b.claim.items sound found
+          (λ a t is there'. subst (IsStill a t (heap + 16)) b.is (claim_still needed (end - 16) a t (heap + 16) items there' there.totals)) b.becomes;
     }
 
 -- where the bytes of the two blocks lie
@@ -156,7 +158,7 @@ unowned_in : (m : AddressMap) (h : HeapList) (a : ℕ) → IsSound (store_of m) 
     → is_heap_word h.start h.items (word_start a) ≡ false → in_range h.start h.end a ≡ true → owned_in (store_of m) a ≡ false
 unfolding store_of owned_in
 unowned_in m h a sound found free inside =
-    unowned (bytes_of m) (store_of m).heaps h a sound.parts (are_others (bytes_of m) h.start (store_of m).heaps h sound.parts found) free inside
+    unowned (bytes_of m) (store_of m).heaps h a sound.heaps (are_others (bytes_of m) h.start (store_of m).heaps h sound.heaps found) free inside
 
 -- the same heap is found after it got another list
 found_held : (start : ℕ) (items : List Item) (hs : List HeapList) (h : HeapList) → find_heap start hs ≡ Some h
@@ -233,8 +235,8 @@ is_copied m n p kind heap block total needed new larger c same bytes =
     }
 
 -- the whole move
-then_given : (s t : Store) (r : Result Store ErrorNumber) (n : ℕ) → Leaves s r (let done : Result (Unit {0}) ErrorNumber = Ok tt in done) t → (u : Store) → Gives u (bind r (λ x. Ok (x, n))) (Ok n) t
-then_given s t (Ok x) n left u = (left, refl)
+then_given : (s t : Store) (r : Result (Store × Unit {0}) ErrorNumber) (n : ℕ) → Gives s r (let done : Result (Unit {0}) ErrorNumber = Ok tt in done) t → (u : Store) → Gives u (bind r (λ x. Ok (x.0, n))) (Ok n) t
+then_given s t (Ok x) n left u = (left.0, refl)
 then_given s t (Err e) n left u = absurd left
 
 pub record IsMoved (m q : AddressMap) (heap block total needed new : ℕ) : Type 0 where
@@ -244,15 +246,15 @@ pub record IsMoved (m q : AddressMap) (heap block total needed new : ℕ) : Type
 
 pub is_moved : (m n p q : AddressMap) (kind : Kind) (heap block total needed new : ℕ) (c : IsClaimed m n kind heap block total needed new)
     → IsCopied m n p kind heap block total needed new c.claim → layout p ≡ layout n
-    → Releases p q heap (end_at p heap) (Ok tt) (released block (heap + 16) (items_at p heap))
+    → has_image block (regions p) ≡ false → Releases p q heap (end_at p heap) (Ok tt) (released block (heap + 16) (items_at p heap))
     → IsMoved m q heap block total needed new
-is_moved m n p q kind heap block total needed new c d same releases =
-    let left : IsLeft p q (gave_back (store_of p) heap block) (Ok tt) =
-    free_left kind p q heap block (end_at p heap) (Ok tt) d.sound d.found releases in
+is_moved m n p q kind heap block total needed new c d same own releases =
+    let left : IsGiven (Unit {0}) p q (gave_back (store_of p) heap block) (Ok tt) =
+    free_given kind p q heap block (end_at p heap) (Ok tt) d.sound d.found (rw own releases) in
     let s : Store = store_of m in
     let part : HeapList = part_at kind m heap (end_at m heap) in
-    let back : Leaves (store_of p) (gave_back (copied (holding s part c.claim.items) block new (total - 4)) heap block) (Ok tt) (store_of q) =
-    subst (λ (t : Store). Leaves (store_of p) (gave_back t heap block) (Ok tt) (store_of q)) d.store left.store in
+    let back : Gives (store_of p) (gave_back (copied (holding s part c.claim.items) block new (total - 4)) heap block) (Ok tt) (store_of q) =
+    subst (λ (t : Store). Gives (store_of p) (gave_back t heap block) (Ok tt) (store_of q)) d.store left.store in
     let over : Gives s (handed_over heap block (total - 4) (holding s part c.claim.items) new) (Ok new) (store_of q) =
     then_given (store_of p) (store_of q) _ new back s in
     let given : Gives s (moved s part block total needed) (Ok new) (store_of q) =

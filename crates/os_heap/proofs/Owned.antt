@@ -81,7 +81,7 @@ owned_class m a sound none =
     let flexless : has_flex (regions m) ≡ false = has_flex-others (regions m) ∙ none in
     plain_unless (list_any (is_heap_word_of w (word_start a)) (regions m)) _ _
     (no_such_block (is_header_word (word_start a)) w (regions m) flexless) (no_such_block (is_anchor (word_start a)) w (regions m) flexless)
-    ∙ heap_words (bytes_of m) (regions m) (word_start a) (omega arith) sound.parts
+    ∙ heap_words (bytes_of m) (regions m) (word_start a) (omega arith) sound.heaps
 
 pub owned_heads : (m : AddressMap) → IsSound (store_of m) → has_flex (store_of m).others ≡ false → is_owned m ≡ owned_in (store_of m)
 unfolding is_owned class_of

@@ -7,9 +7,9 @@ use Rattle.address_map.specs.Items.{size_of}
 use Rattle.os_heap_lists.specs.Heap.{HeapList}
 use Rattle.os_heap_lists.specs.Lists.{changed_by}
 use Rattle.os_heap.proofs.Added.{can_hold}
-use Rattle.os_heap.specs.Changes.{changed, has_own_size, end_changed, ending}
-use Rattle.os_heap.specs.Ends.{MayEnd}
-use Rattle.os_heap.specs.Store.{Store, find_heap, is_heap_region, meets_any}
+use Rattle.os_heap.specs.Calls.{changed, has_own_size, end_changed, ending}
+use Rattle.os_heap.specs.Ranges.{MayEnd, is_heap_region, meets_any}
+use Rattle.os_heap.specs.Store.{Store, find_heap}
 
 pub changed_none : (s : Store) (heap change : ℕ) → find_heap heap s.heaps ≡ None → changed s heap change ≡ Err HeapBadDesc
 unfolding changed
@@ -54,5 +54,5 @@ pub end_short : (s : Store) (h : HeapList) (change end : ℕ) → change % 4 ≡
     → (ltb h.end end && meets_any (h.start + h.end) (end - h.end) s) ≡ false → end < 16 + size_of h.items → end_changed s h change end ≡ Err HeapBadShrink
 end_short s h change end whole good clear short = rw (eq-eqb (change % 4) 0 whole, good, clear, lt-ltb end (16 + size_of h.items) short) refl
 
-pub end_done : (s : Store) (h : HeapList) (change end : ℕ) → change % 4 ≡ 0 → MayEnd s h end → end_changed s h change end ≡ Ok (ending s h end)
+pub end_done : (s : Store) (h : HeapList) (change end : ℕ) → change % 4 ≡ 0 → MayEnd s h end → end_changed s h change end ≡ Ok (ending s h end, tt)
 end_done s h change end whole may = rw (eq-eqb (change % 4) 0 whole, may.region, may.clear, may.inside) refl

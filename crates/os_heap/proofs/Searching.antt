@@ -1,5 +1,5 @@
 -- A search for a free item that fits: what it has passed, and the item that it comes to.
-use Rattle.std.proofs.Common.{◌+◌, ◌≡◌, ◌≤◌, ◌⊎◌, List, ℕ, ◌%◌, ◌^◌, ◌++◌, arith, ◌∷◌, ◌∙◌, inr, ◌-◌, inl, ap, ◌≢◌}
+use Rattle.std.proofs.Common.{◌+◌, ◌≡◌, ◌≤◌, ◌⊎◌, List, ℕ, ◌%◌, ◌^◌, ◌++◌, arith, ◌∷◌, ◌∙◌, inr, inl, ap, ◌≢◌}
 use Rattle.address_map.specs.Bytes.{word_at}
 use Rattle.address_map.specs.Items.{linked, size_of}
 use Rattle.address_map.specs.Memory.{byte_at, bytes_of}

@@ -1,18 +1,22 @@
 -- The total of a block, and what a change of it in place makes of a heap's list.
-use Rattle.std.proofs.Common.{◌-◌, ◌+◌, ◌≡◌, subst, ℕ, ◌++◌, ◌∙◌, Some, ap, ◌∷◌, option_map, None, Err, Option, Ok, sym}
-use Rattle.profile.specs.declared.error.ErrorNumber.TheVariants.{HeapBadDesc}
+use Rattle.std.proofs.Common.{List, refl, false, inl, inr, ◌-◌, ◌+◌, ◌≡◌, subst, ℕ, ◌++◌, ◌∙◌, Some, ap, ◌∷◌, option_map, None, Err, Ok}
+use Rattle.profile.specs.declared.error.ErrorNumber.TheVariants.{HeapBadDesc, HeapNotABlock}
+use Rattle.std.proofs.lemmas.Bool.{cases_Bool}
+use Rattle.address_map.specs.declared.item.Item.{Item}
+use Rattle.address_map.specs.declared.region.Region.{Region}
+use Rattle.address_map.specs.Memory.{regions}
 use Rattle.address_map.specs.declared.item.Item.TheVariants.{Live}
 use Rattle.address_map.specs.declared.map.AddressMap.{AddressMap}
 use Rattle.address_map.specs.declared.region.Kind.{Kind}
-use Rattle.os_heap_lists.proofs.Resizes.{live_total-at, in_place-at}
+use Rattle.os_heap_lists.proofs.Resizes.{live_total-at, in_place-at, unreleased}
 use Rattle.os_heap_lists.proofs.Spelling.{totals-front}
 use Rattle.os_heap_lists.specs.Heap.{AreTotals}
-use Rattle.os_heap_lists.specs.Lists.{left_free, live_total, resized_in_place, refitted}
+use Rattle.os_heap_lists.specs.Lists.{left_free, live_total, resized_in_place, refitted, released}
 use Rattle.os_heap_lists.specs.Walks.{IsBlock}
-use Rattle.os_heap.proofs.Calls.{part_at}
-use Rattle.os_heap.specs.Changes.{block_sized, block_sized_in, bytes_held}
+use Rattle.os_heap.proofs.Calls.{part_at, image_recorded}
+use Rattle.os_heap.specs.Calls.{block_sized, bytes_held, unless_image, guests_total}
 use Rattle.os_heap.specs.Outcomes.{IsHeapAt, items_at}
-use Rattle.os_heap.specs.Store.{find_heap, store_of}
+use Rattle.os_heap.specs.Store.{find_heap, store_of, has_image}
 
 -- the same of the block that a walk comes to
 pub block_total : (m : AddressMap) (start end block from at free gap : ℕ) → IsHeapAt m start end
@@ -34,13 +38,26 @@ block_in_place m start end limit new block from at free gap heap b =
 
 -- what a call answers that asks for the size of a block
 pub sized_found : (kind : Kind) (m : AddressMap) (heap block end : ℕ) → find_heap heap (store_of m).heaps ≡ Some (part_at kind m heap end)
-    → block_sized (store_of m) heap block ≡ bytes_held (live_total block (heap + 16) (items_at m heap))
+    → block_sized (store_of m) heap block ≡ bytes_held (guests_total (regions m) heap (items_at m heap) block)
 unfolding block_sized
-sized_found kind m heap block end found = ap (block_sized_in block) found
+sized_found kind m heap block end found = rw (found, image_recorded m block) refl
 
 pub sized_none : (m : AddressMap) (heap block : ℕ) → find_heap heap (store_of m).heaps ≡ None → block_sized (store_of m) heap block ≡ Err HeapBadDesc
 unfolding block_sized
-sized_none m heap block none = ap (block_sized_in block) none
+sized_none m heap block none = rw none refl
 
-pub sized_of : (asked : Option ℕ) (word total : ℕ) → asked ≡ Some total → word ≡ total → Ok (word - 4) ≡ bytes_held asked
-sized_of asked word total some same = ap (λ (n : ℕ). Ok (n - 4)) same ∙ sym (ap bytes_held some)
+pub sized_of : (rs : List Region) (start block word total : ℕ) (items : List Item) → has_image block rs ≡ false → live_total block (start + 16) items ≡ Some total
+    → word ≡ total → Ok (word - 4) ≡ bytes_held (guests_total rs start items block)
+sized_of rs start block word total items own live same = rw (own, live, same) refl
+
+-- where no block of the guest's is given back, none has a size
+pub unheld : (rs : List Region) (block at : ℕ) (xs : List Item) → unless_image (has_image block rs) (released block at xs) ≡ None
+    → unless_image (has_image block rs) (live_total block at xs) ≡ None
+unheld rs block at xs none = elim (cases_Bool (has_image block rs)) [
+  | inl image ↦ rw image refl
+  | inr own ↦ rw own (unreleased block at xs (rw own at none))
+]
+
+pub unsized : (rs : List Region) (start block : ℕ) (items : List Item) → unless_image (has_image block rs) (released block (start + 16) items) ≡ None
+    → bytes_held (guests_total rs start items block) ≡ Err HeapNotABlock
+unsized rs start block items none = rw (unheld rs block (start + 16) items none) refl

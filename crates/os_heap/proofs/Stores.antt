@@ -1,6 +1,6 @@
 -- What a call on one heap leaves of all heaps and of memory as a whole.
-use Rattle.std.proofs.Common.{◌-◌, ◌≡◌, List, ℕ, false, arith, inl, ◌+◌, ◌≢◌, ◌∙◌, sym, inr, ◌==◌, None, [], subst, Some, ◌∷◌, ◌⊎◌, ◌<◌, true, ap, refl}
-use Rattle.std.proofs.lemmas.Bool.{false≢true, cases_Bool, ne_eqb, eq-eqb}
+use Rattle.std.proofs.Common.{◌&&◌, ◌≡◌, List, ℕ, false, arith, inl, ◌+◌, ◌≢◌, ◌∙◌, sym, inr, ◌==◌, None, [], subst, Some, ◌∷◌, ◌⊎◌, ◌<◌, true, ap, refl}
+use Rattle.std.proofs.lemmas.Bool.{false≢true, cases_Bool, ne_eqb, eq-eqb, eqb-true, or_left, or_right}
 use Rattle.address_map.proofs.Bytes.{byte_at-lt, is_mapped-layout}
 use Rattle.address_map.proofs.Equations.{same_bytes}
 use Rattle.address_map.proofs.Stores.{in_range-cases}
@@ -14,9 +14,11 @@ use Rattle.address_map.specs.declared.region.Region.{Region}
 use Rattle.os_heap_lists.proofs.HeapWords.{part_back, outside_before, outside_past, heap_kept, cons_part}
 use Rattle.os_heap_lists.proofs.Reading.{items_in-heap}
 use Rattle.os_heap_lists.specs.Heap.{with_heap, HeapList, IsHeapIn}
+use Rattle.os_heap_lists.specs.Lists.{live_total}
 use Rattle.os_heap.proofs.Found.{found_heap}
 use Rattle.os_heap.specs.Outcomes.{Becomes}
-use Rattle.os_heap.specs.Store.{AreClear, IsClearOfHeaps, find_heap, AreHeapsIn, with_items, AreOthersClear, heap_in, heaps_in, Store, IsSound, holding, store_of, others_in}
+use Rattle.os_heap.specs.Store.{AreClear, IsClearOfHeaps, find_heap, AreHeapsIn, ArePlaced, Store, heap_in, heaps_in, others_in, IsSound, store_of, has_image, is_image, is_area, IsImageIn, guest_count, area_count, StandAreas, AreInLimits}
+use Rattle.os_heap.specs.Calls.{with_items, holding}
 
 pub bytes_held : (m n : AddressMap) (start end : ℕ) (items : List Item) → Becomes m n start end items
     → bytes_of n ≡ record { mapped = is_mapped m; at = with_heap (byte_at m) start end items }
@@ -96,9 +98,92 @@ clear-held at len start items (g ∷ hs) clear =
       | inr other ↦ rw other (clear.0, clear-held at len start items hs clear.1)
     ]
 
-others_clear-held : (start : ℕ) (items : List Item) (hs : List HeapList) (rs : List Region) → AreOthersClear hs rs → AreOthersClear (with_items start items hs) rs
-others_clear-held start items hs [] clear = tt
-others_clear-held start items hs (r ∷ rs) clear = (clear-held r.at r.len start items hs clear.0, others_clear-held start items hs rs clear.1)
+-- the module images in the area stay blocks of its list
+abbrev pub KeepsImages : List Region → ℕ → List Item → List Item → Type 0
+KeepsImages rs start old new = (b t : ℕ) → has_image b rs ≡ true → live_total b (start + 16) old ≡ Some t → live_total b (start + 16) new ≡ Some t
+
+image_held : (r : Region) (h : HeapList) (items : List Item) (hs : List HeapList) → AreOthers h hs
+    → ((t : ℕ) → live_total r.at (h.start + 16) h.items ≡ Some t → live_total r.at (h.start + 16) items ≡ Some t)
+    → IsImageIn hs r → IsImageIn (with_items h.start items hs) r
+image_held r h items [] others kept image = image
+image_held r h items (g ∷ hs) others kept image =
+    elim (cases_Bool (g.start == h.start)) [
+      | inl here ↦ rw here (elim image [
+        | inr later ↦ inr (image_held r h items hs others.1 kept later)
+        | inl own ↦ elim others.0 [
+          | inl same ↦
+              let start : g.start ≡ h.start = ap (λ (x : HeapList). x.start) same in
+              let old : live_total r.at (h.start + 16) h.items ≡ Some (r.len + 4) =
+              subst (λ (x : HeapList). live_total r.at (x.start + 16) x.items ≡ Some (r.len + 4)) same own.live in
+              inl (record { image = own.image; area = own.area; live = rw start (kept (r.len + 4) old) })
+          | inr apart ↦ absurd (apart.0 (eqb-true g.start h.start here))
+        ]
+      ])
+      | inr other ↦ rw other (elim image [
+        | inr later ↦ inr (image_held r h items hs others.1 kept later)
+        | inl own ↦ inl own
+      ])
+    ]
+
+image_kind : (hs : List HeapList) (r : Region) → IsImageIn hs r → is_image r.kind ≡ true
+image_kind [] r image = absurd image
+image_kind (h ∷ hs) r image = elim image [ inl own ↦ own.image | inr later ↦ image_kind hs r later ]
+
+placed-held : (h : HeapList) (items : List Item) (hs : List HeapList) (rs : List Region) → AreOthers h hs → KeepsImages rs h.start h.items items
+    → ArePlaced hs rs → ArePlaced (with_items h.start items hs) rs
+placed-held h items hs [] others kept placed = tt
+placed-held h items hs (r ∷ rs) others kept placed = (
+  elim placed.0 [
+    | inl clear ↦ inl (clear-held r.at r.len h.start items hs clear)
+    | inr image ↦
+        let here : has_image r.at (r ∷ rs) ≡ true =
+        or_left (is_image r.kind && r.at == r.at) (has_image r.at rs) (rw (image_kind hs r image, eq-eqb r.at r.at refl) refl) in
+        inr (image_held r h items hs others (λ t live. kept r.at t here live) image)
+  ],
+  placed-held h items hs rs others (λ b t is live. kept b t (or_right (is_image r.kind && r.at == b) (has_image b rs) is) live) placed.1,
+)
+
+-- heaps of the same kinds at the same places are within the limits alike
+abbrev pub SamePlaces : List HeapList → List HeapList → Type 0
+SamePlaces [] [] = Unit {0}
+SamePlaces [] (g ∷ gs) = ⊥
+SamePlaces (h ∷ hs) [] = ⊥
+SamePlaces (h ∷ hs) (g ∷ gs) = ((g.kind ≡ h.kind) × (g.start ≡ h.start)) × SamePlaces hs gs
+
+same_guests : (hs gs : List HeapList) → SamePlaces hs gs → guest_count gs ≡ guest_count hs
+same_guests [] [] same = refl
+same_guests [] (g ∷ gs) same = absurd same
+same_guests (h ∷ hs) [] same = absurd same
+same_guests (h ∷ hs) (g ∷ gs) same = rw (same.0.0, same_guests hs gs same.1) refl
+
+same_areas : (hs gs : List HeapList) → SamePlaces hs gs → area_count gs ≡ area_count hs
+same_areas [] [] same = refl
+same_areas [] (g ∷ gs) same = absurd same
+same_areas (h ∷ hs) [] same = absurd same
+same_areas (h ∷ hs) (g ∷ gs) same = rw (same.0.0, same_areas hs gs same.1) refl
+
+same_stand : (hs gs : List HeapList) → SamePlaces hs gs → StandAreas hs → StandAreas gs
+same_stand [] [] same stand = tt
+same_stand [] (g ∷ gs) same stand = absurd same
+same_stand (h ∷ hs) [] same stand = absurd same
+same_stand (h ∷ hs) (g ∷ gs) same stand = (
+  λ (is : is_area g.kind ≡ true). same.0.1 ∙ stand.0 (ap is_area (sym same.0.0) ∙ is),
+  same_stand hs gs same.1 stand.1,
+)
+
+pub same_limits : (hs gs : List HeapList) → SamePlaces hs gs → AreInLimits hs → AreInLimits gs
+same_limits hs gs same limits = record {
+  guests = rw (same_guests hs gs same) limits.guests;
+  areas = rw (same_areas hs gs same) limits.areas;
+  place = same_stand hs gs same limits.place;
+}
+
+places-held : (start : ℕ) (items : List Item) (hs : List HeapList) → SamePlaces hs (with_items start items hs)
+places-held start items [] = tt
+places-held start items (h ∷ hs) = elim (cases_Bool (h.start == start)) [
+  | inl here ↦ rw here ((refl, refl), places-held start items hs)
+  | inr other ↦ rw other ((refl, refl), places-held start items hs)
+]
 
 other_kept : (m n : AddressMap) (h g : HeapList) (items : List Item) → Becomes m n h.start h.end items → AreClear h.start h.end g.start g.end
     → IsHeapIn (bytes_of m) g.start g.end g.items → IsHeapIn (bytes_of n) g.start g.end g.items
@@ -163,18 +248,20 @@ pub store_held : (m n : AddressMap) (h : HeapList) (items : List Item) → IsSou
     → Becomes m n h.start h.end items → store_of n ≡ holding (store_of m) h items
 unfolding store_of
 store_held m n h items sound found b =
-    let others : AreOthers h (heaps_in (bytes_of m) (regions m)) = are_others (bytes_of m) h.start (heaps_in (bytes_of m) (regions m)) h sound.parts found in
+    let others : AreOthers h (heaps_in (bytes_of m) (regions m)) = are_others (bytes_of m) h.start (heaps_in (bytes_of m) (regions m)) h sound.heaps found in
     rw (layout-regions m n b.same) (store_parts _ _ _ _ (others_in (regions m)) (bytes_held m n h.start h.end items b)
-    (read_parts m n h items (regions m) b others sound.parts))
+    (read_parts m n h items (regions m) b others sound.heaps))
 
 pub sound_held : (m n : AddressMap) (h : HeapList) (items : List Item) → IsSound (store_of m) → find_heap h.start (store_of m).heaps ≡ Some h
-    → Becomes m n h.start h.end items → IsSound (store_of n)
+    → KeepsImages (store_of m).others h.start h.items items → Becomes m n h.start h.end items → IsSound (store_of n)
 unfolding store_of
-sound_held m n h items sound found b =
-    let others : AreOthers h (heaps_in (bytes_of m) (regions m)) = are_others (bytes_of m) h.start (heaps_in (bytes_of m) (regions m)) h sound.parts found in
-    let list : heaps_in (bytes_of n) (regions m) ≡ with_items h.start items (heaps_in (bytes_of m) (regions m)) = read_parts m n h items (regions m) b others sound.parts in
+sound_held m n h items sound found kept b =
+    let others : AreOthers h (heaps_in (bytes_of m) (regions m)) = are_others (bytes_of m) h.start (heaps_in (bytes_of m) (regions m)) h sound.heaps found in
+    let list : heaps_in (bytes_of n) (regions m) ≡ with_items h.start items (heaps_in (bytes_of m) (regions m)) = read_parts m n h items (regions m) b others sound.heaps in
     rw (layout-regions m n b.same, list) (record {
-      parts = parts_held m n h items (heaps_in (bytes_of m) (regions m)) b others sound.parts;
-      clear = others_clear-held h.start items (heaps_in (bytes_of m) (regions m)) (others_in (regions m)) sound.clear;
+      heaps = parts_held m n h items (heaps_in (bytes_of m) (regions m)) b others sound.heaps;
+      limits = same_limits _ _ (places-held h.start items (heaps_in (bytes_of m) (regions m))) sound.limits;
+      placed = placed-held h items (heaps_in (bytes_of m) (regions m)) (others_in (regions m)) others kept sound.placed;
+      apart = sound.apart;
       few = sound.few;
     })

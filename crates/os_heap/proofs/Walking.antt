@@ -1,5 +1,5 @@
 -- A walk from item to item, with the free item that ends where it stands.
-use Rattle.std.proofs.Common.{◌+◌, ◌≡◌, ◌≤◌, ◌⊎◌, List, ℕ, ◌%◌, ◌^◌, subst, ◌++◌, arith, ◌∷◌, ◌∙◌, inr, ◌-◌, inl, ap, [], ◌<◌, ◌≢◌, sym}
+use Rattle.std.proofs.Common.{◌+◌, ◌≡◌, ◌≤◌, ◌⊎◌, List, ℕ, ◌%◌, ◌^◌, subst, ◌++◌, arith, ◌∷◌, ◌∙◌, inr, inl, ap, [], ◌<◌, ◌≢◌, sym}
 use Rattle.address_map.specs.Bytes.{word_at}
 use Rattle.address_map.specs.Items.{size_of, linked}
 use Rattle.address_map.specs.Memory.{byte_at, bytes_of}

@@ -1,5 +1,5 @@
 -- One word read or written.
-use Rattle.std.proofs.Common.{◌-◌, arith, ◌≡◌, refl, ℕ, Ok, true, ◌%◌, ◌^◌, ◌<◌, Bool, ◌∙◌, ap}
+use Rattle.std.proofs.Common.{arith, ◌≡◌, refl, ℕ, Ok, true, ◌%◌, ◌^◌, ◌<◌, Bool, ◌∙◌, ap}
 use Rattle.std.proofs.lemmas.Bool.{lt-leb}
 use Rattle.address_map.proofs.Bytes.{is_mapped-layout}
 use Rattle.address_map.proofs.Spans.{mapped_below}

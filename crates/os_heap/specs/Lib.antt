@@ -1,5 +1,5 @@
-pub mod Begin
-pub mod Changes
-pub mod Ends
+pub mod Calls
 pub mod Outcomes
+pub mod Probes
+pub mod Ranges
 pub mod Store

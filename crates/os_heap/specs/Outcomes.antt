@@ -7,7 +7,10 @@ use Rattle.address_map.specs.Items.{items_in}
 use Rattle.address_map.specs.Memory.{byte_at, bytes_of, layout}
 use Rattle.address_map.specs.declared.item.Item.{Item}
 use Rattle.address_map.specs.declared.map.AddressMap.{AddressMap}
+use Rattle.address_map.specs.declared.region.Region.{Region}
 use Rattle.os_heap_lists.specs.Heap.{IsHeapIn}
+use Rattle.os_heap_lists.specs.Walks.{IsBlock}
+use Rattle.os_heap.specs.Store.{has_image}
 use Rattle.os_heap_lists.specs.Lists.{Claim}
 use Rattle.os_heap_lists.specs.Words.{IsOutside, AreApart}
 
@@ -42,3 +45,8 @@ Releases old new start end answer (Some items) = (answer ≡ Ok tt) × Becomes o
 abbrev pub Refits : AddressMap → AddressMap → ℕ → ℕ → Bool → Option (List Item) → Type 0
 Refits old new start end done None = (done ≡ false) × (new ≡ old)
 Refits old new start end done (Some items) = (done ≡ true) × Becomes old new start end items
+
+-- the block that a walk has come to is no module image
+pub record IsGuestBlock (rs : List Region) (start : ℕ) (items : List Item) (block from at free gap : ℕ) : Type 0 where
+  pub here : IsBlock start items block from at free gap
+  pub own : has_image block rs ≡ false

@@ -4,7 +4,8 @@ ghost use Rattle.address_map.specs.declared.item.Item.{Item};
 ghost use Rattle.address_map.specs.Memory.{bytes_of};
 ghost use Rattle.os_heap_lists.specs.Walks.{rest_from, IsRest};
 ghost use Rattle.os_heap.specs.Outcomes.{IsHeapAt, items_at};
-ghost use Rattle.os_heap.specs.Store.{store_of, IsSound, items_of};
+ghost use Rattle.os_heap.specs.Store.{store_of, IsSound};
+ghost use Rattle.os_heap.specs.Calls.{items_of};
 
 use crate::heaps::{Heaps, find};
 use crate::links::linked;

@@ -6,7 +6,9 @@ ghost use Rattle.os_heap_lists.specs.Lists.{total_for, first_fit, claimed, or_at
 ghost use Rattle.os_heap_lists.specs.Counts.{looked_at};
 ghost use Rattle.os_heap.specs.Outcomes.{HasHeapAt, end_at, items_at, Claims};
 ghost use Rattle.os_heap_lists.specs.Walks.{IsFit};
-ghost use Rattle.os_heap.specs.Store.{store_of, IsSound, got, get_probes};
+ghost use Rattle.os_heap.specs.Store.{store_of, IsSound};
+ghost use Rattle.os_heap.specs.Calls.{got};
+ghost use Rattle.os_heap.specs.Probes.{get_probes};
 
 use crate::counted::Counted;
 use crate::heaps::{Heaps, find};

@@ -4,7 +4,9 @@ ghost use Rattle.address_map.specs.Memory.{byte_at};
 ghost use Rattle.os_heap_lists.specs.Counts.{free_count, free_total, largest_free};
 ghost use Rattle.os_heap.specs.Outcomes.{IsHeapAt, items_at};
 ghost use Rattle.os_heap_lists.specs.Walks.{IsTallied};
-ghost use Rattle.os_heap.specs.Store.{store_of, IsSound, described, describe_probes};
+ghost use Rattle.os_heap.specs.Store.{store_of, IsSound};
+ghost use Rattle.os_heap.specs.Calls.{described};
+ghost use Rattle.os_heap.specs.Probes.{describe_probes};
 
 use crate::counted::Counted;
 use crate::heaps::{Heaps, find};

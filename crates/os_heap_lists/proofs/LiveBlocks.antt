@@ -1,6 +1,6 @@
 -- The blocks of a list: a claim leaves each that was there and makes one more; and where their bytes lie.
-use Rattle.std.proofs.Common.{◌-◌, ◌≡◌, ◌+◌, refl, List, ℕ, Some, ◌∷◌, None, Option, arith, ◌≤◌, subst, ◌≢◌, ◌∙◌, sym, inl, [], ◌++◌, nat_le, inr, ◌==◌, true, false, ap, is_some, ◌%◌, ◌<◌}
-use Rattle.std.proofs.lemmas.Bool.{eq-eqb, cases_Bool, eqb-true, leb-true, false_from_ne_true, ne_eqb, or_from}
+use Rattle.std.proofs.Common.{◌⊎◌, option_map, add_assoc, ◌-◌, ◌≡◌, ◌+◌, refl, List, ℕ, Some, ◌∷◌, None, Option, arith, ◌≤◌, subst, ◌≢◌, ◌∙◌, sym, inl, [], ◌++◌, nat_le, inr, ◌==◌, true, false, ap, is_some, ◌%◌, ◌<◌}
+use Rattle.std.proofs.lemmas.Bool.{leb-false, eq-eqb, cases_Bool, eqb-true, leb-true, false_from_ne_true, ne_eqb, or_from}
 use Rattle.address_map.specs.Items.{size_of, is_head}
 use Rattle.address_map.specs.declared.item.Item.{Item}
 use Rattle.address_map.specs.declared.item.Item.TheVariants.{Live, Free}
@@ -8,7 +8,7 @@ use Rattle.os_heap_lists.proofs.HeadWords.{head_inside}
 use Rattle.os_heap_lists.proofs.LinkWalk.{live_next, live_low}
 use Rattle.os_heap_lists.proofs.Reading.{total_facts}
 use Rattle.os_heap_lists.specs.Heap.{AreTotals}
-use Rattle.os_heap_lists.specs.Lists.{live_total, Claim, behind, left_free, first_fit, or_at_base, claimed}
+use Rattle.os_heap_lists.specs.Lists.{live_total, Claim, behind, left_free, first_fit, or_at_base, claimed, freed, glued, released, grown, refitted, resized_in_place}
 
 live_here : (block at t : ℕ) (xs : List Item) → at + 4 ≡ block → live_total block at (Live t ∷ xs) ≡ Some t
 live_here block at t xs here = rw (eq-eqb (at + 4) block here) refl
@@ -130,6 +130,100 @@ pub claim_still : (n room block total at : ℕ) (xs : List Item) → live_total 
 unfolding claimed
 claim_still n room block total at xs live totals = base_still n room block total at xs (first_fit n xs) live (fit_still n block total at xs live totals)
 
+-- The same of a release of another block, and of a change of its total.
+abbrev pub IsStillIn : ℕ → ℕ → ℕ → Option (List Item) → Type 0
+IsStillIn block total at None = Unit {0}
+IsStillIn block total at (Some xs) = live_total block at xs ≡ Some total
+
+freed_still : (block total at t : ℕ) (xs : List Item) → live_total block (at + t) xs ≡ Some total → live_total block at (freed t xs) ≡ Some total
+freed_still block total at t [] live = absurd (let none : None ≡ Some total = live in cc)
+freed_still block total at t (Live u ∷ xs) live = live
+freed_still block total at t (Free u ∷ xs) live = subst (λ (p : ℕ). live_total block p xs ≡ Some total) (add_assoc at t u) live
+
+glued_still : (block total at t : ℕ) (xs : List Item) → live_total block (at + t) xs ≡ Some total → live_total block at (glued t xs) ≡ Some total
+glued_still block total at t xs live = elim (cases_Bool (t == 0)) [
+  | inl none ↦
+      let e : at + t ≡ at = omega (arith, eqb-true t 0 none) in
+      rw none (subst (λ (p : ℕ). live_total block p xs ≡ Some total) e live)
+  | inr some ↦ rw some (freed_still block total at t xs live)
+]
+
+live_still : (block total at t : ℕ) (o : Option (List Item)) → (at + 4 == block) ≡ false → IsStillIn block total (at + t) o
+    → IsStillIn block total at (option_map (λ ys. Live t ∷ ys) o)
+live_still block total at t None other still = tt
+live_still block total at t (Some ys) other still = rw other still
+
+found_still : (block total at t : ℕ) (o : Option (List Item)) → (at + 4 == block) ≡ true → Some t ≡ Some total
+    → IsStillIn block total at (option_map (λ ys. Live t ∷ ys) o)
+found_still block total at t None here same = tt
+found_still block total at t (Some ys) here same = rw here same
+
+join_still : (block total at t : ℕ) (o : Option (List Item)) → IsStillIn block total (at + t) o → IsStillIn block total at (option_map (λ ys. freed t ys) o)
+join_still block total at t None still = tt
+join_still block total at t (Some ys) still = freed_still block total at t ys still
+
+pass_still : (block total at t : ℕ) (o : Option (List Item)) → IsStillIn block total (at + t) o → IsStillIn block total at (option_map (λ ys. Free t ∷ ys) o)
+pass_still block total at t None still = tt
+pass_still block total at t (Some ys) still = still
+
+not_both : (at b c : ℕ) → b ≢ c → at + 4 ≡ c → (at + 4 == b) ≡ false
+not_both at b c other here = ne_eqb (at + 4) b (λ (e : at + 4 ≡ b). other (sym e ∙ here))
+
+pub release_still : (other block total at : ℕ) (xs : List Item) → other ≢ block → live_total other at xs ≡ Some total
+    → IsStillIn other total at (released block at xs)
+release_still other block total at [] apart live = tt
+release_still other block total at (Live t ∷ xs) apart live = elim (cases_Bool (at + 4 == block)) [
+  | inl here ↦
+      let past : (at + 4 == other) ≡ false = not_both at other block apart (eqb-true (at + 4) block here) in
+      rw here (freed_still other total at t xs (rw past at live))
+  | inr away ↦ rw away (elim (cases_Bool (at + 4 == other)) [
+    | inl found ↦ found_still other total at t (released block (at + t) xs) found (rw found at live)
+    | inr past ↦ live_still other total at t (released block (at + t) xs) past (release_still other block total (at + t) xs apart (rw past at live))
+  ])
+]
+release_still other block total at (Free t ∷ xs) apart live =
+    join_still other total at t (released block (at + t) xs) (release_still other block total (at + t) xs apart live)
+
+grown_still : (other total at room new t : ℕ) (xs : List Item) → (at + 4 == other) ≡ false → t ≤ new → live_total other (at + t) xs ≡ Some total
+    → IsStillIn other total at (grown room new t xs)
+grown_still other total at room new t [] past more live = absurd (let none : None ≡ Some total = live in cc)
+grown_still other total at room new t (Live u ∷ xs) past more live = tt
+grown_still other total at room new t (Free u ∷ xs) past more live = elim (cases_Bool (nat_le new (t + u))) [
+  | inl fits ↦
+      let e : at + t + u ≡ at + new + (t + u - new) = omega (arith, leb-true new (t + u) fits) in
+      let left : live_total other (at + new) (left_free (t + u - new) ++ xs) ≡ Some total =
+      still_left other total (at + new) (t + u - new) xs (subst (λ (p : ℕ). live_total other p xs ≡ Some total) e live) in
+      rw (fits, past) left
+  | inr short ↦ rw short tt
+]
+
+refitted_still : (other total at room new t : ℕ) (xs : List Item) → (at + 4 == other) ≡ false → live_total other (at + t) xs ≡ Some total
+    → IsStillIn other total at (refitted room new t xs)
+refitted_still other total at room new t xs past live = elim (cases_Bool (nat_le new t)) [
+  | inl fits ↦
+      let e : at + t ≡ at + new + (t - new) = omega (arith, leb-true new t fits) in
+      let cut : live_total other (at + new) (glued (t - new) xs) ≡ Some total =
+      glued_still other total (at + new) (t - new) xs (subst (λ (p : ℕ). live_total other p xs ≡ Some total) e live) in
+      rw (fits, past) cut
+  | inr more ↦ rw more (grown_still other total at room new t xs past (omega (arith, leb-false new t more)) live)
+]
+
+pub refit_still : (other block total end new at : ℕ) (xs : List Item) → other ≢ block → live_total other at xs ≡ Some total
+    → IsStillIn other total at (resized_in_place block end new at xs)
+refit_still other block total end new at [] apart live = tt
+refit_still other block total end new at (Live t ∷ xs) apart live = elim (cases_Bool (at + 4 == block)) [
+  | inl here ↦
+      let past : (at + 4 == other) ≡ false = not_both at other block apart (eqb-true (at + 4) block here) in
+      rw here (refitted_still other total at (end - at) new t xs past (rw past at live))
+  | inr away ↦ rw away (elim (cases_Bool (at + 4 == other)) [
+    | inl found ↦ found_still other total at t (resized_in_place block end new (at + t) xs) found (rw found at live)
+    | inr past ↦
+        live_still other total at t (resized_in_place block end new (at + t) xs) past (refit_still other block total end new (at + t) xs apart (rw past at live))
+  ])
+]
+refit_still other block total end new at (Free t ∷ xs) apart live =
+    pass_still other total at t (resized_in_place block end new (at + t) xs) (refit_still other block total end new (at + t) xs apart live)
+
 -- where a live block's bytes lie
 pub record LiveBytes (block total at end : ℕ) : Type 0 where
   pub low : at + 4 ≤ block
@@ -153,6 +247,30 @@ live_bytes block total at (Live t ∷ xs) totals live = elim (cases_Bool (at + 4
 live_bytes block total at (Free t ∷ xs) totals live =
     let rest : LiveBytes block total (at + t) (at + t + size_of xs) = live_bytes block total (at + t) xs totals.1 live in
     record { low = omega (arith, rest.low); high = omega (arith, rest.high); size = rest.size; whole = λ (aligned : at % 4 ≡ 0). rest.whole (omega (arith, total_facts t totals.0)) }
+
+-- two live blocks share no byte, nor do their length words
+pub live_apart : (b t c u at : ℕ) (xs : List Item) → AreTotals xs → live_total b at xs ≡ Some t → live_total c at xs ≡ Some u → b ≢ c
+    → (b + t ≤ c) ⊎ (c + u ≤ b)
+live_apart b t c u at [] totals first second other = absurd (let none : None ≡ Some t = first in cc)
+live_apart b t c u at (Live v ∷ xs) totals first second other = elim (cases_Bool (at + 4 == b)) [
+  | inl here ↦
+      let e : at + 4 ≡ b = eqb-true (at + 4) b here in
+      let k = rw here at first in
+      let size : v ≡ t = cc in
+      let past : (at + 4 == c) ≡ false = ne_eqb (at + 4) c (λ (k : at + 4 ≡ c). other (sym e ∙ k)) in
+      let low : at + v + 4 ≤ c = live_low c (at + v) xs (ap is_some (rw past at second)) in
+      inl (omega arith)
+  | inr away ↦ elim (cases_Bool (at + 4 == c)) [
+    | inl here ↦
+        let e : at + 4 ≡ c = eqb-true (at + 4) c here in
+        let k = rw here at second in
+        let size : v ≡ u = cc in
+        let low : at + v + 4 ≤ b = live_low b (at + v) xs (ap is_some (rw away at first)) in
+        inr (omega arith)
+    | inr nor ↦ live_apart b t c u (at + v) xs totals.1 (rw away at first) (rw nor at second) other
+  ]
+]
+live_apart b t c u at (Free v ∷ xs) totals first second other = live_apart b t c u (at + v) xs totals.1 first second other
 
 -- the words that a heap spells are not among them
 head_past : (at : ℕ) (xs : List Item) (p : ℕ) → AreTotals xs → p < at → is_head at xs p ≡ false

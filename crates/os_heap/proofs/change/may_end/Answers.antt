@@ -3,7 +3,8 @@ use Rattle.std.proofs.lemmas.Bool.{le-ltb}
 use Rattle.address_map.specs.Items.{size_of}
 use Rattle.address_map.specs.Memory.{bytes_of}
 use Rattle.os_heap.specs.Outcomes.{items_at}
-use Rattle.os_heap.specs.Store.{store_of, heap_in, is_heap_region, meets_any}
+use Rattle.os_heap.specs.Store.{store_of, heap_in}
+use Rattle.os_heap.specs.Ranges.{is_heap_region, meets_any}
 use Rattle.os_heap.proofs.Refusals.{end_bad, end_over, end_short}
 use Rattle.os_heap.proofs.Tally.{heap_below}
 use Rattle.os_heap.proofs.change.may_end.Goals as goal

@@ -1,4 +1,4 @@
-use Rattle.std.proofs.Common.{◌≡◌, ◌+◌, is_some, refl, arith}
+use Rattle.std.proofs.Common.{ap, ◌≡◌, ◌+◌, is_some, refl, arith}
 use Rattle.address_map.specs.Memory.{bytes_of}
 use Rattle.os_heap_lists.specs.Heap.{HeapList}
 use Rattle.os_heap.specs.Outcomes.{IsHeapAt}
@@ -75,3 +75,6 @@ returns-clause-sound c =
     let same = layout-regions m c.put.new.map c.put.ensures.layout in
     let records = rw same at c.set_len.ensures.regions in
     sound_ended m c.put.new.map c.set_len.new.self h c.args.end ends bytes records
+
+pub returns-clause-others : goal.returns-clause-others
+returns-clause-others c = ap (λ s. s.others) (returns-clause-store c)

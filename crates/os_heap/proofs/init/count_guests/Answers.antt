@@ -1,7 +1,7 @@
 use Rattle.std.proofs.Common.{sym}
 use Rattle.address_map.specs.Memory.{bytes_of}
 use Rattle.os_heap.specs.Store.{store_of}
-use Rattle.os_heap.proofs.init.count_heaps.Goals as goal
+use Rattle.os_heap.proofs.init.count_guests.Goals as goal
 
 pub returns : goal.returns
 unfolding store_of
