@@ -1,5 +1,6 @@
 -- Words of memory, the walks over items and blocks that they spell, and what classes depend on.
-use Rattle.std.proofs.Common.{◌≡◌, ℕ, ◌+◌, ◌%◌, ◌^◌, ◌<◌, ◌≤◌, not, false, List, Option, Some, None, is_some, arith, refl, sym, ◌∙◌, ap, subst, get_or, length}
+use Rattle.std.proofs.Common.{◌≡◌, ℕ, ◌+◌, ◌%◌, ◌^◌, ◌<◌, ◌≤◌, not, false, List, [], Option, Some, None, is_some, arith, refl, sym, ◌∙◌, ap, subst, get_or, length}
+use Rattle.address_map.specs.declared.class.Class.TheVariants.{Plain}
 use Rattle.address_map.specs.declared.map.AddressMap.{AddressMap}
 use Rattle.address_map.specs.declared.region.Region.{Region}
 use Rattle.address_map.specs.Bytes.{word_at}
@@ -39,3 +40,12 @@ class_of-same m n same bytes = λ i a. byte_class (same i) (λ b. bytes b i) a
 pub is_owned-same : (m n : AddressMap) → class_of n ≡ class_of m → is_owned n ≡ is_owned m
 unfolding is_owned
 is_owned-same m n same = λ i a. not (is_plain (same i a))
+
+-- where nothing is recorded all bytes are the guest's
+pub class_none : (m : AddressMap) (a : ℕ) → regions m ≡ [] → class_of m a ≡ Plain
+unfolding class_of
+class_none m a none = ap (λ rs. byte_class rs (byte_at m) a) none
+
+pub owned_none : (m : AddressMap) (a : ℕ) → regions m ≡ [] → is_owned m a ≡ false
+unfolding is_owned
+owned_none m a none = ap (λ class. not (is_plain class)) (class_none m a none)

@@ -75,16 +75,16 @@ impl AddressMap {
         }
     }
 
-    /// The bytes of a run up to the address `end`, or `None` where no memory is mapped below it.
+    /// The bytes of a page up to the address `end`, or `None` where no memory is mapped below it.
     fn span_to(&self, end: u32) -> Option<Span>
         requires { 0 < end }
         ensures { MatchOption result (place self.now (end - 1) ≡ None) (λ span. (span.addr + span.len ≡ end) × IsSpan self.now span.addr span.place span.len) }
     {
-        let run = self.run_at(end - 1)?;
+        let page = self.page_at(end - 1)?;
         Some(Span {
-            addr: run.addr,
-            place: run.place,
-            len: end - run.addr,
+            addr: page.addr,
+            place: page.place,
+            len: end - page.addr,
         })
     }
 

@@ -9,7 +9,7 @@ use crate::class::Class;
 use crate::flex::Sought;
 use crate::item::Item;
 use crate::map::AddressMap;
-use crate::region::Region;
+use crate::region::{Region, do_meet};
 use profile::memory_map::ADDRESS_LIMIT;
 
 /// The bytes of a heap's descriptor.
@@ -17,6 +17,9 @@ const DESCRIPTOR_SIZE: u32 = 16;
 
 /// The bytes of a flex block's header.
 const HEADER_SIZE: u64 = 8;
+
+/// The bytes of a word.
+const WORD_SIZE: u32 = 4;
 
 impl AddressMap {
     ghost use Rattle.address_map.specs.Memory.{byte_at, regions, class_of, is_owned};
@@ -206,8 +209,8 @@ impl AddressMap {
             Sought::Header(word) => word as u64 == at || word as u64 == at + 4,
             Sought::Anchor(word) => word == self.word(at),
             Sought::AnchorIn { at: start, len } => {
-                let (start, anchor) = (start as u64, self.word(at) as u64);
-                start < anchor + 4 && anchor < start + len as u64
+                let anchor = self.word(at);
+                do_meet(start, len, anchor, WORD_SIZE)
             }
         }
     }

@@ -1,6 +1,6 @@
 ghost use Rattle.std.specs.Prelude.{ℕ, ◌≡◌, ◌<◌, ◌+◌, ◌-◌, ◌%◌, ◌^◌, ◌&&◌, true, nat_lt, Some, Err, MatchResult};
 ghost use Rattle.profile.specs.Outcome.{Gives};
-ghost use Rattle.address_map.specs.Memory.{place, bytes_of, free_pages, free_runs};
+ghost use Rattle.address_map.specs.Memory.{mapping, bytes_of};
 ghost use Rattle.address_map.specs.Records.{is_heap_kind};
 ghost use Rattle.os_heap.specs.Calls.{changed, end_changed, ending, has_own_size, MayEndArea, IsAreaEnded};
 ghost use Rattle.os_heap.specs.Ranges.{MayEnd, meets_any};
@@ -31,9 +31,7 @@ impl Heaps {
         ensures store { Gives (store_of map.old) (changed (store_of map.old) heap change) result.answer (store_of map.new) }
         ensures sound { IsSound (store_of map.new) }
         ensures others { (store_of map.new).others ≡ (store_of map.old).others }
-        ensures place { place map.new ≡ place map.old }
-        ensures pages { free_pages map.new ≡ free_pages map.old }
-        ensures runs { free_runs map.new ≡ free_runs map.old }
+        ensures mapping { mapping map.new ≡ mapping map.old }
         ensures probes { result.probes ≡ 0 }
     {
         Counted {
@@ -49,9 +47,7 @@ impl Heaps {
         ensures store { IsAreaEnded (store_of map.old) end (store_of map.new) }
         ensures sound { IsSound (store_of map.new) }
         ensures others { (store_of map.new).others ≡ (store_of map.old).others }
-        ensures place { place map.new ≡ place map.old }
-        ensures pages { free_pages map.new ≡ free_pages map.old }
-        ensures runs { free_runs map.new ≡ free_runs map.old }
+        ensures mapping { mapping map.new ≡ mapping map.old }
     {
         if let Some(region) = find(map, RMA_START) {
             set_end(map, &region, end);
@@ -72,9 +68,7 @@ fn change_end(map: &mut AddressMap, heap: u32, change: u32) -> Result<(), ErrorN
     ensures store { Gives (store_of map.old) (changed (store_of map.old) heap change) result (store_of map.new) }
     ensures sound { IsSound (store_of map.new) }
     ensures others { (store_of map.new).others ≡ (store_of map.old).others }
-    ensures place { place map.new ≡ place map.old }
-    ensures pages { free_pages map.new ≡ free_pages map.old }
-    ensures runs { free_runs map.new ≡ free_runs map.old }
+    ensures mapping { mapping map.new ≡ mapping map.old }
 {
     let Some(region) = find(map, heap) else {
         return Err(ErrorNumber::HeapBadDesc);
@@ -126,9 +120,7 @@ fn set_end(map: &mut AddressMap, region: &Region, end: u32)
     ensures store { store_of map.new ≡ ending (store_of map.old) (heap_in (bytes_of map.old) region.now) end }
     ensures sound { IsSound (store_of map.new) }
     ensures others { (store_of map.new).others ≡ (store_of map.old).others }
-    ensures place { place map.new ≡ place map.old }
-    ensures pages { free_pages map.new ≡ free_pages map.old }
-    ensures runs { free_runs map.new ≡ free_runs map.old }
+    ensures mapping { mapping map.new ≡ mapping map.old }
 {
     put(map, region.at + 12, end);
     map.set_len(region.kind, region.at, end);

@@ -2,7 +2,7 @@ ghost use Rattle.std.specs.Prelude.{ℕ, [], true, ◌≡◌, ◌≤◌, ◌%◌
 ghost use Rattle.std.specs.List.{list_any};
 ghost use Rattle.profile.specs.Outcome.{Gives};
 ghost use Rattle.address_map.specs.Bytes.{Bytes, AreMapped};
-ghost use Rattle.address_map.specs.Memory.{place, byte_at, is_mapped, bytes_of, layout, free_pages, free_runs};
+ghost use Rattle.address_map.specs.Memory.{mapping, byte_at, is_mapped, bytes_of, layout};
 ghost use Rattle.address_map.specs.Records.{is_heap_kind};
 ghost use Rattle.address_map.specs.declared.region.Kind.TheVariants.{Heap, Rma};
 ghost use Rattle.os_heap.specs.Ranges.{MayBegin, is_heap_region, meets, meets_any};
@@ -35,9 +35,7 @@ impl Heaps {
         ensures store { Gives (store_of map.old) (begun (store_of map.old) heap size) result.answer (store_of map.new) }
         ensures sound { IsSound (store_of map.new) }
         ensures others { (store_of map.new).others ≡ (store_of map.old).others }
-        ensures place { place map.new ≡ place map.old }
-        ensures pages { free_pages map.new ≡ free_pages map.old }
-        ensures runs { free_runs map.new ≡ free_runs map.old }
+        ensures mapping { mapping map.new ≡ mapping map.old }
         ensures probes { result.probes ≡ 0 }
     {
         Counted {
@@ -53,9 +51,7 @@ impl Heaps {
         ensures store { store_of map.new ≡ begun_with Rma (store_of map.old) area size }
         ensures sound { IsSound (store_of map.new) }
         ensures others { (store_of map.new).others ≡ (store_of map.old).others }
-        ensures place { place map.new ≡ place map.old }
-        ensures pages { free_pages map.new ≡ free_pages map.old }
-        ensures runs { free_runs map.new ≡ free_runs map.old }
+        ensures mapping { mapping map.new ≡ mapping map.old }
     {
         make(map, Kind::Rma, area, size);
     }
@@ -67,9 +63,7 @@ fn begin(map: &mut AddressMap, heap: u32, size: u32) -> Result<(), ErrorNumber>
     ensures store { Gives (store_of map.old) (begun (store_of map.old) heap size) result (store_of map.new) }
     ensures sound { IsSound (store_of map.new) }
     ensures others { (store_of map.new).others ≡ (store_of map.old).others }
-    ensures place { place map.new ≡ place map.old }
-    ensures pages { free_pages map.new ≡ free_pages map.old }
-    ensures runs { free_runs map.new ≡ free_runs map.old }
+    ensures mapping { mapping map.new ≡ mapping map.old }
 {
     may_begin(map, heap, size)?;
     make(map, Kind::Heap, heap, size);
@@ -84,9 +78,7 @@ fn make(map: &mut AddressMap, kind: Kind, heap: u32, size: u32)
     ensures store { store_of map.new ≡ begun_with kind (store_of map.old) heap size }
     ensures sound { IsSound (store_of map.new) }
     ensures others { (store_of map.new).others ≡ (store_of map.old).others }
-    ensures place { place map.new ≡ place map.old }
-    ensures pages { free_pages map.new ≡ free_pages map.old }
-    ensures runs { free_runs map.new ≡ free_runs map.old }
+    ensures mapping { mapping map.new ≡ mapping map.old }
 {
     write_descriptor(map, heap, size);
     map.own(kind, heap, size);

@@ -2,6 +2,7 @@ use Rattle.std.proofs.Common.{◌≡◌, [], ◌∷◌, ◌++◌, is_some, ap, s
 use Rattle.address_map.specs.declared.region.Region.{Region}
 use Rattle.address_map.specs.Memory.{byte_at, bytes_of, regions}
 use Rattle.address_map.proofs.Equations.{same_bytes}
+use Rattle.address_map.proofs.Stores.{layout-mapping}
 use Rattle.os_heap_lists.specs.Heap.{with_heap}
 use Rattle.os_heap.specs.Store.{store_of, IsSound}
 use Rattle.os_heap.specs.Calls.{begun_with}
@@ -41,7 +42,7 @@ returns-clause-store c =
     let records : regions c.own.new.self ≡ regions c.args.map.now ++ r ∷ [] =
     c.own.ensures.regions ∙ recorded (regions c.write_descriptor.new.map) c.args.kind c.args.heap c.args.size c.requires.kind ∙ ap (λ rs. rs ++ r ∷ []) (layout-regions _ _ c.write_descriptor.ensures.layout) in
     let moved : bytes_of c.own.new.self ≡ bytes_of c.write_descriptor.new.map =
-    λ i. record { mapped = λ a. is_some (c.own.ensures.place i a); at = c.own.ensures.bytes i } in
+    λ i. record { mapped = λ a. is_some ((c.own.ensures.mapping i).place a); at = c.own.ensures.bytes i } in
     let written = same_bytes c.args.map.now c.write_descriptor.new.map (with_heap (byte_at c.args.map.now) c.args.heap c.args.size [])
     c.write_descriptor.ensures.layout c.write_descriptor.ensures.bytes in
     store_begun c.args.map.now c.own.new.self c.args.kind c.args.heap c.args.size c.requires.kind c.requires.may c.requires.sound records (moved ∙ written)
@@ -53,3 +54,6 @@ returns-clause-sound c =
 
 pub returns-clause-others : goal.returns-clause-others
 returns-clause-others c = ap (λ s. s.others) (returns-clause-store c)
+
+pub returns-clause-mapping : goal.returns-clause-mapping
+returns-clause-mapping c = c.own.ensures.mapping ∙ layout-mapping _ _ c.write_descriptor.ensures.layout
