@@ -31,9 +31,9 @@ pub is_mapped-page : (m : AddressMap) (a b : ℕ) → a / 4096 ≡ b / 4096 → 
 unfolding place
 is_mapped-page m a b same =
     ap (λ (p : ℕ). is_some (place_by a (frame_at m.frames.items p))) same ∙ alike (frame_at m.frames.items (b / 4096)) where
-  alike : (there : Option ℕ) → is_some (place_by a there) ≡ is_some (place_by b there)
-  alike None = refl
-  alike (Some frame) = refl
+      alike : (there : Option ℕ) → is_some (place_by a there) ≡ is_some (place_by b there)
+      alike None = refl
+      alike (Some frame) = refl
 
 pub is_mapped-word : (m : AddressMap) (a j : ℕ) → a % 4 ≡ 0 → j < 4 → is_mapped m (a + j) ≡ is_mapped m a
 is_mapped-word m a j aligned below = is_mapped-page m (a + j) a (omega arith)

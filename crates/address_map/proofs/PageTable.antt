@@ -129,14 +129,14 @@ module _ (frames : List (Option ℕ)) (free : List ℕ) (page frame : ℕ) (tabl
       ]
     ];
     free_within = λ k d less. let old = (All-pop (λ f. f < frame_count frames (free ++ frame ∷ [])) (free ++ frame ∷ []) free (Some frame) refl table.free_within).0 k d less in
-      omega (arith, old, count_given);
+        omega (arith, old, count_given);
     unused = λ k d less other is. elim (cases_eq other page) [
       | inl same ↦ not_frame k d less (sym (is_frame other (get_or free k d) same is))
       | inr differ ↦ (All-pop (IsUnused frames) (free ++ frame ∷ []) free (Some frame) refl table.unused).0 k d less other (sym (elsewhere other differ) ∙ is)
     ];
     apart = λ i j d low less same.
-      table.apart i j d low (omega (arith, length-last free frame))
-      (get_or-front free frame i d (omega arith) ∙ (same ∙ sym (get_or-front free frame j d less)));
+        table.apart i j d low (omega (arith, length-last free frame))
+        (get_or-front free frame i d (omega arith) ∙ (same ∙ sym (get_or-front free frame j d less)));
   }
 
 -- the frame of a page is free now

@@ -6,7 +6,7 @@ use Rattle.address_map.specs.declared.region.Region.{Region}
 use Rattle.address_map.specs.Bytes.{word_at}
 use Rattle.address_map.specs.Records.{byte_class, IsRegion}
 use Rattle.address_map.specs.Memory.{place, byte_at, is_mapped, regions, class_of, is_owned, is_plain}
-use Rattle.address_map.proofs.Loads.{place_below}
+use Rattle.address_map.proofs.Loads.{place_below, place_fits_word, word_found}
 use Rattle.address_map.proofs.Bytes.{byte_at-unmapped, is_mapped-word}
 
 -- a word that is not mapped reads as 0
@@ -24,6 +24,9 @@ word_past m a aligned past = word_unmapped m a aligned (none (place m a) refl) w
   none : (there : Option ℕ) → place m a ≡ there → place m a ≡ None
   none None h = h
   none (Some k) h = absurd (omega (arith, place_below m a k h))
+
+-- what a word reads as, by where its first byte lies
+pub ruleset words_read = (word_past, word_unmapped, place_fits_word, word_found)
 
 -- each recorded range begins at a whole word, and ends in the address space
 pub region_at : (m : AddressMap) (records : List Region) (k : ℕ) (d : Region) → records ≡ regions m → k < length records → IsRegion (get_or records k d)

@@ -1,7 +1,7 @@
-ghost use Rattle.std.specs.Prelude.{ℕ, [], ◌≡◌, ◌≤◌, ◌<◌, ◌+◌, ◌-◌, ◌*◌, ◌%◌, ◌^◌, ◌↔◌, ◌||◌, false, IsTrue, IfOk, MatchResult, MatchOption, Option, Some, None, length, All, slice_index};
+ghost use Rattle.std.specs.Prelude.{ℕ, [], ◌≡◌, ◌≤◌, ◌<◌, ◌+◌, ◌*◌, ◌%◌, ◌↔◌, false, IsTrue, IfOk, MatchResult, MatchOption, Some, None, length, All};
 ghost use Rattle.profile.specs.Outcome.{Leaves};
 ghost use Rattle.address_map.specs.declared.class.Class.{Class};
-ghost use Rattle.address_map.specs.Bytes.{in_range, AreMapped, AreUnmapped, byte_loaded, word_loaded, byte_stored, word_stored, with_word_at, with_bytes_at, with_zeros_at, load_fault, store_fault};
+ghost use Rattle.address_map.specs.Bytes.{AreMapped, byte_loaded, word_loaded, byte_stored, word_stored, with_word_at, with_bytes_at, with_zeros_at, load_fault, store_fault};
 ghost use Rattle.address_map.specs.Pages.{IsPageTable, frame_count};
 ghost use Rattle.address_map.specs.Records.{IsRegion};
 
@@ -74,7 +74,8 @@ impl AddressMap {
 
     /// The bytes from an address on to the end of its page, or `None` where no memory is mapped.
     pub(crate) fn span(&self, addr: u32) -> Option<Span>
-        ensures { MatchOption result (place self.now addr ≡ None) (λ span. (span.addr ≡ addr) × IsSpan self.now addr span.place span.len) }
+        ensures { MatchOption result (place self.now addr ≡ None)
+            (λ span. (span.addr ≡ addr) × IsSpan self.now addr span.place span.len) }
     {
         let page = self.page_at(addr)?;
         let offset = addr - page.addr;
@@ -90,6 +91,7 @@ impl AddressMap {
     /// # Errors
     ///
     /// `AddressException` from 2^26 on, else `DataUnmapped` where no memory is mapped.
+    #[inline(always)]
     pub fn load_byte(&self, addr: u32) -> Result<u8, Fault>
         ensures { result ≡ byte_loaded (bytes_of self.now) addr }
     {
@@ -102,6 +104,7 @@ impl AddressMap {
     /// # Errors
     ///
     /// As `load_byte`.
+    #[inline(always)]
     pub fn load_word(&self, addr: u32) -> Result<u32, Fault>
         ensures { result ≡ word_loaded (bytes_of self.now) addr }
     {
@@ -115,8 +118,10 @@ impl AddressMap {
     ///
     /// `AddressException` from 2^26 on, else `DataUnmapped` where no memory is mapped, else
     /// `OwnedWord` where the store calls keep their records. Nothing is changed then.
+    #[inline(always)]
     pub fn store_byte(&mut self, addr: u32, byte: u8) -> Result<(), Fault>
-        ensures bytes { Leaves (bytes_of self.old) (byte_stored (is_owned self.old) (bytes_of self.old) addr byte) result (bytes_of self.new) }
+        ensures bytes { let stored = byte_stored (is_owned self.old) (bytes_of self.old) addr byte in
+            Leaves (bytes_of self.old) stored result (bytes_of self.new) }
         ensures layout { layout self.new ≡ layout self.old }
     {
         let place = self.writable(addr)?;
@@ -129,8 +134,10 @@ impl AddressMap {
     /// # Errors
     ///
     /// As `store_byte`.
+    #[inline(always)]
     pub fn store_word(&mut self, addr: u32, word: u32) -> Result<(), Fault>
-        ensures bytes { Leaves (bytes_of self.old) (word_stored (is_owned self.old) (bytes_of self.old) addr word) result (bytes_of self.new) }
+        ensures bytes { let stored = word_stored (is_owned self.old) (bytes_of self.old) addr word in
+            Leaves (bytes_of self.old) stored result (bytes_of self.new) }
         ensures layout { layout self.new ≡ layout self.old }
     {
         let place = self.writable(addr - addr % 4)?;
@@ -213,8 +220,11 @@ impl AddressMap {
 
     /// Where in the store the byte of an address lies that a guest may read.
     #[tactic(auto, using(crate::proofs::Loads::place_below))]
+    #[inline(always)]
     fn readable(&self, addr: u32) -> Result<usize, Fault>
-        ensures { MatchResult result (λ k. (load_fault (bytes_of self.now) addr ≡ None) × (place self.now addr ≡ Some k)) (λ fault. load_fault (bytes_of self.now) addr ≡ Some fault) }
+        ensures { MatchResult result
+            (λ k. (load_fault (bytes_of self.now) addr ≡ None) × (place self.now addr ≡ Some k))
+            (λ fault. load_fault (bytes_of self.now) addr ≡ Some fault) }
     {
         match self.translate(addr) {
             Some(place) => Ok(place),
@@ -224,8 +234,10 @@ impl AddressMap {
     }
 
     /// Where in the store the byte of an address lies that a guest may write to.
+    #[inline(always)]
     fn writable(&self, addr: u32) -> Result<usize, Fault>
-        ensures { MatchResult result (λ k. (store_fault (is_owned self.now) (bytes_of self.now) addr ≡ None) × (place self.now addr ≡ Some k)) (λ fault. store_fault (is_owned self.now) (bytes_of self.now) addr ≡ Some fault) }
+        ensures { let refused = store_fault (is_owned self.now) (bytes_of self.now) addr in
+            MatchResult result (λ k. (refused ≡ None) × (place self.now addr ≡ Some k)) (λ fault. refused ≡ Some fault) }
     {
         let place = self.readable(addr)?;
         if self.owns(addr) {

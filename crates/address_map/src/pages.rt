@@ -32,7 +32,8 @@ impl AddressMap {
 
     /// All bytes of the page that an address lies in, or `None` where no memory is mapped.
     pub(crate) fn page_at(&self, addr: u32) -> Option<Span>
-        ensures { MatchOption result (place self.now addr ≡ None) (λ page. (page.addr ≤ addr) × (addr < page.addr + page.len) × IsSpan self.now page.addr page.place page.len) }
+        ensures { MatchOption result (place self.now addr ≡ None) (λ page.
+            (page.addr ≤ addr) × (addr < page.addr + page.len) × IsSpan self.now page.addr page.place page.len) }
     {
         let place = self.translate(addr)?;
         let offset = addr % PAGE_SIZE;

@@ -31,6 +31,7 @@ impl Kind {
     }
 
     /// Whether a range is the used part of the flex store.
+    #[inline(always)]
     pub(crate) fn is_flex(&self) -> bool
         ensures { result ≡ is_flex_kind self.now }
     {
@@ -48,6 +49,7 @@ pub struct Region {
 
 impl Region {
     /// Whether an address is in the range.
+    #[inline(always)]
     pub(crate) fn holds(&self, addr: u32) -> bool
         ensures { result ≡ in_range self.now.at self.now.len addr }
     {
