@@ -56,6 +56,10 @@ store_bytes m = refl
 pub layout-regions : (m n : AddressMap) → layout n ≡ layout m → regions n ≡ regions m
 layout-regions m n same = ap (λ l. l.regions) same
 
+pub layout-others : (m n : AddressMap) → layout n ≡ layout m → (store_of n).others ≡ (store_of m).others
+unfolding store_of
+layout-others m n same = ap (λ l. others_in l.regions) same
+
 -- A sound store stays sound, with the same lists, where the bytes of memory change but memory spells its heaps still.
 pub sound_spelled : (s : Store) (c : Bytes) → IsSound s → AreHeapsIn c s.heaps → IsSound (record { bytes = c; heaps = s.heaps; others = s.others })
 sound_spelled s c sound parts = record { heaps = parts; limits = sound.limits; placed = sound.placed; apart = sound.apart; few = sound.few }

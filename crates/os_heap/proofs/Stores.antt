@@ -125,7 +125,7 @@ image_held r h items (g ∷ hs) others kept image =
       ])
     ]
 
-image_kind : (hs : List HeapList) (r : Region) → IsImageIn hs r → is_image r.kind ≡ true
+pub image_kind : (hs : List HeapList) (r : Region) → IsImageIn hs r → is_image r.kind ≡ true
 image_kind [] r image = absurd image
 image_kind (h ∷ hs) r image = elim image [ inl own ↦ own.image | inr later ↦ image_kind hs r later ]
 

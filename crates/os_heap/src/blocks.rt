@@ -9,7 +9,7 @@ ghost use Rattle.os_heap.specs.Calls.{items_of};
 
 use crate::heaps::{Heaps, find};
 use crate::links::linked;
-use crate::words::word;
+use crate::words::{BASE, LINK, word};
 use address_map::{AddressMap, Item};
 use profile::memory_map::HEAP_DESCRIPTOR;
 use std::marker::Model;
@@ -72,7 +72,7 @@ fn blocks_of<'a>(map: &'a AddressMap, heap: u32, end: u32) -> Blocks<'a>
     Blocks {
         map,
         at: heap + HEAP_DESCRIPTOR,
-        free: linked(heap, word(map, heap + 4)),
-        base: heap + word(map, heap + 8),
+        free: linked(heap, word(map, heap + LINK)),
+        base: heap + word(map, heap + BASE),
     }
 }

@@ -11,7 +11,7 @@ use crate::counted::Counted;
 use crate::heaps::{Heaps, find};
 use crate::init::{MOST_HEAP, is_heap_region, meets_any};
 use crate::sums::changed_by;
-use crate::words::{put, word};
+use crate::words::{BASE, END, put, word};
 use address_map::{AddressMap, Kind, Region};
 use profile::ErrorNumber;
 use profile::memory_map::RMA_START;
@@ -97,7 +97,7 @@ fn may_end(map: &AddressMap, region: &Region, end: u32) -> Result<(), ErrorNumbe
     if overlaps(map, region, end) {
         return Err(ErrorNumber::HeapOverlaps);
     }
-    if end < word(map, region.at + 8) {
+    if end < word(map, region.at + BASE) {
         return Err(ErrorNumber::HeapBadShrink);
     }
     Ok(())
@@ -122,6 +122,6 @@ fn set_end(map: &mut AddressMap, region: &Region, end: u32)
     ensures others { (store_of map.new).others ≡ (store_of map.old).others }
     ensures mapping { mapping map.new ≡ mapping map.old }
 {
-    put(map, region.at + 12, end);
+    put(map, region.at + END, end);
     map.set_len(region.kind, region.at, end);
 }

@@ -13,7 +13,7 @@ ghost use Rattle.os_heap.specs.Probes.{get_probes};
 use crate::counted::Counted;
 use crate::heaps::{Heaps, find};
 use crate::sums::round_up_8;
-use crate::words::{follow, put, put_free, put_link, word};
+use crate::words::{BASE, END, follow, put, put_free, put_link, word};
 use address_map::AddressMap;
 use profile::ErrorNumber;
 
@@ -87,14 +87,14 @@ fn append(map: &mut AddressMap, heap: u32, needed: u64) -> Result<u32, ErrorNumb
     requires small { needed < 2 ^ 34 }
     ensures { Claims map.old map.new heap (end_at map.old heap) result (or_at_base needed (end_at map.old heap - 16) (items_at map.old heap) None) }
 {
-    let base = word(map, heap + 8);
-    let end = word(map, heap + 12);
+    let base = word(map, heap + BASE);
+    let end = word(map, heap + END);
     if u64::from(base) + needed > u64::from(end) {
         return Err(ErrorNumber::HeapNoRoom);
     }
     let total = needed as u32;
     put(map, heap + base, total);
-    put(map, heap + 8, base + total);
+    put(map, heap + BASE, base + total);
     Ok(heap + base + 4)
 }
 

@@ -12,7 +12,7 @@ ghost use Rattle.os_heap.specs.Probes.{walk_probes};
 use crate::counted::Counted;
 use crate::heaps::{Heaps, find};
 use crate::walk::{Cursor, find_guest_block};
-use crate::words::{follow, put, put_free, put_link, word};
+use crate::words::{BASE, follow, put, put_free, put_link, word};
 use address_map::AddressMap;
 use profile::ErrorNumber;
 
@@ -22,14 +22,14 @@ pub(crate) fn give_back(map: &mut AddressMap, heap: u32, block: u32, cursor: &Cu
     requires block { IsBlock heap (items_at map.old heap) block cursor.now.from cursor.now.at cursor.now.free cursor.now.gap }
     ensures { Releases map.old map.new heap (end_at map.old heap) (Ok tt) (released block (heap + 16) (items_at map.old heap)) }
 {
-    let base = heap + word(map, heap + 8);
+    let base = heap + word(map, heap + BASE);
     let own = word(map, cursor.at);
     let behind = cursor.at + own;
     let at = cursor.at - cursor.gap;
     let total = cursor.gap + own;
     if behind == base {
         put_link(map, heap, cursor.from, 0);
-        put(map, heap + 8, at - heap);
+        put(map, heap + BASE, at - heap);
         return;
     }
     if behind == cursor.free {

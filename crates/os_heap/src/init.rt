@@ -12,6 +12,7 @@ ghost use Rattle.os_heap.specs.Calls.{begun, begun_with};
 
 use crate::counted::Counted;
 use crate::heaps::Heaps;
+use crate::words::{BASE, END, LINK};
 use address_map::{AddressMap, Kind, Region};
 use profile::ErrorNumber;
 use profile::memory_map::{HEAP_DESCRIPTOR, HEAP_NAME};
@@ -93,9 +94,9 @@ fn write_descriptor(map: &mut AddressMap, heap: u32, size: u32)
     ensures layout { layout map.new ≡ layout map.old }
 {
     map.put_word(heap, HEAP_NAME);
-    map.put_word(heap + 4, 0);
-    map.put_word(heap + 8, HEAP_DESCRIPTOR);
-    map.put_word(heap + 12, size);
+    map.put_word(heap + LINK, 0);
+    map.put_word(heap + BASE, HEAP_DESCRIPTOR);
+    map.put_word(heap + END, size);
 }
 
 /// Whether a heap may be made of a range.

@@ -24,10 +24,4 @@ pub use counted::Counted;
 pub use heaps::Heaps;
 
 #[cfg(test)]
-mod block_tests;
-#[cfg(test)]
-mod change_tests;
-#[cfg(test)]
-mod resize_tests;
-#[cfg(test)]
 mod tests;

@@ -9,8 +9,9 @@ ghost use Rattle.os_heap.specs.Calls.{unless_image};
 ghost use Rattle.os_heap.specs.Outcomes.{IsGuestBlock};
 ghost use Rattle.os_heap.specs.Store.{has_image, is_image};
 
-use crate::words::{follow, word};
+use crate::words::{BASE, follow, word};
 use address_map::{AddressMap, Kind, Region};
+use profile::memory_map::HEAP_DESCRIPTOR;
 
 /// Where a walk from item to item stands.
 #[derive(Clone, Copy)]
@@ -86,12 +87,12 @@ fn approach(map: &AddressMap, heap: u32, block: u32) -> Cursor
     ensures walk { IsWalked heap (items_at map.now heap) block result.from result.at result.free result.gap result.probes }
     ensures end { (result.at + 4 < block) → heap + word_at (byte_at map.now) (heap + 8) ≤ result.at }
 {
-    let base = heap + word(map, heap + 8);
+    let base = heap + word(map, heap + BASE);
     let limit = base.min(block.saturating_sub(4));
     let free = follow(map, heap, heap);
     let mut cursor = Cursor {
         from: heap,
-        at: heap + 16,
+        at: heap + HEAP_DESCRIPTOR,
         free,
         gap: 0,
         probes: 0,
@@ -108,7 +109,7 @@ pub(crate) fn find_block(map: &AddressMap, heap: u32, block: u32) -> Walk
     ensures block { MatchOption result.block (released block (heap + 16) (items_at map.now heap) ≡ None) (λ c. IsBlock heap (items_at map.now heap) block c.from c.at c.free c.gap) }
     ensures probes { result.probes ≡ begun_below block (heap + 16) (items_at map.now heap) }
 {
-    let base = heap + word(map, heap + 8);
+    let base = heap + word(map, heap + BASE);
     let cursor = approach(map, heap, block);
     if cursor.at >= base {
         return Walk {

@@ -1,6 +1,6 @@
 -- The memory of a machine at its start, address by address, is that of the written start.
 use Rattle.std.proofs.lemmas.Bool.Decides.{nat_tests}
-use Rattle.std.proofs.Common.{◌≡◌, ◌≤◌, ◌<◌, ◌+◌, ◌*◌, arith, ℕ, Bool, false, true, IsSome, List, [], ◌∷◌, Option, Some, None, refl, ◌∙◌, ap}
+use Rattle.std.proofs.Common.{inl, ◌≡◌, ◌≤◌, ◌<◌, ◌+◌, ◌*◌, arith, ℕ, Bool, false, true, IsSome, List, [], ◌∷◌, Option, Some, None, refl, ◌∙◌, ap}
 use Rattle.profile.specs.Sizes.{Sizes, AreGood}
 use Rattle.address_map.specs.declared.map.AddressMap.{AddressMap}
 use Rattle.address_map.specs.Bytes.{Bytes, in_range, word_at, with_word_at}
@@ -57,7 +57,7 @@ start_sound s good =
     let some = good.has_rma in
     let words = start_words s good in
     record {
-      parts = (
+      heaps = (
         record {
           aligned = refl;
           whole = omega arith;
@@ -73,7 +73,9 @@ start_sound s good =
         },
         (tt, tt),
       );
-      clear = ((λ a inside. apart s a good inside, tt), tt);
+      limits = record { guests = omega arith; areas = omega arith; place = ((λ _. refl), tt) };
+      placed = (inl (λ a inside. apart s a good inside, tt), tt);
+      apart = ((λ _. tt), tt);
       few = omega arith;
     } where
       module_mapped : (s : Sizes) (a : ℕ) → 0x01800000 ≤ a → a < 0x01800000 + 4096 * s.rma → is_start_mapped s a ≡ true
