@@ -9,7 +9,9 @@ use address_map::AddressMap;
 
 /// Where the words of a heap's descriptor stand, counted from its start: behind its name the distance to the first free item, the base, and the end.
 pub(crate) const LINK: u32 = 4;
+
 pub(crate) const BASE: u32 = 8;
+
 pub(crate) const END: u32 = 12;
 
 /// The word at an address.

@@ -33,6 +33,7 @@ fn claims_blocks_at_the_base(rt: HostRuntime) -> Result<(), Fail> {
 fn joins_free_blocks_and_sinks_the_base(rt: HostRuntime) -> Result<(), Fail> {
     let mut map = AddressMap::new(rt.alloc(), 1)?;
     map.map_pages(0x9000, 1);
+    assert_eq!(rt; map.store_word(0x9048, 5), Ok(()));
     let heaps = Heaps::new();
     assert_eq!(rt; heaps.init(&mut map, 0x9000, 256).answer, Ok(()));
     for block in [0x9014, 0x902C, 0x9044, 0x905C] {
@@ -43,7 +44,6 @@ fn joins_free_blocks_and_sinks_the_base(rt: HostRuntime) -> Result<(), Fail> {
     for (at, word) in [(0x9004, 16), (0x9010, 0), (0x9014, 24)] {
         assert_eq!(rt; map.load_word(at), Ok(word), "first, at {at:x}");
     }
-    assert_eq!(rt; map.store_word(0x9048, 5), Ok(()));
     assert_eq!(rt; heaps.free(&mut map, 0x9000, 0x9044).answer, Ok(()));
     for (at, word) in [(0x9010, 48), (0x9014, 24), (0x9040, 0), (0x9044, 24)] {
         assert_eq!(rt; map.load_word(at), Ok(word), "third, at {at:x}");
