@@ -8,8 +8,8 @@ use Rattle.profile.specs.Digits.{hex_word}
 use Rattle.address_map.specs.declared.item.Item.{Item}
 use Rattle.address_map.specs.declared.item.Item.TheVariants.{Live, Free}
 use Rattle.address_map.specs.Items.{total_of, size_of}
-use Rattle.os_heap.specs.Heap.{Part}
-use Rattle.os_heap.specs.Store.{Store, find_part}
+use Rattle.os_heap_lists.specs.Heap.{HeapList}
+use Rattle.os_heap.specs.Store.{Store, find_heap}
 
 -- `heap 00009000 base 40 end 256`
 unfoldable pub limits_text : ℕ → ℕ → ℕ → List ℕ
@@ -30,9 +30,9 @@ unfoldable pub items_text : ℕ → List Item → List ℕ
 items_text address [] = []
 items_text address (item ∷ items) = item_text address item ++ items_text (address + total_of item) items
 
-unfoldable pub heap_text : Part → List ℕ
+unfoldable pub heap_text : HeapList → List ℕ
 heap_text h = limits_text h.start (16 + size_of h.items) h.end ++ items_text (h.start + 16) h.items
 
 -- the heap that starts at an address, if one does
 unfoldable pub blocks_text : Store → ℕ → Option (List ℕ)
-blocks_text s heap = option_map heap_text (find_part heap s.heaps)
+blocks_text s heap = option_map heap_text (find_heap heap s.heaps)

@@ -2,7 +2,8 @@ ghost use Rattle.std.specs.Prelude.{◌≡◌, ◌≤◌, ◌+◌, ◌^◌, true
 ghost use Rattle.std.specs.Io.KnownBytes.{Appends};
 ghost use Rattle.profile.specs.Output.{Writes};
 ghost use Rattle.address_map.specs.Items.{size_of};
-ghost use Rattle.os_heap.specs.Store.{store_of, find_part, items_of, IsSound};
+ghost use Rattle.os_heap.specs.Calls.{items_of};
+ghost use Rattle.os_heap.specs.Store.{store_of, find_heap, IsSound};
 ghost use Rattle.swi_dispatch.specs.Parts.{state_of};
 ghost use Rattle.debugger.specs.Heap.{use_text, limits_text, item_text, items_text, heap_text, blocks_text};
 
@@ -39,8 +40,8 @@ pub fn show_blocks<W: Sink>(machine: &Machine, heap: u32, sink: &mut W) -> Resul
 #[tactic(auto, unfolding(crate::specs::Heap::limits_text))]
 fn show_limits<W: Sink>(memory: &AddressMap, heap: u32, sink: &mut W) -> Result<(), WriteFault>
     requires sound { IsSound (store_of memory.now) }
-    requires there { IsSome (find_part heap (store_of memory.now).heaps) }
-    ensures text { OnOk result (IfSome (find_part heap (store_of memory.now).heaps)
+    requires there { IsSome (find_heap heap (store_of memory.now).heaps) }
+    ensures text { OnOk result (IfSome (find_heap heap (store_of memory.now).heaps)
         (λ h. Appends (W.contents sink.old) (W.contents sink.new) (limits_text heap (16 + size_of h.items) h.end))) }
     ensures flag { OnErr result (W.has_failed sink.new ≡ true) }
     ensures same_flag { OnOk result (W.has_failed sink.new ≡ W.has_failed sink.old) }
@@ -64,8 +65,8 @@ fn show_limits<W: Sink>(memory: &AddressMap, heap: u32, sink: &mut W) -> Result<
 // The base of a heap, in bytes from its start.
 fn base_of(memory: &AddressMap, heap: u32) -> u32
     requires sound { IsSound (store_of memory.now) }
-    requires there { IsSome (find_part heap (store_of memory.now).heaps) }
-    ensures { IfSome (find_part heap (store_of memory.now).heaps) (λ h. result ≡ 16 + size_of h.items) }
+    requires there { IsSome (find_heap heap (store_of memory.now).heaps) }
+    ensures { IfSome (find_heap heap (store_of memory.now).heaps) (λ h. result ≡ 16 + size_of h.items) }
 {
     memory.load_word(heap + BASE).unwrap_or(0)
 }
@@ -73,8 +74,8 @@ fn base_of(memory: &AddressMap, heap: u32) -> u32
 // The end of a heap, in bytes from its start.
 fn end_of(memory: &AddressMap, heap: u32) -> u32
     requires sound { IsSound (store_of memory.now) }
-    requires there { IsSome (find_part heap (store_of memory.now).heaps) }
-    ensures { IfSome (find_part heap (store_of memory.now).heaps) (λ h. result ≡ h.end) }
+    requires there { IsSome (find_heap heap (store_of memory.now).heaps) }
+    ensures { IfSome (find_heap heap (store_of memory.now).heaps) (λ h. result ≡ h.end) }
 {
     memory.load_word(heap + END).unwrap_or(0)
 }

@@ -1,23 +1,24 @@
 -- A heap more, behind all others: its descriptor is written, and its range recorded.
-use Rattle.std.proofs.Common.{◌≡◌, ◌⊎◌, ◌↔◌, ℕ, zero, suc, leb, ◌+◌, ◌-◌, ◌%◌, ◌^◌, ◌≤◌, ◌<◌, Bool, true, false, List, [], ◌∷◌, ◌++◌, length, Ok, Err, ◌&&◌, ◌||◌, ◌==◌, arith, refl, sym, ◌∙◌, inl, inr}
-use Rattle.std.specs.List.{list_any}
-use Rattle.std.proofs.lemmas.Bool.{cases_Bool, cases_lt, or_parts, and_parts, leb-true, leb-false, eqb-true, eq-eqb, le-leb, lt-ltb, both_ways, false_from_ne_true, false≢true}
+use Rattle.std.proofs.Common.{Bool, arith, inl, ◌+◌, ◌≡◌, ℕ, true, inr, suc, zero, refl, false, [], List, ◌∷◌, ◌++◌, ◌≤◌, ◌%◌, ◌==◌, ◌&&◌, ◌-◌, leb, ◌^◌, ◌<◌, ◌⊎◌, ◌∙◌, sym, ◌↔◌, ◌||◌, length, Err, Ok}
+use Rattle.std.proofs.lemmas.Bool.{cases_lt, and_parts, both_ways, false_from_ne_true, or_parts, leb-true, eqb-true, le-leb, lt-ltb, cases_Bool, false≢true, eq-eqb, leb-false}
 use Rattle.std.proofs.lemmas.Bool.Decides.{nat_tests}
-use Rattle.address_map.specs.declared.region.Kind.TheVariants as kind
+use Rattle.std.specs.List.{list_any}
+use Rattle.profile.specs.declared.error.ErrorNumber.TheVariants.{HeapBadRegion, HeapOverlaps, HeapTableFull}
+use Rattle.address_map.proofs.Spans.{mapped_below}
+use Rattle.address_map.specs.Bytes.{AreMapped, in_range, Bytes, with_word_at, word_at}
+use Rattle.address_map.specs.Items.{items_in}
+use Rattle.address_map.specs.Memory.{is_mapped, bytes_of, byte_at, regions}
+use Rattle.address_map.specs.Records.{is_heap_kind, with_region}
+use Rattle.address_map.specs.declared.map.AddressMap.{AddressMap}
 use Rattle.address_map.specs.declared.region.Kind.{Kind}
 use Rattle.address_map.specs.declared.region.Region.{Region}
-use Rattle.address_map.specs.declared.map.AddressMap.{AddressMap}
-use Rattle.address_map.specs.Bytes.{Bytes, in_range, AreMapped, word_at, with_word_at}
-use Rattle.address_map.specs.Items.{items_in}
-use Rattle.address_map.specs.Records.{is_heap_kind, with_region}
-use Rattle.address_map.specs.Memory.{byte_at, is_mapped, bytes_of, regions}
-use Rattle.address_map.proofs.Spans.{mapped_below}
-use Rattle.profile.specs.declared.error.ErrorNumber.TheVariants.{HeapBadRegion, HeapOverlaps, HeapTableFull}
-use Rattle.os_heap.specs.Heap.{Part, IsHeapIn, with_part}
-use Rattle.os_heap.specs.Begin.{MayBegin}
-use Rattle.os_heap.specs.Store.{Store, part_in, parts_in, others_in, store_of, AreClear, IsClearOfHeaps, ArePartsIn, AreOthersClear, IsSound, is_heap_region, are_mapped, meets, meets_any, begun, begun_with}
-use Rattle.os_heap.proofs.Unique.{items_in-heap}
-use Rattle.os_heap.proofs.Frame.{clear_parts, parts_in-spelled}
+use Rattle.os_heap_lists.proofs.Reading.{items_in-heap}
+use Rattle.os_heap_lists.specs.Heap.{HeapList, IsHeapIn, with_heap}
+use Rattle.os_heap.proofs.Frame.{clear_parts, heaps_in-spelled}
+use Rattle.os_heap.specs.Ranges.{are_mapped, meets, is_heap_region, meets_any, HasRoom, MayBegin}
+use Rattle.os_heap.specs.Store.{AreClear, IsClearOfHeaps, AreHeapsIn, ArePlaced, Store, IsSound, heap_in, heaps_in, others_in, store_of, IsImageIn, is_area, guest_count, area_count, StandAreas, AreInLimits}
+use Rattle.os_heap.specs.Calls.{begun_with, begun}
+use Rattle.address_map.specs.declared.region.Kind.TheVariants as kind
 
 -- the tests of ranges, and what they say
 pub are_mapped_all : (mapped : ℕ → Bool) (at n : ℕ) → are_mapped mapped at n ≡ true → AreMapped mapped at n
@@ -40,31 +41,108 @@ clear_unless at len other other_len h a inside = grind (arith, nat_tests)
 pub clear_turned : (at len other other_len : ℕ) → AreClear at len other other_len → AreClear other other_len at len
 clear_turned at len other other_len h a inside = false_from_ne_true _ (λ there. both_ways (in_range other other_len a) (h a there) inside)
 
-pub clear_of_heaps : (at len : ℕ) (hs : List Part) → list_any (λ h. meets at len h.start h.end) hs ≡ false → IsClearOfHeaps at len hs
+pub clear_of_heaps : (at len : ℕ) (hs : List HeapList) → list_any (λ h. meets at len h.start h.end) hs ≡ false → IsClearOfHeaps at len hs
 clear_of_heaps at len [] none = tt
 clear_of_heaps at len (h ∷ hs) none =
     let parts = or_parts (meets at len h.start h.end) (list_any (λ h. meets at len h.start h.end) hs) none in
     (clear_unless at len h.start h.end parts.0, clear_of_heaps at len hs parts.1)
 
 -- a heap more that another range does not meet
-clear_more : (at len : ℕ) (hs : List Part) (h : Part) → IsClearOfHeaps at len hs → AreClear at len h.start h.end → IsClearOfHeaps at len (hs ++ h ∷ [])
+clear_more : (at len : ℕ) (hs : List HeapList) (h : HeapList) → IsClearOfHeaps at len hs → AreClear at len h.start h.end → IsClearOfHeaps at len (hs ++ h ∷ [])
 clear_more at len [] h clear last = (last, tt)
 clear_more at len (g ∷ hs) h clear last = (clear.0, clear_more at len hs h clear.1 last)
 
-parts_more : (b : Bytes) (hs : List Part) (h : Part) → ArePartsIn b hs → IsClearOfHeaps h.start h.end hs → IsHeapIn b h.start h.end h.items
-    → ArePartsIn b (hs ++ h ∷ [])
+parts_more : (b : Bytes) (hs : List HeapList) (h : HeapList) → AreHeapsIn b hs → IsClearOfHeaps h.start h.end hs → IsHeapIn b h.start h.end h.items
+    → AreHeapsIn b (hs ++ h ∷ [])
 parts_more b [] h parts clear last = (last, (tt, tt))
 parts_more b (g ∷ hs) h parts clear last =
     (parts.0, (clear_more g.start g.end hs h parts.1.0 (clear_turned h.start h.end g.start g.end clear.0), parts_more b hs h parts.1.1 clear.1 last))
 
-others_more : (hs : List Part) (h : Part) (rs : List Region) → AreOthersClear hs rs → list_any (λ r. meets h.start h.end r.at r.len) rs ≡ false
-    → AreOthersClear (hs ++ h ∷ []) rs
-others_more hs h [] clear none = tt
-others_more hs h (r ∷ rs) clear none =
+image_more : (hs : List HeapList) (h : HeapList) (r : Region) → IsImageIn hs r → IsImageIn (hs ++ h ∷ []) r
+image_more [] h r image = absurd image
+image_more (g ∷ hs) h r image = elim image [ inl own ↦ inl own | inr later ↦ inr (image_more hs h r later) ]
+
+others_more : (hs : List HeapList) (h : HeapList) (rs : List Region) → ArePlaced hs rs → list_any (λ r. meets h.start h.end r.at r.len) rs ≡ false
+    → ArePlaced (hs ++ h ∷ []) rs
+others_more hs h [] placed none = tt
+others_more hs h (r ∷ rs) placed none =
     let parts = or_parts (meets h.start h.end r.at r.len) (list_any (λ r. meets h.start h.end r.at r.len) rs) none in (
-      clear_more r.at r.len hs h clear.0 (clear_turned h.start h.end r.at r.len (clear_unless h.start h.end r.at r.len parts.0)),
-      others_more hs h rs clear.1 parts.1,
+      elim placed.0 [
+        | inl clear ↦ inl (clear_more r.at r.len hs h clear (clear_turned h.start h.end r.at r.len (clear_unless h.start h.end r.at r.len parts.0)))
+        | inr image ↦ inr (image_more hs h r image)
+      ],
+      others_more hs h rs placed.1 parts.1,
     )
+
+-- a heap without items
+abbrev pub empty : Kind → ℕ → ℕ → HeapList
+empty kind at size = record { kind = kind; start = at; end = size; items = [] }
+
+-- one heap more is counted
+guests_more : (hs : List HeapList) (h : HeapList) → is_area h.kind ≡ false → guest_count (hs ++ h ∷ []) ≡ guest_count hs + 1
+guests_more [] h guest = rw guest refl
+guests_more (g ∷ hs) h guest = elim (cases_Bool (is_area g.kind)) [
+  | inl area ↦ rw area (guests_more hs h guest)
+  | inr other ↦ rw other (omega (arith, guests_more hs h guest))
+]
+
+guests_same : (hs : List HeapList) (h : HeapList) → is_area h.kind ≡ true → guest_count (hs ++ h ∷ []) ≡ guest_count hs
+guests_same [] h area = rw area refl
+guests_same (g ∷ hs) h area = elim (cases_Bool (is_area g.kind)) [
+  | inl there ↦ rw there (guests_same hs h area)
+  | inr other ↦ rw other (omega (arith, guests_same hs h area))
+]
+
+areas_more : (hs : List HeapList) (h : HeapList) → area_count (hs ++ h ∷ []) ≤ area_count hs + 1
+areas_more [] h = elim (cases_Bool (is_area h.kind)) [ inl area ↦ rw area (omega arith) | inr other ↦ rw other (omega arith) ]
+areas_more (g ∷ hs) h = elim (cases_Bool (is_area g.kind)) [
+  | inl there ↦ rw there (omega (arith, areas_more hs h))
+  | inr other ↦ rw other (areas_more hs h)
+]
+
+areas_same : (hs : List HeapList) (h : HeapList) → is_area h.kind ≡ false → area_count (hs ++ h ∷ []) ≡ area_count hs
+areas_same [] h guest = rw guest refl
+areas_same (g ∷ hs) h guest = elim (cases_Bool (is_area g.kind)) [
+  | inl there ↦ rw there (omega (arith, areas_same hs h guest))
+  | inr other ↦ rw other (areas_same hs h guest)
+]
+
+stand_more : (hs : List HeapList) (h : HeapList) → (is_area h.kind ≡ true → h.start ≡ 0x01800000) → StandAreas hs → StandAreas (hs ++ h ∷ [])
+stand_more [] h here stand = (here, tt)
+stand_more (g ∷ hs) h here stand = (stand.0, stand_more hs h here stand.1)
+
+limits_more : (k : Kind) (s : Store) (at size : ℕ) → HasRoom k s at → AreInLimits s.heaps → AreInLimits (s.heaps ++ empty k at size ∷ [])
+limits_more kind.Heap s at size room limits = record {
+  guests = omega (arith, guests_more s.heaps (empty kind.Heap at size) refl, leb-false 64 (guest_count s.heaps) room);
+  areas = omega (arith, areas_same s.heaps (empty kind.Heap at size) refl, limits.areas);
+  place = stand_more s.heaps (empty kind.Heap at size) (λ area. absurd (false≢true area)) limits.place;
+}
+limits_more kind.Rma s at size room limits = record {
+  guests = omega (arith, guests_same s.heaps (empty kind.Rma at size) refl, limits.guests);
+  areas = omega (arith, areas_more s.heaps (empty kind.Rma at size), room.0);
+  place = stand_more s.heaps (empty kind.Rma at size) (λ _. room.1) limits.place;
+}
+limits_more kind.FlexStore s at size room limits = absurd room
+limits_more kind.FlexHeader s at size room limits = absurd room
+limits_more kind.Anchor s at size room limits = absurd room
+limits_more kind.Image s at size room limits = absurd room
+limits_more kind.SystemPage s at size room limits = absurd room
+
+heaps_counted : (hs : List HeapList) → length hs ≡ guest_count hs + area_count hs
+heaps_counted [] = refl
+heaps_counted (h ∷ hs) = elim (cases_Bool (is_area h.kind)) [
+  | inl area ↦ rw area (omega (arith, heaps_counted hs))
+  | inr other ↦ rw other (omega (arith, heaps_counted hs))
+]
+
+few_heaps : (k : Kind) (s : Store) (at : ℕ) → HasRoom k s at → AreInLimits s.heaps → length s.heaps ≤ 64
+few_heaps kind.Heap s at room limits = omega (arith, heaps_counted s.heaps, leb-false 64 (guest_count s.heaps) room, limits.areas)
+few_heaps kind.Rma s at room limits = omega (arith, heaps_counted s.heaps, room.0, limits.guests)
+few_heaps kind.FlexStore s at room limits = absurd room
+few_heaps kind.FlexHeader s at room limits = absurd room
+few_heaps kind.Anchor s at room limits = absurd room
+few_heaps kind.Image s at room limits = absurd room
+few_heaps kind.SystemPage s at room limits = absurd room
 
 -- what the test of a heap's range says
 pub record CanHold (b : Bytes) (at size : ℕ) : Type 0 where
@@ -103,10 +181,6 @@ word_other f at v a apart =
     let b3 : with_word_at f at v (a + 3) ≡ f (a + 3) = byte_other f at v (a + 3) (elim apart [ inl low ↦ inl (omega arith) | inr high ↦ inr (omega arith) ]) in
     rw (b0, b1, b2, b3) refl
 
--- the four words of the descriptor of an empty heap
-abbrev pub empty : Kind → ℕ → ℕ → Part
-empty kind at size = record { kind = kind; start = at; end = size; items = [] }
-
 module _ (f : ℕ → ℕ) (at size : ℕ) (fits : size < 2 ^ 32) where
   named : ℕ → ℕ
   named = with_word_at f at 0x70616548
@@ -117,25 +191,25 @@ module _ (f : ℕ → ℕ) (at size : ℕ) (fits : size < 2 ^ 32) where
   based : ℕ → ℕ
   based = with_word_at linked (at + 8) 16
 
-  written_name : word_at (with_part f at size []) at ≡ 0x70616548
+  written_name : word_at (with_heap f at size []) at ≡ 0x70616548
   unfolding named linked based
   written_name = word_other based (at + 12) size at (inl (omega arith)) ∙ word_other linked (at + 8) 16 at (inl (omega arith))
       ∙ word_other named (at + 4) (0 - at) at (inl (omega arith)) ∙ word_here f at 0x70616548 (omega arith)
 
-  written_link : word_at (with_part f at size []) (at + 4) ≡ 0 - at
+  written_link : word_at (with_heap f at size []) (at + 4) ≡ 0 - at
   unfolding named linked based
   written_link = word_other based (at + 12) size (at + 4) (inl (omega arith)) ∙ word_other linked (at + 8) 16 (at + 4) (inl (omega arith))
       ∙ word_here named (at + 4) (0 - at) (omega arith)
 
-  written_base : word_at (with_part f at size []) (at + 8) ≡ 16
+  written_base : word_at (with_heap f at size []) (at + 8) ≡ 16
   unfolding named linked based
   written_base = word_other based (at + 12) size (at + 8) (inl (omega arith)) ∙ word_here linked (at + 8) 16 (omega arith)
 
-  written_end : word_at (with_part f at size []) (at + 12) ≡ size
+  written_end : word_at (with_heap f at size []) (at + 12) ≡ size
   unfolding named linked based
   written_end = word_here based (at + 12) size fits
 
-  written_other : (a : ℕ) → (a + 1 ≤ at) ⊎ (at + 16 ≤ a) → with_part f at size [] a ≡ f a
+  written_other : (a : ℕ) → (a + 1 ≤ at) ⊎ (at + 16 ≤ a) → with_heap f at size [] a ≡ f a
   unfolding named linked based
   written_other a apart =
       byte_other based (at + 12) size a (elim apart [ inl low ↦ inl (omega arith) | inr high ↦ inr (omega arith) ])
@@ -144,7 +218,7 @@ module _ (f : ℕ → ℕ) (at size : ℕ) (fits : size < 2 ^ 32) where
       ∙ byte_other f at 0x70616548 a (elim apart [ inl low ↦ inl (omega arith) | inr high ↦ inr (omega arith) ])
 
 pub empty_heap : (b : Bytes) (at size : ℕ) → CanHold b at size
-    → IsHeapIn (record { mapped = b.mapped; at = with_part b.at at size [] }) at size []
+    → IsHeapIn (record { mapped = b.mapped; at = with_heap b.at at size [] }) at size []
 empty_heap b at size can =
     let fits : size < 2 ^ 32 = omega (arith, can.high) in
     record {
@@ -161,11 +235,11 @@ empty_heap b at size can =
       inside = can.low;
     }
 
-pub begun_old : (kind : Kind) (s : Store) (at size : ℕ) → MayBegin s at size → IsSound s → ArePartsIn (begun_with kind s at size).bytes s.heaps
-begun_old kind s at size may sound =
+pub begun_old : (k : Kind) (s : Store) (at size : ℕ) → MayBegin k s at size → IsSound s → AreHeapsIn (begun_with k s at size).bytes s.heaps
+begun_old k s at size may sound =
     let can : CanHold s.bytes at size = can_hold s.bytes at size may.region in
     let none = or_parts (list_any (λ h. meets at size h.start h.end) s.heaps) (list_any (λ r. meets at size r.at r.len) s.others) may.clear in
-    clear_parts s.bytes (begun_with kind s at size).bytes s.heaps at size refl sound.parts (clear_of_heaps at size s.heaps none.0)
+    clear_parts s.bytes (begun_with k s at size).bytes s.heaps at size refl sound.heaps (clear_of_heaps at size s.heaps none.0)
     (λ a outside. written_other s.bytes.at at size (omega (arith, can.high)) a (elim (cases_lt a at) [
       | inl low ↦ inl (omega arith)
       | inr high ↦ inr (elim (cases_lt a (at + size)) [
@@ -175,24 +249,26 @@ begun_old kind s at size may sound =
     ]))
 
 -- the store with a heap more is sound too
-pub begun_sound : (kind : Kind) (s : Store) (at size : ℕ) → MayBegin s at size → IsSound s → IsSound (begun_with kind s at size)
-begun_sound kind s at size may sound =
+pub begun_sound : (k : Kind) (s : Store) (at size : ℕ) → MayBegin k s at size → IsSound s → IsSound (begun_with k s at size)
+begun_sound k s at size may sound =
     let can : CanHold s.bytes at size = can_hold s.bytes at size may.region in
     let none = or_parts (list_any (λ h. meets at size h.start h.end) s.heaps) (list_any (λ r. meets at size r.at r.len) s.others) may.clear in
     record {
-      parts = parts_more (begun_with kind s at size).bytes s.heaps (empty kind at size) (begun_old kind s at size may sound)
+      heaps = parts_more (begun_with k s at size).bytes s.heaps (empty k at size) (begun_old k s at size may sound)
           (clear_of_heaps at size s.heaps none.0) (empty_heap s.bytes at size can);
-      clear = others_more s.heaps (empty kind at size) s.others sound.clear none.1;
+      limits = limits_more k s at size may.room sound.limits;
+      placed = others_more s.heaps (empty k at size) s.others sound.placed none.1;
+      apart = sound.apart;
       few = sound.few;
     }
 
 -- the record with a heap more
-parts_in-more : (b : Bytes) (rs : List Region) (r : Region) → is_heap_kind r.kind ≡ true → parts_in b (rs ++ r ∷ []) ≡ parts_in b rs ++ part_in b r ∷ []
-parts_in-more b [] r heap = rw heap refl
-parts_in-more b (g ∷ rs) r heap =
+heaps_in-more : (b : Bytes) (rs : List Region) (r : Region) → is_heap_kind r.kind ≡ true → heaps_in b (rs ++ r ∷ []) ≡ heaps_in b rs ++ heap_in b r ∷ []
+heaps_in-more b [] r heap = rw heap refl
+heaps_in-more b (g ∷ rs) r heap =
     elim (cases_Bool (is_heap_kind g.kind)) [
-      | inl is ↦ rw (is, parts_in-more b rs r heap) refl
-      | inr other ↦ rw (other, parts_in-more b rs r heap) refl
+      | inl is ↦ rw (is, heaps_in-more b rs r heap) refl
+      | inr other ↦ rw (other, heaps_in-more b rs r heap) refl
     ]
 
 others_in-more : (rs : List Region) (r : Region) → is_heap_kind r.kind ≡ true → others_in (rs ++ r ∷ []) ≡ others_in rs
@@ -214,20 +290,20 @@ recorded rs kind.Anchor at len heap = absurd (false≢true heap)
 recorded rs kind.Image at len heap = absurd (false≢true heap)
 recorded rs kind.SystemPage at len heap = absurd (false≢true heap)
 
-pub store_begun : (m n : AddressMap) (k : Kind) (at size : ℕ) → is_heap_kind k ≡ true → MayBegin (store_of m) at size → IsSound (store_of m)
+pub store_begun : (m n : AddressMap) (k : Kind) (at size : ℕ) → is_heap_kind k ≡ true → MayBegin k (store_of m) at size → IsSound (store_of m)
     → regions n ≡ regions m ++ record { kind = k; at = at; len = size } ∷ []
-    → bytes_of n ≡ record { mapped = is_mapped m; at = with_part (byte_at m) at size [] }
+    → bytes_of n ≡ record { mapped = is_mapped m; at = with_heap (byte_at m) at size [] }
     → store_of n ≡ begun_with k (store_of m) at size
 unfolding store_of
 store_begun m n k at size heap may sound records bytes =
-    let c : Bytes = record { mapped = is_mapped m; at = with_part (byte_at m) at size [] } in
+    let c : Bytes = record { mapped = is_mapped m; at = with_heap (byte_at m) at size [] } in
     let r : Region = record { kind = k; at = at; len = size } in
-    let old : parts_in c (regions m) ≡ parts_in (bytes_of m) (regions m) =
-    parts_in-spelled (bytes_of m) c (regions m) (begun_old k (store_of m) at size may sound) in
+    let old : heaps_in c (regions m) ≡ heaps_in (bytes_of m) (regions m) =
+    heaps_in-spelled (bytes_of m) c (regions m) (begun_old k (store_of m) at size may sound) in
     let items : items_in (word_at c.at) at ≡ [] =
     items_in-heap c at size [] (empty_heap (bytes_of m) at size (can_hold (bytes_of m) at size may.region)) in
-    let heaps : parts_in c (regions m ++ r ∷ []) ≡ parts_in (bytes_of m) (regions m) ++ empty k at size ∷ [] =
-    parts_in-more c (regions m) r heap ∙ (rw (old, items) refl) in
+    let heaps : heaps_in c (regions m ++ r ∷ []) ≡ heaps_in (bytes_of m) (regions m) ++ empty k at size ∷ [] =
+    heaps_in-more c (regions m) r heap ∙ (rw (old, items) refl) in
     let others : others_in (regions m ++ r ∷ []) ≡ others_in (regions m) = others_in-more (regions m) r heap in
     rw (bytes, records) (λ i. record { bytes = c; heaps = heaps i; others = others i })
 
@@ -253,10 +329,10 @@ or_next true b c = refl
 or_next false b c = refl
 
 meets_ranges : (b : Bytes) (at len : ℕ) (rs : List Region)
-    → list_any (λ r. meets at len r.at r.len) rs ≡ (list_any (λ h. meets at len h.start h.end) (parts_in b rs) || list_any (λ r. meets at len r.at r.len) (others_in rs))
+    → list_any (λ r. meets at len r.at r.len) rs ≡ (list_any (λ h. meets at len h.start h.end) (heaps_in b rs) || list_any (λ r. meets at len r.at r.len) (others_in rs))
 meets_ranges b at len [] = refl
 meets_ranges b at len (r ∷ rs) =
-    let parts : Bool = list_any (λ h. meets at len h.start h.end) (parts_in b rs) in
+    let parts : Bool = list_any (λ h. meets at len h.start h.end) (heaps_in b rs) in
     let others : Bool = list_any (λ r. meets at len r.at r.len) (others_in rs) in
     elim (cases_Bool (is_heap_kind r.kind)) [
       | inl heap ↦ rw (heap, meets_ranges b at len rs) (sym (or_next (meets at len r.at r.len) parts others))
@@ -267,7 +343,7 @@ pub meets_recorded : (m : AddressMap) (at len : ℕ) → list_any (λ r. meets a
 unfolding store_of
 meets_recorded m at len = meets_ranges (bytes_of m) at len (regions m)
 
-records_counted : (b : Bytes) (rs : List Region) → length rs ≡ length (parts_in b rs) + length (others_in rs)
+records_counted : (b : Bytes) (rs : List Region) → length rs ≡ length (heaps_in b rs) + length (others_in rs)
 records_counted b [] = refl
 records_counted b (r ∷ rs) =
     elim (cases_Bool (is_heap_kind r.kind)) [
@@ -275,11 +351,10 @@ records_counted b (r ∷ rs) =
       | inr other ↦ rw other (omega (arith, records_counted b rs))
     ]
 
-pub records_room : (m : AddressMap) → IsSound (store_of m) → leb 65 (length (store_of m).heaps) ≡ false → length (regions m) < 133
+pub records_room : (m : AddressMap) (k : Kind) (at : ℕ) → IsSound (store_of m) → HasRoom k (store_of m) at → length (regions m) < 133
 unfolding store_of
-records_room m sound room =
-    let heaps : length (parts_in (bytes_of m) (regions m)) < 65 = leb-false 65 (length (parts_in (bytes_of m) (regions m))) room in
-    omega (arith, records_counted (bytes_of m) (regions m), sound.few)
+records_room m k at sound room =
+    omega (arith, records_counted (bytes_of m) (regions m), few_heaps k (store_of m) at room sound.limits, sound.few)
 
 -- the refusals in their order
 pub begun_bad : (s : Store) (at size : ℕ) → is_heap_region s.bytes at size ≡ false → begun s at size ≡ Err HeapBadRegion
@@ -291,11 +366,11 @@ unfolding begun
 begun_over s at size good over = rw (good, over) refl
 
 pub begun_full : (s : Store) (at size : ℕ) → is_heap_region s.bytes at size ≡ true → meets_any at size s ≡ false
-    → leb 65 (length s.heaps) ≡ true → begun s at size ≡ Err HeapTableFull
+    → leb 64 (guest_count s.heaps) ≡ true → begun s at size ≡ Err HeapTableFull
 unfolding begun
 begun_full s at size good clear full = rw (good, clear, full) refl
 
-pub begun_done : (s : Store) (at size : ℕ) → MayBegin s at size → begun s at size ≡ Ok (begun_with kind.Heap s at size)
+pub begun_done : (s : Store) (at size : ℕ) → MayBegin kind.Heap s at size → begun s at size ≡ Ok (begun_with kind.Heap s at size, tt)
 unfolding begun
 begun_done s at size may = rw (may.region, may.clear, may.room) refl
 
@@ -305,4 +380,4 @@ range_end m at len mapped some = omega (arith, mapped_below m (at + len - 1) (ma
 -- a store with no record is sound
 pub sound_empty : (m : AddressMap) → regions m ≡ [] → IsSound (store_of m)
 unfolding store_of
-sound_empty m none = rw none (record { parts = tt; clear = tt; few = omega arith })
+sound_empty m none = rw none (record { heaps = tt; limits = record { guests = omega arith; areas = omega arith; place = tt }; placed = tt; apart = tt; few = omega arith })

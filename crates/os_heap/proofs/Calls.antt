@@ -1,128 +1,169 @@
 -- From one heap to the calls on all heaps.
-use Rattle.std.proofs.Common.{◌≡◌, ℕ, ◌+◌, ◌-◌, Option, Some, None, Result, Err, List, refl, sym, ◌∙◌, ap, subst}
-use Rattle.profile.specs.Outcome.{Gives, Leaves}
+use Rattle.std.proofs.Common.{true, false, [], ◌∷◌, inl, inr, ◌≢◌, ok_or, Ok, ℕ, ◌≡◌, ◌∙◌, Some, ap, ◌-◌, subst, sym, Result, refl, Err, None, Option, List, ◌+◌}
+use Rattle.std.proofs.lemmas.Bool.{cases_Bool, both_ways}
+use Rattle.profile.specs.Outcome.{bind, Gives}
 use Rattle.profile.specs.declared.error.ErrorNumber.{ErrorNumber}
-use Rattle.profile.specs.declared.error.ErrorNumber.TheVariants.{HeapBadDesc, HeapNoRoom}
-use Rattle.address_map.specs.declared.item.Item.{Item}
-use Rattle.address_map.specs.declared.region.Kind.{Kind}
-use Rattle.address_map.specs.declared.region.Region.{Region}
-use Rattle.address_map.specs.declared.map.AddressMap.{AddressMap}
+use Rattle.profile.specs.declared.error.ErrorNumber.TheVariants.{HeapNoRoom, HeapBadDesc, HeapNotABlock}
+use Rattle.address_map.specs.Records.{is_heap_kind}
+use Rattle.address_map.specs.declared.region.Kind.TheVariants as kind
+use Rattle.os_heap_lists.proofs.LiveBlocks.{IsStill, claim_still, IsStillIn, release_still}
 use Rattle.address_map.specs.Bytes.{word_at}
 use Rattle.address_map.specs.Items.{items_in}
-use Rattle.address_map.specs.Memory.{byte_at, bytes_of, layout, regions}
-use Rattle.os_heap.specs.Heap.{Part, IsHeapIn}
-use Rattle.os_heap.specs.Lists.{Claim, total_for, claimed, looked_at, released, begun_below}
-use Rattle.os_heap.specs.Links.{items_at, end_at, HasHeapAt}
-use Rattle.os_heap.specs.Claims.{Claims}
-use Rattle.os_heap.specs.Releases.{Releases}
-use Rattle.os_heap.specs.Store.{Store, part_in, store_of, parts_in, IsSound, find_part, claimed_in, got_from, got, counted_of, get_probes, released_in, gave_back_to, gave_back, walk_probes}
+use Rattle.address_map.specs.Memory.{bytes_of, byte_at, regions, layout}
+use Rattle.address_map.specs.declared.item.Item.{Item}
+use Rattle.address_map.specs.declared.map.AddressMap.{AddressMap}
+use Rattle.address_map.specs.declared.region.Kind.{Kind}
+use Rattle.address_map.specs.declared.region.Region.{Region}
+use Rattle.os_heap_lists.specs.Counts.{looked_at, begun_below}
+use Rattle.os_heap_lists.specs.Heap.{HeapList, IsHeapIn}
+use Rattle.os_heap_lists.specs.Lists.{Claim, claimed, total_for, released, live_total}
 use Rattle.os_heap.proofs.Found.{found_heap}
-use Rattle.os_heap.proofs.Stores.{store_held, sound_held}
+use Rattle.os_heap.proofs.Stores.{sound_held, store_held}
+use Rattle.os_heap.specs.Outcomes.{items_at, HasHeapAt, Claims, end_at, Releases}
+use Rattle.os_heap.specs.Store.{heap_in, find_heap, store_of, IsSound, heaps_in, others_in, has_image, is_image, Store}
+use Rattle.os_heap.specs.Calls.{got, gave_back, holding, unless_image}
+use Rattle.os_heap.specs.Probes.{get_probes, counted_of, walk_probes}
 
-abbrev pub part_at : Kind → AddressMap → ℕ → ℕ → Part
+abbrev pub part_at : Kind → AddressMap → ℕ → ℕ → HeapList
 part_at kind m start end = record { kind = kind; start = start; end = end; items = items_at m start }
 
 -- the part of the heap that a search in the records found
-pub found_part : (m : AddressMap) (heap : ℕ) (r : Region) → (r.at ≡ heap) × (find_part heap (store_of m).heaps ≡ Some (part_in (bytes_of m) r))
-    → find_part heap (store_of m).heaps ≡ Some (part_at r.kind m heap r.len)
+pub found_part : (m : AddressMap) (heap : ℕ) (r : Region) → (r.at ≡ heap) × (find_heap heap (store_of m).heaps ≡ Some (heap_in (bytes_of m) r))
+    → find_heap heap (store_of m).heaps ≡ Some (part_at r.kind m heap r.len)
 found_part m heap r found =
-    found.1 ∙ ap (λ (a : ℕ). let p : Part = record { kind = r.kind; start = a; end = r.len; items = items_in (word_at (byte_at m)) a } in Some p) found.0
+    found.1 ∙ ap (λ (a : ℕ). let p : HeapList = record { kind = r.kind; start = a; end = r.len; items = items_in (word_at (byte_at m)) a } in Some p) found.0
 
-pub heap_of-part : (kind : Kind) (m : AddressMap) (heap end : ℕ) → IsSound (store_of m) → find_part heap (store_of m).heaps ≡ Some (part_at kind m heap end)
+pub heap_of-part : (kind : Kind) (m : AddressMap) (heap end : ℕ) → IsSound (store_of m) → find_heap heap (store_of m).heaps ≡ Some (part_at kind m heap end)
     → IsHeapIn (bytes_of m) heap end (items_at m heap)
 unfolding store_of
-heap_of-part kind m heap end sound found = found_heap (bytes_of m) heap (parts_in (bytes_of m) (regions m)) (part_at kind m heap end) sound.parts found
+heap_of-part kind m heap end sound found = found_heap (bytes_of m) heap (heaps_in (bytes_of m) (regions m)) (part_at kind m heap end) sound.heaps found
 
-pub heap_there : (kind : Kind) (m : AddressMap) (heap end : ℕ) → IsSound (store_of m) → find_part heap (store_of m).heaps ≡ Some (part_at kind m heap end) → HasHeapAt m heap
+pub heap_there : (kind : Kind) (m : AddressMap) (heap end : ℕ) → IsSound (store_of m) → find_heap heap (store_of m).heaps ≡ Some (part_at kind m heap end) → HasHeapAt m heap
 heap_there kind m heap end sound found =
     let h : IsHeapIn (bytes_of m) heap end (items_at m heap) = heap_of-part kind m heap end sound found in
     subst (λ (e : ℕ). IsHeapIn (bytes_of m) heap e (items_at m heap)) (sym h.limit) h
 
 -- what a call on the heap leaves: memory, and whether all is sound
-pub record IsGiven (m n : AddressMap) (outcome : Result (Store × ℕ) ErrorNumber) (answer : Result ℕ ErrorNumber) : Type 0 where
+pub record IsGiven (A : Type 0) (m n : AddressMap) (outcome : Result (Store × A) ErrorNumber) (answer : Result A ErrorNumber) : Type 0 where
   pub store : Gives (store_of m) outcome answer (store_of n)
   pub sound : IsSound (store_of n)
   pub same : layout n ≡ layout m
 
-pub gives_none : (m n : AddressMap) (e : ErrorNumber) (answer : Result ℕ ErrorNumber) → IsSound (store_of m) → answer ≡ Err e → n ≡ m → IsGiven m n (Err e) answer
-gives_none m n e answer sound refused same = record {
+pub gives_none : (A : Type 0) (m n : AddressMap) (e : ErrorNumber) (answer : Result A ErrorNumber) → IsSound (store_of m) → answer ≡ Err e → n ≡ m
+    → IsGiven A m n (Err e) answer
+gives_none A m n e answer sound refused same = record {
   store = rw refused (refl, ap store_of same);
   sound = rw same sound;
   same = ap layout same;
 }
 
+-- the claim, by the list that it leaves
+abbrev pub claimed_in : Store → HeapList → Option Claim → Result (Store × ℕ) ErrorNumber
+claimed_in s h o = bind (ok_or o HeapNoRoom) (λ c. Ok (holding s h c.items, h.start + 16 + c.offset + 4))
+
 pub gives_claim : (kind : Kind) (m n : AddressMap) (heap end : ℕ) (answer : Result ℕ ErrorNumber) (c : Option Claim) → IsSound (store_of m)
-    → find_part heap (store_of m).heaps ≡ Some (part_at kind m heap end) → Claims m n heap end answer c
-    → IsGiven m n (claimed_in (store_of m) (part_at kind m heap end) c) answer
-gives_claim kind m n heap end answer None sound found claims = gives_none m n HeapNoRoom answer sound claims.0 claims.1
-gives_claim kind m n heap end answer (Some c) sound found claims = record {
+    → find_heap heap (store_of m).heaps ≡ Some (part_at kind m heap end)
+    → ((b t : ℕ) → live_total b (heap + 16) (items_at m heap) ≡ Some t → IsStill b t (heap + 16) c) → Claims m n heap end answer c
+    → IsGiven ℕ m n (claimed_in (store_of m) (part_at kind m heap end) c) answer
+gives_claim kind m n heap end answer None sound found still claims = gives_none ℕ m n HeapNoRoom answer sound claims.0 claims.1
+gives_claim kind m n heap end answer (Some c) sound found still claims = record {
   store = rw claims.0 (store_held m n (part_at kind m heap end) c.items sound found claims.1, refl);
-  sound = sound_held m n (part_at kind m heap end) c.items sound found claims.1;
+  sound = sound_held m n (part_at kind m heap end) c.items sound found (λ b t is live. still b t live) claims.1;
   same = claims.1.same;
 }
 
 pub get_given : (kind : Kind) (m n : AddressMap) (heap size end : ℕ) (answer : Result ℕ ErrorNumber) → IsSound (store_of m)
-    → find_part heap (store_of m).heaps ≡ Some (part_at kind m heap end)
+    → find_heap heap (store_of m).heaps ≡ Some (part_at kind m heap end)
     → Claims m n heap (end_at m heap) answer (claimed (total_for size) (end_at m heap - 16) (items_at m heap))
-    → IsGiven m n (got (store_of m) heap size) answer
+    → IsGiven ℕ m n (got (store_of m) heap size) answer
 unfolding got
 get_given kind m n heap size end answer sound found claims =
-    let limit : end_at m heap ≡ end = (heap_of-part kind m heap end sound found).limit in
-    rw found (gives_claim kind m n heap end answer (claimed (total_for size) (end - 16) (items_at m heap)) sound found
-    (subst (λ (e : ℕ). Claims m n heap e answer (claimed (total_for size) (e - 16) (items_at m heap))) limit claims))
+    let there : IsHeapIn (bytes_of m) heap end (items_at m heap) = heap_of-part kind m heap end sound found in
+    let still : (b t : ℕ) → live_total b (heap + 16) (items_at m heap) ≡ Some t → IsStill b t (heap + 16) (claimed (total_for size) (end - 16) (items_at m heap)) =
+    λ b t live. claim_still (total_for size) (end - 16) b t (heap + 16) (items_at m heap) live there.totals in
+    rw found (gives_claim kind m n heap end answer (claimed (total_for size) (end - 16) (items_at m heap)) sound found still
+    (subst (λ (e : ℕ). Claims m n heap e answer (claimed (total_for size) (e - 16) (items_at m heap))) there.limit claims))
 
-pub get_refused : (m : AddressMap) (heap size : ℕ) → find_part heap (store_of m).heaps ≡ None → got (store_of m) heap size ≡ Err HeapBadDesc
+pub get_refused : (m : AddressMap) (heap size : ℕ) → find_heap heap (store_of m).heaps ≡ None → got (store_of m) heap size ≡ Err HeapBadDesc
 unfolding got
-get_refused m heap size none = ap (got_from (store_of m) size) none
+get_refused m heap size none = rw none refl
 
-pub get_counted : (kind : Kind) (m : AddressMap) (heap size end : ℕ) → find_part heap (store_of m).heaps ≡ Some (part_at kind m heap end)
+pub get_counted : (kind : Kind) (m : AddressMap) (heap size end : ℕ) → find_heap heap (store_of m).heaps ≡ Some (part_at kind m heap end)
     → get_probes (store_of m) heap size ≡ looked_at (total_for size) (items_at m heap)
 unfolding get_probes
 get_counted kind m heap size end found = ap (counted_of (λ h. looked_at (total_for size) h.items)) found
 
-pub get_counted_none : (m : AddressMap) (heap size : ℕ) → find_part heap (store_of m).heaps ≡ None → get_probes (store_of m) heap size ≡ 0
+pub get_counted_none : (m : AddressMap) (heap size : ℕ) → find_heap heap (store_of m).heaps ≡ None → get_probes (store_of m) heap size ≡ 0
 unfolding get_probes
 get_counted_none m heap size none = ap (counted_of (λ h. looked_at (total_for size) h.items)) none
 
--- the same for a call without an answer of its own
-pub record IsLeft (m n : AddressMap) (outcome : Result Store ErrorNumber) (answer : Result (Unit {0}) ErrorNumber) : Type 0 where
-  pub store : Leaves (store_of m) outcome answer (store_of n)
-  pub sound : IsSound (store_of n)
-  pub same : layout n ≡ layout m
+-- heaps are no images, so it is enough to look at the other ranges
+image_in-others : (b : ℕ) (rs : List Region) → has_image b (others_in rs) ≡ has_image b rs
+image_in-others b [] = refl
+image_in-others b (r ∷ rs) = elim (cases_Bool (is_heap_kind r.kind)) [
+  | inl heap ↦ rw (heap, heap_no_image r.kind heap) (image_in-others b rs)
+  | inr other ↦ rw (other, image_in-others b rs) refl
+] where
+  heap_no_image : (k : Kind) → is_heap_kind k ≡ true → is_image k ≡ false
+  heap_no_image kind.Heap h = refl
+  heap_no_image kind.Rma h = refl
+  heap_no_image kind.FlexStore h = refl
+  heap_no_image kind.FlexHeader h = refl
+  heap_no_image kind.Anchor h = refl
+  heap_no_image kind.Image h = sym h
+  heap_no_image kind.SystemPage h = refl
 
-pub leaves_release : (kind : Kind) (m n : AddressMap) (heap end : ℕ) (answer : Result (Unit {0}) ErrorNumber) (items : Option (List Item)) → IsSound (store_of m)
-    → find_part heap (store_of m).heaps ≡ Some (part_at kind m heap end) → Releases m n heap end answer items
-    → IsLeft m n (released_in (store_of m) (part_at kind m heap end) items) answer
-leaves_release kind m n heap end answer None sound found releases = record {
-  store = rw releases.0 (refl, ap store_of releases.1);
-  sound = rw releases.1 sound;
-  same = ap layout releases.1;
-}
-leaves_release kind m n heap end answer (Some items) sound found releases = record {
-  store = rw releases.0 (store_held m n (part_at kind m heap end) items sound found releases.1);
-  sound = sound_held m n (part_at kind m heap end) items sound found releases.1;
+pub image_recorded : (m : AddressMap) (b : ℕ) → has_image b (store_of m).others ≡ has_image b (regions m)
+unfolding store_of
+image_recorded m b = image_in-others b (regions m)
+
+pub image_apart : (b block : ℕ) (rs : List Region) → has_image b rs ≡ true → has_image block rs ≡ false → b ≢ block
+image_apart b block rs is none same = both_ways (has_image block rs) none (subst (λ (x : ℕ). has_image x rs ≡ true) same is)
+
+-- the release, by the list that it leaves
+abbrev pub released_in : Store → HeapList → Option (List Item) → Result (Store × Unit {0}) ErrorNumber
+released_in s h o = bind (ok_or o HeapNotABlock) (λ items. Ok (holding s h items, tt))
+
+pub gives_release : (kind : Kind) (m n : AddressMap) (heap end : ℕ) (answer : Result (Unit {0}) ErrorNumber) (o : Option (List Item)) → IsSound (store_of m)
+    → find_heap heap (store_of m).heaps ≡ Some (part_at kind m heap end)
+    → ((b t : ℕ) → has_image b (store_of m).others ≡ true → live_total b (heap + 16) (items_at m heap) ≡ Some t → IsStillIn b t (heap + 16) o)
+    → Releases m n heap end answer o → IsGiven (Unit {0}) m n (released_in (store_of m) (part_at kind m heap end) o) answer
+gives_release kind m n heap end answer None sound found still releases = gives_none (Unit {0}) m n HeapNotABlock answer sound releases.0 releases.1
+gives_release kind m n heap end answer (Some items) sound found still releases = record {
+  store = rw releases.0 (store_held m n (part_at kind m heap end) items sound found releases.1, refl);
+  sound = sound_held m n (part_at kind m heap end) items sound found still releases.1;
   same = releases.1.same;
 }
 
-pub free_left : (kind : Kind) (m n : AddressMap) (heap block end : ℕ) (answer : Result (Unit {0}) ErrorNumber) → IsSound (store_of m)
-    → find_part heap (store_of m).heaps ≡ Some (part_at kind m heap end)
-    → Releases m n heap (end_at m heap) answer (released block (heap + 16) (items_at m heap))
-    → IsLeft m n (gave_back (store_of m) heap block) answer
+guest_still : (b t block at : ℕ) (rs : List Region) (xs : List Item) → has_image b rs ≡ true → live_total b at xs ≡ Some t
+    → IsStillIn b t at (unless_image (has_image block rs) (released block at xs))
+guest_still b t block at rs xs is live = elim (cases_Bool (has_image block rs)) [
+  | inl image ↦ rw image tt
+  | inr own ↦ rw own (release_still b block t at xs (image_apart b block rs is own) live)
+]
+
+pub free_given : (kind : Kind) (m n : AddressMap) (heap block end : ℕ) (answer : Result (Unit {0}) ErrorNumber) → IsSound (store_of m)
+    → find_heap heap (store_of m).heaps ≡ Some (part_at kind m heap end)
+    → Releases m n heap (end_at m heap) answer (unless_image (has_image block (regions m)) (released block (heap + 16) (items_at m heap)))
+    → IsGiven (Unit {0}) m n (gave_back (store_of m) heap block) answer
 unfolding gave_back
-free_left kind m n heap block end answer sound found releases =
+free_given kind m n heap block end answer sound found releases =
     let limit : end_at m heap ≡ end = (heap_of-part kind m heap end sound found).limit in
-    rw found (leaves_release kind m n heap end answer (released block (heap + 16) (items_at m heap)) sound found
-    (subst (λ (e : ℕ). Releases m n heap e answer (released block (heap + 16) (items_at m heap))) limit releases))
+    let rs : List Region = (store_of m).others in
+    let o : Option (List Item) = unless_image (has_image block rs) (released block (heap + 16) (items_at m heap)) in
+    let here : Releases m n heap end answer o =
+    rw (image_recorded m block) (subst (λ (e : ℕ). Releases m n heap e answer (unless_image (has_image block (regions m)) (released block (heap + 16) (items_at m heap)))) limit releases) in
+    rw found (gives_release kind m n heap end answer o sound found (λ b t is live. guest_still b t block (heap + 16) rs (items_at m heap) is live) here)
 
-pub free_refused : (m : AddressMap) (heap block : ℕ) → find_part heap (store_of m).heaps ≡ None → gave_back (store_of m) heap block ≡ Err HeapBadDesc
+pub free_refused : (m : AddressMap) (heap block : ℕ) → find_heap heap (store_of m).heaps ≡ None → gave_back (store_of m) heap block ≡ Err HeapBadDesc
 unfolding gave_back
-free_refused m heap block none = ap (gave_back_to (store_of m) block) none
+free_refused m heap block none = rw none refl
 
-pub free_counted : (kind : Kind) (m : AddressMap) (heap block end : ℕ) → find_part heap (store_of m).heaps ≡ Some (part_at kind m heap end)
+pub free_counted : (kind : Kind) (m : AddressMap) (heap block end : ℕ) → find_heap heap (store_of m).heaps ≡ Some (part_at kind m heap end)
     → walk_probes (store_of m) heap block ≡ begun_below block (heap + 16) (items_at m heap)
 unfolding walk_probes
 free_counted kind m heap block end found = ap (counted_of (λ h. begun_below block (h.start + 16) h.items)) found
 
-pub free_counted_none : (m : AddressMap) (heap block : ℕ) → find_part heap (store_of m).heaps ≡ None → walk_probes (store_of m) heap block ≡ 0
+pub free_counted_none : (m : AddressMap) (heap block : ℕ) → find_heap heap (store_of m).heaps ≡ None → walk_probes (store_of m) heap block ≡ 0
 unfolding walk_probes
 free_counted_none m heap block none = ap (counted_of (λ h. begun_below block (h.start + 16) h.items)) none

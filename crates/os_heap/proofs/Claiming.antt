@@ -1,20 +1,22 @@
 -- What a claim leaves of a heap: a free item taken, whole or its front, or a block at the base.
-use Rattle.std.proofs.Common.{◌≡◌, ◌≢◌, ℕ, ◌+◌, ◌-◌, ◌<◌, ◌≤◌, true, None, Ok, List, [], ◌∷◌, ◌++◌, inl, inr, arith, refl, sym, ◌∙◌, ap, subst, append-nil}
-use Rattle.std.proofs.lemmas.Bool.{le-leb, ne_eqb}
-use Rattle.address_map.specs.declared.item.Item.{Item}
-use Rattle.address_map.specs.declared.item.Item.TheVariants.{Live, Free}
-use Rattle.address_map.specs.declared.map.AddressMap.{AddressMap}
+use Rattle.std.proofs.Common.{◌≡◌, ◌++◌, arith, ℕ, ◌∷◌, List, ◌∙◌, inr, ◌-◌, inl, ◌+◌, sym, ap, true, ◌<◌, subst, Ok, refl, ◌≢◌, append-nil, [], ◌≤◌, None}
+use Rattle.std.proofs.lemmas.Bool.{ne_eqb, le-leb}
+use Rattle.address_map.proofs.Bytes.{is_mapped-layout}
 use Rattle.address_map.specs.Bytes.{word_at}
 use Rattle.address_map.specs.Items.{size_of, is_total}
 use Rattle.address_map.specs.Memory.{bytes_of, byte_at, layout}
-use Rattle.address_map.proofs.Bytes.{is_mapped-layout}
-use Rattle.os_heap.specs.Heap.{next_free, AreTotals, AreSpaced, IsHeapIn}
-use Rattle.os_heap.specs.Lists.{first_fit, or_at_base}
-use Rattle.os_heap.specs.Links.{last_free, link_at, IsWritten, IsFreed, Becomes}
-use Rattle.os_heap.specs.Claims.{IsFit, Claims}
-use Rattle.os_heap.proofs.Unique.{total_facts}
-use Rattle.os_heap.proofs.Spelling.{size_of-append, totals-front, totals-back, spaced-join, spaced-back, spaced-before, spells-back, spells-kept, total_of-numbers}
-use Rattle.os_heap.proofs.Replace.{LinkFacts, link_facts, link_word, becomes}
+use Rattle.address_map.specs.declared.item.Item.{Item}
+use Rattle.address_map.specs.declared.item.Item.TheVariants.{Live, Free}
+use Rattle.address_map.specs.declared.map.AddressMap.{AddressMap}
+use Rattle.os_heap_lists.proofs.LastLink.{LinkFacts, link_facts, link_word}
+use Rattle.os_heap_lists.proofs.Reading.{total_facts}
+use Rattle.os_heap_lists.proofs.Spelling.{totals-back, spells-back, spells-kept, spaced-before, spaced-join, size_of-append, spaced-back, totals-front, total_of-numbers}
+use Rattle.os_heap_lists.specs.Heap.{AreTotals, next_free, last_free, IsHeapIn, AreSpaced}
+use Rattle.os_heap_lists.specs.Lists.{first_fit, or_at_base}
+use Rattle.os_heap_lists.specs.Walks.{IsFit}
+use Rattle.os_heap_lists.specs.Words.{IsWritten, link_at, IsFreed}
+use Rattle.os_heap.proofs.Replace.{becomes}
+use Rattle.os_heap.specs.Outcomes.{Becomes, Claims}
 
 -- all of a free item is taken
 taken_whole : (m n : AddressMap) (start end : ℕ) (before rest : List Item) (t : ℕ) (g : ℕ → ℕ)

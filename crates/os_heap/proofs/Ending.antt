@@ -1,29 +1,31 @@
 -- A heap that gets another end: the word that tells it is written, and the length of its record changed.
-use Rattle.std.proofs.Common.{◌≡◌, ◌≢◌, ◌⊎◌, ℕ, ◌+◌, ◌-◌, ◌≤◌, ◌<◌, ◌==◌, Bool, true, false, List, [], ◌∷◌, Some, arith, refl, sym, ap, subst, ◌∙◌, inl, inr}
+use Rattle.std.proofs.Common.{◌≡◌, arith, ◌≤◌, ℕ, Bool, List, ◌∙◌, inr, ◌-◌, inl, ◌+◌, ap, refl, ◌≢◌, sym, ◌<◌, ◌⊎◌, [], ◌∷◌, true, subst, ◌==◌, false, Some}
+use Rattle.std.proofs.lemmas.Bool.{le-leb, false≢true, cases_lt, lt-ltb, eqb-true, cases_Bool, ne_eqb, both_ways, eq-eqb, or_parts, ltb-false}
 use Rattle.std.specs.List.{list_any}
-use Rattle.std.proofs.lemmas.Bool.{cases_Bool, cases_lt, or_parts, eqb-true, eq-eqb, ne_eqb, lt-ltb, ltb-false, le-leb, both_ways, false≢true}
-use Rattle.address_map.specs.declared.region.Kind.TheVariants as kind
-use Rattle.address_map.specs.declared.region.Kind.{Kind}
-use Rattle.address_map.specs.declared.region.Region.{Region}
-use Rattle.address_map.specs.declared.map.AddressMap.{AddressMap}
-use Rattle.address_map.specs.declared.item.Item.{Item}
-use Rattle.address_map.specs.Bytes.{Bytes, in_range, word_at}
-use Rattle.address_map.specs.Items.{size_of, items_in}
-use Rattle.address_map.specs.Records.{is_heap_kind, is_record, with_len}
-use Rattle.address_map.specs.Memory.{byte_at, bytes_of, is_mapped, layout, regions}
 use Rattle.address_map.proofs.Bytes.{is_mapped-layout}
 use Rattle.address_map.proofs.Lengths.{record_parts}
 use Rattle.address_map.proofs.Stores.{in_range-cases}
-use Rattle.os_heap.specs.Changes.{with_end, ending, has_own_size}
-use Rattle.os_heap.specs.Ends.{MayEnd}
-use Rattle.os_heap.specs.Heap.{Part, IsHeapIn, with_part}
-use Rattle.os_heap.specs.Links.{AreApart, IsWritten, Becomes}
-use Rattle.os_heap.specs.Store.{Store, part_in, parts_in, others_in, store_of, AreClear, IsClearOfHeaps, ArePartsIn, AreOthersClear, IsSound, find_part, meets, meets_any}
-use Rattle.os_heap.proofs.Added.{CanHold, can_hold, clear_of_heaps, clear_unless}
+use Rattle.address_map.specs.Bytes.{word_at, Bytes, in_range}
+use Rattle.address_map.specs.Items.{size_of, items_in}
+use Rattle.address_map.specs.Memory.{layout, byte_at, bytes_of, regions, is_mapped}
+use Rattle.address_map.specs.Records.{is_heap_kind, with_len, is_record, are_same}
+use Rattle.address_map.specs.declared.item.Item.{Item}
+use Rattle.address_map.specs.declared.map.AddressMap.{AddressMap}
+use Rattle.address_map.specs.declared.region.Kind.{Kind}
+use Rattle.address_map.specs.declared.region.Region.{Region}
+use Rattle.os_heap_lists.proofs.HeapWords.{heap_kept, cons_part}
+use Rattle.os_heap_lists.proofs.Reading.{items_in-heap}
+use Rattle.os_heap_lists.proofs.Spelling.{spells-kept}
+use Rattle.os_heap_lists.specs.Heap.{IsHeapIn, HeapList, with_heap}
+use Rattle.os_heap_lists.specs.Words.{IsWritten, AreApart}
+use Rattle.os_heap.proofs.Added.{CanHold, clear_unless, clear_of_heaps, can_hold}
 use Rattle.os_heap.proofs.Found.{found_heap}
-use Rattle.os_heap.proofs.Spelling.{spells-kept}
-use Rattle.os_heap.proofs.Stores.{heap_kept, bytes_held, clear_of-found, AreOthers, are_others, cons_part, clear_both_ways}
-use Rattle.os_heap.proofs.Unique.{items_in-heap}
+use Rattle.os_heap.proofs.Stores.{SamePlaces, same_limits, AreOthers, clear_both_ways, clear_of-found, are_others, bytes_held}
+use Rattle.os_heap.specs.Calls.{with_end, has_own_size, ending}
+use Rattle.os_heap.specs.Ranges.{MayEnd, meets, meets_any}
+use Rattle.os_heap.specs.Outcomes.{Becomes}
+use Rattle.os_heap.specs.Store.{AreClear, IsClearOfHeaps, AreHeapsIn, ArePlaced, IsImageIn, find_heap, Store, others_in, heap_in, heaps_in, IsSound, store_of}
+use Rattle.address_map.specs.declared.region.Kind.TheVariants as kind
 
 -- the heap with the other end, spelled by the bytes after the word was written
 pub end_written : (b c : Bytes) (start end other : ℕ) (items : List Item) → IsHeapIn b start end items → CanHold b start other → 16 + size_of items ≤ other
@@ -57,14 +59,14 @@ clear_grown start end other at len clear grown a inside =
     ]
 
 -- each heap is the one, or shares no byte with it, whichever end it has
-abbrev IsBeside : Part → ℕ → Part → Type 0
+abbrev IsBeside : HeapList → ℕ → HeapList → Type 0
 IsBeside h end g = (g ≡ h) ⊎ ((g.start ≢ h.start) × (AreClear h.start h.end g.start g.end × AreClear h.start end g.start g.end))
 
-abbrev AreBeside : Part → ℕ → List Part → Type 0
+abbrev AreBeside : HeapList → ℕ → List HeapList → Type 0
 AreBeside h end [] = Unit {0}
 AreBeside h end (g ∷ gs) = IsBeside h end g × AreBeside h end gs
 
-are_beside : (h : Part) (end : ℕ) (hs : List Part) → AreOthers h hs → (h.end < end → IsClearOfHeaps (h.start + h.end) (end - h.end) hs)
+are_beside : (h : HeapList) (end : ℕ) (hs : List HeapList) → AreOthers h hs → (h.end < end → IsClearOfHeaps (h.start + h.end) (end - h.end) hs)
     → AreBeside h end hs
 are_beside h end [] others grown = tt
 are_beside h end (g ∷ hs) others grown = (
@@ -76,7 +78,7 @@ are_beside h end (g ∷ hs) others grown = (
 )
 
 -- none of the heaps is the one
-abbrev AreElsewhere : Part → List Part → Type 0
+abbrev AreElsewhere : HeapList → List HeapList → Type 0
 AreElsewhere h [] = Unit {0}
 AreElsewhere h (g ∷ gs) = ((g.start ≢ h.start) × AreClear h.start h.end g.start g.end) × AreElsewhere h gs
 
@@ -85,18 +87,18 @@ not_clear start end some clear =
     let here : in_range start end start ≡ true = rw (le-leb start start (omega arith), lt-ltb start (start + end) (omega arith)) refl in
     false≢true (sym (clear start here) ∙ here)
 
-elsewhere : (h : Part) (end : ℕ) (hs : List Part) → 0 < h.end → IsClearOfHeaps h.start h.end hs → AreBeside h end hs → AreElsewhere h hs
+elsewhere : (h : HeapList) (end : ℕ) (hs : List HeapList) → 0 < h.end → IsClearOfHeaps h.start h.end hs → AreBeside h end hs → AreElsewhere h hs
 elsewhere h end [] some clear beside = tt
 elsewhere h end (g ∷ hs) some clear beside =
     elim beside.0 [
       | inl same ↦
-          let own : AreClear h.start h.end h.start h.end = subst (λ (x : Part). AreClear h.start h.end x.start x.end) same clear.0 in
+          let own : AreClear h.start h.end h.start h.end = subst (λ (x : HeapList). AreClear h.start h.end x.start x.end) same clear.0 in
           absurd (not_clear h.start h.end some own)
       | inr apart ↦ ((apart.0, apart.1.0), elsewhere h end hs some clear.1 beside.1)
     ]
 
 -- a range that does not meet the heap with its other end
-clear-ended : (at len start end : ℕ) (hs : List Part) → IsClearOfHeaps at len hs → AreClear at len start end → IsClearOfHeaps at len (with_end start end hs)
+clear-ended : (at len start end : ℕ) (hs : List HeapList) → IsClearOfHeaps at len hs → AreClear at len start end → IsClearOfHeaps at len (with_end start end hs)
 clear-ended at len start end [] clear apart = tt
 clear-ended at len start end (g ∷ hs) clear apart =
     elim (cases_Bool (g.start == start)) [
@@ -104,24 +106,24 @@ clear-ended at len start end (g ∷ hs) clear apart =
       | inr other ↦ rw other (clear.0, clear-ended at len start end hs clear.1 apart)
     ]
 
-clear-elsewhere : (at len : ℕ) (h : Part) (end : ℕ) (hs : List Part) → IsClearOfHeaps at len hs → AreElsewhere h hs → IsClearOfHeaps at len (with_end h.start end hs)
+clear-elsewhere : (at len : ℕ) (h : HeapList) (end : ℕ) (hs : List HeapList) → IsClearOfHeaps at len hs → AreElsewhere h hs → IsClearOfHeaps at len (with_end h.start end hs)
 clear-elsewhere at len h end [] clear others = tt
 clear-elsewhere at len h end (g ∷ hs) clear others =
     rw (ne_eqb g.start h.start others.0.0) (clear.0, clear-elsewhere at len h end hs clear.1 others.1)
 
-clear_head : (h : Part) (end : ℕ) (hs : List Part) → 0 < h.end → IsClearOfHeaps h.start h.end hs → AreBeside h end hs
+clear_head : (h : HeapList) (end : ℕ) (hs : List HeapList) → 0 < h.end → IsClearOfHeaps h.start h.end hs → AreBeside h end hs
     → IsClearOfHeaps h.start end (with_end h.start end hs)
 clear_head h end [] some clear beside = tt
 clear_head h end (g ∷ hs) some clear beside =
     elim beside.0 [
       | inl same ↦
-          let own : AreClear h.start h.end h.start h.end = subst (λ (x : Part). AreClear h.start h.end x.start x.end) same clear.0 in
+          let own : AreClear h.start h.end h.start h.end = subst (λ (x : HeapList). AreClear h.start h.end x.start x.end) same clear.0 in
           absurd (not_clear h.start h.end some own)
       | inr apart ↦ rw (ne_eqb g.start h.start apart.0) (apart.1.1, clear_head h end hs some clear.1 beside.1)
     ]
 
 -- a heap that does not hold the word
-heap_beside : (b c : Bytes) (h g : Part) → 16 ≤ h.end → c.mapped ≡ b.mapped → ((a : ℕ) → AreApart a 1 (h.start + 12) 4 → c.at a ≡ b.at a)
+heap_beside : (b c : Bytes) (h g : HeapList) → 16 ≤ h.end → c.mapped ≡ b.mapped → ((a : ℕ) → AreApart a 1 (h.start + 12) 4 → c.at a ≡ b.at a)
     → AreClear h.start h.end g.start g.end → IsHeapIn b g.start g.end g.items → IsHeapIn c g.start g.end g.items
 heap_beside b c h g long mapped kept clear heap =
     heap_kept b c g.start g.end g.items heap mapped (λ a low high. kept a (
@@ -133,16 +135,16 @@ heap_beside b c h g long mapped kept clear heap =
     ]
     ))
 
-parts_ended : (b c : Bytes) (h : Part) (end : ℕ) (hs : List Part) → 16 ≤ h.end → c.mapped ≡ b.mapped
+parts_ended : (b c : Bytes) (h : HeapList) (end : ℕ) (hs : List HeapList) → 16 ≤ h.end → c.mapped ≡ b.mapped
     → ((a : ℕ) → AreApart a 1 (h.start + 12) 4 → c.at a ≡ b.at a) → IsHeapIn c h.start end h.items
-    → AreBeside h end hs → ArePartsIn b hs → ArePartsIn c (with_end h.start end hs)
+    → AreBeside h end hs → AreHeapsIn b hs → AreHeapsIn c (with_end h.start end hs)
 parts_ended b c h end [] long mapped kept heap beside parts = tt
 parts_ended b c h end (g ∷ hs) long mapped kept heap beside parts =
     elim beside.0 [
       | inl same ↦
-          let start : g.start ≡ h.start = ap (λ (x : Part). x.start) same in
-          let items : g.items ≡ h.items = ap (λ (x : Part). x.items) same in
-          let clear : IsClearOfHeaps h.start h.end hs = subst (λ (x : Part). IsClearOfHeaps x.start x.end hs) same parts.1.0 in
+          let start : g.start ≡ h.start = ap (λ (x : HeapList). x.start) same in
+          let items : g.items ≡ h.items = ap (λ (x : HeapList). x.items) same in
+          let clear : IsClearOfHeaps h.start h.end hs = subst (λ (x : HeapList). IsClearOfHeaps x.start x.end hs) same parts.1.0 in
           rw (eq-eqb g.start h.start start) (
             rw (start, items) heap,
             (rw start (clear_head h end hs (omega arith) clear beside.1), parts_ended b c h end hs long mapped kept heap beside.1 parts.1.1),
@@ -157,30 +159,53 @@ parts_ended b c h end (g ∷ hs) long mapped kept heap beside parts =
           )
     ]
 
-others_ended : (h : Part) (end : ℕ) (hs : List Part) (rs : List Region) → find_part h.start hs ≡ Some h
+image_ended : (r : Region) (start end : ℕ) (hs : List HeapList) → IsImageIn hs r → IsImageIn (with_end start end hs) r
+image_ended r start end [] image = image
+image_ended r start end (g ∷ hs) image = elim (cases_Bool (g.start == start)) [
+  | inl here ↦ rw here (elim image [
+    | inl own ↦ inl (record { image = own.image; area = own.area; live = own.live })
+    | inr later ↦ inr (image_ended r start end hs later)
+  ])
+  | inr other ↦ rw other (elim image [ inl own ↦ inl own | inr later ↦ inr (image_ended r start end hs later) ])
+]
+
+others_ended : (h : HeapList) (end : ℕ) (hs : List HeapList) (rs : List Region) → find_heap h.start hs ≡ Some h
     → (h.end < end → list_any (λ r. meets (h.start + h.end) (end - h.end) r.at r.len) rs ≡ false)
-    → AreOthersClear hs rs → AreOthersClear (with_end h.start end hs) rs
-others_ended h end hs [] found grown clear = tt
-others_ended h end hs (r ∷ rs) found grown clear =
-    let own : AreClear h.start h.end r.at r.len = clear_both_ways r.at r.len h.start h.end (clear_of-found r.at r.len h.start hs h clear.0 found) in
-    let parts = λ (more : h.end < end). or_parts (meets (h.start + h.end) (end - h.end) r.at r.len) (list_any (λ r. meets (h.start + h.end) (end - h.end) r.at r.len) rs) (grown more) in
-    let apart : AreClear h.start end r.at r.len = clear_grown h.start h.end end r.at r.len own (λ more. clear_unless (h.start + h.end) (end - h.end) r.at r.len (parts more).0) in
-    (clear-ended r.at r.len h.start end hs clear.0 (clear_both_ways h.start end r.at r.len apart), others_ended h end hs rs found (λ more. (parts more).1) clear.1)
+    → ArePlaced hs rs → ArePlaced (with_end h.start end hs) rs
+others_ended h end hs [] found grown placed = tt
+others_ended h end hs (r ∷ rs) found grown placed =
+    let parts = λ (more : h.end < end). or_parts (meets (h.start + h.end) (end - h.end) r.at r.len) (list_any (λ r. meets (h.start + h.end) (end - h.end) r.at r.len) rs) (grown more) in (
+      elim placed.0 [
+        | inr image ↦ inr (image_ended r h.start end hs image)
+        | inl clear ↦
+            let own : AreClear h.start h.end r.at r.len = clear_both_ways r.at r.len h.start h.end (clear_of-found r.at r.len h.start hs h clear found) in
+            let apart : AreClear h.start end r.at r.len = clear_grown h.start h.end end r.at r.len own (λ more. clear_unless (h.start + h.end) (end - h.end) r.at r.len (parts more).0) in
+            inl (clear-ended r.at r.len h.start end hs clear (clear_both_ways h.start end r.at r.len apart))
+      ],
+      others_ended h end hs rs found (λ more. (parts more).1) placed.1,
+    )
+
+places-ended : (start end : ℕ) (hs : List HeapList) → SamePlaces hs (with_end start end hs)
+places-ended start end [] = tt
+places-ended start end (h ∷ hs) = elim (cases_Bool (h.start == start)) [
+  | inl here ↦ rw here ((refl, refl), places-ended start end hs)
+  | inr other ↦ rw other ((refl, refl), places-ended start end hs)
+]
 
 -- what MayEnd says of the ranges
-may_grow : (s : Store) (h : Part) (end : ℕ) → MayEnd s h end → h.end < end → meets_any (h.start + h.end) (end - h.end) s ≡ false
+may_grow : (s : Store) (h : HeapList) (end : ℕ) → MayEnd s h end → h.end < end → meets_any (h.start + h.end) (end - h.end) s ≡ false
 may_grow s h end may more =
     let clear = may.clear in
     rw (lt-ltb h.end end more) at clear
 
-heaps_clear : (s : Store) (h : Part) (end : ℕ) → MayEnd s h end → h.end < end → IsClearOfHeaps (h.start + h.end) (end - h.end) s.heaps
+heaps_clear : (s : Store) (h : HeapList) (end : ℕ) → MayEnd s h end → h.end < end → IsClearOfHeaps (h.start + h.end) (end - h.end) s.heaps
 heaps_clear s h end may more =
     let at : ℕ = h.start + h.end in
     let len : ℕ = end - h.end in
     let none = or_parts (list_any (λ g. meets at len g.start g.end) s.heaps) (list_any (λ r. meets at len r.at r.len) s.others) (may_grow s h end may more) in
     clear_of_heaps at len s.heaps none.0
 
-ranges_clear : (s : Store) (h : Part) (end : ℕ) → MayEnd s h end → h.end < end
+ranges_clear : (s : Store) (h : HeapList) (end : ℕ) → MayEnd s h end → h.end < end
     → list_any (λ r. meets (h.start + h.end) (end - h.end) r.at r.len) s.others ≡ false
 ranges_clear s h end may more =
     let at : ℕ = h.start + h.end in
@@ -189,48 +214,57 @@ ranges_clear s h end may more =
     none.1
 
 -- the records after the length of one changed
-own_kind : (k : Kind) → has_own_size k ≡ true → k ≡ kind.Heap
-own_kind kind.Heap own = refl
-own_kind kind.Rma own = absurd (false≢true own)
-own_kind kind.FlexStore own = absurd (false≢true own)
-own_kind kind.FlexHeader own = absurd (false≢true own)
-own_kind kind.Anchor own = absurd (false≢true own)
-own_kind kind.Image own = absurd (false≢true own)
-own_kind kind.SystemPage own = absurd (false≢true own)
+same_kind : (k : Kind) → is_heap_kind k ≡ true → are_same k k ≡ true
+same_kind kind.Heap heap = refl
+same_kind kind.Rma heap = refl
+same_kind kind.FlexStore heap = absurd (false≢true heap)
+same_kind kind.FlexHeader heap = absurd (false≢true heap)
+same_kind kind.Anchor heap = absurd (false≢true heap)
+same_kind kind.Image heap = absurd (false≢true heap)
+same_kind kind.SystemPage heap = absurd (false≢true heap)
 
-others_in-ended : (at len : ℕ) (rs : List Region) → others_in (with_len rs kind.Heap at len) ≡ others_in rs
-others_in-ended at len [] = refl
-others_in-ended at len (r ∷ rs) =
-    elim (cases_Bool (is_record kind.Heap at r)) [
+pub own_heap : (k : Kind) → has_own_size k ≡ true → is_heap_kind k ≡ true
+own_heap kind.Heap own = refl
+own_heap kind.Rma own = refl
+own_heap kind.FlexStore own = absurd (false≢true own)
+own_heap kind.FlexHeader own = absurd (false≢true own)
+own_heap kind.Anchor own = absurd (false≢true own)
+own_heap kind.Image own = absurd (false≢true own)
+own_heap kind.SystemPage own = absurd (false≢true own)
+
+others_in-ended : (k : Kind) (at len : ℕ) (rs : List Region) → is_heap_kind k ≡ true → others_in (with_len rs k at len) ≡ others_in rs
+others_in-ended k at len [] own = refl
+others_in-ended k at len (r ∷ rs) own =
+    elim (cases_Bool (is_record k at r)) [
       | inl here ↦
-          let heap : is_heap_kind r.kind ≡ true = rw (record_parts kind.Heap at r here).0 refl in
+          let heap : is_heap_kind r.kind ≡ true = ap is_heap_kind (record_parts k at r here).0 ∙ own in
           rw (here, heap) refl
       | inr other ↦ rw other (elim (cases_Bool (is_heap_kind r.kind)) [
-        | inl heap ↦ rw heap (others_in-ended at len rs)
-        | inr plain ↦ rw plain (ap (λ (xs : List Region). r ∷ xs) (others_in-ended at len rs))
+        | inl heap ↦ rw heap (others_in-ended k at len rs own)
+        | inr plain ↦ rw plain (ap (λ (xs : List Region). r ∷ xs) (others_in-ended k at len rs own))
       ])
     ]
 
 same_part : (k : Kind) (start end : ℕ) (xs ys : List Item) → xs ≡ ys
-    → (let p : Part = record { kind = k; start = start; end = end; items = xs } in let q : Part = record { kind = k; start = start; end = end; items = ys } in p ≡ q)
+    → (let p : HeapList = record { kind = k; start = start; end = end; items = xs } in let q : HeapList = record { kind = k; start = start; end = end; items = ys } in p ≡ q)
 same_part k start end xs ys same = λ i. record { kind = k; start = start; end = end; items = same i }
 
 -- the bytes after the word of the end was written, and what is known of the heap in them
-record IsEnded (b c : Bytes) (h : Part) (end : ℕ) : Type 0 where
+record IsEnded (b c : Bytes) (h : HeapList) (end : ℕ) : Type 0 where
   pub long : 16 ≤ h.end
   pub mapped : c.mapped ≡ b.mapped
   pub kept : (a : ℕ) → AreApart a 1 (h.start + 12) 4 → c.at a ≡ b.at a
   pub heap : IsHeapIn c h.start end h.items
 
-read_beside : (b c : Bytes) (h : Part) (end : ℕ) (r : Region) → IsEnded b c h end → AreClear h.start h.end r.at r.len
-    → IsHeapIn b r.at r.len (items_in (word_at b.at) r.at) → part_in c r ≡ part_in b r
+read_beside : (b c : Bytes) (h : HeapList) (end : ℕ) (r : Region) → IsEnded b c h end → AreClear h.start h.end r.at r.len
+    → IsHeapIn b r.at r.len (items_in (word_at b.at) r.at) → heap_in c r ≡ heap_in b r
 read_beside b c h end r ended clear heap =
     same_part r.kind r.at r.len _ _
-    (items_in-heap c r.at r.len (items_in (word_at b.at) r.at) (heap_beside b c h (part_in b r) ended.long ended.mapped ended.kept clear heap))
+    (items_in-heap c r.at r.len (items_in (word_at b.at) r.at) (heap_beside b c h (heap_in b r) ended.long ended.mapped ended.kept clear heap))
 
 -- the heaps behind that whose end changed
-read_elsewhere : (b c : Bytes) (h : Part) (end : ℕ) (rs : List Region) → IsEnded b c h end → AreElsewhere h (parts_in b rs) → ArePartsIn b (parts_in b rs)
-    → parts_in c rs ≡ with_end h.start end (parts_in b rs)
+read_elsewhere : (b c : Bytes) (h : HeapList) (end : ℕ) (rs : List Region) → IsEnded b c h end → AreElsewhere h (heaps_in b rs) → AreHeapsIn b (heaps_in b rs)
+    → heaps_in c rs ≡ with_end h.start end (heaps_in b rs)
 read_elsewhere b c h end [] ended others parts = refl
 read_elsewhere b c h end (r ∷ rs) ended others parts =
     elim (cases_Bool (is_heap_kind r.kind)) [
@@ -243,78 +277,78 @@ read_elsewhere b c h end (r ∷ rs) ended others parts =
       | inr plain ↦ rw plain (read_elsewhere b c h end rs ended (rw plain at others) (rw plain at parts))
     ]
 
-read_ended : (b c : Bytes) (h : Part) (end : ℕ) (rs : List Region) → h.kind ≡ kind.Heap → IsEnded b c h end
-    → AreBeside h end (parts_in b rs) → ArePartsIn b (parts_in b rs)
-    → parts_in c (with_len rs kind.Heap h.start end) ≡ with_end h.start end (parts_in b rs)
+read_ended : (b c : Bytes) (h : HeapList) (end : ℕ) (rs : List Region) → is_heap_kind h.kind ≡ true → IsEnded b c h end
+    → AreBeside h end (heaps_in b rs) → AreHeapsIn b (heaps_in b rs)
+    → heaps_in c (with_len rs h.kind h.start end) ≡ with_end h.start end (heaps_in b rs)
 read_ended b c h end [] own ended beside parts = refl
 read_ended b c h end (r ∷ rs) own ended beside parts =
     elim (cases_Bool (is_heap_kind r.kind)) [
       | inl heap ↦
           let beside' = rw heap at beside in
           let parts' = rw heap at parts in
-          rw heap (elim (cases_Bool (is_record kind.Heap h.start r)) [
+          rw heap (elim (cases_Bool (is_record h.kind h.start r)) [
             | inl here ↦ read_here here heap beside'.0 beside'.1 parts'.1.0 parts'.1.1
             | inr other ↦ read_other other heap beside'.0 parts'.0 (read_ended b c h end rs own ended beside'.1 parts'.1.1)
           ])
       | inr plain ↦
-          let other : is_record kind.Heap h.start r ≡ false = not_record plain in
+          let other : is_record h.kind h.start r ≡ false = not_record plain in
           rw (other, plain) (read_ended b c h end rs own ended (rw plain at beside) (rw plain at parts))
     ] where
-      not_record : is_heap_kind r.kind ≡ false → is_record kind.Heap h.start r ≡ false
-      not_record plain = elim (cases_Bool (is_record kind.Heap h.start r)) [
+      not_record : is_heap_kind r.kind ≡ false → is_record h.kind h.start r ≡ false
+      not_record plain = elim (cases_Bool (is_record h.kind h.start r)) [
         | inl here ↦
-            let heap : is_heap_kind r.kind ≡ true = rw (record_parts kind.Heap h.start r here).0 refl in
+            let heap : is_heap_kind r.kind ≡ true = ap is_heap_kind (record_parts h.kind h.start r here).0 ∙ own in
             absurd (both_ways (is_heap_kind r.kind) plain heap)
         | inr other ↦ other
       ]
 
-      read_here : is_record kind.Heap h.start r ≡ true → is_heap_kind r.kind ≡ true → IsBeside h end (part_in b r) → AreBeside h end (parts_in b rs)
-          → IsClearOfHeaps r.at r.len (parts_in b rs) → ArePartsIn b (parts_in b rs)
-          → parts_in c (with_len (r ∷ rs) kind.Heap h.start end) ≡ with_end h.start end (part_in b r ∷ parts_in b rs)
+      read_here : is_record h.kind h.start r ≡ true → is_heap_kind r.kind ≡ true → IsBeside h end (heap_in b r) → AreBeside h end (heaps_in b rs)
+          → IsClearOfHeaps r.at r.len (heaps_in b rs) → AreHeapsIn b (heaps_in b rs)
+          → heaps_in c (with_len (r ∷ rs) h.kind h.start end) ≡ with_end h.start end (heap_in b r ∷ heaps_in b rs)
       read_here here heap (inl same) beside clear parts =
-          let start : r.at ≡ h.start = ap (λ (x : Part). x.start) same in
-          let clear' : IsClearOfHeaps h.start h.end (parts_in b rs) = subst (λ (x : Part). IsClearOfHeaps x.start x.end (parts_in b rs)) same clear in
-          let items : items_in (word_at b.at) r.at ≡ h.items = ap (λ (x : Part). x.items) same in
+          let start : r.at ≡ h.start = ap (λ (x : HeapList). x.start) same in
+          let clear' : IsClearOfHeaps h.start h.end (heaps_in b rs) = subst (λ (x : HeapList). IsClearOfHeaps x.start x.end (heaps_in b rs)) same clear in
+          let items : items_in (word_at b.at) r.at ≡ h.items = ap (λ (x : HeapList). x.items) same in
           let list : items_in (word_at c.at) r.at ≡ items_in (word_at b.at) r.at =
           rw start (items_in-heap c h.start end h.items ended.heap) ∙ sym items in
           rw (here, heap, eq-eqb r.at h.start start) (
           cons_part _ _ _ _ (same_part r.kind r.at end _ _ list)
-          (read_elsewhere b c h end rs ended (elsewhere h end (parts_in b rs) (omega (arith, ended.long)) clear' beside) parts)
+          (read_elsewhere b c h end rs ended (elsewhere h end (heaps_in b rs) (omega (arith, ended.long)) clear' beside) parts)
           )
-      read_here here heap (inr apart) beside clear parts = absurd (apart.0 (record_parts kind.Heap h.start r here).1)
+      read_here here heap (inr apart) beside clear parts = absurd (apart.0 (record_parts h.kind h.start r here).1)
 
-      read_other : is_record kind.Heap h.start r ≡ false → is_heap_kind r.kind ≡ true → IsBeside h end (part_in b r)
+      read_other : is_record h.kind h.start r ≡ false → is_heap_kind r.kind ≡ true → IsBeside h end (heap_in b r)
           → IsHeapIn b r.at r.len (items_in (word_at b.at) r.at)
-          → parts_in c (with_len rs kind.Heap h.start end) ≡ with_end h.start end (parts_in b rs)
-          → parts_in c (with_len (r ∷ rs) kind.Heap h.start end) ≡ with_end h.start end (part_in b r ∷ parts_in b rs)
+          → heaps_in c (with_len rs h.kind h.start end) ≡ with_end h.start end (heaps_in b rs)
+          → heaps_in c (with_len (r ∷ rs) h.kind h.start end) ≡ with_end h.start end (heap_in b r ∷ heaps_in b rs)
       read_other other heap (inl same) here rest =
-          let start : r.at ≡ h.start = ap (λ (x : Part). x.start) same in
-          let k : r.kind ≡ kind.Heap = ap (λ (x : Part). x.kind) same ∙ own in
-          let is : is_record kind.Heap h.start r ≡ true = rw (k, eq-eqb r.at h.start start) refl in
-          absurd (both_ways (is_record kind.Heap h.start r) other is)
+          let start : r.at ≡ h.start = ap (λ (x : HeapList). x.start) same in
+          let k : r.kind ≡ h.kind = ap (λ (x : HeapList). x.kind) same in
+          let is : is_record h.kind h.start r ≡ true = rw (k, same_kind h.kind own, eq-eqb r.at h.start start) refl in
+          absurd (both_ways (is_record h.kind h.start r) other is)
       read_other other heap (inr apart) here rest =
           rw (other, heap, ne_eqb r.at h.start apart.0) (cons_part _ _ _ _ (read_beside b c h end r ended apart.1.0 here) rest)
 
 -- what a call that changes the end leaves of memory and the records
-pub record EndsAt (m n : AddressMap) (h : Part) (end : ℕ) : Type 0 where
+pub record EndsAt (m n : AddressMap) (h : HeapList) (end : ℕ) : Type 0 where
   pub sound : IsSound (store_of m)
-  pub found : find_part h.start (store_of m).heaps ≡ Some h
-  pub own : has_own_size h.kind ≡ true
+  pub found : find_heap h.start (store_of m).heaps ≡ Some h
+  pub own : is_heap_kind h.kind ≡ true
   pub may : MayEnd (store_of m) h end
   pub same : layout n ≡ layout m
   pub word : IsWritten (byte_at m) (byte_at n) (h.start + 12) end
 
-old_heap : (m n : AddressMap) (h : Part) (end : ℕ) → EndsAt m n h end → IsHeapIn (bytes_of m) h.start h.end h.items
+old_heap : (m n : AddressMap) (h : HeapList) (end : ℕ) → EndsAt m n h end → IsHeapIn (bytes_of m) h.start h.end h.items
 unfolding store_of
-old_heap m n h end e = found_heap (bytes_of m) h.start (parts_in (bytes_of m) (regions m)) h e.sound.parts e.found
+old_heap m n h end e = found_heap (bytes_of m) h.start (heaps_in (bytes_of m) (regions m)) h e.sound.heaps e.found
 
-new_heap : (m n : AddressMap) (h : Part) (end : ℕ) → EndsAt m n h end → IsHeapIn (bytes_of n) h.start end h.items
+new_heap : (m n : AddressMap) (h : HeapList) (end : ℕ) → EndsAt m n h end → IsHeapIn (bytes_of n) h.start end h.items
 unfolding store_of
 new_heap m n h end e =
     end_written (bytes_of m) (bytes_of n) h.start h.end end h.items (old_heap m n h end e) (can_hold (bytes_of m) h.start end e.may.region)
     (ltb-false end (16 + size_of h.items) e.may.inside) (is_mapped-layout m n e.same) e.word
 
-ended_bytes : (m n : AddressMap) (h : Part) (end : ℕ) → EndsAt m n h end → IsEnded (bytes_of m) (bytes_of n) h end
+ended_bytes : (m n : AddressMap) (h : HeapList) (end : ℕ) → EndsAt m n h end → IsEnded (bytes_of m) (bytes_of n) h end
 ended_bytes m n h end e = record {
   long = omega (arith, (old_heap m n h end e).inside);
   mapped = is_mapped-layout m n e.same;
@@ -322,43 +356,45 @@ ended_bytes m n h end e = record {
   heap = new_heap m n h end e;
 }
 
-becomes_ended : (m n : AddressMap) (h : Part) (end : ℕ) → EndsAt m n h end → Becomes m n h.start end h.items
+becomes_ended : (m n : AddressMap) (h : HeapList) (end : ℕ) → EndsAt m n h end → Becomes m n h.start end h.items
 becomes_ended m n h end e = record {
   heap = new_heap m n h end e;
   same = e.same;
   others = λ a apart out. e.word.other a (elim apart [ inl low ↦ inl (omega arith) | inr high ↦ inr (omega arith) ]);
 }
 
-all_beside : (m n : AddressMap) (h : Part) (end : ℕ) → EndsAt m n h end → AreBeside h end (parts_in (bytes_of m) (regions m))
+all_beside : (m n : AddressMap) (h : HeapList) (end : ℕ) → EndsAt m n h end → AreBeside h end (heaps_in (bytes_of m) (regions m))
 unfolding store_of
 all_beside m n h end e =
-    are_beside h end (parts_in (bytes_of m) (regions m))
-    (are_others (bytes_of m) h.start (parts_in (bytes_of m) (regions m)) h e.sound.parts e.found) (heaps_clear (store_of m) h end e.may)
+    are_beside h end (heaps_in (bytes_of m) (regions m))
+    (are_others (bytes_of m) h.start (heaps_in (bytes_of m) (regions m)) h e.sound.heaps e.found) (heaps_clear (store_of m) h end e.may)
 
-pub store_ended : (m n o : AddressMap) (h : Part) (end : ℕ) → EndsAt m n h end → bytes_of o ≡ bytes_of n
-    → regions o ≡ with_len (regions m) kind.Heap h.start end → store_of o ≡ ending (store_of m) h end
+pub store_ended : (m n o : AddressMap) (h : HeapList) (end : ℕ) → EndsAt m n h end → bytes_of o ≡ bytes_of n
+    → regions o ≡ with_len (regions m) h.kind h.start end → store_of o ≡ ending (store_of m) h end
 unfolding store_of
 store_ended m n o h end e bytes records =
     let c : Bytes = bytes_of n in
-    let rs : List Region = with_len (regions m) kind.Heap h.start end in
-    let heaps : parts_in c rs ≡ with_end h.start end (parts_in (bytes_of m) (regions m)) =
-    read_ended (bytes_of m) c h end (regions m) (own_kind h.kind e.own) (ended_bytes m n h end e) (all_beside m n h end e) e.sound.parts in
-    let others : others_in rs ≡ others_in (regions m) = others_in-ended h.start end (regions m) in
-    let written : c ≡ record { mapped = is_mapped m; at = with_part (byte_at m) h.start end h.items } = bytes_held m n h.start end h.items (becomes_ended m n h end e) in
+    let rs : List Region = with_len (regions m) h.kind h.start end in
+    let heaps : heaps_in c rs ≡ with_end h.start end (heaps_in (bytes_of m) (regions m)) =
+    read_ended (bytes_of m) c h end (regions m) e.own (ended_bytes m n h end e) (all_beside m n h end e) e.sound.heaps in
+    let others : others_in rs ≡ others_in (regions m) = others_in-ended h.kind h.start end (regions m) e.own in
+    let written : c ≡ record { mapped = is_mapped m; at = with_heap (byte_at m) h.start end h.items } = bytes_held m n h.start end h.items (becomes_ended m n h end e) in
     rw (bytes, records) (λ i. record { bytes = written i; heaps = heaps i; others = others i })
 
-pub sound_ended : (m n o : AddressMap) (h : Part) (end : ℕ) → EndsAt m n h end → bytes_of o ≡ bytes_of n
-    → regions o ≡ with_len (regions m) kind.Heap h.start end → IsSound (store_of o)
+pub sound_ended : (m n o : AddressMap) (h : HeapList) (end : ℕ) → EndsAt m n h end → bytes_of o ≡ bytes_of n
+    → regions o ≡ with_len (regions m) h.kind h.start end → IsSound (store_of o)
 unfolding store_of
 sound_ended m n o h end e bytes records =
     let c : Bytes = bytes_of n in
-    let hs : List Part = parts_in (bytes_of m) (regions m) in
-    let heaps : parts_in c (with_len (regions m) kind.Heap h.start end) ≡ with_end h.start end hs =
-    read_ended (bytes_of m) c h end (regions m) (own_kind h.kind e.own) (ended_bytes m n h end e) (all_beside m n h end e) e.sound.parts in
-    let others : others_in (with_len (regions m) kind.Heap h.start end) ≡ others_in (regions m) = others_in-ended h.start end (regions m) in
+    let hs : List HeapList = heaps_in (bytes_of m) (regions m) in
+    let heaps : heaps_in c (with_len (regions m) h.kind h.start end) ≡ with_end h.start end hs =
+    read_ended (bytes_of m) c h end (regions m) e.own (ended_bytes m n h end e) (all_beside m n h end e) e.sound.heaps in
+    let others : others_in (with_len (regions m) h.kind h.start end) ≡ others_in (regions m) = others_in-ended h.kind h.start end (regions m) e.own in
     let ended : IsEnded (bytes_of m) c h end = ended_bytes m n h end e in
     rw (bytes, records, heaps, others) (record {
-      parts = parts_ended (bytes_of m) c h end hs ended.long ended.mapped ended.kept ended.heap (all_beside m n h end e) e.sound.parts;
-      clear = others_ended h end hs (others_in (regions m)) e.found (ranges_clear (store_of m) h end e.may) e.sound.clear;
+      heaps = parts_ended (bytes_of m) c h end hs ended.long ended.mapped ended.kept ended.heap (all_beside m n h end e) e.sound.heaps;
+      limits = same_limits hs _ (places-ended h.start end hs) e.sound.limits;
+      placed = others_ended h end hs (others_in (regions m)) e.found (ranges_clear (store_of m) h end e.may) e.sound.placed;
+      apart = e.sound.apart;
       few = e.sound.few;
     })

@@ -1,22 +1,25 @@
 -- What giving a block back leaves of a heap: where the walk ends, the joins on both sides, and the base that sinks.
-use Rattle.std.proofs.Common.{◌≡◌, ◌≢◌, ℕ, ◌+◌, ◌-◌, ◌%◌, ◌<◌, ◌≤◌, ◌==◌, true, Option, Some, None, Ok, List, [], ◌∷◌, ◌++◌, inl, inr, arith, refl, sym, ◌∙◌, ap, subst, add-zero, append_assoc}
-use Rattle.std.proofs.lemmas.Bool.{cases_Bool, eqb-true, cases_lt}
+use Rattle.std.proofs.Common.{◌≡◌, None, subst, ◌++◌, arith, [], ◌≤◌, refl, ℕ, ◌∷◌, List, ◌∙◌, ◌-◌, ◌+◌, add-zero, sym, ◌%◌, append_assoc, inr, inl, true, Option, Ok, Some, ap, ◌≢◌}
+use Rattle.address_map.proofs.Bytes.{is_mapped-layout}
+use Rattle.address_map.specs.Bytes.{word_at}
+use Rattle.address_map.specs.Items.{size_of, linked, is_total}
+use Rattle.address_map.specs.Memory.{byte_at, bytes_of, layout}
 use Rattle.address_map.specs.declared.item.Item.{Item}
 use Rattle.address_map.specs.declared.item.Item.TheVariants.{Live, Free}
 use Rattle.address_map.specs.declared.map.AddressMap.{AddressMap}
-use Rattle.address_map.specs.Bytes.{word_at}
-use Rattle.address_map.specs.Items.{size_of, is_total, linked}
-use Rattle.address_map.specs.Memory.{bytes_of, byte_at, layout}
-use Rattle.address_map.proofs.Bytes.{is_mapped-layout}
-use Rattle.os_heap.specs.Heap.{next_free, Spells, AreTotals, AreSpaced, begins_live, IsHeapIn}
-use Rattle.os_heap.specs.Lists.{left_free, freed, glued, released, begun_below}
-use Rattle.os_heap.specs.Links.{last_free, link_at, items_at, IsHeapAt, IsWritten, IsFreed, Becomes}
-use Rattle.os_heap.specs.Releases.{IsWalkedTo, IsWalked, IsBlock, Releases}
-use Rattle.os_heap.proofs.Unique.{total_facts}
-use Rattle.os_heap.proofs.Spelling.{size_of-append, size_of-multiple, totals-front, totals-back, spaced-join, total_of-numbers, spells-kept}
-use Rattle.os_heap.proofs.Replace.{LinkFacts, link_facts, link_of-item, becomes}
+use Rattle.os_heap_lists.proofs.ItemWalk.{begun_more, near, released_past, begun_past, released_free-none, released_here, size_of-gap, next_apart, rest_none, glued_nothing, size_of-old, glued_free, rest_live}
+use Rattle.os_heap_lists.proofs.LastLink.{LinkFacts, link_facts, link_of-item}
+use Rattle.os_heap_lists.proofs.Reading.{total_facts}
+use Rattle.os_heap_lists.proofs.Spelling.{totals-back, size_of-multiple, totals-front, size_of-append, spaced-join, spells-kept, total_of-numbers}
+use Rattle.os_heap_lists.specs.Counts.{begun_below}
+use Rattle.os_heap_lists.specs.Heap.{AreTotals, IsHeapIn, next_free, last_free, AreSpaced, begins_live, Spells}
+use Rattle.os_heap_lists.specs.Lists.{released, left_free, freed, glued}
+use Rattle.os_heap_lists.specs.Walks.{IsWalkedTo, IsWalked, IsBlock}
+use Rattle.os_heap_lists.specs.Words.{link_at, IsWritten, IsFreed}
+use Rattle.os_heap.proofs.Replace.{becomes}
 use Rattle.os_heap.proofs.Searching.{FreeFacts, free_facts}
-use Rattle.os_heap.proofs.Walking.{size_of-gap, LiveFacts, live_facts, AtFree, AtLive, base_past, released_past, released_before, begun_past, released_free-none, released_here, begun_more, next_apart}
+use Rattle.os_heap.proofs.Walking.{base_past, AtFree, AtLive, LiveFacts, live_facts}
+use Rattle.os_heap.specs.Outcomes.{IsHeapAt, items_at, Becomes, Releases}
 
 -- the walk ends, and there is no such block
 over : (m : AddressMap) (start end block from at free gap probes : ℕ) (before rest : List Item) → IsHeapAt m start end
@@ -42,14 +45,6 @@ pub walk_over : (m : AddressMap) (start end block from at free gap probes : ℕ)
     → IsWalked start (items_at m start) block from at free gap probes → start + word_at (byte_at m) (start + 8) ≤ at
     → (released block (start + 16) (items_at m start) ≡ None) × (probes ≡ begun_below block (start + 16) (items_at m start))
 walk_over m start end block from at free gap probes heap w past = over m start end block from at free gap probes w.before w.rest heap w.walk past
-
-pub walk_past : (start : ℕ) (items : List Item) (block from at free gap probes : ℕ) → IsWalked start items block from at free gap probes → block < at + 4
-    → (released block (start + 16) items ≡ None) × (probes ≡ begun_below block (start + 16) items)
-walk_past start items block from at free gap probes w past =
-    (w.walk.absent (released_before block at w.rest past), omega (arith, w.walk.count, begun_past block at w.rest past))
-
-pub near : (block at base : ℕ) → (at + 4 < block → base ≤ at) → at < base → block ≤ at + 4
-near block at base far below = elim (cases_lt (at + 4) block) [ inl less ↦ absurd (let past = far less in omega arith) | inr more ↦ more ]
 
 pub free_ends : (m : AddressMap) (start end block from at free gap probes : ℕ) → (w : AtFree m start end block from at free gap probes)
     → at + 4 ≤ block → block ≤ at + 4
@@ -195,33 +190,9 @@ loosed m n start end before old xs s heap same closed total size totals spaced l
       );
     }) same (λ a head apart out. one.other a apart out.0)
 
-pub glued_free : (gap t : ℕ) (xs : List Item) → glued gap (Free t ∷ xs) ≡ Free (gap + t) ∷ xs
-glued_free gap t xs = elim (cases_Bool (gap == 0)) [
-  | inl none ↦
-      let e : gap ≡ 0 = eqb-true gap 0 none in
-      let k : t ≡ gap + t = omega arith in
-      rw none (ap (λ (n : ℕ). Free n ∷ xs) k)
-  | inr some ↦ rw some refl
-]
-
-pub glued_nothing : (gap : ℕ) → glued gap [] ≡ []
-glued_nothing gap = elim (cases_Bool (gap == 0)) [ inl none ↦ rw none refl | inr some ↦ rw some refl ]
-
-size_of-old : (gap total : ℕ) (rest : List Item) → size_of (left_free gap ++ Live total ∷ rest) ≡ gap + (total + size_of rest)
-size_of-old gap total rest = elim (cases_Bool (gap == 0)) [
-  | inl none ↦ let e : gap ≡ 0 = eqb-true gap 0 none in rw none (omega arith)
-  | inr some ↦ rw some refl
-]
-
 given : (m n : AddressMap) (start end : ℕ) (items : Option (List Item)) (ys zs : List Item) → items ≡ Some ys → ys ≡ zs → Becomes m n start end zs
     → Releases m n start end (Ok tt) items
 given m n start end items ys zs some e b = rw (some, e) (refl, b)
-
--- the block ends at the base
-pub rest_none : (start at total base : ℕ) (rest : List Item) → AreTotals rest → base ≡ at + total + size_of rest → at + total ≡ base → rest ≡ []
-rest_none start at total base [] totals end here = refl
-rest_none start at total base (Live t ∷ xs) totals end here = absurd (omega (arith, total_facts t totals.0))
-rest_none start at total base (Free t ∷ xs) totals end here = absurd (omega (arith, total_facts t totals.0))
 
 pub releases_sunk : (m n : AddressMap) (start end block from at free gap : ℕ) (g : ℕ → ℕ) → IsHeapAt m start end
     → (b : IsBlock start (items_at m start) block from at free gap)
@@ -263,13 +234,6 @@ releases_joined m n start end block from at free gap next heap b k same onward o
     (loosed m n start end b.before (left_free gap ++ Live b.total ∷ b.rest) k.after s f.heap same b.closed
     (total_of-numbers s (omega (arith, f.facts.size)) (omega (arith, f.eighths, f.facts.eighths, k.facts.eighths)))
     size totals.1 spaced.1 spaced.0 (rw place spelled.1.1) one')
-
--- a block behind stays
-pub rest_live : (at total base free : ℕ) (rest : List Item) → free ≡ next_free (at + total) rest 0 → at + total ≢ free → at + total ≢ base
-    → base ≡ at + total + size_of rest → (begins_live rest ≡ true) × ((n : ℕ) → freed n rest ≡ Free n ∷ rest)
-rest_live at total base free [] next other inside end = absurd (inside (omega arith))
-rest_live at total base free (Live t ∷ xs) next other inside end = (refl, λ n. refl)
-rest_live at total base free (Free t ∷ xs) next other inside end = absurd (other (sym next))
 
 pub releases_alone : (m n : AddressMap) (start end block from at free gap : ℕ) → IsHeapAt m start end
     → (b : IsBlock start (items_at m start) block from at free gap)

@@ -7,7 +7,6 @@ pub mod Found
 pub mod Frame
 pub mod Freeing
 pub mod Linking
-pub mod Moved
 pub mod Moving
 pub mod Owned
 pub mod Recorded
@@ -17,12 +16,9 @@ pub mod Refusals
 pub mod Replace
 pub mod Resizing
 pub mod Rest
-pub mod Returning
 pub mod Searching
 pub mod Sized
-pub mod Spelling
 pub mod Stores
 pub mod Tally
-pub mod Unique
 pub mod Walking
 pub mod Writing

@@ -1,19 +1,19 @@
 -- Where no flex store is recorded, the bytes that guests must leave alone are those of the words that the heaps spell.
-use Rattle.std.proofs.Common.{◌≡◌, ℕ, ◌+◌, ◌%◌, ◌≤◌, Bool, true, false, not, List, [], ◌∷◌, ◌&&◌, ◌||◌, cond, arith, refl, sym, ◌∙◌, ap, inl, inr}
-use Rattle.std.specs.List.{list_any}
+use Rattle.std.proofs.Common.{Bool, List, false, ◌≡◌, refl, true, sym, inl, [], ◌||◌, inr, ap, ◌∷◌, ℕ, ◌&&◌, arith, ◌≤◌, ◌%◌, ◌+◌, not, cond, ◌∙◌}
 use Rattle.std.proofs.lemmas.Bool.{cases_Bool, or_parts, and_right, le-leb, lt-ltb}
-use Rattle.address_map.specs.declared.class.Class.TheVariants as class
-use Rattle.address_map.specs.declared.region.Kind.{Kind}
-use Rattle.address_map.specs.declared.region.Kind.TheVariants as kind
-use Rattle.address_map.specs.declared.region.Region.{Region}
-use Rattle.address_map.specs.declared.map.AddressMap.{AddressMap}
-use Rattle.address_map.specs.Bytes.{Bytes, in_range, word_at, word_start}
+use Rattle.std.specs.List.{list_any}
+use Rattle.address_map.specs.Bytes.{in_range, word_at, Bytes, word_start}
+use Rattle.address_map.specs.Flex.{FlexBlock, is_anchor, is_header_word}
 use Rattle.address_map.specs.Items.{items_in, is_heap_word}
-use Rattle.address_map.specs.Flex.{FlexBlock, is_header_word, is_anchor}
-use Rattle.address_map.specs.Records.{is_heap_kind, is_flex_kind, is_heap_word_of, flex_blocks_of, byte_class}
-use Rattle.address_map.specs.Memory.{byte_at, bytes_of, regions, is_plain, class_of, is_owned}
-use Rattle.os_heap.specs.Store.{parts_in, others_in, store_of, ArePartsIn, IsSound, owned_in}
-use Rattle.os_heap.proofs.Frame.{word_inside}
+use Rattle.address_map.specs.Memory.{is_plain, bytes_of, byte_at, regions, class_of, is_owned}
+use Rattle.address_map.specs.Records.{is_flex_kind, is_heap_kind, flex_blocks_of, is_heap_word_of, byte_class}
+use Rattle.address_map.specs.declared.map.AddressMap.{AddressMap}
+use Rattle.address_map.specs.declared.region.Kind.{Kind}
+use Rattle.address_map.specs.declared.region.Region.{Region}
+use Rattle.os_heap_lists.proofs.HeadWords.{word_inside}
+use Rattle.os_heap.specs.Store.{others_in, AreHeapsIn, heaps_in, IsSound, owned_in, store_of}
+use Rattle.address_map.specs.declared.class.Class.TheVariants as class
+use Rattle.address_map.specs.declared.region.Kind.TheVariants as kind
 
 -- whether the used part of a flex store is among some recorded ranges
 abbrev pub has_flex : List Region → Bool
@@ -49,14 +49,14 @@ guarded guard true h = rw (h refl) refl
 guarded guard false h = and_right guard false refl
 
 -- the words of a heap lie in its range, so that the test of the range first changes nothing
-heap_words : (b : Bytes) (rs : List Region) (p : ℕ) → p % 4 ≡ 0 → ArePartsIn b (parts_in b rs)
-    → list_any (is_heap_word_of (word_at b.at) p) rs ≡ list_any (λ h. is_heap_word h.start h.items p) (parts_in b rs)
+heap_words : (b : Bytes) (rs : List Region) (p : ℕ) → p % 4 ≡ 0 → AreHeapsIn b (heaps_in b rs)
+    → list_any (is_heap_word_of (word_at b.at) p) rs ≡ list_any (λ h. is_heap_word h.start h.items p) (heaps_in b rs)
 heap_words b [] p aligned parts = refl
 heap_words b (r ∷ rs) p aligned parts =
     elim (cases_Bool (is_heap_kind r.kind)) [
       | inl heap ↦
           let here = rw heap at parts in
-          let rest : list_any (is_heap_word_of (word_at b.at) p) rs ≡ list_any (λ h. is_heap_word h.start h.items p) (parts_in b rs) =
+          let rest : list_any (is_heap_word_of (word_at b.at) p) rs ≡ list_any (λ h. is_heap_word h.start h.items p) (heaps_in b rs) =
           heap_words b rs p aligned here.1.1 in
           let inside : (in_range r.at r.len p && is_heap_word r.at (items_in (word_at b.at) r.at) p) ≡ is_heap_word r.at (items_in (word_at b.at) r.at) p =
           guarded (in_range r.at r.len p) (is_heap_word r.at (items_in (word_at b.at) r.at) p) (λ is.
@@ -81,7 +81,7 @@ owned_class m a sound none =
     let flexless : has_flex (regions m) ≡ false = has_flex-others (regions m) ∙ none in
     plain_unless (list_any (is_heap_word_of w (word_start a)) (regions m)) _ _
     (no_such_block (is_header_word (word_start a)) w (regions m) flexless) (no_such_block (is_anchor (word_start a)) w (regions m) flexless)
-    ∙ heap_words (bytes_of m) (regions m) (word_start a) (omega arith) sound.parts
+    ∙ heap_words (bytes_of m) (regions m) (word_start a) (omega arith) sound.heaps
 
 pub owned_heads : (m : AddressMap) → IsSound (store_of m) → has_flex (store_of m).others ≡ false → is_owned m ≡ owned_in (store_of m)
 unfolding is_owned class_of

@@ -1,20 +1,20 @@
 -- A recorded range more that is no heap, as the system pages or an image.
-use Rattle.std.proofs.Common.{◌≡◌, ◌<◌, false, List, [], ◌∷◌, ◌++◌, length, arith, refl, inl, inr, length-append}
+use Rattle.std.proofs.Common.{false, inl, [], ◌≡◌, refl, List, ◌++◌, inr, ◌∷◌, length, arith, length-append, ◌<◌}
 use Rattle.std.proofs.lemmas.Bool.{cases_Bool}
-use Rattle.address_map.specs.declared.region.Region.{Region}
-use Rattle.address_map.specs.declared.map.AddressMap.{AddressMap}
 use Rattle.address_map.specs.Bytes.{Bytes}
-use Rattle.address_map.specs.Records.{is_heap_kind}
 use Rattle.address_map.specs.Memory.{bytes_of, regions}
-use Rattle.os_heap.specs.Heap.{Part}
-use Rattle.os_heap.specs.Store.{Store, parts_in, others_in, store_of, IsClearOfHeaps, AreOthersClear, IsSound}
+use Rattle.address_map.specs.Records.{is_heap_kind}
+use Rattle.address_map.specs.declared.map.AddressMap.{AddressMap}
+use Rattle.address_map.specs.declared.region.Region.{Region}
+use Rattle.os_heap_lists.specs.Heap.{HeapList}
+use Rattle.os_heap.specs.Store.{AreClear, heaps_in, others_in, IsClearOfHeaps, ArePlaced, IsClearOfRanges, AreRangesApart, store_of, IsSound, Store}
 
-parts_in-other : (b : Bytes) (rs : List Region) (r : Region) → is_heap_kind r.kind ≡ false → parts_in b (rs ++ r ∷ []) ≡ parts_in b rs
-parts_in-other b [] r other = rw other refl
-parts_in-other b (g ∷ rs) r other =
+heaps_in-other : (b : Bytes) (rs : List Region) (r : Region) → is_heap_kind r.kind ≡ false → heaps_in b (rs ++ r ∷ []) ≡ heaps_in b rs
+heaps_in-other b [] r other = rw other refl
+heaps_in-other b (g ∷ rs) r other =
     elim (cases_Bool (is_heap_kind g.kind)) [
-      | inl heap ↦ rw (heap, parts_in-other b rs r other) refl
-      | inr plain ↦ rw (plain, parts_in-other b rs r other) refl
+      | inl heap ↦ rw (heap, heaps_in-other b rs r other) refl
+      | inr plain ↦ rw (plain, heaps_in-other b rs r other) refl
     ]
 
 others_in-other : (rs : List Region) (r : Region) → is_heap_kind r.kind ≡ false → others_in (rs ++ r ∷ []) ≡ others_in rs ++ r ∷ []
@@ -25,24 +25,39 @@ others_in-other (g ∷ rs) r other =
       | inr plain ↦ rw (plain, others_in-other rs r other) refl
     ]
 
-clear_other : (hs : List Part) (rs : List Region) (r : Region) → AreOthersClear hs rs → IsClearOfHeaps r.at r.len hs → AreOthersClear hs (rs ++ r ∷ [])
-clear_other hs [] r clear last = (last, tt)
-clear_other hs (g ∷ rs) r clear last = (clear.0, clear_other hs rs r clear.1 last)
+placed_other : (hs : List HeapList) (rs : List Region) (r : Region) → ArePlaced hs rs → IsClearOfHeaps r.at r.len hs → ArePlaced hs (rs ++ r ∷ [])
+placed_other hs [] r placed last = (inl last, tt)
+placed_other hs (g ∷ rs) r placed last = (placed.0, placed_other hs rs r placed.1 last)
+
+-- a range that meets none of the others
+abbrev pub IsClearOfAll : Region → List Region → Type 0
+IsClearOfAll r [] = Unit {0}
+IsClearOfAll r (q ∷ rs) = AreClear q.at q.len r.at r.len × IsClearOfAll r rs
+
+clear_other : (q r : Region) (rs : List Region) → IsClearOfRanges q rs → AreClear q.at q.len r.at r.len → IsClearOfRanges q (rs ++ r ∷ [])
+clear_other q r [] clear last = ((λ _. last), tt)
+clear_other q r (p ∷ rs) clear last = (clear.0, clear_other q r rs clear.1 last)
+
+apart_other : (rs : List Region) (r : Region) → AreRangesApart rs → IsClearOfAll r rs → AreRangesApart (rs ++ r ∷ [])
+apart_other [] r apart clear = ((λ _. tt), tt)
+apart_other (q ∷ rs) r apart clear = ((λ used. clear_other q r rs (apart.0 used) clear.0), apart_other rs r apart.1 clear.1)
 
 -- the store keeps its heaps
 pub store_recorded : (m n : AddressMap) (r : Region) → is_heap_kind r.kind ≡ false → regions n ≡ regions m ++ r ∷ [] → bytes_of n ≡ bytes_of m
     → store_of n ≡ record { bytes = bytes_of m; heaps = (store_of m).heaps; others = (store_of m).others ++ r ∷ [] }
 unfolding store_of
 store_recorded m n r other records bytes =
-    let heaps : parts_in (bytes_of m) (regions m ++ r ∷ []) ≡ parts_in (bytes_of m) (regions m) = parts_in-other (bytes_of m) (regions m) r other in
+    let heaps : heaps_in (bytes_of m) (regions m ++ r ∷ []) ≡ heaps_in (bytes_of m) (regions m) = heaps_in-other (bytes_of m) (regions m) r other in
     let others : others_in (regions m ++ r ∷ []) ≡ others_in (regions m) ++ r ∷ [] = others_in-other (regions m) r other in
     rw (bytes, records) (λ i. record { bytes = bytes_of m; heaps = heaps i; others = others i })
 
 -- and stays sound, where the range meets no heap
-pub recorded_sound : (s : Store) (r : Region) → IsSound s → IsClearOfHeaps r.at r.len s.heaps → length s.others < 68
+pub recorded_sound : (s : Store) (r : Region) → IsSound s → IsClearOfHeaps r.at r.len s.heaps → IsClearOfAll r s.others → length s.others < 68
     → IsSound (record { bytes = s.bytes; heaps = s.heaps; others = s.others ++ r ∷ [] })
-recorded_sound s r sound clear room = record {
-  parts = sound.parts;
-  clear = clear_other s.heaps s.others r sound.clear clear;
+recorded_sound s r sound clear apart room = record {
+  heaps = sound.heaps;
+  limits = sound.limits;
+  placed = placed_other s.heaps s.others r sound.placed clear;
+  apart = apart_other s.others r sound.apart apart;
   few = omega (arith, length-append {A = Region});
 }

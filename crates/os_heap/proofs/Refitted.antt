@@ -1,60 +1,23 @@
 -- What a change of a block's total in place answers, and the heap then.
-use Rattle.std.proofs.Common.{◌≡◌, ◌≢◌, ℕ, ◌+◌, ◌-◌, ◌<◌, ◌≤◌, true, false, Some, None, List, [], ◌∷◌, ◌++◌, inl, inr, arith, refl, sym, ◌∙◌, ap, subst}
-use Rattle.std.proofs.lemmas.Bool.{le-leb, lt-leb, ne_eqb, eq-eqb, cases_lt}
-use Rattle.address_map.specs.declared.item.Item.{Item}
-use Rattle.address_map.specs.declared.item.Item.TheVariants.{Live, Free}
-use Rattle.address_map.specs.declared.map.AddressMap.{AddressMap}
+use Rattle.std.proofs.Common.{◌-◌, ◌+◌, ◌≡◌, refl, List, ◌++◌, ℕ, true, Some, false, None, arith, subst, ◌∙◌, ap, ◌∷◌, [], ◌≤◌, ◌<◌, ◌≢◌}
 use Rattle.address_map.specs.Bytes.{word_at}
 use Rattle.address_map.specs.Items.{size_of, is_total}
 use Rattle.address_map.specs.Memory.{bytes_of, byte_at, layout}
-use Rattle.os_heap.specs.Heap.{next_free, Spells, AreTotals, AreSpaced, begins_live, IsHeapIn}
-use Rattle.os_heap.specs.Lists.{left_free, glued}
-use Rattle.os_heap.specs.Links.{link_at, items_at, IsHeapAt, IsWritten, Becomes}
-use Rattle.os_heap.specs.Releases.{last_link, IsBlock}
-use Rattle.os_heap.specs.Refits.{IsDivided, Refits}
-use Rattle.os_heap.specs.Resizes.{grown, refitted, resized_in_place}
-use Rattle.os_heap.proofs.Unique.{total_facts}
-use Rattle.os_heap.proofs.Spelling.{total_of-numbers}
-use Rattle.os_heap.proofs.Walking.{glued_none, glued_some}
-use Rattle.os_heap.proofs.Freeing.{NextFree, glued_free, glued_nothing, rest_none, rest_live}
+use Rattle.address_map.specs.declared.item.Item.{Item}
+use Rattle.address_map.specs.declared.item.Item.TheVariants.{Live, Free}
+use Rattle.address_map.specs.declared.map.AddressMap.{AddressMap}
+use Rattle.os_heap_lists.proofs.ItemWalk.{glued_none, rest_none, glued_free, rest_live, glued_some}
+use Rattle.os_heap_lists.proofs.Reading.{total_facts}
+use Rattle.os_heap_lists.proofs.Resizes.{fewer, last_some, last_none, left_some, grown_some, left_none, grown_none, grown_blocked}
+use Rattle.os_heap_lists.proofs.Spelling.{total_of-numbers}
+use Rattle.os_heap_lists.specs.Heap.{IsHeapIn, begins_live, AreTotals, Spells, next_free, AreSpaced}
+use Rattle.os_heap_lists.specs.Lists.{resized_in_place, refitted, left_free, glued}
+use Rattle.os_heap_lists.specs.Walks.{IsBlock, last_link}
+use Rattle.os_heap_lists.specs.Words.{IsWritten, IsDivided, link_at}
+use Rattle.os_heap.proofs.Freeing.{NextFree}
+use Rattle.os_heap.proofs.Refitting.{rebased, place_facts, PlaceFacts, divided, swallowed}
 use Rattle.os_heap.proofs.Sized.{block_in_place}
-use Rattle.os_heap.proofs.Refitting.{PlaceFacts, place_facts, divided, swallowed, rebased}
-
--- what the list becomes
-fewer : (room new old : ℕ) (xs : List Item) → new ≤ old → refitted room new old xs ≡ Some (Live new ∷ glued (old - new) xs)
-fewer room new old xs less = rw (le-leb new old less) refl
-
-more : (room new old : ℕ) (xs : List Item) → old < new → refitted room new old xs ≡ grown room new old xs
-more room new old xs larger = rw (lt-leb new old larger) refl
-
-last_some : (room new old : ℕ) → new ≤ room → refitted room new old [] ≡ Some (Live new ∷ [])
-last_some room new old fits = elim (cases_lt old new) [
-  | inl larger ↦ more room new old [] larger ∙ (rw (le-leb new room fits) refl)
-  | inr less ↦ fewer room new old [] less ∙ ap (λ (ys : List Item). Some (Live new ∷ ys)) (glued_nothing (old - new))
-]
-
-last_none : (room new old : ℕ) → room < new → old < new → refitted room new old [] ≡ None
-last_none room new old full larger = more room new old [] larger ∙ (rw (lt-leb new room full) refl)
-
-grown_some : (room new old t : ℕ) (xs : List Item) → old < new → new ≤ old + t
-    → refitted room new old (Free t ∷ xs) ≡ Some (Live new ∷ (left_free (old + t - new) ++ xs))
-grown_some room new old t xs larger fits = more room new old (Free t ∷ xs) larger ∙ (rw (le-leb new (old + t) fits) refl)
-
-grown_none : (room new old t : ℕ) (xs : List Item) → old + t < new → refitted room new old (Free t ∷ xs) ≡ None
-grown_none room new old t xs full = more room new old (Free t ∷ xs) (omega arith) ∙ (rw (lt-leb new (old + t) full) refl)
-
-left_none : (n : ℕ) (xs : List Item) → n ≡ 0 → left_free n ++ xs ≡ xs
-left_none n xs none = rw (eq-eqb n 0 none) refl
-
-left_some : (n : ℕ) (xs : List Item) → n ≢ 0 → left_free n ++ xs ≡ Free n ∷ xs
-left_some n xs some = rw (ne_eqb n 0 some) refl
-
--- behind a block that is not the last, and that no free item touches, stands a block
-grown_blocked : (room new at total base free : ℕ) (rest : List Item) → free ≡ next_free (at + total) rest 0 → at + total ≢ free → at + total ≢ base
-    → base ≡ at + total + size_of rest → total < new → refitted room new total rest ≡ None
-grown_blocked room new at total base free [] next other inside end larger = absurd (inside (omega arith))
-grown_blocked room new at total base free (Live t ∷ xs) next other inside end larger = more room new total (Live t ∷ xs) larger
-grown_blocked room new at total base free (Free t ∷ xs) next other inside end larger = absurd (other (sym next))
+use Rattle.os_heap.specs.Outcomes.{IsHeapAt, items_at, Refits, Becomes}
 
 -- whether it could be done
 done : (m n : AddressMap) (start end limit new block from at free gap : ℕ) → IsHeapAt m start end → (b : IsBlock start (items_at m start) block from at free gap)

@@ -1,45 +1,24 @@
 -- What another total of a block leaves of a heap: a free item behind the block, none, or the base elsewhere.
-use Rattle.std.proofs.Common.{◌≡◌, ℕ, ◌+◌, ◌-◌, ◌≤◌, ◌==◌, true, List, [], ◌∷◌, ◌++◌, inl, inr, arith, refl, sym, ◌∙◌, subst, append-nil}
-use Rattle.std.proofs.lemmas.Bool.{cases_Bool}
-use Rattle.address_map.specs.declared.item.Item.{Item}
-use Rattle.address_map.specs.declared.item.Item.TheVariants.{Live, Free}
-use Rattle.address_map.specs.declared.map.AddressMap.{AddressMap}
+use Rattle.std.proofs.Common.{◌≡◌, ◌++◌, arith, ℕ, true, ◌∷◌, List, ◌∙◌, inr, ◌-◌, inl, ◌+◌, [], ◌≤◌, subst}
+use Rattle.address_map.proofs.Bytes.{is_mapped-layout}
 use Rattle.address_map.specs.Bytes.{word_at}
 use Rattle.address_map.specs.Items.{size_of, is_total}
 use Rattle.address_map.specs.Memory.{bytes_of, byte_at, layout}
-use Rattle.address_map.proofs.Bytes.{is_mapped-layout}
-use Rattle.os_heap.specs.Heap.{next_free, Spells, AreTotals, AreSpaced, begins_live, IsHeapIn}
-use Rattle.os_heap.specs.Lists.{left_free}
-use Rattle.os_heap.specs.Links.{last_free, link_at, items_at, IsHeapAt, IsWritten, IsFreed, AreApart, Becomes}
-use Rattle.os_heap.specs.Releases.{last_link, IsBlock}
-use Rattle.os_heap.specs.Refits.{IsDivided}
-use Rattle.os_heap.proofs.Unique.{total_facts}
-use Rattle.os_heap.proofs.Spelling.{size_of-append, totals-front, spells-kept, last_free-append}
-use Rattle.os_heap.proofs.Replace.{LinkFacts, link_facts, link_word, becomes}
-use Rattle.os_heap.proofs.Walking.{LiveFacts, live_facts, size_of-gap}
-
--- a block in the place of another keeps free items apart
-begins-block : (front xs ys : List Item) (t u : ℕ) → begins_live (front ++ Live t ∷ xs) ≡ true → begins_live (front ++ Live u ∷ ys) ≡ true
-begins-block [] xs ys t u h = refl
-begins-block (Live v ∷ front) xs ys t u h = refl
-begins-block (Free v ∷ front) xs ys t u h = h
-
-spaced-block : (front xs ys : List Item) (t u : ℕ) → AreSpaced (front ++ Live t ∷ xs) → AreSpaced ys → AreSpaced (front ++ Live u ∷ ys)
-spaced-block [] xs ys t u h g = g
-spaced-block (Live v ∷ front) xs ys t u h g = spaced-block front xs ys t u h g
-spaced-block (Free v ∷ front) xs ys t u h g = (begins-block front xs ys t u h.0, spaced-block front xs ys t u h.1 g)
-
--- three words, one after another
-pub divided_words : (f g h : ℕ → ℕ) (start from at total left next : ℕ) → AreApart (link_at start from) 4 at 4
-    → IsFreed f g start from (at + total) left next → IsWritten g h at total → 4 ≤ total → IsDivided f h start from at total left next
-divided_words f g h start from at total left next apart one two least = record {
-  block = two.here;
-  to_item = two.apart (link_at start from) apart ∙ one.to_item;
-  to_next = two.apart (at + total) (inr (omega arith)) ∙ one.to_next;
-  length = two.apart (at + total + 4) (inr (omega arith)) ∙ one.length;
-  apart = λ a a1 a2 a3. two.apart a a2 ∙ one.apart a a1 a3;
-  other = λ a a1 a2 a3. two.other a a2 ∙ one.other a a1 a3;
-}
+use Rattle.address_map.specs.declared.item.Item.{Item}
+use Rattle.address_map.specs.declared.item.Item.TheVariants.{Live, Free}
+use Rattle.address_map.specs.declared.map.AddressMap.{AddressMap}
+use Rattle.os_heap_lists.proofs.ItemWalk.{size_of-gap}
+use Rattle.os_heap_lists.proofs.LastLink.{LinkFacts, link_facts, link_word}
+use Rattle.os_heap_lists.proofs.Reading.{total_facts}
+use Rattle.os_heap_lists.proofs.Resizes.{spaced-block, gap_link}
+use Rattle.os_heap_lists.proofs.Spelling.{spells-kept, size_of-append, totals-front}
+use Rattle.os_heap_lists.specs.Heap.{begins_live, AreTotals, Spells, next_free, last_free, AreSpaced, IsHeapIn}
+use Rattle.os_heap_lists.specs.Lists.{left_free}
+use Rattle.os_heap_lists.specs.Walks.{last_link, IsBlock}
+use Rattle.os_heap_lists.specs.Words.{IsDivided, IsWritten, link_at}
+use Rattle.os_heap.proofs.Replace.{becomes}
+use Rattle.os_heap.proofs.Walking.{LiveFacts, live_facts}
+use Rattle.os_heap.specs.Outcomes.{Becomes, IsHeapAt, items_at}
 
 -- a free item behind the block
 pub divided : (m n : AddressMap) (start end : ℕ) (front old xs : List Item) (t k s : ℕ)
@@ -141,17 +120,6 @@ pub record PlaceFacts (m : AddressMap) (start end from at gap total : ℕ) (fron
   pub last : LinkFacts start (last_link from at gap) at
   pub link : last_link from at gap ≡ last_free start (start + 16) front
   pub heap : IsHeapIn (bytes_of m) start end (front ++ Live total ∷ rest)
-
-gap_link : (start : ℕ) (before : List Item) (from at gap : ℕ) → from ≡ last_free start (start + 16) before
-    → at ≡ start + 16 + size_of (before ++ left_free gap)
-    → last_link from at gap ≡ last_free start (start + 16) (before ++ left_free gap)
-gap_link start before from at gap last place = elim (cases_Bool (gap == 0)) [
-  | inl none ↦ rw (none, append-nil before) last
-  | inr some ↦
-      let size : size_of (before ++ left_free gap) ≡ size_of before + gap = size_of-gap before gap in
-      let e : at - gap ≡ start + 16 + size_of before = omega arith in
-      rw (some, e) (sym (last_free-append start (start + 16) before (Free gap ∷ [])))
-]
 
 pub place_facts : (m : AddressMap) (start end block from at free gap : ℕ) → IsHeapAt m start end
     → (b : IsBlock start (items_at m start) block from at free gap)

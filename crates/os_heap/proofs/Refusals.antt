@@ -1,34 +1,34 @@
 -- What the change of a heap's size answers, case by case.
-use Rattle.std.proofs.Common.{◌≡◌, ◌≢◌, ℕ, ◌+◌, ◌-◌, ◌%◌, ◌<◌, ◌==◌, ◌&&◌, true, false, ltb, Some, None, Ok, Err, arith, refl, inl, inr}
-use Rattle.std.proofs.lemmas.Bool.{cases_Bool, eq-eqb, ne_eqb, lt-ltb}
+use Rattle.std.proofs.Common.{◌≡◌, None, refl, ℕ, Err, false, Some, true, ◌≢◌, ◌%◌, ◌-◌, arith, inl, inr, ◌<◌, ◌==◌, ◌&&◌, ◌+◌, ltb, Ok}
+use Rattle.std.proofs.lemmas.Bool.{ne_eqb, eq-eqb, cases_Bool, lt-ltb}
 use Rattle.profile.specs.declared.error.ErrorNumber.TheVariants.{HeapBadDesc, HeapBadRegion, HeapOverlaps, HeapBadShrink}
 use Rattle.address_map.specs.Bytes.{Bytes}
 use Rattle.address_map.specs.Items.{size_of}
-use Rattle.os_heap.specs.Changes.{ending, end_changed, changed, has_own_size}
-use Rattle.os_heap.specs.Ends.{MayEnd}
-use Rattle.os_heap.specs.Heap.{Part}
-use Rattle.os_heap.specs.Resizes.{changed_by}
-use Rattle.os_heap.specs.Store.{Store, find_part, is_heap_region, meets_any}
+use Rattle.os_heap_lists.specs.Heap.{HeapList}
+use Rattle.os_heap_lists.specs.Lists.{changed_by}
 use Rattle.os_heap.proofs.Added.{can_hold}
+use Rattle.os_heap.specs.Calls.{changed, has_own_size, end_changed, ending}
+use Rattle.os_heap.specs.Ranges.{MayEnd, is_heap_region, meets_any}
+use Rattle.os_heap.specs.Store.{Store, find_heap}
 
-pub changed_none : (s : Store) (heap change : ℕ) → find_part heap s.heaps ≡ None → changed s heap change ≡ Err HeapBadDesc
+pub changed_none : (s : Store) (heap change : ℕ) → find_heap heap s.heaps ≡ None → changed s heap change ≡ Err HeapBadDesc
 unfolding changed
 changed_none s heap change none = rw none refl
 
-pub changed_area : (s : Store) (heap change : ℕ) (h : Part) → find_part heap s.heaps ≡ Some h → has_own_size h.kind ≡ false
+pub changed_area : (s : Store) (heap change : ℕ) (h : HeapList) → find_heap heap s.heaps ≡ Some h → has_own_size h.kind ≡ false
     → changed s heap change ≡ Err HeapBadDesc
 unfolding changed
 changed_area s heap change h found area = rw (found, area) refl
 
-pub changed_own : (s : Store) (heap change : ℕ) (h : Part) → find_part heap s.heaps ≡ Some h → has_own_size h.kind ≡ true
+pub changed_own : (s : Store) (heap change : ℕ) (h : HeapList) → find_heap heap s.heaps ≡ Some h → has_own_size h.kind ≡ true
     → changed s heap change ≡ end_changed s h change (changed_by h.end change)
 unfolding changed
 changed_own s heap change h found own = rw (found, own) refl
 
-pub end_odd : (s : Store) (h : Part) (change end : ℕ) → change % 4 ≢ 0 → end_changed s h change end ≡ Err HeapBadRegion
+pub end_odd : (s : Store) (h : HeapList) (change end : ℕ) → change % 4 ≢ 0 → end_changed s h change end ≡ Err HeapBadRegion
 end_odd s h change end odd = rw (ne_eqb (change % 4) 0 odd) refl
 
-pub end_bad : (s : Store) (h : Part) (change end : ℕ) → change % 4 ≡ 0 → is_heap_region s.bytes h.start end ≡ false
+pub end_bad : (s : Store) (h : HeapList) (change end : ℕ) → change % 4 ≡ 0 → is_heap_region s.bytes h.start end ≡ false
     → end_changed s h change end ≡ Err HeapBadRegion
 end_bad s h change end whole bad = rw (eq-eqb (change % 4) 0 whole, bad) refl
 
@@ -39,20 +39,20 @@ wide_region b at end wide =
       | inr not_one ↦ not_one
     ]
 
-pub end_wide : (s : Store) (h : Part) (change end : ℕ) → 16777216 < end → end_changed s h change end ≡ Err HeapBadRegion
+pub end_wide : (s : Store) (h : HeapList) (change end : ℕ) → 16777216 < end → end_changed s h change end ≡ Err HeapBadRegion
 end_wide s h change end wide =
     elim (cases_Bool (change % 4 == 0)) [
       | inl whole ↦ rw (whole, wide_region s.bytes h.start end wide) refl
       | inr odd ↦ rw odd refl
     ]
 
-pub end_over : (s : Store) (h : Part) (change end : ℕ) → change % 4 ≡ 0 → is_heap_region s.bytes h.start end ≡ true
+pub end_over : (s : Store) (h : HeapList) (change end : ℕ) → change % 4 ≡ 0 → is_heap_region s.bytes h.start end ≡ true
     → (ltb h.end end && meets_any (h.start + h.end) (end - h.end) s) ≡ true → end_changed s h change end ≡ Err HeapOverlaps
 end_over s h change end whole good over = rw (eq-eqb (change % 4) 0 whole, good, over) refl
 
-pub end_short : (s : Store) (h : Part) (change end : ℕ) → change % 4 ≡ 0 → is_heap_region s.bytes h.start end ≡ true
+pub end_short : (s : Store) (h : HeapList) (change end : ℕ) → change % 4 ≡ 0 → is_heap_region s.bytes h.start end ≡ true
     → (ltb h.end end && meets_any (h.start + h.end) (end - h.end) s) ≡ false → end < 16 + size_of h.items → end_changed s h change end ≡ Err HeapBadShrink
 end_short s h change end whole good clear short = rw (eq-eqb (change % 4) 0 whole, good, clear, lt-ltb end (16 + size_of h.items) short) refl
 
-pub end_done : (s : Store) (h : Part) (change end : ℕ) → change % 4 ≡ 0 → MayEnd s h end → end_changed s h change end ≡ Ok (ending s h end)
+pub end_done : (s : Store) (h : HeapList) (change end : ℕ) → change % 4 ≡ 0 → MayEnd s h end → end_changed s h change end ≡ Ok (ending s h end, tt)
 end_done s h change end whole may = rw (eq-eqb (change % 4) 0 whole, may.region, may.clear, may.inside) refl

@@ -1,38 +1,41 @@
 -- What a change of a block's size leaves of all heaps, by the ways that it can go.
-use Rattle.std.proofs.Common.{◌≡◌, ℕ, ◌+◌, ◌-◌, ◌*◌, ◌^◌, ◌%◌, ◌<◌, ◌≤◌, ◌==◌, true, false, is_some, Option, Some, None, Result, Ok, Err, List, [], ◌∷◌, inl, inr, arith, refl, sym, ◌∙◌, ap, subst}
+use Rattle.std.proofs.Common.{ok_or, if◌then◌else◌, ◌==◌, ◌-◌, inl, ◌≡◌, [], None, List, subst, ℕ, Some, inr, ap, ◌∷◌, ◌∙◌, true, is_some, ◌+◌, Option, ◌%◌, arith, sym, Err, refl, Result, Ok, ◌≤◌, false, ◌<◌, ◌*◌, ◌^◌}
+use Rattle.std.proofs.lemmas.Bool.{eqb-true, cases_Bool, le-leb, false≢true, lt-leb, leb-false}
 use Rattle.std.specs.Prelude.{nat_le}
-use Rattle.std.proofs.lemmas.Bool.{cases_Bool, eqb-true, false≢true, le-leb, lt-leb, leb-false}
-use Rattle.profile.specs.Outcome.{bind, Gives, Leaves}
+use Rattle.profile.specs.Outcome.{bind, Gives}
 use Rattle.profile.specs.declared.error.ErrorNumber.{ErrorNumber}
 use Rattle.profile.specs.declared.error.ErrorNumber.TheVariants.{HeapNotABlock, HeapBadDesc}
-use Rattle.address_map.specs.declared.item.Item.{Item}
-use Rattle.address_map.specs.declared.item.Item.TheVariants.{Live, Free}
-use Rattle.address_map.specs.declared.region.Kind.{Kind}
-use Rattle.address_map.specs.declared.region.Region.{Region}
-use Rattle.address_map.specs.declared.map.AddressMap.{AddressMap}
 use Rattle.address_map.specs.Bytes.{Bytes, word_at}
 use Rattle.address_map.specs.Items.{items_in, size_of}
-use Rattle.address_map.specs.Memory.{bytes_of, byte_at, is_mapped, regions, layout}
+use Rattle.address_map.specs.Memory.{bytes_of, regions, is_mapped, byte_at, layout}
 use Rattle.address_map.specs.Records.{is_heap_kind}
-use Rattle.os_heap.specs.Changes.{resized_block, resized_of, resized, resized_or_moved, moved, move_probes, refit_probes, probes_after_walk, resize_probes}
-use Rattle.os_heap.specs.Heap.{Part, IsHeapIn, AreTotals}
-use Rattle.os_heap.specs.Links.{items_at, end_at}
-use Rattle.os_heap.specs.Lists.{round_up_8, claimed, released, begun_below, free_count}
-use Rattle.os_heap.specs.Refits.{Refits}
-use Rattle.os_heap.specs.Releases.{IsBlock, Releases}
-use Rattle.os_heap.specs.Resizes.{changed_by, live_total, refitted, resized_in_place}
-use Rattle.os_heap.specs.Store.{Store, store_of, part_in, parts_in, IsSound, find_part, released_in, counted_of}
-use Rattle.os_heap.proofs.Bounds.{move_most, claim_no_more}
-use Rattle.os_heap.proofs.Calls.{part_at, heap_of-part, heap_there, leaves_release, IsGiven, IsLeft}
+use Rattle.address_map.specs.declared.item.Item.{Item}
+use Rattle.address_map.specs.declared.item.Item.TheVariants.{Free, Live}
+use Rattle.address_map.specs.declared.map.AddressMap.{AddressMap}
+use Rattle.address_map.specs.declared.region.Kind.{Kind}
+use Rattle.address_map.specs.declared.region.Region.{Region}
+use Rattle.os_heap_lists.proofs.Counts.{claim_no_more}
+use Rattle.os_heap_lists.proofs.Reading.{total_facts}
+use Rattle.os_heap_lists.proofs.LiveBlocks.{IsStillIn, refit_still}
+use Rattle.os_heap_lists.proofs.Resizes.{map_none}
+use Rattle.os_heap_lists.specs.Counts.{begun_below, free_count}
+use Rattle.os_heap_lists.specs.Heap.{HeapList, IsHeapIn, AreTotals}
+use Rattle.os_heap_lists.specs.Lists.{live_total, released, changed_by, resized_in_place, round_up_8, refitted, claimed}
+use Rattle.os_heap_lists.specs.Walks.{IsBlock}
+use Rattle.os_heap.proofs.Bounds.{move_most}
+use Rattle.os_heap.proofs.Calls.{part_at, heap_of-part, heap_there, IsGiven, free_given, image_recorded, image_apart}
 use Rattle.os_heap.proofs.Freeing.{block_facts}
-use Rattle.os_heap.proofs.Moving.{HasPart, part_there}
-use Rattle.os_heap.proofs.Replace.{heap_below, heap_mapped}
-use Rattle.os_heap.proofs.Sized.{map_none, block_total}
-use Rattle.os_heap.proofs.Stores.{store_held, sound_held}
-use Rattle.os_heap.proofs.Unique.{total_facts}
+use Rattle.os_heap.proofs.Moving.{part_there, HasPart}
+use Rattle.os_heap.proofs.Replace.{heap_mapped, heap_below}
+use Rattle.os_heap.proofs.Sized.{block_total}
+use Rattle.os_heap.proofs.Stores.{sound_held, store_held}
+use Rattle.os_heap.specs.Calls.{gave_back, unless_image, resized, resized_or_moved, moved}
+use Rattle.os_heap.specs.Probes.{resize_probes, probes_after_walk, refit_probes, move_probes}
+use Rattle.os_heap.specs.Outcomes.{IsGuestBlock, items_at, end_at, Releases, Refits}
+use Rattle.os_heap.specs.Store.{has_image, heap_in, heaps_in, find_heap, store_of, IsSound, Store}
 
 -- the heap that is found is the one that memory spells there
-found_in : (b : Bytes) (heap : ℕ) (rs : List Region) (h : Part) → find_part heap (parts_in b rs) ≡ Some h
+found_in : (b : Bytes) (heap : ℕ) (rs : List Region) (h : HeapList) → find_heap heap (heaps_in b rs) ≡ Some h
     → h ≡ record { kind = h.kind; start = heap; end = h.end; items = items_in (word_at b.at) heap }
 found_in b heap [] h e = absurd (let none : None ≡ Some h = e in cc)
 found_in b heap (r ∷ rs) h e = elim (cases_Bool (is_heap_kind r.kind)) [
@@ -43,72 +46,89 @@ found_in b heap (r ∷ rs) h e = elim (cases_Bool (is_heap_kind r.kind)) [
         | inr later ↦ found_in b heap rs h (rw later at e')
         | inl here ↦
             let e'' = rw here at e' in
-            let same : part_in b r ≡ h = cc in
+            let same : heap_in b r ≡ h = cc in
             let at : r.at ≡ heap = eqb-true r.at heap here in
-            subst (λ (x : Part). x ≡ record { kind = x.kind; start = heap; end = x.end; items = items_in (word_at b.at) heap }) same
-            (ap (λ (a : ℕ). let p : Part = record { kind = r.kind; start = a; end = r.len; items = items_in (word_at b.at) a } in p) at)
+            subst (λ (x : HeapList). x ≡ record { kind = x.kind; start = heap; end = x.end; items = items_in (word_at b.at) heap }) same
+            (ap (λ (a : ℕ). let p : HeapList = record { kind = r.kind; start = a; end = r.len; items = items_in (word_at b.at) a } in p) at)
       ]
 ]
 
-pub found_is : (m : AddressMap) (heap : ℕ) (h : Part) → find_part heap (store_of m).heaps ≡ Some h → h ≡ part_at h.kind m heap h.end
+pub found_is : (m : AddressMap) (heap : ℕ) (h : HeapList) → find_heap heap (store_of m).heaps ≡ Some h → h ≡ part_at h.kind m heap h.end
 unfolding store_of
 found_is m heap h e = found_in (bytes_of m) heap (regions m) h e
 
 pub record IsThere (m : AddressMap) (heap : ℕ) : Type 0 where
   pub kind : Kind
   pub end : ℕ
-  pub found : find_part heap (store_of m).heaps ≡ Some (part_at kind m heap end)
+  pub found : find_heap heap (store_of m).heaps ≡ Some (part_at kind m heap end)
 
-pub is_there : (m : AddressMap) (heap : ℕ) → is_some (find_part heap (store_of m).heaps) ≡ true → IsThere m heap
+pub is_there : (m : AddressMap) (heap : ℕ) → is_some (find_heap heap (store_of m).heaps) ≡ true → IsThere m heap
 is_there m heap is =
     let p : HasPart heap (store_of m).heaps = part_there heap (store_of m).heaps is in
-    record { kind = p.part.kind; end = p.part.end; found = p.found ∙ ap (λ (x : Part). Some x) (found_is m heap p.part p.found) }
+    record { kind = p.part.kind; end = p.part.end; found = p.found ∙ ap (λ (x : HeapList). Some x) (found_is m heap p.part p.found) }
 
-pub there_heap : (m : AddressMap) (heap : ℕ) → IsSound (store_of m) → is_some (find_part heap (store_of m).heaps) ≡ true
+pub there_heap : (m : AddressMap) (heap : ℕ) → IsSound (store_of m) → is_some (find_heap heap (store_of m).heaps) ≡ true
     → IsHeapIn (bytes_of m) heap (end_at m heap) (items_at m heap)
 there_heap m heap sound is = let t : IsThere m heap = is_there m heap is in heap_there t.kind m heap t.end sound t.found
 
 -- the call, by the block's total
-by_total : (m : AddressMap) (heap block change : ℕ) (t : IsThere m heap) (total : Option ℕ) → live_total block (heap + 16) (items_at m heap) ≡ total
-    → resized (store_of m) heap block change ≡ resized_block (store_of m) (part_at t.kind m heap t.end) block change total
-unfolding resized
-by_total m heap block change t total e = ap (resized_of (store_of m) block change) t.found ∙ ap (resized_block (store_of m) (part_at t.kind m heap t.end) block change) e
+abbrev pub resized_block : Store → ℕ → HeapList → ℕ → ℕ → Option ℕ → Result (Store × ℕ) ErrorNumber
+resized_block s heap h block change o = bind (ok_or o HeapNotABlock) (λ old.
+    let sum : ℕ = changed_by old change in
+    if nat_le sum 4 then bind (gave_back s heap block) (λ r. Ok (r.0, 0)) else
+    resized_or_moved s h block old (round_up_8 sum) (resized_in_place block (h.start + h.end) (round_up_8 sum) (h.start + 16) h.items))
 
-probes_by_total : (m : AddressMap) (heap block change : ℕ) (t : IsThere m heap) (total : Option ℕ) → live_total block (heap + 16) (items_at m heap) ≡ total
+abbrev asked : AddressMap → ℕ → ℕ → Option ℕ
+asked m heap block = unless_image (has_image block (regions m)) (live_total block (heap + 16) (items_at m heap))
+
+asked_live : (m : AddressMap) (heap block total : ℕ) → has_image block (regions m) ≡ false → live_total block (heap + 16) (items_at m heap) ≡ Some total
+    → asked m heap block ≡ Some total
+asked_live m heap block total own live = rw own live
+
+by_total : (m : AddressMap) (heap block change : ℕ) (t : IsThere m heap) (total : Option ℕ) → asked m heap block ≡ total
+    → resized (store_of m) heap block change ≡ resized_block (store_of m) heap (part_at t.kind m heap t.end) block change total
+unfolding resized
+by_total m heap block change t total e =
+    rw (t.found, image_recorded m block) (ap (resized_block (store_of m) heap (part_at t.kind m heap t.end) block change) e)
+
+probes_by_total : (m : AddressMap) (heap block change : ℕ) (t : IsThere m heap) (total : Option ℕ) → asked m heap block ≡ total
     → resize_probes (store_of m) heap block change
     ≡ begun_below block (heap + 16) (items_at m heap) + probes_after_walk (part_at t.kind m heap t.end) block change total
 unfolding resize_probes
 probes_by_total m heap block change t total e =
-    ap (counted_of (λ h. begun_below block (h.start + 16) h.items + probes_after_walk h block change (live_total block (h.start + 16) h.items))) t.found
-    ∙ ap (λ (o : Option ℕ). begun_below block (heap + 16) (items_at m heap) + probes_after_walk (part_at t.kind m heap t.end) block change o) e
+    rw (t.found, image_recorded m block)
+    (ap (λ (o : Option ℕ). begun_below block (heap + 16) (items_at m heap) + probes_after_walk (part_at t.kind m heap t.end) block change o) e)
 
 -- what a walk to the block tells
 pub record IsHere (m : AddressMap) (heap block at : ℕ) : Type 0 where
+  pub own : has_image block (regions m) ≡ false
   pub whole : at % 4 ≡ 0
   pub mapped : is_mapped m at ≡ true
   pub live : live_total block (heap + 16) (items_at m heap) ≡ Some (word_at (byte_at m) at)
 
-pub block_here : (m : AddressMap) (heap block from at free gap : ℕ) → IsSound (store_of m) → is_some (find_part heap (store_of m).heaps) ≡ true
-    → IsBlock heap (items_at m heap) block from at free gap → IsHere m heap block at
-block_here m heap block from at free gap sound is b =
+pub block_here : (m : AddressMap) (heap block from at free gap : ℕ) → IsSound (store_of m) → is_some (find_heap heap (store_of m).heaps) ≡ true
+    → IsGuestBlock (regions m) heap (items_at m heap) block from at free gap → IsHere m heap block at
+block_here m heap block from at free gap sound is g =
+    let b : IsBlock heap (items_at m heap) block from at free gap = g.here in
     let h : IsHeapIn (bytes_of m) heap (end_at m heap) (items_at m heap) = there_heap m heap sound is in
     let f = block_facts m heap (end_at m heap) block from at free gap h b in
     record {
+      own = g.own;
       whole = f.facts.whole;
       mapped = heap_mapped m heap (end_at m heap) at (items_at m heap) h (omega (arith, f.facts.low)) (omega (arith, f.facts.high, f.facts.size));
       live = block_total m heap (end_at m heap) block from at free gap h b ∙ ap (λ (n : ℕ). Some n) (sym f.facts.total_word);
     }
 
 -- no such block
-pub resize_refused : (m : AddressMap) (heap block change : ℕ) → is_some (find_part heap (store_of m).heaps) ≡ true
-    → live_total block (heap + 16) (items_at m heap) ≡ None
+pub resize_refused : (m : AddressMap) (heap block change : ℕ) → is_some (find_heap heap (store_of m).heaps) ≡ true
+    → asked m heap block ≡ None
     → (resized (store_of m) heap block change ≡ Err HeapNotABlock) × (resize_probes (store_of m) heap block change ≡ begun_below block (heap + 16) (items_at m heap))
 resize_refused m heap block change is none =
     let t : IsThere m heap = is_there m heap is in
     (by_total m heap block change t None none, omega (arith, probes_by_total m heap block change t None none))
 
 -- no heap
-pub resize_nowhere : (m : AddressMap) (heap block change : ℕ) → find_part heap (store_of m).heaps ≡ None
+pub resize_nowhere : (m : AddressMap) (heap block change : ℕ) → find_heap heap (store_of m).heaps ≡ None
     → (resized (store_of m) heap block change ≡ Err HeapBadDesc) × (resize_probes (store_of m) heap block change ≡ 0)
 unfolding resized resize_probes
 resize_nowhere m heap block change none = rw none (refl, refl)
@@ -121,63 +141,66 @@ pub record IsResized (m n : AddressMap) (heap block change : ℕ) (answer : Resu
   pub probes : begun_below block (heap + 16) (items_at m heap) + more ≡ resize_probes (store_of m) heap block change
 
 -- nothing is left of the block
-freed_given : (old new : Store) (o : Result Store ErrorNumber) (answer : Result ℕ ErrorNumber) → answer ≡ Ok 0 → (let done : Result (Unit {0}) ErrorNumber = Ok tt in Leaves old o done new)
-    → Gives old (bind o (λ t. Ok (t, 0))) answer new
-freed_given old new (Ok s) answer zero left = rw zero (left, refl)
+freed_given : (old new : Store) (o : Result (Store × Unit {0}) ErrorNumber) (answer : Result ℕ ErrorNumber) → answer ≡ Ok 0
+    → (let done : Result (Unit {0}) ErrorNumber = Ok tt in Gives old o done new) → Gives old (bind o (λ r. Ok (r.0, 0))) answer new
+freed_given old new (Ok s) answer zero left = rw zero (left.0, refl)
 freed_given old new (Err e) answer zero left = absurd left
 
-pub resize_freed : (m n : AddressMap) (heap block change total : ℕ) → IsSound (store_of m) → is_some (find_part heap (store_of m).heaps) ≡ true
-    → live_total block (heap + 16) (items_at m heap) ≡ Some total → changed_by total change ≤ 4
+pub resize_freed : (m n : AddressMap) (heap block change total : ℕ) → IsSound (store_of m) → is_some (find_heap heap (store_of m).heaps) ≡ true
+    → has_image block (regions m) ≡ false → live_total block (heap + 16) (items_at m heap) ≡ Some total → changed_by total change ≤ 4
     → Releases m n heap (end_at m heap) (Ok tt) (released block (heap + 16) (items_at m heap)) → IsResized m n heap block change (Ok 0) 0
-resize_freed m n heap block change total sound is live few releases =
+resize_freed m n heap block change total sound is own live few releases =
     let t : IsThere m heap = is_there m heap is in
-    let h : Part = part_at t.kind m heap t.end in
     let test : nat_le (changed_by total change) 4 ≡ true = le-leb (changed_by total change) 4 few in
-    let limit : end_at m heap ≡ t.end = (heap_of-part t.kind m heap t.end sound t.found).limit in
-    let l : IsLeft m n (released_in (store_of m) h (released block (heap + 16) (items_at m heap))) (Ok tt) =
-    leaves_release t.kind m n heap t.end (Ok tt) (released block (heap + 16) (items_at m heap)) sound t.found
-    (subst (λ (e : ℕ). Releases m n heap e (Ok tt) (released block (heap + 16) (items_at m heap))) limit releases) in
+    let l : IsGiven (Unit {0}) m n (gave_back (store_of m) heap block) (Ok tt) = free_given t.kind m n heap block t.end (Ok tt) sound t.found (rw own releases) in
+    let some = asked_live m heap block total own live in
     record {
-      store = rw (by_total m heap block change t (Some total) live, test) (freed_given (store_of m) (store_of n) (released_in (store_of m) h (released block (heap + 16) (items_at m heap))) (Ok 0) refl l.store);
+      store = rw (by_total m heap block change t (Some total) some, test) (freed_given (store_of m) (store_of n) (gave_back (store_of m) heap block) (Ok 0) refl l.store);
       sound = l.sound;
       same = l.same;
-      probes = sym (rw test at (probes_by_total m heap block change t (Some total) live));
+      probes = sym (rw test at (probes_by_total m heap block change t (Some total) some));
     }
 
 -- the block stays where it is
 in_place_given : (m n : AddressMap) (kind : Kind) (heap end block old new : ℕ) (o : Option (List Item)) → IsSound (store_of m)
-    → find_part heap (store_of m).heaps ≡ Some (part_at kind m heap end) → Refits m n heap end true o
-    → IsGiven m n (resized_or_moved (store_of m) (part_at kind m heap end) block old new o) (Ok block)
-in_place_given m n kind heap end block old new None sound found refits = absurd (false≢true (sym refits.0))
-in_place_given m n kind heap end block old new (Some items) sound found refits = record {
+    → find_heap heap (store_of m).heaps ≡ Some (part_at kind m heap end)
+    → ((b t : ℕ) → has_image b (store_of m).others ≡ true → live_total b (heap + 16) (items_at m heap) ≡ Some t → IsStillIn b t (heap + 16) o)
+    → Refits m n heap end true o
+    → IsGiven ℕ m n (resized_or_moved (store_of m) (part_at kind m heap end) block old new o) (Ok block)
+in_place_given m n kind heap end block old new None sound found still refits = absurd (false≢true (sym refits.0))
+in_place_given m n kind heap end block old new (Some items) sound found still refits = record {
   store = (store_held m n (part_at kind m heap end) items sound found refits.1, refl);
-  sound = sound_held m n (part_at kind m heap end) items sound found refits.1;
+  sound = sound_held m n (part_at kind m heap end) items sound found still refits.1;
   same = refits.1.same;
 }
 
-in_place_unmoved : (m n : AddressMap) (h : Part) (heap end block new : ℕ) (o : Option (List Item)) → Refits m n heap end true o → refit_probes h block new o ≡ 0
+in_place_unmoved : (m n : AddressMap) (h : HeapList) (heap end block new : ℕ) (o : Option (List Item)) → Refits m n heap end true o → refit_probes h block new o ≡ 0
 in_place_unmoved m n h heap end block new None refits = absurd (false≢true (sym refits.0))
 in_place_unmoved m n h heap end block new (Some items) refits = refl
 
-pub resize_refitted : (m n : AddressMap) (heap block change total : ℕ) → IsSound (store_of m) → is_some (find_part heap (store_of m).heaps) ≡ true
-    → live_total block (heap + 16) (items_at m heap) ≡ Some total → 4 < changed_by total change
+pub resize_refitted : (m n : AddressMap) (heap block change total : ℕ) → IsSound (store_of m) → is_some (find_heap heap (store_of m).heaps) ≡ true
+    → has_image block (regions m) ≡ false → live_total block (heap + 16) (items_at m heap) ≡ Some total → 4 < changed_by total change
     → Refits m n heap (end_at m heap) true (resized_in_place block (heap + end_at m heap) (round_up_8 (changed_by total change)) (heap + 16) (items_at m heap))
     → IsResized m n heap block change (Ok block) 0
-resize_refitted m n heap block change total sound is live more refits =
+resize_refitted m n heap block change total sound is own live more refits =
     let t : IsThere m heap = is_there m heap is in
-    let h : Part = part_at t.kind m heap t.end in
+    let h : HeapList = part_at t.kind m heap t.end in
     let new : ℕ = round_up_8 (changed_by total change) in
     let test : nat_le (changed_by total change) 4 ≡ false = lt-leb (changed_by total change) 4 more in
     let limit : end_at m heap ≡ t.end = (heap_of-part t.kind m heap t.end sound t.found).limit in
     let here : Refits m n heap t.end true (resized_in_place block (heap + t.end) new (heap + 16) (items_at m heap)) =
     subst (λ (e : ℕ). Refits m n heap e true (resized_in_place block (heap + e) new (heap + 16) (items_at m heap))) limit refits in
-    let g = in_place_given m n t.kind heap t.end block total new (resized_in_place block (heap + t.end) new (heap + 16) (items_at m heap)) sound t.found here in
+    let none_of : has_image block (store_of m).others ≡ false = image_recorded m block ∙ own in
+    let still : (b u : ℕ) → has_image b (store_of m).others ≡ true → live_total b (heap + 16) (items_at m heap) ≡ Some u
+    → IsStillIn b u (heap + 16) (resized_in_place block (heap + t.end) new (heap + 16) (items_at m heap)) =
+    λ b u image there. refit_still b block u (heap + t.end) new (heap + 16) (items_at m heap) (image_apart b block (store_of m).others image none_of) there in
+    let g = in_place_given m n t.kind heap t.end block total new (resized_in_place block (heap + t.end) new (heap + 16) (items_at m heap)) sound t.found still here in
     let none = in_place_unmoved m n h heap t.end block new (resized_in_place block (heap + t.end) new (heap + 16) (items_at m heap)) here in
     record {
-      store = rw (by_total m heap block change t (Some total) live, test) g.store;
+      store = rw (by_total m heap block change t (Some total) (asked_live m heap block total own live), test) g.store;
       sound = g.sound;
       same = g.same;
-      probes = sym (rw (test, none) at (probes_by_total m heap block change t (Some total) live));
+      probes = sym (rw (test, none) at (probes_by_total m heap block change t (Some total) (asked_live m heap block total own live)));
     }
 
 -- it cannot stay where it is
@@ -204,28 +227,29 @@ larger_where_none block end new at total (Free t ∷ xs) live none =
     larger_where_none block end new (at + t) total xs live (map_none (λ ys. Free t ∷ ys) (resized_in_place block end new (at + t) xs) none)
 
 pub resize_moved : (m n : AddressMap) (heap block change total more : ℕ) (answer : Result ℕ ErrorNumber) → IsSound (store_of m)
-    → is_some (find_part heap (store_of m).heaps) ≡ true → live_total block (heap + 16) (items_at m heap) ≡ Some total → 4 < changed_by total change
+    → is_some (find_heap heap (store_of m).heaps) ≡ true → has_image block (regions m) ≡ false
+    → live_total block (heap + 16) (items_at m heap) ≡ Some total → 4 < changed_by total change
     → resized_in_place block (heap + end_at m heap) (round_up_8 (changed_by total change)) (heap + 16) (items_at m heap) ≡ None
-    → ((h : Part) → find_part heap (store_of m).heaps ≡ Some h
+    → ((h : HeapList) → find_heap heap (store_of m).heaps ≡ Some h
     → Gives (store_of m) (moved (store_of m) h block total (round_up_8 (changed_by total change))) answer (store_of n))
     → IsSound (store_of n) → layout n ≡ layout m
-    → ((h : Part) → find_part heap (store_of m).heaps ≡ Some h
+    → ((h : HeapList) → find_heap heap (store_of m).heaps ≡ Some h
     → more ≡ move_probes h block (round_up_8 (changed_by total change)) (claimed (round_up_8 (changed_by total change)) (h.end - 16) h.items))
     → IsResized m n heap block change answer more
-resize_moved m n heap block change total more answer sound is live large none store kept same probes =
+resize_moved m n heap block change total more answer sound is own live large none store kept same probes =
     let t : IsThere m heap = is_there m heap is in
-    let h : Part = part_at t.kind m heap t.end in
+    let h : HeapList = part_at t.kind m heap t.end in
     let new : ℕ = round_up_8 (changed_by total change) in
     let test : nat_le (changed_by total change) 4 ≡ false = lt-leb (changed_by total change) 4 large in
     let limit : end_at m heap ≡ t.end = (heap_of-part t.kind m heap t.end sound t.found).limit in
     let none' : resized_in_place block (heap + t.end) new (heap + 16) (items_at m heap) ≡ None =
     subst (λ (e : ℕ). resized_in_place block (heap + e) new (heap + 16) (items_at m heap) ≡ None) limit none in
     record {
-      store = rw (by_total m heap block change t (Some total) live, test, none') (store h t.found);
+      store = rw (by_total m heap block change t (Some total) (asked_live m heap block total own live), test, none') (store h t.found);
       sound = kept;
       same = same;
       probes = ap (λ (k : ℕ). begun_below block (heap + 16) (items_at m heap) + k) (probes h t.found)
-          ∙ sym (rw (test, none') at (probes_by_total m heap block change t (Some total) live));
+          ∙ sym (rw (test, none') at (probes_by_total m heap block change t (Some total) (asked_live m heap block total own live)));
     }
 
 -- the counts are small
@@ -234,12 +258,12 @@ free_small [] totals = omega arith
 free_small (Live t ∷ xs) totals = omega (arith, free_small xs totals.1)
 free_small (Free t ∷ xs) totals = omega (arith, free_small xs totals.1, total_facts t totals.0)
 
-pub move_few : (m : AddressMap) (heap block new more : ℕ) → IsSound (store_of m) → is_some (find_part heap (store_of m).heaps) ≡ true
-    → ((h : Part) → find_part heap (store_of m).heaps ≡ Some h → more ≡ move_probes h block new (claimed new (h.end - 16) h.items))
+pub move_few : (m : AddressMap) (heap block new more : ℕ) → IsSound (store_of m) → is_some (find_heap heap (store_of m).heaps) ≡ true
+    → ((h : HeapList) → find_heap heap (store_of m).heaps ≡ Some h → more ≡ move_probes h block new (claimed new (h.end - 16) h.items))
     → more ≤ 2 * 2 ^ 26
 move_few m heap block new more sound is probes =
     let t : IsThere m heap = is_there m heap is in
-    let h : Part = part_at t.kind m heap t.end in
+    let h : HeapList = part_at t.kind m heap t.end in
     let i : IsHeapIn (bytes_of m) heap t.end (items_at m heap) = heap_of-part t.kind m heap t.end sound t.found in
     let top : heap + t.end ≤ 2 ^ 26 = heap_below m heap t.end (items_at m heap) i in
     omega (arith, probes h t.found, move_most h block new (claimed new (h.end - 16) h.items) (claim_no_more new (h.end - 16) h.items), free_small (items_at m heap) i.totals, i.inside)

@@ -1,70 +1,22 @@
 -- The total of a block, and what a change of it in place makes of a heap's list.
-use Rattle.std.proofs.Common.{◌≡◌, ◌≢◌, ℕ, ◌+◌, ◌-◌, ◌==◌, Option, Some, None, option_map, List, [], ◌∷◌, ◌++◌, inl, inr, arith, refl, sym, ◌∙◌, ap, subst, Ok, Err}
-use Rattle.std.proofs.lemmas.Bool.{cases_Bool, eq-eqb, ne_eqb}
-use Rattle.profile.specs.declared.error.ErrorNumber.TheVariants.{HeapBadDesc}
+use Rattle.std.proofs.Common.{List, refl, false, inl, inr, ◌-◌, ◌+◌, ◌≡◌, subst, ℕ, ◌++◌, ◌∙◌, Some, ap, ◌∷◌, option_map, None, Err, Ok}
+use Rattle.profile.specs.declared.error.ErrorNumber.TheVariants.{HeapBadDesc, HeapNotABlock}
+use Rattle.std.proofs.lemmas.Bool.{cases_Bool}
 use Rattle.address_map.specs.declared.item.Item.{Item}
-use Rattle.address_map.specs.declared.item.Item.TheVariants.{Live, Free}
+use Rattle.address_map.specs.declared.region.Region.{Region}
+use Rattle.address_map.specs.Memory.{regions}
+use Rattle.address_map.specs.declared.item.Item.TheVariants.{Live}
 use Rattle.address_map.specs.declared.map.AddressMap.{AddressMap}
 use Rattle.address_map.specs.declared.region.Kind.{Kind}
-use Rattle.address_map.specs.Items.{size_of}
-use Rattle.os_heap.specs.Changes.{bytes_held, block_sized_in, block_sized}
-use Rattle.os_heap.specs.Heap.{AreTotals}
-use Rattle.os_heap.specs.Lists.{left_free, released, freed}
-use Rattle.os_heap.specs.Links.{items_at, IsHeapAt}
-use Rattle.os_heap.specs.Releases.{IsBlock}
-use Rattle.os_heap.specs.Resizes.{live_total, refitted, resized_in_place}
-use Rattle.os_heap.specs.Store.{store_of, find_part}
-use Rattle.os_heap.proofs.Calls.{part_at}
-use Rattle.os_heap.proofs.Unique.{total_facts}
-use Rattle.os_heap.proofs.Spelling.{totals-front}
-
--- nothing comes of nothing alone
-pub map_none : (f : List Item → List Item) (x : Option (List Item)) → option_map f x ≡ None → x ≡ None
-map_none f None h = refl
-map_none f (Some xs) h = absurd (let some : Some (f xs) ≡ None = h in cc)
-
-map_same : (x : Option (List Item)) → option_map (λ ys. ys) x ≡ x
-map_same None = refl
-map_same (Some xs) = refl
-
-map_twice : (f g : List Item → List Item) (x : Option (List Item)) → option_map f (option_map g x) ≡ option_map (λ ys. f (g ys)) x
-map_twice f g None = refl
-map_twice f g (Some xs) = refl
-
--- a place where no block is given back has no block
-pub unreleased : (block at : ℕ) (xs : List Item) → released block at xs ≡ None → live_total block at xs ≡ None
-unreleased block at [] none = refl
-unreleased block at (Live t ∷ xs) none = elim (cases_Bool (at + 4 == block)) [
-  | inl here ↦ absurd (let some : Some (freed t xs) ≡ None = rw here at none in cc)
-  | inr other ↦ rw other (unreleased block (at + t) xs (map_none (λ ys. Live t ∷ ys) (released block (at + t) xs) (rw other at none)))
-]
-unreleased block at (Free t ∷ xs) none = unreleased block (at + t) xs (map_none (λ ys. freed t ys) (released block (at + t) xs) none)
-
--- the total of a block behind some items
-pub live_total-at : (block at place t : ℕ) (front rest : List Item) → AreTotals front → place ≡ at + size_of front → place + 4 ≡ block
-    → live_total block at (front ++ Live t ∷ rest) ≡ Some t
-live_total-at block at place t [] rest totals there here = rw (eq-eqb (at + 4) block (omega arith)) refl
-live_total-at block at place t (Live u ∷ front) rest totals there here =
-    let other : at + 4 ≢ block = λ (e : at + 4 ≡ block). omega (arith, total_facts u totals.0) in
-    rw (ne_eqb (at + 4) block other) (live_total-at block (at + u) place t front rest totals.1 (omega arith) here)
-live_total-at block at place t (Free u ∷ front) rest totals there here =
-    live_total-at block (at + u) place t front rest totals.1 (omega arith) here
-
--- what a change of it makes of the list
-pub in_place-at : (block end new at place t : ℕ) (front rest : List Item) → AreTotals front → place ≡ at + size_of front → place + 4 ≡ block
-    → resized_in_place block end new at (front ++ Live t ∷ rest) ≡ option_map (λ ys. front ++ ys) (refitted (end - place) new t rest)
-in_place-at block end new at place t [] rest totals there here =
-    let same : at ≡ place = omega arith in
-    rw (eq-eqb (at + 4) block (omega arith))
-    (ap (λ (p : ℕ). refitted (end - p) new t rest) same ∙ sym (map_same (refitted (end - place) new t rest)))
-in_place-at block end new at place t (Live u ∷ front) rest totals there here =
-    let other : at + 4 ≢ block = λ (e : at + 4 ≡ block). omega (arith, total_facts u totals.0) in
-    rw (ne_eqb (at + 4) block other)
-    (ap (option_map (λ ys. Live u ∷ ys)) (in_place-at block end new (at + u) place t front rest totals.1 (omega arith) here)
-    ∙ map_twice (λ ys. Live u ∷ ys) (λ ys. front ++ ys) (refitted (end - place) new t rest))
-in_place-at block end new at place t (Free u ∷ front) rest totals there here =
-    ap (option_map (λ ys. Free u ∷ ys)) (in_place-at block end new (at + u) place t front rest totals.1 (omega arith) here)
-    ∙ map_twice (λ ys. Free u ∷ ys) (λ ys. front ++ ys) (refitted (end - place) new t rest)
+use Rattle.os_heap_lists.proofs.Resizes.{live_total-at, in_place-at, unreleased}
+use Rattle.os_heap_lists.proofs.Spelling.{totals-front}
+use Rattle.os_heap_lists.specs.Heap.{AreTotals}
+use Rattle.os_heap_lists.specs.Lists.{left_free, live_total, resized_in_place, refitted, released}
+use Rattle.os_heap_lists.specs.Walks.{IsBlock}
+use Rattle.os_heap.proofs.Calls.{part_at, image_recorded}
+use Rattle.os_heap.specs.Calls.{block_sized, bytes_held, unless_image, guests_total}
+use Rattle.os_heap.specs.Outcomes.{IsHeapAt, items_at}
+use Rattle.os_heap.specs.Store.{find_heap, store_of, has_image}
 
 -- the same of the block that a walk comes to
 pub block_total : (m : AddressMap) (start end block from at free gap : ℕ) → IsHeapAt m start end
@@ -85,14 +37,27 @@ block_in_place m start end limit new block from at free gap heap b =
     (totals-front (b.before ++ left_free gap) (Live b.total ∷ b.rest) totals) b.place b.here
 
 -- what a call answers that asks for the size of a block
-pub sized_found : (kind : Kind) (m : AddressMap) (heap block end : ℕ) → find_part heap (store_of m).heaps ≡ Some (part_at kind m heap end)
-    → block_sized (store_of m) heap block ≡ bytes_held (live_total block (heap + 16) (items_at m heap))
+pub sized_found : (kind : Kind) (m : AddressMap) (heap block end : ℕ) → find_heap heap (store_of m).heaps ≡ Some (part_at kind m heap end)
+    → block_sized (store_of m) heap block ≡ bytes_held (guests_total (regions m) heap (items_at m heap) block)
 unfolding block_sized
-sized_found kind m heap block end found = ap (block_sized_in block) found
+sized_found kind m heap block end found = rw (found, image_recorded m block) refl
 
-pub sized_none : (m : AddressMap) (heap block : ℕ) → find_part heap (store_of m).heaps ≡ None → block_sized (store_of m) heap block ≡ Err HeapBadDesc
+pub sized_none : (m : AddressMap) (heap block : ℕ) → find_heap heap (store_of m).heaps ≡ None → block_sized (store_of m) heap block ≡ Err HeapBadDesc
 unfolding block_sized
-sized_none m heap block none = ap (block_sized_in block) none
+sized_none m heap block none = rw none refl
 
-pub sized_of : (asked : Option ℕ) (word total : ℕ) → asked ≡ Some total → word ≡ total → Ok (word - 4) ≡ bytes_held asked
-sized_of asked word total some same = ap (λ (n : ℕ). Ok (n - 4)) same ∙ sym (ap bytes_held some)
+pub sized_of : (rs : List Region) (start block word total : ℕ) (items : List Item) → has_image block rs ≡ false → live_total block (start + 16) items ≡ Some total
+    → word ≡ total → Ok (word - 4) ≡ bytes_held (guests_total rs start items block)
+sized_of rs start block word total items own live same = rw (own, live, same) refl
+
+-- where no block of the guest's is given back, none has a size
+pub unheld : (rs : List Region) (block at : ℕ) (xs : List Item) → unless_image (has_image block rs) (released block at xs) ≡ None
+    → unless_image (has_image block rs) (live_total block at xs) ≡ None
+unheld rs block at xs none = elim (cases_Bool (has_image block rs)) [
+  | inl image ↦ rw image refl
+  | inr own ↦ rw own (unreleased block at xs (rw own at none))
+]
+
+pub unsized : (rs : List Region) (start block : ℕ) (items : List Item) → unless_image (has_image block rs) (released block (start + 16) items) ≡ None
+    → bytes_held (guests_total rs start items block) ≡ Err HeapNotABlock
+unsized rs start block items none = rw (unheld rs block (start + 16) items none) refl

@@ -1,13 +1,11 @@
 -- One word read or written.
-use Rattle.std.proofs.Common.{◌≡◌, ℕ, ◌+◌, ◌-◌, ◌%◌, ◌<◌, ◌^◌, Bool, true, Ok, inl, inr, arith, refl, ◌∙◌, ap}
+use Rattle.std.proofs.Common.{arith, ◌≡◌, refl, ℕ, Ok, true, ◌%◌, ◌^◌, ◌<◌, Bool, ◌∙◌, ap}
 use Rattle.std.proofs.lemmas.Bool.{lt-leb}
-use Rattle.std.proofs.lemmas.Bool.Decides.{nat_tests}
-use Rattle.address_map.specs.declared.map.AddressMap.{AddressMap}
-use Rattle.address_map.specs.Bytes.{word_at, with_word_at, word_start, word_loaded}
-use Rattle.address_map.specs.Memory.{byte_at, bytes_of, is_mapped, layout}
 use Rattle.address_map.proofs.Bytes.{is_mapped-layout}
 use Rattle.address_map.proofs.Spans.{mapped_below}
-use Rattle.os_heap.specs.Links.{link_at, AreApart, IsWritten, IsFreed}
+use Rattle.address_map.specs.Bytes.{word_loaded, word_at, word_start}
+use Rattle.address_map.specs.Memory.{is_mapped, bytes_of, byte_at, layout}
+use Rattle.address_map.specs.declared.map.AddressMap.{AddressMap}
 
 pub word_mapped : (m : AddressMap) (at : ℕ) → at % 4 ≡ 0 → is_mapped m at ≡ true → word_loaded (bytes_of m) at ≡ Ok (word_at (byte_at m) at)
 unfolding word_loaded
@@ -15,43 +13,6 @@ word_mapped m at aligned mapped =
     let e : word_start at ≡ at = omega arith in
     let low : at < 2 ^ 26 = mapped_below m at mapped in
     rw (e, lt-leb (2 ^ 26) at low, mapped) refl
-
-written_here : (f : ℕ → ℕ) (at v : ℕ) → v < 2 ^ 32 → word_at (with_word_at f at v) at ≡ v
-written_here f at v fits = grind (arith, nat_tests)
-
-written_other : (f : ℕ → ℕ) (at v a : ℕ) → AreApart a 1 at 4 → with_word_at f at v a ≡ f a
-written_other f at v a apart = grind (arith, nat_tests)
-
-pub written : (f g : ℕ → ℕ) (at v : ℕ) → v < 2 ^ 32 → ((a : ℕ) → g a ≡ with_word_at f at v a) → IsWritten f g at v
-written f g at v fits h =
-    let other : (a : ℕ) → AreApart a 1 at 4 → g a ≡ f a = λ a apart. h a ∙ written_other f at v a apart in
-    record {
-      here =
-          let b0 = h at in let b1 = h (at + 1) in let b2 = h (at + 2) in let b3 = h (at + 3) in
-          rw (b0, b1, b2, b3) (written_here f at v fits);
-      apart = λ a apart.
-          let b0 : g a ≡ f a = other a (elim apart [ inl low ↦ inl (omega arith) | inr high ↦ inr (omega arith) ]) in
-          let b1 : g (a + 1) ≡ f (a + 1) = other (a + 1) (elim apart [ inl low ↦ inl (omega arith) | inr high ↦ inr (omega arith) ]) in
-          let b2 : g (a + 2) ≡ f (a + 2) = other (a + 2) (elim apart [ inl low ↦ inl (omega arith) | inr high ↦ inr (omega arith) ]) in
-          let b3 : g (a + 3) ≡ f (a + 3) = other (a + 3) (elim apart [ inl low ↦ inl (omega arith) | inr high ↦ inr (omega arith) ]) in
-          rw (b0, b1, b2, b3) refl;
-      other = other;
-    }
-
--- three words, one after another
-pub freed_words : (f g h k : ℕ → ℕ) (start from at total next : ℕ) → AreApart (link_at start from) 4 at 8
-    → IsWritten f g (link_at start from) (at - from) → IsWritten g h at (next - at) → IsWritten h k (at + 4) total
-    → IsFreed f k start from at total next
-freed_words f g h k start from at total next apart one two three = record {
-  to_item = three.apart (link_at start from) (elim apart [ inl low ↦ inl (omega arith) | inr high ↦ inr (omega arith) ])
-      ∙ two.apart (link_at start from) (elim apart [ inl low ↦ inl (omega arith) | inr high ↦ inr (omega arith) ]) ∙ one.here;
-  to_next = three.apart at (inl (omega arith)) ∙ two.here;
-  length = three.here;
-  apart = λ a a1 a2. three.apart a (elim a2 [ inl low ↦ inl (omega arith) | inr high ↦ inr (omega arith) ])
-      ∙ two.apart a (elim a2 [ inl low ↦ inl (omega arith) | inr high ↦ inr (omega arith) ]) ∙ one.apart a a1;
-  other = λ a a1 a2. three.other a (elim a2 [ inl low ↦ inl (omega arith) | inr high ↦ inr (omega arith) ])
-      ∙ two.other a (elim a2 [ inl low ↦ inl (omega arith) | inr high ↦ inr (omega arith) ]) ∙ one.other a a1;
-}
 
 pub still_mapped : (m n : AddressMap) (a : ℕ) → layout n ≡ layout m → is_mapped m a ≡ true → is_mapped n a ≡ true
 still_mapped m n a same mapped = ap (λ (p : ℕ → Bool). p a) (is_mapped-layout m n same) ∙ mapped

@@ -2,13 +2,14 @@ ghost use Rattle.std.specs.Prelude.{◌≡◌, ◌+◌, ◌≤◌, List};
 ghost use Rattle.std.specs.Iterator.{YieldsFirst, item_count};
 ghost use Rattle.address_map.specs.declared.item.Item.{Item};
 ghost use Rattle.address_map.specs.Memory.{bytes_of};
-ghost use Rattle.os_heap.specs.Rest.{rest_from, IsRest};
-ghost use Rattle.os_heap.specs.Links.{IsHeapAt, items_at};
-ghost use Rattle.os_heap.specs.Store.{store_of, IsSound, items_of};
+ghost use Rattle.os_heap_lists.specs.Walks.{rest_from, IsRest};
+ghost use Rattle.os_heap.specs.Outcomes.{IsHeapAt, items_at};
+ghost use Rattle.os_heap.specs.Store.{store_of, IsSound};
+ghost use Rattle.os_heap.specs.Calls.{items_of};
 
 use crate::heaps::{Heaps, find};
 use crate::links::linked;
-use crate::words::word;
+use crate::words::{BASE, LINK, word};
 use address_map::{AddressMap, Item};
 use profile::memory_map::HEAP_DESCRIPTOR;
 use std::marker::Model;
@@ -71,7 +72,7 @@ fn blocks_of<'a>(map: &'a AddressMap, heap: u32, end: u32) -> Blocks<'a>
     Blocks {
         map,
         at: heap + HEAP_DESCRIPTOR,
-        free: linked(heap, word(map, heap + 4)),
-        base: heap + word(map, heap + 8),
+        free: linked(heap, word(map, heap + LINK)),
+        base: heap + word(map, heap + BASE),
     }
 }

@@ -1,18 +1,20 @@
 ghost use Rattle.std.specs.Prelude.{ℕ, ◌≡◌, ◌<◌, ◌+◌, ◌-◌, ◌%◌, ◌^◌, ◌&&◌, true, nat_lt, Some, Err, MatchResult};
-ghost use Rattle.profile.specs.Outcome.{Leaves};
+ghost use Rattle.profile.specs.Outcome.{Gives};
 ghost use Rattle.address_map.specs.Memory.{mapping, bytes_of};
-ghost use Rattle.os_heap.specs.Changes.{changed, end_changed, ending, has_own_size};
-ghost use Rattle.os_heap.specs.Ends.{MayEnd};
-ghost use Rattle.os_heap.specs.Links.{IsHeapAt};
-ghost use Rattle.os_heap.specs.Store.{store_of, part_in, find_part, meets_any, IsSound};
+ghost use Rattle.address_map.specs.Records.{is_heap_kind};
+ghost use Rattle.os_heap.specs.Calls.{changed, end_changed, ending, has_own_size, MayEndArea, IsAreaEnded};
+ghost use Rattle.os_heap.specs.Ranges.{MayEnd, meets_any};
+ghost use Rattle.os_heap.specs.Outcomes.{IsHeapAt};
+ghost use Rattle.os_heap.specs.Store.{store_of, heap_in, find_heap, IsSound};
 
 use crate::counted::Counted;
 use crate::heaps::{Heaps, find};
 use crate::init::{MOST_HEAP, is_heap_region, meets_any};
 use crate::sums::changed_by;
-use crate::words::{put, word};
+use crate::words::{BASE, END, put, word};
 use address_map::{AddressMap, Kind, Region};
 use profile::ErrorNumber;
+use profile::memory_map::RMA_START;
 
 impl Heaps {
     /// Changes the size of a heap by `change`, a signed word in two's complement. Its items stay as they are.
@@ -26,14 +28,29 @@ impl Heaps {
     /// RISC OS 3 Programmer's Reference Manual, "OS_Heap", reason 5.
     pub fn change_size(&self, map: &mut AddressMap, heap: u32, change: u32) -> Counted<()>
         requires { IsSound (store_of map.old) }
-        ensures store { Leaves (store_of map.old) (changed (store_of map.old) heap change) result.answer (store_of map.new) }
+        ensures store { Gives (store_of map.old) (changed (store_of map.old) heap change) result.answer (store_of map.new) }
         ensures sound { IsSound (store_of map.new) }
+        ensures others { (store_of map.new).others ≡ (store_of map.old).others }
         ensures mapping { mapping map.new ≡ mapping map.old }
         ensures probes { result.probes ≡ 0 }
     {
         Counted {
             answer: change_end(map, heap, change),
             probes: 0,
+        }
+    }
+
+    /// Gives the module area's heap another end, where that is allowed, as its area's size changes.
+    pub fn set_module_area_end(&self, map: &mut AddressMap, end: u32)
+        requires sound { IsSound (store_of map.old) }
+        requires may { MayEndArea (store_of map.old) end }
+        ensures store { IsAreaEnded (store_of map.old) end (store_of map.new) }
+        ensures sound { IsSound (store_of map.new) }
+        ensures others { (store_of map.new).others ≡ (store_of map.old).others }
+        ensures mapping { mapping map.new ≡ mapping map.old }
+    {
+        if let Some(region) = find(map, RMA_START) {
+            set_end(map, &region, end);
         }
     }
 }
@@ -48,8 +65,9 @@ fn has_own_size(kind: Kind) -> bool
 /// Changes the end of a heap, where nothing speaks against it.
 fn change_end(map: &mut AddressMap, heap: u32, change: u32) -> Result<(), ErrorNumber>
     requires { IsSound (store_of map.old) }
-    ensures store { Leaves (store_of map.old) (changed (store_of map.old) heap change) result (store_of map.new) }
+    ensures store { Gives (store_of map.old) (changed (store_of map.old) heap change) result (store_of map.new) }
     ensures sound { IsSound (store_of map.new) }
+    ensures others { (store_of map.new).others ≡ (store_of map.old).others }
     ensures mapping { mapping map.new ≡ mapping map.old }
 {
     let Some(region) = find(map, heap) else {
@@ -71,7 +89,7 @@ fn change_end(map: &mut AddressMap, heap: u32, change: u32) -> Result<(), ErrorN
 /// Whether a heap may have another end.
 fn may_end(map: &AddressMap, region: &Region, end: u32) -> Result<(), ErrorNumber>
     requires { IsHeapAt map.now region.now.at region.now.len }
-    ensures { MatchResult result (λ _. MayEnd (store_of map.now) (part_in (bytes_of map.now) region.now) end) (λ e. (change : ℕ) → change % 4 ≡ 0 → end_changed (store_of map.now) (part_in (bytes_of map.now) region.now) change end ≡ Err e) }
+    ensures { MatchResult result (λ _. MayEnd (store_of map.now) (heap_in (bytes_of map.now) region.now) end) (λ e. (change : ℕ) → change % 4 ≡ 0 → end_changed (store_of map.now) (heap_in (bytes_of map.now) region.now) change end ≡ Err e) }
 {
     if !is_heap_region(map, region.at, end) {
         return Err(ErrorNumber::HeapBadRegion);
@@ -79,7 +97,7 @@ fn may_end(map: &AddressMap, region: &Region, end: u32) -> Result<(), ErrorNumbe
     if overlaps(map, region, end) {
         return Err(ErrorNumber::HeapOverlaps);
     }
-    if end < word(map, region.at + 8) {
+    if end < word(map, region.at + BASE) {
         return Err(ErrorNumber::HeapBadShrink);
     }
     Ok(())
@@ -95,14 +113,15 @@ fn overlaps(map: &AddressMap, region: &Region, end: u32) -> bool
 
 /// Writes the end of a heap, and records its range anew.
 fn set_end(map: &mut AddressMap, region: &Region, end: u32)
-    requires kind { has_own_size region.now.kind ≡ true }
-    requires found { find_part region.now.at (store_of map.old).heaps ≡ Some (part_in (bytes_of map.old) region.now) }
-    requires may { MayEnd (store_of map.old) (part_in (bytes_of map.old) region.now) end }
+    requires kind { is_heap_kind region.now.kind ≡ true }
+    requires found { find_heap region.now.at (store_of map.old).heaps ≡ Some (heap_in (bytes_of map.old) region.now) }
+    requires may { MayEnd (store_of map.old) (heap_in (bytes_of map.old) region.now) end }
     requires sound { IsSound (store_of map.old) }
-    ensures store { store_of map.new ≡ ending (store_of map.old) (part_in (bytes_of map.old) region.now) end }
+    ensures store { store_of map.new ≡ ending (store_of map.old) (heap_in (bytes_of map.old) region.now) end }
     ensures sound { IsSound (store_of map.new) }
+    ensures others { (store_of map.new).others ≡ (store_of map.old).others }
     ensures mapping { mapping map.new ≡ mapping map.old }
 {
-    put(map, region.at + 12, end);
-    map.set_len(Kind::Heap, region.at, end);
+    put(map, region.at + END, end);
+    map.set_len(region.kind, region.at, end);
 }

@@ -2,15 +2,18 @@ ghost use Rattle.std.specs.Prelude.{◌≡◌, ◌≤◌, ◌<◌, ◌-◌, ◌+
 ghost use Rattle.profile.specs.Outcome.{Gives};
 ghost use Rattle.address_map.specs.Items.{is_total, size_of};
 ghost use Rattle.address_map.specs.Memory.{layout};
-ghost use Rattle.os_heap.specs.Lists.{total_for, first_fit, claimed, or_at_base, looked_at};
-ghost use Rattle.os_heap.specs.Links.{HasHeapAt, end_at, items_at};
-ghost use Rattle.os_heap.specs.Claims.{IsFit, Claims};
-ghost use Rattle.os_heap.specs.Store.{store_of, IsSound, got, get_probes};
+ghost use Rattle.os_heap_lists.specs.Lists.{total_for, first_fit, claimed, or_at_base};
+ghost use Rattle.os_heap_lists.specs.Counts.{looked_at};
+ghost use Rattle.os_heap.specs.Outcomes.{HasHeapAt, end_at, items_at, Claims};
+ghost use Rattle.os_heap_lists.specs.Walks.{IsFit};
+ghost use Rattle.os_heap.specs.Store.{store_of, IsSound};
+ghost use Rattle.os_heap.specs.Calls.{got};
+ghost use Rattle.os_heap.specs.Probes.{get_probes};
 
 use crate::counted::Counted;
 use crate::heaps::{Heaps, find};
 use crate::sums::round_up_8;
-use crate::words::{follow, put, put_free, put_link, word};
+use crate::words::{BASE, END, follow, put, put_free, put_link, word};
 use address_map::AddressMap;
 use profile::ErrorNumber;
 
@@ -84,19 +87,19 @@ fn append(map: &mut AddressMap, heap: u32, needed: u64) -> Result<u32, ErrorNumb
     requires small { needed < 2 ^ 34 }
     ensures { Claims map.old map.new heap (end_at map.old heap) result (or_at_base needed (end_at map.old heap - 16) (items_at map.old heap) None) }
 {
-    let base = word(map, heap + 8);
-    let end = word(map, heap + 12);
+    let base = word(map, heap + BASE);
+    let end = word(map, heap + END);
     if u64::from(base) + needed > u64::from(end) {
         return Err(ErrorNumber::HeapNoRoom);
     }
     let total = needed as u32;
     put(map, heap + base, total);
-    put(map, heap + 8, base + total);
+    put(map, heap + BASE, base + total);
     Ok(heap + base + 4)
 }
 
 /// Claims a block of `needed` bytes in one heap, its length word among them.
-#[tactic(auto, unfolding(crate::specs::Lists::claimed))]
+#[tactic(auto, unfolding(os_heap_lists::specs::Lists::claimed))]
 pub(crate) fn claim_total(map: &mut AddressMap, heap: u32, needed: u64) -> Counted<u32>
     requires heap { HasHeapAt map.old heap }
     requires total { is_total needed ≡ true }

@@ -1,15 +1,17 @@
 ghost use Rattle.std.specs.Prelude.{◌≡◌, ◌≢◌, ◌<◌, ◌+◌};
 ghost use Rattle.address_map.specs.Bytes.{word_at};
 ghost use Rattle.address_map.specs.Memory.{byte_at};
-ghost use Rattle.os_heap.specs.Lists.{free_count, free_total, largest_free};
-ghost use Rattle.os_heap.specs.Links.{IsHeapAt, items_at};
-ghost use Rattle.os_heap.specs.Tally.{IsTallied};
-ghost use Rattle.os_heap.specs.Store.{store_of, IsSound, described, describe_probes};
+ghost use Rattle.os_heap_lists.specs.Counts.{free_count, free_total, largest_free};
+ghost use Rattle.os_heap.specs.Outcomes.{IsHeapAt, items_at};
+ghost use Rattle.os_heap_lists.specs.Walks.{IsTallied};
+ghost use Rattle.os_heap.specs.Store.{store_of, IsSound};
+ghost use Rattle.os_heap.specs.Calls.{described};
+ghost use Rattle.os_heap.specs.Probes.{describe_probes};
 
 use crate::counted::Counted;
 use crate::heaps::{Heaps, find};
 use crate::links::linked;
-use crate::words::word;
+use crate::words::{BASE, LINK, word};
 use address_map::AddressMap;
 use profile::ErrorNumber;
 
@@ -42,7 +44,7 @@ impl Heaps {
             };
         };
         let free = free_room(map, heap, region.len);
-        let room = region.len - word(map, heap + 8);
+        let room = region.len - word(map, heap + BASE);
         let largest = free.largest.max(room / 8 * 8);
         Counted {
             answer: Ok((largest.saturating_sub(4), free.total + room)),
@@ -59,7 +61,7 @@ fn free_room(map: &AddressMap, heap: u32, end: u32) -> Tally
     ensures largest { result.largest ≡ largest_free (items_at map.now heap) }
 {
     let mut tally = Tally {
-        at: linked(heap, word(map, heap + 4)),
+        at: linked(heap, word(map, heap + LINK)),
         count: 0,
         total: 0,
         largest: 0,

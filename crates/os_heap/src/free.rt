@@ -1,15 +1,18 @@
 ghost use Rattle.std.specs.Prelude.{◌≡◌, ◌+◌, Ok};
-ghost use Rattle.profile.specs.Outcome.{Leaves};
-ghost use Rattle.address_map.specs.Memory.{layout};
-ghost use Rattle.os_heap.specs.Lists.{released, begun_below};
-ghost use Rattle.os_heap.specs.Links.{HasHeapAt, end_at, items_at};
-ghost use Rattle.os_heap.specs.Releases.{IsBlock, Releases};
-ghost use Rattle.os_heap.specs.Store.{store_of, IsSound, gave_back, walk_probes};
+ghost use Rattle.profile.specs.Outcome.{Gives};
+ghost use Rattle.address_map.specs.Memory.{layout, regions};
+ghost use Rattle.os_heap_lists.specs.Lists.{released};
+ghost use Rattle.os_heap_lists.specs.Counts.{begun_below};
+ghost use Rattle.os_heap.specs.Outcomes.{HasHeapAt, end_at, items_at, Releases};
+ghost use Rattle.os_heap_lists.specs.Walks.{IsBlock};
+ghost use Rattle.os_heap.specs.Store.{store_of, has_image, IsSound};
+ghost use Rattle.os_heap.specs.Calls.{unless_image, gave_back};
+ghost use Rattle.os_heap.specs.Probes.{walk_probes};
 
 use crate::counted::Counted;
 use crate::heaps::{Heaps, find};
-use crate::walk::{Cursor, find_block};
-use crate::words::{follow, put, put_free, put_link, word};
+use crate::walk::{Cursor, find_guest_block};
+use crate::words::{BASE, follow, put, put_free, put_link, word};
 use address_map::AddressMap;
 use profile::ErrorNumber;
 
@@ -19,14 +22,14 @@ pub(crate) fn give_back(map: &mut AddressMap, heap: u32, block: u32, cursor: &Cu
     requires block { IsBlock heap (items_at map.old heap) block cursor.now.from cursor.now.at cursor.now.free cursor.now.gap }
     ensures { Releases map.old map.new heap (end_at map.old heap) (Ok tt) (released block (heap + 16) (items_at map.old heap)) }
 {
-    let base = heap + word(map, heap + 8);
+    let base = heap + word(map, heap + BASE);
     let own = word(map, cursor.at);
     let behind = cursor.at + own;
     let at = cursor.at - cursor.gap;
     let total = cursor.gap + own;
     if behind == base {
         put_link(map, heap, cursor.from, 0);
-        put(map, heap + 8, at - heap);
+        put(map, heap + BASE, at - heap);
         return;
     }
     if behind == cursor.free {
@@ -41,10 +44,10 @@ pub(crate) fn give_back(map: &mut AddressMap, heap: u32, block: u32, cursor: &Cu
 /// Gives a block of one heap back.
 fn release(map: &mut AddressMap, heap: u32, block: u32) -> Counted<()>
     requires { HasHeapAt map.old heap }
-    ensures release { Releases map.old map.new heap (end_at map.old heap) result.answer (released block (heap + 16) (items_at map.old heap)) }
+    ensures release { Releases map.old map.new heap (end_at map.old heap) result.answer (unless_image (has_image block (regions map.old)) (released block (heap + 16) (items_at map.old heap))) }
     ensures probes { result.probes ≡ begun_below block (heap + 16) (items_at map.old heap) }
 {
-    let walk = find_block(map, heap, block);
+    let walk = find_guest_block(map, heap, block);
     match walk.block {
         Some(cursor) => {
             give_back(map, heap, block, &cursor);
@@ -66,13 +69,13 @@ impl Heaps {
     ///
     /// # Errors
     ///
-    /// `HeapBadDesc` where no heap starts at `heap`; `HeapNotABlock` where no block's bytes begin at `block`. Nothing is
-    /// changed then.
+    /// `HeapBadDesc` where no heap starts at `heap`; `HeapNotABlock` where no block's bytes begin at `block`, or they are a
+    /// module image. Nothing is changed then.
     ///
     /// RISC OS 3 Programmer's Reference Manual, "OS_Heap", reason 3.
     pub fn free(&self, map: &mut AddressMap, heap: u32, block: u32) -> Counted<()>
         requires { IsSound (store_of map.old) }
-        ensures store { Leaves (store_of map.old) (gave_back (store_of map.old) heap block) result.answer (store_of map.new) }
+        ensures store { Gives (store_of map.old) (gave_back (store_of map.old) heap block) result.answer (store_of map.new) }
         ensures sound { IsSound (store_of map.new) }
         ensures layout { layout map.new ≡ layout map.old }
         ensures probes { result.probes ≡ walk_probes (store_of map.old) heap block }

@@ -1,6 +1,6 @@
 ghost use Rattle.std.specs.Prelude.{◌≡◌, Some, None, MatchOption};
 ghost use Rattle.address_map.specs.Memory.{bytes_of};
-ghost use Rattle.os_heap.specs.Store.{store_of, part_in, find_part};
+ghost use Rattle.os_heap.specs.Store.{store_of, heap_in, find_heap};
 
 use address_map::{AddressMap, Region};
 
@@ -18,7 +18,7 @@ impl Heaps {
 /// The recorded range of the heap that starts at an address.
 #[tactic(auto, unfolding(crate::specs::Store::store_of))]
 pub(crate) fn find(map: &AddressMap, heap: u32) -> Option<Region>
-    ensures { MatchOption result (find_part heap (store_of map.now).heaps ≡ None) (λ region. (region.at ≡ heap) × (find_part heap (store_of map.now).heaps ≡ Some (part_in (bytes_of map.now) region))) }
+    ensures { MatchOption result (find_heap heap (store_of map.now).heaps ≡ None) (λ region. (region.at ≡ heap) × (find_heap heap (store_of map.now).heaps ≡ Some (heap_in (bytes_of map.now) region))) }
 {
     let regions = map.regions();
     for region in regions {

@@ -1,16 +1,18 @@
 ghost use Rattle.std.specs.Prelude.{ℕ, [], true, ◌≡◌, ◌≤◌, ◌%◌, length, IsTrue, MatchResult, Err};
 ghost use Rattle.std.specs.List.{list_any};
-ghost use Rattle.profile.specs.Outcome.{Leaves};
+ghost use Rattle.profile.specs.Outcome.{Gives};
 ghost use Rattle.address_map.specs.Bytes.{Bytes, AreMapped};
 ghost use Rattle.address_map.specs.Memory.{mapping, byte_at, is_mapped, bytes_of, layout};
 ghost use Rattle.address_map.specs.Records.{is_heap_kind};
-ghost use Rattle.address_map.specs.declared.region.Kind.TheVariants.{Rma};
-ghost use Rattle.os_heap.specs.Begin.{MayBegin};
-ghost use Rattle.os_heap.specs.Heap.{with_part};
-ghost use Rattle.os_heap.specs.Store.{store_of, parts_in, IsSound, is_heap_region, meets, meets_any, begun, begun_with};
+ghost use Rattle.address_map.specs.declared.region.Kind.TheVariants.{Heap, Rma};
+ghost use Rattle.os_heap.specs.Ranges.{MayBegin, is_heap_region, meets, meets_any};
+ghost use Rattle.os_heap_lists.specs.Heap.{with_heap};
+ghost use Rattle.os_heap.specs.Store.{store_of, heaps_in, guest_count, IsSound};
+ghost use Rattle.os_heap.specs.Calls.{begun, begun_with};
 
 use crate::counted::Counted;
 use crate::heaps::Heaps;
+use crate::words::{BASE, END, LINK};
 use address_map::{AddressMap, Kind, Region};
 use profile::ErrorNumber;
 use profile::memory_map::{HEAP_DESCRIPTOR, HEAP_NAME};
@@ -18,8 +20,8 @@ use profile::memory_map::{HEAP_DESCRIPTOR, HEAP_NAME};
 /// The most bytes of a heap.
 pub(crate) const MOST_HEAP: u32 = 16_777_216;
 
-/// The most heaps: 64, and the module area.
-const MOST_HEAPS: usize = 65;
+/// The most heaps that guests make, besides the module area.
+const MOST_HEAPS: usize = 64;
 
 impl Heaps {
     /// Makes a heap of `size` bytes at an address, without items. It takes up its bytes from then on.
@@ -31,8 +33,9 @@ impl Heaps {
     /// `HeapTableFull` where there are 64 heaps besides that of the module area.
     pub fn init(&self, map: &mut AddressMap, heap: u32, size: u32) -> Counted<()>
         requires { IsSound (store_of map.old) }
-        ensures store { Leaves (store_of map.old) (begun (store_of map.old) heap size) result.answer (store_of map.new) }
+        ensures store { Gives (store_of map.old) (begun (store_of map.old) heap size) result.answer (store_of map.new) }
         ensures sound { IsSound (store_of map.new) }
+        ensures others { (store_of map.new).others ≡ (store_of map.old).others }
         ensures mapping { mapping map.new ≡ mapping map.old }
         ensures probes { result.probes ≡ 0 }
     {
@@ -44,10 +47,11 @@ impl Heaps {
 
     /// Makes the heap of the module area, without items, as `init` makes one that it does not refuse.
     pub fn init_module_area(&self, map: &mut AddressMap, area: u32, size: u32)
-        requires may { MayBegin (store_of map.old) area size }
+        requires may { MayBegin Rma (store_of map.old) area size }
         requires sound { IsSound (store_of map.old) }
         ensures store { store_of map.new ≡ begun_with Rma (store_of map.old) area size }
         ensures sound { IsSound (store_of map.new) }
+        ensures others { (store_of map.new).others ≡ (store_of map.old).others }
         ensures mapping { mapping map.new ≡ mapping map.old }
     {
         make(map, Kind::Rma, area, size);
@@ -57,8 +61,9 @@ impl Heaps {
 /// Makes a heap, where nothing speaks against it.
 fn begin(map: &mut AddressMap, heap: u32, size: u32) -> Result<(), ErrorNumber>
     requires { IsSound (store_of map.old) }
-    ensures store { Leaves (store_of map.old) (begun (store_of map.old) heap size) result (store_of map.new) }
+    ensures store { Gives (store_of map.old) (begun (store_of map.old) heap size) result (store_of map.new) }
     ensures sound { IsSound (store_of map.new) }
+    ensures others { (store_of map.new).others ≡ (store_of map.old).others }
     ensures mapping { mapping map.new ≡ mapping map.old }
 {
     may_begin(map, heap, size)?;
@@ -69,10 +74,11 @@ fn begin(map: &mut AddressMap, heap: u32, size: u32) -> Result<(), ErrorNumber>
 /// Writes the descriptor of a heap without items, and records its range.
 fn make(map: &mut AddressMap, kind: Kind, heap: u32, size: u32)
     requires kind { is_heap_kind kind ≡ true }
-    requires may { MayBegin (store_of map.old) heap size }
+    requires may { MayBegin kind (store_of map.old) heap size }
     requires sound { IsSound (store_of map.old) }
     ensures store { store_of map.new ≡ begun_with kind (store_of map.old) heap size }
     ensures sound { IsSound (store_of map.new) }
+    ensures others { (store_of map.new).others ≡ (store_of map.old).others }
     ensures mapping { mapping map.new ≡ mapping map.old }
 {
     write_descriptor(map, heap, size);
@@ -84,18 +90,18 @@ fn write_descriptor(map: &mut AddressMap, heap: u32, size: u32)
     requires aligned { heap % 4 ≡ 0 }
     requires room { 16 ≤ size }
     requires mapped { AreMapped (is_mapped map.old) heap size }
-    ensures bytes { (a : ℕ) → byte_at map.new a ≡ with_part (byte_at map.old) heap size [] a }
+    ensures bytes { (a : ℕ) → byte_at map.new a ≡ with_heap (byte_at map.old) heap size [] a }
     ensures layout { layout map.new ≡ layout map.old }
 {
     map.put_word(heap, HEAP_NAME);
-    map.put_word(heap + 4, 0);
-    map.put_word(heap + 8, HEAP_DESCRIPTOR);
-    map.put_word(heap + 12, size);
+    map.put_word(heap + LINK, 0);
+    map.put_word(heap + BASE, HEAP_DESCRIPTOR);
+    map.put_word(heap + END, size);
 }
 
 /// Whether a heap may be made of a range.
 fn may_begin(map: &AddressMap, heap: u32, size: u32) -> Result<(), ErrorNumber>
-    ensures { MatchResult result (λ _. MayBegin (store_of map.now) heap size) (λ e. begun (store_of map.now) heap size ≡ Err e) }
+    ensures { MatchResult result (λ _. MayBegin Heap (store_of map.now) heap size) (λ e. begun (store_of map.now) heap size ≡ Err e) }
 {
     if !is_heap_region(map, heap, size) {
         return Err(ErrorNumber::HeapBadRegion);
@@ -103,7 +109,7 @@ fn may_begin(map: &AddressMap, heap: u32, size: u32) -> Result<(), ErrorNumber>
     if meets_any(map, heap, size) {
         return Err(ErrorNumber::HeapOverlaps);
     }
-    if count_heaps(map) >= MOST_HEAPS {
+    if count_guests(map) >= MOST_HEAPS {
         return Err(ErrorNumber::HeapTableFull);
     }
     Ok(())
@@ -151,19 +157,19 @@ fn meets(region: &Region, heap: u32, size: u32) -> bool
     u64::from(region.at) < u64::from(heap) + u64::from(size)
 }
 
-/// How many heaps are recorded.
-fn count_heaps(map: &AddressMap) -> usize
-    ensures { result ≡ length (store_of map.now).heaps }
+/// How many heaps guests have made.
+fn count_guests(map: &AddressMap) -> usize
+    ensures { result ≡ guest_count (store_of map.now).heaps }
 {
     count_regions(map.regions())
 }
 
 fn count_regions(regions: &[Region]) -> usize
-    ensures { (b : Bytes) → length (parts_in b regions.now) ≡ result }
+    ensures { (b : Bytes) → guest_count (heaps_in b regions.now) ≡ result }
 {
     let mut count = 0;
     for region in regions {
-        if region.kind.is_heap() {
+        if matches!(region.kind, Kind::Heap) {
             count += 1;
         }
     }

@@ -9,7 +9,6 @@ pub mod describe;
 mod free;
 pub mod heaps;
 pub mod init;
-pub mod laws;
 mod links;
 mod refit;
 mod relocate;
@@ -24,11 +23,5 @@ pub use blocks::Blocks;
 pub use counted::Counted;
 pub use heaps::Heaps;
 
-#[cfg(test)]
-mod block_tests;
-#[cfg(test)]
-mod change_tests;
-#[cfg(test)]
-mod resize_tests;
 #[cfg(test)]
 mod tests;

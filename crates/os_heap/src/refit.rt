@@ -2,13 +2,13 @@ ghost use Rattle.std.specs.Prelude.{◌≡◌, ◌≢◌, ◌≤◌, ◌<◌, �
 ghost use Rattle.address_map.specs.Bytes.{word_at};
 ghost use Rattle.address_map.specs.Items.{is_total};
 ghost use Rattle.address_map.specs.Memory.{byte_at, layout};
-ghost use Rattle.os_heap.specs.Links.{HasHeapAt, end_at, items_at};
-ghost use Rattle.os_heap.specs.Refits.{IsDivided, Refits};
-ghost use Rattle.os_heap.specs.Releases.{last_link, IsBlock};
-ghost use Rattle.os_heap.specs.Resizes.{resized_in_place};
+ghost use Rattle.os_heap.specs.Outcomes.{HasHeapAt, end_at, items_at, Refits};
+ghost use Rattle.os_heap_lists.specs.Words.{IsDivided};
+ghost use Rattle.os_heap_lists.specs.Walks.{last_link, IsBlock};
+ghost use Rattle.os_heap_lists.specs.Lists.{resized_in_place};
 
 use crate::walk::{Cursor, last_link};
-use crate::words::{follow, put, put_free, put_link, word};
+use crate::words::{BASE, END, follow, put, put_free, put_link, word};
 use address_map::AddressMap;
 
 /// Gives a block another total where it stands, if it can, and tells whether it did.
@@ -29,7 +29,7 @@ pub(crate) fn refit(
     if needed == u64::from(total) {
         return true;
     }
-    if cursor.at + total == heap + word(map, heap + 8) {
+    if cursor.at + total == heap + word(map, heap + BASE) {
         return refit_last(map, heap, block, cursor, needed);
     }
     if needed > u64::from(total) {
@@ -48,13 +48,13 @@ fn refit_last(map: &mut AddressMap, heap: u32, block: u32, cursor: &Cursor, need
     requires last { cursor.now.at + word_at (byte_at map.old) cursor.now.at ≡ heap + word_at (byte_at map.old) (heap + 8) }
     ensures { Refits map.old map.new heap (end_at map.old heap) result (resized_in_place block (heap + end_at map.old heap) needed (heap + 16) (items_at map.old heap)) }
 {
-    let end = heap + word(map, heap + 12);
+    let end = heap + word(map, heap + END);
     if u64::from(cursor.at) + needed > u64::from(end) {
         return false;
     }
     let total = needed as u32;
     put(map, cursor.at, total);
-    put(map, heap + 8, cursor.at + total - heap);
+    put(map, heap + BASE, cursor.at + total - heap);
     true
 }
 

@@ -1,14 +1,15 @@
-ghost use Rattle.std.specs.Prelude.{◌≡◌, ◌≢◌, ◌<◌, ◌+◌, ◌-◌, ◌^◌, Some, true, is_some};
+ghost use Rattle.std.specs.Prelude.{false, ◌≡◌, ◌≢◌, ◌<◌, ◌+◌, ◌-◌, ◌^◌, Some, true, is_some};
 ghost use Rattle.profile.specs.Outcome.{Gives};
 ghost use Rattle.address_map.specs.Items.{is_total};
-ghost use Rattle.address_map.specs.Memory.{layout};
-ghost use Rattle.os_heap.specs.Changes.{moved, move_probes};
-ghost use Rattle.os_heap.specs.Heap.{Part};
-ghost use Rattle.os_heap.specs.Links.{HasHeapAt, items_at};
-ghost use Rattle.os_heap.specs.Lists.{claimed};
-ghost use Rattle.os_heap.specs.Releases.{IsBlock, IsLinked};
-ghost use Rattle.os_heap.specs.Resizes.{free_below, live_total};
-ghost use Rattle.os_heap.specs.Store.{store_of, find_part, IsSound};
+ghost use Rattle.address_map.specs.Memory.{layout, regions};
+ghost use Rattle.os_heap.specs.Calls.{moved};
+ghost use Rattle.os_heap.specs.Probes.{move_probes};
+ghost use Rattle.os_heap_lists.specs.Heap.{HeapList};
+ghost use Rattle.os_heap.specs.Outcomes.{HasHeapAt, items_at};
+ghost use Rattle.os_heap_lists.specs.Lists.{claimed, live_total};
+ghost use Rattle.os_heap_lists.specs.Walks.{IsBlock, IsLinked};
+ghost use Rattle.os_heap_lists.specs.Counts.{free_below};
+ghost use Rattle.os_heap.specs.Store.{has_image, store_of, find_heap, IsSound};
 
 use crate::claim::claim_total;
 use crate::counted::Counted;
@@ -28,15 +29,16 @@ pub(crate) fn relocate(
 ) -> Counted<u32>
     requires sound { IsSound (store_of map.old) }
     requires heap { HasHeapAt map.old heap }
-    requires found { is_some (find_part heap (store_of map.old).heaps) ≡ true }
+    requires found { is_some (find_heap heap (store_of map.old).heaps) ≡ true }
+    requires own { has_image block (regions map.old) ≡ false }
     requires live { live_total block (heap + 16) (items_at map.old heap) ≡ Some total }
     requires whole { is_total needed ≡ true }
     requires small { needed < 2 ^ 34 }
     requires larger { total < needed }
-    ensures store { (h : Part) → find_part heap (store_of map.old).heaps ≡ Some h → Gives (store_of map.old) (moved (store_of map.old) h block total needed) result.answer (store_of map.new) }
+    ensures store { (h : HeapList) → find_heap heap (store_of map.old).heaps ≡ Some h → Gives (store_of map.old) (moved (store_of map.old) h block total needed) result.answer (store_of map.new) }
     ensures sound { IsSound (store_of map.new) }
     ensures layout { layout map.new ≡ layout map.old }
-    ensures probes { (h : Part) → find_part heap (store_of map.old).heaps ≡ Some h → result.probes ≡ move_probes h block needed (claimed needed (h.end - 16) h.items) }
+    ensures probes { (h : HeapList) → find_heap heap (store_of map.old).heaps ≡ Some h → result.probes ≡ move_probes h block needed (claimed needed (h.end - 16) h.items) }
 {
     let claim = claim_total(map, heap, needed);
     let Ok(new) = claim.answer else {

@@ -1,8 +1,9 @@
 ghost use Rattle.std.specs.Prelude.{◌≡◌, is_some, true};
 ghost use Rattle.profile.specs.Outcome.{Gives};
 ghost use Rattle.address_map.specs.Memory.{layout};
-ghost use Rattle.os_heap.specs.Changes.{resized, resize_probes, AreInBounds};
-ghost use Rattle.os_heap.specs.Store.{store_of, find_part, IsSound};
+ghost use Rattle.os_heap.specs.Calls.{resized};
+ghost use Rattle.os_heap.specs.Probes.{resize_probes, AreInBounds};
+ghost use Rattle.os_heap.specs.Store.{store_of, find_heap, IsSound};
 
 use crate::counted::Counted;
 use crate::free::give_back;
@@ -10,7 +11,7 @@ use crate::heaps::{Heaps, find};
 use crate::refit::refit;
 use crate::relocate::relocate;
 use crate::sums::{changed_by, round_up_8};
-use crate::walk::find_block;
+use crate::walk::find_guest_block;
 use crate::words::word;
 use address_map::AddressMap;
 use profile::ErrorNumber;
@@ -26,8 +27,8 @@ impl Heaps {
     ///
     /// # Errors
     ///
-    /// `HeapBadDesc` where no heap starts at `heap`; `HeapNotABlock` where no block's bytes begin at `block`; `HeapNoRoom` where the block
-    /// would have to move and there is no room. Nothing is changed then.
+    /// `HeapBadDesc` where no heap starts at `heap`; `HeapNotABlock` where no block's bytes begin at `block`, or they are a
+    /// module image; `HeapNoRoom` where the block would have to move and there is no room. Nothing is changed then.
     ///
     /// RISC OS 3 Programmer's Reference Manual, "OS_Heap", reason 4.
     pub fn resize(&self, map: &mut AddressMap, heap: u32, block: u32, change: u32) -> Counted<u32>
@@ -36,7 +37,7 @@ impl Heaps {
         ensures sound { IsSound (store_of map.new) }
         ensures layout { layout map.new ≡ layout map.old }
         ensures probes { result.probes ≡ resize_probes (store_of map.old) heap block change }
-        ensures bounds { AreInBounds result.probes block (find_part heap (store_of map.old).heaps) }
+        ensures bounds { AreInBounds result.probes block (find_heap heap (store_of map.old).heaps) }
     {
         match find(map, heap) {
             Some(_) => resize_block(map, heap, block, change),
@@ -51,13 +52,13 @@ impl Heaps {
 /// Changes the total of a block, where the heap is there.
 fn resize_block(map: &mut AddressMap, heap: u32, block: u32, change: u32) -> Counted<u32>
     requires sound { IsSound (store_of map.old) }
-    requires found { is_some (find_part heap (store_of map.old).heaps) ≡ true }
+    requires found { is_some (find_heap heap (store_of map.old).heaps) ≡ true }
     ensures store { Gives (store_of map.old) (resized (store_of map.old) heap block change) result.answer (store_of map.new) }
     ensures sound { IsSound (store_of map.new) }
     ensures layout { layout map.new ≡ layout map.old }
     ensures probes { result.probes ≡ resize_probes (store_of map.old) heap block change }
 {
-    let walk = find_block(map, heap, block);
+    let walk = find_guest_block(map, heap, block);
     let Some(cursor) = walk.block else {
         return Counted {
             answer: Err(ErrorNumber::HeapNotABlock),

@@ -1,13 +1,14 @@
 ghost use Rattle.std.specs.Prelude.{◌≡◌, ◌+◌};
-ghost use Rattle.os_heap.specs.Changes.{bytes_held, block_sized};
-ghost use Rattle.os_heap.specs.Links.{HasHeapAt, items_at};
-ghost use Rattle.os_heap.specs.Lists.{begun_below};
-ghost use Rattle.os_heap.specs.Resizes.{live_total};
-ghost use Rattle.os_heap.specs.Store.{store_of, IsSound, walk_probes};
+ghost use Rattle.os_heap.specs.Calls.{bytes_held, guests_total, block_sized};
+ghost use Rattle.os_heap.specs.Outcomes.{HasHeapAt, items_at};
+ghost use Rattle.os_heap_lists.specs.Counts.{begun_below};
+ghost use Rattle.address_map.specs.Memory.{regions};
+ghost use Rattle.os_heap.specs.Store.{store_of, IsSound};
+ghost use Rattle.os_heap.specs.Probes.{walk_probes};
 
 use crate::counted::Counted;
 use crate::heaps::{Heaps, find};
-use crate::walk::find_block;
+use crate::walk::find_guest_block;
 use crate::words::word;
 use address_map::AddressMap;
 use profile::ErrorNumber;
@@ -18,7 +19,8 @@ impl Heaps {
     ///
     /// # Errors
     ///
-    /// `HeapBadDesc` where no heap starts at `heap`; `HeapNotABlock` where no block's bytes begin at `block`.
+    /// `HeapBadDesc` where no heap starts at `heap`; `HeapNotABlock` where no block's bytes begin at `block`, or they are a
+    /// module image.
     ///
     /// RISC OS 3 Programmer's Reference Manual, "OS_Heap", reason 6.
     pub fn block_size(&self, map: &AddressMap, heap: u32, block: u32) -> Counted<u32>
@@ -39,10 +41,10 @@ impl Heaps {
 /// The bytes that a block of one heap holds.
 fn measure(map: &AddressMap, heap: u32, block: u32) -> Counted<u32>
     requires { HasHeapAt map.now heap }
-    ensures answer { result.answer ≡ bytes_held (live_total block (heap + 16) (items_at map.now heap)) }
+    ensures answer { result.answer ≡ bytes_held (guests_total (regions map.now) heap (items_at map.now heap) block) }
     ensures probes { result.probes ≡ begun_below block (heap + 16) (items_at map.now heap) }
 {
-    let walk = find_block(map, heap, block);
+    let walk = find_guest_block(map, heap, block);
     match walk.block {
         Some(cursor) => Counted {
             answer: Ok(word(map, cursor.at) - 4),

@@ -1,6 +1,5 @@
 ghost use Rattle.std.specs.Prelude.{◌≡◌, ◌<◌, ◌^◌};
-ghost use Rattle.os_heap.specs.Lists.{round_up_8};
-ghost use Rattle.os_heap.specs.Resizes.{changed_by};
+ghost use Rattle.os_heap_lists.specs.Lists.{round_up_8, changed_by};
 
 /// A size after a change of it, a signed word in two's complement; a sum below 0 counts as 0.
 pub(crate) fn changed_by(size: u32, change: u32) -> u64

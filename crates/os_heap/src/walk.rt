@@ -1,12 +1,17 @@
-ghost use Rattle.std.specs.Prelude.{◌≡◌, ◌≢◌, ◌≤◌, ◌<◌, ◌-◌, ◌+◌, ◌^◌, None, MatchOption};
+ghost use Rattle.std.specs.Prelude.{◌≡◌, ◌≢◌, ◌≤◌, ◌<◌, ◌-◌, ◌+◌, ◌^◌, false, None, MatchOption};
 ghost use Rattle.address_map.specs.Bytes.{word_at};
-ghost use Rattle.address_map.specs.Memory.{byte_at};
-ghost use Rattle.os_heap.specs.Lists.{released, begun_below};
-ghost use Rattle.os_heap.specs.Links.{HasHeapAt, items_at};
-ghost use Rattle.os_heap.specs.Releases.{last_link, IsWalked, IsBlock};
+ghost use Rattle.address_map.specs.Memory.{byte_at, regions};
+ghost use Rattle.os_heap_lists.specs.Lists.{released};
+ghost use Rattle.os_heap_lists.specs.Counts.{begun_below};
+ghost use Rattle.os_heap.specs.Outcomes.{HasHeapAt, items_at};
+ghost use Rattle.os_heap_lists.specs.Walks.{last_link, IsWalked, IsBlock};
+ghost use Rattle.os_heap.specs.Calls.{unless_image};
+ghost use Rattle.os_heap.specs.Outcomes.{IsGuestBlock};
+ghost use Rattle.os_heap.specs.Store.{has_image, is_image};
 
-use crate::words::{follow, word};
-use address_map::AddressMap;
+use crate::words::{BASE, follow, word};
+use address_map::{AddressMap, Kind, Region};
+use profile::memory_map::HEAP_DESCRIPTOR;
 
 /// Where a walk from item to item stands.
 #[derive(Clone, Copy)]
@@ -82,12 +87,12 @@ fn approach(map: &AddressMap, heap: u32, block: u32) -> Cursor
     ensures walk { IsWalked heap (items_at map.now heap) block result.from result.at result.free result.gap result.probes }
     ensures end { (result.at + 4 < block) → heap + word_at (byte_at map.now) (heap + 8) ≤ result.at }
 {
-    let base = heap + word(map, heap + 8);
+    let base = heap + word(map, heap + BASE);
     let limit = base.min(block.saturating_sub(4));
     let free = follow(map, heap, heap);
     let mut cursor = Cursor {
         from: heap,
-        at: heap + 16,
+        at: heap + HEAP_DESCRIPTOR,
         free,
         gap: 0,
         probes: 0,
@@ -104,7 +109,7 @@ pub(crate) fn find_block(map: &AddressMap, heap: u32, block: u32) -> Walk
     ensures block { MatchOption result.block (released block (heap + 16) (items_at map.now heap) ≡ None) (λ c. IsBlock heap (items_at map.now heap) block c.from c.at c.free c.gap) }
     ensures probes { result.probes ≡ begun_below block (heap + 16) (items_at map.now heap) }
 {
-    let base = heap + word(map, heap + 8);
+    let base = heap + word(map, heap + BASE);
     let cursor = approach(map, heap, block);
     if cursor.at >= base {
         return Walk {
@@ -129,4 +134,39 @@ pub(crate) fn find_block(map: &AddressMap, heap: u32, block: u32) -> Walk
         block: Some(cursor),
         probes,
     }
+}
+
+/// The guest's block whose bytes begin at `block`: where a module image is recorded there is none.
+pub(crate) fn find_guest_block(map: &AddressMap, heap: u32, block: u32) -> Walk
+    requires { HasHeapAt map.now heap }
+    ensures block { MatchOption result.block (unless_image (has_image block (regions map.now)) (released block (heap + 16) (items_at map.now heap)) ≡ None) (λ c. IsGuestBlock (regions map.now) heap (items_at map.now heap) block c.from c.at c.free c.gap) }
+    ensures probes { result.probes ≡ begun_below block (heap + 16) (items_at map.now heap) }
+{
+    let walk = find_block(map, heap, block);
+    if has_image(map.regions(), block) {
+        return Walk {
+            block: None,
+            probes: walk.probes,
+        };
+    }
+    walk
+}
+
+/// Whether a module image is recorded at an address.
+fn has_image(regions: &[Region], at: u32) -> bool
+    ensures { result ≡ has_image at regions.now }
+{
+    for region in regions {
+        if is_image(region.kind) && region.at == at {
+            return true;
+        }
+    }
+    false
+}
+
+/// Whether a range of that kind is a module image.
+fn is_image(kind: Kind) -> bool
+    ensures { result ≡ is_image kind }
+{
+    matches!(kind, Kind::Image)
 }

@@ -2,10 +2,17 @@ ghost use Rattle.std.specs.Prelude.{◌≡◌, ◌<◌, ◌+◌, ◌-◌, ◌%�
 ghost use Rattle.address_map.specs.Bytes.{word_at};
 ghost use Rattle.address_map.specs.Items.{linked};
 ghost use Rattle.address_map.specs.Memory.{byte_at, is_mapped, layout};
-ghost use Rattle.os_heap.specs.Links.{link_at, AreApart, IsWritten, IsFreed};
+ghost use Rattle.os_heap_lists.specs.Words.{link_at, AreApart, IsWritten, IsFreed};
 
 use crate::links::linked;
 use address_map::AddressMap;
+
+/// Where the words of a heap's descriptor stand, counted from its start: behind its name the distance to the first free item, the base, and the end.
+pub(crate) const LINK: u32 = 4;
+
+pub(crate) const BASE: u32 = 8;
+
+pub(crate) const END: u32 = 12;
 
 /// The word at an address.
 pub(crate) fn word(map: &AddressMap, at: u32) -> u32
@@ -31,7 +38,7 @@ pub(crate) fn link_at(heap: u32, from: u32) -> u32
     requires { from + 4 < 2 ^ 32 }
     ensures { result ≡ link_at heap from }
 {
-    if from == heap { heap + 4 } else { from }
+    if from == heap { heap + LINK } else { from }
 }
 
 /// The free item that the link at `from` leads to, or 0.

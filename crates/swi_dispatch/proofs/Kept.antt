@@ -1,5 +1,5 @@
 -- What writes to memory leave of the store: every heap keeps its list.
-use Rattle.std.proofs.Common.{◌≡◌, ℕ, ◌+◌, ◌-◌, ◌*◌, ◌%◌, ◌^◌, ◌≤◌, Bool, true, false, cond, nat_le, nat_eq, List, [], ◌∷◌, length, ◌++◌, Option, Some, None, Result, Ok, Err, refl, sym, ◌∙◌, ap, subst, arith, lit<, length-append, rules}
+use Rattle.std.proofs.Common.{inl, inr, ◌≡◌, ℕ, ◌+◌, ◌-◌, ◌*◌, ◌%◌, ◌^◌, ◌≤◌, Bool, true, false, cond, nat_le, nat_eq, List, [], ◌∷◌, length, ◌++◌, Option, Some, None, Result, Ok, Err, refl, sym, ◌∙◌, ap, subst, arith, lit<, length-append, rules}
 use Rattle.std.proofs.lemmas.List.{places}
 use Rattle.std.proofs.lemmas.Bool.{true≢false, le-leb}
 use Rattle.profile.specs.declared.error.ErrorNumber.{ErrorNumber}
@@ -18,6 +18,7 @@ use Rattle.arm_step.specs.State.{State}
 use Rattle.arm_step.specs.Frame.{IsByWords, Keeps}
 use Rattle.os_heap.specs.Store.{Store, store_of, owned_in, IsSound}
 use Rattle.os_heap.proofs.Frame.{IsKept, clear_kept, heads_kept, owned_word}
+use Rattle.os_heap.proofs.Stores.{image_kind}
 use Rattle.os_heap.proofs.Owned.{owned_heads, has_flex}
 use Rattle.swi_dispatch.specs.declared.halt.Halt.{Halt}
 use Rattle.swi_dispatch.specs.Situation.{Situation, with_memory, system_pages, module_area, is_start_mapped, start_of}
@@ -51,7 +52,10 @@ keeps_kept m n b same sound e keeps = heads_kept m n same sound (λ a is. ap (λ
 -- writes to the system pages
 pub system_kept : (m n : AddressMap) → layout n ≡ layout m → IsSound (store_of m) → (store_of m).others ≡ system_pages ∷ []
     → ((a : ℕ) → in_range 0x01C00000 0x3000 a ≡ false → byte_at n a ≡ byte_at m a) → IsKept m n
-system_kept m n same sound others kept = clear_kept m n 0x01C00000 0x3000 same sound (rw others at sound.clear).0 kept
+system_kept m n same sound others kept = elim (rw others at sound.placed).0 [
+  | inl clear ↦ clear_kept m n 0x01C00000 0x3000 same sound clear kept
+  | inr image ↦ absurd (true≢false (sym (image_kind (store_of m).heaps system_pages image)))
+]
 
 outside_word : (old : ℕ → ℕ) (a number : ℕ) → in_range 0x01C00000 0x3000 a ≡ false → with_word_at old 0x01C02100 number a ≡ old a
 outside_word old a number out = grind (arith, nat_tests)

@@ -1,6 +1,6 @@
 -- The memory of a machine at its start, address by address, is that of the written start.
 use Rattle.std.proofs.lemmas.Bool.Decides.{nat_tests}
-use Rattle.std.proofs.Common.{◌≡◌, ◌≤◌, ◌<◌, ◌+◌, ◌*◌, arith, ℕ, Bool, false, true, IsSome, List, [], ◌∷◌, Option, Some, None, refl, ◌∙◌, ap}
+use Rattle.std.proofs.Common.{inl, ◌≡◌, ◌≤◌, ◌<◌, ◌+◌, ◌*◌, arith, ℕ, Bool, false, true, IsSome, List, [], ◌∷◌, Option, Some, None, refl, ◌∙◌, ap}
 use Rattle.profile.specs.Sizes.{Sizes, AreGood}
 use Rattle.address_map.specs.declared.map.AddressMap.{AddressMap}
 use Rattle.address_map.specs.Bytes.{Bytes, in_range, word_at, with_word_at}
@@ -11,8 +11,8 @@ use Rattle.address_map.specs.Memory.{is_mapped, byte_at, byte_in, place, bytes_o
 use Rattle.arm_step.specs.State.{start_state}
 use Rattle.std.specs.Prelude.{is_some}
 use Rattle.swi_dispatch.specs.declared.halt.Halt.{Halt}
-use Rattle.os_heap.specs.Heap.{Part}
-use Rattle.os_heap.specs.Store.{Store, store_of, parts_in, others_in, IsSound}
+use Rattle.os_heap_lists.specs.Heap.{HeapList}
+use Rattle.os_heap.specs.Store.{Store, store_of, heaps_in, others_in, IsSound}
 use Rattle.swi_dispatch.specs.Situation.{Situation, start_of, is_start_mapped, start_bytes, start_regions, start_store, system_pages, module_area}
 
 -- four words written over a memory of zeros
@@ -57,7 +57,7 @@ start_sound s good =
     let some = good.has_rma in
     let words = start_words s good in
     record {
-      parts = (
+      heaps = (
         record {
           aligned = refl;
           whole = omega arith;
@@ -73,7 +73,9 @@ start_sound s good =
         },
         (tt, tt),
       );
-      clear = ((λ a inside. apart s a good inside, tt), tt);
+      limits = record { guests = omega arith; areas = omega arith; place = ((λ _. refl), tt) };
+      placed = (inl (λ a inside. apart s a good inside, tt), tt);
+      apart = ((λ _. tt), tt);
       few = omega arith;
     } where
       module_mapped : (s : Sizes) (a : ℕ) → 0x01800000 ≤ a → a < 0x01800000 + 4096 * s.rma → is_start_mapped s a ≡ true
@@ -93,9 +95,9 @@ store_starts m s good mapped bytes records =
     let start : Bytes = record { mapped = is_start_mapped s; at = start_bytes s } in
     let memory : bytes_of m ≡ start = λ i. record { mapped = λ a. mapped a i; at = λ a. bytes a i } in
     let item : items_in (word_at (start_bytes s)) 0x01800000 ≡ [] = start_items s good in
-    let heaps : parts_in (bytes_of m) (regions m) ≡ module_area s ∷ [] =
-    ap (λ (b : Bytes). parts_in b (regions m)) memory ∙ ap (parts_in start) records
-    ∙ ap (λ (xs : List Item). let h : Part = record { kind = Rma; start = 0x01800000; end = 4096 * s.rma; items = xs } in h ∷ []) item in
+    let heaps : heaps_in (bytes_of m) (regions m) ≡ module_area s ∷ [] =
+    ap (λ (b : Bytes). heaps_in b (regions m)) memory ∙ ap (heaps_in start) records
+    ∙ ap (λ (xs : List Item). let h : HeapList = record { kind = Rma; start = 0x01800000; end = 4096 * s.rma; items = xs } in h ∷ []) item in
     let others : others_in (regions m) ≡ system_pages ∷ [] = ap others_in records in
     λ i. record { bytes = memory i; heaps = heaps i; others = others i }
 

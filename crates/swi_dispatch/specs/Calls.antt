@@ -9,8 +9,8 @@ use Rattle.profile.specs.declared.swi.SwiName.TheVariants as swi
 use Rattle.address_map.specs.Bytes.{word_at}
 use Rattle.arm_step.specs.declared.psr.Mode.TheVariants.{Supervisor}
 use Rattle.arm_step.specs.State.{register_of, with_register, with_mode}
-use Rattle.os_heap.specs.Changes.{resized, changed, block_sized}
-use Rattle.os_heap.specs.Store.{Store, got, gave_back, described, begun}
+use Rattle.os_heap.specs.Calls.{resized, changed, block_sized, got, gave_back, described, begun}
+use Rattle.os_heap.specs.Store.{Store}
 use Rattle.swi_dispatch.specs.declared.refusal.Refusal.{Refusal}
 use Rattle.swi_dispatch.specs.declared.refusal.Refusal.TheVariants as refusal
 use Rattle.swi_dispatch.specs.Situation.{Situation, After}
@@ -53,7 +53,7 @@ or_error (Err e) = system_error e
 
 -- OS_Heap, by its reason in R0: the heap is in R1, a block in R2, a size or a change of one in R3; what is answered goes to R2 and R3.
 abbrev pub heap_began : Situation → Result Situation Refusal
-heap_began s = bind (or_error (begun s.store (register_of s.cpu 1) (register_of s.cpu 3))) (λ t. Ok (with_store s t))
+heap_began s = bind (or_error (begun s.store (register_of s.cpu 1) (register_of s.cpu 3))) (λ r. Ok (with_store s r.0))
 
 abbrev pub heap_described : Situation → Result Situation Refusal
 heap_described s = bind (or_error (described s.store (register_of s.cpu 1))) (λ r. Ok (with_answer (with_answer s 2 r.0) 3 r.1))
@@ -62,13 +62,13 @@ abbrev pub heap_got : Situation → Result Situation Refusal
 heap_got s = bind (or_error (got s.store (register_of s.cpu 1) (register_of s.cpu 3))) (λ r. Ok (with_answer (with_store s r.0) 2 r.1))
 
 abbrev pub heap_freed : Situation → Result Situation Refusal
-heap_freed s = bind (or_error (gave_back s.store (register_of s.cpu 1) (register_of s.cpu 2))) (λ t. Ok (with_store s t))
+heap_freed s = bind (or_error (gave_back s.store (register_of s.cpu 1) (register_of s.cpu 2))) (λ r. Ok (with_store s r.0))
 
 abbrev pub heap_resized : Situation → Result Situation Refusal
 heap_resized s = bind (or_error (resized s.store (register_of s.cpu 1) (register_of s.cpu 2) (register_of s.cpu 3))) (λ r. Ok (with_answer (with_store s r.0) 2 r.1))
 
 abbrev pub heap_changed : Situation → Result Situation Refusal
-heap_changed s = bind (or_error (changed s.store (register_of s.cpu 1) (register_of s.cpu 3))) (λ t. Ok (with_store s t))
+heap_changed s = bind (or_error (changed s.store (register_of s.cpu 1) (register_of s.cpu 3))) (λ r. Ok (with_store s r.0))
 
 abbrev pub heap_sized : Situation → Result Situation Refusal
 heap_sized s = bind (or_error (block_sized s.store (register_of s.cpu 1) (register_of s.cpu 2))) (λ n. Ok (with_answer s 3 n))

@@ -8,7 +8,7 @@ use Rattle.address_map.specs.Bytes.{Bytes, with_word_at, in_range}
 use Rattle.address_map.specs.declared.region.Kind.TheVariants.{Rma, SystemPage}
 use Rattle.address_map.specs.declared.region.Region.{Region}
 use Rattle.arm_step.specs.State.{State, start_state}
-use Rattle.os_heap.specs.Heap.{Part}
+use Rattle.os_heap_lists.specs.Heap.{HeapList}
 use Rattle.os_heap.specs.Store.{Store}
 use Rattle.swi_dispatch.specs.declared.halt.Halt.{Halt}
 use Rattle.swi_dispatch.specs.declared.halt.Halt.TheVariants as halt
@@ -44,7 +44,7 @@ start_bytes s = with_word_at (with_word_at (with_word_at (with_word_at (λ _. 0)
     0x01800000 0x70616548) 0x01800004 0) 0x01800008 16) 0x0180000C (4096 * s.rma)
 
 -- the module area is the one heap, and has no item; the system pages are the one other recorded range
-abbrev pub module_area : Sizes → Part
+abbrev pub module_area : Sizes → HeapList
 module_area s = record { kind = Rma; start = 0x01800000; end = 4096 * s.rma; items = [] }
 
 abbrev pub system_pages : Region

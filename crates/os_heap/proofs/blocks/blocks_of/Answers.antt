@@ -1,9 +1,10 @@
 use Rattle.std.proofs.Common.{◌≤◌, ◌+◌, ◌^◌, ap, refl, ◌∙◌, arith}
 use Rattle.address_map.specs.Items.{linked, size_of}
 use Rattle.address_map.specs.Memory.{bytes_of}
-use Rattle.os_heap.specs.Links.{items_at}
+use Rattle.os_heap.specs.Outcomes.{items_at}
 use Rattle.os_heap.proofs.Tally.{heap_below, first_link_below}
-use Rattle.os_heap.proofs.Rest.{rest_of, rest_items}
+use Rattle.os_heap.proofs.Rest.{rest_of}
+use Rattle.os_heap_lists.proofs.Rest.{rest_items}
 use Rattle.os_heap.proofs.blocks.blocks_of.Goals as goal
 
 pub overflow_add-result : goal.overflow_add-result

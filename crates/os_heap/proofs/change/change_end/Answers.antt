@@ -1,11 +1,12 @@
 use Rattle.std.proofs.Common.{◌≡◌, true, false, Err, Ok, Some, rules, refl, sym, subst, arith}
 use Rattle.profile.specs.declared.error.ErrorNumber.TheVariants.{HeapBadRegion}
 use Rattle.address_map.specs.Memory.{bytes_of}
-use Rattle.os_heap.specs.Changes.{changed, end_changed, ending, has_own_size}
-use Rattle.os_heap.specs.Heap.{Part}
-use Rattle.os_heap.specs.Resizes.{changed_by}
-use Rattle.os_heap.specs.Store.{store_of, part_in, find_part}
+use Rattle.os_heap.specs.Calls.{changed, end_changed, ending, has_own_size}
+use Rattle.os_heap_lists.specs.Heap.{HeapList}
+use Rattle.os_heap_lists.specs.Lists.{changed_by}
+use Rattle.os_heap.specs.Store.{store_of, heap_in, find_heap}
 use Rattle.os_heap.proofs.Refusals.{changed_none, changed_area, changed_own, end_odd, end_wide, end_done}
+use Rattle.os_heap.proofs.Ending.{own_heap}
 use Rattle.os_heap.proofs.Found.{found_at}
 use Rattle.os_heap.proofs.change.change_end.Goals as goal
 use Rattle.os_heap.proofs.change.change_end.Goals.{then-change-ne0-via-then-change-ne0, then-change-ne0-via-else-change-ne0+then-end-from}
@@ -17,12 +18,12 @@ returns-in_default-clause-store c =
 pub returns-then-not-has_own_size-clause-store : goal.returns-then-not-has_own_size-clause-store
 returns-then-not-has_own_size-clause-store c =
     let area : has_own_size c.in-Some.region.kind ≡ false = cc in
-    rw (changed_area (store_of c.args.map.now) c.args.heap c.args.change (part_in (bytes_of c.args.map.now) c.in-Some.region) c.in-Some.ensures.1 area) (refl, refl)
+    rw (changed_area (store_of c.args.map.now) c.args.heap c.args.change (heap_in (bytes_of c.args.map.now) c.in-Some.region) c.in-Some.ensures.1 area) (refl, refl)
 
 pub returns-then-change-ne0-clause-store : goal.returns-then-change-ne0-clause-store
 returns-then-change-ne0-clause-store c =
     let s = store_of c.args.map.now in
-    let h : Part = part_in (bytes_of c.args.map.now) c.in-Some.region in
+    let h : HeapList = heap_in (bytes_of c.args.map.now) c.in-Some.region in
     let own : has_own_size h.kind ≡ true = cc in
     let is : changed s c.args.heap c.args.change ≡ end_changed s h c.args.change (changed_by h.end c.args.change) = changed_own s c.args.heap c.args.change h c.in-Some.ensures.1 own in
     let refused : end_changed s h c.args.change (changed_by h.end c.args.change) ≡ Err HeapBadRegion =
@@ -35,16 +36,19 @@ returns-then-change-ne0-clause-store c =
 
 pub may_end-requires : goal.may_end-requires
 may_end-requires c = found_at c.args.map.now c.in-Some.region.at c.in-Some.region c.requires refl
-    (subst (λ a. find_part a (store_of c.args.map.now).heaps ≡ Some (part_in (bytes_of c.args.map.now) c.in-Some.region)) (sym c.in-Some.ensures.0) c.in-Some.ensures.1)
+    (subst (λ a. find_heap a (store_of c.args.map.now).heaps ≡ Some (heap_in (bytes_of c.args.map.now) c.in-Some.region)) (sym c.in-Some.ensures.0) c.in-Some.ensures.1)
+
+pub set_end-requires-clause-kind : goal.set_end-requires-clause-kind
+set_end-requires-clause-kind c = let own : has_own_size c.in-Some.region.kind ≡ true = cc in own_heap c.in-Some.region.kind own
 
 pub set_end-requires-clause-found : goal.set_end-requires-clause-found
 set_end-requires-clause-found c =
-    subst (λ a. find_part a (store_of c.args.map.now).heaps ≡ Some (part_in (bytes_of c.args.map.now) c.in-Some.region)) (sym c.in-Some.ensures.0) c.in-Some.ensures.1
+    subst (λ a. find_heap a (store_of c.args.map.now).heaps ≡ Some (heap_in (bytes_of c.args.map.now) c.in-Some.region)) (sym c.in-Some.ensures.0) c.in-Some.ensures.1
 
 pub returns-in_err-may_end-clause-store : goal.returns-in_err-may_end-clause-store
 returns-in_err-may_end-clause-store c =
     let s = store_of c.args.map.now in
-    let h : Part = part_in (bytes_of c.args.map.now) c.in-Some.region in
+    let h : HeapList = heap_in (bytes_of c.args.map.now) c.in-Some.region in
     let own : has_own_size h.kind ≡ true = cc in
     let is : changed s c.args.heap c.args.change ≡ end_changed s h c.args.change (changed_by h.end c.args.change) = changed_own s c.args.heap c.args.change h c.in-Some.ensures.1 own in
     let refused = c.in_err-may_end.ensures c.args.change c.if-change-ne0.false in
@@ -54,10 +58,10 @@ returns-in_err-may_end-clause-store c =
 pub returns-clause-store : goal.returns-clause-store
 returns-clause-store c =
     let s = store_of c.args.map.now in
-    let h : Part = part_in (bytes_of c.args.map.now) c.in-Some.region in
+    let h : HeapList = heap_in (bytes_of c.args.map.now) c.in-Some.region in
     let own : has_own_size h.kind ≡ true = cc in
     let is : changed s c.args.heap c.args.change ≡ end_changed s h c.args.change (changed_by h.end c.args.change) = changed_own s c.args.heap c.args.change h c.in-Some.ensures.1 own in
-    let done : end_changed s h c.args.change c.changed_by-end.result ≡ Ok (ending s h c.changed_by-end.result) = end_done s h c.args.change c.changed_by-end.result c.if-change-ne0.false c.in_ok-may_end.ensures in
+    let done : end_changed s h c.args.change c.changed_by-end.result ≡ Ok (ending s h c.changed_by-end.result, tt) = end_done s h c.args.change c.changed_by-end.result c.if-change-ne0.false c.in_ok-may_end.ensures in
     let there = rw c.changed_by-end.ensures at done in
     let store = rw c.changed_by-end.ensures at c.set_end.ensures.store in
-    rw (is, there) store
+    rw (is, there) (store, refl)

@@ -2,8 +2,9 @@ use Rattle.std.proofs.Common.{◌≡◌, ◌+◌, ◌-◌, ◌&&◌, ◌≤◌, 
 use Rattle.std.proofs.lemmas.Bool.{le-ltb}
 use Rattle.address_map.specs.Items.{size_of}
 use Rattle.address_map.specs.Memory.{bytes_of}
-use Rattle.os_heap.specs.Links.{items_at}
-use Rattle.os_heap.specs.Store.{store_of, part_in, is_heap_region, meets_any}
+use Rattle.os_heap.specs.Outcomes.{items_at}
+use Rattle.os_heap.specs.Store.{store_of, heap_in}
+use Rattle.os_heap.specs.Ranges.{is_heap_region, meets_any}
 use Rattle.os_heap.proofs.Refusals.{end_bad, end_over, end_short}
 use Rattle.os_heap.proofs.Tally.{heap_below}
 use Rattle.os_heap.proofs.change.may_end.Goals as goal
@@ -12,7 +13,7 @@ pub returns-then-not-is_heap_region : goal.returns-then-not-is_heap_region
 unfolding store_of
 returns-then-not-is_heap_region c change whole =
     let bad : is_heap_region (bytes_of c.args.map.now) c.args.region.now.at c.args.end ≡ false = cc in
-    end_bad (store_of c.args.map.now) (part_in (bytes_of c.args.map.now) c.args.region.now) change c.args.end whole bad
+    end_bad (store_of c.args.map.now) (heap_in (bytes_of c.args.map.now) c.args.region.now) change c.args.end whole bad
 
 pub overlaps-requires : goal.overlaps-requires
 overlaps-requires c = omega (arith, heap_below c.args.map.now c.args.region.now.at c.args.region.now.len c.requires)
@@ -23,7 +24,7 @@ returns-then-overlaps c change whole =
     let r = c.args.region.now in
     let good : is_heap_region (bytes_of c.args.map.now) r.at c.args.end ≡ true = cc in
     let over : (ltb r.len c.args.end && meets_any (r.at + r.len) (c.args.end - r.len) (store_of c.args.map.now)) ≡ true = cc in
-    end_over (store_of c.args.map.now) (part_in (bytes_of c.args.map.now) r) change c.args.end whole good over
+    end_over (store_of c.args.map.now) (heap_in (bytes_of c.args.map.now) r) change c.args.end whole good over
 
 pub overflow_add-region : goal.overflow_add-region
 overflow_add-region c = omega (arith, heap_below c.args.map.now c.args.region.now.at c.args.region.now.len c.requires)
@@ -37,7 +38,7 @@ returns-then-end-word c change whole =
     let r = c.args.region.now in
     let good : is_heap_region (bytes_of c.args.map.now) r.at c.args.end ≡ true = cc in
     let clear : (ltb r.len c.args.end && meets_any (r.at + r.len) (c.args.end - r.len) (store_of c.args.map.now)) ≡ false = cc in
-    end_short (store_of c.args.map.now) (part_in (bytes_of c.args.map.now) r) change c.args.end whole good clear
+    end_short (store_of c.args.map.now) (heap_in (bytes_of c.args.map.now) r) change c.args.end whole good clear
     (omega (arith, c.if-end-word.true, c.word.ensures ∙ c.requires.base))
 
 pub returns : goal.returns

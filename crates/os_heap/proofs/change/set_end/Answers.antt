@@ -1,9 +1,9 @@
-use Rattle.std.proofs.Common.{◌≡◌, ◌+◌, is_some, refl, ◌∙◌, arith}
+use Rattle.std.proofs.Common.{◌∙◌, ap, ◌≡◌, ◌+◌, is_some, refl, arith}
 use Rattle.address_map.specs.Memory.{bytes_of}
 use Rattle.address_map.proofs.Stores.{layout-mapping}
-use Rattle.os_heap.specs.Heap.{Part}
-use Rattle.os_heap.specs.Links.{IsHeapAt}
-use Rattle.os_heap.specs.Store.{store_of, part_in}
+use Rattle.os_heap_lists.specs.Heap.{HeapList}
+use Rattle.os_heap.specs.Outcomes.{IsHeapAt}
+use Rattle.os_heap.specs.Store.{store_of, heap_in}
 use Rattle.os_heap.proofs.Added.{CanHold, can_hold, range_end}
 use Rattle.os_heap.proofs.Ending.{EndsAt, store_ended, sound_ended}
 use Rattle.os_heap.proofs.Found.{found_at}
@@ -44,7 +44,7 @@ set_len-requires c =
 pub returns-clause-store : goal.returns-clause-store
 returns-clause-store c =
     let m = c.args.map.now in
-    let h : Part = part_in (bytes_of m) c.args.region.now in
+    let h : HeapList = heap_in (bytes_of m) c.args.region.now in
     let ends : EndsAt m c.put.new.map h c.args.end = record {
       sound = c.requires.sound;
       found = c.requires.found;
@@ -62,7 +62,7 @@ returns-clause-store c =
 pub returns-clause-sound : goal.returns-clause-sound
 returns-clause-sound c =
     let m = c.args.map.now in
-    let h : Part = part_in (bytes_of m) c.args.region.now in
+    let h : HeapList = heap_in (bytes_of m) c.args.region.now in
     let ends : EndsAt m c.put.new.map h c.args.end = record {
       sound = c.requires.sound;
       found = c.requires.found;
@@ -76,6 +76,9 @@ returns-clause-sound c =
     let same = layout-regions m c.put.new.map c.put.ensures.layout in
     let records = rw same at c.set_len.ensures.regions in
     sound_ended m c.put.new.map c.set_len.new.self h c.args.end ends bytes records
+
+pub returns-clause-others : goal.returns-clause-others
+returns-clause-others c = ap (λ s. s.others) (returns-clause-store c)
 
 pub returns-clause-mapping : goal.returns-clause-mapping
 returns-clause-mapping c = c.set_len.ensures.mapping ∙ layout-mapping _ _ c.put.ensures.layout

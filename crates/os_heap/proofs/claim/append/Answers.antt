@@ -1,8 +1,8 @@
 use Rattle.std.proofs.Common.{◌≡◌, ◌+◌, ◌∙◌, arith}
 use Rattle.address_map.specs.Items.{size_of}
-use Rattle.os_heap.specs.Links.{end_at, items_at}
+use Rattle.os_heap.specs.Outcomes.{end_at, items_at}
 use Rattle.os_heap.proofs.Replace.{heap_below}
-use Rattle.os_heap.proofs.Spelling.{size_of-multiple}
+use Rattle.os_heap_lists.proofs.Spelling.{size_of-multiple}
 use Rattle.os_heap.proofs.Claiming.{claims_base}
 use Rattle.os_heap.proofs.claim.append.Goals as goal
 

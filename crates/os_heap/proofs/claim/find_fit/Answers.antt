@@ -1,7 +1,8 @@
 use Rattle.std.proofs.Common.{◌≡◌, ◌+◌, ◌∙◌, arith}
-use Rattle.os_heap.specs.Links.{end_at}
+use Rattle.os_heap.specs.Outcomes.{end_at}
 use Rattle.os_heap.proofs.Replace.{heap_below, heap_mapped}
-use Rattle.os_heap.proofs.Searching.{search_begun, search_passed, search_fits, first_link, first_below, met_facts}
+use Rattle.os_heap_lists.proofs.Search.{search_begun, search_passed, search_fits}
+use Rattle.os_heap.proofs.Searching.{first_link, first_below, met_facts}
 use Rattle.os_heap.proofs.claim.find_fit.Goals as goal
 
 pub follow-at-requires-clause-below : goal.follow-at-requires-clause-below

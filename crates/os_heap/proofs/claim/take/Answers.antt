@@ -1,8 +1,8 @@
 use Rattle.std.proofs.Common.{◌∙◌, arith, inl}
-use Rattle.os_heap.specs.Links.{end_at}
+use Rattle.os_heap.specs.Outcomes.{end_at}
 use Rattle.os_heap.proofs.Replace.{heap_mapped}
 use Rattle.os_heap.proofs.Searching.{fit_facts}
-use Rattle.os_heap.proofs.Unique.{total_facts}
+use Rattle.os_heap_lists.proofs.Reading.{total_facts}
 use Rattle.os_heap.proofs.Writing.{still_mapped}
 use Rattle.os_heap.proofs.Claiming.{claims_whole, claims_part}
 use Rattle.os_heap.proofs.claim.take.Goals as goal

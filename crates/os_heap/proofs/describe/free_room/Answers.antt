@@ -2,8 +2,9 @@ use Rattle.std.proofs.Common.{◌+◌, ap, ◌∙◌, arith}
 use Rattle.address_map.specs.Bytes.{word_at}
 use Rattle.address_map.specs.Items.{linked}
 use Rattle.address_map.specs.Memory.{byte_at}
-use Rattle.os_heap.specs.Links.{items_at}
-use Rattle.os_heap.proofs.Tally.{heap_below, first_link_below, tally_start, tally_end}
+use Rattle.os_heap.specs.Outcomes.{items_at}
+use Rattle.os_heap.proofs.Tally.{heap_below, first_link_below, tally_start}
+use Rattle.os_heap_lists.proofs.Tally.{tally_end}
 use Rattle.os_heap.proofs.describe.free_room.Goals as goal
 
 pub overflow_add-heap : goal.overflow_add-heap

@@ -1,8 +1,9 @@
 use Rattle.std.proofs.Common.{◌≤◌, ◌+◌, ◌^◌, arith}
 use Rattle.address_map.specs.Bytes.{word_at}
 use Rattle.address_map.specs.Memory.{byte_at}
-use Rattle.os_heap.specs.Links.{items_at}
-use Rattle.os_heap.proofs.Tally.{heap_below, IsAtItem, tally_next, free_count-bound, free_total-bound, larger_max}
+use Rattle.os_heap.specs.Outcomes.{items_at}
+use Rattle.os_heap.proofs.Tally.{heap_below}
+use Rattle.os_heap_lists.proofs.Tally.{IsAtItem, tally_next, free_count-bound, free_total-bound, larger_max}
 use Rattle.os_heap.proofs.describe.pass.Goals as goal
 
 pub overflow_add-tally : goal.overflow_add-tally

@@ -1,7 +1,7 @@
 use Rattle.std.proofs.Common.{◌≡◌, ◌≢◌, ◌+◌, ◌∙◌, arith, sym, ap, inl}
 use Rattle.address_map.specs.Bytes.{word_at}
 use Rattle.address_map.specs.Memory.{byte_at}
-use Rattle.os_heap.specs.Links.{end_at}
+use Rattle.os_heap.specs.Outcomes.{end_at}
 use Rattle.os_heap.proofs.Replace.{heap_below, heap_mapped}
 use Rattle.os_heap.proofs.Freeing.{block_facts, next_free_facts, releases_sunk, releases_joined, releases_alone}
 use Rattle.os_heap.proofs.free.give_back.Goals as goal

@@ -1,8 +1,8 @@
-use Rattle.std.proofs.Common.{◌≡◌, ◌+◌, ◌≤◌, length, drop}
+use Rattle.std.proofs.Common.{◌≡◌, ◌+◌, ◌≤◌, drop}
 use Rattle.address_map.specs.Bytes.{Bytes}
-use Rattle.os_heap.specs.Store.{parts_in}
+use Rattle.os_heap.specs.Store.{heaps_in, guest_count}
 use Rattle.os_heap.proofs.init.count_regions.Given as goal
 
 abbrev pub invariant-loop-region : goal.invariant-loop-region
 invariant-loop-region l =
-    (l.count ≤ l.region-index) × ((b : Bytes) → l.count + length (parts_in b (drop l.region-index l.regions)) ≡ length (parts_in b l.regions))
+    (l.count ≤ l.region-index) × ((b : Bytes) → l.count + guest_count (heaps_in b (drop l.region-index l.regions)) ≡ guest_count (heaps_in b l.regions))

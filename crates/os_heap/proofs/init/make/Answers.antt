@@ -3,8 +3,9 @@ use Rattle.address_map.specs.declared.region.Region.{Region}
 use Rattle.address_map.specs.Memory.{byte_at, bytes_of, regions}
 use Rattle.address_map.proofs.Equations.{same_bytes}
 use Rattle.address_map.proofs.Stores.{layout-mapping}
-use Rattle.os_heap.specs.Heap.{with_part}
-use Rattle.os_heap.specs.Store.{store_of, IsSound, begun_with}
+use Rattle.os_heap_lists.specs.Heap.{with_heap}
+use Rattle.os_heap.specs.Store.{store_of, IsSound}
+use Rattle.os_heap.specs.Calls.{begun_with}
 use Rattle.os_heap.proofs.Frame.{layout-regions}
 use Rattle.os_heap.proofs.Added.{CanHold, can_hold, range_end, records_room, recorded, store_begun, begun_sound}
 use Rattle.os_heap.proofs.init.make.Goals as goal
@@ -33,7 +34,7 @@ own-requires-clause-region c =
 pub own-requires-clause-room : goal.own-requires-clause-room
 own-requires-clause-room c =
     let same : regions c.write_descriptor.new.map ≡ regions c.args.map.now = layout-regions _ _ c.write_descriptor.ensures.layout in
-    rw same (records_room c.args.map.now c.requires.sound c.requires.may.room)
+    rw same (records_room c.args.map.now c.args.kind c.args.heap c.requires.sound c.requires.may.room)
 
 pub returns-clause-store : goal.returns-clause-store
 returns-clause-store c =
@@ -42,7 +43,7 @@ returns-clause-store c =
     c.own.ensures.regions ∙ recorded (regions c.write_descriptor.new.map) c.args.kind c.args.heap c.args.size c.requires.kind ∙ ap (λ rs. rs ++ r ∷ []) (layout-regions _ _ c.write_descriptor.ensures.layout) in
     let moved : bytes_of c.own.new.self ≡ bytes_of c.write_descriptor.new.map =
     λ i. record { mapped = λ a. is_some ((c.own.ensures.mapping i).place a); at = c.own.ensures.bytes i } in
-    let written = same_bytes c.args.map.now c.write_descriptor.new.map (with_part (byte_at c.args.map.now) c.args.heap c.args.size [])
+    let written = same_bytes c.args.map.now c.write_descriptor.new.map (with_heap (byte_at c.args.map.now) c.args.heap c.args.size [])
     c.write_descriptor.ensures.layout c.write_descriptor.ensures.bytes in
     store_begun c.args.map.now c.own.new.self c.args.kind c.args.heap c.args.size c.requires.kind c.requires.may c.requires.sound records (moved ∙ written)
 
@@ -50,6 +51,9 @@ pub returns-clause-sound : goal.returns-clause-sound
 returns-clause-sound c =
     let store : store_of c.own.new.self ≡ begun_with c.args.kind (store_of c.args.map.now) c.args.heap c.args.size = returns-clause-store c in
     subst IsSound (sym store) (begun_sound c.args.kind (store_of c.args.map.now) c.args.heap c.args.size c.requires.may c.requires.sound)
+
+pub returns-clause-others : goal.returns-clause-others
+returns-clause-others c = ap (λ s. s.others) (returns-clause-store c)
 
 pub returns-clause-mapping : goal.returns-clause-mapping
 returns-clause-mapping c = c.own.ensures.mapping ∙ layout-mapping _ _ c.write_descriptor.ensures.layout

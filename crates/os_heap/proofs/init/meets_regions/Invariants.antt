@@ -1,6 +1,6 @@
 use Rattle.std.proofs.Common.{◌≡◌, false, take}
 use Rattle.std.specs.List.{list_any}
-use Rattle.os_heap.specs.Store.{meets}
+use Rattle.os_heap.specs.Ranges.{meets}
 use Rattle.os_heap.proofs.init.meets_regions.Given as goal
 
 abbrev pub invariant-loop-region : goal.invariant-loop-region

@@ -1,9 +1,10 @@
 use Rattle.std.proofs.Common.{◌+◌, arith, inl}
-use Rattle.os_heap.specs.Links.{end_at}
-use Rattle.os_heap.specs.Releases.{last_link}
-use Rattle.os_heap.proofs.Unique.{total_facts}
+use Rattle.os_heap.specs.Outcomes.{end_at}
+use Rattle.os_heap_lists.specs.Walks.{last_link}
+use Rattle.os_heap_lists.proofs.Reading.{total_facts}
 use Rattle.os_heap.proofs.Replace.{heap_mapped}
-use Rattle.os_heap.proofs.Refitting.{place_facts, divided_words}
+use Rattle.os_heap.proofs.Refitting.{place_facts}
+use Rattle.os_heap_lists.proofs.Resizes.{divided_words}
 use Rattle.os_heap.proofs.refit.divide.Goals as goal
 
 pub last_link-from-requires : goal.last_link-from-requires

@@ -1,8 +1,8 @@
 use Rattle.std.proofs.Common.{◌≡◌, ◌≢◌, ◌+◌, ◌-◌, ◌<◌, ◌≤◌, ◌∙◌, ap, sym, arith}
 use Rattle.address_map.specs.Bytes.{word_at}
 use Rattle.address_map.specs.Memory.{byte_at}
-use Rattle.os_heap.specs.Links.{end_at}
-use Rattle.os_heap.proofs.Unique.{total_facts}
+use Rattle.os_heap.specs.Outcomes.{end_at}
+use Rattle.os_heap_lists.proofs.Reading.{total_facts}
 use Rattle.os_heap.proofs.Replace.{heap_mapped}
 use Rattle.os_heap.proofs.Writing.{still_mapped}
 use Rattle.os_heap.proofs.Freeing.{next_free_facts}

@@ -1,7 +1,7 @@
 use Rattle.std.proofs.Common.{◌≡◌, ◌+◌, ◌∙◌, ap, sym, arith}
 use Rattle.address_map.specs.Bytes.{word_at}
 use Rattle.address_map.specs.Memory.{byte_at}
-use Rattle.os_heap.specs.Links.{end_at}
+use Rattle.os_heap.specs.Outcomes.{end_at}
 use Rattle.os_heap.proofs.Replace.{heap_below}
 use Rattle.os_heap.proofs.Refitting.{place_facts}
 use Rattle.os_heap.proofs.Refitted.{refits_last, refits_last-full}

@@ -1,8 +1,8 @@
 use Rattle.std.proofs.Common.{◌∙◌, arith, inl, inr}
-use Rattle.os_heap.specs.Links.{end_at}
+use Rattle.os_heap.specs.Outcomes.{end_at}
 use Rattle.os_heap.proofs.Replace.{heap_below}
 use Rattle.os_heap.proofs.Searching.{first_link, first_below}
-use Rattle.os_heap.proofs.Linking.{IsNotBelow, linked_begun, linked_ends}
+use Rattle.os_heap_lists.proofs.LinkWalk.{IsNotBelow, linked_begun, linked_ends}
 use Rattle.os_heap.proofs.relocate.find_by_links.Goals as goal
 use Rattle.os_heap.proofs.relocate.find_by_links.Goals.{then-loop-cursor-test+else-cursor-block, else-loop-cursor-test}
 

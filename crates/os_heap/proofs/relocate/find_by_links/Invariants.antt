@@ -1,6 +1,6 @@
 use Rattle.std.proofs.Common.{◌-◌, ◌^◌}
-use Rattle.os_heap.specs.Links.{items_at}
-use Rattle.os_heap.specs.Releases.{IsLinked}
+use Rattle.os_heap.specs.Outcomes.{items_at}
+use Rattle.os_heap_lists.specs.Walks.{IsLinked}
 use Rattle.os_heap.proofs.relocate.find_by_links.Given as goal
 
 abbrev pub invariant-loop-cursor : goal.invariant-loop-cursor

@@ -1,5 +1,5 @@
 use Rattle.std.proofs.Common.{◌+◌, ◌∙◌, arith}
-use Rattle.os_heap.specs.Links.{end_at}
+use Rattle.os_heap.specs.Outcomes.{end_at}
 use Rattle.os_heap.proofs.Replace.{heap_mapped}
 use Rattle.os_heap.proofs.Linking.{link_next}
 use Rattle.os_heap.proofs.relocate.pass_free.Goals as goal

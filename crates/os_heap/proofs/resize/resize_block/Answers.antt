@@ -1,63 +1,74 @@
 use Rattle.std.proofs.Common.{◌≡◌, ◌+◌, Some, refl, sym, ◌∙◌, ap, arith}
-use Rattle.os_heap.specs.Links.{items_at, end_at}
-use Rattle.os_heap.specs.Lists.{round_up_8}
-use Rattle.os_heap.specs.Resizes.{changed_by, live_total}
+use Rattle.os_heap.specs.Outcomes.{items_at, end_at}
+use Rattle.os_heap_lists.specs.Lists.{round_up_8, changed_by, live_total}
 use Rattle.os_heap.proofs.Resizing.{there_heap, block_here, resize_refused, resize_freed, resize_refitted, unrefitted, larger_where_none, resize_moved, move_few}
-use Rattle.os_heap.proofs.Sized.{unreleased}
+use Rattle.address_map.specs.Memory.{regions}
+use Rattle.os_heap.proofs.Sized.{unheld}
 use Rattle.os_heap.proofs.Walking.{begun_few}
 use Rattle.os_heap.proofs.resize.resize_block.Goals as goal
 
-pub find_block-walk-requires : goal.find_block-walk-requires
-find_block-walk-requires c = there_heap c.args.map.now c.args.heap c.requires.sound c.requires.found
+pub find_guest_block-walk-requires : goal.find_guest_block-walk-requires
+find_guest_block-walk-requires c = there_heap c.args.map.now c.args.heap c.requires.sound c.requires.found
 
 pub returns-in_default : goal.returns-in_default
 returns-in_default c =
-    let none = unreleased c.args.block (c.args.heap + 16) (items_at c.args.map.now c.args.heap) (rw c.in_default.is at c.find_block-walk.ensures.block) in
+    let none = unheld (regions c.args.map.now) c.args.block (c.args.heap + 16) (items_at c.args.map.now c.args.heap) (rw c.in_default.is at c.find_guest_block-walk.ensures.block) in
     let refused = resize_refused c.args.map.now c.args.heap c.args.block c.args.change c.requires.found none in
     record {
       store = rw refused.0 (refl, refl);
       sound = c.requires.sound;
       layout = refl;
-      probes = c.find_block-walk.ensures.probes ∙ sym refused.1;
+      probes = c.find_guest_block-walk.ensures.probes ∙ sym refused.1;
     }
 
 pub word-total-requires : goal.word-total-requires
 word-total-requires c =
-    let here = block_here c.args.map.now c.args.heap c.args.block _ c.in-Some.cursor.at _ _ c.requires.sound c.requires.found (rw c.in-Some.is at c.find_block-walk.ensures.block) in
+    let here = block_here c.args.map.now c.args.heap c.args.block _ c.in-Some.cursor.at _ _ c.requires.sound c.requires.found (rw c.in-Some.is at c.find_guest_block-walk.ensures.block) in
     record { aligned = here.whole; mapped = here.mapped }
 
 pub give_back-requires-clause-heap : goal.give_back-requires-clause-heap
 give_back-requires-clause-heap c = there_heap c.args.map.now c.args.heap c.requires.sound c.requires.found
+
+pub give_back-requires-clause-block : goal.give_back-requires-clause-block
+give_back-requires-clause-block c = (rw c.in-Some.is at c.find_guest_block-walk.ensures.block).here
+
+pub refit-requires-clause-block : goal.refit-requires-clause-block
+refit-requires-clause-block c = (rw c.in-Some.is at c.find_guest_block-walk.ensures.block).here
+
+pub relocate-moved-requires-clause-own : goal.relocate-moved-requires-clause-own
+relocate-moved-requires-clause-own c =
+    let un = unrefitted c.args.map.now c.refit.new.map c.args.heap (end_at c.args.map.now c.args.heap) _ (rw c.if-refit.false at c.refit.ensures) in
+    rw un.1 (rw c.in-Some.is at c.find_guest_block-walk.ensures.block).own
 
 pub refit-requires-clause-heap : goal.refit-requires-clause-heap
 refit-requires-clause-heap c = there_heap c.args.map.now c.args.heap c.requires.sound c.requires.found
 
 pub returns-then-size-le4 : goal.returns-then-size-le4
 returns-then-size-le4 c =
-    let here = block_here c.args.map.now c.args.heap c.args.block _ c.in-Some.cursor.at _ _ c.requires.sound c.requires.found (rw c.in-Some.is at c.find_block-walk.ensures.block) in
+    let here = block_here c.args.map.now c.args.heap c.args.block _ c.in-Some.cursor.at _ _ c.requires.sound c.requires.found (rw c.in-Some.is at c.find_guest_block-walk.ensures.block) in
     let live : live_total c.args.block (c.args.heap + 16) (items_at c.args.map.now c.args.heap) ≡ Some c.word-total.result = here.live ∙ ap (λ n. Some n) (sym c.word-total.ensures) in
-    let done = resize_freed c.args.map.now c.give_back.new.map c.args.heap c.args.block c.args.change c.word-total.result c.requires.sound c.requires.found live
+    let done = resize_freed c.args.map.now c.give_back.new.map c.args.heap c.args.block c.args.change c.word-total.result c.requires.sound c.requires.found here.own live
     (omega (arith, c.changed_by-size.ensures, c.if-size-le4.true)) c.give_back.ensures in
     record {
       store = done.store;
       sound = done.sound;
       layout = done.same;
-      probes = c.find_block-walk.ensures.probes ∙ omega (arith, done.probes);
+      probes = c.find_guest_block-walk.ensures.probes ∙ omega (arith, done.probes);
     }
 
 pub returns-then-refit : goal.returns-then-refit
 returns-then-refit c =
-    let here = block_here c.args.map.now c.args.heap c.args.block _ c.in-Some.cursor.at _ _ c.requires.sound c.requires.found (rw c.in-Some.is at c.find_block-walk.ensures.block) in
+    let here = block_here c.args.map.now c.args.heap c.args.block _ c.in-Some.cursor.at _ _ c.requires.sound c.requires.found (rw c.in-Some.is at c.find_guest_block-walk.ensures.block) in
     let live : live_total c.args.block (c.args.heap + 16) (items_at c.args.map.now c.args.heap) ≡ Some c.word-total.result = here.live ∙ ap (λ n. Some n) (sym c.word-total.ensures) in
     let size : c.changed_by-size.result ≡ changed_by c.word-total.result c.args.change = c.changed_by-size.ensures in
     let needed : c.round_up_8-needed.result ≡ round_up_8 (changed_by c.word-total.result c.args.change) = c.round_up_8-needed.ensures ∙ ap round_up_8 size in
-    let done = resize_refitted c.args.map.now c.refit.new.map c.args.heap c.args.block c.args.change c.word-total.result c.requires.sound c.requires.found live
+    let done = resize_refitted c.args.map.now c.refit.new.map c.args.heap c.args.block c.args.change c.word-total.result c.requires.sound c.requires.found here.own live
     (omega (arith, size, c.if-size-le4.false)) (rw (c.if-refit.true, needed) at c.refit.ensures) in
     record {
       store = done.store;
       sound = done.sound;
       layout = done.same;
-      probes = c.find_block-walk.ensures.probes ∙ omega (arith, done.probes);
+      probes = c.find_guest_block-walk.ensures.probes ∙ omega (arith, done.probes);
     }
 
 pub relocate-moved-requires-clause-sound : goal.relocate-moved-requires-clause-sound
@@ -77,14 +88,14 @@ relocate-moved-requires-clause-found c =
 
 pub relocate-moved-requires-clause-live : goal.relocate-moved-requires-clause-live
 relocate-moved-requires-clause-live c =
-    let here = block_here c.args.map.now c.args.heap c.args.block _ c.in-Some.cursor.at _ _ c.requires.sound c.requires.found (rw c.in-Some.is at c.find_block-walk.ensures.block) in
+    let here = block_here c.args.map.now c.args.heap c.args.block _ c.in-Some.cursor.at _ _ c.requires.sound c.requires.found (rw c.in-Some.is at c.find_guest_block-walk.ensures.block) in
     let live : live_total c.args.block (c.args.heap + 16) (items_at c.args.map.now c.args.heap) ≡ Some c.word-total.result = here.live ∙ ap (λ n. Some n) (sym c.word-total.ensures) in
     let un = unrefitted c.args.map.now c.refit.new.map c.args.heap (end_at c.args.map.now c.args.heap) _ (rw c.if-refit.false at c.refit.ensures) in
     rw un.1 live
 
 pub relocate-moved-requires-clause-larger : goal.relocate-moved-requires-clause-larger
 relocate-moved-requires-clause-larger c =
-    let here = block_here c.args.map.now c.args.heap c.args.block _ c.in-Some.cursor.at _ _ c.requires.sound c.requires.found (rw c.in-Some.is at c.find_block-walk.ensures.block) in
+    let here = block_here c.args.map.now c.args.heap c.args.block _ c.in-Some.cursor.at _ _ c.requires.sound c.requires.found (rw c.in-Some.is at c.find_guest_block-walk.ensures.block) in
     let live : live_total c.args.block (c.args.heap + 16) (items_at c.args.map.now c.args.heap) ≡ Some c.word-total.result = here.live ∙ ap (λ n. Some n) (sym c.word-total.ensures) in
     let un = unrefitted c.args.map.now c.refit.new.map c.args.heap (end_at c.args.map.now c.args.heap) _ (rw c.if-refit.false at c.refit.ensures) in
     larger_where_none c.args.block _ _ (c.args.heap + 16) c.word-total.result (items_at c.args.map.now c.args.heap) live un.0
@@ -95,21 +106,21 @@ overflow_add-result c =
     let few = move_few c.args.map.now c.args.heap c.args.block c.round_up_8-needed.result c.relocate-moved.result.probes c.requires.sound c.requires.found
     (rw un.1 at c.relocate-moved.ensures.probes) in
     let heap = there_heap c.args.map.now c.args.heap c.requires.sound c.requires.found in
-    omega (arith, few, c.find_block-walk.ensures.probes, begun_few c.args.map.now c.args.heap (end_at c.args.map.now c.args.heap) c.args.block (items_at c.args.map.now c.args.heap) heap)
+    omega (arith, few, c.find_guest_block-walk.ensures.probes, begun_few c.args.map.now c.args.heap (end_at c.args.map.now c.args.heap) c.args.block (items_at c.args.map.now c.args.heap) heap)
 
 pub returns : goal.returns
 returns c =
-    let here = block_here c.args.map.now c.args.heap c.args.block _ c.in-Some.cursor.at _ _ c.requires.sound c.requires.found (rw c.in-Some.is at c.find_block-walk.ensures.block) in
+    let here = block_here c.args.map.now c.args.heap c.args.block _ c.in-Some.cursor.at _ _ c.requires.sound c.requires.found (rw c.in-Some.is at c.find_guest_block-walk.ensures.block) in
     let live : live_total c.args.block (c.args.heap + 16) (items_at c.args.map.now c.args.heap) ≡ Some c.word-total.result = here.live ∙ ap (λ n. Some n) (sym c.word-total.ensures) in
     let size : c.changed_by-size.result ≡ changed_by c.word-total.result c.args.change = c.changed_by-size.ensures in
     let needed : c.round_up_8-needed.result ≡ round_up_8 (changed_by c.word-total.result c.args.change) = c.round_up_8-needed.ensures ∙ ap round_up_8 size in
     let un = unrefitted c.args.map.now c.refit.new.map c.args.heap (end_at c.args.map.now c.args.heap) _ (rw c.if-refit.false at c.refit.ensures) in
-    let done = resize_moved c.args.map.now c.relocate-moved.new.map c.args.heap c.args.block c.args.change c.word-total.result c.relocate-moved.result.probes _ c.requires.sound c.requires.found live
+    let done = resize_moved c.args.map.now c.relocate-moved.new.map c.args.heap c.args.block c.args.change c.word-total.result c.relocate-moved.result.probes _ c.requires.sound c.requires.found here.own live
     (omega (arith, size, c.if-size-le4.false)) (rw needed at un.0) (rw (un.1, needed) at c.relocate-moved.ensures.store) c.relocate-moved.ensures.sound (rw un.1 at c.relocate-moved.ensures.layout)
     (rw (un.1, needed) at c.relocate-moved.ensures.probes) in
     record {
       store = done.store;
       sound = done.sound;
       layout = done.same;
-      probes = rw (sym c.find_block-walk.ensures.probes) at done.probes;
+      probes = rw (sym c.find_guest_block-walk.ensures.probes) at done.probes;
     }

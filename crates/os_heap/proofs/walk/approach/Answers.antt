@@ -1,8 +1,8 @@
 use Rattle.std.proofs.Common.{◌∙◌, arith}
-use Rattle.os_heap.specs.Links.{end_at}
+use Rattle.os_heap.specs.Outcomes.{end_at}
 use Rattle.os_heap.proofs.Replace.{heap_below}
 use Rattle.os_heap.proofs.Searching.{first_link, first_below}
-use Rattle.os_heap.proofs.Walking.{walk_begun}
+use Rattle.os_heap_lists.proofs.ItemWalk.{walk_begun}
 use Rattle.os_heap.proofs.walk.approach.Goals as goal
 
 pub overflow_add-heap : goal.overflow_add-heap

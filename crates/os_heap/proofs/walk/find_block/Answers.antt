@@ -1,8 +1,9 @@
 use Rattle.std.proofs.Common.{arith}
-use Rattle.os_heap.specs.Links.{end_at}
+use Rattle.os_heap.specs.Outcomes.{end_at}
 use Rattle.os_heap.proofs.Replace.{heap_below}
 use Rattle.os_heap.proofs.Walking.{walk_free, walk_live, begun_few}
-use Rattle.os_heap.proofs.Freeing.{near, walk_over, walk_past, free_ends, block_found}
+use Rattle.os_heap_lists.proofs.ItemWalk.{near, walk_past}
+use Rattle.os_heap.proofs.Freeing.{walk_over, free_ends, block_found}
 use Rattle.os_heap.proofs.walk.find_block.Goals as goal
 
 pub overflow_add-heap : goal.overflow_add-heap

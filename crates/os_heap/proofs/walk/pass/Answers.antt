@@ -1,5 +1,5 @@
 use Rattle.std.proofs.Common.{◌+◌, ◌∙◌, arith}
-use Rattle.os_heap.specs.Links.{end_at}
+use Rattle.os_heap.specs.Outcomes.{end_at}
 use Rattle.os_heap.proofs.Replace.{heap_mapped}
 use Rattle.os_heap.proofs.Walking.{walk_free, walk_live, free_passed, live_passed}
 use Rattle.os_heap.proofs.walk.pass.Goals as goal

@@ -1,5 +1,6 @@
 use Rattle.std.proofs.Common.{◌∙◌}
-use Rattle.os_heap.proofs.Writing.{freed_words, still_mapped}
+use Rattle.os_heap_lists.proofs.Words.{freed_words}
+use Rattle.os_heap.proofs.Writing.{still_mapped}
 use Rattle.os_heap.proofs.words.put_free.Goals as goal
 
 pub put-requires-clause-mapped : goal.put-requires-clause-mapped

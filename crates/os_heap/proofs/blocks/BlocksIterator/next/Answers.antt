@@ -1,6 +1,7 @@
 use Rattle.std.proofs.Common.{◌≤◌, ◌+◌, ◌^◌, length, ap, sym, ◌∙◌, arith}
 use Rattle.address_map.specs.Memory.{bytes_of}
-use Rattle.os_heap.proofs.Rest.{IsFreeFirst, free_first, IsLiveFirst, live_first, rest_below}
+use Rattle.os_heap_lists.proofs.Rest.{IsFreeFirst, free_first, IsLiveFirst, live_first}
+use Rattle.os_heap.proofs.Rest.{rest_below}
 use Rattle.os_heap.proofs.blocks.BlocksIterator.next.Goals as goal
 
 pub overflow_add-self-inside : goal.overflow_add-self-inside

@@ -1,5 +1,6 @@
 use Rattle.std.proofs.Common.{◌≡◌, Some, None, ap, sym, ◌∙◌}
-use Rattle.os_heap.specs.Store.{store_of, items_of}
+use Rattle.os_heap.specs.Store.{store_of}
+use Rattle.os_heap.specs.Calls.{items_of}
 use Rattle.os_heap.proofs.Found.{found_at, items_none, items_found}
 use Rattle.os_heap.proofs.heaps.Heaps.blocks.Goals as goal
 

@@ -1,5 +1,5 @@
 use Rattle.std.proofs.Common.{◌∙◌, refl, sym}
-use Rattle.os_heap.proofs.Calls.{found_part, heap_there, free_left, free_refused, free_counted, free_counted_none}
+use Rattle.os_heap.proofs.Calls.{found_part, heap_there, free_given, free_refused, free_counted, free_counted_none}
 use Rattle.os_heap.proofs.heaps.Heaps.free.Goals as goal
 
 pub release-requires : goal.release-requires
@@ -8,7 +8,7 @@ release-requires c = heap_there c.in-Some.field-0.kind c.args.map.now c.args.hea
 pub returns-in-Some : goal.returns-in-Some
 returns-in-Some c =
     let found = found_part c.args.map.now c.args.heap c.in-Some.field-0 c.in-Some.ensures in
-    let g = free_left c.in-Some.field-0.kind c.args.map.now _ c.args.heap c.args.block c.in-Some.field-0.len _ c.requires found c.release.ensures.release in
+    let g = free_given c.in-Some.field-0.kind c.args.map.now _ c.args.heap c.args.block c.in-Some.field-0.len _ c.requires found c.release.ensures.release in
     record {
       store = g.store;
       sound = g.sound;

@@ -1,5 +1,0 @@
-use Rattle.os_heap.specs.Store.{store_of, IsSound}
-use Rattle.os_heap.proofs.block_tests.joins_free_blocks_and_sinks_the_base.Given as goal
-
-abbrev pub invariant-loop-block : goal.invariant-loop-block
-invariant-loop-block g l = IsSound (store_of l.map)

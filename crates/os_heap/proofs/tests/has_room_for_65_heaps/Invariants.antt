@@ -1,5 +1,0 @@
-use Rattle.os_heap.specs.Store.{store_of, IsSound}
-use Rattle.os_heap.proofs.tests.has_room_for_65_heaps.Given as goal
-
-abbrev pub invariant-loop-i : goal.invariant-loop-i
-invariant-loop-i g l = IsSound (store_of l.map)

@@ -1,0 +1,160 @@
+-- The heap calls. A call changes the list of one heap, and of memory only the words that the new list spells; every other byte keeps its value.
+-- Refusals come in the order of their numbers (RISC OS 3 Programmer's Reference Manual, "OS_Heap", reasons 0 to 6; the numbers, the limits, this
+-- order, and that a block whose size falls to 0 or below is freed, are this project's own).
+use Rattle.std.specs.Prelude.{ℕ, ◌≡◌, Bool, true, false, not, ◌+◌, ◌-◌, ◌%◌, ◌==◌, ◌&&◌, nat_le, nat_lt, Option, Some, None, ok_or, option_map, Result, Ok, Err, List, [], ◌∷◌, ◌++◌, if◌then◌else◌}
+use Rattle.profile.specs.Outcome.{bind}
+use Rattle.profile.specs.declared.error.ErrorNumber.{ErrorNumber}
+use Rattle.profile.specs.declared.error.ErrorNumber.TheVariants.{HeapBadDesc, HeapBadRegion, HeapOverlaps, HeapTableFull, HeapNotABlock, HeapNoRoom, HeapBadShrink}
+use Rattle.address_map.specs.declared.item.Item.{Item}
+use Rattle.address_map.specs.declared.region.Kind.{Kind}
+use Rattle.address_map.specs.declared.region.Kind.TheVariants as kind
+use Rattle.address_map.specs.declared.region.Region.{Region}
+use Rattle.address_map.specs.Bytes.{with_moved}
+use Rattle.address_map.specs.Items.{size_of}
+use Rattle.os_heap_lists.specs.Heap.{HeapList, with_heap}
+use Rattle.os_heap_lists.specs.Lists.{round_up_8, total_for, claimed, released, changed_by, live_total, resized_in_place}
+use Rattle.os_heap_lists.specs.Counts.{all_free, largest_block}
+use Rattle.os_heap.specs.Store.{Store, find_heap, guest_count, has_image}
+use Rattle.os_heap.specs.Ranges.{is_heap_region, meets_any, MayEnd}
+
+abbrev pub heap_at : Store → ℕ → Result HeapList ErrorNumber
+heap_at s heap = ok_or (find_heap heap s.heaps) HeapBadDesc
+
+-- a block of the guest's: where a module image is recorded there is none
+abbrev pub unless_image : {A : Type 0} → Bool → Option A → Option A
+unless_image true block = None
+unless_image false block = block
+
+abbrev pub guests_total : List Region → ℕ → List Item → ℕ → Result ℕ ErrorNumber
+guests_total others start items block = ok_or (unless_image (has_image block others) (live_total block (start + 16) items)) HeapNotABlock
+
+-- the heaps after the one at `start` got another list, or another end
+abbrev pub with_items : ℕ → List Item → List HeapList → List HeapList
+with_items start items [] = []
+with_items start items (h ∷ hs) =
+    (if h.start == start then record { kind = h.kind; start = h.start; end = h.end; items = items } else h) ∷ with_items start items hs
+
+abbrev pub with_end : ℕ → ℕ → List HeapList → List HeapList
+with_end start end [] = []
+with_end start end (h ∷ hs) =
+    (if h.start == start then record { kind = h.kind; start = h.start; end = end; items = h.items } else h) ∷ with_end start end hs
+
+-- the store after a heap got another list, or another end
+abbrev pub holding : Store → HeapList → List Item → Store
+holding s h items = record {
+  bytes = record { mapped = s.bytes.mapped; at = with_heap s.bytes.at h.start h.end items };
+  heaps = with_items h.start items s.heaps;
+  others = s.others;
+}
+
+abbrev pub ending : Store → HeapList → ℕ → Store
+ending s h end = record {
+  bytes = record { mapped = s.bytes.mapped; at = with_heap s.bytes.at h.start end h.items };
+  heaps = with_end h.start end s.heaps;
+  others = s.others;
+}
+
+-- Reason 0, init: a heap without items, of a range that a heap may have, that meets no recorded one; guests make at most 64.
+abbrev pub begun_with : Kind → Store → ℕ → ℕ → Store
+begun_with k s at size =
+    let h : HeapList = record { kind = k; start = at; end = size; items = [] } in
+    record { bytes = record { mapped = s.bytes.mapped; at = with_heap s.bytes.at at size [] }; heaps = s.heaps ++ h ∷ []; others = s.others }
+
+unfoldable pub begun : Store → ℕ → ℕ → Result (Store × Unit {0}) ErrorNumber
+begun s at size =
+    if not (is_heap_region s.bytes at size) then Err HeapBadRegion else (
+    if meets_any at size s then Err HeapOverlaps else (
+    if nat_le 64 (guest_count s.heaps) then Err HeapTableFull else
+    Ok (begun_with kind.Heap s at size, tt)))
+
+-- Reason 1, describe: the largest block that can be claimed, and all that is free.
+unfoldable pub described : Store → ℕ → Result (ℕ × ℕ) ErrorNumber
+described s heap =
+    bind (heap_at s heap) (λ h.
+    let room : ℕ = h.end - (16 + size_of h.items) in
+    Ok (largest_block room h.items, all_free room h.items))
+
+-- Reason 2, get: a block of `size` bytes. The answer is the address of its first byte.
+unfoldable pub got : Store → ℕ → ℕ → Result (Store × ℕ) ErrorNumber
+got s heap size =
+    bind (heap_at s heap) (λ h.
+    bind (ok_or (claimed (total_for size) (h.end - 16) h.items) HeapNoRoom) (λ c.
+    Ok (holding s h c.items, h.start + 16 + c.offset + 4)))
+
+-- Reason 3, free: the block whose bytes begin at `block`.
+unfoldable pub gave_back : Store → ℕ → ℕ → Result (Store × Unit {0}) ErrorNumber
+gave_back s heap block =
+    bind (heap_at s heap) (λ h.
+    bind (ok_or (unless_image (has_image block s.others) (released block (h.start + 16) h.items)) HeapNotABlock) (λ items.
+    Ok (holding s h items, tt)))
+
+-- Reason 4, resize: a block whose size cannot change where it stands is moved. That is three actions in turn: another block is claimed, the old
+-- bytes are copied to it, and the old block is given back. Where no byte would be left beside the length word, the block is given back, and the
+-- answer is 0.
+abbrev pub copied : Store → ℕ → ℕ → ℕ → Store
+copied s from to len = record { bytes = with_moved s.bytes from to len; heaps = s.heaps; others = s.others }
+
+abbrev pub handed_over : ℕ → ℕ → ℕ → Store → ℕ → Result (Store × ℕ) ErrorNumber
+handed_over heap block len s new = bind (gave_back (copied s block new len) heap block) (λ r. Ok (r.0, new))
+
+abbrev pub moved : Store → HeapList → ℕ → ℕ → ℕ → Result (Store × ℕ) ErrorNumber
+moved s h block old new =
+    bind (ok_or (claimed new (h.end - 16) h.items) HeapNoRoom) (λ c.
+    handed_over h.start block (old - 4) (holding s h c.items) (h.start + 16 + c.offset + 4))
+
+abbrev pub resized_or_moved : Store → HeapList → ℕ → ℕ → ℕ → Option (List Item) → Result (Store × ℕ) ErrorNumber
+resized_or_moved s h block old new (Some items) = Ok (holding s h items, block)
+resized_or_moved s h block old new None = moved s h block old new
+
+unfoldable pub resized : Store → ℕ → ℕ → ℕ → Result (Store × ℕ) ErrorNumber
+resized s heap block change =
+    bind (heap_at s heap) (λ h.
+    bind (guests_total s.others h.start h.items block) (λ old.
+    let sum : ℕ = changed_by old change in
+    if nat_le sum 4 then bind (gave_back s heap block) (λ r. Ok (r.0, 0)) else
+    resized_or_moved s h block old (round_up_8 sum) (resized_in_place block (h.start + h.end) (round_up_8 sum) (h.start + 16) h.items)))
+
+-- Reason 5, change of a heap's size. The module area's heap has the size of its area, so no call changes it. The new range is one that a heap may
+-- have; what it grows by meets no recorded range; and it holds all items.
+abbrev pub has_own_size : Kind → Bool
+has_own_size kind.Heap = true
+has_own_size other = false
+
+abbrev pub own_size : HeapList → Result HeapList ErrorNumber
+own_size h = if has_own_size h.kind then Ok h else Err HeapBadDesc
+
+abbrev pub end_changed : Store → HeapList → ℕ → ℕ → Result (Store × Unit {0}) ErrorNumber
+end_changed s h change end =
+    if not (change % 4 == 0 && is_heap_region s.bytes h.start end) then Err HeapBadRegion else (
+    if nat_lt h.end end && meets_any (h.start + h.end) (end - h.end) s then Err HeapOverlaps else (
+    if nat_lt end (16 + size_of h.items) then Err HeapBadShrink else
+    Ok (ending s h end, tt)))
+
+unfoldable pub changed : Store → ℕ → ℕ → Result (Store × Unit {0}) ErrorNumber
+changed s heap change =
+    bind (heap_at s heap) (λ g.
+    bind (own_size g) (λ h.
+    end_changed s h change (changed_by h.end change)))
+
+-- Reason 6, block size: what the block holds, without its length word.
+abbrev pub bytes_held : Result ℕ ErrorNumber → Result ℕ ErrorNumber
+bytes_held total = bind total (λ n. Ok (n - 4))
+
+unfoldable pub block_sized : Store → ℕ → ℕ → Result ℕ ErrorNumber
+block_sized s heap block =
+    bind (heap_at s heap) (λ h. bytes_held (guests_total s.others h.start h.items block))
+
+-- the items of a heap, if one starts there
+unfoldable pub items_of : Store → ℕ → Option (List Item)
+items_of s heap = option_map (λ h. h.items) (find_heap heap s.heaps)
+
+abbrev pub OfHeap : (HeapList → Type 0) → Option HeapList → Type 0
+OfHeap P None = ⊥
+OfHeap P (Some h) = P h
+
+-- The module area's heap gets the end that its area's size gives it.
+abbrev pub MayEndArea : Store → ℕ → Type 0
+MayEndArea s end = OfHeap (λ h. MayEnd s h end) (find_heap 0x01800000 s.heaps)
+
+abbrev pub IsAreaEnded : Store → ℕ → Store → Type 0
+IsAreaEnded s end t = OfHeap (λ h. t ≡ ending s h end) (find_heap 0x01800000 s.heaps)

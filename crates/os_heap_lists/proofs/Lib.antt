@@ -1,0 +1,15 @@
+pub mod Counts
+pub mod HeadWords
+pub mod HeapWords
+pub mod ItemWalk
+pub mod LastLink
+pub mod LinkWalk
+pub mod LiveBlocks
+pub mod Reading
+pub mod ReleaseOfClaim
+pub mod Resizes
+pub mod Rest
+pub mod Search
+pub mod Spelling
+pub mod Tally
+pub mod Words

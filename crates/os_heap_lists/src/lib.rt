@@ -1,0 +1,4 @@
+//! A heap as a list of blocks and free room, and the words that it spells: what the heap calls do to the list, and laws of both.
+#![tactic(auto)]
+
+pub mod laws;
