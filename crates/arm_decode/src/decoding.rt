@@ -1,6 +1,6 @@
 //! From a word to its instruction.
 ghost use Rattle.std.specs.Prelude.{◌≡◌, IfOk};
-ghost use Rattle.arm_decode.specs.Decoded.{decoded};
+ghost use Rattle.arm_decode.specs.Decoded.{decoded, IsAllowed};
 ghost use Rattle.arm_decode.specs.Diagrams.{word_of};
 ghost use Rattle.arm_decode.specs.Fields.{operand_by_register_in, immediate_in, operate_in, multiply_in, address_in, transfer_in, block_transfer_in, action_in};
 
@@ -71,7 +71,9 @@ impl Action {
 }
 
 impl Operand {
-    fn immediate_in(word: u32) -> Operand
+    /// The byte and its rotation, as the immediate form has them.
+    #[inline(always)]
+    pub fn immediate_in(word: u32) -> Operand
         ensures { result ≡ immediate_in word }
     {
         Operand::Immediate {
@@ -80,7 +82,9 @@ impl Operand {
         }
     }
 
-    fn by_register_in(word: u32) -> Operand
+    /// The register and the one that shifts it, as the form of shifts by registers has them.
+    #[inline(always)]
+    pub fn by_register_in(word: u32) -> Operand
         ensures { result ≡ operand_by_register_in word }
     {
         Operand::ShiftedByRegister {
@@ -92,6 +96,23 @@ impl Operand {
 }
 
 impl Operate {
+    /// The data processing that a word with this second operand stands for.
+    ///
+    /// # Errors
+    ///
+    /// The fault by which the table refuses it.
+    #[inline(always)]
+    pub fn decoded(operand: Operand, word: u32) -> Result<Operate, Fault>
+        ensures { IsAllowed (λ operate. Action.Operate operate) (operate_in operand word) result }
+    {
+        let operate = Operate::in_word(operand, word);
+        match operate.refusal() {
+            Some(fault) => Err(fault),
+            None => Ok(operate),
+        }
+    }
+
+    #[inline(always)]
     fn in_word(operand: Operand, word: u32) -> Operate
         ensures { result ≡ operate_in operand word }
     {
@@ -106,6 +127,23 @@ impl Operate {
 }
 
 impl Multiply {
+    /// The multiplication that a word of that form stands for.
+    ///
+    /// # Errors
+    ///
+    /// The fault by which the table refuses it.
+    #[inline(always)]
+    pub fn decoded(word: u32) -> Result<Multiply, Fault>
+        ensures { IsAllowed (λ multiply. Action.Multiply multiply) (multiply_in word) result }
+    {
+        let multiply = Multiply::in_word(word);
+        match multiply.refusal() {
+            Some(fault) => Err(fault),
+            None => Ok(multiply),
+        }
+    }
+
+    #[inline(always)]
     fn in_word(word: u32) -> Multiply
         ensures { result ≡ multiply_in word }
     {
@@ -121,6 +159,23 @@ impl Multiply {
 }
 
 impl Transfer {
+    /// The transfer that a word with this offset stands for.
+    ///
+    /// # Errors
+    ///
+    /// The fault by which the table refuses it.
+    #[inline(always)]
+    pub fn decoded(offset: Offset, word: u32) -> Result<Transfer, Fault>
+        ensures { IsAllowed (λ transfer. Action.Transfer transfer) (transfer_in offset word) result }
+    {
+        let transfer = Transfer::in_word(offset, word);
+        match transfer.refusal() {
+            Some(fault) => Err(fault),
+            None => Ok(transfer),
+        }
+    }
+
+    #[inline(always)]
     fn in_word(offset: Offset, word: u32) -> Transfer
         ensures { result ≡ transfer_in offset word }
     {
@@ -134,6 +189,7 @@ impl Transfer {
 }
 
 impl Address {
+    #[inline(always)]
     fn in_word(offset: Offset, word: u32) -> Address
         ensures { result ≡ address_in offset word }
     {
@@ -147,6 +203,23 @@ impl Address {
 }
 
 impl BlockTransfer {
+    /// The block transfer that a word of that form stands for.
+    ///
+    /// # Errors
+    ///
+    /// The fault by which the table refuses it.
+    #[inline(always)]
+    pub fn decoded(word: u32) -> Result<BlockTransfer, Fault>
+        ensures { IsAllowed (λ block. Action.BlockTransfer block) (block_transfer_in word) result }
+    {
+        let block = BlockTransfer::in_word(word);
+        match block.refusal() {
+            Some(fault) => Err(fault),
+            None => Ok(block),
+        }
+    }
+
+    #[inline(always)]
     fn in_word(word: u32) -> BlockTransfer
         ensures { result ≡ block_transfer_in word }
     {

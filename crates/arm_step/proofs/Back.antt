@@ -14,11 +14,11 @@ use Rattle.arm_step.specs.declared.psr.Mode.{Mode}
 use Rattle.arm_step.specs.State.{State, register_in, with_pc}
 use Rattle.arm_step.specs.Effect.{advanced, plain_operand, status_operand, with_result}
 use Rattle.arm_step.specs.Words.{words_at, with_words, words_stored, words_loaded}
-use Rattle.arm_step.specs.Blocks.{listed_below, listed, lowest, stepped_base, block_size, block_start, block_base, loads_status, bank_of, with_block_base, with_loaded, with_block_status, block_loaded, block_value, block_values, block_stored, block_transferred}
+use Rattle.arm_step.specs.Blocks.{listed_below, listed, lowest, stepped_base, block_size, block_start, block_base, loads_status, bank_of, with_block_base, with_loaded, with_block_status, block_loaded, stores_new_base, block_value, block_values, block_stored, block_transferred}
 use Rattle.arm_step.specs.Step.{acted, or_fault}
 use Rattle.arm_step.specs.Back.{IsCore, PutsAway, opposite, brought_back, ComesBack}
 use Rattle.arm_step.proofs.Listing.{few_of_all}
-use Rattle.arm_step.proofs.Restoring.{placed, same_read, size_kept, no_pc}
+use Rattle.arm_step.proofs.Restoring.{placed, same_read, size_kept, no_pc, and_false}
 
 -- a byte below the words keeps its value
 below_kept : (b : Bytes) (a x : ℕ) (ws : List ℕ) → x < a → (with_words b a ws).at x ≡ b.at x
@@ -95,7 +95,8 @@ unfolding block_value status_operand bank_of
 value_is s t r p e =
     let other : nat_eq r t.rn ≡ false = off r t.rn (λ f. let both : bit_of t.list r ≡ bit_of t.list t.rn = ap (bit_of t.list) f in cc (p.apart, e, both)) in
     let no : nat_eq r 15 ≡ false = off r 15 (λ f. let both : bit_of t.list r ≡ bit_of t.list 15 = ap (bit_of t.list) f in cc (p.without_pc, e, both)) in
-    rw (p.moves_base, other, p.plain, no) refl
+    let old : (stores_new_base t && nat_eq r t.rn) ≡ false = rw other (and_false (stores_new_base t)) in
+    rw (old, p.plain, no) refl
 
 joined_maps : (f g : ℕ → ℕ) (xs : List ℕ) (n : ℕ) → map f xs ≡ map g xs → f n ≡ g n → map f (xs ++ n ∷ []) ≡ map g (xs ++ n ∷ [])
 joined_maps f g xs n h e = map-append f xs (n ∷ []) ∙ ap (λ ys. ys ++ f n ∷ []) h ∙ ap (λ y. map g xs ++ y ∷ []) e ∙ sym (map-append g xs (n ∷ []))

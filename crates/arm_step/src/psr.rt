@@ -19,6 +19,7 @@ pub enum Mode {
 
 impl Mode {
     /// The mode that the two lowest bits of a word name.
+    #[inline(always)]
     pub fn of(word: u32) -> Mode
         ensures { result ≡ mode_of word }
     {
@@ -31,6 +32,7 @@ impl Mode {
     }
 
     /// The mode's number, from 0 to 3.
+    #[inline(always)]
     pub fn number(self) -> u32
         ensures value { result ≡ mode_number self }
         ensures below { result < 4 }
@@ -65,6 +67,7 @@ pub struct Psr {
 
 impl Psr {
     /// The status that a word holds in bits 31 to 26, 1 and 0.
+    #[inline(always)]
     pub fn of(word: u32) -> Psr
         ensures { result ≡ psr_of word }
     {
@@ -80,6 +83,7 @@ impl Psr {
     }
 
     /// The status as it stands in R15: bits 31 to 26, 1 and 0 of a word, all others being 0.
+    #[inline(always)]
     pub fn bits(self) -> u32
         ensures value { result ≡ psr_bits self }
         ensures most { result ≤ 0xFC00_0003 }
@@ -94,6 +98,7 @@ impl Psr {
     }
 
     /// This status after an instruction that sets `new`: user mode takes N, Z, C and V alone.
+    #[inline(always)]
     pub fn taking(self, new: Psr) -> Psr
         ensures { result ≡ psr_taken self new }
     {

@@ -13,6 +13,7 @@ use profile::shift::rotate_right;
 
 /// The byte at an address, or the word there, rotated so that the byte at the address is lowest.
 #[tactic(auto, unfolding(crate::specs::Transfers::value_loaded))]
+#[inline(always)]
 fn load_value(memory: &AddressMap, is_byte: bool, address: u32) -> Result<u32, Fault>
     ensures { result ≡ value_loaded (bytes_of memory.now) is_byte address }
 {
@@ -27,6 +28,7 @@ fn load_value(memory: &AddressMap, is_byte: bool, address: u32) -> Result<u32, F
 
 /// Stores the low byte of a value, or all of it as the word that holds the address.
 #[tactic(auto, unfolding(crate::specs::Transfers::value_stored))]
+#[inline(always)]
 fn store_value(
     memory: &mut AddressMap,
     is_byte: bool,
@@ -46,6 +48,7 @@ fn store_value(
 impl Cpu {
     /// The offset of a transfer.
     #[tactic(auto, unfolding(crate::specs::Transfers::offset_of))]
+    #[inline(always)]
     fn offset(&self, offset: &Offset) -> u32
         ensures { result ≡ offset_of self.now offset.now }
     {
@@ -57,6 +60,7 @@ impl Cpu {
 
     /// The base of a transfer changed by its offset.
     #[tactic(auto, unfolding(crate::specs::Transfers::moved_base))]
+    #[inline(always)]
     fn moved_base(&self, address: &Address) -> u32
         ensures { result ≡ moved_base self.now address.now }
     {
@@ -70,6 +74,7 @@ impl Cpu {
 
     /// Where a transfer reads or writes.
     #[tactic(auto, unfolding(crate::specs::Transfers::transfer_address))]
+    #[inline(always)]
     fn transfer_address(&self, address: &Address) -> u32
         ensures { result ≡ transfer_address self.now address.now }
     {
@@ -81,6 +86,7 @@ impl Cpu {
 
     /// Writes the changed base back where the transfer does that.
     #[tactic(auto, unfolding(crate::specs::Transfers::with_base))]
+    #[inline(always)]
     fn write_base(&mut self, address: &Address, moved: u32)
         ensures { self.new ≡ with_base self.old address.now moved }
     {
@@ -91,6 +97,7 @@ impl Cpu {
 
     /// LDR: the base is written first, so a loaded base wins.
     #[tactic(auto, unfolding(crate::specs::Transfers::loaded))]
+    #[inline(always)]
     fn load(&mut self, memory: &AddressMap, transfer: &Transfer) -> Result<(), Fault>
         ensures { Leaves (self.old, bytes_of memory.now) (loaded self.old (bytes_of memory.now) transfer.now) result (self.new, bytes_of memory.now) }
     {
@@ -108,6 +115,7 @@ impl Cpu {
 
     /// STR: R15 is stored three words ahead with the status, the base with its old value.
     #[tactic(auto, unfolding(crate::specs::Transfers::stored))]
+    #[inline(always)]
     fn store(&mut self, memory: &mut AddressMap, transfer: &Transfer) -> Result<(), Fault>
         ensures state { Leaves (self.old, bytes_of memory.old) (stored (is_owned memory.old) self.old (bytes_of memory.old) transfer.now) result (self.new, bytes_of memory.new) }
         ensures layout { layout memory.new ≡ layout memory.old }
@@ -132,6 +140,7 @@ impl Cpu {
     /// `AddressException`, `DataUnmapped`, and for a store `OwnedWord`, in this order. Core and
     /// memory are then as before.
     #[tactic(auto, unfolding(crate::specs::Transfers::transferred))]
+    #[inline(always)]
     pub fn transfer(&mut self, memory: &mut AddressMap, transfer: &Transfer) -> Result<(), Fault>
         ensures state { Leaves (self.old, bytes_of memory.old) (transferred (is_owned memory.old) self.old (bytes_of memory.old) transfer.now) result (self.new, bytes_of memory.new) }
         ensures layout { layout memory.new ≡ layout memory.old }
