@@ -2,7 +2,7 @@
 ghost use Rattle.std.specs.Prelude.{◌≡◌, IfOk};
 ghost use Rattle.arm_decode.specs.Decoded.{decoded, IsAllowed};
 ghost use Rattle.arm_decode.specs.Diagrams.{word_of};
-ghost use Rattle.arm_decode.specs.Fields.{operand_by_register_in, immediate_in, operate_in, multiply_in, address_in, transfer_in, block_transfer_in, action_in};
+ghost use Rattle.arm_decode.specs.Fields.{operand_by_register_in, immediate_in, operate_in, multiply_in, address_in, transfer_at, block_transfer_in, action_in};
 
 use crate::action::{Action, BlockTransfer, Multiply, Operate, Transfer};
 use crate::address::{Address, BlockMode, Direction, Indexing, Offset};
@@ -52,13 +52,12 @@ impl Action {
             )),
             Form::Immediate => Action::Operate(Operate::in_word(Operand::immediate_in(word), word)),
             Form::OffsetByNumber => {
-                Action::Transfer(Transfer::in_word(Offset::Immediate(Bits::in_word(word, 0)), word))
+                let offset = Offset::Immediate(Bits::in_word(word, 0));
+                Action::Transfer(Transfer::in_word(Address::in_word(offset, word), word))
             }
             Form::OffsetByRegister => {
-                Action::Transfer(Transfer::in_word(
-                    Offset::Shifted(ShiftedRegister::in_word(word)),
-                    word,
-                ))
+                let offset = Offset::Shifted(ShiftedRegister::in_word(word));
+                Action::Transfer(Transfer::in_word(Address::in_word(offset, word), word))
             }
             Form::BlockTransfer => Action::BlockTransfer(BlockTransfer::in_word(word)),
             Form::Branch => Action::Branch {
@@ -159,16 +158,16 @@ impl Multiply {
 }
 
 impl Transfer {
-    /// The transfer that a word with this offset stands for.
+    /// The transfer that a word stands for whose address is this.
     ///
     /// # Errors
     ///
     /// The fault by which the table refuses it.
     #[inline(always)]
-    pub fn decoded(offset: Offset, word: u32) -> Result<Transfer, Fault>
-        ensures { IsAllowed (λ transfer. Action.Transfer transfer) (transfer_in offset word) result }
+    pub fn decoded(address: Address, word: u32) -> Result<Transfer, Fault>
+        ensures { IsAllowed (λ transfer. Action.Transfer transfer) (transfer_at address word) result }
     {
-        let transfer = Transfer::in_word(offset, word);
+        let transfer = Transfer::in_word(address, word);
         match transfer.refusal() {
             Some(fault) => Err(fault),
             None => Ok(transfer),
@@ -176,21 +175,22 @@ impl Transfer {
     }
 
     #[inline(always)]
-    fn in_word(offset: Offset, word: u32) -> Transfer
-        ensures { result ≡ transfer_in offset word }
+    fn in_word(address: Address, word: u32) -> Transfer
+        ensures { result ≡ transfer_at address word }
     {
         Transfer {
             loads: is_bit_set(word, 20),
             is_byte: is_bit_set(word, 22),
             rd: Register::in_word(word, 12),
-            address: Address::in_word(offset, word),
+            address,
         }
     }
 }
 
 impl Address {
+    /// The address of an LDR or STR with this offset, with the word's other fields.
     #[inline(always)]
-    fn in_word(offset: Offset, word: u32) -> Address
+    pub fn in_word(offset: Offset, word: u32) -> Address
         ensures { result ≡ address_in offset word }
     {
         Address {

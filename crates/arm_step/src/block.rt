@@ -203,15 +203,15 @@ impl Cpu {
     pub fn transfer_block(
         &mut self,
         memory: &mut AddressMap,
-        block: &BlockTransfer,
+        block: BlockTransfer,
     ) -> Result<(), Fault>
-        ensures state { Leaves (self.old, bytes_of memory.old) (block_transferred (is_owned memory.old) self.old (bytes_of memory.old) block.now) result (self.new, bytes_of memory.new) }
+        ensures state { Leaves (self.old, bytes_of memory.old) (block_transferred (is_owned memory.old) self.old (bytes_of memory.old) block) result (self.new, bytes_of memory.new) }
         ensures layout { layout memory.new ≡ layout memory.old }
     {
         if block.loads {
-            self.load_block(memory, block)
+            self.load_block(memory, &block)
         } else {
-            self.store_block(memory, block)
+            self.store_block(memory, &block)
         }
     }
 }

@@ -11,7 +11,7 @@ use crate::condition::is_met;
 use crate::cpu::Cpu;
 use crate::turn::Turn;
 use address_map::AddressMap;
-use arm_decode::{Bits, BlockTransfer, Condition, Form, Multiply, Offset, Operand, Operate, ShiftedRegister, Transfer, row_of};
+use arm_decode::{Address, Bits, BlockTransfer, Condition, Form, Multiply, Offset, Operand, Operate, ShiftedRegister, Transfer, row_of};
 use profile::Fault;
 use profile::memory_map::RETURN_GATE;
 use profile::word::is_bit_set;
@@ -66,25 +66,27 @@ impl Cpu {
         ensures layout { layout memory.new ≡ layout memory.old }
     {
         match row_of(word)? {
-            Form::Multiply => self.multiply(&Multiply::decoded(word)?),
+            Form::Multiply => self.multiply(Multiply::decoded(word)?),
             Form::ShiftByNumber => {
                 let second = Operand::Shifted(ShiftedRegister::in_word(word));
-                self.operate(&Operate::decoded(second, word)?);
+                self.operate(Operate::decoded(second, word)?);
             }
             Form::ShiftByRegister => {
-                self.operate(&Operate::decoded(Operand::by_register_in(word), word)?);
+                self.operate(Operate::decoded(Operand::by_register_in(word), word)?);
             }
-            Form::Immediate => self.operate(&Operate::decoded(Operand::immediate_in(word), word)?),
+            Form::Immediate => self.operate(Operate::decoded(Operand::immediate_in(word), word)?),
             Form::OffsetByNumber => {
                 let offset = Offset::Immediate(Bits::in_word(word, 0));
-                self.transfer(memory, &Transfer::decoded(offset, word)?)?;
+                let address = Address::in_word(offset, word);
+                self.transfer(memory, Transfer::decoded(address, word)?)?;
             }
             Form::OffsetByRegister => {
                 let offset = Offset::Shifted(ShiftedRegister::in_word(word));
-                self.transfer(memory, &Transfer::decoded(offset, word)?)?;
+                let address = Address::in_word(offset, word);
+                self.transfer(memory, Transfer::decoded(address, word)?)?;
             }
             Form::BlockTransfer => {
-                self.transfer_block(memory, &BlockTransfer::decoded(word)?)?;
+                self.transfer_block(memory, BlockTransfer::decoded(word)?)?;
             }
             Form::Branch => {
                 let distance: Bits<24> = Bits::in_word(word, 0);
