@@ -1,5 +1,5 @@
 -- The core: its register file with the banks of the four modes, the status and the program counter (ARM2 data sheet, "Registers").
-use Rattle.std.specs.Prelude.{ℕ, Bool, ◌+◌, ◌*◌, ◌/◌, ◌%◌, ◌^◌, ◌==◌, nat_lt, if◌then◌else◌, List, [], ◌∷◌, slice_index, slice_set, false}
+use Rattle.std.specs.Prelude.{◌≡◌, ◌<◌, ℕ, Bool, length, ◌+◌, ◌*◌, ◌/◌, ◌%◌, ◌^◌, ◌==◌, nat_lt, if◌then◌else◌, List, [], ◌∷◌, slice_index, slice_set, false}
 use Rattle.std.specs.Prelude.{replicate, ◌++◌}
 use Rattle.arm_step.specs.declared.psr.Mode.{Mode}
 use Rattle.arm_step.specs.declared.psr.Mode.TheVariants.{User, FastInterrupt, Interrupt, Supervisor}
@@ -11,6 +11,13 @@ pub record State : Type 0 where
   pub file : List ℕ
   pub psr : Psr
   pub pc : ℕ
+
+-- As every core is: 26 registers that are words, and the program counter at a word of the address space.
+pub record IsCore (s : State) : Type 0 where
+  pub size : length s.file ≡ 26
+  pub words : (k : ℕ) → slice_index s.file k < 2 ^ 32
+  pub inside : s.pc < 2 ^ 26
+  pub aligned : s.pc % 4 ≡ 0
 
 -- The place in the file of R0 to R14 as a mode sees them.
 unfoldable pub slot_of : Mode → ℕ → ℕ

@@ -200,7 +200,7 @@ impl Cpu {
     /// `AddressException`, `DataUnmapped`, and for a store `OwnedWord`, in this order and each over
     /// all words. Core and memory are then as before.
     #[tactic(auto, unfolding(crate::specs::Blocks::block_transferred))]
-    pub fn transfer_block(
+    pub(crate) fn transfer_block(
         &mut self,
         memory: &mut AddressMap,
         block: BlockTransfer,

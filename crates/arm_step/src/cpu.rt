@@ -99,7 +99,7 @@ impl Cpu {
     /// The program counter with the status.
     #[tactic(auto, unfolding(crate::specs::State::r15_of))]
     #[inline(always)]
-    pub fn r15(&self) -> u32
+    pub(crate) fn r15(&self) -> u32
         ensures { result ≡ r15_of self.now }
     {
         self.psr.bits() + self.pc
@@ -155,7 +155,7 @@ impl Cpu {
     /// Sets the whole status, the mode too.
     #[tactic(auto, unfolding(crate::specs::State::with_psr))]
     #[inline(always)]
-    pub fn set_psr(&mut self, psr: Psr)
+    pub(crate) fn set_psr(&mut self, psr: Psr)
         ensures { self.new ≡ with_psr self.old psr }
     {
         self.psr = psr;
@@ -164,7 +164,7 @@ impl Cpu {
     /// Sets the flags N, Z, C and V.
     #[tactic(auto, unfolding(crate::specs::State::with_flags))]
     #[inline(always)]
-    pub fn set_flags(&mut self, negative: bool, zero: bool, carry: bool, overflow: bool)
+    pub(crate) fn set_flags(&mut self, negative: bool, zero: bool, carry: bool, overflow: bool)
         ensures { self.new ≡ with_flags self.old negative zero carry overflow }
     {
         self.psr.negative = negative;

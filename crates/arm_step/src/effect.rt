@@ -14,7 +14,7 @@ impl Cpu {
     /// The program counter some words ahead of the instruction, at most 3, in the 26-bit address
     /// space.
     #[inline(always)]
-    pub fn ahead(&self, words: u32) -> u32
+    pub(crate) fn ahead(&self, words: u32) -> u32
         requires { words ≤ 3 }
         ensures value { result ≡ ahead self.now words }
         ensures most { result ≤ 2 ^ 26 - 4 }
@@ -25,7 +25,7 @@ impl Cpu {
     /// Goes on to the next word.
     #[tactic(auto, unfolding(crate::specs::Effect::advanced))]
     #[inline(always)]
-    pub fn advance(&mut self)
+    pub(crate) fn advance(&mut self)
         ensures { self.new ≡ advanced self.old }
     {
         let next = self.pc() + 4;
@@ -35,7 +35,7 @@ impl Cpu {
     /// A register as an operand, R15 being read ahead of the instruction and without the status.
     #[tactic(auto, unfolding(crate::specs::Effect::plain_operand))]
     #[inline(always)]
-    pub fn plain_operand(&self, register: Register, words: u32) -> u32
+    pub(crate) fn plain_operand(&self, register: Register, words: u32) -> u32
         requires { words ≤ 3 }
         ensures { result ≡ plain_operand self.now register words }
     {
@@ -50,7 +50,7 @@ impl Cpu {
     /// status.
     #[tactic(auto, unfolding(crate::specs::Effect::status_operand))]
     #[inline(always)]
-    pub fn status_operand(&self, mode: Mode, register: Register, words: u32) -> u32
+    pub(crate) fn status_operand(&self, mode: Mode, register: Register, words: u32) -> u32
         requires { words ≤ 3 }
         ensures { result ≡ status_operand mode self.now register words }
     {
@@ -64,7 +64,7 @@ impl Cpu {
     /// Sets a register of a mode; R15 takes bits 25 to 2 as the program counter.
     #[tactic(auto, unfolding(crate::specs::Effect::with_result_in))]
     #[inline(always)]
-    pub fn set_result_in(&mut self, mode: Mode, register: Register, value: u32)
+    pub(crate) fn set_result_in(&mut self, mode: Mode, register: Register, value: u32)
         ensures { self.new ≡ with_result_in mode self.old register value }
     {
         if register.is_pc() {
@@ -77,7 +77,7 @@ impl Cpu {
     /// Sets a register of the present mode, likewise.
     #[tactic(auto, unfolding(crate::specs::Effect::with_result))]
     #[inline(always)]
-    pub fn set_result(&mut self, register: Register, value: u32)
+    pub(crate) fn set_result(&mut self, register: Register, value: u32)
         ensures { self.new ≡ with_result self.old register value }
     {
         self.set_result_in(self.psr().mode, register, value);
@@ -86,7 +86,7 @@ impl Cpu {
     /// Sets the status from a word; in user mode N, Z, C and V alone.
     #[tactic(auto, unfolding(crate::specs::Effect::with_status))]
     #[inline(always)]
-    pub fn set_status(&mut self, word: u32)
+    pub(crate) fn set_status(&mut self, word: u32)
         ensures { self.new ≡ with_status self.old word }
     {
         let psr = self.psr().taking(Psr::of(word));
@@ -96,7 +96,7 @@ impl Cpu {
     /// Sets N and Z by a result, and C and V as they come with it.
     #[tactic(auto, unfolding(crate::specs::Effect::flagged))]
     #[inline(always)]
-    pub fn set_flags_of(&mut self, result_of: Sum)
+    pub(crate) fn set_flags_of(&mut self, result_of: Sum)
         ensures { self.new ≡ flagged self.old result_of }
     {
         self.set_flags(

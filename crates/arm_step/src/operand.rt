@@ -79,7 +79,7 @@ fn immediate(rotation: u32, byte: u8, carry: bool) -> Shifted
 
 /// How far ahead R15 is read: two words, or three where a register gives the amount of a shift.
 #[inline(always)]
-pub fn words_ahead(operand: &Operand) -> u32
+pub(crate) fn words_ahead(operand: &Operand) -> u32
     ensures value { result ≡ words_ahead operand.now }
     ensures most { result ≤ 3 }
 {
@@ -93,7 +93,7 @@ impl Cpu {
     /// A register shifted by a number.
     #[tactic(auto, unfolding(crate::specs::Operand::shifted_register))]
     #[inline(always)]
-    pub fn shifted_register(&self, shifted: ShiftedRegister) -> Shifted
+    pub(crate) fn shifted_register(&self, shifted: ShiftedRegister) -> Shifted
         ensures { result ≡ shifted_register self.now shifted }
     {
         let psr = self.psr();
@@ -104,7 +104,7 @@ impl Cpu {
     /// The second operand, with the carry of the shifter.
     #[tactic(auto, unfolding(crate::specs::Operand::operand_of))]
     #[inline(always)]
-    pub fn operand(&self, operand: &Operand) -> Shifted
+    pub(crate) fn operand(&self, operand: &Operand) -> Shifted
         ensures { result ≡ operand_of self.now operand.now }
     {
         match operand {

@@ -42,7 +42,7 @@ impl Cpu {
     /// Data processing: AND to MVN.
     #[tactic(auto, unfolding(crate::specs::Operate::operated))]
     #[inline(always)]
-    pub fn operate(&mut self, operate: Operate)
+    pub(crate) fn operate(&mut self, operate: Operate)
         ensures { self.new ≡ operated self.old operate }
     {
         let second = self.operand(&operate.operand);
@@ -114,7 +114,7 @@ impl Cpu {
     /// MUL and MLA.
     #[tactic(auto, unfolding(crate::specs::Operate::multiplied))]
     #[inline(always)]
-    pub fn multiply(&mut self, multiply: Multiply)
+    pub(crate) fn multiply(&mut self, multiply: Multiply)
         ensures { self.new ≡ multiplied self.old multiply }
     {
         let value = self.product(&multiply);
@@ -133,7 +133,7 @@ impl Cpu {
     /// B, and with `links` BL: the distance counts words.
     #[tactic(auto, unfolding(crate::specs::Operate::branched))]
     #[inline(always)]
-    pub fn branch(&mut self, links: bool, distance: u32)
+    pub(crate) fn branch(&mut self, links: bool, distance: u32)
         requires { distance < 2 ^ 24 }
         ensures { self.new ≡ branched self.old links distance }
     {

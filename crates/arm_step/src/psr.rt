@@ -20,7 +20,7 @@ pub enum Mode {
 impl Mode {
     /// The mode that the two lowest bits of a word name.
     #[inline(always)]
-    pub fn of(word: u32) -> Mode
+    pub(crate) fn of(word: u32) -> Mode
         ensures { result ≡ mode_of word }
     {
         match word & 3 {
@@ -33,7 +33,7 @@ impl Mode {
 
     /// The mode's number, from 0 to 3.
     #[inline(always)]
-    pub fn number(self) -> u32
+    pub(crate) fn number(self) -> u32
         ensures value { result ≡ mode_number self }
         ensures below { result < 4 }
     {
@@ -68,7 +68,7 @@ pub struct Psr {
 impl Psr {
     /// The status that a word holds in bits 31 to 26, 1 and 0.
     #[inline(always)]
-    pub fn of(word: u32) -> Psr
+    pub(crate) fn of(word: u32) -> Psr
         ensures { result ≡ psr_of word }
     {
         Psr {
@@ -99,7 +99,7 @@ impl Psr {
 
     /// This status after an instruction that sets `new`: user mode takes N, Z, C and V alone.
     #[inline(always)]
-    pub fn taking(self, new: Psr) -> Psr
+    pub(crate) fn taking(self, new: Psr) -> Psr
         ensures { result ≡ psr_taken self new }
     {
         match self.mode {
