@@ -1,58 +1,24 @@
--- A run of no steps, and answers one after the other.
+-- Why no step can be taken, and answers one after the other.
 use Rattle.std.proofs.Common.{◌≡◌, ℕ, ◌<◌, Bool, true, false, List, [], Option, Some, None, Result, Ok, Err, sym, ap, ◌∙◌, arith, refl, subst}
 use Rattle.std.proofs.lemmas.Bool.Decides.{nat_tests}
-use Rattle.std.specs.Prelude.{◌&&◌, OnOk}
+use Rattle.std.specs.Prelude.{OnOk}
 use Rattle.std.specs.Option.{option_map}
 use Rattle.std.specs.Io.KnownBytes.{Appends}
 use Rattle.profile.specs.declared.stop.Stop.{Stop}
-use Rattle.profile.specs.declared.stop.Stop.TheVariants as stop
 use Rattle.profile.proofs.OutputLemmas.{Appends-join}
-use Rattle.image_loader.specs.Entries.{Entry}
 use Rattle.swi_dispatch.specs.declared.halt.Halt.{Halt}
-use Rattle.swi_dispatch.specs.Situation.{Situation, stop_of}
-use Rattle.swi_dispatch.specs.Parts.{state_of}
-use Rattle.swi_dispatch.specs.Run.{Run, ran, begun, resting}
-use Rattle.command_shell.specs.declared.session.Session.{Session}
-use Rattle.command_shell.specs.Script.{World, Told, Tells, answered, then_told, stop_at_rest, hindrance_by, hindrance, call_ended, call_text, call_unless, call_told, stop_told}
-use Rattle.command_shell.specs.Sessions.{world_of}
+use Rattle.swi_dispatch.specs.Situation.{stop_of}
+use Rattle.swi_dispatch.specs.Step.{store_called}
+use Rattle.command_shell.specs.Script.{World, Told, Tells, answered, then_told, hindrance_by, hindrance, call_ended, call_text, call_done, call_unless, call_told, stop_told}
 
--- A run of no steps leaves the machine as it is, prints nothing, and ends in the halt or at the budget.
-pub rest_machine : (s : Situation) (o : Option Halt) → (begun s o (resting s stop.Budget)).now ≡ s
-rest_machine s (Some halt) = refl
-rest_machine s None = refl
+-- why no step can be taken, by what the machine answers
+pub hindered_by : (o : Option Halt) (left : ℕ) (end : Stop) → Some end ≡ option_map stop_of o → Some end ≡ hindrance_by o left
+hindered_by (Some halt) left end e = e
+hindered_by None left end e = cc
 
-pub rest_printed : (s : Situation) (o : Option Halt) → (begun s o (resting s stop.Budget)).printed ≡ []
-rest_printed s (Some halt) = refl
-rest_printed s None = refl
-
-pub rest_stop : (s : Situation) (o : Option Halt) → (begun s o (resting s stop.Budget)).stop ≡ stop_at_rest o
-rest_stop s (Some halt) = refl
-rest_stop s None = refl
-
-no_steps : (breaks : List ℕ) (s : Situation) → ran breaks 0 s ≡ begun s s.halt (resting s stop.Budget)
-unfolding ran
-no_steps breaks s = refl
-
-pub no_steps-machine : (breaks : List ℕ) (s : Situation) → (ran breaks 0 s).now ≡ s
-no_steps-machine breaks s = ap (λ (r : Run). r.now) (no_steps breaks s) ∙ rest_machine s s.halt
-
-pub no_steps-printed : (breaks : List ℕ) (s : Situation) → (ran breaks 0 s).printed ≡ []
-no_steps-printed breaks s = ap (λ (r : Run). r.printed) (no_steps breaks s) ∙ rest_printed s s.halt
-
-pub no_steps-stop : (breaks : List ℕ) (s : Situation) → (ran breaks 0 s).stop ≡ stop_at_rest s.halt
-no_steps-stop breaks s = ap (λ (r : Run). r.stop) (no_steps breaks s) ∙ rest_stop s s.halt
-
-stays_so : (b : Bool) → (b && true) ≡ b
-stays_so true = refl
-stays_so false = refl
-
--- a session whose parts stay stands for the same world
-pub same_world : (a b : Session) (images : List Entry) → state_of b.machine ≡ state_of a.machine → b.machine.is_fresh ≡ (a.machine.is_fresh && true)
-    → b.machine.sizes ≡ a.machine.sizes → b.left ≡ a.left → b.last ≡ a.last → world_of b images ≡ world_of a images
-unfolding world_of
-same_world a b images machine fresh sizes left last =
-    let same : b.machine.is_fresh ≡ a.machine.is_fresh = fresh ∙ stays_so a.machine.is_fresh in
-    cc
+pub unhindered_by : (o : Option Halt) (left : ℕ) → None ≡ option_map stop_of o → hindrance_by o left ≡ hindrance_by None left
+unhindered_by (Some halt) left e = cc
+unhindered_by None left e = refl
 
 pub can_step : (o : Option Halt) (left : ℕ) → hindrance_by o left ≡ None → 0 < left
 can_step (Some halt) left none = absurd (cc)
@@ -85,7 +51,10 @@ pub tells_text : {U E : Type 0} (r : Result U E) (b c : Option (List ℕ)) (w : 
 tells_text (Ok u) b c w text h = record { text = h; world = refl }
 tells_text (Err e) b c w text h = tt
 
-pub call_hindered : (w : World) (number : ℕ) (end : Stop) → hindrance w ≡ Some end
-    → call_told w number ≡ then_told (answered w []) (λ after. stop_told after end)
+pub call_hindered : (w : World) (number : ℕ) (end : Stop) → hindrance w ≡ Some end → call_told w number ≡ stop_told w end
 unfolding call_told
 call_hindered w number end e = ap (call_unless w number) e
+
+pub call_unhindered : (w : World) (number : ℕ) → hindrance w ≡ None → call_told w number ≡ call_done w (store_called w.images w.machine number)
+unfolding call_told
+call_unhindered w number e = ap (call_unless w number) e

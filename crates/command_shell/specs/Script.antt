@@ -96,7 +96,7 @@ run_done w r =
     (r.printed ++ stop_text r.stop r.now.cpu.pc)
 
 unfoldable pub run_told : World → Told
-run_told w = run_done w (machine.ran [] w.left w.machine)
+run_told w = run_done w (machine.ran w.images [] w.left w.machine)
 
 -- SET changes a register of the present mode.
 abbrev pub set_told : World → ℕ → ℕ → Told
@@ -109,11 +109,6 @@ poke_done w (Err fault) = answered w (refused_text (fault_name fault))
 
 unfoldable pub poke_told : World → ℕ → ℕ → Told
 poke_told w address value = poke_done w (poked w.machine address value)
-
--- the stop of a run of no steps
-abbrev pub stop_at_rest : Option Halt → Stop
-stop_at_rest (Some halt) = stop_of halt
-stop_at_rest None = stop.Budget
 
 -- Why no step can be taken, by what halts the machine and what is left of the budget.
 abbrev pub hindrance_by : Option Halt → ℕ → Option Stop
@@ -153,7 +148,7 @@ call_done w a = then_told (answered (call_made w a) a.printed) (λ after. call_e
 
 abbrev pub call_unless : World → ℕ → Option Stop → Told
 call_unless w number (Some stop) = stop_told w stop
-call_unless w number None = call_done w (store_called w.machine number)
+call_unless w number None = call_done w (store_called w.images w.machine number)
 
 -- CALL makes a store call, unless no step can be taken.
 unfoldable pub call_told : World → ℕ → Told
@@ -171,7 +166,7 @@ step_done w count r =
     (r.printed ++ stepped_text (nat_le count w.left) r.stop r.now.cpu.pc)
 
 unfoldable pub step_told : World → ℕ → Told
-step_told w count = step_done w count (machine.ran [] (min count w.left) w.machine)
+step_told w count = step_done w count (machine.ran w.images [] (min count w.left) w.machine)
 
 -- A request at the line of that number; of a HEX line, with the lines of its block.
 abbrev pub request_told : World → ℕ → Request → List (List ℕ) → Told

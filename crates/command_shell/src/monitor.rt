@@ -6,7 +6,6 @@ ghost use Rattle.std.specs.Io.KnownBytes.{Appends};
 ghost use Rattle.swi_dispatch.specs.declared.halt.Halt.{Halt};
 ghost use Rattle.swi_dispatch.specs.Situation.{stop_of};
 ghost use Rattle.swi_dispatch.specs.Run.{count_after};
-ghost use Rattle.command_shell.specs.Script.{stop_at_rest, hindrance_by};
 
 use crate::answers::{tell_error, tell_ok, tell_refused, tell_stepped, tell_stop};
 use crate::operands::{Register, WordAddress};
@@ -63,7 +62,7 @@ impl Session {
         ensures flag { OnErr result (W.has_failed sink.new ≡ true) }
         ensures same_flag { OnOk result (W.has_failed sink.new ≡ W.has_failed sink.old) }
     {
-        match self.hindrance(images, sink)? {
+        match self.hindrance() {
             Some(stop) => self.stopped(sink, stop),
             None => self.store_call(images, sink, number),
         }
@@ -90,20 +89,16 @@ impl Session {
         tell_stepped(sink, could_all, ran.stop, self.machine.cpu().pc())
     }
 
-    // Why no step can be taken. A run of no steps tells whether the machine is halted.
-    fn hindrance<W: Sink>(
-        &mut self,
-        images: &Images,
-        sink: &mut W,
-    ) -> Result<Option<Stop>, WriteFault>
-        ensures stop { IfOk result (λ stop. stop ≡ hindrance (world_of self.old images.now)) }
-        ensures world { IfOk result (λ _. world_of self.new images.now ≡ world_of self.old images.now) }
-        ensures text { OnOk result (Appends (W.contents sink.old) (W.contents sink.new) []) }
-        ensures flag { OnErr result (W.has_failed sink.new ≡ true) }
-        ensures same_flag { OnOk result (W.has_failed sink.new ≡ W.has_failed sink.old) }
+    // Why no step can be taken.
+    #[tactic(auto, unfolding(crate::specs::Sessions::world_of))]
+    fn hindrance(&self) -> Option<Stop>
+        ensures { (images : List Entry) → result ≡ hindrance (world_of self.now images) }
     {
-        let ran = self.machine.run(images, &Breaks::new(), sink, 0)?;
-        Ok(hindrance_of(ran.stop, self.left))
+        match self.machine.stop() {
+            Some(stop) => Some(stop),
+            None if self.left == 0 => Some(Stop::Budget),
+            None => None,
+        }
     }
 
     // Tells a stop, which is the last one then.
@@ -127,7 +122,8 @@ impl Session {
     ) -> Result<(), WriteFault>
         requires { 0 < self.old.left }
         ensures told { OnOk result (Tells (W.contents sink.old) (W.contents sink.new) (world_of self.new images.now)
-            (call_done (world_of self.old images.now) (store_called (world_of self.old images.now).machine number))) }
+            (call_done (world_of self.old images.now)
+            (store_called images.now (world_of self.old images.now).machine number))) }
         ensures flag { OnErr result (W.has_failed sink.new ≡ true) }
         ensures same_flag { OnOk result (W.has_failed sink.new ≡ W.has_failed sink.old) }
     {
@@ -149,8 +145,10 @@ impl Session {
         requires { 0 < self.old.left }
         ensures stop { IfOk result (λ halt. halt ≡ option_map stop_of (world_of self.new images.now).machine.halt) }
         ensures world { IfOk result (λ _. world_of self.new images.now
-            ≡ call_made (world_of self.old images.now) (store_called (world_of self.old images.now).machine number)) }
-        ensures text { OnOk result (Appends (W.contents sink.old) (W.contents sink.new) (store_called (world_of self.old images.now).machine number).printed) }
+            ≡ call_made (world_of self.old images.now)
+            (store_called images.now (world_of self.old images.now).machine number)) }
+        ensures text { OnOk result (Appends (W.contents sink.old) (W.contents sink.new)
+            (store_called images.now (world_of self.old images.now).machine number).printed) }
         ensures flag { OnErr result (W.has_failed sink.new ≡ true) }
         ensures same_flag { OnOk result (W.has_failed sink.new ≡ W.has_failed sink.old) }
     {
@@ -185,16 +183,6 @@ impl Session {
             return no_block;
         }
         self.machine.memory().load_word(at).unwrap_or(no_block)
-    }
-}
-
-// Why no step can be taken, where a run of no steps ends in this stop.
-fn hindrance_of(stop: Stop, left: u64) -> Option<Stop>
-    ensures { (halt : Option Halt) → stop ≡ stop_at_rest halt → result ≡ hindrance_by halt left }
-{
-    match stop {
-        Stop::Budget if left > 0 => None,
-        _ => Some(stop),
     }
 }
 

@@ -1,7 +1,9 @@
+pub mod Devices
 pub mod Digits
 pub mod ErrorNames
 pub mod FaultNames
 pub mod MemoryDevices
+pub mod MemoryMap
 pub mod Outcome
 pub mod Output
 pub mod Shift

@@ -1,38 +1,44 @@
 -- Devices over memory: what they hold, how many bytes a call may take or give, how many calls are left before they fail.
 use Rattle.std.specs.Prelude.{ℕ, Bool, true, false, List, ◌-◌, ◌==◌, ◌||◌, ◌++◌, not, min, length, take, drop, if◌then◌else◌}
 
-pub record Store : Type 0 where
+pub record SourceState : Type 0 where
   pub bytes : List ℕ
   pub most : ℕ
   pub calls : ℕ
   pub has_failed : Bool
 
-abbrev pub failed : Store → Store
+abbrev pub failed : SourceState → SourceState
 failed s = record s { has_failed = true }
 
 -- a source: its bytes are those that it will still give
-abbrev pub can_pull : Store → Bool
+abbrev pub can_pull : SourceState → Bool
 can_pull s = not (s.has_failed || (s.calls == 0))
 
-abbrev pub pull_count : Store → ℕ → ℕ
+abbrev pub pull_count : SourceState → ℕ → ℕ
 pull_count s room = min (min s.most (length s.bytes)) room
 
-abbrev pub pulled : Store → ℕ → Store
+abbrev pub pulled : SourceState → ℕ → SourceState
 pulled s room = if can_pull s then record s { bytes = drop (pull_count s room) s.bytes; calls = s.calls - 1 } else failed s
 
+-- the buffer after a call: its front holds what was given, and the rest of it stays
+abbrev pub filled : SourceState → List ℕ → List ℕ
+filled s buffer = if can_pull s
+    then take (pull_count s (length buffer)) s.bytes ++ drop (pull_count s (length buffer)) buffer
+    else buffer
+
 -- a sink: its bytes are those that it has taken, and its room is for so many
-pub record Room : Type 0 where
+pub record SinkState : Type 0 where
   pub taken : List ℕ
   pub room : ℕ
   pub most : ℕ
   pub calls : ℕ
   pub has_failed : Bool
 
-abbrev pub can_push : Room → Bool
+abbrev pub can_push : SinkState → Bool
 can_push s = not (s.has_failed || (s.calls == 0) || (length s.taken == s.room))
 
-abbrev pub push_count : Room → ℕ → ℕ
+abbrev pub push_count : SinkState → ℕ → ℕ
 push_count s n = min (min s.most (s.room - length s.taken)) n
 
-abbrev pub pushed : Room → List ℕ → Room
+abbrev pub pushed : SinkState → List ℕ → SinkState
 pushed s bytes = if can_push s then record s { taken = s.taken ++ take (push_count s (length bytes)) bytes; calls = s.calls - 1 } else record s { has_failed = true }

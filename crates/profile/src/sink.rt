@@ -1,10 +1,11 @@
 ghost use Rattle.std.specs.Prelude.{◌≡◌, ◌≤◌, ◌<◌, ◌-◌, ℕ, Bool, true, false, not, [], List, length, take, Option, Some, None, IfOk, OnOk, OnErr, is_err};
 ghost use Rattle.std.specs.List.{flat_map};
 ghost use Rattle.std.specs.Io.KnownBytes.{Appends, WriteAppends};
-ghost use Rattle.profile.specs.MemoryDevices.{Room, can_push, pushed, push_count};
+ghost use Rattle.profile.specs.Output.{AppendsPart};
+ghost use Rattle.profile.specs.MemoryDevices.{SinkState, can_push, pushed, push_count};
 
-use crate::device::Device;
-use std::io::{ErrorKind, Write};
+use crate::device::{Device, is_passing};
+use std::io::Write;
 use std::marker::Model;
 use thiserror::Error;
 
@@ -49,7 +50,7 @@ impl<T: Write> Sink for Device<T> {
                 Ok(0) => break,
                 Ok(count) => return Ok(count),
                 Err(error) => {
-                    if error.kind() != ErrorKind::Interrupted {
+                    if !is_passing(error.kind()) {
                         break;
                     }
                 }
@@ -72,7 +73,7 @@ pub struct MemorySink<'a> {
 }
 
 impl<'a> Model for MemorySink<'a> {
-    ghost Value = { Room };
+    ghost Value = { SinkState };
 
     ghost view = { λ s. record { taken = take s.used s.room.now; room = length s.room.now; most = s.most; calls = s.calls; has_failed = s.has_failed } };
 
@@ -132,10 +133,12 @@ impl<'a> Sink for MemorySink<'a> {
     }
 }
 
-/// Writes all the bytes, or answers the sink's fault; then some of them may have been written.
+/// Writes all the bytes, or answers the sink's fault; then some of them may have been written, and
+/// not all.
 #[tactic(auto, using(crate::proofs::OutputLemmas::output_steps))]
 pub fn push_all<W: Sink>(sink: &mut W, bytes: &[u8]) -> Result<(), WriteFault>
     ensures text { OnOk result (Appends (W.contents sink.old) (W.contents sink.new) bytes.now) }
+    ensures part { OnErr result (AppendsPart (W.contents sink.old) (W.contents sink.new) bytes.now) }
     ensures flag { OnErr result (W.has_failed sink.new ≡ true) }
     ensures same_flag { OnOk result (W.has_failed sink.new ≡ W.has_failed sink.old) }
 {
@@ -147,10 +150,11 @@ pub fn push_all<W: Sink>(sink: &mut W, bytes: &[u8]) -> Result<(), WriteFault>
     Ok(())
 }
 
-/// Writes the parts one after another.
+/// Writes the parts one after another, as `push_all` writes their text.
 #[tactic(auto, using(crate::proofs::OutputLemmas::output_steps))]
 pub fn push_parts<W: Sink>(sink: &mut W, parts: &[&[u8]]) -> Result<(), WriteFault>
     ensures text { OnOk result (Appends (W.contents sink.old) (W.contents sink.new) (flat_map (λ p. p.now) parts.now)) }
+    ensures part { OnErr result (AppendsPart (W.contents sink.old) (W.contents sink.new) (flat_map (λ p. p.now) parts.now)) }
     ensures flag { OnErr result (W.has_failed sink.new ≡ true) }
     ensures same_flag { OnOk result (W.has_failed sink.new ≡ W.has_failed sink.old) }
 {

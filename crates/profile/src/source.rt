@@ -1,9 +1,9 @@
 ghost use Rattle.std.specs.Prelude.{◌≡◌, ◌≤◌, ◌<◌, ◌-◌, ℕ, Bool, true, false, not, List, length, Option, Some, None, IfOk, is_err};
 ghost use Rattle.std.specs.Io.KnownBytes.{ReadConsumes};
-ghost use Rattle.profile.specs.MemoryDevices.{Store, can_pull, pulled, pull_count};
+ghost use Rattle.profile.specs.MemoryDevices.{SourceState, can_pull, pulled, pull_count, filled};
 
-use crate::device::Device;
-use std::io::{ErrorKind, Read};
+use crate::device::{Device, is_passing};
+use std::io::Read;
 use std::marker::Model;
 use thiserror::Error;
 
@@ -45,7 +45,7 @@ impl<T: Read> Source for Device<T> {
             match self.inner.read(buffer) {
                 Ok(count) => return Ok(count),
                 Err(error) => {
-                    if error.kind() != ErrorKind::Interrupted {
+                    if !is_passing(error.kind()) {
                         break;
                     }
                 }
@@ -67,7 +67,7 @@ pub struct MemorySource<'a> {
 }
 
 impl<'a> Model for MemorySource<'a> {
-    ghost Value = { Store };
+    ghost Value = { SourceState };
 
     ghost view = { λ s. record { bytes = s.bytes.now; most = s.most; calls = s.calls; has_failed = s.has_failed } };
 
@@ -105,6 +105,7 @@ impl<'a> Source for MemorySource<'a> {
         ensures fails { is_err result ≡ not (can_pull self.old) }
         ensures taken { IfOk result (λ n. n ≡ pull_count self.old (length buffer.old)) }
         ensures after { self.new ≡ pulled self.old (length buffer.old) }
+        ensures filled { buffer.new ≡ filled self.old buffer.old }
     {
         if self.has_failed || self.calls == 0 {
             self.has_failed = true;

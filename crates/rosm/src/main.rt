@@ -79,7 +79,7 @@ where
         settings.config,
         settings.budget,
     )?;
-    writer.inner.flush().map_err(|_| RunError::WriteFault)?;
+    writer.flush()?;
     Ok(summary.last)
 }
 

@@ -7,6 +7,7 @@ use Rattle.std.specs.Option.{option_map}
 use Rattle.std.specs.Io.KnownBytes.{Appends}
 use Rattle.profile.specs.declared.stop.Stop.{Stop}
 use Rattle.profile.specs.declared.stop.Stop.TheVariants as stop
+use Rattle.image_loader.specs.Entries.{Entry}
 use Rattle.swi_dispatch.specs.declared.halt.Halt.{Halt}
 use Rattle.swi_dispatch.specs.Situation.{Situation, After, stop_of}
 use Rattle.swi_dispatch.specs.Step.{machine_step}
@@ -15,16 +16,16 @@ use Rattle.swi_dispatch.specs.Ending.{Ends, StandsAfter}
 use Rattle.swi_dispatch.proofs.Runs.{halt-no_budget, runs_on}
 
 -- a halted machine takes no step
-pub ran-halted : (breaks : List ℕ) (n : ℕ) (s : Situation) (h : Halt) → s.halt ≡ Some h → ran breaks n s ≡ resting s (stop_of h)
+pub ran-halted : (images : List Entry) (breaks : List ℕ) (n : ℕ) (s : Situation) (h : Halt) → s.halt ≡ Some h → ran images breaks n s ≡ resting s (stop_of h)
 unfolding ran
-ran-halted breaks zero s h e = ap (λ (o : Option Halt). begun s o (resting s stop.Budget)) e
-ran-halted breaks (suc n) s h e =
-    ap (λ (o : Option Halt). begun s o (go_on breaks (machine_step s) (machine_step s).now.halt (ran breaks n))) e
+ran-halted images breaks zero s h e = ap (λ (o : Option Halt). begun s o (resting s stop.Budget)) e
+ran-halted images breaks (suc n) s h e =
+    ap (λ (o : Option Halt). begun s o (go_on breaks (machine_step images s) (machine_step images s).now.halt (ran images breaks n))) e
 
 -- the run of no step
-pub ran-none : (breaks : List ℕ) (s : Situation) → s.halt ≡ None → ran breaks zero s ≡ resting s stop.Budget
+pub ran-none : (images : List Entry) (breaks : List ℕ) (s : Situation) → s.halt ≡ None → ran images breaks zero s ≡ resting s stop.Budget
 unfolding ran
-ran-none breaks s e = ap (λ (o : Option Halt). begun s o (resting s stop.Budget)) e
+ran-none images breaks s e = ap (λ (o : Option Halt). begun s o (resting s stop.Budget)) e
 
 -- the run of one step, by what the step left
 abbrev pub one_step : List ℕ → After → Option Halt → Run
@@ -39,21 +40,21 @@ one_branch true now printed r e = refl
 one_branch false now printed r e = ap (joined printed 1) e
     ∙ ap (λ (xs : List ℕ). let q : Run = record { now = now; printed = xs; taken = 1; stop = stop.Budget } in q) (append-nil printed)
 
-one_go : (breaks : List ℕ) (a : After) (o : Option Halt) → a.now.halt ≡ o → go_on breaks a o (ran breaks zero) ≡ one_step breaks a o
-one_go breaks a (Some h) e = refl
-one_go breaks a None e = one_branch (is_among breaks a.now.cpu.pc) a.now a.printed (ran breaks zero a.now) (ran-none breaks a.now e)
+one_go : (images : List Entry) (breaks : List ℕ) (a : After) (o : Option Halt) → a.now.halt ≡ o → go_on breaks a o (ran images breaks zero) ≡ one_step breaks a o
+one_go images breaks a (Some h) e = refl
+one_go images breaks a None e = one_branch (is_among breaks a.now.cpu.pc) a.now a.printed (ran images breaks zero a.now) (ran-none images breaks a.now e)
 
-pub one_run : (breaks : List ℕ) (s : Situation) → s.halt ≡ None → ran breaks 1 s ≡ one_step breaks (machine_step s) (machine_step s).now.halt
+pub one_run : (images : List Entry) (breaks : List ℕ) (s : Situation) → s.halt ≡ None → ran images breaks 1 s ≡ one_step breaks (machine_step images s) (machine_step images s).now.halt
 unfolding ran
-one_run breaks s e =
-    ap (λ (o : Option Halt). begun s o (go_on breaks (machine_step s) (machine_step s).now.halt (ran breaks zero))) e
-    ∙ one_go breaks (machine_step s) (machine_step s).now.halt refl
+one_run images breaks s e =
+    ap (λ (o : Option Halt). begun s o (go_on breaks (machine_step images s) (machine_step images s).now.halt (ran images breaks zero))) e
+    ∙ one_go images breaks (machine_step images s) (machine_step images s).now.halt refl
 
 -- a run that ended for another reason than its budget goes no further
-start_stays : (breaks : List ℕ) (s : Situation) (o : Option Halt) (m : ℕ) → s.halt ≡ o
-    → (begun s o (resting s stop.Budget)).stop ≢ stop.Budget → ran breaks m s ≡ begun s o (resting s stop.Budget)
-start_stays breaks s (Some h) m e other = ran-halted breaks m s h e
-start_stays breaks s None m e other = absurd (other refl)
+start_stays : (images : List Entry) (breaks : List ℕ) (s : Situation) (o : Option Halt) (m : ℕ) → s.halt ≡ o
+    → (begun s o (resting s stop.Budget)).stop ≢ stop.Budget → ran images breaks m s ≡ begun s o (resting s stop.Budget)
+start_stays images breaks s (Some h) m e other = ran-halted images breaks m s h e
+start_stays images breaks s None m e other = absurd (other refl)
 
 branch_stays : (b : Bool) (now : Situation) (printed : List ℕ) (r r' : Run)
     → (r.stop ≢ stop.Budget → r' ≡ r)
@@ -72,40 +73,40 @@ step_stays breaks s None a (Some h) rest rest' stays other = refl
 step_stays breaks s None a None rest rest' stays other =
     branch_stays (is_among breaks a.now.cpu.pc) a.now a.printed (rest a.now) (rest' a.now) (stays a.now) other
 
-pub no_further : (breaks : List ℕ) (n m : ℕ) (s : Situation) → (ran breaks n s).stop ≢ stop.Budget → ran breaks (n + m) s ≡ ran breaks n s
+pub no_further : (images : List Entry) (breaks : List ℕ) (n m : ℕ) (s : Situation) → (ran images breaks n s).stop ≢ stop.Budget → ran images breaks (n + m) s ≡ ran images breaks n s
 unfolding ran
-no_further breaks zero m s other = let k : 0 + m ≡ m = omega arith in
-    ap (λ (x : ℕ). ran breaks x s) k ∙ start_stays breaks s s.halt m refl other
-no_further breaks (suc n) m s other = let k : suc n + m ≡ suc (n + m) = omega arith in
-    ap (λ (x : ℕ). ran breaks x s) k
-    ∙ step_stays breaks s s.halt (machine_step s) (machine_step s).now.halt (ran breaks n) (ran breaks (n + m)) (λ x h. no_further breaks n m x h) other
+no_further images breaks zero m s other = let k : 0 + m ≡ m = omega arith in
+    ap (λ (x : ℕ). ran images breaks x s) k ∙ start_stays images breaks s s.halt m refl other
+no_further images breaks (suc n) m s other = let k : suc n + m ≡ suc (n + m) = omega arith in
+    ap (λ (x : ℕ). ran images breaks x s) k
+    ∙ step_stays breaks s s.halt (machine_step images s) (machine_step images s).now.halt (ran images breaks n) (ran images breaks (n + m)) (λ x h. no_further images breaks n m x h) other
 
-pub no_further_in : (breaks : List ℕ) (n budget : ℕ) (s : Situation) → n ≤ budget → (ran breaks n s).stop ≢ stop.Budget → ran breaks budget s ≡ ran breaks n s
-no_further_in breaks n budget s le other =
+pub no_further_in : (images : List Entry) (breaks : List ℕ) (n budget : ℕ) (s : Situation) → n ≤ budget → (ran images breaks n s).stop ≢ stop.Budget → ran images breaks budget s ≡ ran images breaks n s
+no_further_in images breaks n budget s le other =
     let k : n + (budget - n) ≡ budget = omega arith in
-    ap (λ (x : ℕ). ran breaks x s) (sym k) ∙ no_further breaks n (budget - n) s other
+    ap (λ (x : ℕ). ran images breaks x s) (sym k) ∙ no_further images breaks n (budget - n) s other
 
 -- so many steps and then one
-pub one_more : (breaks : List ℕ) (s0 s : Situation) (n : ℕ) → (ran breaks n s0).stop ≡ stop.Budget → s ≡ (ran breaks n s0).now
-    → ran breaks (n + 1) s0 ≡ then_run (ran breaks n s0) (ran breaks 1 s)
-one_more breaks s0 s n budget now =
-    runs_on breaks n 1 s0 budget ∙ ap (λ (x : Situation). then_run (ran breaks n s0) (ran breaks 1 x)) (sym now)
+pub one_more : (images : List Entry) (breaks : List ℕ) (s0 s : Situation) (n : ℕ) → (ran images breaks n s0).stop ≡ stop.Budget → s ≡ (ran images breaks n s0).now
+    → ran images breaks (n + 1) s0 ≡ then_run (ran images breaks n s0) (ran images breaks 1 s)
+one_more images breaks s0 s n budget now =
+    runs_on images breaks n 1 s0 budget ∙ ap (λ (x : Situation). then_run (ran images breaks n s0) (ran images breaks 1 x)) (sym now)
 
-pub ends_more : (breaks : List ℕ) (s0 s s' : Situation) (n : ℕ) (c0 c1 c2 : Option (List ℕ)) (k : ℕ) (x : Stop)
-    → Ends (ran breaks n s0) s c0 c1 n stop.Budget → Ends (ran breaks 1 s) s' c1 c2 k x → Ends (ran breaks (n + 1) s0) s' c0 c2 (n + k) x
-ends_more breaks s0 s s' n c0 c1 c2 k x done one =
-    let e : ran breaks (n + 1) s0 ≡ then_run (ran breaks n s0) (ran breaks 1 s) = one_more breaks s0 s n (sym done.stop) done.machine in
-    let t : (ran breaks n s0).printed ++ (ran breaks 1 s).printed ≡ (ran breaks (n + 1) s0).printed = ap (λ (r : Run). r.printed) (sym e) in
+pub ends_more : (images : List Entry) (breaks : List ℕ) (s0 s s' : Situation) (n : ℕ) (c0 c1 c2 : Option (List ℕ)) (k : ℕ) (x : Stop)
+    → Ends (ran images breaks n s0) s c0 c1 n stop.Budget → Ends (ran images breaks 1 s) s' c1 c2 k x → Ends (ran images breaks (n + 1) s0) s' c0 c2 (n + k) x
+ends_more images breaks s0 s s' n c0 c1 c2 k x done one =
+    let e : ran images breaks (n + 1) s0 ≡ then_run (ran images breaks n s0) (ran images breaks 1 s) = one_more images breaks s0 s n (sym done.stop) done.machine in
+    let t : (ran images breaks n s0).printed ++ (ran images breaks 1 s).printed ≡ (ran images breaks (n + 1) s0).printed = ap (λ (r : Run). r.printed) (sym e) in
     record {
       machine = one.machine ∙ ap (λ (r : Run). r.now) (sym e);
-      text = subst (Appends c0 c2) t (Appends-join c0 c1 c2 (ran breaks n s0).printed (ran breaks 1 s).printed done.text one.text);
-      count = (let a : n + k ≡ (ran breaks n s0).taken + (ran breaks 1 s).taken = (let p : n ≡ (ran breaks n s0).taken = done.count in let q : k ≡ (ran breaks 1 s).taken = one.count in cc) in a ∙ ap (λ (r : Run). r.taken) (sym e));
+      text = subst (Appends c0 c2) t (Appends-join c0 c1 c2 (ran images breaks n s0).printed (ran images breaks 1 s).printed done.text one.text);
+      count = (let a : n + k ≡ (ran images breaks n s0).taken + (ran images breaks 1 s).taken = (let p : n ≡ (ran images breaks n s0).taken = done.count in let q : k ≡ (ran images breaks 1 s).taken = one.count in cc) in a ∙ ap (λ (r : Run). r.taken) (sym e));
       stop = one.stop ∙ ap (λ (r : Run). r.stop) (sym e);
     }
 
-pub ends_start : (breaks : List ℕ) (s : Situation) (c : Option (List ℕ)) → s.halt ≡ None → Appends c c [] → Ends (ran breaks zero s) s c c 0 stop.Budget
-ends_start breaks s c e nothing =
-    let r : ran breaks zero s ≡ resting s stop.Budget = ran-none breaks s e in
+pub ends_start : (images : List Entry) (breaks : List ℕ) (s : Situation) (c : Option (List ℕ)) → s.halt ≡ None → Appends c c [] → Ends (ran images breaks zero s) s c c 0 stop.Budget
+ends_start images breaks s c e nothing =
+    let r : ran images breaks zero s ≡ resting s stop.Budget = ran-none images breaks s e in
     record {
       machine = ap (λ (r : Run). r.now) (sym r);
       text = subst (Appends c c) (ap (λ (r : Run). r.printed) (sym r)) nothing;
@@ -113,10 +114,10 @@ ends_start breaks s c e nothing =
       stop = ap (λ (r : Run). r.stop) (sym r);
     }
 
-pub ends_halted : (breaks : List ℕ) (budget : ℕ) (s : Situation) (h : Halt) (x : Stop) (c : Option (List ℕ))
-    → s.halt ≡ Some h → x ≡ stop_of h → Appends c c [] → Ends (ran breaks budget s) s c c 0 x
-ends_halted breaks budget s h x c e end nothing =
-    let r : ran breaks budget s ≡ resting s (stop_of h) = ran-halted breaks budget s h e in
+pub ends_halted : (images : List Entry) (breaks : List ℕ) (budget : ℕ) (s : Situation) (h : Halt) (x : Stop) (c : Option (List ℕ))
+    → s.halt ≡ Some h → x ≡ stop_of h → Appends c c [] → Ends (ran images breaks budget s) s c c 0 x
+ends_halted images breaks budget s h x c e end nothing =
+    let r : ran images breaks budget s ≡ resting s (stop_of h) = ran-halted images breaks budget s h e in
     record {
       machine = ap (λ (r : Run). r.now) (sym r);
       text = subst (Appends c c) (ap (λ (r : Run). r.printed) (sym r)) nothing;
@@ -124,27 +125,27 @@ ends_halted breaks budget s h x c e end nothing =
       stop = end ∙ ap (λ (r : Run). r.stop) (sym r);
     }
 
-pub ends_early : (breaks : List ℕ) (n budget : ℕ) (s0 s : Situation) (c0 c1 : Option (List ℕ)) (k : ℕ) (x : Stop)
-    → n ≤ budget → x ≢ stop.Budget → Ends (ran breaks n s0) s c0 c1 k x → Ends (ran breaks budget s0) s c0 c1 k x
-ends_early breaks n budget s0 s c0 c1 k x le other ends =
-    let e : ran breaks budget s0 ≡ ran breaks n s0 = no_further_in breaks n budget s0 le (λ b. other (ends.stop ∙ b)) in
+pub ends_early : (images : List Entry) (breaks : List ℕ) (n budget : ℕ) (s0 s : Situation) (c0 c1 : Option (List ℕ)) (k : ℕ) (x : Stop)
+    → n ≤ budget → x ≢ stop.Budget → Ends (ran images breaks n s0) s c0 c1 k x → Ends (ran images breaks budget s0) s c0 c1 k x
+ends_early images breaks n budget s0 s c0 c1 k x le other ends =
+    let e : ran images breaks budget s0 ≡ ran images breaks n s0 = no_further_in images breaks n budget s0 le (λ b. other (ends.stop ∙ b)) in
     subst (λ (r : Run). Ends r s c0 c1 k x) (sym e) ends
 
-pub stands_more : (breaks : List ℕ) (s0 s s' : Situation) (n budget : ℕ) (c0 c1 : Option (List ℕ)) → n < budget
-    → Ends (ran breaks n s0) s c0 c1 n stop.Budget → s' ≡ (ran breaks 1 s).now → StandsAfter breaks budget s0 s'
-stands_more breaks s0 s s' n budget c0 c1 lt done one = record {
+pub stands_more : (images : List Entry) (breaks : List ℕ) (s0 s s' : Situation) (n budget : ℕ) (c0 c1 : Option (List ℕ)) → n < budget
+    → Ends (ran images breaks n s0) s c0 c1 n stop.Budget → s' ≡ (ran images breaks 1 s).now → StandsAfter images breaks budget s0 s'
+stands_more images breaks s0 s s' n budget c0 c1 lt done one = record {
   taken = n;
   within = lt;
   before = sym done.stop;
-  machine = one ∙ ap (λ (r : Run). r.now) (sym (one_more breaks s0 s n (sym done.stop) done.machine));
+  machine = one ∙ ap (λ (r : Run). r.now) (sym (one_more images breaks s0 s n (sym done.stop) done.machine));
 }
 
 -- one step of a machine that isn't halted, and what it printed written
-pub ends_one : (breaks : List ℕ) (s : Situation) (a : After) (c0 c1 : Option (List ℕ)) (k : ℕ) (x : Stop)
-    → s.halt ≡ None → a ≡ machine_step s → Appends c0 c1 a.printed
-    → k ≡ count_after a.now.halt → x ≡ stop_after breaks a.now a.now.halt → Ends (ran breaks 1 s) a.now c0 c1 k x
-ends_one breaks s a c0 c1 k x awake after text count end =
-    let e : ran breaks 1 s ≡ one_step breaks a a.now.halt = one_run breaks s awake ∙ ap (λ (b : After). one_step breaks b b.now.halt) (sym after) in
+pub ends_one : (images : List Entry) (breaks : List ℕ) (s : Situation) (a : After) (c0 c1 : Option (List ℕ)) (k : ℕ) (x : Stop)
+    → s.halt ≡ None → a ≡ machine_step images s → Appends c0 c1 a.printed
+    → k ≡ count_after a.now.halt → x ≡ stop_after breaks a.now a.now.halt → Ends (ran images breaks 1 s) a.now c0 c1 k x
+ends_one images breaks s a c0 c1 k x awake after text count end =
+    let e : ran images breaks 1 s ≡ one_step breaks a a.now.halt = one_run images breaks s awake ∙ ap (λ (b : After). one_step breaks b b.now.halt) (sym after) in
     record {
       machine = ap (λ (r : Run). r.now) (sym e);
       text = subst (Appends c0 c1) (ap (λ (r : Run). r.printed) (sym e)) text;
@@ -152,19 +153,19 @@ ends_one breaks s a c0 c1 k x awake after text count end =
       stop = end ∙ ap (λ (r : Run). r.stop) (sym e);
     }
 
-pub stands_one : (breaks : List ℕ) (s : Situation) (a : After) → s.halt ≡ None → a ≡ machine_step s → a.now ≡ (ran breaks 1 s).now
-stands_one breaks s a awake after =
-    ap (λ (b : After). b.now) after ∙ ap (λ (r : Run). r.now) (sym (one_run breaks s awake))
+pub stands_one : (images : List Entry) (breaks : List ℕ) (s : Situation) (a : After) → s.halt ≡ None → a ≡ machine_step images s → a.now ≡ (ran images breaks 1 s).now
+stands_one images breaks s a awake after =
+    ap (λ (b : After). b.now) after ∙ ap (λ (r : Run). r.now) (sym (one_run images breaks s awake))
 
 -- a run of one step that ends with its budget leaves the machine awake
 pub awake_one : (breaks : List ℕ) (s : Situation) (o : Option Halt) → stop_after breaks s o ≡ stop.Budget → o ≡ None
 awake_one breaks s (Some h) e = absurd (halt-no_budget h e)
 awake_one breaks s None e = refl
 
-pub ends_stopped : (breaks : List ℕ) (budget : ℕ) (s : Situation) (o : Option Halt) (x : Stop) (c : Option (List ℕ))
-    → s.halt ≡ o → Some x ≡ option_map stop_of o → Appends c c [] → Ends (ran breaks budget s) s c c 0 x
-ends_stopped breaks budget s (Some h) x c e stopped nothing = let k : x ≡ stop_of h = cc in ends_halted breaks budget s h x c e k nothing
-ends_stopped breaks budget s None x c e stopped nothing = cc
+pub ends_stopped : (images : List Entry) (breaks : List ℕ) (budget : ℕ) (s : Situation) (o : Option Halt) (x : Stop) (c : Option (List ℕ))
+    → s.halt ≡ o → Some x ≡ option_map stop_of o → Appends c c [] → Ends (ran images breaks budget s) s c c 0 x
+ends_stopped images breaks budget s (Some h) x c e stopped nothing = let k : x ≡ stop_of h = cc in ends_halted images breaks budget s h x c e k nothing
+ends_stopped images breaks budget s None x c e stopped nothing = cc
 
 pub halt-none : (o : Option Halt) (r : Option Stop) → r ≡ option_map stop_of o → r ≡ None → o ≡ None
 halt-none (Some h) r e none = cc
@@ -175,20 +176,20 @@ one_count breaks s (Some h) e = absurd (halt-no_budget h e)
 one_count breaks s None e = refl
 
 -- a step that ends with the budget counts
-pub one_taken : (breaks : List ℕ) (s s' : Situation) (c0 c1 : Option (List ℕ)) (k : ℕ) (x : Stop) → s.halt ≡ None
-    → Ends (ran breaks 1 s) s' c0 c1 k x → x ≡ stop.Budget → k ≡ 1
-one_taken breaks s s' c0 c1 k x awake ends budget =
-    let e : ran breaks 1 s ≡ one_step breaks (machine_step s) (machine_step s).now.halt = one_run breaks s awake in
-    let b : stop_after breaks (machine_step s).now (machine_step s).now.halt ≡ stop.Budget = ap (λ (r : Run). r.stop) (sym e) ∙ sym ends.stop ∙ budget in
-    ends.count ∙ ap (λ (r : Run). r.taken) e ∙ one_count breaks (machine_step s).now (machine_step s).now.halt b
+pub one_taken : (images : List Entry) (breaks : List ℕ) (s s' : Situation) (c0 c1 : Option (List ℕ)) (k : ℕ) (x : Stop) → s.halt ≡ None
+    → Ends (ran images breaks 1 s) s' c0 c1 k x → x ≡ stop.Budget → k ≡ 1
+one_taken images breaks s s' c0 c1 k x awake ends budget =
+    let e : ran images breaks 1 s ≡ one_step breaks (machine_step images s) (machine_step images s).now.halt = one_run images breaks s awake in
+    let b : stop_after breaks (machine_step images s).now (machine_step images s).now.halt ≡ stop.Budget = ap (λ (r : Run). r.stop) (sym e) ∙ sym ends.stop ∙ budget in
+    ends.count ∙ ap (λ (r : Run). r.taken) e ∙ one_count breaks (machine_step images s).now (machine_step images s).now.halt b
 
 -- one step more, of which the run goes on
-pub ends_on : (breaks : List ℕ) (s0 s s' : Situation) (n : ℕ) (c0 c1 c2 : Option (List ℕ)) (k : ℕ) (x : Stop) → s.halt ≡ None
-    → Ends (ran breaks n s0) s c0 c1 n stop.Budget → Ends (ran breaks 1 s) s' c1 c2 k x → x ≡ stop.Budget
-    → Ends (ran breaks (n + 1) s0) s' c0 c2 (n + 1) stop.Budget
-ends_on breaks s0 s s' n c0 c1 c2 k x awake done one budget =
-    let all : Ends (ran breaks (n + 1) s0) s' c0 c2 (n + k) x = ends_more breaks s0 s s' n c0 c1 c2 k x done one in
-    let count : k ≡ 1 = one_taken breaks s s' c1 c2 k x awake one budget in
+pub ends_on : (images : List Entry) (breaks : List ℕ) (s0 s s' : Situation) (n : ℕ) (c0 c1 c2 : Option (List ℕ)) (k : ℕ) (x : Stop) → s.halt ≡ None
+    → Ends (ran images breaks n s0) s c0 c1 n stop.Budget → Ends (ran images breaks 1 s) s' c1 c2 k x → x ≡ stop.Budget
+    → Ends (ran images breaks (n + 1) s0) s' c0 c2 (n + 1) stop.Budget
+ends_on images breaks s0 s s' n c0 c1 c2 k x awake done one budget =
+    let all : Ends (ran images breaks (n + 1) s0) s' c0 c2 (n + k) x = ends_more images breaks s0 s s' n c0 c1 c2 k x done one in
+    let count : k ≡ 1 = one_taken images breaks s s' c1 c2 k x awake one budget in
     record {
       machine = all.machine;
       text = all.text;

@@ -2,6 +2,7 @@
 use Rattle.std.proofs.Common.{◌≡◌, ℕ, Bool, true, false, zero, suc, ◌+◌, Option, Some, None, List, ◌++◌, sym, ◌∙◌, ap, arith, append_assoc, if◌then◌else◌}
 use Rattle.profile.specs.declared.stop.Stop.{Stop}
 use Rattle.profile.specs.declared.stop.Stop.TheVariants as stop
+use Rattle.image_loader.specs.Entries.{Entry}
 use Rattle.swi_dispatch.specs.declared.halt.Halt.{Halt}
 use Rattle.swi_dispatch.specs.declared.halt.Halt.TheVariants as halt
 use Rattle.swi_dispatch.specs.Situation.{Situation, After, stop_of}
@@ -46,10 +47,10 @@ pub start_adds : (s : Situation) (o : Option Halt) (more : Situation → Run)
 start_adds s (Some h) more e = absurd (halt-no_budget h e)
 start_adds s None more e = sym (then_run-resting s stop.Budget (more s))
 
-pub runs_on : (breaks : List ℕ) (n m : ℕ) (s : Situation) → RunsOn breaks s n m
+pub runs_on : (images : List Entry) (breaks : List ℕ) (n m : ℕ) (s : Situation) → RunsOn images breaks s n m
 unfolding ran
-runs_on breaks zero m s e = let k : 0 + m ≡ m = omega arith in ap (λ (x : ℕ). ran breaks x s) k ∙ start_adds s s.halt (ran breaks m) e
-runs_on breaks (suc n) m s e =
+runs_on images breaks zero m s e = let k : 0 + m ≡ m = omega arith in ap (λ (x : ℕ). ran images breaks x s) k ∙ start_adds s s.halt (ran images breaks m) e
+runs_on images breaks (suc n) m s e =
     let k : suc n + m ≡ suc (n + m) = omega arith in
-    ap (λ (x : ℕ). ran breaks x s) k
-    ∙ step_adds breaks s s.halt (machine_step s) (machine_step s).now.halt (ran breaks n) (ran breaks (n + m)) (ran breaks m) (λ x h. runs_on breaks n m x h) e
+    ap (λ (x : ℕ). ran images breaks x s) k
+    ∙ step_adds breaks s s.halt (machine_step images s) (machine_step images s).now.halt (ran images breaks n) (ran images breaks (n + m)) (ran images breaks m) (λ x h. runs_on images breaks n m x h) e

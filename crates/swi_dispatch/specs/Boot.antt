@@ -12,7 +12,7 @@ use Rattle.os_heap.specs.Store.{owned_in}
 use Rattle.swi_dispatch.specs.Situation.{Situation, with_memory}
 
 abbrev pub with_program : Situation → List ℕ → Situation
-with_program s program = record { cpu = s.cpu; store = with_memory s.store (with_bytes s.store.bytes 0x8000 program); halt = s.halt }
+with_program s program = record s { store = with_memory s.store (with_bytes s.store.bytes 0x8000 program) }
 
 abbrev pub fits_application : Sizes → List ℕ → Bool
 fits_application sizes program = nat_le (length program) (4096 * sizes.app)
@@ -23,8 +23,8 @@ booted sizes true s program = if fits_application sizes program then Ok (with_pr
 
 -- what a user does to a machine from outside: one register set, or one word stored as a guest's store instruction would
 unfoldable pub registered : Situation → ℕ → ℕ → Situation
-registered s n v = record { cpu = with_register s.cpu n v; store = s.store; halt = s.halt }
+registered s n v = record s { cpu = with_register s.cpu n v }
 
 unfoldable pub poked : Situation → ℕ → ℕ → Result Situation Fault
 poked s at word = bind (word_stored (owned_in s.store) s.store.bytes at word)
-    (λ b. Ok (record { cpu = s.cpu; store = with_memory s.store b; halt = s.halt }))
+    (λ b. Ok (record s { store = with_memory s.store b }))

@@ -24,13 +24,13 @@ abbrev pub system_error : {A : Type 0} → ErrorNumber → Result A Refusal
 system_error e = Err (refusal.System e)
 
 abbrev pub with_answer : Situation → ℕ → ℕ → Situation
-with_answer s n v = record { cpu = with_register s.cpu n v; store = s.store; halt = s.halt }
+with_answer s n v = record s { cpu = with_register s.cpu n v }
 
 abbrev pub with_store : Situation → Store → Situation
-with_store s t = record { cpu = s.cpu; store = t; halt = s.halt }
+with_store s t = record s { store = t }
 
 abbrev pub in_supervisor : Situation → Situation
-in_supervisor s = record { cpu = with_mode s.cpu Supervisor; store = s.store; halt = s.halt }
+in_supervisor s = record s { cpu = with_mode s.cpu Supervisor }
 
 -- OS_WriteS prints the text after its own instruction, and the guest goes on at the next word after it.
 abbrev pub wrote_text_after : Situation → ℕ → Option (List ℕ) → Result (After × ℕ) Refusal

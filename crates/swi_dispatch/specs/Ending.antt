@@ -3,6 +3,7 @@ use Rattle.std.specs.Prelude.{◌≡◌, ◌<◌, ◌+◌, ℕ, List, Option}
 use Rattle.std.specs.Io.KnownBytes.{Appends}
 use Rattle.profile.specs.declared.stop.Stop.{Stop}
 use Rattle.profile.specs.declared.stop.Stop.TheVariants as stop
+use Rattle.image_loader.specs.Entries.{Entry}
 use Rattle.swi_dispatch.specs.Situation.{Situation}
 use Rattle.swi_dispatch.specs.Run.{Run, ran}
 
@@ -14,8 +15,8 @@ pub record Ends (r : Run) (now : Situation) (before after : Option (List ℕ)) (
   pub stop : end ≡ r.stop
 
 -- the machine stands after one of the steps of the budget, the one that follows on so many
-pub record StandsAfter (breaks : List ℕ) (budget : ℕ) (start now : Situation) : Type 0 where
+pub record StandsAfter (images : List Entry) (breaks : List ℕ) (budget : ℕ) (start now : Situation) : Type 0 where
   pub taken : ℕ
   pub within : taken < budget
-  pub before : (ran breaks taken start).stop ≡ stop.Budget
-  pub machine : now ≡ (ran breaks (taken + 1) start).now
+  pub before : (ran images breaks taken start).stop ≡ stop.Budget
+  pub machine : now ≡ (ran images breaks (taken + 1) start).now

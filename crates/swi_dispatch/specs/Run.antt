@@ -4,6 +4,7 @@ use Rattle.std.specs.Prelude.{◌≡◌, ℕ, Bool, zero, suc, ◌+◌, ◌==◌
 use Rattle.std.specs.List.{list_any}
 use Rattle.profile.specs.declared.stop.Stop.{Stop}
 use Rattle.profile.specs.declared.stop.Stop.TheVariants as stop
+use Rattle.image_loader.specs.Entries.{Entry}
 use Rattle.swi_dispatch.specs.declared.halt.Halt.{Halt}
 use Rattle.swi_dispatch.specs.declared.halt.Halt.TheVariants as halt
 use Rattle.swi_dispatch.specs.Situation.{Situation, After, stop_of}
@@ -25,7 +26,7 @@ counted (halt.Fault f) = 0
 
 -- a run after one step more before it
 abbrev pub joined : List ℕ → ℕ → Run → Run
-joined printed taken r = record { now = r.now; printed = printed ++ r.printed; taken = taken + r.taken; stop = r.stop }
+joined printed taken r = record r { printed = printed ++ r.printed; taken = taken + r.taken }
 
 unfoldable pub is_among : List ℕ → ℕ → Bool
 is_among breaks a = list_any (λ b. b == a) breaks
@@ -40,17 +41,19 @@ abbrev pub begun : Situation → Option Halt → Run → Run
 begun s (Some h) r = resting s (stop_of h)
 begun s None r = r
 
-unfoldable pub ran : List ℕ → ℕ → Situation → Run
-ran breaks zero s = begun s s.halt (resting s stop.Budget)
-ran breaks (suc n) s = begun s s.halt (go_on breaks (machine_step s) (machine_step s).now.halt (ran breaks n))
+unfoldable pub ran : List Entry → List ℕ → ℕ → Situation → Run
+ran images breaks zero s = begun s s.halt (resting s stop.Budget)
+ran images breaks (suc n) s =
+    begun s s.halt (go_on breaks (machine_step images s) (machine_step images s).now.halt (ran images breaks n))
 
 -- one run and then another from where it stopped
 abbrev pub then_run : Run → Run → Run
-then_run first second = record { now = second.now; printed = first.printed ++ second.printed; taken = first.taken + second.taken; stop = second.stop }
+then_run first second = joined first.printed first.taken second
 
 -- Runs add up: where n steps end with the budget used up, n steps and then m are n + m.
-abbrev pub RunsOn : List ℕ → Situation → ℕ → ℕ → Type 0
-RunsOn breaks s n m = (ran breaks n s).stop ≡ stop.Budget → ran breaks (n + m) s ≡ then_run (ran breaks n s) (ran breaks m (ran breaks n s).now)
+abbrev pub RunsOn : List Entry → List ℕ → Situation → ℕ → ℕ → Type 0
+RunsOn images breaks s n m = (let first = ran images breaks n s in
+    first.stop ≡ stop.Budget → ran images breaks (n + m) s ≡ then_run first (ran images breaks m first.now))
 
 -- why a run of one step ended, and how it counts, by what the step left
 abbrev pub stop_after : List ℕ → Situation → Option Halt → Stop

@@ -32,7 +32,7 @@ stop_of (halt.Fault f) = stop.Fault f
 
 -- memory written to, and no list changed
 abbrev pub with_memory : Store → Bytes → Store
-with_memory s b = record { bytes = b; heaps = s.heaps; others = s.others }
+with_memory s b = record s { bytes = b }
 
 -- The start. Mapped are the application space, the first pages of the module area and the three system pages; each mapped byte is 0 but
 -- for the module area's descriptor, that of an empty heap: its name, no free block, its base and its end.

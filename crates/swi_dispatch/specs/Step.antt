@@ -15,6 +15,7 @@ use Rattle.arm_step.specs.Psr.{psr_bits}
 use Rattle.arm_step.specs.State.{State, with_register, with_register_in, with_overflow, with_pc}
 use Rattle.arm_step.specs.Step.{stepped}
 use Rattle.os_heap.specs.Store.{owned_in}
+use Rattle.image_loader.specs.Entries.{Entry}
 use Rattle.swi_dispatch.specs.declared.halt.Halt.{Halt}
 use Rattle.swi_dispatch.specs.declared.halt.Halt.TheVariants as halt
 use Rattle.swi_dispatch.specs.declared.refusal.Refusal.{Refusal}
@@ -23,11 +24,11 @@ use Rattle.swi_dispatch.specs.Situation.{Situation, After, quiet, with_memory}
 use Rattle.swi_dispatch.specs.Calls.{call_done}
 
 abbrev pub halted : Situation → Halt → After
-halted s h = quiet (record { cpu = s.cpu; store = s.store; halt = Some h })
+halted s h = quiet (record s { halt = Some h })
 
 -- An instruction changes memory, and no list.
 abbrev pub moved_on : Situation → State × Bytes → After
-moved_on s w = quiet (record { cpu = w.0; store = with_memory s.store w.1; halt = s.halt })
+moved_on s w = quiet (record s { cpu = w.0; store = with_memory s.store w.1 })
 
 -- The number of a store call without its X bit, which is bit 17 (RISC OS 3 Programmer's Reference Manual, "An introduction to SWIs").
 abbrev pub without_x : ℕ → ℕ
@@ -43,10 +44,10 @@ returned caller cpu overflow next =
     with_pc (with_register_in Supervisor (with_overflow cpu overflow) 14 (return_word caller next)) next
 
 abbrev pub gone_back : Psr → Situation → Bool → ℕ → Situation
-gone_back caller s overflow next = record { cpu = returned caller s.cpu overflow next; store = s.store; halt = s.halt }
+gone_back caller s overflow next = record s { cpu = returned caller s.cpu overflow next }
 
 abbrev pub succeeded : Situation → After × ℕ → After
-succeeded s d = record { now = gone_back s.cpu.psr d.0.now false d.1; printed = d.0.printed }
+succeeded s d = record d.0 { now = gone_back s.cpu.psr d.0.now false d.1 }
 
 -- An error that is answered to the guest: R0 points to the error block. One of the system writes its number and its text, a zero byte after it, to
 -- the block at &01C02100; the guest's own stands where R0 points already.
@@ -54,10 +55,9 @@ abbrev pub error_block : Bytes → ℕ → List ℕ → Bytes
 error_block b number text = with_bytes (with_word b 0x01C02100 number) 0x01C02104 (text ++ 0 ∷ [])
 
 abbrev pub with_error : Situation → Refusal → Situation
-with_error s (refusal.System e) = record {
+with_error s (refusal.System e) = record s {
   cpu = with_register s.cpu 0 0x01C02100;
   store = with_memory s.store (error_block s.store.bytes (error_code e) (error_name e));
-  halt = s.halt;
 }
 with_error s (refusal.Own number) = s
 
@@ -115,11 +115,11 @@ abbrev pub unless_halted : Situation → Option Halt → After → After
 unless_halted s (Some h) a = quiet s
 unless_halted s None a = a
 
--- A halted machine stays as it is.
-unfoldable pub machine_step : Situation → After
-machine_step s = unless_halted s s.halt (turned s (instructed s))
+-- A halted machine stays as it is. A step is a function of the machine and the images, which no store call reads yet.
+unfoldable pub machine_step : List Entry → Situation → After
+machine_step images s = unless_halted s s.halt (turned s (instructed s))
 
 -- A store call that a user makes from outside acts as one with the X bit, at the present program counter; bits 31 to 24 of its number and its
 -- X bit are left out.
-unfoldable pub store_called : Situation → ℕ → After
-store_called s number = unless_halted s s.halt (called s true s.cpu.pc (without_x (number % 2 ^ 24)))
+unfoldable pub store_called : List Entry → Situation → ℕ → After
+store_called images s number = unless_halted s s.halt (called s true s.cpu.pc (without_x (number % 2 ^ 24)))

@@ -108,8 +108,8 @@ impl Machine {
     /// Takes one step: an instruction or a store call. Answers why the machine is halted, if it is;
     /// a halted machine stays as it is.
     #[tactic(auto, using(crate::proofs::Turning::turned_by), unfolding(crate::specs::Step::machine_step))]
-    pub fn step(&mut self, _images: &Images) -> Option<Stop>
-        ensures after { after_of self.new ≡ machine_step (state_of self.old) }
+    pub fn step(&mut self, images: &Images) -> Option<Stop>
+        ensures after { after_of self.new ≡ machine_step images.now (state_of self.old) }
         ensures stop { result ≡ option_map stop_of (state_of self.new).halt }
         ensures fresh { self.new.is_fresh ≡ false }
         ensures sizes { self.new.sizes ≡ self.old.sizes }
@@ -128,8 +128,8 @@ impl Machine {
     /// program counter: the guest goes on at the present program counter. Bits 31 to 24 of the
     /// number and its X bit are left out. A halted machine stays as it is.
     #[tactic(auto, unfolding(crate::specs::Step::store_called))]
-    pub fn store_call(&mut self, _images: &Images, number: u32) -> Option<Stop>
-        ensures after { after_of self.new ≡ store_called (state_of self.old) number }
+    pub fn store_call(&mut self, images: &Images, number: u32) -> Option<Stop>
+        ensures after { after_of self.new ≡ store_called images.now (state_of self.old) number }
         ensures stop { result ≡ option_map stop_of (state_of self.new).halt }
         ensures fresh { self.new.is_fresh ≡ false }
         ensures sizes { self.new.sizes ≡ self.old.sizes }
@@ -220,7 +220,7 @@ impl Machine {
 
     /// Why the machine is halted, if it is.
     #[tactic(auto, unfolding(crate::specs::Parts::state_of))]
-    pub(crate) fn stop(&self) -> Option<Stop>
+    pub fn stop(&self) -> Option<Stop>
         ensures halt { result ≡ option_map stop_of (state_of self.now).halt }
         ensures stepped { IsSome result → self.now.is_fresh ≡ false }
         ensures sound { IsSound (state_of self.now).store }

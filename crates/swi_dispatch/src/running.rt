@@ -43,11 +43,11 @@ impl Machine {
         sink: &mut W,
         budget: u64,
     ) -> Result<Ran, WriteFault>
-        ensures ends { IfOk result (λ r. Ends (ran breaks.now budget (state_of self.old)) (state_of self.new) (W.contents sink.old) (W.contents sink.new) r.taken r.stop) }
+        ensures ends { IfOk result (λ r. Ends (ran images.now breaks.now budget (state_of self.old)) (state_of self.new) (W.contents sink.old) (W.contents sink.new) r.taken r.stop) }
         ensures count { IfOk result (λ r. r.taken ≤ budget) }
         ensures fresh { self.new.is_fresh ≡ (self.old.is_fresh && (budget == 0)) }
         ensures sizes { self.new.sizes ≡ self.old.sizes }
-        ensures stands { OnErr result (StandsAfter breaks.now budget (state_of self.old) (state_of self.new)) }
+        ensures stands { OnErr result (StandsAfter images.now breaks.now budget (state_of self.old) (state_of self.new)) }
         ensures flag { OnErr result (W.has_failed sink.new ≡ true) }
         ensures same_flag { OnOk result (W.has_failed sink.new ≡ W.has_failed sink.old) }
     {
@@ -77,12 +77,12 @@ impl Machine {
         sink: &mut W,
     ) -> Result<Ran, WriteFault>
         requires { (state_of self.old).halt ≡ None }
-        ensures ends { IfOk result (λ r. Ends (ran breaks.now 1 (state_of self.old)) (state_of self.new) (W.contents sink.old) (W.contents sink.new) r.taken r.stop) }
+        ensures ends { IfOk result (λ r. Ends (ran images.now breaks.now 1 (state_of self.old)) (state_of self.new) (W.contents sink.old) (W.contents sink.new) r.taken r.stop) }
         ensures awake { IfOk result (λ r. r.stop ≡ Stop.Budget → (state_of self.new).halt ≡ None) }
         ensures count { IfOk result (λ r. r.taken ≤ 1) }
         ensures fresh { self.new.is_fresh ≡ false }
         ensures sizes { self.new.sizes ≡ self.old.sizes }
-        ensures stands { OnErr result (state_of self.new ≡ (ran breaks.now 1 (state_of self.old)).now) }
+        ensures stands { OnErr result (state_of self.new ≡ (ran images.now breaks.now 1 (state_of self.old)).now) }
         ensures flag { OnErr result (W.has_failed sink.new ≡ true) }
         ensures same_flag { OnOk result (W.has_failed sink.new ≡ W.has_failed sink.old) }
     {

@@ -9,7 +9,7 @@ pub returns-in-Some-clause-told : goal.returns-in-Some-clause-told
 returns-in-Some-clause-told g c =
     let images = c.args.images.now in
     let w = world_of c.args.self.now images in
-    let a = store_called w.machine c.args.number in
+    let a = store_called images w.machine c.args.number in
     let mid = world_of c.make_call.new.self images in
     let now = world_of c.stopped.new.self images in
     let made = c.in_ok-halt.ensures in
@@ -25,7 +25,7 @@ unfolding world_of
 returns-in-None-clause-told g c =
     let images = c.args.images.now in
     let w = world_of c.args.self.now images in
-    let a = store_called w.machine c.args.number in
+    let a = store_called images w.machine c.args.number in
     let mid = world_of c.make_call.new.self images in
     let made = c.in_ok-halt.ensures in
     let from = g.W.Sink.contents c.args.sink.now in

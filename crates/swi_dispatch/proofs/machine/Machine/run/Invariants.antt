@@ -8,7 +8,7 @@ use Rattle.swi_dispatch.proofs.machine.Machine.run.Given as goal
 -- the machine stands as the run of the steps taken leaves it, and goes on
 abbrev pub invariant-loop-taken : goal.invariant-loop-taken
 invariant-loop-taken g l = record {
-  ends : Ends (ran l.breaks l.taken (state_of l.fn.self)) (state_of l.self) (g.W.Sink.contents l.fn.sink) (g.W.Sink.contents l.sink) l.taken stop.Budget;
+  ends : Ends (ran l.images l.breaks l.taken (state_of l.fn.self)) (state_of l.self) (g.W.Sink.contents l.fn.sink) (g.W.Sink.contents l.sink) l.taken stop.Budget;
   awake : (state_of l.self).halt ≡ None;
   fresh : l.self.is_fresh ≡ (l.fn.self.is_fresh && (l.taken == 0));
   sizes : l.self.sizes ≡ l.fn.self.sizes;
