@@ -24,7 +24,6 @@ fn size_of(list: RegisterList) -> u32
 }
 
 /// The lowest address of a block of some words, with its base.
-#[tactic(auto, unfolding(crate::specs::Blocks::lowest))]
 fn lowest_address(mode: BlockMode, base: u32, count: u32) -> u32
     requires { count ≤ 16 }
     ensures { result ≡ lowest mode base count }
@@ -38,7 +37,6 @@ fn lowest_address(mode: BlockMode, base: u32, count: u32) -> u32
 }
 
 /// The base that a block transfer of some words writes back.
-#[tactic(auto, unfolding(crate::specs::Blocks::stepped_base))]
 fn step_base(mode: BlockMode, base: u32, count: u32) -> u32
     requires { count ≤ 16 }
     ensures { result ≡ stepped_base mode base count }
@@ -50,7 +48,6 @@ fn step_base(mode: BlockMode, base: u32, count: u32) -> u32
 }
 
 /// Whether a block transfer loads the status with R15.
-#[tactic(auto, unfolding(crate::specs::Blocks::loads_status))]
 fn loads_status(block: &BlockTransfer) -> bool
     ensures { result ≡ loads_status block.now }
 {
@@ -58,7 +55,6 @@ fn loads_status(block: &BlockTransfer) -> bool
 }
 
 /// Whether a store finds the base already written back: where a lower register is listed.
-#[tactic(auto, unfolding(crate::specs::Blocks::stores_new_base))]
 fn stores_new_base(block: &BlockTransfer) -> bool
     ensures { result ≡ stores_new_base block.now }
 {
@@ -68,7 +64,6 @@ fn stores_new_base(block: &BlockTransfer) -> bool
 impl Cpu {
     /// The bank that a block transfer means: with S, where it does not load the status, that of
     /// user mode.
-    #[tactic(auto, unfolding(crate::specs::Blocks::bank_of))]
     fn bank(&self, block: &BlockTransfer) -> Mode
         ensures { result ≡ bank_of self.now block.now }
     {
@@ -165,7 +160,8 @@ impl Cpu {
     /// LDM: the base is written first, so a loaded base wins.
     #[tactic(auto, unfolding(crate::specs::Blocks::block_loaded))]
     fn load_block(&mut self, memory: &AddressMap, block: &BlockTransfer) -> Result<(), Fault>
-        ensures { Leaves (self.old, bytes_of memory.now) (block_loaded self.old (bytes_of memory.now) block.now) result (self.new, bytes_of memory.now) }
+        ensures { let loaded = block_loaded self.old (bytes_of memory.now) block.now in
+            Leaves (self.old, bytes_of memory.now) loaded result (self.new, bytes_of memory.now) }
     {
         let count = size_of(block.list);
         let words = load_words(memory, self.block_start(block, count), count)?;
@@ -181,7 +177,8 @@ impl Cpu {
     /// STM: all words are tested before the first is stored.
     #[tactic(auto, unfolding(crate::specs::Blocks::block_stored))]
     fn store_block(&mut self, memory: &mut AddressMap, block: &BlockTransfer) -> Result<(), Fault>
-        ensures state { Leaves (self.old, bytes_of memory.old) (block_stored (is_owned memory.old) self.old (bytes_of memory.old) block.now) result (self.new, bytes_of memory.new) }
+        ensures state { let stored = block_stored (is_owned memory.old) self.old (bytes_of memory.old) block.now in
+            Leaves (self.old, bytes_of memory.old) stored result (self.new, bytes_of memory.new) }
         ensures layout { layout memory.new ≡ layout memory.old }
     {
         let count = size_of(block.list);
@@ -205,7 +202,8 @@ impl Cpu {
         memory: &mut AddressMap,
         block: BlockTransfer,
     ) -> Result<(), Fault>
-        ensures state { Leaves (self.old, bytes_of memory.old) (block_transferred (is_owned memory.old) self.old (bytes_of memory.old) block) result (self.new, bytes_of memory.new) }
+        ensures state { let moved = block_transferred (is_owned memory.old) self.old (bytes_of memory.old) block in
+            Leaves (self.old, bytes_of memory.old) moved result (self.new, bytes_of memory.new) }
         ensures layout { layout memory.new ≡ layout memory.old }
     {
         if block.loads {

@@ -28,7 +28,6 @@ impl Model for Cpu {
 }
 
 /// Where R0 to R14 lie in the file, as a mode sees them.
-#[tactic(auto, unfolding(crate::specs::State::slot_of))]
 #[inline(always)]
 fn slot(mode: Mode, number: u32) -> usize
     requires { number < 15 }
@@ -153,7 +152,6 @@ impl Cpu {
     }
 
     /// Sets the whole status, the mode too.
-    #[tactic(auto, unfolding(crate::specs::State::with_psr))]
     #[inline(always)]
     pub(crate) fn set_psr(&mut self, psr: Psr)
         ensures { self.new ≡ with_psr self.old psr }
@@ -174,7 +172,6 @@ impl Cpu {
     }
 
     /// Sets the flag V.
-    #[tactic(auto, unfolding(crate::specs::State::with_overflow))]
     #[inline(always)]
     pub fn set_overflow(&mut self, overflow: bool)
         ensures { self.new ≡ with_overflow self.old overflow }
@@ -183,7 +180,6 @@ impl Cpu {
     }
 
     /// Sets the mode.
-    #[tactic(auto, unfolding(crate::specs::State::with_mode))]
     #[inline(always)]
     pub fn set_mode(&mut self, mode: Mode)
         ensures { self.new ≡ with_mode self.old mode }

@@ -19,8 +19,8 @@ use profile::word::is_bit_set;
 /// Takes one step: fetches the word at the program counter and carries it out.
 ///
 /// The turn is the first of these that applies: the gate; a fetch where nothing is mapped; nothing
-/// done, where the condition fails; a word that is refused; a software interrupt; `AddressException`,
-/// `DataUnmapped`, `OwnedWord`, each over all words of the transfer. All but `Done` leave core and
+/// done, where the condition fails; a word that is refused; a software interrupt;
+/// `AddressException`, `DataUnmapped`, `OwnedWord`, each over all words of the transfer. All but `Done` leave core and
 /// memory as they were.
 #[tactic(auto, unfolding(crate::specs::Step::stepped))]
 #[inline(always)]
@@ -44,7 +44,8 @@ impl Cpu {
     #[tactic(auto, unfolding(crate::specs::Step::executed))]
     #[inline(always)]
     fn execute(&mut self, memory: &mut AddressMap, word: u32) -> Turn
-        ensures turn { Turns (self.old, bytes_of memory.old) (executed (is_owned memory.old) self.old (bytes_of memory.old) word) result (self.new, bytes_of memory.new) }
+        ensures turn { let executed = executed (is_owned memory.old) self.old (bytes_of memory.old) word in
+            Turns (self.old, bytes_of memory.old) executed result (self.new, bytes_of memory.new) }
         ensures layout { layout memory.new ≡ layout memory.old }
     {
         if !is_met(Condition::in_word(word), self.psr()) {
@@ -62,7 +63,8 @@ impl Cpu {
     #[tactic(auto, unfolding(crate::specs::Step::acted, arm_decode::specs::Decoded::decoded))]
     #[inline(always)]
     fn execute_always(&mut self, memory: &mut AddressMap, word: u32) -> Result<(), Turn>
-        ensures state { Leaves (self.old, bytes_of memory.old) (acted_if_decoded (is_owned memory.old) self.old (bytes_of memory.old) (decoded word)) result (self.new, bytes_of memory.new) }
+        ensures state { let acted = acted_if_decoded (is_owned memory.old) self.old (bytes_of memory.old) (decoded word) in
+            Leaves (self.old, bytes_of memory.old) acted result (self.new, bytes_of memory.new) }
         ensures layout { layout memory.new ≡ layout memory.old }
     {
         match row_of(word)? {

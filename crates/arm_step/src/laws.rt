@@ -51,7 +51,6 @@ pub fn store_then_load_comes_back()
 {}
 
 /// LDM and STM begin at the base or 4 above it, or end there or 4 below it.
-#[tactic(auto, unfolding(crate::specs::Blocks::lowest))]
 pub fn blocks_lie_by_their_base()
     ensures { BlocksLieByBase }
 {}

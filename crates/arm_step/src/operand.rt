@@ -8,7 +8,6 @@ use arm_decode::{Operand, Shift, ShiftedRegister};
 use profile::shift::{Shifted, rotate, rotate_through, shift_left, shift_right, shift_signed};
 
 /// A shift by an amount of at least 1.
-#[tactic(auto, unfolding(crate::specs::Operand::shifted_by))]
 #[inline(always)]
 fn shift_by(kind: Shift, word: u32, amount: u32) -> Shifted
     requires { 1 ≤ amount }
@@ -23,7 +22,6 @@ fn shift_by(kind: Shift, word: u32, amount: u32) -> Shifted
 }
 
 /// What a shift by the number 0 stands for: none for LSL, 32 for LSR and ASR, RRX for ROR.
-#[tactic(auto, unfolding(crate::specs::Operand::shifted_by_zero))]
 #[inline(always)]
 fn shift_by_zero(kind: Shift, word: u32, carry: bool) -> Shifted
     ensures { result ≡ shifted_by_zero kind word carry }
@@ -37,7 +35,6 @@ fn shift_by_zero(kind: Shift, word: u32, carry: bool) -> Shifted
 }
 
 /// A shift by the number in the instruction.
-#[tactic(auto, unfolding(crate::specs::Operand::shifted_by_number))]
 #[inline(always)]
 fn shift_by_number(kind: Shift, word: u32, amount: u32, carry: bool) -> Shifted
     ensures { result ≡ shifted_by_number kind word amount carry }
@@ -50,7 +47,6 @@ fn shift_by_number(kind: Shift, word: u32, amount: u32, carry: bool) -> Shifted
 }
 
 /// A shift by the low byte of a register, of which 0 keeps the value and C.
-#[tactic(auto, unfolding(crate::specs::Operand::shifted_by_byte))]
 #[inline(always)]
 fn shift_by_byte(kind: Shift, word: u32, amount: u32, carry: bool) -> Shifted
     ensures { result ≡ shifted_by_byte kind word amount carry }
@@ -63,7 +59,6 @@ fn shift_by_byte(kind: Shift, word: u32, amount: u32, carry: bool) -> Shifted
 }
 
 /// A byte rotated right by twice the field, of which 0 keeps C.
-#[tactic(auto, unfolding(crate::specs::Operand::immediate))]
 #[inline(always)]
 fn immediate(rotation: u32, byte: u8, carry: bool) -> Shifted
     requires { rotation < 16 }

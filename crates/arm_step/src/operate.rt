@@ -96,7 +96,6 @@ impl Cpu {
     }
 
     /// What MUL and MLA compute.
-    #[tactic(auto, unfolding(crate::specs::Operate::product))]
     #[inline(always)]
     fn product(&self, multiply: &Multiply) -> u32
         ensures { result ≡ product self.now multiply.now }

@@ -27,7 +27,8 @@ pub(crate) fn load_words(
 ) -> Result<ArrayVec<u32, MOST_WORDS>, Fault>
     requires aligned { first % 4 ≡ 0 }
     requires few { count ≤ 16 }
-    ensures words { MatchResult result (λ v. words_loaded (bytes_of memory.now) first count ≡ Ok v.items) (λ fault. words_loaded (bytes_of memory.now) first count ≡ Err fault) }
+    ensures words { let loaded = words_loaded (bytes_of memory.now) first count in
+        MatchResult result (λ v. loaded ≡ Ok v.items) (λ fault. loaded ≡ Err fault) }
     ensures size { IfOk result (λ v. length v.items ≡ count) }
 {
     if first > ADDRESS_LIMIT - 4 * count {
@@ -114,7 +115,8 @@ fn put_words(memory: &mut AddressMap, first: u32, words: &[u32])
 pub(crate) fn store_words(memory: &mut AddressMap, first: u32, words: &[u32]) -> Result<(), Fault>
     requires aligned { first % 4 ≡ 0 }
     requires few { length words.now ≤ 16 }
-    ensures bytes { Leaves (bytes_of memory.old) (words_stored (is_owned memory.old) (bytes_of memory.old) first words.now) result (bytes_of memory.new) }
+    ensures bytes { let stored = words_stored (is_owned memory.old) (bytes_of memory.old) first words.now in
+        Leaves (bytes_of memory.old) stored result (bytes_of memory.new) }
     ensures layout { layout memory.new ≡ layout memory.old }
 {
     if let Some(fault) = store_fault(memory, first, words.len() as u32) {
