@@ -1,3 +1,4 @@
+pub mod Answering
 pub mod CommandLine
 pub mod ImageFiles
 pub mod Status

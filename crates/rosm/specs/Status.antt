@@ -1,10 +1,8 @@
--- The exit status of the program: 0 after OS_Exit, 1 after a fault, 2 for a command line that can't be, 4 for anything else that keeps a
--- script from running whole, and 3 where it ran and its last stop was another, or none.
+-- The exit status of the program: 0 after OS_Exit, 1 after a fault, 2 for a command line that can't be, 4 for anything else
+-- that keeps a script from running whole, and 3 where it ran and its last stop was another, or none.
 use Rattle.std.specs.Prelude.{ℕ, Option, Some, None, Result, Ok, Err}
 use Rattle.profile.specs.declared.stop.Stop.{Stop}
 use Rattle.profile.specs.declared.stop.Stop.TheVariants as stop
-use Rattle.rosm.specs.declared.options.SettingsError.{SettingsError}
-use Rattle.rosm.specs.declared.options.SettingsError.TheVariants as settings
 use Rattle.rosm.specs.declared.refusal.Refusal.{Refusal}
 use Rattle.rosm.specs.declared.refusal.Refusal.TheVariants as refusal
 
@@ -18,13 +16,10 @@ abbrev pub status_after : Option Stop → ℕ
 status_after None = 3
 status_after (Some last) = stop_status last
 
-abbrev pub settings_status : SettingsError → ℕ
-settings_status settings.Line = 2
-settings_status settings.Sizes = 2
-settings_status settings.Memory = 4
-
 abbrev pub refusal_status : Refusal → ℕ
-refusal_status (refusal.Settings error) = settings_status error
+refusal_status refusal.Memory = 4
+refusal_status (refusal.Line reason) = 2
+refusal_status refusal.Sizes = 2
 refusal_status (refusal.File path error) = 4
 refusal_status (refusal.Script error) = 4
 

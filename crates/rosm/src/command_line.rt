@@ -44,7 +44,7 @@ fn settings_in(alloc: Global, matches: &ArgMatches<'_>) -> Result<Settings, Sett
 }
 
 // The number of an option, or `None` where its text is none.
-fn size(matches: &ArgMatches<'_>, name: &str) -> Option<u32>
+pub(crate) fn size(matches: &ArgMatches<'_>, name: &str) -> Option<u32>
     ensures { result ≡ option_number 32 (rows_of (found_of matches.now)) name.now }
 {
     matches.get_str(name)?.parse::<u32>().ok()
@@ -110,7 +110,7 @@ fn with_arg<'a>(command: Command<'a>, arg: Arg<'a>) -> Result<Command<'a>, Alloc
     command.arg(arg)
 }
 
-fn command<'a>(alloc: Global) -> Result<Command<'a>, AllocError>
+pub(crate) fn command<'a>(alloc: Global) -> Result<Command<'a>, AllocError>
     ensures { IfOk result (λ c. app_of c ≡ rosm) }
 {
     let named = Command::new(alloc, "rosm");

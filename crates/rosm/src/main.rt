@@ -1,90 +1,105 @@
 //! The program `rosm`: a script from standard input to its answers on standard output.
 //!
-//! `rosm [--pages N] [--app N] [--rma N] [--budget N] [FILE..]`
+//! `rosm [--pages N] [--app N] [--rma N] [--budget N] [FILE...] <SCRIPT`
 #![tactic(auto)]
 
+pub mod answering;
 pub mod command_line;
 pub mod files;
 pub mod image_files;
+pub mod line_reason;
 pub mod options;
 pub mod refusal;
 
-ghost use Rattle.std.specs.Prelude.{◌≡◌, ◌≢◌};
+ghost use Rattle.std.specs.Prelude.{◌≡◌, ◌≢◌, IfErr, IfOk, Ok, map, string_bytes};
 ghost use Rattle.std.specs.Process.{exit_status};
+ghost use Rattle.rosm.specs.CommandLine.{IsRefusalOf, settings_for};
 ghost use Rattle.rosm.specs.Status.{status_of};
 
-use crate::image_files::add_files;
+use crate::line_reason::line_reason;
 use crate::refusal::stop_status;
+pub use answering::{answer_script, run};
 pub use command_line::settings;
-use command_shell::{RunError, run_script};
 pub use files::Files;
-use image_loader::Images;
 pub use options::{Settings, SettingsError};
 use profile::{Device, Stop};
 pub use refusal::Refusal;
+use std::alloc::{AllocError, Global};
 use std::env::Env;
-use std::io::{BufWriter, ErrorKind, Write};
+use std::io::{BufWriter, ErrorKind};
 use std::process::ExitCode;
 use std::{env, fs, io};
 
 fn main(rt: HostRuntime) -> ExitCode {
-    match chosen(&rt) {
-        Ok(settings) => ended(&rt, run(&rt, &settings)),
-        Err(error) => ended(&rt, Err(Refusal::Settings(error))),
+    match read_settings(&rt) {
+        Ok(settings) => exit_code(&rt, run_on_standard_streams(&rt, &settings)),
+        Err(refusal) => exit_code(&rt, Err(refusal)),
     }
 }
 
-// What the words of this process ask for. A word that is no text makes no command line.
-fn chosen<R: Env + AllocGlobal>(rt: &R) -> Result<Settings, SettingsError> {
-    let args = env::args(rt).map_err(|error| word_refusal(error.kind()))?;
-    let words: Vec<String> = args.collect(rt.alloc())?;
-    let texts: Vec<&str> = words.iter().map(|word| word.as_str()).collect(rt.alloc())?;
-    settings(rt.alloc(), texts.as_slice())
+// What the words of this process ask for.
+fn read_settings<R: Env + AllocGlobal>(rt: &R) -> Result<Settings, Refusal<'static>> {
+    let alloc = rt.alloc();
+    let args = match env::args(rt) {
+        Ok(args) => args,
+        Err(error) => return Err(words_refusal(alloc, error.kind())),
+    };
+    let words: Vec<String> = args.collect(alloc)?;
+    settings_of(alloc, words.as_slice())
 }
 
-fn word_refusal(kind: ErrorKind) -> SettingsError
-    ensures memory { kind ≡ ErrorKind.OutOfMemory → result ≡ SettingsError.Memory }
-    ensures line { kind ≢ ErrorKind.OutOfMemory → result ≡ SettingsError.Line }
+fn words_refusal(alloc: Global, kind: ErrorKind) -> Refusal<'static>
+    ensures memory { kind ≡ ErrorKind.OutOfMemory → result ≡ Refusal.Memory }
 {
     if kind == ErrorKind::OutOfMemory {
-        SettingsError::Memory
-    } else {
-        SettingsError::Line
+        return Refusal::Memory;
+    }
+    match String::from_str(alloc, "a word is not text in UTF-8") {
+        Ok(reason) => Refusal::Line(reason),
+        Err(_) => Refusal::Memory,
     }
 }
 
-// Adds the files' images, and runs the script; answers the last stop.
-fn run<'a, R>(rt: &R, settings: &'a Settings) -> Result<Option<Stop>, Refusal<'a>>
+// What these words ask for, or what is wrong with them.
+fn settings_of(alloc: Global, words: &[String]) -> Result<Settings, Refusal<'static>>
+    ensures ok { IfOk result (λ s. settings_for (map string_bytes words.now) ≡ Ok s) }
+    ensures refused { IfErr result (IsRefusalOf (settings_for (map string_bytes words.now))) }
+{
+    let texts = texts_of(alloc, words)?;
+    match settings(alloc, texts.as_slice()) {
+        Ok(settings) => Ok(settings),
+        Err(SettingsError::Memory) => Err(Refusal::Memory),
+        Err(SettingsError::Line) => Err(Refusal::Line(line_reason(alloc, texts.as_slice())?)),
+        Err(SettingsError::Sizes) => Err(Refusal::Sizes),
+    }
+}
+
+fn texts_of<'a>(alloc: Global, words: &'a [String]) -> Result<Vec<&'a str>, AllocError>
+    ensures { IfOk result (λ texts. map (λ t. t.now) texts.items ≡ map string_bytes words.entry.now) }
+{
+    let mut texts = Vec::new(alloc);
+    for word in words {
+        texts.push(word.as_str())?;
+    }
+    Ok(texts)
+}
+
+// The output is written in large pieces.
+fn run_on_standard_streams<'a, R>(
+    rt: &R,
+    settings: &'a Settings,
+) -> Result<Option<Stop>, Refusal<'a>>
 where
     R: AllocGlobal + fs::Files + Input + Print,
 {
-    let mut images = Images::new();
-    add_files(rt, &settings.files, &mut images)?;
-    Ok(played(rt, settings, &mut images)?)
-}
-
-// The output is written in large pieces, and the last of them before the answer.
-fn played<R>(rt: &R, settings: &Settings, images: &mut Images) -> Result<Option<Stop>, RunError>
-where
-    R: AllocGlobal + Input + Print,
-{
-    let buffered = BufWriter::new(rt.alloc(), io::writer(rt)).map_err(|_| RunError::Memory)?;
-    let mut reader = Device::new(rt.reader());
-    let mut writer = Device::new(buffered);
-    let summary = run_script(
-        rt.alloc(),
-        &mut reader,
-        images,
-        &mut writer,
-        settings.config,
-        settings.budget,
-    )?;
-    writer.flush()?;
-    Ok(summary.last)
+    match BufWriter::new(rt.alloc(), io::writer(rt)) {
+        Ok(mut writer) => run(rt, settings, &mut Device::new(rt.reader()), &mut writer),
+        Err(_) => Err(Refusal::Memory),
+    }
 }
 
 // The exit status, with one line on standard error where the program is refused.
-fn ended<R: Eprint>(rt: &R, ending: Result<Option<Stop>, Refusal<'_>>) -> ExitCode
+fn exit_code<R: Eprint>(rt: &R, ending: Result<Option<Stop>, Refusal<'_>>) -> ExitCode
     ensures { exit_status result ≡ status_of ending.entry }
 {
     match ending {

@@ -17,6 +17,10 @@ pub struct Settings {
     pub files: Files,
 }
 
+/// The form of a command line, in one line.
+pub const USAGE: &str =
+    "usage: rosm [--pages N] [--app N] [--rma N] [--budget N] [FILE...] <SCRIPT";
+
 /// Why a command line is refused. The line comes before the sizes; memory may run out anywhere.
 #[derive(Clone, Copy, Debug, PartialEq, Eq, Error)]
 pub enum SettingsError {
@@ -24,10 +28,10 @@ pub enum SettingsError {
     #[error("out of memory")]
     Memory,
     /// The words are no command line of this program, or ask for help.
-    #[error("usage: rosm [--pages N] [--app N] [--rma N] [--budget N] [FILE..]")]
+    #[error("{}", USAGE)]
     Line,
     /// No machine can have these sizes.
-    #[error("no machine has these sizes")]
+    #[error("sizes: --app and --rma at least 1, --pages at most 1024 and at least app + rma + 3")]
     Sizes,
 }
 

@@ -2,21 +2,28 @@ ghost use Rattle.std.specs.Prelude.{◌≡◌};
 ghost use Rattle.rosm.specs.Status.{status_after};
 
 use crate::image_files::FileError;
-use crate::options::SettingsError;
+use crate::options::{SettingsError, USAGE};
 use command_shell::RunError;
 use profile::Stop;
+use std::alloc::AllocError;
 use thiserror::Error;
 
-/// Why the program ends without having run its script whole.
-#[derive(Clone, Copy, Debug, PartialEq, Eq, Error)]
+/// Why the program ends without having run its script whole. The text is one line.
+#[derive(Debug, PartialEq, Eq, Drop, Error)]
 pub enum Refusal<'a> {
-    /// The command line is refused.
-    #[error("{0}")]
-    Settings(SettingsError),
+    /// Memory ran out while the command line was read.
+    #[error("{}", SettingsError::Memory)]
+    Memory,
+    /// The words are no command line; the text says what is wrong with them.
+    #[error("{0}; {usage}", usage = USAGE)]
+    Line(String),
+    /// No machine can have the sizes of the command line.
+    #[error("{}", SettingsError::Sizes)]
+    Sizes,
     /// The file of this path is no image, for this reason.
     #[error("{0:?}: {1}")]
     File(&'a str, FileError),
-    /// The script, or its output, met an end that it can't go past.
+    /// The script can't be run whole, for this reason.
     #[error("{0}")]
     Script(RunError),
 }
@@ -29,11 +36,19 @@ impl Refusal<'_> {
         ensures { result ≡ refusal_status self.now }
     {
         match self {
-            Refusal::Settings(SettingsError::Line) | Refusal::Settings(SettingsError::Sizes) => 2,
-            Refusal::Settings(SettingsError::Memory) => 4,
-            Refusal::File(_, _) => 4,
-            Refusal::Script(_) => 4,
+            Refusal::Line(_) | Refusal::Sizes => 2,
+            Refusal::Memory | Refusal::File(_, _) | Refusal::Script(_) => 4,
         }
+    }
+}
+
+impl<'a> From<AllocError> for Refusal<'a> {
+    ghost use Rattle.rosm.specs.declared.refusal.Refusal.TheVariants.{Memory};
+
+    ghost from_gives = { λ _ refused. refused ≡ Memory };
+
+    fn from(_error: AllocError) -> Refusal<'a> {
+        Refusal::Memory
     }
 }
 

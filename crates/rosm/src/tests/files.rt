@@ -7,11 +7,11 @@ use std::test::Fail;
 
 // A reader that fails at once.
 #[derive(Drop)]
-struct Broken;
+struct Broken(ErrorKind);
 
 impl Read for Broken {
     fn read(&mut self, _buf: &mut [u8]) -> io::Result<usize> {
-        Err(io::Error::from(ErrorKind::Other))
+        Err(io::Error::from(self.0))
     }
 }
 
@@ -21,6 +21,10 @@ fn an_image_has_the_last_part_of_its_path_as_its_name(rt: HostRuntime) -> Result
     let bytes = [1, 2, 3];
     add_image(rt.alloc(), "some/where/a", bytes.as_slice(), &mut images)?;
     assert_eq!(rt; images.get(b"a"), Some([1, 2, 3].as_slice()));
+    let again = add_image(rt.alloc(), "else/a", bytes.as_slice(), &mut images);
+    assert_eq!(rt; again, Err(FileError::Image(ImageError::NameTaken)));
+    let nameless = add_image(rt.alloc(), "some/..", bytes.as_slice(), &mut images);
+    assert_eq!(rt; nameless, Err(FileError::Nameless));
     Ok(())
 }
 
@@ -37,12 +41,16 @@ fn the_largest_image_is_taken_and_one_byte_more_is_not(rt: HostRuntime) -> Resul
 }
 
 #[test]
-fn a_path_without_a_last_part_and_a_broken_file_give_no_image(rt: HostRuntime) {
+fn a_file_that_fails_gives_no_image(rt: HostRuntime) {
     let mut images = Images::new();
-    let bytes = [1, 2, 3];
-    let nameless = add_image(rt.alloc(), "some/..", bytes.as_slice(), &mut images);
-    assert_eq!(rt; nameless, Err(FileError::Unreadable));
-    let broken = add_image(rt.alloc(), "a", Broken, &mut images);
+    let directory = add_image(
+        rt.alloc(),
+        "a",
+        Broken(ErrorKind::IsADirectory),
+        &mut images,
+    );
+    assert_eq!(rt; directory, Err(FileError::Directory));
+    let broken = add_image(rt.alloc(), "a", Broken(ErrorKind::Other), &mut images);
     assert_eq!(rt; broken, Err(FileError::Unreadable));
     assert_eq!(rt; images.get(b"a"), None);
 }

@@ -1,0 +1,88 @@
+ghost use Rattle.std.specs.Prelude.{◌≡◌, ◌<◌, true, length, Err, IfOk, IfSome, IsErr, OnOk};
+ghost use Rattle.std.specs.Io.Buffered.{writer_contents, writer_inner};
+ghost use Rattle.std.specs.Io.KnownBytes.{Appends};
+ghost use Rattle.profile.specs.Output.{AppendsFront};
+ghost use Rattle.rosm.specs.Answering.{AnswersScript, answers_to};
+
+use crate::image_files::add_files;
+use crate::options::Settings;
+use crate::refusal::Refusal;
+use command_shell::{RunError, run_script};
+use image_loader::Images;
+use profile::{Device, Sink, Source, Stop};
+use std::alloc::Global;
+use std::fs;
+use std::io::{BufWriter, Write};
+
+/// Takes in the settings' files, runs the script of `reader`, writes all of its answers out, and
+/// gives the last stop.
+///
+/// # Errors
+///
+/// The first file that gives no image; else as [`answer_script`], and `WriteFault` too where the
+/// last of the answers can't be written out.
+pub fn run<'a, F, R, W>(
+    files: &F,
+    settings: &'a Settings,
+    reader: &mut R,
+    writer: &mut BufWriter<W>,
+) -> Result<Option<Stop>, Refusal<'a>>
+where
+    F: AllocGlobal + fs::Files,
+    R: Source,
+    W: Write + Drop,
+    ensures { IfOk result (AnswersScript settings.entry.now (R.remaining reader.old)
+        (writer_contents W.contents writer.old) (W.contents (writer_inner writer.new))) }
+{
+    let mut images = Images::new();
+    add_files(files, &settings.files, &mut images)?;
+    let mut device = Device::new(&mut *writer);
+    let last = answer_script(files.alloc(), settings, &mut images, reader, &mut device)?;
+    match writer.flush() {
+        Ok(()) => Ok(last),
+        Err(_) => Err(Refusal::Script(RunError::WriteFault)),
+    }
+}
+
+/// Runs the script of `reader` on a fresh machine of the settings' sizes and budget, writes its
+/// answers, and gives the last stop.
+///
+/// # Errors
+///
+/// As [`run_script`].
+pub fn answer_script<R: Source, W: Sink>(
+    alloc: Global,
+    settings: &Settings,
+    images: &mut Images,
+    reader: &mut R,
+    writer: &mut W,
+) -> Result<Option<Stop>, RunError>
+    ensures text { OnOk result (IfSome (R.remaining reader.old) (λ script.
+        Appends (W.contents writer.old) (W.contents writer.new)
+        (answers_to settings.now images.old script).text)) }
+    ensures last { IfOk result (λ last. IfSome (R.remaining reader.old) (λ script.
+        last ≡ (answers_to settings.now images.old script).world.last)) }
+    ensures images { OnOk result (IfSome (R.remaining reader.old) (λ script.
+        images.new ≡ (answers_to settings.now images.old script).world.images)) }
+    ensures memory { result ≡ Err RunError.Memory → IfSome (R.remaining reader.old) (λ script.
+        AppendsFront (W.contents writer.old) (W.contents writer.new)
+        (answers_to settings.now images.old script).text) }
+    ensures read_fault { result ≡ Err RunError.ReadFault
+        → (R.has_failed reader.new ≡ true) × (writer.new ≡ writer.old) }
+    ensures write_fault { result ≡ Err RunError.WriteFault → W.has_failed writer.new ≡ true }
+    ensures too_long { result ≡ Err RunError.ScriptTooLong → (writer.new ≡ writer.old)
+        × IfSome (R.remaining reader.old) (λ script. 1048576 < length script) }
+    ensures never_long { IfSome (R.remaining reader.old) (λ script.
+        1048576 < length script → IsErr result) }
+    ensures same_flag { OnOk result (W.has_failed writer.new ≡ W.has_failed writer.old) }
+{
+    let summary = run_script(
+        alloc,
+        reader,
+        images,
+        writer,
+        settings.config,
+        settings.budget,
+    )?;
+    Ok(summary.last)
+}

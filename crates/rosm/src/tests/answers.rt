@@ -1,0 +1,70 @@
+use crate::image_files::add_image;
+use crate::{Refusal, answer_script, run, settings};
+use command_shell::RunError;
+use image_loader::Images;
+use profile::{MemorySink, MemorySource, Stop};
+use std::io;
+use std::io::{BufWriter, ErrorKind, Write};
+use std::test::Fail;
+
+// MOV R0,#3; ADD R1,R1,R0; SUB R0,R0,#1; CMP R0,#0; BNE &8004; SWI OS_Exit
+static SIX_WORDS: [u8; 24] = [
+    0x03, 0x00, 0xA0, 0xE3, 0x00, 0x10, 0x81, 0xE0, 0x01, 0x00, 0x40, 0xE2, //
+    0x00, 0x00, 0x50, 0xE3, 0xFB, 0xFF, 0xFF, 0x1A, 0x11, 0x00, 0x00, 0xEF,
+];
+
+// The fourteenth step of the program is its OS_Exit.
+#[test]
+fn a_script_runs_an_image_within_the_budget(rt: HostRuntime) -> Result<(), Fail> {
+    let alloc = rt.alloc();
+    for (budget, stop, told) in [("13", Stop::Budget, "Budget"), ("14", Stop::Exit, "Exit")] {
+        let settings = settings(alloc, &["rosm", "--budget", budget])?;
+        let mut images = Images::new();
+        add_image(alloc, "some/six", SIX_WORDS.as_slice(), &mut images)?;
+        let mut reader = MemorySource::new(b"BOOT six\nRUN\n", 5, u64::MAX);
+        let mut room = [0; 32];
+        let mut writer = MemorySink::new(&mut room, 3, u64::MAX);
+        let last = answer_script(alloc, &settings, &mut images, &mut reader, &mut writer)?;
+        assert_eq!(rt; last, Some(stop));
+        let answers = format!(in alloc; "boot six\nstop {told}\n")?;
+        assert_eq!(rt; writer.written(), answers.as_bytes());
+    }
+    Ok(())
+}
+
+#[test]
+fn all_answers_are_written_out(rt: HostRuntime) -> Result<(), Fail> {
+    let alloc = rt.alloc();
+    let settings = settings(alloc, &["rosm"])?;
+    let mut reader = MemorySource::new(b"FOO\n", 4096, u64::MAX);
+    let mut writer = BufWriter::new(alloc, Vec::new(alloc))?;
+    let last = run(&rt, &settings, &mut reader, &mut writer)?;
+    assert_eq!(rt; last, None);
+    assert_eq!(rt; writer.get_ref().as_slice(), b"? line 1\n".as_slice());
+    Ok(())
+}
+
+// A writer that takes all, and fails when it is to be flushed.
+#[derive(Drop)]
+struct Full;
+
+impl Write for Full {
+    fn write(&mut self, buf: &[u8]) -> io::Result<usize> {
+        Ok(buf.len())
+    }
+
+    fn flush(&mut self) -> io::Result<()> {
+        Err(io::Error::from(ErrorKind::StorageFull))
+    }
+}
+
+#[test]
+fn answers_that_stay_unwritten_are_a_fault(rt: HostRuntime) -> Result<(), Fail> {
+    let alloc = rt.alloc();
+    let settings = settings(alloc, &["rosm"])?;
+    let mut reader = MemorySource::new(b"FOO\n", 4096, u64::MAX);
+    let mut writer = BufWriter::new(alloc, Full)?;
+    let ending = run(&rt, &settings, &mut reader, &mut writer);
+    assert_eq!(rt; ending, Err(Refusal::Script(RunError::WriteFault)));
+    Ok(())
+}
