@@ -11,7 +11,10 @@ use crate::condition::is_met;
 use crate::cpu::Cpu;
 use crate::turn::Turn;
 use address_map::AddressMap;
-use arm_decode::{Address, Bits, BlockTransfer, Condition, Form, Multiply, Offset, Operand, Operate, ShiftedRegister, Transfer, row_of};
+use arm_decode::{
+    Address, Bits, BlockTransfer, Condition, Form, Multiply, Offset, Operand, Operate,
+    ShiftedRegister, Transfer, row_of,
+};
 use profile::Fault;
 use profile::memory_map::RETURN_GATE;
 use profile::word::is_bit_set;

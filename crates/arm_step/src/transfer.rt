@@ -138,7 +138,11 @@ impl Cpu {
     /// memory are then as before.
     #[tactic(auto, unfolding(crate::specs::Transfers::transferred))]
     #[inline(always)]
-    pub(crate) fn transfer(&mut self, memory: &mut AddressMap, transfer: Transfer) -> Result<(), Fault>
+    pub(crate) fn transfer(
+        &mut self,
+        memory: &mut AddressMap,
+        transfer: Transfer,
+    ) -> Result<(), Fault>
         ensures state { let moved = transferred (is_owned memory.old) self.old (bytes_of memory.old) transfer in
             Leaves (self.old, bytes_of memory.old) moved result (self.new, bytes_of memory.new) }
         ensures layout { layout memory.new ≡ layout memory.old }
