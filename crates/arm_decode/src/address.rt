@@ -65,6 +65,7 @@ pub enum BlockMode {
 
 impl Direction {
     /// The direction that bit U of a word gives.
+    #[inline(always)]
     pub(crate) fn in_word(word: u32) -> Direction
         ensures { result ≡ direction_of (bit_of word 23) }
     {
@@ -88,6 +89,7 @@ impl Direction {
 
 impl Indexing {
     /// The indexing that bits P and W of a word give.
+    #[inline(always)]
     pub(crate) fn in_word(word: u32) -> Indexing
         ensures { result ≡ indexing_of (bit_of word 24) (bit_of word 21) }
     {
@@ -122,6 +124,7 @@ impl Indexing {
 
 impl BlockMode {
     /// The mode that bits P and U of a word give.
+    #[inline(always)]
     pub(crate) fn in_word(word: u32) -> BlockMode
         ensures { result ≡ block_mode_of (field word 23 2) }
     {

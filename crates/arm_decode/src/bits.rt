@@ -30,7 +30,8 @@ impl<const SIZE: u32> Bits<SIZE> {
     }
 
     /// The field of a word from bit `low` on.
-    pub(crate) fn in_word(word: u32, low: u32) -> Bits<SIZE>
+    #[inline(always)]
+    pub fn in_word(word: u32, low: u32) -> Bits<SIZE>
         requires low_inside { low < 32 }
         requires size_inside { SIZE < 32 }
         ensures { result ≡ field word low SIZE }

@@ -44,6 +44,7 @@ pub enum Condition {
 
 impl Condition {
     /// The condition of a word. Every word has one, whatever its other bits are.
+    #[inline(always)]
     pub fn in_word(word: u32) -> Condition
         ensures { result ≡ condition_in word }
     {

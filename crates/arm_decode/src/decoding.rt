@@ -1,8 +1,8 @@
 //! From a word to its instruction.
 ghost use Rattle.std.specs.Prelude.{◌≡◌, IfOk};
-ghost use Rattle.arm_decode.specs.Decoded.{decoded};
+ghost use Rattle.arm_decode.specs.Decoded.{decoded, IsAllowed};
 ghost use Rattle.arm_decode.specs.Diagrams.{word_of};
-ghost use Rattle.arm_decode.specs.Fields.{operand_by_register_in, immediate_in, operate_in, multiply_in, address_in, transfer_in, block_transfer_in, action_in};
+ghost use Rattle.arm_decode.specs.Fields.{operand_by_register_in, immediate_in, operate_in, multiply_in, address_in, transfer_at, block_transfer_in, action_in};
 
 use crate::action::{Action, BlockTransfer, Multiply, Operate, Transfer};
 use crate::address::{Address, BlockMode, Direction, Indexing, Offset};
@@ -52,13 +52,12 @@ impl Action {
             )),
             Form::Immediate => Action::Operate(Operate::in_word(Operand::immediate_in(word), word)),
             Form::OffsetByNumber => {
-                Action::Transfer(Transfer::in_word(Offset::Immediate(Bits::in_word(word, 0)), word))
+                let offset = Offset::Immediate(Bits::in_word(word, 0));
+                Action::Transfer(Transfer::in_word(Address::in_word(offset, word), word))
             }
             Form::OffsetByRegister => {
-                Action::Transfer(Transfer::in_word(
-                    Offset::Shifted(ShiftedRegister::in_word(word)),
-                    word,
-                ))
+                let offset = Offset::Shifted(ShiftedRegister::in_word(word));
+                Action::Transfer(Transfer::in_word(Address::in_word(offset, word), word))
             }
             Form::BlockTransfer => Action::BlockTransfer(BlockTransfer::in_word(word)),
             Form::Branch => Action::Branch {
@@ -71,7 +70,9 @@ impl Action {
 }
 
 impl Operand {
-    fn immediate_in(word: u32) -> Operand
+    /// The byte and its rotation, as the immediate form has them.
+    #[inline(always)]
+    pub fn immediate_in(word: u32) -> Operand
         ensures { result ≡ immediate_in word }
     {
         Operand::Immediate {
@@ -80,7 +81,9 @@ impl Operand {
         }
     }
 
-    fn by_register_in(word: u32) -> Operand
+    /// The register and the one that shifts it, as the form of shifts by registers has them.
+    #[inline(always)]
+    pub fn by_register_in(word: u32) -> Operand
         ensures { result ≡ operand_by_register_in word }
     {
         Operand::ShiftedByRegister {
@@ -92,6 +95,23 @@ impl Operand {
 }
 
 impl Operate {
+    /// The data processing that a word with this second operand stands for.
+    ///
+    /// # Errors
+    ///
+    /// The fault by which the table refuses it.
+    #[inline(always)]
+    pub fn decoded(operand: Operand, word: u32) -> Result<Operate, Fault>
+        ensures { IsAllowed (λ operate. Action.Operate operate) (operate_in operand word) result }
+    {
+        let operate = Operate::in_word(operand, word);
+        match operate.refusal() {
+            Some(fault) => Err(fault),
+            None => Ok(operate),
+        }
+    }
+
+    #[inline(always)]
     fn in_word(operand: Operand, word: u32) -> Operate
         ensures { result ≡ operate_in operand word }
     {
@@ -106,6 +126,23 @@ impl Operate {
 }
 
 impl Multiply {
+    /// The multiplication that a word of that form stands for.
+    ///
+    /// # Errors
+    ///
+    /// The fault by which the table refuses it.
+    #[inline(always)]
+    pub fn decoded(word: u32) -> Result<Multiply, Fault>
+        ensures { IsAllowed (λ multiply. Action.Multiply multiply) (multiply_in word) result }
+    {
+        let multiply = Multiply::in_word(word);
+        match multiply.refusal() {
+            Some(fault) => Err(fault),
+            None => Ok(multiply),
+        }
+    }
+
+    #[inline(always)]
     fn in_word(word: u32) -> Multiply
         ensures { result ≡ multiply_in word }
     {
@@ -121,20 +158,39 @@ impl Multiply {
 }
 
 impl Transfer {
-    fn in_word(offset: Offset, word: u32) -> Transfer
-        ensures { result ≡ transfer_in offset word }
+    /// The transfer that a word stands for whose address is this.
+    ///
+    /// # Errors
+    ///
+    /// The fault by which the table refuses it.
+    #[inline(always)]
+    pub fn decoded(address: Address, word: u32) -> Result<Transfer, Fault>
+        ensures { IsAllowed (λ transfer. Action.Transfer transfer) (transfer_at address word) result }
+    {
+        let transfer = Transfer::in_word(address, word);
+        match transfer.refusal() {
+            Some(fault) => Err(fault),
+            None => Ok(transfer),
+        }
+    }
+
+    #[inline(always)]
+    fn in_word(address: Address, word: u32) -> Transfer
+        ensures { result ≡ transfer_at address word }
     {
         Transfer {
             loads: is_bit_set(word, 20),
             is_byte: is_bit_set(word, 22),
             rd: Register::in_word(word, 12),
-            address: Address::in_word(offset, word),
+            address,
         }
     }
 }
 
 impl Address {
-    fn in_word(offset: Offset, word: u32) -> Address
+    /// The address of an LDR or STR with this offset, with the word's other fields.
+    #[inline(always)]
+    pub fn in_word(offset: Offset, word: u32) -> Address
         ensures { result ≡ address_in offset word }
     {
         Address {
@@ -147,6 +203,23 @@ impl Address {
 }
 
 impl BlockTransfer {
+    /// The block transfer that a word of that form stands for.
+    ///
+    /// # Errors
+    ///
+    /// The fault by which the table refuses it.
+    #[inline(always)]
+    pub fn decoded(word: u32) -> Result<BlockTransfer, Fault>
+        ensures { IsAllowed (λ block. Action.BlockTransfer block) (block_transfer_in word) result }
+    {
+        let block = BlockTransfer::in_word(word);
+        match block.refusal() {
+            Some(fault) => Err(fault),
+            None => Ok(block),
+        }
+    }
+
+    #[inline(always)]
     fn in_word(word: u32) -> BlockTransfer
         ensures { result ≡ block_transfer_in word }
     {

@@ -35,6 +35,7 @@ pub enum Form {
 /// are 1110. `Unallocated` where bits 27 to 25 are 000 with bits 7 and 4 set, and the word is no
 /// multiply.
 #[tactic(auto, using(crate::proofs::Masks::masks))]
+#[inline(always)]
 pub fn row_of(word: u32) -> Result<Form, Fault>
     ensures { result ≡ form_of word }
 {

@@ -44,6 +44,7 @@ pub enum Operation {
 
 impl Operation {
     /// The operation of a data processing word.
+    #[inline(always)]
     pub(crate) fn in_word(word: u32) -> Operation
         ensures { result ≡ operation_of (field word 21 4) }
     {

@@ -64,95 +64,107 @@ impl Action {
         ensures { result ≡ refusal self.now }
     {
         match self {
-            Action::Operate(operate) => operate_refusal(*operate),
-            Action::Multiply(multiply) => multiply_refusal(*multiply),
-            Action::Transfer(transfer) => transfer_refusal(*transfer),
-            Action::BlockTransfer(block) => block_refusal(*block),
+            Action::Operate(operate) => operate.refusal(),
+            Action::Multiply(multiply) => multiply.refusal(),
+            Action::Transfer(transfer) => transfer.refusal(),
+            Action::BlockTransfer(block) => block.refusal(),
             Action::Branch { .. } | Action::SoftwareInterrupt(_) => None,
         }
     }
 }
 
-fn operate_refusal(operate: Operate) -> Option<Fault>
-    ensures { result ≡ refusal (Action.Operate operate) }
-{
-    let Operate {
-        operation,
-        sets_flags,
-        rn,
-        rd,
-        operand,
-    } = operate;
-    if operation.is_test() && !(sets_flags && (rd.number() == 0 || rd.is_pc())) {
-        return Some(Fault::Unallocated);
-    }
-    if operation.is_move() && rn.number() != 0 {
-        return Some(Fault::Unallocated);
-    }
-    match operand {
-        Operand::ShiftedByRegister { rs, .. } if rs.is_pc() => Some(Fault::PcOperand),
-        _ => None,
+impl Operate {
+    #[inline(always)]
+    pub(crate) fn refusal(&self) -> Option<Fault>
+        ensures { result ≡ refusal (Action.Operate self.now) }
+    {
+        let Operate {
+            operation,
+            sets_flags,
+            rn,
+            rd,
+            operand,
+        } = *self;
+        if operation.is_test() && !(sets_flags && (rd.number() == 0 || rd.is_pc())) {
+            return Some(Fault::Unallocated);
+        }
+        if operation.is_move() && rn.number() != 0 {
+            return Some(Fault::Unallocated);
+        }
+        match operand {
+            Operand::ShiftedByRegister { rs, .. } if rs.is_pc() => Some(Fault::PcOperand),
+            _ => None,
+        }
     }
 }
 
-fn multiply_refusal(multiply: Multiply) -> Option<Fault>
-    ensures { result ≡ refusal (Action.Multiply multiply) }
-{
-    let Multiply {
-        accumulates,
-        rd,
-        rn,
-        rs,
-        rm,
-        ..
-    } = multiply;
-    if !accumulates && rn.number() != 0 {
-        return Some(Fault::Unallocated);
+impl Multiply {
+    #[inline(always)]
+    pub(crate) fn refusal(&self) -> Option<Fault>
+        ensures { result ≡ refusal (Action.Multiply self.now) }
+    {
+        let Multiply {
+            accumulates,
+            rd,
+            rn,
+            rs,
+            rm,
+            ..
+        } = *self;
+        if !accumulates && rn.number() != 0 {
+            return Some(Fault::Unallocated);
+        }
+        if rd.is_pc() || rn.is_pc() || rs.is_pc() || rm.is_pc() {
+            return Some(Fault::PcOperand);
+        }
+        if rd.number() == rm.number() {
+            return Some(Fault::MultiplySame);
+        }
+        None
     }
-    if rd.is_pc() || rn.is_pc() || rs.is_pc() || rm.is_pc() {
-        return Some(Fault::PcOperand);
-    }
-    if rd.number() == rm.number() {
-        return Some(Fault::MultiplySame);
-    }
-    None
 }
 
-fn transfer_refusal(transfer: Transfer) -> Option<Fault>
-    ensures { result ≡ refusal (Action.Transfer transfer) }
-{
-    let Transfer {
-        is_byte,
-        rd,
-        address,
-        ..
-    } = transfer;
-    let Address {
-        indexing,
-        rn,
-        offset,
-        ..
-    } = address;
-    let writes_pc = rn.is_pc() && indexing.writes_base();
-    let moves_byte_of_pc = rd.is_pc() && is_byte;
-    if offset.is_pc() || writes_pc || moves_byte_of_pc {
-        return Some(Fault::PcOperand);
+impl Transfer {
+    #[inline(always)]
+    pub(crate) fn refusal(&self) -> Option<Fault>
+        ensures { result ≡ refusal (Action.Transfer self.now) }
+    {
+        let Transfer {
+            is_byte,
+            rd,
+            address,
+            ..
+        } = *self;
+        let Address {
+            indexing,
+            rn,
+            offset,
+            ..
+        } = address;
+        let writes_pc = rn.is_pc() && indexing.writes_base();
+        let moves_byte_of_pc = rd.is_pc() && is_byte;
+        if offset.is_pc() || writes_pc || moves_byte_of_pc {
+            return Some(Fault::PcOperand);
+        }
+        None
     }
-    None
 }
 
-fn block_refusal(block: BlockTransfer) -> Option<Fault>
-    ensures { result ≡ refusal (Action.BlockTransfer block) }
-{
-    if block.rn.is_pc() {
-        return Some(Fault::PcOperand);
+impl BlockTransfer {
+    #[inline(always)]
+    pub(crate) fn refusal(&self) -> Option<Fault>
+        ensures { result ≡ refusal (Action.BlockTransfer self.now) }
+    {
+        if self.rn.is_pc() {
+            return Some(Fault::PcOperand);
+        }
+        if self.list.is_empty() {
+            return Some(Fault::EmptyList);
+        }
+        let loads_pc = self.loads && self.list.contains_pc();
+        if self.psr_or_user && self.writes_back && !loads_pc {
+            return Some(Fault::UserBankWriteback);
+        }
+        None
     }
-    if block.list.is_empty() {
-        return Some(Fault::EmptyList);
-    }
-    let loads_pc = block.loads && block.list.contains_pc();
-    if block.psr_or_user && block.writes_back && !loads_pc {
-        return Some(Fault::UserBankWriteback);
-    }
-    None
 }

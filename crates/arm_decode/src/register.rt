@@ -30,6 +30,7 @@ impl Register {
     }
 
     /// The register that the four bits of a word from `low` on name.
+    #[inline(always)]
     pub(crate) fn in_word(word: u32, low: u32) -> Register
         requires { low < 32 }
         ensures { result ≡ field word low 4 }
@@ -76,6 +77,7 @@ impl RegisterList {
     }
 
     /// The list of a word, its bits 15 to 0.
+    #[inline(always)]
     pub(crate) fn in_word(word: u32) -> RegisterList
         ensures { result ≡ field word 0 16 }
     {

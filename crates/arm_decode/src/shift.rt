@@ -36,6 +36,7 @@ pub struct ShiftedRegister {
 
 impl Shift {
     /// The type of shift of a word that shifts a register.
+    #[inline(always)]
     pub(crate) fn in_word(word: u32) -> Shift
         ensures { result ≡ shift_of (field word 5 2) }
     {
@@ -58,7 +59,8 @@ impl Shift {
 
 impl ShiftedRegister {
     /// The register, type and amount of a word that shifts a register by a number.
-    pub(crate) fn in_word(word: u32) -> ShiftedRegister
+    #[inline(always)]
+    pub fn in_word(word: u32) -> ShiftedRegister
         ensures { result ≡ shifted_in word }
     {
         ShiftedRegister {

@@ -11,14 +11,15 @@ use Rattle.arm_decode.specs.declared.action.BlockTransfer.{BlockTransfer}
 use Rattle.arm_decode.specs.declared.address.BlockMode.{BlockMode}
 use Rattle.arm_decode.specs.declared.address.BlockMode.TheVariants.{DecrementAfter, IncrementAfter, DecrementBefore, IncrementBefore}
 use Rattle.arm_step.specs.declared.psr.Mode.{Mode}
-use Rattle.arm_step.specs.State.{State, register_in, with_pc}
+use Rattle.arm_step.specs.State.{State, IsCore, register_in, with_pc}
 use Rattle.arm_step.specs.Effect.{advanced, plain_operand, status_operand, with_result}
 use Rattle.arm_step.specs.Words.{words_at, with_words, words_stored, words_loaded}
-use Rattle.arm_step.specs.Blocks.{listed_below, listed, lowest, stepped_base, block_size, block_start, block_base, loads_status, bank_of, with_block_base, with_loaded, with_block_status, block_loaded, block_value, block_values, block_stored, block_transferred}
+use Rattle.arm_step.specs.Blocks.{listed_below, listed, lowest, stepped_base, block_size, block_start, block_base, loads_status, bank_of, with_block_base, with_loaded, with_block_status, block_loaded, stores_new_base, block_value, block_values, block_stored, block_transferred}
 use Rattle.arm_step.specs.Step.{acted, or_fault}
-use Rattle.arm_step.specs.Back.{IsCore, PutsAway, opposite, brought_back, ComesBack}
+use Rattle.arm_step.specs.Back.{PutsAway, opposite, brought_back, ComesBack}
 use Rattle.arm_step.proofs.Listing.{few_of_all}
-use Rattle.arm_step.proofs.Restoring.{placed, same_read, size_kept, no_pc}
+use Rattle.arm_step.proofs.OperandWords.{is_word}
+use Rattle.arm_step.proofs.Restoring.{placed, same_read, size_kept, no_pc, and_false}
 
 -- a byte below the words keeps its value
 below_kept : (b : Bytes) (a x : ℕ) (ws : List ℕ) → x < a → (with_words b a ws).at x ≡ b.at x
@@ -63,11 +64,11 @@ first_back b a w ws h =
     (kept a (omega arith) ∙ byte_0 b.at a w) (kept (a + 1) (omega arith) ∙ byte_1 b.at a w)
     (kept (a + 2) (omega arith) ∙ byte_2 b.at a w) (kept (a + 3) (omega arith) ∙ byte_3 b.at a w) (four_bytes w h)
 
-abbrev AreWords : List ℕ → Type 0
+abbrev pub AreWords : List ℕ → Type 0
 AreWords [] = Unit {0}
 AreWords (w ∷ ws) = (w < 2 ^ 32) × AreWords ws
 
-words_back : (b : Bytes) (a : ℕ) (ws : List ℕ) → AreWords ws → words_at (with_words b a ws) a (length ws) ≡ ws
+pub words_back : (b : Bytes) (a : ℕ) (ws : List ℕ) → AreWords ws → words_at (with_words b a ws) a (length ws) ≡ ws
 unfolding words_at with_words
 words_back b a [] h = refl
 words_back b a (w ∷ ws) h =
@@ -95,7 +96,8 @@ unfolding block_value status_operand bank_of
 value_is s t r p e =
     let other : nat_eq r t.rn ≡ false = off r t.rn (λ f. let both : bit_of t.list r ≡ bit_of t.list t.rn = ap (bit_of t.list) f in cc (p.apart, e, both)) in
     let no : nat_eq r 15 ≡ false = off r 15 (λ f. let both : bit_of t.list r ≡ bit_of t.list 15 = ap (bit_of t.list) f in cc (p.without_pc, e, both)) in
-    rw (p.moves_base, other, p.plain, no) refl
+    let old : (stores_new_base t && nat_eq r t.rn) ≡ false = rw other (and_false (stores_new_base t)) in
+    rw (old, p.plain, no) refl
 
 joined_maps : (f g : ℕ → ℕ) (xs : List ℕ) (n : ℕ) → map f xs ≡ map g xs → f n ≡ g n → map f (xs ++ n ∷ []) ≡ map g (xs ++ n ∷ [])
 joined_maps f g xs n h e = map-append f xs (n ∷ []) ∙ ap (λ ys. ys ++ f n ∷ []) h ∙ ap (λ y. map g xs ++ y ∷ []) e ∙ sym (map-append g xs (n ∷ []))
@@ -136,16 +138,20 @@ stored_by : (loads : Bool) (r q : Result (State × Bytes) Fault) (w : State × B
 stored_by true r q w h e = absurd (cc)
 stored_by false r q w h e = from_fault q w e
 
-store_left : (owned : ℕ → Bool) (t : BlockTransfer) (s out : State) (b c : Bytes) → PutsAway t → acted owned s b (action.BlockTransfer t) ≡ Ok (out, c)
+pub store_left : (owned : ℕ → Bool) (t : BlockTransfer) (s out : State) (b c : Bytes) → t.loads ≡ false → acted owned s b (action.BlockTransfer t) ≡ Ok (out, c)
     → (out ≡ with_block_base (advanced s) t (block_base s t)) × (c ≡ with_words b (block_start s t) (block_values s t))
 unfolding acted block_transferred block_stored words_stored
-store_left owned t s out b c p e = from_store _ _ c _ out (stored_by t.loads (block_loaded s b t) _ (out, c) p.stores e)
+store_left owned t s out b c h e = from_store _ _ c _ out (stored_by t.loads (block_loaded s b t) _ (out, c) h e)
 
-load_left : (owned : ℕ → Bool) (t : BlockTransfer) (s end : State) (c d : Bytes) → acted owned s c (action.BlockTransfer (brought_back t)) ≡ Ok (end, d)
-    → end ≡ (let u = brought_back t in let ws = words_at c (block_start s u) (block_size u) in
+loaded_by : (loads : Bool) (r q : Result (State × Bytes) Fault) (w : State × Bytes) → loads ≡ true → or_fault (cond loads r q) ≡ Ok w → r ≡ Ok w
+loaded_by true r q w h e = from_fault r w e
+loaded_by false r q w h e = absurd (cc)
+
+pub load_left : (owned : ℕ → Bool) (u : BlockTransfer) (s end : State) (c d : Bytes) → u.loads ≡ true → acted owned s c (action.BlockTransfer u) ≡ Ok (end, d)
+    → end ≡ (let ws = words_at c (block_start s u) (block_size u) in
     with_block_status (with_loaded (bank_of s u) (with_block_base (advanced s) u (block_base s u)) (listed u.list) ws) u ws)
 unfolding acted block_transferred block_loaded words_loaded
-load_left owned t s end c d e = from_load _ _ _ c d end (from_fault _ (end, d) e)
+load_left owned u s end c d h e = from_load _ _ _ c d end (loaded_by u.loads _ (block_stored owned s c u) (end, d) h e)
 
 based : (s : State) (t : BlockTransfer) (v : ℕ) → t.writes_back ≡ true → t.rn < 15 → length s.file ≡ 26 → register_in s.psr.mode (with_block_base (advanced s) t v) t.rn ≡ v
 unfolding with_block_base with_result advanced with_pc
@@ -158,10 +164,6 @@ based_size s t v w = rw w (size_kept s.psr.mode (advanced s) t.rn v)
 base_read : (s : State) (r : ℕ) → r < 15 → plain_operand s r 2 ≡ register_in s.psr.mode s r
 unfolding plain_operand
 base_read s r h = rw (no_pc r h) refl
-
-is_word : (s : State) (m : Mode) (r : ℕ) → IsCore s → register_in m s r < 2 ^ 32
-unfolding register_in
-is_word s m r i = i.words _
 
 start_back : (s back : State) (t : BlockTransfer) → plain_operand s t.rn 2 < 2 ^ 32 → plain_operand back t.rn 2 ≡ block_base s t → block_start back (brought_back t) ≡ block_start s t
 unfolding block_start block_base
@@ -213,8 +215,8 @@ pub comes_back : ComesBack
 comes_back owned t s out back end b c d p i j e mode base f n h which =
     let m = s.psr.mode in
     let u = brought_back t in
-    let went = store_left owned t s out b c p e in
-    let came = load_left owned t back end c d f in
+    let went = store_left owned t s out b c p.stores e in
+    let came = load_left owned (brought_back t) back end c d refl f in
     let word : plain_operand s t.rn 2 < 2 ^ 32 = rw (base_read s t.rn p.base) (is_word s s.psr.mode t.rn i) in
     let there : register_in s.psr.mode out t.rn ≡ block_base s t =
     ap (λ z. register_in s.psr.mode z t.rn) went.0 ∙ based s t (block_base s t) p.moves_base p.base i.size in

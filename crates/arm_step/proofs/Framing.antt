@@ -20,7 +20,7 @@ use Rattle.arm_step.specs.Words.{are_free, are_mapped, with_words, words_stored,
 use Rattle.arm_step.specs.Transfers.{loaded, stored, transferred, value_stored, transfer_address}
 use Rattle.arm_step.specs.Blocks.{block_loaded, block_stored, block_transferred, block_start, block_values}
 use Rattle.arm_step.specs.Step.{or_fault, acted, acted_if_decoded, executed, executed_if_fetched, stepped}
-use Rattle.arm_step.specs.Frame.{IsByWords, Keeps, StepKeeps}
+use Rattle.arm_step.specs.OwnedBytes.{IsByWords, Keeps, StepKeeps}
 
 abbrev KeptBy : (ℕ → Bool) → Bytes → Result Bytes Fault → Type 0
 KeptBy owned b (Ok c) = Keeps owned b c

@@ -1,5 +1,7 @@
 pub mod Back
 pub mod Comparing
+pub mod InOrder
+pub mod OperandWords
 pub mod Framing
 pub mod Listing
 pub mod Restoring

@@ -1,12 +1,15 @@
--- The registers of a list, one more at a time, and the words placed in them.
-use Rattle.std.proofs.Common.{◌≡◌, ℕ, zero, suc, ◌+◌, ◌<◌, ◌≤◌, Bool, true, false, cond, List, [], ◌∷◌, ◌++◌, length, drop, get_or, ap, refl, arith, add-one, append-nil, length-append}
-use Rattle.std.proofs.lemmas.List.{drop_all}
+-- The registers of a list, one more at a time, how many they are, and the words placed in them.
+use Rattle.std.proofs.Common.{◌≡◌, ℕ, zero, suc, ◌+◌, ◌-◌, ◌*◌, ◌/◌, ◌%◌, ◌^◌, ◌<◌, ◌≤◌, Bool, true, false, cond, nat_eq, List, [], ◌∷◌, ◌++◌, length, map, take, get_or, ap, sym, ◌∙◌, subst, refl, arith, add-one, append-nil, length-append}
+use lib.Count.{ones, ones_in}
+use Rattle.std.specs.Int.RustNames.{count_ones}
+use Rattle.std.proofs.lemmas.Bool.Decides.{nat_tests}
+use Rattle.std.proofs.lemmas.List.{map-append, length-take-le, take_all, take_more}
+use Rattle.std.proofs.lemmas.Nat.{mod-pow-add, ones_cat, pow_pos}
 use Rattle.profile.specs.Word.{bit_of}
 use Rattle.arm_step.specs.Blocks.{listed_below, listed, with_loaded}
 use Rattle.arm_step.specs.Effect.{with_result_in}
 use Rattle.arm_step.specs.State.{State}
 use Rattle.arm_step.specs.declared.psr.Mode.{Mode}
-use Rattle.arm_step.proofs.SeveralWords.{drop_next}
 
 pub listed_with : (list n : ℕ) → bit_of list n ≡ true → listed_below (n + 1) list ≡ listed_below n list ++ n ∷ []
 unfolding listed_below
@@ -37,14 +40,85 @@ pub few_of_all : (list : ℕ) → length (listed list) ≤ 16
 unfolding listed
 few_of_all list = few_listed list 16
 
-pub loaded_step : (m : Mode) (s : State) (rs ws : List ℕ) (i : ℕ) → i < length rs → i < length ws → with_loaded m s (drop i rs) (drop i ws) ≡ with_loaded m (with_result_in m s (get_or rs i 0) (get_or ws i 0)) (drop (i + 1) rs) (drop (i + 1) ws)
+-- as many as bits are set
+mod_below : (x n : ℕ) → x % 2 ^ n < 2 ^ n
+mod_below x n = let some : 0 < 2 ^ n = pow_pos n in omega arith
+
+none_set : ones 0 ≡ 0
+unfolding ones ones_in
+none_set = refl
+
+one_set : ones 1 ≡ 1
+unfolding ones ones_in
+one_set = refl
+
+ones_one : (b : Bool) (x : ℕ) → nat_eq x 1 ≡ b → x < 2 → (n : ℕ) (xs : List ℕ) → ones x + length xs ≡ length (xs ++ cond b (n ∷ []) [])
+ones_one true x e h n xs = let one : x ≡ 1 = grind (arith, nat_tests) in rw (one, one_set) (omega (arith, length-append xs (n ∷ [])))
+ones_one false x e h n xs = let none : x ≡ 0 = grind (arith, nat_tests) in rw (none, none_set) (omega (arith, ap length (append-nil xs)))
+
+ones_below : (list n : ℕ) → ones (list % 2 ^ n) ≡ length (listed_below n list)
+unfolding listed_below
+ones_below list zero = let none : list % 2 ^ 0 ≡ 0 = omega arith in ap ones none ∙ none_set
+ones_below list (suc n) =
+    let one_more : 1 + n ≡ suc n = omega arith in
+    let parts : list % 2 ^ (suc n) ≡ (list / 2 ^ n % 2) * 2 ^ n + list % 2 ^ n = ap (λ k. list % 2 ^ k) (sym one_more) ∙ mod-pow-add list 1 n in
+    let low : list % 2 ^ n < 2 ^ n = mod_below list n in
+    let bit : list / 2 ^ n % 2 < 2 = omega arith in
+    ap ones parts ∙ ones_cat n (list / 2 ^ n % 2) (list % 2 ^ n) low ∙ ap (λ k. ones (list / 2 ^ n % 2) + k) (ones_below list n)
+    ∙ ones_one (bit_of list n) (list / 2 ^ n % 2) refl bit n (listed_below n list)
+
+pub counted : (list : ℕ) → list < 2 ^ 16 → count_ones list ≡ length (listed list)
+unfolding listed
+counted list h = let all : list % 2 ^ 16 ≡ list = omega arith in ap ones (sym all) ∙ ones_below list 16
+
+-- the words of the registers so far
+below_next : (b : Bool) (n : ℕ) (xs : List ℕ) → length xs ≤ length (xs ++ cond b (n ∷ []) [])
+below_next true n xs = omega (arith, length-append xs (n ∷ []))
+below_next false n xs = omega (arith, length-append {A = ℕ} xs [])
+
+below_more : (list n k : ℕ) → length (listed_below n list) ≤ length (listed_below (k + n) list)
+unfolding listed_below
+below_more list n zero = let same : zero + n ≡ n = omega arith in rw same (omega arith)
+below_more list n (suc k) =
+    let next : suc k + n ≡ suc (k + n) = omega arith in
+    rw next (omega (arith, below_more list n k, below_next (bit_of list (k + n)) (k + n) (listed_below (k + n) list)))
+
+pub has_word : (list n : ℕ) → bit_of list n ≡ true → n < 16 → length (listed_below n list) < length (listed list)
+unfolding listed
+has_word list n e h =
+    let rest : (16 - (n + 1)) + (n + 1) ≡ 16 = omega arith in
+    let more : length (listed_below n list) + 1 ≡ length (listed_below (n + 1) list) = rw (listed_with list n e) (sym (length-append _ _)) in
+    let all : length (listed_below (n + 1) list) ≤ length (listed_below 16 list) = subst (λ k. length (listed_below (n + 1) list) ≤ length (listed_below k list)) rest (below_more list (n + 1) (16 - (n + 1))) in
+    omega arith
+
+loaded_more : (m : Mode) (s : State) (rs ws : List ℕ) (r w : ℕ) → length rs ≡ length ws → with_loaded m s (rs ++ r ∷ []) (ws ++ w ∷ []) ≡ with_result_in m (with_loaded m s rs ws) r w
 unfolding with_loaded
-loaded_step m s rs ws i h g = rw (drop_next rs i h, drop_next ws i g) refl
+loaded_more m s [] [] r w h = refl
+loaded_more m s [] (v ∷ ws) r w h = absurd (omega arith)
+loaded_more m s (q ∷ rs) [] r w h = absurd (omega arith)
+loaded_more m s (q ∷ rs) (v ∷ ws) r w h = let rest : length rs ≡ length ws = omega arith in loaded_more m (with_result_in m s q v) rs ws r w rest
 
-pub loaded_end : (m : Mode) (s : State) (rs ws : List ℕ) (i : ℕ) → length rs ≤ i → with_loaded m s (drop i rs) ws ≡ s
-unfolding with_loaded
-loaded_end m s rs ws i h = rw (drop_all i rs h) refl
+pub placed_with : (m : Mode) (s : State) (list n i : ℕ) (ws : List ℕ) → bit_of list n ≡ true → i ≡ length (listed_below n list) → i < length ws
+    → with_loaded m s (listed_below (n + 1) list) (take (i + 1) ws) ≡ with_result_in m (with_loaded m s (listed_below n list) (take i ws)) n (get_or ws i 0)
+placed_with m s list n i ws e h g =
+    let few : i ≤ length ws = omega arith in
+    let same : length (listed_below n list) ≡ length (take i ws) = omega (arith, length-take-le i ws few) in
+    rw (listed_with list n e, take_more ws i 0 g) (loaded_more m s (listed_below n list) (take i ws) n (get_or ws i 0) same)
 
-pub ruleset listing = (listed_with, listed_without, listed_none, listed_all)
+pub placed_none : (m : Mode) (s : State) (list : ℕ) → with_loaded m s (listed_below 0 list) [] ≡ s
+unfolding with_loaded listed_below
+placed_none m s list = refl
 
-pub ruleset placing = (loaded_step, loaded_end)
+pub length_none : (list : ℕ) → length (listed_below 0 list) ≡ 0
+unfolding listed_below
+length_none list = refl
+
+pub length_with : (list n : ℕ) → bit_of list n ≡ true → length (listed_below (n + 1) list) ≡ length (listed_below n list) + 1
+length_with list n e = rw (listed_with list n e) (length-append _ _)
+
+pub valued_with : (f : ℕ → ℕ) (list n : ℕ) → bit_of list n ≡ true → map f (listed_below (n + 1) list) ≡ map f (listed_below n list) ++ f n ∷ []
+valued_with f list n e = rw (listed_with list n e) (map-append f (listed_below n list) (n ∷ []))
+
+pub ruleset placing = (placed_with, placed_none, listed_without, listed_none, listed_all, length_none, length_with, has_word, take_all)
+
+pub ruleset valuing = (valued_with, listed_without, listed_none, listed_all)

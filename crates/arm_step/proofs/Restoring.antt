@@ -81,7 +81,7 @@ Placed m s f list n q = register_in m (with_loaded m s (listed_below n list) (ma
 test_other : (list n q : ℕ) → q ≢ n → (nat_lt q n && bit_of list q) ≡ (nat_lt q (suc n) && bit_of list q)
 test_other list n q d = let e : nat_lt q n ≡ nat_lt q (suc n) = grind (arith, nat_tests) in ap (λ b. b && bit_of list q) e
 
-and_false : (b : Bool) → (b && false) ≡ false
+pub and_false : (b : Bool) → (b && false) ≡ false
 and_false true = refl
 and_false false = refl
 

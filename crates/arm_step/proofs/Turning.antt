@@ -43,7 +43,7 @@ one_turn : (v : ℕ) (c : Bool) → v < 2 ^ 32 → whole (rotated_through v c) �
 one_turn v true h = rw (bit_value v) (omega arith)
 one_turn v false h = rw (bit_value v) (omega arith)
 
-one_below : (v : ℕ) (c : Bool) → v < 2 ^ 32 → (rotated_through v c).value < 2 ^ 32
+pub one_below : (v : ℕ) (c : Bool) → v < 2 ^ 32 → (rotated_through v c).value < 2 ^ 32
 one_below v true h = omega arith
 one_below v false h = omega arith
 

@@ -1,19 +1,14 @@
 -- What STM puts away LDM brings back: STM with write-back and without S, then LDM by the opposite way of counting with the same list and
 -- base, whatever the listed registers became in between.
-use Rattle.std.specs.Prelude.{◌≡◌, ◌<◌, ◌^◌, ◌⊎◌, ℕ, Bool, true, false, length, slice_index, Ok}
+use Rattle.std.specs.Prelude.{◌≡◌, ◌<◌, ◌⊎◌, ℕ, Bool, true, false, Ok}
 use Rattle.profile.specs.Word.{bit_of}
 use Rattle.address_map.specs.Bytes.{Bytes}
 use Rattle.arm_decode.specs.declared.action.Action.TheVariants as action
 use Rattle.arm_decode.specs.declared.action.BlockTransfer.{BlockTransfer}
 use Rattle.arm_decode.specs.declared.address.BlockMode.{BlockMode}
 use Rattle.arm_decode.specs.declared.address.BlockMode.TheVariants.{DecrementAfter, IncrementAfter, DecrementBefore, IncrementBefore}
-use Rattle.arm_step.specs.State.{State, register_in}
+use Rattle.arm_step.specs.State.{State, IsCore, register_in}
 use Rattle.arm_step.specs.Step.{acted}
-
--- As every core is: a file of 26 words.
-pub record IsCore (s : State) : Type 0 where
-  pub size : length s.file ≡ 26
-  pub words : (k : ℕ) → slice_index s.file k < 2 ^ 32
 
 -- STM with `!` and without S, whose list has neither its base nor R15.
 pub record PutsAway (t : BlockTransfer) : Type 0 where

@@ -22,14 +22,14 @@ unfoldable pub listed : ℕ → List ℕ
 listed list = listed_below 16 list
 
 -- The lowest address, with the base and the number of registers; its bits 1 and 0 are ignored.
-unfoldable pub lowest : BlockMode → ℕ → ℕ → ℕ
+abbrev pub lowest : BlockMode → ℕ → ℕ → ℕ
 lowest IncrementAfter base n = base
 lowest IncrementBefore base n = (base + 4) % 2 ^ 32
 lowest DecrementAfter base n = (2 ^ 32 + base + 4 - 4 * n) % 2 ^ 32
 lowest DecrementBefore base n = (2 ^ 32 + base - 4 * n) % 2 ^ 32
 
 -- The base that is written back.
-unfoldable pub stepped_base : BlockMode → ℕ → ℕ → ℕ
+abbrev pub stepped_base : BlockMode → ℕ → ℕ → ℕ
 stepped_base IncrementAfter base n = (base + 4 * n) % 2 ^ 32
 stepped_base IncrementBefore base n = (base + 4 * n) % 2 ^ 32
 stepped_base DecrementAfter base n = (2 ^ 32 + base - 4 * n) % 2 ^ 32
@@ -45,11 +45,11 @@ unfoldable pub block_base : State → BlockTransfer → ℕ
 block_base s t = stepped_base t.mode (plain_operand s t.rn 2) (block_size t)
 
 -- S in LDM with R15 loads the status; else it means the registers of the user bank.
-unfoldable pub loads_status : BlockTransfer → Bool
+abbrev pub loads_status : BlockTransfer → Bool
 loads_status t = t.psr_or_user && (t.loads && bit_of t.list 15)
 
-unfoldable pub bank_of : State → BlockTransfer → Mode
-bank_of s t = if t.psr_or_user then (if t.loads && bit_of t.list 15 then s.psr.mode else User) else s.psr.mode
+abbrev pub bank_of : State → BlockTransfer → Mode
+bank_of s t = if t.psr_or_user && not (loads_status t) then User else s.psr.mode
 
 unfoldable pub with_block_base : State → BlockTransfer → ℕ → State
 with_block_base s t base = if t.writes_back then with_result s t.rn base else s
@@ -74,11 +74,13 @@ block_loaded s b t =
     bind (words_loaded b (block_start s t) (block_size t))
     (λ ws. Ok (with_block_status (with_loaded (bank_of s t) (with_block_base (advanced s) t (block_base s t)) (listed t.list) ws) t ws, b))
 
--- R15 is stored three words ahead with the status. A base that is written back is stored as it was where no lower register is listed, and
--- else as it will be.
+-- A base that is written back is stored as it was where no lower register is listed, and else as it will be.
+abbrev pub stores_new_base : BlockTransfer → Bool
+stores_new_base t = t.writes_back && not (t.list % 2 ^ t.rn == 0)
+
+-- R15 is stored three words ahead with the status.
 unfoldable pub block_value : State → BlockTransfer → ℕ → ℕ
-block_value s t r =
-    if t.writes_back && (r == t.rn && not (t.list % 2 ^ r == 0)) then block_base s t else status_operand (bank_of s t) s r 3
+block_value s t r = if stores_new_base t && r == t.rn then block_base s t else status_operand (bank_of s t) s r 3
 
 unfoldable pub block_values : State → BlockTransfer → List ℕ
 block_values s t = map (block_value s t) (listed t.list)

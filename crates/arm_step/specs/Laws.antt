@@ -1,11 +1,10 @@
 -- What the definitions of this crate must satisfy beside being the table: laws that go another way than the table does.
 use Rattle.std.specs.Prelude.{◌≡◌, ◌↔◌, ◌≤◌, ◌<◌, ◌≤ℤ◌, ◌<ℤ◌, ◌+◌, ◌-◌, ◌*◌, ◌^◌, ◌==◌, ℕ, zero, suc, Bool, true, false, not, IsTrue}
 use Rattle.std.specs.Int.{bit_not, w32}
-use Rattle.profile.specs.Sums.{signed, difference_of}
-use Rattle.profile.specs.Word.{bit_of}
+use Rattle.profile.specs.Sums.{signed}
 use Rattle.profile.specs.declared.shift.Shifted.{Shifted}
-use Rattle.profile.specs.declared.word.Sum.{Sum}
 use Rattle.arm_decode.specs.Names.{condition_of}
+use Rattle.arm_decode.specs.Ranges.{FitsOperand}
 use Rattle.arm_decode.specs.declared.action.Operate.{Operate}
 use Rattle.arm_decode.specs.declared.condition.Condition.TheVariants as condition
 use Rattle.arm_decode.specs.declared.operation.Operation.TheVariants as operation
@@ -15,18 +14,11 @@ use Rattle.arm_step.specs.Conditions.{holds}
 use Rattle.arm_step.specs.Effect.{plain_operand}
 use Rattle.arm_step.specs.Operand.{operand_of, shifted_by, shifted_by_number, words_ahead, kept}
 use Rattle.arm_step.specs.Operate.{computed, operated}
-use Rattle.arm_step.specs.State.{State}
+use Rattle.arm_step.specs.State.{State, IsCore}
 
 -- Of the conditions 2k and 2k + 1 exactly one holds.
 abbrev pub PairsDiffer : Type 0
 PairsDiffer = (k : ℕ) (p : Psr) → k < 8 → holds (condition_of (2 * k)) p ≡ not (holds (condition_of (2 * k + 1)) p)
-
--- The flags by which a difference shows.
-abbrev pub with_flags_of : Psr → Sum → Psr
-with_flags_of p r = record p { negative = bit_of r.value 31; zero = r.value == 0; carry = r.carry; overflow = r.overflow }
-
-abbrev pub compared : Psr → ℕ → ℕ → Psr
-compared p x y = with_flags_of p (difference_of x y true)
 
 -- What the conditions say of two words that were compared, first as numbers, then as signed numbers.
 pub record TellsOrder (p : Psr) (x y : ℕ) : Type 0 where
@@ -40,10 +32,10 @@ pub record TellsOrder (p : Psr) (x y : ℕ) : Type 0 where
   pub signed_above : IsTrue (holds condition.GreaterThan p) ↔ (signed y <ℤ signed x)
   pub signed_at_most : IsTrue (holds condition.LessOrEqual p) ↔ (signed x ≤ℤ signed y)
 
--- CMP that is not of the form P leaves the flags of its two operands, and so tells their order.
-abbrev pub ComparesOperands : Type 0
-ComparesOperands = (s : State) (o : Operate) → o.operation ≡ operation.Compare → o.rd == 15 ≡ false →
-    (operated s o).psr ≡ compared s.psr (plain_operand s o.rn (words_ahead o.operand)) (operand_of s o.operand).value
+-- After CMP that is not of the form P the conditions tell the order of its two operands.
+abbrev pub CompareTells : Type 0
+CompareTells = (s : State) (o : Operate) → IsCore s → FitsOperand o.operand → o.operation ≡ operation.Compare → o.rd == 15 ≡ false →
+    TellsOrder (operated s o).psr (plain_operand s o.rn (words_ahead o.operand)) (operand_of s o.operand).value
 
 -- SUB is ADC with the second operand complemented and C set, SBC with C as it is: results and flags.
 abbrev pub complemented : Shifted → Shifted

@@ -1,8 +1,9 @@
 pub mod Back
+pub mod BlockOrder
 pub mod Blocks
 pub mod Conditions
 pub mod Effect
-pub mod Frame
+pub mod OwnedBytes
 pub mod Laws
 pub mod Operand
 pub mod Operate

@@ -15,28 +15,28 @@ abbrev pub kept : ℕ → Bool → Shifted
 kept x c = record { value = x; carry = c }
 
 -- a shift by an amount of at least 1
-unfoldable pub shifted_by : Shift → ℕ → ℕ → Shifted
+abbrev pub shifted_by : Shift → ℕ → ℕ → Shifted
 shifted_by shift.LogicalLeft x n = shifted_left x n
 shifted_by shift.LogicalRight x n = shifted_right x n
 shifted_by shift.ArithmeticRight x n = shifted_signed x n
 shifted_by shift.RotateRight x n = rotated x n
 
 -- a shift by the number in the instruction: 0 is no shift for LSL, 32 for LSR and ASR, and RRX for ROR
-unfoldable pub shifted_by_zero : Shift → ℕ → Bool → Shifted
+abbrev pub shifted_by_zero : Shift → ℕ → Bool → Shifted
 shifted_by_zero shift.LogicalLeft x c = kept x c
 shifted_by_zero shift.LogicalRight x c = shifted_right x 32
 shifted_by_zero shift.ArithmeticRight x c = shifted_signed x 32
 shifted_by_zero shift.RotateRight x c = rotated_through x c
 
-unfoldable pub shifted_by_number : Shift → ℕ → ℕ → Bool → Shifted
+abbrev pub shifted_by_number : Shift → ℕ → ℕ → Bool → Shifted
 shifted_by_number kind x n c = if n == 0 then shifted_by_zero kind x c else shifted_by kind x n
 
 -- a shift by the low byte of a register: 0 keeps value and C
-unfoldable pub shifted_by_byte : Shift → ℕ → ℕ → Bool → Shifted
+abbrev pub shifted_by_byte : Shift → ℕ → ℕ → Bool → Shifted
 shifted_by_byte kind x n c = if n == 0 then kept x c else shifted_by kind x n
 
 -- a byte rotated right by twice the field; a rotation of 0 keeps C
-unfoldable pub immediate : ℕ → ℕ → Bool → Shifted
+abbrev pub immediate : ℕ → ℕ → Bool → Shifted
 immediate rotation byte c = if rotation == 0 then kept byte c else rotated byte (2 * rotation)
 
 -- R15 is two words ahead of the instruction, three where a register gives the amount of a shift

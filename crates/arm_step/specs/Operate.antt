@@ -54,7 +54,7 @@ unfoldable pub operated : State → Operate → State
 operated s o = finished (advanced s) o (computed o.operation (plain_operand s o.rn (words_ahead o.operand)) (operand_of s o.operand) s.psr)
 
 -- Rd = Rm times Rs, plus Rn for MLA, modulo 2^32. With S the flags N and Z are those of the result, C and V stay.
-unfoldable pub product : State → Multiply → ℕ
+abbrev pub product : State → Multiply → ℕ
 product s m =
     if m.accumulates then (plain_operand s m.rm 2 * plain_operand s m.rs 2 + plain_operand s m.rn 2) % 2 ^ 32 else
     plain_operand s m.rm 2 * plain_operand s m.rs 2 % 2 ^ 32

@@ -1,5 +1,5 @@
 -- The core: its register file with the banks of the four modes, the status and the program counter (ARM2 data sheet, "Registers").
-use Rattle.std.specs.Prelude.{ℕ, Bool, ◌+◌, ◌*◌, ◌/◌, ◌%◌, ◌^◌, ◌==◌, nat_lt, if◌then◌else◌, List, [], ◌∷◌, slice_index, slice_set, false}
+use Rattle.std.specs.Prelude.{◌≡◌, ◌<◌, ℕ, Bool, length, ◌+◌, ◌*◌, ◌/◌, ◌%◌, ◌^◌, ◌==◌, nat_lt, if◌then◌else◌, List, [], ◌∷◌, slice_index, slice_set, false}
 use Rattle.std.specs.Prelude.{replicate, ◌++◌}
 use Rattle.arm_step.specs.declared.psr.Mode.{Mode}
 use Rattle.arm_step.specs.declared.psr.Mode.TheVariants.{User, FastInterrupt, Interrupt, Supervisor}
@@ -12,8 +12,15 @@ pub record State : Type 0 where
   pub psr : Psr
   pub pc : ℕ
 
+-- As every core is: 26 registers that are words, and the program counter at a word of the address space.
+pub record IsCore (s : State) : Type 0 where
+  pub size : length s.file ≡ 26
+  pub words : (k : ℕ) → slice_index s.file k < 2 ^ 32
+  pub inside : s.pc < 2 ^ 26
+  pub aligned : s.pc % 4 ≡ 0
+
 -- The place in the file of R0 to R14 as a mode sees them.
-unfoldable pub slot_of : Mode → ℕ → ℕ
+abbrev pub slot_of : Mode → ℕ → ℕ
 slot_of User n = n
 slot_of FastInterrupt n = if nat_lt n 8 then n else n + 7
 slot_of Interrupt n = if nat_lt n 13 then n else n + 9
@@ -38,7 +45,7 @@ register_of s n = if n == 15 then r15_of s else register_in s.psr.mode s n
 unfoldable pub with_register : State → ℕ → ℕ → State
 with_register s n v = with_register_in s.psr.mode s n v
 
-unfoldable pub with_psr : State → Psr → State
+abbrev pub with_psr : State → Psr → State
 with_psr s p = record s { psr = p }
 
 -- The program counter set to bits 25 to 2 of a number, all others being left out.
@@ -48,10 +55,10 @@ with_pc s a = record s { pc = a / 4 % 2 ^ 24 * 4 }
 unfoldable pub with_flags : State → Bool → Bool → Bool → Bool → State
 with_flags s n z c v = record s { psr = record s.psr { negative = n; zero = z; carry = c; overflow = v } }
 
-unfoldable pub with_overflow : State → Bool → State
+abbrev pub with_overflow : State → Bool → State
 with_overflow s v = record s { psr = record s.psr { overflow = v } }
 
-unfoldable pub with_mode : State → Mode → State
+abbrev pub with_mode : State → Mode → State
 with_mode s m = record s { psr = record s.psr { mode = m } }
 
 -- The start: user mode with all flags clear, the program counter at the start of the application space, every register 0 but the stack

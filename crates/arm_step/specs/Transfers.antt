@@ -17,7 +17,7 @@ use Rattle.arm_step.specs.State.{State}
 use Rattle.arm_step.specs.Effect.{advanced, plain_operand, status_operand, with_result}
 use Rattle.arm_step.specs.Operand.{shifted_register}
 
-unfoldable pub offset_of : State → Offset → ℕ
+abbrev pub offset_of : State → Offset → ℕ
 offset_of s (offset.Immediate n) = n
 offset_of s (offset.Shifted r) = (shifted_register s r).value
 
@@ -26,21 +26,21 @@ moved_by Up base by = (base + by) % 2 ^ 32
 moved_by Down base by = (2 ^ 32 + base - by) % 2 ^ 32
 
 -- the base changed by the offset: what is written back
-unfoldable pub moved_base : State → Address → ℕ
+abbrev pub moved_base : State → Address → ℕ
 moved_base s a = moved_by a.direction (plain_operand s a.rn 2) (offset_of s a.offset)
 
 abbrev pub address_by : Indexing → ℕ → ℕ → ℕ
 address_by (Pre writes_back) base moved = moved
 address_by (Post translates) base moved = base
 
-unfoldable pub transfer_address : State → Address → ℕ
+abbrev pub transfer_address : State → Address → ℕ
 transfer_address s a = address_by a.indexing (plain_operand s a.rn 2) (moved_base s a)
 
-unfoldable pub with_base : State → Address → ℕ → State
+abbrev pub with_base : State → Address → ℕ → State
 with_base s a moved = if writes_base a.indexing then with_result s a.rn moved else s
 
 -- a word off a boundary is rotated so that the byte at the address is lowest
-unfoldable pub value_loaded : Bytes → Bool → ℕ → Result ℕ Fault
+abbrev pub value_loaded : Bytes → Bool → ℕ → Result ℕ Fault
 value_loaded b true a = byte_loaded b a
 value_loaded b false a = bind (word_loaded b a) (λ w. Ok (rotated_right w (8 * (a % 4))))
 
@@ -50,7 +50,7 @@ loaded s b t =
     bind (value_loaded b t.is_byte (transfer_address s t.address))
     (λ v. Ok (with_result (with_base (advanced s) t.address (moved_base s t.address)) t.rd v, b))
 
-unfoldable pub value_stored : (ℕ → Bool) → Bytes → Bool → ℕ → ℕ → Result Bytes Fault
+abbrev pub value_stored : (ℕ → Bool) → Bytes → Bool → ℕ → ℕ → Result Bytes Fault
 value_stored owned b true a v = byte_stored owned b a (v % 256)
 value_stored owned b false a v = word_stored owned b a v
 

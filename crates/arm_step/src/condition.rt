@@ -8,9 +8,14 @@ use arm_decode::Condition;
 
 /// Whether a condition holds by the flags of a status (ARM2 data sheet, "The condition field").
 #[tactic(auto, unfolding(crate::specs::Conditions::holds))]
-pub fn is_met(condition: Condition, psr: Psr) -> bool
+#[inline(always)]
+pub(crate) fn is_met(condition: Condition, psr: Psr) -> bool
     ensures { result ≡ holds condition psr }
 {
+    // Nearly all instructions are carried out always.
+    if condition == Condition::Always {
+        return true;
+    }
     match condition {
         Condition::Equal => psr.zero,
         Condition::NotEqual => !psr.zero,

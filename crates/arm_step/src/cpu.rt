@@ -28,16 +28,19 @@ impl Model for Cpu {
 }
 
 /// Where R0 to R14 lie in the file, as a mode sees them.
-#[tactic(auto, unfolding(crate::specs::State::slot_of))]
+#[inline(always)]
 fn slot(mode: Mode, number: u32) -> usize
     requires { number < 15 }
     ensures place { result ≡ slot_of mode number }
     ensures bound { result < 26 }
 {
     let shared = number as usize;
+    // Nearly all steps are of user mode, and all modes share R0 to R7.
+    if shared < 8 || mode == Mode::User {
+        return shared;
+    }
     match mode {
-        Mode::User => shared,
-        Mode::FastInterrupt if shared >= 8 => shared + 7,
+        Mode::FastInterrupt => shared + 7,
         Mode::Interrupt if shared >= 13 => shared + 9,
         Mode::Supervisor if shared >= 13 => shared + 11,
         _ => shared,
@@ -70,6 +73,7 @@ impl Cpu {
 
     /// R0 to R14 of a mode, whatever the present one.
     #[tactic(auto, unfolding(crate::specs::State::register_in))]
+    #[inline(always)]
     pub fn register_in(&self, mode: Mode, number: u32) -> u32
         requires { number < 15 }
         ensures { result ≡ register_in mode self.now number }
@@ -79,6 +83,7 @@ impl Cpu {
 
     /// R0 to R15 of the present mode; R15 is the program counter with the status.
     #[tactic(auto, unfolding(crate::specs::State::register_of))]
+    #[inline(always)]
     pub fn register(&self, number: u32) -> u32
         requires { number ≤ 15 }
         ensures { result ≡ register_of self.now number }
@@ -92,13 +97,15 @@ impl Cpu {
 
     /// The program counter with the status.
     #[tactic(auto, unfolding(crate::specs::State::r15_of))]
-    pub fn r15(&self) -> u32
+    #[inline(always)]
+    pub(crate) fn r15(&self) -> u32
         ensures { result ≡ r15_of self.now }
     {
         self.psr.bits() + self.pc
     }
 
     /// The program counter.
+    #[inline(always)]
     pub fn pc(&self) -> u32
         ensures value { result ≡ self.now.pc }
         ensures below { result < 2 ^ 26 }
@@ -108,6 +115,7 @@ impl Cpu {
     }
 
     /// The status.
+    #[inline(always)]
     pub fn psr(&self) -> Psr
         ensures { result ≡ self.now.psr }
     {
@@ -116,6 +124,7 @@ impl Cpu {
 
     /// Sets one of R0 to R14 of a mode, whatever the present one.
     #[tactic(auto, unfolding(crate::specs::State::with_register_in))]
+    #[inline(always)]
     pub fn set_register_in(&mut self, mode: Mode, number: u32, value: u32)
         requires { number < 15 }
         ensures { self.new ≡ with_register_in mode self.old number value }
@@ -125,6 +134,7 @@ impl Cpu {
 
     /// Sets one of R0 to R14 of the present mode.
     #[tactic(auto, unfolding(crate::specs::State::with_register))]
+    #[inline(always)]
     pub fn set_register(&mut self, number: u32, value: u32)
         requires { number ≤ 14 }
         ensures { self.new ≡ with_register self.old number value }
@@ -134,6 +144,7 @@ impl Cpu {
 
     /// Sets the program counter to bits 25 to 2 of an address; the other bits are left out.
     #[tactic(auto, unfolding(crate::specs::State::with_pc))]
+    #[inline(always)]
     pub fn set_pc(&mut self, address: u32)
         ensures { self.new ≡ with_pc self.old address }
     {
@@ -141,8 +152,8 @@ impl Cpu {
     }
 
     /// Sets the whole status, the mode too.
-    #[tactic(auto, unfolding(crate::specs::State::with_psr))]
-    pub fn set_psr(&mut self, psr: Psr)
+    #[inline(always)]
+    pub(crate) fn set_psr(&mut self, psr: Psr)
         ensures { self.new ≡ with_psr self.old psr }
     {
         self.psr = psr;
@@ -150,7 +161,8 @@ impl Cpu {
 
     /// Sets the flags N, Z, C and V.
     #[tactic(auto, unfolding(crate::specs::State::with_flags))]
-    pub fn set_flags(&mut self, negative: bool, zero: bool, carry: bool, overflow: bool)
+    #[inline(always)]
+    pub(crate) fn set_flags(&mut self, negative: bool, zero: bool, carry: bool, overflow: bool)
         ensures { self.new ≡ with_flags self.old negative zero carry overflow }
     {
         self.psr.negative = negative;
@@ -160,7 +172,7 @@ impl Cpu {
     }
 
     /// Sets the flag V.
-    #[tactic(auto, unfolding(crate::specs::State::with_overflow))]
+    #[inline(always)]
     pub fn set_overflow(&mut self, overflow: bool)
         ensures { self.new ≡ with_overflow self.old overflow }
     {
@@ -168,7 +180,7 @@ impl Cpu {
     }
 
     /// Sets the mode.
-    #[tactic(auto, unfolding(crate::specs::State::with_mode))]
+    #[inline(always)]
     pub fn set_mode(&mut self, mode: Mode)
         ensures { self.new ≡ with_mode self.old mode }
     {

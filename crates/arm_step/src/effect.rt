@@ -13,7 +13,8 @@ use profile::word::{Sum, is_bit_set};
 impl Cpu {
     /// The program counter some words ahead of the instruction, at most 3, in the 26-bit address
     /// space.
-    pub fn ahead(&self, words: u32) -> u32
+    #[inline(always)]
+    pub(crate) fn ahead(&self, words: u32) -> u32
         requires { words ≤ 3 }
         ensures value { result ≡ ahead self.now words }
         ensures most { result ≤ 2 ^ 26 - 4 }
@@ -23,7 +24,8 @@ impl Cpu {
 
     /// Goes on to the next word.
     #[tactic(auto, unfolding(crate::specs::Effect::advanced))]
-    pub fn advance(&mut self)
+    #[inline(always)]
+    pub(crate) fn advance(&mut self)
         ensures { self.new ≡ advanced self.old }
     {
         let next = self.pc() + 4;
@@ -32,7 +34,8 @@ impl Cpu {
 
     /// A register as an operand, R15 being read ahead of the instruction and without the status.
     #[tactic(auto, unfolding(crate::specs::Effect::plain_operand))]
-    pub fn plain_operand(&self, register: Register, words: u32) -> u32
+    #[inline(always)]
+    pub(crate) fn plain_operand(&self, register: Register, words: u32) -> u32
         requires { words ≤ 3 }
         ensures { result ≡ plain_operand self.now register words }
     {
@@ -46,7 +49,8 @@ impl Cpu {
     /// A register of a mode as an operand, R15 being read ahead of the instruction and with the
     /// status.
     #[tactic(auto, unfolding(crate::specs::Effect::status_operand))]
-    pub fn status_operand(&self, mode: Mode, register: Register, words: u32) -> u32
+    #[inline(always)]
+    pub(crate) fn status_operand(&self, mode: Mode, register: Register, words: u32) -> u32
         requires { words ≤ 3 }
         ensures { result ≡ status_operand mode self.now register words }
     {
@@ -59,7 +63,8 @@ impl Cpu {
 
     /// Sets a register of a mode; R15 takes bits 25 to 2 as the program counter.
     #[tactic(auto, unfolding(crate::specs::Effect::with_result_in))]
-    pub fn set_result_in(&mut self, mode: Mode, register: Register, value: u32)
+    #[inline(always)]
+    pub(crate) fn set_result_in(&mut self, mode: Mode, register: Register, value: u32)
         ensures { self.new ≡ with_result_in mode self.old register value }
     {
         if register.is_pc() {
@@ -71,7 +76,8 @@ impl Cpu {
 
     /// Sets a register of the present mode, likewise.
     #[tactic(auto, unfolding(crate::specs::Effect::with_result))]
-    pub fn set_result(&mut self, register: Register, value: u32)
+    #[inline(always)]
+    pub(crate) fn set_result(&mut self, register: Register, value: u32)
         ensures { self.new ≡ with_result self.old register value }
     {
         self.set_result_in(self.psr().mode, register, value);
@@ -79,7 +85,8 @@ impl Cpu {
 
     /// Sets the status from a word; in user mode N, Z, C and V alone.
     #[tactic(auto, unfolding(crate::specs::Effect::with_status))]
-    pub fn set_status(&mut self, word: u32)
+    #[inline(always)]
+    pub(crate) fn set_status(&mut self, word: u32)
         ensures { self.new ≡ with_status self.old word }
     {
         let psr = self.psr().taking(Psr::of(word));
@@ -88,7 +95,8 @@ impl Cpu {
 
     /// Sets N and Z by a result, and C and V as they come with it.
     #[tactic(auto, unfolding(crate::specs::Effect::flagged))]
-    pub fn set_flags_of(&mut self, result_of: Sum)
+    #[inline(always)]
+    pub(crate) fn set_flags_of(&mut self, result_of: Sum)
         ensures { self.new ≡ flagged self.old result_of }
     {
         self.set_flags(

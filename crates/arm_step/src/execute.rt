@@ -3,23 +3,30 @@
 ghost use Rattle.std.specs.Prelude.{◌≡◌, ◌≢◌, ◌<◌, ◌≤◌, ◌^◌, ◌%◌};
 ghost use Rattle.address_map.specs.Memory.{bytes_of, is_owned, layout};
 ghost use Rattle.arm_step.specs.Turns.{Turns};
-ghost use Rattle.arm_step.specs.Step.{acted, executed, stepped};
+ghost use Rattle.arm_decode.specs.Decoded.{decoded};
+ghost use Rattle.arm_step.specs.Step.{acted_if_decoded, executed, stepped};
+ghost use Rattle.profile.specs.Outcome.{Leaves};
 
 use crate::condition::is_met;
 use crate::cpu::Cpu;
 use crate::turn::Turn;
 use address_map::AddressMap;
-use arm_decode::{Action, Condition, decode};
+use arm_decode::{
+    Address, Bits, BlockTransfer, Condition, Form, Multiply, Offset, Operand, Operate,
+    ShiftedRegister, Transfer, row_of,
+};
 use profile::Fault;
 use profile::memory_map::RETURN_GATE;
+use profile::word::is_bit_set;
 
 /// Takes one step: fetches the word at the program counter and carries it out.
 ///
 /// The turn is the first of these that applies: the gate; a fetch where nothing is mapped; nothing
-/// done, where the condition fails; a word that is refused; a software interrupt; `AddressException`,
-/// `DataUnmapped`, `OwnedWord`, each over all words of the transfer. All but `Done` leave core and
+/// done, where the condition fails; a word that is refused; a software interrupt;
+/// `AddressException`, `DataUnmapped`, `OwnedWord`, each over all words of the transfer. All but `Done` leave core and
 /// memory as they were.
 #[tactic(auto, unfolding(crate::specs::Step::stepped))]
+#[inline(always)]
 pub fn step(cpu: &mut Cpu, memory: &mut AddressMap) -> Turn
     ensures turn { Turns (cpu.old, bytes_of memory.old) (stepped (is_owned memory.old) cpu.old (bytes_of memory.old)) result (cpu.new, bytes_of memory.new) }
     ensures layout { layout memory.new ≡ layout memory.old }
@@ -38,42 +45,63 @@ pub fn step(cpu: &mut Cpu, memory: &mut AddressMap) -> Turn
 impl Cpu {
     /// Carries out a word where its condition holds, and else goes on to the next.
     #[tactic(auto, unfolding(crate::specs::Step::executed))]
+    #[inline(always)]
     fn execute(&mut self, memory: &mut AddressMap, word: u32) -> Turn
-        ensures turn { Turns (self.old, bytes_of memory.old) (executed (is_owned memory.old) self.old (bytes_of memory.old) word) result (self.new, bytes_of memory.new) }
+        ensures turn { let executed = executed (is_owned memory.old) self.old (bytes_of memory.old) word in
+            Turns (self.old, bytes_of memory.old) executed result (self.new, bytes_of memory.new) }
         ensures layout { layout memory.new ≡ layout memory.old }
     {
         if !is_met(Condition::in_word(word), self.psr()) {
             self.advance();
             return Turn::Done;
         }
-        match decode(word) {
-            Ok(instr) => self.act(memory, &instr.action()),
-            Err(fault) => Turn::Fault(fault),
+        match self.execute_always(memory, word) {
+            Ok(()) => Turn::Done,
+            Err(turn) => turn,
         }
     }
 
-    /// Does what an instruction says.
-    #[tactic(auto, unfolding(crate::specs::Step::acted))]
-    fn act(&mut self, memory: &mut AddressMap, action: &Action) -> Turn
-        ensures turn { Turns (self.old, bytes_of memory.old) (acted (is_owned memory.old) self.old (bytes_of memory.old) action.now) result (self.new, bytes_of memory.new) }
+    /// Carries out a word whose condition holds. Each form reads the fields that it needs from
+    /// the word; no instruction is built and copied.
+    #[tactic(auto, unfolding(crate::specs::Step::acted, arm_decode::specs::Decoded::decoded))]
+    #[inline(always)]
+    fn execute_always(&mut self, memory: &mut AddressMap, word: u32) -> Result<(), Turn>
+        ensures state { let acted = acted_if_decoded (is_owned memory.old) self.old (bytes_of memory.old) (decoded word) in
+            Leaves (self.old, bytes_of memory.old) acted result (self.new, bytes_of memory.new) }
         ensures layout { layout memory.new ≡ layout memory.old }
     {
-        match action {
-            Action::Operate(operate) => self.operate(operate),
-            Action::Multiply(multiply) => self.multiply(multiply),
-            Action::Branch { links, distance } => self.branch(*links, distance.number()),
-            Action::SoftwareInterrupt(number) => return Turn::Swi(number.number()),
-            Action::BlockTransfer(block) => {
-                if let Err(fault) = self.transfer_block(memory, block) {
-                    return Turn::Fault(fault);
-                }
+        match row_of(word)? {
+            Form::Multiply => self.multiply(Multiply::decoded(word)?),
+            Form::ShiftByNumber => {
+                let second = Operand::Shifted(ShiftedRegister::in_word(word));
+                self.operate(Operate::decoded(second, word)?);
             }
-            Action::Transfer(transfer) => {
-                if let Err(fault) = self.transfer(memory, transfer) {
-                    return Turn::Fault(fault);
-                }
+            Form::ShiftByRegister => {
+                self.operate(Operate::decoded(Operand::by_register_in(word), word)?);
+            }
+            Form::Immediate => self.operate(Operate::decoded(Operand::immediate_in(word), word)?),
+            Form::OffsetByNumber => {
+                let offset = Offset::Immediate(Bits::in_word(word, 0));
+                let address = Address::in_word(offset, word);
+                self.transfer(memory, Transfer::decoded(address, word)?)?;
+            }
+            Form::OffsetByRegister => {
+                let offset = Offset::Shifted(ShiftedRegister::in_word(word));
+                let address = Address::in_word(offset, word);
+                self.transfer(memory, Transfer::decoded(address, word)?)?;
+            }
+            Form::BlockTransfer => {
+                self.transfer_block(memory, BlockTransfer::decoded(word)?)?;
+            }
+            Form::Branch => {
+                let distance: Bits<24> = Bits::in_word(word, 0);
+                self.branch(is_bit_set(word, 24), distance.number());
+            }
+            Form::SoftwareInterrupt => {
+                let number: Bits<24> = Bits::in_word(word, 0);
+                return Err(Turn::Swi(number.number()));
             }
         }
-        Turn::Done
+        Ok(())
     }
 }

@@ -1,12 +1,12 @@
 //! Laws over the definitions, each the contract of a function that does nothing.
 
-ghost use Rattle.std.specs.Prelude.{ℕ, Bool, ◌<◌, ◌^◌};
-ghost use Rattle.arm_step.specs.declared.psr.Psr.{Psr};
+ghost use Rattle.std.specs.Prelude.{ℕ, Bool};
 ghost use Rattle.arm_step.specs.Back.{ComesBack};
-ghost use Rattle.arm_step.specs.Frame.{StepKeeps};
+ghost use Rattle.arm_step.specs.BlockOrder.{BlocksLieByBase, LoadsInOrder, StoresInOrder};
+ghost use Rattle.arm_step.specs.OwnedBytes.{StepKeeps};
 ghost use Rattle.arm_step.specs.State.{State};
 ghost use Rattle.address_map.specs.Bytes.{Bytes};
-ghost use Rattle.arm_step.specs.Laws.{PairsDiffer, TellsOrder, compared, ComparesOperands, SubtractsByAdding, SubtractsCarryByAdding, RotatesByShifting, TurnsRound};
+ghost use Rattle.arm_step.specs.Laws.{PairsDiffer, CompareTells, SubtractsByAdding, SubtractsCarryByAdding, RotatesByShifting, TurnsRound};
 
 /// Of the conditions 2k and 2k + 1 exactly one holds.
 #[tactic(auto, using(crate::proofs::Comparing::pairs))]
@@ -14,16 +14,9 @@ pub fn conditions_in_pairs()
     ensures { PairsDiffer }
 {}
 
-/// After a comparison of two words the conditions tell their order, as numbers and as signed numbers.
-#[tactic(auto, unfolding(crate::specs::Conditions::holds))]
-pub fn comparison_tells_order()
-    ensures { (p : Psr) (x y : ℕ) → x < 2 ^ 32 → y < 2 ^ 32 → TellsOrder (compared p x y) x y }
-{}
-
-/// CMP leaves the flags of a comparison of its operands.
-#[tactic(auto, using(crate::proofs::Comparing::compares))]
-pub fn compare_compares()
-    ensures { ComparesOperands }
+/// After CMP the conditions tell the order of its operands, as numbers and as signed numbers.
+pub fn compare_tells_order()
+    ensures { CompareTells }
 {}
 
 /// SUB and SBC are ADC with the second operand complemented.
@@ -55,4 +48,16 @@ pub fn step_keeps_owned_bytes()
 #[tactic(auto, using(crate::proofs::Back::comes_back))]
 pub fn store_then_load_comes_back()
     ensures { ComesBack }
+{}
+
+/// LDM and STM begin at the base or 4 above it, or end there or 4 below it.
+pub fn blocks_lie_by_their_base()
+    ensures { BlocksLieByBase }
+{}
+
+/// LDM and STM have one word for each listed register, the lowest register's first.
+#[tactic(auto, using(crate::proofs::InOrder::in_order))]
+pub fn blocks_are_in_order()
+    ensures loads { LoadsInOrder }
+    ensures stores { StoresInOrder }
 {}

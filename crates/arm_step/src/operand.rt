@@ -8,7 +8,7 @@ use arm_decode::{Operand, Shift, ShiftedRegister};
 use profile::shift::{Shifted, rotate, rotate_through, shift_left, shift_right, shift_signed};
 
 /// A shift by an amount of at least 1.
-#[tactic(auto, unfolding(crate::specs::Operand::shifted_by))]
+#[inline(always)]
 fn shift_by(kind: Shift, word: u32, amount: u32) -> Shifted
     requires { 1 ≤ amount }
     ensures { result ≡ shifted_by kind word amount }
@@ -22,7 +22,7 @@ fn shift_by(kind: Shift, word: u32, amount: u32) -> Shifted
 }
 
 /// What a shift by the number 0 stands for: none for LSL, 32 for LSR and ASR, RRX for ROR.
-#[tactic(auto, unfolding(crate::specs::Operand::shifted_by_zero))]
+#[inline(always)]
 fn shift_by_zero(kind: Shift, word: u32, carry: bool) -> Shifted
     ensures { result ≡ shifted_by_zero kind word carry }
 {
@@ -35,7 +35,7 @@ fn shift_by_zero(kind: Shift, word: u32, carry: bool) -> Shifted
 }
 
 /// A shift by the number in the instruction.
-#[tactic(auto, unfolding(crate::specs::Operand::shifted_by_number))]
+#[inline(always)]
 fn shift_by_number(kind: Shift, word: u32, amount: u32, carry: bool) -> Shifted
     ensures { result ≡ shifted_by_number kind word amount carry }
 {
@@ -47,7 +47,7 @@ fn shift_by_number(kind: Shift, word: u32, amount: u32, carry: bool) -> Shifted
 }
 
 /// A shift by the low byte of a register, of which 0 keeps the value and C.
-#[tactic(auto, unfolding(crate::specs::Operand::shifted_by_byte))]
+#[inline(always)]
 fn shift_by_byte(kind: Shift, word: u32, amount: u32, carry: bool) -> Shifted
     ensures { result ≡ shifted_by_byte kind word amount carry }
 {
@@ -59,7 +59,7 @@ fn shift_by_byte(kind: Shift, word: u32, amount: u32, carry: bool) -> Shifted
 }
 
 /// A byte rotated right by twice the field, of which 0 keeps C.
-#[tactic(auto, unfolding(crate::specs::Operand::immediate))]
+#[inline(always)]
 fn immediate(rotation: u32, byte: u8, carry: bool) -> Shifted
     requires { rotation < 16 }
     ensures { result ≡ immediate rotation byte carry }
@@ -73,7 +73,8 @@ fn immediate(rotation: u32, byte: u8, carry: bool) -> Shifted
 }
 
 /// How far ahead R15 is read: two words, or three where a register gives the amount of a shift.
-pub fn words_ahead(operand: &Operand) -> u32
+#[inline(always)]
+pub(crate) fn words_ahead(operand: &Operand) -> u32
     ensures value { result ≡ words_ahead operand.now }
     ensures most { result ≤ 3 }
 {
@@ -86,7 +87,8 @@ pub fn words_ahead(operand: &Operand) -> u32
 impl Cpu {
     /// A register shifted by a number.
     #[tactic(auto, unfolding(crate::specs::Operand::shifted_register))]
-    pub fn shifted_register(&self, shifted: ShiftedRegister) -> Shifted
+    #[inline(always)]
+    pub(crate) fn shifted_register(&self, shifted: ShiftedRegister) -> Shifted
         ensures { result ≡ shifted_register self.now shifted }
     {
         let psr = self.psr();
@@ -96,7 +98,8 @@ impl Cpu {
 
     /// The second operand, with the carry of the shifter.
     #[tactic(auto, unfolding(crate::specs::Operand::operand_of))]
-    pub fn operand(&self, operand: &Operand) -> Shifted
+    #[inline(always)]
+    pub(crate) fn operand(&self, operand: &Operand) -> Shifted
         ensures { result ≡ operand_of self.now operand.now }
     {
         match operand {

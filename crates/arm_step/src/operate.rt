@@ -13,6 +13,7 @@ use profile::word::{Sum, add, subtract};
 /// The result of an operation with the flags C and V that come with it; a logical one takes C from
 /// the shifter and keeps V.
 #[tactic(auto, unfolding(crate::specs::Operate::computed))]
+#[inline(always)]
 fn compute(operation: Operation, first: u32, second: Shifted, psr: Psr) -> Sum
     ensures { result ≡ computed operation first second psr }
 {
@@ -40,18 +41,20 @@ fn compute(operation: Operation, first: u32, second: Shifted, psr: Psr) -> Sum
 impl Cpu {
     /// Data processing: AND to MVN.
     #[tactic(auto, unfolding(crate::specs::Operate::operated))]
-    pub fn operate(&mut self, operate: &Operate)
-        ensures { self.new ≡ operated self.old operate.now }
+    #[inline(always)]
+    pub(crate) fn operate(&mut self, operate: Operate)
+        ensures { self.new ≡ operated self.old operate }
     {
         let second = self.operand(&operate.operand);
         let first = self.plain_operand(operate.rn, words_ahead(&operate.operand));
         let computed = compute(operate.operation, first, second, self.psr());
         self.advance();
-        self.finish(operate, computed);
+        self.finish(&operate, computed);
     }
 
     /// What data processing does with its result.
     #[tactic(auto, unfolding(crate::specs::Operate::finished))]
+    #[inline(always)]
     fn finish(&mut self, operate: &Operate, computed: Sum)
         ensures { self.new ≡ finished self.old operate.now computed }
     {
@@ -64,6 +67,7 @@ impl Cpu {
 
     /// A test sets the flags, or in its form P the status.
     #[tactic(auto, unfolding(crate::specs::Operate::tested))]
+    #[inline(always)]
     fn test(&mut self, operate: &Operate, computed: Sum)
         ensures { self.new ≡ tested self.old operate.now computed }
     {
@@ -76,6 +80,7 @@ impl Cpu {
 
     /// All others set Rd, and with S the flags or, where Rd is R15, the status.
     #[tactic(auto, unfolding(crate::specs::Operate::placed))]
+    #[inline(always)]
     fn place(&mut self, operate: &Operate, computed: Sum)
         ensures { self.new ≡ placed self.old operate.now computed }
     {
@@ -91,7 +96,7 @@ impl Cpu {
     }
 
     /// What MUL and MLA compute.
-    #[tactic(auto, unfolding(crate::specs::Operate::product))]
+    #[inline(always)]
     fn product(&self, multiply: &Multiply) -> u32
         ensures { result ≡ product self.now multiply.now }
     {
@@ -107,10 +112,11 @@ impl Cpu {
 
     /// MUL and MLA.
     #[tactic(auto, unfolding(crate::specs::Operate::multiplied))]
-    pub fn multiply(&mut self, multiply: &Multiply)
-        ensures { self.new ≡ multiplied self.old multiply.now }
+    #[inline(always)]
+    pub(crate) fn multiply(&mut self, multiply: Multiply)
+        ensures { self.new ≡ multiplied self.old multiply }
     {
-        let value = self.product(multiply);
+        let value = self.product(&multiply);
         self.advance();
         self.set_result(multiply.rd, value);
         if multiply.sets_flags {
@@ -125,7 +131,8 @@ impl Cpu {
 
     /// B, and with `links` BL: the distance counts words.
     #[tactic(auto, unfolding(crate::specs::Operate::branched))]
-    pub fn branch(&mut self, links: bool, distance: u32)
+    #[inline(always)]
+    pub(crate) fn branch(&mut self, links: bool, distance: u32)
         requires { distance < 2 ^ 24 }
         ensures { self.new ≡ branched self.old links distance }
     {

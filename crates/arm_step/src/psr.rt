@@ -19,7 +19,8 @@ pub enum Mode {
 
 impl Mode {
     /// The mode that the two lowest bits of a word name.
-    pub fn of(word: u32) -> Mode
+    #[inline(always)]
+    pub(crate) fn of(word: u32) -> Mode
         ensures { result ≡ mode_of word }
     {
         match word & 3 {
@@ -31,7 +32,8 @@ impl Mode {
     }
 
     /// The mode's number, from 0 to 3.
-    pub fn number(self) -> u32
+    #[inline(always)]
+    pub(crate) fn number(self) -> u32
         ensures value { result ≡ mode_number self }
         ensures below { result < 4 }
     {
@@ -65,7 +67,8 @@ pub struct Psr {
 
 impl Psr {
     /// The status that a word holds in bits 31 to 26, 1 and 0.
-    pub fn of(word: u32) -> Psr
+    #[inline(always)]
+    pub(crate) fn of(word: u32) -> Psr
         ensures { result ≡ psr_of word }
     {
         Psr {
@@ -80,6 +83,7 @@ impl Psr {
     }
 
     /// The status as it stands in R15: bits 31 to 26, 1 and 0 of a word, all others being 0.
+    #[inline(always)]
     pub fn bits(self) -> u32
         ensures value { result ≡ psr_bits self }
         ensures most { result ≤ 0xFC00_0003 }
@@ -94,7 +98,8 @@ impl Psr {
     }
 
     /// This status after an instruction that sets `new`: user mode takes N, Z, C and V alone.
-    pub fn taking(self, new: Psr) -> Psr
+    #[inline(always)]
+    pub(crate) fn taking(self, new: Psr) -> Psr
         ensures { result ≡ psr_taken self new }
     {
         match self.mode {

@@ -12,7 +12,7 @@ use profile::Fault;
 use profile::shift::rotate_right;
 
 /// The byte at an address, or the word there, rotated so that the byte at the address is lowest.
-#[tactic(auto, unfolding(crate::specs::Transfers::value_loaded))]
+#[inline(always)]
 fn load_value(memory: &AddressMap, is_byte: bool, address: u32) -> Result<u32, Fault>
     ensures { result ≡ value_loaded (bytes_of memory.now) is_byte address }
 {
@@ -26,14 +26,15 @@ fn load_value(memory: &AddressMap, is_byte: bool, address: u32) -> Result<u32, F
 }
 
 /// Stores the low byte of a value, or all of it as the word that holds the address.
-#[tactic(auto, unfolding(crate::specs::Transfers::value_stored))]
+#[inline(always)]
 fn store_value(
     memory: &mut AddressMap,
     is_byte: bool,
     address: u32,
     value: u32,
 ) -> Result<(), Fault>
-    ensures bytes { Leaves (bytes_of memory.old) (value_stored (is_owned memory.old) (bytes_of memory.old) is_byte address value) result (bytes_of memory.new) }
+    ensures bytes { let stored = value_stored (is_owned memory.old) (bytes_of memory.old) is_byte address value in
+        Leaves (bytes_of memory.old) stored result (bytes_of memory.new) }
     ensures layout { layout memory.new ≡ layout memory.old }
 {
     if is_byte {
@@ -45,7 +46,7 @@ fn store_value(
 
 impl Cpu {
     /// The offset of a transfer.
-    #[tactic(auto, unfolding(crate::specs::Transfers::offset_of))]
+    #[inline(always)]
     fn offset(&self, offset: &Offset) -> u32
         ensures { result ≡ offset_of self.now offset.now }
     {
@@ -56,7 +57,7 @@ impl Cpu {
     }
 
     /// The base of a transfer changed by its offset.
-    #[tactic(auto, unfolding(crate::specs::Transfers::moved_base))]
+    #[inline(always)]
     fn moved_base(&self, address: &Address) -> u32
         ensures { result ≡ moved_base self.now address.now }
     {
@@ -69,7 +70,7 @@ impl Cpu {
     }
 
     /// Where a transfer reads or writes.
-    #[tactic(auto, unfolding(crate::specs::Transfers::transfer_address))]
+    #[inline(always)]
     fn transfer_address(&self, address: &Address) -> u32
         ensures { result ≡ transfer_address self.now address.now }
     {
@@ -80,7 +81,7 @@ impl Cpu {
     }
 
     /// Writes the changed base back where the transfer does that.
-    #[tactic(auto, unfolding(crate::specs::Transfers::with_base))]
+    #[inline(always)]
     fn write_base(&mut self, address: &Address, moved: u32)
         ensures { self.new ≡ with_base self.old address.now moved }
     {
@@ -91,8 +92,10 @@ impl Cpu {
 
     /// LDR: the base is written first, so a loaded base wins.
     #[tactic(auto, unfolding(crate::specs::Transfers::loaded))]
+    #[inline(always)]
     fn load(&mut self, memory: &AddressMap, transfer: &Transfer) -> Result<(), Fault>
-        ensures { Leaves (self.old, bytes_of memory.now) (loaded self.old (bytes_of memory.now) transfer.now) result (self.new, bytes_of memory.now) }
+        ensures { let loaded = loaded self.old (bytes_of memory.now) transfer.now in
+            Leaves (self.old, bytes_of memory.now) loaded result (self.new, bytes_of memory.now) }
     {
         let value = load_value(
             memory,
@@ -108,8 +111,10 @@ impl Cpu {
 
     /// STR: R15 is stored three words ahead with the status, the base with its old value.
     #[tactic(auto, unfolding(crate::specs::Transfers::stored))]
+    #[inline(always)]
     fn store(&mut self, memory: &mut AddressMap, transfer: &Transfer) -> Result<(), Fault>
-        ensures state { Leaves (self.old, bytes_of memory.old) (stored (is_owned memory.old) self.old (bytes_of memory.old) transfer.now) result (self.new, bytes_of memory.new) }
+        ensures state { let stored = stored (is_owned memory.old) self.old (bytes_of memory.old) transfer.now in
+            Leaves (self.old, bytes_of memory.old) stored result (self.new, bytes_of memory.new) }
         ensures layout { layout memory.new ≡ layout memory.old }
     {
         let value = self.status_operand(self.psr().mode, transfer.rd, 3);
@@ -132,14 +137,20 @@ impl Cpu {
     /// `AddressException`, `DataUnmapped`, and for a store `OwnedWord`, in this order. Core and
     /// memory are then as before.
     #[tactic(auto, unfolding(crate::specs::Transfers::transferred))]
-    pub fn transfer(&mut self, memory: &mut AddressMap, transfer: &Transfer) -> Result<(), Fault>
-        ensures state { Leaves (self.old, bytes_of memory.old) (transferred (is_owned memory.old) self.old (bytes_of memory.old) transfer.now) result (self.new, bytes_of memory.new) }
+    #[inline(always)]
+    pub(crate) fn transfer(
+        &mut self,
+        memory: &mut AddressMap,
+        transfer: Transfer,
+    ) -> Result<(), Fault>
+        ensures state { let moved = transferred (is_owned memory.old) self.old (bytes_of memory.old) transfer in
+            Leaves (self.old, bytes_of memory.old) moved result (self.new, bytes_of memory.new) }
         ensures layout { layout memory.new ≡ layout memory.old }
     {
         if transfer.loads {
-            self.load(memory, transfer)
+            self.load(memory, &transfer)
         } else {
-            self.store(memory, transfer)
+            self.store(memory, &transfer)
         }
     }
 }

@@ -1,3 +1,5 @@
+ghost use Rattle.std.specs.Prelude.{◌≡◌};
+
 use profile::Fault;
 
 /// How a step ended. On every answer but `Done` the core and the memory are as they were.
@@ -12,4 +14,15 @@ pub enum Turn {
     Gate,
     /// The instruction can't be fetched or carried out.
     Fault(Fault),
+}
+
+impl From<Fault> for Turn {
+    ghost use Rattle.arm_step.specs.declared.turn.Turn.TheVariants.{Fault};
+
+    ghost from_gives = { λ fault turn. turn ≡ Fault fault };
+
+    #[inline(always)]
+    fn from(fault: Fault) -> Turn {
+        Turn::Fault(fault)
+    }
 }

@@ -12,7 +12,7 @@ use profile::Fault;
 use profile::memory_map::ADDRESS_LIMIT;
 
 /// The most words that one instruction moves.
-pub const MOST_WORDS: usize = 16;
+pub(crate) const MOST_WORDS: usize = 16;
 
 /// Loads up to 16 words from a multiple of 4 on.
 ///
@@ -20,14 +20,15 @@ pub const MOST_WORDS: usize = 16;
 ///
 /// `AddressException` where any of them lies past the address space, else `DataUnmapped`.
 #[tactic(auto, unfolding(crate::specs::Words::words_loaded, crate::specs::Words::words_load_fault))]
-pub fn load_words(
+pub(crate) fn load_words(
     memory: &AddressMap,
     first: u32,
     count: u32,
 ) -> Result<ArrayVec<u32, MOST_WORDS>, Fault>
     requires aligned { first % 4 ≡ 0 }
     requires few { count ≤ 16 }
-    ensures words { MatchResult result (λ v. words_loaded (bytes_of memory.now) first count ≡ Ok v.items) (λ fault. words_loaded (bytes_of memory.now) first count ≡ Err fault) }
+    ensures words { let loaded = words_loaded (bytes_of memory.now) first count in
+        MatchResult result (λ v. loaded ≡ Ok v.items) (λ fault. loaded ≡ Err fault) }
     ensures size { IfOk result (λ v. length v.items ≡ count) }
 {
     if first > ADDRESS_LIMIT - 4 * count {
@@ -111,10 +112,11 @@ fn put_words(memory: &mut AddressMap, first: u32, words: &[u32])
 /// `AddressException` where any of them lies past the address space, else `DataUnmapped`, else
 /// `OwnedWord`. Nothing is stored then.
 #[tactic(auto, unfolding(crate::specs::Words::words_stored))]
-pub fn store_words(memory: &mut AddressMap, first: u32, words: &[u32]) -> Result<(), Fault>
+pub(crate) fn store_words(memory: &mut AddressMap, first: u32, words: &[u32]) -> Result<(), Fault>
     requires aligned { first % 4 ≡ 0 }
     requires few { length words.now ≤ 16 }
-    ensures bytes { Leaves (bytes_of memory.old) (words_stored (is_owned memory.old) (bytes_of memory.old) first words.now) result (bytes_of memory.new) }
+    ensures bytes { let stored = words_stored (is_owned memory.old) (bytes_of memory.old) first words.now in
+        Leaves (bytes_of memory.old) stored result (bytes_of memory.new) }
     ensures layout { layout memory.new ≡ layout memory.old }
 {
     if let Some(fault) = store_fault(memory, first, words.len() as u32) {

@@ -15,7 +15,7 @@ use Rattle.address_map.specs.Memory.{bytes_of, byte_at, is_mapped, free_pages, L
 use Rattle.address_map.proofs.Bytes.{is_mapped-layout}
 use Rattle.address_map.proofs.Equations.{stored_word, stored_bytes}
 use Rattle.arm_step.specs.State.{State}
-use Rattle.arm_step.specs.Frame.{IsByWords, Keeps}
+use Rattle.arm_step.specs.OwnedBytes.{IsByWords, Keeps}
 use Rattle.os_heap.specs.Store.{Store, store_of, owned_in, IsSound}
 use Rattle.os_heap.proofs.Frame.{IsKept, clear_kept, heads_kept, owned_word}
 use Rattle.os_heap.proofs.Stores.{image_kind}

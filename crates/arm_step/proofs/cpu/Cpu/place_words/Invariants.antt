@@ -1,6 +1,9 @@
-use Rattle.std.proofs.Common.{◌≡◌, drop}
-use Rattle.arm_step.specs.Blocks.{with_loaded}
+use Rattle.std.proofs.Common.{◌≡◌, length, take}
+use Rattle.arm_step.specs.Blocks.{listed_below, with_loaded}
 use Rattle.arm_step.proofs.cpu.Cpu.place_words.Given as goal
 
-abbrev pub invariant-loop-index : goal.invariant-loop-index
-invariant-loop-index l = with_loaded l.bank l.initial.self l.registers l.words ≡ with_loaded l.bank l.self (drop l.index l.registers) (drop l.index l.words)
+abbrev pub invariant-loop-number : goal.invariant-loop-number
+invariant-loop-number l = record {
+  placed : with_loaded l.bank l.initial.self (listed_below l.number l.list) (take l.index l.words) ≡ l.self;
+  count : l.index ≡ length (listed_below l.number l.list);
+}
