@@ -1,5 +1,5 @@
 -- After a heap call a machine stays well formed.
-use Rattle.std.proofs.Common.{◌≡◌, ℕ, true, false, Option, refl, sym, ◌∙◌, ap, is_some}
+use Rattle.std.proofs.Common.{◌≡◌, ℕ, ◌+◌, true, false, Option, refl, sym, ◌∙◌, ap, is_some}
 use Rattle.std.proofs.lemmas.Bool.{true≢false}
 use Rattle.profile.specs.Sizes.{Sizes}
 use Rattle.address_map.specs.Memory.{place, free_pages}
