@@ -4,7 +4,7 @@ use Rattle.std.specs.Prelude.{ℕ, zero, suc, ◌+◌, ◌%◌, ◌^◌, List, [
 use Rattle.profile.specs.Digits.{hex_word}
 use Rattle.profile.specs.declared.fault.Fault.{Fault}
 use Rattle.address_map.specs.Bytes.{Bytes, word_loaded}
-use Rattle.disassembler.specs.Printing.{print}
+use Rattle.assembler_text.specs.Printing.{print}
 
 abbrev pub address_text : ℕ → List ℕ
 address_text a = hex_word a ++ codes " "

@@ -5,7 +5,7 @@ ghost use Rattle.swi_dispatch.specs.Parts.{state_of};
 ghost use Rattle.debugger.specs.Code.{address_text, code_line, code_text, word_text};
 
 use address_map::AddressMap;
-use disassembler::disassemble;
+use assembler_text::disassemble;
 use profile::{HexText, Sink, WriteFault, push_all, push_parts};
 use swi_dispatch::Machine;
 
@@ -43,7 +43,7 @@ fn show_words<W: Sink>(
     Ok(())
 }
 
-#[tactic(auto, using(disassembler::proofs::Pieces::pieces), unfolding(crate::specs::Code::code_line))]
+#[tactic(auto, using(assembler_text::proofs::Pieces::pieces), unfolding(crate::specs::Code::code_line))]
 fn show_line<W: Sink>(memory: &AddressMap, address: u32, sink: &mut W) -> Result<(), WriteFault>
     ensures text { OnOk result (Appends (W.contents sink.old) (W.contents sink.new) (code_line (bytes_of memory.now) address)) }
     ensures flag { OnErr result (W.has_failed sink.new ≡ true) }
@@ -56,7 +56,7 @@ fn show_line<W: Sink>(memory: &AddressMap, address: u32, sink: &mut W) -> Result
     }
 }
 
-#[tactic(auto, using(disassembler::proofs::Pieces::pieces))]
+#[tactic(auto, using(assembler_text::proofs::Pieces::pieces))]
 fn show_word<W: Sink>(word: u32, address: u32, sink: &mut W) -> Result<(), WriteFault>
     ensures text { OnOk result (Appends (W.contents sink.old) (W.contents sink.new) (word_text address word)) }
     ensures flag { OnErr result (W.has_failed sink.new ≡ true) }

@@ -13,9 +13,9 @@ use Rattle.arm_decode.specs.declared.address.Indexing.TheVariants.{Post, Pre}
 use Rattle.arm_decode.specs.declared.address.Offset.{Offset}
 use Rattle.arm_decode.specs.declared.address.Offset.TheVariants as offset
 use Rattle.arm_decode.specs.declared.condition.Condition.{Condition}
-use Rattle.disassembler.specs.Names.{block_mode_text, choose_text, condition_text, register_text, text_if}
-use Rattle.disassembler.specs.Numbers.{number_text}
-use Rattle.disassembler.specs.Operands.{shifted_text}
+use Rattle.assembler_text.specs.Names.{block_mode_text, choose_text, condition_text, register_text, text_if}
+use Rattle.assembler_text.specs.Numbers.{number_text}
+use Rattle.assembler_text.specs.Operands.{shifted_text}
 
 -- a minus where the offset is taken from the base
 abbrev pub sign_text : Direction → List ℕ

@@ -5,8 +5,8 @@ use Rattle.std.specs.Io.KnownBytes.{Appends}
 use Rattle.profile.specs.Output.{Completes}
 use Rattle.profile.specs.Word.{bit_of}
 use Rattle.profile.proofs.OutputLemmas.{Completes-start, Completes-more, Appends-from_completes}
-use Rattle.disassembler.specs.Names.{text_if, register_text}
-use Rattle.disassembler.specs.Transfers.{listed_from, listed_piece, listed_text, separated}
+use Rattle.assembler_text.specs.Names.{text_if, register_text}
+use Rattle.assembler_text.specs.Transfers.{listed_from, listed_piece, listed_text, separated}
 
 -- the text of the registers from the n-th on
 unfoldable pub listed_rest : ℕ → ℕ → Bool → List ℕ

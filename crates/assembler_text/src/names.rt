@@ -1,7 +1,7 @@
 //! The words of instructions.
 
 ghost use Rattle.std.specs.Prelude.{◌≡◌, ◌≤◌, ℕ, List, take};
-ghost use Rattle.disassembler.specs.Names.{block_mode_text, choose_text, condition_text, operation_text, register_text, shift_text, text_if};
+ghost use Rattle.assembler_text.specs.Names.{block_mode_text, choose_text, condition_text, operation_text, register_text, shift_text, text_if};
 
 use arm_decode::{BlockMode, Condition, Operation, Register, Shift};
 use std::marker::Model;

@@ -1,8 +1,8 @@
 use Rattle.std.proofs.Common.{◌≡◌}
 use Rattle.profile.specs.Output.{Completes}
-use Rattle.disassembler.specs.Transfers.{listed_text}
-use Rattle.disassembler.proofs.Listed.{listed_rest}
-use Rattle.disassembler.proofs.transfers.push_listed.Given as goal
+use Rattle.assembler_text.specs.Transfers.{listed_text}
+use Rattle.assembler_text.proofs.Listed.{listed_rest}
+use Rattle.assembler_text.proofs.transfers.push_listed.Given as goal
 
 -- what stands written, and the registers that are left, is all
 abbrev pub invariant-loop-number : goal.invariant-loop-number

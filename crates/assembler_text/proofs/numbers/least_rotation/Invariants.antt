@@ -1,7 +1,7 @@
 use Rattle.std.proofs.Common.{◌≡◌}
-use Rattle.disassembler.specs.Numbers.{least_rotation}
-use Rattle.disassembler.proofs.Rotations.{rotation_from}
-use Rattle.disassembler.proofs.numbers.least_rotation.Given as goal
+use Rattle.assembler_text.specs.Numbers.{least_rotation}
+use Rattle.assembler_text.proofs.Rotations.{rotation_from}
+use Rattle.assembler_text.proofs.numbers.least_rotation.Given as goal
 
 -- no field below gives the value
 abbrev pub invariant-loop-rotation : goal.invariant-loop-rotation

@@ -10,10 +10,10 @@ use Rattle.arm_decode.specs.declared.action.Action.TheVariants as action
 use Rattle.arm_decode.specs.declared.action.Multiply.{Multiply}
 use Rattle.arm_decode.specs.declared.action.Operate.{Operate}
 use Rattle.arm_decode.specs.declared.condition.Condition.{Condition}
-use Rattle.disassembler.specs.Names.{choose_text, condition_text, operation_text, register_text, text_if}
-use Rattle.disassembler.specs.Numbers.{number_text}
-use Rattle.disassembler.specs.Operands.{operand_text}
-use Rattle.disassembler.specs.Transfers.{block_text, transfer_text}
+use Rattle.assembler_text.specs.Names.{choose_text, condition_text, operation_text, register_text, text_if}
+use Rattle.assembler_text.specs.Numbers.{number_text}
+use Rattle.assembler_text.specs.Operands.{operand_text}
+use Rattle.assembler_text.specs.Transfers.{block_text, transfer_text}
 
 -- S; of a test, which always has it, P where its Rd field is 15
 unfoldable pub flags_text : Operate → List ℕ

@@ -5,8 +5,8 @@ use Rattle.arm_decode.specs.declared.operand.Operand.TheVariants as operand
 use Rattle.arm_decode.specs.declared.shift.Shift.{Shift}
 use Rattle.arm_decode.specs.declared.shift.Shift.TheVariants as shift
 use Rattle.arm_decode.specs.declared.shift.ShiftedRegister.{ShiftedRegister}
-use Rattle.disassembler.specs.Names.{shift_text, register_text}
-use Rattle.disassembler.specs.Numbers.{immediate_text}
+use Rattle.assembler_text.specs.Names.{shift_text, register_text}
+use Rattle.assembler_text.specs.Numbers.{immediate_text}
 
 -- `,LSL #n`
 abbrev pub amount_text : Shift → ℕ → List ℕ

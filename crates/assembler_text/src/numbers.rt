@@ -2,7 +2,7 @@
 
 ghost use Rattle.std.specs.Prelude.{◌≡◌, ◌≤◌, ◌<◌, true, OnOk, OnErr};
 ghost use Rattle.std.specs.Io.KnownBytes.{Appends};
-ghost use Rattle.disassembler.specs.Numbers.{gives, immediate_text, is_field, least_rotation};
+ghost use Rattle.assembler_text.specs.Numbers.{gives, immediate_text, is_field, least_rotation};
 
 use itoa::Buffer;
 use profile::shift::rotate_right;

@@ -3,7 +3,7 @@
 ghost use Rattle.std.specs.Prelude.{◌≡◌, ◌≤◌, ◌<◌, ◌&&◌, true, not, IfOk, OnOk, OnErr};
 ghost use Rattle.std.specs.Io.KnownBytes.{Appends};
 ghost use Rattle.profile.specs.Word.{bit_of};
-ghost use Rattle.disassembler.specs.Transfers.{address_text, after_text, base_text, before_text, block_head, block_text, braces_text, close_text, is_nothing, listed_piece, listed_text, offset_text, sign_text, transfer_head, transfer_text, is_user};
+ghost use Rattle.assembler_text.specs.Transfers.{address_text, after_text, base_text, before_text, block_head, block_text, braces_text, close_text, is_nothing, listed_piece, listed_text, offset_text, sign_text, transfer_head, transfer_text, is_user};
 
 use crate::names::{RegisterName, block_mode_text, choose_text, condition_text, text_if};
 use crate::operands::push_shifted;

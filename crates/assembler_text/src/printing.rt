@@ -2,7 +2,7 @@
 
 ghost use Rattle.std.specs.Prelude.{◌≡◌, ◌<◌, ◌^◌, true, OnOk, OnErr};
 ghost use Rattle.std.specs.Io.KnownBytes.{Appends};
-ghost use Rattle.disassembler.specs.Printing.{action_text, branch_target, branch_text, data_text, flags_text, interrupt_text, multiply_head, multiply_operands, multiply_text, operate_head, operate_text, print, registers_text};
+ghost use Rattle.assembler_text.specs.Printing.{action_text, branch_target, branch_text, data_text, flags_text, interrupt_text, multiply_head, multiply_operands, multiply_text, operate_head, operate_text, print, registers_text};
 
 use crate::names::{RegisterName, choose_text, condition_text, operation_text, text_if};
 use crate::operands::push_operand;

@@ -2,7 +2,7 @@
 use Rattle.std.proofs.Common.{◌≡◌, ◌<◌, ◌≤◌, ◌+◌, ◌-◌, ℕ, Bool, true, false, suc, Option, Some, None, refl, sym, arith}
 use Rattle.std.specs.Prelude.{find}
 use Rattle.std.specs.List.{range_with_len}
-use Rattle.disassembler.specs.Numbers.{gives, least_rotation}
+use Rattle.assembler_text.specs.Numbers.{gives, least_rotation}
 
 -- the answer among the fields from i on
 unfoldable pub rotation_from : ℕ → ℕ → Option ℕ

@@ -2,7 +2,7 @@
 
 ghost use Rattle.std.specs.Prelude.{◌≡◌, ◌≤◌, true, OnOk, OnErr};
 ghost use Rattle.std.specs.Io.KnownBytes.{Appends};
-ghost use Rattle.disassembler.specs.Operands.{amount_text, by_register_text, operand_text, shifted_text, shifting_text};
+ghost use Rattle.assembler_text.specs.Operands.{amount_text, by_register_text, operand_text, shifted_text, shifting_text};
 
 use crate::names::{RegisterName, shift_text};
 use crate::numbers::push_immediate;
