@@ -1,27 +1,63 @@
 -- What a mapped address reads: the byte, or the word, at its place in the store.
-use Rattle.std.proofs.Common.{◌≡◌, ℕ, ◌+◌, ◌%◌, ◌^◌, ◌<◌, ◌≤◌, length, Some, None, Ok, Err, arith, refl, sym, ap, slice_index}
+use Rattle.std.proofs.Common.{◌≡◌, ℕ, ◌+◌, ◌-◌, ◌/◌, ◌%◌, ◌^◌, ◌<◌, ◌≤◌, true, false, get_or, length, Option, Some, None, is_some, Ok, Err, arith, refl, sym, ap, ◌∙◌, slice_index}
+use Rattle.std.proofs.lemmas.Bool.{false≢true}
+use Rattle.std.proofs.lemmas.List.{get_or_past, get_or_default}
 use Rattle.profile.specs.declared.fault.Fault.{Fault}
 use Rattle.raw_store.specs.Region.{word_in}
 use Rattle.address_map.specs.declared.map.AddressMap.{AddressMap}
 use Rattle.address_map.specs.Bytes.{Bytes, load_fault, word_start, word_at, byte_loaded, word_loaded}
-use Rattle.address_map.specs.Memory.{place, byte_in, byte_at, bytes_of}
-use Rattle.address_map.proofs.Places.{place_within, place_same, place_word, place_limit}
+use Rattle.address_map.specs.Memory.{place, is_mapped, byte_in, byte_at, bytes_of}
+use Rattle.address_map.specs.Pages.{frame_at, place_by}
+use Rattle.address_map.proofs.PageTable.{place_within, place_same, place_near, place_limit}
 
 pub place_fits : (m : AddressMap) (a k : ℕ) → place m a ≡ Some k → k + 1 ≤ length m.store
 unfolding place
-place_fits m a k h = omega (arith, (place_within 0 m.runs.items a k h).1, m.runs_fit)
+place_fits m a k h = omega (arith, (place_within m.frames.items m.free.items a k m.table h).1, m.frames_fit)
 
 pub place_next : (m : AddressMap) (a j k : ℕ) → a % 4 ≡ 0 → j < 4 → place m a ≡ Some k → place m (a + j) ≡ Some (k + j)
 unfolding place
-place_next m a j k aligned below h = place_word 0 m.runs.items a j k m.whole aligned below h
+place_next m a j k aligned below h =
+    let low = (place_within m.frames.items m.free.items a k m.table h).0 in
+    let e : k - a % 4096 + (a + j) % 4096 ≡ k + j = omega arith in
+    place_near m.frames.items a (a + j) k (omega arith) h ∙ ap Some e
 
 pub place_only : (m : AddressMap) (a b k : ℕ) → place m a ≡ Some k → place m b ≡ Some k → a ≡ b
 unfolding place
-place_only m a b k h g = place_same 0 m.runs.items a b k h g
+place_only m a b k h g = place_same m.frames.items m.free.items a b k m.table h g
 
 pub place_below : (m : AddressMap) (a k : ℕ) → place m a ≡ Some k → a < 2 ^ 26
 unfolding place
-place_below m a k h = place_limit 0 m.runs.items a k m.whole h
+place_below m a k h = place_limit m.frames.items m.free.items a k m.table h
+
+pub place_past : (m : AddressMap) (a : ℕ) → 2 ^ 26 ≤ a → place m a ≡ None
+unfolding place
+place_past m a past = ap (place_by a) (get_or_past m.frames.items (a / 4096) None (omega (arith, m.table.size)))
+
+-- the frame that was read from the table
+pub frame_read : (m : AddressMap) (a : ℕ) (there : Option ℕ) → a < 2 ^ 26 → there ≡ get_or m.frames.items (a / 4096) there
+    → frame_at m.frames.items (a / 4096) ≡ there
+frame_read m a there below read = get_or_default m.frames.items (a / 4096) None there (omega (arith, m.table.size)) ∙ sym read
+
+pub place_read : (m : AddressMap) (a : ℕ) (there : Option ℕ) → a < 2 ^ 26 → there ≡ get_or m.frames.items (a / 4096) there
+    → place m a ≡ place_by a there
+unfolding place
+place_read m a there below read = ap (place_by a) (frame_read m a there below read)
+
+-- a page that is not mapped has no frame
+pub unmapped_page : (m : AddressMap) (a : ℕ) → is_mapped m a ≡ false → frame_at m.frames.items (a / 4096) ≡ None
+unfolding place
+unmapped_page m a h = none (frame_at m.frames.items (a / 4096)) h where
+  none : (there : Option ℕ) → is_some (place_by a there) ≡ false → there ≡ None
+  none None e = refl
+  none (Some frame) e = absurd (false≢true (sym e))
+
+-- and one that is mapped has one
+pub mapped_page : (m : AddressMap) (a : ℕ) → is_mapped m a ≡ true → is_some (frame_at m.frames.items (a / 4096)) ≡ true
+unfolding place
+mapped_page m a h = some (frame_at m.frames.items (a / 4096)) h where
+  some : (there : Option ℕ) → is_some (place_by a there) ≡ true → is_some there ≡ true
+  some None e = e
+  some (Some frame) e = refl
 
 pub place_fits_word : (m : AddressMap) (a k : ℕ) → a % 4 ≡ 0 → place m a ≡ Some k → k + 4 ≤ length m.store
 place_fits_word m a k aligned h = omega (arith, place_fits m (a + 3) (k + 3) (place_next m a 3 k aligned (omega arith) h))

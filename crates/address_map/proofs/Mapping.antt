@@ -1,99 +1,102 @@
--- A run more at the end of the table, and its bytes of the store made zero.
-use Rattle.std.proofs.Common.{◌≡◌, ℕ, ◌+◌, ◌-◌, ◌<◌, ◌≤◌, true, false, ◌||◌, List, [], ◌∷◌, ◌++◌, length, take, get_or, replicate, Option, Some, None, is_some, arith, refl, sym, ◌∙◌, inl, inr, add_assoc, zero-add}
-use Rattle.std.specs.List.{All, AllPairs}
-use Rattle.std.proofs.lemmas.Bool.{cases_Bool, or_right, false≢true}
-use Rattle.std.proofs.lemmas.List.Elements.{All-push}
-use Rattle.std.proofs.lemmas.List.Quantifiers.{all_pairs_push}
-use Rattle.std.proofs.lemmas.List.{length-replicate, get_or-replicate}
+-- What a page that is mapped or taken away leaves: which addresses are mapped, where they lie, and their bytes.
+use Rattle.std.proofs.Common.{◌≡◌, ◌≢◌, ℕ, ◌+◌, ◌*◌, ◌/◌, ◌%◌, ◌<◌, ◌≤◌, Bool, true, false, ◌||◌, ◌&&◌, not, List, length, set, Option, Some, None, is_some, arith, refl, sym, ◌∙◌, ap, inl, inr}
+use Rattle.std.proofs.lemmas.Bool.{false≢true, cases_lt}
+use Rattle.std.proofs.lemmas.List.{get_or-replicate}
 use Rattle.raw_store.specs.Region.{zeroed}
-use Rattle.raw_store.proofs.Written.{written_inside, written_before}
-use Rattle.address_map.specs.declared.run.Run.{Run}
-use Rattle.address_map.specs.declared.map.AddressMap.{AddressMap}
-use Rattle.address_map.specs.Bytes.{in_range, AreUnmapped}
-use Rattle.address_map.specs.Runs.{place_from, run_total, IsWhole, AreApart}
-use Rattle.address_map.specs.Memory.{place, byte_in, is_mapped}
-use Rattle.address_map.proofs.Places.{place_within}
-use Rattle.address_map.proofs.Searches.{run_total-append, place_at}
-use Rattle.address_map.proofs.Stores.{in_range-cases, store_written}
+use Rattle.raw_store.proofs.Written.{written_inside, written_before, written_past}
+use Rattle.address_map.specs.Bytes.{in_range, with_zeros_at}
+use Rattle.address_map.specs.Memory.{byte_in}
+use Rattle.address_map.specs.Pages.{frame_at, place_by, place_in, IsUnused}
+use Rattle.address_map.proofs.PageTable.{frame_found, place_set, place_set_other}
+use Rattle.address_map.proofs.Stores.{in_range-cases, zeros, length-zeros}
 
-abbrev pub first_some : Option ℕ → Option ℕ → Option ℕ
-first_some None other = other
-first_some (Some k) other = Some k
+module _ (frames : List (Option ℕ)) (addr frame : ℕ) (aligned : addr % 4096 ≡ 0) (below : addr / 4096 < length frames) (none : frame_at frames (addr / 4096) ≡ None) where
+  abbrev more : List (Option ℕ)
+  more = set frames (addr / 4096) (Some frame)
 
-pub place_from-append : (start : ℕ) (runs : List Run) (run : Run) (a : ℕ)
-    → place_from start (runs ++ run ∷ []) a ≡ first_some (place_from start runs a) (place_from (start + run_total runs) (run ∷ []) a)
-place_from-append start [] run a = grind arith
-place_from-append start (first ∷ runs) run a =
-    elim (cases_Bool (in_range first.base first.len a)) [
-      | inl h ↦ rw h refl
-      | inr h ↦ rw (h, ← add_assoc start first.len (run_total runs)) (place_from-append (start + first.len) runs run a)
-    ]
+  none_there : (a : ℕ) → a / 4096 ≡ addr / 4096 → place_in frames a ≡ None
+  none_there a page = ap (λ (p : ℕ). place_by a (frame_at frames p)) page ∙ ap (place_by a) none
 
-pub mapped_more : (runs : List Run) (run : Run) (a : ℕ)
-    → is_some (place_from 0 (runs ++ run ∷ []) a) ≡ (in_range run.base run.len a || is_some (place_from 0 runs a))
-mapped_more runs run a = rw (place_from-append 0 runs run a) (cases (place_from 0 runs a)) where
-  cases : (there : Option ℕ) → is_some (first_some there (place_from (0 + run_total runs) (run ∷ []) a)) ≡ (in_range run.base run.len a || is_some there)
-  cases None = elim (cases_Bool (in_range run.base run.len a)) [ inl h ↦ rw h refl | inr h ↦ rw h refl ]
-  cases (Some k) = sym (or_right (in_range run.base run.len a) true refl)
+  pub mapped_more : (a : ℕ) → is_some (place_in more a) ≡ (in_range addr 4096 a || is_some (place_in frames a))
+  mapped_more a =
+      elim (in_range-cases addr 4096 a) [
+        | inl r ↦ rw (r.0, place_set frames (addr / 4096) a (Some frame) below (omega (arith, r.1, r.2))) refl
+        | inr r ↦ rw (r.0, place_set_other frames (addr / 4096) a (Some frame) (omega (arith, r.1))) refl
+      ]
 
-abbrev pub zeros : ℕ → List ℕ
-zeros len = replicate len 0
+  pub stays_more : (a : ℕ) → is_some (place_in frames a) ≡ true → place_in more a ≡ place_in frames a
+  stays_more a h =
+      elim (in_range-cases addr 4096 a) [
+        | inl r ↦ let no : is_some (place_in frames a) ≡ false = ap is_some (none_there a (omega (arith, r.1, r.2))) in absurd (false≢true (sym no ∙ h))
+        | inr r ↦ place_set_other frames (addr / 4096) a (Some frame) (omega (arith, r.1))
+      ]
 
-pub length-zeros : (len : ℕ) → length (zeros len) ≡ len
-length-zeros len = length-replicate {A = ℕ} len 0
+  module _ (store : List ℕ) (size : ℕ) (is : size ≡ 4096) (unused : IsUnused frames frame) (room : 4096 * frame + size ≤ length store) where
+    fits : 4096 * frame + length (zeros size) ≤ length store
+    fits = rw (length-zeros size) room
 
--- the bytes of the new run are zero, as those of addresses that are not mapped
-bytes_more_at : (store : List ℕ) (runs : List Run) (run : Run) (a : ℕ) → run_total runs + run.len ≤ length store
-    → (there : Option ℕ) → place_from 0 runs a ≡ there
-    → byte_in (zeroed store (run_total runs) run.len) (first_some there (place_from (0 + run_total runs) (run ∷ []) a)) ≡ byte_in store there
-bytes_more_at store runs run a fits None h =
-    let fits' : run_total runs + length (zeros run.len) ≤ length store = rw (length-zeros run.len) fits in
-    elim (in_range-cases run.base run.len a) [
-      | inl r ↦
-          let below : a - run.base < length (zeros run.len) = rw (length-zeros run.len) (omega arith) in
-          rw (r.0, zero-add) (written_inside store (zeros run.len) (run_total runs) (a - run.base) 0 fits' below
-          ∙ get_or-replicate run.len (a - run.base) 0 0 (omega arith))
-      | inr r ↦ rw r.0 refl
-    ]
-bytes_more_at store runs run a fits (Some k) h =
-    let fits' : run_total runs + length (zeros run.len) ≤ length store = rw (length-zeros run.len) fits in
-    written_before store (zeros run.len) (run_total runs) k 0 fits' (omega (arith, (place_within 0 runs a k h).1))
+    byte_kept : (a : ℕ) (there : Option ℕ) → place_in frames a ≡ there → byte_in (zeroed store (4096 * frame) size) there ≡ byte_in store there
+    byte_kept a None h = refl
+    byte_kept a (Some k) h =
+        let f = frame_found a k (frame_at frames (a / 4096)) h in
+        let at : k ≡ 4096 * f.0 + a % 4096 = f.1.1 in
+        let other : f.0 ≢ frame = λ same. unused (a / 4096) (f.1.0 ∙ ap Some same) in
+        elim (cases_lt k (4096 * frame)) [
+          | inl low ↦ written_before store (zeros size) (4096 * frame) k 0 fits low
+          | inr high ↦ written_past store (zeros size) (4096 * frame) k 0 fits (omega (arith, other, length-zeros size))
+        ]
 
-pub bytes_more : (store : List ℕ) (runs : List Run) (run : Run) (a : ℕ) → run_total runs + run.len ≤ length store
-    → byte_in (zeroed store (run_total runs) run.len) (place_from 0 (runs ++ run ∷ []) a) ≡ byte_in store (place_from 0 runs a)
-bytes_more store runs run a fits =
-    rw (place_from-append 0 runs run a) (bytes_more_at store runs run a fits (place_from 0 runs a) refl)
+    pub bytes_more : (a : ℕ) → byte_in (zeroed store (4096 * frame) size) (place_in more a) ≡ byte_in store (place_in frames a)
+    bytes_more a =
+        elim (in_range-cases addr 4096 a) [
+          | inl r ↦
+              let page : a / 4096 ≡ addr / 4096 = omega (arith, r.1, r.2) in
+              let inside : a % 4096 < size = omega arith in
+              rw (place_set frames (addr / 4096) a (Some frame) below page, none_there a page)
+              (written_inside store (zeros size) (4096 * frame) (a % 4096) 0 fits (omega (arith, length-zeros size))
+              ∙ get_or-replicate size (a % 4096) 0 0 inside)
+          | inr r ↦ rw (place_set_other frames (addr / 4096) a (Some frame) (omega (arith, r.1))) (byte_kept a (place_in frames a) refl)
+        ]
 
-pub store_zeroed : (m : AddressMap) (store : List ℕ) (at len : ℕ) → store ≡ zeroed m.store at len → at + len ≤ length m.store
-    → All (λ b. b < 256) store × (length store ≡ length m.store)
-store_zeroed m store at len is fits =
-    let fits' : at + length (zeros len) ≤ length m.store = rw (length-zeros len) fits in
-    store_written m store (zeros len) at is fits'
-    (λ k d below. let b : k < len = rw (length-zeros len) at below in rw (get_or-replicate len k 0 d b) (omega arith))
+and_no : (x : Bool) → false ≡ (x && false)
+and_no true = refl
+and_no false = refl
 
-pub whole_more : (m : AddressMap) (runs : List Run) (run : Run) → runs ≡ m.runs.items ++ run ∷ [] → IsWhole run → All IsWhole runs
-whole_more m runs run is whole = rw is (All-push IsWhole m.runs.items run m.whole whole)
+and_yes : (x : Bool) → x ≡ (x && true)
+and_yes true = refl
+and_yes false = refl
 
-pub total_more : (runs more : List Run) (run : Run) → more ≡ runs ++ run ∷ [] → run_total more ≡ run_total runs + run.len
-total_more runs more run is = rw is (run_total-append runs run)
+module _ (frames : List (Option ℕ)) (addr : ℕ) (aligned : addr % 4096 ≡ 0) (below : addr / 4096 < length frames) where
+  abbrev less : List (Option ℕ)
+  less = set frames (addr / 4096) None
 
--- pages that are not mapped meet no run
-apart_new : (m : AddressMap) (base len k : ℕ) (d : Run) → AreUnmapped (is_mapped m) base len → k < length m.runs.items
-    → AreApart (get_or m.runs.items k d) (record { base = base; len = len })
-unfolding place
-apart_new m base len k d unmapped below a h =
-    elim (in_range-cases base len a) [
-      | inl r ↦
-          let there : place_from 0 m.runs.items a ≡ Some (0 + run_total (take k m.runs.items) + (a - (get_or m.runs.items k d).base)) =
-          place_at 0 m.runs.items k a d m.apart below h in
-          let no : is_some (place_from 0 m.runs.items a) ≡ false = unmapped a r.1 r.2 in
-          let no' = rw there at no in
-          absurd (false≢true (sym no'))
-      | inr r ↦ r.0
-    ]
+  inside : (a : ℕ) → addr ≤ a → a < addr + 4096 → place_in less a ≡ None
+  inside a low high = place_set frames (addr / 4096) a None below (omega arith)
 
-pub apart_more : (m : AddressMap) (runs : List Run) (base len : ℕ) → runs ≡ m.runs.items ++ (record { base = base; len = len }) ∷ []
-    → AreUnmapped (is_mapped m) base len → AllPairs AreApart runs
-apart_more m runs base len is unmapped =
-    let run : Run = record { base = base; len = len } in
-    rw is (all_pairs_push AreApart m.runs.items run m.apart (λ k d below. apart_new m base len k d unmapped below))
+  outside : (a : ℕ) → in_range addr 4096 a ≡ false → place_in less a ≡ place_in frames a
+  outside a out =
+      elim (in_range-cases addr 4096 a) [
+        | inl r ↦ absurd (false≢true (sym out ∙ r.0))
+        | inr r ↦ place_set_other frames (addr / 4096) a None (omega (arith, r.1))
+      ]
+
+  pub mapped_less : (a : ℕ) → is_some (place_in less a) ≡ (is_some (place_in frames a) && not (in_range addr 4096 a))
+  mapped_less a =
+      elim (in_range-cases addr 4096 a) [
+        | inl r ↦ rw (r.0, inside a r.1 r.2) (and_no (is_some (place_in frames a)))
+        | inr r ↦ rw (r.0, outside a r.0) (and_yes (is_some (place_in frames a)))
+      ]
+
+  pub stays_less : (a : ℕ) → is_some (place_in less a) ≡ true → place_in less a ≡ place_in frames a
+  stays_less a h =
+      elim (in_range-cases addr 4096 a) [
+        | inl r ↦ let no : is_some (place_in less a) ≡ false = ap is_some (inside a r.1 r.2) in absurd (false≢true (sym no ∙ h))
+        | inr r ↦ outside a r.0
+      ]
+
+  pub bytes_less : (store : List ℕ) (a : ℕ) → byte_in store (place_in less a) ≡ with_zeros_at (λ b. byte_in store (place_in frames b)) addr 4096 a
+  bytes_less store a =
+      elim (in_range-cases addr 4096 a) [
+        | inl r ↦ rw (r.0, inside a r.1 r.2) refl
+        | inr r ↦ rw (r.0, outside a r.0) refl
+      ]

@@ -1,16 +1,16 @@
 -- What a write to the store leaves in memory.
-use Rattle.std.proofs.Common.{◌≡◌, ℕ, ◌+◌, ◌-◌, ◌/◌, ◌%◌, ◌<◌, ◌≤◌, ◌⊎◌, true, false, List, [], ◌∷◌, length, slice_set, Option, Some, None, arith, refl, ◌∙◌, ap, inl, inr, add-zero}
+use Rattle.std.proofs.Common.{◌≡◌, ℕ, ◌+◌, ◌-◌, ◌/◌, ◌%◌, ◌<◌, ◌≤◌, ◌⊎◌, true, false, List, [], ◌∷◌, length, replicate, slice_set, Option, Some, None, arith, refl, ◌∙◌, ap, inl, inr, add-zero}
 use Rattle.std.specs.List.{All}
 use Rattle.std.proofs.lemmas.Bool.{cases_lt, le-leb, lt-ltb, lt-leb, le-ltb}
 use Rattle.std.proofs.lemmas.List.Elements.{All-cons, All-nil}
-use Rattle.std.proofs.lemmas.List.{set_split, places}
-use Rattle.raw_store.specs.Region.{written, word_bytes}
+use Rattle.std.proofs.lemmas.List.{set_split, places, length-replicate, get_or-replicate}
+use Rattle.raw_store.specs.Region.{written, word_bytes, zeroed}
 use Rattle.raw_store.proofs.Written.{length-written, written_inside, written_before, written_past}
 use Rattle.std.proofs.lemmas.Bool.Decides.{nat_tests}
 use Rattle.address_map.specs.declared.map.AddressMap.{AddressMap}
 use Rattle.address_map.specs.Bytes.{in_range, with_bytes_at, with_word_at, with_byte_at}
-use Rattle.address_map.specs.Runs.{place_from}
-use Rattle.address_map.specs.Memory.{place, byte_in, byte_at, free_pages, free_runs, regions, layout}
+use Rattle.address_map.specs.Memory.{place, byte_in, byte_at, Layout, Mapping, free_pages, regions, layout, mapping}
+use Rattle.address_map.specs.Pages.{place_in}
 use Rattle.address_map.proofs.Loads.{place_next, place_only, place_fits, place_fits_word}
 
 pub in_range-cases : (at len a : ℕ)
@@ -78,13 +78,16 @@ with_bytes-word bytes at word a = grind (arith, nat_tests, places)
 pub with_bytes-byte : (bytes : ℕ → ℕ) (at byte a : ℕ) → with_bytes_at bytes at (byte ∷ []) a ≡ with_byte_at bytes at byte a
 with_bytes-byte bytes at byte a = grind (arith, nat_tests, places)
 
-pub same_layout : (m n : AddressMap) → n.runs ≡ m.runs → n.free ≡ m.free → n.regions ≡ m.regions → layout n ≡ layout m
-unfolding place free_pages free_runs regions
-same_layout m n runs free records =
-    λ i. record { regions = (records i).items; place = place_from 0 (runs i).items; free_pages = free i; free_runs = 36 - length (runs i).items }
+pub same_layout : (m n : AddressMap) → n.frames ≡ m.frames → n.free ≡ m.free → n.regions ≡ m.regions → layout n ≡ layout m
+unfolding place free_pages regions
+same_layout m n frames free records =
+    λ i. record { regions = (records i).items; place = place_in (frames i).items; free_pages = length (free i).items }
 
 pub layout-place : (m n : AddressMap) → layout n ≡ layout m → place n ≡ place m
 layout-place m n same = ap (λ l. l.place) same
+
+pub layout-mapping : (m n : AddressMap) → layout n ≡ layout m → mapping n ≡ mapping m
+layout-mapping m n same = ap (λ (l : Layout). let kept : Mapping = record { place = l.place; free_pages = l.free_pages } in kept) same
 
 pub word_put : (m n : AddressMap) (a k word : ℕ) → a % 4 ≡ 0 → place m a ≡ Some k → layout n ≡ layout m
     → n.store ≡ written m.store k (word_bytes word)
@@ -136,3 +139,16 @@ byte_put m n a k byte h same store b =
     let fits : k + 1 ≤ length m.store = place_fits m a k h in
     bytes_written m n a k (byte ∷ []) (layout-place m n same) (store ∙ slice_set-written m.store k byte fits) fits
     (λ j below. let e : j ≡ 0 = omega arith in rw (e, add-zero a, add-zero k) h) b ∙ with_bytes-byte (byte_at m) a byte b
+
+abbrev pub zeros : ℕ → List ℕ
+zeros len = replicate len 0
+
+pub length-zeros : (len : ℕ) → length (zeros len) ≡ len
+length-zeros len = length-replicate {A = ℕ} len 0
+
+pub store_zeroed : (m : AddressMap) (store : List ℕ) (at len : ℕ) → store ≡ zeroed m.store at len → at + len ≤ length m.store
+    → All (λ b. b < 256) store × (length store ≡ length m.store)
+store_zeroed m store at len is fits =
+    let fits' : at + length (zeros len) ≤ length m.store = rw (length-zeros len) fits in
+    store_written m store (zeros len) at is fits'
+    (λ k d below. let b : k < len = rw (length-zeros len) at below in rw (get_or-replicate len k 0 d b) (omega arith))

@@ -1,11 +1,12 @@
 -- Words of memory, the walks over items and blocks that they spell, and what classes depend on.
-use Rattle.std.proofs.Common.{◌≡◌, ℕ, ◌+◌, ◌%◌, ◌^◌, ◌<◌, ◌≤◌, not, false, List, Option, Some, None, is_some, arith, refl, sym, ◌∙◌, ap, subst, get_or, length}
+use Rattle.std.proofs.Common.{◌≡◌, ℕ, ◌+◌, ◌%◌, ◌^◌, ◌<◌, ◌≤◌, not, false, List, [], Option, Some, None, is_some, arith, refl, sym, ◌∙◌, ap, subst, get_or, length}
+use Rattle.address_map.specs.declared.class.Class.TheVariants.{Plain}
 use Rattle.address_map.specs.declared.map.AddressMap.{AddressMap}
 use Rattle.address_map.specs.declared.region.Region.{Region}
 use Rattle.address_map.specs.Bytes.{word_at}
 use Rattle.address_map.specs.Records.{byte_class, IsRegion}
 use Rattle.address_map.specs.Memory.{place, byte_at, is_mapped, regions, class_of, is_owned, is_plain}
-use Rattle.address_map.proofs.Loads.{place_below}
+use Rattle.address_map.proofs.Loads.{place_below, place_fits_word, word_found}
 use Rattle.address_map.proofs.Bytes.{byte_at-unmapped, is_mapped-word}
 
 -- a word that is not mapped reads as 0
@@ -24,6 +25,9 @@ word_past m a aligned past = word_unmapped m a aligned (none (place m a) refl) w
   none None h = h
   none (Some k) h = absurd (omega (arith, place_below m a k h))
 
+-- what a word reads as, by where its first byte lies
+pub ruleset words_read = (word_past, word_unmapped, place_fits_word, word_found)
+
 -- each recorded range begins at a whole word, and ends in the address space
 pub region_at : (m : AddressMap) (records : List Region) (k : ℕ) (d : Region) → records ≡ regions m → k < length records → IsRegion (get_or records k d)
 unfolding regions
@@ -39,3 +43,12 @@ class_of-same m n same bytes = λ i a. byte_class (same i) (λ b. bytes b i) a
 pub is_owned-same : (m n : AddressMap) → class_of n ≡ class_of m → is_owned n ≡ is_owned m
 unfolding is_owned
 is_owned-same m n same = λ i a. not (is_plain (same i a))
+
+-- where nothing is recorded all bytes are the guest's
+pub class_none : (m : AddressMap) (a : ℕ) → regions m ≡ [] → class_of m a ≡ Plain
+unfolding class_of
+class_none m a none = ap (λ rs. byte_class rs (byte_at m) a) none
+
+pub owned_none : (m : AddressMap) (a : ℕ) → regions m ≡ [] → is_owned m a ≡ false
+unfolding is_owned
+owned_none m a none = ap (λ class. not (is_plain class)) (class_none m a none)

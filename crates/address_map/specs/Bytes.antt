@@ -13,6 +13,10 @@ pub record Bytes : Type 0 where
 abbrev pub in_range : ℕ → ℕ → ℕ → Bool
 in_range at len a = nat_le at a && nat_lt a (at + len)
 
+-- two ranges share an address
+abbrev pub meets : ℕ → ℕ → ℕ → ℕ → Bool
+meets at len other other_len = (nat_lt 0 len && nat_lt 0 other_len) && (nat_lt at (other + other_len) && nat_lt other (at + len))
+
 -- each of the `len` addresses from `at` on is mapped, or none of them is
 abbrev pub AreMapped : (ℕ → Bool) → ℕ → ℕ → Type 0
 AreMapped mapped at len = (a : ℕ) → at ≤ a → a < at + len → mapped a ≡ true

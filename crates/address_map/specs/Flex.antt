@@ -1,7 +1,8 @@
 -- The blocks of the flex store. They lie one after another from the store's start. A block is a header of two words, the address of its
 -- anchor and its size, then its bytes, filled up to a whole number of words. The anchor is a word elsewhere that holds the address of the
 -- block's bytes (Acorn C manual, "flex"; the layout is this project's own).
-use Rattle.std.specs.Prelude.{◌≡◌, ℕ, Bool, zero, suc, ◌+◌, ◌*◌, ◌/◌, ◌==◌, ◌&&◌, ◌||◌, nat_le, nat_lt, List, [], ◌∷◌, if◌then◌else◌}
+use Rattle.std.specs.Prelude.{◌≡◌, ℕ, Bool, zero, suc, ◌+◌, ◌*◌, ◌/◌, ◌==◌, ◌||◌, nat_le, List, [], ◌∷◌, if◌then◌else◌}
+use Rattle.address_map.specs.Bytes.{meets}
 use Rattle.address_map.specs.declared.flex.Sought.{Sought}
 use Rattle.address_map.specs.declared.flex.Sought.TheVariants.{Header, Anchor, AnchorIn}
 
@@ -55,7 +56,7 @@ is_anchor a block = a == block.anchor
 
 -- does a block's anchor have a byte in the `len` bytes from `at` on?
 abbrev pub has_anchor_in : ℕ → ℕ → FlexBlock → Bool
-has_anchor_in at len block = nat_lt at (block.anchor + 4) && nat_lt block.anchor (at + len)
+has_anchor_in at len block = meets at len block.anchor 4
 
 -- is a block one that is looked for: by one of its header words, by its anchor, or by an anchor with a byte in a range?
 abbrev pub is_sought : Sought → FlexBlock → Bool

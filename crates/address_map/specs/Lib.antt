@@ -2,5 +2,5 @@ pub mod Bytes
 pub mod Flex
 pub mod Items
 pub mod Memory
+pub mod Pages
 pub mod Records
-pub mod Runs

@@ -1,18 +1,17 @@
 -- What an `AddressMap` stands for. The places of bytes in the store are the map's own matter; the layers above speak of
 -- `bytes_of`, `layout`, `free_pages`, `class_of` and `is_owned`.
-use Rattle.std.specs.Prelude.{◌≡◌, ◌≤◌, ◌<◌, ℕ, ◌+◌, ◌-◌, Bool, true, false, not, List, length, take, slice_index, slice_index_or, Option, Some, None, is_some}
+use Rattle.std.specs.Prelude.{◌≡◌, ◌≤◌, ◌<◌, ℕ, ◌+◌, Bool, true, false, not, List, length, slice_index, Option, Some, None, is_some}
 use Rattle.address_map.specs.declared.class.Class.{Class}
 use Rattle.address_map.specs.declared.class.Class.TheVariants.{Plain}
 use Rattle.address_map.specs.declared.region.Region.{Region}
-use Rattle.address_map.specs.declared.run.Run.{Run}
 use Rattle.address_map.specs.declared.map.AddressMap.{AddressMap}
 use Rattle.address_map.specs.Bytes.{Bytes}
+use Rattle.address_map.specs.Pages.{place_in}
 use Rattle.address_map.specs.Records.{byte_class}
-use Rattle.address_map.specs.Runs.{place_from, run_total}
 
 -- where in the store the byte of an address lies, if the address is mapped
 unfoldable pub place : AddressMap → ℕ → Option ℕ
-place m a = place_from 0 m.runs.items a
+place m a = place_in m.frames.items a
 
 abbrev pub is_mapped : AddressMap → ℕ → Bool
 is_mapped m a = is_some (place m a)
@@ -34,21 +33,21 @@ pub record IsSpan (m : AddressMap) (a k len : ℕ) : Type 0 where
   pub within : k + len ≤ length m.store
   pub places : (j : ℕ) → j < len → place m (a + j) ≡ Some (k + j)
 
--- an address lies in the run that stands at `index` in the table, whose bytes begin at the place `start`
-pub record IsFound (m : AddressMap) (a index start : ℕ) (run : Run) : Type 0 where
-  pub below : index < length m.runs.items
-  pub is : (d : Run) → slice_index_or m.runs.items index d ≡ run
-  pub passed : start ≡ run_total (take index m.runs.items)
-  pub low : run.base ≤ a
-  pub high : a < run.base + run.len
-
 -- the pages of the store that are not mapped
 unfoldable pub free_pages : AddressMap → ℕ
-free_pages m = m.free
+free_pages m = length m.free.items
 
--- how many runs of pages can still be mapped apart from the others
-unfoldable pub free_runs : AddressMap → ℕ
-free_runs m = 36 - length m.runs.items
+-- what is mapped, and where: all that calls on records leave as it is
+pub record Mapping : Type 0 where
+  pub place : ℕ → Option ℕ
+  pub free_pages : ℕ
+
+abbrev pub mapping : AddressMap → Mapping
+mapping m = record { place = place m; free_pages = free_pages m }
+
+-- what is mapped before and after a change lies where it lay
+abbrev pub StaysInPlace : AddressMap → AddressMap → Type 0
+StaysInPlace m n = (a : ℕ) → is_mapped m a ≡ true → is_mapped n a ≡ true → place n a ≡ place m a
 
 -- the recorded ranges, the first recorded first
 unfoldable pub regions : AddressMap → List Region
@@ -59,10 +58,9 @@ pub record Layout : Type 0 where
   pub place : ℕ → Option ℕ
   pub regions : List Region
   pub free_pages : ℕ
-  pub free_runs : ℕ
 
 abbrev pub layout : AddressMap → Layout
-layout m = record { place = place m; regions = regions m; free_pages = free_pages m; free_runs = free_runs m }
+layout m = record { place = place m; regions = regions m; free_pages = free_pages m }
 
 -- what the store calls use the byte at an address for
 unfoldable pub class_of : AddressMap → ℕ → Class

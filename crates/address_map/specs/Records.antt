@@ -7,7 +7,7 @@ use Rattle.address_map.specs.declared.class.Class.TheVariants as class
 use Rattle.address_map.specs.declared.region.Kind.{Kind}
 use Rattle.address_map.specs.declared.region.Kind.TheVariants as kind
 use Rattle.address_map.specs.declared.region.Region.{Region}
-use Rattle.address_map.specs.Bytes.{in_range, word_at, word_start}
+use Rattle.address_map.specs.Bytes.{in_range, meets, word_at, word_start}
 use Rattle.address_map.specs.Items.{items_in, is_heap_word}
 use Rattle.address_map.specs.Flex.{FlexBlock, flex_in, is_header_word, is_anchor, has_anchor_in}
 
@@ -25,9 +25,9 @@ pub record IsRegion (region : Region) : Type 0 where
   pub aligned : region.at % 4 ≡ 0
   pub end : region.at + region.len ≤ 2 ^ 26
 
--- none of the `len` addresses from `at` on is in one of the ranges
-abbrev pub AreNotMet : ℕ → ℕ → List Region → Type 0
-AreNotMet at len regions = (a : ℕ) → in_range at len a ≡ true → list_any (λ region. in_range region.at region.len a) regions ≡ false
+-- does a recorded range share an address with the `len` bytes from `at` on?
+abbrev pub meets_record : List Region → ℕ → ℕ → Bool
+meets_record regions at len = list_any (λ region. meets at len region.at region.len) regions
 
 abbrev pub with_region_of : List Region → Region → Kind → List Region
 with_region_of regions region kind.Anchor = regions

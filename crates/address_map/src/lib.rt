@@ -8,10 +8,9 @@ pub mod laws;
 pub mod map;
 pub mod moves;
 pub mod owned;
+pub mod pages;
 pub mod records;
 pub mod region;
-pub mod run;
-pub mod unmap;
 
 pub use class::Class;
 pub use item::Item;

@@ -1,44 +1,44 @@
-ghost use Rattle.std.specs.Prelude.{ℕ, [], ◌≡◌, ◌≤◌, ◌<◌, ◌+◌, ◌-◌, ◌*◌, ◌%◌, ◌^◌, ◌↔◌, ◌||◌, false, IsTrue, IfOk, MatchResult, MatchOption, Option, Some, None, length, All, slice_index};
-ghost use Rattle.std.specs.List.{AllPairs};
+ghost use Rattle.std.specs.Prelude.{ℕ, [], ◌≡◌, ◌≤◌, ◌<◌, ◌+◌, ◌*◌, ◌%◌, ◌↔◌, false, IsTrue, IfOk, MatchResult, MatchOption, Some, None, length, All};
 ghost use Rattle.profile.specs.Outcome.{Leaves};
 ghost use Rattle.address_map.specs.declared.class.Class.{Class};
-ghost use Rattle.address_map.specs.Bytes.{in_range, AreMapped, AreUnmapped, byte_loaded, word_loaded, byte_stored, word_stored, with_word_at, with_bytes_at, with_zeros_at, load_fault, store_fault};
+ghost use Rattle.address_map.specs.Bytes.{AreMapped, byte_loaded, word_loaded, byte_stored, word_stored, with_word_at, with_bytes_at, with_zeros_at, load_fault, store_fault};
+ghost use Rattle.address_map.specs.Pages.{IsPageTable, frame_count};
 ghost use Rattle.address_map.specs.Records.{IsRegion};
-ghost use Rattle.address_map.specs.Runs.{IsWhole, AreApart, run_total};
 
+use crate::pages::{all_frames, page_count};
 use crate::region::Region;
-use crate::run::Run;
 use arrayvec::ArrayVec;
 use profile::Fault;
-use profile::memory_map::{ADDRESS_LIMIT, PAGE_SIZE};
+use profile::memory_map::{ADDRESS_LIMIT, MOST_PAGES};
 use raw_store::RawStore;
 use std::alloc::{AllocError, Global};
 
-/// The most runs of mapped pages that don't touch.
-pub(crate) const MOST_RUNS: usize = 36;
+/// The most frames of 4096 bytes that the memory has.
+pub(crate) const MOST_FRAMES: usize = MOST_PAGES as usize;
 
 /// The most ranges that can be recorded: 64 heaps, the module area, one flex store and its used part, 65 images, the system pages.
 pub(crate) const MOST_REGIONS: usize = 133;
 
 /// The address space of a machine: the memory that it has, and the addresses where that is mapped.
 ///
-/// Addresses that are not mapped read as 0 in the contracts; a load or a store there is a fault. A
-/// word lies at a multiple of 4 and never meets two pages. No call but `new` takes host memory.
+/// Each page of the address space that is mapped has a frame of the store, where its bytes lie; the
+/// other frames are free. Addresses that are not mapped read as 0 in the contracts; a load or a
+/// store there is a fault. A word lies at a multiple of 4 and never meets two pages. No call but
+/// `new` takes host memory.
 #[derive(Drop)]
 pub struct AddressMap {
     pub(crate) store: RawStore,
-    pub(crate) runs: ArrayVec<Run, MOST_RUNS>,
-    pub(crate) free: u32,
+    pub(crate) frames: Vec<Option<u16>>,
+    pub(crate) free: ArrayVec<u16, MOST_FRAMES>,
     pub(crate) regions: ArrayVec<Region, MOST_REGIONS>,
     pub ghost bytes_fit: { All (λ b. b < 256) store },
     pub ghost in_limit: { length store ≤ 4194304 },
-    pub ghost runs_fit: { run_total runs.items + 4096 * free ≡ length store },
-    pub ghost whole: { All IsWhole runs.items },
-    pub ghost apart: { AllPairs AreApart runs.items },
+    pub ghost frames_fit: { 4096 * frame_count frames.items free.items ≡ length store },
+    pub ghost table: { IsPageTable frames.items free.items },
     pub ghost recorded: { All IsRegion regions.items },
 }
 
-/// Bytes of memory that lie one after another in the store too.
+/// Bytes of one page, which lie one after another in the store too.
 #[derive(Clone, Copy)]
 pub(crate) struct Span {
     pub(crate) addr: u32,
@@ -46,126 +46,44 @@ pub(crate) struct Span {
     pub(crate) len: u32,
 }
 
-/// A run in the table: which one it is, and where in the store its bytes begin.
-#[derive(Clone, Copy)]
-pub(crate) struct Found {
-    pub(crate) index: usize,
-    pub(crate) start: usize,
-    pub(crate) run: Run,
-}
-
 impl AddressMap {
-    ghost use Rattle.address_map.specs.Memory.{IsSpan, IsFound, place, is_mapped, byte_at, bytes_of, free_pages, free_runs, regions, layout, class_of, is_owned};
+    ghost use Rattle.address_map.specs.Memory.{IsSpan, place, is_mapped, byte_at, bytes_of, free_pages, regions, layout, class_of, is_owned};
 
     /// A memory of that many pages of 4096 bytes, none of which is mapped.
     ///
     /// # Errors
     ///
     /// `AllocError` where the host has no memory for it.
-    #[tactic(auto, using(crate::proofs::Searches::no_pairs), unfolding(crate::specs::Memory::place, crate::specs::Memory::free_pages, crate::specs::Memory::free_runs, crate::specs::Memory::class_of, crate::specs::Memory::is_owned, crate::specs::Memory::regions))]
     pub fn new(alloc: Global, pages: u32) -> Result<AddressMap, AllocError>
         requires { pages ≤ 1024 }
         ensures mapping { IfOk result (λ m. (a : ℕ) → is_mapped m a ≡ false) }
         ensures pages { IfOk result (λ m. free_pages m ≡ pages) }
-        ensures runs { IfOk result (λ m. free_runs m ≡ 36) }
         ensures regions { IfOk result (λ m. regions m ≡ []) }
         ensures classes { IfOk result (λ m. (a : ℕ) → class_of m a ≡ Class.Plain) }
         ensures owned { IfOk result (λ m. (a : ℕ) → is_owned m a ≡ false) }
     {
         let store = RawStore::new(alloc, pages)?;
+        let frames = vec![in alloc; None; page_count()]?;
         Ok(AddressMap {
             store,
-            runs: ArrayVec::new(),
-            free: pages,
+            frames,
+            free: all_frames(pages),
             regions: ArrayVec::new(),
         })
     }
 
-    /// The pages that are left to be mapped.
-    #[tactic(auto, unfolding(crate::specs::Memory::free_pages))]
-    pub fn free_pages(&self) -> u32
-        ensures { result ≡ free_pages self.now }
-    {
-        self.free
-    }
-
-    /// Maps `count` pages from the address `base` on, which are zero then.
-    pub fn map_pages(&mut self, base: u32, count: u32)
-        requires aligned { base % 4096 ≡ 0 }
-        requires below { base + 4096 * count ≤ 2 ^ 26 }
-        requires unmapped { AreUnmapped (is_mapped self.old) base (4096 * count) }
-        requires pages { count ≤ free_pages self.old }
-        requires run { 1 ≤ free_runs self.old }
-        ensures mapping { (a : ℕ) → is_mapped self.new a ≡ (in_range base (4096 * count) a || is_mapped self.old a) }
-
-        // The bytes of the new pages are 0, as those of addresses that are not mapped.
-        ensures bytes { (a : ℕ) → byte_at self.new a ≡ byte_at self.old a }
-        ensures pages { free_pages self.new + count ≡ free_pages self.old }
-        ensures runs { free_runs self.old ≤ free_runs self.new + 1 }
-        ensures regions { regions self.new ≡ regions self.old }
-        ensures classes { class_of self.new ≡ class_of self.old }
-        ensures owned { is_owned self.new ≡ is_owned self.old }
-    {
-        let len = PAGE_SIZE * count;
-        let start = self.store.len() - (PAGE_SIZE * self.free) as usize;
-        self.store.zero(start, len as usize);
-        self.runs.push(Run { base, len });
-        self.free -= count;
-    }
-
-    /// Where in the store the byte of an address lies, or `None` where no memory is mapped.
-    pub fn translate(&self, addr: u32) -> Option<usize>
-        ensures { result ≡ place self.now addr }
-    {
-        self.span(addr).map(|span| span.place)
-    }
-
-    /// The bytes from an address on that lie one after another in the store, or `None` where no
-    /// memory is mapped.
+    /// The bytes from an address on to the end of its page, or `None` where no memory is mapped.
     pub(crate) fn span(&self, addr: u32) -> Option<Span>
-        ensures { MatchOption result (place self.now addr ≡ None) (λ span. (span.addr ≡ addr) × IsSpan self.now addr span.place span.len) }
+        ensures { MatchOption result (place self.now addr ≡ None)
+            (λ span. (span.addr ≡ addr) × IsSpan self.now addr span.place span.len) }
     {
-        let run = self.run_at(addr)?;
-        let offset = addr - run.addr;
+        let page = self.page_at(addr)?;
+        let offset = addr - page.addr;
         Some(Span {
             addr,
-            place: run.place + offset as usize,
-            len: run.len - offset,
+            place: page.place + offset as usize,
+            len: page.len - offset,
         })
-    }
-
-    /// All bytes of the run that an address lies in, or `None` where no memory is mapped.
-    pub(crate) fn run_at(&self, addr: u32) -> Option<Span>
-        ensures { MatchOption result (place self.now addr ≡ None) (λ run. (run.addr ≤ addr) × (addr < run.addr + run.len) × IsSpan self.now run.addr run.place run.len) }
-    {
-        let found = self.find_run(addr)?;
-        Some(Span {
-            addr: found.run.base,
-            place: found.start,
-            len: found.run.len,
-        })
-    }
-
-    /// The run that an address lies in, or `None` where no memory is mapped.
-    #[tactic(auto, using(crate::proofs::Searches::place_end), unfolding(crate::specs::Memory::place))]
-    pub(crate) fn find_run(&self, addr: u32) -> Option<Found>
-        ensures { MatchOption result (place self.now addr ≡ None) (λ found. IsFound self.now addr found.index found.start found.run) }
-    {
-        let mut start = 0;
-        let runs = self.runs.as_slice();
-        for (index, run) in runs.iter().enumerate() {
-            // Below the run's base the difference wraps, to more than any run has bytes.
-            let offset = addr.wrapping_sub(run.base);
-            if offset < run.len {
-                return Some(Found {
-                    index,
-                    start,
-                    run: *run,
-                });
-            }
-            start += run.len as usize;
-        }
-        None
     }
 
     /// The byte at an address.
@@ -173,6 +91,7 @@ impl AddressMap {
     /// # Errors
     ///
     /// `AddressException` from 2^26 on, else `DataUnmapped` where no memory is mapped.
+    #[inline(always)]
     pub fn load_byte(&self, addr: u32) -> Result<u8, Fault>
         ensures { result ≡ byte_loaded (bytes_of self.now) addr }
     {
@@ -185,6 +104,7 @@ impl AddressMap {
     /// # Errors
     ///
     /// As `load_byte`.
+    #[inline(always)]
     pub fn load_word(&self, addr: u32) -> Result<u32, Fault>
         ensures { result ≡ word_loaded (bytes_of self.now) addr }
     {
@@ -198,8 +118,10 @@ impl AddressMap {
     ///
     /// `AddressException` from 2^26 on, else `DataUnmapped` where no memory is mapped, else
     /// `OwnedWord` where the store calls keep their records. Nothing is changed then.
+    #[inline(always)]
     pub fn store_byte(&mut self, addr: u32, byte: u8) -> Result<(), Fault>
-        ensures bytes { Leaves (bytes_of self.old) (byte_stored (is_owned self.old) (bytes_of self.old) addr byte) result (bytes_of self.new) }
+        ensures bytes { let stored = byte_stored (is_owned self.old) (bytes_of self.old) addr byte in
+            Leaves (bytes_of self.old) stored result (bytes_of self.new) }
         ensures layout { layout self.new ≡ layout self.old }
     {
         let place = self.writable(addr)?;
@@ -212,8 +134,10 @@ impl AddressMap {
     /// # Errors
     ///
     /// As `store_byte`.
+    #[inline(always)]
     pub fn store_word(&mut self, addr: u32, word: u32) -> Result<(), Fault>
-        ensures bytes { Leaves (bytes_of self.old) (word_stored (is_owned self.old) (bytes_of self.old) addr word) result (bytes_of self.new) }
+        ensures bytes { let stored = word_stored (is_owned self.old) (bytes_of self.old) addr word in
+            Leaves (bytes_of self.old) stored result (bytes_of self.new) }
         ensures layout { layout self.new ≡ layout self.old }
     {
         let place = self.writable(addr - addr % 4)?;
@@ -296,8 +220,11 @@ impl AddressMap {
 
     /// Where in the store the byte of an address lies that a guest may read.
     #[tactic(auto, using(crate::proofs::Loads::place_below))]
+    #[inline(always)]
     fn readable(&self, addr: u32) -> Result<usize, Fault>
-        ensures { MatchResult result (λ k. (load_fault (bytes_of self.now) addr ≡ None) × (place self.now addr ≡ Some k)) (λ fault. load_fault (bytes_of self.now) addr ≡ Some fault) }
+        ensures { MatchResult result
+            (λ k. (load_fault (bytes_of self.now) addr ≡ None) × (place self.now addr ≡ Some k))
+            (λ fault. load_fault (bytes_of self.now) addr ≡ Some fault) }
     {
         match self.translate(addr) {
             Some(place) => Ok(place),
@@ -307,8 +234,10 @@ impl AddressMap {
     }
 
     /// Where in the store the byte of an address lies that a guest may write to.
+    #[inline(always)]
     fn writable(&self, addr: u32) -> Result<usize, Fault>
-        ensures { MatchResult result (λ k. (store_fault (is_owned self.now) (bytes_of self.now) addr ≡ None) × (place self.now addr ≡ Some k)) (λ fault. store_fault (is_owned self.now) (bytes_of self.now) addr ≡ Some fault) }
+        ensures { let refused = store_fault (is_owned self.now) (bytes_of self.now) addr in
+            MatchResult result (λ k. (refused ≡ None) × (place self.now addr ≡ Some k)) (λ fault. refused ≡ Some fault) }
     {
         let place = self.readable(addr)?;
         if self.owns(addr) {

@@ -75,16 +75,17 @@ impl AddressMap {
         }
     }
 
-    /// The bytes of a run up to the address `end`, or `None` where no memory is mapped below it.
+    /// The bytes of a page up to the address `end`, or `None` where no memory is mapped below it.
     fn span_to(&self, end: u32) -> Option<Span>
         requires { 0 < end }
-        ensures { MatchOption result (place self.now (end - 1) ≡ None) (λ span. (span.addr + span.len ≡ end) × IsSpan self.now span.addr span.place span.len) }
+        ensures { MatchOption result (place self.now (end - 1) ≡ None)
+            (λ span. (span.addr + span.len ≡ end) × IsSpan self.now span.addr span.place span.len) }
     {
-        let run = self.run_at(end - 1)?;
+        let page = self.page_at(end - 1)?;
         Some(Span {
-            addr: run.addr,
-            place: run.place,
-            len: end - run.addr,
+            addr: page.addr,
+            place: page.place,
+            len: end - page.addr,
         })
     }
 
@@ -93,7 +94,8 @@ impl AddressMap {
         requires target { IsSpan self.old target.now.addr target.now.place target.now.len }
         requires source_len { len ≤ source.now.len }
         requires target_len { len ≤ target.now.len }
-        ensures bytes { (a : ℕ) → byte_at self.new a ≡ with_moved_at (byte_at self.old) source.now.addr target.now.addr len a }
+        ensures bytes { let moved = with_moved_at (byte_at self.old) source.now.addr target.now.addr len in
+            (a : ℕ) → byte_at self.new a ≡ moved a }
         ensures layout { layout self.new ≡ layout self.old }
     {
         self.store.copy(source.place, target.place, len as usize);

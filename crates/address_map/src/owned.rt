@@ -9,7 +9,7 @@ use crate::class::Class;
 use crate::flex::Sought;
 use crate::item::Item;
 use crate::map::AddressMap;
-use crate::region::Region;
+use crate::region::{Region, do_meet};
 use profile::memory_map::ADDRESS_LIMIT;
 
 /// The bytes of a heap's descriptor.
@@ -18,10 +18,14 @@ const DESCRIPTOR_SIZE: u32 = 16;
 /// The bytes of a flex block's header.
 const HEADER_SIZE: u64 = 8;
 
+/// The bytes of a word.
+const WORD_SIZE: u32 = 4;
+
 impl AddressMap {
     ghost use Rattle.address_map.specs.Memory.{byte_at, regions, class_of, is_owned};
 
     /// What the store calls use the byte at an address for.
+    #[inline(always)]
     #[tactic(auto, using(crate::proofs::Guests::plain_word), unfolding(crate::specs::Memory::class_of))]
     pub fn class(&self, addr: u32) -> Class
         ensures { result ≡ class_of self.now addr }
@@ -43,6 +47,7 @@ impl AddressMap {
     }
 
     /// Whether the store calls keep their records in the byte at an address, which a guest's stores must leave alone.
+    #[inline(always)]
     #[tactic(auto, unfolding(crate::specs::Memory::is_owned))]
     pub fn owns(&self, addr: u32) -> bool
         ensures { result ≡ is_owned self.now addr }
@@ -59,6 +64,7 @@ impl AddressMap {
 
     /// Whether a recorded range holds a word, or names anchors, which may lie anywhere. Most words are none of these, and then are
     /// nobody's but the guest's.
+    #[inline(always)]
     fn may_own(&self, word: u32) -> bool
         ensures { result ≡ list_any (may_own word) (regions self.now) }
     {
@@ -166,7 +172,8 @@ impl AddressMap {
 
     /// Whether the flex store has a block that is looked for.
     fn has_block(&self, sought: &Sought) -> bool
-        ensures { result ≡ list_any (λ region. list_any (is_sought sought.now) (flex_blocks_of (word_at (byte_at self.now)) region)) (regions self.now) }
+        ensures { let blocks = flex_blocks_of (word_at (byte_at self.now)) in
+            result ≡ list_any (λ region. list_any (is_sought sought.now) (blocks region)) (regions self.now) }
     {
         let regions = self.regions();
         for region in regions {
@@ -206,14 +213,14 @@ impl AddressMap {
             Sought::Header(word) => word as u64 == at || word as u64 == at + 4,
             Sought::Anchor(word) => word == self.word(at),
             Sought::AnchorIn { at: start, len } => {
-                let (start, anchor) = (start as u64, self.word(at) as u64);
-                start < anchor + 4 && anchor < start + len as u64
+                let anchor = self.word(at);
+                do_meet(start, len, anchor, WORD_SIZE)
             }
         }
     }
 
     /// The word at an address, which counts as 0 where no memory is mapped.
-    #[tactic(auto, using(crate::proofs::Words::word_past, crate::proofs::Words::word_unmapped, crate::proofs::Loads::place_fits_word, crate::proofs::Loads::word_found))]
+    #[tactic(auto, using(crate::proofs::Words::words_read))]
     fn word(&self, addr: u64) -> u32
         requires { addr % 4 ≡ 0 }
         ensures { result ≡ word_at (byte_at self.now) addr }

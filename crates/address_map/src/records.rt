@@ -1,12 +1,12 @@
 ghost use Rattle.std.specs.Prelude.{◌≡◌, ◌<◌, ℕ, length, slice_set, MatchOption};
-ghost use Rattle.address_map.specs.Records.{IsRegion, with_region, without_region, with_len};
+ghost use Rattle.address_map.specs.Records.{IsRegion, meets_record, with_region, without_region, with_len};
 ghost use Rattle.std.specs.List.{remove};
 
 use crate::map::AddressMap;
-use crate::region::{Kind, Region};
+use crate::region::{Kind, Region, do_meet};
 
 impl AddressMap {
-    ghost use Rattle.address_map.specs.Memory.{place, byte_at, free_pages, free_runs, regions};
+    ghost use Rattle.address_map.specs.Memory.{byte_at, mapping, regions};
 
     /// The recorded ranges, the first recorded first.
     #[tactic(auto, unfolding(crate::specs::Memory::regions))]
@@ -16,17 +16,28 @@ impl AddressMap {
         self.regions.as_slice()
     }
 
+    /// Whether a recorded range has a byte in the `len` bytes from `at` on.
+    pub fn meets_record(&self, at: u32, len: u32) -> bool
+        ensures { result ≡ meets_record (regions self.now) at len }
+    {
+        let regions = self.regions();
+        for region in regions {
+            if do_meet(at, len, region.at, region.len) {
+                return true;
+            }
+        }
+        false
+    }
+
     /// Records a range that store calls use. Words in it that only they may write are owned from now on: the words that the
     /// items of a heap spell, the headers of flex blocks, and the anchors that these name. No byte is changed.
-    #[tactic(auto, unfolding(crate::specs::Memory::regions, crate::specs::Memory::place, crate::specs::Memory::byte_at, crate::specs::Memory::free_pages, crate::specs::Memory::free_runs))]
+    #[tactic(auto, unfolding(crate::specs::Memory::regions, crate::specs::Memory::place, crate::specs::Memory::byte_at, crate::specs::Memory::free_pages))]
     pub fn own(&mut self, kind: Kind, at: u32, len: u32)
         requires region { IsRegion (record { kind = kind; at = at; len = len }) }
         requires room { length (regions self.old) < 133 }
         ensures regions { regions self.new ≡ with_region (regions self.old) (record { kind = kind; at = at; len = len }) }
-        ensures place { place self.new ≡ place self.old }
+        ensures mapping { mapping self.new ≡ mapping self.old }
         ensures bytes { byte_at self.new ≡ byte_at self.old }
-        ensures pages { free_pages self.new ≡ free_pages self.old }
-        ensures runs { free_runs self.new ≡ free_runs self.old }
     {
         if kind != Kind::Anchor {
             self.regions.push(Region { kind, at, len });
@@ -35,13 +46,11 @@ impl AddressMap {
 
     /// Takes away the first record of that kind that starts at `at`, if there is one; its words are the guest's from now on. No
     /// byte is changed, and the other records keep their order. An anchor is no record.
-    #[tactic(auto, unfolding(crate::specs::Memory::regions, crate::specs::Memory::place, crate::specs::Memory::byte_at, crate::specs::Memory::free_pages, crate::specs::Memory::free_runs))]
+    #[tactic(auto, unfolding(crate::specs::Memory::regions, crate::specs::Memory::place, crate::specs::Memory::byte_at, crate::specs::Memory::free_pages))]
     pub fn disown(&mut self, kind: Kind, at: u32)
         ensures regions { regions self.new ≡ without_region (regions self.old) kind at }
-        ensures place { place self.new ≡ place self.old }
+        ensures mapping { mapping self.new ≡ mapping self.old }
         ensures bytes { byte_at self.new ≡ byte_at self.old }
-        ensures pages { free_pages self.new ≡ free_pages self.old }
-        ensures runs { free_runs self.new ≡ free_runs self.old }
     {
         if let Some(index) = self.record_index(kind, at) {
             self.regions.remove(index);
@@ -50,14 +59,12 @@ impl AddressMap {
 
     /// Gives the first record of that kind that starts at `at`, if there is one, another length. No byte is changed, and the records keep
     /// their order.
-    #[tactic(auto, unfolding(crate::specs::Memory::regions, crate::specs::Memory::place, crate::specs::Memory::byte_at, crate::specs::Memory::free_pages, crate::specs::Memory::free_runs))]
+    #[tactic(auto, unfolding(crate::specs::Memory::regions, crate::specs::Memory::place, crate::specs::Memory::byte_at, crate::specs::Memory::free_pages))]
     pub fn set_len(&mut self, kind: Kind, at: u32, len: u32)
         requires region { IsRegion (record { kind = kind; at = at; len = len }) }
         ensures regions { regions self.new ≡ with_len (regions self.old) kind at len }
-        ensures place { place self.new ≡ place self.old }
+        ensures mapping { mapping self.new ≡ mapping self.old }
         ensures bytes { byte_at self.new ≡ byte_at self.old }
-        ensures pages { free_pages self.new ≡ free_pages self.old }
-        ensures runs { free_runs self.new ≡ free_runs self.old }
     {
         if let Some(index) = self.record_index(kind, at) {
             self.regions[index] = Region { kind, at, len };

@@ -1,5 +1,5 @@
 ghost use Rattle.std.specs.Prelude.{◌≡◌};
-ghost use Rattle.address_map.specs.Bytes.{in_range};
+ghost use Rattle.address_map.specs.Bytes.{in_range, meets};
 ghost use Rattle.address_map.specs.Records.{is_heap_kind, is_flex_kind, is_record};
 
 /// What the store calls use a range of memory for.
@@ -31,6 +31,7 @@ impl Kind {
     }
 
     /// Whether a range is the used part of the flex store.
+    #[inline(always)]
     pub(crate) fn is_flex(&self) -> bool
         ensures { result ≡ is_flex_kind self.now }
     {
@@ -48,6 +49,7 @@ pub struct Region {
 
 impl Region {
     /// Whether an address is in the range.
+    #[inline(always)]
     pub(crate) fn holds(&self, addr: u32) -> bool
         ensures { result ≡ in_range self.now.at self.now.len addr }
     {
@@ -60,4 +62,13 @@ impl Region {
     {
         kind != Kind::Anchor && self.kind == kind && self.at == at
     }
+}
+
+/// Whether two ranges share an address.
+pub(crate) fn do_meet(at: u32, len: u32, other: u32, other_len: u32) -> bool
+    ensures { result ≡ meets at len other other_len }
+{
+    let end = u64::from(at) + u64::from(len);
+    let other_end = u64::from(other) + u64::from(other_len);
+    len > 0 && other_len > 0 && u64::from(at) < other_end && u64::from(other) < end
 }

@@ -165,6 +165,7 @@ fn owns_the_headers_and_anchors_of_flex_blocks(rt: HostRuntime) -> Result<(), Fa
     for (at, len, met) in [
         (0x90FD, 3, false),
         (0x90FD, 4, true),
+        (0x9102, 0, false),
         (0x9103, 1, true),
         (0x9104, 0xFC, false),
         (0x9104, 0xFD, true),
@@ -239,14 +240,85 @@ fn unmaps_pages_from_the_middle_and_maps_them_anew(rt: HostRuntime) -> Result<()
     map.put_bytes(0x9FFE, &[5, 6, 7, 8]);
     map.unmap_pages(0x9000, 1);
     assert_eq!(rt; map.free_pages(), 1);
-    assert_eq!(rt; map.translate(0xA000), Some(0x1000));
-    assert_eq!(rt; map.translate(0xC000), Some(0x2000));
     assert_eq!(rt; map.load_word(0x8FFC), Ok(0x0201_0000));
     assert_eq!(rt; map.load_byte(0x9000), Err(Fault::DataUnmapped));
     assert_eq!(rt; map.load_word(0xA000), Ok(0x0000_0807));
     map.map_pages(0x9000, 1);
     assert_eq!(rt; map.load_word(0x9000), Ok(0));
     assert_eq!(rt; map.load_word(0x9FFC), Ok(0));
+    Ok(())
+}
+
+/// Two areas that grow in turn, by a page each, and then one gives a page back that the other takes.
+#[test]
+fn grows_two_ranges_in_turn(rt: HostRuntime) -> Result<(), Fail> {
+    const FIRST: u32 = 0x0200_0000;
+    const SECOND: u32 = 0x0200_3000;
+    let mut map = AddressMap::new(rt.alloc(), 4)?;
+    map.map_pages(FIRST, 1);
+    map.map_pages(SECOND, 1);
+    assert_eq!(rt; map.store_word(FIRST + 0xFFC, 0x1111_1111), Ok(()));
+    assert_eq!(rt; map.store_word(SECOND + 0xFFC, 0x2222_2222), Ok(()));
+    map.map_pages(FIRST + 0x1000, 1);
+    map.map_pages(SECOND + 0x1000, 1);
+    assert_eq!(rt; map.free_pages(), 0);
+    assert_eq!(rt; map.load_word(FIRST + 0x1000), Ok(0));
+    assert_eq!(rt; map.store_word(FIRST + 0x1004, 0x3333_3333), Ok(()));
+    assert_eq!(rt; map.store_word(SECOND + 0x1004, 0x4444_4444), Ok(()));
+    let (first, second) = (map.translate(FIRST), map.translate(SECOND));
+    map.unmap_pages(FIRST + 0x1000, 1);
+    assert_eq!(rt; map.free_pages(), 1);
+    assert_eq!(rt; map.load_word(FIRST + 0x1004), Err(Fault::DataUnmapped));
+    map.map_pages(SECOND + 0x2000, 1);
+    assert_eq!(rt; map.load_word(SECOND + 0x2004), Ok(0));
+    for (addr, word) in [
+        (FIRST + 0xFFC, 0x1111_1111),
+        (SECOND + 0xFFC, 0x2222_2222),
+        (SECOND + 0x1004, 0x4444_4444),
+    ] {
+        assert_eq!(rt; map.load_word(addr), Ok(word), "word at {addr:x}");
+    }
+    assert!(rt; map.translate(FIRST) == first && map.translate(SECOND) == second);
+    Ok(())
+}
+
+/// 8 bytes that lie across a page's end, moved over another one's end, up and down, all from odd addresses. The two pages of each
+/// pair lie apart in the store.
+#[test]
+fn moves_bytes_across_page_ends_both_ways(rt: HostRuntime) -> Result<(), Fail> {
+    let mut map = AddressMap::new(rt.alloc(), 4)?;
+    for page in [0x8000, 0xB000, 0x9000, 0xC000] {
+        map.map_pages(page, 1);
+    }
+    assert!(rt; map.maps(0x8FFD, 8));
+    assert!(rt; map.maps(0xBFFB, 8));
+    map.put_bytes(0x8FFD, &[1, 2, 3, 4, 5, 6, 7, 8]);
+    map.move_bytes(0x8FFD, 0xBFFB, 8);
+    assert_eq!(rt; map.load_word(0xBFF8), Ok(0x0100_0000));
+    assert_eq!(rt; map.load_word(0xBFFC), Ok(0x0504_0302));
+    assert_eq!(rt; map.load_word(0xC000), Ok(0x0008_0706));
+    assert!(rt; map.maps(0x8FFF, 8));
+    map.move_bytes(0xBFFB, 0x8FFF, 8);
+    assert_eq!(rt; map.load_word(0x8FFC), Ok(0x0102_0100));
+    assert_eq!(rt; map.load_word(0x9000), Ok(0x0504_0302));
+    assert_eq!(rt; map.load_word(0x9004), Ok(0x0008_0706));
+    Ok(())
+}
+
+#[test]
+fn tells_what_meets_a_record(rt: HostRuntime) -> Result<(), Fail> {
+    let mut map = AddressMap::new(rt.alloc(), 1)?;
+    map.own(Kind::Image, 0x9000, 256);
+    map.own(Kind::Image, 0x9200, 0);
+    for (at, len, met) in [
+        (0x8FFF, 1, false),
+        (0x8FFF, 2, true),
+        (0x9010, 0, false),
+        (0x90FF, 1, true),
+        (0x9100, 0x200, false),
+    ] {
+        assert_eq!(rt; map.meets_record(at, len), met, "{len} bytes from {at:x}");
+    }
     Ok(())
 }
 

@@ -23,7 +23,7 @@ impl Operation {
     }
 
     /// Whether this is MOV or MVN, which have no first operand.
-    pub(crate) fn is_move(self) -> bool
+    pub fn is_move(self) -> bool
         ensures { result ≡ is_move self }
     {
         match self {

@@ -36,6 +36,13 @@ boot_text name = codes "boot " ++ (name ++ codes "\n")
 unfoldable pub refused_text : List ℕ → List ℕ
 refused_text reason = codes "refused " ++ (reason ++ codes "\n")
 
+-- `break &8004`, `unbreak &8004`
+unfoldable pub break_text : ℕ → List ℕ
+break_text address = codes "break" ++ (address_text address ++ codes "\n")
+
+unfoldable pub unbreak_text : ℕ → List ℕ
+unbreak_text address = codes "unbreak" ++ (address_text address ++ codes "\n")
+
 -- `ok`
 unfoldable pub ok_text : List ℕ
 ok_text = codes "ok\n"

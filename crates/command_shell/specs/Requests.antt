@@ -1,11 +1,13 @@
 -- What a line of a script asks for, by its words. Words are parted by single spaces; a command word may be in upper or lower case.
-use Rattle.std.specs.Prelude.{ℕ, Bool, true, false, ◌-◌, ◌%◌, ◌==◌, ◌&&◌, List, [], ◌∷◌, length, map, codes, Option, Some, None, if◌then◌else◌}
+use Rattle.std.specs.Prelude.{ℕ, Bool, true, false, ◌==◌, List, [], ◌∷◌, length, map, codes, Option, Some, None, if◌then◌else◌}
 use Rattle.std.specs.Char.{to_ascii_lowercase}
-use Rattle.std.specs.Int.{is_in_range}
 use Rattle.std.specs.List.{slice_split}
 use Rattle.std.specs.Str.{bytes_eq}
 use Rattle.image_loader.specs.Entries.{is_name}
 use Rattle.command_shell.specs.Numbers.{number_of}
+use Rattle.command_shell.specs.Operands.{register_named, word_address, count_up_to}
+use Rattle.command_shell.specs.declared.requests.Command.{Command}
+use Rattle.command_shell.specs.declared.requests.Command.TheVariants as command
 
 pub data Request : Type 0 where
   Nothing : Request
@@ -17,7 +19,17 @@ pub data Request : Type 0 where
   Poke : ℕ → ℕ → Request
   Call : ℕ → Request
   Step : ℕ → Request
+  Break : ℕ → Request
+  Unbreak : ℕ → Request
+  Mem : ℕ → ℕ → Request
+  Code : ℕ → ℕ → Request
+  Heap : ℕ → Request
   Unknown : Request
+
+-- the block that a request opens, by the name of its image
+abbrev pub opened : Request → Option (List ℕ)
+opened (Hex name) = Some name
+opened request = None
 
 -- equal but for the case of ASCII letters
 abbrev pub is_word : List ℕ → List ℕ → Bool
@@ -49,22 +61,11 @@ request_of_two word other =
     if is_word word (codes "HEX") then named (is_name other) (Hex other) else (
     if is_word word (codes "BOOT") then named (is_name other) (Boot other) else (
     if is_word word (codes "CALL") then numbered (number_of other) Call else (
-    if is_word word (codes "STEP") then numbered (number_of other) Step else
-    Unknown)))
-
--- `R0` to `R14`, with a capital letter (82) and no leading zero
-unfoldable pub register_named : List ℕ → Option ℕ
-register_named (letter ∷ digit ∷ []) = if letter == 82 && is_in_range 48 57 digit then Some (digit - 48) else None
-register_named (letter ∷ one ∷ digit ∷ []) = if letter == 82 && (one == 49 && is_in_range 48 52 digit) then Some (digit - 38) else None
-register_named _ = None
-
-abbrev pub of_a_word : Option ℕ → Option ℕ
-of_a_word (Some a) = if a % 4 == 0 then Some a else None
-of_a_word None = None
-
--- the address of a word, a multiple of 4
-unfoldable pub word_address : List ℕ → Option ℕ
-word_address text = of_a_word (number_of text)
+    if is_word word (codes "STEP") then numbered (number_of other) Step else (
+    if is_word word (codes "BREAK") then numbered (number_of other) Break else (
+    if is_word word (codes "UNBREAK") then numbered (number_of other) Unbreak else (
+    if is_word word (codes "HEAP") then numbered (number_of other) Heap else
+    Unknown))))))
 
 abbrev pub both_numbered : Option ℕ → Option ℕ → (ℕ → ℕ → Request) → Request
 both_numbered (Some n) (Some m) request = request n m
@@ -75,8 +76,10 @@ both_numbered None second request = Unknown
 abbrev pub request_of_three : List ℕ → List ℕ → List ℕ → Request
 request_of_three word first second =
     if is_word word (codes "SET") then both_numbered (register_named first) (number_of second) Set else (
-    if is_word word (codes "POKE") then both_numbered (word_address first) (number_of second) Poke else
-    Unknown)
+    if is_word word (codes "POKE") then both_numbered (word_address first) (number_of second) Poke else (
+    if is_word word (codes "MEM") then both_numbered (number_of first) (count_up_to 4096 second) Mem else (
+    if is_word word (codes "CODE") then both_numbered (word_address first) (count_up_to 1024 second) Code else
+    Unknown)))
 
 abbrev pub request_of_words : List (List ℕ) → Request
 request_of_words [] = Unknown
@@ -91,3 +94,21 @@ request_of line = request_of_words (words line)
 -- the line that ends a block
 unfoldable pub is_end : List ℕ → Bool
 is_end line = is_word line (codes "END")
+
+-- the lines that the code tells apart, as the requests that they stand for
+abbrev pub request_of_command : Command → Request
+request_of_command command.Nothing = Nothing
+request_of_command (command.Hex name) = Hex name.now
+request_of_command (command.Boot name) = Boot name.now
+request_of_command command.Run = Run
+request_of_command command.Regs = Regs
+request_of_command (command.Set register value) = Set register value
+request_of_command (command.Poke address value) = Poke address value
+request_of_command (command.Call number) = Call number
+request_of_command (command.Step count) = Step count
+request_of_command (command.Break address) = Break address
+request_of_command (command.Unbreak address) = Unbreak address
+request_of_command (command.Mem address count) = Mem address count
+request_of_command (command.Code address count) = Code address count
+request_of_command (command.Heap address) = Heap address
+request_of_command command.Unknown = Unknown

@@ -1,8 +1,7 @@
 //! The lines that requests are answered with.
 
-ghost use Rattle.std.specs.Prelude.{◌≡◌, true, OnOk, OnErr};
-ghost use Rattle.std.specs.Io.KnownBytes.{Appends};
-ghost use Rattle.command_shell.specs.Answers.{unknown_text, hex_text, hex_syntax_text, hex_refused_text, boot_text, refused_text, ok_text, call_error_text, at_text, numbered_text, fault_text, stop_text, stepped_text};
+ghost use Rattle.profile.specs.Output.{Writes};
+ghost use Rattle.command_shell.specs.Answers.{unknown_text, hex_text, hex_syntax_text, hex_refused_text, boot_text, refused_text, break_text, unbreak_text, ok_text, call_error_text, at_text, numbered_text, fault_text, stop_text, stepped_text};
 
 use itoa::Buffer;
 use profile::{Fault, HexText, Sink, Stop, WriteFault, push_all, push_parts};
@@ -10,9 +9,7 @@ use profile::{Fault, HexText, Sink, Stop, WriteFault, push_all, push_parts};
 /// `? line n`: the line is outside the language.
 #[tactic(auto, unfolding(crate::specs::Answers::unknown_text))]
 pub fn tell_unknown<W: Sink>(sink: &mut W, line: usize) -> Result<(), WriteFault>
-    ensures text { OnOk result (Appends (W.contents sink.old) (W.contents sink.new) (unknown_text line)) }
-    ensures flag { OnErr result (W.has_failed sink.new ≡ true) }
-    ensures same_flag { OnOk result (W.has_failed sink.new ≡ W.has_failed sink.old) }
+    ensures { Writes W.contents W.has_failed sink.old sink.new result (unknown_text line) }
 {
     let mut number = Buffer::new();
     push_parts(
@@ -28,9 +25,7 @@ pub fn tell_unknown<W: Sink>(sink: &mut W, line: usize) -> Result<(), WriteFault
 /// `hex name: n bytes`: the image was taken.
 #[tactic(auto, unfolding(crate::specs::Answers::hex_text))]
 pub fn tell_hex<W: Sink>(sink: &mut W, name: &[u8], len: usize) -> Result<(), WriteFault>
-    ensures text { OnOk result (Appends (W.contents sink.old) (W.contents sink.new) (hex_text name.now len)) }
-    ensures flag { OnErr result (W.has_failed sink.new ≡ true) }
-    ensures same_flag { OnOk result (W.has_failed sink.new ≡ W.has_failed sink.old) }
+    ensures { Writes W.contents W.has_failed sink.old sink.new result (hex_text name.now len) }
 {
     let mut number = Buffer::new();
     push_parts(
@@ -48,9 +43,7 @@ pub fn tell_hex<W: Sink>(sink: &mut W, name: &[u8], len: usize) -> Result<(), Wr
 /// `hex name: line k: Syntax`: that line of the block spells no bytes.
 #[tactic(auto, unfolding(crate::specs::Answers::hex_syntax_text))]
 pub fn tell_hex_syntax<W: Sink>(sink: &mut W, name: &[u8], line: usize) -> Result<(), WriteFault>
-    ensures text { OnOk result (Appends (W.contents sink.old) (W.contents sink.new) (hex_syntax_text name.now line)) }
-    ensures flag { OnErr result (W.has_failed sink.new ≡ true) }
-    ensures same_flag { OnOk result (W.has_failed sink.new ≡ W.has_failed sink.old) }
+    ensures { Writes W.contents W.has_failed sink.old sink.new result (hex_syntax_text name.now line) }
 {
     let mut number = Buffer::new();
     push_parts(
@@ -68,9 +61,7 @@ pub fn tell_hex_syntax<W: Sink>(sink: &mut W, name: &[u8], line: usize) -> Resul
 /// `hex name: NameTaken`, and the like: the image was refused.
 #[tactic(auto, unfolding(crate::specs::Answers::hex_refused_text))]
 pub fn tell_hex_refused<W: Sink>(sink: &mut W, name: &[u8], reason: &[u8]) -> Result<(), WriteFault>
-    ensures text { OnOk result (Appends (W.contents sink.old) (W.contents sink.new) (hex_refused_text name.now reason.now)) }
-    ensures flag { OnErr result (W.has_failed sink.new ≡ true) }
-    ensures same_flag { OnOk result (W.has_failed sink.new ≡ W.has_failed sink.old) }
+    ensures { Writes W.contents W.has_failed sink.old sink.new result (hex_refused_text name.now reason.now) }
 {
     push_parts(
         sink,
@@ -87,9 +78,7 @@ pub fn tell_hex_refused<W: Sink>(sink: &mut W, name: &[u8], reason: &[u8]) -> Re
 /// `boot name`: the program was copied.
 #[tactic(auto, unfolding(crate::specs::Answers::boot_text))]
 pub fn tell_boot<W: Sink>(sink: &mut W, name: &[u8]) -> Result<(), WriteFault>
-    ensures text { OnOk result (Appends (W.contents sink.old) (W.contents sink.new) (boot_text name.now)) }
-    ensures flag { OnErr result (W.has_failed sink.new ≡ true) }
-    ensures same_flag { OnOk result (W.has_failed sink.new ≡ W.has_failed sink.old) }
+    ensures { Writes W.contents W.has_failed sink.old sink.new result (boot_text name.now) }
 {
     push_parts(sink, &[b"boot ".as_slice(), name, b"\n".as_slice()])
 }
@@ -97,19 +86,45 @@ pub fn tell_boot<W: Sink>(sink: &mut W, name: &[u8]) -> Result<(), WriteFault>
 /// `refused NoImage`, and the like.
 #[tactic(auto, unfolding(crate::specs::Answers::refused_text))]
 pub fn tell_refused<W: Sink>(sink: &mut W, reason: &[u8]) -> Result<(), WriteFault>
-    ensures text { OnOk result (Appends (W.contents sink.old) (W.contents sink.new) (refused_text reason.now)) }
-    ensures flag { OnErr result (W.has_failed sink.new ≡ true) }
-    ensures same_flag { OnOk result (W.has_failed sink.new ≡ W.has_failed sink.old) }
+    ensures { Writes W.contents W.has_failed sink.old sink.new result (refused_text reason.now) }
 {
     push_parts(sink, &[b"refused ".as_slice(), reason, b"\n".as_slice()])
+}
+
+/// `break &8004`: a run stops there from now on.
+#[tactic(auto, unfolding(crate::specs::Answers::break_text, crate::specs::Answers::address_text))]
+pub fn tell_break<W: Sink>(sink: &mut W, address: u32) -> Result<(), WriteFault>
+    ensures { Writes W.contents W.has_failed sink.old sink.new result (break_text address) }
+{
+    push_parts(
+        sink,
+        &[
+            b"break &".as_slice(),
+            HexText::number(address).as_slice(),
+            b"\n".as_slice(),
+        ],
+    )
+}
+
+/// `unbreak &8004`: a run doesn't stop there any more.
+#[tactic(auto, unfolding(crate::specs::Answers::unbreak_text, crate::specs::Answers::address_text))]
+pub fn tell_unbreak<W: Sink>(sink: &mut W, address: u32) -> Result<(), WriteFault>
+    ensures { Writes W.contents W.has_failed sink.old sink.new result (unbreak_text address) }
+{
+    push_parts(
+        sink,
+        &[
+            b"unbreak &".as_slice(),
+            HexText::number(address).as_slice(),
+            b"\n".as_slice(),
+        ],
+    )
 }
 
 /// `ok`: the store call succeeded.
 #[tactic(auto, unfolding(crate::specs::Answers::ok_text))]
 pub fn tell_ok<W: Sink>(sink: &mut W) -> Result<(), WriteFault>
-    ensures text { OnOk result (Appends (W.contents sink.old) (W.contents sink.new) ok_text) }
-    ensures flag { OnErr result (W.has_failed sink.new ≡ true) }
-    ensures same_flag { OnOk result (W.has_failed sink.new ≡ W.has_failed sink.old) }
+    ensures { Writes W.contents W.has_failed sink.old sink.new result ok_text }
 {
     push_all(sink, b"ok\n")
 }
@@ -117,9 +132,7 @@ pub fn tell_ok<W: Sink>(sink: &mut W) -> Result<(), WriteFault>
 /// `error n`: the store call was refused with that error.
 #[tactic(auto, unfolding(crate::specs::Answers::call_error_text))]
 pub fn tell_error<W: Sink>(sink: &mut W, number: u32) -> Result<(), WriteFault>
-    ensures text { OnOk result (Appends (W.contents sink.old) (W.contents sink.new) (call_error_text number)) }
-    ensures flag { OnErr result (W.has_failed sink.new ≡ true) }
-    ensures same_flag { OnOk result (W.has_failed sink.new ≡ W.has_failed sink.old) }
+    ensures { Writes W.contents W.has_failed sink.old sink.new result (call_error_text number) }
 {
     let mut digits = Buffer::new();
     push_parts(
@@ -135,9 +148,7 @@ pub fn tell_error<W: Sink>(sink: &mut W, number: u32) -> Result<(), WriteFault>
 /// `at &8004`: the steps are taken, and the machine stands there.
 #[tactic(auto, unfolding(crate::specs::Answers::at_text, crate::specs::Answers::address_text))]
 pub fn tell_at<W: Sink>(sink: &mut W, pc: u32) -> Result<(), WriteFault>
-    ensures text { OnOk result (Appends (W.contents sink.old) (W.contents sink.new) (at_text pc)) }
-    ensures flag { OnErr result (W.has_failed sink.new ≡ true) }
-    ensures same_flag { OnOk result (W.has_failed sink.new ≡ W.has_failed sink.old) }
+    ensures { Writes W.contents W.has_failed sink.old sink.new result (at_text pc) }
 {
     push_parts(
         sink,
@@ -153,9 +164,7 @@ pub fn tell_at<W: Sink>(sink: &mut W, pc: u32) -> Result<(), WriteFault>
 /// `stop ErrorStop 6 &8004`. After a fault stands the program counter.
 #[tactic(auto, unfolding(crate::specs::Answers::stop_text, crate::specs::Answers::address_text))]
 pub fn tell_stop<W: Sink>(sink: &mut W, stop: Stop, pc: u32) -> Result<(), WriteFault>
-    ensures text { OnOk result (Appends (W.contents sink.old) (W.contents sink.new) (stop_text stop pc)) }
-    ensures flag { OnErr result (W.has_failed sink.new ≡ true) }
-    ensures same_flag { OnOk result (W.has_failed sink.new ≡ W.has_failed sink.old) }
+    ensures { Writes W.contents W.has_failed sink.old sink.new result (stop_text stop pc) }
 {
     match stop {
         Stop::Exit => push_all(sink, b"stop Exit\n"),
@@ -181,9 +190,7 @@ pub fn tell_stepped<W: Sink>(
     stop: Stop,
     pc: u32,
 ) -> Result<(), WriteFault>
-    ensures text { OnOk result (Appends (W.contents sink.old) (W.contents sink.new) (stepped_text could_all stop pc)) }
-    ensures flag { OnErr result (W.has_failed sink.new ≡ true) }
-    ensures same_flag { OnOk result (W.has_failed sink.new ≡ W.has_failed sink.old) }
+    ensures { Writes W.contents W.has_failed sink.old sink.new result (stepped_text could_all stop pc) }
 {
     match stop {
         Stop::Budget if could_all => tell_at(sink, pc),
@@ -198,9 +205,7 @@ fn tell_numbered<W: Sink>(
     number: u32,
     pc: u32,
 ) -> Result<(), WriteFault>
-    ensures text { OnOk result (Appends (W.contents sink.old) (W.contents sink.new) (numbered_text words.now number pc)) }
-    ensures flag { OnErr result (W.has_failed sink.new ≡ true) }
-    ensures same_flag { OnOk result (W.has_failed sink.new ≡ W.has_failed sink.old) }
+    ensures { Writes W.contents W.has_failed sink.old sink.new result (numbered_text words.now number pc) }
 {
     let mut digits = Buffer::new();
     push_parts(
@@ -217,9 +222,7 @@ fn tell_numbered<W: Sink>(
 
 #[tactic(auto, unfolding(crate::specs::Answers::address_text))]
 fn tell_fault<W: Sink>(sink: &mut W, fault: Fault, pc: u32) -> Result<(), WriteFault>
-    ensures text { OnOk result (Appends (W.contents sink.old) (W.contents sink.new) (fault_text fault pc)) }
-    ensures flag { OnErr result (W.has_failed sink.new ≡ true) }
-    ensures same_flag { OnOk result (W.has_failed sink.new ≡ W.has_failed sink.old) }
+    ensures { Writes W.contents W.has_failed sink.old sink.new result (fault_text fault pc) }
 {
     match fault {
         Fault::ErrorStop(code) => tell_numbered(sink, b"stop ErrorStop ", code, pc),

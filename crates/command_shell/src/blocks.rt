@@ -1,6 +1,5 @@
 ghost use Rattle.std.specs.Prelude.{◌≡◌, ◌+◌, IfOk, OnOk};
-ghost use Rattle.command_shell.specs.Blocks.{block_lines, after_block, block_size, block_bytes};
-ghost use Rattle.command_shell.specs.ReadBlocks.{result_of_block};
+ghost use Rattle.command_shell.specs.Blocks.{block_lines, after_block, block_size, block_bytes, result_of_block};
 
 use crate::hex_pairs::append_spelled;
 use crate::lines::Lines;
@@ -12,7 +11,7 @@ use std::alloc::{AllocError, Global};
 pub enum Block {
     /// The bytes of all its lines.
     Bytes(Vec<u8>),
-    /// The first line that spells none, counted from 1.
+    /// The first line that isn't whole pairs, counted from 1.
     BadLine(usize),
 }
 

@@ -2,18 +2,21 @@
 //! answered with.
 #![tactic(auto)]
 
-pub mod answers;
-pub mod blocks;
-pub mod error;
-pub mod hex_pairs;
-pub mod lines;
-pub mod monitor;
-pub mod numbers;
-pub mod operands;
-pub mod reading;
-pub mod requests;
-pub mod script;
-pub mod session;
+mod answers;
+mod blocks;
+mod error;
+mod hex_pairs;
+mod images;
+mod lines;
+mod memory;
+mod numbers;
+mod operands;
+mod reading;
+mod requests;
+mod script;
+mod session;
+mod stepping;
+mod views;
 
 pub use error::RunError;
 pub use script::{Summary, run_script};

@@ -14,10 +14,10 @@ pub struct Lines<'a> {
 
 impl<'a> Model for Lines<'a> {
     ghost use Rattle.std.specs.Prelude.{◌≤◌, ◌+◌, length};
-    ghost use Rattle.command_shell.specs.Places.{Place};
+    ghost use Rattle.command_shell.specs.Lines.{ReadingPlace};
     ghost use Rattle.std.specs.Str.Lines.{lines};
 
-    ghost Value = { Place };
+    ghost Value = { ReadingPlace };
 
     ghost view = { λ l. record { left = lines l.rest.now; number = l.number } };
 
@@ -71,7 +71,8 @@ impl<'a> Lines<'a> {
 /// The bytes before the first separator, and those after it where there is one.
 #[tactic(auto, using(crate::proofs::LineLemmas::cut_steps))]
 pub fn cut<'a>(bytes: &'a [u8], separator: u8) -> (&'a [u8], Option<&'a [u8]>)
-    ensures parts { slice_split (λ b. b == separator) bytes.now ≡ result.0.now ∷ option_map_or (λ rest. slice_split (λ b. b == separator) rest.now) result.1 [] }
+    ensures parts { slice_split (λ b. b == separator) bytes.now
+        ≡ result.0.now ∷ option_map_or (λ rest. slice_split (λ b. b == separator) rest.now) result.1 [] }
     ensures shorter { IfSome result.1 (λ rest. length rest.now < length bytes.now) }
 {
     match place_of(bytes, separator) {

@@ -1,7 +1,7 @@
 //! What the words after a command stand for.
 
 ghost use Rattle.std.specs.Prelude.{◌≡◌, ◌≤◌, ◌%◌, ℕ};
-ghost use Rattle.command_shell.specs.Requests.{register_named, word_address};
+ghost use Rattle.command_shell.specs.Operands.{register_named, word_address, count_up_to};
 
 use crate::numbers::number_of;
 use std::marker::Model;
@@ -24,7 +24,7 @@ impl Model for Register {
 
 impl Register {
     /// The register of that name, `R0` to `R14`.
-    #[tactic(auto, unfolding(crate::specs::Requests::register_named))]
+    #[tactic(auto, unfolding(crate::specs::Operands::register_named))]
     pub fn named(word: &[u8]) -> Option<Register>
         ensures { result ≡ register_named word.now }
     {
@@ -66,7 +66,7 @@ impl Model for WordAddress {
 
 impl WordAddress {
     /// The address that a number spells, if it is a multiple of 4.
-    #[tactic(auto, unfolding(crate::specs::Requests::word_address))]
+    #[tactic(auto, unfolding(crate::specs::Operands::word_address))]
     pub fn spelled(word: &[u8]) -> Option<WordAddress>
         ensures { result ≡ word_address word.now }
     {
@@ -84,4 +84,16 @@ impl WordAddress {
     {
         self.address
     }
+}
+
+/// The number that a word spells, if it is from 1 to `most`.
+#[tactic(auto, unfolding(crate::specs::Operands::count_up_to))]
+pub fn count_up_to(most: u32, word: &[u8]) -> Option<u32>
+    ensures { result ≡ count_up_to most word.now }
+{
+    let count = number_of(word)?;
+    if count == 0 || count > most {
+        return None;
+    }
+    Some(count)
 }

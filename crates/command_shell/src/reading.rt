@@ -1,5 +1,5 @@
 ghost use Rattle.std.specs.Prelude.{◌≡◌, ◌≤◌, ◌<◌, true, length, IfOk, IfErr, IfSome};
-ghost use Rattle.command_shell.specs.RunErrors.{IsReadingError};
+ghost use Rattle.command_shell.specs.Error.{IsReadingError};
 
 use crate::error::RunError;
 use profile::Source;
@@ -18,8 +18,10 @@ const CHUNK: usize = 4096;
 pub fn read_script<R: Source>(alloc: Global, reader: &mut R) -> Result<Vec<u8>, RunError>
     ensures bytes { IfOk result (λ script. IfSome (R.remaining reader.old) (λ told. script.items ≡ told)) }
     ensures in_limit { IfOk result (λ script. length script.items ≤ 1048576) }
+    ensures told { R.has_failed reader.new ≡ true → result ≡ Err RunError.ReadFault }
     ensures read_fault { result ≡ Err RunError.ReadFault → R.has_failed reader.new ≡ true }
-    ensures too_long { result ≡ Err RunError.ScriptTooLong → IfSome (R.remaining reader.old) (λ told. 1048576 < length told) }
+    ensures too_long { result ≡ Err RunError.ScriptTooLong
+        → IfSome (R.remaining reader.old) (λ told. 1048576 < length told) }
     ensures errors { IfErr result IsReadingError }
 {
     let mut script = Vec::new(alloc);

@@ -1,13 +1,19 @@
 ghost use Rattle.std.specs.Prelude.{◌≡◌, [], ◌∷◌};
 ghost use Rattle.command_shell.specs.Numbers.{number_of};
-ghost use Rattle.command_shell.specs.Requests.{Hex, Boot, Set, Poke, Call, Step, is_word, is_end, words, named, numbered, both_numbered, register_named, word_address, request_of, request_of_word, request_of_two, request_of_three, request_of_words};
+ghost use Rattle.command_shell.specs.Operands.{register_named, word_address, count_up_to};
+ghost use Rattle.command_shell.specs.Requests.{Hex, Boot, Set, Poke, Call, Step, Break, Unbreak, Mem, Code, Heap, is_word, is_end, words, named, numbered, both_numbered, request_of, request_of_word, request_of_two, request_of_three, request_of_words, request_of_command};
 ghost use Rattle.image_loader.specs.Entries.{is_name};
-ghost use Rattle.command_shell.specs.Commands.{request_of_command};
 
 use crate::lines::cut;
 use crate::numbers::number_of;
-use crate::operands::{Register, WordAddress};
+use crate::operands::{Register, WordAddress, count_up_to};
 use image_loader::is_image_name;
+
+/// The most bytes of memory that a line shows.
+const MAX_BYTES_SHOWN: u32 = 4096;
+
+/// The most words that a line shows as instructions.
+const MAX_WORDS_SHOWN: u32 = 1024;
 
 /// What a line of a script asks for.
 #[derive(Clone, Copy, Debug)]
@@ -30,6 +36,16 @@ pub enum Command<'a> {
     Call(u32),
     /// `STEP n`.
     Step(u32),
+    /// `BREAK a`.
+    Break(u32),
+    /// `UNBREAK a`.
+    Unbreak(u32),
+    /// `MEM a n`, of 1 to 4096 bytes.
+    Mem(u32, u32),
+    /// `CODE a n`, of 1 to 1024 words.
+    Code(WordAddress, u32),
+    /// `HEAP a`.
+    Heap(u32),
     /// Any other line.
     Unknown,
 }
@@ -100,6 +116,12 @@ fn command_of_two<'a>(word: &[u8], other: &'a [u8]) -> Command<'a>
         call_command(other)
     } else if has_letters(word, b"STEP") {
         step_command(other)
+    } else if has_letters(word, b"BREAK") {
+        break_command(other)
+    } else if has_letters(word, b"UNBREAK") {
+        unbreak_command(other)
+    } else if has_letters(word, b"HEAP") {
+        heap_command(other)
     } else {
         Command::Unknown
     }
@@ -112,6 +134,10 @@ fn command_of_three(word: &[u8], first: &[u8], second: &[u8]) -> Command<'static
         set_command(first, second)
     } else if has_letters(word, b"POKE") {
         poke_command(first, second)
+    } else if has_letters(word, b"MEM") {
+        mem_command(first, second)
+    } else if has_letters(word, b"CODE") {
+        code_command(first, second)
     } else {
         Command::Unknown
     }
@@ -155,8 +181,36 @@ fn step_command(count: &[u8]) -> Command<'static>
     }
 }
 
+fn break_command(address: &[u8]) -> Command<'static>
+    ensures { request_of_command result ≡ numbered (number_of address.now) Break }
+{
+    match number_of(address) {
+        Some(address) => Command::Break(address),
+        None => Command::Unknown,
+    }
+}
+
+fn unbreak_command(address: &[u8]) -> Command<'static>
+    ensures { request_of_command result ≡ numbered (number_of address.now) Unbreak }
+{
+    match number_of(address) {
+        Some(address) => Command::Unbreak(address),
+        None => Command::Unknown,
+    }
+}
+
+fn heap_command(address: &[u8]) -> Command<'static>
+    ensures { request_of_command result ≡ numbered (number_of address.now) Heap }
+{
+    match number_of(address) {
+        Some(address) => Command::Heap(address),
+        None => Command::Unknown,
+    }
+}
+
 fn set_command(register: &[u8], value: &[u8]) -> Command<'static>
-    ensures { request_of_command result ≡ both_numbered (register_named register.now) (number_of value.now) Set }
+    ensures { request_of_command result
+        ≡ both_numbered (register_named register.now) (number_of value.now) Set }
 {
     match (Register::named(register), number_of(value)) {
         (Some(register), Some(value)) => Command::Set(register, value),
@@ -165,10 +219,34 @@ fn set_command(register: &[u8], value: &[u8]) -> Command<'static>
 }
 
 fn poke_command(address: &[u8], value: &[u8]) -> Command<'static>
-    ensures { request_of_command result ≡ both_numbered (word_address address.now) (number_of value.now) Poke }
+    ensures { request_of_command result
+        ≡ both_numbered (word_address address.now) (number_of value.now) Poke }
 {
     match (WordAddress::spelled(address), number_of(value)) {
         (Some(address), Some(value)) => Command::Poke(address, value),
+        _ => Command::Unknown,
+    }
+}
+
+fn mem_command(address: &[u8], count: &[u8]) -> Command<'static>
+    ensures { request_of_command result
+        ≡ both_numbered (number_of address.now) (count_up_to 4096 count.now) Mem }
+{
+    match (number_of(address), count_up_to(MAX_BYTES_SHOWN, count)) {
+        (Some(address), Some(count)) => Command::Mem(address, count),
+        _ => Command::Unknown,
+    }
+}
+
+fn code_command(address: &[u8], count: &[u8]) -> Command<'static>
+    ensures { request_of_command result
+        ≡ both_numbered (word_address address.now) (count_up_to 1024 count.now) Code }
+{
+    match (
+        WordAddress::spelled(address),
+        count_up_to(MAX_WORDS_SHOWN, count),
+    ) {
+        (Some(address), Some(count)) => Command::Code(address, count),
         _ => Command::Unknown,
     }
 }

@@ -1,10 +1,11 @@
-ghost use Rattle.std.specs.Prelude.{◌≡◌, ◌≤◌, ◌<◌, true, None, length, IfOk, IfErr, IfSome, IsErr, OnOk};
+ghost use Rattle.std.specs.Prelude.{◌≡◌, ◌≤◌, ◌<◌, true, false, None, length, IfOk, IfErr, IfSome, IsErr, OnOk};
 ghost use Rattle.std.specs.Str.Lines.{lines};
 ghost use Rattle.std.specs.Io.KnownBytes.{Appends};
 ghost use Rattle.profile.specs.Output.{AppendsFront};
-ghost use Rattle.command_shell.specs.RunErrors.{IsLineError};
-ghost use Rattle.command_shell.specs.Script.{Tells, lines_told, script_told};
-ghost use Rattle.command_shell.specs.Sessions.{world_of};
+ghost use Rattle.command_shell.specs.Error.{IsLineError};
+ghost use Rattle.command_shell.specs.Script.{lines_told, script_told};
+ghost use Rattle.command_shell.specs.Session.{script_state};
+ghost use Rattle.command_shell.specs.State.{IsAnswered};
 
 use crate::error::RunError;
 use crate::lines::Lines;
@@ -40,16 +41,23 @@ pub fn run_script<R: Source, W: Sink>(
     budget: u64,
 ) -> Result<Summary, RunError>
     ensures text { OnOk result (IfSome (R.remaining reader.old) (λ script.
-        Appends (W.contents writer.old) (W.contents writer.new) (script_told config images.old budget script).text)) }
+        Appends (W.contents writer.old) (W.contents writer.new)
+        (script_told config images.old budget script).text)) }
     ensures last { IfOk result (λ summary. IfSome (R.remaining reader.old) (λ script.
-        summary.last ≡ (script_told config images.old budget script).world.last)) }
+        summary.last ≡ (script_told config images.old budget script).state.last)) }
     ensures images { IfOk result (λ _. IfSome (R.remaining reader.old) (λ script.
-        images.new ≡ (script_told config images.old budget script).world.images)) }
+        images.new ≡ (script_told config images.old budget script).state.images)) }
     ensures memory { result ≡ Err RunError.Memory → IfSome (R.remaining reader.old) (λ script.
-        AppendsFront (W.contents writer.old) (W.contents writer.new) (script_told config images.old budget script).text) }
-    ensures read_fault { result ≡ Err RunError.ReadFault → (R.has_failed reader.new ≡ true) × (writer.new ≡ writer.old) }
+        AppendsFront (W.contents writer.old) (W.contents writer.new)
+        (script_told config images.old budget script).text) }
+    ensures told { R.has_failed reader.new ≡ true → result ≡ Err RunError.ReadFault }
+    ensures read_fault { result ≡ Err RunError.ReadFault
+        → (R.has_failed reader.new ≡ true) × (writer.new ≡ writer.old) × (images.new ≡ images.old) }
+    ensures write_told { W.has_failed writer.old ≡ false → W.has_failed writer.new ≡ true
+        → result ≡ Err RunError.WriteFault }
     ensures write_fault { result ≡ Err RunError.WriteFault → W.has_failed writer.new ≡ true }
-    ensures too_long { result ≡ Err RunError.ScriptTooLong → (writer.new ≡ writer.old)
+    ensures too_long { result ≡ Err RunError.ScriptTooLong
+        → (writer.new ≡ writer.old) × (images.new ≡ images.old)
         × IfSome (R.remaining reader.old) (λ script. 1048576 < length script) }
     ensures never_long { IfSome (R.remaining reader.old) (λ script. 1048576 < length script → IsErr result) }
     ensures same_flag { OnOk result (W.has_failed writer.new ≡ W.has_failed writer.old) }
@@ -70,11 +78,14 @@ fn run_lines<W: Sink>(
     script: &[u8],
 ) -> Result<(), RunError>
     requires { length script.now ≤ 1048576 }
-    ensures told { OnOk result (Tells (W.contents sink.old) (W.contents sink.new) (world_of session.new images.new)
-        (lines_told 0 (world_of session.old images.old) None (lines script.now))) }
+    ensures told { OnOk result (IsAnswered (W.contents sink.old) (W.contents sink.new)
+        (script_state session.new images.new)
+        (lines_told 0 (script_state session.old images.old) None (lines script.now))) }
     ensures memory { result ≡ Err RunError.Memory → AppendsFront (W.contents sink.old) (W.contents sink.new)
-        (lines_told 0 (world_of session.old images.old) None (lines script.now)).text }
+        (lines_told 0 (script_state session.old images.old) None (lines script.now)).text }
     ensures write_fault { result ≡ Err RunError.WriteFault → W.has_failed sink.new ≡ true }
+    ensures write_told { W.has_failed sink.old ≡ false → W.has_failed sink.new ≡ true
+        → result ≡ Err RunError.WriteFault }
     ensures errors { IfErr result IsLineError }
     ensures same_flag { OnOk result (W.has_failed sink.new ≡ W.has_failed sink.old) }
 {

@@ -1,1 +1,4 @@
+pub mod Code
+pub mod Heap
+pub mod Memory
 pub mod Registers

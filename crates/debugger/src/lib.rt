@@ -1,8 +1,14 @@
 //! Printed views of the machine.
 #![tactic(auto)]
 
-pub mod registers;
+mod code;
+mod heap;
+mod memory;
+mod registers;
 
+pub use code::show_code;
+pub use heap::show_blocks;
+pub use memory::show_memory;
 pub use registers::show_regs;
 
 #[cfg(test)]

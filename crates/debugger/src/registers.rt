@@ -1,5 +1,5 @@
-ghost use Rattle.std.specs.Prelude.{◌≡◌, ◌≤◌, true, OnOk, OnErr};
-ghost use Rattle.std.specs.Io.KnownBytes.{Appends};
+ghost use Rattle.std.specs.Prelude.{◌≡◌, ◌≤◌};
+ghost use Rattle.profile.specs.Output.{Writes};
 ghost use Rattle.swi_dispatch.specs.Parts.{state_of};
 ghost use Rattle.debugger.specs.Registers.{register_label, row_text, status_text, registers_text, flag_letter, flag_letters, mode_text};
 
@@ -10,18 +10,14 @@ use swi_dispatch::Machine;
 /// Writes the registers of the present mode, four on a line, and a line of the status, in which a
 /// set flag stands in capitals.
 pub fn show_regs<W: Sink>(machine: &Machine, sink: &mut W) -> Result<(), WriteFault>
-    ensures text { OnOk result (Appends (W.contents sink.old) (W.contents sink.new) (registers_text (state_of machine.now).cpu)) }
-    ensures flag { OnErr result (W.has_failed sink.new ≡ true) }
-    ensures same_flag { OnOk result (W.has_failed sink.new ≡ W.has_failed sink.old) }
+    ensures { Writes W.contents W.has_failed sink.old sink.new result (registers_text (state_of machine.now).cpu) }
 {
     show_core(machine.cpu(), sink)
 }
 
 #[tactic(auto, unfolding(crate::specs::Registers::registers_text))]
 fn show_core<W: Sink>(cpu: &Cpu, sink: &mut W) -> Result<(), WriteFault>
-    ensures text { OnOk result (Appends (W.contents sink.old) (W.contents sink.new) (registers_text cpu.now)) }
-    ensures flag { OnErr result (W.has_failed sink.new ≡ true) }
-    ensures same_flag { OnOk result (W.has_failed sink.new ≡ W.has_failed sink.old) }
+    ensures { Writes W.contents W.has_failed sink.old sink.new result (registers_text cpu.now) }
 {
     show_row(cpu, 0, sink)?;
     show_row(cpu, 4, sink)?;
@@ -34,9 +30,7 @@ fn show_core<W: Sink>(cpu: &Cpu, sink: &mut W) -> Result<(), WriteFault>
 #[tactic(auto, unfolding(crate::specs::Registers::row_text))]
 fn show_row<W: Sink>(cpu: &Cpu, first: u32, sink: &mut W) -> Result<(), WriteFault>
     requires { first ≤ 12 }
-    ensures text { OnOk result (Appends (W.contents sink.old) (W.contents sink.new) (row_text cpu.now first)) }
-    ensures flag { OnErr result (W.has_failed sink.new ≡ true) }
-    ensures same_flag { OnOk result (W.has_failed sink.new ≡ W.has_failed sink.old) }
+    ensures { Writes W.contents W.has_failed sink.old sink.new result (row_text cpu.now first) }
 {
     push_parts(
         sink,
@@ -59,9 +53,7 @@ fn show_row<W: Sink>(cpu: &Cpu, first: u32, sink: &mut W) -> Result<(), WriteFau
 
 #[tactic(auto, unfolding(crate::specs::Registers::status_text))]
 fn show_status<W: Sink>(psr: Psr, sink: &mut W) -> Result<(), WriteFault>
-    ensures text { OnOk result (Appends (W.contents sink.old) (W.contents sink.new) (status_text psr)) }
-    ensures flag { OnErr result (W.has_failed sink.new ≡ true) }
-    ensures same_flag { OnOk result (W.has_failed sink.new ≡ W.has_failed sink.old) }
+    ensures { Writes W.contents W.has_failed sink.old sink.new result (status_text psr) }
 {
     push_parts(
         sink,

@@ -14,6 +14,22 @@ fn takes_images_and_gives_them_back(rt: HostRuntime) -> Result<(), Fail> {
 }
 
 #[test]
+fn takes_names_of_every_length(rt: HostRuntime) -> Result<(), Fail> {
+    let mut images = Images::new();
+    let longest = [b'n'; 63];
+    for len in 1..64 {
+        images.add(rt.alloc(), &longest[..len], &[len as u8])?;
+    }
+    for len in 1..64 {
+        assert!(rt;
+            images.get(&longest[..len]) == Some([len as u8].as_slice()),
+            "{len}"
+        );
+    }
+    Ok(())
+}
+
+#[test]
 fn refuses_in_order(rt: HostRuntime) -> Result<(), Fail> {
     let mut images = Images::new();
     images.add(rt.alloc(), b"a", b"")?;
@@ -57,9 +73,21 @@ fn want_of_memory_changes_nothing(rt: HostRuntime) {
     assert!(rt; images.get(b"first").is_some() == had);
 }
 
+/// All refusals, each with its name.
+static REFUSALS: [(ImageError, &str); 5] = [
+    (ImageError::BadName, "BadName"),
+    (ImageError::NameTaken, "NameTaken"),
+    (ImageError::TooLarge, "TooLarge"),
+    (ImageError::TableFull, "TableFull"),
+    (ImageError::Memory, "Memory"),
+];
+
 #[test]
 fn errors_are_named(rt: HostRuntime) -> Result<(), Fail> {
-    let text = format!(in rt.alloc(); "{}", ImageError::NameTaken)?;
-    assert_eq!(rt; text.as_str(), "NameTaken");
+    for (error, name) in REFUSALS {
+        assert_eq!(rt; error.name(), name);
+        let text = format!(in rt.alloc(); "{error}")?;
+        assert_eq!(rt; text.as_str(), name);
+    }
     Ok(())
 }

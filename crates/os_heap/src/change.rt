@@ -1,6 +1,6 @@
 ghost use Rattle.std.specs.Prelude.{ℕ, ◌≡◌, ◌<◌, ◌+◌, ◌-◌, ◌%◌, ◌^◌, ◌&&◌, true, nat_lt, Some, Err, MatchResult};
 ghost use Rattle.profile.specs.Outcome.{Leaves};
-ghost use Rattle.address_map.specs.Memory.{place, bytes_of, free_pages, free_runs};
+ghost use Rattle.address_map.specs.Memory.{mapping, bytes_of};
 ghost use Rattle.os_heap.specs.Changes.{changed, end_changed, ending, has_own_size};
 ghost use Rattle.os_heap.specs.Ends.{MayEnd};
 ghost use Rattle.os_heap.specs.Links.{IsHeapAt};
@@ -28,9 +28,7 @@ impl Heaps {
         requires { IsSound (store_of map.old) }
         ensures store { Leaves (store_of map.old) (changed (store_of map.old) heap change) result.answer (store_of map.new) }
         ensures sound { IsSound (store_of map.new) }
-        ensures place { place map.new ≡ place map.old }
-        ensures pages { free_pages map.new ≡ free_pages map.old }
-        ensures runs { free_runs map.new ≡ free_runs map.old }
+        ensures mapping { mapping map.new ≡ mapping map.old }
         ensures probes { result.probes ≡ 0 }
     {
         Counted {
@@ -52,9 +50,7 @@ fn change_end(map: &mut AddressMap, heap: u32, change: u32) -> Result<(), ErrorN
     requires { IsSound (store_of map.old) }
     ensures store { Leaves (store_of map.old) (changed (store_of map.old) heap change) result (store_of map.new) }
     ensures sound { IsSound (store_of map.new) }
-    ensures place { place map.new ≡ place map.old }
-    ensures pages { free_pages map.new ≡ free_pages map.old }
-    ensures runs { free_runs map.new ≡ free_runs map.old }
+    ensures mapping { mapping map.new ≡ mapping map.old }
 {
     let Some(region) = find(map, heap) else {
         return Err(ErrorNumber::HeapBadDesc);
@@ -105,9 +101,7 @@ fn set_end(map: &mut AddressMap, region: &Region, end: u32)
     requires sound { IsSound (store_of map.old) }
     ensures store { store_of map.new ≡ ending (store_of map.old) (part_in (bytes_of map.old) region.now) end }
     ensures sound { IsSound (store_of map.new) }
-    ensures place { place map.new ≡ place map.old }
-    ensures pages { free_pages map.new ≡ free_pages map.old }
-    ensures runs { free_runs map.new ≡ free_runs map.old }
+    ensures mapping { mapping map.new ≡ mapping map.old }
 {
     put(map, region.at + 12, end);
     map.set_len(Kind::Heap, region.at, end);

@@ -2,7 +2,7 @@ ghost use Rattle.std.specs.Prelude.{ℕ, [], true, ◌≡◌, ◌≤◌, ◌%◌
 ghost use Rattle.std.specs.List.{list_any};
 ghost use Rattle.profile.specs.Outcome.{Leaves};
 ghost use Rattle.address_map.specs.Bytes.{Bytes, AreMapped};
-ghost use Rattle.address_map.specs.Memory.{place, byte_at, is_mapped, bytes_of, layout, free_pages, free_runs};
+ghost use Rattle.address_map.specs.Memory.{mapping, byte_at, is_mapped, bytes_of, layout};
 ghost use Rattle.address_map.specs.Records.{is_heap_kind};
 ghost use Rattle.address_map.specs.declared.region.Kind.TheVariants.{Rma};
 ghost use Rattle.os_heap.specs.Begin.{MayBegin};
@@ -33,9 +33,7 @@ impl Heaps {
         requires { IsSound (store_of map.old) }
         ensures store { Leaves (store_of map.old) (begun (store_of map.old) heap size) result.answer (store_of map.new) }
         ensures sound { IsSound (store_of map.new) }
-        ensures place { place map.new ≡ place map.old }
-        ensures pages { free_pages map.new ≡ free_pages map.old }
-        ensures runs { free_runs map.new ≡ free_runs map.old }
+        ensures mapping { mapping map.new ≡ mapping map.old }
         ensures probes { result.probes ≡ 0 }
     {
         Counted {
@@ -50,9 +48,7 @@ impl Heaps {
         requires sound { IsSound (store_of map.old) }
         ensures store { store_of map.new ≡ begun_with Rma (store_of map.old) area size }
         ensures sound { IsSound (store_of map.new) }
-        ensures place { place map.new ≡ place map.old }
-        ensures pages { free_pages map.new ≡ free_pages map.old }
-        ensures runs { free_runs map.new ≡ free_runs map.old }
+        ensures mapping { mapping map.new ≡ mapping map.old }
     {
         make(map, Kind::Rma, area, size);
     }
@@ -63,9 +59,7 @@ fn begin(map: &mut AddressMap, heap: u32, size: u32) -> Result<(), ErrorNumber>
     requires { IsSound (store_of map.old) }
     ensures store { Leaves (store_of map.old) (begun (store_of map.old) heap size) result (store_of map.new) }
     ensures sound { IsSound (store_of map.new) }
-    ensures place { place map.new ≡ place map.old }
-    ensures pages { free_pages map.new ≡ free_pages map.old }
-    ensures runs { free_runs map.new ≡ free_runs map.old }
+    ensures mapping { mapping map.new ≡ mapping map.old }
 {
     may_begin(map, heap, size)?;
     make(map, Kind::Heap, heap, size);
@@ -79,9 +73,7 @@ fn make(map: &mut AddressMap, kind: Kind, heap: u32, size: u32)
     requires sound { IsSound (store_of map.old) }
     ensures store { store_of map.new ≡ begun_with kind (store_of map.old) heap size }
     ensures sound { IsSound (store_of map.new) }
-    ensures place { place map.new ≡ place map.old }
-    ensures pages { free_pages map.new ≡ free_pages map.old }
-    ensures runs { free_runs map.new ≡ free_runs map.old }
+    ensures mapping { mapping map.new ≡ mapping map.old }
 {
     write_descriptor(map, heap, size);
     map.own(kind, heap, size);

@@ -1,5 +1,6 @@
 pub mod Lent
 pub mod Memory
+pub mod Pieces
 pub mod Two
 pub mod Values
 pub mod Walks

@@ -2,6 +2,7 @@
 #![tactic(auto)]
 
 pub mod block;
+mod lanes;
 pub mod store;
 
 pub use store::RawStore;

@@ -3,6 +3,7 @@ ghost use Rattle.std.specs.Borrow.{sem};
 ghost use Rattle.raw_store.specs.Region.{word_in, word_bytes, written, copied, zeroed};
 
 use crate::block::{Base, Bytes, Deed, allocate, deallocate};
+use crate::lanes;
 use byteorder::{ByteOrder, LittleEndian};
 use profile::memory_map::PAGE_SIZE;
 use std::alloc::{AllocError, Global};
@@ -122,7 +123,7 @@ impl RawStore {
         requires target { to + len ≤ length self.old }
         ensures { self.new ≡ copied self.old from to len }
     {
-        self.lend_mut(0, self.len).copy_within(from..from + len, to);
+        lanes::copy(self.lend_mut(0, self.len), from, to, len);
     }
 
     /// Makes `len` bytes zero.
@@ -130,7 +131,7 @@ impl RawStore {
         requires { at + len ≤ length self.old }
         ensures { self.new ≡ zeroed self.old at len }
     {
-        self.lend_mut(at, len).fill(0);
+        lanes::zero(self.lend_mut(at, len));
     }
 
     /// The `len` bytes from `at` on, for reading.

@@ -1,22 +1,24 @@
-ghost use Rattle.std.specs.Prelude.{◌≤◌};
+ghost use Rattle.std.specs.Prelude.{◌<◌, ◌≤◌};
 
 use crate::RawStore;
 use std::alloc::{AllocError, Global};
 use std::process::Abort;
 use std::test::Fail;
 
-/// Bytes of which no two beside one another are equal.
-const PATTERN: [u8; 168] = [
-    11, 48, 85, 122, 159, 196, 233, 19, 56, 93, 130, 167, 204, 241, 27, 64, 101, 138, 175, 212,
-    249, 35, 72, 109, 146, 183, 220, 6, 43, 80, 117, 154, 191, 228, 14, 51, 88, 125, 162, 199, 236,
-    22, 59, 96, 133, 170, 207, 244, 30, 67, 104, 141, 178, 215, 1, 38, 75, 112, 149, 186, 223, 9,
-    46, 83, 120, 157, 194, 231, 17, 54, 91, 128, 165, 202, 239, 25, 62, 99, 136, 173, 210, 247, 33,
-    70, 107, 144, 181, 218, 4, 41, 78, 115, 152, 189, 226, 12, 49, 86, 123, 160, 197, 234, 20, 57,
-    94, 131, 168, 205, 242, 28, 65, 102, 139, 176, 213, 250, 36, 73, 110, 147, 184, 221, 7, 44, 81,
-    118, 155, 192, 229, 15, 52, 89, 126, 163, 200, 237, 23, 60, 97, 134, 171, 208, 245, 31, 68,
-    105, 142, 179, 216, 2, 39, 76, 113, 150, 187, 224, 10, 47, 84, 121, 158, 195, 232, 18, 55, 92,
-    129, 166,
-];
+// Bytes of which no two beside one another are equal.
+fn pattern_at(place: usize) -> u8
+    requires { place < 360 }
+{
+    ((place * 37 + 11) % 251) as u8
+}
+
+fn pattern() -> [u8; 360] {
+    let mut bytes = [0; 360];
+    for place in 0..360 {
+        bytes[place] = pattern_at(place);
+    }
+    bytes
+}
 
 #[test]
 fn starts_zero_and_has_its_pages(rt: HostRuntime) -> Result<(), Fail> {
@@ -75,27 +77,48 @@ fn has_no_byte_where_it_has_no_page(rt: HostRuntime) -> Result<(), Fail> {
 
 #[test]
 fn copies_as_the_definition_says(rt: HostRuntime) -> Result<(), Fail> {
-    for len in 0..65 {
-        for to in 24..105 {
+    for len in 0..201 {
+        for to in 10..151 {
             copies(&rt, rt.alloc(), to, len)?;
         }
     }
     Ok(())
 }
 
-// Copies `len` bytes from place 64: those places hold what stood at the source, and no other changed.
+// Copies `len` bytes from place 80: those places hold what stood at the source, and no other changed.
 fn copies(rt: &impl Abort, alloc: Global, to: usize, len: usize) -> Result<(), AllocError>
-    requires { (to ≤ 104) × (len ≤ 64) }
+    requires { (to ≤ 150) × (len ≤ 200) }
 {
     let mut store = RawStore::new(alloc, 1)?;
-    store.write(0, &PATTERN);
-    store.copy(64, to, len);
-    for place in 0..168 {
-        if to <= place && place < to + len {
-            assert_eq!(rt; store.read_byte(place), PATTERN[place - to + 64]);
-        } else {
-            assert_eq!(rt; store.read_byte(place), PATTERN[place]);
-        }
+    store.write(0, &pattern());
+    store.copy(80, to, len);
+    for place in 0..360 {
+        let is_copied = to <= place && place < to + len;
+        let source = if is_copied { place - to + 80 } else { place };
+        assert_eq!(rt; store.read_byte(place), pattern_at(source));
+    }
+    Ok(())
+}
+
+#[test]
+fn zeros_as_the_definition_says(rt: HostRuntime) -> Result<(), Fail> {
+    for len in 0..201 {
+        zeros(&rt, rt.alloc(), len)?;
+    }
+    Ok(())
+}
+
+// Makes `len` bytes from place 7 on zero, and no other.
+fn zeros(rt: &impl Abort, alloc: Global, len: usize) -> Result<(), AllocError>
+    requires { len ≤ 200 }
+{
+    let mut store = RawStore::new(alloc, 1)?;
+    store.write(0, &pattern());
+    store.zero(7, len);
+    for place in 0..360 {
+        let is_zero = 7 <= place && place < 7 + len;
+        let byte = if is_zero { 0 } else { pattern_at(place) };
+        assert_eq!(rt; store.read_byte(place), byte);
     }
     Ok(())
 }

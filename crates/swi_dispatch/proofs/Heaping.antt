@@ -6,7 +6,7 @@ use Rattle.profile.specs.Sizes.{Sizes}
 use Rattle.profile.specs.declared.error.ErrorNumber.{ErrorNumber}
 use Rattle.profile.specs.declared.error.ErrorNumber.TheVariants.{HeapBadDesc, HeapBadRegion, HeapOverlaps, HeapTableFull, HeapBadShrink}
 use Rattle.address_map.specs.Items.{size_of}
-use Rattle.address_map.specs.Memory.{place}
+use Rattle.address_map.specs.Memory.{place, free_pages}
 use Rattle.address_map.specs.declared.item.Item.{Item}
 use Rattle.address_map.specs.declared.region.Kind.TheVariants.{Heap}
 use Rattle.os_heap.specs.Changes.{resized, resized_of, resized_block, resized_or_moved, copied, handed_over, changed, changed_of, end_changed, ending, has_own_size}
@@ -125,10 +125,11 @@ changed_others s heap change = from (find_part heap s.heaps) where
 
 -- the parts of a machine after a heap call
 pub well_called : (old new : Parts) → IsWellFormed old → IsSound (store_of new.map) → (store_of new.map).others ≡ (store_of old.map).others
-    → place new.map ≡ place old.map → new.is_fresh ≡ false → new.sizes ≡ old.sizes → IsWellFormed new
-well_called old new well sound others same stepped sizes = record {
+    → place new.map ≡ place old.map → free_pages new.map ≡ free_pages old.map → new.is_fresh ≡ false → new.sizes ≡ old.sizes → IsWellFormed new
+well_called old new well sound others same pages stepped sizes = record {
   sound = sound;
   others = others ∙ well.others;
   mapped = λ a. ap (λ (f : ℕ → Option ℕ). is_some (f a)) same ∙ well.mapped a ∙ ap (λ (s : Sizes). is_start_mapped s a) (sym sizes);
+  pool = ap (λ (n : ℕ). n + (new.sizes.app + new.sizes.rma + 3)) pages ∙ ap (λ (s : Sizes). free_pages old.map + (s.app + s.rma + 3)) sizes ∙ well.pool ∙ ap (λ (s : Sizes). s.pages) (sym sizes);
   fresh = λ e. absurd (true≢false (sym e ∙ stepped));
 }

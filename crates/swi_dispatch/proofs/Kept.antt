@@ -11,7 +11,7 @@ use Rattle.profile.specs.declared.fault.Fault.{Fault}
 use Rattle.profile.specs.declared.fault.Fault.TheVariants.{AddressException, DataUnmapped, OwnedWord}
 use Rattle.address_map.specs.declared.map.AddressMap.{AddressMap}
 use Rattle.address_map.specs.Bytes.{Bytes, in_range, unless, store_fault, word_stored, with_word, with_word_at, with_bytes_at, with_bytes}
-use Rattle.address_map.specs.Memory.{bytes_of, byte_at, is_mapped, layout, is_owned}
+use Rattle.address_map.specs.Memory.{bytes_of, byte_at, is_mapped, free_pages, Layout, layout, is_owned}
 use Rattle.address_map.proofs.Bytes.{is_mapped-layout}
 use Rattle.address_map.proofs.Equations.{stored_word, stored_bytes}
 use Rattle.arm_step.specs.State.{State}
@@ -142,8 +142,23 @@ well_kept old new well kept same stepped sizes = record {
   sound = kept.sound;
   others = ap (λ (s : Store). s.others) kept.store ∙ well.others;
   mapped = λ a. ap (λ (f : ℕ → Bool). f a) (is_mapped-layout old.map new.map same) ∙ well.mapped a ∙ ap (λ (s : Sizes). is_start_mapped s a) (sym sizes);
+  pool = ap (λ (l : Layout). l.free_pages + (new.sizes.app + new.sizes.rma + 3)) same ∙ ap (λ (s : Sizes). free_pages old.map + (s.app + s.rma + 3)) sizes ∙ well.pool ∙ ap (λ (s : Sizes). s.pages) (sym sizes);
   fresh = λ e. absurd (true≢false (sym e ∙ stepped));
 }
+
+-- the same where memory stays
+pub well_changed : (old new : Parts) → IsWellFormed old → new.map ≡ old.map → new.is_fresh ≡ false → new.sizes ≡ old.sizes → IsWellFormed new
+well_changed old new well map stepped sizes =
+    let pool : free_pages new.map + (new.sizes.app + new.sizes.rma + 3) ≡ new.sizes.pages =
+    ap (λ (m : AddressMap). free_pages m + (new.sizes.app + new.sizes.rma + 3)) map
+    ∙ ap (λ (s : Sizes). free_pages old.map + (s.app + s.rma + 3)) sizes ∙ well.pool ∙ ap (λ (s : Sizes). s.pages) (sym sizes) in
+    record {
+      sound = subst (λ (m : AddressMap). IsSound (store_of m)) (sym map) well.sound;
+      others = ap (λ (m : AddressMap). (store_of m).others) map ∙ well.others;
+      mapped = λ a. ap (λ (m : AddressMap). is_mapped m a) map ∙ well.mapped a ∙ ap (λ (s : Sizes). is_start_mapped s a) (sym sizes);
+      pool = pool;
+      fresh = λ e. absurd (true≢false (sym e ∙ stepped));
+    }
 
 -- the application space holds the program of the written machine
 pub boots : (m n : AddressMap) (cpu : State) (halt : Option Halt) (s : Sizes) (is_fresh : Bool) (program : List ℕ) → is_fresh ≡ true
@@ -187,6 +202,7 @@ well_same old new well kept same state fresh sizes = record {
   sound = kept.sound;
   others = ap (λ (s : Store). s.others) kept.store ∙ well.others;
   mapped = λ a. ap (λ (f : ℕ → Bool). f a) (is_mapped-layout old.map new.map same) ∙ well.mapped a ∙ ap (λ (s : Sizes). is_start_mapped s a) (sym sizes);
+  pool = ap (λ (l : Layout). l.free_pages + (new.sizes.app + new.sizes.rma + 3)) same ∙ ap (λ (s : Sizes). free_pages old.map + (s.app + s.rma + 3)) sizes ∙ well.pool ∙ ap (λ (s : Sizes). s.pages) (sym sizes);
   fresh = λ e. state ∙ well.fresh (sym fresh ∙ e) ∙ ap start_of (sym sizes);
 }
 

@@ -1,6 +1,7 @@
 pub mod Answering
 pub mod Heaping
 pub mod Kept
+pub mod Quiet
 pub mod RunLoop
 pub mod Runs
 pub mod Starting

@@ -1,8 +1,8 @@
 -- The parts of the real machine, and the written machine that they stand for.
-use Rattle.std.specs.Prelude.{◌≡◌, ℕ, Bool, true, Option, List, [], ◌∷◌}
+use Rattle.std.specs.Prelude.{◌≡◌, ◌+◌, ℕ, Bool, true, Option, List, [], ◌∷◌}
 use Rattle.profile.specs.Sizes.{Sizes}
 use Rattle.address_map.specs.declared.map.AddressMap.{AddressMap}
-use Rattle.address_map.specs.Memory.{is_mapped}
+use Rattle.address_map.specs.Memory.{is_mapped, free_pages}
 use Rattle.os_heap.specs.Store.{IsSound, store_of}
 use Rattle.arm_step.specs.declared.turn.Turn.{Turn}
 use Rattle.arm_step.specs.State.{State}
@@ -26,11 +26,13 @@ abbrev pub after_of : Parts → After
 after_of p = record { now = state_of p; printed = p.printed }
 
 -- What holds of every machine, whatever its guest does: memory spells the lists of all heaps, which share no byte with one another and with the
--- system pages; the fixed ranges are mapped; and a machine that can still be booted stands as at the start.
+-- system pages; the fixed ranges are mapped, and their pages and the pool are all there are; and a machine that can still be booted stands as
+-- at the start.
 pub record IsWellFormed (p : Parts) : Type 0 where
   pub sound : IsSound (store_of p.map)
   pub others : (store_of p.map).others ≡ system_pages ∷ []
   pub mapped : (a : ℕ) → is_mapped p.map a ≡ is_start_mapped p.sizes a
+  pub pool : free_pages p.map + (p.sizes.app + p.sizes.rma + 3) ≡ p.sizes.pages
   pub fresh : p.is_fresh ≡ true → state_of p ≡ start_of p.sizes
 
 -- what no step touches

@@ -10,32 +10,38 @@ use Rattle.swi_dispatch.specs.declared.halt.Halt.TheVariants as halt
 use Rattle.swi_dispatch.specs.Situation.{Situation, After, stop_of}
 use Rattle.swi_dispatch.specs.Step.{machine_step}
 
--- what a run leaves: the machine, all that was printed, the steps that count, and why it ended
+-- what a run leaves: the machine, all that was printed, what the last step printed, if there was a step, the steps that count, and why it ended
 pub record Run : Type 0 where
   pub now : Situation
   pub printed : List ℕ
+  pub last : Option (List ℕ)
   pub taken : ℕ
   pub stop : Stop
 
 abbrev pub resting : Situation → Stop → Run
-resting s x = record { now = s; printed = []; taken = 0; stop = x }
+resting s x = record { now = s; printed = []; last = None; taken = 0; stop = x }
 
 abbrev pub counted : Halt → ℕ
 counted halt.Exit = 1
 counted (halt.Fault f) = 0
 
--- a run after one step more before it
-abbrev pub joined : List ℕ → ℕ → Run → Run
-joined printed taken r = record r { printed = printed ++ r.printed; taken = taken + r.taken }
+-- the later of two texts, where there is one
+abbrev pub later : {A : Type 0} → Option A → Option A → Option A
+later first None = first
+later first (Some x) = Some x
+
+-- a run after steps that printed so much, the last of them this, and of which so many count
+abbrev pub joined : List ℕ → Option (List ℕ) → ℕ → Run → Run
+joined printed last taken r = record r { printed = printed ++ r.printed; last = later last r.last; taken = taken + r.taken }
 
 unfoldable pub is_among : List ℕ → ℕ → Bool
 is_among breaks a = list_any (λ b. b == a) breaks
 
 abbrev pub go_on : List ℕ → After → Option Halt → (Situation → Run) → Run
-go_on breaks a (Some h) rest = record { now = a.now; printed = a.printed; taken = counted h; stop = stop_of h }
+go_on breaks a (Some h) rest = record { now = a.now; printed = a.printed; last = Some a.printed; taken = counted h; stop = stop_of h }
 go_on breaks a None rest = if is_among breaks a.now.cpu.pc
-    then record { now = a.now; printed = a.printed; taken = 1; stop = stop.Break a.now.cpu.pc }
-    else joined a.printed 1 (rest a.now)
+    then record { now = a.now; printed = a.printed; last = Some a.printed; taken = 1; stop = stop.Break a.now.cpu.pc }
+    else joined a.printed (Some a.printed) 1 (rest a.now)
 
 abbrev pub begun : Situation → Option Halt → Run → Run
 begun s (Some h) r = resting s (stop_of h)
@@ -48,7 +54,7 @@ ran images breaks (suc n) s =
 
 -- one run and then another from where it stopped
 abbrev pub then_run : Run → Run → Run
-then_run first second = joined first.printed first.taken second
+then_run first second = joined first.printed first.last first.taken second
 
 -- Runs add up: where n steps end with the budget used up, n steps and then m are n + m.
 abbrev pub RunsOn : List Entry → List ℕ → Situation → ℕ → ℕ → Type 0
@@ -63,3 +69,13 @@ stop_after breaks s None = if is_among breaks s.cpu.pc then stop.Break s.cpu.pc 
 abbrev pub count_after : Option Halt → ℕ
 count_after (Some h) = counted h
 count_after None = 1
+
+-- what a machine that had printed so much before a run has printed last after it
+abbrev pub last_or : List ℕ → Option (List ℕ) → List ℕ
+last_or printed None = printed
+last_or printed (Some last) = last
+
+-- a run of so many steps that print nothing and that nothing but the budget ends
+abbrev pub quiet_run : Situation → ℕ → Run
+quiet_run now zero = resting now stop.Budget
+quiet_run now (suc n) = record { now = now; printed = []; last = Some []; taken = suc n; stop = stop.Budget }

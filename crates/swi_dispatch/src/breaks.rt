@@ -1,4 +1,4 @@
-ghost use Rattle.std.specs.Prelude.{◌≡◌, ◌==◌, ℕ, [], List};
+ghost use Rattle.std.specs.Prelude.{◌≡◌, ◌==◌, ◌↔◌, ℕ, [], List, IsTrue};
 ghost use Rattle.std.specs.List.{position};
 ghost use Rattle.profile.specs.Outcome.{Leaves};
 
@@ -88,6 +88,13 @@ impl Breaks {
         ensures { result ≡ position (λ b. b == address) self.now }
     {
         self.addresses.iter().position(|at| *at == address)
+    }
+
+    /// Whether there is no break.
+    pub(crate) fn is_empty(&self) -> bool
+        ensures { IsTrue result ↔ (self.now ≡ []) }
+    {
+        self.addresses.is_empty()
     }
 
     /// Whether a run stops at the address.

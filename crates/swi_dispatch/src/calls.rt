@@ -37,7 +37,7 @@ impl Machine {
     {
         let name = SwiName::of(number);
         if is_exit(name) {
-            return self.end(Halt::Exit);
+            return self.halt_with(Halt::Exit);
         }
         let caller = self.cpu().psr();
         match self.perform(next, number, name) {
@@ -180,7 +180,7 @@ impl Machine {
         ensures others { OnlySteps self.old self.new }
     {
         if !is_x {
-            return self.end(Halt::Fault(Fault::ErrorStop(refusal.number())));
+            return self.halt_with(Halt::Fault(Fault::ErrorStop(refusal.number())));
         }
         let caller = self.cpu().psr();
         self.point_to_error(refusal);

@@ -1,8 +1,8 @@
-ghost use Rattle.std.specs.Prelude.{◌≡◌, ◌≤◌, ◌%◌, ◌&&◌, ℕ, Bool, true, false, not, [], ◌∷◌, List, Option, Some, None, IfOk, IsSome, is_err};
+ghost use Rattle.std.specs.Prelude.{◌≡◌, ◌≤◌, ◌+◌, ◌%◌, ◌&&◌, ℕ, Bool, true, false, not, [], ◌∷◌, List, Option, Some, None, IfOk, IsSome, is_err};
 ghost use Rattle.std.specs.Option.{option_map};
 ghost use Rattle.profile.specs.Outcome.{Leaves};
 ghost use Rattle.profile.specs.Sizes.{AreGood};
-ghost use Rattle.address_map.specs.Memory.{is_mapped, byte_at, regions};
+ghost use Rattle.address_map.specs.Memory.{is_mapped, byte_at, regions, free_pages};
 ghost use Rattle.swi_dispatch.specs.Situation.{is_start_mapped, start_bytes, start_regions};
 ghost use Rattle.swi_dispatch.specs.Step.{without_x};
 
@@ -53,7 +53,7 @@ impl Model for Machine {
 impl Machine {
     ghost use Rattle.address_map.specs.Memory.{bytes_of};
     ghost use Rattle.os_heap.specs.Store.{store_of, IsSound};
-    ghost use Rattle.swi_dispatch.specs.Parts.{state_of, after_of, OnlySteps, TakesTurn};
+    ghost use Rattle.swi_dispatch.specs.Parts.{state_of, after_of, OnlySteps, TakesTurn, IsWellFormed};
     ghost use Rattle.swi_dispatch.specs.Situation.{start_of, stop_of, quiet};
     ghost use Rattle.swi_dispatch.specs.Boot.{booted, registered, poked};
     ghost use Rattle.swi_dispatch.specs.Step.{machine_step, store_called, swi_called, halted, turn_end};
@@ -65,7 +65,7 @@ impl Machine {
         ensures sizes { IfOk result (λ m. m.sizes ≡ config) }
         ensures fresh { IfOk result (λ m. m.is_fresh ≡ true) }
         ensures printed { IfOk result (λ m. m.printed ≡ []) }
-        ensures sound { IfOk result (λ m. IsSound (state_of m).store) }
+        ensures well_formed { IfOk result IsWellFormed }
     {
         let memory = start_memory(alloc, config)?;
         Ok(Machine {
@@ -92,7 +92,7 @@ impl Machine {
         ensures fresh { self.new.is_fresh ≡ (self.old.is_fresh && is_err result) }
         ensures sizes { self.new.sizes ≡ self.old.sizes }
         ensures printed { self.new.printed ≡ self.old.printed }
-        ensures sound { IsSound (state_of self.new).store }
+        ensures well_formed { IsWellFormed self.new }
     {
         if !self.is_fresh {
             return Err(BootError::Booted);
@@ -113,14 +113,14 @@ impl Machine {
         ensures stop { result ≡ option_map stop_of (state_of self.new).halt }
         ensures fresh { self.new.is_fresh ≡ false }
         ensures sizes { self.new.sizes ≡ self.old.sizes }
-        ensures sound { IsSound (state_of self.new).store }
+        ensures well_formed { IsWellFormed self.new }
     {
-        self.begin();
+        self.begin_step();
         if self.stop().is_some() {
             return self.stop();
         }
         let turn = self.instruction();
-        self.finish(turn);
+        self.after_turn(turn);
         self.stop()
     }
 
@@ -133,9 +133,9 @@ impl Machine {
         ensures stop { result ≡ option_map stop_of (state_of self.new).halt }
         ensures fresh { self.new.is_fresh ≡ false }
         ensures sizes { self.new.sizes ≡ self.old.sizes }
-        ensures sound { IsSound (state_of self.new).store }
+        ensures well_formed { IsWellFormed self.new }
     {
-        self.begin();
+        self.begin_step();
         if let Some(stop) = self.stop() {
             return Some(stop);
         }
@@ -152,7 +152,7 @@ impl Machine {
         ensures fresh { self.new.is_fresh ≡ false }
         ensures sizes { self.new.sizes ≡ self.old.sizes }
         ensures printed { self.new.printed ≡ self.old.printed }
-        ensures sound { IsSound (state_of self.new).store }
+        ensures well_formed { IsWellFormed self.new }
     {
         self.is_fresh = false;
         self.cpu.set_register(number, value);
@@ -172,7 +172,7 @@ impl Machine {
         ensures fresh { self.new.is_fresh ≡ (self.old.is_fresh && is_err result) }
         ensures sizes { self.new.sizes ≡ self.old.sizes }
         ensures printed { self.new.printed ≡ self.old.printed }
-        ensures sound { IsSound (state_of self.new).store }
+        ensures well_formed { IsWellFormed self.new }
     {
         if let Err(fault) = self.memory.store_word(at, value) {
             return Err(fault);
@@ -202,6 +202,7 @@ impl Machine {
         ensures store { store_of result.now ≡ (state_of self.now).store }
         ensures bytes { bytes_of result.now ≡ (state_of self.now).store.bytes }
         ensures sound { IsSound (store_of result.now) }
+        ensures well_formed { IsWellFormed self.now }
     {
         &self.memory
     }
@@ -223,28 +224,51 @@ impl Machine {
     pub fn stop(&self) -> Option<Stop>
         ensures halt { result ≡ option_map stop_of (state_of self.now).halt }
         ensures stepped { IsSome result → self.now.is_fresh ≡ false }
-        ensures sound { IsSound (state_of self.now).store }
+        ensures well_formed { IsWellFormed self.now }
     {
         self.halt.map(Halt::stop)
     }
 
     // A step prints into an empty list, and a machine that has been stepped can't be booted.
-    #[tactic(auto, unfolding(crate::specs::Parts::state_of))]
-    fn begin(&mut self)
+    fn begin_step(&mut self)
         ensures after { after_of self.new ≡ quiet (state_of self.old) }
         ensures state { state_of self.new ≡ state_of self.old }
         ensures printed { self.new.printed ≡ [] }
         ensures fresh { self.new.is_fresh ≡ false }
         ensures sizes { self.new.sizes ≡ self.old.sizes }
     {
-        self.printed.clear();
+        self.mark_stepped();
+        self.forget_output();
+    }
+
+    #[tactic(auto, unfolding(crate::specs::Parts::state_of))]
+    pub(crate) fn mark_stepped(&mut self)
+        ensures state { state_of self.new ≡ state_of self.old }
+        ensures printed { self.new.printed ≡ self.old.printed }
+        ensures fresh { self.new.is_fresh ≡ false }
+        ensures sizes { self.new.sizes ≡ self.old.sizes }
+        ensures well_formed { IsWellFormed self.new }
+    {
         self.is_fresh = false;
     }
 
     #[tactic(auto, unfolding(crate::specs::Parts::state_of))]
-    fn instruction(&mut self) -> Turn
+    pub(crate) fn forget_output(&mut self)
+        requires stepped { self.old.is_fresh ≡ false }
+        ensures after { after_of self.new ≡ quiet (state_of self.old) }
+        ensures state { state_of self.new ≡ state_of self.old }
+        ensures printed { self.new.printed ≡ [] }
+        ensures others { OnlySteps self.old self.new }
+        ensures well_formed { IsWellFormed self.new }
+    {
+        self.printed.clear();
+    }
+
+    #[tactic(auto, unfolding(crate::specs::Parts::state_of))]
+    pub(crate) fn instruction(&mut self) -> Turn
         requires { self.old.is_fresh ≡ false }
         ensures turn { TakesTurn (state_of self.old) result (state_of self.new) }
+        ensures well_formed { IsWellFormed self.new }
         ensures printed { self.new.printed ≡ self.old.printed }
         ensures others { OnlySteps self.old self.new }
     {
@@ -252,7 +276,7 @@ impl Machine {
     }
 
     // What a turn of the core leaves to the machine.
-    fn finish(&mut self, turn: Turn)
+    fn after_turn(&mut self, turn: Turn)
         requires printed { self.old.printed ≡ [] }
         requires stepped { self.old.is_fresh ≡ false }
         ensures after { after_of self.new ≡ turn_end (state_of self.old) turn }
@@ -260,14 +284,14 @@ impl Machine {
     {
         match turn {
             Turn::Done => {}
-            Turn::Swi(number) => self.interrupt(number),
-            Turn::Gate => self.end(Halt::Fault(Fault::FetchUnmapped)),
-            Turn::Fault(fault) => self.end(Halt::Fault(fault)),
+            Turn::Swi(number) => self.call_by_instruction(number),
+            Turn::Gate => self.halt_with(Halt::Fault(Fault::FetchUnmapped)),
+            Turn::Fault(fault) => self.halt_with(Halt::Fault(fault)),
         }
     }
 
     // A call by an instruction; the guest goes on after it.
-    fn interrupt(&mut self, number: u32)
+    fn call_by_instruction(&mut self, number: u32)
         requires printed { self.old.printed ≡ [] }
         requires stepped { self.old.is_fresh ≡ false }
         ensures after { after_of self.new ≡ swi_called (state_of self.old) number }
@@ -278,7 +302,7 @@ impl Machine {
     }
 
     #[tactic(auto, unfolding(crate::specs::Parts::state_of))]
-    pub(crate) fn end(&mut self, halt: Halt)
+    pub(crate) fn halt_with(&mut self, halt: Halt)
         requires printed { self.old.printed ≡ [] }
         requires stepped { self.old.is_fresh ≡ false }
         ensures after { after_of self.new ≡ halted (state_of self.old) halt }
@@ -304,6 +328,7 @@ fn start_memory(alloc: Global, config: Config) -> Result<AddressMap, AllocError>
     ensures mapping { IfOk result (λ m. (a : ℕ) → is_mapped m a ≡ is_start_mapped config a) }
     ensures bytes { IfOk result (λ m. (a : ℕ) → byte_at m a ≡ start_bytes config a) }
     ensures regions { IfOk result (λ m. regions m ≡ start_regions config) }
+    ensures pool { IfOk result (λ m. free_pages m + (config.app + config.rma + 3) ≡ config.pages) }
     ensures sizes { AreGood config }
 {
     let mut memory = AddressMap::new(alloc, config.pages())?;

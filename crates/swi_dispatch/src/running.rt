@@ -1,12 +1,14 @@
-ghost use Rattle.std.specs.Prelude.{◌≡◌, ◌&&◌, ◌==◌, ◌≤◌, ◌↔◌, None, false, true, IsTrue, IfOk, OnOk, OnErr};
+ghost use Rattle.std.specs.Prelude.{◌≡◌, ◌&&◌, ◌==◌, ◌≤◌, ◌↔◌, None, Some, [], List, false, true, IsTrue, IfOk, OnOk, OnErr};
 ghost use Rattle.std.specs.Option.{option_map};
-ghost use Rattle.swi_dispatch.specs.Parts.{state_of};
-ghost use Rattle.swi_dispatch.specs.Run.{ran, stop_after, count_after};
+ghost use Rattle.swi_dispatch.specs.Parts.{state_of, IsWellFormed, OnlySteps};
+ghost use Rattle.swi_dispatch.specs.Run.{ran, stop_after, count_after, last_or, quiet_run};
 ghost use Rattle.swi_dispatch.specs.Situation.{stop_of};
+ghost use Rattle.profile.specs.Output.{AppendsPart};
 ghost use Rattle.swi_dispatch.specs.Ending.{Ends, StandsAfter};
 
 use crate::breaks::Breaks;
 use crate::machine::Machine;
+use arm_step::Turn;
 use image_loader::Images;
 use profile::{Sink, Stop, WriteFault, push_all};
 
@@ -28,6 +30,8 @@ impl Ran {
 }
 
 impl Machine {
+    ghost use Rattle.image_loader.specs.Entries.{Entry};
+
     /// Takes steps and writes what each prints, until the machine is halted, or the new program
     /// counter is among the breaks, or `budget` steps are taken, tested in that order after each
     /// step. A start on a break isn't tested. A halted machine takes no step.
@@ -43,30 +47,81 @@ impl Machine {
         sink: &mut W,
         budget: u64,
     ) -> Result<Ran, WriteFault>
-        ensures ends { IfOk result (λ r. Ends (ran images.now breaks.now budget (state_of self.old)) (state_of self.new) (W.contents sink.old) (W.contents sink.new) r.taken r.stop) }
+        ensures ends { IfOk result (λ r. Ends (ran images.now breaks.now budget (state_of self.old)) (state_of self.new)
+            self.old.printed self.new.printed (W.contents sink.old) (W.contents sink.new) r.taken r.stop) }
         ensures count { IfOk result (λ r. r.taken ≤ budget) }
         ensures fresh { self.new.is_fresh ≡ (self.old.is_fresh && (budget == 0)) }
         ensures sizes { self.new.sizes ≡ self.old.sizes }
-        ensures stands { OnErr result (StandsAfter images.now breaks.now budget (state_of self.old) (state_of self.new)) }
+        ensures well_formed { IsWellFormed self.new }
+        ensures stands { OnErr result (StandsAfter images.now breaks.now budget (state_of self.old) (state_of self.new)
+            self.new.printed (W.contents sink.old) (W.contents sink.new)) }
         ensures flag { OnErr result (W.has_failed sink.new ≡ true) }
         ensures same_flag { OnOk result (W.has_failed sink.new ≡ W.has_failed sink.old) }
     {
         if let Some(stop) = self.stop() {
             return Ok(Ran { stop, taken: 0 });
         }
-        for taken in 0..budget {
-            let one = self.run_one(images, breaks, sink)?;
-            if !one.goes_on() {
-                return Ok(Ran {
-                    stop: one.stop,
-                    taken: taken + one.taken,
-                });
+        let mut taken = 0;
+        while taken < budget {
+            taken += self.run_quietly(breaks, budget - taken);
+            if taken < budget {
+                let one = self.run_one(images, breaks, sink)?;
+                taken += one.taken;
+                if !one.goes_on() {
+                    return Ok(Ran {
+                        stop: one.stop,
+                        taken,
+                    });
+                }
             }
         }
         Ok(Ran {
             stop: Stop::Budget,
-            taken: budget,
+            taken,
         })
+    }
+
+    // Where there are no breaks, takes steps as long as each is an instruction that the core does
+    // by itself, which prints nothing and halts nothing. Answers how many.
+    fn run_quietly(&mut self, breaks: &Breaks, most: u64) -> u64
+        requires { (state_of self.old).halt ≡ None }
+        ensures ran { (images : List Entry) → ran images breaks.now result (state_of self.old) ≡ quiet_run (state_of self.new) result }
+        ensures output { self.new.printed ≡ last_or self.old.printed (quiet_run (state_of self.new) result).last }
+        ensures awake { (state_of self.new).halt ≡ None }
+        ensures most { result ≤ most }
+        ensures fresh { self.new.is_fresh ≡ false }
+        ensures sizes { self.new.sizes ≡ self.old.sizes }
+        ensures well_formed { IsWellFormed self.new }
+    {
+        self.mark_stepped();
+        if !breaks.is_empty() {
+            return 0;
+        }
+        let taken = self.take_instructions(most);
+        if taken > 0 {
+            self.forget_output();
+        }
+        taken
+    }
+
+    // Takes up to so many steps, as long as each is an instruction that is done. Answers how many.
+    fn take_instructions(&mut self, most: u64) -> u64
+        requires stepped { self.old.is_fresh ≡ false }
+        requires awake { (state_of self.old).halt ≡ None }
+        requires well_formed { IsWellFormed self.old }
+        ensures ran { (images : List Entry) → ran images [] result (state_of self.old) ≡ quiet_run (state_of self.new) result }
+        ensures awake { (state_of self.new).halt ≡ None }
+        ensures most { result ≤ most }
+        ensures printed { self.new.printed ≡ self.old.printed }
+        ensures others { OnlySteps self.old self.new }
+        ensures well_formed { IsWellFormed self.new }
+    {
+        for taken in 0..most {
+            let Turn::Done = self.instruction() else {
+                return taken;
+            };
+        }
+        most
     }
 
     // A run of one step of a machine that isn't halted.
@@ -77,12 +132,16 @@ impl Machine {
         sink: &mut W,
     ) -> Result<Ran, WriteFault>
         requires { (state_of self.old).halt ≡ None }
-        ensures ends { IfOk result (λ r. Ends (ran images.now breaks.now 1 (state_of self.old)) (state_of self.new) (W.contents sink.old) (W.contents sink.new) r.taken r.stop) }
+        ensures ends { IfOk result (λ r. Ends (ran images.now breaks.now 1 (state_of self.old)) (state_of self.new)
+            self.old.printed self.new.printed (W.contents sink.old) (W.contents sink.new) r.taken r.stop) }
         ensures awake { IfOk result (λ r. r.stop ≡ Stop.Budget → (state_of self.new).halt ≡ None) }
         ensures count { IfOk result (λ r. r.taken ≤ 1) }
         ensures fresh { self.new.is_fresh ≡ false }
         ensures sizes { self.new.sizes ≡ self.old.sizes }
+        ensures well_formed { IsWellFormed self.new }
         ensures stands { OnErr result (state_of self.new ≡ (ran images.now breaks.now 1 (state_of self.old)).now) }
+        ensures output { OnErr result (Some self.new.printed ≡ (ran images.now breaks.now 1 (state_of self.old)).last) }
+        ensures part { OnErr result (AppendsPart (W.contents sink.old) (W.contents sink.new) self.new.printed) }
         ensures flag { OnErr result (W.has_failed sink.new ≡ true) }
         ensures same_flag { OnOk result (W.has_failed sink.new ≡ W.has_failed sink.old) }
     {

@@ -8,7 +8,7 @@ use std::test::Fail;
 fn each_pull_can_fail(rt: HostRuntime) {
     let pulls = SIX_WORDS.len() as u64 + 1;
     for n in 1..pulls + 2 {
-        let mut reader = MemorySource::new(SIX_WORDS, 1, n);
+        let mut reader = MemorySource::new(SIX_WORDS.as_bytes(), 1, n);
         let mut room = [0u8; 1024];
         let mut writer = MemorySink::new(&mut room, 1024, u64::MAX);
         let mut images = Images::new();
@@ -25,7 +25,7 @@ fn each_pull_can_fail(rt: HostRuntime) {
             assert!(rt; writer.written().is_empty());
         } else {
             assert!(rt; result.is_ok());
-            assert!(rt; writer.written() == SIX_WORDS_ANSWER);
+            assert!(rt; writer.written() == SIX_WORDS_ANSWER.as_bytes());
         }
     }
 }
@@ -34,7 +34,7 @@ fn each_pull_can_fail(rt: HostRuntime) {
 fn each_push_can_fail(rt: HostRuntime) {
     let mut last_failing = 0;
     for n in 1..200u64 {
-        let mut reader = MemorySource::new(SIX_WORDS, 4096, u64::MAX);
+        let mut reader = MemorySource::new(SIX_WORDS.as_bytes(), 4096, u64::MAX);
         let mut room = [0u8; 1024];
         let mut writer = MemorySink::new(&mut room, 5, n);
         let mut images = Images::new();
@@ -46,7 +46,7 @@ fn each_push_can_fail(rt: HostRuntime) {
             usual_sizes(&rt),
             20,
         );
-        assert!(rt; SIX_WORDS_ANSWER.starts_with(writer.written()));
+        assert!(rt; SIX_WORDS_ANSWER.as_bytes().starts_with(writer.written()));
         if writer.written().len() < SIX_WORDS_ANSWER.len() {
             assert!(rt; result == Err(RunError::WriteFault), "push {n}");
             last_failing = n;
@@ -60,7 +60,7 @@ fn each_push_can_fail(rt: HostRuntime) {
 /// Passes with each allocation refused, too: what stands written is then a part of the answers.
 #[test]
 fn want_of_memory_ends_the_run(rt: HostRuntime) {
-    let mut reader = MemorySource::new(SIX_WORDS, 40, u64::MAX);
+    let mut reader = MemorySource::new(SIX_WORDS.as_bytes(), 40, u64::MAX);
     let mut room = [0u8; 1024];
     let mut writer = MemorySink::new(&mut room, 1024, u64::MAX);
     let mut images = Images::new();
@@ -73,7 +73,7 @@ fn want_of_memory_ends_the_run(rt: HostRuntime) {
         20,
     );
     if result.is_ok() {
-        assert!(rt; writer.written() == SIX_WORDS_ANSWER);
+        assert!(rt; writer.written() == SIX_WORDS_ANSWER.as_bytes());
     } else {
         assert!(rt; result == Err(RunError::Memory));
         assert!(rt; writer.written().is_empty());

@@ -1,4 +1,4 @@
-use Rattle.command_shell.specs.Commands.{request_of_command}
+use Rattle.command_shell.specs.Requests.{request_of_command}
 use Rattle.command_shell.proofs.ScriptLemmas.{fewer_left}
 use Rattle.command_shell.proofs.script.run_lines.Goals as goal
 

@@ -1,5 +1,6 @@
-use Rattle.std.proofs.Common.{◌≡◌, ◌+◌, is_some, refl, arith}
+use Rattle.std.proofs.Common.{◌≡◌, ◌+◌, is_some, refl, ◌∙◌, arith}
 use Rattle.address_map.specs.Memory.{bytes_of}
+use Rattle.address_map.proofs.Stores.{layout-mapping}
 use Rattle.os_heap.specs.Heap.{Part}
 use Rattle.os_heap.specs.Links.{IsHeapAt}
 use Rattle.os_heap.specs.Store.{store_of, part_in}
@@ -53,7 +54,7 @@ returns-clause-store c =
       word = c.put.ensures.word;
     } in
     let bytes : bytes_of c.set_len.new.self ≡ bytes_of c.put.new.map =
-    λ i. record { mapped = λ a. is_some (c.set_len.ensures.place i a); at = c.set_len.ensures.bytes i } in
+    λ i. record { mapped = λ a. is_some ((c.set_len.ensures.mapping i).place a); at = c.set_len.ensures.bytes i } in
     let same = layout-regions m c.put.new.map c.put.ensures.layout in
     let records = rw same at c.set_len.ensures.regions in
     store_ended m c.put.new.map c.set_len.new.self h c.args.end ends bytes records
@@ -71,7 +72,10 @@ returns-clause-sound c =
       word = c.put.ensures.word;
     } in
     let bytes : bytes_of c.set_len.new.self ≡ bytes_of c.put.new.map =
-    λ i. record { mapped = λ a. is_some (c.set_len.ensures.place i a); at = c.set_len.ensures.bytes i } in
+    λ i. record { mapped = λ a. is_some ((c.set_len.ensures.mapping i).place a); at = c.set_len.ensures.bytes i } in
     let same = layout-regions m c.put.new.map c.put.ensures.layout in
     let records = rw same at c.set_len.ensures.regions in
     sound_ended m c.put.new.map c.set_len.new.self h c.args.end ends bytes records
+
+pub returns-clause-mapping : goal.returns-clause-mapping
+returns-clause-mapping c = c.set_len.ensures.mapping ∙ layout-mapping _ _ c.put.ensures.layout

@@ -2,6 +2,7 @@ use Rattle.std.proofs.Common.{◌≡◌, [], ◌∷◌, ◌++◌, is_some, ap, s
 use Rattle.address_map.specs.declared.region.Region.{Region}
 use Rattle.address_map.specs.Memory.{byte_at, bytes_of, regions}
 use Rattle.address_map.proofs.Equations.{same_bytes}
+use Rattle.address_map.proofs.Stores.{layout-mapping}
 use Rattle.os_heap.specs.Heap.{with_part}
 use Rattle.os_heap.specs.Store.{store_of, IsSound, begun_with}
 use Rattle.os_heap.proofs.Frame.{layout-regions}
@@ -40,7 +41,7 @@ returns-clause-store c =
     let records : regions c.own.new.self ≡ regions c.args.map.now ++ r ∷ [] =
     c.own.ensures.regions ∙ recorded (regions c.write_descriptor.new.map) c.args.kind c.args.heap c.args.size c.requires.kind ∙ ap (λ rs. rs ++ r ∷ []) (layout-regions _ _ c.write_descriptor.ensures.layout) in
     let moved : bytes_of c.own.new.self ≡ bytes_of c.write_descriptor.new.map =
-    λ i. record { mapped = λ a. is_some (c.own.ensures.place i a); at = c.own.ensures.bytes i } in
+    λ i. record { mapped = λ a. is_some ((c.own.ensures.mapping i).place a); at = c.own.ensures.bytes i } in
     let written = same_bytes c.args.map.now c.write_descriptor.new.map (with_part (byte_at c.args.map.now) c.args.heap c.args.size [])
     c.write_descriptor.ensures.layout c.write_descriptor.ensures.bytes in
     store_begun c.args.map.now c.own.new.self c.args.kind c.args.heap c.args.size c.requires.kind c.requires.may c.requires.sound records (moved ∙ written)
@@ -49,3 +50,6 @@ pub returns-clause-sound : goal.returns-clause-sound
 returns-clause-sound c =
     let store : store_of c.own.new.self ≡ begun_with c.args.kind (store_of c.args.map.now) c.args.heap c.args.size = returns-clause-store c in
     subst IsSound (sym store) (begun_sound c.args.kind (store_of c.args.map.now) c.args.heap c.args.size c.requires.may c.requires.sound)
+
+pub returns-clause-mapping : goal.returns-clause-mapping
+returns-clause-mapping c = c.own.ensures.mapping ∙ layout-mapping _ _ c.write_descriptor.ensures.layout

@@ -7,8 +7,7 @@ invariant_of-self c =
     record {
       bytes_fit = m.bytes_fit;
       in_limit = m.in_limit;
-      runs_fit = m.runs_fit;
-      whole = m.whole;
-      apart = m.apart;
+      frames_fit = m.frames_fit;
+      table = m.table;
       recorded = recorded_less m c.remove.new.self.items c.in-Some.index c.remove.ensures.items;
     }

@@ -15,9 +15,8 @@ invariant_of-self c =
     record {
       bytes_fit = kept.0;
       in_limit = omega (arith, kept.1, m.in_limit);
-      runs_fit = omega (arith, kept.1, m.runs_fit);
-      whole = m.whole;
-      apart = m.apart;
+      frames_fit = omega (arith, kept.1, m.frames_fit);
+      table = m.table;
       recorded = m.recorded;
     }
 

@@ -4,7 +4,7 @@ use Rattle.address_map.proofs.map.AddressMap.span.Goals as goal
 
 pub returns : goal.returns
 returns c =
-    let run = c.in_ok-run.ensures in
-    let e : c.in_ok-run.run'.addr + (c.args.addr - c.in_ok-run.run'.addr) ≡ c.args.addr = omega arith in
-    let part = span_from c.args.self.now c.in_ok-run.run'.addr c.in_ok-run.run'.place c.in_ok-run.run'.len (c.args.addr - c.in_ok-run.run'.addr) run.2 (omega arith) in
+    let page = c.in_ok-page.ensures in
+    let e : c.in_ok-page.page.addr + (c.args.addr - c.in_ok-page.page.addr) ≡ c.args.addr = omega arith in
+    let part = span_from c.args.self.now c.in_ok-page.page.addr c.in_ok-page.page.place c.in_ok-page.page.len (c.args.addr - c.in_ok-page.page.addr) page.2 (omega arith) in
     (refl, rw e at part)

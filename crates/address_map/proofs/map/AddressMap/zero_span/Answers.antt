@@ -1,7 +1,6 @@
 use Rattle.std.proofs.Common.{◌+◌, ◌≤◌, length, arith, refl}
-use Rattle.address_map.proofs.Mapping.{store_zeroed}
 use Rattle.address_map.proofs.Spans.{bytes_zeroed}
-use Rattle.address_map.proofs.Stores.{same_layout}
+use Rattle.address_map.proofs.Stores.{same_layout, store_zeroed}
 use Rattle.address_map.proofs.map.AddressMap.zero_span.Goals as goal
 
 pub zero-requires : goal.zero-requires
@@ -15,9 +14,8 @@ invariant_of-self c =
     record {
       bytes_fit = kept.0;
       in_limit = omega (arith, kept.1, m.in_limit);
-      runs_fit = omega (arith, kept.1, m.runs_fit);
-      whole = m.whole;
-      apart = m.apart;
+      frames_fit = omega (arith, kept.1, m.frames_fit);
+      table = m.table;
       recorded = m.recorded;
     }
 

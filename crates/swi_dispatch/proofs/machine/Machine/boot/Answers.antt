@@ -24,11 +24,12 @@ returns-clause-state c =
     let kept = program_kept _ _ _ _ c.put_bytes.ensures.layout well.sound c.app.ensures.sizes heaps fits c.put_bytes.ensures.bytes in
     rw (← c.self.view_is) (boots _ _ _ _ _ _ _ fresh fits c.put_bytes.ensures.layout kept c.put_bytes.ensures.bytes)
 
-pub returns-clause-sound : goal.returns-clause-sound
+pub returns-clause-well_formed : goal.returns-clause-well_formed
 unfolding state_of start_of
-returns-clause-sound c =
+returns-clause-well_formed c =
     let well = c.self.invariant in
     let fresh = c.if-not-self.false in
     let heaps = ap (λ (s : Situation). s.store.heaps) (well.fresh fresh) in
     let fits : length c.args.program.now ≤ 4096 * c.self.inside.config.app = omega (arith, c.if-program-app.false, c.app.ensures.value) in
-    (program_kept _ _ _ _ c.put_bytes.ensures.layout well.sound c.app.ensures.sizes heaps fits c.put_bytes.ensures.bytes).sound
+    let kept = program_kept _ _ _ _ c.put_bytes.ensures.layout well.sound c.app.ensures.sizes heaps fits c.put_bytes.ensures.bytes in
+    well_kept _ _ well kept c.put_bytes.ensures.layout refl refl

@@ -1,4 +1,5 @@
 use Rattle.std.proofs.Common.{refl, ap, ◌∙◌}
+use Rattle.address_map.specs.Memory.{Mapping}
 use Rattle.swi_dispatch.specs.Parts.{Parts}
 use Rattle.swi_dispatch.proofs.Heaping.{others_left, changed_others, well_called}
 use Rattle.swi_dispatch.proofs.machine.Machine.change_heap.Goals as goal
@@ -6,5 +7,6 @@ use Rattle.swi_dispatch.proofs.machine.Machine.change_heap.Goals as goal
 pub invariant_of-self : goal.invariant_of-self
 invariant_of-self c =
     let changed = c.change_size-changed.ensures in
-    well_called _ _ c.self.invariant changed.sound (others_left _ _ _ _ (changed_others _ _ _) changed.store) changed.place
+    well_called _ _ c.self.invariant changed.sound (others_left _ _ _ _ (changed_others _ _ _) changed.store) (ap (λ (m : Mapping). m.place) changed.mapping)
+    (ap (λ (m : Mapping). m.free_pages) changed.mapping)
     (ap (λ (p : Parts). p.is_fresh) c.self.view_is ∙ c.requires.stepped) refl

@@ -15,3 +15,9 @@ unfolding state_of
 returns-clause-turn c =
     let well = c.self.invariant in
     rw (← c.self.view_is) (takes_turn _ _ _ _ _ _ c.step.ensures.layout well.sound well.others c.step.ensures.turn).1
+
+pub returns-clause-well_formed : goal.returns-clause-well_formed
+returns-clause-well_formed c =
+    let well = c.self.invariant in
+    let turn = takes_turn _ _ _ _ c.self.inside.halt _ c.step.ensures.layout well.sound well.others c.step.ensures.turn in
+    well_kept _ _ well turn.0 c.step.ensures.layout (ap (λ (p : Parts). p.is_fresh) c.self.view_is ∙ c.requires) refl

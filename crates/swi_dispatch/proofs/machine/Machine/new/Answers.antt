@@ -13,6 +13,7 @@ invariant_of-result c =
       sound = subst IsSound (sym store) (start_sound _ memory.sizes);
       others = ap (λ (s : Store). s.others) store;
       mapped = memory.mapping;
+      pool = memory.pool;
       fresh = λ _. rw c.new.ensures (starts _ _ store);
     }
 
@@ -22,8 +23,15 @@ returns-clause-start c =
     let memory = c.in_ok-memory.ensures in
     rw c.new.ensures (starts _ _ (store_starts _ _ memory.sizes memory.mapping memory.bytes memory.regions))
 
-pub returns-clause-sound : goal.returns-clause-sound
+pub returns-clause-well_formed : goal.returns-clause-well_formed
 unfolding state_of
-returns-clause-sound c =
+returns-clause-well_formed c =
     let memory = c.in_ok-memory.ensures in
-    subst IsSound (sym (store_starts _ _ memory.sizes memory.mapping memory.bytes memory.regions)) (start_sound _ memory.sizes)
+    let store = store_starts _ _ memory.sizes memory.mapping memory.bytes memory.regions in
+    record {
+      sound = subst IsSound (sym store) (start_sound _ memory.sizes);
+      others = ap (λ (s : Store). s.others) store;
+      mapped = memory.mapping;
+      pool = memory.pool;
+      fresh = λ _. rw c.new.ensures (starts _ _ store);
+    }

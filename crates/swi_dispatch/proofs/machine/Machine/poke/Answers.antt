@@ -16,11 +16,12 @@ returns-in-Err-clause-state c =
     let well = c.self.invariant in
     rw (← c.self.view_is) (pokes _ _ _ _ _ _ _ c.store_word.ensures.layout well.sound well.others c.in-Err.ensures.bytes).1
 
-pub returns-in-Err-clause-sound : goal.returns-in-Err-clause-sound
+pub returns-in-Err-clause-well_formed : goal.returns-in-Err-clause-well_formed
 unfolding state_of
-returns-in-Err-clause-sound c =
+returns-in-Err-clause-well_formed c =
     let well = c.self.invariant in
-    (pokes _ _ c.self.inside.cpu c.self.inside.halt _ _ _ c.store_word.ensures.layout well.sound well.others c.in-Err.ensures.bytes).0.sound
+    let left = pokes _ _ c.self.inside.cpu c.self.inside.halt _ _ _ c.store_word.ensures.layout well.sound well.others c.in-Err.ensures.bytes in
+    well_same _ _ well left.0 c.store_word.ensures.layout (refused_same _ _ _ _ left.1) refl refl
 
 pub invariant_of-self-2 : goal.invariant_of-self-2
 invariant_of-self-2 c =
@@ -34,8 +35,9 @@ returns-clause-state c =
     let well = c.self.invariant in
     rw (← c.self.view_is) (pokes _ _ _ _ _ _ _ c.store_word.ensures.layout well.sound well.others c.in_default.ensures.bytes).1
 
-pub returns-clause-sound : goal.returns-clause-sound
+pub returns-clause-well_formed : goal.returns-clause-well_formed
 unfolding state_of
-returns-clause-sound c =
+returns-clause-well_formed c =
     let well = c.self.invariant in
-    (pokes _ _ c.self.inside.cpu c.self.inside.halt _ _ _ c.store_word.ensures.layout well.sound well.others c.in_default.ensures.bytes).0.sound
+    let left = pokes _ _ c.self.inside.cpu c.self.inside.halt _ _ _ c.store_word.ensures.layout well.sound well.others c.in_default.ensures.bytes in
+    well_kept _ _ well left.0 c.store_word.ensures.layout refl refl

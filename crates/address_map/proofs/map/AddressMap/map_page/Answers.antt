@@ -1,0 +1,71 @@
+use Rattle.std.proofs.Common.{◌≡◌, ◌+◌, ◌*◌, ◌/◌, ◌<◌, ◌≤◌, ◌++◌, ◌∷◌, [], ℕ, List, Some, None, length, arith, ap, subst, refl}
+use Rattle.address_map.specs.Memory.{place, byte_at, free_pages, regions}
+use Rattle.address_map.specs.Pages.{frame_at, IsPageTable}
+use Rattle.address_map.proofs.Loads.{unmapped_page}
+use Rattle.address_map.proofs.Mapping.{mapped_more, stays_more, bytes_more}
+use Rattle.address_map.proofs.PageTable.{table_given, count_given, unused_frame, fits_frame, length-last}
+use Rattle.address_map.proofs.Stores.{store_zeroed}
+use Rattle.address_map.proofs.map.AddressMap.map_page.Goals as goal
+
+pub unwrap-frame-requires : goal.unwrap-frame-requires
+unfolding free_pages
+unwrap-frame-requires c = c.pop.ensures.variant.1 (omega arith)
+
+pub invariant_of-self : goal.invariant_of-self
+invariant_of-self c =
+    let m = c.args.self.now in
+    let f : ℕ = c.unwrap-frame.result in
+    let free : List ℕ = c.pop.new.self.items in
+    let split : m.free.items ≡ free ++ f ∷ [] = rw c.unwrap-frame.ensures at c.pop.ensures.items in
+    let table : IsPageTable m.frames.items (free ++ f ∷ []) = subst (IsPageTable m.frames.items) split m.table in
+    let below : c.args.addr / 4096 < length m.frames.items = omega (arith, m.table.size) in
+    let none : frame_at m.frames.items (c.args.addr / 4096) ≡ None = unmapped_page m c.args.addr c.requires.unmapped in
+    let count = count_given m.frames.items free (c.args.addr / 4096) f table below none in
+    let inside = fits_frame m.frames.items free (c.args.addr / 4096) f table below none in
+    let long : length m.free.items ≡ length (free ++ f ∷ []) = ap length split in
+    let kept = store_zeroed m c.zero.new.self (4096 * f) 4096 c.zero.ensures (omega (arith, m.frames_fit, inside, long)) in
+    record {
+      bytes_fit = kept.0;
+      in_limit = omega (arith, kept.1, m.in_limit);
+      frames_fit = omega (arith, kept.1, m.frames_fit, count, long);
+      table = table_given m.frames.items free (c.args.addr / 4096) f table below none;
+      recorded = m.recorded;
+    }
+
+pub returns-clause-mapping : goal.returns-clause-mapping
+unfolding place
+returns-clause-mapping c a =
+    let m = c.args.self.now in
+    mapped_more m.frames.items c.args.addr c.unwrap-frame.result c.requires.aligned (omega (arith, m.table.size)) (unmapped_page m c.args.addr c.requires.unmapped) a
+
+pub returns-clause-stays : goal.returns-clause-stays
+unfolding place
+returns-clause-stays c a was is =
+    let m = c.args.self.now in
+    stays_more m.frames.items c.args.addr c.unwrap-frame.result c.requires.aligned (omega (arith, m.table.size)) (unmapped_page m c.args.addr c.requires.unmapped) a was
+
+pub returns-clause-bytes : goal.returns-clause-bytes
+unfolding byte_at place
+returns-clause-bytes c a =
+    let m = c.args.self.now in
+    let f : ℕ = c.unwrap-frame.result in
+    let free : List ℕ = c.pop.new.self.items in
+    let split : m.free.items ≡ free ++ f ∷ [] = rw c.unwrap-frame.ensures at c.pop.ensures.items in
+    let table : IsPageTable m.frames.items (free ++ f ∷ []) = subst (IsPageTable m.frames.items) split m.table in
+    let below : c.args.addr / 4096 < length m.frames.items = omega (arith, m.table.size) in
+    let none : frame_at m.frames.items (c.args.addr / 4096) ≡ None = unmapped_page m c.args.addr c.requires.unmapped in
+    let inside = fits_frame m.frames.items free (c.args.addr / 4096) f table below none in
+    let long : length m.free.items ≡ length (free ++ f ∷ []) = ap length split in
+    rw c.zero.ensures
+    (bytes_more m.frames.items c.args.addr f c.requires.aligned below none m.store 4096 refl
+    (unused_frame m.frames.items free (c.args.addr / 4096) f table below none) (omega (arith, m.frames_fit, inside, long)) a)
+
+pub returns-clause-pages : goal.returns-clause-pages
+unfolding free_pages
+returns-clause-pages c =
+    let split : c.args.self.now.free.items ≡ c.pop.new.self.items ++ c.unwrap-frame.result ∷ [] = rw c.unwrap-frame.ensures at c.pop.ensures.items in
+    omega (arith, ap length split, length-last c.pop.new.self.items c.unwrap-frame.result)
+
+pub returns-clause-regions : goal.returns-clause-regions
+unfolding regions
+returns-clause-regions c = refl

@@ -1,0 +1,47 @@
+-- The lines that hand in an image and boot one: HEX and BOOT.
+use Rattle.std.specs.Prelude.{ℕ, Bool, false, List, length, codes, Option, Some, None, Result, Ok, Err}
+use Rattle.image_loader.specs.Entries.{bytes_of, refusal_for, with_entry}
+use Rattle.image_loader.specs.declared.error.ImageError.{ImageError}
+use Rattle.image_loader.specs.ErrorNames.{image_error_name}
+use Rattle.swi_dispatch.specs.Situation.{Situation}
+use Rattle.swi_dispatch.specs.Boot.{booted}
+use Rattle.swi_dispatch.specs.declared.boot_error.BootError.{BootError}
+use Rattle.swi_dispatch.specs.declared.boot_error.BootError.TheVariants as boot
+use Rattle.command_shell.specs.Answers.{hex_text, hex_syntax_text, hex_refused_text, boot_text, refused_text}
+use Rattle.command_shell.specs.Blocks.{block_bytes}
+use Rattle.command_shell.specs.State.{ScriptState, Answered, answer}
+
+-- HEX: the name and the table are tested first, then the lines, then the size.
+abbrev pub hex_added : ScriptState → List ℕ → List ℕ → Option ImageError → Answered
+hex_added s name bytes (Some error) = answer s (hex_refused_text name (image_error_name error))
+hex_added s name bytes None = answer (record s { images = with_entry s.images name bytes }) (hex_text name (length bytes))
+
+abbrev pub hex_sized : ScriptState → List ℕ → List ℕ → Answered
+hex_sized s name bytes = hex_added s name bytes (refusal_for s.images name (length bytes))
+
+abbrev pub hex_block : ScriptState → List ℕ → Result (List ℕ) ℕ → Answered
+hex_block s name (Err line) = answer s (hex_syntax_text name line)
+hex_block s name (Ok bytes) = hex_sized s name bytes
+
+abbrev pub hex_opened : ScriptState → List ℕ → List (List ℕ) → Option ImageError → Answered
+hex_opened s name block (Some error) = answer s (hex_refused_text name (image_error_name error))
+hex_opened s name block None = hex_block s name (block_bytes 0 block)
+
+unfoldable pub hex_told : ScriptState → List ℕ → List (List ℕ) → Answered
+hex_told s name block = hex_opened s name block (refusal_for s.images name 0)
+
+-- BOOT: the image must be there, the machine as it was made, and the image no longer than the application space, in this order.
+abbrev pub boot_refusal_name : BootError → List ℕ
+boot_refusal_name boot.Booted = codes "Booted"
+boot_refusal_name boot.TooLarge = codes "TooLarge"
+
+abbrev pub boot_done : ScriptState → List ℕ → Result Situation BootError → Answered
+boot_done s name (Ok machine) = answer (record s { machine = machine; is_fresh = false }) (boot_text name)
+boot_done s name (Err error) = answer s (refused_text (boot_refusal_name error))
+
+abbrev pub boot_found : ScriptState → List ℕ → Option (List ℕ) → Answered
+boot_found s name None = answer s (refused_text (codes "NoImage"))
+boot_found s name (Some program) = boot_done s name (booted s.sizes s.is_fresh s.machine program)
+
+unfoldable pub boot_told : ScriptState → List ℕ → Answered
+boot_told s name = boot_found s name (bytes_of s.images name)

@@ -1,0 +1,77 @@
+//! The lines that look at the machine and change nothing: REGS, MEM, CODE and HEAP.
+
+ghost use Rattle.std.specs.Prelude.{◌≡◌, true, List, OnOk, OnErr};
+
+use crate::answers::tell_refused;
+use crate::operands::WordAddress;
+use crate::session::Session;
+use debugger::{show_blocks, show_code, show_memory, show_regs};
+use profile::{Sink, WriteFault};
+
+impl Session {
+    ghost use Rattle.image_loader.specs.Entries.{Entry};
+    ghost use Rattle.command_shell.specs.Session.{script_state};
+    ghost use Rattle.command_shell.specs.State.{IsAnswered};
+    ghost use Rattle.command_shell.specs.Views.{regs_told, mem_told, code_told, heap_told};
+
+    /// Shows the registers of the present mode and the status.
+    #[tactic(auto, unfolding(crate::specs::Session::script_state))]
+    pub(crate) fn regs<W: Sink>(&self, sink: &mut W) -> Result<(), WriteFault>
+        ensures told { (images : List Entry) → OnOk result (IsAnswered (W.contents sink.old) (W.contents sink.new)
+            (script_state self.now images)
+            (regs_told (script_state self.now images))) }
+        ensures flag { OnErr result (W.has_failed sink.new ≡ true) }
+        ensures same_flag { OnOk result (W.has_failed sink.new ≡ W.has_failed sink.old) }
+    {
+        show_regs(&self.machine, sink)
+    }
+
+    /// Shows so many bytes of memory.
+    #[tactic(auto, unfolding(crate::specs::Session::script_state))]
+    pub(crate) fn mem<W: Sink>(
+        &self,
+        sink: &mut W,
+        address: u32,
+        count: u32,
+    ) -> Result<(), WriteFault>
+        ensures told { (images : List Entry) → OnOk result (IsAnswered (W.contents sink.old) (W.contents sink.new)
+            (script_state self.now images)
+            (mem_told (script_state self.now images) address count)) }
+        ensures flag { OnErr result (W.has_failed sink.new ≡ true) }
+        ensures same_flag { OnOk result (W.has_failed sink.new ≡ W.has_failed sink.old) }
+    {
+        show_memory(&self.machine, address, count, sink)
+    }
+
+    /// Shows so many words of memory as instructions.
+    #[tactic(auto, unfolding(crate::specs::Session::script_state))]
+    pub(crate) fn code<W: Sink>(
+        &self,
+        sink: &mut W,
+        address: WordAddress,
+        count: u32,
+    ) -> Result<(), WriteFault>
+        ensures told { (images : List Entry) → OnOk result (IsAnswered (W.contents sink.old) (W.contents sink.new)
+            (script_state self.now images)
+            (code_told (script_state self.now images) address count)) }
+        ensures flag { OnErr result (W.has_failed sink.new ≡ true) }
+        ensures same_flag { OnOk result (W.has_failed sink.new ≡ W.has_failed sink.old) }
+    {
+        show_code(&self.machine, address.address(), count, sink)
+    }
+
+    /// Shows the heap that starts at an address, if one does.
+    #[tactic(auto, using(crate::proofs::ViewLemmas::heap_steps), unfolding(crate::specs::Session::script_state))]
+    pub(crate) fn heap<W: Sink>(&self, sink: &mut W, address: u32) -> Result<(), WriteFault>
+        ensures told { (images : List Entry) → OnOk result (IsAnswered (W.contents sink.old) (W.contents sink.new)
+            (script_state self.now images)
+            (heap_told (script_state self.now images) address)) }
+        ensures flag { OnErr result (W.has_failed sink.new ≡ true) }
+        ensures same_flag { OnOk result (W.has_failed sink.new ≡ W.has_failed sink.old) }
+    {
+        if show_blocks(&self.machine, address, sink)? {
+            return Ok(());
+        }
+        tell_refused(sink, b"NoHeap")
+    }
+}

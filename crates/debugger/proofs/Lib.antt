@@ -1,0 +1,3 @@
+pub mod CodeLines
+pub mod HeapLemmas
+pub mod MemoryLemmas

@@ -1,0 +1,44 @@
+-- How the bytes and the lines of memory go on.
+use Rattle.std.proofs.Common.{◌≡◌, ℕ, zero, suc, ◌+◌, ◌-◌, ◌/◌, ◌≤◌, ◌<◌, List, [], ◌++◌, sym, ap, ◌∙◌, arith, refl}
+use Rattle.std.specs.Prelude.{min}
+use Rattle.profile.proofs.OutputLemmas.{Completes-start, Completes-more, Completes-same, Appends-from_completes}
+use Rattle.address_map.specs.Bytes.{Bytes}
+use Rattle.debugger.specs.Memory.{further, byte_text, bytes_text, line_text, lines_text, memory_text}
+
+pub no_bytes : (b : Bytes) (at left : ℕ) → left ≡ 0 → bytes_text b at left ≡ []
+unfolding bytes_text
+no_bytes b at left e = rw e refl
+
+one_byte : (b : Bytes) (at more : ℕ) → bytes_text b at (suc more) ≡ byte_text b at ++ bytes_text b (further at 1) more
+unfolding bytes_text
+one_byte b at more = refl
+
+pub next_byte : (b : Bytes) (at next left : ℕ) → 0 < left → next ≡ further at 1
+    → bytes_text b at left ≡ byte_text b at ++ bytes_text b next (left - 1)
+next_byte b at next left some e =
+    let split : left ≡ suc (left - 1) = omega arith in
+    rw e (ap (bytes_text b at) split ∙ one_byte b at (left - 1))
+
+pub all_lines : (b : Bytes) (at count : ℕ) → memory_text b at count ≡ lines_text ((count + 15) / 16) b at count
+unfolding memory_text
+all_lines b at count = refl
+
+pub no_lines : (b : Bytes) (at left : ℕ) → left ≡ 0 → memory_text b at left ≡ []
+unfolding memory_text lines_text
+no_lines b at left e = rw e refl
+
+one_line : (b : Bytes) (at left more : ℕ)
+    → lines_text (suc more) b at left ≡ line_text b at (min left 16) ++ lines_text more b (further at 16) (left - 16)
+unfolding lines_text
+one_line b at left more = refl
+
+pub next_line : (b : Bytes) (at next left : ℕ) → 0 < left → next ≡ further at 16
+    → memory_text b at left ≡ line_text b at (min left 16) ++ memory_text b next (left - 16)
+unfolding memory_text
+next_line b at next left some e =
+    let split : (left + 15) / 16 ≡ suc ((left - 16 + 15) / 16) = omega arith in
+    rw e (ap (λ (n : ℕ). lines_text n b at left) split ∙ one_line b at left ((left - 16 + 15) / 16))
+
+pub ruleset byte_steps = (Completes-start, Completes-more, Completes-same, Appends-from_completes, no_bytes, next_byte)
+
+pub ruleset line_steps = (Completes-start, Completes-more, Completes-same, Appends-from_completes, no_lines, next_line)

@@ -1,0 +1,77 @@
+use Rattle.std.proofs.Common.{◌≡◌, ◌+◌, ℕ, List, [], ◌++◌, Option, Some, None, sym, ap, ◌∙◌, arith, refl, subst}
+use Rattle.std.specs.Prelude.{is_some, unwrap_or}
+use Rattle.std.specs.Io.KnownBytes.{Appends}
+use Rattle.profile.proofs.OutputLemmas.{Appends-join, Appends-nothing}
+use Rattle.address_map.specs.Items.{size_of}
+use Rattle.os_heap.specs.Store.{Store, store_of, items_of}
+use Rattle.swi_dispatch.specs.Parts.{state_of}
+use Rattle.debugger.specs.Heap.{limits_text, items_text, blocks_text}
+use Rattle.debugger.proofs.HeapLemmas.{IsShown, shown, not_shown, low_heap}
+use Rattle.debugger.proofs.heap.show_blocks.Goals as goal
+
+pub returns-in_default-clause-found : goal.returns-in_default-clause-found
+returns-in_default-clause-found g c =
+    let none : items_of (store_of c.memory-memory.result.now) c.args.heap ≡ None = sym c.blocks-2.ensures ∙ c.in_default.is in
+    sym (ap (λ (s : Store). is_some (blocks_text s c.args.heap)) (sym c.memory-memory.ensures.store)
+    ∙ ap is_some (not_shown (store_of c.memory-memory.result.now) c.args.heap none))
+
+pub returns-in_default-clause-writes : goal.returns-in_default-clause-writes
+returns-in_default-clause-writes g c =
+    let a = g.W.Sink.contents c.args.sink.now in
+    let none : items_of (store_of c.memory-memory.result.now) c.args.heap ≡ None = sym c.blocks-2.ensures ∙ c.in_default.is in
+    let text : blocks_text (state_of c.args.machine.now).store c.args.heap ≡ None =
+    ap (λ (s : Store). blocks_text s c.args.heap) (sym c.memory-memory.ensures.store)
+    ∙ not_shown (store_of c.memory-memory.result.now) c.args.heap none in
+    record {
+      text = subst (λ (o : Option (List ℕ)). Appends a a (unwrap_or o [])) (sym text) (Appends-nothing a);
+      flag = tt;
+      same_flag = refl;
+    }
+
+pub show_limits-requires-clause-there : goal.show_limits-requires-clause-there
+show_limits-requires-clause-there g c =
+    let m = c.memory-memory.result.now in
+    let is : IsShown m c.args.heap c.in-Some.blocks =
+    shown m c.args.heap c.in-Some.blocks c.memory-memory.ensures.sound (sym c.blocks-2.ensures ∙ c.in-Some.is) in
+    ap is_some is.found
+
+pub overflow_add-heap : goal.overflow_add-heap
+overflow_add-heap g c =
+    let m = c.memory-memory.result.now in
+    let is : IsShown m c.args.heap c.in-Some.blocks =
+    shown m c.args.heap c.in-Some.blocks c.memory-memory.ensures.sound (sym c.blocks-2.ensures ∙ c.in-Some.is) in
+    omega (arith, is.below)
+
+pub show_items-requires : goal.show_items-requires
+show_items-requires g c =
+    let m = c.memory-memory.result.now in
+    let is : IsShown m c.args.heap c.in-Some.blocks =
+    shown m c.args.heap c.in-Some.blocks c.memory-memory.ensures.sound (sym c.blocks-2.ensures ∙ c.in-Some.is) in
+    is.below
+
+pub returns-clause-found : goal.returns-clause-found
+returns-clause-found g c =
+    let m = c.memory-memory.result.now in
+    let is : IsShown m c.args.heap c.in-Some.blocks =
+    shown m c.args.heap c.in-Some.blocks c.memory-memory.ensures.sound (sym c.blocks-2.ensures ∙ c.in-Some.is) in
+    sym (ap (λ (s : Store). is_some (blocks_text s c.args.heap)) (sym c.memory-memory.ensures.store) ∙ ap is_some is.text)
+
+pub returns-clause-writes : goal.returns-clause-writes
+returns-clause-writes g c =
+    let m = c.memory-memory.result.now in
+    let heap = c.args.heap in
+    let items = c.in-Some.blocks in
+    let from = g.W.Sink.contents c.args.sink.now in
+    let between = g.W.Sink.contents c.show_limits.new.sink in
+    let to = g.W.Sink.contents c.show_items.new.sink in
+    let is : IsShown m heap items = shown m heap items c.memory-memory.ensures.sound (sym c.blocks-2.ensures ∙ c.in-Some.is) in
+    let text : blocks_text (state_of c.args.machine.now).store heap
+    ≡ Some (limits_text heap (16 + size_of is.part.items) is.part.end ++ items_text (heap + 16) items) =
+    ap (λ (s : Store). blocks_text s heap) (sym c.memory-memory.ensures.store) ∙ is.text in
+    record {
+      text = subst (λ (o : Option (List ℕ)). Appends from to (unwrap_or o [])) (sym text)
+          (Appends-join from between to (limits_text heap (16 + size_of is.part.items) is.part.end) (items_text (heap + 16) items)
+          (rw is.found at c.in_ok-show_limits.ensures.text) c.in_ok-show_items.ensures.text);
+      flag = tt;
+      same_flag = c.in_ok-show_items.ensures.same_flag ∙ c.in_ok-show_limits.ensures.same_flag;
+    }

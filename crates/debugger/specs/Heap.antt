@@ -1,0 +1,38 @@
+-- A heap as text: a line with the address of its descriptor, and its base and its end in bytes from there; then a line for each item by address,
+-- live or free, with the item's address and its total (RISC OS 3 Programmer's Reference Manual, "OS_Heap", the internal format; the text is
+-- this project's own).
+use Rattle.std.specs.Prelude.{ℕ, ◌+◌, ◌++◌, List, [], ◌∷◌, codes, Option}
+use Rattle.std.specs.Option.{option_map}
+use Rattle.std.specs.Fmt.{decimal}
+use Rattle.profile.specs.Digits.{hex_word}
+use Rattle.address_map.specs.declared.item.Item.{Item}
+use Rattle.address_map.specs.declared.item.Item.TheVariants.{Live, Free}
+use Rattle.address_map.specs.Items.{total_of, size_of}
+use Rattle.os_heap.specs.Heap.{Part}
+use Rattle.os_heap.specs.Store.{Store, find_part}
+
+-- `heap 00009000 base 40 end 256`
+unfoldable pub limits_text : ℕ → ℕ → ℕ → List ℕ
+limits_text start base end =
+    codes "heap " ++ (hex_word start ++ (codes " base " ++ (decimal base ++ (codes " end " ++ (decimal end ++ codes "\n")))))
+
+-- `live` or `free`
+abbrev pub use_text : Item → List ℕ
+use_text (Live total) = codes "live "
+use_text (Free total) = codes "free "
+
+-- `live 00009010 24`
+unfoldable pub item_text : ℕ → Item → List ℕ
+item_text address item = use_text item ++ (hex_word address ++ (codes " " ++ (decimal (total_of item) ++ codes "\n")))
+
+-- items, the first of them at the address
+unfoldable pub items_text : ℕ → List Item → List ℕ
+items_text address [] = []
+items_text address (item ∷ items) = item_text address item ++ items_text (address + total_of item) items
+
+unfoldable pub heap_text : Part → List ℕ
+heap_text h = limits_text h.start (16 + size_of h.items) h.end ++ items_text (h.start + 16) h.items
+
+-- the heap that starts at an address, if one does
+unfoldable pub blocks_text : Store → ℕ → Option (List ℕ)
+blocks_text s heap = option_map heap_text (find_part heap s.heaps)

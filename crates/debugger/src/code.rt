@@ -1,0 +1,68 @@
+ghost use Rattle.std.specs.Prelude.{◌≡◌, true, OnOk, OnErr};
+ghost use Rattle.std.specs.Io.KnownBytes.{Appends};
+ghost use Rattle.address_map.specs.Memory.{bytes_of};
+ghost use Rattle.swi_dispatch.specs.Parts.{state_of};
+ghost use Rattle.debugger.specs.Code.{address_text, code_line, code_text, word_text};
+
+use address_map::AddressMap;
+use disassembler::disassemble;
+use profile::{HexText, Sink, WriteFault, push_all, push_parts};
+use swi_dispatch::Machine;
+
+/// Writes a line for each of `count` words from an address on: the word and its instruction, or
+/// that it isn't mapped. Addresses count modulo 2^32.
+pub fn show_code<W: Sink>(
+    machine: &Machine,
+    address: u32,
+    count: u32,
+    sink: &mut W,
+) -> Result<(), WriteFault>
+    ensures text { OnOk result (Appends (W.contents sink.old) (W.contents sink.new) (code_text (state_of machine.now).store.bytes address count)) }
+    ensures flag { OnErr result (W.has_failed sink.new ≡ true) }
+    ensures same_flag { OnOk result (W.has_failed sink.new ≡ W.has_failed sink.old) }
+{
+    show_words(machine.memory(), address, count, sink)
+}
+
+#[tactic(auto, using(crate::proofs::CodeLines::code_steps))]
+fn show_words<W: Sink>(
+    memory: &AddressMap,
+    address: u32,
+    count: u32,
+    sink: &mut W,
+) -> Result<(), WriteFault>
+    ensures text { OnOk result (Appends (W.contents sink.old) (W.contents sink.new) (code_text (bytes_of memory.now) address count)) }
+    ensures flag { OnErr result (W.has_failed sink.new ≡ true) }
+    ensures same_flag { OnOk result (W.has_failed sink.new ≡ W.has_failed sink.old) }
+{
+    let mut at = address;
+    for _words in 0..count {
+        show_line(memory, at, sink)?;
+        at = at.wrapping_add(4);
+    }
+    Ok(())
+}
+
+#[tactic(auto, using(disassembler::proofs::Pieces::pieces), unfolding(crate::specs::Code::code_line))]
+fn show_line<W: Sink>(memory: &AddressMap, address: u32, sink: &mut W) -> Result<(), WriteFault>
+    ensures text { OnOk result (Appends (W.contents sink.old) (W.contents sink.new) (code_line (bytes_of memory.now) address)) }
+    ensures flag { OnErr result (W.has_failed sink.new ≡ true) }
+    ensures same_flag { OnOk result (W.has_failed sink.new ≡ W.has_failed sink.old) }
+{
+    push_parts(sink, &[HexText::word(address).as_slice(), b" ".as_slice()])?;
+    match memory.load_word(address) {
+        Ok(word) => show_word(word, address, sink),
+        Err(_) => push_all(sink, b"-------- unmapped\n"),
+    }
+}
+
+#[tactic(auto, using(disassembler::proofs::Pieces::pieces))]
+fn show_word<W: Sink>(word: u32, address: u32, sink: &mut W) -> Result<(), WriteFault>
+    ensures text { OnOk result (Appends (W.contents sink.old) (W.contents sink.new) (word_text address word)) }
+    ensures flag { OnErr result (W.has_failed sink.new ≡ true) }
+    ensures same_flag { OnOk result (W.has_failed sink.new ≡ W.has_failed sink.old) }
+{
+    push_parts(sink, &[HexText::word(word).as_slice(), b" ".as_slice()])?;
+    disassemble(word, address, sink)?;
+    push_all(sink, b"\n")
+}

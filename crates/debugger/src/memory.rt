@@ -1,0 +1,96 @@
+ghost use Rattle.std.specs.Prelude.{◌≡◌, ◌<◌};
+ghost use Rattle.address_map.specs.Bytes.{byte_loaded};
+ghost use Rattle.address_map.specs.Memory.{bytes_of};
+ghost use Rattle.profile.specs.Digits.{hex_digit};
+ghost use Rattle.profile.specs.Output.{Writes};
+ghost use Rattle.swi_dispatch.specs.Parts.{state_of};
+ghost use Rattle.debugger.specs.Memory.{loaded_text, byte_text, bytes_text, line_text, memory_text};
+
+use address_map::AddressMap;
+use profile::{HexText, Sink, WriteFault, push_all, push_parts};
+use swi_dispatch::Machine;
+
+/// How many bytes stand on a line.
+const LINE_BYTES: u32 = 16;
+
+/// Writes `count` bytes of memory from an address on, 16 on a line, each line with the address of
+/// its first byte: `00009000: 48 65 61 70`. A byte where no memory is mapped is `--`. Addresses
+/// count modulo 2^32.
+#[tactic(auto, using(crate::proofs::MemoryLemmas::line_steps))]
+pub fn show_memory<W: Sink>(
+    machine: &Machine,
+    address: u32,
+    count: u32,
+    sink: &mut W,
+) -> Result<(), WriteFault>
+    ensures { Writes W.contents W.has_failed sink.old sink.new result
+        (memory_text (state_of machine.now).store.bytes address count) }
+{
+    let map = machine.memory();
+    let mut at = address;
+    let mut left = count;
+    while left > 0 {
+        show_line(map, at, left.min(LINE_BYTES), sink)?;
+        at = at.wrapping_add(LINE_BYTES);
+        left = left.saturating_sub(LINE_BYTES);
+    }
+    Ok(())
+}
+
+#[tactic(auto, unfolding(crate::specs::Memory::line_text))]
+fn show_line<W: Sink>(
+    map: &AddressMap,
+    address: u32,
+    count: u32,
+    sink: &mut W,
+) -> Result<(), WriteFault>
+    ensures { Writes W.contents W.has_failed sink.old sink.new result (line_text (bytes_of map.now) address count) }
+{
+    push_all(sink, HexText::word(address).as_slice())?;
+    push_all(sink, b":")?;
+    show_bytes(map, address, count, sink)?;
+    push_all(sink, b"\n")
+}
+
+#[tactic(auto, using(crate::proofs::MemoryLemmas::byte_steps))]
+fn show_bytes<W: Sink>(
+    map: &AddressMap,
+    address: u32,
+    count: u32,
+    sink: &mut W,
+) -> Result<(), WriteFault>
+    ensures { Writes W.contents W.has_failed sink.old sink.new result (bytes_text (bytes_of map.now) address count) }
+{
+    let mut at = address;
+    let mut left = count;
+    while left > 0 {
+        show_byte(map, at, sink)?;
+        at = at.wrapping_add(1);
+        left -= 1;
+    }
+    Ok(())
+}
+
+#[tactic(auto, unfolding(crate::specs::Memory::byte_text))]
+fn show_byte<W: Sink>(map: &AddressMap, address: u32, sink: &mut W) -> Result<(), WriteFault>
+    ensures { Writes W.contents W.has_failed sink.old sink.new result (byte_text (bytes_of map.now) address) }
+{
+    push_parts(sink, &[b" ".as_slice(), digits_at(map, address).as_slice()])
+}
+
+// The two digits of the byte at an address.
+fn digits_at(map: &AddressMap, address: u32) -> [u8; 2]
+    ensures { result ≡ loaded_text (byte_loaded (bytes_of map.now) address) }
+{
+    match map.load_byte(address) {
+        Ok(byte) => [digit(byte / 16), digit(byte % 16)],
+        Err(_) => *b"--",
+    }
+}
+
+fn digit(value: u8) -> u8
+    requires { value < 16 }
+    ensures { result ≡ hex_digit value }
+{
+    if value < 10 { value + b'0' } else { value + 55 }
+}

@@ -1,0 +1,13 @@
+//! The text of instructions: each word has one at its address.
+#![tactic(auto)]
+
+pub mod names;
+pub mod numbers;
+pub mod operands;
+pub mod printing;
+pub mod transfers;
+
+pub use printing::disassemble;
+
+#[cfg(test)]
+mod tests;

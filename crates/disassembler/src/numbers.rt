@@ -1,0 +1,68 @@
+//! Numbers and immediate operands.
+
+ghost use Rattle.std.specs.Prelude.{◌≡◌, ◌≤◌, ◌<◌, true, OnOk, OnErr};
+ghost use Rattle.std.specs.Io.KnownBytes.{Appends};
+ghost use Rattle.disassembler.specs.Numbers.{gives, immediate_text, is_field, least_rotation};
+
+use itoa::Buffer;
+use profile::shift::rotate_right;
+use profile::{HexText, Sink, WriteFault, push_parts};
+
+/// Writes `#v` where the rotation field is the least that gives v, else `#b,r`.
+#[tactic(auto, unfolding(crate::specs::Numbers::immediate_text))]
+pub(crate) fn push_immediate<W: Sink>(
+    rotation: u32,
+    byte: u8,
+    sink: &mut W,
+) -> Result<(), WriteFault>
+    requires { rotation < 16 }
+    ensures text { OnOk result (Appends (W.contents sink.old) (W.contents sink.new) (immediate_text rotation byte)) }
+    ensures flag { OnErr result (W.has_failed sink.new ≡ true) }
+    ensures same_flag { OnOk result (W.has_failed sink.new ≡ W.has_failed sink.old) }
+{
+    let value = rotate_right(u32::from(byte), 2 * rotation);
+    if is_field(least_rotation(value), rotation) {
+        push_parts(sink, &[b"#&".as_slice(), HexText::number(value).as_slice()])
+    } else {
+        let mut turns = Buffer::new();
+        push_parts(
+            sink,
+            &[
+                b"#&".as_slice(),
+                HexText::number(u32::from(byte)).as_slice(),
+                b",".as_slice(),
+                turns.format(2 * rotation).as_bytes(),
+            ],
+        )
+    }
+}
+
+/// The least rotation field under which some byte gives this value.
+#[tactic(auto, using(crate::proofs::Rotations::search_steps))]
+pub(crate) fn least_rotation(value: u32) -> Option<u32>
+    ensures { result ≡ least_rotation value }
+{
+    for rotation in 0..16 {
+        if gives(value, rotation) {
+            return Some(rotation);
+        }
+    }
+    None
+}
+
+fn is_field(least: Option<u32>, rotation: u32) -> bool
+    ensures { result ≡ is_field least rotation }
+{
+    match least {
+        Some(least) => least == rotation,
+        None => false,
+    }
+}
+
+// Whether a byte under this rotation field gives the value.
+fn gives(value: u32, rotation: u32) -> bool
+    requires { rotation < 16 }
+    ensures { result ≡ gives value rotation }
+{
+    rotate_right(value, 32 - 2 * rotation) <= 255
+}

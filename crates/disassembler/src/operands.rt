@@ -1,0 +1,97 @@
+//! The operands of data processing.
+
+ghost use Rattle.std.specs.Prelude.{◌≡◌, ◌≤◌, true, OnOk, OnErr};
+ghost use Rattle.std.specs.Io.KnownBytes.{Appends};
+ghost use Rattle.disassembler.specs.Operands.{amount_text, by_register_text, operand_text, shifted_text, shifting_text};
+
+use crate::names::{RegisterName, shift_text};
+use crate::numbers::push_immediate;
+use arm_decode::{Operand, Register, Shift, ShiftedRegister};
+use itoa::Buffer;
+use profile::{Sink, WriteFault, push_all, push_parts};
+
+/// Writes the second operand of data processing.
+#[tactic(auto, unfolding(crate::specs::Operands::operand_text))]
+pub(crate) fn push_operand<W: Sink>(operand: Operand, sink: &mut W) -> Result<(), WriteFault>
+    ensures text { OnOk result (Appends (W.contents sink.old) (W.contents sink.new) (operand_text operand)) }
+    ensures flag { OnErr result (W.has_failed sink.new ≡ true) }
+    ensures same_flag { OnOk result (W.has_failed sink.new ≡ W.has_failed sink.old) }
+{
+    match operand {
+        Operand::Immediate { rotation, byte } => push_immediate(rotation.number(), byte, sink),
+        Operand::Shifted(shifted) => push_shifted(shifted, sink),
+        Operand::ShiftedByRegister { rm, shift, rs } => push_by_register(rm, shift, rs, sink),
+    }
+}
+
+/// Writes a register with its shift by a number.
+#[tactic(auto, using(crate::proofs::Pieces::pieces), unfolding(crate::specs::Operands::shifted_text))]
+pub(crate) fn push_shifted<W: Sink>(
+    shifted: ShiftedRegister,
+    sink: &mut W,
+) -> Result<(), WriteFault>
+    ensures text { OnOk result (Appends (W.contents sink.old) (W.contents sink.new) (shifted_text shifted)) }
+    ensures flag { OnErr result (W.has_failed sink.new ≡ true) }
+    ensures same_flag { OnOk result (W.has_failed sink.new ≡ W.has_failed sink.old) }
+{
+    let ShiftedRegister { rm, shift, amount } = shifted;
+    push_all(sink, RegisterName::of(rm).as_slice())?;
+    push_shifting(shift, amount.number(), sink)
+}
+
+// What follows a register that is shifted by the number in the instruction.
+#[tactic(auto, using(crate::proofs::Pieces::pieces), unfolding(crate::specs::Operands::shifting_text))]
+fn push_shifting<W: Sink>(shift: Shift, amount: u32, sink: &mut W) -> Result<(), WriteFault>
+    ensures text { OnOk result (Appends (W.contents sink.old) (W.contents sink.new) (shifting_text shift amount)) }
+    ensures flag { OnErr result (W.has_failed sink.new ≡ true) }
+    ensures same_flag { OnOk result (W.has_failed sink.new ≡ W.has_failed sink.old) }
+{
+    match shift {
+        Shift::LogicalLeft if amount == 0 => Ok(()),
+        Shift::RotateRight if amount == 0 => push_all(sink, b",RRX"),
+        Shift::LogicalRight | Shift::ArithmeticRight if amount == 0 => push_amount(shift, 32, sink),
+        _ => push_amount(shift, amount, sink),
+    }
+}
+
+// `,LSL #n`
+fn push_amount<W: Sink>(shift: Shift, amount: u32, sink: &mut W) -> Result<(), WriteFault>
+    ensures text { OnOk result (Appends (W.contents sink.old) (W.contents sink.new) (amount_text shift amount)) }
+    ensures flag { OnErr result (W.has_failed sink.new ≡ true) }
+    ensures same_flag { OnOk result (W.has_failed sink.new ≡ W.has_failed sink.old) }
+{
+    let mut digits = Buffer::new();
+    push_parts(
+        sink,
+        &[
+            b",".as_slice(),
+            shift_text(shift),
+            b" #".as_slice(),
+            digits.format(amount).as_bytes(),
+        ],
+    )
+}
+
+// `Rm,LSL Rs`
+#[tactic(auto, unfolding(crate::specs::Operands::by_register_text))]
+fn push_by_register<W: Sink>(
+    rm: Register,
+    shift: Shift,
+    rs: Register,
+    sink: &mut W,
+) -> Result<(), WriteFault>
+    ensures text { OnOk result (Appends (W.contents sink.old) (W.contents sink.new) (by_register_text rm shift rs)) }
+    ensures flag { OnErr result (W.has_failed sink.new ≡ true) }
+    ensures same_flag { OnOk result (W.has_failed sink.new ≡ W.has_failed sink.old) }
+{
+    push_parts(
+        sink,
+        &[
+            RegisterName::of(rm).as_slice(),
+            b",".as_slice(),
+            shift_text(shift),
+            b" ".as_slice(),
+            RegisterName::of(rs).as_slice(),
+        ],
+    )
+}

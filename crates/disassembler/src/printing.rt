@@ -1,0 +1,240 @@
+//! The one text of each word.
+
+ghost use Rattle.std.specs.Prelude.{◌≡◌, ◌<◌, ◌^◌, true, OnOk, OnErr};
+ghost use Rattle.std.specs.Io.KnownBytes.{Appends};
+ghost use Rattle.disassembler.specs.Printing.{action_text, branch_target, branch_text, data_text, flags_text, interrupt_text, multiply_head, multiply_operands, multiply_text, operate_head, operate_text, print, registers_text};
+
+use crate::names::{RegisterName, choose_text, condition_text, operation_text, text_if};
+use crate::operands::push_operand;
+use crate::transfers::{push_block, push_transfer};
+use arm_decode::{Action, Condition, Multiply, Operate, Operation, decode};
+use profile::{HexText, Sink, WriteFault, push_parts};
+
+/// Writes the text of a word at its address: its instruction, or where it is none `DCD &` and
+/// eight digits.
+#[tactic(auto, unfolding(crate::specs::Printing::print))]
+pub fn disassemble<W: Sink>(word: u32, address: u32, sink: &mut W) -> Result<(), WriteFault>
+    ensures text { OnOk result (Appends (W.contents sink.old) (W.contents sink.new) (print word address)) }
+    ensures flag { OnErr result (W.has_failed sink.new ≡ true) }
+    ensures same_flag { OnOk result (W.has_failed sink.new ≡ W.has_failed sink.old) }
+{
+    match decode(word) {
+        Ok(instr) => push_action(address, instr.condition(), instr.action(), sink),
+        Err(_) => push_data(word, sink),
+    }
+}
+
+#[tactic(auto, unfolding(crate::specs::Printing::data_text))]
+fn push_data<W: Sink>(word: u32, sink: &mut W) -> Result<(), WriteFault>
+    ensures text { OnOk result (Appends (W.contents sink.old) (W.contents sink.new) (data_text word)) }
+    ensures flag { OnErr result (W.has_failed sink.new ≡ true) }
+    ensures same_flag { OnOk result (W.has_failed sink.new ≡ W.has_failed sink.old) }
+{
+    push_parts(sink, &[b"DCD &".as_slice(), HexText::word(word).as_slice()])
+}
+
+fn push_action<W: Sink>(
+    address: u32,
+    condition: Condition,
+    action: Action,
+    sink: &mut W,
+) -> Result<(), WriteFault>
+    ensures text { OnOk result (Appends (W.contents sink.old) (W.contents sink.new) (action_text address condition action)) }
+    ensures flag { OnErr result (W.has_failed sink.new ≡ true) }
+    ensures same_flag { OnOk result (W.has_failed sink.new ≡ W.has_failed sink.old) }
+{
+    match action {
+        Action::Operate(operate) => push_operate(condition, &operate, sink),
+        Action::Multiply(multiply) => push_multiply(condition, &multiply, sink),
+        Action::Transfer(transfer) => push_transfer(condition, &transfer, sink),
+        Action::BlockTransfer(block) => push_block(condition, &block, sink),
+        Action::Branch { links, distance } => {
+            let target = branch_target(address, distance.number());
+            push_branch(condition, links, target, sink)
+        }
+        Action::SoftwareInterrupt(number) => push_interrupt(condition, number.number(), sink),
+    }
+}
+
+#[tactic(auto, using(crate::proofs::Pieces::pieces))]
+fn push_operate<W: Sink>(
+    condition: Condition,
+    operate: &Operate,
+    sink: &mut W,
+) -> Result<(), WriteFault>
+    ensures text { OnOk result (Appends (W.contents sink.old) (W.contents sink.new) (operate_text condition operate.now)) }
+    ensures flag { OnErr result (W.has_failed sink.new ≡ true) }
+    ensures same_flag { OnOk result (W.has_failed sink.new ≡ W.has_failed sink.old) }
+{
+    push_operate_head(condition, operate, sink)?;
+    push_registers(operate, sink)?;
+    push_operand(operate.operand, sink)
+}
+
+// `ADDcS `
+#[tactic(auto, unfolding(crate::specs::Printing::operate_head))]
+fn push_operate_head<W: Sink>(
+    condition: Condition,
+    operate: &Operate,
+    sink: &mut W,
+) -> Result<(), WriteFault>
+    ensures text { OnOk result (Appends (W.contents sink.old) (W.contents sink.new) (operate_head condition operate.now)) }
+    ensures flag { OnErr result (W.has_failed sink.new ≡ true) }
+    ensures same_flag { OnOk result (W.has_failed sink.new ≡ W.has_failed sink.old) }
+{
+    push_parts(
+        sink,
+        &[
+            operation_text(operate.operation),
+            condition_text(condition),
+            flags_text(operate),
+            b" ".as_slice(),
+        ],
+    )
+}
+
+#[tactic(auto, unfolding(crate::specs::Printing::flags_text))]
+fn flags_text(operate: &Operate) -> &'static [u8]
+    ensures { result.now ≡ flags_text operate.now }
+{
+    if operate.operation.is_test() {
+        text_if(operate.rd.is_pc(), b"P")
+    } else {
+        text_if(operate.sets_flags, b"S")
+    }
+}
+
+// `Rn,` of a test, `Rd,` of MOV and MVN, else `Rd,Rn,`
+#[tactic(auto, unfolding(crate::specs::Printing::registers_text))]
+fn push_registers<W: Sink>(operate: &Operate, sink: &mut W) -> Result<(), WriteFault>
+    ensures text { OnOk result (Appends (W.contents sink.old) (W.contents sink.new) (registers_text operate.now)) }
+    ensures flag { OnErr result (W.has_failed sink.new ≡ true) }
+    ensures same_flag { OnOk result (W.has_failed sink.new ≡ W.has_failed sink.old) }
+{
+    let rd = RegisterName::of(operate.rd);
+    let rn = RegisterName::of(operate.rn);
+    if operate.operation.is_test() {
+        push_parts(sink, &[rn.as_slice(), b",".as_slice()])
+    } else if operate.operation.is_move() {
+        push_parts(sink, &[rd.as_slice(), b",".as_slice()])
+    } else {
+        push_parts(
+            sink,
+            &[
+                rd.as_slice(),
+                b",".as_slice(),
+                rn.as_slice(),
+                b",".as_slice(),
+            ],
+        )
+    }
+}
+
+#[tactic(auto, using(crate::proofs::Pieces::pieces))]
+fn push_multiply<W: Sink>(
+    condition: Condition,
+    multiply: &Multiply,
+    sink: &mut W,
+) -> Result<(), WriteFault>
+    ensures text { OnOk result (Appends (W.contents sink.old) (W.contents sink.new) (multiply_text condition multiply.now)) }
+    ensures flag { OnErr result (W.has_failed sink.new ≡ true) }
+    ensures same_flag { OnOk result (W.has_failed sink.new ≡ W.has_failed sink.old) }
+{
+    push_multiply_head(condition, multiply, sink)?;
+    push_multiply_operands(multiply, sink)
+}
+
+// `MULcS ` or `MLAcS `
+#[tactic(auto, unfolding(crate::specs::Printing::multiply_head))]
+fn push_multiply_head<W: Sink>(
+    condition: Condition,
+    multiply: &Multiply,
+    sink: &mut W,
+) -> Result<(), WriteFault>
+    ensures text { OnOk result (Appends (W.contents sink.old) (W.contents sink.new) (multiply_head condition multiply.now)) }
+    ensures flag { OnErr result (W.has_failed sink.new ≡ true) }
+    ensures same_flag { OnOk result (W.has_failed sink.new ≡ W.has_failed sink.old) }
+{
+    push_parts(
+        sink,
+        &[
+            choose_text(multiply.accumulates, b"MLA", b"MUL"),
+            condition_text(condition),
+            text_if(multiply.sets_flags, b"S"),
+            b" ".as_slice(),
+        ],
+    )
+}
+
+// `Rd,Rm,Rs`, and of MLA `,Rn`
+#[tactic(auto, unfolding(crate::specs::Printing::multiply_operands))]
+fn push_multiply_operands<W: Sink>(multiply: &Multiply, sink: &mut W) -> Result<(), WriteFault>
+    ensures text { OnOk result (Appends (W.contents sink.old) (W.contents sink.new) (multiply_operands multiply.now)) }
+    ensures flag { OnErr result (W.has_failed sink.new ≡ true) }
+    ensures same_flag { OnOk result (W.has_failed sink.new ≡ W.has_failed sink.old) }
+{
+    let rn = RegisterName::of(multiply.rn);
+    push_parts(
+        sink,
+        &[
+            RegisterName::of(multiply.rd).as_slice(),
+            b",".as_slice(),
+            RegisterName::of(multiply.rm).as_slice(),
+            b",".as_slice(),
+            RegisterName::of(multiply.rs).as_slice(),
+            text_if(multiply.accumulates, b","),
+            text_if(multiply.accumulates, rn.as_slice()),
+        ],
+    )
+}
+
+#[tactic(auto, unfolding(crate::specs::Printing::branch_text))]
+fn push_branch<W: Sink>(
+    condition: Condition,
+    links: bool,
+    target: u32,
+    sink: &mut W,
+) -> Result<(), WriteFault>
+    ensures text { OnOk result (Appends (W.contents sink.old) (W.contents sink.new) (branch_text condition links target)) }
+    ensures flag { OnErr result (W.has_failed sink.new ≡ true) }
+    ensures same_flag { OnOk result (W.has_failed sink.new ≡ W.has_failed sink.old) }
+{
+    push_parts(
+        sink,
+        &[
+            choose_text(links, b"BL", b"B"),
+            condition_text(condition),
+            b" &".as_slice(),
+            HexText::number(target).as_slice(),
+        ],
+    )
+}
+
+// The address plus 8 and the distance, modulo 2^26.
+fn branch_target(address: u32, distance: u32) -> u32
+    requires { distance < 2 ^ 24 }
+    ensures { result ≡ branch_target address distance }
+{
+    address.wrapping_add(8).wrapping_add(4 * distance) % (1 << 26)
+}
+
+#[tactic(auto, unfolding(crate::specs::Printing::interrupt_text))]
+fn push_interrupt<W: Sink>(
+    condition: Condition,
+    number: u32,
+    sink: &mut W,
+) -> Result<(), WriteFault>
+    ensures text { OnOk result (Appends (W.contents sink.old) (W.contents sink.new) (interrupt_text condition number)) }
+    ensures flag { OnErr result (W.has_failed sink.new ≡ true) }
+    ensures same_flag { OnOk result (W.has_failed sink.new ≡ W.has_failed sink.old) }
+{
+    push_parts(
+        sink,
+        &[
+            b"SWI".as_slice(),
+            condition_text(condition),
+            b" &".as_slice(),
+            HexText::number(number).as_slice(),
+        ],
+    )
+}

@@ -1,0 +1,25 @@
+use Rattle.std.proofs.Common.{◌∙◌, sym, ap, refl}
+use Rattle.swi_dispatch.specs.Situation.{Situation}
+use Rattle.swi_dispatch.proofs.Quiet.{quiet_start, quiet_more, done_awake, other_stays}
+use Rattle.swi_dispatch.proofs.machine.Machine.take_instructions.Goals as goal
+
+pub loop-taken-init : goal.loop-taken-init
+loop-taken-init c = record {
+  ran = λ images. quiet_start images _ c.requires.awake;
+  awake = c.requires.awake;
+  printed = refl;
+  others = record { fresh = refl; sizes = refl };
+  well_formed = c.requires.well_formed;
+}
+
+pub loop-taken-preserved : goal.loop-taken-preserved
+loop-taken-preserved c =
+    let so_far = c.loop-taken.invariant in
+    let turn = c.instruction.ensures in
+    record {
+      ran = λ images. quiet_more images _ _ _ _ _ c.in-Done.is (so_far.ran images) so_far.awake turn.turn;
+      awake = done_awake _ _ _ c.in-Done.is so_far.awake turn.turn;
+      printed = turn.printed ∙ so_far.printed;
+      others = record { fresh = turn.others.fresh ∙ so_far.others.fresh; sizes = turn.others.sizes ∙ so_far.others.sizes };
+      well_formed = turn.well_formed;
+    }
