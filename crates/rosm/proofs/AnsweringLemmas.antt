@@ -20,7 +20,7 @@ written_out (Some xs) (Some ys) (Some zs) text grown kept = sym (append-nil zs) 
 pub answers_script : (settings : Settings) (none images : List Entry) (script at before between held : Option (List ℕ)) (buffer : List ℕ) (last : Option Stop)
     → names_of images ≡ names_of none ++ names_for settings.files → none ≡ [] → at ≡ before
     → IfSome script (λ bytes. Appends at between (answers_to settings images bytes).text)
-    → IfSome script (λ bytes. last ≡ (answers_to settings images bytes).world.last)
+    → IfSome script (λ bytes. last ≡ (answers_to settings images bytes).state.last)
     → Keeps between (append_known held buffer) → buffer ≡ [] → AnswersScript settings script before held last
 answers_script settings none images script at before between held buffer last names empty same text stop kept flushed = record {
     images = images;

@@ -1,4 +1,4 @@
-ghost use Rattle.std.specs.Prelude.{◌≡◌, ◌<◌, true, length, Err, IfOk, IfSome, IsErr, OnOk};
+ghost use Rattle.std.specs.Prelude.{◌≡◌, ◌<◌, false, true, length, Err, IfOk, IfSome, IsErr, OnOk};
 ghost use Rattle.std.specs.Io.Buffered.{writer_contents, writer_inner};
 ghost use Rattle.std.specs.Io.KnownBytes.{Appends};
 ghost use Rattle.profile.specs.Output.{AppendsFront};
@@ -61,16 +61,20 @@ pub fn answer_script<R: Source, W: Sink>(
         Appends (W.contents writer.old) (W.contents writer.new)
         (answers_to settings.now images.old script).text)) }
     ensures last { IfOk result (λ last. IfSome (R.remaining reader.old) (λ script.
-        last ≡ (answers_to settings.now images.old script).world.last)) }
+        last ≡ (answers_to settings.now images.old script).state.last)) }
     ensures images { OnOk result (IfSome (R.remaining reader.old) (λ script.
-        images.new ≡ (answers_to settings.now images.old script).world.images)) }
+        images.new ≡ (answers_to settings.now images.old script).state.images)) }
     ensures memory { result ≡ Err RunError.Memory → IfSome (R.remaining reader.old) (λ script.
         AppendsFront (W.contents writer.old) (W.contents writer.new)
         (answers_to settings.now images.old script).text) }
+    ensures told { R.has_failed reader.new ≡ true → result ≡ Err RunError.ReadFault }
     ensures read_fault { result ≡ Err RunError.ReadFault
-        → (R.has_failed reader.new ≡ true) × (writer.new ≡ writer.old) }
+        → (R.has_failed reader.new ≡ true) × (writer.new ≡ writer.old) × (images.new ≡ images.old) }
+    ensures write_told { W.has_failed writer.old ≡ false → W.has_failed writer.new ≡ true
+        → result ≡ Err RunError.WriteFault }
     ensures write_fault { result ≡ Err RunError.WriteFault → W.has_failed writer.new ≡ true }
-    ensures too_long { result ≡ Err RunError.ScriptTooLong → (writer.new ≡ writer.old)
+    ensures too_long { result ≡ Err RunError.ScriptTooLong
+        → (writer.new ≡ writer.old) × (images.new ≡ images.old)
         × IfSome (R.remaining reader.old) (λ script. 1048576 < length script) }
     ensures never_long { IfSome (R.remaining reader.old) (λ script.
         1048576 < length script → IsErr result) }
