@@ -1,0 +1,4 @@
+pub mod Header
+pub mod Swis
+pub mod Title
+pub mod Words

@@ -1,0 +1,13 @@
+//! The header of a relocatable module, read from the bytes of its image.
+#![tactic(auto)]
+
+pub mod fault;
+pub mod header;
+mod title;
+mod words;
+
+pub use fault::HeaderFault;
+pub use header::Header;
+
+#[cfg(test)]
+mod tests;

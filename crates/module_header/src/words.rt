@@ -1,0 +1,40 @@
+//! The words of an image, and the offsets among them.
+ghost use Rattle.std.specs.Prelude.{◌≡◌, ◌≤◌, ◌+◌, length};
+ghost use Rattle.module_header.specs.Words.{word_at, entry_at, is_entry};
+
+use profile::ImageBytes;
+
+/// The word at a place, its lowest byte first.
+pub(crate) fn word_at<B: ImageBytes>(image: &B, at: usize) -> u32
+    requires inside { at + 4 ≤ length (B.bytes image.now) }
+    requires header { at ≤ 32 }
+    ensures { result ≡ word_at (B.bytes image.now) at }
+{
+    u32::from_le_bytes([
+        image.byte(at),
+        image.byte(at + 1),
+        image.byte(at + 2),
+        image.byte(at + 3),
+    ])
+}
+
+/// The offset of an entry that the word at a place gives, 0 for no entry, or `None` where it is no
+/// offset of a word in the image.
+pub(crate) fn entry_at<B: ImageBytes>(image: &B, at: usize) -> Option<u32>
+    requires inside { at + 4 ≤ length (B.bytes image.now) }
+    requires header { at ≤ 32 }
+    ensures { result ≡ entry_at (B.bytes image.now) at }
+{
+    let offset = word_at(image, at);
+    if is_entry(image, offset) {
+        Some(offset)
+    } else {
+        None
+    }
+}
+
+fn is_entry<B: ImageBytes>(image: &B, offset: u32) -> bool
+    ensures { result ≡ is_entry (B.bytes image.now) offset }
+{
+    offset % 4 == 0 && offset as usize + 4 <= image.len()
+}
