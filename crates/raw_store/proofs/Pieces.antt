@@ -1,10 +1,9 @@
 -- Copies and fills made of pieces: one byte, one lane, and two pieces one after the other.
-use Rattle.std.proofs.Common.{◌≡◌, ℕ, ◌+◌, ◌-◌, ◌*◌, ◌<◌, ◌≤◌, List, [], ◌∷◌, ◌++◌, suc, length, take, drop, set, get_or, replicate, sym, ◌∙◌, ap, arith, drop-cons, drop-drop, take-append-drop}
+use Rattle.std.proofs.Common.{◌≡◌, ℕ, ◌+◌, ◌<◌, ◌≤◌, List, ◌∷◌, ◌++◌, suc, length, take, drop, set, get_or, replicate, ◌∙◌, ap, arith, drop-cons, drop-drop, take-append-drop}
 use Rattle.std.proofs.lemmas.List.{places, same_lists, set_split}
 use Rattle.std.proofs.lemmas.Simd.{length-chunk, put_chunk_is}
 use lib.Lanes.{chunk, put_chunk}
 use Rattle.raw_store.specs.Region.{written, copied, zeroed}
-use Rattle.raw_store.proofs.Written.{length-written, written_inside, written_before, written_past}
 
 pub put_is_written : (bytes lane : List ℕ) (at : ℕ) → at + length lane ≤ length bytes → put_chunk at bytes lane ≡ written bytes at lane
 put_is_written bytes lane at fits = put_chunk_is at bytes lane fits ∙ ap (λ rest. take at bytes ++ (lane ++ rest)) (drop-drop (length lane) at bytes)

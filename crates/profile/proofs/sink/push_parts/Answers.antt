@@ -1,4 +1,4 @@
-use Rattle.std.proofs.Common.{◌≡◌, arith}
+use Rattle.std.proofs.Common.{arith}
 use Rattle.profile.proofs.OutputLemmas.{AppendsPart-from_parts}
 use Rattle.profile.proofs.sink.push_parts.Goals as goal
 

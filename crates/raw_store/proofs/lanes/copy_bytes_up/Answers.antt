@@ -1,4 +1,4 @@
-use Rattle.std.proofs.Common.{◌≡◌, ◌+◌, ◌-◌, ◌*◌, ◌∙◌, ap, arith}
+use Rattle.std.proofs.Common.{◌+◌, ◌-◌, ◌∙◌, ap, arith}
 use Rattle.raw_store.specs.Region.{copied}
 use Rattle.raw_store.proofs.Pieces.{copied_up}
 use Rattle.raw_store.proofs.lanes.copy_bytes_up.Goals as goal

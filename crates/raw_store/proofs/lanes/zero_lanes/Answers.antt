@@ -1,4 +1,4 @@
-use Rattle.std.proofs.Common.{◌≡◌, ◌+◌, ◌-◌, ◌*◌, ◌∙◌, ap, arith}
+use Rattle.std.proofs.Common.{◌+◌, ◌*◌, ◌∙◌, ap, arith}
 use Rattle.raw_store.specs.Region.{zeroed}
 use Rattle.raw_store.proofs.Pieces.{zeroed_more}
 use Rattle.raw_store.proofs.lanes.zero_lanes.Goals as goal
