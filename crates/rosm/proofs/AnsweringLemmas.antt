@@ -23,9 +23,9 @@ pub answers_script : (settings : Settings) (none images : List Entry) (script at
     → IfSome script (λ bytes. last ≡ (answers_to settings images bytes).state.last)
     → Keeps between (append_known held buffer) → buffer ≡ [] → AnswersScript settings script before held last
 answers_script settings none images script at before between held buffer last names empty same text stop kept flushed = record {
-    images = images;
-    named = names ∙ ap (λ x. names_of x ++ names_for settings.files) empty;
-    text = IfSome_then script text (λ bytes grown.
+  images = images;
+  named = names ∙ ap (λ x. names_of x ++ names_for settings.files) empty;
+  text = IfSome_then script text (λ bytes grown.
       written_out before between held _ (rw (← same) grown) (rw (← flushed) kept));
-    stop = stop;
-  }
+  stop = stop;
+}
