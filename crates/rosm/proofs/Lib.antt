@@ -1,3 +1,2 @@
-pub mod AnsweringLemmas
 pub mod CommandLineLemmas
 pub mod ImageFilesLemmas

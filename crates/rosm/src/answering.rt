@@ -1,6 +1,6 @@
 ghost use Rattle.std.specs.Prelude.{◌≡◌, ◌<◌, false, true, length, Err, IfOk, IfSome, IsErr, OnOk};
-ghost use Rattle.std.specs.Io.Buffered.{writer_contents, writer_inner};
 ghost use Rattle.std.specs.Io.KnownBytes.{Appends};
+ghost use Rattle.profile.specs.Devices.{device_failed, device_inner};
 ghost use Rattle.profile.specs.Output.{AppendsFront};
 ghost use Rattle.rosm.specs.Answering.{AnswersScript, answers_to};
 
@@ -12,32 +12,32 @@ use image_loader::Images;
 use profile::{Device, Sink, Source, Stop};
 use std::alloc::Global;
 use std::fs;
-use std::io::{BufWriter, Write};
+use std::io::Write;
 
-/// Takes in the settings' files, runs the script of `reader`, writes all of its answers out, and
-/// gives the last stop.
+/// Takes in the settings' files, runs the script of `reader`, writes all of its answers, and gives
+/// the last stop. What the writer holds back is handed on before that.
 ///
 /// # Errors
 ///
 /// The first file that gives no image; else as [`answer_script`], and `WriteFault` too where the
-/// last of the answers can't be written out.
+/// last of the answers can't be handed on.
 pub fn run<'a, F, R, W>(
     files: &F,
     settings: &'a Settings,
     reader: &mut R,
-    writer: &mut BufWriter<W>,
+    writer: &mut Device<W>,
 ) -> Result<Option<Stop>, Refusal<'a>>
 where
     F: AllocGlobal + fs::Files,
     R: Source,
-    W: Write + Drop,
-    ensures { IfOk result (AnswersScript settings.entry.now (R.remaining reader.old)
-        (writer_contents W.contents writer.old) (W.contents (writer_inner writer.new))) }
+    W: Write,
+    ensures answers { IfOk result (AnswersScript settings.entry.now (R.remaining reader.old)
+        (W.contents (device_inner writer.old)) (W.contents (device_inner writer.new))) }
+    ensures well { OnOk result (device_failed writer.new ≡ false) }
 {
     let mut images = Images::new();
     add_files(files, &settings.files, &mut images)?;
-    let mut device = Device::new(&mut *writer);
-    let last = answer_script(files.alloc(), settings, &mut images, reader, &mut device)?;
+    let last = answer_script(files.alloc(), settings, &mut images, reader, writer)?;
     match writer.flush() {
         Ok(()) => Ok(last),
         Err(_) => Err(Refusal::Script(RunError::WriteFault)),

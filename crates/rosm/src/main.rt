@@ -92,10 +92,11 @@ fn run_on_standard_streams<'a, R>(
 where
     R: AllocGlobal + fs::Files + Input + Print,
 {
-    match BufWriter::new(rt.alloc(), io::writer(rt)) {
-        Ok(mut writer) => run(rt, settings, &mut Device::new(rt.reader()), &mut writer),
-        Err(_) => Err(Refusal::Memory),
-    }
+    let Ok(buffered) = BufWriter::new(rt.alloc(), io::writer(rt)) else {
+        return Err(Refusal::Memory);
+    };
+    let mut writer = Device::new(buffered);
+    run(rt, settings, &mut Device::new(rt.reader()), &mut writer)
 }
 
 // The exit status, with one line on standard error where the program is refused.

@@ -2,7 +2,7 @@ use crate::image_files::add_image;
 use crate::{Refusal, answer_script, run, settings};
 use command_shell::RunError;
 use image_loader::Images;
-use profile::{MemorySink, MemorySource, Stop};
+use profile::{Device, MemorySink, MemorySource, Stop};
 use std::io;
 use std::io::{BufWriter, ErrorKind, Write};
 use std::test::Fail;
@@ -32,18 +32,6 @@ fn a_script_runs_an_image_within_the_budget(rt: HostRuntime) -> Result<(), Fail>
     Ok(())
 }
 
-#[test]
-fn all_answers_are_written_out(rt: HostRuntime) -> Result<(), Fail> {
-    let alloc = rt.alloc();
-    let settings = settings(alloc, &["rosm"])?;
-    let mut reader = MemorySource::new(b"FOO\n", 4096, u64::MAX);
-    let mut writer = BufWriter::new(alloc, Vec::new(alloc))?;
-    let last = run(&rt, &settings, &mut reader, &mut writer)?;
-    assert_eq!(rt; last, None);
-    assert_eq!(rt; writer.get_ref().as_slice(), b"? line 1\n".as_slice());
-    Ok(())
-}
-
 // A writer that takes all, and fails when it is to be flushed.
 #[derive(Drop)]
 struct Full;
@@ -59,12 +47,17 @@ impl Write for Full {
 }
 
 #[test]
-fn answers_that_stay_unwritten_are_a_fault(rt: HostRuntime) -> Result<(), Fail> {
+fn answers_are_handed_on_at_the_end(rt: HostRuntime) -> Result<(), Fail> {
     let alloc = rt.alloc();
     let settings = settings(alloc, &["rosm"])?;
     let mut reader = MemorySource::new(b"FOO\n", 4096, u64::MAX);
-    let mut writer = BufWriter::new(alloc, Full)?;
-    let ending = run(&rt, &settings, &mut reader, &mut writer);
+    let mut bytes = Vec::new(alloc);
+    let ending = run(&rt, &settings, &mut reader, &mut Device::new(&mut bytes))?;
+    assert_eq!(rt; ending, None);
+    assert_eq!(rt; bytes.as_slice(), b"? line 1\n".as_slice());
+    let mut reader = MemorySource::new(b"FOO\n", 4096, u64::MAX);
+    let full = BufWriter::new(alloc, Full)?;
+    let ending = run(&rt, &settings, &mut reader, &mut Device::new(full));
     assert_eq!(rt; ending, Err(Refusal::Script(RunError::WriteFault)));
     Ok(())
 }
