@@ -249,7 +249,7 @@ fn unmaps_pages_from_the_middle_and_maps_them_anew(rt: HostRuntime) -> Result<()
     Ok(())
 }
 
-/// Two areas that grow in turn, by a page each, and then one gives a page back that the other takes.
+/// Two ranges that grow in turn, by a page each.
 #[test]
 fn grows_two_ranges_in_turn(rt: HostRuntime) -> Result<(), Fail> {
     const FIRST: u32 = 0x0200_0000;
@@ -259,25 +259,38 @@ fn grows_two_ranges_in_turn(rt: HostRuntime) -> Result<(), Fail> {
     map.map_pages(SECOND, 1);
     assert_eq!(rt; map.store_word(FIRST + 0xFFC, 0x1111_1111), Ok(()));
     assert_eq!(rt; map.store_word(SECOND + 0xFFC, 0x2222_2222), Ok(()));
+    let (first, second) = (map.translate(FIRST), map.translate(SECOND));
     map.map_pages(FIRST + 0x1000, 1);
     map.map_pages(SECOND + 0x1000, 1);
     assert_eq!(rt; map.free_pages(), 0);
+    assert_eq!(rt; map.load_word(FIRST + 0xFFC), Ok(0x1111_1111));
     assert_eq!(rt; map.load_word(FIRST + 0x1000), Ok(0));
+    assert_eq!(rt; map.load_word(SECOND + 0xFFC), Ok(0x2222_2222));
+    assert_eq!(rt; map.load_word(SECOND + 0x1000), Ok(0));
+    assert!(rt; map.translate(FIRST) == first && map.translate(SECOND) == second);
+    Ok(())
+}
+
+/// A page that one range gives back and another takes: it is zero then, and no other byte moves.
+#[test]
+fn hands_a_page_from_one_range_to_another(rt: HostRuntime) -> Result<(), Fail> {
+    const FIRST: u32 = 0x0200_0000;
+    const SECOND: u32 = 0x0200_3000;
+    let mut map = AddressMap::new(rt.alloc(), 3)?;
+    map.map_pages(FIRST, 2);
+    map.map_pages(SECOND, 1);
+    assert_eq!(rt; map.store_word(FIRST + 0xFFC, 0x1111_1111), Ok(()));
     assert_eq!(rt; map.store_word(FIRST + 0x1004, 0x3333_3333), Ok(()));
-    assert_eq!(rt; map.store_word(SECOND + 0x1004, 0x4444_4444), Ok(()));
+    assert_eq!(rt; map.store_word(SECOND + 0xFFC, 0x2222_2222), Ok(()));
     let (first, second) = (map.translate(FIRST), map.translate(SECOND));
     map.unmap_pages(FIRST + 0x1000, 1);
     assert_eq!(rt; map.free_pages(), 1);
     assert_eq!(rt; map.load_word(FIRST + 0x1004), Err(Fault::DataUnmapped));
-    map.map_pages(SECOND + 0x2000, 1);
-    assert_eq!(rt; map.load_word(SECOND + 0x2004), Ok(0));
-    for (addr, word) in [
-        (FIRST + 0xFFC, 0x1111_1111),
-        (SECOND + 0xFFC, 0x2222_2222),
-        (SECOND + 0x1004, 0x4444_4444),
-    ] {
-        assert_eq!(rt; map.load_word(addr), Ok(word), "word at {addr:x}");
-    }
+    map.map_pages(SECOND + 0x1000, 1);
+    assert_eq!(rt; map.free_pages(), 0);
+    assert_eq!(rt; map.load_word(SECOND + 0x1004), Ok(0));
+    assert_eq!(rt; map.load_word(FIRST + 0xFFC), Ok(0x1111_1111));
+    assert_eq!(rt; map.load_word(SECOND + 0xFFC), Ok(0x2222_2222));
     assert!(rt; map.translate(FIRST) == first && map.translate(SECOND) == second);
     Ok(())
 }
@@ -287,9 +300,10 @@ fn grows_two_ranges_in_turn(rt: HostRuntime) -> Result<(), Fail> {
 #[test]
 fn moves_bytes_across_page_ends_both_ways(rt: HostRuntime) -> Result<(), Fail> {
     let mut map = AddressMap::new(rt.alloc(), 4)?;
-    for page in [0x8000, 0xB000, 0x9000, 0xC000] {
-        map.map_pages(page, 1);
-    }
+    map.map_pages(0x8000, 1);
+    map.map_pages(0xB000, 1);
+    map.map_pages(0x9000, 1);
+    map.map_pages(0xC000, 1);
     assert!(rt; map.maps(0x8FFD, 8));
     assert!(rt; map.maps(0xBFFB, 8));
     map.put_bytes(0x8FFD, &[1, 2, 3, 4, 5, 6, 7, 8]);
