@@ -10,7 +10,7 @@ use Rattle.address_map.specs.declared.region.Kind.TheVariants as kind
 use Rattle.address_map.specs.declared.region.Region.{Region}
 use Rattle.address_map.specs.Bytes.{in_range, word_start}
 use Rattle.address_map.specs.Marks.{class_at, mark_in}
-use Rattle.address_map.specs.Memory.{place, is_mapped, marked_at}
+use Rattle.address_map.specs.Memory.{place, is_mapped, class_of}
 use Rattle.address_map.specs.Pages.{frame_at, place_by, place_in, IsUnused}
 use Rattle.address_map.specs.Records.{IsRegion, is_heap_kind, is_word_kind, with_class, with_plain_at, without_region}
 use Rattle.address_map.proofs.Loads.{place_next, place_only, place_fits}
@@ -19,8 +19,8 @@ use Rattle.address_map.proofs.Spans.{mapped_below}
 use Rattle.address_map.proofs.Stores.{in_range-cases}
 
 -- marks and table that stay leave each class
-pub same_marks : (m n : AddressMap) → n.frames ≡ m.frames → n.marks ≡ m.marks → marked_at n ≡ marked_at m
-unfolding marked_at place
+pub same_marks : (m n : AddressMap) → n.frames ≡ m.frames → n.marks ≡ m.marks → class_of n ≡ class_of m
+unfolding class_of place
 same_marks m n frames marks = λ i a. mark_in (marks i) (place_in (frames i).items a)
 
 place_lane : (m : AddressMap) (a k : ℕ) → place m a ≡ Some k → k % 4096 ≡ a % 4096
@@ -28,7 +28,7 @@ unfolding place
 place_lane m a k h = (place_within m.frames.items m.free.items a k m.table h).0
 
 -- where the word lies that holds the byte at a place
-place_word : (m : AddressMap) (a k : ℕ) → place m a ≡ Some k → place m (word_start a) ≡ Some (k - k % 4)
+pub place_word : (m : AddressMap) (a k : ℕ) → place m a ≡ Some k → place m (word_start a) ≡ Some (k - k % 4)
 unfolding place
 place_word m a k h =
     let low = place_lane m a k h in
@@ -56,8 +56,8 @@ words_match m at k a p aligned h g =
 
 pub word_marked : (m : AddressMap) (marks : Marks) (at k : ℕ) (class : Class) → at % 4 ≡ 0 → place m at ≡ Some k
     → ((j : ℕ) → class_at marks j ≡ cond (j == k / 4) class (class_at m.marks j))
-    → (a : ℕ) → mark_in marks (place m a) ≡ with_class (marked_at m) at class a
-unfolding marked_at
+    → (a : ℕ) → mark_in marks (place m a) ≡ with_class (class_of m) at class a
+unfolding class_of
 word_marked m marks at k class aligned h marked a = found (place m a) refl where
   found : (there : Option ℕ) → place m a ≡ there → mark_in marks there ≡ cond (word_start a == at) class (mark_in m.marks there)
   found None none =
@@ -118,10 +118,10 @@ pub without_word : (records : List Region) (k : Kind) (at : ℕ) → is_word_kin
 without_word [] k at is = refl
 without_word (r ∷ rs) kind.HeadWord at is = ap (λ others. r ∷ others) (without_word rs kind.HeadWord at is)
 without_word (r ∷ rs) kind.Anchor at is = ap (λ others. r ∷ others) (without_word rs kind.Anchor at is)
+without_word (r ∷ rs) kind.FlexHeader at is = ap (λ others. r ∷ others) (without_word rs kind.FlexHeader at is)
 without_word (r ∷ rs) kind.Heap at is = absurd (false≢true is)
 without_word (r ∷ rs) kind.Rma at is = absurd (false≢true is)
 without_word (r ∷ rs) kind.FlexStore at is = absurd (false≢true is)
-without_word (r ∷ rs) kind.FlexHeader at is = absurd (false≢true is)
 without_word (r ∷ rs) kind.Image at is = absurd (false≢true is)
 without_word (r ∷ rs) kind.SystemPage at is = absurd (false≢true is)
 
@@ -129,7 +129,7 @@ pub heap_is_no_word : (k : Kind) → is_heap_kind k ≡ true → is_word_kind k 
 heap_is_no_word kind.Heap is = refl
 heap_is_no_word kind.Rma is = refl
 heap_is_no_word kind.FlexStore is = refl
-heap_is_no_word kind.FlexHeader is = refl
+heap_is_no_word kind.FlexHeader is = absurd (false≢true is)
 heap_is_no_word kind.Anchor is = absurd (false≢true is)
 heap_is_no_word kind.HeadWord is = absurd (false≢true is)
 heap_is_no_word kind.Image is = refl

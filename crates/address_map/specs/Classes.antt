@@ -1,7 +1,11 @@
 -- The classes as numbers of two bits, four of them in a byte: the lowest two bits are those of the first word.
-use Rattle.std.specs.Prelude.{ℕ, ◌/◌, ◌%◌, ◌==◌, if◌then◌else◌}
+use Rattle.std.specs.Prelude.{ℕ, Bool, true, false, ◌/◌, ◌%◌, ◌==◌, if◌then◌else◌}
 use Rattle.address_map.specs.declared.class.Class.{Class}
 use Rattle.address_map.specs.declared.class.Class.TheVariants.{Plain, Heap, FlexHeader, Anchor}
+
+abbrev pub is_anchor : Class → Bool
+is_anchor Anchor = true
+is_anchor other = false
 
 abbrev pub number_of : Class → ℕ
 number_of Plain = 0

@@ -2,7 +2,6 @@
 #![tactic(auto)]
 
 pub mod class;
-pub mod flex;
 pub mod item;
 pub mod laws;
 pub mod map;

@@ -50,7 +50,7 @@ pub(crate) struct Span {
 }
 
 impl AddressMap {
-    ghost use Rattle.address_map.specs.Memory.{IsSpan, place, is_mapped, byte_at, bytes_of, free_pages, regions, layout, marked_at, class_of, is_owned};
+    ghost use Rattle.address_map.specs.Memory.{IsSpan, place, is_mapped, byte_at, bytes_of, free_pages, regions, layout, class_of, is_owned};
 
     /// A memory of that many pages of 4096 bytes, none of which is mapped.
     ///
@@ -62,8 +62,7 @@ impl AddressMap {
         ensures mapping { IfOk result (λ m. (a : ℕ) → is_mapped m a ≡ false) }
         ensures pages { IfOk result (λ m. free_pages m ≡ pages) }
         ensures regions { IfOk result (λ m. regions m ≡ []) }
-        ensures marks { IfOk result (λ m. (a : ℕ) → marked_at m a ≡ Class.Plain) }
-        ensures classes { IfOk result (λ m. (a : ℕ) → class_of m a ≡ Class.Plain) }
+        ensures marks { IfOk result (λ m. (a : ℕ) → class_of m a ≡ Class.Plain) }
         ensures owned { IfOk result (λ m. (a : ℕ) → is_owned m a ≡ false) }
     {
         let store = RawStore::new(alloc, pages)?;
@@ -129,7 +128,7 @@ impl AddressMap {
         ensures bytes { let stored = byte_stored (is_owned self.old) (bytes_of self.old) addr byte in
             Leaves (bytes_of self.old) stored result (bytes_of self.new) }
         ensures layout { layout self.new ≡ layout self.old }
-        ensures marks { marked_at self.new ≡ marked_at self.old }
+        ensures marks { class_of self.new ≡ class_of self.old }
     {
         let place = self.writable(addr)?;
         self.store.write_byte(place, byte);
@@ -146,7 +145,7 @@ impl AddressMap {
         ensures bytes { let stored = word_stored (is_owned self.old) (bytes_of self.old) addr word in
             Leaves (bytes_of self.old) stored result (bytes_of self.new) }
         ensures layout { layout self.new ≡ layout self.old }
-        ensures marks { marked_at self.new ≡ marked_at self.old }
+        ensures marks { class_of self.new ≡ class_of self.old }
     {
         let place = self.writable(addr - addr % 4)?;
         self.store.write_word(place, word);
@@ -159,7 +158,7 @@ impl AddressMap {
         requires mapped { IsTrue (is_mapped self.old addr) }
         ensures bytes { (a : ℕ) → byte_at self.new a ≡ with_word_at (byte_at self.old) addr word a }
         ensures layout { layout self.new ≡ layout self.old }
-        ensures marks { marked_at self.new ≡ marked_at self.old }
+        ensures marks { class_of self.new ≡ class_of self.old }
     {
         let place = self.translate(addr).unwrap();
         self.store.write_word(place, word);
@@ -170,7 +169,7 @@ impl AddressMap {
         requires within { length bytes.now ≤ span.len }
         ensures bytes { (a : ℕ) → byte_at self.new a ≡ with_bytes_at (byte_at self.old) span.addr bytes.now a }
         ensures layout { layout self.new ≡ layout self.old }
-        ensures marks { marked_at self.new ≡ marked_at self.old }
+        ensures marks { class_of self.new ≡ class_of self.old }
     {
         self.store.write(span.place, bytes);
     }
@@ -180,7 +179,7 @@ impl AddressMap {
         requires within { len ≤ span.len }
         ensures bytes { (a : ℕ) → byte_at self.new a ≡ with_zeros_at (byte_at self.old) span.addr len a }
         ensures layout { layout self.new ≡ layout self.old }
-        ensures marks { marked_at self.new ≡ marked_at self.old }
+        ensures marks { class_of self.new ≡ class_of self.old }
     {
         self.store.zero(span.place, len as usize);
     }
@@ -190,7 +189,7 @@ impl AddressMap {
         requires { AreMapped (is_mapped self.old) addr (length bytes.now) }
         ensures bytes { (a : ℕ) → byte_at self.new a ≡ with_bytes_at (byte_at self.old) addr bytes.now a }
         ensures layout { layout self.new ≡ layout self.old }
-        ensures marks { marked_at self.new ≡ marked_at self.old }
+        ensures marks { class_of self.new ≡ class_of self.old }
     {
         let mut done = 0;
         while done < bytes.len() {
@@ -206,7 +205,7 @@ impl AddressMap {
         requires { AreMapped (is_mapped self.old) addr len }
         ensures bytes { (a : ℕ) → byte_at self.new a ≡ with_zeros_at (byte_at self.old) addr len a }
         ensures layout { layout self.new ≡ layout self.old }
-        ensures marks { marked_at self.new ≡ marked_at self.old }
+        ensures marks { class_of self.new ≡ class_of self.old }
     {
         let mut done = 0;
         while done < len {
@@ -253,7 +252,7 @@ impl AddressMap {
             MatchResult result (λ k. (refused ≡ None) × (place self.now addr ≡ Some k)) (λ fault. refused ≡ Some fault) }
     {
         let place = self.readable(addr)?;
-        if self.owns(addr) {
+        if !self.class_at(place).is_plain() {
             return Err(Fault::OwnedWord);
         }
         Ok(place)

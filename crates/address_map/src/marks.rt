@@ -24,6 +24,21 @@ impl Marks {
         })
     }
 
+    /// The class of a word.
+    #[inline(always)]
+    #[tactic(auto, unfolding(crate::specs::Marks::class_at))]
+    pub(crate) fn class(&self, word: usize) -> Class
+        requires { word / 4 < length self.now.bytes.items }
+        ensures { result ≡ class_at self.now word }
+    {
+        match self.bytes[word / 4] / weight(word % 4) % 4 {
+            0 => Class::Plain,
+            1 => Class::Heap,
+            2 => Class::FlexHeader,
+            _ => Class::Anchor,
+        }
+    }
+
     /// Gives a word a class.
     #[tactic(auto, using(crate::proofs::Lanes::byte_fits, crate::proofs::Lanes::number_small))]
     pub(crate) fn set(&mut self, word: usize, class: Class)

@@ -1,7 +1,7 @@
 ghost use Rattle.std.specs.Prelude.{ℕ, None, false, ◌≡◌, ◌≢◌, ◌≤◌, ◌<◌, ◌+◌, ◌*◌, ◌%◌, ◌^◌, ◌||◌, ◌&&◌, not, IsTrue, MatchOption, All, length};
 ghost use Rattle.std.specs.List.{AllPairs};
 ghost use Rattle.address_map.specs.Bytes.{in_range, AreMapped, AreUnmapped, with_zeros_at};
-ghost use Rattle.address_map.specs.Records.{meets_record, anchor_meets, with_plain_at};
+ghost use Rattle.address_map.specs.Records.{meets_record, HasNoAnchor, with_plain_at};
 
 use crate::map::{AddressMap, MOST_FRAMES, Span};
 use arrayvec::ArrayVec;
@@ -11,7 +11,7 @@ use profile::memory_map::{ADDRESS_LIMIT, PAGE_SIZE};
 pub(crate) const MARKS_IN_PAGE: usize = 256;
 
 impl AddressMap {
-    ghost use Rattle.address_map.specs.Memory.{IsSpan, StaysInPlace, place, is_mapped, byte_at, free_pages, regions, marked_at, class_of, is_owned};
+    ghost use Rattle.address_map.specs.Memory.{IsSpan, StaysInPlace, place, is_mapped, byte_at, free_pages, regions, class_of, is_owned};
 
     /// The pages that are left to be mapped.
     #[tactic(auto, unfolding(crate::specs::Memory::free_pages))]
@@ -60,8 +60,7 @@ impl AddressMap {
         ensures bytes { (a : ℕ) → byte_at self.new a ≡ byte_at self.old a }
         ensures pages { free_pages self.new + count ≡ free_pages self.old }
         ensures regions { regions self.new ≡ regions self.old }
-        ensures marks { marked_at self.new ≡ marked_at self.old }
-        ensures classes { class_of self.new ≡ class_of self.old }
+        ensures marks { class_of self.new ≡ class_of self.old }
         ensures owned { is_owned self.new ≡ is_owned self.old }
     {
         for done in 0..count {
@@ -80,7 +79,7 @@ impl AddressMap {
         ensures bytes { (a : ℕ) → byte_at self.new a ≡ byte_at self.old a }
         ensures pages { free_pages self.new + 1 ≡ free_pages self.old }
         ensures regions { regions self.new ≡ regions self.old }
-        ensures marks { (a : ℕ) → marked_at self.new a ≡ marked_at self.old a }
+        ensures marks { (a : ℕ) → class_of self.new a ≡ class_of self.old a }
     {
         let frame = self.free.pop().unwrap();
         let place = (PAGE_SIZE * frame as u32) as usize;
@@ -95,13 +94,13 @@ impl AddressMap {
         requires aligned { base % 4096 ≡ 0 }
         requires mapped { AreMapped (is_mapped self.old) base (4096 * count) }
         requires unrecorded { meets_record (regions self.old) base (4096 * count) ≡ false }
-        requires unanchored { anchor_meets (regions self.old) (byte_at self.old) base (4096 * count) ≡ false }
+        requires unanchored { HasNoAnchor (class_of self.old) base (4096 * count) }
         ensures mapping { (a : ℕ) → is_mapped self.new a ≡ (is_mapped self.old a && not (in_range base (4096 * count) a)) }
         ensures stays { StaysInPlace self.old self.new }
         ensures bytes { (a : ℕ) → byte_at self.new a ≡ with_zeros_at (byte_at self.old) base (4096 * count) a }
         ensures pages { free_pages self.new ≡ free_pages self.old + count }
         ensures regions { regions self.new ≡ regions self.old }
-        ensures marks { (a : ℕ) → marked_at self.new a ≡ with_plain_at (marked_at self.old) base (4096 * count) a }
+        ensures marks { (a : ℕ) → class_of self.new a ≡ with_plain_at (class_of self.old) base (4096 * count) a }
     {
         for done in 0..count {
             self.unmap_page(base + PAGE_SIZE * done);
@@ -117,7 +116,7 @@ impl AddressMap {
         ensures bytes { (a : ℕ) → byte_at self.new a ≡ with_zeros_at (byte_at self.old) addr 4096 a }
         ensures pages { free_pages self.new ≡ free_pages self.old + 1 }
         ensures regions { regions self.new ≡ regions self.old }
-        ensures marks { (a : ℕ) → marked_at self.new a ≡ with_plain_at (marked_at self.old) addr 4096 a }
+        ensures marks { (a : ℕ) → class_of self.new a ≡ with_plain_at (class_of self.old) addr 4096 a }
     {
         let page = (addr / PAGE_SIZE) as usize;
         let frame = self.frames[page].unwrap();

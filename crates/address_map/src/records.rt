@@ -7,7 +7,7 @@ use crate::map::AddressMap;
 use crate::region::{Kind, Region, do_meet};
 
 impl AddressMap {
-    ghost use Rattle.address_map.specs.Memory.{is_mapped, byte_at, mapping, regions, marked_at};
+    ghost use Rattle.address_map.specs.Memory.{is_mapped, byte_at, mapping, regions, class_of};
 
     /// The recorded ranges, the first recorded first.
     #[tactic(auto, unfolding(crate::specs::Memory::regions))]
@@ -30,9 +30,8 @@ impl AddressMap {
         false
     }
 
-    /// Records a range that store calls use. Words in it that only they may write are owned from now on: the words that the
-    /// items of a heap spell, the headers of flex blocks, and the anchors that these name. No byte is changed. A head word or
-    /// an anchor is marked, and is no record; `len` says nothing there.
+    /// Records a range that store calls use, or marks a word that only they may write: a head word, a word of a flex block's
+    /// header or an anchor. A word is no record, and `len` says nothing there. No byte is changed.
     pub fn own(&mut self, kind: Kind, at: u32, len: u32)
         requires region { IsRegion (record { kind = kind; at = at; len = len }) }
         requires room { is_word_kind kind ≡ false → length (regions self.old) < 133 }
@@ -40,7 +39,7 @@ impl AddressMap {
         ensures regions { regions self.new ≡ with_region (regions self.old) (record { kind = kind; at = at; len = len }) }
         ensures mapping { mapping self.new ≡ mapping self.old }
         ensures bytes { byte_at self.new ≡ byte_at self.old }
-        ensures marks { (a : ℕ) → marked_at self.new a ≡ with_mark kind at (marked_at self.old) a }
+        ensures marks { (a : ℕ) → class_of self.new a ≡ with_mark kind at (class_of self.old) a }
     {
         match kind.mark() {
             Some(class) => self.mark(at, class),
@@ -49,14 +48,14 @@ impl AddressMap {
     }
 
     /// Records a range more.
-    #[tactic(auto, unfolding(crate::specs::Memory::regions, crate::specs::Memory::place, crate::specs::Memory::byte_at, crate::specs::Memory::free_pages, crate::specs::Memory::marked_at))]
+    #[tactic(auto, unfolding(crate::specs::Memory::regions, crate::specs::Memory::place, crate::specs::Memory::byte_at, crate::specs::Memory::free_pages, crate::specs::Memory::class_of))]
     fn record(&mut self, region: Region)
         requires region { IsRegion region }
         requires room { length (regions self.old) < 133 }
         ensures regions { regions self.new ≡ regions self.old ++ region ∷ [] }
         ensures mapping { mapping self.new ≡ mapping self.old }
         ensures bytes { byte_at self.new ≡ byte_at self.old }
-        ensures marks { marked_at self.new ≡ marked_at self.old }
+        ensures marks { class_of self.new ≡ class_of self.old }
     {
         self.regions.push(region);
     }
@@ -68,22 +67,21 @@ impl AddressMap {
         ensures regions { regions self.new ≡ regions self.old }
         ensures mapping { mapping self.new ≡ mapping self.old }
         ensures bytes { byte_at self.new ≡ byte_at self.old }
-        ensures marks { (a : ℕ) → marked_at self.new a ≡ with_class (marked_at self.old) at class a }
+        ensures marks { (a : ℕ) → class_of self.new a ≡ with_class (class_of self.old) at class a }
     {
         let place = self.translate(at).unwrap();
         self.marks.set(place / 4, class);
     }
 
-    /// Takes away the first record of that kind that starts at `at`, if there is one; its words are the guest's from now on. No
-    /// byte is changed, and the other records keep their order. A head word or an anchor is no record; that word is plain from
-    /// now on.
+    /// Takes away the first record of that kind that starts at `at`, if there is one; or makes a word plain that was marked. No
+    /// byte is changed, and the other records keep their order.
     pub fn disown(&mut self, kind: Kind, at: u32)
         requires aligned { is_word_kind kind ≡ true → at % 4 ≡ 0 }
         requires mapped { is_word_kind kind ≡ true → is_mapped self.old at ≡ true }
         ensures regions { regions self.new ≡ without_region (regions self.old) kind at }
         ensures mapping { mapping self.new ≡ mapping self.old }
         ensures bytes { byte_at self.new ≡ byte_at self.old }
-        ensures marks { (a : ℕ) → marked_at self.new a ≡ without_mark kind at (marked_at self.old) a }
+        ensures marks { (a : ℕ) → class_of self.new a ≡ without_mark kind at (class_of self.old) a }
     {
         match kind.mark() {
             Some(_) => self.mark(at, Class::Plain),
@@ -92,12 +90,12 @@ impl AddressMap {
     }
 
     /// Takes away a record.
-    #[tactic(auto, unfolding(crate::specs::Memory::regions, crate::specs::Memory::place, crate::specs::Memory::byte_at, crate::specs::Memory::free_pages, crate::specs::Memory::marked_at))]
+    #[tactic(auto, unfolding(crate::specs::Memory::regions, crate::specs::Memory::place, crate::specs::Memory::byte_at, crate::specs::Memory::free_pages, crate::specs::Memory::class_of))]
     fn forget(&mut self, kind: Kind, at: u32)
         ensures regions { regions self.new ≡ without_region (regions self.old) kind at }
         ensures mapping { mapping self.new ≡ mapping self.old }
         ensures bytes { byte_at self.new ≡ byte_at self.old }
-        ensures marks { marked_at self.new ≡ marked_at self.old }
+        ensures marks { class_of self.new ≡ class_of self.old }
     {
         if let Some(index) = self.record_index(kind, at) {
             self.regions.remove(index);
@@ -106,13 +104,13 @@ impl AddressMap {
 
     /// Gives the first record of that kind that starts at `at`, if there is one, another length. No byte is changed, and the records keep
     /// their order.
-    #[tactic(auto, unfolding(crate::specs::Memory::regions, crate::specs::Memory::place, crate::specs::Memory::byte_at, crate::specs::Memory::free_pages, crate::specs::Memory::marked_at))]
+    #[tactic(auto, unfolding(crate::specs::Memory::regions, crate::specs::Memory::place, crate::specs::Memory::byte_at, crate::specs::Memory::free_pages, crate::specs::Memory::class_of))]
     pub fn set_len(&mut self, kind: Kind, at: u32, len: u32)
         requires region { IsRegion (record { kind = kind; at = at; len = len }) }
         ensures regions { regions self.new ≡ with_len (regions self.old) kind at len }
         ensures mapping { mapping self.new ≡ mapping self.old }
         ensures bytes { byte_at self.new ≡ byte_at self.old }
-        ensures marks { marked_at self.new ≡ marked_at self.old }
+        ensures marks { class_of self.new ≡ class_of self.old }
     {
         if let Some(index) = self.record_index(kind, at) {
             self.regions[index] = Region { kind, at, len };

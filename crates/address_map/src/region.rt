@@ -1,6 +1,6 @@
 ghost use Rattle.std.specs.Prelude.{◌≡◌};
-ghost use Rattle.address_map.specs.Bytes.{in_range, meets};
-ghost use Rattle.address_map.specs.Records.{is_heap_kind, is_flex_kind, is_record, mark_of};
+ghost use Rattle.address_map.specs.Bytes.{meets};
+ghost use Rattle.address_map.specs.Records.{is_heap_kind, is_record, mark_of};
 
 use crate::class::Class;
 
@@ -14,7 +14,7 @@ pub enum Kind {
     Rma,
     /// The range that sliding blocks lie in.
     FlexStore,
-    /// The part of it that is used, from the first block's header to the last block's end.
+    /// One of the two words of a sliding block's header. It is marked, and no record of it is kept.
     FlexHeader,
     /// A word that holds the address of a sliding block. It is marked, and no record of it is kept.
     Anchor,
@@ -41,17 +41,10 @@ impl Kind {
     {
         match self {
             Kind::HeadWord => Some(Class::Heap),
+            Kind::FlexHeader => Some(Class::FlexHeader),
             Kind::Anchor => Some(Class::Anchor),
             _ => None,
         }
-    }
-
-    /// Whether a range is the used part of the flex store.
-    #[inline(always)]
-    pub(crate) fn is_flex(&self) -> bool
-        ensures { result ≡ is_flex_kind self.now }
-    {
-        matches!(self, Kind::FlexHeader)
     }
 }
 
@@ -64,14 +57,6 @@ pub struct Region {
 }
 
 impl Region {
-    /// Whether an address is in the range.
-    #[inline(always)]
-    pub(crate) fn holds(&self, addr: u32) -> bool
-        ensures { result ≡ in_range self.now.at self.now.len addr }
-    {
-        self.at <= addr && addr - self.at < self.len
-    }
-
     /// Whether this is the record of a range of that kind that starts at `at`. No record is a word's.
     pub(crate) fn is_record(&self, kind: Kind, at: u32) -> bool
         ensures { result ≡ is_record kind at self.now }

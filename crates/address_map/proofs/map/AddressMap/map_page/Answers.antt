@@ -1,5 +1,5 @@
 use Rattle.std.proofs.Common.{◌≡◌, ◌*◌, ◌/◌, ◌<◌, ◌++◌, ◌∷◌, [], ℕ, List, None, length, arith, ap, subst, refl}
-use Rattle.address_map.specs.Memory.{place, byte_at, free_pages, regions, marked_at}
+use Rattle.address_map.specs.Memory.{place, byte_at, free_pages, regions, class_of}
 use Rattle.address_map.specs.Pages.{frame_at, IsPageTable}
 use Rattle.address_map.proofs.Loads.{unmapped_page}
 use Rattle.address_map.proofs.Mapping.{mapped_more, stays_more, bytes_more}
@@ -86,7 +86,7 @@ unfolding regions
 returns-clause-regions c = refl
 
 pub returns-clause-marks : goal.returns-clause-marks
-unfolding marked_at place
+unfolding class_of place
 returns-clause-marks c a =
     let m = c.args.self.now in
     let f : ℕ = c.unwrap-frame.result in

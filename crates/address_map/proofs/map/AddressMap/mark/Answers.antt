@@ -1,5 +1,5 @@
 use Rattle.std.proofs.Common.{◌∙◌, sym, arith, refl}
-use Rattle.address_map.specs.Memory.{place, byte_at, free_pages, regions, marked_at}
+use Rattle.address_map.specs.Memory.{place, byte_at, free_pages, regions, class_of}
 use Rattle.address_map.proofs.Marking.{marks_room, word_marked}
 use Rattle.address_map.proofs.map.AddressMap.mark.Goals as goal
 
@@ -31,7 +31,7 @@ unfolding byte_at place
 returns-clause-bytes c = refl
 
 pub returns-clause-marks : goal.returns-clause-marks
-unfolding marked_at place
+unfolding class_of place
 returns-clause-marks c a =
     word_marked c.args.self.now c.set.new.self c.args.at c.unwrap-place.result c.args.class c.requires.aligned
     (sym c.translate.ensures ∙ c.unwrap-place.ensures) c.set.ensures.classes a

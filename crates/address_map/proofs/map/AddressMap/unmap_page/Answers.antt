@@ -1,7 +1,7 @@
 use Rattle.std.proofs.Common.{◌≡◌, ◌/◌, ℕ, Some, None, ◌∙◌, is_some, Option, true, lit<, arith, rules, ap, sym, refl}
 use Rattle.std.specs.Option.{IsSome}
 use Rattle.std.proofs.lemmas.Bool.{false≢true}
-use Rattle.address_map.specs.Memory.{place, byte_at, free_pages, regions, marked_at}
+use Rattle.address_map.specs.Memory.{place, byte_at, free_pages, regions, class_of}
 use Rattle.address_map.specs.Pages.{frame_at}
 use Rattle.address_map.proofs.Loads.{mapped_page, frame_read}
 use Rattle.address_map.proofs.Spans.{mapped_below}
@@ -77,7 +77,7 @@ unfolding regions
 returns-clause-regions c = refl
 
 pub returns-clause-marks : goal.returns-clause-marks
-unfolding marked_at place
+unfolding class_of place
 returns-clause-marks c a =
     let m = c.args.self.now in
     marks_less m.frames.items c.args.addr c.requires.aligned (omega (arith, mapped_below m c.args.addr c.requires.mapped, m.table.size)) m.marks a
