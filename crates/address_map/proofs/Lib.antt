@@ -2,6 +2,7 @@ pub mod Bytes
 pub mod Equations
 pub mod Guests
 pub mod Lengths
+pub mod Lending
 pub mod Loads
 pub mod Mapping
 pub mod Walks

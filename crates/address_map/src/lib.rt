@@ -5,6 +5,7 @@ pub mod class;
 pub mod flex;
 pub mod item;
 pub mod laws;
+pub mod lent;
 pub mod map;
 pub mod moves;
 pub mod owned;
