@@ -2,6 +2,7 @@ pub mod Bytes
 pub mod Equations
 pub mod Lanes
 pub mod Lengths
+pub mod Lending
 pub mod Loads
 pub mod Mapping
 pub mod Marking

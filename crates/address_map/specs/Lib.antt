@@ -2,6 +2,7 @@ pub mod Bytes
 pub mod Classes
 pub mod Flex
 pub mod Items
+pub mod Lent
 pub mod Marks
 pub mod Memory
 pub mod Pages

@@ -4,6 +4,7 @@
 pub mod class;
 pub mod item;
 pub mod laws;
+pub mod lent;
 pub mod map;
 pub mod marks;
 pub mod moves;
