@@ -1,20 +1,22 @@
 -- The lowest register of a list, which is its lowest set bit, and the list without it.
-use Rattle.std.proofs.Common.{◌≡◌, ◌≢◌, ℕ, zero, suc, ◌&&◌, length, map, slice_index, slice_get, Some, ◌+◌, ◌-◌, ◌*◌, ◌/◌, ◌%◌, ◌^◌, ◌<◌, ◌≤◌, Bool, true, false, cond, nat_eq, List, [], ◌∷◌, ◌++◌, ap, sym, ◌∙◌, refl, arith, append-nil, inl, inr, bit_and}
+use Rattle.std.proofs.Common.{◌≡◌, ◌≢◌, ℕ, zero, suc, ◌&&◌, length, map, slice_index, slice_get, Option, Some, None, Ok, Err, ◌+◌, ◌-◌, ◌*◌, ◌/◌, ◌%◌, ◌^◌, ◌<◌, ◌≤◌, Bool, true, false, cond, nat_eq, List, [], ◌∷◌, ◌++◌, ap, sym, ◌∙◌, refl, arith, append-nil, inl, inr, bit_and}
 use Rattle.std.specs.Int.{w32, bit_not, trailing_zeros}
 use Rattle.std.proofs.lemmas.Bool.{cases_lt}
 use Rattle.std.proofs.lemmas.Bool.Decides.{nat_tests}
+use Rattle.std.proofs.lemmas.List.{length-map}
 use Rattle.std.proofs.lemmas.Nat.{and_le_l}
 use Rattle.std.proofs.lemmas.Nat.Bits.{bit_at-trailing_zeros, bit_at_clear_same, bit_at_clear_other, bit_at_above}
 use Rattle.profile.specs.Word.{bit_of}
-use Rattle.address_map.specs.Bytes.{Bytes, word_at, with_word, with_word_at}
+use Rattle.profile.specs.declared.fault.Fault.{Fault}
+use Rattle.address_map.specs.Bytes.{Bytes, word_at, with_word, with_word_at, unless}
 use Rattle.address_map.specs.Memory.{bytes_of, byte_at, layout}
 use Rattle.address_map.specs.declared.map.AddressMap.{AddressMap}
 use Rattle.arm_decode.specs.declared.action.BlockTransfer.{BlockTransfer}
-use Rattle.arm_step.specs.Blocks.{listed_below, listed, with_loaded, stores_new_base, block_base, bank_of, block_value}
-use Rattle.arm_step.specs.Effect.{with_result_in, status_operand}
+use Rattle.arm_step.specs.Blocks.{listed_below, listed, with_loaded, stores_new_base, block_size, block_start, block_base, bank_of, with_block_base, block_value, block_values, block_stored}
+use Rattle.arm_step.specs.Effect.{advanced, with_result_in, status_operand}
 use Rattle.arm_step.specs.PageWords.{words_in}
 use Rattle.arm_step.specs.State.{State}
-use Rattle.arm_step.specs.Words.{with_words}
+use Rattle.arm_step.specs.Words.{with_words, words_store_fault, words_stored}
 use Rattle.arm_step.specs.declared.psr.Mode.{Mode}
 use Rattle.arm_step.proofs.SeveralWords.{words_put}
 
@@ -98,7 +100,8 @@ pub loaded_next : (m : Mode) (s t : State) (x y r w at : ℕ) (bytes : List ℕ)
     → t ≡ with_result_in m s r w
     → with_loaded m s (listed x) (words_in bytes at (length (listed x))) ≡ with_loaded m t (listed y) (words_in bytes (at + 4) (length (listed y)))
 unfolding with_loaded words_in
-loaded_next m s t x y r w at bytes e word new = rw (e, ← word, ← new) refl
+loaded_next m s t x y r w at bytes e word new =
+    rw (e, ← word) (ap (λ u. with_loaded m u (listed y) (words_in bytes (at + 4) (length (listed y)))) (sym new))
 
 pub loaded_end : (m : Mode) (s : State) (x : ℕ) (ws : List ℕ) → x ≡ 0 → with_loaded m s (listed x) ws ≡ s
 unfolding with_loaded
@@ -151,3 +154,24 @@ put_next m n f first offset x y r w same bytes e is =
 pub put_end : (b : Bytes) (f : ℕ → ℕ) (a x : ℕ) → x ≡ 0 → with_words b a (map f (listed x)) ≡ b
 unfolding with_words
 put_end b f a x e = let none : listed x ≡ [] = ap listed e ∙ listed_empty in rw none refl
+
+-- all words of a block, by the fault that a store of them meets
+length_values : (s : State) (t : BlockTransfer) → length (block_values s t) ≡ block_size t
+unfolding block_values
+length_values s t = length-map (listed t.list) (block_value s t)
+
+block_words : (owned : ℕ → Bool) (s : State) (b : Bytes) (t : BlockTransfer) (first : ℕ) (fault : Option Fault) → words_store_fault owned b first (block_size t) ≡ fault
+    → words_stored owned b first (block_values s t) ≡ unless fault (with_words b first (block_values s t))
+unfolding words_stored
+block_words owned s b t first fault h = rw (length_values s t, h) refl
+
+pub block_refused : (owned : ℕ → Bool) (s : State) (b : Bytes) (t : BlockTransfer) (first : ℕ) (fault : Fault) → first ≡ block_start s t
+    → words_store_fault owned b first (block_size t) ≡ Some fault → block_stored owned s b t ≡ Err fault
+unfolding block_stored
+block_refused owned s b t first fault start h = rw (← start, block_words owned s b t first (Some fault) h) refl
+
+pub block_done : (owned : ℕ → Bool) (s : State) (b : Bytes) (t : BlockTransfer) (first base : ℕ) → first ≡ block_start s t → base ≡ block_base s t
+    → words_store_fault owned b first (block_size t) ≡ None
+    → block_stored owned s b t ≡ Ok (with_block_base (advanced s) t base, with_words b first (block_values s t))
+unfolding block_stored
+block_done owned s b t first base start to h = rw (← start, ← to, block_words owned s b t first None h) refl

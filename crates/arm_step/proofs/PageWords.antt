@@ -20,6 +20,9 @@ record IsInPage (a n : ℕ) : Type 0 where
 in_page : (a n : ℕ) → are_in_page a n ≡ true → IsInPage a n
 in_page a n e = record { some = grind (arith, nat_tests); within = grind (arith, nat_tests) }
 
+pub page_within : (a n : ℕ) → are_in_page a n ≡ true → a % 4096 + 4 * n ≤ 4096
+page_within a n e = (in_page a n e).within
+
 -- all words of a page are mapped, or none
 all_mapped : (b : Bytes) (a n : ℕ) → ((i : ℕ) → i < n → b.mapped (a + 4 * i) ≡ true) → are_mapped b a n ≡ true
 unfolding are_mapped
