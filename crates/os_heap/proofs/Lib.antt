@@ -6,6 +6,7 @@ pub mod Ending
 pub mod Found
 pub mod Frame
 pub mod Freeing
+pub mod Held
 pub mod Linking
 pub mod Moving
 pub mod Owned
