@@ -8,6 +8,7 @@ pub mod Frame
 pub mod Freeing
 pub mod Held
 pub mod Linking
+pub mod Marking
 pub mod Moving
 pub mod Owned
 pub mod Recorded

@@ -1,5 +1,5 @@
 -- The marks of the words that items spell: lists put end to end, and a part of a list that is replaced.
-use Rattle.std.proofs.Common.{◌+◌, ◌≡◌, ℕ, List, [], ◌∷◌, ◌++◌, ◌||◌, ◌==◌, Bool, true, false, refl, sym, ap, ◌∙◌, add-zero, add_assoc, arith, ◌≤◌, subst}
+use Rattle.std.proofs.Common.{◌+◌, ◌≡◌, ℕ, List, [], ◌∷◌, ◌++◌, ◌||◌, ◌==◌, Bool, true, false, refl, sym, ap, ◌∙◌, add-zero, add_assoc, arith, ◌≤◌, subst, cond}
 use Rattle.std.proofs.lemmas.Bool.{true≢false, or_left, or_right, false_from_ne_true}
 use Rattle.address_map.specs.Bytes.{word_start}
 use Rattle.address_map.specs.Items.{is_head, is_head_of, size_of}
@@ -12,7 +12,7 @@ use Rattle.os_heap_lists.proofs.ItemWalk.{size_of-gap}
 use Rattle.os_heap_lists.proofs.Spelling.{totals-front, totals-back}
 use Rattle.os_heap_lists.specs.Heap.{AreTotals}
 use Rattle.os_heap_lists.specs.Lists.{left_free}
-use Rattle.os_heap_lists.specs.Marks.{marked, Remarks, AreMarked, AreStill, with_item_marked}
+use Rattle.os_heap_lists.specs.Marks.{marked, Remarks, AreMarked, AreStill, with_item_marked, with_items_marked}
 
 or_next : (a b c : Bool) → ((a || b) || c) ≡ (a || (b || c))
 or_next true b c = refl
@@ -70,11 +70,26 @@ given_and_made c d e at olds news one two a =
     given_then_made (is_head at news (word_start a)) (is_head at olds (word_start a)) (c a) (d a) (e a) (one a) (two a)
 
 -- one item
-pub item_given : (c d : ℕ → Class) (at : ℕ) (item : Item) → ((a : ℕ) → d a ≡ with_item_marked at item class.Plain c a) → Remarks c d at (item ∷ []) []
-item_given c d at item change a = rw (is_head-one at item (word_start a)) (change a)
+pub both_marked : (x y : Bool) (class old mid new : Class) → mid ≡ cond x class old → new ≡ cond y class mid → new ≡ cond (x || y) class old
+both_marked true true class old mid new one two = two
+both_marked true false class old mid new one two = two ∙ one
+both_marked false true class old mid new one two = two
+both_marked false false class old mid new one two = two ∙ one
 
-pub item_made : (c d : ℕ → Class) (at : ℕ) (item : Item) → ((a : ℕ) → d a ≡ with_item_marked at item class.Heap c a) → Remarks c d at [] (item ∷ [])
-item_made c d at item change a = rw (is_head-one at item (word_start a)) (change a)
+-- the words of a free item
+pub free_marked : (c d e : ℕ → Class) (at total : ℕ) (class : Class) → ((a : ℕ) → d a ≡ cond (word_start a == at) class (c a))
+    → ((a : ℕ) → e a ≡ cond (word_start a == at + 4) class (d a)) → (a : ℕ) → e a ≡ with_item_marked at (Free total) class c a
+free_marked c d e at total class one two a =
+    both_marked (word_start a == at) (word_start a == at + 4) class (c a) (d a) (e a) (one a) (two a)
+
+-- the words of one item more
+pub one_more : (c d e : ℕ → Class) (at place : ℕ) (items : List Item) (item : Item) (class : Class) → place ≡ at + size_of items
+    → ((a : ℕ) → d a ≡ with_items_marked at items class c a) → ((a : ℕ) → e a ≡ with_item_marked place item class d a)
+    → (a : ℕ) → e a ≡ with_items_marked at (items ++ item ∷ []) class c a
+one_more c d e at place items item class e1 one two a =
+    let p : ℕ = word_start a in
+    let last : is_head (at + size_of items) (item ∷ []) p ≡ is_head_of place item p = is_head-one (at + size_of items) item p ∙ ap (λ (q : ℕ). is_head_of q item p) (sym e1) in
+    rw (is_head-append at items (item ∷ []) p, last) (both_marked (is_head at items p) (is_head_of place item p) class (c a) (d a) (e a) (one a) (two a))
 
 -- lists of the same size leave what is behind them where it is
 pub still-same : (at : ℕ) (olds news rest : List Item) → size_of news ≡ size_of olds → AreStill at olds news rest
@@ -120,6 +135,28 @@ remarked c d at before olds news rest totals still change marks a =
     rw (old, new) (replaced_word (is_head place news p) given first last (c a) (d a) (change a)
     (λ f. (false_from_ne_true given (below f), marks a (old ∙ or_left first (given || last) f)))
     (λ f. (false_from_ne_true given (past f), marks a (old ∙ or_right first (given || last) (or_right given last f)))))
+
+-- the same of a list that is told to be two
+pub remarked_as : (c d : ℕ → Class) (at : ℕ) (before old olds news rest : List Item) → old ≡ olds ++ rest → AreTotals (before ++ old)
+    → AreStill (at + size_of before) olds news rest → Remarks c d (at + size_of before) olds news → AreMarked c at (before ++ old)
+    → Remarks c d at (before ++ old) (before ++ (news ++ rest))
+remarked_as c d at before old olds news rest split totals still change =
+    subst (λ (ys : List Item). AreMarked c at (before ++ ys) → Remarks c d at (before ++ ys) (before ++ (news ++ rest))) (sym split)
+    (remarked c d at before olds news rest (subst (λ (ys : List Item). AreTotals (before ++ ys)) split totals) still change)
+
+-- a list that spells the same words
+same_word : (given : Bool) (old new : Class) → new ≡ old → (given ≡ true → old ≡ class.Heap) → new ≡ marked given given old
+same_word true old new same mark = same ∙ mark refl
+same_word false old new same mark = same
+
+pub unmarked : (c d : ℕ → Class) (at : ℕ) (olds news : List Item) → ((a : ℕ) → d a ≡ c a) → ((p : ℕ) → is_head at news p ≡ is_head at olds p)
+    → AreMarked c at olds → Remarks c d at olds news
+unmarked c d at olds news same still marks a =
+    rw (still (word_start a)) (same_word (is_head at olds (word_start a)) (c a) (d a) (same a) (marks a))
+
+-- as where the last block got another total
+pub last_still : (at k t : ℕ) (before : List Item) (p : ℕ) → is_head at (before ++ Live k ∷ []) p ≡ is_head at (before ++ Live t ∷ []) p
+last_still at k t before p = is_head-append at before (Live k ∷ []) p ∙ sym (is_head-append at before (Live t ∷ []) p)
 
 -- a gap in front: a free item, or nothing
 size_of-left : (gap : ℕ) → size_of (left_free gap) ≡ gap

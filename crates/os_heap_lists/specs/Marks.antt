@@ -1,6 +1,6 @@
 -- Which words only the store calls may write: each word that a heap's list spells is marked as a head, and loses its mark where the list gives
 -- it up (RISC OS 3 Programmer's Reference Manual, "OS_Heap", the internal format; that a guest can't store to these words is this project's own).
-use Rattle.std.specs.Prelude.{ℕ, ◌≡◌, ◌+◌, Bool, true, List, if◌then◌else◌}
+use Rattle.std.specs.Prelude.{ℕ, ◌≡◌, ◌+◌, Bool, true, false, List, if◌then◌else◌}
 use Rattle.std.specs.List.{list_any}
 use Rattle.address_map.specs.Bytes.{word_start}
 use Rattle.address_map.specs.Items.{is_head, is_head_of, is_heap_word, size_of}
@@ -17,9 +17,17 @@ marked made given_up old = if made then class.Heap else (if given_up then class.
 abbrev pub Remarks : (ℕ → Class) → (ℕ → Class) → ℕ → List Item → List Item → Type 0
 Remarks old new at olds news = (a : ℕ) → new a ≡ marked (is_head at news (word_start a)) (is_head at olds (word_start a)) (old a)
 
--- the words of the item at `at` got a class
+-- the class of a word that is a head from now on, or no more
+abbrev pub head_class : Bool → Class
+head_class true = class.Heap
+head_class false = class.Plain
+
+-- the classes after the words of an item at `at`, or of items that begin there, got one
 abbrev pub with_item_marked : ℕ → Item → Class → (ℕ → Class) → ℕ → Class
 with_item_marked at item class old a = if is_head_of at item (word_start a) then class else old a
+
+abbrev pub with_items_marked : ℕ → List Item → Class → (ℕ → Class) → ℕ → Class
+with_items_marked at items class old a = if is_head at items (word_start a) then class else old a
 
 -- each word that the items spell is marked
 abbrev pub AreMarked : (ℕ → Class) → ℕ → List Item → Type 0
