@@ -1,9 +1,11 @@
 pub mod Bytes
 pub mod Equations
 pub mod Guests
+pub mod Lanes
 pub mod Lengths
 pub mod Loads
 pub mod Mapping
+pub mod Marking
 pub mod Walks
 pub mod Words
 pub mod Moving

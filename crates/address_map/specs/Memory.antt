@@ -1,11 +1,12 @@
 -- What an `AddressMap` stands for. The places of bytes in the store are the map's own matter; the layers above speak of
--- `bytes_of`, `layout`, `free_pages`, `class_of` and `is_owned`.
+-- `bytes_of`, `layout`, `free_pages`, `marked_at`, `class_of` and `is_owned`.
 use Rattle.std.specs.Prelude.{◌≡◌, ◌≤◌, ◌<◌, ℕ, ◌+◌, Bool, true, false, not, List, length, slice_index, Option, Some, None, is_some}
 use Rattle.address_map.specs.declared.class.Class.{Class}
 use Rattle.address_map.specs.declared.class.Class.TheVariants.{Plain}
 use Rattle.address_map.specs.declared.region.Region.{Region}
 use Rattle.address_map.specs.declared.map.AddressMap.{AddressMap}
 use Rattle.address_map.specs.Bytes.{Bytes}
+use Rattle.address_map.specs.Marks.{mark_in}
 use Rattle.address_map.specs.Pages.{place_in}
 use Rattle.address_map.specs.Records.{byte_class}
 
@@ -61,6 +62,10 @@ pub record Layout : Type 0 where
 
 abbrev pub layout : AddressMap → Layout
 layout m = record { place = place m; regions = regions m; free_pages = free_pages m }
+
+-- the class that the word at an address is marked with; where nothing is mapped all is plain
+unfoldable pub marked_at : AddressMap → ℕ → Class
+marked_at m a = mark_in m.marks (place m a)
 
 -- what the store calls use the byte at an address for
 unfoldable pub class_of : AddressMap → ℕ → Class

@@ -1,6 +1,6 @@
 -- The record of the ranges that the store calls use, and the words in them that only store calls may write: descriptors, lengths and links
 -- of heaps, headers of flex blocks, and anchors.
-use Rattle.std.specs.Prelude.{ℕ, ◌≡◌, ◌≤◌, Bool, true, false, ◌+◌, ◌%◌, ◌^◌, ◌&&◌, ◌||◌, List, [], ◌∷◌, ◌++◌, if◌then◌else◌, ◌==◌}
+use Rattle.std.specs.Prelude.{ℕ, ◌≡◌, ◌≤◌, Bool, true, false, ◌+◌, ◌%◌, ◌^◌, ◌&&◌, ◌||◌, List, [], ◌∷◌, ◌++◌, if◌then◌else◌, ◌==◌, Option, Some, None, is_some}
 use Rattle.std.specs.List.{list_any}
 use Rattle.address_map.specs.declared.class.Class.{Class}
 use Rattle.address_map.specs.declared.class.Class.TheVariants as class
@@ -20,6 +20,39 @@ abbrev pub is_flex_kind : Kind → Bool
 is_flex_kind kind.FlexHeader = true
 is_flex_kind other = false
 
+-- The class that a kind gives to the one word at its address. The other kinds are those of recorded ranges.
+abbrev pub mark_of : Kind → Option Class
+mark_of kind.HeadWord = Some class.Heap
+mark_of kind.Anchor = Some class.Anchor
+mark_of other = None
+
+abbrev pub is_word_kind : Kind → Bool
+is_word_kind kind = is_some (mark_of kind)
+
+-- the classes after the word at `at` got one
+abbrev pub with_class : (ℕ → Class) → ℕ → Class → ℕ → Class
+with_class classes at mark a = if word_start a == at then mark else classes a
+
+abbrev pub with_class_of : Option Class → ℕ → (ℕ → Class) → ℕ → Class
+with_class_of None at classes a = classes a
+with_class_of (Some mark) at classes a = with_class classes at mark a
+
+-- the classes after a word, or a range, is owned
+abbrev pub with_mark : Kind → ℕ → (ℕ → Class) → ℕ → Class
+with_mark kind at classes a = with_class_of (mark_of kind) at classes a
+
+abbrev pub plain_if_some : Option Class → Option Class
+plain_if_some None = None
+plain_if_some (Some mark) = Some class.Plain
+
+-- the classes after a word, or a range, is owned no more
+abbrev pub without_mark : Kind → ℕ → (ℕ → Class) → ℕ → Class
+without_mark kind at classes a = with_class_of (plain_if_some (mark_of kind)) at classes a
+
+-- the classes after the `len` bytes from `at` on became plain
+abbrev pub with_plain_at : (ℕ → Class) → ℕ → ℕ → ℕ → Class
+with_plain_at classes at len a = if in_range at len a then class.Plain else classes a
+
 -- A range that may be recorded: it begins at a whole word and ends in the 26-bit address space.
 pub record IsRegion (region : Region) : Type 0 where
   pub aligned : region.at % 4 ≡ 0
@@ -29,15 +62,11 @@ pub record IsRegion (region : Region) : Type 0 where
 abbrev pub meets_record : List Region → ℕ → ℕ → Bool
 meets_record regions at len = list_any (λ region. meets at len region.at region.len) regions
 
-abbrev pub with_region_of : List Region → Region → Kind → List Region
-with_region_of regions region kind.Anchor = regions
-with_region_of regions region other = regions ++ region ∷ []
-
--- the record after a range more, which goes to its end; anchors are named by the headers of their blocks, and need no record
+-- the record after a range more, which goes to its end; a word is marked, and needs no record
 abbrev pub with_region : List Region → Region → List Region
-with_region regions region = with_region_of regions region region.kind
+with_region regions region = if is_word_kind region.kind then regions else regions ++ region ∷ []
 
--- are two kinds the same one, of those that are recorded? An anchor is no record.
+-- are two kinds the same one, of those that are recorded? A word is no record.
 abbrev pub are_same : Kind → Kind → Bool
 are_same kind.Heap kind.Heap = true
 are_same kind.Rma kind.Rma = true

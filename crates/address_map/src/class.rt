@@ -1,3 +1,6 @@
+ghost use Rattle.std.specs.Prelude.{◌≡◌};
+ghost use Rattle.address_map.specs.Classes.{number_of};
+
 /// What the store calls use a byte of memory for. A guest may write to `Plain` bytes alone.
 #[derive(Clone, Copy, Debug, PartialEq, Eq)]
 pub enum Class {
@@ -9,4 +12,18 @@ pub enum Class {
     FlexHeader,
     /// A word that holds the address of a flex block.
     Anchor,
+}
+
+impl Class {
+    /// The class as a number of two bits.
+    pub(crate) fn number(self) -> u8
+        ensures { result ≡ number_of self }
+    {
+        match self {
+            Class::Plain => 0,
+            Class::Heap => 1,
+            Class::FlexHeader => 2,
+            Class::Anchor => 3,
+        }
+    }
 }

@@ -6,6 +6,7 @@ pub mod flex;
 pub mod item;
 pub mod laws;
 pub mod map;
+pub mod marks;
 pub mod moves;
 pub mod owned;
 pub mod pages;

@@ -125,6 +125,7 @@ limits_more kind.Rma s at size room limits = record {
 limits_more kind.FlexStore s at size room limits = absurd room
 limits_more kind.FlexHeader s at size room limits = absurd room
 limits_more kind.Anchor s at size room limits = absurd room
+limits_more kind.HeadWord s at size room limits = absurd room
 limits_more kind.Image s at size room limits = absurd room
 limits_more kind.SystemPage s at size room limits = absurd room
 
@@ -141,6 +142,7 @@ few_heaps kind.Rma s at room limits = omega (arith, heaps_counted s.heaps, room.
 few_heaps kind.FlexStore s at room limits = absurd room
 few_heaps kind.FlexHeader s at room limits = absurd room
 few_heaps kind.Anchor s at room limits = absurd room
+few_heaps kind.HeadWord s at room limits = absurd room
 few_heaps kind.Image s at room limits = absurd room
 few_heaps kind.SystemPage s at room limits = absurd room
 
@@ -287,6 +289,7 @@ recorded rs kind.Rma at len heap = refl
 recorded rs kind.FlexStore at len heap = absurd (false≢true heap)
 recorded rs kind.FlexHeader at len heap = absurd (false≢true heap)
 recorded rs kind.Anchor at len heap = absurd (false≢true heap)
+recorded rs kind.HeadWord at len heap = absurd (false≢true heap)
 recorded rs kind.Image at len heap = absurd (false≢true heap)
 recorded rs kind.SystemPage at len heap = absurd (false≢true heap)
 

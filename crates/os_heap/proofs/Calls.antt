@@ -125,6 +125,7 @@ image_in-others b (r ∷ rs) = elim (cases_Bool (is_heap_kind r.kind)) [
   heap_no_image kind.FlexStore h = refl
   heap_no_image kind.FlexHeader h = refl
   heap_no_image kind.Anchor h = refl
+  heap_no_image kind.HeadWord h = refl
   heap_no_image kind.Image h = sym h
   heap_no_image kind.SystemPage h = refl
 

@@ -223,6 +223,7 @@ same_kind kind.Rma heap = refl
 same_kind kind.FlexStore heap = absurd (false≢true heap)
 same_kind kind.FlexHeader heap = absurd (false≢true heap)
 same_kind kind.Anchor heap = absurd (false≢true heap)
+same_kind kind.HeadWord heap = absurd (false≢true heap)
 same_kind kind.Image heap = absurd (false≢true heap)
 same_kind kind.SystemPage heap = absurd (false≢true heap)
 

@@ -25,6 +25,7 @@ heap_is_no_flex kind.Rma h = refl
 heap_is_no_flex kind.FlexStore h = refl
 heap_is_no_flex kind.FlexHeader h = sym h
 heap_is_no_flex kind.Anchor h = refl
+heap_is_no_flex kind.HeadWord h = refl
 heap_is_no_flex kind.Image h = refl
 heap_is_no_flex kind.SystemPage h = refl
 

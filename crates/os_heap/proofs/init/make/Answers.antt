@@ -1,7 +1,9 @@
 use Rattle.std.proofs.Common.{◌≡◌, [], ◌∷◌, ◌++◌, is_some, ap, sym, subst, ◌∙◌, arith}
+use Rattle.std.proofs.lemmas.Bool.{both_ways}
 use Rattle.address_map.specs.declared.region.Region.{Region}
 use Rattle.address_map.specs.Memory.{byte_at, bytes_of, regions}
 use Rattle.address_map.proofs.Equations.{same_bytes}
+use Rattle.address_map.proofs.Marking.{heap_is_no_word}
 use Rattle.address_map.proofs.Stores.{layout-mapping}
 use Rattle.os_heap_lists.specs.Heap.{with_heap}
 use Rattle.os_heap.specs.Store.{store_of, IsSound}
@@ -34,7 +36,10 @@ own-requires-clause-region c =
 pub own-requires-clause-room : goal.own-requires-clause-room
 own-requires-clause-room c =
     let same : regions c.write_descriptor.new.map ≡ regions c.args.map.now = layout-regions _ _ c.write_descriptor.ensures.layout in
-    rw same (records_room c.args.map.now c.args.kind c.args.heap c.requires.sound c.requires.may.room)
+    λ _. rw same (records_room c.args.map.now c.args.kind c.args.heap c.requires.sound c.requires.may.room)
+
+pub own-requires-clause-mapped : goal.own-requires-clause-mapped
+own-requires-clause-mapped c = λ is. absurd (both_ways _ (heap_is_no_word c.args.kind c.requires.kind) is)
 
 pub returns-clause-store : goal.returns-clause-store
 returns-clause-store c =
