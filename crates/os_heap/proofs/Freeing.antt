@@ -9,7 +9,7 @@ use Rattle.address_map.specs.declared.item.Item.TheVariants.{Live, Free}
 use Rattle.address_map.specs.declared.map.AddressMap.{AddressMap}
 use Rattle.os_heap_lists.proofs.ItemWalk.{begun_more, near, released_past, begun_past, released_free-none, released_here, size_of-gap, next_apart, rest_none, glued_nothing, size_of-old, glued_free, rest_live}
 use Rattle.os_heap_lists.proofs.LastLink.{LinkFacts, link_facts, link_of-item}
-use Rattle.os_heap_lists.proofs.Marks.{remarked_as, still-same}
+use Rattle.os_heap_lists.proofs.Marks.{remarked_as, still-same, size_of-left}
 use Rattle.os_heap_lists.proofs.Reading.{total_facts}
 use Rattle.os_heap_lists.proofs.Spelling.{totals-back, size_of-multiple, totals-front, size_of-append, spaced-join, spells-kept, total_of-numbers}
 use Rattle.os_heap_lists.specs.Counts.{begun_below}
@@ -18,10 +18,11 @@ use Rattle.os_heap_lists.specs.Lists.{released, left_free, freed, glued}
 use Rattle.os_heap_lists.specs.Marks.{AreMarked, Remarks}
 use Rattle.os_heap_lists.specs.Walks.{IsWalkedTo, IsWalked, IsBlock}
 use Rattle.os_heap_lists.specs.Words.{link_at, IsWritten, IsFreed}
+use Rattle.os_heap.proofs.Marking.{can_stand}
 use Rattle.os_heap.proofs.Replace.{becomes}
 use Rattle.os_heap.proofs.Searching.{FreeFacts, free_facts}
 use Rattle.os_heap.proofs.Walking.{base_past, AtFree, AtLive, LiveFacts, live_facts}
-use Rattle.os_heap.specs.Outcomes.{IsHeapAt, items_at, Becomes, Releases}
+use Rattle.os_heap.specs.Outcomes.{CanStand, IsHeapAt, items_at, Becomes, Releases}
 
 -- the walk ends, and there is no such block
 over : (m : AddressMap) (start end block from at free gap probes : ℕ) (before rest : List Item) → IsHeapAt m start end
@@ -107,6 +108,16 @@ block_facts m start end block from at free gap heap b =
       last = rw (b.last, place) (link_facts start b.before heap.aligned before_totals);
       heap = subst (λ (ys : List Item). IsHeapIn (bytes_of m) start end ys) (b.split ∙ append_assoc b.before (left_free gap) (Live b.total ∷ b.rest)) heap;
     }
+
+-- where the words of the gap stand
+pub gap_stands : (m n : AddressMap) (start end block from at free gap : ℕ) → IsHeapAt m start end → IsBlock start (items_at m start) block from at free gap
+    → layout n ≡ layout m → CanStand n (at - gap) (left_free gap)
+gap_stands m n start end block from at free gap heap b same =
+    let f : BlockFacts m start end from at free gap b.total b.before b.rest = block_facts m start end block from at free gap heap b in
+    let old : List Item = left_free gap ++ Live b.total ∷ b.rest in
+    can_stand m n start end (at - gap) (b.before ++ old) (left_free gap) f.heap same
+    (totals-front (left_free gap) (Live b.total ∷ b.rest) (totals-back b.before old f.heap.totals))
+    f.whole (omega (arith, f.low)) (omega (arith, size_of-left gap, f.low, f.facts.high))
 
 -- a free item that touches the block behind
 pub record NextFree (m : AddressMap) (start end at : ℕ) (rest : List Item) : Type 0 where

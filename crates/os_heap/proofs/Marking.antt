@@ -1,16 +1,19 @@
 -- Words that are marked as heads, one by one, and item by item.
-use Rattle.std.proofs.Common.{Bool, List, ℕ, [], ◌∷◌, ◌++◌, ◌≡◌, ◌==◌, ◌||◌, ◌&&◌, ◌+◌, ◌-◌, ◌%◌, ◌≤◌, ◌<◌, ◌^◌, true, false, refl, sym, ap, subst, ◌∙◌, inl, inr, arith, cond}
+use Rattle.std.proofs.Common.{suc, take, drop, length, slice_index_or, drop-cons, Bool, List, ℕ, [], ◌∷◌, ◌++◌, ◌≡◌, ◌==◌, ◌||◌, ◌&&◌, ◌+◌, ◌-◌, ◌%◌, ◌≤◌, ◌<◌, ◌^◌, true, false, refl, sym, ap, subst, ◌∙◌, inl, inr, arith, cond}
+use Rattle.std.proofs.lemmas.List.{take-append-drop}
+use Rattle.std.proofs.lemmas.Bool.{false≢true}
 use Rattle.std.proofs.lemmas.Bool.Decides.{nat_tests}
 use Rattle.address_map.proofs.Spans.{mapped_below}
 use Rattle.address_map.specs.Bytes.{AreMapped, in_range, word_start}
 use Rattle.address_map.specs.Items.{is_total, size_of, total_of}
 use Rattle.address_map.specs.Memory.{bytes_of, byte_at, is_mapped, layout, mapping, marked_at, regions}
-use Rattle.address_map.specs.Records.{without_region}
+use Rattle.address_map.specs.Records.{is_heap_kind, with_mark, without_region}
 use Rattle.address_map.specs.declared.class.Class.{Class}
 use Rattle.address_map.specs.declared.class.Class.TheVariants as class
 use Rattle.address_map.specs.declared.item.Item.{Item}
 use Rattle.address_map.specs.declared.item.Item.TheVariants.{Free, Live}
 use Rattle.address_map.specs.declared.map.AddressMap.{AddressMap}
+use Rattle.address_map.specs.declared.region.Kind.{Kind}
 use Rattle.address_map.specs.declared.region.Kind.TheVariants as kind
 use Rattle.address_map.specs.declared.region.Region.{Region}
 use Rattle.os_heap_lists.proofs.Marks.{gap_given, given_and_made, both_marked, one_more}
@@ -19,7 +22,7 @@ use Rattle.os_heap_lists.proofs.Spelling.{size_of-append, size_of-multiple, tota
 use Rattle.os_heap_lists.specs.Heap.{AreTotals, IsHeapIn}
 use Rattle.os_heap_lists.specs.Lists.{left_free}
 use Rattle.os_heap_lists.specs.Marks.{Remarks, with_item_marked, with_items_marked}
-use Rattle.os_heap_lists.specs.Words.{IsFreed, IsWritten}
+use Rattle.os_heap_lists.specs.Words.{IsDivided, IsFreed, IsWritten}
 use Rattle.os_heap.proofs.Writing.{still_mapped}
 use Rattle.os_heap.specs.Outcomes.{CanStand}
 
@@ -30,6 +33,16 @@ without_word (r ∷ rs) at = ap (λ (qs : List Region). r ∷ qs) (without_word 
 
 pub same_parts : (m n : AddressMap) → mapping n ≡ mapping m → regions n ≡ regions m → layout n ≡ layout m
 same_parts m n moved records = λ i. record { place = (moved i).place; regions = records i; free_pages = (moved i).free_pages }
+
+pub heap_unmarked : (k : Kind) (at : ℕ) (classes : ℕ → Class) (a : ℕ) → is_heap_kind k ≡ true → with_mark k at classes a ≡ classes a
+heap_unmarked kind.Heap at classes a heap = refl
+heap_unmarked kind.Rma at classes a heap = refl
+heap_unmarked kind.FlexStore at classes a heap = refl
+heap_unmarked kind.FlexHeader at classes a heap = refl
+heap_unmarked kind.Anchor at classes a heap = absurd (false≢true heap)
+heap_unmarked kind.HeadWord at classes a heap = absurd (false≢true heap)
+heap_unmarked kind.Image at classes a heap = refl
+heap_unmarked kind.SystemPage at classes a heap = refl
 
 -- a word's end is in the address space
 pub word_below : (m : AddressMap) (at : ℕ) → at % 4 ≡ 0 → is_mapped m at ≡ true → at + 4 ≤ 2 ^ 26
@@ -95,12 +108,26 @@ item_stands m at items before rest item split s =
     let last : is_mapped m (at + size_of before + total_of item - 1) ≡ true = s.mapped (at + size_of before + total_of item - 1) (omega arith) (omega (arith, size)) in
     record { stands = stands; below = omega (arith, mapped_below m (at + size_of before + total_of item - 1) last) }
 
+-- the next item of a loop over items
+pub next_item : (m n : AddressMap) (at place i : ℕ) (items : List Item) → CanStand m at items → layout n ≡ layout m → i < length items
+    → place ≡ at + size_of (take i items) → CanStand n place (slice_index_or items i (Live 0) ∷ []) × (place + total_of (slice_index_or items i (Live 0)) ≤ 2 ^ 26)
+next_item m n at place i items s same below here =
+    let item : Item = slice_index_or items i (Live 0) in
+    let split : items ≡ take i items ++ item ∷ drop (suc i) items =
+    sym (take-append-drop i items) ∙ ap (λ (ys : List Item). take i items ++ ys) (drop-cons items i (Live 0) below) in
+    let found : IsItem m at items (take i items) item = item_stands m at items (take i items) (drop (suc i) items) item split s in
+    rw here (still_stand m n (at + size_of (take i items)) (item ∷ []) same found.stands, found.below)
+
 -- what was written and marked before the marks of other items
 pub still_written : (f g h : ℕ → ℕ) (at word : ℕ) → h ≡ g → IsWritten f g at word → IsWritten f h at word
 still_written f g h at word same written = subst (λ (k : ℕ → ℕ). IsWritten f k at word) (sym same) written
 
 pub still_freed : (f g h : ℕ → ℕ) (start from at total next : ℕ) → h ≡ g → IsFreed f g start from at total next → IsFreed f h start from at total next
 still_freed f g h start from at total next same freed = subst (λ (k : ℕ → ℕ). IsFreed f k start from at total next) (sym same) freed
+
+pub still_divided : (f g h : ℕ → ℕ) (start from at total left next : ℕ) → h ≡ g → IsDivided f g start from at total left next
+    → IsDivided f h start from at total left next
+still_divided f g h start from at total left next same divided = subst (λ (k : ℕ → ℕ). IsDivided f k start from at total left next) (sym same) divided
 
 pub remarks_after : (c d e : ℕ → Class) (at : ℕ) (olds news : List Item) → d ≡ c → Remarks d e at olds news → Remarks c e at olds news
 remarks_after c d e at olds news same change = subst (λ (f : ℕ → Class). Remarks f e at olds news) same change

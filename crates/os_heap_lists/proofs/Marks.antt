@@ -159,7 +159,7 @@ pub last_still : (at k t : ℕ) (before : List Item) (p : ℕ) → is_head at (b
 last_still at k t before p = is_head-append at before (Live k ∷ []) p ∙ sym (is_head-append at before (Live t ∷ []) p)
 
 -- a gap in front: a free item, or nothing
-size_of-left : (gap : ℕ) → size_of (left_free gap) ≡ gap
+pub size_of-left : (gap : ℕ) → size_of (left_free gap) ≡ gap
 size_of-left gap = omega (arith, size_of-gap [] gap)
 
 pub gap_given : (c d e : ℕ → Class) (at gap : ℕ) (xs : List Item) → Remarks c d at (left_free gap) [] → Remarks d e (at + gap) xs []
