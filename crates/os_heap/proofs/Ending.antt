@@ -233,6 +233,7 @@ own_heap kind.Rma own = refl
 own_heap kind.FlexStore own = absurd (false≢true own)
 own_heap kind.FlexHeader own = absurd (false≢true own)
 own_heap kind.Anchor own = absurd (false≢true own)
+own_heap kind.HeadWord own = absurd (false≢true own)
 own_heap kind.Image own = absurd (false≢true own)
 own_heap kind.SystemPage own = absurd (false≢true own)
 
