@@ -5,13 +5,15 @@ use Rattle.std.specs.List.{list_any}
 use Rattle.address_map.specs.Bytes.{in_range, word_at, Bytes, word_start}
 use Rattle.address_map.specs.Flex.{FlexBlock, is_anchor, is_header_word}
 use Rattle.address_map.specs.Items.{items_in, is_heap_word}
-use Rattle.address_map.specs.Memory.{is_plain, bytes_of, byte_at, regions, class_of, is_owned}
+use Rattle.address_map.specs.Memory.{is_plain, bytes_of, byte_at, regions, class_of, is_owned, marked_at}
+use Rattle.address_map.specs.declared.class.Class.{Class}
 use Rattle.address_map.specs.Records.{is_flex_kind, is_heap_kind, flex_blocks_of, is_heap_word_of, byte_class}
 use Rattle.address_map.specs.declared.map.AddressMap.{AddressMap}
 use Rattle.address_map.specs.declared.region.Kind.{Kind}
 use Rattle.address_map.specs.declared.region.Region.{Region}
 use Rattle.os_heap_lists.proofs.HeadWords.{word_inside}
-use Rattle.os_heap.specs.Store.{others_in, AreHeapsIn, heaps_in, IsSound, owned_in, store_of}
+use Rattle.os_heap_lists.specs.Marks.{class_by}
+use Rattle.os_heap.specs.Store.{AreClasses, others_in, AreHeapsIn, heaps_in, IsSound, owned_in, store_of}
 use Rattle.address_map.specs.declared.class.Class.TheVariants as class
 use Rattle.address_map.specs.declared.region.Kind.TheVariants as kind
 
@@ -87,3 +89,11 @@ owned_class m a sound none =
 pub owned_heads : (m : AddressMap) → IsSound (store_of m) → has_flex (store_of m).others ≡ false → is_owned m ≡ owned_in (store_of m)
 unfolding is_owned class_of
 owned_heads m sound none = λ i. λ a. owned_class m a sound none i
+
+-- Where the marks are those of the lists, they are what guests must leave alone.
+pub owned_marks : (m : AddressMap) → AreClasses m → (λ (a : ℕ). not (is_plain (marked_at m a))) ≡ owned_in (store_of m)
+unfolding owned_in class_by
+owned_marks m same = λ i. λ a. owned_mark (list_any (λ h. is_heap_word h.start h.items (word_start a)) (store_of m).heaps) (marked_at m a) (same a) i where
+  owned_mark : (spelled : Bool) (own : Class) → own ≡ cond spelled class.Heap class.Plain → not (is_plain own) ≡ spelled
+  owned_mark true own is = rw is refl
+  owned_mark false own is = rw is refl

@@ -9,9 +9,10 @@ use Rattle.address_map.specs.declared.map.AddressMap.{AddressMap}
 use Rattle.address_map.specs.Bytes.{Bytes, in_range, word_at, word_start}
 use Rattle.address_map.specs.Items.{items_in, is_heap_word}
 use Rattle.address_map.specs.Records.{is_heap_kind, is_flex_kind}
-use Rattle.address_map.specs.Memory.{bytes_of, regions}
+use Rattle.address_map.specs.Memory.{bytes_of, marked_at, regions}
 use Rattle.os_heap_lists.specs.Heap.{HeapList, IsHeapIn}
 use Rattle.os_heap_lists.specs.Lists.{live_total}
+use Rattle.os_heap_lists.specs.Marks.{class_by}
 
 -- memory, the heaps in the order in which they were made, and the other recorded ranges
 pub record Store : Type 0 where
@@ -113,6 +114,10 @@ pub record IsSound (s : Store) : Type 0 where
 -- The bytes that only store calls may write: those of the words that the heaps spell. A byte counts as its whole word does.
 unfoldable pub owned_in : Store → ℕ → Bool
 owned_in s a = list_any (λ h. is_heap_word h.start h.items (word_start a)) s.heaps
+
+-- The words that are marked are just those that the lists spell.
+abbrev pub AreClasses : AddressMap → Type 0
+AreClasses m = (a : ℕ) → marked_at m a ≡ class_by (store_of m).heaps a
 
 -- the heap that starts at an address
 abbrev pub find_heap : ℕ → List HeapList → Option HeapList
