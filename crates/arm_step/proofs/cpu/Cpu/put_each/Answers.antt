@@ -33,6 +33,7 @@ loop-rest-preserved c =
           c.split_lowest-register.result.0 c.stored_value-value.result c.put_word_at.ensures.layout c.put_word_at.ensures.bytes
           c.split_lowest-register.ensures.registers value;
       layout = c.put_word_at.ensures.layout ∙ c.loop-rest.invariant.layout;
+      marks = c.put_word_at.ensures.marks ∙ c.loop-rest.invariant.marks;
       room = omega (arith, c.loop-rest.invariant.room, more);
       bits = c.split_lowest-register.ensures.bits;
     }
