@@ -1,4 +1,4 @@
-ghost use Rattle.std.specs.Prelude.{◌≡◌, ◌<◌, ◌≤◌, ◌^◌, ◌%◌};
+ghost use Rattle.std.specs.Prelude.{◌≡◌, ◌<◌, ◌≤◌, ◌^◌, ◌%◌, length};
 ghost use Rattle.arm_step.specs.State.{slot_of, register_in, with_register_in, register_of, with_register, r15_of, with_psr, with_pc, with_flags, with_overflow, with_mode, start_state};
 
 use crate::psr::{Mode, Psr};
@@ -69,6 +69,13 @@ impl Cpu {
             },
             pc: APPLICATION_START,
         }
+    }
+
+    /// Every core has 26 registers, those of all banks. The call does nothing but to say so.
+    pub fn has_all_registers(&self)
+        ensures { length self.now.file ≡ 26 }
+    {
+        let _file = &self.file;
     }
 
     /// R0 to R14 of a mode, whatever the present one.

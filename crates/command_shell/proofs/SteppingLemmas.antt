@@ -8,7 +8,7 @@ use Rattle.profile.specs.declared.stop.Stop.{Stop}
 use Rattle.profile.specs.declared.stop.Stop.TheVariants as stop
 use Rattle.profile.proofs.OutputLemmas.{Appends-join}
 use Rattle.swi_dispatch.specs.declared.halt.Halt.{Halt}
-use Rattle.swi_dispatch.specs.Situation.{stop_of}
+use Rattle.swi_dispatch.specs.MachineState.{stop_of}
 use Rattle.command_shell.specs.State.{ScriptState, Answered, IsAnswered, answer, then_answered}
 use Rattle.command_shell.specs.Stepping.{stop_before_step_by, stop_before_step, call_ended, call_text, call_unless, call_told, stop_told}
 

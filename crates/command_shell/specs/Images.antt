@@ -3,7 +3,7 @@ use Rattle.std.specs.Prelude.{ℕ, Bool, false, List, length, codes, Option, Som
 use Rattle.image_loader.specs.Entries.{bytes_of, refusal_for, with_entry}
 use Rattle.image_loader.specs.declared.error.ImageError.{ImageError}
 use Rattle.image_loader.specs.ErrorNames.{image_error_name}
-use Rattle.swi_dispatch.specs.Situation.{Situation}
+use Rattle.swi_dispatch.specs.MachineState.{MachineState}
 use Rattle.swi_dispatch.specs.Boot.{booted}
 use Rattle.swi_dispatch.specs.declared.boot_error.BootError.{BootError}
 use Rattle.swi_dispatch.specs.declared.boot_error.BootError.TheVariants as boot
@@ -35,7 +35,7 @@ abbrev pub boot_refusal_name : BootError → List ℕ
 boot_refusal_name boot.Booted = codes "Booted"
 boot_refusal_name boot.TooLarge = codes "TooLarge"
 
-abbrev pub boot_done : ScriptState → List ℕ → Result Situation BootError → Answered
+abbrev pub boot_done : ScriptState → List ℕ → Result MachineState BootError → Answered
 boot_done s name (Ok machine) = answer (record s { machine = machine; is_fresh = false }) (boot_text name)
 boot_done s name (Err error) = answer s (refused_text (boot_refusal_name error))
 

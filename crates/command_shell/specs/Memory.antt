@@ -2,7 +2,7 @@
 use Rattle.std.specs.Prelude.{ℕ, false, [], Result, Ok, Err}
 use Rattle.profile.specs.FaultNames.{fault_name}
 use Rattle.profile.specs.declared.fault.Fault.{Fault}
-use Rattle.swi_dispatch.specs.Situation.{Situation}
+use Rattle.swi_dispatch.specs.MachineState.{MachineState}
 use Rattle.swi_dispatch.specs.Boot.{registered, poked}
 use Rattle.command_shell.specs.Answers.{refused_text}
 use Rattle.command_shell.specs.State.{ScriptState, Answered, answer}
@@ -12,7 +12,7 @@ abbrev pub set_told : ScriptState → ℕ → ℕ → Answered
 set_told s register value = answer (record s { machine = registered s.machine register value; is_fresh = false }) []
 
 -- POKE stores a word as a guest's store would.
-abbrev pub poke_done : ScriptState → Result Situation Fault → Answered
+abbrev pub poke_done : ScriptState → Result MachineState Fault → Answered
 poke_done s (Ok machine) = answer (record s { machine = machine; is_fresh = false }) []
 poke_done s (Err fault) = answer s (refused_text (fault_name fault))
 

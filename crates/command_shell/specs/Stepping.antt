@@ -1,18 +1,14 @@
 -- The lines that take steps, RUN, STEP and CALL, and those that set the breaks at which RUN and STEP stop: BREAK and UNBREAK. A store call is over
 -- after its one step, so CALL comes to no break.
-use Rattle.std.specs.Prelude.{ℕ, false, ◌-◌, ◌%◌, ◌==◌, ◌&&◌, nat_le, min, List, ◌++◌, codes, Option, Some, None, Result, Ok, Err, if◌then◌else◌}
-use Rattle.profile.specs.ErrorNames.{error_code}
-use Rattle.profile.specs.declared.error.ErrorNumber.TheVariants.{BadPointer}
-use Rattle.profile.specs.declared.fault.Fault.{Fault}
+use Rattle.std.specs.Prelude.{ℕ, false, ◌-◌, ◌==◌, ◌&&◌, nat_le, min, List, ◌++◌, codes, Option, Some, None, Result, Ok, Err, if◌then◌else◌}
 use Rattle.profile.specs.declared.stop.Stop.{Stop}
 use Rattle.profile.specs.declared.stop.Stop.TheVariants as stop
-use Rattle.address_map.specs.Bytes.{Bytes, word_loaded}
-use Rattle.arm_step.specs.State.{register_of}
 use Rattle.swi_dispatch.specs.declared.halt.Halt.{Halt}
 use Rattle.swi_dispatch.specs.declared.breaks.BreakError.{BreakError}
 use Rattle.swi_dispatch.specs.declared.breaks.BreakError.TheVariants as break
 use Rattle.swi_dispatch.specs.Breaks.{with_break, without_break}
-use Rattle.swi_dispatch.specs.Situation.{Situation, After, stop_of}
+use Rattle.swi_dispatch.specs.Errors.{error_number}
+use Rattle.swi_dispatch.specs.MachineState.{MachineState, Outcome, stop_of}
 use Rattle.swi_dispatch.specs.Step.{store_called}
 use Rattle.swi_dispatch.specs.Run.{count_after}
 use Rattle.swi_dispatch.specs.Run as machine
@@ -50,17 +46,9 @@ stop_before_step_by None left = if left == 0 then Some stop.Budget else None
 abbrev pub stop_before_step : ScriptState → Option Stop
 stop_before_step s = stop_before_step_by s.machine.halt s.left
 
--- The number of the error that a call answered: that of the block at `at`, or 82 (BadPointer) where no block can stand there.
-abbrev pub word_or : ℕ → Result ℕ Fault → ℕ
-word_or other (Ok word) = word
-word_or other (Err fault) = other
-
-unfoldable pub error_number : Bytes → ℕ → ℕ
-error_number b at = if at % 4 == 0 then word_or (error_code BadPointer) (word_loaded b at) else error_code BadPointer
-
 -- what a call tells that did not halt the machine: V says whether it was refused, and R0 points to the error then
-unfoldable pub call_text : Situation → List ℕ
-call_text s = if s.cpu.psr.overflow then call_error_text (error_number s.store.bytes (register_of s.cpu 0)) else ok_text
+unfoldable pub call_text : MachineState → List ℕ
+call_text s = if s.cpu.psr.overflow then call_error_text (error_number s) else ok_text
 
 -- a stop line, which is the last one then
 abbrev pub stop_told : ScriptState → Stop → Answered
@@ -71,11 +59,11 @@ call_ended s (Some halt) = stop_told s (stop_of halt)
 call_ended s None = answer s (call_text s.machine)
 
 -- the state after a store call, which is one step
-abbrev pub call_made : ScriptState → After → ScriptState
+abbrev pub call_made : ScriptState → Outcome → ScriptState
 call_made s a = record s { machine = a.now; is_fresh = false; left = s.left - count_after a.now.halt }
 
 -- what the call prints, and then how it ended
-abbrev pub call_done : ScriptState → After → Answered
+abbrev pub call_done : ScriptState → Outcome → Answered
 call_done s a = then_answered (answer (call_made s a) a.printed) (λ after. call_ended after after.machine.halt)
 
 abbrev pub call_unless : ScriptState → ℕ → Option Stop → Answered

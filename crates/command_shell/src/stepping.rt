@@ -5,7 +5,7 @@ ghost use Rattle.std.specs.Option.{option_map};
 ghost use Rattle.std.specs.Io.KnownBytes.{Appends};
 ghost use Rattle.profile.specs.Output.{Writes};
 ghost use Rattle.swi_dispatch.specs.declared.halt.Halt.{Halt};
-ghost use Rattle.swi_dispatch.specs.Situation.{stop_of};
+ghost use Rattle.swi_dispatch.specs.MachineState.{stop_of};
 ghost use Rattle.swi_dispatch.specs.Run.{count_after};
 ghost use Rattle.command_shell.specs.Stepping.{break_error_name};
 
@@ -14,17 +14,16 @@ use crate::answers::{
 };
 use crate::session::Session;
 use image_loader::Images;
-use profile::{ErrorNumber, Sink, Stop, WriteFault, push_all};
+use profile::{Sink, Stop, WriteFault, push_all};
 use swi_dispatch::BreakError;
 
 impl Session {
     ghost use Rattle.image_loader.specs.Entries.{Entry};
-    ghost use Rattle.arm_step.specs.State.{register_of};
     ghost use Rattle.swi_dispatch.specs.Parts.{state_of};
     ghost use Rattle.swi_dispatch.specs.Step.{store_called};
     ghost use Rattle.command_shell.specs.Session.{script_state};
     ghost use Rattle.command_shell.specs.State.{IsAnswered};
-    ghost use Rattle.command_shell.specs.Stepping.{run_told, step_told, call_told, call_made, call_done, call_text, stop_told, stop_before_step, error_number, break_told, unbreak_told};
+    ghost use Rattle.command_shell.specs.Stepping.{run_told, step_told, call_told, call_made, call_done, call_text, stop_told, stop_before_step, break_told, unbreak_told};
 
     /// Takes all the steps that are left, and tells the stop.
     #[tactic(auto, unfolding(crate::specs::Stepping::run_told, crate::specs::Session::script_state))]
@@ -161,24 +160,10 @@ impl Session {
             (call_text (state_of self.now.machine)) }
     {
         if self.machine.cpu().psr().overflow {
-            tell_error(sink, self.error_number())
+            tell_error(sink, self.machine.error_number())
         } else {
             tell_ok(sink)
         }
-    }
-
-    // The number of the error that R0 points to.
-    #[tactic(auto, unfolding(crate::specs::Stepping::error_number))]
-    fn error_number(&self) -> u32
-        ensures { result ≡ error_number (state_of self.now.machine).store.bytes
-            (register_of (state_of self.now.machine).cpu 0) }
-    {
-        let at = self.machine.cpu().register(0);
-        let no_block = ErrorNumber::BadPointer.number();
-        if at % 4 != 0 {
-            return no_block;
-        }
-        self.machine.memory().load_word(at).unwrap_or(no_block)
     }
 
     /// Adds a break.

@@ -4,7 +4,7 @@ use Rattle.std.proofs.lemmas.Bool.{true≢false}
 use Rattle.profile.specs.Sizes.{Sizes}
 use Rattle.address_map.specs.Memory.{place, free_pages}
 use Rattle.os_heap.specs.Store.{store_of, IsSound}
-use Rattle.swi_dispatch.specs.Situation.{is_start_mapped}
+use Rattle.swi_dispatch.specs.MachineState.{is_start_mapped}
 use Rattle.swi_dispatch.specs.Parts.{Parts, IsWellFormed}
 
 -- the parts of a machine after a heap call

@@ -16,13 +16,15 @@ use Rattle.address_map.proofs.Bytes.{is_mapped-layout}
 use Rattle.address_map.proofs.Equations.{stored_word, stored_bytes}
 use Rattle.arm_step.specs.State.{State}
 use Rattle.arm_step.specs.OwnedBytes.{IsByWords, Keeps}
+use Rattle.address_map.specs.declared.region.Kind.TheVariants.{Rma}
+use Rattle.os_heap_lists.specs.Heap.{HeapList}
 use Rattle.os_heap.specs.Store.{Store, store_of, owned_in, IsSound}
 use Rattle.os_heap.proofs.Frame.{IsKept, clear_kept, heads_kept, owned_word}
 use Rattle.os_heap.proofs.Stores.{image_kind}
 use Rattle.os_heap.proofs.Owned.{owned_heads, has_flex}
 use Rattle.swi_dispatch.specs.declared.halt.Halt.{Halt}
-use Rattle.swi_dispatch.specs.Situation.{Situation, with_memory, system_pages, module_area, is_start_mapped, start_of}
-use Rattle.swi_dispatch.specs.Step.{error_block}
+use Rattle.swi_dispatch.specs.MachineState.{MachineState, with_memory, system_pages, is_start_mapped, start_of}
+use Rattle.swi_dispatch.specs.Errors.{error_block}
 use Rattle.swi_dispatch.specs.Boot.{booted, poked}
 use Rattle.swi_dispatch.specs.Parts.{Parts, IsWellFormed, state_of}
 
@@ -92,7 +94,7 @@ StoredBy m n (Ok b) = IsKept m n × (bytes_of n ≡ b)
 StoredBy m n (Err f) = IsKept m n × (bytes_of n ≡ bytes_of m)
 
 -- what a user's store leaves, whether it was refused or not
-abbrev pub with_core : State → Option Halt → Store → Situation
+abbrev pub with_core : State → Option Halt → Store → MachineState
 with_core cpu halt s = record { cpu = cpu; store = s; halt = halt }
 
 poked_by : (m n : AddressMap) (cpu : State) (halt : Option Halt) (a w : ℕ) (result : Result Unit Fault) (f : Option Fault)
@@ -118,6 +120,10 @@ pokes m n cpu halt a w result same sound others left =
     poked_by m n cpu halt a w result (store_fault (owned_in (store_of m)) (bytes_of m) (a - a % 4)) same sound others
     (λ e. free_by (nat_le (2 ^ 26) (a - a % 4)) ((bytes_of m).mapped (a - a % 4)) (owned_in (store_of m) (a - a % 4)) e)
     (subst (λ (owned : ℕ → Bool). Leaves (bytes_of m) (word_stored owned (bytes_of m) a w) result (bytes_of n)) (owned_same m sound others) left)
+
+-- the one heap of a machine as it was made
+abbrev pub module_area : Sizes → HeapList
+module_area s = record { kind = Rma; start = 0x01800000; end = 4096 * s.rma; items = [] }
 
 -- a program in the application space, which the module area doesn't meet
 pub program_kept : (m n : AddressMap) (s : Sizes) (program : List ℕ) → layout n ≡ layout m → IsSound (store_of m) → AreGood s

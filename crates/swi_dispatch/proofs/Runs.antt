@@ -5,7 +5,7 @@ use Rattle.profile.specs.declared.stop.Stop.TheVariants as stop
 use Rattle.image_loader.specs.Entries.{Entry}
 use Rattle.swi_dispatch.specs.declared.halt.Halt.{Halt}
 use Rattle.swi_dispatch.specs.declared.halt.Halt.TheVariants as halt
-use Rattle.swi_dispatch.specs.Situation.{Situation, After, stop_of}
+use Rattle.swi_dispatch.specs.MachineState.{MachineState, Outcome, stop_of}
 use Rattle.swi_dispatch.specs.Step.{machine_step}
 use Rattle.swi_dispatch.specs.Run.{Run, resting, later, joined, is_among, go_on, begun, ran, then_run, RunsOn}
 
@@ -22,7 +22,7 @@ later-assoc : {A : Type 0} (a b c : Option A) → later (later a b) c ≡ later 
 later-assoc a b None = refl
 later-assoc a b (Some x) = refl
 
-pub then_run-resting : (s : Situation) (x : Stop) (r : Run) → then_run (resting s x) r ≡ r
+pub then_run-resting : (s : MachineState) (x : Stop) (r : Run) → then_run (resting s x) r ≡ r
 then_run-resting s x r =
     let count : 0 + r.taken ≡ r.taken = omega arith in
     let last : later None r.last ≡ r.last = later-none r.last in
@@ -36,7 +36,7 @@ then_run-joined printed last k r q =
     λ i. record { now = q.now; printed = texts i; last = lasts i; taken = counts i; stop = q.stop }
 
 -- one step and the run after it add up as that run does
-pub branch_adds : (b : Bool) (now : Situation) (printed : List ℕ) (r r' : Run) (more : Situation → Run)
+pub branch_adds : (b : Bool) (now : MachineState) (printed : List ℕ) (r r' : Run) (more : MachineState → Run)
     → (r.stop ≡ stop.Budget → r' ≡ then_run r (more r.now))
     → (let broken : Run = record { now = now; printed = printed; last = Some printed; taken = 1; stop = stop.Break now.cpu.pc } in
     (if b then broken else joined printed (Some printed) 1 r).stop ≡ stop.Budget
@@ -44,8 +44,8 @@ pub branch_adds : (b : Bool) (now : Situation) (printed : List ℕ) (r r' : Run)
 branch_adds true now printed r r' more h e = cc
 branch_adds false now printed r r' more h e = ap (joined printed (Some printed) 1) (h e) ∙ sym (then_run-joined printed (Some printed) 1 r (more r.now))
 
-pub step_adds : (breaks : List ℕ) (s : Situation) (o : Option Halt) (a : After) (ao : Option Halt) (rest rest' more : Situation → Run)
-    → ((x : Situation) → (rest x).stop ≡ stop.Budget → rest' x ≡ then_run (rest x) (more (rest x).now))
+pub step_adds : (breaks : List ℕ) (s : MachineState) (o : Option Halt) (a : Outcome) (ao : Option Halt) (rest rest' more : MachineState → Run)
+    → ((x : MachineState) → (rest x).stop ≡ stop.Budget → rest' x ≡ then_run (rest x) (more (rest x).now))
     → (begun s o (go_on breaks a ao rest)).stop ≡ stop.Budget
     → begun s o (go_on breaks a ao rest') ≡ then_run (begun s o (go_on breaks a ao rest)) (more (begun s o (go_on breaks a ao rest)).now)
 step_adds breaks s (Some h) a ao rest rest' more adds e = absurd (halt-no_budget h e)
@@ -53,13 +53,13 @@ step_adds breaks s None a (Some h) rest rest' more adds e = absurd (halt-no_budg
 step_adds breaks s None a None rest rest' more adds e =
     branch_adds (is_among breaks a.now.cpu.pc) a.now a.printed (rest a.now) (rest' a.now) more (adds a.now) e
 
-pub start_adds : (s : Situation) (o : Option Halt) (more : Situation → Run)
+pub start_adds : (s : MachineState) (o : Option Halt) (more : MachineState → Run)
     → (begun s o (resting s stop.Budget)).stop ≡ stop.Budget
     → more s ≡ then_run (begun s o (resting s stop.Budget)) (more (begun s o (resting s stop.Budget)).now)
 start_adds s (Some h) more e = absurd (halt-no_budget h e)
 start_adds s None more e = sym (then_run-resting s stop.Budget (more s))
 
-pub runs_on : (images : List Entry) (breaks : List ℕ) (n m : ℕ) (s : Situation) → RunsOn images breaks s n m
+pub runs_on : (images : List Entry) (breaks : List ℕ) (n m : ℕ) (s : MachineState) → RunsOn images breaks s n m
 unfolding ran
 runs_on images breaks zero m s e = let k : 0 + m ≡ m = omega arith in ap (λ (x : ℕ). ran images breaks x s) k ∙ start_adds s s.halt (ran images breaks m) e
 runs_on images breaks (suc n) m s e =

@@ -4,7 +4,6 @@ use Rattle.address_map.specs.declared.map.AddressMap.{AddressMap}
 use Rattle.address_map.specs.Bytes.{Bytes}
 use Rattle.address_map.specs.Memory.{bytes_of, layout, is_owned}
 use Rattle.arm_step.specs.declared.turn.Turn.{Turn}
-use Rattle.arm_step.specs.declared.turn.Turn.TheVariants as turn
 use Rattle.arm_step.specs.State.{State}
 use Rattle.arm_step.specs.Step.{stepped}
 use Rattle.arm_step.specs.Turns.{Turns}
@@ -12,17 +11,14 @@ use Rattle.arm_step.proofs.Framing.{step_keeps}
 use Rattle.os_heap.specs.Store.{store_of, owned_in, IsSound}
 use Rattle.os_heap.proofs.Frame.{IsKept}
 use Rattle.swi_dispatch.specs.declared.halt.Halt.{Halt}
-use Rattle.swi_dispatch.specs.Situation.{Situation, quiet, system_pages}
+use Rattle.swi_dispatch.specs.MachineState.{MachineState, quiet, system_pages}
 use Rattle.swi_dispatch.specs.Step.{turned, turn_end, Turned}
 use Rattle.swi_dispatch.specs.Parts.{TakesTurn}
 use Rattle.swi_dispatch.proofs.Kept.{owned_same, by_words, keeps_kept, same_kept, kept_memory, kept_all, with_core}
 
-pub turned_by : (s : Situation) (r : Result (State × Bytes) Turn) (t : Turn) (s' : Situation) → Turned s r t s' → turn_end s' t ≡ turned s r
+pub turned_by : (s : MachineState) (r : Result (State × Bytes) Turn) (t : Turn) (s' : MachineState) → Turned s r t s' → turn_end s' t ≡ turned s r
 turned_by s (Ok w) t s' h = ap (λ (x : Turn). turn_end s' x) h.0 ∙ ap quiet h.1
-turned_by s (Err turn.Done) t s' h = ap (λ (x : Turn). turn_end s' x) h.0 ∙ ap (λ (x : Situation). turn_end x turn.Done) h.1
-turned_by s (Err (turn.Swi n)) t s' h = ap (λ (x : Turn). turn_end s' x) h.0 ∙ ap (λ (x : Situation). turn_end x (turn.Swi n)) h.1
-turned_by s (Err turn.Gate) t s' h = ap (λ (x : Turn). turn_end s' x) h.0 ∙ ap (λ (x : Situation). turn_end x turn.Gate) h.1
-turned_by s (Err (turn.Fault f)) t s' h = ap (λ (x : Turn). turn_end s' x) h.0 ∙ ap (λ (x : Situation). turn_end x (turn.Fault f)) h.1
+turned_by s (Err e) t s' h = ap (λ (x : Turn). turn_end s' x) h.0 ∙ ap (λ (x : MachineState). turn_end x e) h.1
 
 -- the core's turn, as a turn of the whole machine: an instruction keeps the list of each heap
 turned_core : (m n : AddressMap) (cpu cpu' : State) (halt : Option Halt) (r : Result (State × Bytes) Turn) (t : Turn)

@@ -9,22 +9,22 @@ use Rattle.profile.specs.Outcome.{bind}
 use Rattle.profile.specs.declared.fault.Fault.{Fault}
 use Rattle.arm_step.specs.State.{with_register}
 use Rattle.os_heap.specs.Store.{owned_in}
-use Rattle.swi_dispatch.specs.Situation.{Situation, with_memory}
+use Rattle.swi_dispatch.specs.MachineState.{MachineState, with_memory}
 
-abbrev pub with_program : Situation → List ℕ → Situation
+abbrev pub with_program : MachineState → List ℕ → MachineState
 with_program s program = record s { store = with_memory s.store (with_bytes s.store.bytes 0x8000 program) }
 
 abbrev pub fits_application : Sizes → List ℕ → Bool
 fits_application sizes program = nat_le (length program) (4096 * sizes.app)
 
-unfoldable pub booted : Sizes → Bool → Situation → List ℕ → Result Situation BootError
+unfoldable pub booted : Sizes → Bool → MachineState → List ℕ → Result MachineState BootError
 booted sizes false s program = Err Booted
 booted sizes true s program = if fits_application sizes program then Ok (with_program s program) else Err TooLarge
 
 -- what a user does to a machine from outside: one register set, or one word stored as a guest's store instruction would
-unfoldable pub registered : Situation → ℕ → ℕ → Situation
+unfoldable pub registered : MachineState → ℕ → ℕ → MachineState
 registered s n v = record s { cpu = with_register s.cpu n v }
 
-unfoldable pub poked : Situation → ℕ → ℕ → Result Situation Fault
+unfoldable pub poked : MachineState → ℕ → ℕ → Result MachineState Fault
 poked s at word = bind (word_stored (owned_in s.store) s.store.bytes at word)
     (λ b. Ok (record s { store = with_memory s.store b }))

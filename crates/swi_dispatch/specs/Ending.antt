@@ -5,11 +5,11 @@ use Rattle.profile.specs.Output.{AppendsPart}
 use Rattle.profile.specs.declared.stop.Stop.{Stop}
 use Rattle.profile.specs.declared.stop.Stop.TheVariants as stop
 use Rattle.image_loader.specs.Entries.{Entry}
-use Rattle.swi_dispatch.specs.Situation.{Situation}
+use Rattle.swi_dispatch.specs.MachineState.{MachineState}
 use Rattle.swi_dispatch.specs.Run.{Run, ran, last_or}
 
 -- The machine, the bytes written, what it printed last, the count and the stop are the run's. `shown` is what the machine printed last before.
-pub record Ends (r : Run) (now : Situation) (shown output : List ℕ) (before after : Option (List ℕ)) (taken : ℕ) (end : Stop) : Type 0 where
+pub record Ends (r : Run) (now : MachineState) (shown output : List ℕ) (before after : Option (List ℕ)) (taken : ℕ) (end : Stop) : Type 0 where
   pub machine : now ≡ r.now
   pub text : Appends before after r.printed
   pub shows : output ≡ last_or shown r.last
@@ -18,7 +18,7 @@ pub record Ends (r : Run) (now : Situation) (shown output : List ℕ) (before af
 
 -- Where the writer failed, the machine stands after the step whose output failed, one of those of the budget. What stands written is all that
 -- the steps before it printed and a front of what it printed, but not all of that.
-pub record StandsAfter (images : List Entry) (breaks : List ℕ) (budget : ℕ) (start now : Situation) (output : List ℕ)
+pub record StandsAfter (images : List Entry) (breaks : List ℕ) (budget : ℕ) (start now : MachineState) (output : List ℕ)
     (before after : Option (List ℕ)) : Type 0 where
   pub taken : ℕ
   pub within : taken < budget

@@ -2,8 +2,9 @@ pub mod Boot
 pub mod Breaks
 pub mod Calls
 pub mod Ending
+pub mod Errors
+pub mod MachineState
 pub mod Parts
 pub mod Run
-pub mod Situation
 pub mod Step
 pub mod Texts

@@ -1,5 +1,5 @@
 -- The parts of the real machine, and the written machine that they stand for.
-use Rattle.std.specs.Prelude.{◌≡◌, ◌+◌, ℕ, Bool, true, Option, List, [], ◌∷◌}
+use Rattle.std.specs.Prelude.{◌≡◌, ◌+◌, ℕ, Bool, true, Option, Some, None, Result, Ok, Err, List, [], ◌∷◌}
 use Rattle.profile.specs.Sizes.{Sizes}
 use Rattle.address_map.specs.declared.map.AddressMap.{AddressMap}
 use Rattle.address_map.specs.Memory.{is_mapped, free_pages}
@@ -7,7 +7,9 @@ use Rattle.os_heap.specs.Store.{IsSound, store_of}
 use Rattle.arm_step.specs.declared.turn.Turn.{Turn}
 use Rattle.arm_step.specs.State.{State}
 use Rattle.swi_dispatch.specs.declared.halt.Halt.{Halt}
-use Rattle.swi_dispatch.specs.Situation.{Situation, After, start_of, is_start_mapped, system_pages}
+use Rattle.swi_dispatch.specs.declared.refusal.Refusal.{Refusal}
+use Rattle.swi_dispatch.specs.Calls.{Answer}
+use Rattle.swi_dispatch.specs.MachineState.{MachineState, Outcome, start_of, is_start_mapped, system_pages}
 use Rattle.swi_dispatch.specs.Step.{Turned, instructed}
 
 pub record Parts : Type 0 where
@@ -18,12 +20,17 @@ pub record Parts : Type 0 where
   pub is_fresh : Bool
   pub printed : List ℕ
 
-unfoldable pub state_of : Parts → Situation
+unfoldable pub state_of : Parts → MachineState
 state_of p = record { cpu = p.cpu; store = store_of p.map; halt = p.halt }
 
 -- the written machine, and what the last step printed
-abbrev pub after_of : Parts → After
-after_of p = record { now = state_of p; printed = p.printed }
+abbrev pub outcome_of : Parts → Outcome
+outcome_of p = record { now = state_of p; printed = p.printed }
+
+-- A call of the real machine, by its result, answers so: on an error the guest goes on after the call.
+abbrev pub Answers : Answer → ℕ → Result ℕ Refusal → Outcome → Type 0
+Answers a next (Ok to) o = (o ≡ a.left) × ((to ≡ a.next) × (a.error ≡ None))
+Answers a next (Err e) o = (o ≡ a.left) × ((next ≡ a.next) × (a.error ≡ Some e))
 
 -- What holds of every machine, whatever its guest does: memory spells the lists of all heaps, which share no byte with one another and with the
 -- system pages; the fixed ranges are mapped, and their pages and the pool are all there are; and a machine that can still be booted stands as
@@ -41,5 +48,5 @@ pub record OnlySteps (old new : Parts) : Type 0 where
   pub sizes : new.sizes ≡ old.sizes
 
 -- the core takes a turn, and the rest of the machine stays
-abbrev pub TakesTurn : Situation → Turn → Situation → Type 0
+abbrev pub TakesTurn : MachineState → Turn → MachineState → Type 0
 TakesTurn s t s' = Turned s (instructed s) t s'

@@ -7,18 +7,18 @@ use Rattle.profile.specs.declared.stop.Stop.TheVariants as stop
 use Rattle.image_loader.specs.Entries.{Entry}
 use Rattle.swi_dispatch.specs.declared.halt.Halt.{Halt}
 use Rattle.swi_dispatch.specs.declared.halt.Halt.TheVariants as halt
-use Rattle.swi_dispatch.specs.Situation.{Situation, After, stop_of}
+use Rattle.swi_dispatch.specs.MachineState.{MachineState, Outcome, stop_of}
 use Rattle.swi_dispatch.specs.Step.{machine_step}
 
 -- what a run leaves: the machine, all that was printed, what the last step printed, if there was a step, the steps that count, and why it ended
 pub record Run : Type 0 where
-  pub now : Situation
+  pub now : MachineState
   pub printed : List ℕ
   pub last : Option (List ℕ)
   pub taken : ℕ
   pub stop : Stop
 
-abbrev pub resting : Situation → Stop → Run
+abbrev pub resting : MachineState → Stop → Run
 resting s x = record { now = s; printed = []; last = None; taken = 0; stop = x }
 
 abbrev pub counted : Halt → ℕ
@@ -37,17 +37,17 @@ joined printed last taken r = record r { printed = printed ++ r.printed; last = 
 unfoldable pub is_among : List ℕ → ℕ → Bool
 is_among breaks a = list_any (λ b. b == a) breaks
 
-abbrev pub go_on : List ℕ → After → Option Halt → (Situation → Run) → Run
+abbrev pub go_on : List ℕ → Outcome → Option Halt → (MachineState → Run) → Run
 go_on breaks a (Some h) rest = record { now = a.now; printed = a.printed; last = Some a.printed; taken = counted h; stop = stop_of h }
 go_on breaks a None rest = if is_among breaks a.now.cpu.pc
     then record { now = a.now; printed = a.printed; last = Some a.printed; taken = 1; stop = stop.Break a.now.cpu.pc }
     else joined a.printed (Some a.printed) 1 (rest a.now)
 
-abbrev pub begun : Situation → Option Halt → Run → Run
+abbrev pub begun : MachineState → Option Halt → Run → Run
 begun s (Some h) r = resting s (stop_of h)
 begun s None r = r
 
-unfoldable pub ran : List Entry → List ℕ → ℕ → Situation → Run
+unfoldable pub ran : List Entry → List ℕ → ℕ → MachineState → Run
 ran images breaks zero s = begun s s.halt (resting s stop.Budget)
 ran images breaks (suc n) s =
     begun s s.halt (go_on breaks (machine_step images s) (machine_step images s).now.halt (ran images breaks n))
@@ -57,12 +57,12 @@ abbrev pub then_run : Run → Run → Run
 then_run first second = joined first.printed first.last first.taken second
 
 -- Runs add up: where n steps end with the budget used up, n steps and then m are n + m.
-abbrev pub RunsOn : List Entry → List ℕ → Situation → ℕ → ℕ → Type 0
+abbrev pub RunsOn : List Entry → List ℕ → MachineState → ℕ → ℕ → Type 0
 RunsOn images breaks s n m = (let first = ran images breaks n s in
     first.stop ≡ stop.Budget → ran images breaks (n + m) s ≡ then_run first (ran images breaks m first.now))
 
 -- why a run of one step ended, and how it counts, by what the step left
-abbrev pub stop_after : List ℕ → Situation → Option Halt → Stop
+abbrev pub stop_after : List ℕ → MachineState → Option Halt → Stop
 stop_after breaks s (Some h) = stop_of h
 stop_after breaks s None = if is_among breaks s.cpu.pc then stop.Break s.cpu.pc else stop.Budget
 
@@ -76,6 +76,6 @@ last_or printed None = printed
 last_or printed (Some last) = last
 
 -- a run of so many steps that print nothing and that nothing but the budget ends
-abbrev pub quiet_run : Situation → ℕ → Run
+abbrev pub quiet_run : MachineState → ℕ → Run
 quiet_run now zero = resting now stop.Budget
 quiet_run now (suc n) = record { now = now; printed = []; last = Some []; taken = suc n; stop = stop.Budget }

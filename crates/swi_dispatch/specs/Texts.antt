@@ -1,17 +1,21 @@
--- Strings in memory that a guest has printed: bytes up to a zero byte, at most 4096 of them (RISC OS 3 Programmer's Reference Manual, "OS_Write0";
--- the limit is this project's own).
-use Rattle.std.specs.Prelude.{ℕ, zero, suc, ◌+◌, ◌*◌, ◌/◌, ◌==◌, ◌&&◌, Option, Some, None, List, [], ◌∷◌, if◌then◌else◌}
+-- Strings in memory: bytes up to one that ends them, and not more than so many (RISC OS 3 Programmer's Reference Manual, "OS_Write0", "OS_CLI"; the
+-- limits, 4096 bytes of a string to be printed and 255 of any other, are this project's own).
+use Rattle.std.specs.Prelude.{ℕ, Bool, zero, suc, ◌+◌, ◌*◌, ◌/◌, ◌==◌, ◌&&◌, nat_lt, Option, Some, None, List, [], ◌∷◌, if◌then◌else◌}
 use Rattle.std.specs.Option.{option_map}
 use Rattle.address_map.specs.Bytes.{Bytes}
+use Rattle.swi_dispatch.specs.declared.strings.TextEnd.{TextEnd}
+use Rattle.swi_dispatch.specs.declared.strings.TextEnd.TheVariants as end
 
--- the bytes from `at` on up to a zero byte, if all are mapped and there are at most so many
-unfoldable pub text_from : ℕ → Bytes → ℕ → Option (List ℕ)
-text_from zero b at = if b.mapped at && b.at at == 0 then Some [] else None
-text_from (suc most) b at =
-    if b.mapped at then (if b.at at == 0 then Some [] else option_map (λ text. b.at at ∷ text) (text_from most b (at + 1))) else None
+-- a string to be printed ends at a zero byte, any other at its first byte below 32
+abbrev pub ends : TextEnd → ℕ → Bool
+ends end.Zero byte = byte == 0
+ends end.Control byte = nat_lt byte 32
 
-unfoldable pub text_at : Bytes → ℕ → Option (List ℕ)
-text_at b at = text_from 4096 b at
+-- the bytes from `at` on up to the first that ends them, if all are mapped and there are at most so many
+unfoldable pub text_at : (ℕ → Bool) → ℕ → Bytes → ℕ → Option (List ℕ)
+text_at is_end zero b at = if b.mapped at && is_end (b.at at) then Some [] else None
+text_at is_end (suc most) b at =
+    if b.mapped at then (if is_end (b.at at) then Some [] else option_map (λ text. b.at at ∷ text) (text_at is_end most b (at + 1))) else None
 
 -- the first whole word at or after an address
 abbrev pub next_word : ℕ → ℕ

@@ -13,7 +13,7 @@ pub enum Halt {
 }
 
 impl Halt {
-    ghost use Rattle.swi_dispatch.specs.Situation.{stop_of};
+    ghost use Rattle.swi_dispatch.specs.MachineState.{stop_of};
 
     /// The same as the answer of a step or a run.
     pub fn stop(self) -> Stop

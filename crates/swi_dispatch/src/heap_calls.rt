@@ -52,14 +52,10 @@ impl Machine {
         ensures others { OnlySteps self.old self.new }
     {
         let heap = self.cpu.register(1);
-        match self.heaps.describe(&self.memory, heap).answer {
-            Ok((largest, free)) => {
-                self.cpu.set_register(2, largest);
-                self.cpu.set_register(3, free);
-                Ok(())
-            }
-            Err(error) => Err(Refusal::System(error)),
-        }
+        let (largest, free) = self.heaps.describe(&self.memory, heap).answer?;
+        self.cpu.set_register(2, largest);
+        self.cpu.set_register(3, free);
+        Ok(())
     }
 
     #[tactic(auto, unfolding(crate::specs::Parts::state_of))]
@@ -71,13 +67,9 @@ impl Machine {
     {
         let heap = self.cpu.register(1);
         let wanted = self.cpu.register(3);
-        match self.heaps.get(&mut self.memory, heap, wanted).answer {
-            Ok(block) => {
-                self.cpu.set_register(2, block);
-                Ok(())
-            }
-            Err(error) => Err(Refusal::System(error)),
-        }
+        let block = self.heaps.get(&mut self.memory, heap, wanted).answer?;
+        self.cpu.set_register(2, block);
+        Ok(())
     }
 
     #[tactic(auto, unfolding(crate::specs::Parts::state_of))]
@@ -104,13 +96,9 @@ impl Machine {
         let block = self.cpu.register(2);
         let change = self.cpu.register(3);
         let resized = self.heaps.resize(&mut self.memory, heap, block, change);
-        match resized.answer {
-            Ok(place) => {
-                self.cpu.set_register(2, place);
-                Ok(())
-            }
-            Err(error) => Err(Refusal::System(error)),
-        }
+        let place = resized.answer?;
+        self.cpu.set_register(2, place);
+        Ok(())
     }
 
     #[tactic(auto, unfolding(crate::specs::Parts::state_of))]
@@ -135,12 +123,8 @@ impl Machine {
     {
         let heap = self.cpu.register(1);
         let block = self.cpu.register(2);
-        match self.heaps.block_size(&self.memory, heap, block).answer {
-            Ok(size) => {
-                self.cpu.set_register(3, size);
-                Ok(())
-            }
-            Err(error) => Err(Refusal::System(error)),
-        }
+        let size = self.heaps.block_size(&self.memory, heap, block).answer?;
+        self.cpu.set_register(3, size);
+        Ok(())
     }
 }

@@ -4,6 +4,7 @@
 pub mod boot_error;
 pub mod breaks;
 pub mod calls;
+pub mod errors;
 pub mod halt;
 pub mod heap_calls;
 pub mod laws;
@@ -18,6 +19,7 @@ pub use halt::Halt;
 pub use machine::Machine;
 pub use refusal::Refusal;
 pub use running::Ran;
+pub use strings::TextEnd;
 
 #[cfg(test)]
 mod tests;

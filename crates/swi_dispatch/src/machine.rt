@@ -3,7 +3,8 @@ ghost use Rattle.std.specs.Option.{option_map};
 ghost use Rattle.profile.specs.Outcome.{Leaves};
 ghost use Rattle.profile.specs.Sizes.{AreGood};
 ghost use Rattle.address_map.specs.Memory.{is_mapped, byte_at, regions, free_pages};
-ghost use Rattle.swi_dispatch.specs.Situation.{is_start_mapped, start_bytes, start_regions};
+ghost use Rattle.os_heap.specs.Store.{store_of, IsSound};
+ghost use Rattle.swi_dispatch.specs.MachineState.{is_start_mapped, start_store, system_pages};
 ghost use Rattle.swi_dispatch.specs.Step.{without_x};
 
 use crate::boot_error::BootError;
@@ -14,8 +15,7 @@ use arrayvec::ArrayVec;
 use image_loader::Images;
 use os_heap::Heaps;
 use profile::memory_map::{
-    ADDRESS_LIMIT, APPLICATION_START, HEAP_DESCRIPTOR, HEAP_NAME, PAGE_SIZE, RMA_START,
-    SYSTEM_PAGES, SYSTEM_START,
+    ADDRESS_LIMIT, APPLICATION_START, PAGE_SIZE, RMA_START, SYSTEM_PAGES, SYSTEM_START,
 };
 use profile::word::is_bit_set;
 use profile::{Config, Fault, Stop};
@@ -52,9 +52,8 @@ impl Model for Machine {
 
 impl Machine {
     ghost use Rattle.address_map.specs.Memory.{bytes_of};
-    ghost use Rattle.os_heap.specs.Store.{store_of, IsSound};
-    ghost use Rattle.swi_dispatch.specs.Parts.{state_of, after_of, OnlySteps, TakesTurn, IsWellFormed};
-    ghost use Rattle.swi_dispatch.specs.Situation.{start_of, stop_of, quiet};
+    ghost use Rattle.swi_dispatch.specs.Parts.{state_of, outcome_of, OnlySteps, TakesTurn, IsWellFormed};
+    ghost use Rattle.swi_dispatch.specs.MachineState.{start_of, stop_of, quiet};
     ghost use Rattle.swi_dispatch.specs.Boot.{booted, registered, poked};
     ghost use Rattle.swi_dispatch.specs.Step.{machine_step, store_called, swi_called, halted, turn_end};
 
@@ -109,7 +108,7 @@ impl Machine {
     /// a halted machine stays as it is.
     #[tactic(auto, using(crate::proofs::Turning::turned_by), unfolding(crate::specs::Step::machine_step))]
     pub fn step(&mut self, images: &Images) -> Option<Stop>
-        ensures after { after_of self.new ≡ machine_step images.now (state_of self.old) }
+        ensures after { outcome_of self.new ≡ machine_step images.now (state_of self.old) }
         ensures stop { result ≡ option_map stop_of (state_of self.new).halt }
         ensures fresh { self.new.is_fresh ≡ false }
         ensures sizes { self.new.sizes ≡ self.old.sizes }
@@ -129,7 +128,7 @@ impl Machine {
     /// number and its X bit are left out. A halted machine stays as it is.
     #[tactic(auto, unfolding(crate::specs::Step::store_called))]
     pub fn store_call(&mut self, images: &Images, number: u32) -> Option<Stop>
-        ensures after { after_of self.new ≡ store_called images.now (state_of self.old) number }
+        ensures after { outcome_of self.new ≡ store_called images.now (state_of self.old) number }
         ensures stop { result ≡ option_map stop_of (state_of self.new).halt }
         ensures fresh { self.new.is_fresh ≡ false }
         ensures sizes { self.new.sizes ≡ self.old.sizes }
@@ -231,7 +230,7 @@ impl Machine {
 
     // A step prints into an empty list, and a machine that has been stepped can't be booted.
     fn begin_step(&mut self)
-        ensures after { after_of self.new ≡ quiet (state_of self.old) }
+        ensures after { outcome_of self.new ≡ quiet (state_of self.old) }
         ensures state { state_of self.new ≡ state_of self.old }
         ensures printed { self.new.printed ≡ [] }
         ensures fresh { self.new.is_fresh ≡ false }
@@ -255,7 +254,7 @@ impl Machine {
     #[tactic(auto, unfolding(crate::specs::Parts::state_of))]
     pub(crate) fn forget_output(&mut self)
         requires stepped { self.old.is_fresh ≡ false }
-        ensures after { after_of self.new ≡ quiet (state_of self.old) }
+        ensures after { outcome_of self.new ≡ quiet (state_of self.old) }
         ensures state { state_of self.new ≡ state_of self.old }
         ensures printed { self.new.printed ≡ [] }
         ensures others { OnlySteps self.old self.new }
@@ -280,7 +279,7 @@ impl Machine {
     fn after_turn(&mut self, turn: Turn)
         requires printed { self.old.printed ≡ [] }
         requires stepped { self.old.is_fresh ≡ false }
-        ensures after { after_of self.new ≡ turn_end (state_of self.old) turn }
+        ensures after { outcome_of self.new ≡ turn_end (state_of self.old) turn }
         ensures others { OnlySteps self.old self.new }
     {
         match turn {
@@ -295,7 +294,7 @@ impl Machine {
     fn call_by_instruction(&mut self, number: u32)
         requires printed { self.old.printed ≡ [] }
         requires stepped { self.old.is_fresh ≡ false }
-        ensures after { after_of self.new ≡ swi_called (state_of self.old) number }
+        ensures after { outcome_of self.new ≡ swi_called (state_of self.old) number }
         ensures others { OnlySteps self.old self.new }
     {
         let next = (self.cpu().pc() + 4) % ADDRESS_LIMIT;
@@ -306,7 +305,7 @@ impl Machine {
     pub(crate) fn halt_with(&mut self, halt: Halt)
         requires printed { self.old.printed ≡ [] }
         requires stepped { self.old.is_fresh ≡ false }
-        ensures after { after_of self.new ≡ halted (state_of self.old) halt }
+        ensures after { outcome_of self.new ≡ halted (state_of self.old) halt }
         ensures others { OnlySteps self.old self.new }
     {
         self.halt = Some(halt);
@@ -323,12 +322,23 @@ fn without_x_bit(number: u32) -> u32
     }
 }
 
-// The memory of a machine at its start: the fixed ranges, the descriptor of the module area, and
-// the records of both.
+// The memory of a machine at its start: the fixed ranges, and the module area a heap without items.
 fn start_memory(alloc: Global, config: Config) -> Result<AddressMap, AllocError>
+    ensures store { IfOk result (λ m. store_of m ≡ start_store config) }
+    ensures sound { IfOk result (λ m. IsSound (store_of m)) }
+    ensures pool { IfOk result (λ m. free_pages m + (config.app + config.rma + 3) ≡ config.pages) }
+    ensures sizes { AreGood config }
+{
+    let mut memory = bare_memory(alloc, config)?;
+    Heaps::new().init_module_area(&mut memory, RMA_START, PAGE_SIZE * config.rma());
+    Ok(memory)
+}
+
+// The fixed ranges, and the record of the system pages.
+fn bare_memory(alloc: Global, config: Config) -> Result<AddressMap, AllocError>
     ensures mapping { IfOk result (λ m. (a : ℕ) → is_mapped m a ≡ is_start_mapped config a) }
-    ensures bytes { IfOk result (λ m. (a : ℕ) → byte_at m a ≡ start_bytes config a) }
-    ensures regions { IfOk result (λ m. regions m ≡ start_regions config) }
+    ensures bytes { IfOk result (λ m. (a : ℕ) → byte_at m a ≡ 0) }
+    ensures regions { IfOk result (λ m. regions m ≡ system_pages ∷ []) }
     ensures pool { IfOk result (λ m. free_pages m + (config.app + config.rma + 3) ≡ config.pages) }
     ensures sizes { AreGood config }
 {
@@ -336,11 +346,6 @@ fn start_memory(alloc: Global, config: Config) -> Result<AddressMap, AllocError>
     memory.map_pages(APPLICATION_START, config.app());
     memory.map_pages(RMA_START, config.rma());
     memory.map_pages(SYSTEM_START, SYSTEM_PAGES);
-    memory.own(Kind::Rma, RMA_START, PAGE_SIZE * config.rma());
     memory.own(Kind::SystemPage, SYSTEM_START, PAGE_SIZE * SYSTEM_PAGES);
-    memory.put_word(RMA_START, HEAP_NAME);
-    memory.put_word(RMA_START + 4, 0);
-    memory.put_word(RMA_START + 8, HEAP_DESCRIPTOR);
-    memory.put_word(RMA_START + 12, PAGE_SIZE * config.rma());
     Ok(memory)
 }

@@ -1,5 +1,4 @@
 ghost use Rattle.std.specs.Prelude.{◌≡◌};
-ghost use Rattle.swi_dispatch.specs.Step.{number_of};
 
 use profile::ErrorNumber;
 
@@ -8,18 +7,16 @@ use profile::ErrorNumber;
 pub enum Refusal {
     /// An error of the system, which goes to the error block with its text.
     System(ErrorNumber),
-    /// The guest's own error, by its number; R0 points to its block already.
-    Own(u32),
+    /// The guest's own error: R0 points to its block already.
+    Own,
 }
 
-impl Refusal {
-    /// The number of the error.
-    pub fn number(self) -> u32
-        ensures { result ≡ number_of self }
-    {
-        match self {
-            Refusal::System(error) => error.number(),
-            Refusal::Own(number) => number,
-        }
+impl From<ErrorNumber> for Refusal {
+    ghost use Rattle.swi_dispatch.specs.declared.refusal.Refusal.TheVariants.{System};
+
+    ghost from_gives = { λ error refusal. refusal ≡ System error };
+
+    fn from(error: ErrorNumber) -> Refusal {
+        Refusal::System(error)
     }
 }

@@ -2,7 +2,7 @@ ghost use Rattle.std.specs.Prelude.{◌≡◌, ◌&&◌, ◌==◌, ◌≤◌, �
 ghost use Rattle.std.specs.Option.{option_map};
 ghost use Rattle.swi_dispatch.specs.Parts.{state_of, IsWellFormed, OnlySteps};
 ghost use Rattle.swi_dispatch.specs.Run.{ran, stop_after, count_after, last_or, quiet_run};
-ghost use Rattle.swi_dispatch.specs.Situation.{stop_of};
+ghost use Rattle.swi_dispatch.specs.MachineState.{stop_of};
 ghost use Rattle.profile.specs.Output.{AppendsPart};
 ghost use Rattle.swi_dispatch.specs.Ending.{Ends, StandsAfter};
 
@@ -147,11 +147,11 @@ impl Machine {
     {
         let halt = self.step(images);
         push_all(sink, self.output())?;
-        Ok(self.outcome(breaks, halt))
+        Ok(self.ran_one(breaks, halt))
     }
 
     // Why a run of one step ended, and how it counts.
-    fn outcome(&self, breaks: &Breaks, halt: Option<Stop>) -> Ran
+    fn ran_one(&self, breaks: &Breaks, halt: Option<Stop>) -> Ran
         requires { halt ≡ option_map stop_of (state_of self.now).halt }
         ensures stop { result.stop ≡ stop_after breaks.now (state_of self.now) (state_of self.now).halt }
         ensures taken { result.taken ≡ count_after (state_of self.now).halt }

@@ -1,38 +1,63 @@
-//! Strings in memory that a guest has printed.
+//! Strings in a guest's memory.
 
-ghost use Rattle.std.specs.Prelude.{◌≡◌, ◌<◌, ◌+◌, ◌^◌, length, IfSome};
+ghost use Rattle.std.specs.Prelude.{◌≡◌, ◌<◌, ◌≤◌, ◌+◌, ◌^◌, length, IfSome};
 ghost use Rattle.std.specs.Option.{option_map};
 ghost use Rattle.address_map.specs.Memory.{bytes_of};
-ghost use Rattle.swi_dispatch.specs.Texts.{text_at, next_word};
+ghost use Rattle.swi_dispatch.specs.Texts.{ends, text_at, next_word};
 
-use crate::machine::MOST_PRINTED;
 use address_map::AddressMap;
 use arrayvec::ArrayVec;
 use profile::memory_map::ADDRESS_LIMIT;
 
-/// The bytes from an address on up to a zero byte, or `None` where one of them is not mapped or
-/// they are more than 4096.
-pub fn text_at(memory: &AddressMap, at: u32) -> Option<ArrayVec<u8, MOST_PRINTED>>
-    ensures text { option_map (λ text. text.items) result ≡ text_at (bytes_of memory.now) at }
+/// What ends a string in memory.
+#[derive(Clone, Copy, Debug, PartialEq, Eq)]
+pub enum TextEnd {
+    /// A zero byte, as of strings to be printed.
+    Zero,
+    /// Any byte below 32, as of all other strings.
+    Control,
+}
+
+impl TextEnd {
+    /// Whether a byte ends such a string.
+    pub fn ends(self, byte: u8) -> bool
+        ensures { result ≡ ends self byte }
+    {
+        match self {
+            TextEnd::Zero => byte == 0,
+            TextEnd::Control => byte < 32,
+        }
+    }
+}
+
+/// The bytes from an address on up to the first that ends the string, or `None` where one of them
+/// or the end is not mapped, or they are more than `MOST`.
+pub fn text_at<const MOST: usize>(
+    memory: &AddressMap,
+    at: u32,
+    end: TextEnd,
+) -> Option<ArrayVec<u8, MOST>>
+    requires { MOST ≤ 4096 }
+    ensures text { option_map (λ text. text.items) result ≡ text_at (ends end) MOST (bytes_of memory.now) at }
     ensures end { IfSome result (λ text. at + length text.items < 2 ^ 27) }
 {
     if at >= ADDRESS_LIMIT {
         return None;
     }
     let mut text = ArrayVec::new();
-    for index in 0..MOST_PRINTED as u32 {
+    for index in 0..MOST as u32 {
         let Ok(byte) = memory.load_byte(at + index) else {
             return None;
         };
-        if byte == 0 {
+        if end.ends(byte) {
             return Some(text);
         }
         text.push(byte);
     }
-    let Ok(last) = memory.load_byte(at + MOST_PRINTED as u32) else {
+    let Ok(last) = memory.load_byte(at + MOST as u32) else {
         return None;
     };
-    if last != 0 {
+    if !end.ends(last) {
         return None;
     }
     Some(text)

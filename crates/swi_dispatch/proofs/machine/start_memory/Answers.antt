@@ -1,11 +1,30 @@
-use Rattle.std.proofs.Common.{◌∙◌, ◌*◌, ℕ, ap}
-use Rattle.address_map.specs.Memory.{byte_at}
-use Rattle.swi_dispatch.proofs.Starting.{words_written, unmapped_zero}
+use Rattle.std.proofs.Common.{◌∙◌, ◌+◌, ◌*◌, ℕ, ap}
+use Rattle.address_map.specs.declared.region.Kind.TheVariants.{Rma}
+use Rattle.address_map.specs.Memory.{Mapping}
+use Rattle.os_heap.specs.Store.{Store}
+use Rattle.os_heap.specs.Calls.{begun_with}
+use Rattle.swi_dispatch.specs.MachineState.{bare_store}
+use Rattle.swi_dispatch.proofs.Starting.{bare, bare_sound, area_may}
 use Rattle.swi_dispatch.proofs.machine.start_memory.Goals as goal
 
-pub returns-clause-bytes : goal.returns-clause-bytes
-returns-clause-bytes c = λ a. rw (← c.rma-3.ensures.value)
-    (words_written (byte_at c.own-2.new.self) _ _ _ _ 0x01800000 0x70616548 0x01800004 0 0x01800008 16 0x0180000C (4096 * c.rma-3.result)
-    (λ b. ap (λ (f : ℕ → ℕ). f b) (c.own-2.ensures.bytes ∙ c.own.ensures.bytes) ∙ c.map_pages-3.ensures.bytes b ∙ c.map_pages-2.ensures.bytes b ∙ c.map_pages.ensures.bytes b
-    ∙ unmapped_zero c.in_ok-memory.memory b (c.in_ok-memory.ensures.mapping b))
-    c.put_word.ensures.bytes c.put_word-2.ensures.bytes c.put_word-3.ensures.bytes c.put_word-4.ensures.bytes a)
+pub init_module_area-requires-clause-may : goal.init_module_area-requires-clause-may
+init_module_area-requires-clause-may c =
+    let memory = c.in_ok-memory.ensures in
+    rw (bare _ c.args.config memory.mapping memory.bytes memory.regions, c.rma.ensures.value) (area_may c.args.config memory.sizes)
+
+pub init_module_area-requires-clause-sound : goal.init_module_area-requires-clause-sound
+init_module_area-requires-clause-sound c =
+    let memory = c.in_ok-memory.ensures in
+    rw (bare _ c.args.config memory.mapping memory.bytes memory.regions) (bare_sound c.args.config)
+
+pub returns-clause-store : goal.returns-clause-store
+returns-clause-store c =
+    let memory = c.in_ok-memory.ensures in
+    c.init_module_area.ensures.store
+    ∙ ap (λ (t : Store). begun_with Rma t 0x01800000 (4096 * c.rma.result)) (bare _ c.args.config memory.mapping memory.bytes memory.regions)
+    ∙ ap (λ (n : ℕ). begun_with Rma (bare_store c.args.config) 0x01800000 (4096 * n)) c.rma.ensures.value
+
+pub returns-clause-pool : goal.returns-clause-pool
+returns-clause-pool c =
+    ap (λ (m : Mapping). m.free_pages + (c.args.config.app + c.args.config.rma + 3)) c.init_module_area.ensures.mapping
+    ∙ c.in_ok-memory.ensures.pool

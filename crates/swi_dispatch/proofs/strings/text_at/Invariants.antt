@@ -1,11 +1,12 @@
 use Rattle.std.proofs.Common.{◌<◌, ◌^◌}
 use Rattle.address_map.specs.Memory.{bytes_of}
+use Rattle.swi_dispatch.specs.Texts.{ends}
 use Rattle.swi_dispatch.proofs.Texts.{IsReading}
 use Rattle.swi_dispatch.proofs.strings.text_at.Given as goal
 
--- the bytes so far are the text's, none of them zero
+-- the bytes so far are the text's, none of which ends it
 abbrev pub invariant-loop-index : goal.invariant-loop-index
-invariant-loop-index l = record {
-  reading : IsReading (bytes_of l.memory) l.at l.index l.text.items;
+invariant-loop-index g l = record {
+  reading : IsReading (ends l.end) g.row.MOST (bytes_of l.memory) l.at l.index l.text.items;
   low : l.at < 2 ^ 26;
 }

@@ -1,5 +1,5 @@
 use Rattle.std.proofs.Common.{◌≤◌, ◌*◌, length, ap, refl, arith}
-use Rattle.swi_dispatch.specs.Situation.{Situation, start_of}
+use Rattle.swi_dispatch.specs.MachineState.{MachineState, start_of}
 use Rattle.swi_dispatch.specs.Parts.{state_of}
 use Rattle.swi_dispatch.proofs.Kept.{well_kept, program_kept, boots}
 use Rattle.swi_dispatch.proofs.machine.Machine.boot.Goals as goal
@@ -9,7 +9,7 @@ unfolding state_of start_of
 invariant_of-self c =
     let well = c.self.invariant in
     let fresh = c.if-not-self.false in
-    let heaps = ap (λ (s : Situation). s.store.heaps) (well.fresh fresh) in
+    let heaps = ap (λ (s : MachineState). s.store.heaps) (well.fresh fresh) in
     let fits : length c.args.program.now ≤ 4096 * c.self.inside.config.app = omega (arith, c.if-program-app.false, c.app.ensures.value) in
     let kept = program_kept _ _ _ _ c.put_bytes.ensures.layout well.sound c.app.ensures.sizes heaps fits c.put_bytes.ensures.bytes in
     well_kept _ _ well kept c.put_bytes.ensures.layout refl refl
@@ -19,7 +19,7 @@ unfolding state_of start_of
 returns-clause-state c =
     let well = c.self.invariant in
     let fresh = c.if-not-self.false in
-    let heaps = ap (λ (s : Situation). s.store.heaps) (well.fresh fresh) in
+    let heaps = ap (λ (s : MachineState). s.store.heaps) (well.fresh fresh) in
     let fits : length c.args.program.now ≤ 4096 * c.self.inside.config.app = omega (arith, c.if-program-app.false, c.app.ensures.value) in
     let kept = program_kept _ _ _ _ c.put_bytes.ensures.layout well.sound c.app.ensures.sizes heaps fits c.put_bytes.ensures.bytes in
     rw (← c.self.view_is) (boots _ _ _ _ _ _ _ fresh fits c.put_bytes.ensures.layout kept c.put_bytes.ensures.bytes)
@@ -29,7 +29,7 @@ unfolding state_of start_of
 returns-clause-well_formed c =
     let well = c.self.invariant in
     let fresh = c.if-not-self.false in
-    let heaps = ap (λ (s : Situation). s.store.heaps) (well.fresh fresh) in
+    let heaps = ap (λ (s : MachineState). s.store.heaps) (well.fresh fresh) in
     let fits : length c.args.program.now ≤ 4096 * c.self.inside.config.app = omega (arith, c.if-program-app.false, c.app.ensures.value) in
     let kept = program_kept _ _ _ _ c.put_bytes.ensures.layout well.sound c.app.ensures.sizes heaps fits c.put_bytes.ensures.bytes in
     well_kept _ _ well kept c.put_bytes.ensures.layout refl refl

@@ -1,37 +1,33 @@
-use Rattle.std.proofs.Common.{sym, ap, subst}
-use Rattle.os_heap.specs.Store.{Store, IsSound}
+use Rattle.std.proofs.Common.{ap, ℕ}
+use Rattle.os_heap.specs.Store.{Store, store_of}
 use Rattle.swi_dispatch.specs.Parts.{state_of}
-use Rattle.swi_dispatch.proofs.Starting.{start_sound, store_starts, starts}
+use Rattle.swi_dispatch.proofs.Starting.{starts}
 use Rattle.swi_dispatch.proofs.machine.Machine.new.Goals as goal
 
 pub invariant_of-result : goal.invariant_of-result
-unfolding state_of
+unfolding state_of store_of
 invariant_of-result c =
     let memory = c.in_ok-memory.ensures in
-    let store = store_starts _ _ memory.sizes memory.mapping memory.bytes memory.regions in
     record {
-      sound = subst IsSound (sym store) (start_sound _ memory.sizes);
-      others = ap (λ (s : Store). s.others) store;
-      mapped = memory.mapping;
+      sound = memory.sound;
+      others = ap (λ (s : Store). s.others) memory.store;
+      mapped = λ a. ap (λ (s : Store). s.bytes.mapped a) memory.store;
       pool = memory.pool;
-      fresh = λ _. rw c.new.ensures (starts _ _ store);
+      fresh = λ _. rw c.new.ensures (starts _ _ memory.store);
     }
 
 pub returns-clause-start : goal.returns-clause-start
 unfolding state_of
-returns-clause-start c =
-    let memory = c.in_ok-memory.ensures in
-    rw c.new.ensures (starts _ _ (store_starts _ _ memory.sizes memory.mapping memory.bytes memory.regions))
+returns-clause-start c = rw c.new.ensures (starts _ _ c.in_ok-memory.ensures.store)
 
 pub returns-clause-well_formed : goal.returns-clause-well_formed
-unfolding state_of
+unfolding state_of store_of
 returns-clause-well_formed c =
     let memory = c.in_ok-memory.ensures in
-    let store = store_starts _ _ memory.sizes memory.mapping memory.bytes memory.regions in
     record {
-      sound = subst IsSound (sym store) (start_sound _ memory.sizes);
-      others = ap (λ (s : Store). s.others) store;
-      mapped = memory.mapping;
+      sound = memory.sound;
+      others = ap (λ (s : Store). s.others) memory.store;
+      mapped = λ a. ap (λ (s : Store). s.bytes.mapped a) memory.store;
       pool = memory.pool;
-      fresh = λ _. rw c.new.ensures (starts _ _ store);
+      fresh = λ _. rw c.new.ensures (starts _ _ memory.store);
     }

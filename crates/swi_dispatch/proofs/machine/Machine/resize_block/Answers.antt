@@ -12,3 +12,10 @@ invariant_of-self c =
     well_called _ _ c.self.invariant resized.sound (layout-others _ _ resized.layout) (layout-place _ _ resized.layout)
     (ap (λ (l : Layout). l.free_pages) resized.layout)
     (ap (λ (p : Parts). p.is_fresh) c.self.view_is ∙ c.requires.stepped) refl
+
+pub invariant_of-self-2 : goal.invariant_of-self-2
+invariant_of-self-2 c =
+    let resized = c.resize-resized.ensures in
+    well_called _ _ c.self.invariant resized.sound (layout-others _ _ resized.layout) (layout-place _ _ resized.layout)
+    (ap (λ (l : Layout). l.free_pages) resized.layout)
+    (ap (λ (p : Parts). p.is_fresh) c.self.view_is ∙ c.requires.stepped) refl

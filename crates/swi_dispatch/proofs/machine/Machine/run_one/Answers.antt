@@ -16,4 +16,4 @@ returns-in_err-push_all-clause-output g c =
 
 pub returns-clause-ends : goal.returns-clause-ends
 returns-clause-ends g c = ends_one _ _ _ _ _ _ _ _ _ c.requires c.step-halt.ensures.after
-    (subst (Appends _ _) c.output.ensures c.in_ok-push_all.ensures.text) c.outcome.ensures.taken c.outcome.ensures.stop
+    (subst (Appends _ _) c.output.ensures c.in_ok-push_all.ensures.text) c.ran_one.ensures.taken c.ran_one.ensures.stop

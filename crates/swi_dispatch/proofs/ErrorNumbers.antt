@@ -1,0 +1,66 @@
+-- The number of an error that a call answers, found where R0 points after the call went back.
+use Rattle.std.proofs.Common.{◌≡◌, ◌≢◌, ◌<◌, ◌^◌, ◌+◌, ◌*◌, ◌/◌, ◌%◌, ℕ, Bool, true, List, length, refl, sym, ◌∙◌, ap, arith, rules, get_or-set_other, get_or-set_same}
+use Rattle.std.proofs.lemmas.Bool.Decides.{nat_tests}
+use Rattle.profile.specs.Sizes.{Sizes}
+use Rattle.profile.specs.declared.error.ErrorNumber.{ErrorNumber}
+use Rattle.profile.specs.ErrorNames.{error_code, error_name}
+use Rattle.address_map.specs.Bytes.{Bytes, word_loaded}
+use Rattle.address_map.specs.Memory.{bytes_of, is_mapped}
+use Rattle.arm_step.specs.declared.psr.Mode.{Mode}
+use Rattle.arm_step.specs.declared.psr.Mode.TheVariants.{User, FastInterrupt, Interrupt, Supervisor}
+use Rattle.arm_step.specs.declared.psr.Psr.{Psr}
+use Rattle.arm_step.specs.State.{State, slot_of, register_in, register_of, with_register, with_register_in, with_pc}
+use Rattle.os_heap.specs.Store.{store_of}
+use Rattle.swi_dispatch.specs.declared.refusal.Refusal.TheVariants as refusal
+use Rattle.swi_dispatch.specs.MachineState.{MachineState, is_start_mapped}
+use Rattle.swi_dispatch.specs.Errors.{error_at, error_number, error_block, with_error}
+use Rattle.swi_dispatch.specs.Step.{returned, return_word, gone_back}
+use Rattle.swi_dispatch.specs.Parts.{Parts, IsWellFormed, state_of}
+
+-- R0 is the same register in all modes
+zero_slot : (m : Mode) → slot_of m 0 ≡ 0
+zero_slot User = refl
+zero_slot FastInterrupt = refl
+zero_slot Interrupt = refl
+zero_slot Supervisor = refl
+
+zero_apart : (m : Mode) → slot_of m 0 ≢ 25
+zero_apart m same = let zero : slot_of m 0 ≡ 0 = zero_slot m in omega (arith, zero, same)
+
+zero_kept : (caller : Psr) (cpu : State) (v : Bool) (next : ℕ) → register_of (returned caller cpu v next) 0 ≡ register_of cpu 0
+unfolding register_of register_in returned with_pc with_register_in
+zero_kept caller cpu v next = get_or-set_other cpu.file 25 (slot_of cpu.psr.mode 0) (return_word caller next) 0 (zero_apart cpu.psr.mode)
+
+zero_set : (s : State) (v : ℕ) → length s.file ≡ 26 → register_of (with_register s 0 v) 0 ≡ v
+unfolding register_of register_in with_register with_register_in
+zero_set s v size =
+    let zero : slot_of s.psr.mode 0 ≡ 0 = zero_slot s.psr.mode in
+    let inside : slot_of s.psr.mode 0 < length s.file = omega (arith, zero, size) in
+    get_or-set_same s.file (slot_of s.psr.mode 0) v 0 inside
+
+-- going back changes no number
+pub number_kept : (s : MachineState) (caller : Psr) (v : Bool) (next : ℕ) → error_number s ≡ error_number (gone_back caller s v next)
+number_kept s caller v next = ap (error_at s.store.bytes) (sym (zero_kept caller s.cpu v next))
+
+-- the error block has its number
+word_back : (n : ℕ) → n < 2 ^ 32 → n % 256 + 256 * (n / 256 % 256 + 256 * (n / 65536 % 256 + 256 * (n / 16777216 % 256))) ≡ n
+word_back n fits = omega arith
+
+block_number : (b : Bytes) (n : ℕ) (text : List ℕ) → b.mapped 0x01C02100 ≡ true → n < 2 ^ 32 → error_at (error_block b n text) 0x01C02100 ≡ n
+unfolding error_at word_loaded
+block_number b n text mapped fits = rw mapped (word_back n fits)
+
+short_code : (e : ErrorNumber) → error_code e < 2 ^ 32
+short_code e = search rules
+
+system_mapped : (s : Sizes) → is_start_mapped s 0x01C02100 ≡ true
+system_mapped s = grind (arith, nat_tests)
+
+pub system_number : (p : Parts) (caller : Psr) (next : ℕ) (e : ErrorNumber) → IsWellFormed p → length p.cpu.file ≡ 26
+    → error_number (gone_back caller (with_error (state_of p) (refusal.System e)) true next) ≡ error_code e
+unfolding state_of store_of
+system_number p caller next e well size =
+    let mapped : is_mapped p.map 0x01C02100 ≡ true = well.mapped 0x01C02100 ∙ system_mapped p.sizes in
+    sym (number_kept (with_error (state_of p) (refusal.System e)) caller true next)
+    ∙ ap (error_at (error_block (bytes_of p.map) (error_code e) (error_name e))) (zero_set p.cpu 0x01C02100 size)
+    ∙ block_number (bytes_of p.map) (error_code e) (error_name e) mapped (short_code e)

@@ -1,0 +1,10 @@
+use Rattle.std.proofs.Common.{sym, ◌∙◌}
+use Rattle.os_heap.specs.Store.{store_of}
+use Rattle.swi_dispatch.specs.Parts.{state_of}
+use Rattle.swi_dispatch.proofs.ErrorNumbers.{system_number}
+use Rattle.swi_dispatch.proofs.machine.Machine.system_number.Goals as goal
+
+pub returns : goal.returns
+unfolding state_of store_of
+returns c =
+    rw (← c.self.view_is) (c.number.ensures ∙ sym (system_number _ _ _ _ c.self.invariant c.has_all_registers.ensures))

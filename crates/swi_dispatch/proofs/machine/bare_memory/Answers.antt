@@ -1,0 +1,8 @@
+use Rattle.std.proofs.Common.{◌∙◌, ℕ, ap}
+use Rattle.swi_dispatch.proofs.Starting.{unmapped_zero}
+use Rattle.swi_dispatch.proofs.machine.bare_memory.Goals as goal
+
+pub returns-clause-bytes : goal.returns-clause-bytes
+returns-clause-bytes c = λ b.
+    ap (λ (f : ℕ → ℕ). f b) c.own.ensures.bytes ∙ c.map_pages-3.ensures.bytes b ∙ c.map_pages-2.ensures.bytes b ∙ c.map_pages.ensures.bytes b
+    ∙ unmapped_zero c.in_ok-memory.memory b (c.in_ok-memory.ensures.mapping b)
