@@ -7,7 +7,7 @@ use Rattle.profile.specs.declared.error.ErrorNumber.TheVariants.{HeapBadRegion, 
 use Rattle.address_map.proofs.Spans.{mapped_below}
 use Rattle.address_map.specs.Bytes.{AreMapped, in_range, word_start, Bytes, with_word_at, word_at}
 use Rattle.address_map.specs.Items.{items_in}
-use Rattle.address_map.specs.Memory.{is_mapped, bytes_of, byte_at, marked_at, regions}
+use Rattle.address_map.specs.Memory.{is_mapped, bytes_of, byte_at, class_of, regions}
 use Rattle.address_map.specs.Records.{is_heap_kind, with_region}
 use Rattle.address_map.specs.declared.class.Class.TheVariants as class
 use Rattle.address_map.specs.declared.map.AddressMap.{AddressMap}
@@ -389,7 +389,7 @@ sound_empty m none = rw none (record { heaps = tt; limits = record { guests = om
 
 -- the marks with a heap more
 pub classes_begun : (m n : AddressMap) (k : Kind) (at size : ℕ) → store_of n ≡ begun_with k (store_of m) at size
-    → ((a : ℕ) → marked_at n a ≡ cond (in_range at 16 (word_start a)) class.Heap (marked_at m a)) → AreClasses m → AreClasses n
+    → ((a : ℕ) → class_of n a ≡ cond (in_range at 16 (word_start a)) class.Heap (class_of m a)) → AreClasses m → AreClasses n
 classes_begun m n k at size store change same =
-    subst (λ (s : Store). AreBy (marked_at n) s.heaps) (sym store)
-    (marks_begun (marked_at m) (marked_at n) (store_of m).heaps (empty k at size) refl same change)
+    subst (λ (s : Store). AreBy (class_of n) s.heaps) (sym store)
+    (marks_begun (class_of m) (class_of n) (store_of m).heaps (empty k at size) refl same change)

@@ -9,7 +9,7 @@ use Rattle.address_map.specs.declared.region.Kind.TheVariants as kind
 use Rattle.os_heap_lists.proofs.LiveBlocks.{IsStill, claim_still, IsStillIn, release_still}
 use Rattle.address_map.specs.Bytes.{word_at}
 use Rattle.address_map.specs.Items.{items_in}
-use Rattle.address_map.specs.Memory.{bytes_of, byte_at, regions, layout, marked_at}
+use Rattle.address_map.specs.Memory.{bytes_of, byte_at, regions, layout, class_of}
 use Rattle.address_map.specs.declared.item.Item.{Item}
 use Rattle.address_map.specs.declared.map.AddressMap.{AddressMap}
 use Rattle.address_map.specs.declared.region.Kind.{Kind}
@@ -50,10 +50,10 @@ pub classes_held : (m n : AddressMap) (h : HeapList) (items : List Item) → IsS
     → h.items ≡ items_at m h.start → Becomes m n h.start h.end items → AreClasses m → AreClasses n
 classes_held m n h items sound found list b same =
     let s : Store = store_of m in
-    let change : AreMarked (marked_at m) (h.start + 16) h.items → Remarks (marked_at m) (marked_at n) (h.start + 16) h.items items =
-    subst (λ (xs : List Item). AreMarked (marked_at m) (h.start + 16) xs → Remarks (marked_at m) (marked_at n) (h.start + 16) xs items) (sym list) b.marks in
-    subst (λ (t : Store). AreBy (marked_at n) t.heaps) (sym (store_held m n h items sound found b))
-    (marks_held s.bytes (marked_at m) (marked_at n) h items s.heaps sound.heaps found same (change (heads_marked (marked_at m) s.heaps h same found)))
+    let change : AreMarked (class_of m) (h.start + 16) h.items → Remarks (class_of m) (class_of n) (h.start + 16) h.items items =
+    subst (λ (xs : List Item). AreMarked (class_of m) (h.start + 16) xs → Remarks (class_of m) (class_of n) (h.start + 16) xs items) (sym list) b.marks in
+    subst (λ (t : Store). AreBy (class_of n) t.heaps) (sym (store_held m n h items sound found b))
+    (marks_held s.bytes (class_of m) (class_of n) h items s.heaps sound.heaps found same (change (heads_marked (class_of m) s.heaps h same found)))
 
 -- what a call on the heap leaves: memory, and whether all is sound
 pub record IsGiven (A : Type 0) (m n : AddressMap) (outcome : Result (Store × A) ErrorNumber) (answer : Result A ErrorNumber) : Type 0 where

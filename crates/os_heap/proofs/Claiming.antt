@@ -4,7 +4,7 @@ use Rattle.std.proofs.lemmas.Bool.{ne_eqb, le-leb}
 use Rattle.address_map.proofs.Bytes.{is_mapped-layout}
 use Rattle.address_map.specs.Bytes.{word_at}
 use Rattle.address_map.specs.Items.{size_of, is_total}
-use Rattle.address_map.specs.Memory.{bytes_of, byte_at, layout, marked_at}
+use Rattle.address_map.specs.Memory.{bytes_of, byte_at, layout, class_of}
 use Rattle.address_map.specs.declared.item.Item.{Item}
 use Rattle.address_map.specs.declared.item.Item.TheVariants.{Live, Free}
 use Rattle.address_map.specs.declared.map.AddressMap.{AddressMap}
@@ -26,7 +26,7 @@ taken_whole : (m n : AddressMap) (start end : ℕ) (before rest : List Item) (t 
     → IsWritten (byte_at m) g (link_at start (last_free start (start + 16) before))
     (next_free (start + 16 + size_of before + t) rest 0 - last_free start (start + 16) before)
     → IsWritten g (byte_at n) (start + 16 + size_of before) t
-    → Remarks (marked_at m) (marked_at n) (start + 16 + size_of before) (Free t ∷ []) (Live t ∷ [])
+    → Remarks (class_of m) (class_of n) (start + 16 + size_of before) (Free t ∷ []) (Live t ∷ [])
     → Becomes m n start end (before ++ Live t ∷ rest)
 taken_whole m n start end before rest t g heap same one two change =
     let totals = totals-back before (Free t ∷ rest) heap.totals in
@@ -51,7 +51,7 @@ taken_whole m n start end before rest t g heap same one two change =
             (λ a low high. two.apart a (inr (omega arith)) ∙ one.apart a (inr (omega (arith, link.high)))),
       );
     }) same (λ a head apart out. two.other a out.0 ∙ one.other a apart)
-    (remarked (marked_at m) (marked_at n) (start + 16) before (Free t ∷ []) (Live t ∷ []) rest heap.totals
+    (remarked (class_of m) (class_of n) (start + 16) before (Free t ∷ []) (Live t ∷ []) rest heap.totals
     (still-same (start + 16 + size_of before) (Free t ∷ []) (Live t ∷ []) rest refl) change)
 
 -- the front of a free item is taken
@@ -60,7 +60,7 @@ taken_part : (m n : AddressMap) (start end : ℕ) (before rest : List Item) (t k
     → IsFreed (byte_at m) g start (last_free start (start + 16) before) (start + 16 + size_of before + k) (t - k)
     (next_free (start + 16 + size_of before + t) rest 0)
     → IsWritten g (byte_at n) (start + 16 + size_of before) k
-    → Remarks (marked_at m) (marked_at n) (start + 16 + size_of before) (Free t ∷ []) (Live k ∷ (Free (t - k) ∷ []))
+    → Remarks (class_of m) (class_of n) (start + 16 + size_of before) (Free t ∷ []) (Live k ∷ (Free (t - k) ∷ []))
     → Becomes m n start end (before ++ Live k ∷ (Free (t - k) ∷ rest))
 taken_part m n start end before rest t k g heap same total less one two change =
     let totals = totals-back before (Free t ∷ rest) heap.totals in
@@ -97,14 +97,14 @@ taken_part m n start end before rest t k g heap same total less one two change =
         ),
       );
     }) same (λ a head apart out. two.other a out.0 ∙ one.other a apart out.1.0)
-    (remarked (marked_at m) (marked_at n) (start + 16) before (Free t ∷ []) (Live k ∷ (Free (t - k) ∷ [])) rest heap.totals
+    (remarked (class_of m) (class_of n) (start + 16) before (Free t ∷ []) (Live k ∷ (Free (t - k) ∷ [])) rest heap.totals
     (still-same (start + 16 + size_of before) (Free t ∷ []) (Live k ∷ (Free (t - k) ∷ [])) rest (omega arith)) change)
 
 -- the words of a claim in a free item, and its answer
 pub claims_whole : (m n : AddressMap) (start end k from at t next : ℕ) (items : List Item) (g : ℕ → ℕ) (fit : IsFit start items k from at t)
     → IsHeapIn (bytes_of m) start end items → layout n ≡ layout m → t - k ≡ 0 → next ≡ next_free (at + t) fit.rest 0
     → IsWritten (byte_at m) g (link_at start from) (next - from) → IsWritten g (byte_at n) at k
-    → Remarks (marked_at m) (marked_at n) at (Free t ∷ []) (Live k ∷ [])
+    → Remarks (class_of m) (class_of n) at (Free t ∷ []) (Live k ∷ [])
     → Claims m n start end (Ok (at + 4)) (first_fit k items)
 claims_whole m n start end k from at t next items g fit heap same none onward one two change =
     let e : t ≡ k = omega (arith, fit.fits) in
@@ -118,7 +118,7 @@ claims_whole m n start end k from at t next items g fit heap same none onward on
 pub claims_part : (m n : AddressMap) (start end k from at t next : ℕ) (items : List Item) (g : ℕ → ℕ) (fit : IsFit start items k from at t)
     → IsHeapIn (bytes_of m) start end items → layout n ≡ layout m → is_total k ≡ true → t - k ≢ 0 → next ≡ next_free (at + t) fit.rest 0
     → IsFreed (byte_at m) g start from (at + k) (t - k) next → IsWritten g (byte_at n) at k
-    → Remarks (marked_at m) (marked_at n) at (Free t ∷ []) (Live k ∷ (Free (t - k) ∷ []))
+    → Remarks (class_of m) (class_of n) at (Free t ∷ []) (Live k ∷ (Free (t - k) ∷ []))
     → Claims m n start end (Ok (at + 4)) (first_fit k items)
 claims_part m n start end k from at t next items g fit heap same total some onward one two change =
     let less : k < t = omega arith in
@@ -134,7 +134,7 @@ appended : (m n : AddressMap) (start end k : ℕ) (items : List Item) (g : ℕ �
     → IsHeapIn (bytes_of m) start end (items ++ []) → layout n ≡ layout m → is_total k ≡ true → 16 + size_of items + k ≤ end
     → IsWritten (byte_at m) g (start + 16 + size_of items) k
     → IsWritten g (byte_at n) (start + 8) (16 + size_of items + k)
-    → Remarks (marked_at m) (marked_at n) (start + 16 + size_of items) [] (Live k ∷ [])
+    → Remarks (class_of m) (class_of n) (start + 16 + size_of items) [] (Live k ∷ [])
     → Becomes m n start end (items ++ Live k ∷ [])
 appended m n start end k items g heap same total room one two change =
     let front : AreTotals items = totals-front items [] heap.totals in
@@ -153,12 +153,12 @@ appended m n start end k items g heap same total room one two change =
       same = λ a low apart base. two.apart a base ∙ one.apart a (inl low);
       spelled = (two.apart (start + 16 + size_of items) (inr (omega arith)) ∙ one.here, tt);
     }) same (λ a head apart out. two.other a (elim head [ inl low ↦ inl (omega arith) | inr high ↦ inr (omega arith) ]) ∙ one.other a out.0)
-    (remarked (marked_at m) (marked_at n) (start + 16) items [] (Live k ∷ []) [] heap.totals (λ p. refl) change)
+    (remarked (class_of m) (class_of n) (start + 16) items [] (Live k ∷ []) [] heap.totals (λ p. refl) change)
 
 pub claims_base : (m n : AddressMap) (start end k base : ℕ) (items : List Item) (g : ℕ → ℕ)
     → IsHeapIn (bytes_of m) start end items → layout n ≡ layout m → is_total k ≡ true → base ≡ 16 + size_of items → base + k ≤ end
     → IsWritten (byte_at m) g (start + base) k → IsWritten g (byte_at n) (start + 8) (base + k)
-    → Remarks (marked_at m) (marked_at n) (start + base) [] (Live k ∷ [])
+    → Remarks (class_of m) (class_of n) (start + base) [] (Live k ∷ [])
     → Claims m n start end (Ok (start + base + 4)) (or_at_base k (end - 16) items None)
 claims_base m n start end k base items g heap same total place room one two change =
     let heap' : IsHeapIn (bytes_of m) start end (items ++ []) = rw (append-nil items) heap in

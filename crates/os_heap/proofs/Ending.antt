@@ -7,7 +7,7 @@ use Rattle.address_map.proofs.Lengths.{record_parts}
 use Rattle.address_map.proofs.Stores.{in_range-cases}
 use Rattle.address_map.specs.Bytes.{word_at, Bytes, in_range}
 use Rattle.address_map.specs.Items.{size_of, items_in, is_head}
-use Rattle.address_map.specs.Memory.{layout, byte_at, bytes_of, regions, is_mapped, marked_at}
+use Rattle.address_map.specs.Memory.{layout, byte_at, bytes_of, regions, is_mapped, class_of}
 use Rattle.address_map.specs.Records.{is_heap_kind, with_len, is_record, are_same}
 use Rattle.address_map.specs.declared.class.Class.{Class}
 use Rattle.address_map.specs.declared.item.Item.{Item}
@@ -341,7 +341,7 @@ pub record EndsAt (m n : AddressMap) (h : HeapList) (end : ℕ) : Type 0 where
   pub own : is_heap_kind h.kind ≡ true
   pub may : MayEnd (store_of m) h end
   pub same : layout n ≡ layout m
-  pub marks : marked_at n ≡ marked_at m
+  pub marks : class_of n ≡ class_of m
   pub word : IsWritten (byte_at m) (byte_at n) (h.start + 12) end
 
 old_heap : (m n : AddressMap) (h : HeapList) (end : ℕ) → EndsAt m n h end → IsHeapIn (bytes_of m) h.start h.end h.items
@@ -367,7 +367,7 @@ becomes_ended m n h end e = record {
   heap = new_heap m n h end e;
   same = e.same;
   others = λ a apart out. e.word.other a (elim apart [ inl low ↦ inl (omega arith) | inr high ↦ inr (omega arith) ]);
-  marks = unmarked (marked_at m) (marked_at n) (h.start + 16) (items_at m h.start) h.items (λ a i. e.marks i a)
+  marks = unmarked (class_of m) (class_of n) (h.start + 16) (items_at m h.start) h.items (λ a i. e.marks i a)
       (λ p. ap (λ (xs : List Item). is_head (h.start + 16) xs p) (sym (items_in-heap (bytes_of m) h.start h.end h.items (old_heap m n h end e))));
 }
 
@@ -408,7 +408,7 @@ sound_ended m n o h end e bytes records =
     })
 
 pub classes_ended : (m n o : AddressMap) (h : HeapList) (end : ℕ) → EndsAt m n h end → bytes_of o ≡ bytes_of n
-    → regions o ≡ with_len (regions m) h.kind h.start end → marked_at o ≡ marked_at n → AreClasses m → AreClasses o
+    → regions o ≡ with_len (regions m) h.kind h.start end → class_of o ≡ class_of n → AreClasses m → AreClasses o
 classes_ended m n o h end e bytes records marks same =
-    subst (λ (s : Store). AreBy (marked_at o) s.heaps) (sym (store_ended m n o h end e bytes records))
-    (marks_ended (marked_at m) (marked_at o) h.start end (store_of m).heaps same (λ a. ap (λ (f : ℕ → Class). f a) (marks ∙ e.marks)))
+    subst (λ (s : Store). AreBy (class_of o) s.heaps) (sym (store_ended m n o h end e bytes records))
+    (marks_ended (class_of m) (class_of o) h.start end (store_of m).heaps same (λ a. ap (λ (f : ℕ → Class). f a) (marks ∙ e.marks)))

@@ -3,7 +3,7 @@ use Rattle.std.proofs.Common.{append-nil, ◌≡◌, None, subst, ◌++◌, arit
 use Rattle.address_map.proofs.Bytes.{is_mapped-layout}
 use Rattle.address_map.specs.Bytes.{word_at}
 use Rattle.address_map.specs.Items.{size_of, linked, is_total}
-use Rattle.address_map.specs.Memory.{byte_at, bytes_of, layout, marked_at}
+use Rattle.address_map.specs.Memory.{byte_at, bytes_of, layout, class_of}
 use Rattle.address_map.specs.declared.item.Item.{Item}
 use Rattle.address_map.specs.declared.item.Item.TheVariants.{Live, Free}
 use Rattle.address_map.specs.declared.map.AddressMap.{AddressMap}
@@ -153,7 +153,7 @@ sunk : (m n : AddressMap) (start end : ℕ) (before old : List Item) (g : ℕ �
     → IsHeapIn (bytes_of m) start end (before ++ old) → layout n ≡ layout m → AreSpaced before
     → IsWritten (byte_at m) g (link_at start (last_free start (start + 16) before)) (0 - last_free start (start + 16) before)
     → IsWritten g (byte_at n) (start + 8) (16 + size_of before)
-    → (AreMarked (marked_at m) (start + 16) (before ++ old) → Remarks (marked_at m) (marked_at n) (start + 16) (before ++ old) (before ++ []))
+    → (AreMarked (class_of m) (start + 16) (before ++ old) → Remarks (class_of m) (class_of n) (start + 16) (before ++ old) (before ++ []))
     → Becomes m n start end (before ++ [])
 sunk m n start end before old g heap same closed one two marks =
     let front : AreTotals before = totals-front before old heap.totals in
@@ -179,7 +179,7 @@ loosed : (m n : AddressMap) (start end : ℕ) (before old xs : List Item) (s : �
     → Spells (word_at (byte_at m)) (start + 16 + size_of before + s) xs 0
     → IsFreed (byte_at m) (byte_at n) start (last_free start (start + 16) before) (start + 16 + size_of before) s
     (next_free (start + 16 + size_of before + s) xs 0)
-    → (AreMarked (marked_at m) (start + 16) (before ++ old) → Remarks (marked_at m) (marked_at n) (start + 16) (before ++ old) (before ++ Free s ∷ xs))
+    → (AreMarked (class_of m) (start + 16) (before ++ old) → Remarks (class_of m) (class_of n) (start + 16) (before ++ old) (before ++ Free s ∷ xs))
     → Becomes m n start end (before ++ Free s ∷ xs)
 loosed m n start end before old xs s heap same closed total size totals spaced live spelled one marks =
     let front : AreTotals before = totals-front before old heap.totals in
@@ -215,7 +215,7 @@ pub releases_sunk : (m n : AddressMap) (start end block from at free gap : ℕ) 
     → (b : IsBlock start (items_at m start) block from at free gap)
     → at + b.total ≡ start + word_at (byte_at m) (start + 8) → layout n ≡ layout m
     → IsWritten (byte_at m) g (link_at start from) (0 - from) → IsWritten g (byte_at n) (start + 8) (at - gap - start)
-    → Remarks (marked_at m) (marked_at n) (at - gap) (left_free gap ++ Live b.total ∷ []) []
+    → Remarks (class_of m) (class_of n) (at - gap) (left_free gap ++ Live b.total ∷ []) []
     → Releases m n start end (Ok tt) (released block (start + 16) (items_at m start))
 releases_sunk m n start end block from at free gap g heap b ends same one two change =
     let f : BlockFacts m start end from at free gap b.total b.before b.rest = block_facts m start end block from at free gap heap b in
@@ -229,14 +229,14 @@ releases_sunk m n start end block from at free gap g heap b ends same one two ch
     given m n start end _ _ (b.before ++ []) b.given
     (ap (λ (ys : List Item). b.before ++ glued gap (freed b.total ys)) none ∙ ap (λ (ys : List Item). b.before ++ ys) (glued_nothing gap))
     (sunk m n start end b.before old g f.heap same b.closed one' two'
-    (remarked_as (marked_at m) (marked_at n) (start + 16) b.before old gone [] [] split f.heap.totals (λ p. refl) (rw f.place at change)))
+    (remarked_as (class_of m) (class_of n) (start + 16) b.before old gone [] [] split f.heap.totals (λ p. refl) (rw f.place at change)))
 
 -- a free item behind joins
 pub releases_joined : (m n : AddressMap) (start end block from at free gap next : ℕ) → IsHeapAt m start end
     → (b : IsBlock start (items_at m start) block from at free gap) → (k : NextFree m start end (at + b.total) b.rest) → layout n ≡ layout m
     → next ≡ next_free (at + b.total + k.total) k.after 0
     → IsFreed (byte_at m) (byte_at n) start from (at - gap) (gap + b.total + k.total) next
-    → Remarks (marked_at m) (marked_at n) (at - gap) (left_free gap ++ Live b.total ∷ (Free k.total ∷ [])) (Free (gap + b.total + k.total) ∷ [])
+    → Remarks (class_of m) (class_of n) (at - gap) (left_free gap ++ Live b.total ∷ (Free k.total ∷ [])) (Free (gap + b.total + k.total) ∷ [])
     → Releases m n start end (Ok tt) (released block (start + 16) (items_at m start))
 releases_joined m n start end block from at free gap next heap b k same onward one change =
     let f : BlockFacts m start end from at free gap b.total b.before b.rest = block_facts m start end block from at free gap heap b in
@@ -262,14 +262,14 @@ releases_joined m n start end block from at free gap next heap b k same onward o
     (loosed m n start end b.before (left_free gap ++ Live b.total ∷ b.rest) k.after s f.heap same b.closed
     (total_of-numbers s (omega (arith, f.facts.size)) (omega (arith, f.eighths, f.facts.eighths, k.facts.eighths)))
     size totals.1 spaced.1 spaced.0 (rw place spelled.1.1) one'
-    (remarked_as (marked_at m) (marked_at n) (start + 16) b.before old gone (Free s ∷ []) k.after split f.heap.totals
+    (remarked_as (class_of m) (class_of n) (start + 16) b.before old gone (Free s ∷ []) k.after split f.heap.totals
     (still-same (start + 16 + size_of b.before) gone (Free s ∷ []) k.after alike) (rw f.place at change)))
 
 pub releases_alone : (m n : AddressMap) (start end block from at free gap : ℕ) → IsHeapAt m start end
     → (b : IsBlock start (items_at m start) block from at free gap)
     → at + b.total ≢ start + word_at (byte_at m) (start + 8) → at + b.total ≢ free → layout n ≡ layout m
     → IsFreed (byte_at m) (byte_at n) start from (at - gap) (gap + b.total) free
-    → Remarks (marked_at m) (marked_at n) (at - gap) (left_free gap ++ Live b.total ∷ []) (Free (gap + b.total) ∷ [])
+    → Remarks (class_of m) (class_of n) (at - gap) (left_free gap ++ Live b.total ∷ []) (Free (gap + b.total) ∷ [])
     → Releases m n start end (Ok tt) (released block (start + 16) (items_at m start))
 releases_alone m n start end block from at free gap heap b inside other same one change =
     let f : BlockFacts m start end from at free gap b.total b.before b.rest = block_facts m start end block from at free gap heap b in
@@ -287,5 +287,5 @@ releases_alone m n start end block from at free gap heap b inside other same one
     (loosed m n start end b.before (left_free gap ++ Live b.total ∷ b.rest) b.rest s f.heap same b.closed
     (total_of-numbers s (omega (arith, f.facts.size)) (omega (arith, f.eighths, f.facts.eighths)))
     size f.facts.totals f.facts.spaced live.0 (rw place f.facts.spelled) one'
-    (remarked_as (marked_at m) (marked_at n) (start + 16) b.before old gone (Free s ∷ []) b.rest split f.heap.totals
+    (remarked_as (class_of m) (class_of n) (start + 16) b.before old gone (Free s ∷ []) b.rest split f.heap.totals
     (still-same (start + 16 + size_of b.before) gone (Free s ∷ []) b.rest alike) (rw f.place at change)))

@@ -6,7 +6,7 @@ use Rattle.std.proofs.lemmas.Bool.Decides.{nat_tests}
 use Rattle.address_map.proofs.Spans.{mapped_below}
 use Rattle.address_map.specs.Bytes.{AreMapped, in_range, word_start}
 use Rattle.address_map.specs.Items.{is_total, size_of, total_of}
-use Rattle.address_map.specs.Memory.{bytes_of, byte_at, is_mapped, layout, mapping, marked_at, regions}
+use Rattle.address_map.specs.Memory.{bytes_of, byte_at, is_mapped, layout, mapping, class_of, regions}
 use Rattle.address_map.specs.Records.{is_heap_kind, with_mark, without_region}
 use Rattle.address_map.specs.declared.class.Class.{Class}
 use Rattle.address_map.specs.declared.class.Class.TheVariants as class
@@ -38,7 +38,7 @@ pub heap_unmarked : (k : Kind) (at : ℕ) (classes : ℕ → Class) (a : ℕ) �
 heap_unmarked kind.Heap at classes a heap = refl
 heap_unmarked kind.Rma at classes a heap = refl
 heap_unmarked kind.FlexStore at classes a heap = refl
-heap_unmarked kind.FlexHeader at classes a heap = refl
+heap_unmarked kind.FlexHeader at classes a heap = absurd (false≢true heap)
 heap_unmarked kind.Anchor at classes a heap = absurd (false≢true heap)
 heap_unmarked kind.HeadWord at classes a heap = absurd (false≢true heap)
 heap_unmarked kind.Image at classes a heap = refl

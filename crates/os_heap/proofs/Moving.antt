@@ -8,7 +8,7 @@ use Rattle.address_map.proofs.Equations.{stored_moved}
 use Rattle.address_map.proofs.Stores.{in_range-cases}
 use Rattle.address_map.specs.Bytes.{AreMapped, Bytes, word_start, in_range, with_moved_at}
 use Rattle.address_map.specs.Items.{size_of, is_heap_word, is_head}
-use Rattle.address_map.specs.Memory.{bytes_of, layout, is_mapped, byte_at, regions, marked_at}
+use Rattle.address_map.specs.Memory.{bytes_of, layout, is_mapped, byte_at, regions, class_of}
 use Rattle.address_map.specs.declared.class.Class.{Class}
 use Rattle.address_map.specs.declared.item.Item.{Item}
 use Rattle.address_map.specs.declared.map.AddressMap.{AddressMap}
@@ -200,7 +200,7 @@ payload_free m n kind heap block total needed new a larger c low high =
     (or_from (in_range heap 16 (word_start a)) (is_head (heap + 16) c.claim.items (word_start a)) beyond head) inside
 
 -- the marks where every list is kept
-classes_kept : (m n : AddressMap) → IsKept m n → marked_at n ≡ marked_at m → AreClasses m → AreClasses n
+pub classes_kept : (m n : AddressMap) → IsKept m n → class_of n ≡ class_of m → AreClasses m → AreClasses n
 classes_kept m n kept marks same a =
     ap (λ (f : ℕ → Class). f a) marks ∙ same a ∙ ap (λ (s : Store). class_by s.heaps a) (sym kept.store)
 
@@ -219,7 +219,7 @@ store_bytes-same : (b c : Bytes) (s : Store) → b ≡ c
 store_bytes-same b c s e = λ i. record { bytes = e i; heaps = s.heaps; others = s.others }
 
 pub is_copied : (m n p : AddressMap) (kind : Kind) (heap block total needed new : ℕ) → total < needed → (c : IsClaimed m n kind heap block total needed new)
-    → layout p ≡ layout n → ((a : ℕ) → byte_at p a ≡ with_moved_at (byte_at n) block new (total - 4) a) → marked_at p ≡ marked_at n
+    → layout p ≡ layout n → ((a : ℕ) → byte_at p a ≡ with_moved_at (byte_at n) block new (total - 4) a) → class_of p ≡ class_of n
     → IsCopied m n p kind heap block total needed new c.claim
 is_copied m n p kind heap block total needed new larger c same bytes marks =
     let kept : IsKept n p = heads_kept n p same c.sound (λ a owned. bytes a ∙ elim (in_range-cases new (total - 4) a) [

@@ -2,7 +2,7 @@
 use Rattle.std.proofs.Common.{sym, ◌-◌, ◌+◌, ◌≡◌, refl, List, ◌++◌, ℕ, true, Some, false, None, arith, subst, ◌∙◌, ap, ◌∷◌, [], ◌≤◌, ◌<◌, ◌≢◌}
 use Rattle.address_map.specs.Bytes.{word_at}
 use Rattle.address_map.specs.Items.{size_of, is_head, is_total}
-use Rattle.address_map.specs.Memory.{bytes_of, byte_at, layout, marked_at}
+use Rattle.address_map.specs.Memory.{bytes_of, byte_at, layout, class_of}
 use Rattle.address_map.specs.declared.item.Item.{Item}
 use Rattle.address_map.specs.declared.item.Item.TheVariants.{Live, Free}
 use Rattle.address_map.specs.declared.map.AddressMap.{AddressMap}
@@ -46,7 +46,7 @@ refits_same m start end limit new block from at free gap heap b same =
       heap = subst (λ (ys : List Item). IsHeapIn (bytes_of m) start end ys) b.split heap;
       same = refl;
       others = λ a head out. refl;
-      marks = unmarked (marked_at m) (marked_at m) (start + 16) (items_at m start) ((b.before ++ left_free gap) ++ Live b.total ∷ b.rest) (λ a. refl)
+      marks = unmarked (class_of m) (class_of m) (start + 16) (items_at m start) ((b.before ++ left_free gap) ++ Live b.total ∷ b.rest) (λ a. refl)
           (λ p. ap (λ (ys : List Item). is_head (start + 16) ys p) (sym b.split));
     })
 
@@ -54,7 +54,7 @@ refits_same m start end limit new block from at free gap heap b same =
 pub refits_last : (m n : AddressMap) (start end new block from at free gap : ℕ) (g : ℕ → ℕ) → IsHeapAt m start end
     → (b : IsBlock start (items_at m start) block from at free gap) → at + b.total ≡ start + word_at (byte_at m) (start + 8)
     → layout n ≡ layout m → is_total new ≡ true → at + new ≤ start + end
-    → IsWritten (byte_at m) g at new → IsWritten g (byte_at n) (start + 8) (at + new - start) → marked_at n ≡ marked_at m
+    → IsWritten (byte_at m) g at new → IsWritten g (byte_at n) (start + 8) (at + new - start) → class_of n ≡ class_of m
     → Refits m n start end true (resized_in_place block (start + end) new (start + 16) (items_at m start))
 refits_last m n start end new block from at free gap g heap b ends same total room one two kept =
     let front : List Item = b.before ++ left_free gap in
@@ -86,7 +86,7 @@ parted : (m n : AddressMap) (start end new left next block from at free gap : �
     → b.total + size_of b.rest ≡ new + (left + size_of xs) → AreTotals xs → AreSpaced xs → begins_live xs ≡ true
     → Spells (word_at (byte_at m)) (at + new + left) xs 0 → next ≡ next_free (at + new + left) xs 0
     → IsDivided (byte_at m) (byte_at n) start (last_link from at gap) at new left next
-    → Live b.total ∷ b.rest ≡ gone ++ xs → Remarks (marked_at m) (marked_at n) at gone (Live new ∷ (Free left ∷ []))
+    → Live b.total ∷ b.rest ≡ gone ++ xs → Remarks (class_of m) (class_of n) at gone (Live new ∷ (Free left ∷ []))
     → Becomes m n start end ((b.before ++ left_free gap) ++ Live new ∷ (Free left ∷ xs))
 parted m n start end new left next block from at free gap xs gone heap b same total left_total size totals spaced live spelled onward one split change =
     let front : List Item = b.before ++ left_free gap in
@@ -100,7 +100,7 @@ pub refits_joined : (m n : AddressMap) (start end limit new next block from at f
     → (b : IsBlock start (items_at m start) block from at free gap) → (k : NextFree m start end (at + b.total) b.rest) → layout n ≡ layout m
     → is_total new ≡ true → new < b.total → next ≡ next_free (at + b.total + k.total) k.after 0
     → IsDivided (byte_at m) (byte_at n) start (last_link from at gap) at new (b.total - new + k.total) next
-    → Remarks (marked_at m) (marked_at n) at (Live b.total ∷ (Free k.total ∷ [])) (Live new ∷ (Free (b.total - new + k.total) ∷ []))
+    → Remarks (class_of m) (class_of n) at (Live b.total ∷ (Free k.total ∷ [])) (Live new ∷ (Free (b.total - new + k.total) ∷ []))
     → Refits m n start end true (resized_in_place block limit new (start + 16) (items_at m start))
 refits_joined m n start end limit new next block from at free gap heap b k same total less onward one change =
     let left : ℕ = b.total - new + k.total in
@@ -125,7 +125,7 @@ pub refits_alone : (m n : AddressMap) (start end limit new block from at free ga
     → at + b.total ≢ start + word_at (byte_at m) (start + 8) → at + b.total ≢ free → layout n ≡ layout m
     → is_total new ≡ true → new < b.total
     → IsDivided (byte_at m) (byte_at n) start (last_link from at gap) at new (b.total - new) free
-    → Remarks (marked_at m) (marked_at n) at (Live b.total ∷ []) (Live new ∷ (Free (b.total - new) ∷ []))
+    → Remarks (class_of m) (class_of n) at (Live b.total ∷ []) (Live new ∷ (Free (b.total - new) ∷ []))
     → Refits m n start end true (resized_in_place block limit new (start + 16) (items_at m start))
 refits_alone m n start end limit new block from at free gap heap b inside other same total less one change =
     let left : ℕ = b.total - new in
@@ -146,7 +146,7 @@ pub refits_part : (m n : AddressMap) (start end limit new next block from at fre
     → (b : IsBlock start (items_at m start) block from at free gap) → (k : NextFree m start end (at + b.total) b.rest) → layout n ≡ layout m
     → is_total new ≡ true → b.total < new → new ≤ b.total + k.total → b.total + k.total - new ≢ 0 → next ≡ next_free (at + b.total + k.total) k.after 0
     → IsDivided (byte_at m) (byte_at n) start (last_link from at gap) at new (b.total + k.total - new) next
-    → Remarks (marked_at m) (marked_at n) at (Live b.total ∷ (Free k.total ∷ [])) (Live new ∷ (Free (b.total + k.total - new) ∷ []))
+    → Remarks (class_of m) (class_of n) at (Live b.total ∷ (Free k.total ∷ [])) (Live new ∷ (Free (b.total + k.total - new) ∷ []))
     → Refits m n start end true (resized_in_place block limit new (start + 16) (items_at m start))
 refits_part m n start end limit new next block from at free gap heap b k same total larger fits some onward one change =
     let left : ℕ = b.total + k.total - new in
@@ -170,7 +170,7 @@ pub refits_whole : (m n : AddressMap) (start end limit new next block from at fr
     → (b : IsBlock start (items_at m start) block from at free gap) → (k : NextFree m start end (at + b.total) b.rest) → layout n ≡ layout m
     → is_total new ≡ true → b.total < new → new ≤ b.total + k.total → b.total + k.total - new ≡ 0 → next ≡ next_free (at + b.total + k.total) k.after 0
     → IsWritten (byte_at m) g (link_at start (last_link from at gap)) (next - last_link from at gap) → IsWritten g (byte_at n) at new
-    → Remarks (marked_at m) (marked_at n) at (Live b.total ∷ (Free k.total ∷ [])) (Live new ∷ [])
+    → Remarks (class_of m) (class_of n) at (Live b.total ∷ (Free k.total ∷ [])) (Live new ∷ [])
     → Refits m n start end true (resized_in_place block limit new (start + 16) (items_at m start))
 refits_whole m n start end limit new next block from at free gap g heap b k same total larger fits none onward one two change =
     let front : List Item = b.before ++ left_free gap in

@@ -3,7 +3,7 @@ use Rattle.std.proofs.Common.{refl, sym, ap, ◌≡◌, ◌++◌, arith, ℕ, tr
 use Rattle.address_map.proofs.Bytes.{is_mapped-layout}
 use Rattle.address_map.specs.Bytes.{word_at}
 use Rattle.address_map.specs.Items.{size_of, is_total}
-use Rattle.address_map.specs.Memory.{bytes_of, byte_at, layout, marked_at}
+use Rattle.address_map.specs.Memory.{bytes_of, byte_at, layout, class_of}
 use Rattle.address_map.specs.declared.item.Item.{Item}
 use Rattle.address_map.specs.declared.item.Item.TheVariants.{Live, Free}
 use Rattle.address_map.specs.declared.map.AddressMap.{AddressMap}
@@ -29,7 +29,7 @@ pub divided : (m n : AddressMap) (start end : ℕ) (front old xs gone : List Ite
     → Spells (word_at (byte_at m)) (start + 16 + size_of front + k + s) xs 0
     → IsDivided (byte_at m) (byte_at n) start (last_free start (start + 16) front) (start + 16 + size_of front) k s
     (next_free (start + 16 + size_of front + k + s) xs 0)
-    → Live t ∷ old ≡ gone ++ xs → Remarks (marked_at m) (marked_at n) (start + 16 + size_of front) gone (Live k ∷ (Free s ∷ []))
+    → Live t ∷ old ≡ gone ++ xs → Remarks (class_of m) (class_of n) (start + 16 + size_of front) gone (Live k ∷ (Free s ∷ []))
     → Becomes m n start end (front ++ Live k ∷ (Free s ∷ xs))
 divided m n start end front old xs gone t k s heap same block total size totals spaced live spelled one split change =
     let before : AreTotals front = totals-front front (Live t ∷ old) heap.totals in
@@ -61,7 +61,7 @@ divided m n start end front old xs gone t k s heap same block total size totals 
         ),
       );
     }) same (λ a head apart out. one.other a apart out.0 out.1.0)
-    (remarked_as (marked_at m) (marked_at n) (start + 16) front (Live t ∷ old) gone (Live k ∷ (Free s ∷ [])) xs split heap.totals
+    (remarked_as (class_of m) (class_of n) (start + 16) front (Live t ∷ old) gone (Live k ∷ (Free s ∷ [])) xs split heap.totals
     (still-same (start + 16 + size_of front) gone (Live k ∷ (Free s ∷ [])) xs alike) change)
 
 -- no free item behind the block
@@ -72,7 +72,7 @@ pub swallowed : (m n : AddressMap) (start end : ℕ) (front old xs gone : List I
     → IsWritten (byte_at m) g (link_at start (last_free start (start + 16) front))
     (next_free (start + 16 + size_of front + k) xs 0 - last_free start (start + 16) front)
     → IsWritten g (byte_at n) (start + 16 + size_of front) k
-    → Live t ∷ old ≡ gone ++ xs → Remarks (marked_at m) (marked_at n) (start + 16 + size_of front) gone (Live k ∷ [])
+    → Live t ∷ old ≡ gone ++ xs → Remarks (class_of m) (class_of n) (start + 16 + size_of front) gone (Live k ∷ [])
     → Becomes m n start end (front ++ Live k ∷ xs)
 swallowed m n start end front old xs gone t k g heap same block size totals spaced spelled one two split change =
     let before : AreTotals front = totals-front front (Live t ∷ old) heap.totals in
@@ -98,7 +98,7 @@ swallowed m n start end front old xs gone t k g heap same block size totals spac
             (λ a low high. two.apart a (inr (omega (arith, least_k.0))) ∙ one.apart a (inr (omega (arith, link.high)))),
       );
     }) same (λ a head apart out. two.other a out.0 ∙ one.other a apart)
-    (remarked_as (marked_at m) (marked_at n) (start + 16) front (Live t ∷ old) gone (Live k ∷ []) xs split heap.totals
+    (remarked_as (class_of m) (class_of n) (start + 16) front (Live t ∷ old) gone (Live k ∷ []) xs split heap.totals
     (still-same (start + 16 + size_of front) gone (Live k ∷ []) xs alike) change)
 
 -- the block is the last, and the base moves with its end
@@ -107,7 +107,7 @@ pub rebased : (m n : AddressMap) (start end : ℕ) (front : List Item) (t k : �
     → 16 + size_of front + k ≤ end
     → IsWritten (byte_at m) g (start + 16 + size_of front) k
     → IsWritten g (byte_at n) (start + 8) (16 + size_of front + k)
-    → marked_at n ≡ marked_at m
+    → class_of n ≡ class_of m
     → Becomes m n start end (front ++ Live k ∷ [])
 rebased m n start end front t k g heap same block room one two kept =
     let before : AreTotals front = totals-front front (Live t ∷ []) heap.totals in
@@ -125,7 +125,7 @@ rebased m n start end front t k g heap same block room one two kept =
       same = λ a low apart base. two.apart a base ∙ one.apart a (inl low);
       spelled = (two.apart (start + 16 + size_of front) (inr (omega arith)) ∙ one.here, tt);
     }) same (λ a head apart out. two.other a (elim head [ inl low ↦ inl (omega arith) | inr high ↦ inr (omega arith) ]) ∙ one.other a out.0)
-    (unmarked (marked_at m) (marked_at n) (start + 16) (front ++ Live t ∷ []) (front ++ Live k ∷ []) (λ a i. kept i a) (last_still (start + 16) k t front))
+    (unmarked (class_of m) (class_of n) (start + 16) (front ++ Live t ∷ []) (front ++ Live k ∷ []) (λ a i. kept i a) (last_still (start + 16) k t front))
 
 -- what is known of the block, and of all that stands before it
 pub record PlaceFacts (m : AddressMap) (start end from at gap total : ℕ) (front rest : List Item) : Type 0 where

@@ -2,7 +2,7 @@
 use Rattle.std.proofs.Common.{subst, sym, ◌-◌, arith, ◌+◌, ◌≤◌, List, ℕ, ◌^◌, ◌≡◌, true, ◌<◌, ◌++◌}
 use Rattle.address_map.proofs.Spans.{range_below}
 use Rattle.address_map.specs.Items.{size_of}
-use Rattle.address_map.specs.Memory.{bytes_of, is_mapped, layout, byte_at, marked_at}
+use Rattle.address_map.specs.Memory.{bytes_of, is_mapped, layout, byte_at, class_of}
 use Rattle.address_map.specs.declared.item.Item.{Item}
 use Rattle.address_map.specs.declared.map.AddressMap.{AddressMap}
 use Rattle.os_heap_lists.proofs.LastLink.{IsReplaced, outside-back, outside-link, replaced}
@@ -27,7 +27,7 @@ pub becomes : (m n : AddressMap) (start end : ℕ) (xs old new : List Item) → 
     → IsReplaced (bytes_of m) (bytes_of n) start end xs new → layout n ≡ layout m
     → ((a : ℕ) → AreApart a 1 start 16 → AreApart a 1 (link_at start (last_free start (start + 16) xs)) 4
     → IsOutside (start + 16 + size_of xs) new a → byte_at n a ≡ byte_at m a)
-    → (AreMarked (marked_at m) (start + 16) (xs ++ old) → Remarks (marked_at m) (marked_at n) (start + 16) (xs ++ old) (xs ++ new))
+    → (AreMarked (class_of m) (start + 16) (xs ++ old) → Remarks (class_of m) (class_of n) (start + 16) (xs ++ old) (xs ++ new))
     → Becomes m n start end (xs ++ new)
 becomes m n start end xs old new heap r same others marks = record {
   heap = replaced (bytes_of m) (bytes_of n) start end xs old new heap r;
@@ -35,6 +35,6 @@ becomes m n start end xs old new heap r same others marks = record {
   others = λ a head out.
       others a head (outside-link start xs new a (totals-front xs old heap.totals) head out) (outside-back (start + 16) xs new a out);
   marks = subst
-      (λ (ys : List Item). AreMarked (marked_at m) (start + 16) ys → Remarks (marked_at m) (marked_at n) (start + 16) ys (xs ++ new))
+      (λ (ys : List Item). AreMarked (class_of m) (start + 16) ys → Remarks (class_of m) (class_of n) (start + 16) ys (xs ++ new))
       (sym (items_in-heap (bytes_of m) start end (xs ++ old) heap)) marks;
 }

@@ -4,7 +4,7 @@ use Rattle.profile.specs.declared.error.ErrorNumber.{ErrorNumber}
 use Rattle.profile.specs.declared.error.ErrorNumber.TheVariants.{HeapNoRoom, HeapNotABlock}
 use Rattle.address_map.specs.Bytes.{AreMapped, word_at}
 use Rattle.address_map.specs.Items.{items_in, size_of}
-use Rattle.address_map.specs.Memory.{byte_at, bytes_of, is_mapped, layout, marked_at}
+use Rattle.address_map.specs.Memory.{byte_at, bytes_of, is_mapped, layout, class_of}
 use Rattle.address_map.specs.declared.item.Item.{Item}
 use Rattle.address_map.specs.declared.map.AddressMap.{AddressMap}
 use Rattle.address_map.specs.declared.region.Region.{Region}
@@ -41,7 +41,7 @@ pub record Becomes (old new : AddressMap) (start end : ℕ) (items : List Item) 
   pub heap : IsHeapIn (bytes_of new) start end items
   pub same : layout new ≡ layout old
   pub others : (a : ℕ) → AreApart a 1 start 16 → IsOutside (start + 16) items a → byte_at new a ≡ byte_at old a
-  pub marks : AreMarked (marked_at old) (start + 16) (items_at old start) → Remarks (marked_at old) (marked_at new) (start + 16) (items_at old start) items
+  pub marks : AreMarked (class_of old) (start + 16) (items_at old start) → Remarks (class_of old) (class_of new) (start + 16) (items_at old start) items
 
 abbrev pub Claims : AddressMap → AddressMap → ℕ → ℕ → Result ℕ ErrorNumber → Option Claim → Type 0
 Claims old new start end answer None = (answer ≡ Err HeapNoRoom) × (new ≡ old)

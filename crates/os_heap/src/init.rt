@@ -2,7 +2,7 @@ ghost use Rattle.std.specs.Prelude.{ℕ, [], true, ◌≡◌, ◌≤◌, ◌%◌
 ghost use Rattle.std.specs.List.{list_any};
 ghost use Rattle.profile.specs.Outcome.{Gives};
 ghost use Rattle.address_map.specs.Bytes.{Bytes, AreMapped};
-ghost use Rattle.address_map.specs.Memory.{mapping, byte_at, is_mapped, bytes_of, layout, marked_at};
+ghost use Rattle.address_map.specs.Memory.{mapping, byte_at, is_mapped, bytes_of, layout, class_of};
 ghost use Rattle.address_map.specs.Records.{is_heap_kind};
 ghost use Rattle.address_map.specs.declared.region.Kind.TheVariants.{Heap, Rma};
 ghost use Rattle.os_heap.specs.Ranges.{MayBegin, is_heap_region, meets, meets_any};
@@ -98,7 +98,7 @@ fn write_descriptor(map: &mut AddressMap, heap: u32, size: u32)
     requires mapped { AreMapped (is_mapped map.old) heap size }
     ensures bytes { (a : ℕ) → byte_at map.new a ≡ with_heap (byte_at map.old) heap size [] a }
     ensures layout { layout map.new ≡ layout map.old }
-    ensures marks { marked_at map.new ≡ marked_at map.old }
+    ensures marks { class_of map.new ≡ class_of map.old }
 {
     map.put_word(heap, HEAP_NAME);
     map.put_word(heap + LINK, 0);

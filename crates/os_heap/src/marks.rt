@@ -1,6 +1,6 @@
 ghost use Rattle.std.specs.Prelude.{ℕ, [], ◌∷◌, ◌++◌, ◌≡◌, ◌≤◌, ◌<◌, ◌+◌, ◌-◌, ◌%◌, ◌^◌, ◌&&◌, true, if◌then◌else◌};
 ghost use Rattle.address_map.specs.Bytes.{AreMapped, in_range, word_start};
-ghost use Rattle.address_map.specs.Memory.{byte_at, is_mapped, layout, marked_at};
+ghost use Rattle.address_map.specs.Memory.{byte_at, is_mapped, layout, class_of};
 ghost use Rattle.address_map.specs.Records.{with_class};
 ghost use Rattle.address_map.specs.declared.class.Class.TheVariants.{Heap};
 ghost use Rattle.os_heap_lists.specs.Lists.{left_free};
@@ -18,7 +18,7 @@ const WORD: u32 = 4;
 fn mark(map: &mut AddressMap, at: u32, is_head: bool)
     requires aligned { at % 4 ≡ 0 }
     requires mapped { is_mapped map.old at ≡ true }
-    ensures marks { (a : ℕ) → marked_at map.new a ≡ with_class (marked_at map.old) at (head_class is_head) a }
+    ensures marks { (a : ℕ) → class_of map.new a ≡ with_class (class_of map.old) at (head_class is_head) a }
     ensures bytes { byte_at map.new ≡ byte_at map.old }
     ensures layout { layout map.new ≡ layout map.old }
 {
@@ -32,7 +32,7 @@ fn mark(map: &mut AddressMap, at: u32, is_head: bool)
 /// Marks the words of an item, or takes their marks away.
 fn mark_item(map: &mut AddressMap, at: u32, item: Item, is_head: bool)
     requires { CanStand map.old at (item ∷ []) }
-    ensures marks { (a : ℕ) → marked_at map.new a ≡ with_item_marked at item (head_class is_head) (marked_at map.old) a }
+    ensures marks { (a : ℕ) → class_of map.new a ≡ with_item_marked at item (head_class is_head) (class_of map.old) a }
     ensures bytes { byte_at map.new ≡ byte_at map.old }
     ensures layout { layout map.new ≡ layout map.old }
 {
@@ -45,7 +45,7 @@ fn mark_item(map: &mut AddressMap, at: u32, item: Item, is_head: bool)
 /// Marks the words of items that lie one behind the other, or takes their marks away.
 fn mark_items(map: &mut AddressMap, at: u32, items: &[Item], is_head: bool)
     requires { CanStand map.old at items.now }
-    ensures marks { (a : ℕ) → marked_at map.new a ≡ with_items_marked at items.now (head_class is_head) (marked_at map.old) a }
+    ensures marks { (a : ℕ) → class_of map.new a ≡ with_items_marked at items.now (head_class is_head) (class_of map.old) a }
     ensures bytes { byte_at map.new ≡ byte_at map.old }
     ensures layout { layout map.new ≡ layout map.old }
 {
@@ -59,7 +59,7 @@ fn mark_items(map: &mut AddressMap, at: u32, items: &[Item], is_head: bool)
 /// Marks the words of items that are made where there were none.
 pub(crate) fn make(map: &mut AddressMap, at: u32, news: &[Item])
     requires { CanStand map.old at news.now }
-    ensures marks { Remarks (marked_at map.old) (marked_at map.new) at [] news.now }
+    ensures marks { Remarks (class_of map.old) (class_of map.new) at [] news.now }
     ensures bytes { byte_at map.new ≡ byte_at map.old }
     ensures layout { layout map.new ≡ layout map.old }
 {
@@ -70,7 +70,7 @@ pub(crate) fn make(map: &mut AddressMap, at: u32, news: &[Item])
 pub(crate) fn remark(map: &mut AddressMap, at: u32, olds: &[Item], news: &[Item])
     requires olds { CanStand map.old at olds.now }
     requires news { CanStand map.old at news.now }
-    ensures marks { Remarks (marked_at map.old) (marked_at map.new) at olds.now news.now }
+    ensures marks { Remarks (class_of map.old) (class_of map.new) at olds.now news.now }
     ensures bytes { byte_at map.new ≡ byte_at map.old }
     ensures layout { layout map.new ≡ layout map.old }
 {
@@ -86,7 +86,7 @@ pub(crate) fn remark_gap(map: &mut AddressMap, cursor: &Cursor, olds: &[Item], n
     requires olds { CanStand map.old cursor.now.at olds.now }
     requires news { CanStand map.old (cursor.now.at - cursor.now.gap) news.now }
     ensures marks { let from = cursor.now.at - cursor.now.gap in
-        Remarks (marked_at map.old) (marked_at map.new) from (left_free cursor.now.gap ++ olds.now) news.now }
+        Remarks (class_of map.old) (class_of map.new) from (left_free cursor.now.gap ++ olds.now) news.now }
     ensures bytes { byte_at map.new ≡ byte_at map.old }
     ensures layout { layout map.new ≡ layout map.old }
 {
@@ -99,7 +99,7 @@ pub(crate) fn remark_gap(map: &mut AddressMap, cursor: &Cursor, olds: &[Item], n
 /// Takes the marks of a free item away, or of nothing, where it would have no bytes.
 fn give_up_gap(map: &mut AddressMap, at: u32, gap: u32)
     requires { CanStand map.old at (left_free gap) }
-    ensures marks { Remarks (marked_at map.old) (marked_at map.new) at (left_free gap) [] }
+    ensures marks { Remarks (class_of map.old) (class_of map.new) at (left_free gap) [] }
     ensures bytes { byte_at map.new ≡ byte_at map.old }
     ensures layout { layout map.new ≡ layout map.old }
 {
@@ -112,7 +112,7 @@ fn give_up_gap(map: &mut AddressMap, at: u32, gap: u32)
 pub(crate) fn mark_descriptor(map: &mut AddressMap, heap: u32)
     requires aligned { heap % 4 ≡ 0 }
     requires mapped { AreMapped (is_mapped map.old) heap 16 }
-    ensures marks { (a : ℕ) → marked_at map.new a ≡ (if in_range heap 16 (word_start a) then Heap else marked_at map.old a) }
+    ensures marks { (a : ℕ) → class_of map.new a ≡ (if in_range heap 16 (word_start a) then Heap else class_of map.old a) }
     ensures bytes { byte_at map.new ≡ byte_at map.old }
     ensures layout { layout map.new ≡ layout map.old }
 {

@@ -1,7 +1,7 @@
 use Rattle.std.proofs.Common.{[], ◌∷◌, ◌≡◌, ◌+◌, ◌∙◌, arith}
 use Rattle.address_map.specs.Items.{size_of}
 use Rattle.os_heap.specs.Outcomes.{end_at, items_at}
-use Rattle.address_map.specs.Memory.{marked_at}
+use Rattle.address_map.specs.Memory.{class_of}
 use Rattle.address_map.specs.declared.item.Item.TheVariants.{Live}
 use Rattle.os_heap.proofs.Marking.{can_stand, still_written, remarks_after}
 use Rattle.os_heap.proofs.Replace.{heap_below}
@@ -68,5 +68,5 @@ returns c =
     claims_base c.args.map.now _ c.args.heap (end_at c.args.map.now c.args.heap) c.args.needed c.word-base.result _ _ c.requires.heap
     (c.make.ensures.layout ∙ c.put-2.ensures.layout ∙ c.put.ensures.layout) c.requires.total base (omega (arith, c.word-end.ensures)) c.put.ensures.word
     (still_written _ _ _ _ _ c.make.ensures.bytes c.put-2.ensures.word)
-    (remarks_after (marked_at c.args.map.now) (marked_at c.put-2.new.map) (marked_at c.make.new.map) (c.args.heap + c.word-base.result) [] (Live c.args.needed ∷ [])
+    (remarks_after (class_of c.args.map.now) (class_of c.put-2.new.map) (class_of c.make.new.map) (c.args.heap + c.word-base.result) [] (Live c.args.needed ∷ [])
     (c.put-2.ensures.marks ∙ c.put.ensures.marks) c.make.ensures.marks)

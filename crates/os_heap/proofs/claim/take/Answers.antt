@@ -1,7 +1,7 @@
 use Rattle.std.proofs.Common.{◌≡◌, ◌<◌, ◌-◌, [], ◌∷◌, true, ◌∙◌, arith, inl}
 use Rattle.address_map.specs.Items.{is_total}
 use Rattle.address_map.specs.declared.item.Item.TheVariants.{Free, Live}
-use Rattle.address_map.specs.Memory.{marked_at}
+use Rattle.address_map.specs.Memory.{class_of}
 use Rattle.os_heap.specs.Outcomes.{end_at}
 use Rattle.os_heap.proofs.Replace.{heap_mapped}
 use Rattle.os_heap.proofs.Searching.{fit_facts}
@@ -162,7 +162,7 @@ returns-then-left-eq0 c =
     claims_whole c.args.map.now _ c.args.heap (end_at c.args.map.now c.args.heap) c.args.needed _ _ _ c.follow-next.result _ _ c.requires.fit c.requires.heap
     (c.remark.ensures.layout ∙ c.put.ensures.layout ∙ c.put_link.ensures.layout) c.if-left-eq0.true (c.follow-next.ensures ∙ f.onward) c.put_link.ensures.word
     (still_written _ _ _ _ _ c.remark.ensures.bytes c.put.ensures.word)
-    (remarks_after (marked_at c.args.map.now) (marked_at c.put.new.map) (marked_at c.remark.new.map) c.args.fit.now.at (Free c.args.fit.now.total ∷ []) (Live c.args.needed ∷ [])
+    (remarks_after (class_of c.args.map.now) (class_of c.put.new.map) (class_of c.remark.new.map) c.args.fit.now.at (Free c.args.fit.now.total ∷ []) (Live c.args.needed ∷ [])
     (c.put.ensures.marks ∙ c.put_link.ensures.marks) c.remark.ensures.marks)
 
 pub returns : goal.returns
@@ -171,5 +171,5 @@ returns c =
     claims_part c.args.map.now _ c.args.heap (end_at c.args.map.now c.args.heap) c.args.needed _ _ _ c.follow-next.result _ _ c.requires.fit c.requires.heap
     (c.remark-2.ensures.layout ∙ c.put-2.ensures.layout ∙ c.put_free.ensures.layout) c.requires.total c.if-left-eq0.false (c.follow-next.ensures ∙ f.onward) c.put_free.ensures.words
     (still_written _ _ _ _ _ c.remark-2.ensures.bytes c.put-2.ensures.word)
-    (remarks_after (marked_at c.args.map.now) (marked_at c.put-2.new.map) (marked_at c.remark-2.new.map) c.args.fit.now.at (Free c.args.fit.now.total ∷ []) (Live c.args.needed ∷ (Free (c.args.fit.now.total - c.args.needed) ∷ []))
+    (remarks_after (class_of c.args.map.now) (class_of c.put-2.new.map) (class_of c.remark-2.new.map) c.args.fit.now.at (Free c.args.fit.now.total ∷ []) (Live c.args.needed ∷ (Free (c.args.fit.now.total - c.args.needed) ∷ []))
     (c.put-2.ensures.marks ∙ c.put_free.ensures.marks) c.remark-2.ensures.marks)

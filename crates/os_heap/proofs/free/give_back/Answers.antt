@@ -1,6 +1,6 @@
 use Rattle.std.proofs.Common.{◌++◌, [], ◌∷◌, ◌-◌, ◌≡◌, ◌≢◌, ◌+◌, ◌∙◌, arith, sym, ap, inl}
 use Rattle.address_map.specs.Bytes.{word_at}
-use Rattle.address_map.specs.Memory.{byte_at, marked_at}
+use Rattle.address_map.specs.Memory.{byte_at, class_of}
 use Rattle.os_heap.specs.Outcomes.{end_at}
 use Rattle.address_map.specs.declared.item.Item.TheVariants.{Free, Live}
 use Rattle.os_heap_lists.specs.Lists.{left_free}
@@ -230,7 +230,7 @@ returns-then-behind-base c =
     releases_sunk c.args.map.now _ c.args.heap (end_at c.args.map.now c.args.heap) c.args.block c.args.cursor.now.from c.args.cursor.now.at c.args.cursor.now.free c.args.cursor.now.gap _ c.requires.heap c.requires.block ends
     (c.remark_gap.ensures.layout ∙ c.put.ensures.layout ∙ c.put_link.ensures.layout) c.put_link.ensures.word
     (still_written _ _ _ _ _ c.remark_gap.ensures.bytes c.put.ensures.word)
-    (remarks_after (marked_at c.args.map.now) (marked_at c.put.new.map) (marked_at c.remark_gap.new.map) (c.args.cursor.now.at - c.args.cursor.now.gap) (left_free c.args.cursor.now.gap ++ Live c.requires.block.total ∷ []) []
+    (remarks_after (class_of c.args.map.now) (class_of c.put.new.map) (class_of c.remark_gap.new.map) (c.args.cursor.now.at - c.args.cursor.now.gap) (left_free c.args.cursor.now.gap ++ Live c.requires.block.total ∷ []) []
     (c.put.ensures.marks ∙ c.put_link.ensures.marks) (rw own at c.remark_gap.ensures.marks))
 
 pub overflow_add-behind-then-behind-cursor : goal.overflow_add-behind-then-behind-cursor
@@ -312,7 +312,7 @@ returns-then-behind-cursor c =
     let change = rw (own, sum) at c.remark_gap-then-behind-cursor.ensures.marks in
     releases_joined c.args.map.now _ c.args.heap (end_at c.args.map.now c.args.heap) c.args.block c.args.cursor.now.from c.args.cursor.now.at c.args.cursor.now.free c.args.cursor.now.gap c.follow-next.result c.requires.heap c.requires.block k
     (c.remark_gap-then-behind-cursor.ensures.layout ∙ c.put_free.ensures.layout) (next ∙ k.onward)
-    (still_freed _ _ _ _ _ _ _ _ c.remark_gap-then-behind-cursor.ensures.bytes words) (remarks_after (marked_at c.args.map.now) (marked_at c.put_free.new.map) (marked_at c.remark_gap-then-behind-cursor.new.map) (c.args.cursor.now.at - c.args.cursor.now.gap) (left_free c.args.cursor.now.gap ++ Live c.requires.block.total ∷ (Free k.total ∷ [])) (Free (c.args.cursor.now.gap + c.requires.block.total + k.total) ∷ [])
+    (still_freed _ _ _ _ _ _ _ _ c.remark_gap-then-behind-cursor.ensures.bytes words) (remarks_after (class_of c.args.map.now) (class_of c.put_free.new.map) (class_of c.remark_gap-then-behind-cursor.new.map) (c.args.cursor.now.at - c.args.cursor.now.gap) (left_free c.args.cursor.now.gap ++ Live c.requires.block.total ∷ (Free k.total ∷ [])) (Free (c.args.cursor.now.gap + c.requires.block.total + k.total) ∷ [])
     c.put_free.ensures.marks change)
 
 pub returns : goal.returns
@@ -326,5 +326,5 @@ returns c =
     let other : c.args.cursor.now.at + c.requires.block.total ≢ c.args.cursor.now.free = λ e. c.if-behind-cursor.false (ap (λ n. c.args.cursor.now.at + n) own ∙ e) in
     releases_alone c.args.map.now _ c.args.heap (end_at c.args.map.now c.args.heap) c.args.block c.args.cursor.now.from c.args.cursor.now.at c.args.cursor.now.free c.args.cursor.now.gap c.requires.heap c.requires.block inside other
     (c.remark_gap-2.ensures.layout ∙ c.put_free-2.ensures.layout)
-    (still_freed _ _ _ _ _ _ _ _ c.remark_gap-2.ensures.bytes words) (remarks_after (marked_at c.args.map.now) (marked_at c.put_free-2.new.map) (marked_at c.remark_gap-2.new.map) (c.args.cursor.now.at - c.args.cursor.now.gap) (left_free c.args.cursor.now.gap ++ Live c.requires.block.total ∷ []) (Free (c.args.cursor.now.gap + c.requires.block.total) ∷ [])
+    (still_freed _ _ _ _ _ _ _ _ c.remark_gap-2.ensures.bytes words) (remarks_after (class_of c.args.map.now) (class_of c.put_free-2.new.map) (class_of c.remark_gap-2.new.map) (c.args.cursor.now.at - c.args.cursor.now.gap) (left_free c.args.cursor.now.gap ++ Live c.requires.block.total ∷ []) (Free (c.args.cursor.now.gap + c.requires.block.total) ∷ [])
     c.put_free-2.ensures.marks change)

@@ -2,7 +2,7 @@ use Rattle.std.proofs.Common.{ℕ, cond, ◌≡◌, [], ◌∷◌, ◌++◌, is_
 use Rattle.std.proofs.lemmas.Bool.{both_ways}
 use Rattle.address_map.specs.declared.region.Region.{Region}
 use Rattle.address_map.specs.Bytes.{in_range, word_start}
-use Rattle.address_map.specs.Memory.{byte_at, bytes_of, marked_at, regions}
+use Rattle.address_map.specs.Memory.{byte_at, bytes_of, class_of, regions}
 use Rattle.address_map.specs.declared.class.Class.{Class}
 use Rattle.address_map.specs.declared.class.Class.TheVariants as class
 use Rattle.address_map.proofs.Equations.{same_bytes}
@@ -78,7 +78,7 @@ returns-clause-sound c =
 pub returns-clause-classes : goal.returns-clause-classes
 returns-clause-classes c =
     classes_begun c.args.map.now c.own.new.self c.args.kind c.args.heap c.args.size (returns-clause-store c)
-    (λ a. c.own.ensures.marks a ∙ heap_unmarked c.args.kind c.args.heap (marked_at c.mark_descriptor.new.map) a c.requires.kind
+    (λ a. c.own.ensures.marks a ∙ heap_unmarked c.args.kind c.args.heap (class_of c.mark_descriptor.new.map) a c.requires.kind
     ∙ c.mark_descriptor.ensures.marks a
     ∙ ap (λ (f : ℕ → Class). cond (in_range c.args.heap 16 (word_start a)) class.Heap (f a)) c.write_descriptor.ensures.marks)
 

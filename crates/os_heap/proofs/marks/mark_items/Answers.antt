@@ -1,7 +1,7 @@
 use Rattle.std.proofs.Common.{List, ◌≡◌, ◌+◌, ◌++◌, [], ◌∷◌, ◌∙◌, take, slice_index_or, arith}
 use Rattle.std.proofs.lemmas.List.{take_more}
 use Rattle.address_map.specs.Items.{size_of, total_of}
-use Rattle.address_map.specs.Memory.{marked_at}
+use Rattle.address_map.specs.Memory.{class_of}
 use Rattle.address_map.specs.declared.item.Item.{Item}
 use Rattle.address_map.specs.declared.item.Item.TheVariants.{Live}
 use Rattle.os_heap_lists.proofs.Marks.{one_more}
@@ -31,7 +31,7 @@ loop-item-preserved c =
     let size : size_of (done ++ item ∷ []) ≡ size_of done + (total_of item + 0) = size_of-append done (item ∷ []) in
     record {
       place = rw more (omega (arith, c.loop-item.invariant.place, c.total-place.ensures, size));
-      marks = rw more (one_more (marked_at c.args.map.now) (marked_at c.loop-item.map) (marked_at c.mark_item.new.map) c.args.at c.loop-item.place done item
+      marks = rw more (one_more (class_of c.args.map.now) (class_of c.loop-item.map) (class_of c.mark_item.new.map) c.args.at c.loop-item.place done item
           (head_class c.args.is_head) c.loop-item.invariant.place c.loop-item.invariant.marks c.mark_item.ensures.marks);
       bytes = c.mark_item.ensures.bytes ∙ c.loop-item.invariant.bytes;
       layout = c.mark_item.ensures.layout ∙ c.loop-item.invariant.layout;

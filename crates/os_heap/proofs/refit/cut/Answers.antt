@@ -1,6 +1,6 @@
 use Rattle.std.proofs.Common.{[], ◌∷◌, ◌-◌, ◌≡◌, ◌≢◌, ◌+◌, ◌<◌, ◌∙◌, ap, sym, arith}
 use Rattle.address_map.specs.Bytes.{word_at}
-use Rattle.address_map.specs.Memory.{byte_at, marked_at}
+use Rattle.address_map.specs.Memory.{byte_at, class_of}
 use Rattle.os_heap.specs.Outcomes.{end_at}
 use Rattle.os_heap_lists.proofs.Reading.{total_facts}
 use Rattle.address_map.specs.declared.item.Item.TheVariants.{Free, Live}
@@ -157,7 +157,7 @@ returns-then-behind-cursor c =
     let sum = other ∙ k.facts.total_word in
     let next = rw own at c.follow-next.ensures in
     let words = rw (own, sum) at (still_divided _ _ _ _ _ _ _ _ _ c.remark.ensures.bytes c.divide.ensures.words) in
-    let change = rw own at (remarks_after (marked_at c.args.map.now) (marked_at c.divide.new.map) (marked_at c.remark.new.map) c.args.cursor.now.at (Live c.word-total.result ∷ (Free c.word-room.result ∷ [])) (Live c.args.needed ∷ (Free (c.word-total.result - c.args.needed + c.word-room.result) ∷ []))
+    let change = rw own at (remarks_after (class_of c.args.map.now) (class_of c.divide.new.map) (class_of c.remark.new.map) c.args.cursor.now.at (Live c.word-total.result ∷ (Free c.word-room.result ∷ [])) (Live c.args.needed ∷ (Free (c.word-total.result - c.args.needed + c.word-room.result) ∷ []))
     c.divide.ensures.marks c.remark.ensures.marks) in
     refits_joined c.args.map.now _ c.args.heap (end_at c.args.map.now c.args.heap) _ c.args.needed c.follow-next.result c.args.block c.args.cursor.now.from c.args.cursor.now.at c.args.cursor.now.free c.args.cursor.now.gap c.requires.heap c.requires.block k
     (c.remark.ensures.layout ∙ c.divide.ensures.layout) c.requires.total less (next ∙ k.onward) words change
@@ -178,7 +178,7 @@ returns c =
     λ e. c.requires.inside (ap (λ n. c.args.cursor.now.at + n) f.facts.total_word ∙ e) in
     let other : c.args.cursor.now.at + c.requires.block.total ≢ c.args.cursor.now.free = λ e. c.if-behind-cursor.false (ap (λ n. c.args.cursor.now.at + n) own ∙ e) in
     let words = rw own at (still_divided _ _ _ _ _ _ _ _ _ c.remark-2.ensures.bytes c.divide-2.ensures.words) in
-    let change = remarks_after (marked_at c.args.map.now) (marked_at c.divide-2.new.map) (marked_at c.remark-2.new.map) c.args.cursor.now.at (Live c.word-total.result ∷ []) (Live c.args.needed ∷ (Free (c.word-total.result - c.args.needed) ∷ []))
+    let change = remarks_after (class_of c.args.map.now) (class_of c.divide-2.new.map) (class_of c.remark-2.new.map) c.args.cursor.now.at (Live c.word-total.result ∷ []) (Live c.args.needed ∷ (Free (c.word-total.result - c.args.needed) ∷ []))
     c.divide-2.ensures.marks c.remark-2.ensures.marks in
     refits_alone c.args.map.now _ c.args.heap (end_at c.args.map.now c.args.heap) _ c.args.needed c.args.block c.args.cursor.now.from c.args.cursor.now.at c.args.cursor.now.free c.args.cursor.now.gap c.requires.heap c.requires.block inside other
     (c.remark-2.ensures.layout ∙ c.divide-2.ensures.layout) c.requires.total less words change

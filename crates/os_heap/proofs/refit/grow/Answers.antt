@@ -1,6 +1,6 @@
 use Rattle.std.proofs.Common.{[], ◌∷◌, ◌≡◌, ◌≢◌, ◌+◌, ◌-◌, ◌<◌, ◌≤◌, ◌∙◌, ap, sym, arith}
 use Rattle.address_map.specs.Bytes.{word_at}
-use Rattle.address_map.specs.Memory.{byte_at, marked_at}
+use Rattle.address_map.specs.Memory.{byte_at, class_of}
 use Rattle.os_heap.specs.Outcomes.{end_at}
 use Rattle.os_heap_lists.proofs.Reading.{total_facts}
 use Rattle.address_map.specs.declared.item.Item.TheVariants.{Free, Live}
@@ -220,7 +220,7 @@ returns-then-left-eq0 c =
     refits_whole c.args.map.now _ c.args.heap (end_at c.args.map.now c.args.heap) _ c.args.needed c.follow-next.result c.args.block c.args.cursor.now.from c.args.cursor.now.at c.args.cursor.now.free c.args.cursor.now.gap _ c.requires.heap c.requires.block k
     (c.remark.ensures.layout ∙ c.put.ensures.layout ∙ c.put_link.ensures.layout) c.requires.total larger fits none (next ∙ k.onward) one
     (still_written _ _ _ _ _ c.remark.ensures.bytes c.put.ensures.word)
-    (rw own at (remarks_after (marked_at c.args.map.now) (marked_at c.put.new.map) (marked_at c.remark.new.map) c.args.cursor.now.at (Live c.word-total.result ∷ (Free c.word-free.result ∷ [])) (Live c.args.needed ∷ [])
+    (rw own at (remarks_after (class_of c.args.map.now) (class_of c.put.new.map) (class_of c.remark.new.map) c.args.cursor.now.at (Live c.word-total.result ∷ (Free c.word-free.result ∷ [])) (Live c.args.needed ∷ [])
     (c.put.ensures.marks ∙ c.put_link.ensures.marks) c.remark.ensures.marks))
 
 pub divide-requires-clause-room : goal.divide-requires-clause-room
@@ -247,7 +247,7 @@ returns c =
     let next = rw own at c.follow-next.ensures in
     let some : c.requires.block.total + k.total - c.args.needed ≢ 0 = λ e. c.if-left-eq0.false (omega (arith, own, sum)) in
     let words = rw (own, sum) at (still_divided _ _ _ _ _ _ _ _ _ c.remark-2.ensures.bytes c.divide.ensures.words) in
-    let change = rw own at (remarks_after (marked_at c.args.map.now) (marked_at c.divide.new.map) (marked_at c.remark-2.new.map) c.args.cursor.now.at (Live c.word-total.result ∷ (Free c.word-free.result ∷ [])) (Live c.args.needed ∷ (Free (c.word-total.result + c.word-free.result - c.args.needed) ∷ []))
+    let change = rw own at (remarks_after (class_of c.args.map.now) (class_of c.divide.new.map) (class_of c.remark-2.new.map) c.args.cursor.now.at (Live c.word-total.result ∷ (Free c.word-free.result ∷ [])) (Live c.args.needed ∷ (Free (c.word-total.result + c.word-free.result - c.args.needed) ∷ []))
     c.divide.ensures.marks c.remark-2.ensures.marks) in
     refits_part c.args.map.now _ c.args.heap (end_at c.args.map.now c.args.heap) _ c.args.needed c.follow-next.result c.args.block c.args.cursor.now.from c.args.cursor.now.at c.args.cursor.now.free c.args.cursor.now.gap c.requires.heap c.requires.block k
     (c.remark-2.ensures.layout ∙ c.divide.ensures.layout) c.requires.total larger fits some (next ∙ k.onward) words change
