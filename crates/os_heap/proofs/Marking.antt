@@ -1,12 +1,12 @@
 -- Words that are marked as heads, one by one, and item by item.
-use Rattle.std.proofs.Common.{suc, take, drop, length, slice_index_or, drop-cons, Bool, List, ℕ, [], ◌∷◌, ◌++◌, ◌≡◌, ◌==◌, ◌||◌, ◌&&◌, ◌+◌, ◌-◌, ◌%◌, ◌≤◌, ◌<◌, ◌^◌, true, false, refl, sym, ap, subst, ◌∙◌, inl, inr, arith, cond}
+use Rattle.std.proofs.Common.{suc, take, drop, length, slice_index_or, drop-cons, Bool, List, ℕ, [], ◌∷◌, ◌++◌, ◌≡◌, ◌==◌, ◌||◌, ◌+◌, ◌-◌, ◌%◌, ◌≤◌, ◌<◌, ◌^◌, true, refl, sym, ap, subst, ◌∙◌, arith, cond}
 use Rattle.std.proofs.lemmas.List.{take-append-drop}
 use Rattle.std.proofs.lemmas.Bool.{false≢true}
 use Rattle.std.proofs.lemmas.Bool.Decides.{nat_tests}
 use Rattle.address_map.proofs.Spans.{mapped_below}
-use Rattle.address_map.specs.Bytes.{AreMapped, in_range, word_start}
-use Rattle.address_map.specs.Items.{is_total, size_of, total_of}
-use Rattle.address_map.specs.Memory.{bytes_of, byte_at, is_mapped, layout, mapping, class_of, regions}
+use Rattle.address_map.specs.Bytes.{in_range, word_start}
+use Rattle.address_map.specs.Items.{size_of, total_of}
+use Rattle.address_map.specs.Memory.{bytes_of, is_mapped, layout, mapping, regions}
 use Rattle.address_map.specs.Records.{is_heap_kind, with_mark, without_region}
 use Rattle.address_map.specs.declared.class.Class.{Class}
 use Rattle.address_map.specs.declared.class.Class.TheVariants as class
@@ -16,12 +16,11 @@ use Rattle.address_map.specs.declared.map.AddressMap.{AddressMap}
 use Rattle.address_map.specs.declared.region.Kind.{Kind}
 use Rattle.address_map.specs.declared.region.Kind.TheVariants as kind
 use Rattle.address_map.specs.declared.region.Region.{Region}
-use Rattle.os_heap_lists.proofs.Marks.{gap_given, given_and_made, both_marked, one_more}
 use Rattle.os_heap_lists.proofs.Reading.{total_facts}
 use Rattle.os_heap_lists.proofs.Spelling.{size_of-append, size_of-multiple, totals-back, totals-front}
 use Rattle.os_heap_lists.specs.Heap.{AreTotals, IsHeapIn}
 use Rattle.os_heap_lists.specs.Lists.{left_free}
-use Rattle.os_heap_lists.specs.Marks.{Remarks, with_item_marked, with_items_marked}
+use Rattle.os_heap_lists.specs.Marks.{Remarks}
 use Rattle.os_heap_lists.specs.Words.{IsDivided, IsFreed, IsWritten}
 use Rattle.os_heap.proofs.Writing.{still_mapped}
 use Rattle.os_heap.specs.Outcomes.{CanStand}
@@ -131,30 +130,3 @@ still_divided f g h start from at total left next same divided = subst (λ (k : 
 
 pub remarks_after : (c d e : ℕ → Class) (at : ℕ) (olds news : List Item) → d ≡ c → Remarks d e at olds news → Remarks c e at olds news
 remarks_after c d e at olds news same change = subst (λ (f : ℕ → Class). Remarks f e at olds news) same change
-
--- a gap in front of items that are given up, and what is made in their place
-pub gap_remarked : (b c d e : ℕ → Class) (at gap : ℕ) (olds news : List Item) → gap ≤ at → Remarks b c (at - gap) (left_free gap) []
-    → Remarks c d at olds [] → Remarks d e (at - gap) [] news → Remarks b e (at - gap) (left_free gap ++ olds) news
-gap_remarked b c d e at gap olds news low one two three =
-    let place : at - gap + gap ≡ at = omega arith in
-    given_and_made b d e (at - gap) (left_free gap ++ olds) news
-    (gap_given b c d (at - gap) gap olds one (subst (λ (p : ℕ). Remarks c d p olds []) (sym place) two)) three
-
--- the four words of a descriptor
-descriptor_tests : (p heap : ℕ) → p % 4 ≡ 0 → heap % 4 ≡ 0
-    → in_range heap 16 p ≡ (((p == heap || p == heap + 4) || p == heap + 8) || p == heap + 12)
-descriptor_tests p heap word aligned = grind (arith, nat_tests)
-
-four_marked : (t u v w : Bool) (b c d e f : Class) → c ≡ cond t class.Heap b → d ≡ cond u class.Heap c → e ≡ cond v class.Heap d → f ≡ cond w class.Heap e
-    → f ≡ cond (((t || u) || v) || w) class.Heap b
-four_marked t u v w b c d e f one two three four =
-    both_marked ((t || u) || v) w class.Heap b e f (both_marked (t || u) v class.Heap b d e (both_marked t u class.Heap b c d one two) three) four
-
-pub descriptor_marked : (b c d e f : ℕ → Class) (heap : ℕ) → heap % 4 ≡ 0 → ((a : ℕ) → c a ≡ cond (word_start a == heap) class.Heap (b a))
-    → ((a : ℕ) → d a ≡ cond (word_start a == heap + 4) class.Heap (c a)) → ((a : ℕ) → e a ≡ cond (word_start a == heap + 8) class.Heap (d a))
-    → ((a : ℕ) → f a ≡ cond (word_start a == heap + 12) class.Heap (e a)) → (a : ℕ) → f a ≡ cond (in_range heap 16 (word_start a)) class.Heap (b a)
-descriptor_marked b c d e f heap aligned one two three four a =
-    let p : ℕ = word_start a in
-    let whole : p % 4 ≡ 0 = omega arith in
-    rw (descriptor_tests p heap whole aligned)
-    (four_marked (p == heap) (p == heap + 4) (p == heap + 8) (p == heap + 12) (b a) (c a) (d a) (e a) (f a) (one a) (two a) (three a) (four a))

@@ -23,7 +23,7 @@ use Rattle.os_heap_lists.specs.Marks.{class_by}
 use Rattle.os_heap_lists.specs.Lists.{Claim, claimed, live_total, released}
 use Rattle.os_heap.proofs.Calls.{part_at, heap_there, free_given, IsGiven, classes_held}
 use Rattle.os_heap.proofs.Found.{found_heap, found_start}
-use Rattle.os_heap.proofs.Frame.{store_bytes, heads_kept, IsKept}
+use Rattle.os_heap.proofs.Frame.{store_bytes, heads_kept, IsKept, classes_same}
 use Rattle.os_heap.proofs.Replace.{heap_below}
 use Rattle.os_heap.proofs.Searching.{looked-below}
 use Rattle.os_heap.proofs.Stores.{sound_held, store_held, IsOther, AreOthers, are_others}
@@ -199,11 +199,6 @@ payload_free m n kind heap block total needed new a larger c low high =
     unowned_in n p a c.sound (claim_part m n kind heap block total needed new c)
     (or_from (in_range heap 16 (word_start a)) (is_head (heap + 16) c.claim.items (word_start a)) beyond head) inside
 
--- the marks where every list is kept
-pub classes_kept : (m n : AddressMap) → IsKept m n → class_of n ≡ class_of m → AreClasses m → AreClasses n
-classes_kept m n kept marks same a =
-    ap (λ (f : ℕ → Class). f a) marks ∙ same a ∙ ap (λ (s : Store). class_by s.heaps a) (sym kept.store)
-
 -- what is so when the bytes are copied
 pub record IsCopied (m n p : AddressMap) (kind : Kind) (heap block total needed new : ℕ) (claim : Claim) : Type 0 where
   pub store : store_of p ≡ copied (holding (store_of m) (part_at kind m heap (end_at m heap)) claim.items) block new (total - 4)
@@ -238,7 +233,7 @@ is_copied m n p kind heap block total needed new larger c same bytes marks =
     record {
       store = store ∙ ap (λ (s : Store). copied s block new (total - 4)) c.store;
       sound = kept.sound;
-      classes = classes_kept n p kept marks;
+      classes = classes_same n p (ap (λ (s : Store). s.heaps) kept.store) (λ a i. marks i a);
       there = heap_there kind p heap (end_at p heap) kept.sound found';
       items = items;
       found = found';

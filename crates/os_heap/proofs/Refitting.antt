@@ -1,5 +1,5 @@
 -- What another total of a block leaves of a heap: a free item behind the block, none, or the base elsewhere.
-use Rattle.std.proofs.Common.{refl, sym, ap, ◌≡◌, ◌++◌, arith, ℕ, true, ◌∷◌, List, ◌∙◌, inr, ◌-◌, inl, ◌+◌, [], ◌≤◌, subst}
+use Rattle.std.proofs.Common.{ap, ◌≡◌, ◌++◌, arith, ℕ, true, ◌∷◌, List, ◌∙◌, inr, ◌-◌, inl, ◌+◌, [], ◌≤◌, subst}
 use Rattle.address_map.proofs.Bytes.{is_mapped-layout}
 use Rattle.address_map.specs.Bytes.{word_at}
 use Rattle.address_map.specs.Items.{size_of, is_total}

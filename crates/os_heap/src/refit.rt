@@ -77,7 +77,12 @@ fn cut(map: &mut AddressMap, heap: u32, block: u32, cursor: &Cursor, needed: u32
         let next = follow(map, heap, behind);
         divide(map, heap, cursor, needed, joined, next);
         let olds = [Item::Live(total), Item::Free(room)];
-        remark(map, cursor.at, &olds, &[Item::Live(needed), Item::Free(joined)]);
+        remark(
+            map,
+            cursor.at,
+            &olds,
+            &[Item::Live(needed), Item::Free(joined)],
+        );
         return;
     }
     divide(map, heap, cursor, needed, left, cursor.free);
@@ -116,7 +121,12 @@ fn grow(map: &mut AddressMap, heap: u32, block: u32, cursor: &Cursor, needed: u6
         return true;
     }
     divide(map, heap, cursor, grown, left, next);
-    remark(map, cursor.at, &olds, &[Item::Live(grown), Item::Free(left)]);
+    remark(
+        map,
+        cursor.at,
+        &olds,
+        &[Item::Live(grown), Item::Free(left)],
+    );
     true
 }
 

@@ -37,50 +37,12 @@ pub is_head-one : (at : ℕ) (item : Item) (p : ℕ) → is_head at (item ∷ []
 is_head-one at (Live t) p = or_none (p == at)
 is_head-one at (Free t) p = or_none (p == at || p == at + 4)
 
--- Tables: a word of each list, or of none.
-both_given : (x y : Bool) (old mid new : Class) → mid ≡ marked false x old → new ≡ marked false y mid → new ≡ marked false (x || y) old
-both_given true true old mid new one two = two
-both_given true false old mid new one two = two ∙ one
-both_given false true old mid new one two = two
-both_given false false old mid new one two = two ∙ one
-
-both_made : (x y : Bool) (old mid new : Class) → mid ≡ marked x false old → new ≡ marked y false mid → new ≡ marked (x || y) false old
-both_made true true old mid new one two = two
-both_made true false old mid new one two = two ∙ one
-both_made false true old mid new one two = two
-both_made false false old mid new one two = two ∙ one
-
-given_then_made : (made given : Bool) (old mid new : Class) → mid ≡ marked false given old → new ≡ marked made false mid → new ≡ marked made given old
-given_then_made true given old mid new one two = two
-given_then_made false given old mid new one two = two ∙ one
-
--- words that are given up one after another, words that are made so, and some made after others were given up
-pub given_up : (c d e : ℕ → Class) (at : ℕ) (xs ys : List Item) → Remarks c d at xs [] → Remarks d e (at + size_of xs) ys [] → Remarks c e at (xs ++ ys) []
-given_up c d e at xs ys one two a =
-    rw (is_head-append at xs ys (word_start a))
-    (both_given (is_head at xs (word_start a)) (is_head (at + size_of xs) ys (word_start a)) (c a) (d a) (e a) (one a) (two a))
-
-pub made_more : (c d e : ℕ → Class) (at : ℕ) (xs ys : List Item) → Remarks c d at [] xs → Remarks d e (at + size_of xs) [] ys → Remarks c e at [] (xs ++ ys)
-made_more c d e at xs ys one two a =
-    rw (is_head-append at xs ys (word_start a))
-    (both_made (is_head at xs (word_start a)) (is_head (at + size_of xs) ys (word_start a)) (c a) (d a) (e a) (one a) (two a))
-
-pub given_and_made : (c d e : ℕ → Class) (at : ℕ) (olds news : List Item) → Remarks c d at olds [] → Remarks d e at [] news → Remarks c e at olds news
-given_and_made c d e at olds news one two a =
-    given_then_made (is_head at news (word_start a)) (is_head at olds (word_start a)) (c a) (d a) (e a) (one a) (two a)
-
--- one item
-pub both_marked : (x y : Bool) (class old mid new : Class) → mid ≡ cond x class old → new ≡ cond y class mid → new ≡ cond (x || y) class old
+-- a word of one of two lists, or of none
+both_marked : (x y : Bool) (class old mid new : Class) → mid ≡ cond x class old → new ≡ cond y class mid → new ≡ cond (x || y) class old
 both_marked true true class old mid new one two = two
 both_marked true false class old mid new one two = two ∙ one
 both_marked false true class old mid new one two = two
 both_marked false false class old mid new one two = two ∙ one
-
--- the words of a free item
-pub free_marked : (c d e : ℕ → Class) (at total : ℕ) (class : Class) → ((a : ℕ) → d a ≡ cond (word_start a == at) class (c a))
-    → ((a : ℕ) → e a ≡ cond (word_start a == at + 4) class (d a)) → (a : ℕ) → e a ≡ with_item_marked at (Free total) class c a
-free_marked c d e at total class one two a =
-    both_marked (word_start a == at) (word_start a == at + 4) class (c a) (d a) (e a) (one a) (two a)
 
 -- the words of one item more
 pub one_more : (c d e : ℕ → Class) (at place : ℕ) (items : List Item) (item : Item) (class : Class) → place ≡ at + size_of items
@@ -158,11 +120,6 @@ unmarked c d at olds news same still marks a =
 pub last_still : (at k t : ℕ) (before : List Item) (p : ℕ) → is_head at (before ++ Live k ∷ []) p ≡ is_head at (before ++ Live t ∷ []) p
 last_still at k t before p = is_head-append at before (Live k ∷ []) p ∙ sym (is_head-append at before (Live t ∷ []) p)
 
--- a gap in front: a free item, or nothing
+-- the bytes of a gap
 pub size_of-left : (gap : ℕ) → size_of (left_free gap) ≡ gap
 size_of-left gap = omega (arith, size_of-gap [] gap)
-
-pub gap_given : (c d e : ℕ → Class) (at gap : ℕ) (xs : List Item) → Remarks c d at (left_free gap) [] → Remarks d e (at + gap) xs []
-    → Remarks c e at (left_free gap ++ xs) []
-gap_given c d e at gap xs one two =
-    given_up c d e at (left_free gap) xs one (subst (λ (s : ℕ). Remarks d e (at + s) xs []) (sym (size_of-left gap)) two)

@@ -19,9 +19,8 @@ use Rattle.arm_step.specs.OwnedBytes.{IsByWords, Keeps}
 use Rattle.address_map.specs.declared.region.Kind.TheVariants.{Rma}
 use Rattle.os_heap_lists.specs.Heap.{HeapList}
 use Rattle.os_heap.specs.Store.{Store, store_of, owned_in, AreClasses, IsSound}
-use Rattle.os_heap.proofs.Frame.{IsKept, clear_kept, heads_kept, owned_word}
+use Rattle.os_heap.proofs.Frame.{IsKept, classes_same, clear_kept, heads_kept, owned_word}
 use Rattle.os_heap.proofs.Stores.{image_kind}
-use Rattle.os_heap.proofs.Moving.{classes_kept}
 use Rattle.os_heap.proofs.Owned.{owned_marks}
 use Rattle.swi_dispatch.specs.declared.halt.Halt.{Halt}
 use Rattle.swi_dispatch.specs.MachineState.{MachineState, with_memory, system_pages, is_start_mapped, start_of}
@@ -147,7 +146,7 @@ pub well_kept : (old new : Parts) → IsWellFormed old → IsKept old.map new.ma
     → new.is_fresh ≡ false → new.sizes ≡ old.sizes → IsWellFormed new
 well_kept old new well kept same marks stepped sizes = record {
   sound = kept.sound;
-  classes = classes_kept old.map new.map kept marks well.classes;
+  classes = classes_same old.map new.map (ap (λ (s : Store). s.heaps) kept.store) (λ a i. marks i a) well.classes;
   others = ap (λ (s : Store). s.others) kept.store ∙ well.others;
   mapped = λ a. ap (λ (f : ℕ → Bool). f a) (is_mapped-layout old.map new.map same) ∙ well.mapped a ∙ ap (λ (s : Sizes). is_start_mapped s a) (sym sizes);
   pool = ap (λ (l : Layout). l.free_pages + (new.sizes.app + new.sizes.rma + 3)) same ∙ ap (λ (s : Sizes). free_pages old.map + (s.app + s.rma + 3)) sizes ∙ well.pool ∙ ap (λ (s : Sizes). s.pages) (sym sizes);
@@ -209,7 +208,7 @@ pub well_same : (old new : Parts) → IsWellFormed old → IsKept old.map new.ma
     → state_of new ≡ state_of old → new.is_fresh ≡ old.is_fresh → new.sizes ≡ old.sizes → IsWellFormed new
 well_same old new well kept same marks state fresh sizes = record {
   sound = kept.sound;
-  classes = classes_kept old.map new.map kept marks well.classes;
+  classes = classes_same old.map new.map (ap (λ (s : Store). s.heaps) kept.store) (λ a i. marks i a) well.classes;
   others = ap (λ (s : Store). s.others) kept.store ∙ well.others;
   mapped = λ a. ap (λ (f : ℕ → Bool). f a) (is_mapped-layout old.map new.map same) ∙ well.mapped a ∙ ap (λ (s : Sizes). is_start_mapped s a) (sym sizes);
   pool = ap (λ (l : Layout). l.free_pages + (new.sizes.app + new.sizes.rma + 3)) same ∙ ap (λ (s : Sizes). free_pages old.map + (s.app + s.rma + 3)) sizes ∙ well.pool ∙ ap (λ (s : Sizes). s.pages) (sym sizes);

@@ -59,7 +59,7 @@ pub make-requires : goal.make-requires
 make-requires c =
     let base : c.word-base.result ≡ 16 + size_of (items_at c.args.map.now c.args.heap) = c.word-base.ensures ∙ c.requires.heap.base in
     can_stand c.args.map.now c.put-2.new.map c.args.heap (end_at c.args.map.now c.args.heap) (c.args.heap + c.word-base.result) _ (Live c.args.needed ∷ []) c.requires.heap (c.put-2.ensures.layout ∙ c.put.ensures.layout)
-    (c.requires.total, tt) 
+    (c.requires.total, tt)
     (omega (arith, base, c.requires.heap.aligned, size_of-multiple (items_at c.args.map.now c.args.heap) c.requires.heap.totals)) (omega arith) (omega (arith, c.word-end.ensures))
 
 pub returns : goal.returns

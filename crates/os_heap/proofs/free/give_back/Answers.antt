@@ -182,9 +182,10 @@ remark_gap-requires-then-behind-cursor-clause-olds c =
     let k = next_free_facts c.args.map.now c.args.heap (end_at c.args.map.now c.args.heap) c.args.block c.args.cursor.now.from c.args.cursor.now.at c.args.cursor.now.free c.args.cursor.now.gap c.requires.heap c.requires.block here in
     let other = rw own at c.word-room.ensures in
     let sum = other ∙ k.facts.total_word in
-    can_stand c.args.map.now c.put_free.new.map c.args.heap (end_at c.args.map.now c.args.heap) c.args.cursor.now.at _ (Live c.word-own.result ∷ (Free c.word-room.result ∷ [])) c.requires.heap c.put_free.ensures.layout
-    (total_of-numbers c.word-own.result (omega (arith, own, f.facts.size)) (omega (arith, own, f.facts.eighths)),
-    (total_of-numbers c.word-room.result (omega (arith, sum, k.facts.size)) (omega (arith, sum, k.facts.eighths)), tt)) f.facts.whole (omega (arith, f.low)) (omega (arith, own, sum, k.facts.high))
+    can_stand c.args.map.now c.put_free.new.map c.args.heap (end_at c.args.map.now c.args.heap) c.args.cursor.now.at _ (Live c.word-own.result ∷ (Free c.word-room.result ∷ [])) c.requires.heap c.put_free.ensures.layout (
+      total_of-numbers c.word-own.result (omega (arith, own, f.facts.size)) (omega (arith, own, f.facts.eighths)),
+      (total_of-numbers c.word-room.result (omega (arith, sum, k.facts.size)) (omega (arith, sum, k.facts.eighths)), tt),
+    ) f.facts.whole (omega (arith, f.low)) (omega (arith, own, sum, k.facts.high))
 
 pub remark_gap-requires-then-behind-cursor-clause-news : goal.remark_gap-requires-then-behind-cursor-clause-news
 remark_gap-requires-then-behind-cursor-clause-news c =

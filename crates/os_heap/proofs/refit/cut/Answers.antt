@@ -5,7 +5,7 @@ use Rattle.os_heap.specs.Outcomes.{end_at}
 use Rattle.os_heap_lists.proofs.Reading.{total_facts}
 use Rattle.address_map.specs.declared.item.Item.TheVariants.{Free, Live}
 use Rattle.os_heap_lists.proofs.Spelling.{total_of-numbers}
-use Rattle.os_heap.proofs.Marking.{can_stand, still_written, still_divided, remarks_after}
+use Rattle.os_heap.proofs.Marking.{can_stand, still_divided, remarks_after}
 use Rattle.os_heap.proofs.Replace.{heap_mapped}
 use Rattle.os_heap.proofs.Freeing.{next_free_facts}
 use Rattle.os_heap.proofs.Refitting.{place_facts}
@@ -102,9 +102,10 @@ remark-requires-clause-olds c =
     let k = next_free_facts c.args.map.now c.args.heap (end_at c.args.map.now c.args.heap) c.args.block c.args.cursor.now.from c.args.cursor.now.at c.args.cursor.now.free c.args.cursor.now.gap c.requires.heap c.requires.block here in
     let other = rw own at c.word-room.ensures in
     let sum = other ∙ k.facts.total_word in
-    can_stand c.args.map.now c.divide.new.map c.args.heap (end_at c.args.map.now c.args.heap) c.args.cursor.now.at _ (Live c.word-total.result ∷ (Free c.word-room.result ∷ [])) c.requires.heap c.divide.ensures.layout
-    (total_of-numbers c.word-total.result (omega (arith, own, f.facts.size)) (omega (arith, own, f.facts.eighths)),
-    (total_of-numbers c.word-room.result (omega (arith, sum, k.facts.size)) (omega (arith, sum, k.facts.eighths)), tt)) f.facts.whole (omega (arith, f.facts.low)) (omega (arith, own, sum, k.facts.high))
+    can_stand c.args.map.now c.divide.new.map c.args.heap (end_at c.args.map.now c.args.heap) c.args.cursor.now.at _ (Live c.word-total.result ∷ (Free c.word-room.result ∷ [])) c.requires.heap c.divide.ensures.layout (
+      total_of-numbers c.word-total.result (omega (arith, own, f.facts.size)) (omega (arith, own, f.facts.eighths)),
+      (total_of-numbers c.word-room.result (omega (arith, sum, k.facts.size)) (omega (arith, sum, k.facts.eighths)), tt),
+    ) f.facts.whole (omega (arith, f.facts.low)) (omega (arith, own, sum, k.facts.high))
 
 pub remark-requires-clause-news : goal.remark-requires-clause-news
 remark-requires-clause-news c =
@@ -116,10 +117,14 @@ remark-requires-clause-news c =
     let sum = other ∙ k.facts.total_word in
     let less : c.args.needed < c.requires.block.total = rw f.facts.total_word at c.requires.smaller in
     let n = total_facts c.args.needed c.requires.total in
-    can_stand c.args.map.now c.divide.new.map c.args.heap (end_at c.args.map.now c.args.heap) c.args.cursor.now.at _ (Live c.args.needed ∷ (Free (c.word-total.result - c.args.needed + c.word-room.result) ∷ [])) c.requires.heap c.divide.ensures.layout
-    (c.requires.total,
-    (total_of-numbers (c.word-total.result - c.args.needed + c.word-room.result) (omega (arith, own, sum, k.facts.size))
-    (omega (arith, own, sum, n.1, f.facts.eighths, k.facts.eighths)), tt)) f.facts.whole (omega (arith, f.facts.low)) (omega (arith, own, sum, k.facts.high))
+    can_stand c.args.map.now c.divide.new.map c.args.heap (end_at c.args.map.now c.args.heap) c.args.cursor.now.at _ (Live c.args.needed ∷ (Free (c.word-total.result - c.args.needed + c.word-room.result) ∷ [])) c.requires.heap c.divide.ensures.layout (
+      c.requires.total,
+      (
+        total_of-numbers (c.word-total.result - c.args.needed + c.word-room.result) (omega (arith, own, sum, k.facts.size))
+            (omega (arith, own, sum, n.1, f.facts.eighths, k.facts.eighths)),
+        tt,
+      ),
+    ) f.facts.whole (omega (arith, f.facts.low)) (omega (arith, own, sum, k.facts.high))
 
 pub remark-requires-2-clause-olds : goal.remark-requires-2-clause-olds
 remark-requires-2-clause-olds c =
@@ -134,10 +139,14 @@ remark-requires-2-clause-news c =
     let own = c.word-total.ensures ∙ f.facts.total_word in
     let less : c.args.needed < c.requires.block.total = rw f.facts.total_word at c.requires.smaller in
     let n = total_facts c.args.needed c.requires.total in
-    can_stand c.args.map.now c.divide-2.new.map c.args.heap (end_at c.args.map.now c.args.heap) c.args.cursor.now.at _ (Live c.args.needed ∷ (Free (c.word-total.result - c.args.needed) ∷ [])) c.requires.heap c.divide-2.ensures.layout
-    (c.requires.total,
-    (total_of-numbers (c.word-total.result - c.args.needed) (omega (arith, own, n.1, f.facts.eighths))
-    (omega (arith, own, n.1, f.facts.eighths)), tt)) f.facts.whole (omega (arith, f.facts.low)) (omega (arith, own, f.facts.high))
+    can_stand c.args.map.now c.divide-2.new.map c.args.heap (end_at c.args.map.now c.args.heap) c.args.cursor.now.at _ (Live c.args.needed ∷ (Free (c.word-total.result - c.args.needed) ∷ [])) c.requires.heap c.divide-2.ensures.layout (
+      c.requires.total,
+      (
+        total_of-numbers (c.word-total.result - c.args.needed) (omega (arith, own, n.1, f.facts.eighths))
+            (omega (arith, own, n.1, f.facts.eighths)),
+        tt,
+      ),
+    ) f.facts.whole (omega (arith, f.facts.low)) (omega (arith, own, f.facts.high))
 
 pub divide-requires-clause-room : goal.divide-requires-clause-room
 divide-requires-clause-room c =

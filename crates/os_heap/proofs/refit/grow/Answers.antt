@@ -163,9 +163,10 @@ remark-requires-clause-olds c =
     let k = next_free_facts c.args.map.now c.args.heap (end_at c.args.map.now c.args.heap) c.args.block c.args.cursor.now.from c.args.cursor.now.at c.args.cursor.now.free c.args.cursor.now.gap c.requires.heap c.requires.block here in
     let other = rw own at c.word-free.ensures in
     let sum = other ∙ k.facts.total_word in
-    can_stand c.args.map.now c.put.new.map c.args.heap (end_at c.args.map.now c.args.heap) c.args.cursor.now.at _ (Live c.word-total.result ∷ (Free c.word-free.result ∷ [])) c.requires.heap (c.put.ensures.layout ∙ c.put_link.ensures.layout)
-    (total_of-numbers c.word-total.result (omega (arith, own, f.facts.size)) (omega (arith, own, f.facts.eighths)),
-    (total_of-numbers c.word-free.result (omega (arith, sum, k.facts.size)) (omega (arith, sum, k.facts.eighths)), tt)) f.facts.whole (omega (arith, f.facts.low)) (omega (arith, own, sum, k.facts.high))
+    can_stand c.args.map.now c.put.new.map c.args.heap (end_at c.args.map.now c.args.heap) c.args.cursor.now.at _ (Live c.word-total.result ∷ (Free c.word-free.result ∷ [])) c.requires.heap (c.put.ensures.layout ∙ c.put_link.ensures.layout) (
+      total_of-numbers c.word-total.result (omega (arith, own, f.facts.size)) (omega (arith, own, f.facts.eighths)),
+      (total_of-numbers c.word-free.result (omega (arith, sum, k.facts.size)) (omega (arith, sum, k.facts.eighths)), tt),
+    ) f.facts.whole (omega (arith, f.facts.low)) (omega (arith, own, sum, k.facts.high))
 
 pub remark-requires-clause-news : goal.remark-requires-clause-news
 remark-requires-clause-news c =
@@ -186,9 +187,10 @@ remark-requires-2-clause-olds c =
     let k = next_free_facts c.args.map.now c.args.heap (end_at c.args.map.now c.args.heap) c.args.block c.args.cursor.now.from c.args.cursor.now.at c.args.cursor.now.free c.args.cursor.now.gap c.requires.heap c.requires.block here in
     let other = rw own at c.word-free.ensures in
     let sum = other ∙ k.facts.total_word in
-    can_stand c.args.map.now c.divide.new.map c.args.heap (end_at c.args.map.now c.args.heap) c.args.cursor.now.at _ (Live c.word-total.result ∷ (Free c.word-free.result ∷ [])) c.requires.heap c.divide.ensures.layout
-    (total_of-numbers c.word-total.result (omega (arith, own, f.facts.size)) (omega (arith, own, f.facts.eighths)),
-    (total_of-numbers c.word-free.result (omega (arith, sum, k.facts.size)) (omega (arith, sum, k.facts.eighths)), tt)) f.facts.whole (omega (arith, f.facts.low)) (omega (arith, own, sum, k.facts.high))
+    can_stand c.args.map.now c.divide.new.map c.args.heap (end_at c.args.map.now c.args.heap) c.args.cursor.now.at _ (Live c.word-total.result ∷ (Free c.word-free.result ∷ [])) c.requires.heap c.divide.ensures.layout (
+      total_of-numbers c.word-total.result (omega (arith, own, f.facts.size)) (omega (arith, own, f.facts.eighths)),
+      (total_of-numbers c.word-free.result (omega (arith, sum, k.facts.size)) (omega (arith, sum, k.facts.eighths)), tt),
+    ) f.facts.whole (omega (arith, f.facts.low)) (omega (arith, own, sum, k.facts.high))
 
 pub remark-requires-2-clause-news : goal.remark-requires-2-clause-news
 remark-requires-2-clause-news c =
@@ -199,10 +201,14 @@ remark-requires-2-clause-news c =
     let other = rw own at c.word-free.ensures in
     let sum = other ∙ k.facts.total_word in
     let n = total_facts c.args.needed c.requires.total in
-    can_stand c.args.map.now c.divide.new.map c.args.heap (end_at c.args.map.now c.args.heap) c.args.cursor.now.at _ (Live c.args.needed ∷ (Free (c.word-total.result + c.word-free.result - c.args.needed) ∷ [])) c.requires.heap c.divide.ensures.layout
-    (c.requires.total,
-    (total_of-numbers (c.word-total.result + c.word-free.result - c.args.needed) (omega (arith, own, sum, n.1, f.facts.eighths, k.facts.eighths, c.if-left-eq0.false))
-    (omega (arith, own, sum, n.1, f.facts.eighths, k.facts.eighths)), tt)) f.facts.whole (omega (arith, f.facts.low)) (omega (arith, own, sum, k.facts.high))
+    can_stand c.args.map.now c.divide.new.map c.args.heap (end_at c.args.map.now c.args.heap) c.args.cursor.now.at _ (Live c.args.needed ∷ (Free (c.word-total.result + c.word-free.result - c.args.needed) ∷ [])) c.requires.heap c.divide.ensures.layout (
+      c.requires.total,
+      (
+        total_of-numbers (c.word-total.result + c.word-free.result - c.args.needed) (omega (arith, own, sum, n.1, f.facts.eighths, k.facts.eighths, c.if-left-eq0.false))
+            (omega (arith, own, sum, n.1, f.facts.eighths, k.facts.eighths)),
+        tt,
+      ),
+    ) f.facts.whole (omega (arith, f.facts.low)) (omega (arith, own, sum, k.facts.high))
 
 pub returns-then-left-eq0 : goal.returns-then-left-eq0
 returns-then-left-eq0 c =
