@@ -1,10 +1,11 @@
 pub mod Bytes
 pub mod Equations
-pub mod Guests
+pub mod Lanes
 pub mod Lengths
+pub mod Lending
 pub mod Loads
 pub mod Mapping
-pub mod Walks
+pub mod Marking
 pub mod Words
 pub mod Moving
 pub mod PageTable

@@ -1,7 +1,15 @@
 -- The flex store has one list of blocks: where words spell a list, reading them gives that list.
-use Rattle.std.proofs.Common.{◌≡◌, ℕ, ◌+◌, ◌≤◌, List, [], ◌∷◌, arith, sym, ◌∙◌, ap, suc, zero}
+use Rattle.std.proofs.Common.{◌≡◌, ℕ, ◌+◌, ◌<◌, ◌≤◌, List, [], ◌∷◌, arith, refl, sym, ◌∙◌, ap, suc, zero}
+use Rattle.std.proofs.lemmas.Bool.{le-leb, lt-leb}
 use Rattle.address_map.specs.Flex.{FlexBlock, block_at, flex_from, flex_in, whole_words, IsHeader, SpellsFlex, ReadsFlex}
-use Rattle.address_map.proofs.Walks.{flex_step, flex_past}
+
+flex_step : (most : ℕ) (w : ℕ → ℕ) (at end : ℕ) → at < end
+    → flex_from (suc most) w at end ≡ block_at w at ∷ flex_from most w (at + (8 + whole_words (w (at + 4)))) end
+flex_step most w at end below = rw (lt-leb end at below) refl
+
+flex_past : (most : ℕ) (w : ℕ → ℕ) (at end : ℕ) → end ≤ at → flex_from most w at end ≡ []
+flex_past zero w at end past = refl
+flex_past (suc most) w at end past = rw (le-leb end at past) refl
 
 -- blocks only go up
 spelled_up : (w : ℕ → ℕ) (at end : ℕ) (blocks : List FlexBlock) → SpellsFlex w at blocks end → at ≤ end

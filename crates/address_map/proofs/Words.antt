@@ -1,54 +1,71 @@
--- Words of memory, the walks over items and blocks that they spell, and what classes depend on.
-use Rattle.std.proofs.Common.{◌≡◌, ℕ, ◌+◌, ◌%◌, ◌^◌, ◌<◌, ◌≤◌, not, false, List, [], Option, Some, None, is_some, arith, refl, sym, ◌∙◌, ap, subst, get_or, length}
-use Rattle.address_map.specs.declared.class.Class.TheVariants.{Plain}
+-- The class of an address: that of its word, plain where nothing is mapped.
+use Rattle.std.proofs.Common.{◌≡◌, ◌≢◌, ℕ, ◌+◌, ◌-◌, ◌/◌, ◌%◌, ◌^◌, ◌<◌, ◌≤◌, Bool, true, false, not, Option, Some, None, is_some, cond, nat_le, arith, refl, sym, ap, ◌∙◌, inl, inr}
+use Rattle.std.proofs.lemmas.Bool.{false≢true, cases_lt}
+use Rattle.profile.specs.declared.fault.Fault.TheVariants.{AddressException, DataUnmapped, OwnedWord}
+use Rattle.address_map.specs.declared.class.Class.TheVariants.{Plain, Anchor}
 use Rattle.address_map.specs.declared.map.AddressMap.{AddressMap}
-use Rattle.address_map.specs.declared.region.Region.{Region}
-use Rattle.address_map.specs.Bytes.{word_at}
-use Rattle.address_map.specs.Records.{byte_class, IsRegion}
-use Rattle.address_map.specs.Memory.{place, byte_at, is_mapped, regions, class_of, is_owned, is_plain}
-use Rattle.address_map.proofs.Loads.{place_below, place_fits_word, word_found}
-use Rattle.address_map.proofs.Bytes.{byte_at-unmapped, is_mapped-word}
-
--- a word that is not mapped reads as 0
-pub word_unmapped : (m : AddressMap) (a : ℕ) → a % 4 ≡ 0 → place m a ≡ None → word_at (byte_at m) a ≡ 0
-word_unmapped m a aligned none =
-    let no : is_mapped m a ≡ false = ap is_some none in
-    let b0 = byte_at-unmapped m a no in
-    let b1 = byte_at-unmapped m (a + 1) (is_mapped-word m a 1 aligned (omega arith) ∙ no) in
-    let b2 = byte_at-unmapped m (a + 2) (is_mapped-word m a 2 aligned (omega arith) ∙ no) in
-    let b3 = byte_at-unmapped m (a + 3) (is_mapped-word m a 3 aligned (omega arith) ∙ no) in
-    rw (b0, b1, b2, b3) refl
-
-pub word_past : (m : AddressMap) (a : ℕ) → a % 4 ≡ 0 → 2 ^ 26 ≤ a → word_at (byte_at m) a ≡ 0
-word_past m a aligned past = word_unmapped m a aligned (none (place m a) refl) where
-  none : (there : Option ℕ) → place m a ≡ there → place m a ≡ None
-  none None h = h
-  none (Some k) h = absurd (omega (arith, place_below m a k h))
-
--- what a word reads as, by where its first byte lies
-pub ruleset words_read = (word_past, word_unmapped, place_fits_word, word_found)
-
--- each recorded range begins at a whole word, and ends in the address space
-pub region_at : (m : AddressMap) (records : List Region) (k : ℕ) (d : Region) → records ≡ regions m → k < length records → IsRegion (get_or records k d)
-unfolding regions
-region_at m records k d is below =
-    let P : List Region → Type 0 = λ rs. k < length rs → IsRegion (get_or rs k d) in
-    subst P (sym is) (m.recorded k d) below
-
--- classes depend on the record and the bytes alone
-pub class_of-same : (m n : AddressMap) → regions n ≡ regions m → ((a : ℕ) → byte_at n a ≡ byte_at m a) → class_of n ≡ class_of m
-unfolding class_of
-class_of-same m n same bytes = λ i a. byte_class (same i) (λ b. bytes b i) a
+use Rattle.address_map.specs.Bytes.{word_start, load_fault, store_fault}
+use Rattle.address_map.specs.Marks.{class_at, mark_in}
+use Rattle.address_map.specs.Memory.{place, is_mapped, bytes_of, class_of, is_owned, is_plain}
+use Rattle.address_map.proofs.Bytes.{is_mapped-page}
+use Rattle.address_map.proofs.Loads.{place_past}
+use Rattle.address_map.proofs.Marking.{place_word}
 
 pub is_owned-same : (m n : AddressMap) → class_of n ≡ class_of m → is_owned n ≡ is_owned m
 unfolding is_owned
 is_owned-same m n same = λ i a. not (is_plain (same i a))
 
--- where nothing is recorded all bytes are the guest's
-pub class_none : (m : AddressMap) (a : ℕ) → regions m ≡ [] → class_of m a ≡ Plain
+-- an address with a place has the class of the word there, and one without is plain
+pub class_found : (m : AddressMap) (a k : ℕ) → place m a ≡ Some k → class_of m a ≡ class_at m.marks (k / 4)
 unfolding class_of
-class_none m a none = ap (λ rs. byte_class rs (byte_at m) a) none
+class_found m a k h = ap (mark_in m.marks) h
 
-pub owned_none : (m : AddressMap) (a : ℕ) → regions m ≡ [] → is_owned m a ≡ false
+pub class_none : (m : AddressMap) (a : ℕ) → place m a ≡ None → class_of m a ≡ Plain
+unfolding class_of
+class_none m a h = ap (mark_in m.marks) h
+
+pub class_past : (m : AddressMap) (a : ℕ) → 2 ^ 26 ≤ a → class_of m a ≡ Plain
+class_past m a past = class_none m a (place_past m a past)
+
+none_there : (there : Option ℕ) → is_some there ≡ false → there ≡ None
+none_there None e = refl
+none_there (Some k) e = absurd (false≢true (sym e))
+
+class_start : (m : AddressMap) (a : ℕ) → class_of m a ≡ class_of m (word_start a)
+class_start m a = found (place m a) refl where
+  found : (there : Option ℕ) → place m a ≡ there → class_of m a ≡ class_of m (word_start a)
+  found None none =
+      let start : place m (word_start a) ≡ None = none_there (place m (word_start a)) (is_mapped-page m (word_start a) a (omega arith) ∙ ap is_some none) in
+      class_none m a none ∙ sym (class_none m (word_start a) start)
+  found (Some k) some =
+      let e : k / 4 ≡ (k - k % 4) / 4 = omega arith in
+      class_found m a k some ∙ (ap (class_at m.marks) e ∙ sym (class_found m (word_start a) (k - k % 4) (place_word m a k some)))
+
+-- the bytes of a word have one class
+pub class_of-word : (m : AddressMap) (a b : ℕ) → word_start a ≡ word_start b → class_of m a ≡ class_of m b
+class_of-word m a b same = class_start m a ∙ (ap (class_of m) same ∙ sym (class_start m b))
+
+-- a word more without an anchor
+pub none_more : (m : AddressMap) (at addr : ℕ) → ((a : ℕ) → at ≤ a → a < addr → class_of m a ≢ Anchor) → class_of m addr ≢ Anchor
+    → (a : ℕ) → at ≤ a → a < addr - addr % 4 + 4 → class_of m a ≢ Anchor
+none_more m at addr clear here a low high =
+    elim (cases_lt a addr) [
+      | inl before ↦ clear a low before
+      | inr later ↦ λ is. here (class_of-word m addr a (omega arith) ∙ is)
+    ]
+
+turned : (plain : Bool) → cond (not plain) (Some OwnedWord) None ≡ cond plain None (Some OwnedWord)
+turned true = refl
+turned false = refl
+
+-- What a store to an address meets that a guest can read: it is refused where the word is owned.
+pub store_by_class : (m : AddressMap) (a k : ℕ) → load_fault (bytes_of m) a ≡ None → place m a ≡ Some k
+    → store_fault (is_owned m) (bytes_of m) a ≡ cond (is_plain (class_at m.marks (k / 4))) None (Some OwnedWord)
 unfolding is_owned
-owned_none m a none = ap (λ class. not (is_plain class)) (class_none m a none)
+store_by_class m a k clear h = by_limit (nat_le (2 ^ 26) a) (is_mapped m a) clear where
+  by_limit : (past mapped : Bool) → cond past (Some AddressException) (cond mapped None (Some DataUnmapped)) ≡ None
+      → cond past (Some AddressException) (cond mapped (cond (not (is_plain (class_of m a))) (Some OwnedWord) None) (Some DataUnmapped))
+      ≡ cond (is_plain (class_at m.marks (k / 4))) None (Some OwnedWord)
+  by_limit true mapped e = cc
+  by_limit false false e = cc
+  by_limit false true e = rw (class_found m a k h) (turned (is_plain (class_at m.marks (k / 4))))

@@ -2,9 +2,6 @@
 -- anchor and its size, then its bytes, filled up to a whole number of words. The anchor is a word elsewhere that holds the address of the
 -- block's bytes (Acorn C manual, "flex"; the layout is this project's own).
 use Rattle.std.specs.Prelude.{◌≡◌, ℕ, Bool, zero, suc, ◌+◌, ◌*◌, ◌/◌, ◌==◌, ◌||◌, nat_le, List, [], ◌∷◌, if◌then◌else◌}
-use Rattle.address_map.specs.Bytes.{meets}
-use Rattle.address_map.specs.declared.flex.Sought.{Sought}
-use Rattle.address_map.specs.declared.flex.Sought.TheVariants.{Header, Anchor, AnchorIn}
 
 pub record FlexBlock : Type 0 where
   pub anchor : ℕ
@@ -53,13 +50,3 @@ is_header_word a block = a == block.at || a == block.at + 4
 -- is the word at `a` a block's anchor?
 abbrev pub is_anchor : ℕ → FlexBlock → Bool
 is_anchor a block = a == block.anchor
-
--- does a block's anchor have a byte in the `len` bytes from `at` on?
-abbrev pub has_anchor_in : ℕ → ℕ → FlexBlock → Bool
-has_anchor_in at len block = meets at len block.anchor 4
-
--- is a block one that is looked for: by one of its header words, by its anchor, or by an anchor with a byte in a range?
-abbrev pub is_sought : Sought → FlexBlock → Bool
-is_sought (Header a) block = is_header_word a block
-is_sought (Anchor a) block = is_anchor a block
-is_sought (AnchorIn at len) block = has_anchor_in at len block

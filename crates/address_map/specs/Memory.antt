@@ -6,8 +6,8 @@ use Rattle.address_map.specs.declared.class.Class.TheVariants.{Plain}
 use Rattle.address_map.specs.declared.region.Region.{Region}
 use Rattle.address_map.specs.declared.map.AddressMap.{AddressMap}
 use Rattle.address_map.specs.Bytes.{Bytes}
+use Rattle.address_map.specs.Marks.{mark_in}
 use Rattle.address_map.specs.Pages.{place_in}
-use Rattle.address_map.specs.Records.{byte_class}
 
 -- where in the store the byte of an address lies, if the address is mapped
 unfoldable pub place : AddressMap → ℕ → Option ℕ
@@ -62,9 +62,9 @@ pub record Layout : Type 0 where
 abbrev pub layout : AddressMap → Layout
 layout m = record { place = place m; regions = regions m; free_pages = free_pages m }
 
--- what the store calls use the byte at an address for
+-- what the store calls use the byte at an address for, as its word is marked; where nothing is mapped all is plain
 unfoldable pub class_of : AddressMap → ℕ → Class
-class_of m a = byte_class (regions m) (byte_at m) a
+class_of m a = mark_in m.marks (place m a)
 
 abbrev pub is_plain : Class → Bool
 is_plain Plain = true

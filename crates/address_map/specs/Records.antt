@@ -1,24 +1,52 @@
--- The record of the ranges that the store calls use, and the words in them that only store calls may write: descriptors, lengths and links
--- of heaps, headers of flex blocks, and anchors.
-use Rattle.std.specs.Prelude.{ℕ, ◌≡◌, ◌≤◌, Bool, true, false, ◌+◌, ◌%◌, ◌^◌, ◌&&◌, ◌||◌, List, [], ◌∷◌, ◌++◌, if◌then◌else◌, ◌==◌}
+-- The record of the ranges that the store calls use, and the marks of the words that only store calls may write: descriptors, lengths and
+-- links of heaps, headers of flex blocks, and anchors.
+use Rattle.std.specs.Prelude.{ℕ, ◌≡◌, ◌≢◌, ◌≤◌, ◌<◌, Bool, true, false, ◌+◌, ◌%◌, ◌^◌, ◌&&◌, List, [], ◌∷◌, ◌++◌, if◌then◌else◌, ◌==◌, Option, Some, None, is_some}
 use Rattle.std.specs.List.{list_any}
 use Rattle.address_map.specs.declared.class.Class.{Class}
 use Rattle.address_map.specs.declared.class.Class.TheVariants as class
 use Rattle.address_map.specs.declared.region.Kind.{Kind}
 use Rattle.address_map.specs.declared.region.Kind.TheVariants as kind
 use Rattle.address_map.specs.declared.region.Region.{Region}
-use Rattle.address_map.specs.Bytes.{in_range, meets, word_at, word_start}
-use Rattle.address_map.specs.Items.{items_in, is_heap_word}
-use Rattle.address_map.specs.Flex.{FlexBlock, flex_in, is_header_word, is_anchor, has_anchor_in}
+use Rattle.address_map.specs.Bytes.{in_range, meets, word_start}
 
 abbrev pub is_heap_kind : Kind → Bool
 is_heap_kind kind.Heap = true
 is_heap_kind kind.Rma = true
 is_heap_kind other = false
 
-abbrev pub is_flex_kind : Kind → Bool
-is_flex_kind kind.FlexHeader = true
-is_flex_kind other = false
+-- The class that a kind gives to the one word at its address. The other kinds are those of recorded ranges.
+abbrev pub mark_of : Kind → Option Class
+mark_of kind.HeadWord = Some class.Heap
+mark_of kind.FlexHeader = Some class.FlexHeader
+mark_of kind.Anchor = Some class.Anchor
+mark_of other = None
+
+abbrev pub is_word_kind : Kind → Bool
+is_word_kind kind = is_some (mark_of kind)
+
+-- the classes after the word at `at` got one
+abbrev pub with_class : (ℕ → Class) → ℕ → Class → ℕ → Class
+with_class classes at mark a = if word_start a == at then mark else classes a
+
+abbrev pub with_class_of : Option Class → ℕ → (ℕ → Class) → ℕ → Class
+with_class_of None at classes a = classes a
+with_class_of (Some mark) at classes a = with_class classes at mark a
+
+-- the classes after a word, or a range, is owned
+abbrev pub with_mark : Kind → ℕ → (ℕ → Class) → ℕ → Class
+with_mark kind at classes a = with_class_of (mark_of kind) at classes a
+
+abbrev pub plain_if_some : Option Class → Option Class
+plain_if_some None = None
+plain_if_some (Some mark) = Some class.Plain
+
+-- the classes after a word, or a range, is owned no more
+abbrev pub without_mark : Kind → ℕ → (ℕ → Class) → ℕ → Class
+without_mark kind at classes a = with_class_of (plain_if_some (mark_of kind)) at classes a
+
+-- the classes after the `len` bytes from `at` on became plain
+abbrev pub with_plain_at : (ℕ → Class) → ℕ → ℕ → ℕ → Class
+with_plain_at classes at len a = if in_range at len a then class.Plain else classes a
 
 -- A range that may be recorded: it begins at a whole word and ends in the 26-bit address space.
 pub record IsRegion (region : Region) : Type 0 where
@@ -29,20 +57,15 @@ pub record IsRegion (region : Region) : Type 0 where
 abbrev pub meets_record : List Region → ℕ → ℕ → Bool
 meets_record regions at len = list_any (λ region. meets at len region.at region.len) regions
 
-abbrev pub with_region_of : List Region → Region → Kind → List Region
-with_region_of regions region kind.Anchor = regions
-with_region_of regions region other = regions ++ region ∷ []
-
--- the record after a range more, which goes to its end; anchors are named by the headers of their blocks, and need no record
+-- the record after a range more, which goes to its end; a word is marked, and needs no record
 abbrev pub with_region : List Region → Region → List Region
-with_region regions region = with_region_of regions region region.kind
+with_region regions region = if is_word_kind region.kind then regions else regions ++ region ∷ []
 
--- are two kinds the same one, of those that are recorded? An anchor is no record.
+-- are two kinds the same one, of those that are recorded? A word is no record.
 abbrev pub are_same : Kind → Kind → Bool
 are_same kind.Heap kind.Heap = true
 are_same kind.Rma kind.Rma = true
 are_same kind.FlexStore kind.FlexStore = true
-are_same kind.FlexHeader kind.FlexHeader = true
 are_same kind.Image kind.Image = true
 are_same kind.SystemPage kind.SystemPage = true
 are_same kind other = false
@@ -63,29 +86,13 @@ with_len (region ∷ regions) kind at len = if is_record kind at region
     then record { kind = region.kind; at = region.at; len = len } ∷ regions
     else region ∷ with_len regions kind at len
 
--- the words of a recorded range, one word at a time: `a` is a multiple of 4, and `w` tells the word at each address
-abbrev pub is_heap_word_of : (ℕ → ℕ) → ℕ → Region → Bool
-is_heap_word_of w a region = is_heap_kind region.kind && (in_range region.at region.len a && is_heap_word region.at (items_in w region.at) a)
+-- an address of an anchor among the `len` bytes from `at` on
+pub record HasAnchor (classes : ℕ → Class) (at len : ℕ) : Type 0 where
+  pub addr : ℕ
+  pub from : at ≤ addr
+  pub below : addr < at + len
+  pub is : classes addr ≡ class.Anchor
 
-abbrev pub flex_blocks_of : (ℕ → ℕ) → Region → List FlexBlock
-flex_blocks_of w region = if is_flex_kind region.kind then flex_in w region.at region.len else []
-
--- whether a range holds the word at `a`, or names anchors, which may lie anywhere
-abbrev pub may_own : ℕ → Region → Bool
-may_own a region = in_range region.at region.len a || is_flex_kind region.kind
-
--- what the store calls use the word at `a` for, a multiple of 4
-abbrev pub word_class : List Region → (ℕ → ℕ) → ℕ → Class
-word_class regions w a =
-    if list_any (is_heap_word_of w a) regions then class.Heap else (
-    if list_any (λ region. list_any (is_header_word a) (flex_blocks_of w region)) regions then class.FlexHeader else (
-    if list_any (λ region. list_any (is_anchor a) (flex_blocks_of w region)) regions then class.Anchor else
-    class.Plain))
-
--- A byte is used as its whole word is.
-abbrev pub byte_class : List Region → (ℕ → ℕ) → ℕ → Class
-byte_class regions bytes a = word_class regions (word_at bytes) (word_start a)
-
--- whether an anchor has a byte in the `len` bytes from `at` on
-abbrev pub anchor_meets : List Region → (ℕ → ℕ) → ℕ → ℕ → Bool
-anchor_meets regions bytes at len = list_any (λ region. list_any (has_anchor_in at len) (flex_blocks_of (word_at bytes) region)) regions
+-- none of these bytes is an anchor's
+abbrev pub HasNoAnchor : (ℕ → Class) → ℕ → ℕ → Type 0
+HasNoAnchor classes at len = (a : ℕ) → at ≤ a → a < at + len → classes a ≢ class.Anchor

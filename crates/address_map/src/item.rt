@@ -1,5 +1,5 @@
-ghost use Rattle.std.specs.Prelude.{◌≡◌, ◌<◌, ◌^◌};
-ghost use Rattle.address_map.specs.Items.{total_of, is_head_of};
+ghost use Rattle.std.specs.Prelude.{◌≡◌};
+ghost use Rattle.address_map.specs.Items.{total_of};
 
 /// One item of a heap: a block, or free room between blocks. Its total counts all bytes of the item, its head words too.
 #[derive(Clone, Copy, Debug, PartialEq, Eq)]
@@ -18,18 +18,6 @@ impl Item {
         match *self {
             Item::Live(total) => total,
             Item::Free(total) => total,
-        }
-    }
-
-    /// Whether the word at an address is one of those that the item at `at` spells.
-    pub(crate) fn has_head(&self, at: u64, word: u32) -> bool
-        requires { at < 2 ^ 26 }
-        ensures { result ≡ is_head_of at self.now word }
-    {
-        let word = word as u64;
-        match self {
-            Item::Live(_) => word == at,
-            Item::Free(_) => word == at || word == at + 4,
         }
     }
 }

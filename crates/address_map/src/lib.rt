@@ -2,10 +2,11 @@
 #![tactic(auto)]
 
 pub mod class;
-pub mod flex;
 pub mod item;
 pub mod laws;
+pub mod lent;
 pub mod map;
+pub mod marks;
 pub mod moves;
 pub mod owned;
 pub mod pages;

@@ -5,7 +5,8 @@ ghost use Rattle.address_map.specs.Bytes.{AreMapped, byte_loaded, word_loaded, b
 ghost use Rattle.address_map.specs.Pages.{IsPageTable, frame_count};
 ghost use Rattle.address_map.specs.Records.{IsRegion};
 
-use crate::pages::{all_frames, page_count};
+use crate::marks::Marks;
+use crate::pages::{MARKS_IN_PAGE, all_frames, page_count};
 use crate::region::Region;
 use arrayvec::ArrayVec;
 use profile::Fault;
@@ -23,16 +24,18 @@ pub(crate) const MOST_REGIONS: usize = 133;
 ///
 /// Each page of the address space that is mapped has a frame of the store, where its bytes lie; the
 /// other frames are free. Addresses that are not mapped read as 0 in the contracts; a load or a
-/// store there is a fault. A word lies at a multiple of 4 and never meets two pages. No call but
+/// store there is a fault. Each word of the store has a mark, which says what store calls use it for. A word lies at a multiple of 4 and never meets two pages. No call but
 /// `new` takes host memory.
 #[derive(Drop)]
 pub struct AddressMap {
     pub(crate) store: RawStore,
+    pub(crate) marks: Marks,
     pub(crate) frames: Vec<Option<u16>>,
     pub(crate) free: ArrayVec<u16, MOST_FRAMES>,
     pub(crate) regions: ArrayVec<Region, MOST_REGIONS>,
     pub ghost bytes_fit: { All (λ b. b < 256) store },
     pub ghost in_limit: { length store ≤ 4194304 },
+    pub ghost marks_fit: { 16 * length marks.bytes.items ≡ length store },
     pub ghost frames_fit: { 4096 * frame_count frames.items free.items ≡ length store },
     pub ghost table: { IsPageTable frames.items free.items },
     pub ghost recorded: { All IsRegion regions.items },
@@ -59,13 +62,15 @@ impl AddressMap {
         ensures mapping { IfOk result (λ m. (a : ℕ) → is_mapped m a ≡ false) }
         ensures pages { IfOk result (λ m. free_pages m ≡ pages) }
         ensures regions { IfOk result (λ m. regions m ≡ []) }
-        ensures classes { IfOk result (λ m. (a : ℕ) → class_of m a ≡ Class.Plain) }
+        ensures marks { IfOk result (λ m. (a : ℕ) → class_of m a ≡ Class.Plain) }
         ensures owned { IfOk result (λ m. (a : ℕ) → is_owned m a ≡ false) }
     {
         let store = RawStore::new(alloc, pages)?;
+        let marks = Marks::new(alloc, MARKS_IN_PAGE * pages as usize)?;
         let frames = vec![in alloc; None; page_count()]?;
         Ok(AddressMap {
             store,
+            marks,
             frames,
             free: all_frames(pages),
             regions: ArrayVec::new(),
@@ -123,6 +128,7 @@ impl AddressMap {
         ensures bytes { let stored = byte_stored (is_owned self.old) (bytes_of self.old) addr byte in
             Leaves (bytes_of self.old) stored result (bytes_of self.new) }
         ensures layout { layout self.new ≡ layout self.old }
+        ensures marks { class_of self.new ≡ class_of self.old }
     {
         let place = self.writable(addr)?;
         self.store.write_byte(place, byte);
@@ -139,6 +145,7 @@ impl AddressMap {
         ensures bytes { let stored = word_stored (is_owned self.old) (bytes_of self.old) addr word in
             Leaves (bytes_of self.old) stored result (bytes_of self.new) }
         ensures layout { layout self.new ≡ layout self.old }
+        ensures marks { class_of self.new ≡ class_of self.old }
     {
         let place = self.writable(addr - addr % 4)?;
         self.store.write_word(place, word);
@@ -151,6 +158,7 @@ impl AddressMap {
         requires mapped { IsTrue (is_mapped self.old addr) }
         ensures bytes { (a : ℕ) → byte_at self.new a ≡ with_word_at (byte_at self.old) addr word a }
         ensures layout { layout self.new ≡ layout self.old }
+        ensures marks { class_of self.new ≡ class_of self.old }
     {
         let place = self.translate(addr).unwrap();
         self.store.write_word(place, word);
@@ -161,6 +169,7 @@ impl AddressMap {
         requires within { length bytes.now ≤ span.len }
         ensures bytes { (a : ℕ) → byte_at self.new a ≡ with_bytes_at (byte_at self.old) span.addr bytes.now a }
         ensures layout { layout self.new ≡ layout self.old }
+        ensures marks { class_of self.new ≡ class_of self.old }
     {
         self.store.write(span.place, bytes);
     }
@@ -170,6 +179,7 @@ impl AddressMap {
         requires within { len ≤ span.len }
         ensures bytes { (a : ℕ) → byte_at self.new a ≡ with_zeros_at (byte_at self.old) span.addr len a }
         ensures layout { layout self.new ≡ layout self.old }
+        ensures marks { class_of self.new ≡ class_of self.old }
     {
         self.store.zero(span.place, len as usize);
     }
@@ -179,6 +189,7 @@ impl AddressMap {
         requires { AreMapped (is_mapped self.old) addr (length bytes.now) }
         ensures bytes { (a : ℕ) → byte_at self.new a ≡ with_bytes_at (byte_at self.old) addr bytes.now a }
         ensures layout { layout self.new ≡ layout self.old }
+        ensures marks { class_of self.new ≡ class_of self.old }
     {
         let mut done = 0;
         while done < bytes.len() {
@@ -194,6 +205,7 @@ impl AddressMap {
         requires { AreMapped (is_mapped self.old) addr len }
         ensures bytes { (a : ℕ) → byte_at self.new a ≡ with_zeros_at (byte_at self.old) addr len a }
         ensures layout { layout self.new ≡ layout self.old }
+        ensures marks { class_of self.new ≡ class_of self.old }
     {
         let mut done = 0;
         while done < len {
@@ -240,7 +252,7 @@ impl AddressMap {
             MatchResult result (λ k. (refused ≡ None) × (place self.now addr ≡ Some k)) (λ fault. refused ≡ Some fault) }
     {
         let place = self.readable(addr)?;
-        if self.owns(addr) {
+        if !self.class_at(place).is_plain() {
             return Err(Fault::OwnedWord);
         }
         Ok(place)

@@ -23,7 +23,7 @@ impl Span {
 }
 
 impl AddressMap {
-    ghost use Rattle.address_map.specs.Memory.{IsSpan, place, is_mapped, byte_at, layout};
+    ghost use Rattle.address_map.specs.Memory.{IsSpan, place, is_mapped, byte_at, layout, class_of};
 
     /// Copies `len` bytes, owned or not. The two ranges may overlap.
     pub fn move_bytes(&mut self, from: u32, to: u32, len: u32)
@@ -31,6 +31,7 @@ impl AddressMap {
         requires target { AreMapped (is_mapped self.old) to len }
         ensures bytes { (a : ℕ) → byte_at self.new a ≡ with_moved_at (byte_at self.old) from to len a }
         ensures layout { layout self.new ≡ layout self.old }
+        ensures marks { class_of self.new ≡ class_of self.old }
     {
         if to < from {
             self.move_from_start(from, to, len);
@@ -46,6 +47,7 @@ impl AddressMap {
         requires down { to ≤ from }
         ensures bytes { (a : ℕ) → byte_at self.new a ≡ with_moved_at (byte_at self.old) from to len a }
         ensures layout { layout self.new ≡ layout self.old }
+        ensures marks { class_of self.new ≡ class_of self.old }
     {
         let mut done = 0;
         while done < len {
@@ -64,6 +66,7 @@ impl AddressMap {
         requires up { from ≤ to }
         ensures bytes { (a : ℕ) → byte_at self.new a ≡ with_moved_at (byte_at self.old) from to len a }
         ensures layout { layout self.new ≡ layout self.old }
+        ensures marks { class_of self.new ≡ class_of self.old }
     {
         let mut left = len;
         while left > 0 {
@@ -97,6 +100,7 @@ impl AddressMap {
         ensures bytes { let moved = with_moved_at (byte_at self.old) source.now.addr target.now.addr len in
             (a : ℕ) → byte_at self.new a ≡ moved a }
         ensures layout { layout self.new ≡ layout self.old }
+        ensures marks { class_of self.new ≡ class_of self.old }
     {
         self.store.copy(source.place, target.place, len as usize);
     }

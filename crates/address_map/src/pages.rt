@@ -1,11 +1,14 @@
 ghost use Rattle.std.specs.Prelude.{ℕ, None, false, ◌≡◌, ◌≢◌, ◌≤◌, ◌<◌, ◌+◌, ◌*◌, ◌%◌, ◌^◌, ◌||◌, ◌&&◌, not, IsTrue, MatchOption, All, length};
 ghost use Rattle.std.specs.List.{AllPairs};
 ghost use Rattle.address_map.specs.Bytes.{in_range, AreMapped, AreUnmapped, with_zeros_at};
-ghost use Rattle.address_map.specs.Records.{meets_record, anchor_meets};
+ghost use Rattle.address_map.specs.Records.{meets_record, HasNoAnchor, with_plain_at};
 
 use crate::map::{AddressMap, MOST_FRAMES, Span};
 use arrayvec::ArrayVec;
 use profile::memory_map::{ADDRESS_LIMIT, PAGE_SIZE};
+
+/// How many bytes the marks of a page take, two bits for each word.
+pub(crate) const MARKS_IN_PAGE: usize = 256;
 
 impl AddressMap {
     ghost use Rattle.address_map.specs.Memory.{IsSpan, StaysInPlace, place, is_mapped, byte_at, free_pages, regions, class_of, is_owned};
@@ -57,7 +60,7 @@ impl AddressMap {
         ensures bytes { (a : ℕ) → byte_at self.new a ≡ byte_at self.old a }
         ensures pages { free_pages self.new + count ≡ free_pages self.old }
         ensures regions { regions self.new ≡ regions self.old }
-        ensures classes { class_of self.new ≡ class_of self.old }
+        ensures marks { class_of self.new ≡ class_of self.old }
         ensures owned { is_owned self.new ≡ is_owned self.old }
     {
         for done in 0..count {
@@ -65,7 +68,7 @@ impl AddressMap {
         }
     }
 
-    /// Maps the page at an address. Its bytes are made zero, since another page may have had them.
+    /// Maps the page at an address. Its bytes are made zero and its words plain, since another page may have had them.
     fn map_page(&mut self, addr: u32)
         requires aligned { addr % 4096 ≡ 0 }
         requires below { addr < 2 ^ 26 }
@@ -76,10 +79,13 @@ impl AddressMap {
         ensures bytes { (a : ℕ) → byte_at self.new a ≡ byte_at self.old a }
         ensures pages { free_pages self.new + 1 ≡ free_pages self.old }
         ensures regions { regions self.new ≡ regions self.old }
+        ensures marks { (a : ℕ) → class_of self.new a ≡ class_of self.old a }
     {
         let frame = self.free.pop().unwrap();
         let place = (PAGE_SIZE * frame as u32) as usize;
         self.store.zero(place, PAGE_SIZE as usize);
+        self.marks
+            .clear(MARKS_IN_PAGE * frame as usize, MARKS_IN_PAGE);
         self.frames[(addr / PAGE_SIZE) as usize] = Some(frame);
     }
 
@@ -88,12 +94,13 @@ impl AddressMap {
         requires aligned { base % 4096 ≡ 0 }
         requires mapped { AreMapped (is_mapped self.old) base (4096 * count) }
         requires unrecorded { meets_record (regions self.old) base (4096 * count) ≡ false }
-        requires unanchored { anchor_meets (regions self.old) (byte_at self.old) base (4096 * count) ≡ false }
+        requires unanchored { HasNoAnchor (class_of self.old) base (4096 * count) }
         ensures mapping { (a : ℕ) → is_mapped self.new a ≡ (is_mapped self.old a && not (in_range base (4096 * count) a)) }
         ensures stays { StaysInPlace self.old self.new }
         ensures bytes { (a : ℕ) → byte_at self.new a ≡ with_zeros_at (byte_at self.old) base (4096 * count) a }
         ensures pages { free_pages self.new ≡ free_pages self.old + count }
         ensures regions { regions self.new ≡ regions self.old }
+        ensures marks { (a : ℕ) → class_of self.new a ≡ with_plain_at (class_of self.old) base (4096 * count) a }
     {
         for done in 0..count {
             self.unmap_page(base + PAGE_SIZE * done);
@@ -109,6 +116,7 @@ impl AddressMap {
         ensures bytes { (a : ℕ) → byte_at self.new a ≡ with_zeros_at (byte_at self.old) addr 4096 a }
         ensures pages { free_pages self.new ≡ free_pages self.old + 1 }
         ensures regions { regions self.new ≡ regions self.old }
+        ensures marks { (a : ℕ) → class_of self.new a ≡ with_plain_at (class_of self.old) addr 4096 a }
     {
         let page = (addr / PAGE_SIZE) as usize;
         let frame = self.frames[page].unwrap();

@@ -1,12 +1,13 @@
-ghost use Rattle.std.specs.Prelude.{◌≡◌, ◌<◌, ℕ, length, slice_set, MatchOption};
-ghost use Rattle.address_map.specs.Records.{IsRegion, meets_record, with_region, without_region, with_len};
+ghost use Rattle.std.specs.Prelude.{◌≡◌, ◌<◌, ◌%◌, ◌++◌, ◌∷◌, [], ℕ, true, false, IsTrue, length, slice_set, MatchOption};
+ghost use Rattle.address_map.specs.Records.{IsRegion, meets_record, with_region, without_region, with_len, is_word_kind, with_class, with_mark, without_mark};
 ghost use Rattle.std.specs.List.{remove};
 
+use crate::class::Class;
 use crate::map::AddressMap;
 use crate::region::{Kind, Region, do_meet};
 
 impl AddressMap {
-    ghost use Rattle.address_map.specs.Memory.{byte_at, mapping, regions};
+    ghost use Rattle.address_map.specs.Memory.{is_mapped, byte_at, mapping, regions, class_of};
 
     /// The recorded ranges, the first recorded first.
     #[tactic(auto, unfolding(crate::specs::Memory::regions))]
@@ -29,28 +30,72 @@ impl AddressMap {
         false
     }
 
-    /// Records a range that store calls use. Words in it that only they may write are owned from now on: the words that the
-    /// items of a heap spell, the headers of flex blocks, and the anchors that these name. No byte is changed.
-    #[tactic(auto, unfolding(crate::specs::Memory::regions, crate::specs::Memory::place, crate::specs::Memory::byte_at, crate::specs::Memory::free_pages))]
+    /// Records a range that store calls use, or marks a word that only they may write: a head word, a word of a flex block's
+    /// header or an anchor. A word is no record, and `len` says nothing there. No byte is changed.
     pub fn own(&mut self, kind: Kind, at: u32, len: u32)
         requires region { IsRegion (record { kind = kind; at = at; len = len }) }
-        requires room { length (regions self.old) < 133 }
+        requires room { is_word_kind kind ≡ false → length (regions self.old) < 133 }
+        requires mapped { is_word_kind kind ≡ true → is_mapped self.old at ≡ true }
         ensures regions { regions self.new ≡ with_region (regions self.old) (record { kind = kind; at = at; len = len }) }
         ensures mapping { mapping self.new ≡ mapping self.old }
         ensures bytes { byte_at self.new ≡ byte_at self.old }
+        ensures marks { (a : ℕ) → class_of self.new a ≡ with_mark kind at (class_of self.old) a }
     {
-        if kind != Kind::Anchor {
-            self.regions.push(Region { kind, at, len });
+        match kind.mark() {
+            Some(class) => self.mark(at, class),
+            None => self.record(Region { kind, at, len }),
         }
     }
 
-    /// Takes away the first record of that kind that starts at `at`, if there is one; its words are the guest's from now on. No
-    /// byte is changed, and the other records keep their order. An anchor is no record.
-    #[tactic(auto, unfolding(crate::specs::Memory::regions, crate::specs::Memory::place, crate::specs::Memory::byte_at, crate::specs::Memory::free_pages))]
+    /// Records a range more.
+    #[tactic(auto, unfolding(crate::specs::Memory::regions, crate::specs::Memory::place, crate::specs::Memory::byte_at, crate::specs::Memory::free_pages, crate::specs::Memory::class_of))]
+    fn record(&mut self, region: Region)
+        requires region { IsRegion region }
+        requires room { length (regions self.old) < 133 }
+        ensures regions { regions self.new ≡ regions self.old ++ region ∷ [] }
+        ensures mapping { mapping self.new ≡ mapping self.old }
+        ensures bytes { byte_at self.new ≡ byte_at self.old }
+        ensures marks { class_of self.new ≡ class_of self.old }
+    {
+        self.regions.push(region);
+    }
+
+    /// Gives the word at an address a class.
+    fn mark(&mut self, at: u32, class: Class)
+        requires aligned { at % 4 ≡ 0 }
+        requires mapped { IsTrue (is_mapped self.old at) }
+        ensures regions { regions self.new ≡ regions self.old }
+        ensures mapping { mapping self.new ≡ mapping self.old }
+        ensures bytes { byte_at self.new ≡ byte_at self.old }
+        ensures marks { (a : ℕ) → class_of self.new a ≡ with_class (class_of self.old) at class a }
+    {
+        let place = self.translate(at).unwrap();
+        self.marks.set(place / 4, class);
+    }
+
+    /// Takes away the first record of that kind that starts at `at`, if there is one; or makes a word plain that was marked. No
+    /// byte is changed, and the other records keep their order.
     pub fn disown(&mut self, kind: Kind, at: u32)
+        requires aligned { is_word_kind kind ≡ true → at % 4 ≡ 0 }
+        requires mapped { is_word_kind kind ≡ true → is_mapped self.old at ≡ true }
         ensures regions { regions self.new ≡ without_region (regions self.old) kind at }
         ensures mapping { mapping self.new ≡ mapping self.old }
         ensures bytes { byte_at self.new ≡ byte_at self.old }
+        ensures marks { (a : ℕ) → class_of self.new a ≡ without_mark kind at (class_of self.old) a }
+    {
+        match kind.mark() {
+            Some(_) => self.mark(at, Class::Plain),
+            None => self.forget(kind, at),
+        }
+    }
+
+    /// Takes away a record.
+    #[tactic(auto, unfolding(crate::specs::Memory::regions, crate::specs::Memory::place, crate::specs::Memory::byte_at, crate::specs::Memory::free_pages, crate::specs::Memory::class_of))]
+    fn forget(&mut self, kind: Kind, at: u32)
+        ensures regions { regions self.new ≡ without_region (regions self.old) kind at }
+        ensures mapping { mapping self.new ≡ mapping self.old }
+        ensures bytes { byte_at self.new ≡ byte_at self.old }
+        ensures marks { class_of self.new ≡ class_of self.old }
     {
         if let Some(index) = self.record_index(kind, at) {
             self.regions.remove(index);
@@ -59,12 +104,13 @@ impl AddressMap {
 
     /// Gives the first record of that kind that starts at `at`, if there is one, another length. No byte is changed, and the records keep
     /// their order.
-    #[tactic(auto, unfolding(crate::specs::Memory::regions, crate::specs::Memory::place, crate::specs::Memory::byte_at, crate::specs::Memory::free_pages))]
+    #[tactic(auto, unfolding(crate::specs::Memory::regions, crate::specs::Memory::place, crate::specs::Memory::byte_at, crate::specs::Memory::free_pages, crate::specs::Memory::class_of))]
     pub fn set_len(&mut self, kind: Kind, at: u32, len: u32)
         requires region { IsRegion (record { kind = kind; at = at; len = len }) }
         ensures regions { regions self.new ≡ with_len (regions self.old) kind at len }
         ensures mapping { mapping self.new ≡ mapping self.old }
         ensures bytes { byte_at self.new ≡ byte_at self.old }
+        ensures marks { class_of self.new ≡ class_of self.old }
     {
         if let Some(index) = self.record_index(kind, at) {
             self.regions[index] = Region { kind, at, len };

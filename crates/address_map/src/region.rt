@@ -1,6 +1,8 @@
 ghost use Rattle.std.specs.Prelude.{◌≡◌};
-ghost use Rattle.address_map.specs.Bytes.{in_range, meets};
-ghost use Rattle.address_map.specs.Records.{is_heap_kind, is_flex_kind, is_record};
+ghost use Rattle.address_map.specs.Bytes.{meets};
+ghost use Rattle.address_map.specs.Records.{is_heap_kind, is_record, mark_of};
+
+use crate::class::Class;
 
 /// What the store calls use a range of memory for.
 #[derive(Clone, Copy, Debug, Default, PartialEq, Eq)]
@@ -12,10 +14,12 @@ pub enum Kind {
     Rma,
     /// The range that sliding blocks lie in.
     FlexStore,
-    /// The part of it that is used, from the first block's header to the last block's end.
+    /// One of the two words of a sliding block's header. It is marked, and no record of it is kept.
     FlexHeader,
-    /// A word that holds the address of a sliding block. The headers name these words, so no record of them is kept.
+    /// A word that holds the address of a sliding block. It is marked, and no record of it is kept.
     Anchor,
+    /// A word that a heap's list spells: one of its descriptor, a length or a link. It is marked, and no record of it is kept.
+    HeadWord,
     /// A module image that was not copied.
     Image,
     /// The pages of the system: stack, private words, error block, environment text.
@@ -30,12 +34,17 @@ impl Kind {
         matches!(self, Kind::Heap | Kind::Rma)
     }
 
-    /// Whether a range is the used part of the flex store.
+    /// The class that the one word of this kind has, or `None` for the kinds that are recorded as ranges.
     #[inline(always)]
-    pub(crate) fn is_flex(&self) -> bool
-        ensures { result ≡ is_flex_kind self.now }
+    pub(crate) fn mark(&self) -> Option<Class>
+        ensures { result ≡ mark_of self.now }
     {
-        matches!(self, Kind::FlexHeader)
+        match self {
+            Kind::HeadWord => Some(Class::Heap),
+            Kind::FlexHeader => Some(Class::FlexHeader),
+            Kind::Anchor => Some(Class::Anchor),
+            _ => None,
+        }
     }
 }
 
@@ -48,19 +57,11 @@ pub struct Region {
 }
 
 impl Region {
-    /// Whether an address is in the range.
-    #[inline(always)]
-    pub(crate) fn holds(&self, addr: u32) -> bool
-        ensures { result ≡ in_range self.now.at self.now.len addr }
-    {
-        self.at <= addr && addr - self.at < self.len
-    }
-
-    /// Whether this is the record of a range of that kind that starts at `at`. No record is an anchor.
+    /// Whether this is the record of a range of that kind that starts at `at`. No record is a word's.
     pub(crate) fn is_record(&self, kind: Kind, at: u32) -> bool
         ensures { result ≡ is_record kind at self.now }
     {
-        kind != Kind::Anchor && self.kind == kind && self.at == at
+        kind.mark().is_none() && self.kind == kind && self.at == at
     }
 }
 

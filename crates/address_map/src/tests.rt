@@ -70,98 +70,54 @@ fn writes_across_ranges_that_lie_apart_in_the_store(rt: HostRuntime) -> Result<(
     Ok(())
 }
 
-/// A heap of 256 bytes at &9000, written by hand: its descriptor, a block of 24 bytes and one of 8.
-const HEAP: [u8; 48] = [
-    0x48, 0x65, 0x61, 0x70, 0, 0, 0, 0, 48, 0, 0, 0, 0, 1, 0, 0, // the descriptor
-    24, 0, 0, 0, 0, 0, 0, 0, 0, 0, 0, 0, 0, 0, 0, 0, 0, 0, 0, 0, 0, 0, 0, 0, // 24 bytes
-    8, 0, 0, 0, 0, 0, 0, 0, // 8 bytes
-];
-
-/// The same, but that the second block is free.
-const HEAP_WITH_ROOM: [u8; 48] = [
-    0x48, 0x65, 0x61, 0x70, 40, 0, 0, 0, 48, 0, 0, 0, 0, 1, 0, 0, // the descriptor
-    24, 0, 0, 0, 0, 0, 0, 0, 0, 0, 0, 0, 0, 0, 0, 0, 0, 0, 0, 0, 0, 0, 0, 0, // 24 bytes
-    0, 0, 0, 0, 8, 0, 0, 0, // no next free item, and 8 bytes
-];
-
-/// Two flex blocks at &A000: 5 bytes with the anchor &9100, and 4 bytes with the anchor &9200.
-const BLOCKS: [u8; 28] = [
-    0, 0x91, 0, 0, 5, 0, 0, 0, 1, 2, 3, 4, 5, 0, 0, 0, // 5 bytes, and 3 to the next word
-    0, 0x92, 0, 0, 4, 0, 0, 0, 1, 2, 3, 4, // 4 bytes
-];
-
 #[test]
-fn owns_the_words_of_a_heap(rt: HostRuntime) -> Result<(), Fail> {
+fn gives_each_marked_word_its_class(rt: HostRuntime) -> Result<(), Fail> {
     let mut map = AddressMap::new(rt.alloc(), 1)?;
     map.map_pages(0x9000, 1);
-    map.own(Kind::Heap, 0x9000, 256);
-    assert!(rt; map.maps(0x9000, 48));
-    map.put_bytes(0x9000, &HEAP);
+    map.own(Kind::HeadWord, 0x9000, 4);
+    map.own(Kind::FlexHeader, 0x9008, 4);
+    map.own(Kind::Anchor, 0x900C, 4);
     for (addr, class) in [
         (0x8FFF, Class::Plain),
         (0x9000, Class::Heap),
-        (0x900F, Class::Heap),
-        (0x9010, Class::Heap),
-        (0x9013, Class::Heap),
-        (0x9014, Class::Plain),
-        (0x9027, Class::Plain),
-        (0x9028, Class::Heap),
-        (0x902C, Class::Plain),
-        (0x9030, Class::Plain),
+        (0x9003, Class::Heap),
+        (0x9004, Class::Plain),
+        (0x9007, Class::Plain),
+        (0x9008, Class::FlexHeader),
+        (0x900B, Class::FlexHeader),
+        (0x900C, Class::Anchor),
+        (0x900F, Class::Anchor),
+        (0x9010, Class::Plain),
+        (0xA000, Class::Plain),
     ] {
         assert_eq!(rt; map.class(addr), class, "class of {addr:x}");
     }
-    assert_eq!(rt; map.store_byte(0x9013, 1), Err(Fault::OwnedWord));
-    assert_eq!(rt; map.load_word(0x9010), Ok(24));
-    assert_eq!(rt; map.store_byte(0x9014, 1), Ok(()));
-    assert_eq!(rt; map.load_word(0x9014), Ok(1));
-    assert!(rt; map.owns(0x9028));
+    assert_eq!(rt; map.store_byte(0x9003, 1), Err(Fault::OwnedWord));
+    assert_eq!(rt; map.store_word(0x9009, 1), Err(Fault::OwnedWord));
+    assert_eq!(rt; map.store_byte(0x9004, 1), Ok(()));
+    assert_eq!(rt; map.load_word(0x9004), Ok(1));
     Ok(())
 }
 
 #[test]
-fn owns_both_words_of_a_free_item_of_the_module_area(rt: HostRuntime) -> Result<(), Fail> {
+fn forgets_one_of_two_marked_words(rt: HostRuntime) -> Result<(), Fail> {
     let mut map = AddressMap::new(rt.alloc(), 1)?;
     map.map_pages(0x9000, 1);
-    map.own(Kind::Rma, 0x9000, 44);
-    assert!(rt; map.maps(0x9000, 48));
-    map.put_bytes(0x9000, &HEAP_WITH_ROOM);
-    assert_eq!(rt; map.class(0x9027), Class::Plain);
-    assert_eq!(rt; map.class(0x9028), Class::Heap);
-    // The range of 44 bytes ends before the item's second word.
-    assert_eq!(rt; map.class(0x902C), Class::Plain);
-    map.disown(Kind::Rma, 0x9000);
-    map.own(Kind::Rma, 0x9000, 48);
-    assert_eq!(rt; map.class(0x902F), Class::Heap);
-    assert_eq!(rt; map.class(0x9030), Class::Plain);
+    map.own(Kind::HeadWord, 0x9FF8, 4);
+    map.own(Kind::HeadWord, 0x9FFC, 4);
+    map.disown(Kind::HeadWord, 0x9FF8);
+    assert_eq!(rt; map.class(0x9FF8), Class::Plain);
+    assert_eq!(rt; map.class(0x9FFC), Class::Heap);
+    assert!(rt; map.regions().is_empty());
     Ok(())
 }
 
 #[test]
-fn owns_the_headers_and_anchors_of_flex_blocks(rt: HostRuntime) -> Result<(), Fail> {
-    let mut map = AddressMap::new(rt.alloc(), 2)?;
-    map.map_pages(0x9000, 2);
-    map.own(Kind::FlexHeader, 0xA000, 28);
-    assert!(rt; map.maps(0xA000, 28));
-    map.put_bytes(0xA000, &BLOCKS);
-    for (addr, class) in [
-        (0x90FF, Class::Plain),
-        (0x9100, Class::Anchor),
-        (0x9103, Class::Anchor),
-        (0x9104, Class::Plain),
-        (0x9200, Class::Anchor),
-        (0x9FFF, Class::Plain),
-        (0xA000, Class::FlexHeader),
-        (0xA007, Class::FlexHeader),
-        (0xA008, Class::Plain),
-        (0xA00F, Class::Plain),
-        (0xA010, Class::FlexHeader),
-        (0xA017, Class::FlexHeader),
-        (0xA018, Class::Plain),
-        (0xA01C, Class::Plain),
-    ] {
-        assert_eq!(rt; map.class(addr), class, "class of {addr:x}");
-    }
+fn finds_the_anchors_in_a_range(rt: HostRuntime) -> Result<(), Fail> {
+    let mut map = AddressMap::new(rt.alloc(), 1)?;
+    map.map_pages(0x9000, 1);
+    map.own(Kind::Anchor, 0x9100, 4);
+    map.own(Kind::Anchor, 0x9200, 4);
     for (at, len, met) in [
         (0x90FD, 3, false),
         (0x90FD, 4, true),
@@ -176,14 +132,14 @@ fn owns_the_headers_and_anchors_of_flex_blocks(rt: HostRuntime) -> Result<(), Fa
 }
 
 #[test]
-fn leaves_the_other_ranges_to_the_guest(rt: HostRuntime) -> Result<(), Fail> {
+fn leaves_recorded_ranges_to_the_guest(rt: HostRuntime) -> Result<(), Fail> {
     let mut map = AddressMap::new(rt.alloc(), 1)?;
     map.map_pages(0x9000, 1);
     map.own(Kind::Image, 0x9000, 256);
     map.own(Kind::SystemPage, 0x9100, 256);
     map.own(Kind::FlexStore, 0x9200, 256);
-    map.own(Kind::Anchor, 0x9300, 4);
-    assert_eq!(rt; map.regions().len(), 3);
+    map.own(Kind::Heap, 0x9300, 256);
+    assert_eq!(rt; map.regions().len(), 4);
     for addr in [0x9000, 0x90FF, 0x9100, 0x91FF, 0x9200, 0x92FF, 0x9300] {
         assert_eq!(rt; map.class(addr), Class::Plain, "class of {addr:x}");
     }
@@ -197,12 +153,10 @@ fn forgets_one_of_two_heaps(rt: HostRuntime) -> Result<(), Fail> {
     map.own(Kind::Heap, 0x9000, 256);
     map.own(Kind::Heap, 0x9100, 256);
     map.disown(Kind::Rma, 0x9000);
-    map.disown(Kind::Anchor, 0x9000);
     map.disown(Kind::Heap, 0x9004);
     assert_eq!(rt; map.regions().len(), 2);
     map.disown(Kind::Heap, 0x9000);
-    assert_eq!(rt; map.class(0x9000), Class::Plain);
-    assert_eq!(rt; map.class(0x9100), Class::Heap);
+    assert_eq!(rt; map.regions().len(), 1);
     map.disown(Kind::Heap, 0x9100);
     assert!(rt; map.regions().is_empty());
     Ok(())

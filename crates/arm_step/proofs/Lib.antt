@@ -4,6 +4,8 @@ pub mod InOrder
 pub mod OperandWords
 pub mod Framing
 pub mod Listing
+pub mod Lowest
+pub mod PageWords
 pub mod Restoring
 pub mod SeveralWords
 pub mod Turning

@@ -7,6 +7,7 @@ pub mod OwnedBytes
 pub mod Laws
 pub mod Operand
 pub mod Operate
+pub mod PageWords
 pub mod Psr
 pub mod State
 pub mod Step

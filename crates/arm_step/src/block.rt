@@ -1,13 +1,18 @@
 //! LDM and STM.
 
-ghost use Rattle.std.specs.Prelude.{◌≡◌, ◌<◌, ◌≤◌, ◌^◌, ◌%◌, length};
+ghost use Rattle.std.specs.Prelude.{◌≡◌, ◌<◌, ◌≤◌, ◌^◌, ◌%◌, ◌*◌, ◌==◌, true, Some, if◌then◌else◌, length};
 ghost use Rattle.arrayvec.specs.ArrayVec.{array_vec_len};
 ghost use Rattle.profile.specs.Outcome.{Leaves};
-ghost use Rattle.address_map.specs.Memory.{bytes_of, is_owned, layout};
+ghost use Rattle.address_map.specs.Memory.{bytes_of, is_owned, layout, class_of, place};
+ghost use Rattle.arm_step.specs.Effect.{status_operand};
+ghost use Rattle.arm_step.specs.PageWords.{are_in_page, words_in};
+ghost use Rattle.arm_step.specs.Words.{with_words};
 ghost use Rattle.arm_step.specs.Blocks.{listed, lowest, stepped_base, block_size, block_start, block_base, loads_status, bank_of, with_block_base, with_loaded, with_block_status, block_loaded, stores_new_base, block_values, block_stored, block_transferred};
 
 use crate::cpu::Cpu;
+use crate::page_words::{are_in_page, free_place, lend_words, word_in};
 use crate::psr::Mode;
+use crate::registers::split_lowest;
 use crate::words::{MOST_WORDS, load_words, store_words};
 use address_map::AddressMap;
 use arm_decode::{BlockMode, BlockTransfer, Register, RegisterList};
@@ -16,6 +21,7 @@ use profile::Fault;
 
 /// How many registers a list has.
 #[tactic(auto, using(crate::proofs::Listing::counted))]
+#[inline(always)]
 fn size_of(list: RegisterList) -> u32
     ensures size { result ≡ length (listed list) }
     ensures few { result ≤ 16 }
@@ -23,31 +29,25 @@ fn size_of(list: RegisterList) -> u32
     list.bits().count_ones()
 }
 
-/// The lowest address of a block of some words, with its base.
-fn lowest_address(mode: BlockMode, base: u32, count: u32) -> u32
+/// The lowest address of a block of some words, with its base, and the base that is written back.
+#[inline(always)]
+fn reach(mode: BlockMode, base: u32, count: u32) -> (u32, u32)
     requires { count ≤ 16 }
-    ensures { result ≡ lowest mode base count }
+    ensures lowest { result.0 ≡ lowest mode base count }
+    ensures base { result.1 ≡ stepped_base mode base count }
 {
+    let above = base.wrapping_add(4 * count);
+    let below = base.wrapping_sub(4 * count);
     match mode {
-        BlockMode::IncrementAfter => base,
-        BlockMode::IncrementBefore => base.wrapping_add(4),
-        BlockMode::DecrementAfter => base.wrapping_add(4).wrapping_sub(4 * count),
-        BlockMode::DecrementBefore => base.wrapping_sub(4 * count),
-    }
-}
-
-/// The base that a block transfer of some words writes back.
-fn step_base(mode: BlockMode, base: u32, count: u32) -> u32
-    requires { count ≤ 16 }
-    ensures { result ≡ stepped_base mode base count }
-{
-    match mode {
-        BlockMode::IncrementAfter | BlockMode::IncrementBefore => base.wrapping_add(4 * count),
-        BlockMode::DecrementAfter | BlockMode::DecrementBefore => base.wrapping_sub(4 * count),
+        BlockMode::IncrementAfter => (base, above),
+        BlockMode::IncrementBefore => (base.wrapping_add(4), above),
+        BlockMode::DecrementAfter => (base.wrapping_add(4).wrapping_sub(4 * count), below),
+        BlockMode::DecrementBefore => (below, below),
     }
 }
 
 /// Whether a block transfer loads the status with R15.
+#[inline(always)]
 fn loads_status(block: &BlockTransfer) -> bool
     ensures { result ≡ loads_status block.now }
 {
@@ -55,15 +55,29 @@ fn loads_status(block: &BlockTransfer) -> bool
 }
 
 /// Whether a store finds the base already written back: where a lower register is listed.
+#[inline(always)]
 fn stores_new_base(block: &BlockTransfer) -> bool
     ensures { result ≡ stores_new_base block.now }
 {
     block.writes_back && block.list.bits() % (1 << block.rn.number()) != 0
 }
 
+/// The number of the register that a store finds as it will be, or 16 where there is none.
+#[inline(always)]
+fn changed_base(block: &BlockTransfer) -> u32
+    ensures { result ≡ (if stores_new_base block.now then block.now.rn else 16) }
+{
+    if stores_new_base(block) {
+        block.rn.number()
+    } else {
+        16
+    }
+}
+
 impl Cpu {
     /// The bank that a block transfer means: with S, where it does not load the status, that of
     /// user mode.
+    #[inline(always)]
     fn bank(&self, block: &BlockTransfer) -> Mode
         ensures { result ≡ bank_of self.now block.now }
     {
@@ -76,6 +90,7 @@ impl Cpu {
 
     /// Writes the base of a block transfer back where it does that.
     #[tactic(auto, unfolding(crate::specs::Blocks::with_block_base))]
+    #[inline(always)]
     fn write_block_base(&mut self, block: &BlockTransfer, base: u32)
         ensures { self.new ≡ with_block_base self.old block.now base }
     {
@@ -100,6 +115,36 @@ impl Cpu {
         }
     }
 
+    /// Places the words of some bytes in the registers of a list.
+    #[inline(always)]
+    fn place_bytes(&mut self, bank: Mode, list: RegisterList, bytes: &[u8])
+        requires { length bytes.now ≡ 4 * length (listed list) }
+        ensures { self.new ≡ with_loaded bank self.old (listed list) (words_in bytes.now 0 (length (listed list))) }
+    {
+        match bank {
+            // Where the bank is known, so is the place of each register.
+            Mode::User => self.place_each(Mode::User, list, bytes),
+            _ => self.place_each(bank, list, bytes),
+        }
+    }
+
+    /// The same, one by one.
+    #[tactic(auto, using(crate::proofs::Lowest::placing))]
+    #[inline(always)]
+    fn place_each(&mut self, bank: Mode, list: RegisterList, bytes: &[u8])
+        requires { length bytes.now ≡ 4 * length (listed list) }
+        ensures { self.new ≡ with_loaded bank self.old (listed list) (words_in bytes.now 0 (length (listed list))) }
+    {
+        let mut at = 0;
+        let mut rest = list.bits();
+        while rest != 0 {
+            let (register, others) = split_lowest(rest);
+            self.set_result_in(bank, register, word_in(bytes, at));
+            at += 4;
+            rest = others;
+        }
+    }
+
     /// Loads the status from the last word, where the block transfer does that.
     #[tactic(auto, unfolding(crate::specs::Blocks::with_block_status))]
     fn set_block_status(&mut self, block: &BlockTransfer, words: &[u32])
@@ -110,6 +155,91 @@ impl Cpu {
         }
         if let Some(word) = words.last() {
             self.set_status(*word);
+        }
+    }
+
+    /// The same of some bytes, which are the words.
+    #[tactic(auto, using(crate::proofs::Lowest::last_word), unfolding(crate::specs::Blocks::with_block_status))]
+    #[inline(always)]
+    fn set_status_of_bytes(&mut self, block: &BlockTransfer, bytes: &[u8])
+        requires size { length bytes.now ≡ 4 * block_size block.now }
+        requires some { 0 < block_size block.now }
+        ensures { self.new ≡ with_block_status self.old block.now (words_in bytes.now 0 (block_size block.now)) }
+    {
+        if loads_status(block) {
+            self.set_status(word_in(bytes, bytes.len() - 4));
+        }
+    }
+
+    /// What a block transfer stores of a register. `changed` is the base where it is stored as it
+    /// will be, and no register's number where it is not.
+    #[inline(always)]
+    fn stored_value(&self, bank: Mode, register: Register, changed: u32, base: u32) -> u32
+        ensures { result ≡ (if register == changed then base else status_operand bank self.now register 3) }
+    {
+        if register.number() == changed {
+            base
+        } else {
+            self.status_operand(bank, register, 3)
+        }
+    }
+
+    /// Stores the registers of a block transfer to words of one page, the first of which lies at this
+    /// place of the store.
+    #[inline(always)]
+    fn put_registers(
+        &self,
+        memory: &mut AddressMap,
+        block: &BlockTransfer,
+        base: u32,
+        first: u32,
+        at: usize,
+    )
+        requires base { base ≡ block_base self.now block.now }
+        requires aligned { first % 4 ≡ 0 }
+        requires page { are_in_page first (block_size block.now) ≡ true }
+        requires place { place memory.old first ≡ Some at }
+        ensures bytes { bytes_of memory.new ≡ with_words (bytes_of memory.old) first (block_values self.now block.now) }
+        ensures layout { layout memory.new ≡ layout memory.old }
+        ensures marks { class_of memory.new ≡ class_of memory.old }
+    {
+        match self.bank(block) {
+            // Where the bank is known, so is the place of each register.
+            Mode::User => self.put_each(memory, block, Mode::User, base, first, at),
+            bank => self.put_each(memory, block, bank, base, first, at),
+        }
+    }
+
+    /// The same, one by one.
+    #[tactic(auto, using(crate::proofs::Lowest::length_next))]
+    #[inline(always)]
+    fn put_each(
+        &self,
+        memory: &mut AddressMap,
+        block: &BlockTransfer,
+        bank: Mode,
+        base: u32,
+        first: u32,
+        at: usize,
+    )
+        requires bank { bank ≡ bank_of self.now block.now }
+        requires base { base ≡ block_base self.now block.now }
+        requires aligned { first % 4 ≡ 0 }
+        requires page { are_in_page first (block_size block.now) ≡ true }
+        requires place { place memory.old first ≡ Some at }
+        ensures bytes { bytes_of memory.new ≡ with_words (bytes_of memory.old) first (block_values self.now block.now) }
+        ensures layout { layout memory.new ≡ layout memory.old }
+        ensures marks { class_of memory.new ≡ class_of memory.old }
+    {
+        let changed = changed_base(block);
+        let mut offset = 0;
+        let mut rest = block.list.bits();
+        while rest != 0 {
+            let (register, others) = split_lowest(rest);
+            let value = self.stored_value(bank, register, changed, base);
+            memory.put_word_at(first + offset, at + offset as usize, value);
+            offset += 4;
+            rest = others;
         }
     }
 
@@ -135,38 +265,78 @@ impl Cpu {
         values
     }
 
-    /// Where the words of a block transfer begin.
-    #[tactic(auto, unfolding(crate::specs::Blocks::block_start))]
-    fn block_start(&self, block: &BlockTransfer, count: u32) -> u32
+    /// Where the words of a block transfer begin, and the base that it writes back.
+    #[tactic(auto, unfolding(crate::specs::Blocks::block_start, crate::specs::Blocks::block_base))]
+    #[inline(always)]
+    fn block_reach(&self, block: &BlockTransfer, count: u32) -> (u32, u32)
         requires size { count ≡ block_size block.now }
         requires few { count ≤ 16 }
-        ensures start { result ≡ block_start self.now block.now }
-        ensures aligned { result % 4 ≡ 0 }
+        ensures start { result.0 ≡ block_start self.now block.now }
+        ensures aligned { result.0 % 4 ≡ 0 }
+        ensures base { result.1 ≡ block_base self.now block.now }
     {
-        let lowest = lowest_address(block.mode, self.plain_operand(block.rn, 2), count);
-        lowest - lowest % 4
-    }
-
-    /// The base that a block transfer writes back.
-    #[tactic(auto, unfolding(crate::specs::Blocks::block_base))]
-    fn block_base(&self, block: &BlockTransfer, count: u32) -> u32
-        requires size { count ≡ block_size block.now }
-        requires few { count ≤ 16 }
-        ensures { result ≡ block_base self.now block.now }
-    {
-        step_base(block.mode, self.plain_operand(block.rn, 2), count)
+        let (lowest, base) = reach(block.mode, self.plain_operand(block.rn, 2), count);
+        (lowest - lowest % 4, base)
     }
 
     /// LDM: the base is written first, so a loaded base wins.
-    #[tactic(auto, unfolding(crate::specs::Blocks::block_loaded))]
+    #[inline(always)]
     fn load_block(&mut self, memory: &AddressMap, block: &BlockTransfer) -> Result<(), Fault>
         ensures { let loaded = block_loaded self.old (bytes_of memory.now) block.now in
             Leaves (self.old, bytes_of memory.now) loaded result (self.new, bytes_of memory.now) }
     {
         let count = size_of(block.list);
-        let words = load_words(memory, self.block_start(block, count), count)?;
+        let (first, base) = self.block_reach(block, count);
+        if are_in_page(first, count) {
+            self.load_from_page(memory, block, first, base)
+        } else {
+            self.load_from_pages(memory, block, first, base)
+        }
+    }
+
+    /// LDM of words in one page.
+    #[tactic(auto, unfolding(crate::specs::Blocks::block_loaded))]
+    #[inline(always)]
+    fn load_from_page(
+        &mut self,
+        memory: &AddressMap,
+        block: &BlockTransfer,
+        first: u32,
+        base: u32,
+    ) -> Result<(), Fault>
+        requires first { first ≡ block_start self.old block.now }
+        requires base { base ≡ block_base self.old block.now }
+        requires page { are_in_page first (block_size block.now) ≡ true }
+        ensures { let loaded = block_loaded self.old (bytes_of memory.now) block.now in
+            Leaves (self.old, bytes_of memory.now) loaded result (self.new, bytes_of memory.now) }
+    {
+        let bytes = lend_words(memory, first, size_of(block.list))?;
         let bank = self.bank(block);
-        let base = self.block_base(block, count);
+        self.advance();
+        self.write_block_base(block, base);
+        self.place_bytes(bank, block.list, bytes);
+        self.set_status_of_bytes(block, bytes);
+        Ok(())
+    }
+
+    /// LDM of words that may lie in two pages.
+    #[tactic(auto, unfolding(crate::specs::Blocks::block_loaded))]
+    #[inline(never)]
+    fn load_from_pages(
+        &mut self,
+        memory: &AddressMap,
+        block: &BlockTransfer,
+        first: u32,
+        base: u32,
+    ) -> Result<(), Fault>
+        requires first { first ≡ block_start self.old block.now }
+        requires aligned { first % 4 ≡ 0 }
+        requires base { base ≡ block_base self.old block.now }
+        ensures { let loaded = block_loaded self.old (bytes_of memory.now) block.now in
+            Leaves (self.old, bytes_of memory.now) loaded result (self.new, bytes_of memory.now) }
+    {
+        let words = load_words(memory, first, size_of(block.list))?;
+        let bank = self.bank(block);
         self.advance();
         self.write_block_base(block, base);
         self.place_words(bank, block.list, words.as_slice());
@@ -175,16 +345,68 @@ impl Cpu {
     }
 
     /// STM: all words are tested before the first is stored.
-    #[tactic(auto, unfolding(crate::specs::Blocks::block_stored))]
+    #[inline(always)]
     fn store_block(&mut self, memory: &mut AddressMap, block: &BlockTransfer) -> Result<(), Fault>
         ensures state { let stored = block_stored (is_owned memory.old) self.old (bytes_of memory.old) block.now in
             Leaves (self.old, bytes_of memory.old) stored result (self.new, bytes_of memory.new) }
         ensures layout { layout memory.new ≡ layout memory.old }
+        ensures marks { class_of memory.new ≡ class_of memory.old }
     {
         let count = size_of(block.list);
-        let base = self.block_base(block, count);
+        let (first, base) = self.block_reach(block, count);
+        if are_in_page(first, count) {
+            self.store_to_page(memory, block, first, base)
+        } else {
+            self.store_to_pages(memory, block, first, base)
+        }
+    }
+
+    /// STM of words in one page.
+    #[tactic(auto, unfolding(crate::specs::Blocks::block_stored))]
+    #[inline(always)]
+    fn store_to_page(
+        &mut self,
+        memory: &mut AddressMap,
+        block: &BlockTransfer,
+        first: u32,
+        base: u32,
+    ) -> Result<(), Fault>
+        requires first { first ≡ block_start self.old block.now }
+        requires aligned { first % 4 ≡ 0 }
+        requires base { base ≡ block_base self.old block.now }
+        requires page { are_in_page first (block_size block.now) ≡ true }
+        ensures state { let stored = block_stored (is_owned memory.old) self.old (bytes_of memory.old) block.now in
+            Leaves (self.old, bytes_of memory.old) stored result (self.new, bytes_of memory.new) }
+        ensures layout { layout memory.new ≡ layout memory.old }
+        ensures marks { class_of memory.new ≡ class_of memory.old }
+    {
+        let at = free_place(memory, first, size_of(block.list))?;
+        self.put_registers(memory, block, base, first, at);
+        self.advance();
+        self.write_block_base(block, base);
+        Ok(())
+    }
+
+    /// STM of words that may lie in two pages.
+    #[tactic(auto, unfolding(crate::specs::Blocks::block_stored))]
+    #[inline(never)]
+    fn store_to_pages(
+        &mut self,
+        memory: &mut AddressMap,
+        block: &BlockTransfer,
+        first: u32,
+        base: u32,
+    ) -> Result<(), Fault>
+        requires first { first ≡ block_start self.old block.now }
+        requires aligned { first % 4 ≡ 0 }
+        requires base { base ≡ block_base self.old block.now }
+        ensures state { let stored = block_stored (is_owned memory.old) self.old (bytes_of memory.old) block.now in
+            Leaves (self.old, bytes_of memory.old) stored result (self.new, bytes_of memory.new) }
+        ensures layout { layout memory.new ≡ layout memory.old }
+        ensures marks { class_of memory.new ≡ class_of memory.old }
+    {
         let values = self.block_values(block, base);
-        store_words(memory, self.block_start(block, count), values.as_slice())?;
+        store_words(memory, first, values.as_slice())?;
         self.advance();
         self.write_block_base(block, base);
         Ok(())
@@ -197,6 +419,7 @@ impl Cpu {
     /// `AddressException`, `DataUnmapped`, and for a store `OwnedWord`, in this order and each over
     /// all words. Core and memory are then as before.
     #[tactic(auto, unfolding(crate::specs::Blocks::block_transferred))]
+    #[inline(always)]
     pub(crate) fn transfer_block(
         &mut self,
         memory: &mut AddressMap,
@@ -205,6 +428,7 @@ impl Cpu {
         ensures state { let moved = block_transferred (is_owned memory.old) self.old (bytes_of memory.old) block in
             Leaves (self.old, bytes_of memory.old) moved result (self.new, bytes_of memory.new) }
         ensures layout { layout memory.new ≡ layout memory.old }
+        ensures marks { class_of memory.new ≡ class_of memory.old }
     {
         if block.loads {
             self.load_block(memory, &block)

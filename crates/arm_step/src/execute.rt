@@ -1,7 +1,7 @@
 //! One step of the core over memory.
 
 ghost use Rattle.std.specs.Prelude.{◌≡◌, ◌≢◌, ◌<◌, ◌≤◌, ◌^◌, ◌%◌};
-ghost use Rattle.address_map.specs.Memory.{bytes_of, is_owned, layout};
+ghost use Rattle.address_map.specs.Memory.{bytes_of, is_owned, layout, class_of};
 ghost use Rattle.arm_step.specs.Turns.{Turns};
 ghost use Rattle.arm_decode.specs.Decoded.{decoded};
 ghost use Rattle.arm_step.specs.Step.{acted_if_decoded, executed, stepped};
@@ -30,6 +30,7 @@ use profile::word::is_bit_set;
 pub fn step(cpu: &mut Cpu, memory: &mut AddressMap) -> Turn
     ensures turn { Turns (cpu.old, bytes_of memory.old) (stepped (is_owned memory.old) cpu.old (bytes_of memory.old)) result (cpu.new, bytes_of memory.new) }
     ensures layout { layout memory.new ≡ layout memory.old }
+    ensures marks { class_of memory.new ≡ class_of memory.old }
     ensures unchanged { result ≢ Turn.Done → (cpu.new ≡ cpu.old) × (bytes_of memory.new ≡ bytes_of memory.old) }
 {
     let pc = cpu.pc();
@@ -50,6 +51,7 @@ impl Cpu {
         ensures turn { let executed = executed (is_owned memory.old) self.old (bytes_of memory.old) word in
             Turns (self.old, bytes_of memory.old) executed result (self.new, bytes_of memory.new) }
         ensures layout { layout memory.new ≡ layout memory.old }
+        ensures marks { class_of memory.new ≡ class_of memory.old }
     {
         if !is_met(Condition::in_word(word), self.psr()) {
             self.advance();
@@ -69,6 +71,7 @@ impl Cpu {
         ensures state { let acted = acted_if_decoded (is_owned memory.old) self.old (bytes_of memory.old) (decoded word) in
             Leaves (self.old, bytes_of memory.old) acted result (self.new, bytes_of memory.new) }
         ensures layout { layout memory.new ≡ layout memory.old }
+        ensures marks { class_of memory.new ≡ class_of memory.old }
     {
         match row_of(word)? {
             Form::Multiply => self.multiply(Multiply::decoded(word)?),

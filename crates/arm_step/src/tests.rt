@@ -46,7 +46,7 @@ enum Line {
     At(u32),
 }
 
-/// A core over two pages of memory from &8000 on, and the last page of the address space.
+/// A core over two pages of memory from &8000 on, which lie in the store the other way round, and the last page of the address space.
 #[derive(Drop)]
 struct Board {
     cpu: Cpu,
@@ -56,7 +56,8 @@ struct Board {
 impl Board {
     fn new(alloc: Global) -> Result<Board, AllocError> {
         let mut memory = AddressMap::new(alloc, 3)?;
-        memory.map_pages(0x8000, 2);
+        memory.map_pages(0x9000, 1);
+        memory.map_pages(0x8000, 1);
         memory.map_pages(0x3FF_F000, 1);
         Ok(Board {
             cpu: Cpu::new(),

@@ -2,7 +2,7 @@
 
 ghost use Rattle.std.specs.Prelude.{◌≡◌, ◌<◌, ◌≤◌, ◌^◌, ◌%◌};
 ghost use Rattle.profile.specs.Outcome.{Leaves};
-ghost use Rattle.address_map.specs.Memory.{bytes_of, is_owned, layout};
+ghost use Rattle.address_map.specs.Memory.{bytes_of, is_owned, layout, class_of};
 ghost use Rattle.arm_step.specs.Transfers.{offset_of, moved_base, transfer_address, with_base, value_loaded, value_stored, loaded, stored, transferred};
 
 use crate::cpu::Cpu;
@@ -36,6 +36,7 @@ fn store_value(
     ensures bytes { let stored = value_stored (is_owned memory.old) (bytes_of memory.old) is_byte address value in
         Leaves (bytes_of memory.old) stored result (bytes_of memory.new) }
     ensures layout { layout memory.new ≡ layout memory.old }
+    ensures marks { class_of memory.new ≡ class_of memory.old }
 {
     if is_byte {
         memory.store_byte(address, (value % 256) as u8)
@@ -116,6 +117,7 @@ impl Cpu {
         ensures state { let stored = stored (is_owned memory.old) self.old (bytes_of memory.old) transfer.now in
             Leaves (self.old, bytes_of memory.old) stored result (self.new, bytes_of memory.new) }
         ensures layout { layout memory.new ≡ layout memory.old }
+        ensures marks { class_of memory.new ≡ class_of memory.old }
     {
         let value = self.status_operand(self.psr().mode, transfer.rd, 3);
         store_value(
@@ -146,6 +148,7 @@ impl Cpu {
         ensures state { let moved = transferred (is_owned memory.old) self.old (bytes_of memory.old) transfer in
             Leaves (self.old, bytes_of memory.old) moved result (self.new, bytes_of memory.new) }
         ensures layout { layout memory.new ≡ layout memory.old }
+        ensures marks { class_of memory.new ≡ class_of memory.old }
     {
         if transfer.loads {
             self.load(memory, &transfer)

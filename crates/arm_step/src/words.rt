@@ -3,7 +3,7 @@
 ghost use Rattle.std.specs.Prelude.{ℕ, ◌≡◌, ◌<◌, ◌≤◌, ◌+◌, ◌*◌, ◌^◌, ◌%◌, true, Ok, Err, length, MatchResult, IfOk};
 ghost use Rattle.arrayvec.specs.ArrayVec.{array_vec_len};
 ghost use Rattle.profile.specs.Outcome.{Leaves};
-ghost use Rattle.address_map.specs.Memory.{bytes_of, is_owned, layout};
+ghost use Rattle.address_map.specs.Memory.{bytes_of, is_owned, layout, class_of};
 ghost use Rattle.arm_step.specs.Words.{are_mapped, are_free, words_loaded, words_store_fault, words_stored, with_words};
 
 use address_map::AddressMap;
@@ -99,6 +99,7 @@ fn put_words(memory: &mut AddressMap, first: u32, words: &[u32])
     requires mapped { are_mapped (bytes_of memory.old) first (length words.now) ≡ true }
     ensures bytes { bytes_of memory.new ≡ with_words (bytes_of memory.old) first words.now }
     ensures layout { layout memory.new ≡ layout memory.old }
+    ensures marks { class_of memory.new ≡ class_of memory.old }
 {
     for index in 0..words.len() {
         memory.put_word(first + 4 * index as u32, words[index]);
@@ -118,6 +119,7 @@ pub(crate) fn store_words(memory: &mut AddressMap, first: u32, words: &[u32]) ->
     ensures bytes { let stored = words_stored (is_owned memory.old) (bytes_of memory.old) first words.now in
         Leaves (bytes_of memory.old) stored result (bytes_of memory.new) }
     ensures layout { layout memory.new ≡ layout memory.old }
+    ensures marks { class_of memory.new ≡ class_of memory.old }
 {
     if let Some(fault) = store_fault(memory, first, words.len() as u32) {
         return Err(fault);

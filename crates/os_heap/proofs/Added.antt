@@ -1,22 +1,24 @@
 -- A heap more, behind all others: its descriptor is written, and its range recorded.
-use Rattle.std.proofs.Common.{Bool, arith, inl, ◌+◌, ◌≡◌, ℕ, true, inr, suc, zero, refl, false, [], List, ◌∷◌, ◌++◌, ◌≤◌, ◌%◌, ◌==◌, ◌&&◌, ◌-◌, leb, ◌^◌, ◌<◌, ◌⊎◌, ◌∙◌, sym, ◌↔◌, ◌||◌, length, Err, Ok}
+use Rattle.std.proofs.Common.{cond, subst, Bool, arith, inl, ◌+◌, ◌≡◌, ℕ, true, inr, suc, zero, refl, false, [], List, ◌∷◌, ◌++◌, ◌≤◌, ◌%◌, ◌==◌, ◌&&◌, ◌-◌, leb, ◌^◌, ◌<◌, ◌⊎◌, ◌∙◌, sym, ◌↔◌, ◌||◌, length, Err, Ok}
 use Rattle.std.proofs.lemmas.Bool.{cases_lt, and_parts, both_ways, false_from_ne_true, or_parts, leb-true, eqb-true, le-leb, lt-ltb, cases_Bool, false≢true, eq-eqb, leb-false}
 use Rattle.std.proofs.lemmas.Bool.Decides.{nat_tests}
 use Rattle.std.specs.List.{list_any}
 use Rattle.profile.specs.declared.error.ErrorNumber.TheVariants.{HeapBadRegion, HeapOverlaps, HeapTableFull}
 use Rattle.address_map.proofs.Spans.{mapped_below}
-use Rattle.address_map.specs.Bytes.{AreMapped, in_range, Bytes, with_word_at, word_at}
+use Rattle.address_map.specs.Bytes.{AreMapped, in_range, word_start, Bytes, with_word_at, word_at}
 use Rattle.address_map.specs.Items.{items_in}
-use Rattle.address_map.specs.Memory.{is_mapped, bytes_of, byte_at, regions}
+use Rattle.address_map.specs.Memory.{is_mapped, bytes_of, byte_at, class_of, regions}
 use Rattle.address_map.specs.Records.{is_heap_kind, with_region}
+use Rattle.address_map.specs.declared.class.Class.TheVariants as class
 use Rattle.address_map.specs.declared.map.AddressMap.{AddressMap}
 use Rattle.address_map.specs.declared.region.Kind.{Kind}
 use Rattle.address_map.specs.declared.region.Region.{Region}
 use Rattle.os_heap_lists.proofs.Reading.{items_in-heap}
 use Rattle.os_heap_lists.specs.Heap.{HeapList, IsHeapIn, with_heap}
+use Rattle.os_heap.proofs.Held.{AreBy, marks_begun}
 use Rattle.os_heap.proofs.Frame.{clear_parts, heaps_in-spelled}
 use Rattle.os_heap.specs.Ranges.{are_mapped, meets, is_heap_region, meets_any, HasRoom, MayBegin}
-use Rattle.os_heap.specs.Store.{AreClear, IsClearOfHeaps, AreHeapsIn, ArePlaced, Store, IsSound, heap_in, heaps_in, others_in, store_of, IsImageIn, is_area, guest_count, area_count, StandAreas, AreInLimits}
+use Rattle.os_heap.specs.Store.{AreClasses, AreClear, IsClearOfHeaps, AreHeapsIn, ArePlaced, Store, IsSound, heap_in, heaps_in, others_in, store_of, IsImageIn, is_area, guest_count, area_count, StandAreas, AreInLimits}
 use Rattle.os_heap.specs.Calls.{begun_with, begun}
 use Rattle.address_map.specs.declared.region.Kind.TheVariants as kind
 
@@ -125,6 +127,7 @@ limits_more kind.Rma s at size room limits = record {
 limits_more kind.FlexStore s at size room limits = absurd room
 limits_more kind.FlexHeader s at size room limits = absurd room
 limits_more kind.Anchor s at size room limits = absurd room
+limits_more kind.HeadWord s at size room limits = absurd room
 limits_more kind.Image s at size room limits = absurd room
 limits_more kind.SystemPage s at size room limits = absurd room
 
@@ -141,6 +144,7 @@ few_heaps kind.Rma s at room limits = omega (arith, heaps_counted s.heaps, room.
 few_heaps kind.FlexStore s at room limits = absurd room
 few_heaps kind.FlexHeader s at room limits = absurd room
 few_heaps kind.Anchor s at room limits = absurd room
+few_heaps kind.HeadWord s at room limits = absurd room
 few_heaps kind.Image s at room limits = absurd room
 few_heaps kind.SystemPage s at room limits = absurd room
 
@@ -287,6 +291,7 @@ recorded rs kind.Rma at len heap = refl
 recorded rs kind.FlexStore at len heap = absurd (false≢true heap)
 recorded rs kind.FlexHeader at len heap = absurd (false≢true heap)
 recorded rs kind.Anchor at len heap = absurd (false≢true heap)
+recorded rs kind.HeadWord at len heap = absurd (false≢true heap)
 recorded rs kind.Image at len heap = absurd (false≢true heap)
 recorded rs kind.SystemPage at len heap = absurd (false≢true heap)
 
@@ -381,3 +386,10 @@ range_end m at len mapped some = omega (arith, mapped_below m (at + len - 1) (ma
 pub sound_empty : (m : AddressMap) → regions m ≡ [] → IsSound (store_of m)
 unfolding store_of
 sound_empty m none = rw none (record { heaps = tt; limits = record { guests = omega arith; areas = omega arith; place = tt }; placed = tt; apart = tt; few = omega arith })
+
+-- the marks with a heap more
+pub classes_begun : (m n : AddressMap) (k : Kind) (at size : ℕ) → store_of n ≡ begun_with k (store_of m) at size
+    → ((a : ℕ) → class_of n a ≡ cond (in_range at 16 (word_start a)) class.Heap (class_of m a)) → AreClasses m → AreClasses n
+classes_begun m n k at size store change same =
+    subst (λ (s : Store). AreBy (class_of n) s.heaps) (sym store)
+    (marks_begun (class_of m) (class_of n) (store_of m).heaps (empty k at size) refl same change)

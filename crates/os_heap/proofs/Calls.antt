@@ -9,18 +9,20 @@ use Rattle.address_map.specs.declared.region.Kind.TheVariants as kind
 use Rattle.os_heap_lists.proofs.LiveBlocks.{IsStill, claim_still, IsStillIn, release_still}
 use Rattle.address_map.specs.Bytes.{word_at}
 use Rattle.address_map.specs.Items.{items_in}
-use Rattle.address_map.specs.Memory.{bytes_of, byte_at, regions, layout}
+use Rattle.address_map.specs.Memory.{bytes_of, byte_at, regions, layout, class_of}
 use Rattle.address_map.specs.declared.item.Item.{Item}
 use Rattle.address_map.specs.declared.map.AddressMap.{AddressMap}
 use Rattle.address_map.specs.declared.region.Kind.{Kind}
 use Rattle.address_map.specs.declared.region.Region.{Region}
 use Rattle.os_heap_lists.specs.Counts.{looked_at, begun_below}
 use Rattle.os_heap_lists.specs.Heap.{HeapList, IsHeapIn}
+use Rattle.os_heap_lists.specs.Marks.{AreMarked, Remarks}
 use Rattle.os_heap_lists.specs.Lists.{Claim, claimed, total_for, released, live_total}
 use Rattle.os_heap.proofs.Found.{found_heap}
+use Rattle.os_heap.proofs.Held.{AreBy, heads_marked, marks_held}
 use Rattle.os_heap.proofs.Stores.{sound_held, store_held}
-use Rattle.os_heap.specs.Outcomes.{items_at, HasHeapAt, Claims, end_at, Releases}
-use Rattle.os_heap.specs.Store.{heap_in, find_heap, store_of, IsSound, heaps_in, others_in, has_image, is_image, Store}
+use Rattle.os_heap.specs.Outcomes.{Becomes, items_at, HasHeapAt, Claims, end_at, Releases}
+use Rattle.os_heap.specs.Store.{heap_in, find_heap, store_of, IsSound, AreClasses, heaps_in, others_in, has_image, is_image, Store}
 use Rattle.os_heap.specs.Calls.{got, gave_back, holding, unless_image}
 use Rattle.os_heap.specs.Probes.{get_probes, counted_of, walk_probes}
 
@@ -43,11 +45,22 @@ heap_there kind m heap end sound found =
     let h : IsHeapIn (bytes_of m) heap end (items_at m heap) = heap_of-part kind m heap end sound found in
     subst (λ (e : ℕ). IsHeapIn (bytes_of m) heap e (items_at m heap)) (sym h.limit) h
 
+-- the classes after a heap got another list
+pub classes_held : (m n : AddressMap) (h : HeapList) (items : List Item) → IsSound (store_of m) → find_heap h.start (store_of m).heaps ≡ Some h
+    → h.items ≡ items_at m h.start → Becomes m n h.start h.end items → AreClasses m → AreClasses n
+classes_held m n h items sound found list b same =
+    let s : Store = store_of m in
+    let change : AreMarked (class_of m) (h.start + 16) h.items → Remarks (class_of m) (class_of n) (h.start + 16) h.items items =
+    subst (λ (xs : List Item). AreMarked (class_of m) (h.start + 16) xs → Remarks (class_of m) (class_of n) (h.start + 16) xs items) (sym list) b.marks in
+    subst (λ (t : Store). AreBy (class_of n) t.heaps) (sym (store_held m n h items sound found b))
+    (marks_held s.bytes (class_of m) (class_of n) h items s.heaps sound.heaps found same (change (heads_marked (class_of m) s.heaps h same found)))
+
 -- what a call on the heap leaves: memory, and whether all is sound
 pub record IsGiven (A : Type 0) (m n : AddressMap) (outcome : Result (Store × A) ErrorNumber) (answer : Result A ErrorNumber) : Type 0 where
   pub store : Gives (store_of m) outcome answer (store_of n)
   pub sound : IsSound (store_of n)
   pub same : layout n ≡ layout m
+  pub classes : AreClasses m → AreClasses n
 
 pub gives_none : (A : Type 0) (m n : AddressMap) (e : ErrorNumber) (answer : Result A ErrorNumber) → IsSound (store_of m) → answer ≡ Err e → n ≡ m
     → IsGiven A m n (Err e) answer
@@ -55,6 +68,7 @@ gives_none A m n e answer sound refused same = record {
   store = rw refused (refl, ap store_of same);
   sound = rw same sound;
   same = ap layout same;
+  classes = rw same (λ classes. classes);
 }
 
 -- the claim, by the list that it leaves
@@ -70,6 +84,7 @@ gives_claim kind m n heap end answer (Some c) sound found still claims = record 
   store = rw claims.0 (store_held m n (part_at kind m heap end) c.items sound found claims.1, refl);
   sound = sound_held m n (part_at kind m heap end) c.items sound found (λ b t is live. still b t live) claims.1;
   same = claims.1.same;
+  classes = classes_held m n (part_at kind m heap end) c.items sound found refl claims.1;
 }
 
 pub get_given : (kind : Kind) (m n : AddressMap) (heap size end : ℕ) (answer : Result ℕ ErrorNumber) → IsSound (store_of m)
@@ -110,6 +125,7 @@ image_in-others b (r ∷ rs) = elim (cases_Bool (is_heap_kind r.kind)) [
   heap_no_image kind.FlexStore h = refl
   heap_no_image kind.FlexHeader h = refl
   heap_no_image kind.Anchor h = refl
+  heap_no_image kind.HeadWord h = refl
   heap_no_image kind.Image h = sym h
   heap_no_image kind.SystemPage h = refl
 
@@ -133,6 +149,7 @@ gives_release kind m n heap end answer (Some items) sound found still releases =
   store = rw releases.0 (store_held m n (part_at kind m heap end) items sound found releases.1, refl);
   sound = sound_held m n (part_at kind m heap end) items sound found still releases.1;
   same = releases.1.same;
+  classes = classes_held m n (part_at kind m heap end) items sound found refl releases.1;
 }
 
 guest_still : (b t block at : ℕ) (rs : List Region) (xs : List Item) → has_image b rs ≡ true → live_total b at xs ≡ Some t

@@ -4,15 +4,17 @@ use Rattle.std.proofs.lemmas.Bool.{ne_eqb, le-leb}
 use Rattle.address_map.proofs.Bytes.{is_mapped-layout}
 use Rattle.address_map.specs.Bytes.{word_at}
 use Rattle.address_map.specs.Items.{size_of, is_total}
-use Rattle.address_map.specs.Memory.{bytes_of, byte_at, layout}
+use Rattle.address_map.specs.Memory.{bytes_of, byte_at, layout, class_of}
 use Rattle.address_map.specs.declared.item.Item.{Item}
 use Rattle.address_map.specs.declared.item.Item.TheVariants.{Live, Free}
 use Rattle.address_map.specs.declared.map.AddressMap.{AddressMap}
 use Rattle.os_heap_lists.proofs.LastLink.{LinkFacts, link_facts, link_word}
+use Rattle.os_heap_lists.proofs.Marks.{remarked, still-same}
 use Rattle.os_heap_lists.proofs.Reading.{total_facts}
 use Rattle.os_heap_lists.proofs.Spelling.{totals-back, spells-back, spells-kept, spaced-before, spaced-join, size_of-append, spaced-back, totals-front, total_of-numbers}
 use Rattle.os_heap_lists.specs.Heap.{AreTotals, next_free, last_free, IsHeapIn, AreSpaced}
 use Rattle.os_heap_lists.specs.Lists.{first_fit, or_at_base}
+use Rattle.os_heap_lists.specs.Marks.{Remarks}
 use Rattle.os_heap_lists.specs.Walks.{IsFit}
 use Rattle.os_heap_lists.specs.Words.{IsWritten, link_at, IsFreed}
 use Rattle.os_heap.proofs.Replace.{becomes}
@@ -24,8 +26,9 @@ taken_whole : (m n : AddressMap) (start end : ℕ) (before rest : List Item) (t 
     → IsWritten (byte_at m) g (link_at start (last_free start (start + 16) before))
     (next_free (start + 16 + size_of before + t) rest 0 - last_free start (start + 16) before)
     → IsWritten g (byte_at n) (start + 16 + size_of before) t
+    → Remarks (class_of m) (class_of n) (start + 16 + size_of before) (Free t ∷ []) (Live t ∷ [])
     → Becomes m n start end (before ++ Live t ∷ rest)
-taken_whole m n start end before rest t g heap same one two =
+taken_whole m n start end before rest t g heap same one two change =
     let totals = totals-back before (Free t ∷ rest) heap.totals in
     let front : AreTotals before = totals-front before (Free t ∷ rest) heap.totals in
     let least = total_facts t totals.0 in
@@ -48,6 +51,8 @@ taken_whole m n start end before rest t g heap same one two =
             (λ a low high. two.apart a (inr (omega arith)) ∙ one.apart a (inr (omega (arith, link.high)))),
       );
     }) same (λ a head apart out. two.other a out.0 ∙ one.other a apart)
+    (remarked (class_of m) (class_of n) (start + 16) before (Free t ∷ []) (Live t ∷ []) rest heap.totals
+    (still-same (start + 16 + size_of before) (Free t ∷ []) (Live t ∷ []) rest refl) change)
 
 -- the front of a free item is taken
 taken_part : (m n : AddressMap) (start end : ℕ) (before rest : List Item) (t k : ℕ) (g : ℕ → ℕ)
@@ -55,8 +60,9 @@ taken_part : (m n : AddressMap) (start end : ℕ) (before rest : List Item) (t k
     → IsFreed (byte_at m) g start (last_free start (start + 16) before) (start + 16 + size_of before + k) (t - k)
     (next_free (start + 16 + size_of before + t) rest 0)
     → IsWritten g (byte_at n) (start + 16 + size_of before) k
+    → Remarks (class_of m) (class_of n) (start + 16 + size_of before) (Free t ∷ []) (Live k ∷ (Free (t - k) ∷ []))
     → Becomes m n start end (before ++ Live k ∷ (Free (t - k) ∷ rest))
-taken_part m n start end before rest t k g heap same total less one two =
+taken_part m n start end before rest t k g heap same total less one two change =
     let totals = totals-back before (Free t ∷ rest) heap.totals in
     let front : AreTotals before = totals-front before (Free t ∷ rest) heap.totals in
     let least = total_facts t totals.0 in
@@ -91,32 +97,36 @@ taken_part m n start end before rest t k g heap same total less one two =
         ),
       );
     }) same (λ a head apart out. two.other a out.0 ∙ one.other a apart out.1.0)
+    (remarked (class_of m) (class_of n) (start + 16) before (Free t ∷ []) (Live k ∷ (Free (t - k) ∷ [])) rest heap.totals
+    (still-same (start + 16 + size_of before) (Free t ∷ []) (Live k ∷ (Free (t - k) ∷ [])) rest (omega arith)) change)
 
 -- the words of a claim in a free item, and its answer
 pub claims_whole : (m n : AddressMap) (start end k from at t next : ℕ) (items : List Item) (g : ℕ → ℕ) (fit : IsFit start items k from at t)
     → IsHeapIn (bytes_of m) start end items → layout n ≡ layout m → t - k ≡ 0 → next ≡ next_free (at + t) fit.rest 0
     → IsWritten (byte_at m) g (link_at start from) (next - from) → IsWritten g (byte_at n) at k
+    → Remarks (class_of m) (class_of n) at (Free t ∷ []) (Live k ∷ [])
     → Claims m n start end (Ok (at + 4)) (first_fit k items)
-claims_whole m n start end k from at t next items g fit heap same none onward one two =
+claims_whole m n start end k from at t next items g fit heap same none onward one two change =
     let e : t ≡ k = omega (arith, fit.fits) in
     let heap' : IsHeapIn (bytes_of m) start end (fit.before ++ Free t ∷ fit.rest) = subst (λ (ys : List Item). IsHeapIn (bytes_of m) start end ys) fit.split heap in
     let next' : next ≡ next_free (start + 16 + size_of fit.before + t) fit.rest 0 = onward ∙ ap (λ (p : ℕ). next_free (p + t) fit.rest 0) fit.place in
     let one' = rw (fit.last, next') at one in
     let two' = rw (fit.place, ← e) at two in
-    let b : Becomes m n start end (fit.before ++ Live t ∷ fit.rest) = taken_whole m n start end fit.before fit.rest t g heap' same one' two' in
+    let b : Becomes m n start end (fit.before ++ Live t ∷ fit.rest) = taken_whole m n start end fit.before fit.rest t g heap' same one' two' (rw fit.place at change) in
     rw (fit.first, none) (rw fit.place refl, rw (← e) b)
 
 pub claims_part : (m n : AddressMap) (start end k from at t next : ℕ) (items : List Item) (g : ℕ → ℕ) (fit : IsFit start items k from at t)
     → IsHeapIn (bytes_of m) start end items → layout n ≡ layout m → is_total k ≡ true → t - k ≢ 0 → next ≡ next_free (at + t) fit.rest 0
     → IsFreed (byte_at m) g start from (at + k) (t - k) next → IsWritten g (byte_at n) at k
+    → Remarks (class_of m) (class_of n) at (Free t ∷ []) (Live k ∷ (Free (t - k) ∷ []))
     → Claims m n start end (Ok (at + 4)) (first_fit k items)
-claims_part m n start end k from at t next items g fit heap same total some onward one two =
+claims_part m n start end k from at t next items g fit heap same total some onward one two change =
     let less : k < t = omega arith in
     let heap' : IsHeapIn (bytes_of m) start end (fit.before ++ Free t ∷ fit.rest) = subst (λ (ys : List Item). IsHeapIn (bytes_of m) start end ys) fit.split heap in
     let next' : next ≡ next_free (start + 16 + size_of fit.before + t) fit.rest 0 = onward ∙ ap (λ (p : ℕ). next_free (p + t) fit.rest 0) fit.place in
     let one' = rw (fit.last, fit.place, next') at one in
     let two' = rw fit.place at two in
-    let b : Becomes m n start end (fit.before ++ Live k ∷ (Free (t - k) ∷ fit.rest)) = taken_part m n start end fit.before fit.rest t k g heap' same total less one' two' in
+    let b : Becomes m n start end (fit.before ++ Live k ∷ (Free (t - k) ∷ fit.rest)) = taken_part m n start end fit.before fit.rest t k g heap' same total less one' two' (rw fit.place at change) in
     rw (fit.first, ne_eqb (t - k) 0 some) (rw fit.place refl, b)
 
 -- a block more behind all items
@@ -124,8 +134,9 @@ appended : (m n : AddressMap) (start end k : ℕ) (items : List Item) (g : ℕ �
     → IsHeapIn (bytes_of m) start end (items ++ []) → layout n ≡ layout m → is_total k ≡ true → 16 + size_of items + k ≤ end
     → IsWritten (byte_at m) g (start + 16 + size_of items) k
     → IsWritten g (byte_at n) (start + 8) (16 + size_of items + k)
+    → Remarks (class_of m) (class_of n) (start + 16 + size_of items) [] (Live k ∷ [])
     → Becomes m n start end (items ++ Live k ∷ [])
-appended m n start end k items g heap same total room one two =
+appended m n start end k items g heap same total room one two change =
     let front : AreTotals items = totals-front items [] heap.totals in
     let link : LinkFacts start (last_free start (start + 16) items) (start + 16 + size_of items) = link_facts start items heap.aligned front in
     let new_size : size_of (items ++ Live k ∷ []) ≡ size_of items + (k + 0) = size_of-append items (Live k ∷ []) in
@@ -142,16 +153,18 @@ appended m n start end k items g heap same total room one two =
       same = λ a low apart base. two.apart a base ∙ one.apart a (inl low);
       spelled = (two.apart (start + 16 + size_of items) (inr (omega arith)) ∙ one.here, tt);
     }) same (λ a head apart out. two.other a (elim head [ inl low ↦ inl (omega arith) | inr high ↦ inr (omega arith) ]) ∙ one.other a out.0)
+    (remarked (class_of m) (class_of n) (start + 16) items [] (Live k ∷ []) [] heap.totals (λ p. refl) change)
 
 pub claims_base : (m n : AddressMap) (start end k base : ℕ) (items : List Item) (g : ℕ → ℕ)
     → IsHeapIn (bytes_of m) start end items → layout n ≡ layout m → is_total k ≡ true → base ≡ 16 + size_of items → base + k ≤ end
     → IsWritten (byte_at m) g (start + base) k → IsWritten g (byte_at n) (start + 8) (base + k)
+    → Remarks (class_of m) (class_of n) (start + base) [] (Live k ∷ [])
     → Claims m n start end (Ok (start + base + 4)) (or_at_base k (end - 16) items None)
-claims_base m n start end k base items g heap same total place room one two =
+claims_base m n start end k base items g heap same total place room one two change =
     let heap' : IsHeapIn (bytes_of m) start end (items ++ []) = rw (append-nil items) heap in
     let at : start + base ≡ start + 16 + size_of items = omega arith in
     let one' = rw at at one in
     let two' = rw place at two in
     let fits : size_of items + k ≤ end - 16 = omega arith in
-    let b : Becomes m n start end (items ++ Live k ∷ []) = appended m n start end k items g heap' same total (omega arith) one' two' in
+    let b : Becomes m n start end (items ++ Live k ∷ []) = appended m n start end k items g heap' same total (omega arith) one' two' (rw at at change) in
     rw (le-leb (size_of items + k) (end - 16) fits) (rw at refl, b)

@@ -6,25 +6,28 @@ use Rattle.address_map.proofs.Bytes.{is_mapped-layout}
 use Rattle.address_map.proofs.Lengths.{record_parts}
 use Rattle.address_map.proofs.Stores.{in_range-cases}
 use Rattle.address_map.specs.Bytes.{word_at, Bytes, in_range}
-use Rattle.address_map.specs.Items.{size_of, items_in}
-use Rattle.address_map.specs.Memory.{layout, byte_at, bytes_of, regions, is_mapped}
+use Rattle.address_map.specs.Items.{size_of, items_in, is_head}
+use Rattle.address_map.specs.Memory.{layout, byte_at, bytes_of, regions, is_mapped, class_of}
 use Rattle.address_map.specs.Records.{is_heap_kind, with_len, is_record, are_same}
+use Rattle.address_map.specs.declared.class.Class.{Class}
 use Rattle.address_map.specs.declared.item.Item.{Item}
 use Rattle.address_map.specs.declared.map.AddressMap.{AddressMap}
 use Rattle.address_map.specs.declared.region.Kind.{Kind}
 use Rattle.address_map.specs.declared.region.Region.{Region}
 use Rattle.os_heap_lists.proofs.HeapWords.{heap_kept, cons_part}
+use Rattle.os_heap_lists.proofs.Marks.{unmarked}
 use Rattle.os_heap_lists.proofs.Reading.{items_in-heap}
 use Rattle.os_heap_lists.proofs.Spelling.{spells-kept}
 use Rattle.os_heap_lists.specs.Heap.{IsHeapIn, HeapList, with_heap}
 use Rattle.os_heap_lists.specs.Words.{IsWritten, AreApart}
 use Rattle.os_heap.proofs.Added.{CanHold, clear_unless, clear_of_heaps, can_hold}
 use Rattle.os_heap.proofs.Found.{found_heap}
+use Rattle.os_heap.proofs.Held.{AreBy, marks_ended}
 use Rattle.os_heap.proofs.Stores.{SamePlaces, same_limits, AreOthers, clear_both_ways, clear_of-found, are_others, bytes_held}
 use Rattle.os_heap.specs.Calls.{with_end, has_own_size, ending}
 use Rattle.os_heap.specs.Ranges.{MayEnd, meets, meets_any}
-use Rattle.os_heap.specs.Outcomes.{Becomes}
-use Rattle.os_heap.specs.Store.{AreClear, IsClearOfHeaps, AreHeapsIn, ArePlaced, IsImageIn, find_heap, Store, others_in, heap_in, heaps_in, IsSound, store_of}
+use Rattle.os_heap.specs.Outcomes.{Becomes, items_at}
+use Rattle.os_heap.specs.Store.{AreClear, IsClearOfHeaps, AreHeapsIn, ArePlaced, IsImageIn, find_heap, Store, others_in, heap_in, heaps_in, IsSound, AreClasses, store_of}
 use Rattle.address_map.specs.declared.region.Kind.TheVariants as kind
 
 -- the heap with the other end, spelled by the bytes after the word was written
@@ -220,6 +223,7 @@ same_kind kind.Rma heap = refl
 same_kind kind.FlexStore heap = absurd (false≢true heap)
 same_kind kind.FlexHeader heap = absurd (false≢true heap)
 same_kind kind.Anchor heap = absurd (false≢true heap)
+same_kind kind.HeadWord heap = absurd (false≢true heap)
 same_kind kind.Image heap = absurd (false≢true heap)
 same_kind kind.SystemPage heap = absurd (false≢true heap)
 
@@ -229,6 +233,7 @@ own_heap kind.Rma own = refl
 own_heap kind.FlexStore own = absurd (false≢true own)
 own_heap kind.FlexHeader own = absurd (false≢true own)
 own_heap kind.Anchor own = absurd (false≢true own)
+own_heap kind.HeadWord own = absurd (false≢true own)
 own_heap kind.Image own = absurd (false≢true own)
 own_heap kind.SystemPage own = absurd (false≢true own)
 
@@ -336,6 +341,7 @@ pub record EndsAt (m n : AddressMap) (h : HeapList) (end : ℕ) : Type 0 where
   pub own : is_heap_kind h.kind ≡ true
   pub may : MayEnd (store_of m) h end
   pub same : layout n ≡ layout m
+  pub marks : class_of n ≡ class_of m
   pub word : IsWritten (byte_at m) (byte_at n) (h.start + 12) end
 
 old_heap : (m n : AddressMap) (h : HeapList) (end : ℕ) → EndsAt m n h end → IsHeapIn (bytes_of m) h.start h.end h.items
@@ -361,6 +367,8 @@ becomes_ended m n h end e = record {
   heap = new_heap m n h end e;
   same = e.same;
   others = λ a apart out. e.word.other a (elim apart [ inl low ↦ inl (omega arith) | inr high ↦ inr (omega arith) ]);
+  marks = unmarked (class_of m) (class_of n) (h.start + 16) (items_at m h.start) h.items (λ a i. e.marks i a)
+      (λ p. ap (λ (xs : List Item). is_head (h.start + 16) xs p) (sym (items_in-heap (bytes_of m) h.start h.end h.items (old_heap m n h end e))));
 }
 
 all_beside : (m n : AddressMap) (h : HeapList) (end : ℕ) → EndsAt m n h end → AreBeside h end (heaps_in (bytes_of m) (regions m))
@@ -398,3 +406,9 @@ sound_ended m n o h end e bytes records =
       apart = e.sound.apart;
       few = e.sound.few;
     })
+
+pub classes_ended : (m n o : AddressMap) (h : HeapList) (end : ℕ) → EndsAt m n h end → bytes_of o ≡ bytes_of n
+    → regions o ≡ with_len (regions m) h.kind h.start end → class_of o ≡ class_of n → AreClasses m → AreClasses o
+classes_ended m n o h end e bytes records marks same =
+    subst (λ (s : Store). AreBy (class_of o) s.heaps) (sym (store_ended m n o h end e bytes records))
+    (marks_ended (class_of m) (class_of o) h.start end (store_of m).heaps same (λ a. ap (λ (f : ℕ → Class). f a) (marks ∙ e.marks)))

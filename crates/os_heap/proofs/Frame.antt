@@ -1,18 +1,20 @@
 -- What a write leaves of the heaps: where no byte of the words that they spell changes, memory spells the same lists.
-use Rattle.std.proofs.Common.{◌≡◌, [], List, ℕ, true, ◌∷◌, inl, refl, inr, ap, subst, sym, false, arith, ◌+◌, ◌%◌, ◌<◌}
+use Rattle.std.proofs.Common.{◌∙◌, ◌≡◌, [], List, ℕ, true, ◌∷◌, inl, refl, inr, ap, subst, sym, false, arith, ◌+◌, ◌%◌, ◌<◌}
 use Rattle.std.proofs.lemmas.Bool.{or_left, or_right, cases_Bool, both_ways, or_from, false_from_ne_true}
 use Rattle.std.specs.List.{list_any}
 use Rattle.address_map.proofs.Bytes.{is_mapped-layout}
 use Rattle.address_map.specs.Bytes.{Bytes, word_start, word_at, in_range}
 use Rattle.address_map.specs.Items.{is_heap_word, items_in}
-use Rattle.address_map.specs.Memory.{bytes_of, regions, layout, byte_at}
+use Rattle.address_map.specs.Memory.{bytes_of, regions, layout, byte_at, class_of}
 use Rattle.address_map.specs.Records.{is_heap_kind}
+use Rattle.address_map.specs.declared.class.Class.TheVariants as class
 use Rattle.address_map.specs.declared.map.AddressMap.{AddressMap}
 use Rattle.address_map.specs.declared.region.Region.{Region}
 use Rattle.os_heap_lists.proofs.HeadWords.{heaps_kept, are_owned, byte_inside}
 use Rattle.os_heap_lists.proofs.Reading.{items_in-heap}
 use Rattle.os_heap_lists.specs.Heap.{HeapList}
-use Rattle.os_heap.specs.Store.{AreHeapsIn, heaps_in, store_of, others_in, IsSound, Store, owned_in, IsClearOfHeaps}
+use Rattle.os_heap_lists.specs.Marks.{class_by}
+use Rattle.os_heap.specs.Store.{AreClasses, AreHeapsIn, heaps_in, store_of, others_in, IsSound, Store, owned_in, IsClearOfHeaps}
 
 -- all heaps are kept where no byte of their words changes
 pub parts_kept : (b c : Bytes) (hs : List HeapList) → c.mapped ≡ b.mapped → ((a : ℕ) → are_owned hs a ≡ true → c.at a ≡ b.at a)
@@ -90,6 +92,14 @@ pub store_kept : (s : Store) (c : Bytes) → c.mapped ≡ s.bytes.mapped → IsS
     → ((a : ℕ) → owned_in s a ≡ true → c.at a ≡ s.bytes.at a) → IsSound (record { bytes = c; heaps = s.heaps; others = s.others })
 unfolding owned_in
 store_kept s c mapping sound kept = sound_spelled s c sound (parts_kept s.bytes c s.heaps mapping kept sound.heaps)
+
+-- the classes of a map without records, and of one that has the same lists and marks as another
+pub classes_empty : (m : AddressMap) → regions m ≡ [] → ((a : ℕ) → class_of m a ≡ class.Plain) → AreClasses m
+unfolding store_of class_by
+classes_empty m none plain a = plain a ∙ (rw none refl)
+
+pub classes_same : (m n : AddressMap) → (store_of n).heaps ≡ (store_of m).heaps → ((a : ℕ) → class_of n a ≡ class_of m a) → AreClasses m → AreClasses n
+classes_same m n heaps marks same a = marks a ∙ same a ∙ ap (λ (hs : List HeapList). class_by hs a) (sym heaps)
 
 -- a range that meets no heap has no byte of a heap's words
 pub clear_unowned : (b : Bytes) (hs : List HeapList) (at len a : ℕ) → AreHeapsIn b hs → IsClearOfHeaps at len hs → in_range at len a ≡ true

@@ -1,25 +1,28 @@
 -- What giving a block back leaves of a heap: where the walk ends, the joins on both sides, and the base that sinks.
-use Rattle.std.proofs.Common.{◌≡◌, None, subst, ◌++◌, arith, [], ◌≤◌, refl, ℕ, ◌∷◌, List, ◌∙◌, ◌-◌, ◌+◌, add-zero, sym, ◌%◌, append_assoc, inr, inl, true, Option, Ok, Some, ap, ◌≢◌}
+use Rattle.std.proofs.Common.{append-nil, ◌≡◌, None, subst, ◌++◌, arith, [], ◌≤◌, refl, ℕ, ◌∷◌, List, ◌∙◌, ◌-◌, ◌+◌, add-zero, sym, ◌%◌, append_assoc, inr, inl, true, Option, Ok, Some, ap, ◌≢◌}
 use Rattle.address_map.proofs.Bytes.{is_mapped-layout}
 use Rattle.address_map.specs.Bytes.{word_at}
 use Rattle.address_map.specs.Items.{size_of, linked, is_total}
-use Rattle.address_map.specs.Memory.{byte_at, bytes_of, layout}
+use Rattle.address_map.specs.Memory.{byte_at, bytes_of, layout, class_of}
 use Rattle.address_map.specs.declared.item.Item.{Item}
 use Rattle.address_map.specs.declared.item.Item.TheVariants.{Live, Free}
 use Rattle.address_map.specs.declared.map.AddressMap.{AddressMap}
 use Rattle.os_heap_lists.proofs.ItemWalk.{begun_more, near, released_past, begun_past, released_free-none, released_here, size_of-gap, next_apart, rest_none, glued_nothing, size_of-old, glued_free, rest_live}
 use Rattle.os_heap_lists.proofs.LastLink.{LinkFacts, link_facts, link_of-item}
+use Rattle.os_heap_lists.proofs.Marks.{remarked_as, still-same, size_of-left}
 use Rattle.os_heap_lists.proofs.Reading.{total_facts}
 use Rattle.os_heap_lists.proofs.Spelling.{totals-back, size_of-multiple, totals-front, size_of-append, spaced-join, spells-kept, total_of-numbers}
 use Rattle.os_heap_lists.specs.Counts.{begun_below}
 use Rattle.os_heap_lists.specs.Heap.{AreTotals, IsHeapIn, next_free, last_free, AreSpaced, begins_live, Spells}
 use Rattle.os_heap_lists.specs.Lists.{released, left_free, freed, glued}
+use Rattle.os_heap_lists.specs.Marks.{AreMarked, Remarks}
 use Rattle.os_heap_lists.specs.Walks.{IsWalkedTo, IsWalked, IsBlock}
 use Rattle.os_heap_lists.specs.Words.{link_at, IsWritten, IsFreed}
+use Rattle.os_heap.proofs.Marking.{can_stand}
 use Rattle.os_heap.proofs.Replace.{becomes}
 use Rattle.os_heap.proofs.Searching.{FreeFacts, free_facts}
 use Rattle.os_heap.proofs.Walking.{base_past, AtFree, AtLive, LiveFacts, live_facts}
-use Rattle.os_heap.specs.Outcomes.{IsHeapAt, items_at, Becomes, Releases}
+use Rattle.os_heap.specs.Outcomes.{CanStand, IsHeapAt, items_at, Becomes, Releases}
 
 -- the walk ends, and there is no such block
 over : (m : AddressMap) (start end block from at free gap probes : ℕ) (before rest : List Item) → IsHeapAt m start end
@@ -106,6 +109,16 @@ block_facts m start end block from at free gap heap b =
       heap = subst (λ (ys : List Item). IsHeapIn (bytes_of m) start end ys) (b.split ∙ append_assoc b.before (left_free gap) (Live b.total ∷ b.rest)) heap;
     }
 
+-- where the words of the gap stand
+pub gap_stands : (m n : AddressMap) (start end block from at free gap : ℕ) → IsHeapAt m start end → IsBlock start (items_at m start) block from at free gap
+    → layout n ≡ layout m → CanStand n (at - gap) (left_free gap)
+gap_stands m n start end block from at free gap heap b same =
+    let f : BlockFacts m start end from at free gap b.total b.before b.rest = block_facts m start end block from at free gap heap b in
+    let old : List Item = left_free gap ++ Live b.total ∷ b.rest in
+    can_stand m n start end (at - gap) (b.before ++ old) (left_free gap) f.heap same
+    (totals-front (left_free gap) (Live b.total ∷ b.rest) (totals-back b.before old f.heap.totals))
+    f.whole (omega (arith, f.low)) (omega (arith, size_of-left gap, f.low, f.facts.high))
+
 -- a free item that touches the block behind
 pub record NextFree (m : AddressMap) (start end at : ℕ) (rest : List Item) : Type 0 where
   pub total : ℕ
@@ -140,8 +153,9 @@ sunk : (m n : AddressMap) (start end : ℕ) (before old : List Item) (g : ℕ �
     → IsHeapIn (bytes_of m) start end (before ++ old) → layout n ≡ layout m → AreSpaced before
     → IsWritten (byte_at m) g (link_at start (last_free start (start + 16) before)) (0 - last_free start (start + 16) before)
     → IsWritten g (byte_at n) (start + 8) (16 + size_of before)
+    → (AreMarked (class_of m) (start + 16) (before ++ old) → Remarks (class_of m) (class_of n) (start + 16) (before ++ old) (before ++ []))
     → Becomes m n start end (before ++ [])
-sunk m n start end before old g heap same closed one two =
+sunk m n start end before old g heap same closed one two marks =
     let front : AreTotals before = totals-front before old heap.totals in
     let link : LinkFacts start (last_free start (start + 16) before) (start + 16 + size_of before) = link_facts start before heap.aligned front in
     let old_size : size_of (before ++ old) ≡ size_of before + size_of old = size_of-append before old in
@@ -156,6 +170,7 @@ sunk m n start end before old g heap same closed one two =
       same = λ a low apart base. two.apart a base ∙ one.apart a apart;
       spelled = tt;
     }) same (λ a head apart out. two.other a (elim head [ inl low ↦ inl (omega arith) | inr high ↦ inr (omega arith) ]) ∙ one.other a apart)
+    marks
 
 -- a free item in place of what was there
 loosed : (m n : AddressMap) (start end : ℕ) (before old xs : List Item) (s : ℕ)
@@ -164,8 +179,9 @@ loosed : (m n : AddressMap) (start end : ℕ) (before old xs : List Item) (s : �
     → Spells (word_at (byte_at m)) (start + 16 + size_of before + s) xs 0
     → IsFreed (byte_at m) (byte_at n) start (last_free start (start + 16) before) (start + 16 + size_of before) s
     (next_free (start + 16 + size_of before + s) xs 0)
+    → (AreMarked (class_of m) (start + 16) (before ++ old) → Remarks (class_of m) (class_of n) (start + 16) (before ++ old) (before ++ Free s ∷ xs))
     → Becomes m n start end (before ++ Free s ∷ xs)
-loosed m n start end before old xs s heap same closed total size totals spaced live spelled one =
+loosed m n start end before old xs s heap same closed total size totals spaced live spelled one marks =
     let front : AreTotals before = totals-front before old heap.totals in
     let least = total_facts s total in
     let link : LinkFacts start (last_free start (start + 16) before) (start + 16 + size_of before) = link_facts start before heap.aligned front in
@@ -189,6 +205,7 @@ loosed m n start end before old xs s heap same closed total size totals spaced l
         ),
       );
     }) same (λ a head apart out. one.other a apart out.0)
+    marks
 
 given : (m n : AddressMap) (start end : ℕ) (items : Option (List Item)) (ys zs : List Item) → items ≡ Some ys → ys ≡ zs → Becomes m n start end zs
     → Releases m n start end (Ok tt) items
@@ -198,24 +215,30 @@ pub releases_sunk : (m n : AddressMap) (start end block from at free gap : ℕ) 
     → (b : IsBlock start (items_at m start) block from at free gap)
     → at + b.total ≡ start + word_at (byte_at m) (start + 8) → layout n ≡ layout m
     → IsWritten (byte_at m) g (link_at start from) (0 - from) → IsWritten g (byte_at n) (start + 8) (at - gap - start)
+    → Remarks (class_of m) (class_of n) (at - gap) (left_free gap ++ Live b.total ∷ []) []
     → Releases m n start end (Ok tt) (released block (start + 16) (items_at m start))
-releases_sunk m n start end block from at free gap g heap b ends same one two =
+releases_sunk m n start end block from at free gap g heap b ends same one two change =
     let f : BlockFacts m start end from at free gap b.total b.before b.rest = block_facts m start end block from at free gap heap b in
     let none : b.rest ≡ [] = rest_none start at b.total (start + word_at (byte_at m) (start + 8)) b.rest f.facts.totals f.facts.base ends in
     let one' = rw b.last at one in
     let base : at - gap - start ≡ 16 + size_of b.before = omega (arith, f.place) in
     let two' = rw base at two in
+    let old : List Item = left_free gap ++ Live b.total ∷ b.rest in
+    let gone : List Item = left_free gap ++ Live b.total ∷ [] in
+    let split : old ≡ gone ++ [] = ap (λ (ys : List Item). left_free gap ++ Live b.total ∷ ys) none ∙ sym (append-nil gone) in
     given m n start end _ _ (b.before ++ []) b.given
     (ap (λ (ys : List Item). b.before ++ glued gap (freed b.total ys)) none ∙ ap (λ (ys : List Item). b.before ++ ys) (glued_nothing gap))
-    (sunk m n start end b.before (left_free gap ++ Live b.total ∷ b.rest) g f.heap same b.closed one' two')
+    (sunk m n start end b.before old g f.heap same b.closed one' two'
+    (remarked_as (class_of m) (class_of n) (start + 16) b.before old gone [] [] split f.heap.totals (λ p. refl) (rw f.place at change)))
 
 -- a free item behind joins
 pub releases_joined : (m n : AddressMap) (start end block from at free gap next : ℕ) → IsHeapAt m start end
     → (b : IsBlock start (items_at m start) block from at free gap) → (k : NextFree m start end (at + b.total) b.rest) → layout n ≡ layout m
     → next ≡ next_free (at + b.total + k.total) k.after 0
     → IsFreed (byte_at m) (byte_at n) start from (at - gap) (gap + b.total + k.total) next
+    → Remarks (class_of m) (class_of n) (at - gap) (left_free gap ++ Live b.total ∷ (Free k.total ∷ [])) (Free (gap + b.total + k.total) ∷ [])
     → Releases m n start end (Ok tt) (released block (start + 16) (items_at m start))
-releases_joined m n start end block from at free gap next heap b k same onward one =
+releases_joined m n start end block from at free gap next heap b k same onward one change =
     let f : BlockFacts m start end from at free gap b.total b.before b.rest = block_facts m start end block from at free gap heap b in
     let s : ℕ = gap + b.total + k.total in
     let place : start + 16 + size_of b.before + s ≡ at + b.total + k.total = omega (arith, f.place, f.low) in
@@ -227,28 +250,42 @@ releases_joined m n start end block from at free gap next heap b k same onward o
     size_of-old gap b.total b.rest ∙ (let e : size_of b.rest ≡ k.total + size_of k.after = ap size_of k.split in omega arith) in
     let one' = rw (b.last, f.place, onward ∙ ap (λ (p : ℕ). next_free p k.after 0) (sym place)) at one in
     let sum : gap + (b.total + k.total) ≡ s = omega arith in
+    let old : List Item = left_free gap ++ Live b.total ∷ b.rest in
+    let gone : List Item = left_free gap ++ Live b.total ∷ (Free k.total ∷ []) in
+    let split : old ≡ gone ++ k.after =
+    ap (λ (ys : List Item). left_free gap ++ Live b.total ∷ ys) k.split ∙ sym (append_assoc (left_free gap) (Live b.total ∷ (Free k.total ∷ [])) k.after) in
+    let alike : s + 0 ≡ size_of gone = omega (arith, size_of-old gap b.total (Free k.total ∷ [])) in
     given m n start end _ _ (b.before ++ Free s ∷ k.after) b.given
     (ap (λ (ys : List Item). b.before ++ glued gap (freed b.total ys)) k.split
     ∙ ap (λ (ys : List Item). b.before ++ ys) (glued_free gap (b.total + k.total) k.after)
     ∙ ap (λ (t : ℕ). b.before ++ Free t ∷ k.after) sum)
     (loosed m n start end b.before (left_free gap ++ Live b.total ∷ b.rest) k.after s f.heap same b.closed
     (total_of-numbers s (omega (arith, f.facts.size)) (omega (arith, f.eighths, f.facts.eighths, k.facts.eighths)))
-    size totals.1 spaced.1 spaced.0 (rw place spelled.1.1) one')
+    size totals.1 spaced.1 spaced.0 (rw place spelled.1.1) one'
+    (remarked_as (class_of m) (class_of n) (start + 16) b.before old gone (Free s ∷ []) k.after split f.heap.totals
+    (still-same (start + 16 + size_of b.before) gone (Free s ∷ []) k.after alike) (rw f.place at change)))
 
 pub releases_alone : (m n : AddressMap) (start end block from at free gap : ℕ) → IsHeapAt m start end
     → (b : IsBlock start (items_at m start) block from at free gap)
     → at + b.total ≢ start + word_at (byte_at m) (start + 8) → at + b.total ≢ free → layout n ≡ layout m
     → IsFreed (byte_at m) (byte_at n) start from (at - gap) (gap + b.total) free
+    → Remarks (class_of m) (class_of n) (at - gap) (left_free gap ++ Live b.total ∷ []) (Free (gap + b.total) ∷ [])
     → Releases m n start end (Ok tt) (released block (start + 16) (items_at m start))
-releases_alone m n start end block from at free gap heap b inside other same one =
+releases_alone m n start end block from at free gap heap b inside other same one change =
     let f : BlockFacts m start end from at free gap b.total b.before b.rest = block_facts m start end block from at free gap heap b in
     let s : ℕ = gap + b.total in
     let live = rest_live at b.total (start + word_at (byte_at m) (start + 8)) free b.rest b.next other inside f.facts.base in
     let place : start + 16 + size_of b.before + s ≡ at + b.total = omega (arith, f.place, f.low) in
     let size : size_of (left_free gap ++ Live b.total ∷ b.rest) ≡ s + size_of b.rest = size_of-old gap b.total b.rest ∙ (omega arith) in
     let one' = rw (b.last, f.place, b.next ∙ ap (λ (p : ℕ). next_free p b.rest 0) (sym place)) at one in
+    let old : List Item = left_free gap ++ Live b.total ∷ b.rest in
+    let gone : List Item = left_free gap ++ Live b.total ∷ [] in
+    let split : old ≡ gone ++ b.rest = sym (append_assoc (left_free gap) (Live b.total ∷ []) b.rest) in
+    let alike : s + 0 ≡ size_of gone = omega (arith, size_of-old gap b.total []) in
     given m n start end _ _ (b.before ++ Free s ∷ b.rest) b.given
     (ap (λ (ys : List Item). b.before ++ glued gap ys) (live.1 b.total) ∙ ap (λ (ys : List Item). b.before ++ ys) (glued_free gap b.total b.rest))
     (loosed m n start end b.before (left_free gap ++ Live b.total ∷ b.rest) b.rest s f.heap same b.closed
     (total_of-numbers s (omega (arith, f.facts.size)) (omega (arith, f.eighths, f.facts.eighths)))
-    size f.facts.totals f.facts.spaced live.0 (rw place f.facts.spelled) one')
+    size f.facts.totals f.facts.spaced live.0 (rw place f.facts.spelled) one'
+    (remarked_as (class_of m) (class_of n) (start + 16) b.before old gone (Free s ∷ []) b.rest split f.heap.totals
+    (still-same (start + 16 + size_of b.before) gone (Free s ∷ []) b.rest alike) (rw f.place at change)))

@@ -6,7 +6,9 @@ pub mod Ending
 pub mod Found
 pub mod Frame
 pub mod Freeing
+pub mod Held
 pub mod Linking
+pub mod Marking
 pub mod Moving
 pub mod Owned
 pub mod Recorded

@@ -8,7 +8,8 @@ use Rattle.address_map.proofs.Equations.{stored_moved}
 use Rattle.address_map.proofs.Stores.{in_range-cases}
 use Rattle.address_map.specs.Bytes.{AreMapped, Bytes, word_start, in_range, with_moved_at}
 use Rattle.address_map.specs.Items.{size_of, is_heap_word, is_head}
-use Rattle.address_map.specs.Memory.{bytes_of, layout, is_mapped, byte_at, regions}
+use Rattle.address_map.specs.Memory.{bytes_of, layout, is_mapped, byte_at, regions, class_of}
+use Rattle.address_map.specs.declared.class.Class.{Class}
 use Rattle.address_map.specs.declared.item.Item.{Item}
 use Rattle.address_map.specs.declared.map.AddressMap.{AddressMap}
 use Rattle.address_map.specs.declared.region.Kind.{Kind}
@@ -18,17 +19,18 @@ use Rattle.os_heap_lists.proofs.LiveBlocks.{claim_fresh, claim_still, IsFresh, I
 use Rattle.os_heap_lists.proofs.Reading.{items_in-heap}
 use Rattle.os_heap_lists.specs.Counts.{looked_at, free_below}
 use Rattle.os_heap_lists.specs.Heap.{HeapList, IsHeapIn}
+use Rattle.os_heap_lists.specs.Marks.{class_by}
 use Rattle.os_heap_lists.specs.Lists.{Claim, claimed, live_total, released}
-use Rattle.os_heap.proofs.Calls.{part_at, heap_there, free_given, IsGiven}
+use Rattle.os_heap.proofs.Calls.{part_at, heap_there, free_given, IsGiven, classes_held}
 use Rattle.os_heap.proofs.Found.{found_heap, found_start}
-use Rattle.os_heap.proofs.Frame.{store_bytes, heads_kept, IsKept}
+use Rattle.os_heap.proofs.Frame.{store_bytes, heads_kept, IsKept, classes_same}
 use Rattle.os_heap.proofs.Replace.{heap_below}
 use Rattle.os_heap.proofs.Searching.{looked-below}
 use Rattle.os_heap.proofs.Stores.{sound_held, store_held, IsOther, AreOthers, are_others}
 use Rattle.os_heap.specs.Calls.{copied, moved, handed_over, holding, with_items, gave_back}
 use Rattle.os_heap.specs.Probes.{move_probes}
 use Rattle.os_heap.specs.Outcomes.{items_at, end_at, Becomes, Claims, HasHeapAt, Releases}
-use Rattle.os_heap.specs.Store.{has_image, IsSound, find_heap, store_of, AreHeapsIn, owned_in, Store}
+use Rattle.os_heap.specs.Store.{has_image, IsSound, AreClasses, find_heap, store_of, AreHeapsIn, owned_in, Store}
 
 -- the part of a heap, by what memory spells of it
 part_same : (h : HeapList) (start end : ℕ) (items : List Item) → h.start ≡ start → h.end ≡ end → h.items ≡ items
@@ -85,6 +87,7 @@ pub record IsClaimed (m n : AddressMap) (kind : Kind) (heap block total needed n
   pub still : live_total block (heap + 16) claim.items ≡ Some total
   pub store : store_of n ≡ holding (store_of m) (part_at kind m heap (end_at m heap)) claim.items
   pub sound : IsSound (store_of n)
+  pub classes : AreClasses m → AreClasses n
 
 pub is_claimed : (m n : AddressMap) (heap block total needed new : ℕ) (answer : Result ℕ ErrorNumber) (p : HasPart heap (store_of m).heaps)
     → IsSound (store_of m) → live_total block (heap + 16) (items_at m heap) ≡ Some total
@@ -114,6 +117,7 @@ is_claimed m n heap block total needed new answer p sound live claims ok =
       store = store_held m n (part_at kind m heap end) b.claim.items sound found b.becomes;
       sound = sound_held m n (part_at kind m heap end) b.claim.items sound found
           (λ a t is there'. subst (IsStill a t (heap + 16)) b.is (claim_still needed (end - 16) a t (heap + 16) items there' there.totals)) b.becomes;
+      classes = classes_held m n (part_at kind m heap end) b.claim.items sound found refl b.becomes;
     }
 
 -- where the bytes of the two blocks lie
@@ -199,6 +203,7 @@ payload_free m n kind heap block total needed new a larger c low high =
 pub record IsCopied (m n p : AddressMap) (kind : Kind) (heap block total needed new : ℕ) (claim : Claim) : Type 0 where
   pub store : store_of p ≡ copied (holding (store_of m) (part_at kind m heap (end_at m heap)) claim.items) block new (total - 4)
   pub sound : IsSound (store_of p)
+  pub classes : AreClasses n → AreClasses p
   pub there : HasHeapAt p heap
   pub items : items_at p heap ≡ claim.items
   pub found : find_heap heap (store_of p).heaps ≡ Some (part_at kind p heap (end_at p heap))
@@ -209,9 +214,9 @@ store_bytes-same : (b c : Bytes) (s : Store) → b ≡ c
 store_bytes-same b c s e = λ i. record { bytes = e i; heaps = s.heaps; others = s.others }
 
 pub is_copied : (m n p : AddressMap) (kind : Kind) (heap block total needed new : ℕ) → total < needed → (c : IsClaimed m n kind heap block total needed new)
-    → layout p ≡ layout n → ((a : ℕ) → byte_at p a ≡ with_moved_at (byte_at n) block new (total - 4) a)
+    → layout p ≡ layout n → ((a : ℕ) → byte_at p a ≡ with_moved_at (byte_at n) block new (total - 4) a) → class_of p ≡ class_of n
     → IsCopied m n p kind heap block total needed new c.claim
-is_copied m n p kind heap block total needed new larger c same bytes =
+is_copied m n p kind heap block total needed new larger c same bytes marks =
     let kept : IsKept n p = heads_kept n p same c.sound (λ a owned. bytes a ∙ elim (in_range-cases new (total - 4) a) [
       | inl r ↦ absurd (both_ways (owned_in (store_of n) a) (payload_free m n kind heap block total needed new a larger c r.1 r.2) owned)
       | inr r ↦ rw r.0 refl
@@ -228,6 +233,7 @@ is_copied m n p kind heap block total needed new larger c same bytes =
     record {
       store = store ∙ ap (λ (s : Store). copied s block new (total - 4)) c.store;
       sound = kept.sound;
+      classes = classes_same n p (ap (λ (s : Store). s.heaps) kept.store) (λ a i. marks i a);
       there = heap_there kind p heap (end_at p heap) kept.sound found';
       items = items;
       found = found';
@@ -242,6 +248,7 @@ then_given s t (Err e) n left u = absurd left
 pub record IsMoved (m q : AddressMap) (heap block total needed new : ℕ) : Type 0 where
   pub store : (h : HeapList) → find_heap heap (store_of m).heaps ≡ Some h → Gives (store_of m) (moved (store_of m) h block total needed) (Ok new) (store_of q)
   pub sound : IsSound (store_of q)
+  pub classes : AreClasses m → AreClasses q
   pub same : layout q ≡ layout m
 
 pub is_moved : (m n p q : AddressMap) (kind : Kind) (heap block total needed new : ℕ) (c : IsClaimed m n kind heap block total needed new)
@@ -263,6 +270,7 @@ is_moved m n p q kind heap block total needed new c d same own releases =
       store = λ h found. let e : Some part ≡ Some h = sym c.found ∙ found in let same : part ≡ h = cc in
           subst (λ (x : HeapList). Gives s (moved s x block total needed) (Ok new) (store_of q)) same given;
       sound = left.sound;
+      classes = λ old. left.classes (d.classes (c.classes old));
       same = left.same ∙ same ∙ c.same;
     }
 

@@ -35,12 +35,12 @@ IsClearOfAll r [] = Unit {0}
 IsClearOfAll r (q ∷ rs) = AreClear q.at q.len r.at r.len × IsClearOfAll r rs
 
 clear_other : (q r : Region) (rs : List Region) → IsClearOfRanges q rs → AreClear q.at q.len r.at r.len → IsClearOfRanges q (rs ++ r ∷ [])
-clear_other q r [] clear last = ((λ _. last), tt)
+clear_other q r [] clear last = (last, tt)
 clear_other q r (p ∷ rs) clear last = (clear.0, clear_other q r rs clear.1 last)
 
 apart_other : (rs : List Region) (r : Region) → AreRangesApart rs → IsClearOfAll r rs → AreRangesApart (rs ++ r ∷ [])
-apart_other [] r apart clear = ((λ _. tt), tt)
-apart_other (q ∷ rs) r apart clear = ((λ used. clear_other q r rs (apart.0 used) clear.0), apart_other rs r apart.1 clear.1)
+apart_other [] r apart clear = (tt, tt)
+apart_other (q ∷ rs) r apart clear = (clear_other q r rs apart.0 clear.0, apart_other rs r apart.1 clear.1)
 
 -- the store keeps its heaps
 pub store_recorded : (m n : AddressMap) (r : Region) → is_heap_kind r.kind ≡ false → regions n ≡ regions m ++ r ∷ [] → bytes_of n ≡ bytes_of m

@@ -23,7 +23,7 @@ use Rattle.os_heap_lists.specs.Heap.{HeapList, IsHeapIn, AreTotals}
 use Rattle.os_heap_lists.specs.Lists.{live_total, released, changed_by, resized_in_place, round_up_8, refitted, claimed}
 use Rattle.os_heap_lists.specs.Walks.{IsBlock}
 use Rattle.os_heap.proofs.Bounds.{move_most}
-use Rattle.os_heap.proofs.Calls.{part_at, heap_of-part, heap_there, IsGiven, free_given, image_recorded, image_apart}
+use Rattle.os_heap.proofs.Calls.{part_at, heap_of-part, heap_there, IsGiven, classes_held, free_given, image_recorded, image_apart}
 use Rattle.os_heap.proofs.Freeing.{block_facts}
 use Rattle.os_heap.proofs.Moving.{part_there, HasPart}
 use Rattle.os_heap.proofs.Replace.{heap_mapped, heap_below}
@@ -32,7 +32,7 @@ use Rattle.os_heap.proofs.Stores.{sound_held, store_held}
 use Rattle.os_heap.specs.Calls.{gave_back, unless_image, resized, resized_or_moved, moved}
 use Rattle.os_heap.specs.Probes.{resize_probes, probes_after_walk, refit_probes, move_probes}
 use Rattle.os_heap.specs.Outcomes.{IsGuestBlock, items_at, end_at, Releases, Refits}
-use Rattle.os_heap.specs.Store.{has_image, heap_in, heaps_in, find_heap, store_of, IsSound, Store}
+use Rattle.os_heap.specs.Store.{has_image, heap_in, heaps_in, find_heap, store_of, IsSound, AreClasses, Store}
 
 -- the heap that is found is the one that memory spells there
 found_in : (b : Bytes) (heap : ℕ) (rs : List Region) (h : HeapList) → find_heap heap (heaps_in b rs) ≡ Some h
@@ -138,6 +138,7 @@ pub record IsResized (m n : AddressMap) (heap block change : ℕ) (answer : Resu
   pub store : Gives (store_of m) (resized (store_of m) heap block change) answer (store_of n)
   pub sound : IsSound (store_of n)
   pub same : layout n ≡ layout m
+  pub classes : AreClasses m → AreClasses n
   pub probes : begun_below block (heap + 16) (items_at m heap) + more ≡ resize_probes (store_of m) heap block change
 
 -- nothing is left of the block
@@ -158,6 +159,7 @@ resize_freed m n heap block change total sound is own live few releases =
       store = rw (by_total m heap block change t (Some total) some, test) (freed_given (store_of m) (store_of n) (gave_back (store_of m) heap block) (Ok 0) refl l.store);
       sound = l.sound;
       same = l.same;
+      classes = l.classes;
       probes = sym (rw test at (probes_by_total m heap block change t (Some total) some));
     }
 
@@ -172,6 +174,7 @@ in_place_given m n kind heap end block old new (Some items) sound found still re
   store = (store_held m n (part_at kind m heap end) items sound found refits.1, refl);
   sound = sound_held m n (part_at kind m heap end) items sound found still refits.1;
   same = refits.1.same;
+  classes = classes_held m n (part_at kind m heap end) items sound found refl refits.1;
 }
 
 in_place_unmoved : (m n : AddressMap) (h : HeapList) (heap end block new : ℕ) (o : Option (List Item)) → Refits m n heap end true o → refit_probes h block new o ≡ 0
@@ -200,6 +203,7 @@ resize_refitted m n heap block change total sound is own live more refits =
       store = rw (by_total m heap block change t (Some total) (asked_live m heap block total own live), test) g.store;
       sound = g.sound;
       same = g.same;
+      classes = g.classes;
       probes = sym (rw (test, none) at (probes_by_total m heap block change t (Some total) (asked_live m heap block total own live)));
     }
 
@@ -232,11 +236,11 @@ pub resize_moved : (m n : AddressMap) (heap block change total more : ℕ) (answ
     → resized_in_place block (heap + end_at m heap) (round_up_8 (changed_by total change)) (heap + 16) (items_at m heap) ≡ None
     → ((h : HeapList) → find_heap heap (store_of m).heaps ≡ Some h
     → Gives (store_of m) (moved (store_of m) h block total (round_up_8 (changed_by total change))) answer (store_of n))
-    → IsSound (store_of n) → layout n ≡ layout m
+    → IsSound (store_of n) → layout n ≡ layout m → (AreClasses m → AreClasses n)
     → ((h : HeapList) → find_heap heap (store_of m).heaps ≡ Some h
     → more ≡ move_probes h block (round_up_8 (changed_by total change)) (claimed (round_up_8 (changed_by total change)) (h.end - 16) h.items))
     → IsResized m n heap block change answer more
-resize_moved m n heap block change total more answer sound is own live large none store kept same probes =
+resize_moved m n heap block change total more answer sound is own live large none store kept same classes probes =
     let t : IsThere m heap = is_there m heap is in
     let h : HeapList = part_at t.kind m heap t.end in
     let new : ℕ = round_up_8 (changed_by total change) in
@@ -248,6 +252,7 @@ resize_moved m n heap block change total more answer sound is own live large non
       store = rw (by_total m heap block change t (Some total) (asked_live m heap block total own live), test, none') (store h t.found);
       sound = kept;
       same = same;
+      classes = classes;
       probes = ap (λ (k : ℕ). begun_below block (heap + 16) (items_at m heap) + k) (probes h t.found)
           ∙ sym (rw (test, none') at (probes_by_total m heap block change t (Some total) (asked_live m heap block total own live)));
     }

@@ -1,14 +1,15 @@
 -- What a call on one heap leaves of memory.
-use Rattle.std.specs.Prelude.{ℕ, List, ◌+◌, ◌≡◌, None, Option, Result, Err, Ok, Some, Bool, false, true}
+use Rattle.std.specs.Prelude.{ℕ, List, ◌+◌, ◌%◌, ◌≡◌, None, Option, Result, Err, Ok, Some, Bool, false, true}
 use Rattle.profile.specs.declared.error.ErrorNumber.{ErrorNumber}
 use Rattle.profile.specs.declared.error.ErrorNumber.TheVariants.{HeapNoRoom, HeapNotABlock}
-use Rattle.address_map.specs.Bytes.{word_at}
-use Rattle.address_map.specs.Items.{items_in}
-use Rattle.address_map.specs.Memory.{byte_at, bytes_of, layout}
+use Rattle.address_map.specs.Bytes.{AreMapped, word_at}
+use Rattle.address_map.specs.Items.{items_in, size_of}
+use Rattle.address_map.specs.Memory.{byte_at, bytes_of, is_mapped, layout, class_of}
 use Rattle.address_map.specs.declared.item.Item.{Item}
 use Rattle.address_map.specs.declared.map.AddressMap.{AddressMap}
 use Rattle.address_map.specs.declared.region.Region.{Region}
-use Rattle.os_heap_lists.specs.Heap.{IsHeapIn}
+use Rattle.os_heap_lists.specs.Heap.{AreTotals, IsHeapIn}
+use Rattle.os_heap_lists.specs.Marks.{AreMarked, Remarks}
 use Rattle.os_heap_lists.specs.Walks.{IsBlock}
 use Rattle.os_heap.specs.Store.{has_image}
 use Rattle.os_heap_lists.specs.Lists.{Claim}
@@ -28,11 +29,19 @@ end_at m start = word_at (byte_at m) (start + 12)
 abbrev pub HasHeapAt : AddressMap → ℕ → Type 0
 HasHeapAt m start = IsHeapAt m start (end_at m start)
 
--- The heap at `start` got another list: its words spell it, and all other bytes are as before.
+-- items may stand at an address: their words are mapped there
+pub record CanStand (m : AddressMap) (at : ℕ) (items : List Item) : Type 0 where
+  pub aligned : at % 4 ≡ 0
+  pub totals : AreTotals items
+  pub mapped : AreMapped (is_mapped m) at (size_of items)
+
+-- The heap at `start` got another list: its words spell it, and all other bytes are as before. Where the words of the old list were marked, those
+-- that the new one gives up lost their marks, and those that it makes got them.
 pub record Becomes (old new : AddressMap) (start end : ℕ) (items : List Item) : Type 0 where
   pub heap : IsHeapIn (bytes_of new) start end items
   pub same : layout new ≡ layout old
   pub others : (a : ℕ) → AreApart a 1 start 16 → IsOutside (start + 16) items a → byte_at new a ≡ byte_at old a
+  pub marks : AreMarked (class_of old) (start + 16) (items_at old start) → Remarks (class_of old) (class_of new) (start + 16) (items_at old start) items
 
 abbrev pub Claims : AddressMap → AddressMap → ℕ → ℕ → Result ℕ ErrorNumber → Option Claim → Type 0
 Claims old new start end answer None = (answer ≡ Err HeapNoRoom) × (new ≡ old)

@@ -31,6 +31,7 @@ HasRoom kind.Rma s at = (area_count s.heaps ≡ 0) × (at ≡ 0x01800000)
 HasRoom kind.FlexStore s at = ⊥
 HasRoom kind.FlexHeader s at = ⊥
 HasRoom kind.Anchor s at = ⊥
+HasRoom kind.HeadWord s at = ⊥
 HasRoom kind.Image s at = ⊥
 HasRoom kind.SystemPage s at = ⊥
 

@@ -8,10 +8,11 @@ use Rattle.address_map.specs.declared.region.Region.{Region}
 use Rattle.address_map.specs.declared.map.AddressMap.{AddressMap}
 use Rattle.address_map.specs.Bytes.{Bytes, in_range, word_at, word_start}
 use Rattle.address_map.specs.Items.{items_in, is_heap_word}
-use Rattle.address_map.specs.Records.{is_heap_kind, is_flex_kind}
-use Rattle.address_map.specs.Memory.{bytes_of, regions}
+use Rattle.address_map.specs.Records.{is_heap_kind}
+use Rattle.address_map.specs.Memory.{bytes_of, class_of, regions}
 use Rattle.os_heap_lists.specs.Heap.{HeapList, IsHeapIn}
 use Rattle.os_heap_lists.specs.Lists.{live_total}
+use Rattle.os_heap_lists.specs.Marks.{class_by}
 
 -- memory, the heaps in the order in which they were made, and the other recorded ranges
 pub record Store : Type 0 where
@@ -93,14 +94,14 @@ abbrev pub ArePlaced : List HeapList → List Region → Type 0
 ArePlaced hs [] = Unit {0}
 ArePlaced hs (r ∷ rs) = (IsClearOfHeaps r.at r.len hs ⊎ IsImageIn hs r) × ArePlaced hs rs
 
--- and no two of these share a byte, but that the used part of the flex store lies in it
+-- and no two of these share a byte
 abbrev pub IsClearOfRanges : Region → List Region → Type 0
 IsClearOfRanges r [] = Unit {0}
-IsClearOfRanges r (q ∷ rs) = (is_flex_kind q.kind ≡ false → AreClear r.at r.len q.at q.len) × IsClearOfRanges r rs
+IsClearOfRanges r (q ∷ rs) = AreClear r.at r.len q.at q.len × IsClearOfRanges r rs
 
 abbrev pub AreRangesApart : List Region → Type 0
 AreRangesApart [] = Unit {0}
-AreRangesApart (r ∷ rs) = (is_flex_kind r.kind ≡ false → IsClearOfRanges r rs) × AreRangesApart rs
+AreRangesApart (r ∷ rs) = IsClearOfRanges r rs × AreRangesApart rs
 
 -- What holds of every store. The other records are so few that all heaps find room beside them.
 pub record IsSound (s : Store) : Type 0 where
@@ -113,6 +114,10 @@ pub record IsSound (s : Store) : Type 0 where
 -- The bytes that only store calls may write: those of the words that the heaps spell. A byte counts as its whole word does.
 unfoldable pub owned_in : Store → ℕ → Bool
 owned_in s a = list_any (λ h. is_heap_word h.start h.items (word_start a)) s.heaps
+
+-- The words that are marked are just those that the lists spell.
+abbrev pub AreClasses : AddressMap → Type 0
+AreClasses m = (a : ℕ) → class_of m a ≡ class_by (store_of m).heaps a
 
 -- the heap that starts at an address
 abbrev pub find_heap : ℕ → List HeapList → Option HeapList

@@ -5,7 +5,7 @@ ghost use Rattle.address_map.specs.Records.{is_heap_kind};
 ghost use Rattle.os_heap.specs.Calls.{changed, end_changed, ending, has_own_size, MayEndArea, IsAreaEnded};
 ghost use Rattle.os_heap.specs.Ranges.{MayEnd, meets_any};
 ghost use Rattle.os_heap.specs.Outcomes.{IsHeapAt};
-ghost use Rattle.os_heap.specs.Store.{store_of, heap_in, find_heap, IsSound};
+ghost use Rattle.os_heap.specs.Store.{store_of, heap_in, find_heap, AreClasses, IsSound};
 
 use crate::counted::Counted;
 use crate::heaps::{Heaps, find};
@@ -30,6 +30,7 @@ impl Heaps {
         requires { IsSound (store_of map.old) }
         ensures store { Gives (store_of map.old) (changed (store_of map.old) heap change) result.answer (store_of map.new) }
         ensures sound { IsSound (store_of map.new) }
+        ensures classes { AreClasses map.old → AreClasses map.new }
         ensures others { (store_of map.new).others ≡ (store_of map.old).others }
         ensures mapping { mapping map.new ≡ mapping map.old }
         ensures probes { result.probes ≡ 0 }
@@ -46,6 +47,7 @@ impl Heaps {
         requires may { MayEndArea (store_of map.old) end }
         ensures store { IsAreaEnded (store_of map.old) end (store_of map.new) }
         ensures sound { IsSound (store_of map.new) }
+        ensures classes { AreClasses map.old → AreClasses map.new }
         ensures others { (store_of map.new).others ≡ (store_of map.old).others }
         ensures mapping { mapping map.new ≡ mapping map.old }
     {
@@ -67,6 +69,7 @@ fn change_end(map: &mut AddressMap, heap: u32, change: u32) -> Result<(), ErrorN
     requires { IsSound (store_of map.old) }
     ensures store { Gives (store_of map.old) (changed (store_of map.old) heap change) result (store_of map.new) }
     ensures sound { IsSound (store_of map.new) }
+    ensures classes { AreClasses map.old → AreClasses map.new }
     ensures others { (store_of map.new).others ≡ (store_of map.old).others }
     ensures mapping { mapping map.new ≡ mapping map.old }
 {
@@ -119,6 +122,7 @@ fn set_end(map: &mut AddressMap, region: &Region, end: u32)
     requires sound { IsSound (store_of map.old) }
     ensures store { store_of map.new ≡ ending (store_of map.old) (heap_in (bytes_of map.old) region.now) end }
     ensures sound { IsSound (store_of map.new) }
+    ensures classes { AreClasses map.old → AreClasses map.new }
     ensures others { (store_of map.new).others ≡ (store_of map.old).others }
     ensures mapping { mapping map.new ≡ mapping map.old }
 {

@@ -6,15 +6,16 @@ ghost use Rattle.os_heap_lists.specs.Lists.{total_for, first_fit, claimed, or_at
 ghost use Rattle.os_heap_lists.specs.Counts.{looked_at};
 ghost use Rattle.os_heap.specs.Outcomes.{HasHeapAt, end_at, items_at, Claims};
 ghost use Rattle.os_heap_lists.specs.Walks.{IsFit};
-ghost use Rattle.os_heap.specs.Store.{store_of, IsSound};
+ghost use Rattle.os_heap.specs.Store.{store_of, AreClasses, IsSound};
 ghost use Rattle.os_heap.specs.Calls.{got};
 ghost use Rattle.os_heap.specs.Probes.{get_probes};
 
 use crate::counted::Counted;
 use crate::heaps::{Heaps, find};
+use crate::marks::{make, remark};
 use crate::sums::round_up_8;
 use crate::words::{BASE, END, follow, put, put_free, put_link, word};
-use address_map::AddressMap;
+use address_map::{AddressMap, Item};
 use profile::ErrorNumber;
 
 /// A free item, and the one before it along the links, or the heap itself.
@@ -73,10 +74,13 @@ fn take(map: &mut AddressMap, heap: u32, fit: &Fit, needed: u32) -> u32
     if left == 0 {
         put_link(map, heap, fit.from, next);
         put(map, fit.at, needed);
+        remark(map, fit.at, &[Item::Free(fit.total)], &[Item::Live(needed)]);
         return fit.at + 4;
     }
     put_free(map, heap, fit.from, fit.at + needed, left, next);
     put(map, fit.at, needed);
+    let news = [Item::Live(needed), Item::Free(left)];
+    remark(map, fit.at, &[Item::Free(fit.total)], &news);
     fit.at + 4
 }
 
@@ -95,6 +99,7 @@ fn append(map: &mut AddressMap, heap: u32, needed: u64) -> Result<u32, ErrorNumb
     let total = needed as u32;
     put(map, heap + base, total);
     put(map, heap + BASE, base + total);
+    make(map, heap + base, &[Item::Live(total)]);
     Ok(heap + base + 4)
 }
 
@@ -137,6 +142,7 @@ impl Heaps {
         requires { IsSound (store_of map.old) }
         ensures store { Gives (store_of map.old) (got (store_of map.old) heap size) result.answer (store_of map.new) }
         ensures sound { IsSound (store_of map.new) }
+        ensures classes { AreClasses map.old → AreClasses map.new }
         ensures layout { layout map.new ≡ layout map.old }
         ensures probes { result.probes ≡ get_probes (store_of map.old) heap size }
     {

@@ -5,15 +5,16 @@ ghost use Rattle.os_heap_lists.specs.Lists.{released};
 ghost use Rattle.os_heap_lists.specs.Counts.{begun_below};
 ghost use Rattle.os_heap.specs.Outcomes.{HasHeapAt, end_at, items_at, Releases};
 ghost use Rattle.os_heap_lists.specs.Walks.{IsBlock};
-ghost use Rattle.os_heap.specs.Store.{store_of, has_image, IsSound};
+ghost use Rattle.os_heap.specs.Store.{store_of, has_image, AreClasses, IsSound};
 ghost use Rattle.os_heap.specs.Calls.{unless_image, gave_back};
 ghost use Rattle.os_heap.specs.Probes.{walk_probes};
 
 use crate::counted::Counted;
 use crate::heaps::{Heaps, find};
+use crate::marks::remark_gap;
 use crate::walk::{Cursor, find_guest_block};
 use crate::words::{BASE, follow, put, put_free, put_link, word};
-use address_map::AddressMap;
+use address_map::{AddressMap, Item};
 use profile::ErrorNumber;
 
 /// Makes a block free room. It joins the free items that touch it; at the base it is dropped, with that before it.
@@ -30,15 +31,20 @@ pub(crate) fn give_back(map: &mut AddressMap, heap: u32, block: u32, cursor: &Cu
     if behind == base {
         put_link(map, heap, cursor.from, 0);
         put(map, heap + BASE, at - heap);
+        remark_gap(map, cursor, &[Item::Live(own)], &[]);
         return;
     }
     if behind == cursor.free {
-        let joined = total + word(map, behind + 4);
+        let room = word(map, behind + 4);
+        let joined = total + room;
         let next = follow(map, heap, behind);
         put_free(map, heap, cursor.from, at, joined, next);
+        let olds = [Item::Live(own), Item::Free(room)];
+        remark_gap(map, cursor, &olds, &[Item::Free(joined)]);
         return;
     }
     put_free(map, heap, cursor.from, at, total, cursor.free);
+    remark_gap(map, cursor, &[Item::Live(own)], &[Item::Free(total)]);
 }
 
 /// Gives a block of one heap back.
@@ -77,6 +83,7 @@ impl Heaps {
         requires { IsSound (store_of map.old) }
         ensures store { Gives (store_of map.old) (gave_back (store_of map.old) heap block) result.answer (store_of map.new) }
         ensures sound { IsSound (store_of map.new) }
+        ensures classes { AreClasses map.old → AreClasses map.new }
         ensures layout { layout map.new ≡ layout map.old }
         ensures probes { result.probes ≡ walk_probes (store_of map.old) heap block }
     {

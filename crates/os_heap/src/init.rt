@@ -2,16 +2,17 @@ ghost use Rattle.std.specs.Prelude.{ℕ, [], true, ◌≡◌, ◌≤◌, ◌%◌
 ghost use Rattle.std.specs.List.{list_any};
 ghost use Rattle.profile.specs.Outcome.{Gives};
 ghost use Rattle.address_map.specs.Bytes.{Bytes, AreMapped};
-ghost use Rattle.address_map.specs.Memory.{mapping, byte_at, is_mapped, bytes_of, layout};
+ghost use Rattle.address_map.specs.Memory.{mapping, byte_at, is_mapped, bytes_of, layout, class_of};
 ghost use Rattle.address_map.specs.Records.{is_heap_kind};
 ghost use Rattle.address_map.specs.declared.region.Kind.TheVariants.{Heap, Rma};
 ghost use Rattle.os_heap.specs.Ranges.{MayBegin, is_heap_region, meets, meets_any};
 ghost use Rattle.os_heap_lists.specs.Heap.{with_heap};
-ghost use Rattle.os_heap.specs.Store.{store_of, heaps_in, guest_count, IsSound};
+ghost use Rattle.os_heap.specs.Store.{store_of, heaps_in, guest_count, AreClasses, IsSound};
 ghost use Rattle.os_heap.specs.Calls.{begun, begun_with};
 
 use crate::counted::Counted;
 use crate::heaps::Heaps;
+use crate::marks::mark_descriptor;
 use crate::words::{BASE, END, LINK};
 use address_map::{AddressMap, Kind, Region};
 use profile::ErrorNumber;
@@ -35,6 +36,7 @@ impl Heaps {
         requires { IsSound (store_of map.old) }
         ensures store { Gives (store_of map.old) (begun (store_of map.old) heap size) result.answer (store_of map.new) }
         ensures sound { IsSound (store_of map.new) }
+        ensures classes { AreClasses map.old → AreClasses map.new }
         ensures others { (store_of map.new).others ≡ (store_of map.old).others }
         ensures mapping { mapping map.new ≡ mapping map.old }
         ensures probes { result.probes ≡ 0 }
@@ -51,6 +53,7 @@ impl Heaps {
         requires sound { IsSound (store_of map.old) }
         ensures store { store_of map.new ≡ begun_with Rma (store_of map.old) area size }
         ensures sound { IsSound (store_of map.new) }
+        ensures classes { AreClasses map.old → AreClasses map.new }
         ensures others { (store_of map.new).others ≡ (store_of map.old).others }
         ensures mapping { mapping map.new ≡ mapping map.old }
     {
@@ -63,6 +66,7 @@ fn begin(map: &mut AddressMap, heap: u32, size: u32) -> Result<(), ErrorNumber>
     requires { IsSound (store_of map.old) }
     ensures store { Gives (store_of map.old) (begun (store_of map.old) heap size) result (store_of map.new) }
     ensures sound { IsSound (store_of map.new) }
+    ensures classes { AreClasses map.old → AreClasses map.new }
     ensures others { (store_of map.new).others ≡ (store_of map.old).others }
     ensures mapping { mapping map.new ≡ mapping map.old }
 {
@@ -78,10 +82,12 @@ fn make(map: &mut AddressMap, kind: Kind, heap: u32, size: u32)
     requires sound { IsSound (store_of map.old) }
     ensures store { store_of map.new ≡ begun_with kind (store_of map.old) heap size }
     ensures sound { IsSound (store_of map.new) }
+    ensures classes { AreClasses map.old → AreClasses map.new }
     ensures others { (store_of map.new).others ≡ (store_of map.old).others }
     ensures mapping { mapping map.new ≡ mapping map.old }
 {
     write_descriptor(map, heap, size);
+    mark_descriptor(map, heap);
     map.own(kind, heap, size);
 }
 
@@ -92,6 +98,7 @@ fn write_descriptor(map: &mut AddressMap, heap: u32, size: u32)
     requires mapped { AreMapped (is_mapped map.old) heap size }
     ensures bytes { (a : ℕ) → byte_at map.new a ≡ with_heap (byte_at map.old) heap size [] a }
     ensures layout { layout map.new ≡ layout map.old }
+    ensures marks { class_of map.new ≡ class_of map.old }
 {
     map.put_word(heap, HEAP_NAME);
     map.put_word(heap + LINK, 0);

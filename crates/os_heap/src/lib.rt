@@ -10,6 +10,7 @@ mod free;
 pub mod heaps;
 pub mod init;
 mod links;
+mod marks;
 mod refit;
 mod relocate;
 pub mod resize;

@@ -1,15 +1,16 @@
 ghost use Rattle.std.specs.Prelude.{◌≡◌, ◌≢◌, ◌≤◌, ◌<◌, ◌+◌, ◌^◌, true};
 ghost use Rattle.address_map.specs.Bytes.{word_at};
 ghost use Rattle.address_map.specs.Items.{is_total};
-ghost use Rattle.address_map.specs.Memory.{byte_at, layout};
+ghost use Rattle.address_map.specs.Memory.{byte_at, layout, class_of};
 ghost use Rattle.os_heap.specs.Outcomes.{HasHeapAt, end_at, items_at, Refits};
 ghost use Rattle.os_heap_lists.specs.Words.{IsDivided};
 ghost use Rattle.os_heap_lists.specs.Walks.{last_link, IsBlock};
 ghost use Rattle.os_heap_lists.specs.Lists.{resized_in_place};
 
+use crate::marks::remark;
 use crate::walk::{Cursor, last_link};
 use crate::words::{BASE, END, follow, put, put_free, put_link, word};
-use address_map::AddressMap;
+use address_map::{AddressMap, Item};
 
 /// Gives a block another total where it stands, if it can, and tells whether it did.
 pub(crate) fn refit(
@@ -71,12 +72,22 @@ fn cut(map: &mut AddressMap, heap: u32, block: u32, cursor: &Cursor, needed: u32
     let behind = cursor.at + total;
     let left = total - needed;
     if behind == cursor.free {
-        let joined = left + word(map, behind + 4);
+        let room = word(map, behind + 4);
+        let joined = left + room;
         let next = follow(map, heap, behind);
         divide(map, heap, cursor, needed, joined, next);
+        let olds = [Item::Live(total), Item::Free(room)];
+        remark(
+            map,
+            cursor.at,
+            &olds,
+            &[Item::Live(needed), Item::Free(joined)],
+        );
         return;
     }
     divide(map, heap, cursor, needed, left, cursor.free);
+    let news = [Item::Live(needed), Item::Free(left)];
+    remark(map, cursor.at, &[Item::Live(total)], &news);
 }
 
 /// Gives a block that is not the last more bytes where it stands: those of the free item behind it.
@@ -93,20 +104,29 @@ fn grow(map: &mut AddressMap, heap: u32, block: u32, cursor: &Cursor, needed: u6
     if behind != cursor.free {
         return false;
     }
-    let room = total + word(map, behind + 4);
+    let free = word(map, behind + 4);
+    let room = total + free;
     if needed > u64::from(room) {
         return false;
     }
     let next = follow(map, heap, behind);
     let grown = needed as u32;
     let left = room - grown;
+    let olds = [Item::Live(total), Item::Free(free)];
     if left == 0 {
         let from = last_link(cursor);
         put_link(map, heap, from, next);
         put(map, cursor.at, grown);
+        remark(map, cursor.at, &olds, &[Item::Live(grown)]);
         return true;
     }
     divide(map, heap, cursor, grown, left, next);
+    remark(
+        map,
+        cursor.at,
+        &olds,
+        &[Item::Live(grown), Item::Free(left)],
+    );
     true
 }
 
@@ -118,6 +138,7 @@ fn divide(map: &mut AddressMap, heap: u32, cursor: &Cursor, total: u32, left: u3
     requires room { cursor.now.at + total + 8 ≤ heap + end_at map.old heap }
     ensures words { IsDivided (byte_at map.old) (byte_at map.new) heap (last_link cursor.now.from cursor.now.at cursor.now.gap) cursor.now.at total left next }
     ensures layout { layout map.new ≡ layout map.old }
+    ensures marks { class_of map.new ≡ class_of map.old }
 {
     let from = last_link(cursor);
     put_free(map, heap, from, cursor.at + total, left, next);

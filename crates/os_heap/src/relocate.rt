@@ -9,7 +9,7 @@ ghost use Rattle.os_heap.specs.Outcomes.{HasHeapAt, items_at};
 ghost use Rattle.os_heap_lists.specs.Lists.{claimed, live_total};
 ghost use Rattle.os_heap_lists.specs.Walks.{IsBlock, IsLinked};
 ghost use Rattle.os_heap_lists.specs.Counts.{free_below};
-ghost use Rattle.os_heap.specs.Store.{has_image, store_of, find_heap, IsSound};
+ghost use Rattle.os_heap.specs.Store.{has_image, store_of, find_heap, AreClasses, IsSound};
 
 use crate::claim::claim_total;
 use crate::counted::Counted;
@@ -37,6 +37,7 @@ pub(crate) fn relocate(
     requires larger { total < needed }
     ensures store { (h : HeapList) → find_heap heap (store_of map.old).heaps ≡ Some h → Gives (store_of map.old) (moved (store_of map.old) h block total needed) result.answer (store_of map.new) }
     ensures sound { IsSound (store_of map.new) }
+    ensures classes { AreClasses map.old → AreClasses map.new }
     ensures layout { layout map.new ≡ layout map.old }
     ensures probes { (h : HeapList) → find_heap heap (store_of map.old).heaps ≡ Some h → result.probes ≡ move_probes h block needed (claimed needed (h.end - 16) h.items) }
 {

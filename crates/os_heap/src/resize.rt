@@ -3,7 +3,7 @@ ghost use Rattle.profile.specs.Outcome.{Gives};
 ghost use Rattle.address_map.specs.Memory.{layout};
 ghost use Rattle.os_heap.specs.Calls.{resized};
 ghost use Rattle.os_heap.specs.Probes.{resize_probes, AreInBounds};
-ghost use Rattle.os_heap.specs.Store.{store_of, find_heap, IsSound};
+ghost use Rattle.os_heap.specs.Store.{store_of, find_heap, AreClasses, IsSound};
 
 use crate::counted::Counted;
 use crate::free::give_back;
@@ -35,6 +35,7 @@ impl Heaps {
         requires { IsSound (store_of map.old) }
         ensures store { Gives (store_of map.old) (resized (store_of map.old) heap block change) result.answer (store_of map.new) }
         ensures sound { IsSound (store_of map.new) }
+        ensures classes { AreClasses map.old → AreClasses map.new }
         ensures layout { layout map.new ≡ layout map.old }
         ensures probes { result.probes ≡ resize_probes (store_of map.old) heap block change }
         ensures bounds { AreInBounds result.probes block (find_heap heap (store_of map.old).heaps) }
@@ -55,6 +56,7 @@ fn resize_block(map: &mut AddressMap, heap: u32, block: u32, change: u32) -> Cou
     requires found { is_some (find_heap heap (store_of map.old).heaps) ≡ true }
     ensures store { Gives (store_of map.old) (resized (store_of map.old) heap block change) result.answer (store_of map.new) }
     ensures sound { IsSound (store_of map.new) }
+    ensures classes { AreClasses map.old → AreClasses map.new }
     ensures layout { layout map.new ≡ layout map.old }
     ensures probes { result.probes ≡ resize_probes (store_of map.old) heap block change }
 {

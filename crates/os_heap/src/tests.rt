@@ -1,4 +1,5 @@
 mod blocks;
 mod changes;
+mod classes;
 mod heaps;
 mod resizes;

@@ -1,7 +1,7 @@
 ghost use Rattle.std.specs.Prelude.{◌≡◌, ◌<◌, ◌+◌, ◌-◌, ◌%◌, ◌^◌, true};
 ghost use Rattle.address_map.specs.Bytes.{word_at};
 ghost use Rattle.address_map.specs.Items.{linked};
-ghost use Rattle.address_map.specs.Memory.{byte_at, is_mapped, layout};
+ghost use Rattle.address_map.specs.Memory.{byte_at, is_mapped, layout, class_of};
 ghost use Rattle.os_heap_lists.specs.Words.{link_at, AreApart, IsWritten, IsFreed};
 
 use crate::links::linked;
@@ -29,6 +29,7 @@ pub(crate) fn put(map: &mut AddressMap, at: u32, word: u32)
     requires mapped { is_mapped map.old at ≡ true }
     ensures word { IsWritten (byte_at map.old) (byte_at map.new) at word }
     ensures layout { layout map.new ≡ layout map.old }
+    ensures marks { class_of map.new ≡ class_of map.old }
 {
     map.put_word(at, word);
 }
@@ -59,6 +60,7 @@ pub(crate) fn put_link(map: &mut AddressMap, heap: u32, from: u32, next: u32)
     requires mapped { is_mapped map.old (link_at heap from) ≡ true }
     ensures word { IsWritten (byte_at map.old) (byte_at map.new) (link_at heap from) (next - from) }
     ensures layout { layout map.new ≡ layout map.old }
+    ensures marks { class_of map.new ≡ class_of map.old }
 {
     put(map, link_at(heap, from), next.saturating_sub(from));
 }
@@ -75,6 +77,7 @@ pub(crate) fn put_free(map: &mut AddressMap, heap: u32, from: u32, at: u32, tota
     requires apart { AreApart (link_at heap from) 4 at 8 }
     ensures words { IsFreed (byte_at map.old) (byte_at map.new) heap from at total next }
     ensures layout { layout map.new ≡ layout map.old }
+    ensures marks { class_of map.new ≡ class_of map.old }
 {
     put_link(map, heap, from, at);
     put(map, at, next.saturating_sub(at));

@@ -5,6 +5,7 @@ pub mod ItemWalk
 pub mod LastLink
 pub mod LinkWalk
 pub mod LiveBlocks
+pub mod Marks
 pub mod Reading
 pub mod ReleaseOfClaim
 pub mod Resizes

@@ -11,26 +11,22 @@ use Rattle.profile.specs.declared.fault.Fault.{Fault}
 use Rattle.profile.specs.declared.fault.Fault.TheVariants.{AddressException, DataUnmapped, OwnedWord}
 use Rattle.address_map.specs.declared.map.AddressMap.{AddressMap}
 use Rattle.address_map.specs.Bytes.{Bytes, in_range, unless, store_fault, word_stored, with_word, with_word_at, with_bytes_at, with_bytes}
-use Rattle.address_map.specs.Memory.{bytes_of, byte_at, is_mapped, place, free_pages, Layout, layout, is_owned}
+use Rattle.address_map.specs.Memory.{bytes_of, byte_at, is_mapped, place, free_pages, Layout, layout, class_of, is_owned}
 use Rattle.address_map.proofs.Stores.{layout-place}
 use Rattle.address_map.proofs.Equations.{stored_word, stored_bytes}
 use Rattle.arm_step.specs.State.{State}
 use Rattle.arm_step.specs.OwnedBytes.{IsByWords, Keeps}
 use Rattle.address_map.specs.declared.region.Kind.TheVariants.{Rma}
 use Rattle.os_heap_lists.specs.Heap.{HeapList}
-use Rattle.os_heap.specs.Store.{Store, store_of, owned_in, IsSound}
-use Rattle.os_heap.proofs.Frame.{IsKept, clear_kept, heads_kept, owned_word}
+use Rattle.os_heap.specs.Store.{Store, store_of, owned_in, AreClasses, IsSound}
+use Rattle.os_heap.proofs.Frame.{IsKept, classes_same, clear_kept, heads_kept, owned_word}
 use Rattle.os_heap.proofs.Stores.{image_kind}
-use Rattle.os_heap.proofs.Owned.{owned_heads, has_flex}
+use Rattle.os_heap.proofs.Owned.{owned_marks}
 use Rattle.swi_dispatch.specs.declared.halt.Halt.{Halt}
 use Rattle.swi_dispatch.specs.MachineState.{MachineState, with_memory, system_pages, is_start_mapped, start_of}
 use Rattle.swi_dispatch.specs.Errors.{error_block}
 use Rattle.swi_dispatch.specs.Boot.{booted, poked}
 use Rattle.swi_dispatch.specs.Parts.{Parts, IsWellFormed, state_of}
-
--- the owned bytes of a machine's map are those of its heaps
-pub owned_same : (m : AddressMap) → IsSound (store_of m) → (store_of m).others ≡ system_pages ∷ [] → is_owned m ≡ owned_in (store_of m)
-owned_same m sound others = owned_heads m sound (ap has_flex others)
 
 pub by_words : (s : Store) → IsByWords (owned_in s)
 by_words s a k aligned below = owned_word s a k aligned below
@@ -98,28 +94,28 @@ abbrev pub with_core : State → Option Halt → Store → MachineState
 with_core cpu halt s = record { cpu = cpu; store = s; halt = halt }
 
 poked_by : (m n : AddressMap) (cpu : State) (halt : Option Halt) (a w : ℕ) (result : Result Unit Fault) (f : Option Fault)
-    → layout n ≡ layout m → IsSound (store_of m) → (store_of m).others ≡ system_pages ∷ []
+    → layout n ≡ layout m → IsSound (store_of m)
     → (f ≡ None → owned_in (store_of m) (a - a % 4) ≡ false)
     → Leaves (bytes_of m) (unless f (with_word (bytes_of m) (a - a % 4) w)) result (bytes_of n)
     → IsKept m n × Leaves (with_core cpu halt (store_of m)) (bind (unless f (with_word (bytes_of m) (a - a % 4) w)) (λ b. Ok (with_core cpu halt (with_memory (store_of m) b)))) result (with_core cpu halt (store_of n))
-poked_by m n cpu halt a w (Ok u) None same sound others free left =
+poked_by m n cpu halt a w (Ok u) None same sound free left =
     let kept : IsKept m n = keeps_kept m n _ same sound left (word_kept (owned_in (store_of m)) (bytes_of m) (a - a % 4) w (by_words (store_of m)) (omega arith) (free refl)) in
     (kept, ap (with_core cpu halt) (kept_memory m n _ kept left))
-poked_by m n cpu halt a w (Err e) None same sound others free left = absurd left
-poked_by m n cpu halt a w (Ok u) (Some f) same sound others free left = absurd left
-poked_by m n cpu halt a w (Err e) (Some f) same sound others free left =
+poked_by m n cpu halt a w (Err e) None same sound free left = absurd left
+poked_by m n cpu halt a w (Ok u) (Some f) same sound free left = absurd left
+poked_by m n cpu halt a w (Err e) (Some f) same sound free left =
     let kept : IsKept m n = same_kept m n same sound left.1 in
     (kept, (left.0, ap (with_core cpu halt) (kept_all m n kept left.1)))
 
 pub pokes : (m n : AddressMap) (cpu : State) (halt : Option Halt) (a w : ℕ) (result : Result Unit Fault)
-    → layout n ≡ layout m → IsSound (store_of m) → (store_of m).others ≡ system_pages ∷ []
+    → layout n ≡ layout m → IsSound (store_of m) → AreClasses m
     → Leaves (bytes_of m) (word_stored (is_owned m) (bytes_of m) a w) result (bytes_of n)
     → IsKept m n × Leaves (with_core cpu halt (store_of m)) (poked (with_core cpu halt (store_of m)) a w) result (with_core cpu halt (store_of n))
 unfolding poked word_stored store_of
-pokes m n cpu halt a w result same sound others left =
-    poked_by m n cpu halt a w result (store_fault (owned_in (store_of m)) (bytes_of m) (a - a % 4)) same sound others
+pokes m n cpu halt a w result same sound classes left =
+    poked_by m n cpu halt a w result (store_fault (owned_in (store_of m)) (bytes_of m) (a - a % 4)) same sound
     (λ e. free_by (nat_le (2 ^ 26) (a - a % 4)) ((bytes_of m).mapped (a - a % 4)) (owned_in (store_of m) (a - a % 4)) e)
-    (subst (λ (owned : ℕ → Bool). Leaves (bytes_of m) (word_stored owned (bytes_of m) a w) result (bytes_of n)) (owned_same m sound others) left)
+    (subst (λ (owned : ℕ → Bool). Leaves (bytes_of m) (word_stored owned (bytes_of m) a w) result (bytes_of n)) (owned_marks m classes) left)
 
 -- the one heap of a machine as it was made
 abbrev pub module_area : Sizes → HeapList
@@ -146,11 +142,12 @@ error_kept m n number text same sound others short e =
     ∙ outside_bytes (with_word_at (byte_at m) 0x01C02100 number) a text short out ∙ outside_word (byte_at m) a number out)
 
 -- the parts of a machine after a call that kept what is mapped and the other records
-pub well_by : (old new : Parts) → IsWellFormed old → IsSound (store_of new.map) → (store_of new.map).others ≡ (store_of old.map).others
+pub well_by : (old new : Parts) → IsWellFormed old → IsSound (store_of new.map) → (AreClasses old.map → AreClasses new.map) → (store_of new.map).others ≡ (store_of old.map).others
     → place new.map ≡ place old.map → free_pages new.map ≡ free_pages old.map → new.sizes ≡ old.sizes
     → (new.is_fresh ≡ true → state_of new ≡ start_of new.sizes) → IsWellFormed new
-well_by old new well sound others same pages sizes fresh = record {
+well_by old new well sound classes others same pages sizes fresh = record {
   sound = sound;
+  classes = classes well.classes;
   others = others ∙ well.others;
   mapped = λ a. ap (λ (f : ℕ → Option ℕ). is_some (f a)) same ∙ well.mapped a ∙ ap (λ (s : Sizes). is_start_mapped s a) (sym sizes);
   pool = ap (λ (n : ℕ). n + (new.sizes.app + new.sizes.rma + 3)) pages ∙ ap (λ (s : Sizes). free_pages old.map + (s.app + s.rma + 3)) sizes
@@ -159,10 +156,10 @@ well_by old new well sound others same pages sizes fresh = record {
 }
 
 -- the same after a call that kept every list, of a machine that isn't as it was made
-pub well_kept : (old new : Parts) → IsWellFormed old → IsKept old.map new.map → layout new.map ≡ layout old.map
+pub well_kept : (old new : Parts) → IsWellFormed old → IsKept old.map new.map → layout new.map ≡ layout old.map → class_of new.map ≡ class_of old.map
     → new.is_fresh ≡ false → new.sizes ≡ old.sizes → IsWellFormed new
-well_kept old new well kept same stepped sizes =
-    well_by old new well kept.sound (ap (λ (s : Store). s.others) kept.store) (layout-place _ _ same) (ap (λ (l : Layout). l.free_pages) same) sizes
+well_kept old new well kept same marks stepped sizes =
+    well_by old new well kept.sound (classes_same old.map new.map (ap (λ (s : Store). s.heaps) kept.store) (λ a i. marks i a)) (ap (λ (s : Store). s.others) kept.store) (layout-place _ _ same) (ap (λ (l : Layout). l.free_pages) same) sizes
     (λ e. absurd (true≢false (sym e ∙ stepped)))
 
 -- the application space holds the program of the written machine
@@ -201,10 +198,10 @@ pub short_name : (e : ErrorNumber) → length (error_name e ++ 0 ∷ []) ≤ 128
 short_name e = search rules
 
 -- the same of a machine that may be as it was made, where nothing changed
-pub well_same : (old new : Parts) → IsWellFormed old → IsKept old.map new.map → layout new.map ≡ layout old.map
+pub well_same : (old new : Parts) → IsWellFormed old → IsKept old.map new.map → layout new.map ≡ layout old.map → class_of new.map ≡ class_of old.map
     → state_of new ≡ state_of old → new.is_fresh ≡ old.is_fresh → new.sizes ≡ old.sizes → IsWellFormed new
-well_same old new well kept same state fresh sizes =
-    well_by old new well kept.sound (ap (λ (s : Store). s.others) kept.store) (layout-place _ _ same) (ap (λ (l : Layout). l.free_pages) same) sizes
+well_same old new well kept same marks state fresh sizes =
+    well_by old new well kept.sound (classes_same old.map new.map (ap (λ (s : Store). s.heaps) kept.store) (λ a i. marks i a)) (ap (λ (s : Store). s.others) kept.store) (layout-place _ _ same) (ap (λ (l : Layout). l.free_pages) same) sizes
     (λ e. state ∙ well.fresh (sym fresh ∙ e) ∙ ap start_of (sym sizes))
 
 pub refused_same : {S E : Type 0} (old new : S) (r : Result S E) (e : E) → Leaves {U = Unit {0}} old r (Err e) new → new ≡ old

@@ -1,17 +1,19 @@
 -- The store of a machine at its start is that of the written start.
 use Rattle.std.proofs.lemmas.Bool.Decides.{nat_tests}
 use Rattle.std.proofs.lemmas.Bool.{le-leb, eq-eqb}
-use Rattle.std.proofs.Common.{inl, ◌≡◌, ◌≤◌, ◌<◌, ◌+◌, ◌*◌, ◌%◌, arith, ℕ, Bool, false, true, nat_lt, nat_le, nat_eq, IsSome, List, [], ◌∷◌, Option, Some, None, refl, ap}
+use Rattle.std.proofs.Common.{inl, ◌≡◌, ◌≤◌, ◌<◌, ◌+◌, ◌*◌, ◌%◌, arith, ℕ, Bool, false, true, nat_lt, nat_le, nat_eq, IsSome, List, [], ◌∷◌, Option, Some, None, refl, sym, ◌∙◌, ap}
 use Rattle.profile.specs.Sizes.{Sizes, AreGood}
+use Rattle.address_map.specs.declared.class.Class.TheVariants.{Plain}
 use Rattle.address_map.specs.declared.map.AddressMap.{AddressMap}
 use Rattle.address_map.specs.Bytes.{Bytes}
 use Rattle.address_map.specs.declared.region.Kind.TheVariants.{Rma}
-use Rattle.address_map.specs.Memory.{is_mapped, byte_at, byte_in, place, bytes_of, regions}
+use Rattle.address_map.specs.Memory.{is_mapped, byte_at, byte_in, place, bytes_of, class_of, regions}
 use Rattle.arm_step.specs.State.{start_state}
 use Rattle.std.specs.Prelude.{is_some}
 use Rattle.swi_dispatch.specs.declared.halt.Halt.{Halt}
+use Rattle.os_heap_lists.specs.Marks.{class_by}
 use Rattle.os_heap.specs.Ranges.{are_mapped, MayBegin}
-use Rattle.os_heap.specs.Store.{Store, store_of, heaps_in, others_in, IsSound}
+use Rattle.os_heap.specs.Store.{Store, store_of, heaps_in, others_in, AreClasses, IsSound}
 use Rattle.os_heap.proofs.Added.{are_mapped_from}
 use Rattle.swi_dispatch.specs.MachineState.{MachineState, start_of, is_start_mapped, bare_store, start_store, system_pages}
 
@@ -38,9 +40,14 @@ bare_sound s = record {
   heaps = tt;
   limits = record { guests = omega arith; areas = omega arith; place = tt };
   placed = (inl tt, tt);
-  apart = ((λ _. tt), tt);
+  apart = (tt, tt);
   few = omega arith;
 }
+
+-- and the marks are those of no heap
+pub bare_classes : (m : AddressMap) (s : Sizes) → store_of m ≡ bare_store s → ((a : ℕ) → class_of m a ≡ Plain) → AreClasses m
+unfolding class_by
+bare_classes m s e plain a = plain a ∙ sym (ap (λ (t : Store). class_by t.heaps a) e)
 
 area_mapped : (s : Sizes) (a : ℕ) → 0x01800000 ≤ a → a < 0x01800000 + 4096 * s.rma → is_start_mapped s a ≡ true
 area_mapped s a low high = grind (arith, nat_tests)

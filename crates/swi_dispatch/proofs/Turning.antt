@@ -8,13 +8,14 @@ use Rattle.arm_step.specs.State.{State}
 use Rattle.arm_step.specs.Step.{stepped}
 use Rattle.arm_step.specs.Turns.{Turns}
 use Rattle.arm_step.proofs.Framing.{step_keeps}
-use Rattle.os_heap.specs.Store.{store_of, owned_in, IsSound}
+use Rattle.os_heap.specs.Store.{store_of, owned_in, AreClasses, IsSound}
 use Rattle.os_heap.proofs.Frame.{IsKept}
+use Rattle.os_heap.proofs.Owned.{owned_marks}
 use Rattle.swi_dispatch.specs.declared.halt.Halt.{Halt}
 use Rattle.swi_dispatch.specs.MachineState.{MachineState, quiet, system_pages}
 use Rattle.swi_dispatch.specs.Step.{turned, turn_end, Turned}
 use Rattle.swi_dispatch.specs.Parts.{TakesTurn}
-use Rattle.swi_dispatch.proofs.Kept.{owned_same, by_words, keeps_kept, same_kept, kept_memory, kept_all, with_core}
+use Rattle.swi_dispatch.proofs.Kept.{by_words, keeps_kept, same_kept, kept_memory, kept_all, with_core}
 
 pub turned_by : (s : MachineState) (r : Result (State × Bytes) Turn) (t : Turn) (s' : MachineState) → Turned s r t s' → turn_end s' t ≡ turned s r
 turned_by s (Ok w) t s' h = ap (λ (x : Turn). turn_end s' x) h.0 ∙ ap quiet h.1
@@ -39,10 +40,10 @@ turned_core m n cpu cpu' halt (Err f) t same sound e h =
     (kept, (h.0, λ i. with_core (core i) halt (store i)))
 
 pub takes_turn : (m n : AddressMap) (cpu cpu' : State) (halt : Option Halt) (t : Turn)
-    → layout n ≡ layout m → IsSound (store_of m) → (store_of m).others ≡ system_pages ∷ []
+    → layout n ≡ layout m → IsSound (store_of m) → AreClasses m
     → Turns (cpu, bytes_of m) (stepped (is_owned m) cpu (bytes_of m)) t (cpu', bytes_of n)
     → IsKept m n × TakesTurn (with_core cpu halt (store_of m)) t (with_core cpu' halt (store_of n))
 unfolding store_of
-takes_turn m n cpu cpu' halt t same sound others h =
+takes_turn m n cpu cpu' halt t same sound classes h =
     turned_core m n cpu cpu' halt (stepped (owned_in (store_of m)) cpu (bytes_of m)) t same sound refl
-    (subst (λ (owned : ℕ → Bool). Turns (cpu, bytes_of m) (stepped owned cpu (bytes_of m)) t (cpu', bytes_of n)) (owned_same m sound others) h)
+    (subst (λ (owned : ℕ → Bool). Turns (cpu, bytes_of m) (stepped owned cpu (bytes_of m)) t (cpu', bytes_of n)) (owned_marks m classes) h)

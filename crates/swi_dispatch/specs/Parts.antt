@@ -3,7 +3,7 @@ use Rattle.std.specs.Prelude.{◌≡◌, ◌+◌, ℕ, Bool, true, false, Option
 use Rattle.profile.specs.Sizes.{Sizes}
 use Rattle.address_map.specs.declared.map.AddressMap.{AddressMap}
 use Rattle.address_map.specs.Memory.{is_mapped, free_pages}
-use Rattle.os_heap.specs.Store.{IsSound, store_of}
+use Rattle.os_heap.specs.Store.{AreClasses, IsSound, store_of}
 use Rattle.arm_step.specs.declared.turn.Turn.{Turn}
 use Rattle.arm_step.specs.State.{State}
 use Rattle.swi_dispatch.specs.declared.halt.Halt.{Halt}
@@ -33,10 +33,11 @@ Answers a next (Ok to) o = (o ≡ a.left) × ((to ≡ a.next) × (a.error ≡ No
 Answers a next (Err e) o = (o ≡ a.left) × ((next ≡ a.next) × (a.error ≡ Some e))
 
 -- What holds of every machine, whatever its guest does: memory spells the lists of all heaps, which share no byte with one another and with the
--- system pages; the fixed ranges are mapped, and their pages and the pool are all there are; and a machine that can still be booted stands as
+-- system pages; the words that these lists spell are those that are marked; the fixed ranges are mapped, and their pages and the pool are all there are; and a machine that can still be booted stands as
 -- at the start.
 pub record IsWellFormed (p : Parts) : Type 0 where
   pub sound : IsSound (store_of p.map)
+  pub classes : AreClasses p.map
   pub others : (store_of p.map).others ≡ system_pages ∷ []
   pub mapped : (a : ℕ) → is_mapped p.map a ≡ is_start_mapped p.sizes a
   pub pool : free_pages p.map + (p.sizes.app + p.sizes.rma + 3) ≡ p.sizes.pages

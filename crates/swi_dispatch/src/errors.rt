@@ -4,7 +4,7 @@
 ghost use Rattle.std.specs.Prelude.{ℕ, ◌≡◌, false, true};
 ghost use Rattle.profile.specs.ErrorNames.{error_code, error_name};
 ghost use Rattle.address_map.specs.Bytes.{AreMapped};
-ghost use Rattle.address_map.specs.Memory.{bytes_of, is_mapped, layout};
+ghost use Rattle.address_map.specs.Memory.{bytes_of, is_mapped, layout, class_of};
 ghost use Rattle.swi_dispatch.specs.Errors.{error_block};
 
 use crate::halt::Halt;
@@ -119,6 +119,7 @@ fn write_error(memory: &mut AddressMap, error: ErrorNumber)
     requires { AreMapped (is_mapped memory.old) 0x01C02100 256 }
     ensures bytes { bytes_of memory.new ≡ error_block (bytes_of memory.old) (error_code error) (error_name error) }
     ensures layout { layout memory.new ≡ layout memory.old }
+    ensures marks { class_of memory.new ≡ class_of memory.old }
 {
     let text = error_text(error).as_bytes();
     memory.put_word(ERROR_BLOCK, error.number());

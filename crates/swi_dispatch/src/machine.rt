@@ -2,8 +2,9 @@ ghost use Rattle.std.specs.Prelude.{◌≡◌, ◌≤◌, ◌+◌, ◌%◌, ◌&
 ghost use Rattle.std.specs.Option.{option_map};
 ghost use Rattle.profile.specs.Outcome.{Leaves};
 ghost use Rattle.profile.specs.Sizes.{AreGood};
-ghost use Rattle.address_map.specs.Memory.{is_mapped, byte_at, regions, free_pages};
-ghost use Rattle.os_heap.specs.Store.{store_of, IsSound};
+ghost use Rattle.address_map.specs.Memory.{is_mapped, byte_at, regions, free_pages, class_of};
+ghost use Rattle.address_map.specs.declared.class.Class.TheVariants.{Plain};
+ghost use Rattle.os_heap.specs.Store.{store_of, AreClasses, IsSound};
 ghost use Rattle.swi_dispatch.specs.MachineState.{is_start_mapped, start_store, system_pages};
 ghost use Rattle.swi_dispatch.specs.Step.{without_x};
 
@@ -322,6 +323,7 @@ fn without_x_bit(number: u32) -> u32
 fn start_memory(alloc: Global, config: Config) -> Result<AddressMap, AllocError>
     ensures store { IfOk result (λ m. store_of m ≡ start_store config) }
     ensures sound { IfOk result (λ m. IsSound (store_of m)) }
+    ensures classes { IfOk result AreClasses }
     ensures pool { IfOk result (λ m. free_pages m + (config.app + config.rma + 3) ≡ config.pages) }
     ensures sizes { AreGood config }
 {
@@ -335,6 +337,7 @@ fn bare_memory(alloc: Global, config: Config) -> Result<AddressMap, AllocError>
     ensures mapping { IfOk result (λ m. (a : ℕ) → is_mapped m a ≡ is_start_mapped config a) }
     ensures bytes { IfOk result (λ m. (a : ℕ) → byte_at m a ≡ 0) }
     ensures regions { IfOk result (λ m. regions m ≡ system_pages ∷ []) }
+    ensures marks { IfOk result (λ m. (a : ℕ) → class_of m a ≡ Plain) }
     ensures pool { IfOk result (λ m. free_pages m + (config.app + config.rma + 3) ≡ config.pages) }
     ensures sizes { AreGood config }
 {

@@ -2,11 +2,12 @@
 
 use super::Line::{Ends, Has, Holds, In, Lowest, New, Put, Registers, Run, Set, Words};
 use super::{Line, play};
-use crate::{Mode, Turn};
+use crate::{Cpu, Mode, Turn, step};
+use address_map::{AddressMap, Kind};
 use profile::Fault;
 use std::test::Fail;
 
-static LINES: [Line; 205] = [
+static LINES: [Line; 221] = [
     // STM R1!,{R2,R3,R4} by IA, IB, DA, DB
     New(0),
     Registers(0, 0x9010, 0x22, 0x33, 0x44),
@@ -231,7 +232,42 @@ static LINES: [Line; 205] = [
     Run(0xE8A1_000C),
     Holds(0x03FF_FFFC, 3),
     Has(1, 0x0400_0000),
+    // LDMIA R1,{R2,R3} and STMIA R1!,{R2,R3} with a page's end between the words
+    New(0),
+    Put(0x8FFC, 5),
+    Put(0x9000, 6),
+    Set(1, 0x8FFC),
+    Run(0xE891_000C),
+    Lowest(0, 0x8FFC, 5, 6, 0),
+    Registers(0, 0x8FFC, 7, 8, 0),
+    Run(0xE8A1_000C),
+    Holds(0x8FFC, 7),
+    Holds(0x9000, 8),
+    Has(1, 0x9004),
+    // LDMIA R1!,{R2,R3} whose second word is not mapped
+    New(0),
+    Registers(0, 0x9FFC, 2, 3, 4),
+    Ends(0xE8B1_000C, Turn::Fault(Fault::DataUnmapped)),
+    Lowest(0, 0x9FFC, 2, 3, 4),
+    Has(15, 0x8000),
 ];
+
+#[test]
+fn stores_no_block_with_an_owned_word_in_its_middle(rt: HostRuntime) -> Result<(), Fail> {
+    let mut memory = AddressMap::new(rt.alloc(), 1)?;
+    memory.map_pages(0x8000, 1);
+    // The four words of a heap's descriptor.
+    memory.own(Kind::Heap, 0x8104, 16);
+    let mut cpu = Cpu::new();
+    cpu.set_register(1, 0x8100);
+    cpu.set_register(2, 0x22);
+    // STMIA R1!,{R2-R7}: the words at &8100 and &8114 are the guest's
+    assert_eq!(rt; memory.store_word(0x8000, 0xE8A1_00FC), Ok(()));
+    assert_eq!(rt; step(&mut cpu, &mut memory), Turn::Fault(Fault::OwnedWord));
+    assert_eq!(rt; cpu.register(1), 0x8100);
+    assert_eq!(rt; memory.load_word(0x8100), Ok(0));
+    Ok(())
+}
 
 #[test]
 fn moves_several_registers(rt: HostRuntime) -> Result<(), Fail> {

@@ -18,6 +18,7 @@ loop-index-preserved c =
       bytes = c.loop-index.invariant.bytes ∙ with_words_step (bytes_of c.loop-index.memory) c.args.first c.loop-index.index c.args.words.now c.loop-index-test.true
           ∙ ap (λ b. with_words b (c.args.first + 4 * (c.loop-index.index + 1)) (drop (c.loop-index.index + 1) c.args.words.now)) (sym one);
       layout = c.put_word.ensures.layout ∙ c.loop-index.invariant.layout;
+      marks = c.put_word.ensures.marks ∙ c.loop-index.invariant.marks;
       mapped = mapped_tail (bytes_of c.args.memory.now) c.args.first (length c.args.words.now) c.loop-index.index c.loop-index-test.true c.loop-index.invariant.mapped;
     }
 

@@ -5,7 +5,7 @@ use Rattle.os_heap_lists.specs.Heap.{HeapList}
 use Rattle.os_heap.specs.Outcomes.{IsHeapAt}
 use Rattle.os_heap.specs.Store.{store_of, heap_in}
 use Rattle.os_heap.proofs.Added.{CanHold, can_hold, range_end}
-use Rattle.os_heap.proofs.Ending.{EndsAt, store_ended, sound_ended}
+use Rattle.os_heap.proofs.Ending.{EndsAt, store_ended, sound_ended, classes_ended}
 use Rattle.os_heap.proofs.Found.{found_at}
 use Rattle.os_heap.proofs.Frame.{layout-regions}
 use Rattle.os_heap.proofs.Tally.{heap_below}
@@ -51,6 +51,7 @@ returns-clause-store c =
       own = c.requires.kind;
       may = c.requires.may;
       same = c.put.ensures.layout;
+      marks = c.put.ensures.marks;
       word = c.put.ensures.word;
     } in
     let bytes : bytes_of c.set_len.new.self ≡ bytes_of c.put.new.map =
@@ -69,6 +70,7 @@ returns-clause-sound c =
       own = c.requires.kind;
       may = c.requires.may;
       same = c.put.ensures.layout;
+      marks = c.put.ensures.marks;
       word = c.put.ensures.word;
     } in
     let bytes : bytes_of c.set_len.new.self ≡ bytes_of c.put.new.map =
@@ -76,6 +78,25 @@ returns-clause-sound c =
     let same = layout-regions m c.put.new.map c.put.ensures.layout in
     let records = rw same at c.set_len.ensures.regions in
     sound_ended m c.put.new.map c.set_len.new.self h c.args.end ends bytes records
+
+pub returns-clause-classes : goal.returns-clause-classes
+returns-clause-classes c =
+    let m = c.args.map.now in
+    let h : HeapList = heap_in (bytes_of m) c.args.region.now in
+    let ends : EndsAt m c.put.new.map h c.args.end = record {
+      sound = c.requires.sound;
+      found = c.requires.found;
+      own = c.requires.kind;
+      may = c.requires.may;
+      same = c.put.ensures.layout;
+      marks = c.put.ensures.marks;
+      word = c.put.ensures.word;
+    } in
+    let bytes : bytes_of c.set_len.new.self ≡ bytes_of c.put.new.map =
+    λ i. record { mapped = λ a. is_some ((c.set_len.ensures.mapping i).place a); at = c.set_len.ensures.bytes i } in
+    let same = layout-regions m c.put.new.map c.put.ensures.layout in
+    let records = rw same at c.set_len.ensures.regions in
+    classes_ended m c.put.new.map c.set_len.new.self h c.args.end ends bytes records c.set_len.ensures.marks
 
 pub returns-clause-others : goal.returns-clause-others
 returns-clause-others c = ap (λ s. s.others) (returns-clause-store c)

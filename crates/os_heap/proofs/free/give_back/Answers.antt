@@ -1,9 +1,13 @@
-use Rattle.std.proofs.Common.{◌≡◌, ◌≢◌, ◌+◌, ◌∙◌, arith, sym, ap, inl}
+use Rattle.std.proofs.Common.{◌++◌, [], ◌∷◌, ◌-◌, ◌≡◌, ◌≢◌, ◌+◌, ◌∙◌, arith, sym, ap, inl}
 use Rattle.address_map.specs.Bytes.{word_at}
-use Rattle.address_map.specs.Memory.{byte_at}
+use Rattle.address_map.specs.Memory.{byte_at, class_of}
 use Rattle.os_heap.specs.Outcomes.{end_at}
+use Rattle.address_map.specs.declared.item.Item.TheVariants.{Free, Live}
+use Rattle.os_heap_lists.specs.Lists.{left_free}
+use Rattle.os_heap_lists.proofs.Spelling.{total_of-numbers}
+use Rattle.os_heap.proofs.Marking.{can_stand, still_written, still_freed, remarks_after}
 use Rattle.os_heap.proofs.Replace.{heap_below, heap_mapped}
-use Rattle.os_heap.proofs.Freeing.{block_facts, next_free_facts, releases_sunk, releases_joined, releases_alone}
+use Rattle.os_heap.proofs.Freeing.{block_facts, next_free_facts, gap_stands, releases_sunk, releases_joined, releases_alone}
 use Rattle.os_heap.proofs.free.give_back.Goals as goal
 
 pub overflow_add-base : goal.overflow_add-base
@@ -137,6 +141,87 @@ overflow_sub-at-then-behind-base c =
     let f = block_facts c.args.map.now c.args.heap (end_at c.args.map.now c.args.heap) c.args.block c.args.cursor.now.from c.args.cursor.now.at c.args.cursor.now.free c.args.cursor.now.gap c.requires.heap c.requires.block in
     omega (arith, f.low)
 
+pub remark_gap-requires-clause-low : goal.remark_gap-requires-clause-low
+remark_gap-requires-clause-low c =
+    let f = block_facts c.args.map.now c.args.heap (end_at c.args.map.now c.args.heap) c.args.block c.args.cursor.now.from c.args.cursor.now.at c.args.cursor.now.free c.args.cursor.now.gap c.requires.heap c.requires.block in
+    omega (arith, f.low)
+
+pub remark_gap-requires-clause-gap : goal.remark_gap-requires-clause-gap
+remark_gap-requires-clause-gap c =
+    gap_stands c.args.map.now c.put.new.map c.args.heap (end_at c.args.map.now c.args.heap) c.args.block c.args.cursor.now.from c.args.cursor.now.at c.args.cursor.now.free c.args.cursor.now.gap c.requires.heap c.requires.block
+    (c.put.ensures.layout ∙ c.put_link.ensures.layout)
+
+pub remark_gap-requires-clause-olds : goal.remark_gap-requires-clause-olds
+remark_gap-requires-clause-olds c =
+    let f = block_facts c.args.map.now c.args.heap (end_at c.args.map.now c.args.heap) c.args.block c.args.cursor.now.from c.args.cursor.now.at c.args.cursor.now.free c.args.cursor.now.gap c.requires.heap c.requires.block in
+    let own = c.word-own.ensures ∙ f.facts.total_word in
+    can_stand c.args.map.now c.put.new.map c.args.heap (end_at c.args.map.now c.args.heap) c.args.cursor.now.at _ (Live c.word-own.result ∷ []) c.requires.heap (c.put.ensures.layout ∙ c.put_link.ensures.layout)
+    (total_of-numbers c.word-own.result (omega (arith, own, f.facts.size)) (omega (arith, own, f.facts.eighths)), tt) f.facts.whole (omega (arith, f.low)) (omega (arith, own, f.facts.high))
+
+pub remark_gap-requires-clause-news : goal.remark_gap-requires-clause-news
+remark_gap-requires-clause-news c =
+    let f = block_facts c.args.map.now c.args.heap (end_at c.args.map.now c.args.heap) c.args.block c.args.cursor.now.from c.args.cursor.now.at c.args.cursor.now.free c.args.cursor.now.gap c.requires.heap c.requires.block in
+    can_stand c.args.map.now c.put.new.map c.args.heap (end_at c.args.map.now c.args.heap) (c.args.cursor.now.at - c.args.cursor.now.gap) _ [] c.requires.heap (c.put.ensures.layout ∙ c.put_link.ensures.layout)
+    tt f.whole (omega (arith, f.low)) (omega (arith, f.low, f.facts.high))
+
+pub remark_gap-requires-then-behind-cursor-clause-low : goal.remark_gap-requires-then-behind-cursor-clause-low
+remark_gap-requires-then-behind-cursor-clause-low c =
+    let f = block_facts c.args.map.now c.args.heap (end_at c.args.map.now c.args.heap) c.args.block c.args.cursor.now.from c.args.cursor.now.at c.args.cursor.now.free c.args.cursor.now.gap c.requires.heap c.requires.block in
+    omega (arith, f.low)
+
+pub remark_gap-requires-then-behind-cursor-clause-gap : goal.remark_gap-requires-then-behind-cursor-clause-gap
+remark_gap-requires-then-behind-cursor-clause-gap c =
+    gap_stands c.args.map.now c.put_free.new.map c.args.heap (end_at c.args.map.now c.args.heap) c.args.block c.args.cursor.now.from c.args.cursor.now.at c.args.cursor.now.free c.args.cursor.now.gap c.requires.heap c.requires.block
+    c.put_free.ensures.layout
+
+pub remark_gap-requires-then-behind-cursor-clause-olds : goal.remark_gap-requires-then-behind-cursor-clause-olds
+remark_gap-requires-then-behind-cursor-clause-olds c =
+    let f = block_facts c.args.map.now c.args.heap (end_at c.args.map.now c.args.heap) c.args.block c.args.cursor.now.from c.args.cursor.now.at c.args.cursor.now.free c.args.cursor.now.gap c.requires.heap c.requires.block in
+    let own = c.word-own.ensures ∙ f.facts.total_word in
+    let here : c.args.cursor.now.at + c.requires.block.total ≡ c.args.cursor.now.free = sym (ap (λ n. c.args.cursor.now.at + n) own) ∙ c.if-behind-cursor.true in
+    let k = next_free_facts c.args.map.now c.args.heap (end_at c.args.map.now c.args.heap) c.args.block c.args.cursor.now.from c.args.cursor.now.at c.args.cursor.now.free c.args.cursor.now.gap c.requires.heap c.requires.block here in
+    let other = rw own at c.word-room.ensures in
+    let sum = other ∙ k.facts.total_word in
+    can_stand c.args.map.now c.put_free.new.map c.args.heap (end_at c.args.map.now c.args.heap) c.args.cursor.now.at _ (Live c.word-own.result ∷ (Free c.word-room.result ∷ [])) c.requires.heap c.put_free.ensures.layout (
+      total_of-numbers c.word-own.result (omega (arith, own, f.facts.size)) (omega (arith, own, f.facts.eighths)),
+      (total_of-numbers c.word-room.result (omega (arith, sum, k.facts.size)) (omega (arith, sum, k.facts.eighths)), tt),
+    ) f.facts.whole (omega (arith, f.low)) (omega (arith, own, sum, k.facts.high))
+
+pub remark_gap-requires-then-behind-cursor-clause-news : goal.remark_gap-requires-then-behind-cursor-clause-news
+remark_gap-requires-then-behind-cursor-clause-news c =
+    let f = block_facts c.args.map.now c.args.heap (end_at c.args.map.now c.args.heap) c.args.block c.args.cursor.now.from c.args.cursor.now.at c.args.cursor.now.free c.args.cursor.now.gap c.requires.heap c.requires.block in
+    let own = c.word-own.ensures ∙ f.facts.total_word in
+    let here : c.args.cursor.now.at + c.requires.block.total ≡ c.args.cursor.now.free = sym (ap (λ n. c.args.cursor.now.at + n) own) ∙ c.if-behind-cursor.true in
+    let k = next_free_facts c.args.map.now c.args.heap (end_at c.args.map.now c.args.heap) c.args.block c.args.cursor.now.from c.args.cursor.now.at c.args.cursor.now.free c.args.cursor.now.gap c.requires.heap c.requires.block here in
+    let other = rw own at c.word-room.ensures in
+    let sum = other ∙ k.facts.total_word in
+    can_stand c.args.map.now c.put_free.new.map c.args.heap (end_at c.args.map.now c.args.heap) (c.args.cursor.now.at - c.args.cursor.now.gap) _ (Free (c.args.cursor.now.gap + c.word-own.result + c.word-room.result) ∷ []) c.requires.heap c.put_free.ensures.layout
+    (total_of-numbers (c.args.cursor.now.gap + c.word-own.result + c.word-room.result) (omega (arith, own, sum, f.facts.size)) (omega (arith, own, sum, f.eighths, f.facts.eighths, k.facts.eighths)), tt) f.whole (omega (arith, f.low)) (omega (arith, own, sum, f.low, k.facts.high))
+
+pub remark_gap-requires-2-clause-low : goal.remark_gap-requires-2-clause-low
+remark_gap-requires-2-clause-low c =
+    let f = block_facts c.args.map.now c.args.heap (end_at c.args.map.now c.args.heap) c.args.block c.args.cursor.now.from c.args.cursor.now.at c.args.cursor.now.free c.args.cursor.now.gap c.requires.heap c.requires.block in
+    omega (arith, f.low)
+
+pub remark_gap-requires-2-clause-gap : goal.remark_gap-requires-2-clause-gap
+remark_gap-requires-2-clause-gap c =
+    gap_stands c.args.map.now c.put_free-2.new.map c.args.heap (end_at c.args.map.now c.args.heap) c.args.block c.args.cursor.now.from c.args.cursor.now.at c.args.cursor.now.free c.args.cursor.now.gap c.requires.heap c.requires.block
+    c.put_free-2.ensures.layout
+
+pub remark_gap-requires-2-clause-olds : goal.remark_gap-requires-2-clause-olds
+remark_gap-requires-2-clause-olds c =
+    let f = block_facts c.args.map.now c.args.heap (end_at c.args.map.now c.args.heap) c.args.block c.args.cursor.now.from c.args.cursor.now.at c.args.cursor.now.free c.args.cursor.now.gap c.requires.heap c.requires.block in
+    let own = c.word-own.ensures ∙ f.facts.total_word in
+    can_stand c.args.map.now c.put_free-2.new.map c.args.heap (end_at c.args.map.now c.args.heap) c.args.cursor.now.at _ (Live c.word-own.result ∷ []) c.requires.heap c.put_free-2.ensures.layout
+    (total_of-numbers c.word-own.result (omega (arith, own, f.facts.size)) (omega (arith, own, f.facts.eighths)), tt) f.facts.whole (omega (arith, f.low)) (omega (arith, own, f.facts.high))
+
+pub remark_gap-requires-2-clause-news : goal.remark_gap-requires-2-clause-news
+remark_gap-requires-2-clause-news c =
+    let f = block_facts c.args.map.now c.args.heap (end_at c.args.map.now c.args.heap) c.args.block c.args.cursor.now.from c.args.cursor.now.at c.args.cursor.now.free c.args.cursor.now.gap c.requires.heap c.requires.block in
+    let own = c.word-own.ensures ∙ f.facts.total_word in
+    can_stand c.args.map.now c.put_free-2.new.map c.args.heap (end_at c.args.map.now c.args.heap) (c.args.cursor.now.at - c.args.cursor.now.gap) _ (Free (c.args.cursor.now.gap + c.word-own.result) ∷ []) c.requires.heap c.put_free-2.ensures.layout
+    (total_of-numbers (c.args.cursor.now.gap + c.word-own.result) (omega (arith, own, f.facts.size)) (omega (arith, own, f.eighths, f.facts.eighths)), tt) f.whole (omega (arith, f.low)) (omega (arith, own, f.low, f.facts.high))
+
 pub returns-then-behind-base : goal.returns-then-behind-base
 returns-then-behind-base c =
     let f = block_facts c.args.map.now c.args.heap (end_at c.args.map.now c.args.heap) c.args.block c.args.cursor.now.from c.args.cursor.now.at c.args.cursor.now.free c.args.cursor.now.gap c.requires.heap c.requires.block in
@@ -144,7 +229,10 @@ returns-then-behind-base c =
     let ends : c.args.cursor.now.at + c.requires.block.total ≡ c.args.heap + word_at (byte_at c.args.map.now) (c.args.heap + 8) =
     sym (ap (λ n. c.args.cursor.now.at + n) own) ∙ c.if-behind-base.true ∙ ap (λ n. c.args.heap + n) c.word.ensures in
     releases_sunk c.args.map.now _ c.args.heap (end_at c.args.map.now c.args.heap) c.args.block c.args.cursor.now.from c.args.cursor.now.at c.args.cursor.now.free c.args.cursor.now.gap _ c.requires.heap c.requires.block ends
-    (c.put.ensures.layout ∙ c.put_link.ensures.layout) c.put_link.ensures.word c.put.ensures.word
+    (c.remark_gap.ensures.layout ∙ c.put.ensures.layout ∙ c.put_link.ensures.layout) c.put_link.ensures.word
+    (still_written _ _ _ _ _ c.remark_gap.ensures.bytes c.put.ensures.word)
+    (remarks_after (class_of c.args.map.now) (class_of c.put.new.map) (class_of c.remark_gap.new.map) (c.args.cursor.now.at - c.args.cursor.now.gap) (left_free c.args.cursor.now.gap ++ Live c.requires.block.total ∷ []) []
+    (c.put.ensures.marks ∙ c.put_link.ensures.marks) (rw own at c.remark_gap.ensures.marks))
 
 pub overflow_add-behind-then-behind-cursor : goal.overflow_add-behind-then-behind-cursor
 overflow_add-behind-then-behind-cursor c =
@@ -154,16 +242,16 @@ overflow_add-behind-then-behind-cursor c =
     let k = next_free_facts c.args.map.now c.args.heap (end_at c.args.map.now c.args.heap) c.args.block c.args.cursor.now.from c.args.cursor.now.at c.args.cursor.now.free c.args.cursor.now.gap c.requires.heap c.requires.block here in
     omega (arith, own, k.facts.high, k.facts.top, k.facts.size)
 
-pub word-requires-then-behind-cursor-clause-aligned : goal.word-requires-then-behind-cursor-clause-aligned
-word-requires-then-behind-cursor-clause-aligned c =
+pub word-room-requires-clause-aligned : goal.word-room-requires-clause-aligned
+word-room-requires-clause-aligned c =
     let f = block_facts c.args.map.now c.args.heap (end_at c.args.map.now c.args.heap) c.args.block c.args.cursor.now.from c.args.cursor.now.at c.args.cursor.now.free c.args.cursor.now.gap c.requires.heap c.requires.block in
     let own = c.word-own.ensures ∙ f.facts.total_word in
     let here : c.args.cursor.now.at + c.requires.block.total ≡ c.args.cursor.now.free = sym (ap (λ n. c.args.cursor.now.at + n) own) ∙ c.if-behind-cursor.true in
     let k = next_free_facts c.args.map.now c.args.heap (end_at c.args.map.now c.args.heap) c.args.block c.args.cursor.now.from c.args.cursor.now.at c.args.cursor.now.free c.args.cursor.now.gap c.requires.heap c.requires.block here in
     rw own (omega (arith, k.facts.whole))
 
-pub word-requires-then-behind-cursor-clause-mapped : goal.word-requires-then-behind-cursor-clause-mapped
-word-requires-then-behind-cursor-clause-mapped c =
+pub word-room-requires-clause-mapped : goal.word-room-requires-clause-mapped
+word-room-requires-clause-mapped c =
     let f = block_facts c.args.map.now c.args.heap (end_at c.args.map.now c.args.heap) c.args.block c.args.cursor.now.from c.args.cursor.now.at c.args.cursor.now.free c.args.cursor.now.gap c.requires.heap c.requires.block in
     let own = c.word-own.ensures ∙ f.facts.total_word in
     let here : c.args.cursor.now.at + c.requires.block.total ≡ c.args.cursor.now.free = sym (ap (λ n. c.args.cursor.now.at + n) own) ∙ c.if-behind-cursor.true in
@@ -176,7 +264,7 @@ overflow_add-joined c =
     let own = c.word-own.ensures ∙ f.facts.total_word in
     let here : c.args.cursor.now.at + c.requires.block.total ≡ c.args.cursor.now.free = sym (ap (λ n. c.args.cursor.now.at + n) own) ∙ c.if-behind-cursor.true in
     let k = next_free_facts c.args.map.now c.args.heap (end_at c.args.map.now c.args.heap) c.args.block c.args.cursor.now.from c.args.cursor.now.at c.args.cursor.now.free c.args.cursor.now.gap c.requires.heap c.requires.block here in
-    let other = rw own at c.word-then-behind-cursor.ensures in
+    let other = rw own at c.word-room.ensures in
     let sum = other ∙ k.facts.total_word in
     omega (arith, own, sum, f.low, k.facts.high, k.facts.top)
 
@@ -218,20 +306,26 @@ returns-then-behind-cursor c =
     let own = c.word-own.ensures ∙ f.facts.total_word in
     let here : c.args.cursor.now.at + c.requires.block.total ≡ c.args.cursor.now.free = sym (ap (λ n. c.args.cursor.now.at + n) own) ∙ c.if-behind-cursor.true in
     let k = next_free_facts c.args.map.now c.args.heap (end_at c.args.map.now c.args.heap) c.args.block c.args.cursor.now.from c.args.cursor.now.at c.args.cursor.now.free c.args.cursor.now.gap c.requires.heap c.requires.block here in
-    let other = rw own at c.word-then-behind-cursor.ensures in
+    let other = rw own at c.word-room.ensures in
     let sum = other ∙ k.facts.total_word in
     let next = rw own at c.follow-next.ensures in
     let words = rw (own, sum) at c.put_free.ensures.words in
+    let change = rw (own, sum) at c.remark_gap-then-behind-cursor.ensures.marks in
     releases_joined c.args.map.now _ c.args.heap (end_at c.args.map.now c.args.heap) c.args.block c.args.cursor.now.from c.args.cursor.now.at c.args.cursor.now.free c.args.cursor.now.gap c.follow-next.result c.requires.heap c.requires.block k
-    c.put_free.ensures.layout (next ∙ k.onward) words
+    (c.remark_gap-then-behind-cursor.ensures.layout ∙ c.put_free.ensures.layout) (next ∙ k.onward)
+    (still_freed _ _ _ _ _ _ _ _ c.remark_gap-then-behind-cursor.ensures.bytes words) (remarks_after (class_of c.args.map.now) (class_of c.put_free.new.map) (class_of c.remark_gap-then-behind-cursor.new.map) (c.args.cursor.now.at - c.args.cursor.now.gap) (left_free c.args.cursor.now.gap ++ Live c.requires.block.total ∷ (Free k.total ∷ [])) (Free (c.args.cursor.now.gap + c.requires.block.total + k.total) ∷ [])
+    c.put_free.ensures.marks change)
 
 pub returns : goal.returns
 returns c =
     let f = block_facts c.args.map.now c.args.heap (end_at c.args.map.now c.args.heap) c.args.block c.args.cursor.now.from c.args.cursor.now.at c.args.cursor.now.free c.args.cursor.now.gap c.requires.heap c.requires.block in
     let own = c.word-own.ensures ∙ f.facts.total_word in
     let words = rw own at c.put_free-2.ensures.words in
+    let change = rw own at c.remark_gap-2.ensures.marks in
     let inside : c.args.cursor.now.at + c.requires.block.total ≢ c.args.heap + word_at (byte_at c.args.map.now) (c.args.heap + 8) =
     λ e. c.if-behind-base.false (ap (λ n. c.args.cursor.now.at + n) own ∙ e ∙ sym (ap (λ n. c.args.heap + n) c.word.ensures)) in
     let other : c.args.cursor.now.at + c.requires.block.total ≢ c.args.cursor.now.free = λ e. c.if-behind-cursor.false (ap (λ n. c.args.cursor.now.at + n) own ∙ e) in
     releases_alone c.args.map.now _ c.args.heap (end_at c.args.map.now c.args.heap) c.args.block c.args.cursor.now.from c.args.cursor.now.at c.args.cursor.now.free c.args.cursor.now.gap c.requires.heap c.requires.block inside other
-    c.put_free-2.ensures.layout words
+    (c.remark_gap-2.ensures.layout ∙ c.put_free-2.ensures.layout)
+    (still_freed _ _ _ _ _ _ _ _ c.remark_gap-2.ensures.bytes words) (remarks_after (class_of c.args.map.now) (class_of c.put_free-2.new.map) (class_of c.remark_gap-2.new.map) (c.args.cursor.now.at - c.args.cursor.now.gap) (left_free c.args.cursor.now.gap ++ Live c.requires.block.total ∷ []) (Free (c.args.cursor.now.gap + c.requires.block.total) ∷ [])
+    c.put_free-2.ensures.marks change)

@@ -1,13 +1,20 @@
-use Rattle.std.proofs.Common.{◌≡◌, [], ◌∷◌, ◌++◌, is_some, ap, sym, subst, ◌∙◌, arith}
+use Rattle.std.proofs.Common.{ℕ, cond, ◌≡◌, [], ◌∷◌, ◌++◌, is_some, ap, sym, subst, ◌∙◌, arith}
+use Rattle.std.proofs.lemmas.Bool.{both_ways}
 use Rattle.address_map.specs.declared.region.Region.{Region}
-use Rattle.address_map.specs.Memory.{byte_at, bytes_of, regions}
+use Rattle.address_map.specs.Bytes.{in_range, word_start}
+use Rattle.address_map.specs.Memory.{byte_at, bytes_of, class_of, regions}
+use Rattle.address_map.specs.declared.class.Class.{Class}
+use Rattle.address_map.specs.declared.class.Class.TheVariants as class
 use Rattle.address_map.proofs.Equations.{same_bytes}
+use Rattle.address_map.proofs.Marking.{heap_is_no_word}
 use Rattle.address_map.proofs.Stores.{layout-mapping}
 use Rattle.os_heap_lists.specs.Heap.{with_heap}
 use Rattle.os_heap.specs.Store.{store_of, IsSound}
 use Rattle.os_heap.specs.Calls.{begun_with}
 use Rattle.os_heap.proofs.Frame.{layout-regions}
-use Rattle.os_heap.proofs.Added.{CanHold, can_hold, range_end, records_room, recorded, store_begun, begun_sound}
+use Rattle.os_heap.proofs.Added.{CanHold, can_hold, range_end, records_room, recorded, store_begun, begun_sound, classes_begun}
+use Rattle.os_heap.proofs.Marking.{heap_unmarked}
+use Rattle.os_heap.proofs.Writing.{still_mapped}
 use Rattle.os_heap.proofs.init.make.Goals as goal
 
 pub write_descriptor-requires-clause-aligned : goal.write_descriptor-requires-clause-aligned
@@ -31,20 +38,36 @@ own-requires-clause-region c =
       end = range_end c.args.map.now c.args.heap c.args.size can.mapped (omega (arith, can.low));
     }
 
+pub mark_descriptor-requires-clause-aligned : goal.mark_descriptor-requires-clause-aligned
+unfolding store_of
+mark_descriptor-requires-clause-aligned c = (can_hold (bytes_of c.args.map.now) c.args.heap c.args.size c.requires.may.region).aligned
+
+pub mark_descriptor-requires-clause-mapped : goal.mark_descriptor-requires-clause-mapped
+unfolding store_of
+mark_descriptor-requires-clause-mapped c =
+    let can : CanHold (bytes_of c.args.map.now) c.args.heap c.args.size = can_hold (bytes_of c.args.map.now) c.args.heap c.args.size c.requires.may.region in
+    λ a low high. still_mapped _ _ a c.write_descriptor.ensures.layout (can.mapped a low (omega (arith, high, can.low)))
+
 pub own-requires-clause-room : goal.own-requires-clause-room
 own-requires-clause-room c =
-    let same : regions c.write_descriptor.new.map ≡ regions c.args.map.now = layout-regions _ _ c.write_descriptor.ensures.layout in
-    rw same (records_room c.args.map.now c.args.kind c.args.heap c.requires.sound c.requires.may.room)
+    let same : regions c.mark_descriptor.new.map ≡ regions c.args.map.now =
+    layout-regions _ _ (c.mark_descriptor.ensures.layout ∙ c.write_descriptor.ensures.layout) in
+    λ _. rw same (records_room c.args.map.now c.args.kind c.args.heap c.requires.sound c.requires.may.room)
+
+pub own-requires-clause-mapped : goal.own-requires-clause-mapped
+own-requires-clause-mapped c = λ is. absurd (both_ways _ (heap_is_no_word c.args.kind c.requires.kind) is)
 
 pub returns-clause-store : goal.returns-clause-store
 returns-clause-store c =
     let r : Region = record { kind = c.args.kind; at = c.args.heap; len = c.args.size } in
     let records : regions c.own.new.self ≡ regions c.args.map.now ++ r ∷ [] =
-    c.own.ensures.regions ∙ recorded (regions c.write_descriptor.new.map) c.args.kind c.args.heap c.args.size c.requires.kind ∙ ap (λ rs. rs ++ r ∷ []) (layout-regions _ _ c.write_descriptor.ensures.layout) in
-    let moved : bytes_of c.own.new.self ≡ bytes_of c.write_descriptor.new.map =
+    c.own.ensures.regions ∙ recorded (regions c.mark_descriptor.new.map) c.args.kind c.args.heap c.args.size c.requires.kind
+    ∙ ap (λ rs. rs ++ r ∷ []) (layout-regions _ _ (c.mark_descriptor.ensures.layout ∙ c.write_descriptor.ensures.layout)) in
+    let moved : bytes_of c.own.new.self ≡ bytes_of c.mark_descriptor.new.map =
     λ i. record { mapped = λ a. is_some ((c.own.ensures.mapping i).place a); at = c.own.ensures.bytes i } in
-    let written = same_bytes c.args.map.now c.write_descriptor.new.map (with_heap (byte_at c.args.map.now) c.args.heap c.args.size [])
-    c.write_descriptor.ensures.layout c.write_descriptor.ensures.bytes in
+    let written = same_bytes c.args.map.now c.mark_descriptor.new.map (with_heap (byte_at c.args.map.now) c.args.heap c.args.size [])
+    (c.mark_descriptor.ensures.layout ∙ c.write_descriptor.ensures.layout)
+    (λ a. ap (λ (f : ℕ → ℕ). f a) c.mark_descriptor.ensures.bytes ∙ c.write_descriptor.ensures.bytes a) in
     store_begun c.args.map.now c.own.new.self c.args.kind c.args.heap c.args.size c.requires.kind c.requires.may c.requires.sound records (moved ∙ written)
 
 pub returns-clause-sound : goal.returns-clause-sound
@@ -52,8 +75,15 @@ returns-clause-sound c =
     let store : store_of c.own.new.self ≡ begun_with c.args.kind (store_of c.args.map.now) c.args.heap c.args.size = returns-clause-store c in
     subst IsSound (sym store) (begun_sound c.args.kind (store_of c.args.map.now) c.args.heap c.args.size c.requires.may c.requires.sound)
 
+pub returns-clause-classes : goal.returns-clause-classes
+returns-clause-classes c =
+    classes_begun c.args.map.now c.own.new.self c.args.kind c.args.heap c.args.size (returns-clause-store c)
+    (λ a. c.own.ensures.marks a ∙ heap_unmarked c.args.kind c.args.heap (class_of c.mark_descriptor.new.map) a c.requires.kind
+    ∙ c.mark_descriptor.ensures.marks a
+    ∙ ap (λ (f : ℕ → Class). cond (in_range c.args.heap 16 (word_start a)) class.Heap (f a)) c.write_descriptor.ensures.marks)
+
 pub returns-clause-others : goal.returns-clause-others
 returns-clause-others c = ap (λ s. s.others) (returns-clause-store c)
 
 pub returns-clause-mapping : goal.returns-clause-mapping
-returns-clause-mapping c = c.own.ensures.mapping ∙ layout-mapping _ _ c.write_descriptor.ensures.layout
+returns-clause-mapping c = c.own.ensures.mapping ∙ layout-mapping _ _ (c.mark_descriptor.ensures.layout ∙ c.write_descriptor.ensures.layout)

@@ -1,8 +1,11 @@
-use Rattle.std.proofs.Common.{◌≡◌, ◌≢◌, ◌+◌, ◌<◌, ◌∙◌, ap, sym, arith}
+use Rattle.std.proofs.Common.{[], ◌∷◌, ◌-◌, ◌≡◌, ◌≢◌, ◌+◌, ◌<◌, ◌∙◌, ap, sym, arith}
 use Rattle.address_map.specs.Bytes.{word_at}
-use Rattle.address_map.specs.Memory.{byte_at}
+use Rattle.address_map.specs.Memory.{byte_at, class_of}
 use Rattle.os_heap.specs.Outcomes.{end_at}
 use Rattle.os_heap_lists.proofs.Reading.{total_facts}
+use Rattle.address_map.specs.declared.item.Item.TheVariants.{Free, Live}
+use Rattle.os_heap_lists.proofs.Spelling.{total_of-numbers}
+use Rattle.os_heap.proofs.Marking.{can_stand, still_divided, remarks_after}
 use Rattle.os_heap.proofs.Replace.{heap_mapped}
 use Rattle.os_heap.proofs.Freeing.{next_free_facts}
 use Rattle.os_heap.proofs.Refitting.{place_facts}
@@ -33,16 +36,16 @@ overflow_add-behind-then-behind-cursor c =
     let k = next_free_facts c.args.map.now c.args.heap (end_at c.args.map.now c.args.heap) c.args.block c.args.cursor.now.from c.args.cursor.now.at c.args.cursor.now.free c.args.cursor.now.gap c.requires.heap c.requires.block here in
     omega (arith, own, k.facts.high, k.facts.top, k.facts.size)
 
-pub word-requires-clause-aligned : goal.word-requires-clause-aligned
-word-requires-clause-aligned c =
+pub word-room-requires-clause-aligned : goal.word-room-requires-clause-aligned
+word-room-requires-clause-aligned c =
     let f = place_facts c.args.map.now c.args.heap (end_at c.args.map.now c.args.heap) c.args.block c.args.cursor.now.from c.args.cursor.now.at c.args.cursor.now.free c.args.cursor.now.gap c.requires.heap c.requires.block in
     let own = c.word-total.ensures ∙ f.facts.total_word in
     let here : c.args.cursor.now.at + c.requires.block.total ≡ c.args.cursor.now.free = sym (ap (λ n. c.args.cursor.now.at + n) own) ∙ c.if-behind-cursor.true in
     let k = next_free_facts c.args.map.now c.args.heap (end_at c.args.map.now c.args.heap) c.args.block c.args.cursor.now.from c.args.cursor.now.at c.args.cursor.now.free c.args.cursor.now.gap c.requires.heap c.requires.block here in
     rw own (omega (arith, k.facts.whole))
 
-pub word-requires-clause-mapped : goal.word-requires-clause-mapped
-word-requires-clause-mapped c =
+pub word-room-requires-clause-mapped : goal.word-room-requires-clause-mapped
+word-room-requires-clause-mapped c =
     let f = place_facts c.args.map.now c.args.heap (end_at c.args.map.now c.args.heap) c.args.block c.args.cursor.now.from c.args.cursor.now.at c.args.cursor.now.free c.args.cursor.now.gap c.requires.heap c.requires.block in
     let own = c.word-total.ensures ∙ f.facts.total_word in
     let here : c.args.cursor.now.at + c.requires.block.total ≡ c.args.cursor.now.free = sym (ap (λ n. c.args.cursor.now.at + n) own) ∙ c.if-behind-cursor.true in
@@ -55,7 +58,7 @@ overflow_add-joined c =
     let own = c.word-total.ensures ∙ f.facts.total_word in
     let here : c.args.cursor.now.at + c.requires.block.total ≡ c.args.cursor.now.free = sym (ap (λ n. c.args.cursor.now.at + n) own) ∙ c.if-behind-cursor.true in
     let k = next_free_facts c.args.map.now c.args.heap (end_at c.args.map.now c.args.heap) c.args.block c.args.cursor.now.from c.args.cursor.now.at c.args.cursor.now.free c.args.cursor.now.gap c.requires.heap c.requires.block here in
-    let other = rw own at c.word.ensures in
+    let other = rw own at c.word-room.ensures in
     let sum = other ∙ k.facts.total_word in
     omega (arith, own, sum, k.facts.high, k.facts.top)
 
@@ -91,6 +94,60 @@ follow-next-requires-clause-fits c =
     let k = next_free_facts c.args.map.now c.args.heap (end_at c.args.map.now c.args.heap) c.args.block c.args.cursor.now.from c.args.cursor.now.at c.args.cursor.now.free c.args.cursor.now.gap c.requires.heap c.requires.block here in
     rw (own, k.onward) (omega (arith, k.facts.next_high))
 
+pub remark-requires-clause-olds : goal.remark-requires-clause-olds
+remark-requires-clause-olds c =
+    let f = place_facts c.args.map.now c.args.heap (end_at c.args.map.now c.args.heap) c.args.block c.args.cursor.now.from c.args.cursor.now.at c.args.cursor.now.free c.args.cursor.now.gap c.requires.heap c.requires.block in
+    let own = c.word-total.ensures ∙ f.facts.total_word in
+    let here : c.args.cursor.now.at + c.requires.block.total ≡ c.args.cursor.now.free = sym (ap (λ n. c.args.cursor.now.at + n) own) ∙ c.if-behind-cursor.true in
+    let k = next_free_facts c.args.map.now c.args.heap (end_at c.args.map.now c.args.heap) c.args.block c.args.cursor.now.from c.args.cursor.now.at c.args.cursor.now.free c.args.cursor.now.gap c.requires.heap c.requires.block here in
+    let other = rw own at c.word-room.ensures in
+    let sum = other ∙ k.facts.total_word in
+    can_stand c.args.map.now c.divide.new.map c.args.heap (end_at c.args.map.now c.args.heap) c.args.cursor.now.at _ (Live c.word-total.result ∷ (Free c.word-room.result ∷ [])) c.requires.heap c.divide.ensures.layout (
+      total_of-numbers c.word-total.result (omega (arith, own, f.facts.size)) (omega (arith, own, f.facts.eighths)),
+      (total_of-numbers c.word-room.result (omega (arith, sum, k.facts.size)) (omega (arith, sum, k.facts.eighths)), tt),
+    ) f.facts.whole (omega (arith, f.facts.low)) (omega (arith, own, sum, k.facts.high))
+
+pub remark-requires-clause-news : goal.remark-requires-clause-news
+remark-requires-clause-news c =
+    let f = place_facts c.args.map.now c.args.heap (end_at c.args.map.now c.args.heap) c.args.block c.args.cursor.now.from c.args.cursor.now.at c.args.cursor.now.free c.args.cursor.now.gap c.requires.heap c.requires.block in
+    let own = c.word-total.ensures ∙ f.facts.total_word in
+    let here : c.args.cursor.now.at + c.requires.block.total ≡ c.args.cursor.now.free = sym (ap (λ n. c.args.cursor.now.at + n) own) ∙ c.if-behind-cursor.true in
+    let k = next_free_facts c.args.map.now c.args.heap (end_at c.args.map.now c.args.heap) c.args.block c.args.cursor.now.from c.args.cursor.now.at c.args.cursor.now.free c.args.cursor.now.gap c.requires.heap c.requires.block here in
+    let other = rw own at c.word-room.ensures in
+    let sum = other ∙ k.facts.total_word in
+    let less : c.args.needed < c.requires.block.total = rw f.facts.total_word at c.requires.smaller in
+    let n = total_facts c.args.needed c.requires.total in
+    can_stand c.args.map.now c.divide.new.map c.args.heap (end_at c.args.map.now c.args.heap) c.args.cursor.now.at _ (Live c.args.needed ∷ (Free (c.word-total.result - c.args.needed + c.word-room.result) ∷ [])) c.requires.heap c.divide.ensures.layout (
+      c.requires.total,
+      (
+        total_of-numbers (c.word-total.result - c.args.needed + c.word-room.result) (omega (arith, own, sum, k.facts.size))
+            (omega (arith, own, sum, n.1, f.facts.eighths, k.facts.eighths)),
+        tt,
+      ),
+    ) f.facts.whole (omega (arith, f.facts.low)) (omega (arith, own, sum, k.facts.high))
+
+pub remark-requires-2-clause-olds : goal.remark-requires-2-clause-olds
+remark-requires-2-clause-olds c =
+    let f = place_facts c.args.map.now c.args.heap (end_at c.args.map.now c.args.heap) c.args.block c.args.cursor.now.from c.args.cursor.now.at c.args.cursor.now.free c.args.cursor.now.gap c.requires.heap c.requires.block in
+    let own = c.word-total.ensures ∙ f.facts.total_word in
+    can_stand c.args.map.now c.divide-2.new.map c.args.heap (end_at c.args.map.now c.args.heap) c.args.cursor.now.at _ (Live c.word-total.result ∷ []) c.requires.heap c.divide-2.ensures.layout
+    (total_of-numbers c.word-total.result (omega (arith, own, f.facts.size)) (omega (arith, own, f.facts.eighths)), tt) f.facts.whole (omega (arith, f.facts.low)) (omega (arith, own, f.facts.high))
+
+pub remark-requires-2-clause-news : goal.remark-requires-2-clause-news
+remark-requires-2-clause-news c =
+    let f = place_facts c.args.map.now c.args.heap (end_at c.args.map.now c.args.heap) c.args.block c.args.cursor.now.from c.args.cursor.now.at c.args.cursor.now.free c.args.cursor.now.gap c.requires.heap c.requires.block in
+    let own = c.word-total.ensures ∙ f.facts.total_word in
+    let less : c.args.needed < c.requires.block.total = rw f.facts.total_word at c.requires.smaller in
+    let n = total_facts c.args.needed c.requires.total in
+    can_stand c.args.map.now c.divide-2.new.map c.args.heap (end_at c.args.map.now c.args.heap) c.args.cursor.now.at _ (Live c.args.needed ∷ (Free (c.word-total.result - c.args.needed) ∷ [])) c.requires.heap c.divide-2.ensures.layout (
+      c.requires.total,
+      (
+        total_of-numbers (c.word-total.result - c.args.needed) (omega (arith, own, n.1, f.facts.eighths))
+            (omega (arith, own, n.1, f.facts.eighths)),
+        tt,
+      ),
+    ) f.facts.whole (omega (arith, f.facts.low)) (omega (arith, own, f.facts.high))
+
 pub divide-requires-clause-room : goal.divide-requires-clause-room
 divide-requires-clause-room c =
     let f = place_facts c.args.map.now c.args.heap (end_at c.args.map.now c.args.heap) c.args.block c.args.cursor.now.from c.args.cursor.now.at c.args.cursor.now.free c.args.cursor.now.gap c.requires.heap c.requires.block in
@@ -105,12 +162,14 @@ returns-then-behind-cursor c =
     let here : c.args.cursor.now.at + c.requires.block.total ≡ c.args.cursor.now.free = sym (ap (λ n. c.args.cursor.now.at + n) own) ∙ c.if-behind-cursor.true in
     let k = next_free_facts c.args.map.now c.args.heap (end_at c.args.map.now c.args.heap) c.args.block c.args.cursor.now.from c.args.cursor.now.at c.args.cursor.now.free c.args.cursor.now.gap c.requires.heap c.requires.block here in
     let less : c.args.needed < c.requires.block.total = rw f.facts.total_word at c.requires.smaller in
-    let other = rw own at c.word.ensures in
+    let other = rw own at c.word-room.ensures in
     let sum = other ∙ k.facts.total_word in
     let next = rw own at c.follow-next.ensures in
-    let words = rw (own, sum) at c.divide.ensures.words in
+    let words = rw (own, sum) at (still_divided _ _ _ _ _ _ _ _ _ c.remark.ensures.bytes c.divide.ensures.words) in
+    let change = rw own at (remarks_after (class_of c.args.map.now) (class_of c.divide.new.map) (class_of c.remark.new.map) c.args.cursor.now.at (Live c.word-total.result ∷ (Free c.word-room.result ∷ [])) (Live c.args.needed ∷ (Free (c.word-total.result - c.args.needed + c.word-room.result) ∷ []))
+    c.divide.ensures.marks c.remark.ensures.marks) in
     refits_joined c.args.map.now _ c.args.heap (end_at c.args.map.now c.args.heap) _ c.args.needed c.follow-next.result c.args.block c.args.cursor.now.from c.args.cursor.now.at c.args.cursor.now.free c.args.cursor.now.gap c.requires.heap c.requires.block k
-    c.divide.ensures.layout c.requires.total less (next ∙ k.onward) words
+    (c.remark.ensures.layout ∙ c.divide.ensures.layout) c.requires.total less (next ∙ k.onward) words change
 
 pub divide-requires-2-clause-room : goal.divide-requires-2-clause-room
 divide-requires-2-clause-room c =
@@ -127,6 +186,8 @@ returns c =
     let inside : c.args.cursor.now.at + c.requires.block.total ≢ c.args.heap + word_at (byte_at c.args.map.now) (c.args.heap + 8) =
     λ e. c.requires.inside (ap (λ n. c.args.cursor.now.at + n) f.facts.total_word ∙ e) in
     let other : c.args.cursor.now.at + c.requires.block.total ≢ c.args.cursor.now.free = λ e. c.if-behind-cursor.false (ap (λ n. c.args.cursor.now.at + n) own ∙ e) in
-    let words = rw own at c.divide-2.ensures.words in
+    let words = rw own at (still_divided _ _ _ _ _ _ _ _ _ c.remark-2.ensures.bytes c.divide-2.ensures.words) in
+    let change = remarks_after (class_of c.args.map.now) (class_of c.divide-2.new.map) (class_of c.remark-2.new.map) c.args.cursor.now.at (Live c.word-total.result ∷ []) (Live c.args.needed ∷ (Free (c.word-total.result - c.args.needed) ∷ []))
+    c.divide-2.ensures.marks c.remark-2.ensures.marks in
     refits_alone c.args.map.now _ c.args.heap (end_at c.args.map.now c.args.heap) _ c.args.needed c.args.block c.args.cursor.now.from c.args.cursor.now.at c.args.cursor.now.free c.args.cursor.now.gap c.requires.heap c.requires.block inside other
-    c.divide-2.ensures.layout c.requires.total less words
+    (c.remark-2.ensures.layout ∙ c.divide-2.ensures.layout) c.requires.total less words change

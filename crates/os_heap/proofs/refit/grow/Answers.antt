@@ -1,8 +1,11 @@
-use Rattle.std.proofs.Common.{◌≡◌, ◌≢◌, ◌+◌, ◌-◌, ◌<◌, ◌≤◌, ◌∙◌, ap, sym, arith}
+use Rattle.std.proofs.Common.{[], ◌∷◌, ◌≡◌, ◌≢◌, ◌+◌, ◌-◌, ◌<◌, ◌≤◌, ◌∙◌, ap, sym, arith}
 use Rattle.address_map.specs.Bytes.{word_at}
-use Rattle.address_map.specs.Memory.{byte_at}
+use Rattle.address_map.specs.Memory.{byte_at, class_of}
 use Rattle.os_heap.specs.Outcomes.{end_at}
 use Rattle.os_heap_lists.proofs.Reading.{total_facts}
+use Rattle.address_map.specs.declared.item.Item.TheVariants.{Free, Live}
+use Rattle.os_heap_lists.proofs.Spelling.{total_of-numbers}
+use Rattle.os_heap.proofs.Marking.{can_stand, still_written, still_divided, remarks_after}
 use Rattle.os_heap.proofs.Replace.{heap_mapped}
 use Rattle.os_heap.proofs.Writing.{still_mapped}
 use Rattle.os_heap.proofs.Freeing.{next_free_facts}
@@ -34,16 +37,16 @@ overflow_add-behind-2 c =
     let k = next_free_facts c.args.map.now c.args.heap (end_at c.args.map.now c.args.heap) c.args.block c.args.cursor.now.from c.args.cursor.now.at c.args.cursor.now.free c.args.cursor.now.gap c.requires.heap c.requires.block here in
     omega (arith, own, k.facts.high, k.facts.top, k.facts.size)
 
-pub word-requires-clause-aligned : goal.word-requires-clause-aligned
-word-requires-clause-aligned c =
+pub word-free-requires-clause-aligned : goal.word-free-requires-clause-aligned
+word-free-requires-clause-aligned c =
     let f = place_facts c.args.map.now c.args.heap (end_at c.args.map.now c.args.heap) c.args.block c.args.cursor.now.from c.args.cursor.now.at c.args.cursor.now.free c.args.cursor.now.gap c.requires.heap c.requires.block in
     let own = c.word-total.ensures ∙ f.facts.total_word in
     let here : c.args.cursor.now.at + c.requires.block.total ≡ c.args.cursor.now.free = sym (ap (λ n. c.args.cursor.now.at + n) own) ∙ c.if-behind-cursor.false in
     let k = next_free_facts c.args.map.now c.args.heap (end_at c.args.map.now c.args.heap) c.args.block c.args.cursor.now.from c.args.cursor.now.at c.args.cursor.now.free c.args.cursor.now.gap c.requires.heap c.requires.block here in
     rw own (omega (arith, k.facts.whole))
 
-pub word-requires-clause-mapped : goal.word-requires-clause-mapped
-word-requires-clause-mapped c =
+pub word-free-requires-clause-mapped : goal.word-free-requires-clause-mapped
+word-free-requires-clause-mapped c =
     let f = place_facts c.args.map.now c.args.heap (end_at c.args.map.now c.args.heap) c.args.block c.args.cursor.now.from c.args.cursor.now.at c.args.cursor.now.free c.args.cursor.now.gap c.requires.heap c.requires.block in
     let own = c.word-total.ensures ∙ f.facts.total_word in
     let here : c.args.cursor.now.at + c.requires.block.total ≡ c.args.cursor.now.free = sym (ap (λ n. c.args.cursor.now.at + n) own) ∙ c.if-behind-cursor.false in
@@ -56,7 +59,7 @@ overflow_add-room c =
     let own = c.word-total.ensures ∙ f.facts.total_word in
     let here : c.args.cursor.now.at + c.requires.block.total ≡ c.args.cursor.now.free = sym (ap (λ n. c.args.cursor.now.at + n) own) ∙ c.if-behind-cursor.false in
     let k = next_free_facts c.args.map.now c.args.heap (end_at c.args.map.now c.args.heap) c.args.block c.args.cursor.now.from c.args.cursor.now.at c.args.cursor.now.free c.args.cursor.now.gap c.requires.heap c.requires.block here in
-    let other = rw own at c.word.ensures in
+    let other = rw own at c.word-free.ensures in
     let sum = other ∙ k.facts.total_word in
     omega (arith, own, sum, k.facts.high, k.facts.top)
 
@@ -108,7 +111,7 @@ returns-then-needed-from c =
     let own = c.word-total.ensures ∙ f.facts.total_word in
     let here : c.args.cursor.now.at + c.requires.block.total ≡ c.args.cursor.now.free = sym (ap (λ n. c.args.cursor.now.at + n) own) ∙ c.if-behind-cursor.false in
     let k = next_free_facts c.args.map.now c.args.heap (end_at c.args.map.now c.args.heap) c.args.block c.args.cursor.now.from c.args.cursor.now.at c.args.cursor.now.free c.args.cursor.now.gap c.requires.heap c.requires.block here in
-    let other = rw own at c.word.ensures in
+    let other = rw own at c.word-free.ensures in
     let sum = other ∙ k.facts.total_word in
     refits_full c.args.map.now c.args.heap (end_at c.args.map.now c.args.heap) _ c.args.needed c.args.block c.args.cursor.now.from c.args.cursor.now.at c.args.cursor.now.free c.args.cursor.now.gap c.requires.heap c.requires.block k (omega (arith, own, sum))
 
@@ -118,7 +121,7 @@ overflow_cast-grown c =
     let own = c.word-total.ensures ∙ f.facts.total_word in
     let here : c.args.cursor.now.at + c.requires.block.total ≡ c.args.cursor.now.free = sym (ap (λ n. c.args.cursor.now.at + n) own) ∙ c.if-behind-cursor.false in
     let k = next_free_facts c.args.map.now c.args.heap (end_at c.args.map.now c.args.heap) c.args.block c.args.cursor.now.from c.args.cursor.now.at c.args.cursor.now.free c.args.cursor.now.gap c.requires.heap c.requires.block here in
-    let other = rw own at c.word.ensures in
+    let other = rw own at c.word-free.ensures in
     let sum = other ∙ k.facts.total_word in
     omega (arith, own, sum, k.facts.high, k.facts.top)
 
@@ -152,13 +155,68 @@ put-requires-clause-mapped c =
     let f = place_facts c.args.map.now c.args.heap (end_at c.args.map.now c.args.heap) c.args.block c.args.cursor.now.from c.args.cursor.now.at c.args.cursor.now.free c.args.cursor.now.gap c.requires.heap c.requires.block in
     still_mapped _ _ _ c.put_link.ensures.layout (heap_mapped c.args.map.now c.args.heap (end_at c.args.map.now c.args.heap) _ _ c.requires.heap (omega (arith, f.facts.low)) (omega (arith, f.facts.high, f.facts.size)))
 
+pub remark-requires-clause-olds : goal.remark-requires-clause-olds
+remark-requires-clause-olds c =
+    let f = place_facts c.args.map.now c.args.heap (end_at c.args.map.now c.args.heap) c.args.block c.args.cursor.now.from c.args.cursor.now.at c.args.cursor.now.free c.args.cursor.now.gap c.requires.heap c.requires.block in
+    let own = c.word-total.ensures ∙ f.facts.total_word in
+    let here : c.args.cursor.now.at + c.requires.block.total ≡ c.args.cursor.now.free = sym (ap (λ n. c.args.cursor.now.at + n) own) ∙ c.if-behind-cursor.false in
+    let k = next_free_facts c.args.map.now c.args.heap (end_at c.args.map.now c.args.heap) c.args.block c.args.cursor.now.from c.args.cursor.now.at c.args.cursor.now.free c.args.cursor.now.gap c.requires.heap c.requires.block here in
+    let other = rw own at c.word-free.ensures in
+    let sum = other ∙ k.facts.total_word in
+    can_stand c.args.map.now c.put.new.map c.args.heap (end_at c.args.map.now c.args.heap) c.args.cursor.now.at _ (Live c.word-total.result ∷ (Free c.word-free.result ∷ [])) c.requires.heap (c.put.ensures.layout ∙ c.put_link.ensures.layout) (
+      total_of-numbers c.word-total.result (omega (arith, own, f.facts.size)) (omega (arith, own, f.facts.eighths)),
+      (total_of-numbers c.word-free.result (omega (arith, sum, k.facts.size)) (omega (arith, sum, k.facts.eighths)), tt),
+    ) f.facts.whole (omega (arith, f.facts.low)) (omega (arith, own, sum, k.facts.high))
+
+pub remark-requires-clause-news : goal.remark-requires-clause-news
+remark-requires-clause-news c =
+    let f = place_facts c.args.map.now c.args.heap (end_at c.args.map.now c.args.heap) c.args.block c.args.cursor.now.from c.args.cursor.now.at c.args.cursor.now.free c.args.cursor.now.gap c.requires.heap c.requires.block in
+    let own = c.word-total.ensures ∙ f.facts.total_word in
+    let here : c.args.cursor.now.at + c.requires.block.total ≡ c.args.cursor.now.free = sym (ap (λ n. c.args.cursor.now.at + n) own) ∙ c.if-behind-cursor.false in
+    let k = next_free_facts c.args.map.now c.args.heap (end_at c.args.map.now c.args.heap) c.args.block c.args.cursor.now.from c.args.cursor.now.at c.args.cursor.now.free c.args.cursor.now.gap c.requires.heap c.requires.block here in
+    let other = rw own at c.word-free.ensures in
+    let sum = other ∙ k.facts.total_word in
+    can_stand c.args.map.now c.put.new.map c.args.heap (end_at c.args.map.now c.args.heap) c.args.cursor.now.at _ (Live c.args.needed ∷ []) c.requires.heap (c.put.ensures.layout ∙ c.put_link.ensures.layout)
+    (c.requires.total, tt) f.facts.whole (omega (arith, f.facts.low)) (omega (arith, own, sum, k.facts.high, c.if-needed-from.false))
+
+pub remark-requires-2-clause-olds : goal.remark-requires-2-clause-olds
+remark-requires-2-clause-olds c =
+    let f = place_facts c.args.map.now c.args.heap (end_at c.args.map.now c.args.heap) c.args.block c.args.cursor.now.from c.args.cursor.now.at c.args.cursor.now.free c.args.cursor.now.gap c.requires.heap c.requires.block in
+    let own = c.word-total.ensures ∙ f.facts.total_word in
+    let here : c.args.cursor.now.at + c.requires.block.total ≡ c.args.cursor.now.free = sym (ap (λ n. c.args.cursor.now.at + n) own) ∙ c.if-behind-cursor.false in
+    let k = next_free_facts c.args.map.now c.args.heap (end_at c.args.map.now c.args.heap) c.args.block c.args.cursor.now.from c.args.cursor.now.at c.args.cursor.now.free c.args.cursor.now.gap c.requires.heap c.requires.block here in
+    let other = rw own at c.word-free.ensures in
+    let sum = other ∙ k.facts.total_word in
+    can_stand c.args.map.now c.divide.new.map c.args.heap (end_at c.args.map.now c.args.heap) c.args.cursor.now.at _ (Live c.word-total.result ∷ (Free c.word-free.result ∷ [])) c.requires.heap c.divide.ensures.layout (
+      total_of-numbers c.word-total.result (omega (arith, own, f.facts.size)) (omega (arith, own, f.facts.eighths)),
+      (total_of-numbers c.word-free.result (omega (arith, sum, k.facts.size)) (omega (arith, sum, k.facts.eighths)), tt),
+    ) f.facts.whole (omega (arith, f.facts.low)) (omega (arith, own, sum, k.facts.high))
+
+pub remark-requires-2-clause-news : goal.remark-requires-2-clause-news
+remark-requires-2-clause-news c =
+    let f = place_facts c.args.map.now c.args.heap (end_at c.args.map.now c.args.heap) c.args.block c.args.cursor.now.from c.args.cursor.now.at c.args.cursor.now.free c.args.cursor.now.gap c.requires.heap c.requires.block in
+    let own = c.word-total.ensures ∙ f.facts.total_word in
+    let here : c.args.cursor.now.at + c.requires.block.total ≡ c.args.cursor.now.free = sym (ap (λ n. c.args.cursor.now.at + n) own) ∙ c.if-behind-cursor.false in
+    let k = next_free_facts c.args.map.now c.args.heap (end_at c.args.map.now c.args.heap) c.args.block c.args.cursor.now.from c.args.cursor.now.at c.args.cursor.now.free c.args.cursor.now.gap c.requires.heap c.requires.block here in
+    let other = rw own at c.word-free.ensures in
+    let sum = other ∙ k.facts.total_word in
+    let n = total_facts c.args.needed c.requires.total in
+    can_stand c.args.map.now c.divide.new.map c.args.heap (end_at c.args.map.now c.args.heap) c.args.cursor.now.at _ (Live c.args.needed ∷ (Free (c.word-total.result + c.word-free.result - c.args.needed) ∷ [])) c.requires.heap c.divide.ensures.layout (
+      c.requires.total,
+      (
+        total_of-numbers (c.word-total.result + c.word-free.result - c.args.needed) (omega (arith, own, sum, n.1, f.facts.eighths, k.facts.eighths, c.if-left-eq0.false))
+            (omega (arith, own, sum, n.1, f.facts.eighths, k.facts.eighths)),
+        tt,
+      ),
+    ) f.facts.whole (omega (arith, f.facts.low)) (omega (arith, own, sum, k.facts.high))
+
 pub returns-then-left-eq0 : goal.returns-then-left-eq0
 returns-then-left-eq0 c =
     let f = place_facts c.args.map.now c.args.heap (end_at c.args.map.now c.args.heap) c.args.block c.args.cursor.now.from c.args.cursor.now.at c.args.cursor.now.free c.args.cursor.now.gap c.requires.heap c.requires.block in
     let own = c.word-total.ensures ∙ f.facts.total_word in
     let here : c.args.cursor.now.at + c.requires.block.total ≡ c.args.cursor.now.free = sym (ap (λ n. c.args.cursor.now.at + n) own) ∙ c.if-behind-cursor.false in
     let k = next_free_facts c.args.map.now c.args.heap (end_at c.args.map.now c.args.heap) c.args.block c.args.cursor.now.from c.args.cursor.now.at c.args.cursor.now.free c.args.cursor.now.gap c.requires.heap c.requires.block here in
-    let other = rw own at c.word.ensures in
+    let other = rw own at c.word-free.ensures in
     let sum = other ∙ k.facts.total_word in
     let larger : c.requires.block.total < c.args.needed = rw f.facts.total_word at c.requires.larger in
     let fits : c.args.needed ≤ c.requires.block.total + k.total = omega (arith, own, sum) in
@@ -166,7 +224,10 @@ returns-then-left-eq0 c =
     let none : c.requires.block.total + k.total - c.args.needed ≡ 0 = omega (arith, own, sum) in
     let one = rw c.last_link-from.ensures at c.put_link.ensures.word in
     refits_whole c.args.map.now _ c.args.heap (end_at c.args.map.now c.args.heap) _ c.args.needed c.follow-next.result c.args.block c.args.cursor.now.from c.args.cursor.now.at c.args.cursor.now.free c.args.cursor.now.gap _ c.requires.heap c.requires.block k
-    (c.put.ensures.layout ∙ c.put_link.ensures.layout) c.requires.total larger fits none (next ∙ k.onward) one c.put.ensures.word
+    (c.remark.ensures.layout ∙ c.put.ensures.layout ∙ c.put_link.ensures.layout) c.requires.total larger fits none (next ∙ k.onward) one
+    (still_written _ _ _ _ _ c.remark.ensures.bytes c.put.ensures.word)
+    (rw own at (remarks_after (class_of c.args.map.now) (class_of c.put.new.map) (class_of c.remark.new.map) c.args.cursor.now.at (Live c.word-total.result ∷ (Free c.word-free.result ∷ [])) (Live c.args.needed ∷ [])
+    (c.put.ensures.marks ∙ c.put_link.ensures.marks) c.remark.ensures.marks))
 
 pub divide-requires-clause-room : goal.divide-requires-clause-room
 divide-requires-clause-room c =
@@ -174,7 +235,7 @@ divide-requires-clause-room c =
     let own = c.word-total.ensures ∙ f.facts.total_word in
     let here : c.args.cursor.now.at + c.requires.block.total ≡ c.args.cursor.now.free = sym (ap (λ n. c.args.cursor.now.at + n) own) ∙ c.if-behind-cursor.false in
     let k = next_free_facts c.args.map.now c.args.heap (end_at c.args.map.now c.args.heap) c.args.block c.args.cursor.now.from c.args.cursor.now.at c.args.cursor.now.free c.args.cursor.now.gap c.requires.heap c.requires.block here in
-    let other = rw own at c.word.ensures in
+    let other = rw own at c.word-free.ensures in
     let sum = other ∙ k.facts.total_word in
     let n = total_facts c.args.needed c.requires.total in
     omega (arith, own, sum, n.1, f.facts.eighths, k.facts.eighths, k.facts.high)
@@ -185,12 +246,14 @@ returns c =
     let own = c.word-total.ensures ∙ f.facts.total_word in
     let here : c.args.cursor.now.at + c.requires.block.total ≡ c.args.cursor.now.free = sym (ap (λ n. c.args.cursor.now.at + n) own) ∙ c.if-behind-cursor.false in
     let k = next_free_facts c.args.map.now c.args.heap (end_at c.args.map.now c.args.heap) c.args.block c.args.cursor.now.from c.args.cursor.now.at c.args.cursor.now.free c.args.cursor.now.gap c.requires.heap c.requires.block here in
-    let other = rw own at c.word.ensures in
+    let other = rw own at c.word-free.ensures in
     let sum = other ∙ k.facts.total_word in
     let larger : c.requires.block.total < c.args.needed = rw f.facts.total_word at c.requires.larger in
     let fits : c.args.needed ≤ c.requires.block.total + k.total = omega (arith, own, sum) in
     let next = rw own at c.follow-next.ensures in
     let some : c.requires.block.total + k.total - c.args.needed ≢ 0 = λ e. c.if-left-eq0.false (omega (arith, own, sum)) in
-    let words = rw (own, sum) at c.divide.ensures.words in
+    let words = rw (own, sum) at (still_divided _ _ _ _ _ _ _ _ _ c.remark-2.ensures.bytes c.divide.ensures.words) in
+    let change = rw own at (remarks_after (class_of c.args.map.now) (class_of c.divide.new.map) (class_of c.remark-2.new.map) c.args.cursor.now.at (Live c.word-total.result ∷ (Free c.word-free.result ∷ [])) (Live c.args.needed ∷ (Free (c.word-total.result + c.word-free.result - c.args.needed) ∷ []))
+    c.divide.ensures.marks c.remark-2.ensures.marks) in
     refits_part c.args.map.now _ c.args.heap (end_at c.args.map.now c.args.heap) _ c.args.needed c.follow-next.result c.args.block c.args.cursor.now.from c.args.cursor.now.at c.args.cursor.now.free c.args.cursor.now.gap c.requires.heap c.requires.block k
-    c.divide.ensures.layout c.requires.total larger fits some (next ∙ k.onward) words
+    (c.remark-2.ensures.layout ∙ c.divide.ensures.layout) c.requires.total larger fits some (next ∙ k.onward) words change

@@ -34,4 +34,4 @@ returns c =
     let ends : c.args.cursor.now.at + c.requires.block.total ≡ c.args.heap + word_at (byte_at c.args.map.now) (c.args.heap + 8) =
     sym (ap (λ n. c.args.cursor.now.at + n) f.facts.total_word) ∙ c.requires.last in
     refits_last c.args.map.now _ c.args.heap (end_at c.args.map.now c.args.heap) c.args.needed c.args.block c.args.cursor.now.from c.args.cursor.now.at c.args.cursor.now.free c.args.cursor.now.gap _ c.requires.heap c.requires.block ends
-    (c.put-2.ensures.layout ∙ c.put.ensures.layout) c.requires.total (omega (arith, c.word.ensures)) c.put.ensures.word c.put-2.ensures.word
+    (c.put-2.ensures.layout ∙ c.put.ensures.layout) c.requires.total (omega (arith, c.word.ensures)) c.put.ensures.word c.put-2.ensures.word (c.put-2.ensures.marks ∙ c.put.ensures.marks)

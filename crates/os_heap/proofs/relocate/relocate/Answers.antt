@@ -34,7 +34,7 @@ find_by_links-cursor-requires c =
     let claim = is_claimed c.args.map.now c.claim_total-claim.new.map c.args.heap c.args.block c.args.total c.args.needed c.in-Ok.new _ part c.requires.sound c.requires.live
     c.claim_total-claim.ensures.claim c.in-Ok.is in
     let copy = is_copied c.args.map.now c.claim_total-claim.new.map c.move_bytes.new.self part.part.kind c.args.heap c.args.block c.args.total c.args.needed c.in-Ok.new
-    c.requires.larger claim c.move_bytes.ensures.layout c.move_bytes.ensures.bytes in
+    c.requires.larger claim c.move_bytes.ensures.layout c.move_bytes.ensures.bytes c.move_bytes.ensures.marks in
     record { heap = copy.there; live = copy.live }
 
 pub give_back-requires-clause-heap : goal.give_back-requires-clause-heap
@@ -43,7 +43,7 @@ give_back-requires-clause-heap c =
     let claim = is_claimed c.args.map.now c.claim_total-claim.new.map c.args.heap c.args.block c.args.total c.args.needed c.in-Ok.new _ part c.requires.sound c.requires.live
     c.claim_total-claim.ensures.claim c.in-Ok.is in
     let copy = is_copied c.args.map.now c.claim_total-claim.new.map c.move_bytes.new.self part.part.kind c.args.heap c.args.block c.args.total c.args.needed c.in-Ok.new
-    c.requires.larger claim c.move_bytes.ensures.layout c.move_bytes.ensures.bytes in
+    c.requires.larger claim c.move_bytes.ensures.layout c.move_bytes.ensures.bytes c.move_bytes.ensures.marks in
     copy.there
 
 pub overflow_add-result : goal.overflow_add-result
@@ -52,7 +52,7 @@ overflow_add-result c =
     let claim = is_claimed c.args.map.now c.claim_total-claim.new.map c.args.heap c.args.block c.args.total c.args.needed c.in-Ok.new _ part c.requires.sound c.requires.live
     c.claim_total-claim.ensures.claim c.in-Ok.is in
     let copy = is_copied c.args.map.now c.claim_total-claim.new.map c.move_bytes.new.self part.part.kind c.args.heap c.args.block c.args.total c.args.needed c.in-Ok.new
-    c.requires.larger claim c.move_bytes.ensures.layout c.move_bytes.ensures.bytes in
+    c.requires.larger claim c.move_bytes.ensures.layout c.move_bytes.ensures.bytes c.move_bytes.ensures.marks in
     let fit = probes_fit c.args.map.now c.claim_total-claim.new.map c.move_bytes.new.self part.part.kind c.args.heap c.args.block c.args.total c.args.needed c.in-Ok.new
     claim copy c.requires.heap in
     omega (arith, fit, c.claim_total-claim.ensures.probes, c.find_by_links-cursor.ensures.probes)
@@ -63,12 +63,13 @@ returns c =
     let claim = is_claimed c.args.map.now c.claim_total-claim.new.map c.args.heap c.args.block c.args.total c.args.needed c.in-Ok.new _ part c.requires.sound c.requires.live
     c.claim_total-claim.ensures.claim c.in-Ok.is in
     let copy = is_copied c.args.map.now c.claim_total-claim.new.map c.move_bytes.new.self part.part.kind c.args.heap c.args.block c.args.total c.args.needed c.in-Ok.new
-    c.requires.larger claim c.move_bytes.ensures.layout c.move_bytes.ensures.bytes in
+    c.requires.larger claim c.move_bytes.ensures.layout c.move_bytes.ensures.bytes c.move_bytes.ensures.marks in
     let moved = is_moved c.args.map.now c.claim_total-claim.new.map c.move_bytes.new.self c.give_back.new.map part.part.kind c.args.heap c.args.block c.args.total c.args.needed
     c.in-Ok.new claim copy c.move_bytes.ensures.layout (rw (layout-regions _ _ (c.move_bytes.ensures.layout ∙ claim.same)) c.requires.own) c.give_back.ensures in
     record {
       store = moved.store;
       sound = moved.sound;
+      classes = moved.classes;
       layout = moved.same;
       probes = λ h found. rw (c.claim_total-claim.ensures.probes, c.find_by_links-cursor.ensures.probes)
           (moved_probes c.args.map.now c.claim_total-claim.new.map c.move_bytes.new.self part.part.kind c.args.heap c.args.block c.args.total c.args.needed c.in-Ok.new h claim copy found);

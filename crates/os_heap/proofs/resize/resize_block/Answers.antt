@@ -17,6 +17,7 @@ returns-in_default c =
     record {
       store = rw refused.0 (refl, refl);
       sound = c.requires.sound;
+      classes = λ classes. classes;
       layout = refl;
       probes = c.find_guest_block-walk.ensures.probes ∙ sym refused.1;
     }
@@ -52,6 +53,7 @@ returns-then-size-le4 c =
     record {
       store = done.store;
       sound = done.sound;
+      classes = done.classes;
       layout = done.same;
       probes = c.find_guest_block-walk.ensures.probes ∙ omega (arith, done.probes);
     }
@@ -67,6 +69,7 @@ returns-then-refit c =
     record {
       store = done.store;
       sound = done.sound;
+      classes = done.classes;
       layout = done.same;
       probes = c.find_guest_block-walk.ensures.probes ∙ omega (arith, done.probes);
     }
@@ -116,11 +119,12 @@ returns c =
     let needed : c.round_up_8-needed.result ≡ round_up_8 (changed_by c.word-total.result c.args.change) = c.round_up_8-needed.ensures ∙ ap round_up_8 size in
     let un = unrefitted c.args.map.now c.refit.new.map c.args.heap (end_at c.args.map.now c.args.heap) _ (rw c.if-refit.false at c.refit.ensures) in
     let done = resize_moved c.args.map.now c.relocate-moved.new.map c.args.heap c.args.block c.args.change c.word-total.result c.relocate-moved.result.probes _ c.requires.sound c.requires.found here.own live
-    (omega (arith, size, c.if-size-le4.false)) (rw needed at un.0) (rw (un.1, needed) at c.relocate-moved.ensures.store) c.relocate-moved.ensures.sound (rw un.1 at c.relocate-moved.ensures.layout)
+    (omega (arith, size, c.if-size-le4.false)) (rw needed at un.0) (rw (un.1, needed) at c.relocate-moved.ensures.store) c.relocate-moved.ensures.sound (rw un.1 at c.relocate-moved.ensures.layout) (rw un.1 at c.relocate-moved.ensures.classes)
     (rw (un.1, needed) at c.relocate-moved.ensures.probes) in
     record {
       store = done.store;
       sound = done.sound;
+      classes = done.classes;
       layout = done.same;
       probes = rw (sym c.find_guest_block-walk.ensures.probes) at done.probes;
     }

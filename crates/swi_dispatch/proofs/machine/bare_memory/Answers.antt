@@ -1,4 +1,5 @@
 use Rattle.std.proofs.Common.{◌∙◌, ℕ, ap}
+use Rattle.address_map.specs.declared.class.Class.{Class}
 use Rattle.swi_dispatch.proofs.Starting.{unmapped_zero}
 use Rattle.swi_dispatch.proofs.machine.bare_memory.Goals as goal
 
@@ -6,3 +7,8 @@ pub returns-clause-bytes : goal.returns-clause-bytes
 returns-clause-bytes c = λ b.
     ap (λ (f : ℕ → ℕ). f b) c.own.ensures.bytes ∙ c.map_pages-3.ensures.bytes b ∙ c.map_pages-2.ensures.bytes b ∙ c.map_pages.ensures.bytes b
     ∙ unmapped_zero c.in_ok-memory.memory b (c.in_ok-memory.ensures.mapping b)
+
+pub returns-clause-marks : goal.returns-clause-marks
+returns-clause-marks c = λ a.
+    c.own.ensures.marks a ∙ ap (λ (f : ℕ → Class). f a) (c.map_pages-3.ensures.marks ∙ c.map_pages-2.ensures.marks ∙ c.map_pages.ensures.marks)
+    ∙ c.in_ok-memory.ensures.marks a

@@ -4,7 +4,7 @@ use Rattle.address_map.specs.Memory.{Mapping}
 use Rattle.os_heap.specs.Store.{Store}
 use Rattle.os_heap.specs.Calls.{begun_with}
 use Rattle.swi_dispatch.specs.MachineState.{bare_store}
-use Rattle.swi_dispatch.proofs.Starting.{bare, bare_sound, area_may}
+use Rattle.swi_dispatch.proofs.Starting.{bare, bare_sound, bare_classes, area_may}
 use Rattle.swi_dispatch.proofs.machine.start_memory.Goals as goal
 
 pub init_module_area-requires-clause-may : goal.init_module_area-requires-clause-may
@@ -28,3 +28,8 @@ pub returns-clause-pool : goal.returns-clause-pool
 returns-clause-pool c =
     ap (λ (m : Mapping). m.free_pages + (c.args.config.app + c.args.config.rma + 3)) c.init_module_area.ensures.mapping
     ∙ c.in_ok-memory.ensures.pool
+
+pub returns-clause-classes : goal.returns-clause-classes
+returns-clause-classes c =
+    let memory = c.in_ok-memory.ensures in
+    c.init_module_area.ensures.classes (bare_classes _ c.args.config (bare _ c.args.config memory.mapping memory.bytes memory.regions) memory.marks)

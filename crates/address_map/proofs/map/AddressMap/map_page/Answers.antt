@@ -1,15 +1,29 @@
-use Rattle.std.proofs.Common.{◌≡◌, ◌+◌, ◌*◌, ◌/◌, ◌<◌, ◌≤◌, ◌++◌, ◌∷◌, [], ℕ, List, Some, None, length, arith, ap, subst, refl}
-use Rattle.address_map.specs.Memory.{place, byte_at, free_pages, regions}
+use Rattle.std.proofs.Common.{◌≡◌, ◌*◌, ◌/◌, ◌<◌, ◌++◌, ◌∷◌, [], ℕ, List, None, length, arith, ap, subst, refl}
+use Rattle.address_map.specs.Memory.{place, byte_at, free_pages, regions, class_of}
 use Rattle.address_map.specs.Pages.{frame_at, IsPageTable}
 use Rattle.address_map.proofs.Loads.{unmapped_page}
 use Rattle.address_map.proofs.Mapping.{mapped_more, stays_more, bytes_more}
 use Rattle.address_map.proofs.PageTable.{table_given, count_given, unused_frame, fits_frame, length-last}
 use Rattle.address_map.proofs.Stores.{store_zeroed}
+use Rattle.address_map.proofs.Marking.{marks_more}
 use Rattle.address_map.proofs.map.AddressMap.map_page.Goals as goal
 
 pub unwrap-frame-requires : goal.unwrap-frame-requires
 unfolding free_pages
 unwrap-frame-requires c = c.pop.ensures.variant.1 (omega arith)
+
+pub clear-requires : goal.clear-requires
+clear-requires c =
+    let m = c.args.self.now in
+    let f : ℕ = c.unwrap-frame.result in
+    let free : List ℕ = c.pop.new.self.items in
+    let split : m.free.items ≡ free ++ f ∷ [] = rw c.unwrap-frame.ensures at c.pop.ensures.items in
+    let table : IsPageTable m.frames.items (free ++ f ∷ []) = subst (IsPageTable m.frames.items) split m.table in
+    let below : c.args.addr / 4096 < length m.frames.items = omega (arith, m.table.size) in
+    let none : frame_at m.frames.items (c.args.addr / 4096) ≡ None = unmapped_page m c.args.addr c.requires.unmapped in
+    let inside = fits_frame m.frames.items free (c.args.addr / 4096) f table below none in
+    let long : length m.free.items ≡ length (free ++ f ∷ []) = ap length split in
+    omega (arith, m.frames_fit, inside, long, m.marks_fit)
 
 pub invariant_of-self : goal.invariant_of-self
 invariant_of-self c =
@@ -27,6 +41,7 @@ invariant_of-self c =
     record {
       bytes_fit = kept.0;
       in_limit = omega (arith, kept.1, m.in_limit);
+      marks_fit = omega (arith, kept.1, m.marks_fit, c.clear.ensures.len);
       frames_fit = omega (arith, kept.1, m.frames_fit, count, long);
       table = table_given m.frames.items free (c.args.addr / 4096) f table below none;
       recorded = m.recorded;
@@ -69,3 +84,16 @@ returns-clause-pages c =
 pub returns-clause-regions : goal.returns-clause-regions
 unfolding regions
 returns-clause-regions c = refl
+
+pub returns-clause-marks : goal.returns-clause-marks
+unfolding class_of place
+returns-clause-marks c a =
+    let m = c.args.self.now in
+    let f : ℕ = c.unwrap-frame.result in
+    let free : List ℕ = c.pop.new.self.items in
+    let split : m.free.items ≡ free ++ f ∷ [] = rw c.unwrap-frame.ensures at c.pop.ensures.items in
+    let table : IsPageTable m.frames.items (free ++ f ∷ []) = subst (IsPageTable m.frames.items) split m.table in
+    let below : c.args.addr / 4096 < length m.frames.items = omega (arith, m.table.size) in
+    let none : frame_at m.frames.items (c.args.addr / 4096) ≡ None = unmapped_page m c.args.addr c.requires.unmapped in
+    marks_more m.frames.items c.args.addr f c.requires.aligned below none
+    (unused_frame m.frames.items free (c.args.addr / 4096) f table below none) m.marks c.clear.new.self c.clear.ensures.classes a

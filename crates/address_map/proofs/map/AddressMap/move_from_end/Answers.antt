@@ -47,4 +47,5 @@ loop-left-preserved c =
       bytes = λ a. rw (c.copy_span.ensures.bytes a, from, to, e)
           (moved_down (byte_at c.args.self.now) c.args.from c.args.to c.loop-left.left c.min-now.result c.args.len a c.requires.up (omega arith) (omega arith));
       layout = cc;
+      marks = cc;
     }

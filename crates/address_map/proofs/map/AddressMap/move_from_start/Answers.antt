@@ -18,4 +18,5 @@ loop-done-preserved c =
       bytes = λ a. rw (c.copy_span.ensures.bytes a, source.0, target.0, e)
           (moved_up (byte_at c.args.self.now) c.args.from c.args.to c.loop-done.done c.min-now.result a c.requires.down);
       layout = cc;
+      marks = cc;
     }

@@ -17,4 +17,5 @@ loop-done-preserved c =
       bytes = λ a. rw (c.write_span.ensures.bytes a, span.0, c.loop-done.invariant.bytes a)
           (with_bytes-more (byte_at c.args.self.now) c.args.addr c.args.bytes.now c.loop-done.done c.min-end.result a (omega arith) (omega arith));
       layout = cc;
+      marks = cc;
     }

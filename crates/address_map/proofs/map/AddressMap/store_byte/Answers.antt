@@ -4,6 +4,7 @@ use Rattle.address_map.specs.Memory.{bytes_of, is_owned}
 use Rattle.address_map.proofs.Loads.{place_fits}
 use Rattle.address_map.proofs.Stores.{byte_put, same_layout, store_written, slice_set-written, All-byte}
 use Rattle.address_map.proofs.Equations.{stored_byte, byte_stored-refused, byte_stored-done}
+use Rattle.address_map.proofs.Marking.{same_marks}
 use Rattle.address_map.proofs.map.AddressMap.store_byte.Goals as goal
 
 pub returns-in_err-place-clause-bytes : goal.returns-in_err-place-clause-bytes
@@ -23,6 +24,7 @@ invariant_of-self c =
     record {
       bytes_fit = kept.0;
       in_limit = omega (arith, kept.1, m.in_limit);
+      marks_fit = omega (arith, kept.1, m.marks_fit);
       frames_fit = omega (arith, kept.1, m.frames_fit);
       table = m.table;
       recorded = m.recorded;
@@ -37,3 +39,6 @@ returns-clause-bytes c =
 
 pub returns-clause-layout : goal.returns-clause-layout
 returns-clause-layout c = same_layout _ _ refl refl refl
+
+pub returns-clause-marks : goal.returns-clause-marks
+returns-clause-marks c = same_marks _ _ refl refl

@@ -6,6 +6,7 @@ use Rattle.address_map.specs.Memory.{bytes_of, is_owned}
 use Rattle.address_map.proofs.Loads.{place_fits_word}
 use Rattle.address_map.proofs.Stores.{word_put, same_layout, store_written, All-word_bytes}
 use Rattle.address_map.proofs.Equations.{stored_word, word_stored-refused, word_stored-done}
+use Rattle.address_map.proofs.Marking.{same_marks}
 use Rattle.address_map.proofs.map.AddressMap.store_word.Goals as goal
 
 pub returns-in_err-place-clause-bytes : goal.returns-in_err-place-clause-bytes
@@ -25,6 +26,7 @@ invariant_of-self c =
     record {
       bytes_fit = kept.0;
       in_limit = omega (arith, kept.1, m.in_limit);
+      marks_fit = omega (arith, kept.1, m.marks_fit);
       frames_fit = omega (arith, kept.1, m.frames_fit);
       table = m.table;
       recorded = m.recorded;
@@ -39,3 +41,6 @@ returns-clause-bytes c =
 
 pub returns-clause-layout : goal.returns-clause-layout
 returns-clause-layout c = same_layout _ _ refl refl refl
+
+pub returns-clause-marks : goal.returns-clause-marks
+returns-clause-marks c = same_marks _ _ refl refl

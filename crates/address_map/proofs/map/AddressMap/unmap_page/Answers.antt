@@ -1,12 +1,13 @@
 use Rattle.std.proofs.Common.{◌≡◌, ◌/◌, ℕ, Some, None, ◌∙◌, is_some, Option, true, lit<, arith, rules, ap, sym, refl}
 use Rattle.std.specs.Option.{IsSome}
 use Rattle.std.proofs.lemmas.Bool.{false≢true}
-use Rattle.address_map.specs.Memory.{place, byte_at, free_pages, regions}
+use Rattle.address_map.specs.Memory.{place, byte_at, free_pages, regions, class_of}
 use Rattle.address_map.specs.Pages.{frame_at}
 use Rattle.address_map.proofs.Loads.{mapped_page, frame_read}
 use Rattle.address_map.proofs.Spans.{mapped_below}
 use Rattle.address_map.proofs.Mapping.{mapped_less, stays_less, bytes_less}
 use Rattle.address_map.proofs.PageTable.{table_left, count_left, room_left}
+use Rattle.address_map.proofs.Marking.{marks_less}
 use Rattle.address_map.proofs.map.AddressMap.unmap_page.Goals as goal
 
 there_is : (there : Option ℕ) → is_some there ≡ true → IsSome there
@@ -43,6 +44,7 @@ invariant_of-self c =
     record {
       bytes_fit = m.bytes_fit;
       in_limit = m.in_limit;
+      marks_fit = m.marks_fit;
       frames_fit = rw c.push.ensures.items (omega (arith, count, m.frames_fit));
       table = rw c.push.ensures.items (table_left m.frames.items m.free.items page f m.table is);
       recorded = m.recorded;
@@ -73,3 +75,9 @@ returns-clause-pages c = omega (arith, c.push.ensures.len)
 pub returns-clause-regions : goal.returns-clause-regions
 unfolding regions
 returns-clause-regions c = refl
+
+pub returns-clause-marks : goal.returns-clause-marks
+unfolding class_of place
+returns-clause-marks c a =
+    let m = c.args.self.now in
+    marks_less m.frames.items c.args.addr c.requires.aligned (omega (arith, mapped_below m c.args.addr c.requires.mapped, m.table.size)) m.marks a

@@ -1,6 +1,7 @@
 use Rattle.std.proofs.Common.{◌+◌, ◌≤◌, length, arith, refl}
 use Rattle.address_map.proofs.Spans.{bytes_zeroed}
 use Rattle.address_map.proofs.Stores.{same_layout, store_zeroed}
+use Rattle.address_map.proofs.Marking.{same_marks}
 use Rattle.address_map.proofs.map.AddressMap.zero_span.Goals as goal
 
 pub zero-requires : goal.zero-requires
@@ -14,6 +15,7 @@ invariant_of-self c =
     record {
       bytes_fit = kept.0;
       in_limit = omega (arith, kept.1, m.in_limit);
+      marks_fit = omega (arith, kept.1, m.marks_fit);
       frames_fit = omega (arith, kept.1, m.frames_fit);
       table = m.table;
       recorded = m.recorded;
@@ -25,3 +27,6 @@ returns-clause-bytes c =
 
 pub returns-clause-layout : goal.returns-clause-layout
 returns-clause-layout c = same_layout _ _ refl refl refl
+
+pub returns-clause-marks : goal.returns-clause-marks
+returns-clause-marks c = same_marks _ _ refl refl

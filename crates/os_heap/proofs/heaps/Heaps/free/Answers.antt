@@ -12,6 +12,7 @@ returns-in-Some c =
     record {
       store = g.store;
       sound = g.sound;
+      classes = g.classes;
       layout = g.same;
       probes = c.release.ensures.probes ∙ sym (free_counted c.in-Some.field-0.kind c.args.map.now c.args.heap c.args.block c.in-Some.field-0.len found);
     }
@@ -21,6 +22,7 @@ returns-in-None c =
     record {
       store = rw (free_refused c.args.map.now c.args.heap c.args.block c.in-None.ensures) (refl, refl);
       sound = c.requires;
+      classes = λ classes. classes;
       layout = refl;
       probes = sym (free_counted_none c.args.map.now c.args.heap c.args.block c.in-None.ensures);
     }

@@ -15,6 +15,7 @@ returns-in-Some c =
     record {
       store = g.store;
       sound = g.sound;
+      classes = g.classes;
       layout = g.same;
       probes = c.claim_total.ensures.probes ∙ ap (λ (n : ℕ). looked_at n (items_at c.args.map.now c.args.heap)) c.total_for.ensures ∙ sym (get_counted c.in-Some.field-0.kind c.args.map.now c.args.heap c.args.size c.in-Some.field-0.len found);
     }
@@ -24,6 +25,7 @@ returns-in-None c =
     record {
       store = rw (get_refused c.args.map.now c.args.heap c.args.size c.in-None.ensures) (refl, refl);
       sound = c.requires;
+      classes = λ classes. classes;
       layout = refl;
       probes = sym (get_counted_none c.args.map.now c.args.heap c.args.size c.in-None.ensures);
     }

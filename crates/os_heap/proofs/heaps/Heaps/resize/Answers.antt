@@ -12,6 +12,7 @@ returns-in-Some c =
     record {
       store = c.resize_block.ensures.store;
       sound = c.resize_block.ensures.sound;
+      classes = c.resize_block.ensures.classes;
       layout = c.resize_block.ensures.layout;
       probes = c.resize_block.ensures.probes;
       bounds = rw c.resize_block.ensures.probes (in_bounds (store_of c.args.map.now) c.args.heap c.args.block c.args.change);
@@ -23,6 +24,7 @@ returns-in-None c =
     record {
       store = rw none.0 (refl, refl);
       sound = c.requires;
+      classes = λ classes. classes;
       layout = refl;
       probes = sym none.1;
       bounds = rw c.in-None.ensures refl;

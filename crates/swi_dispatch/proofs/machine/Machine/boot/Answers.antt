@@ -12,7 +12,7 @@ invariant_of-self c =
     let heaps = ap (λ (s : MachineState). s.store.heaps) (well.fresh fresh) in
     let fits : length c.args.program.now ≤ 4096 * c.self.inside.config.app = omega (arith, c.if-program-app.false, c.app.ensures.value) in
     let kept = program_kept _ _ _ _ c.put_bytes.ensures.layout well.sound c.app.ensures.sizes heaps fits c.put_bytes.ensures.bytes in
-    well_kept _ _ well kept c.put_bytes.ensures.layout refl refl
+    well_kept _ _ well kept c.put_bytes.ensures.layout c.put_bytes.ensures.marks refl refl
 
 pub returns-clause-state : goal.returns-clause-state
 unfolding state_of start_of
@@ -32,4 +32,4 @@ returns-clause-well_formed c =
     let heaps = ap (λ (s : MachineState). s.store.heaps) (well.fresh fresh) in
     let fits : length c.args.program.now ≤ 4096 * c.self.inside.config.app = omega (arith, c.if-program-app.false, c.app.ensures.value) in
     let kept = program_kept _ _ _ _ c.put_bytes.ensures.layout well.sound c.app.ensures.sizes heaps fits c.put_bytes.ensures.bytes in
-    well_kept _ _ well kept c.put_bytes.ensures.layout refl refl
+    well_kept _ _ well kept c.put_bytes.ensures.layout c.put_bytes.ensures.marks refl refl

@@ -7,6 +7,6 @@ use Rattle.swi_dispatch.proofs.machine.Machine.change_heap.Goals as goal
 pub invariant_of-self : goal.invariant_of-self
 invariant_of-self c =
     let changed = c.change_size-changed.ensures in
-    well_called _ _ c.self.invariant changed.sound changed.others (ap (λ k. k.place) changed.mapping)
+    well_called _ _ c.self.invariant changed.sound changed.classes changed.others (ap (λ k. k.place) changed.mapping)
     (ap (λ (m : Mapping). m.free_pages) changed.mapping)
     (ap (λ (p : Parts). p.is_fresh) c.self.view_is ∙ c.requires.stepped) refl

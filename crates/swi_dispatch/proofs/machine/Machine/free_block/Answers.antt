@@ -9,6 +9,6 @@ use Rattle.swi_dispatch.proofs.machine.Machine.free_block.Goals as goal
 pub invariant_of-self : goal.invariant_of-self
 invariant_of-self c =
     let freed = c.free-freed.ensures in
-    well_called _ _ c.self.invariant freed.sound (layout-others _ _ freed.layout) (layout-place _ _ freed.layout)
+    well_called _ _ c.self.invariant freed.sound freed.classes (layout-others _ _ freed.layout) (layout-place _ _ freed.layout)
     (ap (λ (l : Layout). l.free_pages) freed.layout)
     (ap (λ (p : Parts). p.is_fresh) c.self.view_is ∙ c.requires.stepped) refl

@@ -9,13 +9,13 @@ use Rattle.swi_dispatch.proofs.machine.Machine.get_block.Goals as goal
 pub invariant_of-self : goal.invariant_of-self
 invariant_of-self c =
     let got = c.get.ensures in
-    well_called _ _ c.self.invariant got.sound (layout-others _ _ got.layout) (layout-place _ _ got.layout)
+    well_called _ _ c.self.invariant got.sound got.classes (layout-others _ _ got.layout) (layout-place _ _ got.layout)
     (ap (λ (l : Layout). l.free_pages) got.layout)
     (ap (λ (p : Parts). p.is_fresh) c.self.view_is ∙ c.requires.stepped) refl
 
 pub invariant_of-self-2 : goal.invariant_of-self-2
 invariant_of-self-2 c =
     let got = c.get.ensures in
-    well_called _ _ c.self.invariant got.sound (layout-others _ _ got.layout) (layout-place _ _ got.layout)
+    well_called _ _ c.self.invariant got.sound got.classes (layout-others _ _ got.layout) (layout-place _ _ got.layout)
     (ap (λ (l : Layout). l.free_pages) got.layout)
     (ap (λ (p : Parts). p.is_fresh) c.self.view_is ∙ c.requires.stepped) refl

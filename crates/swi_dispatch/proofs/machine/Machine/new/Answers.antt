@@ -10,6 +10,7 @@ invariant_of-result c =
     let memory = c.in_ok-memory.ensures in
     record {
       sound = memory.sound;
+      classes = memory.classes;
       others = ap (λ (s : Store). s.others) memory.store;
       mapped = λ a. ap (λ (s : Store). s.bytes.mapped a) memory.store;
       pool = memory.pool;
@@ -26,6 +27,7 @@ returns-clause-well_formed c =
     let memory = c.in_ok-memory.ensures in
     record {
       sound = memory.sound;
+      classes = memory.classes;
       others = ap (λ (s : Store). s.others) memory.store;
       mapped = λ a. ap (λ (s : Store). s.bytes.mapped a) memory.store;
       pool = memory.pool;

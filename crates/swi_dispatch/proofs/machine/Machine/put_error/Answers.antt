@@ -8,7 +8,7 @@ pub invariant_of-self : goal.invariant_of-self
 invariant_of-self c =
     let well = c.self.invariant in
     let kept = error_kept _ _ _ _ c.write_error.ensures.layout well.sound well.others (short_name c.args.error) c.write_error.ensures.bytes in
-    well_kept _ _ well kept c.write_error.ensures.layout (ap (λ (p : Parts). p.is_fresh) c.self.view_is ∙ c.requires.stepped) refl
+    well_kept _ _ well kept c.write_error.ensures.layout c.write_error.ensures.marks (ap (λ (p : Parts). p.is_fresh) c.self.view_is ∙ c.requires.stepped) refl
 
 pub returns-clause-state : goal.returns-clause-state
 unfolding state_of store_of

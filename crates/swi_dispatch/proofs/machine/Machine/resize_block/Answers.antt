@@ -9,13 +9,13 @@ use Rattle.swi_dispatch.proofs.machine.Machine.resize_block.Goals as goal
 pub invariant_of-self : goal.invariant_of-self
 invariant_of-self c =
     let resized = c.resize-resized.ensures in
-    well_called _ _ c.self.invariant resized.sound (layout-others _ _ resized.layout) (layout-place _ _ resized.layout)
+    well_called _ _ c.self.invariant resized.sound resized.classes (layout-others _ _ resized.layout) (layout-place _ _ resized.layout)
     (ap (λ (l : Layout). l.free_pages) resized.layout)
     (ap (λ (p : Parts). p.is_fresh) c.self.view_is ∙ c.requires.stepped) refl
 
 pub invariant_of-self-2 : goal.invariant_of-self-2
 invariant_of-self-2 c =
     let resized = c.resize-resized.ensures in
-    well_called _ _ c.self.invariant resized.sound (layout-others _ _ resized.layout) (layout-place _ _ resized.layout)
+    well_called _ _ c.self.invariant resized.sound resized.classes (layout-others _ _ resized.layout) (layout-place _ _ resized.layout)
     (ap (λ (l : Layout). l.free_pages) resized.layout)
     (ap (λ (p : Parts). p.is_fresh) c.self.view_is ∙ c.requires.stepped) refl

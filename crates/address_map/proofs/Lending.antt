@@ -1,0 +1,64 @@
+-- Words of one page: where they lie, what they read as, and whether one of them is owned.
+use Rattle.std.proofs.Common.{◌≡◌, ℕ, zero, suc, ◌+◌, ◌-◌, ◌*◌, ◌%◌, ◌^◌, ◌<◌, ◌≤◌, Bool, true, false, not, ◌&&◌, ◌||◌, nat_lt, nat_le, List, [], ◌∷◌, length, get_or, slice_range, Some, None, is_some, arith, refl, sym, ◌∙◌, ap, add-one, inl, inr, add-zero}
+use Rattle.std.specs.List.{list_any}
+use Rattle.std.proofs.lemmas.Bool.{lt-ltb, false≢true}
+use Rattle.std.proofs.lemmas.Bool.Decides.{nat_tests}
+use Rattle.std.proofs.lemmas.List.{places}
+use Rattle.address_map.specs.declared.map.AddressMap.{AddressMap}
+use Rattle.address_map.specs.Bytes.{in_range, word_start}
+use Rattle.address_map.specs.Lent.{IsLent, any_owned}
+use Rattle.address_map.specs.Memory.{place, byte_at, bytes_of, regions, layout, class_of, is_owned, is_plain}
+use Rattle.address_map.proofs.Loads.{byte_found}
+use Rattle.address_map.proofs.PageTable.{place_within, place_near}
+
+-- the bytes of a page lie one after another
+pub place_ahead : (m : AddressMap) (a j k : ℕ) → place m a ≡ Some k → a % 4096 + j < 4096 → place m (a + j) ≡ Some (k + j)
+unfolding place
+place_ahead m a j k h below =
+    let low = (place_within m.frames.items m.free.items a k m.table h).0 in
+    let e : k - a % 4096 + (a + j) % 4096 ≡ k + j = omega arith in
+    place_near m.frames.items a (a + j) k (omega arith) h ∙ ap Some e
+
+pub page_fits : (m : AddressMap) (a k len : ℕ) → place m a ≡ Some k → a % 4096 + len ≤ 4096 → k + len ≤ length m.store
+unfolding place
+page_fits m a k len h within =
+    let low = place_within m.frames.items m.free.items a k m.table h in
+    omega (arith, low.0, low.1, m.frames_fit)
+
+length-lent : (store : List ℕ) (k len : ℕ) → k + len ≤ length store → length (slice_range store k (k + len)) ≡ len
+length-lent store k len fits = grind (arith, places)
+
+get_or-lent : (store : List ℕ) (k len j : ℕ) → k + len ≤ length store → j < len → get_or (slice_range store k (k + len)) j 0 ≡ get_or store (k + j) 0
+get_or-lent store k len j fits below = grind (arith, places)
+
+pub is_lent : (m : AddressMap) (a k len : ℕ) (lent : List ℕ) → place m a ≡ Some k → a % 4096 + len ≤ 4096 → lent ≡ slice_range m.store k (k + len)
+    → IsLent (bytes_of m) a len lent
+is_lent m a k len lent h within is =
+    let fits : k + len ≤ length m.store = page_fits m a k len h within in
+    record {
+      size = ap length is ∙ length-lent m.store k len fits;
+      mapped = λ j below. ap is_some (place_ahead m a j k h (omega arith));
+      bytes = λ j below. ap (λ (xs : List ℕ). get_or xs j 0) is ∙ get_or-lent m.store k len j fits below
+          ∙ sym (byte_found m (a + j) (k + j) (place_ahead m a j k h (omega arith)));
+    }
+
+pub ruleset lending = (page_fits, is_lent)
+
+-- words of which one may be owned
+pub owned_step : (owned : ℕ → Bool) (first n i : ℕ) → i < n → owned (first + 4 * i) ≡ false
+    → any_owned owned (first + 4 * i) (n - i) ≡ any_owned owned (first + 4 * (i + 1)) (n - (i + 1))
+unfolding any_owned
+owned_step owned first n i h m =
+    let e : n - i ≡ suc (n - (i + 1)) = omega arith in
+    let a : first + 4 * i + 4 ≡ first + 4 * (i + 1) = omega arith in
+    rw (e, m) (ap (λ x. any_owned owned x (n - (i + 1))) a)
+
+pub owned_stop : (owned : ℕ → Bool) (first n i : ℕ) → i < n → owned (first + 4 * i) ≡ true → any_owned owned (first + 4 * i) (n - i) ≡ true
+unfolding any_owned
+owned_stop owned first n i h m = let e : n - i ≡ suc (n - (i + 1)) = omega arith in rw (e, m) refl
+
+pub owned_end : (owned : ℕ → Bool) (a n i : ℕ) → n ≤ i → any_owned owned a (n - i) ≡ false
+unfolding any_owned
+owned_end owned a n i h = let e : n - i ≡ 0 = omega arith in rw e refl
+
+pub ruleset owning = (owned_step, owned_stop, owned_end)

@@ -1,0 +1,33 @@
+use Rattle.std.proofs.Common.{◌+◌, ◌≤◌, length, arith, refl}
+use Rattle.raw_store.specs.Region.{word_bytes}
+use Rattle.address_map.proofs.Loads.{place_fits_word}
+use Rattle.address_map.proofs.Stores.{word_put, same_layout, store_written, All-word_bytes}
+use Rattle.address_map.proofs.Marking.{same_marks}
+use Rattle.address_map.proofs.map.AddressMap.put_word_at.Goals as goal
+
+pub write_word-requires : goal.write_word-requires
+write_word-requires c = place_fits_word c.args.self.now c.args.addr c.args.at c.requires.aligned c.requires.there
+
+pub invariant_of-self : goal.invariant_of-self
+invariant_of-self c =
+    let m = c.args.self.now in
+    let fits : c.args.at + 4 ≤ length m.store = place_fits_word m c.args.addr c.args.at c.requires.aligned c.requires.there in
+    let kept = store_written m c.write_word.new.self (word_bytes c.args.word) c.args.at c.write_word.ensures fits (All-word_bytes c.args.word) in
+    record {
+      bytes_fit = kept.0;
+      in_limit = omega (arith, kept.1, m.in_limit);
+      marks_fit = omega (arith, kept.1, m.marks_fit);
+      frames_fit = omega (arith, kept.1, m.frames_fit);
+      table = m.table;
+      recorded = m.recorded;
+    }
+
+pub returns-clause-bytes : goal.returns-clause-bytes
+returns-clause-bytes c =
+    word_put c.args.self.now _ c.args.addr c.args.at c.args.word c.requires.aligned c.requires.there (same_layout _ _ refl refl refl) c.write_word.ensures
+
+pub returns-clause-layout : goal.returns-clause-layout
+returns-clause-layout c = same_layout _ _ refl refl refl
+
+pub returns-clause-marks : goal.returns-clause-marks
+returns-clause-marks c = same_marks _ _ refl refl

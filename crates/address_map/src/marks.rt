@@ -1,0 +1,78 @@
+ghost use Rattle.std.specs.Prelude.{ℕ, ◌≡◌, ◌<◌, ◌≤◌, ◌+◌, ◌*◌, ◌/◌, ◌==◌, IfOk, length, if◌then◌else◌};
+ghost use Rattle.address_map.specs.declared.class.Class.{Class};
+ghost use Rattle.address_map.specs.Bytes.{in_range};
+ghost use Rattle.address_map.specs.Classes.{weight, number_of};
+
+use crate::class::Class;
+use std::alloc::{AllocError, Global};
+
+/// The class of each word of a store, four of them in a byte.
+#[derive(Drop)]
+pub struct Marks {
+    pub(crate) bytes: Vec<u8>,
+}
+
+impl Marks {
+    ghost use Rattle.address_map.specs.Marks.{class_at};
+
+    /// The classes of four words for each of that many bytes, all plain.
+    pub(crate) fn new(alloc: Global, bytes: usize) -> Result<Marks, AllocError>
+        ensures { IfOk result (λ m. length m.bytes.items ≡ bytes) }
+    {
+        Ok(Marks {
+            bytes: vec![in alloc; 0; bytes]?,
+        })
+    }
+
+    /// The class of a word.
+    #[inline(always)]
+    #[tactic(auto, unfolding(crate::specs::Marks::class_at))]
+    pub(crate) fn class(&self, word: usize) -> Class
+        requires { word / 4 < length self.now.bytes.items }
+        ensures { result ≡ class_at self.now word }
+    {
+        match self.bytes[word / 4] / weight(word % 4) % 4 {
+            0 => Class::Plain,
+            1 => Class::Heap,
+            2 => Class::FlexHeader,
+            _ => Class::Anchor,
+        }
+    }
+
+    /// Gives a word a class.
+    #[tactic(auto, using(crate::proofs::Lanes::byte_fits, crate::proofs::Lanes::number_small))]
+    pub(crate) fn set(&mut self, word: usize, class: Class)
+        requires { word / 4 < length self.old.bytes.items }
+        ensures classes { (k : ℕ) → class_at self.new k ≡ (if k == word then class else class_at self.old k) }
+        ensures len { length self.new.bytes.items ≡ length self.old.bytes.items }
+    {
+        let byte = self.bytes[word / 4];
+        let weight = weight(word % 4);
+        let rest = byte - byte / weight % 4 * weight;
+        self.bytes[word / 4] = rest + class.number() * weight;
+    }
+
+    /// Makes the words of `count` bytes plain, those of the byte `first` and those behind it.
+    pub(crate) fn clear(&mut self, first: usize, count: usize)
+        requires { first + count ≤ length self.old.bytes.items }
+        ensures classes { (k : ℕ) →
+            class_at self.new k ≡ (if in_range (4 * first) (4 * count) k then Class.Plain else class_at self.old k) }
+        ensures len { length self.new.bytes.items ≡ length self.old.bytes.items }
+    {
+        for done in 0..count {
+            self.bytes[first + done] = 0;
+        }
+    }
+}
+
+/// What the lowest bit of a word's class counts in its byte.
+fn weight(lane: usize) -> u8
+    ensures { result ≡ weight lane }
+{
+    match lane {
+        0 => 1,
+        1 => 4,
+        2 => 16,
+        _ => 64,
+    }
+}

@@ -1,0 +1,13 @@
+use Rattle.std.proofs.Common.{◌∙◌}
+use Rattle.os_heap.proofs.Marking.{same_parts, without_word, word_below}
+use Rattle.os_heap.proofs.marks.mark.Goals as goal
+
+pub own-requires-clause-region : goal.own-requires-clause-region
+own-requires-clause-region c = record {
+  aligned = c.requires.aligned;
+  end = word_below c.args.map.now c.args.at c.requires.aligned c.requires.mapped;
+}
+
+pub returns-else-is_head-clause-layout : goal.returns-else-is_head-clause-layout
+returns-else-is_head-clause-layout c =
+    same_parts c.args.map.now c.disown.new.self c.disown.ensures.mapping (c.disown.ensures.regions ∙ without_word _ c.args.at)
