@@ -12,3 +12,4 @@ pub mod Removing
 pub mod Spelling
 pub mod Spans
 pub mod Stores
+pub mod Viewing
