@@ -13,3 +13,4 @@ pub mod Removing
 pub mod Spelling
 pub mod Spans
 pub mod Stores
+pub mod Viewing

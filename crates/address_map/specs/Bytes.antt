@@ -1,7 +1,8 @@
 -- Memory as the layers above see it: which addresses are mapped, and the byte at each. A load or a store is a function of
 -- that alone. Addresses have 26 bits, words are little-endian and lie at multiples of 4 (ARM2 data sheet, "Memory
 -- interface"); an access past the end of the address space is an address exception there.
-use Rattle.std.specs.Prelude.{◌≡◌, ◌≤◌, ◌<◌, ℕ, ◌+◌, ◌*◌, ◌-◌, ◌/◌, ◌%◌, ◌^◌, ◌==◌, Bool, true, false, ◌&&◌, nat_le, nat_lt, List, length, slice_index, Option, Some, None, Result, Ok, Err, if◌then◌else◌}
+use Rattle.std.specs.Prelude.{◌≡◌, ◌≤◌, ◌<◌, ℕ, ◌+◌, ◌*◌, ◌-◌, ◌/◌, ◌%◌, ◌^◌, ◌==◌, Bool, true, false, ◌&&◌, nat_le, nat_lt, List, length, map, slice_index, Option, Some, None, Result, Ok, Err, if◌then◌else◌}
+use Rattle.std.specs.List.{range_with_len}
 use Rattle.profile.specs.declared.fault.Fault.{Fault}
 use Rattle.profile.specs.declared.fault.Fault.TheVariants.{AddressException, DataUnmapped, OwnedWord}
 
@@ -31,6 +32,10 @@ word_start a = a - a % 4
 -- the word at an address
 abbrev pub word_at : (ℕ → ℕ) → ℕ → ℕ
 word_at bytes a = bytes a + 256 * (bytes (a + 1) + 256 * (bytes (a + 2) + 256 * bytes (a + 3)))
+
+-- the `len` bytes from the address `at` on, in order
+abbrev pub bytes_between : (ℕ → ℕ) → ℕ → ℕ → List ℕ
+bytes_between bytes at len = map bytes (range_with_len at len)
 
 -- the bytes after a byte, or the four bytes of a word, were written at `at`
 abbrev pub with_byte_at : (ℕ → ℕ) → ℕ → ℕ → ℕ → ℕ

@@ -12,11 +12,13 @@ pub mod owned;
 pub mod pages;
 pub mod records;
 pub mod region;
+pub mod view;
 
 pub use class::Class;
 pub use item::Item;
 pub use map::AddressMap;
 pub use region::{Kind, Region};
+pub use view::View;
 
 #[cfg(test)]
 mod tests;

@@ -1,5 +1,5 @@
 use crate::{AddressMap, Class, Kind};
-use profile::Fault;
+use profile::{Fault, ImageBytes};
 use std::test::Fail;
 
 #[test]
@@ -67,6 +67,9 @@ fn writes_across_ranges_that_lie_apart_in_the_store(rt: HostRuntime) -> Result<(
     assert!(rt; map.maps(0x9004, 1));
     map.put_word(0x9004, 0xDEAD_BEEF);
     assert_eq!(rt; map.load_word(0x9004), Ok(0xDEAD_BEEF));
+    let view = map.view(0x8FFD, 5);
+    assert_eq!(rt; view.len(), 5);
+    assert_eq!(rt; (view.byte(0), view.byte(4)), (2, 6));
     Ok(())
 }
 
