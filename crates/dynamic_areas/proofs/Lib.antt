@@ -1,0 +1,5 @@
+pub mod GroundLemmas
+pub mod LandLemmas
+pub mod Remapped
+pub mod RoomLemmas
+pub mod Tables

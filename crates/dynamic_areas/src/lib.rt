@@ -1,0 +1,10 @@
+//! Dynamic areas: ranges of addresses whose memory grows and shrinks by pages, out of one pool.
+#![tactic(auto)]
+
+pub mod area;
+pub mod areas;
+mod gaps;
+mod table;
+
+pub use area::{Area, Changed, Created, Extent, MOST_NAME_BYTES, Wanted};
+pub use areas::Areas;
