@@ -1,5 +1,5 @@
 -- The ground of the areas where one of them grows or shrinks.
-use Rattle.std.proofs.Common.{◌≡◌, ℕ, ◌+◌, ◌-◌, ◌*◌, ◌<◌, ◌≤◌, ◌==◌, ◌&&◌, ◌||◌, not, Bool, true, false, leb, List, [], ◌∷◌, refl, sym, ap, subst, ◌∙◌, Some, None, inl, inr, arith}
+use Rattle.std.proofs.Common.{◌≡◌, ℕ, ◌+◌, ◌-◌, ◌*◌, ◌<◌, ◌≤◌, ◌==◌, ◌%◌, ◌&&◌, ◌||◌, not, Bool, true, false, leb, List, [], ◌∷◌, refl, sym, ap, subst, ◌∙◌, Some, None, inl, inr, arith}
 use Rattle.std.specs.Prelude.{Option}
 use Rattle.std.specs.List.{list_any}
 use Rattle.std.proofs.lemmas.Bool.{cases_Bool, le-ltb, lt-ltb, le-leb, lt-leb, and_right, false≢true}
@@ -9,12 +9,13 @@ use Rattle.os_heap.specs.Store.{Store, IsSound, AreClear, IsClearOfHeaps}
 use Rattle.os_heap.proofs.Stores.{clear_both_ways}
 use Rattle.dynamic_areas.specs.declared.area.Area.{Area}
 use Rattle.dynamic_areas.specs.Areas.{Land, find_area, with_pages, with_areas, paged, pages_of}
+use Rattle.dynamic_areas.specs.Changing.{AreRangesClear}
 use Rattle.dynamic_areas.specs.Ground.{is_fixed, is_held, is_land, IsGround, AreRangesMapped}
 use Rattle.dynamic_areas.specs.Remapped.{with_pages_at, without_pages_at}
 use Rattle.dynamic_areas.specs.Rooms.{IsRoom, AreRooms}
-use Rattle.dynamic_areas.proofs.LandLemmas.{or_middle, land_grown, held_alone, pages_same, pages_counted, rooms_paged, some_paged, fixed_outside}
+use Rattle.dynamic_areas.proofs.LandLemmas.{or_middle, land_grown, held_alone, pages_same, pages_counted, rooms_paged, some_paged, fixed_outside, lies_apart}
 use Rattle.dynamic_areas.proofs.Remapped.{here, range_low, range_high, sound_grown, sound_shrunk}
-use Rattle.dynamic_areas.proofs.RoomLemmas.{found_room}
+use Rattle.dynamic_areas.proofs.RoomLemmas.{found_room, pages_none, room_small}
 
 or_true : (t : Bool) → (t || true) ≡ true
 or_true true = refl
@@ -89,11 +90,6 @@ paged_twice number first pages (g ∷ others) =
       | inr other ↦ rw (other, other) (ap (λ (xs : List Area). g ∷ xs) (paged_twice number first pages others))
     ]
 
--- a range that shares no address with any of the recorded ones that are no heaps
-abbrev pub AreRangesClear : ℕ → ℕ → List Region → Type 0
-AreRangesClear at len [] = Unit {0}
-AreRangesClear at len (r ∷ rs) = AreClear at len r.at r.len × AreRangesClear at len rs
-
 ranges_less : (s : Store) (at len : ℕ) (rs : List Region) → AreRangesMapped s.bytes.mapped rs → AreRangesClear at len rs
     → AreRangesMapped (λ a. s.bytes.mapped a && not (in_range at len a)) rs
 ranges_less s at len [] mapped clear = tt
@@ -147,3 +143,32 @@ module _ (s : Store) (free : ℕ) (l : Land) (number : ℕ) (a : Area) (count : 
         ranges = ranges_less s (a.base + 4096 * (a.pages - count)) (4096 * count) s.others ground.ranges ranges;
         sound = sound_shrunk s (a.base + 4096 * (a.pages - count)) (4096 * count) ground.sound heaps;
       }
+
+pub mapped_held : (s : Store) (free : ℕ) (l : Land) (number : ℕ) (a : Area) → IsGround s free l → find_area number l.areas ≡ Some a
+    → (x : ℕ) → a.base ≤ x → x < a.base + 4096 * a.pages → s.bytes.mapped x ≡ true
+mapped_held s free l number a ground e x low high =
+    let room : IsRoom a = found_room number l.areas a ground.table.rooms e in
+    let within : 4096 * a.pages ≤ a.maximum = room.within in
+    let inside : in_range a.base a.maximum x ≡ true = here a.base a.maximum x low (omega arith) in
+    let alone : list_any (is_held x) (with_pages number a.pages l.areas) ≡ in_range a.base (4096 * a.pages) x =
+    held_alone number l.areas a a.pages x ground.table.rooms e inside in
+    let held : list_any (is_held x) l.areas ≡ true =
+    ap (λ (xs : List Area). list_any (is_held x) xs) (sym (pages_same number l.areas a e)) ∙ (alone ∙ here a.base (4096 * a.pages) x low high) in
+    ground.land x ∙ rw held (or_true (is_fixed l.sizes x))
+
+-- pages of an area's room lie in the address space
+pub record FitsWindow (a : Area) (pages count : ℕ) : Type 0 where
+  pub aligned : (a.base + 4096 * pages) % 4096 ≡ 0
+  pub below : a.base + 4096 * pages + 4096 * count ≤ 0x03000000
+  pub sum : pages + count ≤ 0x1000
+
+pub fits_window : (a : Area) (pages count : ℕ) → IsRoom a → 4096 * (pages + count) ≤ a.maximum → FitsWindow a pages count
+fits_window a pages count room fits =
+    let page : a.base % 4096 ≡ 0 = room.page in
+    let high : a.base + a.maximum ≤ 0x03000000 = (lies_apart a room).high in
+    let low : 0x01800000 ≤ a.base = (lies_apart a room).low in
+    record { aligned = omega arith; below = omega arith; sum = omega (arith, room_small a room) }
+
+-- where no area has the number, the land is as it was
+pub land_none : (l : Land) (number pages : ℕ) → find_area number l.areas ≡ None → l ≡ with_areas l (with_pages number pages l.areas)
+land_none l number pages none = sym (ap (λ (xs : List Area). with_areas l xs) (pages_none number pages l.areas none))

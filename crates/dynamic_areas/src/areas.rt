@@ -1,11 +1,11 @@
 ghost use Rattle.std.specs.Prelude.{◌≡◌, ◌≤◌, length, Ok, Err, MatchResult};
 ghost use Rattle.profile.specs.Outcome.{Leaves};
 ghost use Rattle.address_map.specs.Memory.{free_pages};
-ghost use Rattle.dynamic_areas.specs.Areas.{area_in, asked_number, extent_of, extent_asked, next_number, module_area, start_land, renumbered};
+ghost use Rattle.dynamic_areas.specs.Areas.{area_in, asked_number, extent_of, extent_asked, next_number, module_area, start_land, renumbered, with_areas, with_pages};
 ghost use Rattle.dynamic_areas.specs.Rooms.{IsAreaTable};
 
 use crate::area::{Area, Extent, MOST_NAME_BYTES};
-use crate::table::{MINUS_ONE, MODULE_AREA, MOST_AREAS, find, next_above, renumber};
+use crate::table::{MINUS_ONE, MODULE_AREA, MOST_AREAS, find, next_above, renumber, set_pages};
 use address_map::AddressMap;
 use arrayvec::ArrayVec;
 use profile::memory_map::{PAGE_SIZE, RMA_MAXIMUM, RMA_START};
@@ -113,6 +113,13 @@ impl Areas {
         ensures table { IsAreaTable self.new.areas }
     {
         renumber(&mut self.list, old, new)
+    }
+
+    /// Gives an area another count of pages, if there is one of that number.
+    pub(crate) fn set_pages(&mut self, number: u32, pages: u32)
+        ensures { self.new ≡ with_areas self.old (with_pages number pages self.old.areas) }
+    {
+        set_pages(&mut self.list, number, pages);
     }
 
     /// How many pages are in the pool, out of which areas grow.

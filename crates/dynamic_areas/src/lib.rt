@@ -3,6 +3,7 @@
 
 pub mod area;
 pub mod areas;
+pub mod change;
 mod gaps;
 mod table;
 
