@@ -132,13 +132,13 @@ module _ (s : Store) (free : ℕ) (l : Land) (number : ℕ) (a : Area) (count : 
           first = some_paged number (a.pages - count) 1 l.areas ∙ ground.table.first;
         };
         land = λ x. rw (ground.land x, shrunk_land x) (land_less (is_fixed l.sizes x) (in_range (a.base + 4096 * (a.pages - count)) (4096 * count) x)
-        (list_any (is_held x) (with_pages number (a.pages - count) l.areas)) (λ there.
-        let low : a.base + 4096 * (a.pages - count) ≤ x = range_low (a.base + 4096 * (a.pages - count)) (4096 * count) x there in
-        let high : x < a.base + 4096 * (a.pages - count) + 4096 * count = range_high (a.base + 4096 * (a.pages - count)) (4096 * count) x there in
-        let inside : in_range a.base a.maximum x ≡ true = here a.base a.maximum x (omega arith) (omega arith) in (
-          fixed_outside l.sizes a x ground.sizes room inside,
-          held_alone number l.areas a (a.pages - count) x ground.table.rooms e inside ∙ past_end a.base (4096 * (a.pages - count)) x low,
-        )));
+            (list_any (is_held x) (with_pages number (a.pages - count) l.areas)) (λ there.
+            let low : a.base + 4096 * (a.pages - count) ≤ x = range_low (a.base + 4096 * (a.pages - count)) (4096 * count) x there in
+            let high : x < a.base + 4096 * (a.pages - count) + 4096 * count = range_high (a.base + 4096 * (a.pages - count)) (4096 * count) x there in
+            let inside : in_range a.base a.maximum x ≡ true = here a.base a.maximum x (omega arith) (omega arith) in (
+              fixed_outside l.sizes a x ground.sizes room inside,
+              held_alone number l.areas a (a.pages - count) x ground.table.rooms e inside ∙ past_end a.base (4096 * (a.pages - count)) x low,
+            )));
         pages = omega arith;
         ranges = ranges_less s (a.base + 4096 * (a.pages - count)) (4096 * count) s.others ground.ranges ranges;
         sound = sound_shrunk s (a.base + 4096 * (a.pages - count)) (4096 * count) ground.sound heaps;

@@ -36,10 +36,19 @@ held_split base p c x =
         | inr from ↦ rw (le-leb base x from, lt-ltb x (base + 4096 * (p + c)) (omega arith), lt-leb (base + 4096 * p) x low, lt-ltb x (base + 4096 * p) low) refl
       ]
       | inr high ↦ elim (cases_lt x (base + 4096 * (p + c))) [
-        | inl inside ↦ rw (le-leb base x (omega arith), lt-ltb x (base + 4096 * (p + c)) inside, le-leb (base + 4096 * p) x high,
-          lt-ltb x (base + 4096 * p + 4096 * c) (omega arith)) refl
-        | inr past ↦ rw (le-leb base x (omega arith), le-ltb x (base + 4096 * (p + c)) past, le-leb (base + 4096 * p) x high,
-          le-ltb x (base + 4096 * p + 4096 * c) (omega arith), le-ltb x (base + 4096 * p) high) refl
+        | inl inside ↦ rw (
+          le-leb base x (omega arith),
+          lt-ltb x (base + 4096 * (p + c)) inside,
+          le-leb (base + 4096 * p) x high,
+          lt-ltb x (base + 4096 * p + 4096 * c) (omega arith),
+        ) refl
+        | inr past ↦ rw (
+          le-leb base x (omega arith),
+          le-ltb x (base + 4096 * (p + c)) past,
+          le-leb (base + 4096 * p) x high,
+          le-ltb x (base + 4096 * p + 4096 * c) (omega arith),
+          le-ltb x (base + 4096 * p) high,
+        ) refl
       ]
     ]
 
@@ -72,8 +81,12 @@ outside g a x room apart inside =
     let low' : g.base ≤ x = range_low g.base (4096 * g.pages) x held in
     let high' : x < g.base + 4096 * g.pages = range_high g.base (4096 * g.pages) x held in
     let within : 4096 * g.pages ≤ g.maximum = room.within in
-    let met : meets g.base g.maximum a.base a.maximum ≡ true = rw (lt-ltb 0 g.maximum (omega arith), lt-ltb 0 a.maximum (omega arith),
-    lt-ltb g.base (a.base + a.maximum) (omega arith), lt-ltb a.base (g.base + g.maximum) (omega arith)) refl in
+    let met : meets g.base g.maximum a.base a.maximum ≡ true = rw (
+      lt-ltb 0 g.maximum (omega arith),
+      lt-ltb 0 a.maximum (omega arith),
+      lt-ltb g.base (a.base + a.maximum) (omega arith),
+      lt-ltb a.base (g.base + g.maximum) (omega arith),
+    ) refl in
     false≢true (sym apart ∙ met))
 
 rest_outside : (a : Area) (others : List Area) (x : ℕ) → AreRooms others → IsBefore a others → in_range a.base a.maximum x ≡ true
@@ -197,8 +210,8 @@ fixed_outside sizes a x good room inside =
     let most : sizes.pages ≤ 1024 = good.in_limit in
     let fits : sizes.app + sizes.rma + 3 ≤ sizes.pages = good.has_room in
     rw (le-leb 0x8000 x (omega arith), le-ltb x (0x8000 + 4096 * sizes.app) (omega arith)) (
-      elim lies.beside [
-        | inl below ↦ rw (lt-leb 0x01C00000 x (omega arith)) refl
-        | inr above ↦ rw (le-ltb x (0x01C00000 + 0x3000) (omega arith)) (and_right (leb 0x01C00000 x) false refl)
-      ]
+    elim lies.beside [
+      | inl below ↦ rw (lt-leb 0x01C00000 x (omega arith)) refl
+      | inr above ↦ rw (le-ltb x (0x01C00000 + 0x3000) (omega arith)) (and_right (leb 0x01C00000 x) false refl)
+    ]
     )

@@ -54,8 +54,8 @@ heaps_remapped b c at len [] change clear parts = tt
 heaps_remapped b c at len (h ∷ hs) change clear parts =
     let apart : AreClear h.start h.end at len = clear_both_ways at len h.start h.end clear.0 in (
       heap_remapped b c h.start h.end h.items parts.0
-      (λ a low high. change.mapped a (apart a (here h.start h.end a low high)) (parts.0.mapped a low high))
-      (λ a low high. change.bytes a (apart a (here h.start h.end a low high))),
+          (λ a low high. change.mapped a (apart a (here h.start h.end a low high)) (parts.0.mapped a low high))
+          (λ a low high. change.bytes a (apart a (here h.start h.end a low high))),
       (parts.1.0, heaps_remapped b c at len hs change clear.1 parts.1.1),
     )
 

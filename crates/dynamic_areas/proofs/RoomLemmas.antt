@@ -172,11 +172,11 @@ find_without_other number other (a ∷ others) differ =
     elim (cases_eq a.number number) [
       | inl here ↦ rw (eq-eqb a.number number here, ne_eqb a.number other (λ same. differ (sym here ∙ same))) refl
       | inr later ↦ rw (ne_eqb a.number number later) (
-        elim (cases_Bool (a.number == other)) [
-          | inl same ↦ rw same refl
-          | inr unlike ↦ rw unlike (find_without_other number other others differ)
-        ]
-      )
+          elim (cases_Bool (a.number == other)) [
+            | inl same ↦ rw same refl
+            | inr unlike ↦ rw unlike (find_without_other number other others differ)
+          ]
+          )
     ]
 
 pub find_with_other : (area : Area) (other : ℕ) (others : List Area) → area.number ≢ other → find_area other (with_area area others) ≡ find_area other others
@@ -185,15 +185,15 @@ find_with_other area other (a ∷ others) differ =
     elim (cases_lt area.number a.number) [
       | inl here ↦ rw (lt-ltb area.number a.number here, ne_eqb area.number other differ) refl
       | inr later ↦ rw (le-ltb area.number a.number later) (
-        elim (cases_Bool (a.number == other)) [
-          | inl same ↦ rw same refl
-          | inr unlike ↦ rw unlike (find_with_other area other others differ)
-        ]
-      )
+          elim (cases_Bool (a.number == other)) [
+            | inl same ↦ rw same refl
+            | inr unlike ↦ rw unlike (find_with_other area other others differ)
+          ]
+          )
     ]
 
 -- a created area with another number
-created_place : (number base maximum : ℕ) → is_created number ≡ true → is_in_window base maximum ≡ true → is_place number base maximum ≡ true
+pub created_place : (number base maximum : ℕ) → is_created number ≡ true → is_in_window base maximum ≡ true → is_place number base maximum ≡ true
 created_place number base maximum good inside =
     let limits = and_parts (leb 256 number) (leb number 0x7FFFFFFF) good in
     let low : 256 ≤ number = leb-true 256 number limits.0 in

@@ -1,6 +1,7 @@
 -- OS_ChangeDynamicArea: an area grows out of the pool, and shrinks down to the first page from its top that must stay (RISC OS 3 Programmer's
 -- Reference Manual, "OS_ChangeDynamicArea"; what must stay, and that as many pages move as can, are this project's own).
-use Rattle.std.specs.Prelude.{ℕ, ◌+◌, ◌-◌, ◌*◌, ◌/◌, ◌^◌, ◌==◌, ◌||◌, Bool, zero, suc, nat_lt, min, Option, Some, None, List, [], ◌∷◌, ◌≡◌, ◌≤◌, false, if◌then◌else◌}
+use Rattle.std.specs.Prelude.{ℕ, ◌+◌, ◌-◌, ◌*◌, ◌/◌, ◌^◌, ◌==◌, ◌||◌, Bool, zero, suc, nat_lt, min, Option, Some, None, Result, Ok, Err, List, [], ◌∷◌, ◌≡◌, ◌≤◌, false, if◌then◌else◌}
+use Rattle.profile.specs.Outcome.{bind}
 use Rattle.profile.specs.declared.error.ErrorNumber.{ErrorNumber}
 use Rattle.profile.specs.declared.error.ErrorNumber.TheVariants.{AreaUnknown, AreaInUse, AreaNoPages}
 use Rattle.address_map.specs.Items.{size_of}
@@ -11,7 +12,7 @@ use Rattle.os_heap.specs.Store.{Store, AreClear, IsClearOfHeaps, find_heap}
 use Rattle.os_heap.specs.Ranges.{meets_any}
 use Rattle.dynamic_areas.specs.declared.area.Area.{Area}
 use Rattle.dynamic_areas.specs.declared.area.Changed.{Changed}
-use Rattle.dynamic_areas.specs.Areas.{Land, find_area, with_areas, with_pages}
+use Rattle.dynamic_areas.specs.Areas.{Land, area_in, find_area, with_areas, with_pages, without_area}
 use Rattle.dynamic_areas.specs.Creating.{pages_for}
 use Rattle.dynamic_areas.specs.Remapped.{with_pages_at, without_pages_at}
 
@@ -90,3 +91,14 @@ pub record AreLoose (s : Store) (a : Area) (count : ℕ) : Type 0 where
   pub heaps : IsClearOfHeaps (a.base + 4096 * (a.pages - count)) (4096 * count) s.heaps
   pub ranges : AreRangesClear (a.base + 4096 * (a.pages - count)) (4096 * count) s.others
   pub anchors : anchor_meets s.others s.bytes.at (a.base + 4096 * (a.pages - count)) (4096 * count) ≡ false
+
+-- OS_DynamicArea, reason 1: an area goes, where all its pages can.
+abbrev pub store_emptied : Store → Option Area → Store
+store_emptied s None = s
+store_emptied s (Some a) = without_pages_at s a.base (4096 * a.pages)
+
+unfoldable pub removed : Land → Store → ℕ → Result Land ErrorNumber
+removed l s number =
+    bind (area_in l.areas number) (λ a.
+    if number == 1 || nat_lt (loose_pages s a) a.pages then Err AreaInUse else
+    Ok (with_areas l (without_area number l.areas)))

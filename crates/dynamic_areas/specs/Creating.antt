@@ -50,13 +50,16 @@ wanted_base areas word maximum =
 abbrev pub is_good_base : ℕ → ℕ → Bool
 is_good_base word maximum = word == minus_one || (word % 4096 == 0 && is_in_window word maximum)
 
--- are these words, and this name, those of an area that may be?
-abbrev pub is_good : Sizes → Wanted → List ℕ → Bool
-is_good sizes w name =
-    let maximum : ℕ = wanted_maximum sizes w.maximum in
-    (w.number == minus_one || is_created w.number)
-    && ((nat_le (4096 * pages_for w.size) maximum && (nat_le 1 maximum && nat_le maximum 16777216))
-    && ((w.handler == 0 && is_good_base w.base maximum) && is_name name))
+-- are these sizes, words, and name those of an area that may be?
+abbrev pub are_good_sizes : ℕ → ℕ → Bool
+are_good_sizes maximum size = (nat_le 1 maximum && nat_le maximum 16777216) && nat_le (4096 * pages_for size) maximum
+
+abbrev pub is_good_number : ℕ → Bool
+is_good_number word = word == minus_one || is_created word
+
+abbrev pub is_good : ℕ → Wanted → List ℕ → Bool
+is_good maximum w name =
+    are_good_sizes maximum w.size && ((is_good_number w.number && w.handler == 0) && (is_good_base w.base maximum && is_name name))
 
 abbrev pub new_area : ℕ → ℕ → ℕ → Wanted → List ℕ → Area
 new_area number base maximum w name = record {
@@ -70,11 +73,11 @@ new_area number base maximum w name = record {
 }
 
 -- what is made of the words, where nothing speaks against it; `free` is the pool
-abbrev pub area_wanted : Land → ℕ → Wanted → List ℕ → Result Area ErrorNumber
+unfoldable pub area_wanted : Land → ℕ → Wanted → List ℕ → Result Area ErrorNumber
 area_wanted l free w name =
     let maximum : ℕ = wanted_maximum l.sizes w.maximum in
     let number : ℕ = wanted_number l.areas w.number in
-    if not (is_good l.sizes w name) then Err AreaBad else (
+    if not (is_good maximum w name) then Err AreaBad else (
     if is_some (find_area number l.areas) then Err AreaTaken else
     bind (ok_or (wanted_base l.areas w.base maximum) AreaTaken) (λ base.
     if nat_le 32 (length l.areas) then Err AreaTableFull else (

@@ -1,11 +1,13 @@
-ghost use Rattle.std.specs.Prelude.{◌≡◌, ◌≤◌, length, Ok, Err, MatchResult};
+ghost use Rattle.std.specs.Prelude.{◌≡◌, ◌≤◌, ◌<◌, length, Ok, Err, MatchResult};
 ghost use Rattle.profile.specs.Outcome.{Leaves};
 ghost use Rattle.address_map.specs.Memory.{free_pages};
-ghost use Rattle.dynamic_areas.specs.Areas.{area_in, asked_number, extent_of, extent_asked, next_number, module_area, start_land, renumbered, with_areas, with_pages};
+ghost use Rattle.dynamic_areas.specs.Areas.{area_in, asked_number, extent_of, extent_asked, next_number, module_area, start_land, renumbered, with_area, with_areas, with_pages, without_area};
 ghost use Rattle.dynamic_areas.specs.Rooms.{IsAreaTable};
 
 use crate::area::{Area, Extent, MOST_NAME_BYTES};
-use crate::table::{MINUS_ONE, MODULE_AREA, MOST_AREAS, find, next_above, renumber, set_pages};
+use crate::table::{
+    MINUS_ONE, MODULE_AREA, MOST_AREAS, find, next_above, put_area, renumber, set_pages, take_area,
+};
 use address_map::AddressMap;
 use arrayvec::ArrayVec;
 use profile::memory_map::{PAGE_SIZE, RMA_MAXIMUM, RMA_START};
@@ -76,7 +78,11 @@ impl Areas {
         Ok(Extent {
             base: area.base,
             size: PAGE_SIZE * area.pages,
-            maximum: if word >= 128 { Some(area.maximum) } else { None },
+            maximum: if word >= 128 {
+                Some(area.maximum)
+            } else {
+                None
+            },
         })
     }
 
@@ -120,6 +126,28 @@ impl Areas {
         ensures { self.new ≡ with_areas self.old (with_pages number pages self.old.areas) }
     {
         set_pages(&mut self.list, number, pages);
+    }
+
+    /// Puts an area in, at its place by number.
+    pub(crate) fn put_area(&mut self, area: Area)
+        requires { length self.old.areas < 32 }
+        ensures { self.new ≡ with_areas self.old (with_area area self.old.areas) }
+    {
+        put_area(&mut self.list, area);
+    }
+
+    /// Takes the area of a number out, if there is one.
+    pub(crate) fn drop_area(&mut self, number: u32)
+        ensures { self.new ≡ with_areas self.old (without_area number self.old.areas) }
+    {
+        let _ = take_area(&mut self.list, number);
+    }
+
+    /// The sizes of the machine.
+    pub(crate) fn sizes(&self) -> Config
+        ensures { result ≡ self.now.sizes }
+    {
+        self.sizes
     }
 
     /// How many pages are in the pool, out of which areas grow.

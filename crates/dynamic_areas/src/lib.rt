@@ -4,7 +4,10 @@
 pub mod area;
 pub mod areas;
 pub mod change;
+pub mod create;
 mod gaps;
+pub mod measure;
+pub mod remove;
 mod table;
 
 pub use area::{Area, Changed, Created, Extent, MOST_NAME_BYTES, Wanted};

@@ -133,7 +133,11 @@ pub(crate) fn put_area(areas: &mut ArrayVec<Area, MOST_AREAS>, area: Area)
 
 /// Gives an area another number. Nothing is changed where this is refused.
 #[tactic(auto, unfolding(crate::specs::Areas::renumbered))]
-pub(crate) fn renumber(areas: &mut ArrayVec<Area, MOST_AREAS>, old: u32, new: u32) -> Result<(), ErrorNumber>
+pub(crate) fn renumber(
+    areas: &mut ArrayVec<Area, MOST_AREAS>,
+    old: u32,
+    new: u32,
+) -> Result<(), ErrorNumber>
     requires { IsAreaTable areas.old.items }
     ensures areas { Leaves areas.old.items (renumbered areas.old.items old new) result areas.new.items }
     ensures table { IsAreaTable areas.new.items }

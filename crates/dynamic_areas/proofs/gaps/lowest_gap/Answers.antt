@@ -10,6 +10,6 @@ loop-page-preserved c =
     let base : 0x02000000 + 4096 * (c.loop-page.page + 1) ≡ 0x02000000 + 4096 * c.loop-page.page + 4096 = omega arith in
     let left : c.gap_count-count.result - (c.loop-page.page + 1) ≡ c.gap_count-count.result - c.loop-page.page - 1 = omega arith in
     rw (base, left) (
-      sym (gap_passed c.args.areas.now c.args.maximum (0x02000000 + 4096 * c.loop-page.page) (c.gap_count-count.result - c.loop-page.page) met (omega arith))
-      ∙ c.loop-page.invariant
+    sym (gap_passed c.args.areas.now c.args.maximum (0x02000000 + 4096 * c.loop-page.page) (c.gap_count-count.result - c.loop-page.page) met (omega arith))
+    ∙ c.loop-page.invariant
     )
