@@ -1,0 +1,174 @@
+-- The ground of the areas where one of them grows or shrinks.
+use Rattle.std.proofs.Common.{◌≡◌, ℕ, ◌+◌, ◌-◌, ◌*◌, ◌<◌, ◌≤◌, ◌==◌, ◌%◌, ◌&&◌, ◌||◌, not, Bool, true, false, leb, List, [], ◌∷◌, refl, sym, ap, subst, ◌∙◌, Some, None, inl, inr, arith}
+use Rattle.std.specs.Prelude.{Option}
+use Rattle.std.specs.List.{list_any}
+use Rattle.std.proofs.lemmas.Bool.{cases_Bool, le-ltb, lt-ltb, le-leb, lt-leb, and_right, false≢true}
+use Rattle.address_map.specs.declared.region.Region.{Region}
+use Rattle.address_map.specs.Bytes.{in_range, AreMapped, AreUnmapped}
+use Rattle.os_heap.specs.Store.{Store, IsSound, AreClear, IsClearOfHeaps}
+use Rattle.os_heap.proofs.Stores.{clear_both_ways}
+use Rattle.dynamic_areas.specs.declared.area.Area.{Area}
+use Rattle.dynamic_areas.specs.Areas.{Land, find_area, with_pages, with_areas, paged, pages_of}
+use Rattle.dynamic_areas.specs.Changing.{AreRangesClear}
+use Rattle.dynamic_areas.specs.Ground.{is_fixed, is_held, is_land, IsGround, AreRangesMapped}
+use Rattle.dynamic_areas.specs.Remapped.{with_pages_at, without_pages_at}
+use Rattle.dynamic_areas.specs.Rooms.{IsRoom, AreRooms}
+use Rattle.dynamic_areas.proofs.LandLemmas.{or_middle, land_grown, held_alone, pages_same, pages_counted, rooms_paged, some_paged, fixed_outside, lies_apart}
+use Rattle.dynamic_areas.proofs.Remapped.{here, range_low, range_high, sound_grown, sound_shrunk}
+use Rattle.dynamic_areas.proofs.RoomLemmas.{found_room, pages_none, room_small}
+
+or_true : (t : Bool) → (t || true) ≡ true
+or_true true = refl
+or_true false = refl
+
+and_true : (t : Bool) → (t && true) ≡ t
+and_true true = refl
+and_true false = refl
+
+-- below its top an area holds its pages alone, and above it nothing is mapped up to its maximum
+past_end : (base len x : ℕ) → base + len ≤ x → in_range base len x ≡ false
+past_end base len x past = rw (le-ltb x (base + len) past) (and_right (leb base x) false refl)
+
+pub unmapped_above : (s : Store) (free : ℕ) (l : Land) (number : ℕ) (a : Area) (count : ℕ) → IsGround s free l → find_area number l.areas ≡ Some a
+    → 4096 * (a.pages + count) ≤ a.maximum → AreUnmapped s.bytes.mapped (a.base + 4096 * a.pages) (4096 * count)
+unmapped_above s free l number a count ground e fits x low high =
+    let room : IsRoom a = found_room number l.areas a ground.table.rooms e in
+    let inside : in_range a.base a.maximum x ≡ true = here a.base a.maximum x (omega arith) (omega arith) in
+    let alone : list_any (is_held x) (with_pages number a.pages l.areas) ≡ in_range a.base (4096 * a.pages) x =
+    held_alone number l.areas a a.pages x ground.table.rooms e inside in
+    let none : list_any (is_held x) l.areas ≡ false =
+    ap (λ (xs : List Area). list_any (is_held x) xs) (sym (pages_same number l.areas a e)) ∙ (alone ∙ past_end a.base (4096 * a.pages) x low) in
+    ground.land x ∙ rw (fixed_outside l.sizes a x ground.sizes room inside, none) refl
+
+ranges_more : (s : Store) (at len : ℕ) (rs : List Region) → AreRangesMapped s.bytes.mapped rs
+    → AreRangesMapped (λ a. in_range at len a || s.bytes.mapped a) rs
+ranges_more s at len [] mapped = tt
+ranges_more s at len (r ∷ rs) mapped = (
+  λ a low high. rw (mapped.0 a low high) (or_true (in_range at len a)),
+  ranges_more s at len rs mapped.1,
+)
+
+pub ground_grown : (s : Store) (free : ℕ) (l : Land) (number : ℕ) (a : Area) (count : ℕ) → IsGround s free l → find_area number l.areas ≡ Some a
+    → 4096 * (a.pages + count) ≤ a.maximum → count ≤ free
+    → IsGround (with_pages_at s (a.base + 4096 * a.pages) (4096 * count)) (free - count) (with_areas l (with_pages number (a.pages + count) l.areas))
+ground_grown s free l number a count ground e fits pool =
+    let top : ℕ = a.base + 4096 * a.pages in
+    let counted : pages_of (with_pages number (a.pages + count) l.areas) + a.pages ≡ pages_of l.areas + (a.pages + count) =
+    pages_counted number l.areas a (a.pages + count) e in
+    let sum : pages_of l.areas + (l.sizes.app + 3) + free ≡ l.sizes.pages = ground.pages in
+    record {
+      sizes = ground.sizes;
+      table = record {
+        rooms = rooms_paged number l.areas a (a.pages + count) ground.table.rooms e fits;
+        first = some_paged number (a.pages + count) 1 l.areas ∙ ground.table.first;
+      };
+      land = λ x. rw (ground.land x, land_grown number l.areas a count x e)
+          (or_middle (in_range (a.base + 4096 * a.pages) (4096 * count) x) (is_fixed l.sizes x) (list_any (is_held x) l.areas));
+      pages = omega arith;
+      ranges = ranges_more s (a.base + 4096 * a.pages) (4096 * count) s.others ground.ranges;
+      sound = sound_grown s (a.base + 4096 * a.pages) (4096 * count) ground.sound (unmapped_above s free l number a count ground e fits);
+    }
+
+-- fewer pages
+pub find_paged : (number pages : ℕ) (areas : List Area) (a : Area) → find_area number areas ≡ Some a
+    → find_area number (with_pages number pages areas) ≡ Some (paged pages a)
+find_paged number pages [] a e = absurd (let none : None ≡ Some a = e in cc)
+find_paged number pages (g ∷ others) a e =
+    elim (cases_Bool (g.number == number)) [
+      | inl this ↦
+          let e' = rw this at e in
+          let same : g ≡ a = cc in
+          rw (this, this) (ap (λ (y : Area). Some (paged pages y)) same)
+      | inr other ↦ rw (other, other) (find_paged number pages others a (rw other at e))
+    ]
+
+pub paged_twice : (number first pages : ℕ) (areas : List Area) → with_pages number pages (with_pages number first areas) ≡ with_pages number pages areas
+paged_twice number first pages [] = refl
+paged_twice number first pages (g ∷ others) =
+    elim (cases_Bool (g.number == number)) [
+      | inl this ↦ rw (this, this) refl
+      | inr other ↦ rw (other, other) (ap (λ (xs : List Area). g ∷ xs) (paged_twice number first pages others))
+    ]
+
+ranges_less : (s : Store) (at len : ℕ) (rs : List Region) → AreRangesMapped s.bytes.mapped rs → AreRangesClear at len rs
+    → AreRangesMapped (λ a. s.bytes.mapped a && not (in_range at len a)) rs
+ranges_less s at len [] mapped clear = tt
+ranges_less s at len (r ∷ rs) mapped clear = (
+  λ a low high. rw (mapped.0 a low high, clear_both_ways at len r.at r.len clear.0 a (here r.at r.len a low high)) refl,
+  ranges_less s at len rs mapped.1 clear.1,
+)
+
+-- the land without the pages at the top
+land_less : (f t k : Bool) → (t ≡ true → (f ≡ false) × (k ≡ false)) → ((f || (t || k)) && not t) ≡ (f || k)
+land_less f true k none = let both = none refl in rw (both.0, both.1) refl
+land_less f false k none = and_true (f || k)
+
+module _ (s : Store) (free : ℕ) (l : Land) (number : ℕ) (a : Area) (count : ℕ) (ground : IsGround s free l) (e : find_area number l.areas ≡ Some a)
+    (fits : count ≤ a.pages) where
+  shrunk_land : (x : ℕ) → list_any (is_held x) l.areas
+      ≡ (in_range (a.base + 4096 * (a.pages - count)) (4096 * count) x || list_any (is_held x) (with_pages number (a.pages - count) l.areas))
+  shrunk_land x =
+      let sum : a.pages - count + count ≡ a.pages = omega arith in
+      let grown = land_grown number (with_pages number (a.pages - count) l.areas) (paged (a.pages - count) a) count x
+      (find_paged number (a.pages - count) l.areas a e) in
+      let back : with_pages number (a.pages - count + count) (with_pages number (a.pages - count) l.areas) ≡ l.areas =
+      paged_twice number (a.pages - count) (a.pages - count + count) l.areas ∙ (ap (λ (n : ℕ). with_pages number n l.areas) sum ∙ pages_same number l.areas a e) in
+      ap (λ (xs : List Area). list_any (is_held x) xs) (sym back) ∙ grown
+
+  pub ground_shrunk : IsClearOfHeaps (a.base + 4096 * (a.pages - count)) (4096 * count) s.heaps
+      → AreRangesClear (a.base + 4096 * (a.pages - count)) (4096 * count) s.others
+      → IsGround (without_pages_at s (a.base + 4096 * (a.pages - count)) (4096 * count)) (free + count)
+      (with_areas l (with_pages number (a.pages - count) l.areas))
+  ground_shrunk heaps ranges =
+      let room : IsRoom a = found_room number l.areas a ground.table.rooms e in
+      let within : 4096 * a.pages ≤ a.maximum = room.within in
+      let counted : pages_of (with_pages number (a.pages - count) l.areas) + a.pages ≡ pages_of l.areas + (a.pages - count) =
+      pages_counted number l.areas a (a.pages - count) e in
+      let sum : pages_of l.areas + (l.sizes.app + 3) + free ≡ l.sizes.pages = ground.pages in
+      record {
+        sizes = ground.sizes;
+        table = record {
+          rooms = rooms_paged number l.areas a (a.pages - count) ground.table.rooms e (omega arith);
+          first = some_paged number (a.pages - count) 1 l.areas ∙ ground.table.first;
+        };
+        land = λ x. rw (ground.land x, shrunk_land x) (land_less (is_fixed l.sizes x) (in_range (a.base + 4096 * (a.pages - count)) (4096 * count) x)
+            (list_any (is_held x) (with_pages number (a.pages - count) l.areas)) (λ there.
+            let low : a.base + 4096 * (a.pages - count) ≤ x = range_low (a.base + 4096 * (a.pages - count)) (4096 * count) x there in
+            let high : x < a.base + 4096 * (a.pages - count) + 4096 * count = range_high (a.base + 4096 * (a.pages - count)) (4096 * count) x there in
+            let inside : in_range a.base a.maximum x ≡ true = here a.base a.maximum x (omega arith) (omega arith) in (
+              fixed_outside l.sizes a x ground.sizes room inside,
+              held_alone number l.areas a (a.pages - count) x ground.table.rooms e inside ∙ past_end a.base (4096 * (a.pages - count)) x low,
+            )));
+        pages = omega arith;
+        ranges = ranges_less s (a.base + 4096 * (a.pages - count)) (4096 * count) s.others ground.ranges ranges;
+        sound = sound_shrunk s (a.base + 4096 * (a.pages - count)) (4096 * count) ground.sound heaps;
+      }
+
+pub mapped_held : (s : Store) (free : ℕ) (l : Land) (number : ℕ) (a : Area) → IsGround s free l → find_area number l.areas ≡ Some a
+    → (x : ℕ) → a.base ≤ x → x < a.base + 4096 * a.pages → s.bytes.mapped x ≡ true
+mapped_held s free l number a ground e x low high =
+    let room : IsRoom a = found_room number l.areas a ground.table.rooms e in
+    let within : 4096 * a.pages ≤ a.maximum = room.within in
+    let inside : in_range a.base a.maximum x ≡ true = here a.base a.maximum x low (omega arith) in
+    let alone : list_any (is_held x) (with_pages number a.pages l.areas) ≡ in_range a.base (4096 * a.pages) x =
+    held_alone number l.areas a a.pages x ground.table.rooms e inside in
+    let held : list_any (is_held x) l.areas ≡ true =
+    ap (λ (xs : List Area). list_any (is_held x) xs) (sym (pages_same number l.areas a e)) ∙ (alone ∙ here a.base (4096 * a.pages) x low high) in
+    ground.land x ∙ rw held (or_true (is_fixed l.sizes x))
+
+-- pages of an area's room lie in the address space
+pub record FitsWindow (a : Area) (pages count : ℕ) : Type 0 where
+  pub aligned : (a.base + 4096 * pages) % 4096 ≡ 0
+  pub below : a.base + 4096 * pages + 4096 * count ≤ 0x03000000
+  pub sum : pages + count ≤ 0x1000
+
+pub fits_window : (a : Area) (pages count : ℕ) → IsRoom a → 4096 * (pages + count) ≤ a.maximum → FitsWindow a pages count
+fits_window a pages count room fits =
+    let page : a.base % 4096 ≡ 0 = room.page in
+    let high : a.base + a.maximum ≤ 0x03000000 = (lies_apart a room).high in
+    let low : 0x01800000 ≤ a.base = (lies_apart a room).low in
+    record { aligned = omega arith; below = omega arith; sum = omega (arith, room_small a room) }
+
+-- where no area has the number, the land is as it was
+pub land_none : (l : Land) (number pages : ℕ) → find_area number l.areas ≡ None → l ≡ with_areas l (with_pages number pages l.areas)
+land_none l number pages none = sym (ap (λ (xs : List Area). with_areas l xs) (pages_none number pages l.areas none))

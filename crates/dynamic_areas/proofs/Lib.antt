@@ -1,0 +1,10 @@
+pub mod GroundLemmas
+pub mod HeapBase
+pub mod LandLemmas
+pub mod LooseLemmas
+pub mod PutLemmas
+pub mod RecordLemmas
+pub mod Remapped
+pub mod RoomLemmas
+pub mod Tables
+pub mod WantedLemmas

@@ -1,0 +1,118 @@
+-- What the map asks of pages that go: that no recorded range, and no anchor, has a byte in them.
+use Rattle.std.proofs.Common.{◌≡◌, ℕ, ◌+◌, ◌-◌, ◌*◌, ◌/◌, ◌<◌, ◌≤◌, ◌&&◌, ◌||◌, Bool, true, false, leb, List, [], ◌∷◌, refl, sym, ap, ◌∙◌, inl, inr, arith}
+use Rattle.std.specs.List.{list_any}
+use Rattle.std.proofs.Math.Dec.{ltb}
+use Rattle.std.proofs.lemmas.Bool.{cases_Bool, cases_lt, ltb-true, and_parts, or_parts, false≢true, false_from_ne_true}
+use Rattle.address_map.specs.declared.region.Kind.{Kind}
+use Rattle.address_map.specs.declared.region.Kind.TheVariants as kind
+use Rattle.address_map.specs.declared.region.Region.{Region}
+use Rattle.address_map.specs.Bytes.{Bytes, in_range, meets, word_at}
+use Rattle.address_map.specs.Flex.{has_anchor_in}
+use Rattle.address_map.specs.Records.{is_heap_kind, is_flex_kind, flex_blocks_of, meets_record, anchor_meets}
+use Rattle.os_heap.specs.Store.{AreClear, IsClearOfHeaps, heaps_in, others_in}
+use Rattle.os_heap.specs.Ranges.{meets as meets_range}
+use Rattle.os_heap.proofs.Added.{clear_unless}
+use Rattle.os_heap_lists.specs.Heap.{HeapList}
+use Rattle.dynamic_areas.specs.Changing.{AreRangesClear}
+use Rattle.dynamic_areas.proofs.Remapped.{here, range_low, range_high}
+
+pub unmet : (at len other other_len : ℕ) → AreClear at len other other_len → meets at len other other_len ≡ false
+unmet at len other other_len clear =
+    false_from_ne_true (meets at len other other_len) (λ met.
+    let parts = and_parts (ltb 0 len && ltb 0 other_len) (ltb at (other + other_len) && ltb other (at + len)) met in
+    let some = and_parts (ltb 0 len) (ltb 0 other_len) parts.0 in
+    let cross = and_parts (ltb at (other + other_len)) (ltb other (at + len)) parts.1 in
+    let long : 0 < len = ltb-true 0 len some.0 in
+    let other_long : 0 < other_len = ltb-true 0 other_len some.1 in
+    let before : at < other + other_len = ltb-true at (other + other_len) cross.0 in
+    let after : other < at + len = ltb-true other (at + len) cross.1 in
+    elim (cases_lt at other) [
+      | inl first ↦ false≢true (sym (clear other (here at len other (omega arith) after)) ∙ here other other_len other (omega arith) (omega arith))
+      | inr later ↦ false≢true (sym (clear at (here at len at (omega arith) (omega arith))) ∙ here other other_len at later before)
+    ])
+
+pub unmet_records : (b : Bytes) (at len : ℕ) (rs : List Region) → IsClearOfHeaps at len (heaps_in b rs) → AreRangesClear at len (others_in rs)
+    → meets_record rs at len ≡ false
+unmet_records b at len [] heaps ranges = refl
+unmet_records b at len (r ∷ rs) heaps ranges =
+    elim (cases_Bool (is_heap_kind r.kind)) [
+      | inl heap ↦
+          let heaps' = rw heap at heaps in
+          let ranges' = rw heap at ranges in
+          rw (unmet at len r.at r.len heaps'.0, unmet_records b at len rs heaps'.1 ranges') refl
+      | inr other ↦
+          let heaps' = rw other at heaps in
+          let ranges' = rw other at ranges in
+          rw (unmet at len r.at r.len ranges'.0, unmet_records b at len rs heaps' ranges'.1) refl
+    ]
+
+heap_is_no_flex : (k : Kind) → is_heap_kind k ≡ true → is_flex_kind k ≡ false
+heap_is_no_flex kind.Heap h = refl
+heap_is_no_flex kind.Rma h = refl
+heap_is_no_flex kind.FlexStore h = refl
+heap_is_no_flex kind.FlexHeader h = sym h
+heap_is_no_flex kind.Anchor h = refl
+heap_is_no_flex kind.Image h = refl
+heap_is_no_flex kind.SystemPage h = refl
+
+-- heaps name no anchors, so it is enough to look at the other ranges
+pub anchors_elsewhere : (bytes : ℕ → ℕ) (at len : ℕ) (rs : List Region) → anchor_meets rs bytes at len ≡ anchor_meets (others_in rs) bytes at len
+anchors_elsewhere bytes at len [] = refl
+anchors_elsewhere bytes at len (r ∷ rs) =
+    elim (cases_Bool (is_heap_kind r.kind)) [
+      | inl heap ↦ rw (heap, heap_is_no_flex r.kind heap) (anchors_elsewhere bytes at len rs)
+      | inr other ↦ rw other (ap (λ (t : Bool). list_any (has_anchor_in at len) (flex_blocks_of (word_at bytes) r) || t) (anchors_elsewhere bytes at len rs))
+    ]
+
+-- what is so of each page is so of all pages together
+page_of : (base first count x : ℕ) → base + 4096 * first ≤ x → x < base + 4096 * first + 4096 * count
+    → (k : ℕ) × (first ≤ k) × (k < first + count) × (base + 4096 * k ≤ x) × (x < base + 4096 * k + 4096)
+page_of base first count x low high = ((x - base) / 4096, omega arith, omega arith, omega arith, omega arith)
+
+pub none_by : {X : Type 0} (p : ℕ → X → Bool) (q : X → Bool) (first count : ℕ) (xs : List X)
+    → ((x : X) → ((k : ℕ) → first ≤ k → k < first + count → p k x ≡ false) → q x ≡ false)
+    → ((k : ℕ) → first ≤ k → k < first + count → list_any (p k) xs ≡ false) → list_any q xs ≡ false
+none_by p q first count [] each all = refl
+none_by p q first count (x ∷ xs) each all =
+    let one : q x ≡ false = each x (λ k low high. (or_parts (p k x) (list_any (p k) xs) (all k low high)).0) in
+    let others : list_any q xs ≡ false = none_by p q first count xs each (λ k low high. (or_parts (p k x) (list_any (p k) xs) (all k low high)).1) in
+    rw (one, others) refl
+
+pub clear_by_pages : (base first count other other_len : ℕ)
+    → ((k : ℕ) → first ≤ k → k < first + count → AreClear (base + 4096 * k) 4096 other other_len)
+    → AreClear (base + 4096 * first) (4096 * count) other other_len
+clear_by_pages base first count other other_len all x inside =
+    let p = page_of base first count x (range_low (base + 4096 * first) (4096 * count) x inside) (range_high (base + 4096 * first) (4096 * count) x inside) in
+    all p.0 p.1 p.2 x (here (base + 4096 * p.0) 4096 x p.3 p.4)
+
+pub heaps_by_pages : (base first count : ℕ) (hs : List HeapList) → ((k : ℕ) → first ≤ k → k < first + count → IsClearOfHeaps (base + 4096 * k) 4096 hs)
+    → IsClearOfHeaps (base + 4096 * first) (4096 * count) hs
+heaps_by_pages base first count [] all = tt
+heaps_by_pages base first count (h ∷ hs) all = (
+  clear_by_pages base first count h.start h.end (λ k low high. (all k low high).0),
+  heaps_by_pages base first count hs (λ k low high. (all k low high).1),
+)
+
+pub ranges_by_pages : (base first count : ℕ) (rs : List Region) → ((k : ℕ) → first ≤ k → k < first + count → AreRangesClear (base + 4096 * k) 4096 rs)
+    → AreRangesClear (base + 4096 * first) (4096 * count) rs
+ranges_by_pages base first count [] all = tt
+ranges_by_pages base first count (r ∷ rs) all = (
+  clear_by_pages base first count r.at r.len (λ k low high. (all k low high).0),
+  ranges_by_pages base first count rs (λ k low high. (all k low high).1),
+)
+
+pub anchors_by_pages : (rs : List Region) (bytes : ℕ → ℕ) (base first count : ℕ)
+    → ((k : ℕ) → first ≤ k → k < first + count → anchor_meets rs bytes (base + 4096 * k) 4096 ≡ false)
+    → anchor_meets rs bytes (base + 4096 * first) (4096 * count) ≡ false
+anchors_by_pages rs bytes base first count all =
+    none_by (λ k r. list_any (has_anchor_in (base + 4096 * k) 4096) (flex_blocks_of (word_at bytes) r))
+    (λ r. list_any (has_anchor_in (base + 4096 * first) (4096 * count)) (flex_blocks_of (word_at bytes) r)) first count rs
+    (λ r each. none_by (λ k. has_anchor_in (base + 4096 * k) 4096) (has_anchor_in (base + 4096 * first) (4096 * count)) first count
+    (flex_blocks_of (word_at bytes) r) (λ b block. unmet (base + 4096 * first) (4096 * count) b.anchor 4
+    (clear_by_pages base first count b.anchor 4 (λ k low high. clear_unless (base + 4096 * k) 4096 b.anchor 4 (block k low high)))) each) all
+
+pub clear_of_ranges : (at len : ℕ) (rs : List Region) → list_any (λ r. meets_range at len r.at r.len) rs ≡ false → AreRangesClear at len rs
+clear_of_ranges at len [] none = tt
+clear_of_ranges at len (r ∷ rs) none =
+    let parts = or_parts (meets_range at len r.at r.len) (list_any (λ r. meets_range at len r.at r.len) rs) none in
+    (clear_unless at len r.at r.len parts.0, clear_of_ranges at len rs parts.1)

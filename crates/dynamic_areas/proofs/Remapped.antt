@@ -1,0 +1,124 @@
+-- The store after pages were mapped, or taken away: memory spells the same heaps, and the store stays sound.
+use Rattle.std.proofs.Common.{◌≡◌, ℕ, ◌+◌, ◌-◌, ◌*◌, ◌<◌, ◌≤◌, ◌&&◌, ◌||◌, not, leb, Bool, true, false, List, [], ◌∷◌, refl, sym, ap, ◌∙◌}
+use Rattle.std.proofs.lemmas.Bool.{le-leb, lt-ltb, leb-true, ltb-true, and_parts, false≢true, false_from_ne_true}
+use Rattle.std.proofs.Math.Dec.{ltb}
+use Rattle.address_map.specs.declared.map.AddressMap.{AddressMap}
+use Rattle.address_map.specs.declared.region.Region.{Region}
+use Rattle.address_map.specs.declared.item.Item.{Item}
+use Rattle.address_map.specs.Bytes.{Bytes, in_range, AreMapped, AreUnmapped, with_zeros_at}
+use Rattle.address_map.specs.Memory.{is_mapped, byte_at, bytes_of, regions}
+use Rattle.os_heap_lists.specs.Heap.{HeapList, IsHeapIn}
+use Rattle.os_heap_lists.proofs.HeapWords.{heap_kept}
+use Rattle.os_heap.specs.Store.{Store, store_of, IsSound, AreHeapsIn, IsClearOfHeaps, AreClear}
+use Rattle.os_heap.proofs.Frame.{store_spelled}
+use Rattle.os_heap.proofs.Stores.{clear_both_ways}
+use Rattle.dynamic_areas.specs.Remapped.{with_pages_at, without_pages_at}
+
+-- what the test of a range says
+pub range_low : (at len a : ℕ) → in_range at len a ≡ true → at ≤ a
+range_low at len a inside = leb-true at a (and_parts (leb at a) (ltb a (at + len)) inside).0
+
+pub range_high : (at len a : ℕ) → in_range at len a ≡ true → a < at + len
+range_high at len a inside = ltb-true a (at + len) (and_parts (leb at a) (ltb a (at + len)) inside).1
+
+-- a heap whose range is mapped, and has the same bytes
+pub heap_remapped : (b c : Bytes) (start end : ℕ) (items : List Item) → IsHeapIn b start end items → AreMapped c.mapped start end
+    → ((a : ℕ) → start ≤ a → a < start + end → c.at a ≡ b.at a) → IsHeapIn c start end items
+heap_remapped b c start end items heap mapped kept =
+    let d : Bytes = record { mapped = b.mapped; at = c.at } in
+    let there : IsHeapIn d start end items = heap_kept b d start end items heap refl kept in
+    record {
+      aligned = there.aligned;
+      whole = there.whole;
+      mapped = mapped;
+      name = there.name;
+      first = there.first;
+      base = there.base;
+      limit = there.limit;
+      spelled = there.spelled;
+      totals = there.totals;
+      spaced = there.spaced;
+      inside = there.inside;
+    }
+
+-- what changes lies in a range: outside it no byte changes, and what was mapped is so still
+pub record ChangesWithin (b c : Bytes) (at len : ℕ) : Type 0 where
+  pub bytes : (a : ℕ) → in_range at len a ≡ false → c.at a ≡ b.at a
+  pub mapped : (a : ℕ) → in_range at len a ≡ false → b.mapped a ≡ true → c.mapped a ≡ true
+
+pub here : (start end a : ℕ) → start ≤ a → a < start + end → in_range start end a ≡ true
+here start end a low high = rw (le-leb start a low, lt-ltb a (start + end) high) refl
+
+pub heaps_remapped : (b c : Bytes) (at len : ℕ) (hs : List HeapList) → ChangesWithin b c at len → IsClearOfHeaps at len hs → AreHeapsIn b hs → AreHeapsIn c hs
+heaps_remapped b c at len [] change clear parts = tt
+heaps_remapped b c at len (h ∷ hs) change clear parts =
+    let apart : AreClear h.start h.end at len = clear_both_ways at len h.start h.end clear.0 in (
+      heap_remapped b c h.start h.end h.items parts.0
+          (λ a low high. change.mapped a (apart a (here h.start h.end a low high)) (parts.0.mapped a low high))
+          (λ a low high. change.bytes a (apart a (here h.start h.end a low high))),
+      (parts.1.0, heaps_remapped b c at len hs change clear.1 parts.1.1),
+    )
+
+pub sound_remapped : (s : Store) (c : Bytes) (at len : ℕ) → IsSound s → ChangesWithin s.bytes c at len → IsClearOfHeaps at len s.heaps
+    → IsSound (record { bytes = c; heaps = s.heaps; others = s.others })
+sound_remapped s c at len sound change clear = record {
+  heaps = heaps_remapped s.bytes c at len s.heaps change clear sound.heaps;
+  limits = sound.limits;
+  placed = sound.placed;
+  apart = sound.apart;
+  few = sound.few;
+}
+
+-- a range that is not mapped meets no heap
+pub clear_unmapped : (b : Bytes) (at len : ℕ) (hs : List HeapList) → AreUnmapped b.mapped at len → AreHeapsIn b hs → IsClearOfHeaps at len hs
+clear_unmapped b at len [] unmapped parts = tt
+clear_unmapped b at len (h ∷ hs) unmapped parts =
+    (λ a inside. out a inside, clear_unmapped b at len hs unmapped parts.1.1) where
+      out : (a : ℕ) → in_range at len a ≡ true → in_range h.start h.end a ≡ false
+      out a inside = false_from_ne_true (in_range h.start h.end a) (λ there.
+          let mapped : b.mapped a ≡ true = parts.0.mapped a (range_low h.start h.end a there) (range_high h.start h.end a there) in
+          false≢true (sym (unmapped a (range_low at len a inside) (range_high at len a inside)) ∙ mapped))
+
+grows : (b : Bytes) (at len : ℕ) → ChangesWithin b (record { mapped = λ a. in_range at len a || b.mapped a; at = b.at }) at len
+grows b at len = record {
+  bytes = λ a out. refl;
+  mapped = λ a out was. rw (out, was) refl;
+}
+
+shrinks : (b : Bytes) (at len : ℕ) → ChangesWithin b (record { mapped = λ a. b.mapped a && not (in_range at len a); at = with_zeros_at b.at at len }) at len
+shrinks b at len = record {
+  bytes = λ a out. rw out refl;
+  mapped = λ a out was. rw (out, was) refl;
+}
+
+pub sound_grown : (s : Store) (at len : ℕ) → IsSound s → AreUnmapped s.bytes.mapped at len → IsSound (with_pages_at s at len)
+sound_grown s at len sound unmapped =
+    sound_remapped s (record { mapped = λ a. in_range at len a || s.bytes.mapped a; at = s.bytes.at }) at len sound (grows s.bytes at len)
+    (clear_unmapped s.bytes at len s.heaps unmapped sound.heaps)
+
+pub sound_shrunk : (s : Store) (at len : ℕ) → IsSound s → IsClearOfHeaps at len s.heaps → IsSound (without_pages_at s at len)
+sound_shrunk s at len sound clear =
+    sound_remapped s (record { mapped = λ a. s.bytes.mapped a && not (in_range at len a); at = with_zeros_at s.bytes.at at len }) at len sound (shrinks s.bytes at len) clear
+
+-- the store of a map after its pages changed
+pub store_grown : (m n : AddressMap) (at len : ℕ) → IsSound (store_of m) → AreUnmapped (is_mapped m) at len
+    → ((a : ℕ) → is_mapped n a ≡ (in_range at len a || is_mapped m a)) → ((a : ℕ) → byte_at n a ≡ byte_at m a) → regions n ≡ regions m
+    → store_of n ≡ with_pages_at (store_of m) at len
+unfolding store_of
+store_grown m n at len sound unmapped mapped bytes same =
+    let c : Bytes = record { mapped = λ a. in_range at len a || is_mapped m a; at = byte_at m } in
+    let now : bytes_of n ≡ c = λ i. record { mapped = λ a. mapped a i; at = λ a. bytes a i } in
+    let kept : IsSound (with_pages_at (store_of m) at len) = sound_grown (store_of m) at len sound unmapped in
+    let heaps : AreHeapsIn (bytes_of n) (store_of m).heaps = rw now kept.heaps in
+    store_spelled m n same heaps ∙ ap (λ (b : Bytes). let t : Store = record { bytes = b; heaps = (store_of m).heaps; others = (store_of m).others } in t) now
+
+pub store_shrunk : (m n : AddressMap) (at len : ℕ) → IsSound (store_of m) → IsClearOfHeaps at len (store_of m).heaps
+    → ((a : ℕ) → is_mapped n a ≡ (is_mapped m a && not (in_range at len a))) → ((a : ℕ) → byte_at n a ≡ with_zeros_at (byte_at m) at len a)
+    → regions n ≡ regions m → store_of n ≡ without_pages_at (store_of m) at len
+unfolding store_of
+store_shrunk m n at len sound clear mapped bytes same =
+    let c : Bytes = record { mapped = λ a. is_mapped m a && not (in_range at len a); at = with_zeros_at (byte_at m) at len } in
+    let now : bytes_of n ≡ c = λ i. record { mapped = λ a. mapped a i; at = λ a. bytes a i } in
+    let kept : IsSound (without_pages_at (store_of m) at len) = sound_shrunk (store_of m) at len sound clear in
+    let heaps : AreHeapsIn (bytes_of n) (store_of m).heaps = rw now kept.heaps in
+    store_spelled m n same heaps ∙ ap (λ (b : Bytes). let t : Store = record { bytes = b; heaps = (store_of m).heaps; others = (store_of m).others } in t) now

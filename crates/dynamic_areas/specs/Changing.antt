@@ -1,0 +1,104 @@
+-- OS_ChangeDynamicArea: an area grows out of the pool, and shrinks down to the first page from its top that must stay (RISC OS 3 Programmer's
+-- Reference Manual, "OS_ChangeDynamicArea"; what must stay, and that as many pages move as can, are this project's own).
+use Rattle.std.specs.Prelude.{ℕ, ◌+◌, ◌-◌, ◌*◌, ◌/◌, ◌^◌, ◌==◌, ◌||◌, Bool, zero, suc, nat_lt, min, Option, Some, None, Result, Ok, Err, List, [], ◌∷◌, ◌≡◌, ◌≤◌, false, if◌then◌else◌}
+use Rattle.profile.specs.Outcome.{bind}
+use Rattle.profile.specs.declared.error.ErrorNumber.{ErrorNumber}
+use Rattle.profile.specs.declared.error.ErrorNumber.TheVariants.{AreaUnknown, AreaInUse, AreaNoPages}
+use Rattle.address_map.specs.Items.{size_of}
+use Rattle.address_map.specs.declared.region.Region.{Region}
+use Rattle.address_map.specs.Records.{anchor_meets}
+use Rattle.os_heap_lists.specs.Heap.{HeapList}
+use Rattle.os_heap.specs.Store.{Store, AreClear, IsClearOfHeaps, find_heap}
+use Rattle.os_heap.specs.Ranges.{meets_any}
+use Rattle.dynamic_areas.specs.declared.area.Area.{Area}
+use Rattle.dynamic_areas.specs.declared.area.Changed.{Changed}
+use Rattle.dynamic_areas.specs.Areas.{Land, area_in, find_area, with_areas, with_pages, without_area}
+use Rattle.dynamic_areas.specs.Creating.{pages_for}
+use Rattle.dynamic_areas.specs.Remapped.{with_pages_at, without_pages_at}
+
+-- a change is a signed word in two's complement; its magnitude is rounded up to pages
+abbrev pub is_growth : ℕ → Bool
+is_growth amount = nat_lt amount (2 ^ 31)
+
+abbrev pub pages_asked : ℕ → ℕ
+pages_asked amount = pages_for (if is_growth amount then amount else 2 ^ 32 - amount)
+
+-- the address behind the last item of the module area's heap
+abbrev pub heap_base : Option HeapList → ℕ
+heap_base None = 0
+heap_base (Some h) = h.start + (16 + size_of h.items)
+
+-- Must the page at an address stay? It must where it has a byte of a recorded range or of an anchor; in the module area, which is itself such a
+-- range, up to the last byte below its base.
+abbrev pub has_record : Store → ℕ → ℕ → Bool
+has_record s number page = if number == 1 then nat_lt page (heap_base (find_heap 0x01800000 s.heaps)) else meets_any page 4096 s
+
+unfoldable pub must_stay : Store → ℕ → ℕ → Bool
+must_stay s number page = has_record s number page || anchor_meets s.others s.bytes.at page 4096
+
+-- how many of the `n` pages from `base` on are left where those at the top go, up to the first that stays
+abbrev pub held_from : (ℕ → Bool) → ℕ → ℕ → ℕ
+held_from stays base zero = zero
+held_from stays base (suc n) = if stays (base + 4096 * n) then suc n else held_from stays base n
+
+-- as many of the pages asked for as can move; where these are fewer, the error tells why
+abbrev pub moving : ℕ → ℕ → ErrorNumber → Changed
+moving asked room error = record { bytes = 4096 * min asked room; error = if nat_lt room asked then Some error else None }
+
+abbrev pub growth_room : ℕ → Area → ℕ
+growth_room free a = min (a.maximum / 4096 - a.pages) free
+
+abbrev pub loose_pages : Store → Area → ℕ
+loose_pages s a = a.pages - held_from (must_stay s a.number) a.base a.pages
+
+abbrev pub change_of : Store → ℕ → ℕ → Option Area → Changed
+change_of s free amount None = record { bytes = 0; error = Some AreaUnknown }
+change_of s free amount (Some a) =
+    if is_growth amount
+    then moving (pages_asked amount) (growth_room free a) AreaNoPages
+    else moving (pages_asked amount) (loose_pages s a) AreaInUse
+
+unfoldable pub change_answer : List Area → Store → ℕ → ℕ → ℕ → Changed
+change_answer areas s free number amount = change_of s free amount (find_area number areas)
+
+-- the land, and the store, after an area got `count` pages more behind those that it had, or lost as many at its top
+abbrev pub pages_had : Option Area → ℕ
+pages_had None = 0
+pages_had (Some a) = a.pages
+
+abbrev pub land_more : Land → ℕ → ℕ → Land
+land_more l number count = with_areas l (with_pages number (pages_had (find_area number l.areas) + count) l.areas)
+
+abbrev pub land_less : Land → ℕ → ℕ → Land
+land_less l number count = with_areas l (with_pages number (pages_had (find_area number l.areas) - count) l.areas)
+
+abbrev pub store_more : Store → ℕ → Option Area → Store
+store_more s count None = s
+store_more s count (Some a) = with_pages_at s (a.base + 4096 * a.pages) (4096 * count)
+
+abbrev pub store_less : Store → ℕ → Option Area → Store
+store_less s count None = s
+store_less s count (Some a) = without_pages_at s (a.base + 4096 * (a.pages - count)) (4096 * count)
+
+-- ranges that share no address with a recorded one that is no heap
+abbrev pub AreRangesClear : ℕ → ℕ → List Region → Type 0
+AreRangesClear at len [] = Unit {0}
+AreRangesClear at len (r ∷ rs) = AreClear at len r.at r.len × AreRangesClear at len rs
+
+-- the `count` pages at an area's top can go: they have no byte of a recorded range or of an anchor
+pub record AreLoose (s : Store) (a : Area) (count : ℕ) : Type 0 where
+  pub fits : count ≤ a.pages
+  pub heaps : IsClearOfHeaps (a.base + 4096 * (a.pages - count)) (4096 * count) s.heaps
+  pub ranges : AreRangesClear (a.base + 4096 * (a.pages - count)) (4096 * count) s.others
+  pub anchors : anchor_meets s.others s.bytes.at (a.base + 4096 * (a.pages - count)) (4096 * count) ≡ false
+
+-- OS_DynamicArea, reason 1: an area goes, where all its pages can.
+abbrev pub store_emptied : Store → Option Area → Store
+store_emptied s None = s
+store_emptied s (Some a) = without_pages_at s a.base (4096 * a.pages)
+
+unfoldable pub removed : Land → Store → ℕ → Result Land ErrorNumber
+removed l s number =
+    bind (area_in l.areas number) (λ a.
+    if number == 1 || nat_lt (loose_pages s a) a.pages then Err AreaInUse else
+    Ok (with_areas l (without_area number l.areas)))

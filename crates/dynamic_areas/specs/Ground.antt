@@ -1,0 +1,46 @@
+-- Which memory is mapped, on a machine with dynamic areas: the application space, the system pages, and each area's pages; all other pages are in
+-- the pool (RISC OS 3 Programmer's Reference Manual, "Memory management"; the places are this project's own).
+use Rattle.std.specs.Prelude.{ℕ, ◌≡◌, ◌+◌, ◌*◌, ◌||◌, Bool, List, [], ◌∷◌, Option, Some, None}
+use Rattle.std.specs.List.{list_any}
+use Rattle.profile.specs.Sizes.{Sizes, AreGood}
+use Rattle.address_map.specs.declared.region.Region.{Region}
+use Rattle.address_map.specs.Bytes.{in_range, AreMapped}
+use Rattle.os_heap_lists.specs.Heap.{HeapList}
+use Rattle.os_heap.specs.Store.{Store, IsSound, find_heap}
+use Rattle.dynamic_areas.specs.declared.area.Area.{Area}
+use Rattle.dynamic_areas.specs.Areas.{Land, find_area, pages_of}
+use Rattle.dynamic_areas.specs.Rooms.{IsAreaTable}
+
+-- the application space and the system pages
+abbrev pub is_fixed : Sizes → ℕ → Bool
+is_fixed sizes x = in_range 0x8000 (4096 * sizes.app) x || in_range 0x01C00000 0x3000 x
+
+abbrev pub is_held : ℕ → Area → Bool
+is_held x a = in_range a.base (4096 * a.pages) x
+
+abbrev pub is_land : Land → ℕ → Bool
+is_land l x = is_fixed l.sizes x || list_any (is_held x) l.areas
+
+abbrev pub AreRangesMapped : (ℕ → Bool) → List Region → Type 0
+AreRangesMapped mapped [] = Unit {0}
+AreRangesMapped mapped (r ∷ rs) = AreMapped mapped r.at r.len × AreRangesMapped mapped rs
+
+-- a store that is sound, with `free` pages in the pool, on which the areas stand
+pub record IsGround (s : Store) (free : ℕ) (l : Land) : Type 0 where
+  pub sizes : AreGood l.sizes
+  pub table : IsAreaTable l.areas
+  pub land : (x : ℕ) → s.bytes.mapped x ≡ is_land l x
+  pub pages : pages_of l.areas + (l.sizes.app + 3) + free ≡ l.sizes.pages
+  pub ranges : AreRangesMapped s.bytes.mapped s.others
+  pub sound : IsSound s
+
+-- the module area's heap ends where the module area does
+abbrev pub EndsWithArea : Option HeapList → Option Area → Type 0
+EndsWithArea (Some h) (Some a) = h.end ≡ 4096 * a.pages
+EndsWithArea (Some h) None = ⊥
+EndsWithArea None area = ⊥
+
+-- What holds between all calls.
+pub record AreAreas (s : Store) (free : ℕ) (l : Land) : Type 0 where
+  pub ground : IsGround s free l
+  pub heap : EndsWithArea (find_heap 0x01800000 s.heaps) (find_area 1 l.areas)

@@ -1,0 +1,74 @@
+ghost use Rattle.std.specs.Prelude.{◌≡◌, ◌≤◌, ◌<◌, ◌%◌, ◌&&◌};
+ghost use Rattle.address_map.specs.Bytes.{meets};
+ghost use Rattle.dynamic_areas.specs.Rooms.{meets_area, is_name, is_name_byte, is_in_window};
+ghost use Rattle.dynamic_areas.specs.Creating.{gap_count, lowest_gap};
+ghost use Rattle.std.specs.List.{list_all};
+
+use crate::area::{Area, MOST_NAME_BYTES};
+use profile::memory_map::{AREA_WINDOW_END, AREA_WINDOW_START, PAGE_SIZE};
+
+/// Whether two ranges share an address.
+fn do_meet(at: u32, len: u32, other: u32, other_len: u32) -> bool
+    ensures { result ≡ meets at len other other_len }
+{
+    let end = u64::from(at) + u64::from(len);
+    let other_end = u64::from(other) + u64::from(other_len);
+    len > 0 && other_len > 0 && u64::from(at) < other_end && u64::from(other) < end
+}
+
+/// Whether a range shares an address with an area's, taken with its maximum.
+pub(crate) fn meets_area(areas: &[Area], base: u32, maximum: u32) -> bool
+    ensures { result ≡ meets_area base maximum areas.now }
+{
+    for area in areas {
+        if do_meet(base, maximum, area.base, area.maximum) {
+            return true;
+        }
+    }
+    false
+}
+
+/// Whether a range lies in the window of the created areas.
+pub(crate) fn is_in_window(base: u32, maximum: u32) -> bool
+    ensures { result ≡ is_in_window base maximum }
+{
+    base >= AREA_WINDOW_START && u64::from(base) + u64::from(maximum) <= u64::from(AREA_WINDOW_END)
+}
+
+/// The lowest gap of the window that holds an area of that maximum.
+#[tactic(auto, unfolding(crate::specs::Creating::lowest_gap))]
+pub(crate) fn lowest_gap(areas: &[Area], maximum: u32) -> Option<u32>
+    requires { maximum ≤ 16777216 }
+    ensures { result ≡ lowest_gap areas.now maximum }
+{
+    let count = gap_count(maximum);
+    for page in 0..count {
+        let base = AREA_WINDOW_START + PAGE_SIZE * page;
+        if !meets_area(areas, base, maximum) {
+            return Some(base);
+        }
+    }
+    None
+}
+
+/// At how many page addresses of the window an area of that maximum fits.
+fn gap_count(maximum: u32) -> u32
+    requires { maximum ≤ 16777216 }
+    ensures value { result ≡ gap_count maximum }
+    ensures few { result ≤ 4097 }
+{
+    (AREA_WINDOW_END - AREA_WINDOW_START - maximum) / PAGE_SIZE + 1
+}
+
+/// Whether a text can name an area: 1 to 31 bytes from space to `~`.
+pub(crate) fn is_name(name: &[u8]) -> bool
+    ensures { result ≡ is_name name.now }
+{
+    !name.is_empty() && name.len() <= MOST_NAME_BYTES && are_name_bytes(name)
+}
+
+fn are_name_bytes(name: &[u8]) -> bool
+    ensures { result ≡ list_all is_name_byte name.now }
+{
+    name.iter().all(|byte| *byte >= 32 && *byte <= 126)
+}

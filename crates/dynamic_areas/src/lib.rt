@@ -1,0 +1,14 @@
+//! Dynamic areas: ranges of addresses whose memory grows and shrinks by pages, out of one pool.
+#![tactic(auto)]
+
+pub mod area;
+pub mod areas;
+pub mod change;
+pub mod create;
+mod gaps;
+pub mod measure;
+pub mod remove;
+mod table;
+
+pub use area::{Area, Changed, Created, Extent, MOST_NAME_BYTES, Wanted};
+pub use areas::Areas;
