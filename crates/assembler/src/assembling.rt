@@ -1,0 +1,155 @@
+//! The two passes over a source.
+
+ghost use Rattle.std.specs.Prelude.{◌≡◌, ◌≢◌, ◌%◌, ◌≤◌, ◌<◌, ◌^◌, [], Err, length, IfOk, OnOk};
+ghost use Rattle.std.specs.Result.{result_map};
+ghost use Rattle.std.specs.Str.Lines.{lines};
+ghost use Rattle.assembler_names.specs.Labels.{address_of};
+ghost use Rattle.assembler.specs.Line.{line};
+ghost use Rattle.assembler.specs.Passes.{finished, first_pass, means, measured, second_pass};
+
+use crate::error::AsmError;
+use crate::line::put_line;
+use crate::output::Output;
+use crate::program::Program;
+use assembler_names::{Labels, Reason};
+use std::alloc::{AllocError, Global};
+use text_lines::Lines;
+
+/// The program that a source means at an origin, a multiple of 4 below 2^26. Lines end in LF or
+/// CR LF; the last may lack it.
+///
+/// # Errors
+///
+/// The line that is refused, and why, as [`AsmError`] says; or, where the host has no memory left,
+/// line 0 and `Memory`.
+pub fn assemble(alloc: Global, source: &[u8], origin: u32) -> Result<Program, AsmError>
+    requires aligned { origin % 4 ≡ 0 }
+    requires in_memory { origin < 2 ^ 26 }
+    ensures { result ≢ Err (record { line = 0; reason = Reason.Memory }) → result ≡ means source.now origin }
+{
+    match both_passes(alloc, source, origin) {
+        Ok(answer) => answer,
+        Err(AllocError) => Err(AsmError {
+            line: 0,
+            reason: Reason::Memory,
+        }),
+    }
+}
+
+#[tactic(auto, unfolding(crate::specs::Passes::means, crate::specs::Passes::means_lines))]
+fn both_passes(
+    alloc: Global,
+    source: &[u8],
+    origin: u32,
+) -> Result<Result<Program, AsmError>, AllocError>
+    requires { origin < 2 ^ 26 }
+    ensures { IfOk result (λ answer. answer ≡ means source.now origin) }
+{
+    match labels_of(alloc, source, origin)? {
+        Ok(labels) => program_of(alloc, &labels, source, origin),
+        Err(error) => Ok(Err(error)),
+    }
+}
+
+// The first pass: the labels of a source, with their addresses.
+#[tactic(auto, using(crate::proofs::PassLemmas::first_steps))]
+fn labels_of<'s>(
+    alloc: Global,
+    source: &'s [u8],
+    origin: u32,
+) -> Result<Result<Labels<'s>, AsmError>, AllocError>
+    requires { origin < 2 ^ 26 }
+    ensures { IfOk result (λ answer. answer ≡ first_pass origin 1 (record { entries = []; program = [] }) (lines source.now)) }
+{
+    let none = Labels::new(alloc);
+    let mut labels = Labels::new(alloc);
+    let mut output = Output::new(alloc);
+    let mut lines = Lines::new(source);
+    while let Some(text) = lines.next_line() {
+        if let Err(reason) = measure(&none, origin, text, &mut labels, &mut output)? {
+            let line = lines.number();
+            return Ok(Err(AsmError { line, reason }));
+        }
+    }
+    Ok(Ok(labels))
+}
+
+// A line of the first pass, which knows no label's address.
+#[tactic(auto, unfolding(crate::specs::Passes::measured))]
+fn measure<'s>(
+    none: &Labels,
+    origin: u32,
+    text: &'s [u8],
+    labels: &mut Labels<'s>,
+    output: &mut Output,
+) -> Result<Result<(), Reason>, AllocError>
+    requires none { none.now ≡ [] }
+    requires origin { origin < 2 ^ 26 }
+    requires room { length output.old.bytes ≤ 1048576 }
+    ensures told { IfOk result (λ answer. result_map (λ _. record { entries = labels.new; program = output.new.bytes }) answer
+        ≡ measured origin (record { entries = labels.old; program = output.old.bytes })
+        (line (address_of []) origin output.old.bytes text.now)) }
+    ensures room { IfOk result (λ answer. OnOk answer (length output.new.bytes ≤ 1048576)) }
+{
+    let Some((label, place)) = put_line(none, origin, text, output)? else {
+        return Ok(Err(Reason::Syntax));
+    };
+    if !label.is_empty() && labels.find(label).is_some() {
+        return Ok(Err(Reason::LabelTwice));
+    }
+    if output.is_too_long(origin) {
+        return Ok(Err(Reason::TooLong));
+    }
+    if !label.is_empty() {
+        labels.put(label, place).map_err(|_| AllocError)?;
+    }
+    Ok(Ok(()))
+}
+
+// The second pass: the bytes of the lines, with the labels of the first.
+#[tactic(auto, using(crate::proofs::PassLemmas::second_steps))]
+fn program_of(
+    alloc: Global,
+    labels: &Labels,
+    source: &[u8],
+    origin: u32,
+) -> Result<Result<Program, AsmError>, AllocError>
+    requires { origin < 2 ^ 26 }
+    ensures { IfOk result (λ answer. answer ≡ second_pass (address_of labels.now) origin 1 [] (lines source.now)) }
+{
+    let mut output = Output::new(alloc);
+    let mut lines = Lines::new(source);
+    while let Some(text) = lines.next_line() {
+        if let Err(reason) = finish(labels, origin, text, &mut output)? {
+            let line = lines.number();
+            return Ok(Err(AsmError { line, reason }));
+        }
+    }
+    Ok(Ok(Program::new(output.into_bytes())))
+}
+
+// A line of the second pass.
+#[tactic(auto, unfolding(crate::specs::Passes::finished))]
+fn finish(
+    labels: &Labels,
+    origin: u32,
+    text: &[u8],
+    output: &mut Output,
+) -> Result<Result<(), Reason>, AllocError>
+    requires origin { origin < 2 ^ 26 }
+    requires room { length output.old.bytes ≤ 1048576 }
+    ensures told { IfOk result (λ answer. result_map (λ _. output.new.bytes) answer
+        ≡ finished origin (line (address_of labels.now) origin output.old.bytes text.now)) }
+    ensures room { IfOk result (λ answer. OnOk answer (length output.new.bytes ≤ 1048576)) }
+{
+    if put_line(labels, origin, text, output)?.is_none() {
+        return Ok(Err(Reason::Syntax));
+    }
+    if output.is_too_long(origin) {
+        return Ok(Err(Reason::TooLong));
+    }
+    match output.fault() {
+        Some(reason) => Ok(Err(reason)),
+        None => Ok(Ok(())),
+    }
+}
