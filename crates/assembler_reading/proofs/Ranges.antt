@@ -1,0 +1,57 @@
+-- The loops over the ranges of a register list and the registers of a range.
+use Rattle.std.proofs.Common.{◌≡◌, ◌<◌, ◌≤◌, ◌+◌, ◌-◌, ◌*◌, ◌/◌, ◌%◌, ◌^◌, ℕ, zero, suc, Bool, true, false, List, [], ◌∷◌, Option, Some, None, refl, sym, ap, ◌∙◌, arith}
+use Rattle.std.specs.Prelude.{fold}
+use Rattle.std.specs.List.{range_with_len}
+use Rattle.profile.specs.Word.{bit_of}
+use Rattle.assembler_names.specs.Words.{comma, byte}
+use Rattle.assembler_reading.specs.RegisterLists.{more_registers, next_registers, register_range, with_range, with_register}
+
+-- the registers from the n-th to the one before `stop`, put into a list
+unfoldable pub with_rest : ℕ → ℕ → ℕ → ℕ
+with_rest list n stop = fold with_register list (range_with_len n (stop - n))
+
+pub range_starts : (list first last : ℕ) → with_rest list first (last + 1) ≡ with_range list first last
+unfolding with_rest with_range
+range_starts list first last = refl
+
+pub range_goes_on : (list n stop : ℕ) → n < stop → with_rest list n stop ≡ with_rest (with_register list n) (n + 1) stop
+unfolding with_rest
+range_goes_on list n stop h = let k : stop - n ≡ suc (stop - (n + 1)) = omega arith in rw k refl
+
+pub range_ends : (list n stop : ℕ) → stop ≤ n → with_rest list n stop ≡ list
+unfolding with_rest
+range_ends list n stop h = let k : stop - n ≡ 0 = omega arith in rw k refl
+
+pub ruleset range_steps = (range_starts, range_goes_on, range_ends)
+
+abbrev pub Fits16 : ℕ → ℕ → Type 0
+Fits16 list n = list < 2 ^ 16 → bit_of list n ≡ false → list + 2 ^ n < 2 ^ 16
+
+pub list_ends : (count i list : ℕ) (text : List ℕ) → count ≤ i → more_registers (count - i) list text ≡ None
+unfolding more_registers
+list_ends count i list text h = let k : count - i ≡ 0 = omega arith in rw k refl
+
+pub no_range : (count i list : ℕ) (text : List ℕ) → i < count → register_range text ≡ None → more_registers (count - i) list text ≡ None
+unfolding more_registers
+no_range count i list text h e = let k : count - i ≡ suc (count - (i + 1)) = omega arith in rw (k, e) refl
+
+pub last_range : (count i list : ℕ) (text : List ℕ) (r : (ℕ × ℕ) × List ℕ) → i < count → register_range text ≡ Some r → comma r.1 ≡ None → byte 125 r.1 ≡ None
+    → more_registers (count - i) list text ≡ None
+unfolding more_registers
+last_range count i list text r h e c b = let k : count - i ≡ suc (count - (i + 1)) = omega arith in rw (k, e, c, b) refl
+
+pub closing : (count i list : ℕ) (text rest : List ℕ) (r : (ℕ × ℕ) × List ℕ) → i < count → register_range text ≡ Some r → comma r.1 ≡ None → byte 125 r.1 ≡ Some rest
+    → more_registers (count - i) list text ≡ Some (with_range list r.0.0 r.0.1, rest)
+unfolding more_registers
+closing count i list text rest r h e c b = let k : count - i ≡ suc (count - (i + 1)) = omega arith in rw (k, e, c, b) refl
+
+pub one_range : (count i list : ℕ) (text rest : List ℕ) (r : (ℕ × ℕ) × List ℕ) → i < count → register_range text ≡ Some r → comma r.1 ≡ Some rest
+    → more_registers (count - i) list text ≡ more_registers (count - (i + 1)) (with_range list r.0.0 r.0.1) rest
+unfolding more_registers
+one_range count i list text rest r h e c = let k : count - i ≡ suc (count - (i + 1)) = omega arith in rw (k, e, c) refl
+
+pub ruleset list_steps = (list_ends, no_range, last_range, closing, one_range)
+
+-- a bit that is clear can be added
+pub fits : (list n : ℕ) → n < 16 → list < 2 ^ 16 → bit_of list n ≡ false → list + 1 * 2 ^ n < 2 ^ 16
+fits list n within low clear = ?
