@@ -4,7 +4,7 @@ use Rattle.std.specs.Prelude.{ℕ, ◌+◌, ◌==◌, ◌||◌, List, ◌++◌, 
 use Rattle.assembler_names.specs.Words.{◌>>=◌, word, after_word, spaces, is_end}
 use Rattle.assembler_names.specs.Labels.{is_label}
 use Rattle.assembler_names.specs.Expressions.{Lookup}
-use Rattle.assembler_reading.specs.Instruction.{instruction}
+use Rattle.assembler_reading.specs.Instructions.{instruction}
 use Rattle.assembler.specs.declared.directives.Directive.{Directive}
 use Rattle.assembler.specs.declared.directives.Directive.TheVariants as directive
 use Rattle.assembler.specs.declared.directives.Data.{Data}
