@@ -51,25 +51,30 @@ item_at Words labels written text = word_at labels written text
 item_at Bytes labels written text = text_or_byte labels written text (byte 34 text)
 
 abbrev pub next_item : (Written → List ℕ → Option (Written × List ℕ)) → Data → Lookup → Written → List ℕ → Option (List ℕ) → Option (Written × List ℕ)
-next_item others data labels written text None = Some (written, text)
-next_item others data labels written text (Some after) = do
-  item ← item_at data labels written after
+next_item others kind labels written text None = Some (written, text)
+next_item others kind labels written text (Some after) = do
+  item ← item_at kind labels written after
   others item.0 item.1
 
 -- the items after a comma each, as many as there are; the count, which is never used up, is the length of a text that holds them
 unfoldable pub more_items : ℕ → Data → Lookup → Written → List ℕ → Option (Written × List ℕ)
-more_items zero data labels written text = Some (written, text)
-more_items (suc n) data labels written text = next_item (more_items n data labels) data labels written text (comma text)
+more_items zero kind labels written text = Some (written, text)
+more_items (suc n) kind labels written text = next_item (more_items n kind labels) kind labels written text (comma text)
 
 -- one item or more
 unfoldable pub items : Data → Lookup → Written → List ℕ → Option (Written × List ℕ)
-items data labels written text = do
-  first ← item_at data labels written text
-  more_items (length first.1) data labels first.0 first.1
+items kind labels written text = do
+  first ← item_at kind labels written text
+  more_items (length first.1) kind labels first.0 first.1
 
 -- a size with one more digit behind it
 unfoldable pub with_digit : ℕ → ℕ → ℕ → Option ℕ
 with_digit radix size digit = if is_digit digit radix then Some (min (size * radix + digit_value digit) 1048577) else None
+
+-- the number that digits spell, where 1,048,577 stands for all greater ones: so many bytes are too many
+unfoldable pub size_of : ℕ → List ℕ → Option ℕ
+size_of radix digits =
+    if nat_lt 0 (length digits) && list_all (λ c. is_digit c radix) digits then Some (min (digits_value radix digits) 1048577) else None
 
 abbrev pub size_after : ℕ → List ℕ → Option (ℕ × List ℕ)
 size_after radix text = do

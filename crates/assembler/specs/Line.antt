@@ -32,9 +32,9 @@ instruction_at labels origin start text = do
   Some (statement origin start (with_item (unrefused start) (instruction_item read.0)), read.1)
 
 abbrev pub listed_at : Data → Lookup → ℕ → List ℕ → List ℕ → Option (Statement × List ℕ)
-listed_at data labels origin start text = do
+listed_at kind labels origin start text = do
   rest ← spaces text
-  written ← items data labels (unrefused start) rest
+  written ← items kind labels (unrefused start) rest
   Some (statement origin start written.0, written.1)
 
 abbrev pub listed_start : Data → List ℕ → List ℕ
@@ -50,7 +50,7 @@ space_at origin program text = do
 -- by the directive that the first word names, if it names one
 abbrev pub directed : Lookup → ℕ → List ℕ → List ℕ → Option Directive → Option (Statement × List ℕ)
 directed labels origin program text None = instruction_at labels origin (aligned program) text
-directed labels origin program text (Some (directive.Listed data)) = listed_at data labels origin (listed_start data program) (after_word text)
+directed labels origin program text (Some (directive.Listed kind)) = listed_at kind labels origin (listed_start kind program) (after_word text)
 directed labels origin program text (Some directive.Space) = space_at origin program (after_word text)
 directed labels origin program text (Some directive.Align) = Some (statement origin program (unrefused (aligned program)), after_word text)
 

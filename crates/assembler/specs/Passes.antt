@@ -19,6 +19,11 @@ abbrev pub numbered : {A B : Type 0} → ℕ → Result A Reason → (A → Resu
 numbered number (Ok a) next = next a
 numbered number (Err reason) next = Err (record { line = number; reason = reason })
 
+-- what a line leaves behind, unless it is refused
+abbrev pub leaving : {A U : Type 0} → A → Result U Reason → Result A Reason
+leaving after (Ok u) = Ok after
+leaving after (Err reason) = Err reason
+
 -- the labels so far with their addresses, in the order of the source, and the program so far, with zeros for values that need labels
 pub record Measured : Type 0 where
   pub entries : Entries

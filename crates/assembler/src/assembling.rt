@@ -1,11 +1,10 @@
 //! The two passes over a source.
 
 ghost use Rattle.std.specs.Prelude.{◌≡◌, ◌≢◌, ◌%◌, ◌≤◌, ◌<◌, ◌^◌, [], Err, length, IfOk, OnOk};
-ghost use Rattle.std.specs.Result.{result_map};
 ghost use Rattle.std.specs.Str.Lines.{lines};
 ghost use Rattle.assembler_names.specs.Labels.{address_of};
 ghost use Rattle.assembler.specs.Line.{line};
-ghost use Rattle.assembler.specs.Passes.{finished, first_pass, means, measured, second_pass};
+ghost use Rattle.assembler.specs.Passes.{finished, first_pass, leaving, means, measured, second_pass};
 
 use crate::error::AsmError;
 use crate::line::put_line;
@@ -86,7 +85,7 @@ fn measure<'s>(
     requires none { none.now ≡ [] }
     requires origin { origin < 2 ^ 26 }
     requires room { length output.old.bytes ≤ 1048576 }
-    ensures told { IfOk result (λ answer. result_map (λ _. record { entries = labels.new; program = output.new.bytes }) answer
+    ensures told { IfOk result (λ answer. leaving (record { entries = labels.new; program = output.new.bytes }) answer
         ≡ measured origin (record { entries = labels.old; program = output.old.bytes })
         (line (address_of []) origin output.old.bytes text.now)) }
     ensures room { IfOk result (λ answer. OnOk answer (length output.new.bytes ≤ 1048576)) }
@@ -138,7 +137,7 @@ fn finish(
 ) -> Result<Result<(), Reason>, AllocError>
     requires origin { origin < 2 ^ 26 }
     requires room { length output.old.bytes ≤ 1048576 }
-    ensures told { IfOk result (λ answer. result_map (λ _. output.new.bytes) answer
+    ensures told { IfOk result (λ answer. leaving output.new.bytes answer
         ≡ finished origin (line (address_of labels.now) origin output.old.bytes text.now)) }
     ensures room { IfOk result (λ answer. OnOk answer (length output.new.bytes ≤ 1048576)) }
 {

@@ -79,7 +79,8 @@ impl Output {
     #[tactic(auto, unfolding(crate::specs::Written::aligned))]
     pub(crate) fn align(&mut self) -> Result<(), AllocError>
         requires { length self.old.bytes < 2 ^ 31 }
-        ensures { OnOk result (self.new ≡ record self.old { bytes = aligned self.old.bytes }) }
+        ensures aligned { OnOk result (self.new ≡ record self.old { bytes = aligned self.old.bytes }) }
+        ensures room { OnOk result (length self.new.bytes ≤ length self.old.bytes + 3) }
     {
         let len = self.bytes.len();
         self.push_zeros((4 - len % 4) % 4)

@@ -102,12 +102,12 @@ fn put_list<'t>(
     if let Data::Words = kind {
         output.align()?;
     }
-    let place = output.end(origin);
+    let start = output.end(origin);
     let Some(items) = spaces(text) else {
         return Ok(None);
     };
     match put_items(kind, labels, items, output)? {
-        Some(rest) => Ok(Some((place, rest))),
+        Some(rest) => Ok(Some((start, rest))),
         None => Ok(None),
     }
 }
