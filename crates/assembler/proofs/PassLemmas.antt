@@ -18,11 +18,11 @@ unfolding first_pass
 first_goes_on origin number m next text others e =
     ap (λ (r : Result Measured Reason). numbered number r (λ after. first_pass origin (number + 1) after others)) e
 
-pub first_refused : (origin number : ℕ) (m : Measured) (reason : Reason) (text : List ℕ) (others : List (List ℕ))
-    → measured origin m (line (address_of []) origin m.program text) ≡ Err reason
-    → first_pass origin number m (text ∷ others) ≡ Err (record { line = number; reason = reason })
+pub first_refused : (origin number : ℕ) (entries : Entries) (program : List ℕ) (reason : Reason) (text : List ℕ) (others : List (List ℕ))
+    → measured origin (record { entries = entries; program = program }) (line (address_of []) origin program text) ≡ Err reason
+    → first_pass origin number (record { entries = entries; program = program }) (text ∷ others) ≡ Err (record { line = number; reason = reason })
 unfolding first_pass
-first_refused origin number m reason text others e =
+first_refused origin number entries program reason text others e =
     ap (λ (r : Result Measured Reason). numbered number r (λ after. first_pass origin (number + 1) after others)) e
 
 pub second_ends : (labels : Lookup) (origin number : ℕ) (program : List ℕ) → second_pass labels origin number program [] ≡ Ok program

@@ -1,4 +1,4 @@
-ghost use Rattle.std.specs.Prelude.{◌≡◌, ◌≤◌, ◌<◌, ◌&&◌, min, length, option_map};
+ghost use Rattle.std.specs.Prelude.{◌≡◌, ◌≤◌, IfSome, option_map};
 ghost use Rattle.assembler.specs.Directives.{directive_named, size, size_after, size_of, with_digit};
 
 use assembler_names::words::{Read, after_word, byte, is_name, word};
