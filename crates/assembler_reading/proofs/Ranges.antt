@@ -1,6 +1,7 @@
 -- The loops over the ranges of a register list and the registers of a range.
 use Rattle.std.proofs.Common.{◌≡◌, ◌<◌, ◌≤◌, ◌+◌, ◌-◌, ◌*◌, ◌/◌, ◌%◌, ◌^◌, ℕ, zero, suc, Bool, true, false, List, [], ◌∷◌, Option, Some, None, refl, sym, ap, ◌∙◌, arith}
-use Rattle.std.specs.Prelude.{fold}
+use Rattle.std.proofs.lemmas.Bool.Decides.{nat_tests}
+use Rattle.std.specs.Prelude.{fold, ◌==◌}
 use Rattle.std.specs.List.{range_with_len}
 use Rattle.profile.specs.Word.{bit_of}
 use Rattle.assembler_names.specs.Words.{comma, byte}
@@ -23,9 +24,6 @@ unfolding with_rest
 range_ends list n stop h = let k : stop - n ≡ 0 = omega arith in rw k refl
 
 pub ruleset range_steps = (range_starts, range_goes_on, range_ends)
-
-abbrev pub Fits16 : ℕ → ℕ → Type 0
-Fits16 list n = list < 2 ^ 16 → bit_of list n ≡ false → list + 2 ^ n < 2 ^ 16
 
 pub list_ends : (count i list : ℕ) (text : List ℕ) → count ≤ i → more_registers (count - i) list text ≡ None
 unfolding more_registers
@@ -52,6 +50,25 @@ one_range count i list text rest r h e c = let k : count - i ≡ suc (count - (i
 
 pub ruleset list_steps = (list_ends, no_range, last_range, closing, one_range)
 
+clear : (x : ℕ) → (x % 2 == 1) ≡ false → x % 2 ≡ 0
+clear x e = grind (arith, nat_tests, e)
+
 -- a bit that is clear can be added
-pub fits : (list n : ℕ) → n < 16 → list < 2 ^ 16 → bit_of list n ≡ false → list + 1 * 2 ^ n < 2 ^ 16
-fits list n within low clear = ?
+pub fits : (list n : ℕ) → n < 16 → list < 2 ^ 16 → bit_of list n ≡ false → list + 2 ^ n < 2 ^ 16
+fits list zero within low e = let bit : list / 1 % 2 ≡ 0 = clear (list / 1) e in omega arith
+fits list (suc zero) within low e = let bit : list / 2 % 2 ≡ 0 = clear (list / 2) e in omega arith
+fits list (suc (suc zero)) within low e = let bit : list / 4 % 2 ≡ 0 = clear (list / 4) e in omega arith
+fits list (suc (suc (suc zero))) within low e = let bit : list / 8 % 2 ≡ 0 = clear (list / 8) e in omega arith
+fits list (suc (suc (suc (suc zero)))) within low e = let bit : list / 16 % 2 ≡ 0 = clear (list / 16) e in omega arith
+fits list (suc (suc (suc (suc (suc zero))))) within low e = let bit : list / 32 % 2 ≡ 0 = clear (list / 32) e in omega arith
+fits list (suc (suc (suc (suc (suc (suc zero)))))) within low e = let bit : list / 64 % 2 ≡ 0 = clear (list / 64) e in omega arith
+fits list (suc (suc (suc (suc (suc (suc (suc zero))))))) within low e = let bit : list / 128 % 2 ≡ 0 = clear (list / 128) e in omega arith
+fits list (suc (suc (suc (suc (suc (suc (suc (suc zero)))))))) within low e = let bit : list / 256 % 2 ≡ 0 = clear (list / 256) e in omega arith
+fits list (suc (suc (suc (suc (suc (suc (suc (suc (suc zero))))))))) within low e = let bit : list / 512 % 2 ≡ 0 = clear (list / 512) e in omega arith
+fits list (suc (suc (suc (suc (suc (suc (suc (suc (suc (suc zero)))))))))) within low e = let bit : list / 1024 % 2 ≡ 0 = clear (list / 1024) e in omega arith
+fits list (suc (suc (suc (suc (suc (suc (suc (suc (suc (suc (suc zero))))))))))) within low e = let bit : list / 2048 % 2 ≡ 0 = clear (list / 2048) e in omega arith
+fits list (suc (suc (suc (suc (suc (suc (suc (suc (suc (suc (suc (suc zero)))))))))))) within low e = let bit : list / 4096 % 2 ≡ 0 = clear (list / 4096) e in omega arith
+fits list (suc (suc (suc (suc (suc (suc (suc (suc (suc (suc (suc (suc (suc zero))))))))))))) within low e = let bit : list / 8192 % 2 ≡ 0 = clear (list / 8192) e in omega arith
+fits list (suc (suc (suc (suc (suc (suc (suc (suc (suc (suc (suc (suc (suc (suc zero)))))))))))))) within low e = let bit : list / 16384 % 2 ≡ 0 = clear (list / 16384) e in omega arith
+fits list (suc (suc (suc (suc (suc (suc (suc (suc (suc (suc (suc (suc (suc (suc (suc zero))))))))))))))) within low e = let bit : list / 32768 % 2 ≡ 0 = clear (list / 32768) e in omega arith
+fits list (suc (suc (suc (suc (suc (suc (suc (suc (suc (suc (suc (suc (suc (suc (suc (suc n)))))))))))))))) within low e = absurd (omega (arith, within))
