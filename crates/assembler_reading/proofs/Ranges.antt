@@ -29,26 +29,26 @@ pub list_ends : (count i list : ℕ) (text : List ℕ) → count ≤ i → more_
 unfolding more_registers
 list_ends count i list text h = let k : count - i ≡ 0 = omega arith in rw k refl
 
-pub no_range : (count i list : ℕ) (text : List ℕ) → i < count → register_range text ≡ None → more_registers (count - i) list text ≡ None
+pub no_range : (count i list : ℕ) (text : List ℕ) → i < count → None ≡ register_range text → more_registers (count - i) list text ≡ None
 unfolding more_registers
-no_range count i list text h e = let k : count - i ≡ suc (count - (i + 1)) = omega arith in rw (k, e) refl
+no_range count i list text h e = let k : count - i ≡ suc (count - (i + 1)) = omega arith in rw (k, ← e) refl
 
-pub last_range : (count i list : ℕ) (text : List ℕ) (r : (ℕ × ℕ) × List ℕ) → i < count → register_range text ≡ Some r → comma r.1 ≡ None → byte 125 r.1 ≡ None
-    → more_registers (count - i) list text ≡ None
+pub open_list : (count i list first last : ℕ) (text behind : List ℕ) → i < count → Some ((first, last), behind) ≡ register_range text
+    → None ≡ comma behind → None ≡ byte 125 behind → more_registers (count - i) list text ≡ None
 unfolding more_registers
-last_range count i list text r h e c b = let k : count - i ≡ suc (count - (i + 1)) = omega arith in rw (k, e, c, b) refl
+open_list count i list first last text behind h e c b = let k : count - i ≡ suc (count - (i + 1)) = omega arith in rw (k, ← e, ← c, ← b) refl
 
-pub closing : (count i list : ℕ) (text rest : List ℕ) (r : (ℕ × ℕ) × List ℕ) → i < count → register_range text ≡ Some r → comma r.1 ≡ None → byte 125 r.1 ≡ Some rest
-    → more_registers (count - i) list text ≡ Some (with_range list r.0.0 r.0.1, rest)
+pub closed_list : (count i list first last : ℕ) (text behind rest : List ℕ) → i < count → Some ((first, last), behind) ≡ register_range text
+    → None ≡ comma behind → Some rest ≡ byte 125 behind → more_registers (count - i) list text ≡ Some (with_range list first last, rest)
 unfolding more_registers
-closing count i list text rest r h e c b = let k : count - i ≡ suc (count - (i + 1)) = omega arith in rw (k, e, c, b) refl
+closed_list count i list first last text behind rest h e c b = let k : count - i ≡ suc (count - (i + 1)) = omega arith in rw (k, ← e, ← c, ← b) refl
 
-pub one_range : (count i list : ℕ) (text rest : List ℕ) (r : (ℕ × ℕ) × List ℕ) → i < count → register_range text ≡ Some r → comma r.1 ≡ Some rest
-    → more_registers (count - i) list text ≡ more_registers (count - (i + 1)) (with_range list r.0.0 r.0.1) rest
+pub one_range : (count i list first last : ℕ) (text behind after : List ℕ) → i < count → Some ((first, last), behind) ≡ register_range text
+    → Some after ≡ comma behind → more_registers (count - i) list text ≡ more_registers (count - (i + 1)) (with_range list first last) after
 unfolding more_registers
-one_range count i list text rest r h e c = let k : count - i ≡ suc (count - (i + 1)) = omega arith in rw (k, e, c) refl
+one_range count i list first last text behind after h e c = let k : count - i ≡ suc (count - (i + 1)) = omega arith in rw (k, ← e, ← c) refl
 
-pub ruleset list_steps = (list_ends, no_range, last_range, closing, one_range)
+pub ruleset list_steps = (list_ends, no_range, open_list, closed_list, one_range)
 
 clear : (x : ℕ) → (x % 2 == 1) ≡ false → x % 2 ≡ 0
 clear x e = grind (arith, nat_tests, e)
