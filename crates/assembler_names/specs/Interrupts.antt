@@ -1,9 +1,9 @@
 -- The names of store calls, for SWI (RISC OS 3 Programmer's Reference Manual, "SWI calls by number"). With X before it a name means the call
 -- that answers an error with V set: bit 17 of its number. Capitals and small letters differ.
-use Rattle.std.specs.Prelude.{ℕ, Bool, false, ◌+◌, ◌==◌, List, [], ◌∷◌, Option, Some, None, find, option_map, bytes_eq, if◌then◌else◌}
-use Rattle.std.specs.Option.{option_or}
+use Rattle.std.specs.Prelude.{ℕ, Bool, false, ◌==◌, bit_or, List, [], ◌∷◌, Option, Some, None, find, option_map, bytes_eq, if◌then◌else◌}
 use Rattle.profile.specs.SwiNames.{swi_of, swi_name}
 use Rattle.profile.specs.declared.swi.SwiName.{SwiName}
+use Rattle.assembler_names.specs.Words.{◌or◌}
 
 -- the number of each call; OS_WriteI's is the first of its 256
 abbrev pub call_numbers : List ℕ
@@ -24,8 +24,8 @@ call_named name = find (names_call name) call_numbers
 -- 88 is `X`
 abbrev pub x_call_named : List ℕ → Option ℕ
 x_call_named [] = None
-x_call_named (c ∷ name) = if c == 88 then option_map (λ n. n + 0x20000) (call_named name) else None
+x_call_named (c ∷ name) = if c == 88 then option_map (λ n. bit_or n 0x20000) (call_named name) else None
 
 -- the number of a call by its name, with X before it or without
 unfoldable pub swi_named : List ℕ → Option ℕ
-swi_named name = option_or (call_named name) (x_call_named name)
+swi_named name = call_named name or x_call_named name

@@ -2,13 +2,12 @@
 -- No suffix is two letters of a condition, so two such letters behind the name are one. `BLS` is B with LS, `BLE` is B with LE, since BL has
 -- no suffix; `BLLS` is BL with LS.
 use Rattle.std.specs.Prelude.{ℕ, Bool, true, false, List, [], ◌∷◌, length, take, drop, codes, Option, Some, None, if◌then◌else◌}
-use Rattle.std.specs.Option.{option_or}
 use Rattle.arm_decode.specs.Refusals.{is_test}
 use Rattle.arm_decode.specs.declared.condition.Condition.{Condition}
 use Rattle.arm_decode.specs.declared.condition.Condition.TheVariants.{Always}
 use Rattle.arm_decode.specs.declared.operation.Operation.{Operation}
 use Rattle.assembler_names.specs.Names.{condition_named, operation_named, block_mode_named}
-use Rattle.assembler_names.specs.Words.{is_name, ◌>>=◌}
+use Rattle.assembler_names.specs.Words.{is_name, ◌>>=◌, ◌or◌}
 use Rattle.assembler_names.specs.declared.mnemonics.Command.{Command}
 use Rattle.assembler_names.specs.declared.mnemonics.Command.TheVariants as command
 use Rattle.assembler_names.specs.declared.mnemonics.Mnemonic.{Mnemonic}
@@ -93,5 +92,5 @@ plain_branch name = do
 -- the first that fits
 unfoldable pub mnemonic_named : List ℕ → Option Mnemonic
 mnemonic_named name =
-    option_or (operate_mnemonic name) (option_or (multiply_mnemonic name) (option_or (transfer_mnemonic name)
-    (option_or (block_mnemonic name) (option_or (interrupt_mnemonic name) (option_or (linked_branch name) (plain_branch name))))))
+    operate_mnemonic name or multiply_mnemonic name or transfer_mnemonic name or block_mnemonic name or interrupt_mnemonic name
+    or linked_branch name or plain_branch name

@@ -37,9 +37,13 @@ register text = do
 abbrev pub names_condition : List ℕ → Condition → Bool
 names_condition name c = is_name name (condition_text c)
 
+-- the condition that is printed so; Always is printed as nothing
+unfoldable pub printed_condition : List ℕ → Option Condition
+printed_condition name = find (names_condition name) conditions
+
 -- AL may be written or not
 unfoldable pub condition_named : List ℕ → Option Condition
-condition_named name = if is_name name (codes "AL") then Some Always else find (names_condition name) conditions
+condition_named name = if is_name name (codes "AL") then Some Always else printed_condition name
 
 abbrev pub names_operation : List ℕ → Operation → Bool
 names_operation name o = is_name name (operation_text o)

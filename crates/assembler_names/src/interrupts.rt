@@ -1,6 +1,6 @@
 //! The names of store calls, for SWI.
 
-ghost use Rattle.std.specs.Prelude.{◌≡◌, ◌<◌, ◌^◌, IfSome};
+ghost use Rattle.std.specs.Prelude.{◌≡◌};
 ghost use Rattle.assembler_names.specs.Interrupts.{call_named, names_call, swi_named, x_call_named};
 
 use profile::SwiName;
@@ -23,7 +23,7 @@ fn x_call_named(name: &[u8]) -> Option<u32>
     ensures { result ≡ x_call_named name.now }
 {
     match name {
-        [b'X', name @ ..] => call_named(name).map(|number| number + 0x2_0000),
+        [b'X', name @ ..] => call_named(name).map(|number| number | 0x2_0000),
         _ => None,
     }
 }

@@ -55,10 +55,10 @@ impl<'a> Labels<'a> {
         ensures full { OnErr result (self.new ≡ self.old) }
         ensures memory { IfErr result (λ reason. reason ≡ Reason.Memory) }
     {
-        match self.map.insert(name, address) {
-            Ok(_) => Ok(()),
-            Err(_) => Err(Reason::Memory),
-        }
+        let Ok(_) = self.map.insert(name, address) else {
+            return Err(Reason::Memory);
+        };
+        Ok(())
     }
 }
 

@@ -11,9 +11,15 @@ use arm_decode::{BlockMode, Condition, Operation};
 #[derive(Clone, Copy, Debug, PartialEq, Eq)]
 pub enum Command {
     /// AND to MVN. The flag is S, or of a test P.
-    Operate { operation: Operation, flag: bool },
+    Operate {
+        operation: Operation,
+        flag: bool,
+    },
     /// MUL, MLA.
-    Multiply { accumulates: bool, sets_flags: bool },
+    Multiply {
+        accumulates: bool,
+        sets_flags: bool,
+    },
     /// LDR, STR, with B for a byte and T for a transfer of user mode.
     Transfer {
         loads: bool,
@@ -21,9 +27,14 @@ pub enum Command {
         translates: bool,
     },
     /// LDM, STM.
-    BlockTransfer { loads: bool, mode: BlockMode },
+    BlockTransfer {
+        loads: bool,
+        mode: BlockMode,
+    },
     /// B, BL.
-    Branch { links: bool },
+    Branch {
+        links: bool,
+    },
     /// SWI.
     SoftwareInterrupt,
 }

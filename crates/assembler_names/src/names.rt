@@ -2,7 +2,7 @@
 //! case.
 
 ghost use Rattle.std.specs.Prelude.{◌≡◌, option_map};
-ghost use Rattle.assembler_names.specs.Names.{block_mode_named, condition_named, names_block_mode, names_condition, names_operation, names_shift, numbered_register, operation_named, register, register_named, shift_named, stack_text};
+ghost use Rattle.assembler_names.specs.Names.{block_mode_named, condition_named, names_block_mode, names_condition, names_operation, names_shift, numbered_register, operation_named, printed_condition, register, register_named, shift_named, stack_text};
 
 use crate::words::{Read, after_word, is_name, word};
 use arm_decode::{BlockMode, Condition, Operation, Register, Shift};
@@ -101,8 +101,17 @@ pub fn condition_named(name: &[u8]) -> Option<Condition>
     ensures { result ≡ condition_named name.now }
 {
     if is_name(name, b"AL") {
-        return Some(Condition::Always);
+        Some(Condition::Always)
+    } else {
+        printed_condition(name)
     }
+}
+
+// The condition that is printed so.
+#[tactic(auto, unfolding(crate::specs::Names::printed_condition))]
+fn printed_condition(name: &[u8]) -> Option<Condition>
+    ensures { result ≡ printed_condition name.now }
+{
     CONDITIONS
         .iter()
         .copied()

@@ -1,6 +1,7 @@
 -- The loops over the ranges of a register list and the registers of a range.
 use Rattle.std.proofs.Common.{◌≡◌, ◌<◌, ◌≤◌, ◌+◌, ◌-◌, ◌*◌, ◌/◌, ◌%◌, ◌^◌, ℕ, zero, suc, Bool, true, false, List, [], ◌∷◌, Option, Some, None, refl, sym, ap, ◌∙◌, arith}
-use Rattle.std.specs.Prelude.{fold}
+use Rattle.std.proofs.lemmas.Bool.Decides.{nat_tests}
+use Rattle.std.specs.Prelude.{fold, ◌==◌}
 use Rattle.std.specs.List.{range_with_len}
 use Rattle.profile.specs.Word.{bit_of}
 use Rattle.assembler_names.specs.Words.{comma, byte}
@@ -24,34 +25,50 @@ range_ends list n stop h = let k : stop - n ≡ 0 = omega arith in rw k refl
 
 pub ruleset range_steps = (range_starts, range_goes_on, range_ends)
 
-abbrev pub Fits16 : ℕ → ℕ → Type 0
-Fits16 list n = list < 2 ^ 16 → bit_of list n ≡ false → list + 2 ^ n < 2 ^ 16
-
 pub list_ends : (count i list : ℕ) (text : List ℕ) → count ≤ i → more_registers (count - i) list text ≡ None
 unfolding more_registers
 list_ends count i list text h = let k : count - i ≡ 0 = omega arith in rw k refl
 
-pub no_range : (count i list : ℕ) (text : List ℕ) → i < count → register_range text ≡ None → more_registers (count - i) list text ≡ None
+pub no_range : (count i list : ℕ) (text : List ℕ) → i < count → None ≡ register_range text → more_registers (count - i) list text ≡ None
 unfolding more_registers
-no_range count i list text h e = let k : count - i ≡ suc (count - (i + 1)) = omega arith in rw (k, e) refl
+no_range count i list text h e = let k : count - i ≡ suc (count - (i + 1)) = omega arith in rw (k, ← e) refl
 
-pub last_range : (count i list : ℕ) (text : List ℕ) (r : (ℕ × ℕ) × List ℕ) → i < count → register_range text ≡ Some r → comma r.1 ≡ None → byte 125 r.1 ≡ None
-    → more_registers (count - i) list text ≡ None
+pub open_list : (count i list first last : ℕ) (text behind : List ℕ) → i < count → Some ((first, last), behind) ≡ register_range text
+    → None ≡ comma behind → None ≡ byte 125 behind → more_registers (count - i) list text ≡ None
 unfolding more_registers
-last_range count i list text r h e c b = let k : count - i ≡ suc (count - (i + 1)) = omega arith in rw (k, e, c, b) refl
+open_list count i list first last text behind h e c b = let k : count - i ≡ suc (count - (i + 1)) = omega arith in rw (k, ← e, ← c, ← b) refl
 
-pub closing : (count i list : ℕ) (text rest : List ℕ) (r : (ℕ × ℕ) × List ℕ) → i < count → register_range text ≡ Some r → comma r.1 ≡ None → byte 125 r.1 ≡ Some rest
-    → more_registers (count - i) list text ≡ Some (with_range list r.0.0 r.0.1, rest)
+pub closed_list : (count i list first last : ℕ) (text behind rest : List ℕ) → i < count → Some ((first, last), behind) ≡ register_range text
+    → None ≡ comma behind → Some rest ≡ byte 125 behind → more_registers (count - i) list text ≡ Some (with_range list first last, rest)
 unfolding more_registers
-closing count i list text rest r h e c b = let k : count - i ≡ suc (count - (i + 1)) = omega arith in rw (k, e, c, b) refl
+closed_list count i list first last text behind rest h e c b = let k : count - i ≡ suc (count - (i + 1)) = omega arith in rw (k, ← e, ← c, ← b) refl
 
-pub one_range : (count i list : ℕ) (text rest : List ℕ) (r : (ℕ × ℕ) × List ℕ) → i < count → register_range text ≡ Some r → comma r.1 ≡ Some rest
-    → more_registers (count - i) list text ≡ more_registers (count - (i + 1)) (with_range list r.0.0 r.0.1) rest
+pub one_range : (count i list first last : ℕ) (text behind after : List ℕ) → i < count → Some ((first, last), behind) ≡ register_range text
+    → Some after ≡ comma behind → more_registers (count - i) list text ≡ more_registers (count - (i + 1)) (with_range list first last) after
 unfolding more_registers
-one_range count i list text rest r h e c = let k : count - i ≡ suc (count - (i + 1)) = omega arith in rw (k, e, c) refl
+one_range count i list first last text behind after h e c = let k : count - i ≡ suc (count - (i + 1)) = omega arith in rw (k, ← e, ← c) refl
 
-pub ruleset list_steps = (list_ends, no_range, last_range, closing, one_range)
+pub ruleset list_steps = (list_ends, no_range, open_list, closed_list, one_range)
+
+clear : (x : ℕ) → (x % 2 == 1) ≡ false → x % 2 ≡ 0
+clear x e = grind (arith, nat_tests, e)
 
 -- a bit that is clear can be added
-pub fits : (list n : ℕ) → n < 16 → list < 2 ^ 16 → bit_of list n ≡ false → list + 1 * 2 ^ n < 2 ^ 16
-fits list n within low clear = ?
+pub fits : (list n : ℕ) → n < 16 → list < 2 ^ 16 → bit_of list n ≡ false → list + 2 ^ n < 2 ^ 16
+fits list zero within low e = let bit : list / 1 % 2 ≡ 0 = clear (list / 1) e in omega arith
+fits list (suc zero) within low e = let bit : list / 2 % 2 ≡ 0 = clear (list / 2) e in omega arith
+fits list (suc (suc zero)) within low e = let bit : list / 4 % 2 ≡ 0 = clear (list / 4) e in omega arith
+fits list (suc (suc (suc zero))) within low e = let bit : list / 8 % 2 ≡ 0 = clear (list / 8) e in omega arith
+fits list (suc (suc (suc (suc zero)))) within low e = let bit : list / 16 % 2 ≡ 0 = clear (list / 16) e in omega arith
+fits list (suc (suc (suc (suc (suc zero))))) within low e = let bit : list / 32 % 2 ≡ 0 = clear (list / 32) e in omega arith
+fits list (suc (suc (suc (suc (suc (suc zero)))))) within low e = let bit : list / 64 % 2 ≡ 0 = clear (list / 64) e in omega arith
+fits list (suc (suc (suc (suc (suc (suc (suc zero))))))) within low e = let bit : list / 128 % 2 ≡ 0 = clear (list / 128) e in omega arith
+fits list (suc (suc (suc (suc (suc (suc (suc (suc zero)))))))) within low e = let bit : list / 256 % 2 ≡ 0 = clear (list / 256) e in omega arith
+fits list (suc (suc (suc (suc (suc (suc (suc (suc (suc zero))))))))) within low e = let bit : list / 512 % 2 ≡ 0 = clear (list / 512) e in omega arith
+fits list (suc (suc (suc (suc (suc (suc (suc (suc (suc (suc zero)))))))))) within low e = let bit : list / 1024 % 2 ≡ 0 = clear (list / 1024) e in omega arith
+fits list (suc (suc (suc (suc (suc (suc (suc (suc (suc (suc (suc zero))))))))))) within low e = let bit : list / 2048 % 2 ≡ 0 = clear (list / 2048) e in omega arith
+fits list (suc (suc (suc (suc (suc (suc (suc (suc (suc (suc (suc (suc zero)))))))))))) within low e = let bit : list / 4096 % 2 ≡ 0 = clear (list / 4096) e in omega arith
+fits list (suc (suc (suc (suc (suc (suc (suc (suc (suc (suc (suc (suc (suc zero))))))))))))) within low e = let bit : list / 8192 % 2 ≡ 0 = clear (list / 8192) e in omega arith
+fits list (suc (suc (suc (suc (suc (suc (suc (suc (suc (suc (suc (suc (suc (suc zero)))))))))))))) within low e = let bit : list / 16384 % 2 ≡ 0 = clear (list / 16384) e in omega arith
+fits list (suc (suc (suc (suc (suc (suc (suc (suc (suc (suc (suc (suc (suc (suc (suc zero))))))))))))))) within low e = let bit : list / 32768 % 2 ≡ 0 = clear (list / 32768) e in omega arith
+fits list (suc (suc (suc (suc (suc (suc (suc (suc (suc (suc (suc (suc (suc (suc (suc (suc n)))))))))))))))) within low e = absurd (omega (arith, within))

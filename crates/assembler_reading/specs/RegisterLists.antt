@@ -54,7 +54,12 @@ register_list text = do
 
 abbrev pub block_transferred : Bool → BlockMode → ℕ → Bool → ℕ → Bool → Action
 block_transferred loading way base back registers psr = action.BlockTransfer (record {
-  loads = loading; mode = way; psr_or_user = psr; writes_back = back; rn = base; list = registers;
+  loads = loading;
+  mode = way;
+  psr_or_user = psr;
+  writes_back = back;
+  rn = base;
+  list = registers;
 })
 
 -- `Rn!,{R0,R1}^`: 33 is `!`, 94 is `^`

@@ -6,9 +6,7 @@ ghost use Rattle.assembler_names.specs.Words.{byte, comma};
 ghost use Rattle.assembler_reading.specs.Addresses.{address_at, as_offset, based, before_bracket, bracketed, closed, indexed, labelled, number_offset, offset_in, offset_of, operand_offset, placed, reached, reached_from, shifted_offset, signed_direction, transfer_at, transferred};
 
 use crate::operands::{Outcome, shifted};
-use arm_decode::{
-    Action, Address, Bits, Direction, Indexing, Offset, Operand, Register, Transfer,
-};
+use arm_decode::{Action, Address, Bits, Direction, Indexing, Offset, Operand, Register, Transfer};
 use assembler_names::names::register;
 use assembler_names::words::{byte, comma, mark};
 use assembler_names::{Labels, Read, Reason, Value, expression};
@@ -37,12 +35,7 @@ pub fn transfer_at<'t>(
     Some((transferred(loads, is_byte, rd, place), rest))
 }
 
-fn transferred(
-    loads: bool,
-    is_byte: bool,
-    rd: Register,
-    place: Outcome<Address>,
-) -> Outcome<Action>
+fn transferred(loads: bool, is_byte: bool, rd: Register, place: Outcome<Address>) -> Outcome<Action>
     ensures { result ≡ transferred loads is_byte rd place }
 {
     match place {
@@ -119,11 +112,7 @@ fn from_pc(direction: Direction, number: u32) -> Address
 
 // Behind `[`.
 #[tactic(auto, unfolding(crate::specs::Addresses::bracketed))]
-fn bracketed<'t>(
-    labels: &Labels,
-    translates: bool,
-    text: &'t [u8],
-) -> Read<'t, Outcome<Address>>
+fn bracketed<'t>(labels: &Labels, translates: bool, text: &'t [u8]) -> Read<'t, Outcome<Address>>
     ensures { option_map (λ r. (r.0, r.1.now)) result ≡ bracketed (address_of labels.now) translates text.now }
 {
     let Some((rn, rest)) = register(text) else {
@@ -227,7 +216,11 @@ fn offset_in<'t>(labels: &Labels, text: &'t [u8]) -> Read<'t, Outcome<SignedOffs
 fn signed_direction(is_minus: bool) -> Direction
     ensures { result ≡ signed_direction is_minus }
 {
-    if is_minus { Direction::Down } else { Direction::Up }
+    if is_minus {
+        Direction::Down
+    } else {
+        Direction::Up
+    }
 }
 
 #[tactic(auto, unfolding(crate::specs::Addresses::number_offset))]

@@ -8,3 +8,6 @@ pub mod operating;
 pub mod register_lists;
 
 pub use instructions::instruction;
+
+#[cfg(test)]
+mod tests;

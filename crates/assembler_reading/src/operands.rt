@@ -107,10 +107,7 @@ fn shift_at<'t>(labels: &Labels, rm: Register, text: &'t [u8]) -> Read<'t, Outco
         return Some((Ok(shifted_by(rm, Shift::LogicalLeft, 0)), text));
     };
     if is_name(word(after), b"RRX") {
-        return Some((
-            Ok(shifted_by(rm, Shift::RotateRight, 0)),
-            after_word(after),
-        ));
+        return Some((Ok(shifted_by(rm, Shift::RotateRight, 0)), after_word(after)));
     }
     named_shift(labels, rm, after)
 }
