@@ -57,12 +57,7 @@ fn put_more_items<'t>(
 }
 
 #[tactic(auto, unfolding(crate::specs::Directives::item_at))]
-fn put_item<'t>(
-    kind: Data,
-    labels: &Labels,
-    text: &'t [u8],
-    output: &mut Output,
-) -> Rest<'t>
+fn put_item<'t>(kind: Data, labels: &Labels, text: &'t [u8], output: &mut Output) -> Rest<'t>
     ensures { IfOk result (λ rest. option_map (λ rest. (output.new, rest.now)) rest
         ≡ item_at kind (address_of labels.now) output.old text.now) }
 {

@@ -18,7 +18,5 @@ pub use assembling::assemble;
 pub use error::AsmError;
 pub use program::Program;
 
-
-
 #[cfg(test)]
 mod tests;

@@ -15,7 +15,7 @@ static WORDS: [(&str, u32); 38] = [
     (" aDdEqS r0,R1,r2", 0x0091_0002),
     ("  MOV   R0 , R1 ,LSL  #2   ; doubled twice", 0xE1A0_0101),
     (" MOV R0,R1,lsr #32;", 0xE1A0_0021),
-    (" mov r0,#1 , 2", 0xE3A0_0102),
+    (" mov r0,#1 , 2", 0xE3A0_0101),
     (" LDMIA R0,{R1 , R2}", 0xE890_0006),
     (" LDMIA R0,{R3,R1,R1}", 0xE890_000A),
     (" LDMIA R0,{R1-R1}", 0xE890_0002),
@@ -83,11 +83,7 @@ static PROGRAMS: [(&str, u32, &[u8]); 14] = [
         b"\x01\0\0\0\0\0\xa0\xe1\x04",
     ),
     ("a DCB \"a\"\nA DCB A-a", 8, b"a\x01"),
-    (
-        "x DCD x,y\ny",
-        0x3FF_FFF8,
-        b"\xf8\xff\xff\x03\0\0\0\x04",
-    ),
+    ("x DCD x,y\ny", 0x3FF_FFF8, b"\xf8\xff\xff\x03\0\0\0\x04"),
     (
         " DCD 0,init,0,0,title,0,0\ntitle DCB \"Bad\",0\ninit ADD R0,PC,#err-init-8\n \
          ORRS PC,R14,#&10000000\nerr DCD 1000\n DCB \"no\",0",

@@ -7,7 +7,7 @@ use Rattle.assembler.proofs.assembling.labels_of.Given as goal
 abbrev pub invariant-loop-text : goal.invariant-loop-text
 invariant-loop-text l = record {
   labels : first_pass l.origin (l.lines.number + 1) (record { entries = l.labels; program = l.output.bytes }) l.lines.left
-    ≡ first_pass l.origin 1 (record { entries = []; program = [] }) (lines l.source);
+      ≡ first_pass l.origin 1 (record { entries = []; program = [] }) (lines l.source);
   room : length l.output.bytes ≤ 1048576;
 }
 

@@ -8,7 +8,7 @@ use Rattle.assembler.proofs.assembling.program_of.Given as goal
 abbrev pub invariant-loop-text : goal.invariant-loop-text
 invariant-loop-text l = record {
   program : second_pass (address_of l.labels) l.origin (l.lines.number + 1) l.output.bytes l.lines.left
-    ≡ second_pass (address_of l.labels) l.origin 1 [] (lines l.source);
+      ≡ second_pass (address_of l.labels) l.origin 1 [] (lines l.source);
   room : length l.output.bytes ≤ 1048576;
 }
 

@@ -9,6 +9,6 @@ pub loop-items-preserved : goal.loop-items-preserved
 loop-items-preserved c =
     let comma_there : comma c.loop-items.rest.now ≡ Some c.in-Some.after.now = sym c.in-Some.ensures in
     let item_there : item_at c.args.kind (address_of c.args.labels.now) c.loop-items.output c.in-Some.after.now ≡ Some (c.put_item.new.output, c.in-Some-2.next.now)
-        = sym (rw c.in-Some-2.is at c.in_ok-next.ensures) in
+    = sym (rw c.in-Some-2.is at c.in_ok-next.ensures) in
     sym (one_item c.args.count c.loop-items._items c.args.kind (address_of c.args.labels.now) c.loop-items.output c.put_item.new.output
     c.loop-items.rest.now c.in-Some.after.now c.in-Some-2.next.now (omega arith) comma_there item_there) ∙ c.loop-items.invariant
