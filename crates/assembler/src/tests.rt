@@ -107,6 +107,7 @@ static PROGRAMS: [(&str, u32, &[u8]); 14] = [
 #[test]
 fn assembles_programs(rt: HostRuntime) -> Result<(), Fail> {
     for (text, origin, bytes) in PROGRAMS {
+        assert!(rt; origin % 4 == 0 && origin < 1 << 26, "{text}");
         let program = assemble(rt.alloc(), text.as_bytes(), origin)?;
         assert_eq!(rt; program.bytes(), bytes, "{text}");
     }
@@ -201,6 +202,7 @@ fn refuses_by_line_and_reason(rt: HostRuntime) {
 }
 
 fn check_len(rt: &impl Abort, alloc: Global, text: &str, origin: u32, len: Option<usize>) {
+    assert!(rt; origin % 4 == 0 && origin < 1 << 26, "{text}");
     match assemble(alloc, text.as_bytes(), origin) {
         Ok(program) => assert_eq!(rt; Some(program.bytes().len()), len, "{text}"),
         Err(error) => {

@@ -1,4 +1,4 @@
-use Rattle.std.proofs.Common.{◌≡◌, ◌<◌, Some, sym, ◌∙◌, arith}
+use Rattle.std.proofs.Common.{◌≡◌, Some, sym, ◌∙◌, arith}
 use Rattle.assembler_names.specs.Labels.{address_of}
 use Rattle.assembler_names.specs.Words.{comma}
 use Rattle.assembler.specs.Directives.{item_at}
