@@ -1,10 +1,9 @@
 //! The two passes over a source.
 
-ghost use Rattle.std.specs.Prelude.{◌≡◌, ◌≢◌, ◌%◌, ◌≤◌, ◌<◌, ◌^◌, [], Err, length, IfOk, OnOk};
-ghost use Rattle.std.specs.Str.Lines.{lines};
+ghost use Rattle.std.specs.Prelude.{◌≡◌, ◌≢◌, ◌%◌, ◌≤◌, ◌<◌, ◌^◌, [], Err, length, take, IfOk, OnOk};
 ghost use Rattle.assembler_names.specs.Labels.{address_of};
 ghost use Rattle.assembler.specs.Line.{line};
-ghost use Rattle.assembler.specs.Passes.{finished, first_pass, leaving, means, measured, second_pass};
+ghost use Rattle.assembler.specs.Passes.{finished, first_pass, leaving, means, means_lines, measured, second_pass};
 
 use crate::error::AsmError;
 use crate::line::put_line;
@@ -21,12 +20,30 @@ use text_lines::Lines;
 ///
 /// The line that is refused, and why, as [`AsmError`] says; or, where the host has no memory left,
 /// line 0 and `Memory`.
+#[tactic(auto, using(std::proofs::lemmas::List::take_all), unfolding(crate::specs::Passes::means))]
 pub fn assemble(alloc: Global, source: &[u8], origin: u32) -> Result<Program, AsmError>
     requires aligned { origin % 4 ≡ 0 }
     requires in_memory { origin < 2 ^ 26 }
     ensures { result ≢ Err (record { line = 0; reason = Reason.Memory }) → result ≡ means source.now origin }
 {
-    match both_passes(alloc, source, origin) {
+    let lines = Lines::new(source);
+    assemble_lines(alloc, &lines, lines.count(), origin)
+}
+
+/// The program that the next lines of a text mean, at most `count`, as [`assemble`] says; they are
+/// counted from 1.
+pub fn assemble_lines(
+    alloc: Global,
+    lines: &Lines,
+    count: usize,
+    origin: u32,
+) -> Result<Program, AsmError>
+    requires aligned { origin % 4 ≡ 0 }
+    requires in_memory { origin < 2 ^ 26 }
+    ensures { result ≢ Err (record { line = 0; reason = Reason.Memory })
+        → result ≡ means_lines (take count lines.now.left) origin }
+{
+    match both_passes(alloc, lines, count, origin) {
         Ok(answer) => answer,
         Err(AllocError) => Err(AsmError {
             line: 0,
@@ -35,17 +52,18 @@ pub fn assemble(alloc: Global, source: &[u8], origin: u32) -> Result<Program, As
     }
 }
 
-#[tactic(auto, unfolding(crate::specs::Passes::means, crate::specs::Passes::means_lines))]
+#[tactic(auto, unfolding(crate::specs::Passes::means_lines))]
 fn both_passes(
     alloc: Global,
-    source: &[u8],
+    lines: &Lines,
+    count: usize,
     origin: u32,
 ) -> Result<Result<Program, AsmError>, AllocError>
     requires { origin < 2 ^ 26 }
-    ensures { IfOk result (λ answer. answer ≡ means source.now origin) }
+    ensures { IfOk result (λ answer. answer ≡ means_lines (take count lines.now.left) origin) }
 {
-    match labels_of(alloc, source, origin)? {
-        Ok(labels) => program_of(alloc, &labels, source, origin),
+    match labels_of(alloc, lines, count, origin)? {
+        Ok(labels) => program_of(alloc, &labels, lines, count, origin),
         Err(error) => Ok(Err(error)),
     }
 }
@@ -54,19 +72,24 @@ fn both_passes(
 #[tactic(auto, using(crate::proofs::PassLemmas::first_steps))]
 fn labels_of<'s>(
     alloc: Global,
-    source: &'s [u8],
+    source: &Lines<'s>,
+    count: usize,
     origin: u32,
 ) -> Result<Result<Labels<'s>, AsmError>, AllocError>
     requires { origin < 2 ^ 26 }
-    ensures { IfOk result (λ answer. answer ≡ first_pass origin 1 (record { entries = []; program = [] }) (lines source.now)) }
+    ensures { IfOk result (λ answer. answer
+        ≡ first_pass origin 1 (record { entries = []; program = [] }) (take count source.now.left)) }
 {
     let none = Labels::new(alloc);
     let mut labels = Labels::new(alloc);
     let mut output = Output::new(alloc);
-    let mut lines = Lines::new(source);
-    while let Some(text) = lines.next_line() {
+    let mut lines = source.again();
+    for index in 0..count {
+        let Some(text) = lines.next_line() else {
+            return Ok(Ok(labels));
+        };
         if let Err(reason) = measure(&none, origin, text, &mut labels, &mut output)? {
-            let line = lines.number();
+            let line = index + 1;
             return Ok(Err(AsmError { line, reason }));
         }
     }
@@ -110,17 +133,22 @@ fn measure<'s>(
 fn program_of(
     alloc: Global,
     labels: &Labels,
-    source: &[u8],
+    source: &Lines,
+    count: usize,
     origin: u32,
 ) -> Result<Result<Program, AsmError>, AllocError>
     requires { origin < 2 ^ 26 }
-    ensures { IfOk result (λ answer. answer ≡ second_pass (address_of labels.now) origin 1 [] (lines source.now)) }
+    ensures { IfOk result (λ answer. answer
+        ≡ second_pass (address_of labels.now) origin 1 [] (take count source.now.left)) }
 {
     let mut output = Output::new(alloc);
-    let mut lines = Lines::new(source);
-    while let Some(text) = lines.next_line() {
+    let mut lines = source.again();
+    for index in 0..count {
+        let Some(text) = lines.next_line() else {
+            return Ok(Ok(Program::new(output.into_bytes())));
+        };
         if let Err(reason) = finish(labels, origin, text, &mut output)? {
-            let line = lines.number();
+            let line = index + 1;
             return Ok(Err(AsmError { line, reason }));
         }
     }

@@ -14,7 +14,7 @@ mod statements;
 
 pub use assembler_names::Reason;
 pub use assembler_text::disassemble;
-pub use assembling::assemble;
+pub use assembling::{assemble, assemble_lines};
 pub use error::AsmError;
 pub use program::Program;
 

@@ -43,6 +43,25 @@ impl<'a> Lines<'a> {
         self.number
     }
 
+    /// A second reading from the same place.
+    pub fn again(&self) -> Lines<'a>
+        ensures { result ≡ self.now }
+    {
+        Lines {
+            rest: self.rest,
+            number: self.number,
+        }
+    }
+
+    /// How many lines are left.
+    pub fn count(&self) -> usize
+        ensures { result ≡ length self.now.left }
+    {
+        let mut lines = self.again();
+        while let Some(_line) = lines.next_line() {}
+        lines.number - self.number
+    }
+
     /// The next line, without its end.
     #[tactic(auto, using(crate::proofs::LineLemmas::line_steps))]
     pub fn next_line(&mut self) -> Option<&'a [u8]>
