@@ -7,7 +7,7 @@ use arm_decode::{BlockMode, Condition, Operation, Register, Shift};
 use std::marker::Model;
 
 /// The suffix of a condition; AL has none.
-pub(crate) fn condition_text(condition: Condition) -> &'static [u8]
+pub fn condition_text(condition: Condition) -> &'static [u8]
     ensures { result.now ≡ condition_text condition }
 {
     match condition {
@@ -31,7 +31,7 @@ pub(crate) fn condition_text(condition: Condition) -> &'static [u8]
 }
 
 /// The name of an operation.
-pub(crate) fn operation_text(operation: Operation) -> &'static [u8]
+pub fn operation_text(operation: Operation) -> &'static [u8]
     ensures { result.now ≡ operation_text operation }
 {
     match operation {
@@ -55,7 +55,7 @@ pub(crate) fn operation_text(operation: Operation) -> &'static [u8]
 }
 
 /// The name of a shift.
-pub(crate) fn shift_text(shift: Shift) -> &'static [u8]
+pub fn shift_text(shift: Shift) -> &'static [u8]
     ensures { result.now ≡ shift_text shift }
 {
     match shift {
@@ -67,7 +67,7 @@ pub(crate) fn shift_text(shift: Shift) -> &'static [u8]
 }
 
 /// The suffix of a block transfer.
-pub(crate) fn block_mode_text(mode: BlockMode) -> &'static [u8]
+pub fn block_mode_text(mode: BlockMode) -> &'static [u8]
     ensures { result.now ≡ block_mode_text mode }
 {
     match mode {

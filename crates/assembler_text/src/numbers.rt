@@ -1,8 +1,8 @@
 //! Numbers and immediate operands.
 
-ghost use Rattle.std.specs.Prelude.{◌≡◌, ◌≤◌, ◌<◌, true, OnOk, OnErr};
+ghost use Rattle.std.specs.Prelude.{◌≡◌, ◌≤◌, ◌<◌, true, IfSome, OnOk, OnErr};
 ghost use Rattle.std.specs.Io.KnownBytes.{Appends};
-ghost use Rattle.assembler_text.specs.Numbers.{gives, immediate_text, is_field, least_rotation};
+ghost use Rattle.assembler_text.specs.Numbers.{gives, immediate_text, is_field, least_rotation, rotated_back};
 
 use itoa::Buffer;
 use profile::shift::rotate_right;
@@ -39,8 +39,10 @@ pub(crate) fn push_immediate<W: Sink>(
 
 /// The least rotation field under which some byte gives this value.
 #[tactic(auto, using(crate::proofs::Rotations::search_steps))]
-pub(crate) fn least_rotation(value: u32) -> Option<u32>
-    ensures { result ≡ least_rotation value }
+pub fn least_rotation(value: u32) -> Option<u32>
+    ensures least { result ≡ least_rotation value }
+    ensures is_field { IfSome result (λ rotation. rotation < 16) }
+    ensures is_byte { IfSome result (λ rotation. rotated_back value rotation ≤ 255) }
 {
     for rotation in 0..16 {
         if gives(value, rotation) {

@@ -1,0 +1,4 @@
+pub mod ItemLemmas
+pub mod OutputLemmas
+pub mod PassLemmas
+pub mod SizeLemmas

@@ -1,0 +1,4 @@
+pub mod Directives
+pub mod Line
+pub mod Passes
+pub mod Written

@@ -1,0 +1,182 @@
+//! The two passes over a source.
+
+ghost use Rattle.std.specs.Prelude.{◌≡◌, ◌≢◌, ◌%◌, ◌≤◌, ◌<◌, ◌^◌, [], Err, length, take, IfOk, OnOk};
+ghost use Rattle.assembler_names.specs.Labels.{address_of};
+ghost use Rattle.assembler.specs.Line.{line};
+ghost use Rattle.assembler.specs.Passes.{finished, first_pass, leaving, means, means_lines, measured, second_pass};
+
+use crate::error::AsmError;
+use crate::line::put_line;
+use crate::output::Output;
+use crate::program::Program;
+use assembler_names::{Labels, Reason};
+use std::alloc::{AllocError, Global};
+use text_lines::Lines;
+
+/// The program that a source means at an origin, a multiple of 4 below 2^26. Lines end in LF or
+/// CR LF; the last may lack it.
+///
+/// # Errors
+///
+/// The line that is refused, and why, as [`AsmError`] says; or, where the host has no memory left,
+/// line 0 and `Memory`.
+#[tactic(auto, using(std::proofs::lemmas::List::take_all), unfolding(crate::specs::Passes::means))]
+pub fn assemble(alloc: Global, source: &[u8], origin: u32) -> Result<Program, AsmError>
+    requires aligned { origin % 4 ≡ 0 }
+    requires in_memory { origin < 2 ^ 26 }
+    ensures { result ≢ Err (record { line = 0; reason = Reason.Memory }) → result ≡ means source.now origin }
+{
+    let lines = Lines::new(source);
+    assemble_lines(alloc, &lines, lines.count(), origin)
+}
+
+/// The program that the next lines of a text mean, at most `count`, as [`assemble`] says; they are
+/// counted from 1.
+pub fn assemble_lines(
+    alloc: Global,
+    lines: &Lines,
+    count: usize,
+    origin: u32,
+) -> Result<Program, AsmError>
+    requires aligned { origin % 4 ≡ 0 }
+    requires in_memory { origin < 2 ^ 26 }
+    ensures { result ≢ Err (record { line = 0; reason = Reason.Memory })
+        → result ≡ means_lines (take count lines.now.left) origin }
+{
+    match both_passes(alloc, lines, count, origin) {
+        Ok(answer) => answer,
+        Err(AllocError) => Err(AsmError {
+            line: 0,
+            reason: Reason::Memory,
+        }),
+    }
+}
+
+#[tactic(auto, unfolding(crate::specs::Passes::means_lines))]
+fn both_passes(
+    alloc: Global,
+    lines: &Lines,
+    count: usize,
+    origin: u32,
+) -> Result<Result<Program, AsmError>, AllocError>
+    requires { origin < 2 ^ 26 }
+    ensures { IfOk result (λ answer. answer ≡ means_lines (take count lines.now.left) origin) }
+{
+    match labels_of(alloc, lines, count, origin)? {
+        Ok(labels) => program_of(alloc, &labels, lines, count, origin),
+        Err(error) => Ok(Err(error)),
+    }
+}
+
+// The first pass: the labels of a source, with their addresses.
+#[tactic(auto, using(crate::proofs::PassLemmas::first_steps))]
+fn labels_of<'s>(
+    alloc: Global,
+    source: &Lines<'s>,
+    count: usize,
+    origin: u32,
+) -> Result<Result<Labels<'s>, AsmError>, AllocError>
+    requires { origin < 2 ^ 26 }
+    ensures { IfOk result (λ answer. answer
+        ≡ first_pass origin 1 (record { entries = []; program = [] }) (take count source.now.left)) }
+{
+    let none = Labels::new(alloc);
+    let mut labels = Labels::new(alloc);
+    let mut output = Output::new(alloc);
+    let mut lines = source.again();
+    for index in 0..count {
+        let Some(text) = lines.next_line() else {
+            return Ok(Ok(labels));
+        };
+        if let Err(reason) = measure(&none, origin, text, &mut labels, &mut output)? {
+            let line = index + 1;
+            return Ok(Err(AsmError { line, reason }));
+        }
+    }
+    Ok(Ok(labels))
+}
+
+// A line of the first pass, which knows no label's address.
+#[tactic(auto, unfolding(crate::specs::Passes::measured))]
+fn measure<'s>(
+    none: &Labels,
+    origin: u32,
+    text: &'s [u8],
+    labels: &mut Labels<'s>,
+    output: &mut Output,
+) -> Result<Result<(), Reason>, AllocError>
+    requires none { none.now ≡ [] }
+    requires origin { origin < 2 ^ 26 }
+    requires room { length output.old.bytes ≤ 1048576 }
+    ensures told { IfOk result (λ answer. leaving (record { entries = labels.new; program = output.new.bytes }) answer
+        ≡ measured origin (record { entries = labels.old; program = output.old.bytes })
+        (line (address_of []) origin output.old.bytes text.now)) }
+    ensures room { IfOk result (λ answer. OnOk answer (length output.new.bytes ≤ 1048576)) }
+{
+    let Some((label, place)) = put_line(none, origin, text, output)? else {
+        return Ok(Err(Reason::Syntax));
+    };
+    if !label.is_empty() && labels.find(label).is_some() {
+        return Ok(Err(Reason::LabelTwice));
+    }
+    if output.is_too_long(origin) {
+        return Ok(Err(Reason::TooLong));
+    }
+    if !label.is_empty() {
+        labels.put(label, place).map_err(|_| AllocError)?;
+    }
+    Ok(Ok(()))
+}
+
+// The second pass: the bytes of the lines, with the labels of the first.
+#[tactic(auto, using(crate::proofs::PassLemmas::second_steps))]
+fn program_of(
+    alloc: Global,
+    labels: &Labels,
+    source: &Lines,
+    count: usize,
+    origin: u32,
+) -> Result<Result<Program, AsmError>, AllocError>
+    requires { origin < 2 ^ 26 }
+    ensures { IfOk result (λ answer. answer
+        ≡ second_pass (address_of labels.now) origin 1 [] (take count source.now.left)) }
+{
+    let mut output = Output::new(alloc);
+    let mut lines = source.again();
+    for index in 0..count {
+        let Some(text) = lines.next_line() else {
+            return Ok(Ok(Program::new(output.into_bytes())));
+        };
+        if let Err(reason) = finish(labels, origin, text, &mut output)? {
+            let line = index + 1;
+            return Ok(Err(AsmError { line, reason }));
+        }
+    }
+    Ok(Ok(Program::new(output.into_bytes())))
+}
+
+// A line of the second pass.
+#[tactic(auto, unfolding(crate::specs::Passes::finished))]
+fn finish(
+    labels: &Labels,
+    origin: u32,
+    text: &[u8],
+    output: &mut Output,
+) -> Result<Result<(), Reason>, AllocError>
+    requires origin { origin < 2 ^ 26 }
+    requires room { length output.old.bytes ≤ 1048576 }
+    ensures told { IfOk result (λ answer. leaving output.new.bytes answer
+        ≡ finished origin (line (address_of labels.now) origin output.old.bytes text.now)) }
+    ensures room { IfOk result (λ answer. OnOk answer (length output.new.bytes ≤ 1048576)) }
+{
+    if put_line(labels, origin, text, output)?.is_none() {
+        return Ok(Err(Reason::Syntax));
+    }
+    if output.is_too_long(origin) {
+        return Ok(Err(Reason::TooLong));
+    }
+    match output.fault() {
+        Some(reason) => Ok(Err(reason)),
+        None => Ok(Ok(())),
+    }
+}

@@ -1,0 +1,22 @@
+//! The assembler: the text of a program to its bytes at an address.
+//!
+//! `docs/ASSEMBLER.md` has the grammar by example.
+#![tactic(auto)]
+
+mod assembling;
+pub mod directives;
+pub mod error;
+mod items;
+mod line;
+mod output;
+pub mod program;
+mod statements;
+
+pub use assembler_names::Reason;
+pub use assembler_text::disassemble;
+pub use assembling::{assemble, assemble_lines};
+pub use error::AsmError;
+pub use program::Program;
+
+#[cfg(test)]
+mod tests;

@@ -1,0 +1,287 @@
+//! The addresses of LDR and STR.
+
+ghost use Rattle.std.specs.Prelude.{◌≡◌, ◌<◌, ◌^◌, false, option_map};
+ghost use Rattle.assembler_names.specs.Labels.{address_of};
+ghost use Rattle.assembler_names.specs.Words.{byte, comma};
+ghost use Rattle.assembler_reading.specs.Addresses.{address_at, as_offset, based, before_bracket, bracketed, closed, indexed, labelled, number_offset, offset_in, offset_of, operand_offset, placed, reached, reached_from, shifted_offset, signed_direction, transfer_at, transferred};
+
+use crate::operands::{Outcome, shifted};
+use arm_decode::{Action, Address, Bits, Direction, Indexing, Offset, Operand, Register, Transfer};
+use assembler_names::names::register;
+use assembler_names::words::{byte, comma, mark};
+use assembler_names::{Labels, Read, Reason, Value, expression};
+
+/// An offset and which way it counts.
+pub type SignedOffset = (Direction, Offset);
+
+/// The operands of LDR or STR at an address: `Rd,` and an address in brackets, or a label.
+#[tactic(auto, unfolding(crate::specs::Addresses::transfer_at))]
+pub fn transfer_at<'t>(
+    labels: &Labels,
+    address: u32,
+    loads: bool,
+    is_byte: bool,
+    translates: bool,
+    text: &'t [u8],
+) -> Read<'t, Outcome<Action>>
+    ensures { option_map (λ r. (r.0, r.1.now)) result ≡ transfer_at (address_of labels.now) address loads is_byte translates text.now }
+{
+    let Some((rd, rest)) = register(text) else {
+        return None;
+    };
+    let Some((place, rest)) = address_at(labels, address, translates, comma(rest)?) else {
+        return None;
+    };
+    Some((transferred(loads, is_byte, rd, place), rest))
+}
+
+fn transferred(loads: bool, is_byte: bool, rd: Register, place: Outcome<Address>) -> Outcome<Action>
+    ensures { result ≡ transferred loads is_byte rd place }
+{
+    match place {
+        Ok(address) => Ok(Action::Transfer(Transfer {
+            loads,
+            is_byte,
+            rd,
+            address,
+        })),
+        Err(reason) => Err(reason),
+    }
+}
+
+// An address in brackets, or a label or any other expression, which T forbids.
+fn address_at<'t>(
+    labels: &Labels,
+    address: u32,
+    translates: bool,
+    text: &'t [u8],
+) -> Read<'t, Outcome<Address>>
+    ensures { option_map (λ r. (r.0, r.1.now)) result ≡ address_at (address_of labels.now) address translates text.now (byte 91 text.now) }
+{
+    match byte(b'[', text) {
+        Some(after) => bracketed(labels, translates, after),
+        None if translates => None,
+        None => labelled(labels, address, text),
+    }
+}
+
+#[tactic(auto, unfolding(crate::specs::Addresses::labelled))]
+fn labelled<'t>(labels: &Labels, address: u32, text: &'t [u8]) -> Read<'t, Outcome<Address>>
+    ensures { option_map (λ r. (r.0, r.1.now)) result ≡ labelled (address_of labels.now) address text.now }
+{
+    let (target, rest) = expression(labels, text)?;
+    Some((reached_from(address, target), rest))
+}
+
+fn reached_from(address: u32, target: Value) -> Outcome<Address>
+    ensures { result ≡ reached_from address target }
+{
+    match target {
+        Some(target) => reached(u64::from(address) + 8, u64::from(target)),
+        None => Err(Reason::UnknownLabel),
+    }
+}
+
+// An address as an offset from the PC.
+#[tactic(auto, unfolding(crate::specs::Addresses::reached))]
+fn reached(pc: u64, target: u64) -> Outcome<Address>
+    requires pc_low { pc < 2 ^ 33 }
+    requires target_low { target < 2 ^ 33 }
+    ensures { result ≡ reached pc target }
+{
+    if pc <= target && target <= pc + 4095 {
+        Ok(from_pc(Direction::Up, (target - pc) as u32))
+    } else if target < pc && pc <= target + 4095 {
+        Ok(from_pc(Direction::Down, (pc - target) as u32))
+    } else {
+        Err(Reason::OutOfReach)
+    }
+}
+
+fn from_pc(direction: Direction, number: u32) -> Address
+    requires { number < 4096 }
+    ensures { result ≡ placed (Indexing.Pre false) direction 15 (Offset.Immediate number) }
+{
+    Address {
+        indexing: Indexing::Pre { writes_back: false },
+        direction,
+        rn: Register::new(15),
+        offset: Offset::Immediate(Bits::new(number)),
+    }
+}
+
+// Behind `[`.
+#[tactic(auto, unfolding(crate::specs::Addresses::bracketed))]
+fn bracketed<'t>(labels: &Labels, translates: bool, text: &'t [u8]) -> Read<'t, Outcome<Address>>
+    ensures { option_map (λ r. (r.0, r.1.now)) result ≡ bracketed (address_of labels.now) translates text.now }
+{
+    let Some((rn, rest)) = register(text) else {
+        return None;
+    };
+    based(labels, translates, rn, rest)
+}
+
+// Behind `[Rn`.
+fn based<'t>(
+    labels: &Labels,
+    translates: bool,
+    rn: Register,
+    text: &'t [u8],
+) -> Read<'t, Outcome<Address>>
+    ensures { option_map (λ r. (r.0, r.1.now)) result ≡ based (address_of labels.now) translates rn text.now (byte 93 text.now) }
+{
+    match byte(b']', text) {
+        Some(after) => closed(labels, translates, rn, after),
+        None if translates => None,
+        None => before_bracket(labels, rn, text),
+    }
+}
+
+// Behind `[Rn]`: a comma and the offset, or nothing, which T forbids.
+#[tactic(auto, unfolding(crate::specs::Addresses::closed))]
+fn closed<'t>(
+    labels: &Labels,
+    translates: bool,
+    rn: Register,
+    text: &'t [u8],
+) -> Read<'t, Outcome<Address>>
+    ensures { option_map (λ r. (r.0, r.1.now)) result ≡ closed (address_of labels.now) translates rn text.now (comma text.now) }
+{
+    match comma(text) {
+        Some(after) => {
+            let Some((by, rest)) = offset_in(labels, after) else {
+                return None;
+            };
+            Some((indexed(Indexing::Post { translates }, rn, by), rest))
+        }
+        None if translates => None,
+        None => Some((Ok(at_base(rn)), text)),
+    }
+}
+
+fn at_base(rn: Register) -> Address
+    ensures { result ≡ placed (Indexing.Pre false) Direction.Up rn (Offset.Immediate 0) }
+{
+    Address {
+        indexing: Indexing::Pre { writes_back: false },
+        direction: Direction::Up,
+        rn,
+        offset: Offset::Immediate(Bits::new(0)),
+    }
+}
+
+// Behind `[Rn`: a comma, the offset, `]`, and `!` where the address is written back.
+#[tactic(auto, unfolding(crate::specs::Addresses::before_bracket))]
+fn before_bracket<'t>(labels: &Labels, rn: Register, text: &'t [u8]) -> Read<'t, Outcome<Address>>
+    ensures { option_map (λ r. (r.0, r.1.now)) result ≡ before_bracket (address_of labels.now) rn text.now }
+{
+    let Some((by, rest)) = offset_in(labels, comma(text)?) else {
+        return None;
+    };
+    let (writes_back, rest) = mark(b'!', byte(b']', rest)?);
+    Some((indexed(Indexing::Pre { writes_back }, rn, by), rest))
+}
+
+fn indexed(indexing: Indexing, rn: Register, by: Outcome<SignedOffset>) -> Outcome<Address>
+    ensures { result ≡ indexed indexing rn by }
+{
+    match by {
+        Ok((direction, offset)) => Ok(Address {
+            indexing,
+            direction,
+            rn,
+            offset,
+        }),
+        Err(reason) => Err(reason),
+    }
+}
+
+// `#n`, `#-n`, or a register with its shift, with a minus or without.
+#[tactic(auto, unfolding(crate::specs::Addresses::offset_in))]
+fn offset_in<'t>(labels: &Labels, text: &'t [u8]) -> Read<'t, Outcome<SignedOffset>>
+    ensures { option_map (λ r. (r.0, r.1.now)) result ≡ offset_in (address_of labels.now) text.now }
+{
+    match byte(b'#', text) {
+        Some(after) => {
+            let (is_minus, number) = mark(b'-', after);
+            number_offset(labels, signed_direction(is_minus), number)
+        }
+        None => {
+            let (is_minus, rest) = mark(b'-', text);
+            shifted_offset(labels, signed_direction(is_minus), rest)
+        }
+    }
+}
+
+fn signed_direction(is_minus: bool) -> Direction
+    ensures { result ≡ signed_direction is_minus }
+{
+    if is_minus {
+        Direction::Down
+    } else {
+        Direction::Up
+    }
+}
+
+#[tactic(auto, unfolding(crate::specs::Addresses::number_offset))]
+fn number_offset<'t>(
+    labels: &Labels,
+    direction: Direction,
+    text: &'t [u8],
+) -> Read<'t, Outcome<SignedOffset>>
+    ensures { option_map (λ r. (r.0, r.1.now)) result ≡ number_offset (address_of labels.now) direction text.now }
+{
+    let (number, rest) = expression(labels, text)?;
+    Some((offset_of(direction, number), rest))
+}
+
+// A number of 12 bits.
+#[tactic(auto, unfolding(crate::specs::Addresses::offset_of))]
+fn offset_of(direction: Direction, number: Value) -> Outcome<SignedOffset>
+    ensures { result ≡ offset_of direction number }
+{
+    let Some(number) = number else {
+        return Err(Reason::UnknownLabel);
+    };
+    if number < 4096 {
+        Ok((direction, Offset::Immediate(Bits::new(number))))
+    } else {
+        Err(Reason::BadImmediate)
+    }
+}
+
+#[tactic(auto, unfolding(crate::specs::Addresses::shifted_offset))]
+fn shifted_offset<'t>(
+    labels: &Labels,
+    direction: Direction,
+    text: &'t [u8],
+) -> Read<'t, Outcome<SignedOffset>>
+    ensures { option_map (λ r. (r.0, r.1.now)) result ≡ shifted_offset (address_of labels.now) direction text.now }
+{
+    let Some((operand, rest)) = shifted(labels, text) else {
+        return None;
+    };
+    let Some(offset) = as_offset(direction, operand) else {
+        return None;
+    };
+    Some((offset, rest))
+}
+
+fn as_offset(direction: Direction, operand: Outcome<Operand>) -> Option<Outcome<SignedOffset>>
+    ensures { result ≡ as_offset direction operand }
+{
+    match operand {
+        Ok(operand) => operand_offset(direction, operand),
+        Err(reason) => Some(Err(reason)),
+    }
+}
+
+// A register shifted by another is no offset.
+fn operand_offset(direction: Direction, operand: Operand) -> Option<Outcome<SignedOffset>>
+    ensures { result ≡ operand_offset direction operand }
+{
+    match operand {
+        Operand::Shifted(shifted) => Some(Ok((direction, Offset::Shifted(shifted)))),
+        _ => None,
+    }
+}

@@ -1,0 +1,13 @@
+//! Instructions as they are written, read into their words.
+#![tactic(auto)]
+
+pub mod addresses;
+pub mod instructions;
+pub mod operands;
+pub mod operating;
+pub mod register_lists;
+
+pub use instructions::instruction;
+
+#[cfg(test)]
+mod tests;

@@ -1,0 +1,120 @@
+//! The register lists of LDM and STM.
+
+ghost use Rattle.std.specs.Prelude.{◌≡◌, ◌<◌, option_map};
+ghost use Rattle.assembler_names.specs.Words.{byte};
+ghost use Rattle.assembler_reading.specs.RegisterLists.{block_at, last_register, more_registers, register_list, register_range, with_range, with_register};
+
+use crate::operands::Outcome;
+use arm_decode::{Action, BlockMode, BlockTransfer, Register, RegisterList};
+use assembler_names::Read;
+use assembler_names::names::register;
+use assembler_names::words::{byte, comma, mark};
+
+/// The operands of LDM or STM: `Rn!,{R0,R4-R6}^`.
+#[tactic(auto, unfolding(crate::specs::RegisterLists::block_at))]
+pub fn block_at(loads: bool, mode: BlockMode, text: &[u8]) -> Read<'_, Outcome<Action>>
+    ensures { option_map (λ r. (r.0, r.1.now)) result ≡ block_at loads mode text.now }
+{
+    let Some((rn, rest)) = register(text) else {
+        return None;
+    };
+    let (writes_back, rest) = mark(b'!', rest);
+    let Some((list, rest)) = register_list(comma(rest)?) else {
+        return None;
+    };
+    let (psr_or_user, rest) = mark(b'^', rest);
+    let block = BlockTransfer {
+        loads,
+        mode,
+        psr_or_user,
+        writes_back,
+        rn,
+        list,
+    };
+    Some((Ok(Action::BlockTransfer(block)), rest))
+}
+
+// `{R0,R4-R6}`.
+#[tactic(auto, unfolding(crate::specs::RegisterLists::register_list))]
+fn register_list(text: &[u8]) -> Read<'_, RegisterList>
+    ensures { option_map (λ r. (r.0, r.1.now)) result ≡ register_list text.now }
+{
+    let rest = byte(b'{', text)?;
+    more_registers(rest.len(), rest)
+}
+
+// The registers and ranges up to the closing brace, at most `count`.
+#[tactic(auto, using(crate::proofs::Ranges::list_steps))]
+fn more_registers(count: usize, text: &[u8]) -> Read<'_, RegisterList>
+    ensures { option_map (λ r. (r.0, r.1.now)) result ≡ more_registers count 0 text.now }
+{
+    let mut list = RegisterList::new(0);
+    let mut rest = text;
+    for _ranges in 0..count {
+        let Some(((first, last), behind)) = register_range(rest) else {
+            return None;
+        };
+        list = with_range(list, first, last);
+        let Some(after) = comma(behind) else {
+            return Some((list, byte(b'}', behind)?));
+        };
+        rest = after;
+    }
+    None
+}
+
+// `R0` or `R0-R3`, as its first and its last register.
+#[tactic(auto, unfolding(crate::specs::RegisterLists::register_range))]
+fn register_range(text: &[u8]) -> Read<'_, (Register, Register)>
+    ensures { option_map (λ r. (r.0, r.1.now)) result ≡ register_range text.now }
+{
+    let Some((first, rest)) = register(text) else {
+        return None;
+    };
+    let Some((last, rest)) = last_register(first, rest) else {
+        return None;
+    };
+    Some(((first, last), rest))
+}
+
+// Behind a register a minus and one that is no lower, or else the register itself.
+#[tactic(auto, unfolding(crate::specs::RegisterLists::last_register))]
+fn last_register(first: Register, text: &[u8]) -> Read<'_, Register>
+    ensures { option_map (λ r. (r.0, r.1.now)) result ≡ last_register first text.now (byte 45 text.now) }
+{
+    let Some(after) = byte(b'-', text) else {
+        return Some((first, text));
+    };
+    let Some((last, rest)) = register(after) else {
+        return None;
+    };
+    if first.number() <= last.number() {
+        Some((last, rest))
+    } else {
+        None
+    }
+}
+
+// The list with the registers of a range.
+#[tactic(auto, using(crate::proofs::Ranges::range_steps))]
+fn with_range(list: RegisterList, first: Register, last: Register) -> RegisterList
+    ensures { result ≡ with_range list first last }
+{
+    let mut all = list;
+    for number in first.number()..last.number() + 1 {
+        all = with_register(all, Register::new(number as u8));
+    }
+    all
+}
+
+// The list with one more register, which may be there already.
+#[tactic(auto, using(crate::proofs::Ranges::fits), unfolding(crate::specs::RegisterLists::with_register))]
+fn with_register(list: RegisterList, register: Register) -> RegisterList
+    ensures { result ≡ with_register list register }
+{
+    if list.contains(register) {
+        list
+    } else {
+        RegisterList::new((list.bits() + (1 << register.number())) as u16)
+    }
+}
