@@ -1,5 +1,5 @@
 -- What writes to memory leave of the store: every heap keeps its list.
-use Rattle.std.proofs.Common.{inl, inr, ◌≡◌, ℕ, ◌+◌, ◌-◌, ◌*◌, ◌%◌, ◌^◌, ◌≤◌, Bool, true, false, cond, nat_le, nat_eq, List, [], ◌∷◌, length, ◌++◌, Option, Some, None, Result, Ok, Err, refl, sym, ◌∙◌, ap, subst, arith, lit<, length-append, rules}
+use Rattle.std.proofs.Common.{inl, inr, ◌≡◌, ℕ, ◌+◌, ◌-◌, ◌*◌, ◌%◌, ◌^◌, ◌≤◌, Bool, true, false, cond, nat_le, nat_eq, List, [], ◌∷◌, length, ◌++◌, Option, Some, None, is_some, Result, Ok, Err, refl, sym, ◌∙◌, ap, subst, arith, lit<, length-append, rules}
 use Rattle.std.proofs.lemmas.List.{places}
 use Rattle.std.proofs.lemmas.Bool.{true≢false, le-leb}
 use Rattle.profile.specs.declared.error.ErrorNumber.{ErrorNumber}
@@ -11,8 +11,8 @@ use Rattle.profile.specs.declared.fault.Fault.{Fault}
 use Rattle.profile.specs.declared.fault.Fault.TheVariants.{AddressException, DataUnmapped, OwnedWord}
 use Rattle.address_map.specs.declared.map.AddressMap.{AddressMap}
 use Rattle.address_map.specs.Bytes.{Bytes, in_range, unless, store_fault, word_stored, with_word, with_word_at, with_bytes_at, with_bytes}
-use Rattle.address_map.specs.Memory.{bytes_of, byte_at, is_mapped, free_pages, Layout, layout, class_of, is_owned}
-use Rattle.address_map.proofs.Bytes.{is_mapped-layout}
+use Rattle.address_map.specs.Memory.{bytes_of, byte_at, is_mapped, place, free_pages, Layout, layout, class_of, is_owned}
+use Rattle.address_map.proofs.Stores.{layout-place}
 use Rattle.address_map.proofs.Equations.{stored_word, stored_bytes}
 use Rattle.arm_step.specs.State.{State}
 use Rattle.arm_step.specs.OwnedBytes.{IsByWords, Keeps}
@@ -141,32 +141,29 @@ error_kept m n number text same sound others short e =
     system_kept m n same sound others (λ a out. ap (λ (b : Bytes). b.at a) e
     ∙ outside_bytes (with_word_at (byte_at m) 0x01C02100 number) a text short out ∙ outside_word (byte_at m) a number out)
 
--- the parts of a machine after a call that kept every list, and that isn't as it was made
-pub well_kept : (old new : Parts) → IsWellFormed old → IsKept old.map new.map → layout new.map ≡ layout old.map → class_of new.map ≡ class_of old.map
-    → new.is_fresh ≡ false → new.sizes ≡ old.sizes → IsWellFormed new
-well_kept old new well kept same marks stepped sizes = record {
-  sound = kept.sound;
-  classes = classes_same old.map new.map (ap (λ (s : Store). s.heaps) kept.store) (λ a i. marks i a) well.classes;
-  others = ap (λ (s : Store). s.others) kept.store ∙ well.others;
-  mapped = λ a. ap (λ (f : ℕ → Bool). f a) (is_mapped-layout old.map new.map same) ∙ well.mapped a ∙ ap (λ (s : Sizes). is_start_mapped s a) (sym sizes);
-  pool = ap (λ (l : Layout). l.free_pages + (new.sizes.app + new.sizes.rma + 3)) same ∙ ap (λ (s : Sizes). free_pages old.map + (s.app + s.rma + 3)) sizes ∙ well.pool ∙ ap (λ (s : Sizes). s.pages) (sym sizes);
-  fresh = λ e. absurd (true≢false (sym e ∙ stepped));
+kept_classes : (m n : AddressMap) → IsKept m n → class_of n ≡ class_of m → AreClasses m → AreClasses n
+kept_classes m n kept marks same = classes_same m n (ap (λ (s : Store). s.heaps) kept.store) (λ a i. marks i a) same
+
+-- the parts of a machine after a call that kept what is mapped and the other records
+pub well_by : (old new : Parts) → IsWellFormed old → IsSound (store_of new.map) → AreClasses new.map → (store_of new.map).others ≡ (store_of old.map).others
+    → place new.map ≡ place old.map → free_pages new.map ≡ free_pages old.map → new.sizes ≡ old.sizes
+    → (new.is_fresh ≡ true → state_of new ≡ start_of new.sizes) → IsWellFormed new
+well_by old new well sound classes others same pages sizes fresh = record {
+  sound = sound;
+  classes = classes;
+  others = others ∙ well.others;
+  mapped = λ a. ap (λ (f : ℕ → Option ℕ). is_some (f a)) same ∙ well.mapped a ∙ ap (λ (s : Sizes). is_start_mapped s a) (sym sizes);
+  pool = ap (λ (n : ℕ). n + (new.sizes.app + new.sizes.rma + 3)) pages ∙ ap (λ (s : Sizes). free_pages old.map + (s.app + s.rma + 3)) sizes
+      ∙ well.pool ∙ ap (λ (s : Sizes). s.pages) (sym sizes);
+  fresh = fresh;
 }
 
--- the same where memory stays
-pub well_changed : (old new : Parts) → IsWellFormed old → new.map ≡ old.map → new.is_fresh ≡ false → new.sizes ≡ old.sizes → IsWellFormed new
-well_changed old new well map stepped sizes =
-    let pool : free_pages new.map + (new.sizes.app + new.sizes.rma + 3) ≡ new.sizes.pages =
-    ap (λ (m : AddressMap). free_pages m + (new.sizes.app + new.sizes.rma + 3)) map
-    ∙ ap (λ (s : Sizes). free_pages old.map + (s.app + s.rma + 3)) sizes ∙ well.pool ∙ ap (λ (s : Sizes). s.pages) (sym sizes) in
-    record {
-      sound = subst (λ (m : AddressMap). IsSound (store_of m)) (sym map) well.sound;
-      classes = subst AreClasses (sym map) well.classes;
-      others = ap (λ (m : AddressMap). (store_of m).others) map ∙ well.others;
-      mapped = λ a. ap (λ (m : AddressMap). is_mapped m a) map ∙ well.mapped a ∙ ap (λ (s : Sizes). is_start_mapped s a) (sym sizes);
-      pool = pool;
-      fresh = λ e. absurd (true≢false (sym e ∙ stepped));
-    }
+-- the same after a call that kept every list, of a machine that isn't as it was made
+pub well_kept : (old new : Parts) → IsWellFormed old → IsKept old.map new.map → layout new.map ≡ layout old.map → class_of new.map ≡ class_of old.map
+    → new.is_fresh ≡ false → new.sizes ≡ old.sizes → IsWellFormed new
+well_kept old new well kept same marks stepped sizes =
+    well_by old new well kept.sound (kept_classes old.map new.map kept marks well.classes) (ap (λ (s : Store). s.others) kept.store) (layout-place _ _ same) (ap (λ (l : Layout). l.free_pages) same) sizes
+    (λ e. absurd (true≢false (sym e ∙ stepped)))
 
 -- the application space holds the program of the written machine
 pub boots : (m n : AddressMap) (cpu : State) (halt : Option Halt) (s : Sizes) (is_fresh : Bool) (program : List ℕ) → is_fresh ≡ true
@@ -206,14 +203,9 @@ short_name e = search rules
 -- the same of a machine that may be as it was made, where nothing changed
 pub well_same : (old new : Parts) → IsWellFormed old → IsKept old.map new.map → layout new.map ≡ layout old.map → class_of new.map ≡ class_of old.map
     → state_of new ≡ state_of old → new.is_fresh ≡ old.is_fresh → new.sizes ≡ old.sizes → IsWellFormed new
-well_same old new well kept same marks state fresh sizes = record {
-  sound = kept.sound;
-  classes = classes_same old.map new.map (ap (λ (s : Store). s.heaps) kept.store) (λ a i. marks i a) well.classes;
-  others = ap (λ (s : Store). s.others) kept.store ∙ well.others;
-  mapped = λ a. ap (λ (f : ℕ → Bool). f a) (is_mapped-layout old.map new.map same) ∙ well.mapped a ∙ ap (λ (s : Sizes). is_start_mapped s a) (sym sizes);
-  pool = ap (λ (l : Layout). l.free_pages + (new.sizes.app + new.sizes.rma + 3)) same ∙ ap (λ (s : Sizes). free_pages old.map + (s.app + s.rma + 3)) sizes ∙ well.pool ∙ ap (λ (s : Sizes). s.pages) (sym sizes);
-  fresh = λ e. state ∙ well.fresh (sym fresh ∙ e) ∙ ap start_of (sym sizes);
-}
+well_same old new well kept same marks state fresh sizes =
+    well_by old new well kept.sound (kept_classes old.map new.map kept marks well.classes) (ap (λ (s : Store). s.others) kept.store) (layout-place _ _ same) (ap (λ (l : Layout). l.free_pages) same) sizes
+    (λ e. state ∙ well.fresh (sym fresh ∙ e) ∙ ap start_of (sym sizes))
 
 pub refused_same : {S E : Type 0} (old new : S) (r : Result S E) (e : E) → Leaves {U = Unit {0}} old r (Err e) new → new ≡ old
 refused_same old new (Ok s) e left = absurd left

@@ -6,5 +6,5 @@ pub mod Quiet
 pub mod RunLoop
 pub mod Runs
 pub mod Starting
-pub mod Texts
+pub mod StringLemmas
 pub mod Turning

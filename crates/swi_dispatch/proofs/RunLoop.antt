@@ -12,21 +12,21 @@ use Rattle.image_loader.specs.Entries.{Entry}
 use Rattle.swi_dispatch.specs.declared.halt.Halt.{Halt}
 use Rattle.swi_dispatch.specs.MachineState.{MachineState, Outcome, stop_of}
 use Rattle.swi_dispatch.specs.Step.{machine_step}
-use Rattle.swi_dispatch.specs.Run.{Run, resting, joined, is_among, go_on, begun, ran, then_run, later, last_or, quiet_run, stop_after, count_after}
+use Rattle.swi_dispatch.specs.Run.{Run, resting, joined, is_among, go_on, run_unless_halted, ran, then_run, later, last_or, quiet_run, stop_after, count_after}
 use Rattle.swi_dispatch.specs.Ending.{Ends, StandsAfter}
 use Rattle.swi_dispatch.proofs.Runs.{halt-no_budget, runs_on}
 
 -- a halted machine takes no step
 pub ran-halted : (images : List Entry) (breaks : List ℕ) (n : ℕ) (s : MachineState) (h : Halt) → s.halt ≡ Some h → ran images breaks n s ≡ resting s (stop_of h)
 unfolding ran
-ran-halted images breaks zero s h e = ap (λ (o : Option Halt). begun s o (resting s stop.Budget)) e
+ran-halted images breaks zero s h e = ap (λ (o : Option Halt). run_unless_halted s o (resting s stop.Budget)) e
 ran-halted images breaks (suc n) s h e =
-    ap (λ (o : Option Halt). begun s o (go_on breaks (machine_step images s) (machine_step images s).now.halt (ran images breaks n))) e
+    ap (λ (o : Option Halt). run_unless_halted s o (go_on breaks (machine_step images s) (machine_step images s).now.halt (ran images breaks n))) e
 
 -- the run of no step
 pub ran-none : (images : List Entry) (breaks : List ℕ) (s : MachineState) → s.halt ≡ None → ran images breaks zero s ≡ resting s stop.Budget
 unfolding ran
-ran-none images breaks s e = ap (λ (o : Option Halt). begun s o (resting s stop.Budget)) e
+ran-none images breaks s e = ap (λ (o : Option Halt). run_unless_halted s o (resting s stop.Budget)) e
 
 -- the run of one step, by what the step left
 abbrev pub one_step : List ℕ → Outcome → Option Halt → Run
@@ -48,12 +48,12 @@ one_go images breaks a None e = one_branch (is_among breaks a.now.cpu.pc) a.now 
 pub one_run : (images : List Entry) (breaks : List ℕ) (s : MachineState) → s.halt ≡ None → ran images breaks 1 s ≡ one_step breaks (machine_step images s) (machine_step images s).now.halt
 unfolding ran
 one_run images breaks s e =
-    ap (λ (o : Option Halt). begun s o (go_on breaks (machine_step images s) (machine_step images s).now.halt (ran images breaks zero))) e
+    ap (λ (o : Option Halt). run_unless_halted s o (go_on breaks (machine_step images s) (machine_step images s).now.halt (ran images breaks zero))) e
     ∙ one_go images breaks (machine_step images s) (machine_step images s).now.halt refl
 
 -- a run that ended for another reason than its budget goes no further
 start_stays : (images : List Entry) (breaks : List ℕ) (s : MachineState) (o : Option Halt) (m : ℕ) → s.halt ≡ o
-    → (begun s o (resting s stop.Budget)).stop ≢ stop.Budget → ran images breaks m s ≡ begun s o (resting s stop.Budget)
+    → (run_unless_halted s o (resting s stop.Budget)).stop ≢ stop.Budget → ran images breaks m s ≡ run_unless_halted s o (resting s stop.Budget)
 start_stays images breaks s (Some h) m e other = ran-halted images breaks m s h e
 start_stays images breaks s None m e other = absurd (other refl)
 
@@ -67,8 +67,8 @@ branch_stays false now printed r r' h other = ap (joined printed (Some printed) 
 
 step_stays : (breaks : List ℕ) (s : MachineState) (o : Option Halt) (a : Outcome) (ao : Option Halt) (rest rest' : MachineState → Run)
     → ((x : MachineState) → (rest x).stop ≢ stop.Budget → rest' x ≡ rest x)
-    → (begun s o (go_on breaks a ao rest)).stop ≢ stop.Budget
-    → begun s o (go_on breaks a ao rest') ≡ begun s o (go_on breaks a ao rest)
+    → (run_unless_halted s o (go_on breaks a ao rest)).stop ≢ stop.Budget
+    → run_unless_halted s o (go_on breaks a ao rest') ≡ run_unless_halted s o (go_on breaks a ao rest)
 step_stays breaks s (Some h) a ao rest rest' stays other = refl
 step_stays breaks s None a (Some h) rest rest' stays other = refl
 step_stays breaks s None a None rest rest' stays other =
@@ -162,11 +162,6 @@ pub stands_one : (images : List Entry) (breaks : List ℕ) (s : MachineState) (a
 stands_one images breaks s a awake after =
     let e : one_step breaks a a.now.halt ≡ ran images breaks 1 s = ap (λ (b : Outcome). one_step breaks b b.now.halt) after ∙ sym (one_run images breaks s awake) in
     (ap (λ (r : Run). r.now) e, ap (λ (r : Run). r.last) e)
-
--- a run of one step that ends with its budget leaves the machine awake
-pub awake_one : (breaks : List ℕ) (s : MachineState) (o : Option Halt) → stop_after breaks s o ≡ stop.Budget → o ≡ None
-awake_one breaks s (Some h) e = absurd (halt-no_budget h e)
-awake_one breaks s None e = refl
 
 pub ends_stopped : (images : List Entry) (breaks : List ℕ) (budget : ℕ) (s : MachineState) (h : Option Halt) (x : Stop) (o : List ℕ) (c : Option (List ℕ))
     → s.halt ≡ h → Some x ≡ option_map stop_of h → Appends c c [] → Ends (ran images breaks budget s) s o o c c 0 x

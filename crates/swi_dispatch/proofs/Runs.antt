@@ -7,7 +7,7 @@ use Rattle.swi_dispatch.specs.declared.halt.Halt.{Halt}
 use Rattle.swi_dispatch.specs.declared.halt.Halt.TheVariants as halt
 use Rattle.swi_dispatch.specs.MachineState.{MachineState, Outcome, stop_of}
 use Rattle.swi_dispatch.specs.Step.{machine_step}
-use Rattle.swi_dispatch.specs.Run.{Run, resting, later, joined, is_among, go_on, begun, ran, then_run, RunsOn}
+use Rattle.swi_dispatch.specs.Run.{Run, resting, later, joined, is_among, go_on, run_unless_halted, ran, then_run, RunsOn}
 
 -- the stop that a machine keeps is no budget
 pub halt-no_budget : (h : Halt) → stop_of h ≡ stop.Budget → ⊥
@@ -46,16 +46,16 @@ branch_adds false now printed r r' more h e = ap (joined printed (Some printed) 
 
 pub step_adds : (breaks : List ℕ) (s : MachineState) (o : Option Halt) (a : Outcome) (ao : Option Halt) (rest rest' more : MachineState → Run)
     → ((x : MachineState) → (rest x).stop ≡ stop.Budget → rest' x ≡ then_run (rest x) (more (rest x).now))
-    → (begun s o (go_on breaks a ao rest)).stop ≡ stop.Budget
-    → begun s o (go_on breaks a ao rest') ≡ then_run (begun s o (go_on breaks a ao rest)) (more (begun s o (go_on breaks a ao rest)).now)
+    → (run_unless_halted s o (go_on breaks a ao rest)).stop ≡ stop.Budget
+    → run_unless_halted s o (go_on breaks a ao rest') ≡ then_run (run_unless_halted s o (go_on breaks a ao rest)) (more (run_unless_halted s o (go_on breaks a ao rest)).now)
 step_adds breaks s (Some h) a ao rest rest' more adds e = absurd (halt-no_budget h e)
 step_adds breaks s None a (Some h) rest rest' more adds e = absurd (halt-no_budget h e)
 step_adds breaks s None a None rest rest' more adds e =
     branch_adds (is_among breaks a.now.cpu.pc) a.now a.printed (rest a.now) (rest' a.now) more (adds a.now) e
 
 pub start_adds : (s : MachineState) (o : Option Halt) (more : MachineState → Run)
-    → (begun s o (resting s stop.Budget)).stop ≡ stop.Budget
-    → more s ≡ then_run (begun s o (resting s stop.Budget)) (more (begun s o (resting s stop.Budget)).now)
+    → (run_unless_halted s o (resting s stop.Budget)).stop ≡ stop.Budget
+    → more s ≡ then_run (run_unless_halted s o (resting s stop.Budget)) (more (run_unless_halted s o (resting s stop.Budget)).now)
 start_adds s (Some h) more e = absurd (halt-no_budget h e)
 start_adds s None more e = sym (then_run-resting s stop.Budget (more s))
 

@@ -78,7 +78,3 @@ unfolding start_of
 fresh_awake s sizes false o start e some = refl
 fresh_awake s sizes true None start e some = cc
 fresh_awake s sizes true (Some h) start e some = let k : s.halt ≡ None = ap (λ (t : MachineState). t.halt) (start refl) in cc
-
--- the application space is mapped
-pub application_mapped : (s : Sizes) (len a : ℕ) → len ≤ 4096 * s.app → 0x8000 ≤ a → a < 0x8000 + len → is_start_mapped s a ≡ true
-application_mapped s len a room low high = grind (arith, nat_tests)

@@ -15,7 +15,7 @@ use Rattle.swi_dispatch.specs.declared.refusal.Refusal.{Refusal}
 use Rattle.swi_dispatch.specs.declared.refusal.Refusal.TheVariants as refusal
 use Rattle.swi_dispatch.specs.declared.strings.TextEnd.TheVariants as end
 use Rattle.swi_dispatch.specs.MachineState.{MachineState, Outcome, quiet}
-use Rattle.swi_dispatch.specs.Texts.{ends, text_at, next_word}
+use Rattle.swi_dispatch.specs.Strings.{ends, text_at, next_word}
 
 -- What a call answers: what it leaves, the machine but for what every call does to the core and the bytes printed, where the guest goes on, and the
 -- error, if there is one. So a call may change something and err.

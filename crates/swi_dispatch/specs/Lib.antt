@@ -7,4 +7,4 @@ pub mod MachineState
 pub mod Parts
 pub mod Run
 pub mod Step
-pub mod Texts
+pub mod Strings

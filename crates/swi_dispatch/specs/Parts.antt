@@ -1,5 +1,5 @@
 -- The parts of the real machine, and the written machine that they stand for.
-use Rattle.std.specs.Prelude.{◌≡◌, ◌+◌, ℕ, Bool, true, Option, Some, None, Result, Ok, Err, List, [], ◌∷◌}
+use Rattle.std.specs.Prelude.{◌≡◌, ◌+◌, ℕ, Bool, true, false, Option, Some, None, Result, Ok, Err, List, [], ◌∷◌}
 use Rattle.profile.specs.Sizes.{Sizes}
 use Rattle.address_map.specs.declared.map.AddressMap.{AddressMap}
 use Rattle.address_map.specs.Memory.{is_mapped, free_pages}
@@ -43,8 +43,19 @@ pub record IsWellFormed (p : Parts) : Type 0 where
   pub pool : free_pages p.map + (p.sizes.app + p.sizes.rma + 3) ≡ p.sizes.pages
   pub fresh : p.is_fresh ≡ true → state_of p ≡ start_of p.sizes
 
+-- a step is under way, and has printed nothing yet
+pub record IsInStep (p : Parts) : Type 0 where
+  pub stepped : p.is_fresh ≡ false
+  pub printed : p.printed ≡ []
+
 -- what no step touches
 pub record OnlySteps (old new : Parts) : Type 0 where
+  pub fresh : new.is_fresh ≡ old.is_fresh
+  pub sizes : new.sizes ≡ old.sizes
+
+-- what a part of a step leaves alone that changes nothing but the written machine
+pub record OnlyState (old new : Parts) : Type 0 where
+  pub printed : new.printed ≡ old.printed
   pub fresh : new.is_fresh ≡ old.is_fresh
   pub sizes : new.sizes ≡ old.sizes
 

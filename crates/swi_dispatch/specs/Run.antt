@@ -43,14 +43,14 @@ go_on breaks a None rest = if is_among breaks a.now.cpu.pc
     then record { now = a.now; printed = a.printed; last = Some a.printed; taken = 1; stop = stop.Break a.now.cpu.pc }
     else joined a.printed (Some a.printed) 1 (rest a.now)
 
-abbrev pub begun : MachineState → Option Halt → Run → Run
-begun s (Some h) r = resting s (stop_of h)
-begun s None r = r
+abbrev pub run_unless_halted : MachineState → Option Halt → Run → Run
+run_unless_halted s (Some h) r = resting s (stop_of h)
+run_unless_halted s None r = r
 
 unfoldable pub ran : List Entry → List ℕ → ℕ → MachineState → Run
-ran images breaks zero s = begun s s.halt (resting s stop.Budget)
+ran images breaks zero s = run_unless_halted s s.halt (resting s stop.Budget)
 ran images breaks (suc n) s =
-    begun s s.halt (go_on breaks (machine_step images s) (machine_step images s).now.halt (ran images breaks n))
+    run_unless_halted s s.halt (go_on breaks (machine_step images s) (machine_step images s).now.halt (ran images breaks n))
 
 -- one run and then another from where it stopped
 abbrev pub then_run : Run → Run → Run

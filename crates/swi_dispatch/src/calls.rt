@@ -14,7 +14,7 @@ use profile::{ErrorNumber, SwiName};
 
 impl Machine {
     ghost use Rattle.swi_dispatch.specs.MachineState.{quiet};
-    ghost use Rattle.swi_dispatch.specs.Parts.{state_of, outcome_of, OnlySteps, Answers};
+    ghost use Rattle.swi_dispatch.specs.Parts.{state_of, outcome_of, IsInStep, OnlySteps, OnlyState, Answers};
     ghost use Rattle.swi_dispatch.specs.Calls.{call_answer, wrote_text_after, wrote_text_at, printable_at, with_answer, in_supervisor};
     ghost use Rattle.swi_dispatch.specs.Step.{called, gone_back};
     ghost use Rattle.arm_step.specs.State.{register_of};
@@ -23,8 +23,7 @@ impl Machine {
     /// guest, and `next` where the guest goes on.
     #[tactic(auto, using(crate::proofs::Answering::ended_done, crate::proofs::Answering::ended_error), unfolding(crate::specs::Step::called))]
     pub(crate) fn call(&mut self, is_x: bool, next: u32, number: u32)
-        requires printed { self.old.printed ≡ [] }
-        requires stepped { self.old.is_fresh ≡ false }
+        requires step { IsInStep self.old }
         requires next { next < 2 ^ 26 }
         ensures after { outcome_of self.new ≡ called (state_of self.old) is_x next number }
         ensures others { OnlySteps self.old self.new }
@@ -43,8 +42,7 @@ impl Machine {
     // What the call itself does. Answers where the guest goes on.
     #[tactic(auto, unfolding(crate::specs::Calls::call_answer))]
     fn perform(&mut self, next: u32, number: u32, name: Option<SwiName>) -> Result<u32, Refusal>
-        requires printed { self.old.printed ≡ [] }
-        requires stepped { self.old.is_fresh ≡ false }
+        requires step { IsInStep self.old }
         requires next { next < 2 ^ 26 }
         ensures done { Answers (call_answer (state_of self.old) next number name) next result (outcome_of self.new) }
         ensures unmoved { OnErr result (outcome_of self.new ≡ quiet (state_of self.old)) }
@@ -105,8 +103,7 @@ impl Machine {
         requires number { number ≤ 14 }
         requires stepped { self.old.is_fresh ≡ false }
         ensures state { state_of self.new ≡ with_answer (state_of self.old) number value }
-        ensures printed { self.new.printed ≡ self.old.printed }
-        ensures others { OnlySteps self.old self.new }
+        ensures others { OnlyState self.old self.new }
     {
         self.cpu.set_register(number, value);
     }
@@ -115,16 +112,14 @@ impl Machine {
     fn enter_supervisor(&mut self)
         requires stepped { self.old.is_fresh ≡ false }
         ensures state { state_of self.new ≡ in_supervisor (state_of self.old) }
-        ensures printed { self.new.printed ≡ self.old.printed }
-        ensures others { OnlySteps self.old self.new }
+        ensures others { OnlyState self.old self.new }
     {
         self.cpu.set_mode(Mode::Supervisor);
     }
 
     // OS_WriteS: the text stands after the instruction.
     fn write_text_after(&mut self, next: u32) -> Result<u32, Refusal>
-        requires printed { self.old.printed ≡ [] }
-        requires stepped { self.old.is_fresh ≡ false }
+        requires step { IsInStep self.old }
         ensures done { Answers (wrote_text_after (state_of self.old) next (printable_at (state_of self.old).store.bytes next))
             next result (outcome_of self.new) }
         ensures unmoved { OnErr result (outcome_of self.new ≡ quiet (state_of self.old)) }
@@ -140,8 +135,7 @@ impl Machine {
 
     // OS_Write0: R0 points to the text.
     fn write_text(&mut self, next: u32) -> Result<u32, Refusal>
-        requires printed { self.old.printed ≡ [] }
-        requires stepped { self.old.is_fresh ≡ false }
+        requires step { IsInStep self.old }
         ensures done { let at = register_of (state_of self.old).cpu 0 in
             Answers (wrote_text_at (state_of self.old) next at (printable_at (state_of self.old).store.bytes at))
             next result (outcome_of self.new) }
@@ -163,15 +157,15 @@ impl Machine {
     pub(crate) fn go_back(&mut self, caller: Psr, is_refused: bool, next: u32)
         requires stepped { self.old.is_fresh ≡ false }
         ensures state { state_of self.new ≡ gone_back caller (state_of self.old) is_refused next }
-        ensures printed { self.new.printed ≡ self.old.printed }
-        ensures others { OnlySteps self.old self.new }
+        ensures others { OnlyState self.old self.new }
     {
-        go_back(&mut self.cpu, caller, is_refused, next);
+        return_to(&mut self.cpu, caller, is_refused, next);
     }
 }
 
+// The return address, with the caller's status, goes to the link register of supervisor mode.
 #[tactic(auto, unfolding(crate::specs::Step::returned))]
-fn go_back(cpu: &mut Cpu, caller: Psr, is_refused: bool, next: u32)
+fn return_to(cpu: &mut Cpu, caller: Psr, is_refused: bool, next: u32)
     ensures { cpu.new ≡ returned caller cpu.old is_refused next }
 {
     let address = next % ADDRESS_LIMIT / 4 * 4;

@@ -1,7 +1,7 @@
 //! Errors: how a call that errs ends, and the block that the error stands in (RISC OS 3 Programmer's Reference Manual, "Generating and
 //! handling errors").
 
-ghost use Rattle.std.specs.Prelude.{◌≡◌, false, true, [], Some};
+ghost use Rattle.std.specs.Prelude.{ℕ, ◌≡◌, false, true};
 ghost use Rattle.profile.specs.ErrorNames.{error_code, error_name};
 ghost use Rattle.address_map.specs.Bytes.{AreMapped};
 ghost use Rattle.address_map.specs.Memory.{bytes_of, is_mapped, layout, class_of};
@@ -16,11 +16,12 @@ use profile::memory_map::ERROR_BLOCK;
 use profile::{ErrorNumber, Fault, error_text};
 
 impl Machine {
-    ghost use Rattle.swi_dispatch.specs.Parts.{state_of, outcome_of, OnlySteps};
+    ghost use Rattle.swi_dispatch.specs.Parts.{state_of, outcome_of, IsInStep, OnlySteps, OnlyState};
     ghost use Rattle.swi_dispatch.specs.Calls.{generated};
     ghost use Rattle.swi_dispatch.specs.Errors.{error_number, with_error};
     ghost use Rattle.swi_dispatch.specs.Step.{gone_back, error_answered, erred};
     ghost use Rattle.arm_step.specs.State.{register_of};
+    ghost use Rattle.arm_step.specs.declared.psr.Psr.{Psr};
 
     /// The number of the error that R0 points to, or that of `BadPointer` where no block can stand there.
     #[tactic(auto, unfolding(crate::specs::Errors::error_at))]
@@ -37,33 +38,33 @@ impl Machine {
 
     /// A call that errs goes back with its error, or is a fault, and then nothing is changed.
     pub(crate) fn end_with_error(&mut self, is_x: bool, caller: Psr, next: u32, refusal: Refusal)
-        requires printed { self.old.printed ≡ [] }
-        requires stepped { self.old.is_fresh ≡ false }
+        requires step { IsInStep self.old }
         ensures after { outcome_of self.new ≡ erred (state_of self.old) is_x
             (error_answered caller (outcome_of self.old) next refusal) }
         ensures others { OnlySteps self.old self.new }
     {
         if !is_x {
-            let number = self.number_of(caller, next, refusal);
+            let number = self.answered_number(refusal);
             return self.halt_with(Halt::Fault(Fault::ErrorStop(number)));
         }
         self.point_to_error(refusal);
         self.go_back(caller, true, next);
     }
 
-    // The number that R0 would point to once an error is answered.
-    fn number_of(&self, caller: Psr, next: u32, refusal: Refusal) -> u32
-        ensures { result ≡ error_number (gone_back caller (with_error (state_of self.now) refusal) true next) }
+    // The number that R0 would point to once an error is answered, wherever the guest goes on.
+    fn answered_number(&self, refusal: Refusal) -> u32
+        ensures { (caller : Psr) (next : ℕ) → result
+            ≡ error_number (gone_back caller (with_error (state_of self.now) refusal) true next) }
     {
         match refusal {
-            Refusal::System(error) => self.system_number(caller, next, error),
-            Refusal::Own => self.own_number(caller, next),
+            Refusal::System(error) => self.system_number(error),
+            Refusal::Own => self.own_number(),
         }
     }
 
     // The error block would hold the system's error.
-    fn system_number(&self, caller: Psr, next: u32, error: ErrorNumber) -> u32
-        ensures { result
+    fn system_number(&self, error: ErrorNumber) -> u32
+        ensures { (caller : Psr) (next : ℕ) → result
             ≡ error_number (gone_back caller (with_error (state_of self.now) (Refusal.System error)) true next) }
     {
         self.cpu.has_all_registers();
@@ -71,9 +72,8 @@ impl Machine {
     }
 
     // R0 points to the guest's own error already.
-    #[tactic(auto, using(crate::proofs::ErrorNumbers::number_kept))]
-    fn own_number(&self, caller: Psr, next: u32) -> u32
-        ensures { result ≡ error_number (gone_back caller (state_of self.now) true next) }
+    fn own_number(&self) -> u32
+        ensures { (caller : Psr) (next : ℕ) → result ≡ error_number (gone_back caller (state_of self.now) true next) }
     {
         self.error_number()
     }
@@ -95,8 +95,7 @@ impl Machine {
     fn point_to_error(&mut self, refusal: Refusal)
         requires stepped { self.old.is_fresh ≡ false }
         ensures state { state_of self.new ≡ with_error (state_of self.old) refusal }
-        ensures printed { self.new.printed ≡ self.old.printed }
-        ensures others { OnlySteps self.old self.new }
+        ensures others { OnlyState self.old self.new }
     {
         match refusal {
             Refusal::System(error) => self.put_error(error),
@@ -108,16 +107,15 @@ impl Machine {
     fn put_error(&mut self, error: ErrorNumber)
         requires stepped { self.old.is_fresh ≡ false }
         ensures state { state_of self.new ≡ with_error (state_of self.old) (Refusal.System error) }
-        ensures printed { self.new.printed ≡ self.old.printed }
-        ensures others { OnlySteps self.old self.new }
+        ensures others { OnlyState self.old self.new }
     {
         self.cpu.set_register(0, ERROR_BLOCK);
-        put_error(&mut self.memory, error);
+        write_error(&mut self.memory, error);
     }
 }
 
 // The number and the text of an error, with a zero byte after it, go to the error block.
-fn put_error(memory: &mut AddressMap, error: ErrorNumber)
+fn write_error(memory: &mut AddressMap, error: ErrorNumber)
     requires { AreMapped (is_mapped memory.old) 0x01C02100 256 }
     ensures bytes { bytes_of memory.new ≡ error_block (bytes_of memory.old) (error_code error) (error_name error) }
     ensures layout { layout memory.new ≡ layout memory.old }

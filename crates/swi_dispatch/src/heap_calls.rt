@@ -8,7 +8,7 @@ use crate::refusal::Refusal;
 use profile::ErrorNumber;
 
 impl Machine {
-    ghost use Rattle.swi_dispatch.specs.Parts.{state_of, OnlySteps};
+    ghost use Rattle.swi_dispatch.specs.Parts.{state_of, OnlyState};
     ghost use Rattle.swi_dispatch.specs.Calls.{heap_called, heap_began, heap_described, heap_got, heap_freed, heap_resized, heap_changed, heap_sized};
 
     /// A heap call by its reason in R0. The heap is in R1, a block in R2, a size or a change of one in R3.
@@ -16,8 +16,7 @@ impl Machine {
     pub(crate) fn call_heap(&mut self) -> Result<(), Refusal>
         requires stepped { self.old.is_fresh ≡ false }
         ensures state { Leaves (state_of self.old) (heap_called (state_of self.old)) result (state_of self.new) }
-        ensures printed { self.new.printed ≡ self.old.printed }
-        ensures others { OnlySteps self.old self.new }
+        ensures others { OnlyState self.old self.new }
     {
         match self.cpu().register(0) {
             0 => self.init_heap(),
@@ -35,8 +34,7 @@ impl Machine {
     fn init_heap(&mut self) -> Result<(), Refusal>
         requires stepped { self.old.is_fresh ≡ false }
         ensures state { Leaves (state_of self.old) (heap_began (state_of self.old)) result (state_of self.new) }
-        ensures printed { self.new.printed ≡ self.old.printed }
-        ensures others { OnlySteps self.old self.new }
+        ensures others { OnlyState self.old self.new }
     {
         let heap = self.cpu.register(1);
         let size = self.cpu.register(3);
@@ -48,8 +46,7 @@ impl Machine {
     fn describe_heap(&mut self) -> Result<(), Refusal>
         requires stepped { self.old.is_fresh ≡ false }
         ensures state { Leaves (state_of self.old) (heap_described (state_of self.old)) result (state_of self.new) }
-        ensures printed { self.new.printed ≡ self.old.printed }
-        ensures others { OnlySteps self.old self.new }
+        ensures others { OnlyState self.old self.new }
     {
         let heap = self.cpu.register(1);
         let (largest, free) = self.heaps.describe(&self.memory, heap).answer?;
@@ -62,8 +59,7 @@ impl Machine {
     fn get_block(&mut self) -> Result<(), Refusal>
         requires stepped { self.old.is_fresh ≡ false }
         ensures state { Leaves (state_of self.old) (heap_got (state_of self.old)) result (state_of self.new) }
-        ensures printed { self.new.printed ≡ self.old.printed }
-        ensures others { OnlySteps self.old self.new }
+        ensures others { OnlyState self.old self.new }
     {
         let heap = self.cpu.register(1);
         let wanted = self.cpu.register(3);
@@ -76,8 +72,7 @@ impl Machine {
     fn free_block(&mut self) -> Result<(), Refusal>
         requires stepped { self.old.is_fresh ≡ false }
         ensures state { Leaves (state_of self.old) (heap_freed (state_of self.old)) result (state_of self.new) }
-        ensures printed { self.new.printed ≡ self.old.printed }
-        ensures others { OnlySteps self.old self.new }
+        ensures others { OnlyState self.old self.new }
     {
         let heap = self.cpu.register(1);
         let block = self.cpu.register(2);
@@ -89,8 +84,7 @@ impl Machine {
     fn resize_block(&mut self) -> Result<(), Refusal>
         requires stepped { self.old.is_fresh ≡ false }
         ensures state { Leaves (state_of self.old) (heap_resized (state_of self.old)) result (state_of self.new) }
-        ensures printed { self.new.printed ≡ self.old.printed }
-        ensures others { OnlySteps self.old self.new }
+        ensures others { OnlyState self.old self.new }
     {
         let heap = self.cpu.register(1);
         let block = self.cpu.register(2);
@@ -105,8 +99,7 @@ impl Machine {
     fn change_heap(&mut self) -> Result<(), Refusal>
         requires stepped { self.old.is_fresh ≡ false }
         ensures state { Leaves (state_of self.old) (heap_changed (state_of self.old)) result (state_of self.new) }
-        ensures printed { self.new.printed ≡ self.old.printed }
-        ensures others { OnlySteps self.old self.new }
+        ensures others { OnlyState self.old self.new }
     {
         let heap = self.cpu.register(1);
         let change = self.cpu.register(3);
@@ -118,8 +111,7 @@ impl Machine {
     fn size_block(&mut self) -> Result<(), Refusal>
         requires stepped { self.old.is_fresh ≡ false }
         ensures state { Leaves (state_of self.old) (heap_sized (state_of self.old)) result (state_of self.new) }
-        ensures printed { self.new.printed ≡ self.old.printed }
-        ensures others { OnlySteps self.old self.new }
+        ensures others { OnlyState self.old self.new }
     {
         let heap = self.cpu.register(1);
         let block = self.cpu.register(2);

@@ -53,7 +53,7 @@ impl Model for Machine {
 
 impl Machine {
     ghost use Rattle.address_map.specs.Memory.{bytes_of};
-    ghost use Rattle.swi_dispatch.specs.Parts.{state_of, outcome_of, OnlySteps, TakesTurn, IsWellFormed};
+    ghost use Rattle.swi_dispatch.specs.Parts.{state_of, outcome_of, IsInStep, OnlySteps, OnlyState, TakesTurn, IsWellFormed};
     ghost use Rattle.swi_dispatch.specs.MachineState.{start_of, stop_of, quiet};
     ghost use Rattle.swi_dispatch.specs.Boot.{booted, registered, poked};
     ghost use Rattle.swi_dispatch.specs.Step.{machine_step, store_called, swi_called, halted, turn_end};
@@ -270,16 +270,14 @@ impl Machine {
         requires { self.old.is_fresh ≡ false }
         ensures turn { TakesTurn (state_of self.old) result (state_of self.new) }
         ensures well_formed { IsWellFormed self.new }
-        ensures printed { self.new.printed ≡ self.old.printed }
-        ensures others { OnlySteps self.old self.new }
+        ensures others { OnlyState self.old self.new }
     {
         step(&mut self.cpu, &mut self.memory)
     }
 
     // What a turn of the core leaves to the machine.
     fn after_turn(&mut self, turn: Turn)
-        requires printed { self.old.printed ≡ [] }
-        requires stepped { self.old.is_fresh ≡ false }
+        requires step { IsInStep self.old }
         ensures after { outcome_of self.new ≡ turn_end (state_of self.old) turn }
         ensures others { OnlySteps self.old self.new }
     {
@@ -293,8 +291,7 @@ impl Machine {
 
     // A call by an instruction; the guest goes on after it.
     fn call_by_instruction(&mut self, number: u32)
-        requires printed { self.old.printed ≡ [] }
-        requires stepped { self.old.is_fresh ≡ false }
+        requires step { IsInStep self.old }
         ensures after { outcome_of self.new ≡ swi_called (state_of self.old) number }
         ensures others { OnlySteps self.old self.new }
     {
@@ -304,8 +301,7 @@ impl Machine {
 
     #[tactic(auto, unfolding(crate::specs::Parts::state_of))]
     pub(crate) fn halt_with(&mut self, halt: Halt)
-        requires printed { self.old.printed ≡ [] }
-        requires stepped { self.old.is_fresh ≡ false }
+        requires step { IsInStep self.old }
         ensures after { outcome_of self.new ≡ halted (state_of self.old) halt }
         ensures others { OnlySteps self.old self.new }
     {

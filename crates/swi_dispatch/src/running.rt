@@ -1,6 +1,6 @@
 ghost use Rattle.std.specs.Prelude.{◌≡◌, ◌&&◌, ◌==◌, ◌≤◌, ◌↔◌, None, Some, [], List, false, true, IsTrue, IfOk, OnOk, OnErr};
 ghost use Rattle.std.specs.Option.{option_map};
-ghost use Rattle.swi_dispatch.specs.Parts.{state_of, IsWellFormed, OnlySteps};
+ghost use Rattle.swi_dispatch.specs.Parts.{state_of, IsWellFormed, OnlyState};
 ghost use Rattle.swi_dispatch.specs.Run.{ran, stop_after, count_after, last_or, quiet_run};
 ghost use Rattle.swi_dispatch.specs.MachineState.{stop_of};
 ghost use Rattle.profile.specs.Output.{AppendsPart};
@@ -112,8 +112,7 @@ impl Machine {
         ensures ran { (images : List Entry) → ran images [] result (state_of self.old) ≡ quiet_run (state_of self.new) result }
         ensures awake { (state_of self.new).halt ≡ None }
         ensures most { result ≤ most }
-        ensures printed { self.new.printed ≡ self.old.printed }
-        ensures others { OnlySteps self.old self.new }
+        ensures others { OnlyState self.old self.new }
         ensures well_formed { IsWellFormed self.new }
     {
         for taken in 0..most {

@@ -3,7 +3,7 @@
 ghost use Rattle.std.specs.Prelude.{◌≡◌, ◌<◌, ◌≤◌, ◌+◌, ◌^◌, length, IfSome};
 ghost use Rattle.std.specs.Option.{option_map};
 ghost use Rattle.address_map.specs.Memory.{bytes_of};
-ghost use Rattle.swi_dispatch.specs.Texts.{ends, text_at, next_word};
+ghost use Rattle.swi_dispatch.specs.Strings.{ends, text_at, next_word};
 
 use address_map::AddressMap;
 use arrayvec::ArrayVec;

@@ -3,7 +3,8 @@
 mod arguments;
 mod heaps;
 
-use crate::{BootError, Breaks, Machine};
+use crate::strings::text_at;
+use crate::{BootError, Breaks, Machine, TextEnd};
 use Line::{
     At, Boot, BootText, Call, Has, Holds, In, Lacks, New, Overflow, Prints, PrintsMany, Put, Run,
     Set, Step, Text,
@@ -193,7 +194,7 @@ fn has_text(rt: &impl Abort, machine: &Machine, address: u32, text: &str) {
     }
 }
 
-static LINES: [Line; 126] = [
+static LINES: [Line; 139] = [
     // the six words: a loop of three turns, and OS_Exit; nothing is written, and a halted machine stays as it is
     Boot(None),
     Run(1_000_000, Stop::Exit, 14, ""),
@@ -276,6 +277,20 @@ static LINES: [Line; 126] = [
     Set(0, 0x9002),
     Call(0x2B, None),
     Holds(0x01C0_2100, 82),
+    // without the X bit the step ends with the number of that block, or with that of a bad pointer, and nothing is written
+    New(256, 64, 16),
+    Put(0x8000, 0xEF00_002B),
+    Put(0x9000, 0x123),
+    Set(0, 0x9000),
+    Step(Some(Stop::Fault(Fault::ErrorStop(0x123)))),
+    Has(0, 0x9000),
+    Holds(0x01C0_2100, 0),
+    New(256, 64, 16),
+    Put(0x8000, 0xEF00_002B),
+    Set(0, 0x9002),
+    Step(Some(Stop::Fault(Fault::ErrorStop(82)))),
+    Has(0, 0x9002),
+    Holds(0x01C0_2100, 0),
     // its block may lie where a heap keeps its records, and in a system page
     New(256, 64, 16),
     Set(0, 0x0180_0004),
@@ -335,6 +350,31 @@ static LINES: [Line; 126] = [
     Step(Some(Stop::Fault(Fault::FetchUnmapped))),
     At(0x0004_8000),
 ];
+
+// "ab", a line end, "cd", zero: how many bytes a string there has
+#[test]
+fn strings_end_and_are_limited(rt: HostRuntime) -> Result<(), Fail> {
+    let mut machine = usual_machine(rt.alloc())?;
+    assert_eq!(rt; machine.boot(b"ab\ncd\0"), Ok(()));
+    let memory = machine.memory();
+    assert_eq!(rt;
+        text_at::<2>(memory, 0x8000, TextEnd::Control).map(|text| text.len()),
+        Some(2)
+    );
+    assert_eq!(rt;
+        text_at::<1>(memory, 0x8000, TextEnd::Control).map(|text| text.len()),
+        None
+    );
+    assert_eq!(rt;
+        text_at::<5>(memory, 0x8000, TextEnd::Zero).map(|text| text.len()),
+        Some(5)
+    );
+    assert_eq!(rt;
+        text_at::<4>(memory, 0x8000, TextEnd::Zero).map(|text| text.len()),
+        None
+    );
+    Ok(())
+}
 
 #[test]
 fn steps_and_calls(rt: HostRuntime) -> Result<(), Fail> {

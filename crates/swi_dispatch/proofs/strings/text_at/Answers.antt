@@ -1,7 +1,7 @@
 use Rattle.std.proofs.Common.{◌≡◌, ◌+◌, ℕ, ◌++◌, [], ◌∷◌, ap, sym, ◌∙◌, subst, arith}
 use Rattle.address_map.specs.Memory.{bytes_of}
-use Rattle.swi_dispatch.specs.Texts.{ends}
-use Rattle.swi_dispatch.proofs.Texts.{IsReading, text_far, reading_start, reading_none, reading_done, reading_long, reading_more, byte_loaded-ok, byte_loaded-err}
+use Rattle.swi_dispatch.specs.Strings.{ends}
+use Rattle.swi_dispatch.proofs.StringLemmas.{IsReading, text_far, reading_start, reading_none, reading_done, reading_long, reading_more, byte_loaded-ok, byte_loaded-err}
 use Rattle.swi_dispatch.proofs.strings.text_at.Goals as goal
 
 pub returns-then-at-ge-ADDRESS_LIMIT-clause-text : goal.returns-then-at-ge-ADDRESS_LIMIT-clause-text

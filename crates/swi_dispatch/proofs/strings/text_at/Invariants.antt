@@ -1,7 +1,7 @@
 use Rattle.std.proofs.Common.{◌<◌, ◌^◌}
 use Rattle.address_map.specs.Memory.{bytes_of}
-use Rattle.swi_dispatch.specs.Texts.{ends}
-use Rattle.swi_dispatch.proofs.Texts.{IsReading}
+use Rattle.swi_dispatch.specs.Strings.{ends}
+use Rattle.swi_dispatch.proofs.StringLemmas.{IsReading}
 use Rattle.swi_dispatch.proofs.strings.text_at.Given as goal
 
 -- the bytes so far are the text's, none of which ends it

@@ -6,5 +6,5 @@ use Rattle.swi_dispatch.proofs.machine.Machine.system_number.Goals as goal
 
 pub returns : goal.returns
 unfolding state_of store_of
-returns c =
-    rw (← c.self.view_is) (c.number.ensures ∙ sym (system_number _ _ _ _ c.self.invariant c.has_all_registers.ensures))
+returns c = λ caller next.
+    rw (← c.self.view_is) (c.number.ensures ∙ sym (system_number _ caller next _ c.self.invariant c.has_all_registers.ensures))

@@ -7,8 +7,7 @@ pub loop-taken-init : goal.loop-taken-init
 loop-taken-init c = record {
   ran = λ images. quiet_start images _ c.requires.awake;
   awake = c.requires.awake;
-  printed = refl;
-  others = record { fresh = refl; sizes = refl };
+  others = record { printed = refl; fresh = refl; sizes = refl };
   well_formed = c.requires.well_formed;
 }
 
@@ -19,7 +18,10 @@ loop-taken-preserved c =
     record {
       ran = λ images. quiet_more images _ _ _ _ _ c.in-Done.is (so_far.ran images) so_far.awake turn.turn;
       awake = done_awake _ _ _ c.in-Done.is so_far.awake turn.turn;
-      printed = turn.printed ∙ so_far.printed;
-      others = record { fresh = turn.others.fresh ∙ so_far.others.fresh; sizes = turn.others.sizes ∙ so_far.others.sizes };
+      others = record {
+        printed = turn.others.printed ∙ so_far.others.printed;
+        fresh = turn.others.fresh ∙ so_far.others.fresh;
+        sizes = turn.others.sizes ∙ so_far.others.sizes;
+      };
       well_formed = turn.well_formed;
     }

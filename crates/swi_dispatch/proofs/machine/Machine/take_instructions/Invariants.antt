@@ -1,6 +1,6 @@
 use Rattle.std.proofs.Common.{◌≡◌, List, [], None}
 use Rattle.image_loader.specs.Entries.{Entry}
-use Rattle.swi_dispatch.specs.Parts.{state_of, OnlySteps, IsWellFormed}
+use Rattle.swi_dispatch.specs.Parts.{state_of, OnlyState, IsWellFormed}
 use Rattle.swi_dispatch.specs.Run.{ran, quiet_run}
 use Rattle.swi_dispatch.proofs.machine.Machine.take_instructions.Given as goal
 
@@ -9,7 +9,6 @@ abbrev pub invariant-loop-taken : goal.invariant-loop-taken
 invariant-loop-taken l = record {
   ran : (images : List Entry) → ran images [] l.taken (state_of l.fn.self) ≡ quiet_run (state_of l.self) l.taken;
   awake : (state_of l.self).halt ≡ None;
-  printed : l.self.printed ≡ l.fn.self.printed;
-  others : OnlySteps l.fn.self l.self;
+  others : OnlyState l.fn.self l.self;
   well_formed : IsWellFormed l.self;
 }

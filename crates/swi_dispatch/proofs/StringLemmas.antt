@@ -9,7 +9,7 @@ use Rattle.address_map.specs.declared.map.AddressMap.{AddressMap}
 use Rattle.address_map.specs.Bytes.{Bytes, byte_loaded, unless}
 use Rattle.address_map.specs.Memory.{bytes_of, is_mapped, place}
 use Rattle.address_map.proofs.Loads.{place_below}
-use Rattle.swi_dispatch.specs.Texts.{text_at}
+use Rattle.swi_dispatch.specs.Strings.{text_at}
 
 -- where memory is mapped
 pub mapped_below : (m : AddressMap) (a : ℕ) → is_mapped m a ≡ true → a < 2 ^ 26

@@ -1,6 +1,6 @@
 use Rattle.std.proofs.Common.{◌∙◌}
 use Rattle.swi_dispatch.proofs.Kept.{error_written}
-use Rattle.swi_dispatch.proofs.errors.put_error.Goals as goal
+use Rattle.swi_dispatch.proofs.errors.write_error.Goals as goal
 
 pub returns-clause-bytes : goal.returns-clause-bytes
 returns-clause-bytes c =
