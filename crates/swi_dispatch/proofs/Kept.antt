@@ -141,13 +141,16 @@ error_kept m n number text same sound others short e =
     system_kept m n same sound others (λ a out. ap (λ (b : Bytes). b.at a) e
     ∙ outside_bytes (with_word_at (byte_at m) 0x01C02100 number) a text short out ∙ outside_word (byte_at m) a number out)
 
+kept_classes : (m n : AddressMap) → IsKept m n → class_of n ≡ class_of m → AreClasses m → AreClasses n
+kept_classes m n kept marks same = classes_same m n (ap (λ (s : Store). s.heaps) kept.store) (λ a i. marks i a) same
+
 -- the parts of a machine after a call that kept what is mapped and the other records
-pub well_by : (old new : Parts) → IsWellFormed old → IsSound (store_of new.map) → (AreClasses old.map → AreClasses new.map) → (store_of new.map).others ≡ (store_of old.map).others
+pub well_by : (old new : Parts) → IsWellFormed old → IsSound (store_of new.map) → AreClasses new.map → (store_of new.map).others ≡ (store_of old.map).others
     → place new.map ≡ place old.map → free_pages new.map ≡ free_pages old.map → new.sizes ≡ old.sizes
     → (new.is_fresh ≡ true → state_of new ≡ start_of new.sizes) → IsWellFormed new
 well_by old new well sound classes others same pages sizes fresh = record {
   sound = sound;
-  classes = classes well.classes;
+  classes = classes;
   others = others ∙ well.others;
   mapped = λ a. ap (λ (f : ℕ → Option ℕ). is_some (f a)) same ∙ well.mapped a ∙ ap (λ (s : Sizes). is_start_mapped s a) (sym sizes);
   pool = ap (λ (n : ℕ). n + (new.sizes.app + new.sizes.rma + 3)) pages ∙ ap (λ (s : Sizes). free_pages old.map + (s.app + s.rma + 3)) sizes
@@ -159,7 +162,7 @@ well_by old new well sound classes others same pages sizes fresh = record {
 pub well_kept : (old new : Parts) → IsWellFormed old → IsKept old.map new.map → layout new.map ≡ layout old.map → class_of new.map ≡ class_of old.map
     → new.is_fresh ≡ false → new.sizes ≡ old.sizes → IsWellFormed new
 well_kept old new well kept same marks stepped sizes =
-    well_by old new well kept.sound (classes_same old.map new.map (ap (λ (s : Store). s.heaps) kept.store) (λ a i. marks i a)) (ap (λ (s : Store). s.others) kept.store) (layout-place _ _ same) (ap (λ (l : Layout). l.free_pages) same) sizes
+    well_by old new well kept.sound (kept_classes old.map new.map kept marks well.classes) (ap (λ (s : Store). s.others) kept.store) (layout-place _ _ same) (ap (λ (l : Layout). l.free_pages) same) sizes
     (λ e. absurd (true≢false (sym e ∙ stepped)))
 
 -- the application space holds the program of the written machine
@@ -201,7 +204,7 @@ short_name e = search rules
 pub well_same : (old new : Parts) → IsWellFormed old → IsKept old.map new.map → layout new.map ≡ layout old.map → class_of new.map ≡ class_of old.map
     → state_of new ≡ state_of old → new.is_fresh ≡ old.is_fresh → new.sizes ≡ old.sizes → IsWellFormed new
 well_same old new well kept same marks state fresh sizes =
-    well_by old new well kept.sound (classes_same old.map new.map (ap (λ (s : Store). s.heaps) kept.store) (λ a i. marks i a)) (ap (λ (s : Store). s.others) kept.store) (layout-place _ _ same) (ap (λ (l : Layout). l.free_pages) same) sizes
+    well_by old new well kept.sound (kept_classes old.map new.map kept marks well.classes) (ap (λ (s : Store). s.others) kept.store) (layout-place _ _ same) (ap (λ (l : Layout). l.free_pages) same) sizes
     (λ e. state ∙ well.fresh (sym fresh ∙ e) ∙ ap start_of (sym sizes))
 
 pub refused_same : {S E : Type 0} (old new : S) (r : Result S E) (e : E) → Leaves {U = Unit {0}} old r (Err e) new → new ≡ old
