@@ -7,6 +7,7 @@ ghost use Rattle.address_map.specs.Memory.{bytes_of, is_owned, layout, place};
 ghost use Rattle.arm_step.specs.Effect.{status_operand};
 ghost use Rattle.arm_step.specs.PageWords.{are_in_page, words_in};
 ghost use Rattle.arm_step.specs.Words.{with_words};
+ghost use Rattle.arm_step.specs.StoredBase.{changed_base, value_by};
 ghost use Rattle.arm_step.specs.Blocks.{listed, lowest, stepped_base, block_size, block_start, block_base, loads_status, bank_of, with_block_base, with_loaded, with_block_status, block_loaded, stores_new_base, block_values, block_stored, block_transferred};
 
 use crate::cpu::Cpu;
@@ -60,18 +61,6 @@ fn stores_new_base(block: &BlockTransfer) -> bool
     ensures { result ≡ stores_new_base block.now }
 {
     block.writes_back && block.list.bits() % (1 << block.rn.number()) != 0
-}
-
-/// The number of the register that a store finds as it will be, or 16 where there is none.
-#[inline(always)]
-fn changed_base(block: &BlockTransfer) -> u32
-    ensures { result ≡ (if stores_new_base block.now then block.now.rn else 16) }
-{
-    if stores_new_base(block) {
-        block.rn.number()
-    } else {
-        16
-    }
 }
 
 impl Cpu {
@@ -171,16 +160,21 @@ impl Cpu {
         }
     }
 
-    /// What a block transfer stores of a register. `changed` is the base where it is stored as it
-    /// will be, and no register's number where it is not.
+    /// What a block transfer stores of a register. `changed` is what it stores of its base, where
+    /// that is not the base as it was.
     #[inline(always)]
-    fn stored_value(&self, bank: Mode, register: Register, changed: u32, base: u32) -> u32
-        ensures { result ≡ (if register == changed then base else status_operand bank self.now register 3) }
+    fn stored_value(
+        &self,
+        block: &BlockTransfer,
+        bank: Mode,
+        changed: Option<u32>,
+        register: Register,
+    ) -> u32
+        ensures { result ≡ value_by changed (register == block.now.rn) (status_operand bank self.now register 3) }
     {
-        if register.number() == changed {
-            base
-        } else {
-            self.status_operand(bank, register, 3)
+        match changed {
+            Some(base) if register.number() == block.rn.number() => base,
+            _ => self.status_operand(bank, register, 3),
         }
     }
 
@@ -202,10 +196,12 @@ impl Cpu {
         ensures bytes { bytes_of memory.new ≡ with_words (bytes_of memory.old) first (block_values self.now block.now) }
         ensures layout { layout memory.new ≡ layout memory.old }
     {
-        match self.bank(block) {
-            // Where the bank is known, so is the place of each register.
-            Mode::User => self.put_each(memory, block, Mode::User, base, first, at),
-            bank => self.put_each(memory, block, bank, base, first, at),
+        let changed = stores_new_base(block).then_some(base);
+        // Where these are known, so is the place of each register.
+        match (self.bank(block), changed) {
+            (Mode::User, None) => self.put_each(memory, block, Mode::User, None, first, at),
+            (Mode::User, _) => self.put_each(memory, block, Mode::User, changed, first, at),
+            (bank, _) => self.put_each(memory, block, bank, changed, first, at),
         }
     }
 
@@ -217,24 +213,23 @@ impl Cpu {
         memory: &mut AddressMap,
         block: &BlockTransfer,
         bank: Mode,
-        base: u32,
+        changed: Option<u32>,
         first: u32,
         at: usize,
     )
         requires bank { bank ≡ bank_of self.now block.now }
-        requires base { base ≡ block_base self.now block.now }
+        requires changed { changed ≡ changed_base self.now block.now }
         requires aligned { first % 4 ≡ 0 }
         requires page { are_in_page first (block_size block.now) ≡ true }
         requires place { place memory.old first ≡ Some at }
         ensures bytes { bytes_of memory.new ≡ with_words (bytes_of memory.old) first (block_values self.now block.now) }
         ensures layout { layout memory.new ≡ layout memory.old }
     {
-        let changed = changed_base(block);
         let mut offset = 0;
         let mut rest = block.list.bits();
         while rest != 0 {
             let (register, others) = split_lowest(rest);
-            let value = self.stored_value(bank, register, changed, base);
+            let value = self.stored_value(block, bank, changed, register);
             memory.put_word_at(first + offset, at + offset as usize, value);
             offset += 4;
             rest = others;
