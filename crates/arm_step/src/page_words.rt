@@ -1,6 +1,6 @@
 //! Words that lie in one page, as nearly all blocks do: the page is looked up once for all of them.
 
-ghost use Rattle.std.specs.Prelude.{ℕ, ◌≡◌, ◌<◌, ◌≤◌, ◌+◌, ◌*◌, ◌^◌, ◌%◌, true, Some, None, Ok, Err, length, slice_index, MatchResult};
+ghost use Rattle.std.specs.Prelude.{◌≡◌, ◌≤◌, ◌+◌, ◌*◌, ◌%◌, true, Some, None, Ok, Err, length, slice_index, MatchResult};
 ghost use Rattle.address_map.specs.Bytes.{word_at};
 ghost use Rattle.address_map.specs.Memory.{bytes_of, is_owned, place};
 ghost use Rattle.arm_step.specs.PageWords.{are_in_page, missing, words_in};
