@@ -1,4 +1,5 @@
 pub mod Added
+pub mod Apart
 pub mod Bounds
 pub mod Calls
 pub mod Claiming

@@ -1,0 +1,9 @@
+//! Laws over the definitions, each the contract of a function that does nothing.
+
+ghost use Rattle.os_heap.specs.Laws.{LiveBlocksAreApart};
+
+/// No byte belongs to two live blocks, of one heap or of two.
+#[tactic(auto, using(crate::proofs::Apart::blocks_apart))]
+pub fn live_blocks_share_no_byte()
+    ensures { LiveBlocksAreApart }
+{}
