@@ -229,6 +229,7 @@ shifting_again labels rm n s rest h ends = by s (n == 0) refl
   where
     same : n % 32 ≡ n
     same = omega arith
+
     by : (s : Shift) (t : Bool) → (n == 0) ≡ t
         → shift_at labels rm (shifting_text s n ++ rest) (comma (shifting_text s n ++ rest)) ≡ Some (Ok (operand.Shifted (shifted_by rm s n)), rest)
     by shift.LogicalLeft true e = let z = is_none_left n e in rw z (plain_shifts labels rm rest ends)
@@ -274,7 +275,7 @@ shifted_again labels s rest fits ends =
     (behind_register labels (register_text s.rm ++ tail) tail s.rm (register_again s.rm tail fits.0 (apart_shifting s.shift s.amount rest ends.apart))
     ∙ shifting_again labels s.rm s.amount s.shift rest fits.1 ends)
 
-shifted_shape : (s : ShiftedRegister) (rest : List ℕ) → shifted_text s ++ rest ≡ register_text s.rm ++ (shifting_text s.shift s.amount ++ rest)
+pub shifted_shape : (s : ShiftedRegister) (rest : List ℕ) → shifted_text s ++ rest ≡ register_text s.rm ++ (shifting_text s.shift s.amount ++ rest)
 unfolding shifted_text
 shifted_shape s rest = append_assoc (register_text s.rm) (shifting_text s.shift s.amount) rest
 

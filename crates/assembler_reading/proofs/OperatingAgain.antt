@@ -191,9 +191,14 @@ multiply_read d n s m adds sets hd hn hs hm absent =
     let tail : List ℕ = text_if adds (codes ",") ++ text_if adds (register_text n) in
     let third : List ℕ = register_text s ++ tail in
     let second : List ℕ = register_text m ++ (44 ∷ third) in
-    rw (register_again d (44 ∷ second) hd refl, comma_then second (register_no_space (44 ∷ third) m hm),
-    register_again m (44 ∷ third) hm refl, comma_then third (register_no_space tail s hs),
-    register_again s tail hs (apart_added adds n), added_again adds n hn absent) refl
+    rw (
+      register_again d (44 ∷ second) hd refl,
+      comma_then second (register_no_space (44 ∷ third) m hm),
+      register_again m (44 ∷ third) hm refl,
+      comma_then third (register_no_space tail s hs),
+      register_again s tail hs (apart_added adds n),
+      added_again adds n hn absent,
+    ) refl
 
 pub multiply_again : (m : Multiply) → FitsFields (action.Multiply m) → unallocated (action.Multiply m) ≡ false
     → multiply_at m.accumulates m.sets_flags (multiply_operands m) ≡ Some (Ok (action.Multiply m), [])
