@@ -21,13 +21,13 @@ found_other h start (k ∷ hs) g others e = elim (cases_Bool (k.start == start))
   | inr later ↦ found_other h start hs g others.1 (rw later at e)
 ]
 
-range_parts : (at len a : ℕ) → in_range at len a ≡ true → (at ≤ a) × (a < at + len)
+pub range_parts : (at len a : ℕ) → in_range at len a ≡ true → (at ≤ a) × (a < at + len)
 range_parts at len a inside =
     let both = and_parts _ _ inside in
     (leb-true at a both.0, ltb-true a (at + len) both.1)
 
 -- a byte of a block is in its heap's range
-block_inside : (b : Bytes) (h : HeapList) (block total a : ℕ) → IsHeapIn b h.start h.end h.items → live_total block (h.start + 16) h.items ≡ Some total
+pub block_inside : (b : Bytes) (h : HeapList) (block total a : ℕ) → IsHeapIn b h.start h.end h.items → live_total block (h.start + 16) h.items ≡ Some total
     → in_range (block - 4) total a ≡ true → in_range h.start h.end a ≡ true
 block_inside b h block total a heap live inside =
     let place : LiveBytes block total (h.start + 16) (h.start + 16 + size_of h.items) = live_bytes block total (h.start + 16) h.items heap.totals live in

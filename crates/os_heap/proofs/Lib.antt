@@ -8,6 +8,7 @@ pub mod Found
 pub mod Frame
 pub mod Freeing
 pub mod Held
+pub mod KeptPayloads
 pub mod Linking
 pub mod Marking
 pub mod Moving
