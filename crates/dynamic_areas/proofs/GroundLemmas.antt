@@ -17,7 +17,7 @@ use Rattle.dynamic_areas.proofs.LandLemmas.{or_middle, land_grown, held_alone, p
 use Rattle.dynamic_areas.proofs.Remapped.{here, range_low, range_high, sound_grown, sound_shrunk}
 use Rattle.dynamic_areas.proofs.RoomLemmas.{found_room, pages_none, room_small}
 
-or_true : (t : Bool) → (t || true) ≡ true
+pub or_true : (t : Bool) → (t || true) ≡ true
 or_true true = refl
 or_true false = refl
 

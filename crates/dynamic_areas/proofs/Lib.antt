@@ -2,9 +2,13 @@ pub mod GroundLemmas
 pub mod HeapBase
 pub mod LandLemmas
 pub mod LooseLemmas
+pub mod Loosened
+pub mod ModuleArea
 pub mod PutLemmas
 pub mod RecordLemmas
 pub mod Remapped
+pub mod RenumberLemmas
 pub mod RoomLemmas
+pub mod Starting
 pub mod Tables
 pub mod WantedLemmas

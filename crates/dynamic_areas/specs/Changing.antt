@@ -9,6 +9,7 @@ use Rattle.address_map.specs.declared.region.Region.{Region}
 use Rattle.address_map.specs.Records.{anchor_meets}
 use Rattle.os_heap_lists.specs.Heap.{HeapList}
 use Rattle.os_heap.specs.Store.{Store, AreClear, IsClearOfHeaps, find_heap}
+use Rattle.os_heap.specs.Calls.{ending}
 use Rattle.os_heap.specs.Ranges.{meets_any}
 use Rattle.dynamic_areas.specs.declared.area.Area.{Area}
 use Rattle.dynamic_areas.specs.declared.area.Changed.{Changed}
@@ -102,3 +103,32 @@ removed l s number =
     bind (area_in l.areas number) (λ a.
     if number == 1 || nat_lt (loose_pages s a) a.pages then Err AreaInUse else
     Ok (with_areas l (without_area number l.areas)))
+
+-- the store after the module area's heap got another end
+abbrev pub ended_by : Store → ℕ → Option HeapList → Store
+ended_by s end None = s
+ended_by s end (Some h) = ending s h end
+
+abbrev pub with_heap_end : Store → ℕ → Store
+with_heap_end s end = ended_by s end (find_heap 0x01800000 s.heaps)
+
+-- The store after a whole change: where the module area changes, its heap gets the end that the area has then, after pages were mapped, or before
+-- they are taken away.
+abbrev pub store_extended : Store → ℕ → ℕ → Option Area → Store
+store_extended s number count found =
+    if number == 1 then with_heap_end (store_more s count found) (4096 * (pages_had found + count)) else store_more s count found
+
+abbrev pub store_reduced : Store → ℕ → ℕ → Option Area → Store
+store_reduced s number count found =
+    if number == 1 then store_less (with_heap_end s (4096 * (pages_had found - count))) count found else store_less s count found
+
+-- land and store after a change of so many bytes
+abbrev pub land_changed : Land → ℕ → ℕ → ℕ → Land
+land_changed l number amount bytes =
+    if is_growth amount then land_more l number (bytes / 4096) else land_less l number (bytes / 4096)
+
+abbrev pub store_changed : Store → List Area → ℕ → ℕ → ℕ → Store
+store_changed s areas number amount bytes =
+    if is_growth amount
+    then store_extended s number (bytes / 4096) (find_area number areas)
+    else store_reduced s number (bytes / 4096) (find_area number areas)

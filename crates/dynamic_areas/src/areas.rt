@@ -1,7 +1,9 @@
-ghost use Rattle.std.specs.Prelude.{◌≡◌, ◌≤◌, ◌<◌, length, Ok, Err, MatchResult};
+ghost use Rattle.std.specs.Prelude.{ℕ, ◌≡◌, ◌≤◌, ◌<◌, length, Ok, Err, MatchResult};
 ghost use Rattle.profile.specs.Outcome.{Leaves};
 ghost use Rattle.address_map.specs.Memory.{free_pages};
+ghost use Rattle.os_heap.specs.Store.{Store};
 ghost use Rattle.dynamic_areas.specs.Areas.{area_in, asked_number, extent_of, extent_asked, next_number, module_area, start_land, renumbered, with_area, with_areas, with_pages, without_area};
+ghost use Rattle.dynamic_areas.specs.Ground.{AreAreas};
 ghost use Rattle.dynamic_areas.specs.Rooms.{IsAreaTable};
 
 use crate::area::{Area, Extent, MOST_NAME_BYTES};
@@ -109,10 +111,21 @@ impl Areas {
     /// # Errors
     ///
     /// The first of these, and nothing is changed then: `AreaUnknown` where no area has the number; `AreaBad` where it is the module area, or
-    /// the new number is not within &100 to &7FFFFFFF; `AreaTaken` where an area has the new number, this one included.
+    /// the new number is not within &100 to &7FFFFFFF; `AreaTaken` where an area has the new number, this one included. What holds of the areas
+    /// and the memory holds afterwards too.
     ///
     /// RISC OS 3 Programmer's Reference Manual, supplement, "OS_DynamicArea", reason 4.
     pub fn renumber(&mut self, old: u32, new: u32) -> Result<(), ErrorNumber>
+        requires { IsAreaTable self.old.areas }
+        ensures areas { Leaves self.old.areas (renumbered self.old.areas old new) result self.new.areas }
+        ensures sizes { self.new.sizes ≡ self.old.sizes }
+        ensures table { IsAreaTable self.new.areas }
+        ensures ground { (s : Store) (free : ℕ) → AreAreas s free self.old → AreAreas s free self.new }
+    {
+        self.renumber_in_list(old, new)
+    }
+
+    fn renumber_in_list(&mut self, old: u32, new: u32) -> Result<(), ErrorNumber>
         requires { IsAreaTable self.old.areas }
         ensures areas { Leaves self.old.areas (renumbered self.old.areas old new) result self.new.areas }
         ensures sizes { self.new.sizes ≡ self.old.sizes }

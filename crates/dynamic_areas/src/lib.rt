@@ -12,3 +12,6 @@ mod table;
 
 pub use area::{Area, Changed, Created, Extent, MOST_NAME_BYTES, Wanted};
 pub use areas::Areas;
+
+#[cfg(test)]
+mod tests;

@@ -1,7 +1,8 @@
 ghost use Rattle.std.specs.Prelude.{ℕ, ◌≡◌, ◌<◌, ◌+◌, ◌-◌, ◌%◌, ◌^◌, ◌&&◌, true, nat_lt, Some, Err, MatchResult};
 ghost use Rattle.profile.specs.Outcome.{Gives};
-ghost use Rattle.address_map.specs.Memory.{mapping, bytes_of};
+ghost use Rattle.address_map.specs.Memory.{byte_at, mapping, bytes_of};
 ghost use Rattle.address_map.specs.Records.{is_heap_kind};
+ghost use Rattle.os_heap_lists.specs.Words.{AreApart};
 ghost use Rattle.os_heap.specs.Calls.{changed, end_changed, ending, has_own_size, MayEndArea, IsAreaEnded};
 ghost use Rattle.os_heap.specs.Ranges.{MayEnd, meets_any};
 ghost use Rattle.os_heap.specs.Outcomes.{IsHeapAt};
@@ -50,6 +51,9 @@ impl Heaps {
         ensures classes { AreClasses map.old → AreClasses map.new }
         ensures others { (store_of map.new).others ≡ (store_of map.old).others }
         ensures mapping { mapping map.new ≡ mapping map.old }
+
+        // No byte but those of the word that tells the end is changed.
+        ensures bytes { (a : ℕ) → AreApart a 1 0x0180000C 4 → byte_at map.new a ≡ byte_at map.old a }
     {
         if let Some(region) = find(map, RMA_START) {
             set_end(map, &region, end);
@@ -125,6 +129,7 @@ fn set_end(map: &mut AddressMap, region: &Region, end: u32)
     ensures classes { AreClasses map.old → AreClasses map.new }
     ensures others { (store_of map.new).others ≡ (store_of map.old).others }
     ensures mapping { mapping map.new ≡ mapping map.old }
+    ensures bytes { (a : ℕ) → AreApart a 1 (region.now.at + 12) 4 → byte_at map.new a ≡ byte_at map.old a }
 {
     put(map, region.at + END, end);
     map.set_len(region.kind, region.at, end);

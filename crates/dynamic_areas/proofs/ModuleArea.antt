@@ -1,0 +1,186 @@
+-- The module area's heap where its area grows or shrinks.
+use Rattle.std.proofs.Common.{◌≡◌, ◌≢◌, ℕ, ◌+◌, ◌-◌, ◌*◌, ◌%◌, ◌<◌, ◌≤◌, ◌==◌, ◌&&◌, ◌||◌, Bool, true, false, leb, List, [], ◌∷◌, suc, zero, refl, sym, ap, subst, ◌∙◌, Some, None, inl, inr, arith}
+use Rattle.std.specs.Prelude.{Option}
+use Rattle.std.specs.List.{list_any}
+use Rattle.std.proofs.lemmas.Bool.{cases_Bool, cases_lt, cases_eq, eqb-true, eq-eqb, ne_eqb, lt-ltb, le-ltb, ltb-false, and_parts, false≢true, false_from_ne_true}
+use Rattle.address_map.specs.declared.region.Region.{Region}
+use Rattle.address_map.specs.Bytes.{Bytes, in_range, AreMapped, AreUnmapped}
+use Rattle.address_map.specs.Items.{size_of}
+use Rattle.os_heap_lists.specs.Heap.{HeapList, IsHeapIn}
+use Rattle.os_heap.specs.Store.{Store, IsSound, IsClearOfHeaps, AreClear, find_heap}
+use Rattle.os_heap.specs.Ranges.{is_heap_region, meets_any, MayEnd, meets as meets_range}
+use Rattle.os_heap.specs.Calls.{ending, with_end, MayEndArea, IsAreaEnded}
+use Rattle.os_heap.proofs.Added.{region_tested}
+use Rattle.os_heap.proofs.Found.{found_heap, found_start}
+use Rattle.dynamic_areas.specs.declared.area.Area.{Area}
+use Rattle.dynamic_areas.specs.Areas.{Land, find_area, with_areas, with_pages, paged}
+use Rattle.dynamic_areas.specs.Changing.{AreRangesClear, has_record, heap_base, loose_pages, ended_by}
+use Rattle.dynamic_areas.specs.Ground.{IsGround, AreAreas, EndsWithArea, AreRangesMapped}
+use Rattle.dynamic_areas.specs.Remapped.{with_pages_at}
+use Rattle.dynamic_areas.specs.Rooms.{IsRoom}
+use Rattle.dynamic_areas.proofs.GroundLemmas.{ground_grown, unmapped_above, mapped_held, find_paged}
+use Rattle.dynamic_areas.proofs.LooseLemmas.{page_free, IsFree}
+use Rattle.dynamic_areas.proofs.RecordLemmas.{unmet}
+use Rattle.dynamic_areas.proofs.Remapped.{clear_unmapped, range_low, range_high}
+use Rattle.dynamic_areas.proofs.RoomLemmas.{found_number, found_room}
+
+-- what is known of the area and its heap
+pub record IsModuleArea (s : Store) (a : Area) : Type 0 where
+  pub heap : HeapList
+  pub found : find_heap 0x01800000 s.heaps ≡ Some heap
+  pub spelled : IsHeapIn s.bytes heap.start heap.end heap.items
+  pub start : heap.start ≡ 0x01800000
+  pub end : heap.end ≡ 4096 * a.pages
+  pub base : a.base ≡ 0x01800000
+  pub maximum : a.maximum ≡ 4194304
+
+ends_there : (s : Store) (a : Area) (found : Option HeapList) → IsSound s → a.base ≡ 0x01800000 → a.maximum ≡ 4194304
+    → find_heap 0x01800000 s.heaps ≡ found → EndsWithArea found (Some a) → IsModuleArea s a
+ends_there s a None sound base maximum e ends = absurd ends
+ends_there s a (Some h) sound base maximum e ends = record {
+  heap = h;
+  found = e;
+  spelled = found_heap s.bytes 0x01800000 s.heaps h sound.heaps e;
+  start = found_start 0x01800000 s.heaps h e;
+  end = ends;
+  base = base;
+  maximum = maximum;
+}
+
+pub module_area_known : (s : Store) (free : ℕ) (l : Land) (a : Area) → AreAreas s free l → find_area 1 l.areas ≡ Some a → IsModuleArea s a
+module_area_known s free l a areas e =
+    let room : IsRoom a = found_room 1 l.areas a areas.ground.table.rooms e in
+    let number : a.number ≡ 1 = found_number 1 l.areas a e in
+    let place = rw (eq-eqb a.number 1 number) at room.place in
+    let parts = and_parts (a.base == 0x01800000) (a.maximum == 4194304) place in
+    let ends = rw e at areas.heap in
+    ends_there s a (find_heap 0x01800000 s.heaps) areas.ground.sound (eqb-true a.base 0x01800000 parts.0) (eqb-true a.maximum 4194304 parts.1) refl ends
+
+-- ranges that meet no recorded one
+unmet_range : (at len other other_len : ℕ) → 0 < len → AreClear at len other other_len → meets_range at len other other_len ≡ false
+unmet_range at len other other_len some clear = let e = rw (lt-ltb 0 len some) at (unmet at len other other_len clear) in e
+
+unmet_heaps : (at len : ℕ) (hs : List HeapList) → 0 < len → IsClearOfHeaps at len hs → list_any (λ h. meets_range at len h.start h.end) hs ≡ false
+unmet_heaps at len [] some clear = refl
+unmet_heaps at len (h ∷ hs) some clear = rw (unmet_range at len h.start h.end some clear.0, unmet_heaps at len hs some clear.1) refl
+
+unmet_ranges : (at len : ℕ) (rs : List Region) → 0 < len → AreRangesClear at len rs → list_any (λ r. meets_range at len r.at r.len) rs ≡ false
+unmet_ranges at len [] some clear = refl
+unmet_ranges at len (r ∷ rs) some clear = rw (unmet_range at len r.at r.len some clear.0, unmet_ranges at len rs some clear.1) refl
+
+unmet_any : (s : Store) (at len : ℕ) → 0 < len → IsClearOfHeaps at len s.heaps → AreRangesClear at len s.others → meets_any at len s ≡ false
+unmet_any s at len some heaps ranges = rw (unmet_heaps at len s.heaps some heaps, unmet_ranges at len s.others some ranges) refl
+
+ranges_unmapped : (mapped : ℕ → Bool) (at len : ℕ) (rs : List Region) → AreUnmapped mapped at len → AreRangesMapped mapped rs → AreRangesClear at len rs
+ranges_unmapped mapped at len [] unmapped ranges = tt
+ranges_unmapped mapped at len (r ∷ rs) unmapped ranges = (
+  λ x inside. false_from_ne_true (in_range r.at r.len x) (λ there.
+  false≢true (sym (unmapped x (range_low at len x inside) (range_high at len x inside))
+  ∙ ranges.0 x (range_low r.at r.len x there) (range_high r.at r.len x there))),
+  ranges_unmapped mapped at len rs unmapped ranges.1,
+)
+
+-- a range that a heap may have
+pub region_known : (b : Bytes) (at size : ℕ) → at % 4 ≡ 0 → size % 4 ≡ 0 → 16 ≤ size → size ≤ 16777216 → AreMapped b.mapped at size
+    → is_heap_region b at size ≡ true
+region_known b at size aligned whole low high mapped = sym (region_tested b at size true aligned whole low high ((λ _. mapped), (λ _. refl)))
+
+-- after the area got more pages its heap may have their end
+pub may_grow_heap : (s : Store) (free : ℕ) (l : Land) (a : Area) (count : ℕ) → AreAreas s free l → find_area 1 l.areas ≡ Some a
+    → 4096 * (a.pages + count) ≤ a.maximum → count ≤ free
+    → MayEndArea (with_pages_at s (a.base + 4096 * a.pages) (4096 * count)) (4096 * (a.pages + count))
+may_grow_heap s free l a count areas e fits pool =
+    let m : IsModuleArea s a = module_area_known s free l a areas e in
+    let h : HeapList = m.heap in
+    let start : h.start ≡ 0x01800000 = m.start in
+    let end : h.end ≡ 4096 * a.pages = m.end in
+    let base : a.base ≡ 0x01800000 = m.base in
+    let maximum : a.maximum ≡ 4194304 = m.maximum in
+    let inside : 16 + size_of h.items ≤ h.end = m.spelled.inside in
+    let t : Store = with_pages_at s (a.base + 4096 * a.pages) (4096 * count) in
+    let ground = ground_grown s free l 1 a count areas.ground e fits pool in
+    let top : h.start + h.end ≡ a.base + 4096 * a.pages = omega arith in
+    let more : 4096 * (a.pages + count) - h.end ≡ 4096 * count = omega arith in
+    let unmapped : AreUnmapped s.bytes.mapped (a.base + 4096 * a.pages) (4096 * count) = unmapped_above s free l 1 a count areas.ground e fits in
+    let may : MayEnd t h (4096 * (a.pages + count)) = record {
+      region = region_known t.bytes h.start (4096 * (a.pages + count)) (omega arith) (omega arith) (omega arith) (omega arith)
+          (λ x low high. mapped_held t (free - count) (with_areas l (with_pages 1 (a.pages + count) l.areas)) 1 (paged (a.pages + count) a) ground
+          (find_paged 1 (a.pages + count) l.areas a e) x (omega arith) (omega arith));
+      clear = elim (cases_lt h.end (4096 * (a.pages + count))) [
+        | inl grows ↦ rw (lt-ltb h.end (4096 * (a.pages + count)) grows, top, more) (unmet_any t (a.base + 4096 * a.pages) (4096 * count) (omega arith)
+          (clear_unmapped s.bytes (a.base + 4096 * a.pages) (4096 * count) s.heaps unmapped areas.ground.sound.heaps)
+          (ranges_unmapped s.bytes.mapped (a.base + 4096 * a.pages) (4096 * count) s.others unmapped areas.ground.ranges))
+        | inr stays ↦ rw (le-ltb h.end (4096 * (a.pages + count)) stays) refl
+      ];
+      inside = le-ltb (4096 * (a.pages + count)) (16 + size_of h.items) (omega arith);
+    } in
+    rw m.found may
+
+-- before it loses pages that can go, the heap may have the end of those that are left
+pub heap_below : (s : Store) (free : ℕ) (l : Land) (a : Area) (count : ℕ) (m : IsModuleArea s a) → a.number ≡ 1 → count ≤ loose_pages s a
+    → 16 + size_of m.heap.items ≤ 4096 * (a.pages - count)
+heap_below s free l a count m number loose =
+    let h : HeapList = m.heap in
+    let start : h.start ≡ 0x01800000 = m.start in
+    let end : h.end ≡ 4096 * a.pages = m.end in
+    let base : a.base ≡ 0x01800000 = m.base in
+    let inside : 16 + size_of h.items ≤ h.end = m.spelled.inside in
+    elim (cases_eq count 0) [
+      | inl none ↦ omega arith
+      | inr some ↦
+          let free_page : IsFree s a.number (a.base + 4096 * (a.pages - count)) = page_free s a count (a.pages - count) loose (omega arith) (omega arith) in
+          let free' = rw (eq-eqb a.number 1 number, m.found) at free_page.record_free in
+          let low : heap_base (Some h) ≤ a.base + 4096 * (a.pages - count) = ltb-false (a.base + 4096 * (a.pages - count)) (heap_base (Some h)) free' in
+          omega arith
+    ]
+
+pub may_shrink_heap : (s : Store) (free : ℕ) (l : Land) (a : Area) (count : ℕ) → AreAreas s free l → find_area 1 l.areas ≡ Some a
+    → count ≤ loose_pages s a → MayEndArea s (4096 * (a.pages - count))
+may_shrink_heap s free l a count areas e loose =
+    let m : IsModuleArea s a = module_area_known s free l a areas e in
+    let h : HeapList = m.heap in
+    let start : h.start ≡ 0x01800000 = m.start in
+    let end : h.end ≡ 4096 * a.pages = m.end in
+    let maximum : a.maximum ≡ 4194304 = m.maximum in
+    let within : 4096 * a.pages ≤ a.maximum = (found_room 1 l.areas a areas.ground.table.rooms e).within in
+    let below : 16 + size_of h.items ≤ 4096 * (a.pages - count) = heap_below s free l a count m (found_number 1 l.areas a e) loose in
+    let may : MayEnd s h (4096 * (a.pages - count)) = record {
+      region = region_known s.bytes h.start (4096 * (a.pages - count)) (omega arith) (omega arith) (omega arith) (omega arith)
+          (λ x low high. m.spelled.mapped x low (omega arith));
+      clear = rw (le-ltb h.end (4096 * (a.pages - count)) (omega arith)) refl;
+      inside = le-ltb (4096 * (a.pages - count)) (16 + size_of h.items) below;
+    } in
+    rw m.found may
+
+-- the heap, and the ground, after it got another end
+pub ended_is : (s t : Store) (end : ℕ) → IsAreaEnded s end t → t ≡ ended_by s end (find_heap 0x01800000 s.heaps)
+ended_is s t end ends = go (find_heap 0x01800000 s.heaps) refl ends where
+  go : (found : Option HeapList) → find_heap 0x01800000 s.heaps ≡ found → IsAreaEnded s end t → t ≡ ended_by s end found
+  go None e ends = absurd (let none = rw e at ends in none)
+  go (Some h) e ends = let is = rw e at ends in is
+
+pub find_ended : (hs : List HeapList) (h : HeapList) (start end : ℕ) → find_heap start hs ≡ Some h
+    → find_heap start (with_end h.start end hs) ≡ Some (record { kind = h.kind; start = h.start; end = end; items = h.items })
+find_ended [] h start end e = absurd (let none : None ≡ Some h = e in cc)
+find_ended (g ∷ hs) h start end e =
+    let at : h.start ≡ start = found_start start (g ∷ hs) h e in
+    elim (cases_Bool (g.start == start)) [
+      | inl this ↦
+          let e' = rw this at e in
+          let same : g ≡ h = cc in
+          let test : (g.start == h.start) ≡ true = eq-eqb g.start h.start (ap (λ (x : HeapList). x.start) same) in
+          rw (test, this) (ap (λ (x : HeapList). let y : HeapList = record { kind = x.kind; start = x.start; end = end; items = x.items } in Some y) same)
+      | inr other ↦
+          let test : (g.start == h.start) ≡ false = rw at other in
+          rw (test, other) (find_ended hs h start end (rw other at e))
+    ]
+
+pub ground_ended : (s : Store) (free : ℕ) (l : Land) (h : HeapList) (end : ℕ) → IsGround s free l → IsSound (ending s h end) → IsGround (ending s h end) free l
+ground_ended s free l h end ground sound = record {
+  sizes = ground.sizes;
+  table = ground.table;
+  land = ground.land;
+  pages = ground.pages;
+  ranges = ground.ranges;
+  sound = sound;
+}

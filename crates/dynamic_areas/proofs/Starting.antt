@@ -1,0 +1,96 @@
+-- The memory of a machine at its start: the areas stand on it.
+use Rattle.std.proofs.Common.{◌≡◌, ℕ, ◌+◌, ◌*◌, ◌<◌, ◌≤◌, ◌||◌, ◌++◌, Bool, true, false, leb, List, [], ◌∷◌, length, refl, sym, ap, ◌∙◌, Some, None, arith}
+use Rattle.std.specs.Prelude.{is_some}
+use Rattle.std.specs.List.{list_any}
+use Rattle.std.proofs.lemmas.Bool.{le-ltb, and_right}
+use Rattle.profile.specs.Sizes.{Sizes, AreGood}
+use Rattle.address_map.specs.declared.map.AddressMap.{AddressMap}
+use Rattle.address_map.specs.declared.region.Region.{Region}
+use Rattle.address_map.specs.declared.region.Kind.TheVariants.{Heap, Rma, SystemPage}
+use Rattle.address_map.specs.Bytes.{in_range}
+use Rattle.address_map.specs.Memory.{Mapping, mapping, is_mapped, byte_at, bytes_of, regions, free_pages}
+use Rattle.os_heap_lists.specs.Heap.{HeapList}
+use Rattle.os_heap.specs.Calls.{begun_with}
+use Rattle.os_heap.specs.Ranges.{MayBegin}
+use Rattle.os_heap.specs.Store.{Store, store_of, IsSound, AreClear}
+use Rattle.os_heap.proofs.Added.{records_room}
+use Rattle.os_heap.proofs.Recorded.{store_recorded, recorded_sound}
+use Rattle.dynamic_areas.specs.Areas.{start_land}
+use Rattle.dynamic_areas.specs.Ground.{AreAreas, is_fixed, is_held, is_land}
+use Rattle.dynamic_areas.proofs.GroundLemmas.{or_true}
+use Rattle.dynamic_areas.proofs.ModuleArea.{region_known}
+use Rattle.dynamic_areas.proofs.Remapped.{here, range_low}
+
+no_heaps : (m : AddressMap) → regions m ≡ [] → (store_of m).heaps ≡ []
+unfolding store_of
+no_heaps m none = rw none refl
+
+no_others : (m : AddressMap) → regions m ≡ [] → (store_of m).others ≡ []
+unfolding store_of
+no_others m none = rw none refl
+
+pub may_begin_area : (m : AddressMap) (s : Sizes) → AreGood s → regions m ≡ [] → ((x : ℕ) → is_mapped m x ≡ is_land (start_land s) x)
+    → MayBegin Rma (store_of m) 0x01800000 (4096 * s.rma)
+unfolding store_of
+may_begin_area m s good none mapped =
+    let some : 1 ≤ s.rma = good.has_rma in
+    let most : s.pages ≤ 1024 = good.in_limit in
+    let fits : s.app + s.rma + 3 ≤ s.pages = good.has_room in
+    record {
+      region = region_known (bytes_of m) 0x01800000 (4096 * s.rma) refl (omega arith) (omega arith) (omega arith)
+          (λ x low high. mapped x ∙ rw (here 0x01800000 (4096 * s.rma) x low high) (or_true (is_fixed s x)));
+      clear = rw none refl;
+      room = rw none (refl, refl);
+    }
+
+abbrev system_pages : Region
+system_pages = record { kind = SystemPage; at = 0x01C00000; len = 0x3000 }
+
+abbrev start_heap : Sizes → HeapList
+start_heap s = record { kind = Rma; start = 0x01800000; end = 4096 * s.rma; items = [] }
+
+pub start_areas : (m n o : AddressMap) (s : Sizes) → AreGood s → regions m ≡ [] → ((x : ℕ) → is_mapped m x ≡ is_land (start_land s) x)
+    → free_pages m + (s.app + s.rma + 3) ≡ s.pages → store_of n ≡ begun_with Rma (store_of m) 0x01800000 (4096 * s.rma) → IsSound (store_of n)
+    → mapping n ≡ mapping m → regions o ≡ regions n ++ system_pages ∷ [] → mapping o ≡ mapping n → byte_at o ≡ byte_at n
+    → AreAreas (store_of o) (free_pages o) (start_land s)
+unfolding store_of
+start_areas m n o s good none mapped pool begun sound map_n records map_o bytes =
+    let some : 1 ≤ s.rma = good.has_rma in
+    let most : s.pages ≤ 1024 = good.in_limit in
+    let fits : s.app + s.rma + 3 ≤ s.pages = good.has_room in
+    let same : bytes_of o ≡ bytes_of n = λ i. record { mapped = λ a. is_some ((map_o i).place a); at = bytes i } in
+    let store = store_recorded n o system_pages refl records same in
+    let heaps : (store_of n).heaps ≡ start_heap s ∷ [] =
+    ap (λ (t : Store). t.heaps) begun ∙ ap (λ (hs : List HeapList). hs ++ start_heap s ∷ []) (no_heaps m none) in
+    let others : (store_of n).others ≡ [] = ap (λ (t : Store). t.others) begun ∙ no_others m none in
+    let apart : AreClear 0x01C00000 0x3000 0x01800000 (4096 * s.rma) = λ x inside.
+    let low : 0x01C00000 ≤ x = range_low 0x01C00000 0x3000 x inside in
+    rw (le-ltb x (0x01800000 + 4096 * s.rma) (omega arith)) (and_right (leb 0x01800000 x) false refl) in
+    let there : (x : ℕ) → is_mapped n x ≡ is_land (start_land s) x = λ x. ap (λ (q : Mapping). is_some (q.place x)) map_n ∙ mapped x in
+    let free_n : free_pages n ≡ free_pages m = ap (λ (q : Mapping). q.free_pages) map_n in
+    let free_o : free_pages o ≡ free_pages n = ap (λ (q : Mapping). q.free_pages) map_o in
+    let kept = recorded_sound (store_of n) system_pages sound (rw heaps (apart, tt)) (rw others tt) (rw others (omega arith)) in
+    rw store (record {
+      ground = record {
+        sizes = good;
+        table = record {
+          rooms = (record { page = refl; whole = refl; within = omega arith; place = refl; named = refl }, (tt, tt));
+          first = refl;
+        };
+        land = there;
+        pages = omega arith;
+        ranges = rw others (
+          (λ x low high. there x ∙ rw (here 0x01C00000 0x3000 x low high, or_true (in_range 0x8000 (4096 * s.app) x)) refl),
+          tt,
+        );
+        sound = kept;
+      };
+      heap = rw heaps refl;
+    })
+
+pub start_room : (m n : AddressMap) (s : Sizes) → regions m ≡ [] → store_of n ≡ begun_with Rma (store_of m) 0x01800000 (4096 * s.rma) → IsSound (store_of n)
+    → length (regions n) < 133
+start_room m n s none begun sound =
+    let heaps : (store_of n).heaps ≡ start_heap s ∷ [] =
+    ap (λ (t : Store). t.heaps) begun ∙ ap (λ (hs : List HeapList). hs ++ start_heap s ∷ []) (no_heaps m none) in
+    records_room n Heap 0 sound (rw heaps refl)

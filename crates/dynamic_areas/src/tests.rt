@@ -1,0 +1,116 @@
+ghost use Rattle.std.specs.Prelude.{ℕ, [], ◌≡◌, ◌+◌, IfOk};
+ghost use Rattle.profile.specs.Sizes.{AreGood};
+ghost use Rattle.address_map.specs.Memory.{free_pages, is_mapped, regions};
+ghost use Rattle.os_heap.specs.Store.{store_of};
+ghost use Rattle.dynamic_areas.specs.Areas.{start_land};
+ghost use Rattle.dynamic_areas.specs.Ground.{AreAreas, is_land};
+
+use crate::{Areas, Changed, Created, Extent, Wanted};
+use address_map::{AddressMap, Kind};
+use os_heap::Heaps;
+use profile::memory_map::{APPLICATION_START, PAGE_SIZE, RMA_START, SYSTEM_PAGES, SYSTEM_START};
+use profile::{Config, ErrorNumber};
+use std::alloc::{AllocError, Global};
+use std::test::Fail;
+
+const NONE: u32 = u32::MAX;
+
+/// The memory of a machine at its start, without any record.
+fn mapped(alloc: Global, config: Config) -> Result<AddressMap, AllocError>
+    ensures mapping { IfOk result (λ m. (x : ℕ) → is_mapped m x ≡ is_land (start_land config) x) }
+    ensures regions { IfOk result (λ m. regions m ≡ []) }
+    ensures pool { IfOk result (λ m. free_pages m + (config.app + config.rma + 3) ≡ config.pages) }
+    ensures sizes { AreGood config }
+{
+    let mut map = AddressMap::new(alloc, config.pages())?;
+    map.map_pages(APPLICATION_START, config.app());
+    map.map_pages(RMA_START, config.rma());
+    map.map_pages(SYSTEM_START, SYSTEM_PAGES);
+    Ok(map)
+}
+
+/// The areas of a machine at its start, and its memory.
+fn start(alloc: Global, config: Config) -> Result<(Areas, AddressMap), AllocError>
+    ensures { IfOk result (λ r. AreAreas (store_of r.1) (free_pages r.1) r.0) }
+{
+    let mut map = mapped(alloc, config)?;
+    Heaps::new().init_module_area(&mut map, RMA_START, PAGE_SIZE * config.rma());
+    map.own(Kind::SystemPage, SYSTEM_START, PAGE_SIZE * SYSTEM_PAGES);
+    Ok((Areas::new(config), map))
+}
+
+fn wanted(number: u32, size: u32, base: u32, maximum: u32) -> Wanted {
+    Wanted {
+        number,
+        size,
+        base,
+        flags: 0,
+        maximum,
+        handler: 0,
+        workspace: 0,
+    }
+}
+
+#[test]
+fn tells_the_module_area(rt: HostRuntime) -> Result<(), Fail> {
+    let config = Config::new(256, 64, 16).ok_or("sizes")?;
+    let mut areas = Areas::new(config);
+    for (word, maximum) in [(129, Some(4_194_304)), (1, None)] {
+        let extent = Extent {
+            base: 0x0180_0000,
+            size: 65536,
+            maximum,
+        };
+        assert_eq!(rt; areas.read(word), Ok(extent), "{word}");
+    }
+    assert_eq!(rt; areas.read(256), Err(ErrorNumber::AreaUnknown));
+    assert_eq!(rt; areas.next(NONE), Ok(1));
+    assert_eq!(rt; areas.next(1), Ok(NONE));
+    assert_eq!(rt; areas.next(5), Err(ErrorNumber::AreaUnknown));
+    assert_eq!(rt; areas.renumber(5, 0x300), Err(ErrorNumber::AreaUnknown));
+    assert_eq!(rt; areas.renumber(1, 0x300), Err(ErrorNumber::AreaBad));
+    Ok(())
+}
+
+#[test]
+fn changes_the_module_area(rt: HostRuntime) -> Result<(), Fail> {
+    let config = Config::new(256, 64, 16).ok_or("sizes")?;
+    let (mut areas, mut map) = start(rt.alloc(), config)?;
+    assert_eq!(rt; areas.pool(&map), 173);
+    for (amount, bytes, error) in [
+        (1, 4096, None),
+        (0, 0, None),
+        (0x7FFF_FFFF, 0xAC000, Some(ErrorNumber::AreaNoPages)),
+        (0x8000_0000, 0xBC000, Some(ErrorNumber::AreaInUse)),
+    ] {
+        assert_eq!(rt; areas.change(&mut map, 1, amount), Changed { bytes, error }, "{amount:x}");
+    }
+    assert_eq!(rt; map.load_word(0x0180_000C), Ok(4096));
+    assert_eq!(rt; areas.pool(&map), 188);
+    Ok(())
+}
+
+#[test]
+fn creates_areas(rt: HostRuntime) -> Result<(), Fail> {
+    let config = Config::new(256, 64, 16).ok_or("sizes")?;
+    let (mut areas, mut map) = start(rt.alloc(), config)?;
+    for (size, result) in [
+        (5000, Ok((0x100, 0x0200_0000))),
+        (5000, Ok((0x101, 0x0200_3000))),
+        (20000, Err(ErrorNumber::AreaBad)),
+    ] {
+        let made = areas.create(&mut map, &wanted(NONE, size, NONE, 10000), b"Wk");
+        let expected = result.map(|(number, base)| Created {
+            number,
+            base,
+            maximum: 12288,
+        });
+        assert_eq!(rt; made, expected, "{size}");
+    }
+    assert_eq!(rt; areas.pool(&map), 169);
+    assert_eq!(rt; areas.remove(&mut map, 0x101), Ok(()));
+    assert_eq!(rt; areas.pool(&map), 171);
+    assert_eq!(rt; areas.remove(&mut map, 0x101), Err(ErrorNumber::AreaUnknown));
+    assert_eq!(rt; areas.remove(&mut map, 1), Err(ErrorNumber::AreaInUse));
+    Ok(())
+}
