@@ -1,13 +1,11 @@
 -- The printed operands of LDR and STR are read back.
-use Rattle.std.proofs.Common.{◌≡◌, ◌<◌, ◌≤◌, ◌+◌, ◌-◌, ◌*◌, ◌/◌, ◌%◌, ◌^◌, ℕ, zero, suc, Bool, true, false, List, [], ◌∷◌, ◌++◌, Option, Some, None, Result, Ok, Err, refl, sym, ap, subst, ◌∙◌, arith, append_assoc}
+use Rattle.std.proofs.Common.{◌≡◌, ◌<◌, ◌^◌, ℕ, Bool, true, false, List, [], ◌∷◌, ◌++◌, Option, Some, None, Ok, refl, sym, ap, subst, ◌∙◌, arith, append_assoc}
 use Rattle.std.proofs.lemmas.Bool.Decides.{nat_tests}
 use Rattle.std.proofs.lemmas.List.{append-nil}
 use Rattle.std.specs.Prelude.{◌==◌, ◌&&◌, not, nat_lt, codes, if◌then◌else◌}
-use Rattle.arm_decode.specs.Names.{is_up}
 use Rattle.arm_decode.specs.Ranges.{FitsFields, FitsOffset}
 use Rattle.arm_decode.specs.Refusals.{refusal}
 use Rattle.arm_decode.specs.Diagrams.{word_of}
-use Rattle.arm_decode.specs.declared.action.Action.{Action}
 use Rattle.arm_decode.specs.declared.action.Action.TheVariants as action
 use Rattle.arm_decode.specs.declared.action.Transfer.{Transfer}
 use Rattle.arm_decode.specs.declared.address.Address.{Address}
@@ -23,12 +21,12 @@ use Rattle.arm_decode.specs.declared.shift.ShiftedRegister.{ShiftedRegister}
 use Rattle.assembler_text.specs.Names.{choose_text, condition_text, register_text, text_if}
 use Rattle.assembler_text.specs.Numbers.{number_text}
 use Rattle.assembler_text.specs.Operands.{shifted_text, shifting_text}
-use Rattle.assembler_text.specs.Transfers.{address_text, after_text, base_text, before_text, close_text, indexed_text, is_nothing, is_user, offset_text, sign_text, transfer_head, transfer_text}
-use Rattle.assembler_names.specs.Expressions.{Lookup, Value, expression}
+use Rattle.assembler_text.specs.Transfers.{address_text, after_text, base_text, before_text, close_text, is_nothing, is_user, offset_text, sign_text, transfer_head, transfer_text}
+use Rattle.assembler_names.specs.Expressions.{Lookup}
 use Rattle.assembler_names.specs.Names.{register}
 use Rattle.assembler_names.specs.Words.{after_mark, after_spaces, byte, comma, is_marked}
 use Rattle.assembler_names.specs.declared.mnemonics.Command.TheVariants as command
-use Rattle.assembler_reading.specs.Addresses.{address_at, based, before_bracket, bracketed, closed, indexed, number_offset, offset_in, offset_of, placed, shifted_offset, transfer_at, transferred, unless_translated}
+use Rattle.assembler_reading.specs.Addresses.{address_at, based, before_bracket, bracketed, closed, number_offset, offset_in, offset_of, placed, shifted_offset, transfer_at, transferred}
 use Rattle.assembler_reading.specs.Instructions.{instruction}
 use Rattle.assembler_reading.specs.Operands.{Outcome, shifted}
 use Rattle.assembler_reading.proofs.InstructionsAgain.{read_again, word_for_again}

@@ -1,15 +1,14 @@
 -- The printed operands of LDM and STM are read back.
-use Rattle.std.proofs.Common.{◌≡◌, ◌<◌, ◌≤◌, ◌+◌, ◌-◌, ◌*◌, ◌/◌, ◌%◌, ◌^◌, ℕ, zero, suc, Bool, true, false, List, [], ◌∷◌, ◌++◌, length, Option, Some, None, Result, Ok, Err, refl, sym, ap, subst, ◌∙◌, arith, append_assoc, length-append}
+use Rattle.std.proofs.Common.{◌≡◌, ◌<◌, ◌≤◌, ◌+◌, ◌-◌, ◌*◌, ◌/◌, ◌%◌, ◌^◌, ℕ, zero, suc, Bool, true, false, List, [], ◌∷◌, ◌++◌, length, Option, Some, None, Ok, refl, sym, ap, subst, ◌∙◌, arith, append_assoc, length-append}
 use Rattle.std.proofs.lemmas.Bool.Decides.{nat_tests}
 use Rattle.std.proofs.lemmas.Nat.{mod-pow-add, pow_pos}
 use Rattle.std.proofs.Math.Nat.{div-eq_of_lt, mod-lt}
-use Rattle.std.specs.Prelude.{◌==◌, nat_le, nat_lt, codes, filter, fold, if◌then◌else◌}
+use Rattle.std.specs.Prelude.{◌==◌, nat_lt, codes, filter, fold}
 use Rattle.std.specs.List.{prefix_len, range_with_len}
 use Rattle.profile.specs.Word.{bit_of}
 use Rattle.arm_decode.specs.Diagrams.{word_of}
 use Rattle.arm_decode.specs.Ranges.{FitsFields}
 use Rattle.arm_decode.specs.Refusals.{refusal}
-use Rattle.arm_decode.specs.declared.action.Action.{Action}
 use Rattle.arm_decode.specs.declared.action.Action.TheVariants as action
 use Rattle.arm_decode.specs.declared.action.BlockTransfer.{BlockTransfer}
 use Rattle.arm_decode.specs.declared.address.BlockMode.{BlockMode}

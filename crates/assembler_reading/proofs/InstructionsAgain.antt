@@ -1,15 +1,14 @@
 -- A printed instruction is read back, by its mnemonic and its operands.
-use Rattle.std.proofs.Common.{◌≡◌, ◌<◌, ◌≤◌, ◌+◌, ◌-◌, ◌*◌, ◌/◌, ◌%◌, ◌^◌, ℕ, zero, suc, Bool, true, false, List, [], ◌∷◌, ◌++◌, Option, Some, None, Result, Ok, Err, refl, sym, ap, subst, ◌∙◌, arith, append_assoc}
+use Rattle.std.proofs.Common.{◌≡◌, ◌<◌, ◌+◌, ◌-◌, ◌/◌, ◌%◌, ◌^◌, ℕ, Bool, true, false, List, [], ◌∷◌, ◌++◌, Option, Some, None, Result, Ok, Err, refl, sym, ap, subst, ◌∙◌, arith, append_assoc}
 use Rattle.std.proofs.lemmas.Bool.Decides.{nat_tests}
 use Rattle.std.proofs.lemmas.List.{append-nil}
-use Rattle.std.specs.Prelude.{◌==◌, ◌&&◌, nat_lt, codes, if◌then◌else◌}
-use Rattle.std.specs.List.{list_all}
+use Rattle.std.specs.Prelude.{◌==◌, ◌&&◌, nat_lt, codes}
 use Rattle.profile.specs.declared.fault.Fault.{Fault}
-use Rattle.arm_decode.specs.Decoded.{checked, decoded, decoded_as, unless_refused}
+use Rattle.arm_decode.specs.Decoded.{decoded, decoded_as, unless_refused}
 use Rattle.arm_decode.specs.Diagrams.{word_of}
 use Rattle.arm_decode.specs.Fields.{action_in, condition_in}
 use Rattle.arm_decode.specs.Ranges.{FitsFields}
-use Rattle.arm_decode.specs.Refusals.{is_pc, is_test, refusal}
+use Rattle.arm_decode.specs.Refusals.{is_test, refusal}
 use Rattle.arm_decode.specs.Table.{form_of}
 use Rattle.arm_decode.specs.declared.action.Action.{Action}
 use Rattle.arm_decode.specs.declared.action.Action.TheVariants as action
@@ -21,13 +20,13 @@ use Rattle.assembler_text.specs.Names.{choose_text, condition_text, operation_te
 use Rattle.assembler_text.specs.Numbers.{number_text}
 use Rattle.assembler_text.specs.Operands.{operand_text}
 use Rattle.assembler_text.specs.Printing.{branch_target, branch_text, flags_text, interrupt_text, multiply_head, multiply_operands, multiply_text, operate_head, operate_text, registers_text}
-use Rattle.assembler_names.specs.Expressions.{Lookup, Value, expression, sign}
+use Rattle.assembler_names.specs.Expressions.{Lookup, expression, sign}
 use Rattle.assembler_names.specs.Interrupts.{call_named, swi_named}
-use Rattle.assembler_names.specs.Mnemonics.{flag_text, mnemonic, mnemonic_named}
-use Rattle.assembler_names.specs.Words.{after_spaces, after_word, byte, is_word_byte, spaces, word}
+use Rattle.assembler_names.specs.Mnemonics.{flag_text, mnemonic}
+use Rattle.assembler_names.specs.Words.{after_spaces, after_word, byte, spaces, word}
 use Rattle.assembler_names.specs.declared.mnemonics.Command.{Command}
 use Rattle.assembler_names.specs.declared.mnemonics.Command.TheVariants as command
-use Rattle.assembler_reading.specs.Instructions.{action_at, branch_at, branch_to, call_or_number, instruction, interrupt_at, interrupt_number, interrupt_of, plain_call, word_for}
+use Rattle.assembler_reading.specs.Instructions.{action_at, branch_at, branch_to, instruction, interrupt_at, interrupt_of, plain_call, word_for}
 use Rattle.assembler_reading.proofs.MnemonicsAgain.{IsMnemonic, branch_word, interrupt_word, multiply_word, operate_word}
 use Rattle.assembler_reading.proofs.Numbers.{number_again}
 use Rattle.assembler_reading.proofs.OperatingAgain.{allocated, flag_of, multiply_again, multiply_no_space, operate_again, operate_no_space}

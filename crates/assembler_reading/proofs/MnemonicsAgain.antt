@@ -1,7 +1,8 @@
 -- The mnemonic of a printed instruction is read back.
-use Rattle.std.proofs.Common.{◌≡◌, ◌<◌, ◌≤◌, ◌+◌, ◌-◌, ◌*◌, ◌/◌, ◌%◌, ◌^◌, ℕ, zero, suc, Bool, true, false, List, [], ◌∷◌, ◌++◌, length, take, drop, Option, Some, None, Result, Ok, Err, refl, sym, ap, subst, ◌∙◌, arith, append_assoc}
-use Rattle.std.specs.Prelude.{◌&&◌, codes}
+use Rattle.std.proofs.Common.{◌≡◌, ℕ, Bool, true, false, List, [], ◌∷◌, ◌++◌, take, drop, Some, None, refl}
+use Rattle.std.specs.Prelude.{codes, if◌then◌else◌}
 use Rattle.std.specs.List.{list_all}
+use Rattle.arm_decode.specs.Refusals.{is_test}
 use Rattle.arm_decode.specs.declared.address.BlockMode.{BlockMode}
 use Rattle.arm_decode.specs.declared.address.BlockMode.TheVariants as block
 use Rattle.arm_decode.specs.declared.condition.Condition.{Condition}
@@ -116,109 +117,28 @@ behind_operation operation.Move s = refl
 behind_operation operation.BitClear s = refl
 behind_operation operation.MoveNot s = refl
 
-flag_is_none : (o : Operation) (flag : Bool) → conditioned (text_if flag (flag_text o)) ≡ (condition.Always, text_if flag (flag_text o))
+abbrev flag_letter : Bool → List ℕ
+flag_letter is_a_test = if is_a_test then codes "P" else codes "S"
+
+letter_is_none : (t flag : Bool) → conditioned (text_if flag (flag_letter t)) ≡ (condition.Always, text_if flag (flag_letter t))
 unfolding conditioned condition_named printed_condition
-flag_is_none operation.And true = refl
-flag_is_none operation.And false = refl
-flag_is_none operation.ExclusiveOr true = refl
-flag_is_none operation.ExclusiveOr false = refl
-flag_is_none operation.Subtract true = refl
-flag_is_none operation.Subtract false = refl
-flag_is_none operation.ReverseSubtract true = refl
-flag_is_none operation.ReverseSubtract false = refl
-flag_is_none operation.Add true = refl
-flag_is_none operation.Add false = refl
-flag_is_none operation.AddWithCarry true = refl
-flag_is_none operation.AddWithCarry false = refl
-flag_is_none operation.SubtractWithCarry true = refl
-flag_is_none operation.SubtractWithCarry false = refl
-flag_is_none operation.ReverseSubtractWithCarry true = refl
-flag_is_none operation.ReverseSubtractWithCarry false = refl
-flag_is_none operation.Test true = refl
-flag_is_none operation.Test false = refl
-flag_is_none operation.TestEquivalence true = refl
-flag_is_none operation.TestEquivalence false = refl
-flag_is_none operation.Compare true = refl
-flag_is_none operation.Compare false = refl
-flag_is_none operation.CompareNegated true = refl
-flag_is_none operation.CompareNegated false = refl
-flag_is_none operation.Or true = refl
-flag_is_none operation.Or false = refl
-flag_is_none operation.Move true = refl
-flag_is_none operation.Move false = refl
-flag_is_none operation.BitClear true = refl
-flag_is_none operation.BitClear false = refl
-flag_is_none operation.MoveNot true = refl
-flag_is_none operation.MoveNot false = refl
+letter_is_none true true = refl
+letter_is_none true false = refl
+letter_is_none false true = refl
+letter_is_none false false = refl
 
-flag_again : (o : Operation) (flag : Bool) → suffix (flag_text o) (text_if flag (flag_text o)) ≡ Some flag
+letter_again : (t flag : Bool) → suffix (flag_letter t) (text_if flag (flag_letter t)) ≡ Some flag
 unfolding suffix
-flag_again operation.And true = refl
-flag_again operation.And false = refl
-flag_again operation.ExclusiveOr true = refl
-flag_again operation.ExclusiveOr false = refl
-flag_again operation.Subtract true = refl
-flag_again operation.Subtract false = refl
-flag_again operation.ReverseSubtract true = refl
-flag_again operation.ReverseSubtract false = refl
-flag_again operation.Add true = refl
-flag_again operation.Add false = refl
-flag_again operation.AddWithCarry true = refl
-flag_again operation.AddWithCarry false = refl
-flag_again operation.SubtractWithCarry true = refl
-flag_again operation.SubtractWithCarry false = refl
-flag_again operation.ReverseSubtractWithCarry true = refl
-flag_again operation.ReverseSubtractWithCarry false = refl
-flag_again operation.Test true = refl
-flag_again operation.Test false = refl
-flag_again operation.TestEquivalence true = refl
-flag_again operation.TestEquivalence false = refl
-flag_again operation.Compare true = refl
-flag_again operation.Compare false = refl
-flag_again operation.CompareNegated true = refl
-flag_again operation.CompareNegated false = refl
-flag_again operation.Or true = refl
-flag_again operation.Or false = refl
-flag_again operation.Move true = refl
-flag_again operation.Move false = refl
-flag_again operation.BitClear true = refl
-flag_again operation.BitClear false = refl
-flag_again operation.MoveNot true = refl
-flag_again operation.MoveNot false = refl
+letter_again true true = refl
+letter_again true false = refl
+letter_again false true = refl
+letter_again false false = refl
 
-flag_letters : (o : Operation) (flag : Bool) → list_all is_word_byte (text_if flag (flag_text o)) ≡ true
-flag_letters operation.And true = refl
-flag_letters operation.And false = refl
-flag_letters operation.ExclusiveOr true = refl
-flag_letters operation.ExclusiveOr false = refl
-flag_letters operation.Subtract true = refl
-flag_letters operation.Subtract false = refl
-flag_letters operation.ReverseSubtract true = refl
-flag_letters operation.ReverseSubtract false = refl
-flag_letters operation.Add true = refl
-flag_letters operation.Add false = refl
-flag_letters operation.AddWithCarry true = refl
-flag_letters operation.AddWithCarry false = refl
-flag_letters operation.SubtractWithCarry true = refl
-flag_letters operation.SubtractWithCarry false = refl
-flag_letters operation.ReverseSubtractWithCarry true = refl
-flag_letters operation.ReverseSubtractWithCarry false = refl
-flag_letters operation.Test true = refl
-flag_letters operation.Test false = refl
-flag_letters operation.TestEquivalence true = refl
-flag_letters operation.TestEquivalence false = refl
-flag_letters operation.Compare true = refl
-flag_letters operation.Compare false = refl
-flag_letters operation.CompareNegated true = refl
-flag_letters operation.CompareNegated false = refl
-flag_letters operation.Or true = refl
-flag_letters operation.Or false = refl
-flag_letters operation.Move true = refl
-flag_letters operation.Move false = refl
-flag_letters operation.BitClear true = refl
-flag_letters operation.BitClear false = refl
-flag_letters operation.MoveNot true = refl
-flag_letters operation.MoveNot false = refl
+letter_letters : (t flag : Bool) → list_all is_word_byte (text_if flag (flag_letter t)) ≡ true
+letter_letters true true = refl
+letter_letters true false = refl
+letter_letters false true = refl
+letter_letters false false = refl
 
 operate_of : (name s f : List ℕ) (o : Operation) (c : Condition) (flag : Bool) → operation_named (take 3 name) ≡ Some o → drop 3 name ≡ s → conditioned s ≡ (c, f)
     → suffix (flag_text o) f ≡ Some flag → mnemonic_named name ≡ Some (mnemonic c (command.Operate o flag))
@@ -236,10 +156,10 @@ operate_word c o flag =
     let last : List ℕ = text_if flag (flag_text o) in
     record {
       letters = letters_join is_word_byte (operation_text o) (condition_text c ++ last) (operation_letters o)
-          (letters_join is_word_byte (condition_text c) last (condition_letters c) (flag_letters o flag));
+          (letters_join is_word_byte (condition_text c) last (condition_letters c) (letter_letters (is_test o) flag));
       named = operate_of (operation_text o ++ (condition_text c ++ last)) (condition_text c ++ last) last o c flag
           (operation_at_front o (condition_text c ++ last)) (behind_operation o (condition_text c ++ last))
-          (conditioned_again c last (flag_is_none o flag)) (flag_again o flag);
+          (conditioned_again c last (letter_is_none (is_test o) flag)) (letter_again (is_test o) flag);
     }
 
 -- MUL, MLA

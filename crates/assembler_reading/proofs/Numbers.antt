@@ -1,16 +1,16 @@
 -- Printed numbers are read back.
-use Rattle.std.proofs.Common.{◌≡◌, ◌<◌, ◌≤◌, ◌+◌, ◌-◌, ◌*◌, ◌/◌, ◌%◌, ◌^◌, ℕ, zero, suc, Bool, true, false, List, [], ◌∷◌, ◌++◌, length, take, drop, Option, Some, None, refl, sym, ap, subst, ◌∙◌, arith, append_assoc}
+use Rattle.std.proofs.Common.{◌≡◌, ◌<◌, ◌≤◌, ◌+◌, ◌*◌, ◌/◌, ◌%◌, ◌^◌, ℕ, zero, suc, Bool, true, false, List, [], ◌∷◌, ◌++◌, length, Some, None, refl, sym, ap, subst, ◌∙◌, arith}
 use Rattle.std.proofs.lemmas.Bool.Decides.{nat_tests}
 use Rattle.std.proofs.lemmas.Fmt.{decimal_digit, decimal_step}
-use Rattle.std.specs.Prelude.{◌==◌, ◌&&◌, nat_lt, decimal, map, if◌then◌else◌}
+use Rattle.std.specs.Prelude.{◌==◌, nat_lt, decimal, map, if◌then◌else◌}
 use Rattle.std.specs.Char.{digit_value, is_digit}
 use Rattle.std.specs.List.{prefix_len, list_all}
-use Rattle.std.specs.Str.Parse.{digits_value, digits_value_after}
+use Rattle.std.specs.Str.Parse.{digits_value_after}
 use Rattle.profile.specs.Digits.{hex_digit, hex_digit_at, hex_number, hex_word, without_zeros}
 use Rattle.profile.specs.Word.{field}
 use Rattle.assembler_text.specs.Numbers.{number_text}
 use Rattle.assembler_names.specs.Expressions.{Lookup, Value, expression, hexadecimal, more_terms, named_term, numeral, sign, term, word_value}
-use Rattle.assembler_names.specs.Words.{after_spaces, after_word, is_word_byte, word}
+use Rattle.assembler_names.specs.Words.{after_spaces, is_word_byte}
 use Rattle.assembler_reading.proofs.Pieces.{after_before, word_before}
 
 -- a digit's value

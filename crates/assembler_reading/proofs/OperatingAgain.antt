@@ -1,9 +1,8 @@
 -- The printed operands of data processing and of multiplication are read back.
-use Rattle.std.proofs.Common.{◌≡◌, ◌<◌, ◌≤◌, ◌+◌, ◌-◌, ◌*◌, ◌/◌, ◌%◌, ◌^◌, ℕ, zero, suc, Bool, true, false, List, [], ◌∷◌, ◌++◌, Option, Some, None, Result, Ok, Err, refl, sym, ap, subst, ◌∙◌, arith, append_assoc}
+use Rattle.std.proofs.Common.{◌≡◌, ◌<◌, ℕ, Bool, true, false, List, [], ◌∷◌, ◌++◌, Option, Some, None, Ok, refl, ap, subst, ◌∙◌, arith, append_assoc}
 use Rattle.std.proofs.lemmas.Bool.Decides.{nat_tests}
 use Rattle.std.proofs.lemmas.List.{append-nil}
 use Rattle.std.specs.Prelude.{◌==◌, ◌&&◌, ◌||◌, not, codes, if◌then◌else◌}
-use Rattle.profile.specs.declared.fault.Fault.{Fault}
 use Rattle.arm_decode.specs.Ranges.{FitsFields, FitsOperand}
 use Rattle.arm_decode.specs.Refusals.{is_move, is_pc, is_test, refusal, unallocated}
 use Rattle.arm_decode.specs.declared.action.Action.{Action}
