@@ -58,7 +58,9 @@ impl Areas {
     ///
     /// RISC OS 3 Programmer's Reference Manual, supplement, "OS_DynamicArea".
     pub fn info(&self, number: u32) -> Result<&Area, ErrorNumber>
-        ensures { MatchResult result (λ a. area_in self.now.areas number ≡ Ok a.now) (λ e. area_in self.now.areas number ≡ Err e) }
+        ensures { MatchResult result
+            (λ a. area_in self.now.areas number ≡ Ok a.now)
+            (λ e. area_in self.now.areas number ≡ Err e) }
     {
         find(self.list(), number).ok_or(ErrorNumber::AreaUnknown)
     }

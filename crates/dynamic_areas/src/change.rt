@@ -25,9 +25,11 @@ impl Areas {
     /// RISC OS 3 Programmer's Reference Manual, "OS_ChangeDynamicArea".
     pub fn change(&mut self, map: &mut AddressMap, number: u32, amount: u32) -> Changed
         requires { AreAreas (store_of map.old) (free_pages map.old) self.old }
-        ensures answer { result ≡ change_answer self.old.areas (store_of map.old) (free_pages map.old) number amount }
+        ensures answer { result
+            ≡ change_answer self.old.areas (store_of map.old) (free_pages map.old) number amount }
         ensures land { self.new ≡ land_changed self.old number amount result.bytes }
-        ensures store { store_of map.new ≡ store_changed (store_of map.old) self.old.areas number amount result.bytes }
+        ensures store { store_of map.new
+            ≡ store_changed (store_of map.old) self.old.areas number amount result.bytes }
         ensures areas { AreAreas (store_of map.new) (free_pages map.new) self.new }
         ensures stays { StaysInPlace map.old map.new }
     {
@@ -44,10 +46,12 @@ impl Areas {
     /// Maps `count` pages for an area, behind those that it has, and gives the module area's heap its end.
     fn extend(&mut self, map: &mut AddressMap, number: u32, count: u32)
         requires areas { AreAreas (store_of map.old) (free_pages map.old) self.old }
-        requires room { (a : Area) → find_area number self.old.areas ≡ Some a → 4096 * (a.pages + count) ≤ a.maximum }
+        requires room { (a : Area) → find_area number self.old.areas ≡ Some a
+            → 4096 * (a.pages + count) ≤ a.maximum }
         requires pool { (a : Area) → find_area number self.old.areas ≡ Some a → count ≤ free_pages map.old }
         ensures land { self.new ≡ land_more self.old number count }
-        ensures store { store_of map.new ≡ store_extended (store_of map.old) number count (find_area number self.old.areas) }
+        ensures store { store_of map.new
+            ≡ store_extended (store_of map.old) number count (find_area number self.old.areas) }
         ensures areas { AreAreas (store_of map.new) (free_pages map.new) self.new }
         ensures stays { StaysInPlace map.old map.new }
     {
@@ -64,9 +68,11 @@ impl Areas {
     /// Takes `count` pages away from the top of an area, once the module area's heap has its end.
     fn reduce(&mut self, map: &mut AddressMap, number: u32, count: u32)
         requires areas { AreAreas (store_of map.old) (free_pages map.old) self.old }
-        requires loose { (a : Area) → find_area number self.old.areas ≡ Some a → count ≤ loose_pages (store_of map.old) a }
+        requires loose { (a : Area) → find_area number self.old.areas ≡ Some a
+            → count ≤ loose_pages (store_of map.old) a }
         ensures land { self.new ≡ land_less self.old number count }
-        ensures store { store_of map.new ≡ store_reduced (store_of map.old) number count (find_area number self.old.areas) }
+        ensures store { store_of map.new
+            ≡ store_reduced (store_of map.old) number count (find_area number self.old.areas) }
         ensures areas { AreAreas (store_of map.new) (free_pages map.new) self.new }
         ensures stays { StaysInPlace map.old map.new }
     {
@@ -82,10 +88,12 @@ impl Areas {
     /// Maps `count` pages for an area, behind those that it has.
     pub(crate) fn grow(&mut self, map: &mut AddressMap, number: u32, count: u32)
         requires ground { IsGround (store_of map.old) (free_pages map.old) self.old }
-        requires room { (a : Area) → find_area number self.old.areas ≡ Some a → 4096 * (a.pages + count) ≤ a.maximum }
+        requires room { (a : Area) → find_area number self.old.areas ≡ Some a
+            → 4096 * (a.pages + count) ≤ a.maximum }
         requires pool { count ≤ free_pages map.old }
         ensures land { self.new ≡ land_more self.old number count }
-        ensures store { store_of map.new ≡ store_more (store_of map.old) count (find_area number self.old.areas) }
+        ensures store { store_of map.new
+            ≡ store_more (store_of map.old) count (find_area number self.old.areas) }
         ensures ground { IsGround (store_of map.new) (free_pages map.new) self.new }
         ensures stays { StaysInPlace map.old map.new }
     {
@@ -100,9 +108,11 @@ impl Areas {
     /// Takes `count` pages away from the top of an area.
     pub(crate) fn shrink(&mut self, map: &mut AddressMap, number: u32, count: u32)
         requires ground { IsGround (store_of map.old) (free_pages map.old) self.old }
-        requires loose { (a : Area) → find_area number self.old.areas ≡ Some a → AreLoose (store_of map.old) a count }
+        requires loose { (a : Area) → find_area number self.old.areas ≡ Some a
+            → AreLoose (store_of map.old) a count }
         ensures land { self.new ≡ land_less self.old number count }
-        ensures store { store_of map.new ≡ store_less (store_of map.old) count (find_area number self.old.areas) }
+        ensures store { store_of map.new
+            ≡ store_less (store_of map.old) count (find_area number self.old.areas) }
         ensures ground { IsGround (store_of map.new) (free_pages map.new) self.new }
         ensures stays { StaysInPlace map.old map.new }
     {

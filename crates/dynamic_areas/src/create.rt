@@ -37,9 +37,11 @@ impl Areas {
         name: &[u8],
     ) -> Result<Created, ErrorNumber>
         requires { AreAreas (store_of map.old) (free_pages map.old) self.old }
-        ensures land { Gives self.old (created self.old (free_pages map.old) wanted.now name.now) result self.new }
+        ensures land { Gives self.old
+            (created self.old (free_pages map.old) wanted.now name.now) result self.new }
         ensures store { MatchResult result
-            (λ made. store_of map.new ≡ with_pages_at (store_of map.old) made.base (4096 * pages_for wanted.now.size))
+            (λ made. store_of map.new
+                ≡ with_pages_at (store_of map.old) made.base (4096 * pages_for wanted.now.size))
             (λ _. store_of map.new ≡ store_of map.old) }
         ensures areas { AreAreas (store_of map.new) (free_pages map.new) self.new }
         ensures stays { StaysInPlace map.old map.new }

@@ -102,7 +102,8 @@ fn held_pages(map: &AddressMap, area: &Area) -> u32
     requires sound { IsSound (store_of map.now) }
     requires heap { is_some (find_heap 0x01800000 (store_of map.now).heaps) ≡ true }
     requires room { IsRoom area.now }
-    ensures value { result ≡ held_from (must_stay (store_of map.now) area.now.number) area.now.base area.now.pages }
+    ensures value { result
+        ≡ held_from (must_stay (store_of map.now) area.now.number) area.now.base area.now.pages }
     ensures most { result ≤ area.now.pages }
 {
     let mut pages = area.pages;

@@ -54,7 +54,8 @@ pub(crate) fn index_of(areas: &[Area], number: u32) -> Option<usize>
 
 /// Where in the list an area of that number belongs.
 pub(crate) fn place_of(areas: &[Area], number: u32) -> usize
-    ensures place { (area : Area) → area.number ≡ number → with_area area areas.now ≡ insert areas.now result area }
+    ensures place { (area : Area) → area.number ≡ number
+        → with_area area areas.now ≡ insert areas.now result area }
     ensures within { result ≤ length areas.now }
 {
     for (index, area) in areas.iter().enumerate() {

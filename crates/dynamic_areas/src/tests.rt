@@ -108,9 +108,14 @@ fn creates_areas(rt: HostRuntime) -> Result<(), Fail> {
         assert_eq!(rt; made, expected, "{size}");
     }
     assert_eq!(rt; areas.pool(&map), 169);
-    assert_eq!(rt; areas.remove(&mut map, 0x101), Ok(()));
+    for (number, next) in [(NONE, 1), (1, 0x100), (0x100, 0x101), (0x101, NONE)] {
+        assert_eq!(rt; areas.next(number), Ok(next));
+    }
+    assert_eq!(rt; areas.renumber(0x100, 0x200), Ok(()));
+    assert_eq!(rt; areas.renumber(0x200, 0x101), Err(ErrorNumber::AreaTaken));
+    assert_eq!(rt; areas.remove(&mut map, 0x200), Ok(()));
     assert_eq!(rt; areas.pool(&map), 171);
-    assert_eq!(rt; areas.remove(&mut map, 0x101), Err(ErrorNumber::AreaUnknown));
+    assert_eq!(rt; areas.remove(&mut map, 0x200), Err(ErrorNumber::AreaUnknown));
     assert_eq!(rt; areas.remove(&mut map, 1), Err(ErrorNumber::AreaInUse));
     Ok(())
 }

@@ -1,3 +1,4 @@
+use Rattle.os_heap.proofs.Added.{sound_empty}
 use Rattle.dynamic_areas.proofs.Starting.{may_begin_area, start_areas, start_room}
 use Rattle.dynamic_areas.proofs.tests.start.Goals as goal
 
@@ -17,3 +18,6 @@ returns c =
     (start_areas c.in_ok-map.map c.init_module_area.new.map c.own.new.self c.args.config c.in_ok-map.ensures.sizes c.in_ok-map.ensures.regions
     c.in_ok-map.ensures.mapping c.in_ok-map.ensures.pool begun c.init_module_area.ensures.sound c.init_module_area.ensures.mapping
     c.own.ensures.regions c.own.ensures.mapping c.own.ensures.bytes)
+
+pub init_module_area-requires-clause-sound : goal.init_module_area-requires-clause-sound
+init_module_area-requires-clause-sound c = sound_empty c.in_ok-map.map c.in_ok-map.ensures.regions
