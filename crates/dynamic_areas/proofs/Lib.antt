@@ -1,3 +1,4 @@
+pub mod ClassLemmas
 pub mod GroundLemmas
 pub mod HeapBase
 pub mod LandLemmas

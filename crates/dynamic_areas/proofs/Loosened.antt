@@ -7,9 +7,7 @@ use Rattle.address_map.specs.declared.region.Kind.{Kind}
 use Rattle.address_map.specs.declared.region.Kind.TheVariants as kind
 use Rattle.address_map.specs.declared.region.Region.{Region}
 use Rattle.address_map.specs.Bytes.{Bytes, in_range, word_at}
-use Rattle.address_map.specs.Flex.{FlexBlock, flex_from, flex_in, has_anchor_in, block_at, whole_words}
 use Rattle.address_map.specs.Items.{size_of}
-use Rattle.address_map.specs.Records.{is_flex_kind, flex_blocks_of, anchor_meets}
 use Rattle.os_heap_lists.specs.Heap.{HeapList, IsHeapIn}
 use Rattle.os_heap_lists.specs.Lists.{live_total}
 use Rattle.os_heap_lists.specs.Words.{AreApart}
@@ -23,7 +21,6 @@ use Rattle.dynamic_areas.specs.Changing.{AreLoose, AreRangesClear, loose_pages}
 use Rattle.dynamic_areas.specs.Ground.{AreAreas}
 use Rattle.dynamic_areas.proofs.LooseLemmas.{page_free, held_most}
 use Rattle.dynamic_areas.proofs.ModuleArea.{IsModuleArea, module_area_known, heap_below}
-use Rattle.dynamic_areas.proofs.RecordLemmas.{anchors_by_pages}
 use Rattle.dynamic_areas.proofs.Remapped.{here, range_low, range_high}
 use Rattle.dynamic_areas.proofs.RoomLemmas.{found_number}
 
@@ -90,69 +87,11 @@ ranges_behind top len h hs (r ∷ rs) b others stand start found spelled low hig
   ranges_behind top len h hs rs b others stand start found spelled low high placed.1,
 )
 
--- the flex blocks are read from their own range, which has no word of the heap
-flex_kept : (most : ℕ) (w v : ℕ → ℕ) (at end : ℕ) → ((q : ℕ) → at ≤ q → q < end → (w q ≡ v q) × (w (q + 4) ≡ v (q + 4)))
-    → flex_from most w at end ≡ flex_from most v at end
-flex_kept zero w v at end same = refl
-flex_kept (suc most) w v at end same =
-    elim (cases_lt at end) [
-      | inr past ↦ rw (le-leb end at past) refl
-      | inl inside ↦
-          let first = same at (omega arith) inside in
-          let rest : flex_from most w (at + (8 + whole_words (v (at + 4)))) end ≡ flex_from most v (at + (8 + whole_words (v (at + 4)))) end =
-          flex_kept most w v (at + (8 + whole_words (v (at + 4)))) end (λ q low high. same q (omega arith) high) in
-          rw (lt-leb end at inside, first.0, first.1) (ap (λ (bs : List FlexBlock). block_at v at ∷ bs) rest)
-    ]
-
-word_kept : (b c : ℕ → ℕ) (q : ℕ) → ((x : ℕ) → AreApart x 1 0x0180000C 4 → c x ≡ b x) → AreApart q 4 0x0180000C 4 → word_at c q ≡ word_at b q
-word_kept b c q same apart =
-    let at : (i : ℕ) → i < 4 → c (q + i) ≡ b (q + i) = λ i less. same (q + i) (elim apart [ inl low ↦ inl (omega arith) | inr high ↦ inr (omega arith) ]) in
-    let b0 : c q ≡ b q = same q (elim apart [ inl low ↦ inl (omega arith) | inr high ↦ inr (omega arith) ]) in
-    rw (b0, at 1 (omega arith), at 2 (omega arith), at 3 (omega arith)) refl
-
-blocks_kept : (b c : ℕ → ℕ) (r : Region) (size : ℕ) → 16 ≤ size → ((x : ℕ) → AreApart x 1 0x0180000C 4 → c x ≡ b x)
-    → (is_flex_kind r.kind ≡ true → AreClear r.at r.len 0x01800000 size) → flex_blocks_of (word_at c) r ≡ flex_blocks_of (word_at b) r
-unfolding flex_in
-blocks_kept b c r size long same clear =
-    elim (cases_Bool (is_flex_kind r.kind)) [
-      | inr other ↦ rw other refl
-      | inl flex ↦ rw flex (flex_kept r.len (word_at c) (word_at b) r.at (r.at + r.len) (λ q low high.
-        let out : in_range 0x01800000 size q ≡ false = clear flex q (here r.at r.len q low high) in
-        elim (cases_lt q 0x01800000) [
-          | inl before ↦ (word_kept b c q same (inl (omega arith)), word_kept b c (q + 4) same (inl (omega arith)))
-          | inr behind ↦ elim (cases_lt q (0x01800000 + size)) [
-            | inl inside ↦ absurd (both_ways (in_range 0x01800000 size q) out (here 0x01800000 size q behind inside))
-            | inr past ↦ (word_kept b c q same (inr (omega arith)), word_kept b c (q + 4) same (inr (omega arith)))
-          ]
-        ]))
-    ]
-
-no_flex_image : (k : Kind) → is_image k ≡ true → is_flex_kind k ≡ true → ⊥
-no_flex_image kind.Heap image flex = false≢true image
-no_flex_image kind.Rma image flex = false≢true image
-no_flex_image kind.FlexStore image flex = false≢true image
-no_flex_image kind.FlexHeader image flex = false≢true image
-no_flex_image kind.Anchor image flex = false≢true image
-no_flex_image kind.Image image flex = false≢true flex
-no_flex_image kind.SystemPage image flex = false≢true image
-
-anchors_kept : (b c : ℕ → ℕ) (at len : ℕ) (h : HeapList) (hs : List HeapList) (rs : List Region) → h.start ≡ 0x01800000 → find_heap 0x01800000 hs ≡ Some h
-    → 16 ≤ h.end → ((x : ℕ) → AreApart x 1 0x0180000C 4 → c x ≡ b x) → ArePlaced hs rs → anchor_meets rs c at len ≡ anchor_meets rs b at len
-anchors_kept b c at len h hs [] start found long same placed = refl
-anchors_kept b c at len h hs (r ∷ rs) start found long same placed =
-    let clear : is_flex_kind r.kind ≡ true → AreClear r.at r.len 0x01800000 h.end =
-    λ flex. elim placed.0 [
-      | inl clear ↦ subst (λ (n : ℕ). AreClear r.at r.len n h.end) start (clear_of-found r.at r.len 0x01800000 hs h clear found)
-      | inr image ↦ absurd (no_flex_image r.kind (image_kind hs r image) flex)
-    ] in
-    let blocks : flex_blocks_of (word_at c) r ≡ flex_blocks_of (word_at b) r = blocks_kept b c r h.end long same clear in
-    rw (blocks, anchors_kept b c at len h hs rs start found long same placed.1) refl
-
 -- `t` is the store after the heap got the end of the pages that are left
 pub loose_ended : (s t : Store) (free : ℕ) (l : Land) (a : Area) (count : ℕ) (m : IsModuleArea s a) → AreAreas s free l → find_area 1 l.areas ≡ Some a
     → count ≤ loose_pages s a → t.heaps ≡ with_end m.heap.start (4096 * (a.pages - count)) s.heaps → t.others ≡ s.others
-    → ((x : ℕ) → AreApart x 1 0x0180000C 4 → t.bytes.at x ≡ s.bytes.at x) → AreLoose t a count
-loose_ended s t free l a count m areas e loose heaps others same =
+    → AreLoose t a count
+loose_ended s t free l a count m areas e loose heaps others =
     let h : HeapList = m.heap in
     let start : h.start ≡ 0x01800000 = m.start in
     let end : h.end ≡ 4096 * a.pages = m.end in
@@ -168,8 +107,4 @@ loose_ended s t free l a count m areas e loose heaps others same =
       heaps = rw heaps (heaps_ended (a.base + 4096 * (a.pages - count)) (4096 * count) (4096 * (a.pages - count)) h s.heaps beside (omega arith) (omega arith));
       ranges = rw others (ranges_behind (a.base + 4096 * (a.pages - count)) (4096 * count) h s.heaps s.others s.bytes beside sound.limits.place start m.found m.spelled
       (omega arith) (omega arith) sound.placed);
-      anchors = rw others (
-        anchors_kept s.bytes.at t.bytes.at (a.base + 4096 * (a.pages - count)) (4096 * count) h s.heaps s.others start m.found (omega arith) same sound.placed
-        ∙ anchors_by_pages s.others s.bytes.at a.base (a.pages - count) count (λ k low high. (page_free s a count k loose low high).anchor_free)
-      );
     }

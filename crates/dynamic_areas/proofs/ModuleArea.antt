@@ -14,12 +14,12 @@ use Rattle.os_heap.proofs.Added.{region_tested}
 use Rattle.os_heap.proofs.Found.{found_heap, found_start}
 use Rattle.dynamic_areas.specs.declared.area.Area.{Area}
 use Rattle.dynamic_areas.specs.Areas.{Land, find_area, with_areas, with_pages, paged}
-use Rattle.dynamic_areas.specs.Changing.{AreRangesClear, has_record, heap_base, loose_pages, ended_by}
+use Rattle.dynamic_areas.specs.Changing.{AreRangesClear, heap_base, must_stay, loose_pages, ended_by}
 use Rattle.dynamic_areas.specs.Ground.{IsGround, AreAreas, EndsWithArea, AreRangesMapped}
 use Rattle.dynamic_areas.specs.Remapped.{with_pages_at}
 use Rattle.dynamic_areas.specs.Rooms.{IsRoom}
 use Rattle.dynamic_areas.proofs.GroundLemmas.{ground_grown, unmapped_above, mapped_held, find_paged}
-use Rattle.dynamic_areas.proofs.LooseLemmas.{page_free, IsFree}
+use Rattle.dynamic_areas.proofs.LooseLemmas.{page_free}
 use Rattle.dynamic_areas.proofs.RecordLemmas.{unmet}
 use Rattle.dynamic_areas.proofs.Remapped.{clear_unmapped, range_low, range_high}
 use Rattle.dynamic_areas.proofs.RoomLemmas.{found_number, found_room}
@@ -119,6 +119,7 @@ may_grow_heap s free l a count areas e fits pool =
 -- before it loses pages that can go, the heap may have the end of those that are left
 pub heap_below : (s : Store) (free : ℕ) (l : Land) (a : Area) (count : ℕ) (m : IsModuleArea s a) → a.number ≡ 1 → count ≤ loose_pages s a
     → 16 + size_of m.heap.items ≤ 4096 * (a.pages - count)
+unfolding must_stay
 heap_below s free l a count m number loose =
     let h : HeapList = m.heap in
     let start : h.start ≡ 0x01800000 = m.start in
@@ -128,8 +129,8 @@ heap_below s free l a count m number loose =
     elim (cases_eq count 0) [
       | inl none ↦ omega arith
       | inr some ↦
-          let free_page : IsFree s a.number (a.base + 4096 * (a.pages - count)) = page_free s a count (a.pages - count) loose (omega arith) (omega arith) in
-          let free' = rw (eq-eqb a.number 1 number, m.found) at free_page.record_free in
+          let free_page : must_stay s a.number (a.base + 4096 * (a.pages - count)) ≡ false = page_free s a count (a.pages - count) loose (omega arith) (omega arith) in
+          let free' = rw (eq-eqb a.number 1 number, m.found) at free_page in
           let low : heap_base (Some h) ≤ a.base + 4096 * (a.pages - count) = ltb-false (a.base + 4096 * (a.pages - count)) (heap_base (Some h)) free' in
           omega arith
     ]

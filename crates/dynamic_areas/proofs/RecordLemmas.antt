@@ -1,4 +1,4 @@
--- What the map asks of pages that go: that no recorded range, and no anchor, has a byte in them.
+-- What the map asks of pages that go: that no recorded range has a byte in them.
 use Rattle.std.proofs.Common.{◌≡◌, ℕ, ◌+◌, ◌-◌, ◌*◌, ◌/◌, ◌<◌, ◌≤◌, ◌&&◌, ◌||◌, Bool, true, false, leb, List, [], ◌∷◌, refl, sym, ap, ◌∙◌, inl, inr, arith}
 use Rattle.std.specs.List.{list_any}
 use Rattle.std.proofs.Math.Dec.{ltb}
@@ -7,8 +7,7 @@ use Rattle.address_map.specs.declared.region.Kind.{Kind}
 use Rattle.address_map.specs.declared.region.Kind.TheVariants as kind
 use Rattle.address_map.specs.declared.region.Region.{Region}
 use Rattle.address_map.specs.Bytes.{Bytes, in_range, meets, word_at}
-use Rattle.address_map.specs.Flex.{has_anchor_in}
-use Rattle.address_map.specs.Records.{is_heap_kind, is_flex_kind, flex_blocks_of, meets_record, anchor_meets}
+use Rattle.address_map.specs.Records.{is_heap_kind, meets_record}
 use Rattle.os_heap.specs.Store.{AreClear, IsClearOfHeaps, heaps_in, others_in}
 use Rattle.os_heap.specs.Ranges.{meets as meets_range}
 use Rattle.os_heap.proofs.Added.{clear_unless}
@@ -46,37 +45,10 @@ unmet_records b at len (r ∷ rs) heaps ranges =
           rw (unmet at len r.at r.len ranges'.0, unmet_records b at len rs heaps' ranges'.1) refl
     ]
 
-heap_is_no_flex : (k : Kind) → is_heap_kind k ≡ true → is_flex_kind k ≡ false
-heap_is_no_flex kind.Heap h = refl
-heap_is_no_flex kind.Rma h = refl
-heap_is_no_flex kind.FlexStore h = refl
-heap_is_no_flex kind.FlexHeader h = sym h
-heap_is_no_flex kind.Anchor h = refl
-heap_is_no_flex kind.Image h = refl
-heap_is_no_flex kind.SystemPage h = refl
-
--- heaps name no anchors, so it is enough to look at the other ranges
-pub anchors_elsewhere : (bytes : ℕ → ℕ) (at len : ℕ) (rs : List Region) → anchor_meets rs bytes at len ≡ anchor_meets (others_in rs) bytes at len
-anchors_elsewhere bytes at len [] = refl
-anchors_elsewhere bytes at len (r ∷ rs) =
-    elim (cases_Bool (is_heap_kind r.kind)) [
-      | inl heap ↦ rw (heap, heap_is_no_flex r.kind heap) (anchors_elsewhere bytes at len rs)
-      | inr other ↦ rw other (ap (λ (t : Bool). list_any (has_anchor_in at len) (flex_blocks_of (word_at bytes) r) || t) (anchors_elsewhere bytes at len rs))
-    ]
-
 -- what is so of each page is so of all pages together
 page_of : (base first count x : ℕ) → base + 4096 * first ≤ x → x < base + 4096 * first + 4096 * count
     → (k : ℕ) × (first ≤ k) × (k < first + count) × (base + 4096 * k ≤ x) × (x < base + 4096 * k + 4096)
 page_of base first count x low high = ((x - base) / 4096, omega arith, omega arith, omega arith, omega arith)
-
-pub none_by : {X : Type 0} (p : ℕ → X → Bool) (q : X → Bool) (first count : ℕ) (xs : List X)
-    → ((x : X) → ((k : ℕ) → first ≤ k → k < first + count → p k x ≡ false) → q x ≡ false)
-    → ((k : ℕ) → first ≤ k → k < first + count → list_any (p k) xs ≡ false) → list_any q xs ≡ false
-none_by p q first count [] each all = refl
-none_by p q first count (x ∷ xs) each all =
-    let one : q x ≡ false = each x (λ k low high. (or_parts (p k x) (list_any (p k) xs) (all k low high)).0) in
-    let others : list_any q xs ≡ false = none_by p q first count xs each (λ k low high. (or_parts (p k x) (list_any (p k) xs) (all k low high)).1) in
-    rw (one, others) refl
 
 pub clear_by_pages : (base first count other other_len : ℕ)
     → ((k : ℕ) → first ≤ k → k < first + count → AreClear (base + 4096 * k) 4096 other other_len)
@@ -100,16 +72,6 @@ ranges_by_pages base first count (r ∷ rs) all = (
   clear_by_pages base first count r.at r.len (λ k low high. (all k low high).0),
   ranges_by_pages base first count rs (λ k low high. (all k low high).1),
 )
-
-pub anchors_by_pages : (rs : List Region) (bytes : ℕ → ℕ) (base first count : ℕ)
-    → ((k : ℕ) → first ≤ k → k < first + count → anchor_meets rs bytes (base + 4096 * k) 4096 ≡ false)
-    → anchor_meets rs bytes (base + 4096 * first) (4096 * count) ≡ false
-anchors_by_pages rs bytes base first count all =
-    none_by (λ k r. list_any (has_anchor_in (base + 4096 * k) 4096) (flex_blocks_of (word_at bytes) r))
-    (λ r. list_any (has_anchor_in (base + 4096 * first) (4096 * count)) (flex_blocks_of (word_at bytes) r)) first count rs
-    (λ r each. none_by (λ k. has_anchor_in (base + 4096 * k) 4096) (has_anchor_in (base + 4096 * first) (4096 * count)) first count
-    (flex_blocks_of (word_at bytes) r) (λ b block. unmet (base + 4096 * first) (4096 * count) b.anchor 4
-    (clear_by_pages base first count b.anchor 4 (λ k low high. clear_unless (base + 4096 * k) 4096 b.anchor 4 (block k low high)))) each) all
 
 pub clear_of_ranges : (at len : ℕ) (rs : List Region) → list_any (λ r. meets_range at len r.at r.len) rs ≡ false → AreRangesClear at len rs
 clear_of_ranges at len [] none = tt

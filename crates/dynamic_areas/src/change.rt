@@ -1,6 +1,6 @@
 ghost use Rattle.std.specs.Prelude.{ℕ, ◌≡◌, ◌≤◌, ◌+◌, ◌-◌, ◌*◌, Some};
 ghost use Rattle.address_map.specs.Memory.{free_pages, StaysInPlace};
-ghost use Rattle.os_heap.specs.Store.{store_of};
+ghost use Rattle.os_heap.specs.Store.{store_of, AreClasses};
 ghost use Rattle.dynamic_areas.specs.declared.area.Area.{Area};
 ghost use Rattle.dynamic_areas.specs.Areas.{find_area};
 ghost use Rattle.dynamic_areas.specs.Changing.{change_answer, land_changed, land_more, land_less, loose_pages, store_changed, store_extended, store_more, store_less, store_reduced, AreLoose};
@@ -24,13 +24,15 @@ impl Areas {
     ///
     /// RISC OS 3 Programmer's Reference Manual, "OS_ChangeDynamicArea".
     pub fn change(&mut self, map: &mut AddressMap, number: u32, amount: u32) -> Changed
-        requires { AreAreas (store_of map.old) (free_pages map.old) self.old }
+        requires areas { AreAreas (store_of map.old) (free_pages map.old) self.old }
+        requires classes { AreClasses map.old }
         ensures answer { result
             ≡ change_answer self.old.areas (store_of map.old) (free_pages map.old) number amount }
         ensures land { self.new ≡ land_changed self.old number amount result.bytes }
         ensures store { store_of map.new
             ≡ store_changed (store_of map.old) self.old.areas number amount result.bytes }
         ensures areas { AreAreas (store_of map.new) (free_pages map.new) self.new }
+        ensures classes { AreClasses map.new }
         ensures stays { StaysInPlace map.old map.new }
     {
         let answer = self.measure(map, number, amount);
@@ -49,10 +51,12 @@ impl Areas {
         requires room { (a : Area) → find_area number self.old.areas ≡ Some a
             → 4096 * (a.pages + count) ≤ a.maximum }
         requires pool { (a : Area) → find_area number self.old.areas ≡ Some a → count ≤ free_pages map.old }
+        requires classes { AreClasses map.old }
         ensures land { self.new ≡ land_more self.old number count }
         ensures store { store_of map.new
             ≡ store_extended (store_of map.old) number count (find_area number self.old.areas) }
         ensures areas { AreAreas (store_of map.new) (free_pages map.new) self.new }
+        ensures classes { AreClasses map.new }
         ensures stays { StaysInPlace map.old map.new }
     {
         let Some(area) = find(self.list(), number) else {
@@ -70,10 +74,12 @@ impl Areas {
         requires areas { AreAreas (store_of map.old) (free_pages map.old) self.old }
         requires loose { (a : Area) → find_area number self.old.areas ≡ Some a
             → count ≤ loose_pages (store_of map.old) a }
+        requires classes { AreClasses map.old }
         ensures land { self.new ≡ land_less self.old number count }
         ensures store { store_of map.new
             ≡ store_reduced (store_of map.old) number count (find_area number self.old.areas) }
         ensures areas { AreAreas (store_of map.new) (free_pages map.new) self.new }
+        ensures classes { AreClasses map.new }
         ensures stays { StaysInPlace map.old map.new }
     {
         let Some(area) = find(self.list(), number) else {
@@ -91,10 +97,12 @@ impl Areas {
         requires room { (a : Area) → find_area number self.old.areas ≡ Some a
             → 4096 * (a.pages + count) ≤ a.maximum }
         requires pool { count ≤ free_pages map.old }
+        requires classes { AreClasses map.old }
         ensures land { self.new ≡ land_more self.old number count }
         ensures store { store_of map.new
             ≡ store_more (store_of map.old) count (find_area number self.old.areas) }
         ensures ground { IsGround (store_of map.new) (free_pages map.new) self.new }
+        ensures classes { AreClasses map.new }
         ensures stays { StaysInPlace map.old map.new }
     {
         let Some(area) = find(self.list(), number) else {
@@ -110,10 +118,12 @@ impl Areas {
         requires ground { IsGround (store_of map.old) (free_pages map.old) self.old }
         requires loose { (a : Area) → find_area number self.old.areas ≡ Some a
             → AreLoose (store_of map.old) a count }
+        requires classes { AreClasses map.old }
         ensures land { self.new ≡ land_less self.old number count }
         ensures store { store_of map.new
             ≡ store_less (store_of map.old) count (find_area number self.old.areas) }
         ensures ground { IsGround (store_of map.new) (free_pages map.new) self.new }
+        ensures classes { AreClasses map.new }
         ensures stays { StaysInPlace map.old map.new }
     {
         let Some(area) = find(self.list(), number) else {

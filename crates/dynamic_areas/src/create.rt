@@ -1,7 +1,7 @@
 ghost use Rattle.std.specs.Prelude.{◌≡◌, ◌≤◌, ◌*◌, length, MatchResult};
 ghost use Rattle.profile.specs.Outcome.{Gives};
 ghost use Rattle.address_map.specs.Memory.{free_pages, StaysInPlace};
-ghost use Rattle.os_heap.specs.Store.{store_of};
+ghost use Rattle.os_heap.specs.Store.{store_of, AreClasses};
 ghost use Rattle.dynamic_areas.specs.Creating.{are_good_sizes, area_wanted, created, is_good, is_good_base, is_good_number, pages_for, wanted_base, wanted_maximum, wanted_number};
 ghost use Rattle.dynamic_areas.specs.Ground.{AreAreas};
 ghost use Rattle.dynamic_areas.specs.Remapped.{with_pages_at};
@@ -36,7 +36,8 @@ impl Areas {
         wanted: &Wanted,
         name: &[u8],
     ) -> Result<Created, ErrorNumber>
-        requires { AreAreas (store_of map.old) (free_pages map.old) self.old }
+        requires areas { AreAreas (store_of map.old) (free_pages map.old) self.old }
+        requires classes { AreClasses map.old }
         ensures land { Gives self.old
             (created self.old (free_pages map.old) wanted.now name.now) result self.new }
         ensures store { MatchResult result
@@ -44,6 +45,7 @@ impl Areas {
                 ≡ with_pages_at (store_of map.old) made.base (4096 * pages_for wanted.now.size))
             (λ _. store_of map.new ≡ store_of map.old) }
         ensures areas { AreAreas (store_of map.new) (free_pages map.new) self.new }
+        ensures classes { AreClasses map.new }
         ensures stays { StaysInPlace map.old map.new }
     {
         let mut area = self.area_wanted(map.free_pages(), wanted, name)?;

@@ -1,7 +1,7 @@
 ghost use Rattle.std.specs.Prelude.{◌≡◌, ◌≤◌, ◌+◌, ◌*◌, true, is_some};
 ghost use Rattle.address_map.specs.Memory.{free_pages};
 ghost use Rattle.os_heap.specs.Store.{store_of, find_heap, IsSound};
-ghost use Rattle.dynamic_areas.specs.Changing.{change_answer, growth_room, has_record, heap_base, held_from, is_growth, loose_pages, moving, must_stay, pages_asked};
+ghost use Rattle.dynamic_areas.specs.Changing.{change_answer, growth_room, heap_base, held_from, is_growth, loose_pages, moving, must_stay, pages_asked};
 ghost use Rattle.dynamic_areas.specs.Creating.{pages_for};
 ghost use Rattle.dynamic_areas.specs.Ground.{AreAreas};
 ghost use Rattle.dynamic_areas.specs.Rooms.{IsRoom};
@@ -116,21 +116,13 @@ fn held_pages(map: &AddressMap, area: &Area) -> u32
     0
 }
 
-/// Whether the page at an address must stay an area's.
+/// Whether the page at an address must stay an area's: it has a byte of a recorded range, or in the
+/// module area of what is below its base.
 #[tactic(auto, unfolding(crate::specs::Changing::must_stay))]
 fn must_stay(map: &AddressMap, number: u32, page: u32) -> bool
     requires sound { IsSound (store_of map.now) }
     requires heap { is_some (find_heap 0x01800000 (store_of map.now).heaps) ≡ true }
     ensures { result ≡ must_stay (store_of map.now) number page }
-{
-    has_record(map, number, page) || map.anchor_in(page, PAGE_SIZE)
-}
-
-/// Whether a page has a byte of a recorded range, or in the module area of what is below its base.
-fn has_record(map: &AddressMap, number: u32, page: u32) -> bool
-    requires sound { IsSound (store_of map.now) }
-    requires heap { is_some (find_heap 0x01800000 (store_of map.now).heaps) ≡ true }
-    ensures { result ≡ has_record (store_of map.now) number page }
 {
     if number == MODULE_AREA {
         page < heap_base(map)

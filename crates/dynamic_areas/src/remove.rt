@@ -1,7 +1,7 @@
 ghost use Rattle.std.specs.Prelude.{◌≡◌, MatchResult};
 ghost use Rattle.profile.specs.Outcome.{Leaves};
 ghost use Rattle.address_map.specs.Memory.{free_pages, StaysInPlace};
-ghost use Rattle.os_heap.specs.Store.{store_of};
+ghost use Rattle.os_heap.specs.Store.{store_of, AreClasses};
 ghost use Rattle.dynamic_areas.specs.Areas.{find_area};
 ghost use Rattle.dynamic_areas.specs.Changing.{removed, store_emptied};
 ghost use Rattle.dynamic_areas.specs.Ground.{AreAreas};
@@ -23,12 +23,14 @@ impl Areas {
     /// RISC OS 3 Programmer's Reference Manual, supplement, "OS_DynamicArea", reason 1.
     #[tactic(auto, unfolding(crate::specs::Changing::removed))]
     pub fn remove(&mut self, map: &mut AddressMap, number: u32) -> Result<(), ErrorNumber>
-        requires { AreAreas (store_of map.old) (free_pages map.old) self.old }
+        requires areas { AreAreas (store_of map.old) (free_pages map.old) self.old }
+        requires classes { AreClasses map.old }
         ensures land { Leaves self.old (removed self.old (store_of map.old) number) result self.new }
         ensures store { MatchResult result
             (λ _. store_of map.new ≡ store_emptied (store_of map.old) (find_area number self.old.areas))
             (λ _. store_of map.new ≡ store_of map.old) }
         ensures areas { AreAreas (store_of map.new) (free_pages map.new) self.new }
+        ensures classes { AreClasses map.new }
         ensures stays { StaysInPlace map.old map.new }
     {
         let Some(area) = find(self.list(), number) else {

@@ -12,21 +12,21 @@ use Rattle.dynamic_areas.proofs.areas.Areas.create.Goals as goal
 pub put_area-requires : goal.put_area-requires
 put_area-requires c =
     let e = rw c.free_pages.ensures at c.in_ok-area.ensures in
-    (wanted_area c.args.self.now (free_pages c.args.map.now) c.args.wanted.now c.args.name.now c.in_ok-area.area c.requires.ground.table.rooms (sym e)).few
+    (wanted_area c.args.self.now (free_pages c.args.map.now) c.args.wanted.now c.args.name.now c.in_ok-area.area c.requires.areas.ground.table.rooms (sym e)).few
 
 pub grow-requires-clause-ground : goal.grow-requires-clause-ground
 grow-requires-clause-ground c =
     let e = rw c.free_pages.ensures at c.in_ok-area.ensures in
     let w : IsWanted c.args.self.now (free_pages c.args.map.now) c.args.wanted.now c.in_ok-area.area =
-    wanted_area c.args.self.now (free_pages c.args.map.now) c.args.wanted.now c.args.name.now c.in_ok-area.area c.requires.ground.table.rooms (sym e) in
+    wanted_area c.args.self.now (free_pages c.args.map.now) c.args.wanted.now c.args.name.now c.in_ok-area.area c.requires.areas.ground.table.rooms (sym e) in
     rw c.put_area.ensures (ground_put (store_of c.args.map.now) (free_pages c.args.map.now) c.args.self.now (paged 0 c.in_ok-area.area)
-    c.requires.ground w.room refl w.other w.new w.clear)
+    c.requires.areas.ground w.room refl w.other w.new w.clear)
 
 pub grow-requires-clause-room : goal.grow-requires-clause-room
 grow-requires-clause-room c b found =
     let e = rw c.free_pages.ensures at c.in_ok-area.ensures in
     let w : IsWanted c.args.self.now (free_pages c.args.map.now) c.args.wanted.now c.in_ok-area.area =
-    wanted_area c.args.self.now (free_pages c.args.map.now) c.args.wanted.now c.args.name.now c.in_ok-area.area c.requires.ground.table.rooms (sym e) in
+    wanted_area c.args.self.now (free_pages c.args.map.now) c.args.wanted.now c.args.name.now c.in_ok-area.area c.requires.areas.ground.table.rooms (sym e) in
     let found' = rw c.put_area.ensures at found in
     let both : Some (paged 0 c.in_ok-area.area) ≡ Some b = sym (find_with (paged 0 c.in_ok-area.area) c.args.self.now.areas w.new) ∙ found' in
     let same : paged 0 c.in_ok-area.area ≡ b = cc in
@@ -35,14 +35,14 @@ grow-requires-clause-room c b found =
 pub grow-requires-clause-pool : goal.grow-requires-clause-pool
 grow-requires-clause-pool c =
     let e = rw c.free_pages.ensures at c.in_ok-area.ensures in
-    (wanted_area c.args.self.now (free_pages c.args.map.now) c.args.wanted.now c.args.name.now c.in_ok-area.area c.requires.ground.table.rooms (sym e)).pool
+    (wanted_area c.args.self.now (free_pages c.args.map.now) c.args.wanted.now c.args.name.now c.in_ok-area.area c.requires.areas.ground.table.rooms (sym e)).pool
 
 pub returns-clause-store : goal.returns-clause-store
 returns-clause-store c =
     let e = rw c.free_pages.ensures at c.in_ok-area.ensures in
     let a = c.in_ok-area.area in
     let w : IsWanted c.args.self.now (free_pages c.args.map.now) c.args.wanted.now a =
-    wanted_area c.args.self.now (free_pages c.args.map.now) c.args.wanted.now c.args.name.now a c.requires.ground.table.rooms (sym e) in
+    wanted_area c.args.self.now (free_pages c.args.map.now) c.args.wanted.now c.args.name.now a c.requires.areas.ground.table.rooms (sym e) in
     let find : find_area a.number (with_area (paged 0 a) c.args.self.now.areas) ≡ Some (paged 0 a) = find_with (paged 0 a) c.args.self.now.areas w.new in
     let base : a.base + 4096 * 0 ≡ a.base = omega arith in
     let store = rw (c.put_area.ensures, find, base, w.pages) at c.grow.ensures.store in
@@ -54,7 +54,7 @@ returns-clause-land c =
     let e = rw c.free_pages.ensures at c.in_ok-area.ensures in
     let a = c.in_ok-area.area in
     let w : IsWanted c.args.self.now (free_pages c.args.map.now) c.args.wanted.now a =
-    wanted_area c.args.self.now (free_pages c.args.map.now) c.args.wanted.now c.args.name.now a c.requires.ground.table.rooms (sym e) in
+    wanted_area c.args.self.now (free_pages c.args.map.now) c.args.wanted.now c.args.name.now a c.requires.areas.ground.table.rooms (sym e) in
     let find : find_area a.number (with_area (paged 0 a) c.args.self.now.areas) ≡ Some (paged 0 a) = find_with (paged 0 a) c.args.self.now.areas w.new in
     let land = rw (c.put_area.ensures, find) at c.grow.ensures.land in
     rw (← e) (
@@ -68,7 +68,7 @@ returns-clause-areas c =
     let e = rw c.free_pages.ensures at c.in_ok-area.ensures in
     let a = c.in_ok-area.area in
     let w : IsWanted c.args.self.now (free_pages c.args.map.now) c.args.wanted.now a =
-    wanted_area c.args.self.now (free_pages c.args.map.now) c.args.wanted.now c.args.name.now a c.requires.ground.table.rooms (sym e) in
+    wanted_area c.args.self.now (free_pages c.args.map.now) c.args.wanted.now c.args.name.now a c.requires.areas.ground.table.rooms (sym e) in
     let find : find_area a.number (with_area (paged 0 a) c.args.self.now.areas) ≡ Some (paged 0 a) = find_with (paged 0 a) c.args.self.now.areas w.new in
     let land = rw (c.put_area.ensures, find) at c.grow.ensures.land in
     let after : c.grow.new.self ≡ with_areas c.args.self.now (with_area a c.args.self.now.areas) =
@@ -77,5 +77,5 @@ returns-clause-areas c =
     let heaps : (store_of c.grow.new.map).heaps ≡ (store_of c.args.map.now).heaps = ap (λ (s : Store). s.heaps) (returns-clause-store c) in
     record {
       ground = c.grow.ensures.ground;
-      heap = rw (heaps, after, find_with_other a 1 c.args.self.now.areas w.other) c.requires.heap;
+      heap = rw (heaps, after, find_with_other a 1 c.args.self.now.areas w.other) c.requires.areas.heap;
     }

@@ -1,7 +1,8 @@
-use Rattle.std.proofs.Common.{◌≡◌, ℕ, ◌+◌, ◌-◌, ◌*◌, Some, None, sym, arith}
+use Rattle.std.proofs.Common.{◌≡◌, ℕ, ◌+◌, ◌-◌, ◌*◌, Some, None, sym, ap, arith}
 use Rattle.address_map.specs.Bytes.{AreUnmapped}
 use Rattle.address_map.specs.Memory.{is_mapped, free_pages}
-use Rattle.os_heap.specs.Store.{store_of}
+use Rattle.os_heap.specs.Store.{Store, store_of}
+use Rattle.os_heap.proofs.Frame.{classes_same}
 use Rattle.dynamic_areas.specs.Areas.{find_area}
 use Rattle.dynamic_areas.specs.Remapped.{with_pages_at}
 use Rattle.dynamic_areas.specs.Rooms.{IsRoom}
@@ -81,3 +82,11 @@ returns-clause-ground c =
     rw (after, pool, c.set_pages.ensures)
     (ground_grown (store_of c.args.map.now) (free_pages c.args.map.now) c.args.self.now c.args.number a c.args.count c.requires.ground (sym e)
     (c.requires.room a (sym e)) c.requires.pool)
+
+pub returns-clause-classes : goal.returns-clause-classes
+returns-clause-classes c =
+    let e = rw c.list.ensures.value at c.in-Some.ensures in
+    let a = c.in-Some.area.now in
+    let after : store_of c.map_pages.new.self ≡ with_pages_at (store_of c.args.map.now) (a.base + 4096 * a.pages) (4096 * c.args.count) =
+    (let store = returns-clause-store c in rw (← e) at store) in
+    classes_same c.args.map.now c.map_pages.new.self (ap (λ (s : Store). s.heaps) after) (λ x i. c.map_pages.ensures.marks i x) c.requires.classes

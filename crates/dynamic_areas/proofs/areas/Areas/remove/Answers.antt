@@ -15,7 +15,7 @@ use Rattle.dynamic_areas.proofs.areas.Areas.remove.Goals as goal
 pub loose_pages-requires-clause-room : goal.loose_pages-requires-clause-room
 loose_pages-requires-clause-room c =
     let e = rw c.list.ensures.value at c.in-Some.ensures in
-    found_room c.args.number c.args.self.now.areas c.in-Some.area.now c.requires.ground.table.rooms (sym e)
+    found_room c.args.number c.args.self.now.areas c.in-Some.area.now c.requires.areas.ground.table.rooms (sym e)
 
 pub shrink-requires-clause-loose : goal.shrink-requires-clause-loose
 shrink-requires-clause-loose c a found =
@@ -50,4 +50,4 @@ returns-clause-areas c =
     let heaps : (store_of c.shrink.new.map).heaps ≡ (store_of c.args.map.now).heaps =
     (let store = rw (← e) at c.shrink.ensures.store in ap (λ (s : Store). s.heaps) store) in
     rw after (areas_removed (store_of c.args.map.now) (store_of c.shrink.new.map) (free_pages c.shrink.new.map) c.args.self.now c.args.number a (sym e)
-    c.if-number-eq-MODULE_AREA.false ground heaps c.requires.heap)
+    c.if-number-eq-MODULE_AREA.false ground heaps c.requires.areas.heap)

@@ -1,12 +1,13 @@
-use Rattle.std.proofs.Common.{◌≡◌, ℕ, ◌+◌, ◌-◌, ◌*◌, ◌≤◌, Some, None, sym, ◌∙◌, arith}
+use Rattle.std.proofs.Common.{◌≡◌, ℕ, ◌+◌, ◌-◌, ◌*◌, ◌≤◌, Some, None, sym, ap, ◌∙◌, arith}
 use Rattle.address_map.specs.Memory.{is_mapped, byte_at, bytes_of, regions, free_pages}
-use Rattle.os_heap.specs.Store.{store_of}
+use Rattle.os_heap.specs.Store.{Store, store_of}
 use Rattle.dynamic_areas.specs.Areas.{find_area}
 use Rattle.dynamic_areas.specs.Changing.{AreLoose}
 use Rattle.dynamic_areas.specs.Remapped.{without_pages_at}
 use Rattle.dynamic_areas.specs.Rooms.{IsRoom}
+use Rattle.dynamic_areas.proofs.ClassLemmas.{no_anchor, classes_unmapped}
 use Rattle.dynamic_areas.proofs.GroundLemmas.{ground_shrunk, mapped_held, FitsWindow, fits_window, land_none}
-use Rattle.dynamic_areas.proofs.RecordLemmas.{unmet_records, anchors_elsewhere}
+use Rattle.dynamic_areas.proofs.RecordLemmas.{unmet_records}
 use Rattle.dynamic_areas.proofs.Remapped.{store_shrunk}
 use Rattle.dynamic_areas.proofs.RoomLemmas.{found_room, room_small}
 use Rattle.dynamic_areas.proofs.areas.Areas.shrink.Goals as goal
@@ -61,11 +62,7 @@ unmap_pages-requires-clause-unrecorded c =
     unmet_records (bytes_of c.args.map.now) _ _ (regions c.args.map.now) loose.heaps loose.ranges
 
 pub unmap_pages-requires-clause-unanchored : goal.unmap_pages-requires-clause-unanchored
-unfolding store_of
-unmap_pages-requires-clause-unanchored c =
-    let e = rw c.list.ensures.value at c.in-Some.ensures in
-    let loose : AreLoose (store_of c.args.map.now) c.in-Some.area.now c.args.count = c.requires.loose c.in-Some.area.now (sym e) in
-    anchors_elsewhere (byte_at c.args.map.now) _ _ (regions c.args.map.now) ∙ loose.anchors
+unmap_pages-requires-clause-unanchored c = λ x low high. no_anchor c.args.map.now x c.requires.classes
 
 pub returns-clause-store : goal.returns-clause-store
 returns-clause-store c =
@@ -86,3 +83,14 @@ returns-clause-ground c =
     rw (after, c.unmap_pages.ensures.pages, c.set_pages.ensures)
     (ground_shrunk (store_of c.args.map.now) (free_pages c.args.map.now) c.args.self.now c.args.number a c.args.count c.requires.ground (sym e)
     loose.fits loose.heaps loose.ranges)
+
+pub returns-clause-classes : goal.returns-clause-classes
+returns-clause-classes c =
+    let e = rw c.list.ensures.value at c.in-Some.ensures in
+    let a = c.in-Some.area.now in
+    let loose : AreLoose (store_of c.args.map.now) a c.args.count = c.requires.loose a (sym e) in
+    let after : store_of c.unmap_pages.new.self
+    ≡ without_pages_at (store_of c.args.map.now) (a.base + 4096 * (a.pages - c.args.count)) (4096 * c.args.count) =
+    (let store = returns-clause-store c in rw (← e) at store) in
+    classes_unmapped c.args.map.now c.unmap_pages.new.self (a.base + 4096 * (a.pages - c.args.count)) (4096 * c.args.count)
+    c.requires.ground.sound loose.heaps (ap (λ (s : Store). s.heaps) after) c.unmap_pages.ensures.marks c.requires.classes
