@@ -1,18 +1,17 @@
 -- The ground of the areas where one of them grows or shrinks.
-use Rattle.std.proofs.Common.{◌≡◌, ℕ, ◌+◌, ◌-◌, ◌*◌, ◌<◌, ◌≤◌, ◌==◌, ◌%◌, ◌&&◌, ◌||◌, not, Bool, true, false, leb, List, [], ◌∷◌, refl, sym, ap, subst, ◌∙◌, Some, None, inl, inr, arith}
-use Rattle.std.specs.Prelude.{Option}
+use Rattle.std.proofs.Common.{◌≡◌, ℕ, ◌+◌, ◌-◌, ◌*◌, ◌<◌, ◌≤◌, ◌==◌, ◌%◌, ◌&&◌, ◌||◌, not, Bool, true, false, leb, List, [], ◌∷◌, refl, sym, ap, ◌∙◌, Some, None, inl, inr, arith}
 use Rattle.std.specs.List.{list_any}
-use Rattle.std.proofs.lemmas.Bool.{cases_Bool, le-ltb, lt-ltb, le-leb, lt-leb, and_right, false≢true}
+use Rattle.std.proofs.lemmas.Bool.{cases_Bool, le-ltb, and_right}
 use Rattle.address_map.specs.declared.region.Region.{Region}
-use Rattle.address_map.specs.Bytes.{in_range, AreMapped, AreUnmapped}
-use Rattle.os_heap.specs.Store.{Store, IsSound, AreClear, IsClearOfHeaps}
+use Rattle.address_map.specs.Bytes.{in_range, AreUnmapped}
+use Rattle.os_heap.specs.Store.{Store, IsClearOfHeaps}
 use Rattle.os_heap.proofs.Stores.{clear_both_ways}
 use Rattle.dynamic_areas.specs.declared.area.Area.{Area}
 use Rattle.dynamic_areas.specs.Areas.{Land, find_area, with_pages, with_areas, paged, pages_of}
 use Rattle.dynamic_areas.specs.Changing.{AreRangesClear}
-use Rattle.dynamic_areas.specs.Ground.{is_fixed, is_held, is_land, IsGround, AreRangesMapped}
+use Rattle.dynamic_areas.specs.Ground.{is_fixed, is_held, IsGround, AreRangesMapped}
 use Rattle.dynamic_areas.specs.Remapped.{with_pages_at, without_pages_at}
-use Rattle.dynamic_areas.specs.Rooms.{IsRoom, AreRooms}
+use Rattle.dynamic_areas.specs.Rooms.{IsRoom}
 use Rattle.dynamic_areas.proofs.LandLemmas.{or_middle, land_grown, held_alone, pages_same, pages_counted, rooms_paged, some_paged, fixed_outside, lies_apart}
 use Rattle.dynamic_areas.proofs.Remapped.{here, range_low, range_high, sound_grown, sound_shrunk}
 use Rattle.dynamic_areas.proofs.RoomLemmas.{found_room, pages_none, room_small}

@@ -1,5 +1,5 @@
 -- The base of the module area's heap, as its descriptor tells it.
-use Rattle.std.proofs.Common.{◌≡◌, ℕ, ◌+◌, ◌≤◌, ◌^◌, true, false, refl, sym, ap, ◌∙◌, Some, None, Ok, arith}
+use Rattle.std.proofs.Common.{◌≡◌, ℕ, ◌+◌, ◌≤◌, ◌^◌, true, refl, ap, Some, None, Ok, arith}
 use Rattle.std.specs.Prelude.{is_some, Option}
 use Rattle.std.proofs.lemmas.Bool.{false≢true}
 use Rattle.address_map.specs.declared.map.AddressMap.{AddressMap}

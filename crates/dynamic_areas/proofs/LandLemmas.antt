@@ -1,17 +1,16 @@
 -- Which addresses the areas hold where one of them gets another count of pages.
-use Rattle.std.proofs.Common.{◌≡◌, ◌≢◌, ℕ, ◌+◌, ◌-◌, ◌*◌, ◌<◌, ◌≤◌, ◌==◌, ◌&&◌, ◌||◌, not, Bool, true, false, leb, List, [], ◌∷◌, ◌⊎◌, refl, sym, ap, subst, ◌∙◌, Some, None, inl, inr, arith}
-use Rattle.std.specs.Prelude.{is_some, Option}
+use Rattle.std.proofs.Common.{◌≡◌, ℕ, ◌+◌, ◌*◌, ◌<◌, ◌≤◌, ◌==◌, ◌||◌, Bool, true, false, leb, List, [], ◌∷◌, ◌⊎◌, refl, sym, ap, subst, ◌∙◌, Some, None, inl, inr, arith}
+use Rattle.std.specs.Prelude.{is_some}
 use Rattle.std.specs.List.{list_any}
-use Rattle.std.proofs.Math.Dec.{ltb}
-use Rattle.std.proofs.lemmas.Bool.{cases_Bool, cases_eq, cases_lt, eqb-true, eq-eqb, ne_eqb, lt-ltb, le-ltb, le-leb, lt-leb, leb-true, and_parts, and_right, false≢true, false_from_ne_true}
+use Rattle.std.proofs.lemmas.Bool.{cases_Bool, cases_eq, cases_lt, eqb-true, eq-eqb, lt-ltb, le-ltb, le-leb, lt-leb, leb-true, and_parts, and_right, false≢true, false_from_ne_true}
 use Rattle.profile.specs.Sizes.{Sizes, AreGood}
 use Rattle.address_map.specs.Bytes.{meets, in_range}
 use Rattle.dynamic_areas.specs.declared.area.Area.{Area}
-use Rattle.dynamic_areas.specs.Areas.{find_area, with_pages, paged, pages_of, is_created}
+use Rattle.dynamic_areas.specs.Areas.{find_area, with_pages, paged, pages_of}
 use Rattle.dynamic_areas.specs.Ground.{is_fixed, is_held}
-use Rattle.dynamic_areas.specs.Rooms.{IsRoom, IsBefore, AreRooms, IsAreaTable, is_in_window}
+use Rattle.dynamic_areas.specs.Rooms.{IsRoom, IsBefore, AreRooms}
 use Rattle.dynamic_areas.proofs.Remapped.{range_low, range_high}
-use Rattle.dynamic_areas.proofs.RoomLemmas.{meets_turned, found_behind, found_room, in_window}
+use Rattle.dynamic_areas.proofs.RoomLemmas.{meets_turned, found_behind, in_window}
 
 pub or_next : (a b c : Bool) → ((a || b) || c) ≡ (a || (b || c))
 or_next true b c = refl

@@ -1,15 +1,15 @@
 -- What stands on the areas stands on them still where one gets another number.
-use Rattle.std.proofs.Common.{◌≡◌, ◌≢◌, ℕ, ◌+◌, ◌*◌, ◌≤◌, ◌==◌, ◌||◌, not, Bool, true, false, leb, List, [], ◌∷◌, refl, sym, ap, subst, ◌∙◌, Some, None, Ok, Err, inl, inr, arith}
+use Rattle.std.proofs.Common.{◌≡◌, ◌≢◌, ℕ, ◌+◌, ◌≤◌, ◌==◌, ◌||◌, not, Bool, true, false, leb, List, [], ◌∷◌, refl, sym, ap, subst, ◌∙◌, Some, None, Ok, Err, inl, inr, arith}
 use Rattle.std.specs.Prelude.{is_some, Option, Result, ok_or, if◌then◌else◌}
 use Rattle.std.specs.List.{list_any}
-use Rattle.std.proofs.lemmas.Bool.{cases_Bool, cases_lt, cases_eq, eq-eqb, lt-ltb, le-ltb, leb-true, and_parts, or_parts, false≢true}
+use Rattle.std.proofs.lemmas.Bool.{cases_Bool, cases_lt, eq-eqb, lt-ltb, le-ltb, leb-true, and_parts, or_parts, false≢true}
 use Rattle.profile.specs.Outcome.{bind, Leaves}
 use Rattle.profile.specs.declared.error.ErrorNumber.{ErrorNumber}
 use Rattle.profile.specs.declared.error.ErrorNumber.TheVariants.{AreaUnknown, AreaBad, AreaTaken}
 use Rattle.os_heap.specs.Store.{Store}
 use Rattle.dynamic_areas.specs.declared.area.Area.{Area}
 use Rattle.dynamic_areas.specs.Areas.{Land, find_area, with_area, without_area, with_areas, with_number, pages_of, is_created, renumbered}
-use Rattle.dynamic_areas.specs.Ground.{is_fixed, is_held, IsGround, AreAreas}
+use Rattle.dynamic_areas.specs.Ground.{is_fixed, is_held, AreAreas}
 use Rattle.dynamic_areas.specs.Rooms.{IsAreaTable}
 use Rattle.dynamic_areas.proofs.LandLemmas.{or_middle}
 use Rattle.dynamic_areas.proofs.PutLemmas.{pages_with, pages_without}
@@ -99,7 +99,7 @@ kept l areas old new (Some a) r e leaves table s free before =
           elim (cases_Bool (is_some (find_area new l.areas))) [
             | inl taken ↦ same_land l areas s free (err_leaves l.areas areas AreaTaken r (rw taken at leaves')) before
             | inr new_one ↦ moved l areas old new a e (ok_leaves l.areas areas (with_area (with_number new a) (without_area old l.areas)) r (rw new_one at leaves'))
-              (λ is. false≢true (sym parts.0 ∙ eq-eqb old 1 is)) (λ is. absurd (omega arith)) table s free before
+                (λ is. false≢true (sym parts.0 ∙ eq-eqb old 1 is)) (λ is. absurd (omega arith)) table s free before
           ]
     ] where
       not_false : (t : Bool) → not t ≡ false → t ≡ true

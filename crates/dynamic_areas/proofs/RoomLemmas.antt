@@ -1,5 +1,5 @@
 -- The areas stay apart and in order where one is taken away, put in, or gets another number.
-use Rattle.std.proofs.Common.{◌≡◌, ◌≢◌, ℕ, ◌+◌, ◌*◌, ◌<◌, ◌≤◌, ◌==◌, ◌&&◌, Bool, true, false, leb, List, [], ◌∷◌, length, suc, refl, sym, ap, subst, ◌∙◌, Some, None, inl, inr, arith}
+use Rattle.std.proofs.Common.{◌≡◌, ◌≢◌, ℕ, ◌+◌, ◌*◌, ◌<◌, ◌≤◌, ◌==◌, true, false, leb, List, [], ◌∷◌, length, refl, sym, ap, subst, ◌∙◌, Some, None, inl, inr, arith}
 use Rattle.std.specs.Prelude.{is_some, Option, ok_or, Ok}
 use Rattle.profile.specs.declared.error.ErrorNumber.TheVariants.{AreaUnknown}
 use Rattle.std.proofs.Math.Bool.{and_comm}

@@ -1,7 +1,6 @@
 -- The memory of a machine at its start: the areas stand on it.
-use Rattle.std.proofs.Common.{◌≡◌, ℕ, ◌+◌, ◌*◌, ◌<◌, ◌≤◌, ◌||◌, ◌++◌, Bool, true, false, leb, List, [], ◌∷◌, length, refl, sym, ap, ◌∙◌, Some, None, arith}
+use Rattle.std.proofs.Common.{◌≡◌, ℕ, ◌+◌, ◌*◌, ◌<◌, ◌≤◌, ◌++◌, false, leb, List, [], ◌∷◌, length, refl, ap, ◌∙◌, arith}
 use Rattle.std.specs.Prelude.{is_some}
-use Rattle.std.specs.List.{list_any}
 use Rattle.std.proofs.lemmas.Bool.{le-ltb, and_right}
 use Rattle.profile.specs.Sizes.{Sizes, AreGood}
 use Rattle.address_map.specs.declared.map.AddressMap.{AddressMap}
@@ -16,7 +15,7 @@ use Rattle.os_heap.specs.Store.{Store, store_of, IsSound, AreClear}
 use Rattle.os_heap.proofs.Added.{records_room}
 use Rattle.os_heap.proofs.Recorded.{store_recorded, recorded_sound}
 use Rattle.dynamic_areas.specs.Areas.{start_land}
-use Rattle.dynamic_areas.specs.Ground.{AreAreas, is_fixed, is_held, is_land}
+use Rattle.dynamic_areas.specs.Ground.{AreAreas, is_fixed, is_land}
 use Rattle.dynamic_areas.proofs.GroundLemmas.{or_true}
 use Rattle.dynamic_areas.proofs.ModuleArea.{region_known}
 use Rattle.dynamic_areas.proofs.Remapped.{here, range_low}

@@ -1,9 +1,8 @@
 -- What a search in the list of areas knows: the areas that were passed are others.
-use Rattle.std.proofs.Common.{◌≡◌, ◌≢◌, ℕ, ◌+◌, ◌-◌, ◌*◌, ◌<◌, ◌≤◌, ◌++◌, ◌==◌, leb, true, false, List, [], ◌∷◌, length, take, drop, get_or, set, suc, zero, refl, sym, ap, ◌∙◌, append_assoc, add-one, Some, None, arith}
-use Rattle.std.specs.List.{remove, insert}
+use Rattle.std.proofs.Common.{◌≡◌, ◌≢◌, ℕ, ◌+◌, ◌-◌, ◌<◌, ◌≤◌, ◌++◌, ◌==◌, true, false, List, [], length, take, drop, get_or, set, suc, zero, refl, sym, ap, ◌∙◌, append_assoc, add-one, Some, None, arith}
+use Rattle.std.specs.List.{insert}
 use Rattle.std.proofs.lemmas.Bool.{eq-eqb, ne_eqb, lt-ltb, le-ltb}
-use Rattle.std.proofs.lemmas.List.{drop_more, drop_all, take_more, take_all, append-nil, set_split, get_or_default}
-use Rattle.std.specs.Prelude.{Option}
+use Rattle.std.proofs.lemmas.List.{drop_more, drop_all, take_more, set_split, get_or_default}
 use Rattle.dynamic_areas.specs.declared.area.Area.{Area}
 use Rattle.dynamic_areas.specs.Areas.{find_area, with_area, without_area, with_pages, paged}
 use Rattle.dynamic_areas.specs.Creating.{lowest_from}

@@ -1,11 +1,10 @@
 -- What is known of an area that was wanted and may be made.
-use Rattle.std.proofs.Common.{◌≡◌, ◌≢◌, ℕ, ◌+◌, ◌-◌, ◌*◌, ◌/◌, ◌%◌, ◌<◌, ◌≤◌, ◌==◌, ◌&&◌, ◌||◌, Bool, true, false, leb, List, length, suc, zero, refl, sym, ap, subst, ◌∙◌, Some, None, Ok, Err, inl, inr, arith}
-use Rattle.std.specs.Prelude.{is_some, Option, ok_or, Result, if◌then◌else◌}
+use Rattle.std.proofs.Common.{◌≡◌, ◌≢◌, ℕ, ◌+◌, ◌*◌, ◌%◌, ◌<◌, ◌≤◌, ◌==◌, ◌&&◌, true, false, leb, List, length, suc, zero, refl, subst, Some, None, Ok, Err, inl, inr, arith}
+use Rattle.std.specs.Prelude.{is_some, Option, ok_or, if◌then◌else◌}
 use Rattle.std.proofs.Math.Dec.{ltb}
-use Rattle.std.proofs.lemmas.Bool.{cases_Bool, eqb-true, ne_eqb, leb-true, leb-false, ltb-false, le-leb, and_parts, false≢true}
+use Rattle.std.proofs.lemmas.Bool.{cases_Bool, eqb-true, leb-true, leb-false, ltb-false, le-leb, and_parts}
 use Rattle.profile.specs.Outcome.{bind}
 use Rattle.profile.specs.Sizes.{Sizes}
-use Rattle.profile.specs.declared.error.ErrorNumber.{ErrorNumber}
 use Rattle.profile.specs.declared.error.ErrorNumber.TheVariants.{AreaTaken, AreaTableFull, AreaNoPages}
 use Rattle.dynamic_areas.specs.declared.area.Area.{Area}
 use Rattle.dynamic_areas.specs.declared.area.Wanted.{Wanted}

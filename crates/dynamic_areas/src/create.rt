@@ -42,7 +42,7 @@ impl Areas {
             (created self.old (free_pages map.old) wanted.now name.now) result self.new }
         ensures store { MatchResult result
             (λ made. store_of map.new
-                ≡ with_pages_at (store_of map.old) made.base (4096 * pages_for wanted.now.size))
+            ≡ with_pages_at (store_of map.old) made.base (4096 * pages_for wanted.now.size))
             (λ _. store_of map.new ≡ store_of map.old) }
         ensures areas { AreAreas (store_of map.new) (free_pages map.new) self.new }
         ensures classes { AreClasses map.new }

@@ -83,7 +83,11 @@ fn changes_the_module_area(rt: HostRuntime) -> Result<(), Fail> {
         (0x7FFF_FFFF, 0xAC000, Some(ErrorNumber::AreaNoPages)),
         (0x8000_0000, 0xBC000, Some(ErrorNumber::AreaInUse)),
     ] {
-        assert_eq!(rt; areas.change(&mut map, 1, amount), Changed { bytes, error }, "{amount:x}");
+        assert_eq!(rt;
+            areas.change(&mut map, 1, amount),
+            Changed { bytes, error },
+            "{amount:x}"
+        );
     }
     assert_eq!(rt; map.load_word(0x0180_000C), Ok(4096));
     assert_eq!(rt; areas.pool(&map), 188);
@@ -115,7 +119,10 @@ fn creates_areas(rt: HostRuntime) -> Result<(), Fail> {
     assert_eq!(rt; areas.renumber(0x200, 0x101), Err(ErrorNumber::AreaTaken));
     assert_eq!(rt; areas.remove(&mut map, 0x200), Ok(()));
     assert_eq!(rt; areas.pool(&map), 171);
-    assert_eq!(rt; areas.remove(&mut map, 0x200), Err(ErrorNumber::AreaUnknown));
+    assert_eq!(rt;
+        areas.remove(&mut map, 0x200),
+        Err(ErrorNumber::AreaUnknown)
+    );
     assert_eq!(rt; areas.remove(&mut map, 1), Err(ErrorNumber::AreaInUse));
     Ok(())
 }

@@ -1,4 +1,4 @@
-use Rattle.std.proofs.Common.{◌≡◌, ℕ, ◌+◌, Ok, Err, sym, ◌∙◌, arith}
+use Rattle.std.proofs.Common.{◌≡◌, Ok, ◌∙◌, arith}
 use Rattle.os_heap.specs.Store.{store_of, find_heap}
 use Rattle.dynamic_areas.proofs.HeapBase.{IsBaseRead, base_read}
 use Rattle.dynamic_areas.proofs.measure.heap_base.Goals as goal

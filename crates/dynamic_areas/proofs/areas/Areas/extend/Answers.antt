@@ -1,10 +1,8 @@
-use Rattle.std.proofs.Common.{◌≡◌, ℕ, ◌+◌, ◌*◌, Some, refl, sym, ap, subst, ◌∙◌, arith}
+use Rattle.std.proofs.Common.{◌≡◌, ℕ, ◌+◌, ◌*◌, Some, refl, sym, ap, subst, arith}
 use Rattle.address_map.specs.Memory.{Mapping, free_pages}
-use Rattle.os_heap_lists.specs.Heap.{HeapList}
 use Rattle.os_heap.specs.Calls.{ending}
 use Rattle.os_heap.specs.Store.{Store, store_of, find_heap, IsSound}
-use Rattle.dynamic_areas.specs.Areas.{find_area, paged, with_areas, with_pages}
-use Rattle.dynamic_areas.specs.Remapped.{with_pages_at}
+use Rattle.dynamic_areas.specs.Areas.{find_area, paged, with_pages}
 use Rattle.dynamic_areas.specs.Rooms.{IsRoom}
 use Rattle.dynamic_areas.proofs.GroundLemmas.{FitsWindow, fits_window, find_paged, land_none}
 use Rattle.dynamic_areas.proofs.ModuleArea.{IsModuleArea, module_area_known, may_grow_heap, find_ended, ground_ended}
@@ -66,7 +64,7 @@ returns-then-number-eq-MODULE_AREA-clause-areas c =
     let ended = find_ended (store_of c.grow.new.map).heaps m.heap 0x01800000 (4096 * (a.pages + c.args.count)) found in
     record {
       ground = rw (is, free) (ground_ended (store_of c.grow.new.map) (free_pages c.grow.new.map) c.grow.new.self m.heap (4096 * (a.pages + c.args.count))
-      c.grow.ensures.ground sound);
+          c.grow.ensures.ground sound);
       heap = rw (is, ended, land, there) refl;
     }
 
