@@ -1,8 +1,7 @@
 -- The lowest register of a list, which is its lowest set bit, and the list without it.
-use Rattle.std.proofs.Common.{◌≡◌, ◌≢◌, ℕ, zero, suc, ◌&&◌, length, map, slice_index, slice_get, Option, Some, None, Ok, Err, ◌+◌, ◌-◌, ◌*◌, ◌/◌, ◌%◌, ◌^◌, ◌<◌, ◌≤◌, Bool, true, false, cond, nat_eq, List, [], ◌∷◌, ◌++◌, ap, sym, ◌∙◌, refl, arith, append-nil, inl, inr, bit_and}
+use Rattle.std.proofs.Common.{◌≡◌, ◌≢◌, ℕ, zero, suc, ◌&&◌, length, map, slice_index, slice_get, Option, Some, None, Ok, Err, ◌+◌, ◌-◌, ◌*◌, ◌/◌, ◌%◌, ◌^◌, ◌<◌, Bool, true, false, cond, nat_eq, List, [], ◌∷◌, ◌++◌, ap, sym, ◌∙◌, refl, arith, inl, inr, bit_and}
 use Rattle.std.specs.Int.{w32, bit_not, trailing_zeros}
 use Rattle.std.proofs.lemmas.Bool.{cases_lt}
-use Rattle.std.proofs.lemmas.Bool.Decides.{nat_tests}
 use Rattle.std.proofs.lemmas.List.{length-map}
 use Rattle.std.proofs.lemmas.Nat.{and_le_l}
 use Rattle.std.proofs.lemmas.Nat.Bits.{bit_at-trailing_zeros, bit_at_clear_same, bit_at_clear_other, bit_at_above}
@@ -16,6 +15,7 @@ use Rattle.arm_step.specs.Blocks.{listed_below, listed, with_loaded, stores_new_
 use Rattle.arm_step.specs.Effect.{advanced, with_result_in, status_operand}
 use Rattle.arm_step.specs.PageWords.{words_in}
 use Rattle.arm_step.specs.State.{State}
+use Rattle.arm_step.specs.StoredBase.{changed_base, value_by}
 use Rattle.arm_step.specs.Words.{with_words, words_store_fault, words_stored}
 use Rattle.arm_step.specs.declared.psr.Mode.{Mode}
 use Rattle.arm_step.proofs.SeveralWords.{words_put}
@@ -131,16 +131,16 @@ last_word bytes (suc n) w some size is =
     rw one (last_in bytes 0 n ∙ ap (λ k. Some (word_at (slice_index bytes) k)) at ∙ ap Some (sym is))
 
 -- what a store finds of a register
-value_is : (b : Bool) (r rn base x : ℕ) → r < 16 → cond (nat_eq r (cond b rn 16)) base x ≡ cond (b && nat_eq r rn) base x
-value_is true r rn base x h = refl
-value_is false r rn base x h = let e : nat_eq r 16 ≡ false = grind (arith, nat_tests) in rw e refl
+value_is : (b is_base : Bool) (base x : ℕ) → value_by (cond b (Some base) None) is_base x ≡ cond (b && is_base) base x
+value_is true is_base base x = refl
+value_is false is_base base x = refl
 
-pub stored_as : (s : State) (t : BlockTransfer) (bank : Mode) (r changed base value : ℕ) → r < 16
-    → changed ≡ cond (stores_new_base t) t.rn 16 → base ≡ block_base s t → bank ≡ bank_of s t
-    → value ≡ cond (nat_eq r changed) base (status_operand bank s r 3) → value ≡ block_value s t r
+pub stored_as : (s : State) (t : BlockTransfer) (bank : Mode) (r : ℕ) (changed : Option ℕ) (value : ℕ)
+    → changed ≡ changed_base s t → bank ≡ bank_of s t
+    → value ≡ value_by changed (nat_eq r t.rn) (status_operand bank s r 3) → value ≡ block_value s t r
 unfolding block_value
-stored_as s t bank r changed base value h ec eb ek ev =
-    rw (ev, ec, eb, ek) (value_is (stores_new_base t) r t.rn (block_base s t) (status_operand (bank_of s t) s r 3) h)
+stored_as s t bank r changed value ec ek ev =
+    rw (ev, ec, ek) (value_is (stores_new_base t) (nat_eq r t.rn) (block_base s t) (status_operand (bank_of s t) s r 3))
 
 pub put_next : (m n : AddressMap) (f : ℕ → ℕ) (first offset x y r w : ℕ) → layout n ≡ layout m
     → ((a : ℕ) → byte_at n a ≡ with_word_at (byte_at m) (first + offset) w a) → listed x ≡ r ∷ listed y → w ≡ f r

@@ -1,8 +1,8 @@
 -- Words that lie in one page: what they read as, what a store of them leaves, and the faults over all of them.
-use Rattle.std.proofs.Common.{◌≡◌, ℕ, zero, suc, ◌+◌, ◌*◌, ◌%◌, ◌/◌, ◌^◌, ◌<◌, ◌≤◌, Bool, true, false, cond, not, ◌&&◌, ◌||◌, nat_lt, nat_le, ltb, List, [], ◌∷◌, length, slice_index, refl, ap, sym, ◌∙◌, arith, Some, None, is_some, Ok, Err, add-zero}
-use Rattle.std.proofs.lemmas.Bool.{le-ltb, lt-ltb, false≢true}
+use Rattle.std.proofs.Common.{◌≡◌, ℕ, zero, suc, ◌+◌, ◌*◌, ◌%◌, ◌/◌, ◌^◌, ◌<◌, ◌≤◌, Bool, true, false, cond, not, ◌&&◌, ◌||◌, nat_lt, ltb, List, ◌∷◌, slice_index, refl, ap, sym, ◌∙◌, arith, Some, None, is_some, Ok, Err}
+use Rattle.std.proofs.lemmas.Bool.{le-ltb, lt-ltb}
 use Rattle.std.proofs.lemmas.Bool.Decides.{nat_tests}
-use Rattle.profile.specs.declared.fault.Fault.TheVariants.{AddressException, DataUnmapped, OwnedWord}
+use Rattle.profile.specs.declared.fault.Fault.TheVariants.{OwnedWord}
 use Rattle.address_map.specs.Bytes.{Bytes, word_at}
 use Rattle.address_map.specs.Lent.{IsLent, any_owned}
 use Rattle.address_map.specs.Memory.{bytes_of, place, is_mapped, is_owned}
@@ -147,4 +147,4 @@ placed m a k h = ap is_some (sym h)
 
 pub ruleset loading = (page_lent, page_missing)
 
-pub ruleset storing = (page_refused, page_owned, page_free, page_inside, unplaced, placed)
+pub ruleset storing = (page_refused, page_owned, page_free, page_within, unplaced, placed)

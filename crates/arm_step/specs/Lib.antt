@@ -11,6 +11,7 @@ pub mod PageWords
 pub mod Psr
 pub mod State
 pub mod Step
+pub mod StoredBase
 pub mod Transfers
 pub mod Turns
 pub mod Words

@@ -1,18 +1,15 @@
 //! LDM and STM.
 
-ghost use Rattle.std.specs.Prelude.{◌≡◌, ◌<◌, ◌≤◌, ◌^◌, ◌%◌, ◌*◌, ◌==◌, true, Some, if◌then◌else◌, length};
+ghost use Rattle.std.specs.Prelude.{◌≡◌, ◌<◌, ◌≤◌, ◌^◌, ◌%◌, true, length};
 ghost use Rattle.arrayvec.specs.ArrayVec.{array_vec_len};
 ghost use Rattle.profile.specs.Outcome.{Leaves};
-ghost use Rattle.address_map.specs.Memory.{bytes_of, is_owned, layout, class_of, place};
-ghost use Rattle.arm_step.specs.Effect.{status_operand};
-ghost use Rattle.arm_step.specs.PageWords.{are_in_page, words_in};
-ghost use Rattle.arm_step.specs.Words.{with_words};
+ghost use Rattle.address_map.specs.Memory.{bytes_of, is_owned, layout, class_of};
+ghost use Rattle.arm_step.specs.PageWords.{are_in_page};
 ghost use Rattle.arm_step.specs.Blocks.{listed, lowest, stepped_base, block_size, block_start, block_base, loads_status, bank_of, with_block_base, with_loaded, with_block_status, block_loaded, stores_new_base, block_values, block_stored, block_transferred};
 
 use crate::cpu::Cpu;
-use crate::page_words::{are_in_page, free_place, lend_words, word_in};
+use crate::page_words::are_in_page;
 use crate::psr::Mode;
-use crate::registers::split_lowest;
 use crate::words::{MOST_WORDS, load_words, store_words};
 use address_map::AddressMap;
 use arm_decode::{BlockMode, BlockTransfer, Register, RegisterList};
@@ -22,7 +19,7 @@ use profile::Fault;
 /// How many registers a list has.
 #[tactic(auto, using(crate::proofs::Listing::counted))]
 #[inline(always)]
-fn size_of(list: RegisterList) -> u32
+pub(crate) fn size_of(list: RegisterList) -> u32
     ensures size { result ≡ length (listed list) }
     ensures few { result ≤ 16 }
 {
@@ -48,7 +45,7 @@ fn reach(mode: BlockMode, base: u32, count: u32) -> (u32, u32)
 
 /// Whether a block transfer loads the status with R15.
 #[inline(always)]
-fn loads_status(block: &BlockTransfer) -> bool
+pub(crate) fn loads_status(block: &BlockTransfer) -> bool
     ensures { result ≡ loads_status block.now }
 {
     block.psr_or_user && (block.loads && block.list.contains_pc())
@@ -56,29 +53,17 @@ fn loads_status(block: &BlockTransfer) -> bool
 
 /// Whether a store finds the base already written back: where a lower register is listed.
 #[inline(always)]
-fn stores_new_base(block: &BlockTransfer) -> bool
+pub(crate) fn stores_new_base(block: &BlockTransfer) -> bool
     ensures { result ≡ stores_new_base block.now }
 {
     block.writes_back && block.list.bits() % (1 << block.rn.number()) != 0
-}
-
-/// The number of the register that a store finds as it will be, or 16 where there is none.
-#[inline(always)]
-fn changed_base(block: &BlockTransfer) -> u32
-    ensures { result ≡ (if stores_new_base block.now then block.now.rn else 16) }
-{
-    if stores_new_base(block) {
-        block.rn.number()
-    } else {
-        16
-    }
 }
 
 impl Cpu {
     /// The bank that a block transfer means: with S, where it does not load the status, that of
     /// user mode.
     #[inline(always)]
-    fn bank(&self, block: &BlockTransfer) -> Mode
+    pub(crate) fn bank(&self, block: &BlockTransfer) -> Mode
         ensures { result ≡ bank_of self.now block.now }
     {
         if block.psr_or_user && !loads_status(block) {
@@ -91,7 +76,7 @@ impl Cpu {
     /// Writes the base of a block transfer back where it does that.
     #[tactic(auto, unfolding(crate::specs::Blocks::with_block_base))]
     #[inline(always)]
-    fn write_block_base(&mut self, block: &BlockTransfer, base: u32)
+    pub(crate) fn write_block_base(&mut self, block: &BlockTransfer, base: u32)
         ensures { self.new ≡ with_block_base self.old block.now base }
     {
         if block.writes_back {
@@ -115,36 +100,6 @@ impl Cpu {
         }
     }
 
-    /// Places the words of some bytes in the registers of a list.
-    #[inline(always)]
-    fn place_bytes(&mut self, bank: Mode, list: RegisterList, bytes: &[u8])
-        requires { length bytes.now ≡ 4 * length (listed list) }
-        ensures { self.new ≡ with_loaded bank self.old (listed list) (words_in bytes.now 0 (length (listed list))) }
-    {
-        match bank {
-            // Where the bank is known, so is the place of each register.
-            Mode::User => self.place_each(Mode::User, list, bytes),
-            _ => self.place_each(bank, list, bytes),
-        }
-    }
-
-    /// The same, one by one.
-    #[tactic(auto, using(crate::proofs::Lowest::placing))]
-    #[inline(always)]
-    fn place_each(&mut self, bank: Mode, list: RegisterList, bytes: &[u8])
-        requires { length bytes.now ≡ 4 * length (listed list) }
-        ensures { self.new ≡ with_loaded bank self.old (listed list) (words_in bytes.now 0 (length (listed list))) }
-    {
-        let mut at = 0;
-        let mut rest = list.bits();
-        while rest != 0 {
-            let (register, others) = split_lowest(rest);
-            self.set_result_in(bank, register, word_in(bytes, at));
-            at += 4;
-            rest = others;
-        }
-    }
-
     /// Loads the status from the last word, where the block transfer does that.
     #[tactic(auto, unfolding(crate::specs::Blocks::with_block_status))]
     fn set_block_status(&mut self, block: &BlockTransfer, words: &[u32])
@@ -155,91 +110,6 @@ impl Cpu {
         }
         if let Some(word) = words.last() {
             self.set_status(*word);
-        }
-    }
-
-    /// The same of some bytes, which are the words.
-    #[tactic(auto, using(crate::proofs::Lowest::last_word), unfolding(crate::specs::Blocks::with_block_status))]
-    #[inline(always)]
-    fn set_status_of_bytes(&mut self, block: &BlockTransfer, bytes: &[u8])
-        requires size { length bytes.now ≡ 4 * block_size block.now }
-        requires some { 0 < block_size block.now }
-        ensures { self.new ≡ with_block_status self.old block.now (words_in bytes.now 0 (block_size block.now)) }
-    {
-        if loads_status(block) {
-            self.set_status(word_in(bytes, bytes.len() - 4));
-        }
-    }
-
-    /// What a block transfer stores of a register. `changed` is the base where it is stored as it
-    /// will be, and no register's number where it is not.
-    #[inline(always)]
-    fn stored_value(&self, bank: Mode, register: Register, changed: u32, base: u32) -> u32
-        ensures { result ≡ (if register == changed then base else status_operand bank self.now register 3) }
-    {
-        if register.number() == changed {
-            base
-        } else {
-            self.status_operand(bank, register, 3)
-        }
-    }
-
-    /// Stores the registers of a block transfer to words of one page, the first of which lies at this
-    /// place of the store.
-    #[inline(always)]
-    fn put_registers(
-        &self,
-        memory: &mut AddressMap,
-        block: &BlockTransfer,
-        base: u32,
-        first: u32,
-        at: usize,
-    )
-        requires base { base ≡ block_base self.now block.now }
-        requires aligned { first % 4 ≡ 0 }
-        requires page { are_in_page first (block_size block.now) ≡ true }
-        requires place { place memory.old first ≡ Some at }
-        ensures bytes { bytes_of memory.new ≡ with_words (bytes_of memory.old) first (block_values self.now block.now) }
-        ensures layout { layout memory.new ≡ layout memory.old }
-        ensures marks { class_of memory.new ≡ class_of memory.old }
-    {
-        match self.bank(block) {
-            // Where the bank is known, so is the place of each register.
-            Mode::User => self.put_each(memory, block, Mode::User, base, first, at),
-            bank => self.put_each(memory, block, bank, base, first, at),
-        }
-    }
-
-    /// The same, one by one.
-    #[tactic(auto, using(crate::proofs::Lowest::length_next))]
-    #[inline(always)]
-    fn put_each(
-        &self,
-        memory: &mut AddressMap,
-        block: &BlockTransfer,
-        bank: Mode,
-        base: u32,
-        first: u32,
-        at: usize,
-    )
-        requires bank { bank ≡ bank_of self.now block.now }
-        requires base { base ≡ block_base self.now block.now }
-        requires aligned { first % 4 ≡ 0 }
-        requires page { are_in_page first (block_size block.now) ≡ true }
-        requires place { place memory.old first ≡ Some at }
-        ensures bytes { bytes_of memory.new ≡ with_words (bytes_of memory.old) first (block_values self.now block.now) }
-        ensures layout { layout memory.new ≡ layout memory.old }
-        ensures marks { class_of memory.new ≡ class_of memory.old }
-    {
-        let changed = changed_base(block);
-        let mut offset = 0;
-        let mut rest = block.list.bits();
-        while rest != 0 {
-            let (register, others) = split_lowest(rest);
-            let value = self.stored_value(bank, register, changed, base);
-            memory.put_word_at(first + offset, at + offset as usize, value);
-            offset += 4;
-            rest = others;
         }
     }
 
@@ -294,31 +164,6 @@ impl Cpu {
         }
     }
 
-    /// LDM of words in one page.
-    #[tactic(auto, unfolding(crate::specs::Blocks::block_loaded))]
-    #[inline(always)]
-    fn load_from_page(
-        &mut self,
-        memory: &AddressMap,
-        block: &BlockTransfer,
-        first: u32,
-        base: u32,
-    ) -> Result<(), Fault>
-        requires first { first ≡ block_start self.old block.now }
-        requires base { base ≡ block_base self.old block.now }
-        requires page { are_in_page first (block_size block.now) ≡ true }
-        ensures { let loaded = block_loaded self.old (bytes_of memory.now) block.now in
-            Leaves (self.old, bytes_of memory.now) loaded result (self.new, bytes_of memory.now) }
-    {
-        let bytes = lend_words(memory, first, size_of(block.list))?;
-        let bank = self.bank(block);
-        self.advance();
-        self.write_block_base(block, base);
-        self.place_bytes(bank, block.list, bytes);
-        self.set_status_of_bytes(block, bytes);
-        Ok(())
-    }
-
     /// LDM of words that may lie in two pages.
     #[tactic(auto, unfolding(crate::specs::Blocks::block_loaded))]
     #[inline(never)]
@@ -359,32 +204,6 @@ impl Cpu {
         } else {
             self.store_to_pages(memory, block, first, base)
         }
-    }
-
-    /// STM of words in one page.
-    #[tactic(auto, unfolding(crate::specs::Blocks::block_stored))]
-    #[inline(always)]
-    fn store_to_page(
-        &mut self,
-        memory: &mut AddressMap,
-        block: &BlockTransfer,
-        first: u32,
-        base: u32,
-    ) -> Result<(), Fault>
-        requires first { first ≡ block_start self.old block.now }
-        requires aligned { first % 4 ≡ 0 }
-        requires base { base ≡ block_base self.old block.now }
-        requires page { are_in_page first (block_size block.now) ≡ true }
-        ensures state { let stored = block_stored (is_owned memory.old) self.old (bytes_of memory.old) block.now in
-            Leaves (self.old, bytes_of memory.old) stored result (self.new, bytes_of memory.new) }
-        ensures layout { layout memory.new ≡ layout memory.old }
-        ensures marks { class_of memory.new ≡ class_of memory.old }
-    {
-        let at = free_place(memory, first, size_of(block.list))?;
-        self.put_registers(memory, block, base, first, at);
-        self.advance();
-        self.write_block_base(block, base);
-        Ok(())
     }
 
     /// STM of words that may lie in two pages.

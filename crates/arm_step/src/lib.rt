@@ -9,6 +9,7 @@ pub mod execute;
 pub mod laws;
 pub mod operand;
 pub mod operate;
+pub mod page_block;
 pub mod page_words;
 pub mod psr;
 pub mod registers;

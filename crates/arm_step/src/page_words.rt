@@ -1,6 +1,6 @@
 //! Words that lie in one page, as nearly all blocks do: the page is looked up once for all of them.
 
-ghost use Rattle.std.specs.Prelude.{ℕ, ◌≡◌, ◌<◌, ◌≤◌, ◌+◌, ◌*◌, ◌^◌, ◌%◌, true, Some, None, Ok, Err, length, slice_index, MatchResult};
+ghost use Rattle.std.specs.Prelude.{◌≡◌, ◌≤◌, ◌+◌, ◌*◌, ◌%◌, true, Some, None, Ok, Err, length, slice_index, MatchResult};
 ghost use Rattle.address_map.specs.Bytes.{word_at};
 ghost use Rattle.address_map.specs.Memory.{bytes_of, is_owned, place};
 ghost use Rattle.arm_step.specs.PageWords.{are_in_page, missing, words_in};
@@ -77,7 +77,7 @@ pub(crate) fn free_place(memory: &AddressMap, first: u32, count: u32) -> Result<
 {
     match memory.translate(first) {
         None => Err(missing(first)),
-        Some(_) if memory.owns_any(first, count) => Err(Fault::OwnedWord),
+        Some(at) if memory.owns_any(first, at, count) => Err(Fault::OwnedWord),
         Some(at) => Ok(at),
     }
 }

@@ -1,7 +1,7 @@
-use Rattle.std.proofs.Common.{◌≡◌, ◌<◌, ◌≤◌, ◌+◌, ◌*◌, ◌%◌, length, ap, sym, ◌∙◌, arith}
+use Rattle.std.proofs.Common.{◌<◌, ◌+◌, ◌%◌, ap, sym, ◌∙◌, arith}
 use Rattle.address_map.proofs.Lending.{page_fits, place_ahead}
 use Rattle.address_map.specs.Memory.{bytes_of}
-use Rattle.arm_step.specs.Blocks.{listed, block_size, block_value, block_values}
+use Rattle.arm_step.specs.Blocks.{block_size, block_value, block_values}
 use Rattle.arm_step.proofs.Listing.{few_of_all}
 use Rattle.arm_step.proofs.Lowest.{length_next, stored_as, put_next, put_end}
 use Rattle.arm_step.proofs.PageWords.{page_within}
@@ -25,8 +25,8 @@ loop-rest-preserved c =
     let s = c.args.self.now in
     let t = c.args.block.now in
     let more = length_next _ _ _ c.split_lowest-register.ensures.registers in
-    let value = stored_as s t c.args.bank c.split_lowest-register.result.0 _ c.args.base c.stored_value-value.result (omega arith)
-    c.changed_base-changed.ensures c.requires.base c.requires.bank c.stored_value-value.ensures in
+    let value = stored_as s t c.args.bank c.split_lowest-register.result.0 c.args.changed c.stored_value-value.result
+    c.requires.changed c.requires.bank c.stored_value-value.ensures in
     record {
       stored = c.loop-rest.invariant.stored
           ∙ put_next c.loop-rest.memory c.put_word_at.new.self (block_value s t) c.args.first c.loop-rest.offset c.loop-rest.rest c.split_lowest-register.result.1

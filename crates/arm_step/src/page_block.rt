@@ -1,0 +1,193 @@
+//! LDM and STM of words in one page, as nearly all are: the page is looked up once for all of them.
+
+ghost use Rattle.std.specs.Prelude.{◌≡◌, ◌<◌, ◌%◌, ◌*◌, ◌==◌, true, Some, length};
+ghost use Rattle.profile.specs.Outcome.{Leaves};
+ghost use Rattle.address_map.specs.Memory.{bytes_of, is_owned, layout, class_of, place};
+ghost use Rattle.arm_step.specs.Effect.{status_operand};
+ghost use Rattle.arm_step.specs.PageWords.{are_in_page, words_in};
+ghost use Rattle.arm_step.specs.Words.{with_words};
+ghost use Rattle.arm_step.specs.StoredBase.{changed_base, value_by};
+ghost use Rattle.arm_step.specs.Blocks.{listed, block_size, block_start, block_base, bank_of, with_loaded, with_block_status, block_loaded, block_values, block_stored};
+
+use crate::block::{loads_status, size_of, stores_new_base};
+use crate::cpu::Cpu;
+use crate::page_words::{free_place, lend_words, word_in};
+use crate::psr::Mode;
+use crate::registers::split_lowest;
+use address_map::AddressMap;
+use arm_decode::{BlockTransfer, Register, RegisterList};
+use profile::Fault;
+
+impl Cpu {
+    /// LDM of words in one page.
+    #[tactic(auto, unfolding(crate::specs::Blocks::block_loaded))]
+    #[inline(always)]
+    pub(crate) fn load_from_page(
+        &mut self,
+        memory: &AddressMap,
+        block: &BlockTransfer,
+        first: u32,
+        base: u32,
+    ) -> Result<(), Fault>
+        requires first { first ≡ block_start self.old block.now }
+        requires base { base ≡ block_base self.old block.now }
+        requires page { are_in_page first (block_size block.now) ≡ true }
+        ensures { let loaded = block_loaded self.old (bytes_of memory.now) block.now in
+            Leaves (self.old, bytes_of memory.now) loaded result (self.new, bytes_of memory.now) }
+    {
+        let bytes = lend_words(memory, first, size_of(block.list))?;
+        let bank = self.bank(block);
+        self.advance();
+        self.write_block_base(block, base);
+        self.place_bytes(bank, block.list, bytes);
+        self.set_status_of_bytes(block, bytes);
+        Ok(())
+    }
+
+    /// Places the words of some bytes in the registers of a list.
+    #[inline(always)]
+    fn place_bytes(&mut self, bank: Mode, list: RegisterList, bytes: &[u8])
+        requires { length bytes.now ≡ 4 * length (listed list) }
+        ensures { self.new ≡ with_loaded bank self.old (listed list) (words_in bytes.now 0 (length (listed list))) }
+    {
+        match bank {
+            // Where the bank is known, so is the place of each register.
+            Mode::User => self.place_each(Mode::User, list, bytes),
+            _ => self.place_each(bank, list, bytes),
+        }
+    }
+
+    /// The same, one by one.
+    #[tactic(auto, using(crate::proofs::Lowest::placing))]
+    #[inline(always)]
+    fn place_each(&mut self, bank: Mode, list: RegisterList, bytes: &[u8])
+        requires { length bytes.now ≡ 4 * length (listed list) }
+        ensures { self.new ≡ with_loaded bank self.old (listed list) (words_in bytes.now 0 (length (listed list))) }
+    {
+        let mut at = 0;
+        let mut rest = list.bits();
+        while rest != 0 {
+            let (register, others) = split_lowest(rest);
+            self.set_result_in(bank, register, word_in(bytes, at));
+            at += 4;
+            rest = others;
+        }
+    }
+
+    /// Loads the status from the last of some words, where the block transfer does that.
+    #[tactic(auto, using(crate::proofs::Lowest::last_word), unfolding(crate::specs::Blocks::with_block_status))]
+    #[inline(always)]
+    fn set_status_of_bytes(&mut self, block: &BlockTransfer, bytes: &[u8])
+        requires size { length bytes.now ≡ 4 * block_size block.now }
+        requires some { 0 < block_size block.now }
+        ensures { self.new ≡ with_block_status self.old block.now (words_in bytes.now 0 (block_size block.now)) }
+    {
+        if loads_status(block) {
+            self.set_status(word_in(bytes, bytes.len() - 4));
+        }
+    }
+
+    /// STM of words in one page.
+    #[tactic(auto, unfolding(crate::specs::Blocks::block_stored))]
+    #[inline(always)]
+    pub(crate) fn store_to_page(
+        &mut self,
+        memory: &mut AddressMap,
+        block: &BlockTransfer,
+        first: u32,
+        base: u32,
+    ) -> Result<(), Fault>
+        requires first { first ≡ block_start self.old block.now }
+        requires aligned { first % 4 ≡ 0 }
+        requires base { base ≡ block_base self.old block.now }
+        requires page { are_in_page first (block_size block.now) ≡ true }
+        ensures state { let stored = block_stored (is_owned memory.old) self.old (bytes_of memory.old) block.now in
+            Leaves (self.old, bytes_of memory.old) stored result (self.new, bytes_of memory.new) }
+        ensures layout { layout memory.new ≡ layout memory.old }
+        ensures marks { class_of memory.new ≡ class_of memory.old }
+    {
+        let at = free_place(memory, first, size_of(block.list))?;
+        self.put_registers(memory, block, base, first, at);
+        self.advance();
+        self.write_block_base(block, base);
+        Ok(())
+    }
+
+    /// What a block transfer stores of a register. `changed` is what it stores of its base, where
+    /// that is not the base as it was.
+    #[inline(always)]
+    fn stored_value(
+        &self,
+        block: &BlockTransfer,
+        bank: Mode,
+        changed: Option<u32>,
+        register: Register,
+    ) -> u32
+        ensures { result ≡ value_by changed (register == block.now.rn) (status_operand bank self.now register 3) }
+    {
+        match changed {
+            Some(base) if register.number() == block.rn.number() => base,
+            _ => self.status_operand(bank, register, 3),
+        }
+    }
+
+    /// Stores the registers of a block transfer to words of one page, the first of which lies at this
+    /// place of the store.
+    #[inline(always)]
+    fn put_registers(
+        &self,
+        memory: &mut AddressMap,
+        block: &BlockTransfer,
+        base: u32,
+        first: u32,
+        at: usize,
+    )
+        requires base { base ≡ block_base self.now block.now }
+        requires aligned { first % 4 ≡ 0 }
+        requires page { are_in_page first (block_size block.now) ≡ true }
+        requires place { place memory.old first ≡ Some at }
+        ensures bytes { bytes_of memory.new ≡ with_words (bytes_of memory.old) first (block_values self.now block.now) }
+        ensures layout { layout memory.new ≡ layout memory.old }
+        ensures marks { class_of memory.new ≡ class_of memory.old }
+    {
+        let changed = stores_new_base(block).then_some(base);
+        // Where these are known, so is the place of each register.
+        match (self.bank(block), changed) {
+            (Mode::User, None) => self.put_each(memory, block, Mode::User, None, first, at),
+            (Mode::User, _) => self.put_each(memory, block, Mode::User, changed, first, at),
+            (bank, _) => self.put_each(memory, block, bank, changed, first, at),
+        }
+    }
+
+    /// The same, one by one.
+    #[tactic(auto, using(crate::proofs::Lowest::length_next))]
+    #[inline(always)]
+    fn put_each(
+        &self,
+        memory: &mut AddressMap,
+        block: &BlockTransfer,
+        bank: Mode,
+        changed: Option<u32>,
+        first: u32,
+        at: usize,
+    )
+        requires bank { bank ≡ bank_of self.now block.now }
+        requires changed { changed ≡ changed_base self.now block.now }
+        requires aligned { first % 4 ≡ 0 }
+        requires page { are_in_page first (block_size block.now) ≡ true }
+        requires place { place memory.old first ≡ Some at }
+        ensures bytes { bytes_of memory.new ≡ with_words (bytes_of memory.old) first (block_values self.now block.now) }
+        ensures layout { layout memory.new ≡ layout memory.old }
+        ensures marks { class_of memory.new ≡ class_of memory.old }
+    {
+        let mut offset = 0;
+        let mut rest = block.list.bits();
+        while rest != 0 {
+            let (register, others) = split_lowest(rest);
+            let value = self.stored_value(block, bank, changed, register);
+            memory.put_word_at(first + offset, at + offset as usize, value);
+            offset += 4;
+            rest = others;
+        }
+    }
+}
