@@ -1,4 +1,5 @@
 pub mod Added
+pub mod Apart
 pub mod Bounds
 pub mod Calls
 pub mod Claiming
@@ -7,6 +8,7 @@ pub mod Found
 pub mod Frame
 pub mod Freeing
 pub mod Held
+pub mod KeptPayloads
 pub mod Linking
 pub mod Marking
 pub mod Moving

@@ -165,7 +165,7 @@ unowned_in m h a sound found free inside =
     unowned (bytes_of m) (store_of m).heaps h a sound.heaps (are_others (bytes_of m) h.start (store_of m).heaps h sound.heaps found) free inside
 
 -- the same heap is found after it got another list
-found_held : (start : ℕ) (items : List Item) (hs : List HeapList) (h : HeapList) → find_heap start hs ≡ Some h
+pub found_held : (start : ℕ) (items : List Item) (hs : List HeapList) (h : HeapList) → find_heap start hs ≡ Some h
     → (let p : HeapList = record { kind = h.kind; start = h.start; end = h.end; items = items } in find_heap start (with_items start items hs) ≡ Some p)
 found_held start items [] h e = absurd (let none : None ≡ Some h = e in cc)
 found_held start items (g ∷ hs) h e = elim (cases_Bool (g.start == start)) [

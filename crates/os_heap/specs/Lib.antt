@@ -1,4 +1,5 @@
 pub mod Calls
+pub mod Laws
 pub mod Outcomes
 pub mod Probes
 pub mod Ranges

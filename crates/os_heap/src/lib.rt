@@ -9,6 +9,7 @@ pub mod describe;
 mod free;
 pub mod heaps;
 pub mod init;
+pub mod laws;
 mod links;
 mod marks;
 mod refit;

@@ -6,6 +6,7 @@ pub mod LastLink
 pub mod LinkWalk
 pub mod LiveBlocks
 pub mod Marks
+pub mod Payloads
 pub mod Reading
 pub mod ReleaseOfClaim
 pub mod Resizes

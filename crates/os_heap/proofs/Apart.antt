@@ -1,0 +1,67 @@
+-- Live blocks share no byte.
+use Rattle.std.proofs.Common.{List, ℕ, [], ◌∷◌, ◌≡◌, ◌≢◌, ◌==◌, ◌+◌, ◌-◌, ◌≤◌, ◌<◌, Some, None, true, false, refl, sym, ap, subst, ◌∙◌, inl, inr, arith}
+use Rattle.std.proofs.lemmas.Bool.{cases_Bool, cases_eq, both_ways, and_parts, leb-true, ltb-true, le-leb, lt-ltb}
+use Rattle.address_map.specs.Bytes.{in_range, Bytes}
+use Rattle.address_map.specs.Items.{size_of}
+use Rattle.os_heap_lists.proofs.LiveBlocks.{LiveBytes, live_bytes, live_apart}
+use Rattle.os_heap_lists.specs.Heap.{HeapList, IsHeapIn}
+use Rattle.os_heap_lists.specs.Lists.{live_total}
+use Rattle.os_heap.proofs.Found.{found_heap}
+use Rattle.os_heap.proofs.Stores.{IsOther, AreOthers, are_others}
+use Rattle.os_heap.specs.Store.{Store, IsSound, find_heap}
+
+-- a heap that is found is the one, or shares no byte with it
+pub found_other : (h : HeapList) (start : ℕ) (hs : List HeapList) (g : HeapList) → AreOthers h hs → find_heap start hs ≡ Some g → IsOther h g
+found_other h start [] g others e = absurd (let none : None ≡ Some g = e in cc)
+found_other h start (k ∷ hs) g others e = elim (cases_Bool (k.start == start)) [
+  | inl here ↦
+      let e' = rw here at e in
+      let same : k ≡ g = cc in
+      subst (λ (x : HeapList). IsOther h x) same others.0
+  | inr later ↦ found_other h start hs g others.1 (rw later at e)
+]
+
+pub range_parts : (at len a : ℕ) → in_range at len a ≡ true → (at ≤ a) × (a < at + len)
+range_parts at len a inside =
+    let both = and_parts _ _ inside in
+    (leb-true at a both.0, ltb-true a (at + len) both.1)
+
+-- a byte of a block is in its heap's range
+pub block_inside : (b : Bytes) (h : HeapList) (block total a : ℕ) → IsHeapIn b h.start h.end h.items → live_total block (h.start + 16) h.items ≡ Some total
+    → in_range (block - 4) total a ≡ true → in_range h.start h.end a ≡ true
+block_inside b h block total a heap live inside =
+    let place : LiveBytes block total (h.start + 16) (h.start + 16 + size_of h.items) = live_bytes block total (h.start + 16) h.items heap.totals live in
+    let parts : (block - 4 ≤ a) × (a < block - 4 + total) = range_parts (block - 4) total a inside in
+    rw (le-leb h.start a (omega (arith, parts.0, place.low)), lt-ltb a (h.start + h.end) (omega (arith, parts.1, place.low, place.high, heap.inside))) refl
+
+one_block : (b : Bytes) (h : HeapList) (block total other other_total a : ℕ) → IsHeapIn b h.start h.end h.items
+    → live_total block (h.start + 16) h.items ≡ Some total → live_total other (h.start + 16) h.items ≡ Some other_total
+    → in_range (block - 4) total a ≡ true → in_range (other - 4) other_total a ≡ true → block ≡ other
+one_block b h block total other other_total a heap first second here there = elim (cases_eq block other) [
+  | inl same ↦ same
+  | inr apart ↦
+      let one : (block - 4 ≤ a) × (a < block - 4 + total) = range_parts (block - 4) total a here in
+      let two : (other - 4 ≤ a) × (a < other - 4 + other_total) = range_parts (other - 4) other_total a there in
+      let low : LiveBytes block total (h.start + 16) (h.start + 16 + size_of h.items) = live_bytes block total (h.start + 16) h.items heap.totals first in
+      let low' : LiveBytes other other_total (h.start + 16) (h.start + 16 + size_of h.items) = live_bytes other other_total (h.start + 16) h.items heap.totals second in
+      absurd (elim (live_apart block total other other_total (h.start + 16) h.items heap.totals first second apart) [
+        | inl before ↦ omega (arith, one.1, two.0, low.low, low'.low)
+        | inr behind ↦ omega (arith, two.1, one.0, low.low, low'.low)
+      ])
+]
+
+pub blocks_apart : (s : Store) (h g : HeapList) (block total other other_total a : ℕ) → IsSound s
+    → find_heap h.start s.heaps ≡ Some h → find_heap g.start s.heaps ≡ Some g
+    → live_total block (h.start + 16) h.items ≡ Some total → live_total other (g.start + 16) g.items ≡ Some other_total
+    → in_range (block - 4) total a ≡ true → in_range (other - 4) other_total a ≡ true → (h.start ≡ g.start) × (block ≡ other)
+blocks_apart s h g block total other other_total a sound found found' first second here there =
+    let heap : IsHeapIn s.bytes h.start h.end h.items = found_heap s.bytes h.start s.heaps h sound.heaps found in
+    let heap' : IsHeapIn s.bytes g.start g.end g.items = found_heap s.bytes g.start s.heaps g sound.heaps found' in
+    elim (found_other h g.start s.heaps g (are_others s.bytes h.start s.heaps h sound.heaps found) found') [
+      | inl same ↦
+          let second' : live_total other (h.start + 16) h.items ≡ Some other_total =
+          subst (λ (x : HeapList). live_total other (x.start + 16) x.items ≡ Some other_total) same second in
+          (sym (ap (λ (x : HeapList). x.start) same), one_block s.bytes h block total other other_total a heap first second' here there)
+      | inr apart ↦ absurd (both_ways (in_range g.start g.end a) (apart.1 a (block_inside s.bytes h block total a heap first here))
+          (block_inside s.bytes g other other_total a heap' second there))
+    ]
