@@ -1,14 +1,13 @@
 -- Words of one page: where they lie, what they read as, and whether one of them is owned.
-use Rattle.std.proofs.Common.{◌≡◌, ℕ, zero, suc, ◌+◌, ◌-◌, ◌*◌, ◌%◌, ◌^◌, ◌<◌, ◌≤◌, Bool, true, false, not, ◌&&◌, ◌||◌, nat_lt, nat_le, List, [], ◌∷◌, length, get_or, slice_range, Some, None, is_some, arith, refl, sym, ◌∙◌, ap, add-one, inl, inr, add-zero}
+use Rattle.std.proofs.Common.{◌≡◌, ℕ, zero, suc, ◌+◌, ◌-◌, ◌*◌, ◌%◌, ◌<◌, ◌≤◌, Bool, true, false, not, ◌&&◌, ◌||◌, nat_lt, List, [], ◌∷◌, length, get_or, slice_range, Some, is_some, arith, refl, sym, ◌∙◌, ap, inl, inr}
 use Rattle.std.specs.List.{list_any}
 use Rattle.std.proofs.lemmas.Bool.{lt-ltb, false≢true}
-use Rattle.std.proofs.lemmas.Bool.Decides.{nat_tests}
 use Rattle.std.proofs.lemmas.List.{places}
 use Rattle.address_map.specs.declared.map.AddressMap.{AddressMap}
 use Rattle.address_map.specs.declared.region.Region.{Region}
 use Rattle.address_map.specs.Bytes.{in_range, word_start}
 use Rattle.address_map.specs.Lent.{IsLent, any_owned, may_meet}
-use Rattle.address_map.specs.Memory.{place, byte_at, bytes_of, regions, layout, class_of, is_owned, is_plain}
+use Rattle.address_map.specs.Memory.{place, byte_at, bytes_of, regions, class_of, is_owned, is_plain}
 use Rattle.address_map.specs.Records.{is_flex_kind, may_own}
 use Rattle.address_map.proofs.Guests.{plain_word}
 use Rattle.address_map.proofs.Loads.{byte_found}
