@@ -1,5 +1,5 @@
 -- A call's answer, and then what the machine does with it, are the written call.
-use Rattle.std.proofs.Common.{◌≡◌, ℕ, Bool, true, false, Result, Ok, Err, Option, refl, sym, ◌∙◌, ap}
+use Rattle.std.proofs.Common.{◌≡◌, ℕ, Bool, false, Ok, Err, sym, ◌∙◌, ap}
 use Rattle.arm_step.specs.declared.psr.Psr.{Psr}
 use Rattle.swi_dispatch.specs.declared.refusal.Refusal.{Refusal}
 use Rattle.swi_dispatch.specs.MachineState.{MachineState, Outcome, quiet}

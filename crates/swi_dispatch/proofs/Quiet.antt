@@ -1,5 +1,5 @@
 -- Steps that the core does by itself print nothing and halt nothing: so many of them are a run.
-use Rattle.std.proofs.Common.{◌≡◌, ◌≢◌, ℕ, zero, suc, ◌+◌, Bool, true, false, Option, Some, None, List, [], Result, Ok, Err, refl, sym, ◌∙◌, ap, subst, arith}
+use Rattle.std.proofs.Common.{◌≡◌, ◌≢◌, ℕ, zero, suc, ◌+◌, Option, Some, None, List, [], Result, Ok, Err, refl, sym, ◌∙◌, ap, subst, arith}
 use Rattle.profile.specs.declared.stop.Stop.TheVariants as stop
 use Rattle.address_map.specs.Bytes.{Bytes}
 use Rattle.arm_step.specs.declared.turn.Turn.{Turn}

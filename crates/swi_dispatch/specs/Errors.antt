@@ -2,7 +2,6 @@
 -- Manual, "Generating and handling errors"; the system's block at &01C02100, and the number where none can be read, are this project's own).
 use Rattle.std.specs.Prelude.{ℕ, ◌%◌, ◌==◌, Result, Ok, Err, List, [], ◌∷◌, ◌++◌, if◌then◌else◌}
 use Rattle.profile.specs.ErrorNames.{error_code, error_name}
-use Rattle.profile.specs.declared.error.ErrorNumber.{ErrorNumber}
 use Rattle.profile.specs.declared.error.ErrorNumber.TheVariants.{BadPointer}
 use Rattle.profile.specs.declared.fault.Fault.{Fault}
 use Rattle.address_map.specs.Bytes.{Bytes, word_loaded, with_word, with_bytes}

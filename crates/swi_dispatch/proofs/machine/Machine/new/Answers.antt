@@ -1,4 +1,4 @@
-use Rattle.std.proofs.Common.{ap, ℕ}
+use Rattle.std.proofs.Common.{ap}
 use Rattle.os_heap.specs.Store.{Store, store_of}
 use Rattle.swi_dispatch.specs.Parts.{state_of}
 use Rattle.swi_dispatch.proofs.Starting.{starts}

@@ -1,6 +1,5 @@
-use Rattle.std.proofs.Common.{◌∙◌, sym, ap, refl}
-use Rattle.swi_dispatch.specs.MachineState.{MachineState}
-use Rattle.swi_dispatch.proofs.Quiet.{quiet_start, quiet_more, done_awake, other_stays}
+use Rattle.std.proofs.Common.{◌∙◌, refl}
+use Rattle.swi_dispatch.proofs.Quiet.{quiet_start, quiet_more, done_awake}
 use Rattle.swi_dispatch.proofs.machine.Machine.take_instructions.Goals as goal
 
 pub loop-taken-init : goal.loop-taken-init
