@@ -76,3 +76,9 @@ class_cleared items byte k below =
 pub cleared_more : (first done k : ℕ) (old now : Class) → now ≡ cond (in_range (4 * first) (4 * done) k) Plain old
     → cond (k / 4 == first + done) Plain now ≡ cond (in_range (4 * first) (4 * (done + 1)) k) Plain old
 cleared_more first done k old now so_far = rw so_far (grind (arith, nat_tests))
+
+-- a byte of zero: its words are plain
+pub class_zero : (items : List ℕ) (k : ℕ) → get_or items (k / 4) 0 ≡ 0 → class_of_number (lane (get_or items (k / 4) 0) (k % 4)) ≡ Plain
+class_zero items k is =
+    let zero_lane : lane 0 (k % 4) ≡ 0 = grind (arith, nat_tests) in
+    ap (λ (x : ℕ). class_of_number (lane x (k % 4))) is ∙ ap class_of_number zero_lane

@@ -1,14 +1,18 @@
 -- Words of one page: where they lie, what they read as, and whether one of them is owned.
-use Rattle.std.proofs.Common.{◌≡◌, ℕ, zero, suc, ◌+◌, ◌-◌, ◌*◌, ◌%◌, ◌^◌, ◌<◌, ◌≤◌, Bool, true, false, not, ◌&&◌, ◌||◌, nat_lt, nat_le, List, [], ◌∷◌, length, get_or, slice_range, Some, None, is_some, arith, refl, sym, ◌∙◌, ap, add-one, inl, inr, add-zero}
+use Rattle.std.proofs.Common.{◌≡◌, ℕ, zero, suc, ◌+◌, ◌-◌, ◌*◌, ◌/◌, ◌%◌, ◌^◌, ◌<◌, ◌≤◌, Bool, true, false, not, ◌&&◌, ◌||◌, nat_lt, nat_le, List, [], ◌∷◌, length, get_or, slice_range, Some, None, is_some, arith, refl, sym, ◌∙◌, ap, add-one, inl, inr, add-zero}
 use Rattle.std.specs.List.{list_any}
 use Rattle.std.proofs.lemmas.Bool.{lt-ltb, false≢true}
 use Rattle.std.proofs.lemmas.Bool.Decides.{nat_tests}
 use Rattle.std.proofs.lemmas.List.{places}
+use Rattle.address_map.specs.declared.class.Class.TheVariants.{Plain}
 use Rattle.address_map.specs.declared.map.AddressMap.{AddressMap}
 use Rattle.address_map.specs.Bytes.{in_range, word_start}
 use Rattle.address_map.specs.Lent.{IsLent, any_owned}
+use Rattle.address_map.specs.Marks.{class_at}
 use Rattle.address_map.specs.Memory.{place, byte_at, bytes_of, regions, layout, class_of, is_owned, is_plain}
 use Rattle.address_map.proofs.Loads.{byte_found}
+use Rattle.address_map.proofs.Marking.{place_lane}
+use Rattle.address_map.proofs.Words.{class_found}
 use Rattle.address_map.proofs.PageTable.{place_within, place_near}
 
 -- the bytes of a page lie one after another
@@ -62,3 +66,26 @@ unfolding any_owned
 owned_end owned a n i h = let e : n - i ≡ 0 = omega arith in rw e refl
 
 pub ruleset owning = (owned_step, owned_stop, owned_end)
+
+none_owned : (owned : ℕ → Bool) (a n : ℕ) → ((i : ℕ) → i < n → owned (a + 4 * i) ≡ false) → any_owned owned a n ≡ false
+unfolding any_owned
+none_owned owned a zero h = refl
+none_owned owned a (suc n) h =
+    let first : owned a ≡ false = let e : a + 4 * 0 ≡ a = omega arith in ap owned (sym e) ∙ h 0 (omega arith) in
+    rw first (none_owned owned (a + 4) n (λ i below.
+    let e : a + 4 + 4 * i ≡ a + 4 * (i + 1) = omega arith in ap owned e ∙ h (i + 1) (omega arith)))
+
+plain_word : (m : AddressMap) (a k : ℕ) → place m a ≡ Some k → class_at m.marks (k / 4) ≡ Plain → is_owned m a ≡ false
+unfolding is_owned
+plain_word m a k h plain = ap (λ class. not (is_plain class)) (class_found m a k h ∙ plain)
+
+-- the marks of words in a page lie in the bytes from that of the first to that of the last
+pub marks_within : (m : AddressMap) (a k n : ℕ) → a % 4096 + 4 * n ≤ 4096 → place m a ≡ Some k → (k + 4 * n + 15) / 16 ≤ length m.marks.bytes.items
+marks_within m a k n page h = omega (arith, page_fits m a k (4 * n) h page, m.marks_fit)
+
+pub plain_words : (m : AddressMap) (a k n : ℕ) → a % 4 ≡ 0 → a % 4096 + 4 * n ≤ 4096 → place m a ≡ Some k
+    → ((j : ℕ) → 4 * (k / 16) ≤ j → j < 4 * ((k + 4 * n + 15) / 16) → class_at m.marks j ≡ Plain) → any_owned (is_owned m) a n ≡ false
+plain_words m a k n aligned page h plain =
+    let low : k % 4096 ≡ a % 4096 = place_lane m a k h in
+    none_owned (is_owned m) a n (λ i below.
+    plain_word m (a + 4 * i) (k + 4 * i) (place_ahead m a (4 * i) k h (omega arith)) (plain ((k + 4 * i) / 4) (omega arith) (omega arith)))

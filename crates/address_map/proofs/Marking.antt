@@ -23,7 +23,7 @@ pub same_marks : (m n : AddressMap) → n.frames ≡ m.frames → n.marks ≡ m.
 unfolding class_of place
 same_marks m n frames marks = λ i a. mark_in (marks i) (place_in (frames i).items a)
 
-place_lane : (m : AddressMap) (a k : ℕ) → place m a ≡ Some k → k % 4096 ≡ a % 4096
+pub place_lane : (m : AddressMap) (a k : ℕ) → place m a ≡ Some k → k % 4096 ≡ a % 4096
 unfolding place
 place_lane m a k h = (place_within m.frames.items m.free.items a k m.table h).0
 

@@ -33,13 +33,28 @@ impl AddressMap {
         self.store.write_word(at, word);
     }
 
-    /// Whether any of `count` words from an address on is owned. The bytes of a word are owned
-    /// together.
-    #[tactic(auto, using(crate::proofs::Lending::owning))]
+    /// Whether any of `count` words of a page is owned, the first of which lies at this place of the
+    /// store. The bytes of a word are owned together.
+    #[tactic(auto, using(crate::proofs::Lending::plain_words))]
     #[inline(always)]
-    pub fn owns_any(&self, addr: u32, count: u32) -> bool
+    pub fn owns_any(&self, addr: u32, at: usize, count: u32) -> bool
         requires aligned { addr % 4 ≡ 0 }
-        requires below { addr + 4 * count ≤ 2 ^ 26 }
+        requires page { addr % 4096 + 4 * count ≤ 4096 }
+        requires there { place self.now addr ≡ Some at }
+        ensures { result ≡ any_owned (is_owned self.now) addr count }
+    {
+        // Four words share a byte of the marks, and mostly all of them are plain.
+        let end = (at + 4 * count as usize + 15) / 16;
+        if self.marks.are_plain(at / 16, end) {
+            return false;
+        }
+        self.owns_one_of(addr, count)
+    }
+
+    /// Whether any of `count` words is owned, each asked for by itself.
+    #[tactic(auto, using(crate::proofs::Lending::owning))]
+    fn owns_one_of(&self, addr: u32, count: u32) -> bool
+        requires { addr + 4 * count ≤ 2 ^ 26 }
         ensures { result ≡ any_owned (is_owned self.now) addr count }
     {
         for index in 0..count {

@@ -1,4 +1,4 @@
-ghost use Rattle.std.specs.Prelude.{ℕ, ◌≡◌, ◌<◌, ◌≤◌, ◌+◌, ◌*◌, ◌/◌, ◌==◌, IfOk, length, if◌then◌else◌};
+ghost use Rattle.std.specs.Prelude.{ℕ, ◌≡◌, ◌<◌, ◌≤◌, ◌+◌, ◌*◌, ◌/◌, ◌==◌, true, IfOk, length, if◌then◌else◌};
 ghost use Rattle.address_map.specs.declared.class.Class.{Class};
 ghost use Rattle.address_map.specs.Bytes.{in_range};
 ghost use Rattle.address_map.specs.Classes.{weight, number_of};
@@ -37,6 +37,20 @@ impl Marks {
             2 => Class::FlexHeader,
             _ => Class::Anchor,
         }
+    }
+
+    /// Whether all words of the bytes from `first` up to `end` are plain.
+    #[inline(always)]
+    pub(crate) fn are_plain(&self, first: usize, end: usize) -> bool
+        requires { end ≤ length self.now.bytes.items }
+        ensures { result ≡ true → (k : ℕ) → 4 * first ≤ k → k < 4 * end → class_at self.now k ≡ Class.Plain }
+    {
+        for byte in first..end {
+            if self.bytes[byte] != 0 {
+                return false;
+            }
+        }
+        true
     }
 
     /// Gives a word a class.

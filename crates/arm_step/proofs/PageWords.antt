@@ -147,4 +147,4 @@ placed m a k h = ap is_some (sym h)
 
 pub ruleset loading = (page_lent, page_missing)
 
-pub ruleset storing = (page_refused, page_owned, page_free, page_inside, unplaced, placed)
+pub ruleset storing = (page_refused, page_owned, page_free, page_within, unplaced, placed)

@@ -77,7 +77,7 @@ pub(crate) fn free_place(memory: &AddressMap, first: u32, count: u32) -> Result<
 {
     match memory.translate(first) {
         None => Err(missing(first)),
-        Some(_) if memory.owns_any(first, count) => Err(Fault::OwnedWord),
+        Some(at) if memory.owns_any(first, at, count) => Err(Fault::OwnedWord),
         Some(at) => Ok(at),
     }
 }

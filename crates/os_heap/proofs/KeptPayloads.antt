@@ -1,17 +1,17 @@
 -- What a call that is done leaves of the bytes of live blocks: all of them.
-use Rattle.std.proofs.Common.{if◌then◌else◌, Bool, List, ℕ, [], ◌∷◌, ◌≡◌, ◌≢◌, ◌==◌, ◌&&◌, ◌+◌, ◌-◌, ◌%◌, ◌≤◌, ◌<◌, Option, Some, None, ok_or, is_some, Result, Ok, Err, not, true, false, refl, sym, ap, subst, ◌∙◌, inl, inr, arith}
+use Rattle.std.proofs.Common.{if◌then◌else◌, Bool, List, ℕ, [], ◌≡◌, ◌≢◌, ◌==◌, ◌&&◌, ◌+◌, ◌-◌, ◌%◌, ◌≤◌, ◌<◌, Option, Some, None, ok_or, is_some, Result, Ok, Err, not, true, false, refl, sym, ap, subst, ◌∙◌, inl, inr, arith}
 use Rattle.std.proofs.lemmas.Bool.{cases_Bool, both_ways, not-false, or_parts, false_from_ne_true, false≢true, le-leb, lt-ltb, leb-false}
 use Rattle.std.specs.Prelude.{nat_le, nat_lt}
 use Rattle.std.specs.List.{list_any}
 use Rattle.profile.specs.Outcome.{bind}
 use Rattle.profile.specs.declared.error.ErrorNumber.{ErrorNumber}
 use Rattle.profile.specs.declared.error.ErrorNumber.TheVariants.{HeapBadDesc, HeapBadRegion, HeapOverlaps, HeapTableFull, HeapNotABlock, HeapNoRoom, HeapBadShrink}
-use Rattle.address_map.proofs.Stores.{in_range-cases}
-use Rattle.address_map.specs.Bytes.{Bytes, in_range, with_moved_at, word_start}
+use Rattle.address_map.specs.Bytes.{Bytes, in_range, word_start}
 use Rattle.address_map.specs.Items.{is_heap_word, is_total, size_of}
 use Rattle.address_map.specs.declared.item.Item.{Item}
 use Rattle.address_map.specs.declared.region.Kind.TheVariants as kind
-use Rattle.os_heap_lists.proofs.LiveBlocks.{LiveBytes, live_bytes, live_apart, IsFresh, claim_fresh, IsStill, claim_still, HasTotals, claim_totals, IsUnheld, claim_unheld, IsWithin, claim_within}
+use Rattle.os_heap_lists.proofs.ClaimedLists.{HasTotals, claim_totals, IsUnheld, claim_unheld, IsWithin, claim_within}
+use Rattle.os_heap_lists.proofs.LiveBlocks.{LiveBytes, live_bytes, live_apart, IsFresh, claim_fresh, IsStill, claim_still}
 use Rattle.os_heap_lists.proofs.Payloads.{heap_beside, payload_unspelled, spelled_inside}
 use Rattle.os_heap_lists.proofs.Spelling.{total_of-numbers}
 use Rattle.os_heap_lists.specs.Heap.{AreTotals, HeapList, IsHeapIn, with_heap}

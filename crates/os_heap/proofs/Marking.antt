@@ -1,15 +1,12 @@
 -- Words that are marked as heads, one by one, and item by item.
-use Rattle.std.proofs.Common.{suc, take, drop, length, slice_index_or, drop-cons, Bool, List, ℕ, [], ◌∷◌, ◌++◌, ◌≡◌, ◌==◌, ◌||◌, ◌+◌, ◌-◌, ◌%◌, ◌≤◌, ◌<◌, ◌^◌, true, refl, sym, ap, subst, ◌∙◌, arith, cond}
+use Rattle.std.proofs.Common.{suc, take, drop, length, slice_index_or, drop-cons, List, ℕ, [], ◌∷◌, ◌++◌, ◌≡◌, ◌+◌, ◌-◌, ◌%◌, ◌≤◌, ◌<◌, ◌^◌, true, refl, sym, ap, subst, ◌∙◌, arith}
 use Rattle.std.proofs.lemmas.List.{take-append-drop}
 use Rattle.std.proofs.lemmas.Bool.{false≢true}
-use Rattle.std.proofs.lemmas.Bool.Decides.{nat_tests}
 use Rattle.address_map.proofs.Spans.{mapped_below}
-use Rattle.address_map.specs.Bytes.{in_range, word_start}
 use Rattle.address_map.specs.Items.{size_of, total_of}
 use Rattle.address_map.specs.Memory.{bytes_of, is_mapped, layout, mapping, regions}
 use Rattle.address_map.specs.Records.{is_heap_kind, with_mark, without_region}
 use Rattle.address_map.specs.declared.class.Class.{Class}
-use Rattle.address_map.specs.declared.class.Class.TheVariants as class
 use Rattle.address_map.specs.declared.item.Item.{Item}
 use Rattle.address_map.specs.declared.item.Item.TheVariants.{Free, Live}
 use Rattle.address_map.specs.declared.map.AddressMap.{AddressMap}
@@ -19,7 +16,6 @@ use Rattle.address_map.specs.declared.region.Region.{Region}
 use Rattle.os_heap_lists.proofs.Reading.{total_facts}
 use Rattle.os_heap_lists.proofs.Spelling.{size_of-append, size_of-multiple, totals-back, totals-front}
 use Rattle.os_heap_lists.specs.Heap.{AreTotals, IsHeapIn}
-use Rattle.os_heap_lists.specs.Lists.{left_free}
 use Rattle.os_heap_lists.specs.Marks.{Remarks}
 use Rattle.os_heap_lists.specs.Words.{IsDivided, IsFreed, IsWritten}
 use Rattle.os_heap.proofs.Writing.{still_mapped}

@@ -9,7 +9,6 @@ use Rattle.address_map.proofs.Stores.{in_range-cases}
 use Rattle.address_map.specs.Bytes.{AreMapped, Bytes, word_start, in_range, with_moved_at}
 use Rattle.address_map.specs.Items.{size_of, is_heap_word, is_head}
 use Rattle.address_map.specs.Memory.{bytes_of, layout, is_mapped, byte_at, regions, class_of}
-use Rattle.address_map.specs.declared.class.Class.{Class}
 use Rattle.address_map.specs.declared.item.Item.{Item}
 use Rattle.address_map.specs.declared.map.AddressMap.{AddressMap}
 use Rattle.address_map.specs.declared.region.Kind.{Kind}
@@ -19,7 +18,6 @@ use Rattle.os_heap_lists.proofs.LiveBlocks.{claim_fresh, claim_still, IsFresh, I
 use Rattle.os_heap_lists.proofs.Reading.{items_in-heap}
 use Rattle.os_heap_lists.specs.Counts.{looked_at, free_below}
 use Rattle.os_heap_lists.specs.Heap.{HeapList, IsHeapIn}
-use Rattle.os_heap_lists.specs.Marks.{class_by}
 use Rattle.os_heap_lists.specs.Lists.{Claim, claimed, live_total, released}
 use Rattle.os_heap.proofs.Calls.{part_at, heap_there, free_given, IsGiven, classes_held}
 use Rattle.os_heap.proofs.Found.{found_heap, found_start}

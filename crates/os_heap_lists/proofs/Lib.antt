@@ -1,3 +1,4 @@
+pub mod ClaimedLists
 pub mod Counts
 pub mod HeadWords
 pub mod HeapWords
