@@ -112,7 +112,8 @@ impl Session {
         ensures told { OnOk result (IsAnswered (W.contents sink.old) (W.contents sink.new)
             (script_state self.now images.new)
             (asm_block (script_state self.now images.old) name.now answer.now)) }
-        ensures no_memory { answer.now ≡ Err (record { line = 0; reason = Reason.Memory }) → result ≡ Err RunError.Memory }
+        ensures no_memory { answer.now ≡ Err (record { line = 0; reason = Reason.Memory })
+            → result ≡ Err RunError.Memory }
         ensures memory { result ≡ Err RunError.Memory → sink.new ≡ sink.old }
         ensures write_fault { result ≡ Err RunError.WriteFault → W.has_failed sink.new ≡ true }
         ensures errors { IfErr result IsLineError }
