@@ -47,12 +47,12 @@ pub fn tell_image<W: Sink>(
 
 /// `hex name: line k: Syntax`, and the like: that line of the block is refused.
 #[tactic(auto, unfolding(crate::specs::Answers::line_refused_text))]
-pub fn tell_line_refused<W: Sink>(
+pub fn tell_line_refused<'t, W: Sink>(
     sink: &mut W,
-    word: &[u8],
-    name: &[u8],
+    word: &'t [u8],
+    name: &'t [u8],
     line: usize,
-    reason: &[u8],
+    reason: &'t [u8],
 ) -> Result<(), WriteFault>
     ensures { Writes W.contents W.has_failed sink.old sink.new result
         (line_refused_text word.now name.now line reason.now) }
