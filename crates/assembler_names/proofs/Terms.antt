@@ -1,5 +1,5 @@
 -- The loop over the terms of an expression.
-use Rattle.std.proofs.Common.{◌≡◌, ◌<◌, ◌≤◌, ◌+◌, ◌-◌, ℕ, zero, suc, Bool, List, Option, Some, None, refl, arith}
+use Rattle.std.proofs.Common.{◌≡◌, ◌<◌, ◌≤◌, ◌+◌, ◌-◌, ℕ, suc, Bool, List, Some, None, refl, arith}
 use Rattle.assembler_names.specs.Expressions.{Lookup, Value, combined, more_terms, sign, term}
 
 pub terms_end : (count i : ℕ) (labels : Lookup) (sum : Value) (text : List ℕ) → count ≤ i → more_terms (count - i) labels sum text ≡ Some (sum, text)

@@ -6,7 +6,7 @@ use Rattle.std.specs.Int.{is_in_range}
 use Rattle.std.specs.List.{list_all}
 use Rattle.std.specs.Str.Parse.{digits_value}
 use Rattle.assembler_names.specs.Labels.{begins_with_digit, is_label}
-use Rattle.assembler_names.specs.Words.{after_word, byte, word, ◌>>=◌}
+use Rattle.assembler_names.specs.Words.{after_word, word, ◌>>=◌}
 
 -- the addresses of labels, as a function of their names
 abbrev pub Lookup : Type 0

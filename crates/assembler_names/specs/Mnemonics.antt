@@ -1,7 +1,7 @@
 -- The words that name an instruction: a name, a condition or none, and suffixes (ARM2 data sheet, "Assembler syntax" of each instruction).
 -- No suffix is two letters of a condition, so two such letters behind the name are one. `BLS` is B with LS, `BLE` is B with LE, since BL has
 -- no suffix; `BLLS` is BL with LS.
-use Rattle.std.specs.Prelude.{ℕ, Bool, true, false, List, [], ◌∷◌, length, take, drop, codes, Option, Some, None, if◌then◌else◌}
+use Rattle.std.specs.Prelude.{ℕ, Bool, true, false, List, [], ◌∷◌, take, drop, codes, Option, Some, None, if◌then◌else◌}
 use Rattle.arm_decode.specs.Refusals.{is_test}
 use Rattle.arm_decode.specs.declared.condition.Condition.{Condition}
 use Rattle.arm_decode.specs.declared.condition.Condition.TheVariants.{Always}

@@ -1,11 +1,11 @@
 -- The loops over the ranges of a register list and the registers of a range.
-use Rattle.std.proofs.Common.{◌≡◌, ◌<◌, ◌≤◌, ◌+◌, ◌-◌, ◌*◌, ◌/◌, ◌%◌, ◌^◌, ℕ, zero, suc, Bool, true, false, List, [], ◌∷◌, Option, Some, None, refl, sym, ap, ◌∙◌, arith}
+use Rattle.std.proofs.Common.{◌≡◌, ◌<◌, ◌≤◌, ◌+◌, ◌-◌, ◌/◌, ◌%◌, ◌^◌, ℕ, zero, suc, false, List, Some, None, refl, arith}
 use Rattle.std.proofs.lemmas.Bool.Decides.{nat_tests}
 use Rattle.std.specs.Prelude.{fold, ◌==◌}
 use Rattle.std.specs.List.{range_with_len}
 use Rattle.profile.specs.Word.{bit_of}
 use Rattle.assembler_names.specs.Words.{comma, byte}
-use Rattle.assembler_reading.specs.RegisterLists.{more_registers, next_registers, register_range, with_range, with_register}
+use Rattle.assembler_reading.specs.RegisterLists.{more_registers, register_range, with_range, with_register}
 
 -- the registers from the n-th to the one before `stop`, put into a list
 unfoldable pub with_rest : ℕ → ℕ → ℕ → ℕ

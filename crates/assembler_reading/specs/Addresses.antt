@@ -2,7 +2,6 @@
 use Rattle.std.specs.Prelude.{ℕ, Bool, true, false, ◌+◌, ◌-◌, ◌&&◌, nat_le, nat_lt, List, Option, Some, None, Ok, Err, if◌then◌else◌}
 use Rattle.arm_decode.specs.declared.action.Action.{Action}
 use Rattle.arm_decode.specs.declared.action.Action.TheVariants as action
-use Rattle.arm_decode.specs.declared.action.Transfer.{Transfer}
 use Rattle.arm_decode.specs.declared.address.Address.{Address}
 use Rattle.arm_decode.specs.declared.address.Direction.{Direction}
 use Rattle.arm_decode.specs.declared.address.Direction.TheVariants.{Down, Up}

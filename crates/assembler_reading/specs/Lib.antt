@@ -1,5 +1,6 @@
 pub mod Addresses
 pub mod Instructions
+pub mod Laws
 pub mod Operands
 pub mod Operating
 pub mod RegisterLists

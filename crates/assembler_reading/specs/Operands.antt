@@ -1,6 +1,6 @@
 -- The second operand of data processing as it is written (ARM2 data sheet, "Data processing", "Assembler syntax"). A reader answers what it
 -- read, or the reason why that has no form, and what follows it.
-use Rattle.std.specs.Prelude.{ℕ, Bool, true, false, ◌-◌, ◌/◌, ◌%◌, ◌==◌, ◌&&◌, nat_le, List, codes, Option, Some, None, Result, Ok, Err, if◌then◌else◌}
+use Rattle.std.specs.Prelude.{ℕ, Bool, ◌/◌, ◌%◌, ◌==◌, ◌&&◌, nat_le, List, codes, Option, Some, None, Result, Ok, Err, if◌then◌else◌}
 use Rattle.arm_decode.specs.declared.operand.Operand.{Operand}
 use Rattle.arm_decode.specs.declared.operand.Operand.TheVariants as operand
 use Rattle.arm_decode.specs.declared.shift.Shift.{Shift}

@@ -1,11 +1,10 @@
 -- The operands of data processing and of multiplication (ARM2 data sheet, "Data processing", "Multiply and multiply-accumulate", "Assembler
 -- syntax").
-use Rattle.std.specs.Prelude.{ℕ, Bool, true, false, List, Option, Some, None, Ok, Err, if◌then◌else◌}
+use Rattle.std.specs.Prelude.{ℕ, Bool, true, false, List, Option, Some, Ok, Err, if◌then◌else◌}
 use Rattle.arm_decode.specs.Refusals.{is_test, is_move}
 use Rattle.arm_decode.specs.declared.action.Action.{Action}
 use Rattle.arm_decode.specs.declared.action.Action.TheVariants as action
 use Rattle.arm_decode.specs.declared.action.Operate.{Operate}
-use Rattle.arm_decode.specs.declared.action.Multiply.{Multiply}
 use Rattle.arm_decode.specs.declared.operand.Operand.{Operand}
 use Rattle.arm_decode.specs.declared.operation.Operation.{Operation}
 use Rattle.assembler_names.specs.Expressions.{Lookup}

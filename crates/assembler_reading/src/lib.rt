@@ -3,6 +3,7 @@
 
 pub mod addresses;
 pub mod instructions;
+pub mod laws;
 pub mod operands;
 pub mod operating;
 pub mod register_lists;
