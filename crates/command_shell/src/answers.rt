@@ -85,13 +85,7 @@ pub fn tell_image_refused<W: Sink>(
 {
     push_parts(
         sink,
-        &[
-            word,
-            name,
-            b": ".as_slice(),
-            reason,
-            b"\n".as_slice(),
-        ],
+        &[word, name, b": ".as_slice(), reason, b"\n".as_slice()],
     )
 }
 
