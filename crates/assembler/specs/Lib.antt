@@ -1,4 +1,5 @@
 pub mod Directives
+pub mod ErrorNames
 pub mod Line
 pub mod Passes
 pub mod Written

@@ -108,7 +108,8 @@ fn measure<'s>(
     requires none { none.now ≡ [] }
     requires origin { origin < 2 ^ 26 }
     requires room { length output.old.bytes ≤ 1048576 }
-    ensures told { IfOk result (λ answer. leaving (record { entries = labels.new; program = output.new.bytes }) answer
+    ensures told { IfOk result (λ answer.
+        leaving (record { entries = labels.new; program = output.new.bytes }) answer
         ≡ measured origin (record { entries = labels.old; program = output.old.bytes })
         (line (address_of []) origin output.old.bytes text.now)) }
     ensures room { IfOk result (λ answer. OnOk answer (length output.new.bytes ≤ 1048576)) }

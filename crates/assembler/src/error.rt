@@ -1,3 +1,5 @@
+ghost use Rattle.std.specs.Prelude.{◌≡◌};
+
 use assembler_names::Reason;
 use thiserror::Error;
 
@@ -10,4 +12,24 @@ pub struct AsmError {
     pub line: usize,
     /// Why it is refused.
     pub reason: Reason,
+}
+
+impl AsmError {
+    ghost use Rattle.assembler.specs.ErrorNames.{reason_name};
+
+    /// The reason's name, as the script language prints it.
+    pub fn reason_name(self) -> &'static str
+        ensures { result.now ≡ reason_name self.reason }
+    {
+        match self.reason {
+            Reason::Syntax => "Syntax",
+            Reason::LabelTwice => "LabelTwice",
+            Reason::TooLong => "TooLong",
+            Reason::UnknownLabel => "UnknownLabel",
+            Reason::BadImmediate => "BadImmediate",
+            Reason::OutOfReach => "OutOfReach",
+            Reason::Forbidden => "Forbidden",
+            Reason::Memory => "Memory",
+        }
+    }
 }

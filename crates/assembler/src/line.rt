@@ -22,7 +22,10 @@ pub(crate) fn put_line<'s>(
 ) -> Result<Option<(&'s [u8], u32)>, AllocError>
     requires origin { origin < 2 ^ 26 }
     requires room { length output.old.bytes ≤ 1048576 }
-    ensures { IfOk result (λ read. option_map (λ r. record { label = r.0.now; statement = record { place = r.1; written = output.new } }) read
+    ensures { IfOk result (λ read. option_map (λ r. record {
+      label = r.0.now;
+      statement = record { place = r.1; written = output.new };
+    }) read
         ≡ line (address_of labels.now) origin output.old.bytes text.now) }
 {
     let Some(label) = label_of(text) else {

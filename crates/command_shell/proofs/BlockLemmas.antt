@@ -1,5 +1,5 @@
 -- How a block goes on and ends, by its first line.
-use Rattle.std.proofs.Common.{◌≡◌, ℕ, ◌+◌, Bool, true, false, List, [], ◌∷◌, ◌++◌, Option, Some, None, Result, Ok, Err, sym, ap, ◌∙◌, append_assoc, refl}
+use Rattle.std.proofs.Common.{◌≡◌, ℕ, ◌+◌, take, length, arith, Bool, true, false, List, [], ◌∷◌, ◌++◌, Option, Some, None, Result, Ok, Err, sym, ap, ◌∙◌, append_assoc, refl}
 use Rattle.std.proofs.lemmas.List.{append-nil}
 use Rattle.std.specs.Io.KnownBytes.{prepend_known}
 use Rattle.std.specs.Prelude.{if◌then◌else◌}
@@ -101,4 +101,28 @@ bytes_bad bytes number line rest is none =
     one_line bytes number rest line is
     ∙ line_bad bytes (number + 1) (spelled line) (block_bytes (number + 1) (block_lines rest)) none
 
-pub ruleset block_steps = (block_starts, lines_end, lines_go_on, lines_stop, size_ends, size_goes_on, size_stops, bytes_end, bytes_stop, bytes_go_on, bytes_bad)
+pub count_ends : (line : List ℕ) (rest : List (List ℕ)) → is_end line ≡ true → length (block_lines (line ∷ rest)) ≡ 0
+count_ends line rest is = ap length (ended line rest is)
+
+pub count_goes_on : (line : List ℕ) (rest : List (List ℕ)) → is_end line ≡ false → length (block_lines (line ∷ rest)) ≡ 1 + length (block_lines rest)
+count_goes_on line rest is = omega (arith, ap length (went_on line rest is))
+
+pub count_stops : length (block_lines []) ≡ 0
+unfolding block_lines
+count_stops = refl
+
+no_block : block_lines [] ≡ []
+unfolding block_lines
+no_block = refl
+
+front_by : (line : List ℕ) (rest : List (List ℕ)) (b : Bool) → is_end line ≡ b → take (length (block_lines rest)) rest ≡ block_lines rest
+    → take (length (block_lines (line ∷ rest))) (line ∷ rest) ≡ block_lines (line ∷ rest)
+front_by line rest true is here = rw (ended line rest is) refl
+front_by line rest false is here = rw (went_on line rest is) (ap (λ (ls : List (List ℕ)). line ∷ ls) here)
+
+-- a block is the front of the lines that are left
+pub block_is_front : (left : List (List ℕ)) → take (length (block_lines left)) left ≡ block_lines left
+block_is_front [] = rw count_stops (sym no_block)
+block_is_front (line ∷ rest) = front_by line rest (is_end line) refl (block_is_front rest)
+
+pub ruleset block_steps = (count_ends, count_goes_on, count_stops, block_starts, lines_end, lines_go_on, lines_stop, size_ends, size_goes_on, size_stops, bytes_end, bytes_stop, bytes_go_on, bytes_bad)

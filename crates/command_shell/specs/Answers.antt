@@ -16,17 +16,17 @@ address_text address = codes " &" ++ hex_number address
 unfoldable pub unknown_text : ℕ → List ℕ
 unknown_text number = codes "? line " ++ (decimal number ++ codes "\n")
 
--- `hex name: n bytes`
-unfoldable pub hex_text : List ℕ → ℕ → List ℕ
-hex_text name len = codes "hex " ++ (name ++ (codes ": " ++ (decimal len ++ codes " bytes\n")))
+-- `hex name: n bytes`, and the like after `asm `
+unfoldable pub image_text : List ℕ → List ℕ → ℕ → List ℕ
+image_text word name len = word ++ (name ++ (codes ": " ++ (decimal len ++ codes " bytes\n")))
 
 -- `hex name: line k: Syntax`
-unfoldable pub hex_syntax_text : List ℕ → ℕ → List ℕ
-hex_syntax_text name line = codes "hex " ++ (name ++ (codes ": line " ++ (decimal line ++ codes ": Syntax\n")))
+unfoldable pub line_refused_text : List ℕ → List ℕ → ℕ → List ℕ → List ℕ
+line_refused_text word name line reason = word ++ (name ++ (codes ": line " ++ (decimal line ++ (codes ": " ++ (reason ++ codes "\n")))))
 
 -- `hex name: NameTaken`
-unfoldable pub hex_refused_text : List ℕ → List ℕ → List ℕ
-hex_refused_text name reason = codes "hex " ++ (name ++ (codes ": " ++ (reason ++ codes "\n")))
+unfoldable pub image_refused_text : List ℕ → List ℕ → List ℕ → List ℕ
+image_refused_text word name reason = word ++ (name ++ (codes ": " ++ (reason ++ codes "\n")))
 
 -- `boot name`
 unfoldable pub boot_text : List ℕ → List ℕ

@@ -1,5 +1,5 @@
 -- A block of a script: the lines up to one that ends it, or up to the script's end.
-use Rattle.std.specs.Prelude.{ℕ, ◌+◌, List, [], ◌∷◌, ◌++◌, Option, Some, None, Result, Ok, Err, if◌then◌else◌}
+use Rattle.std.specs.Prelude.{ℕ, Bool, true, false, ◌+◌, List, [], ◌∷◌, ◌++◌, Option, Some, None, Result, Ok, Err, if◌then◌else◌}
 use Rattle.command_shell.specs.HexPairs.{spelled}
 use Rattle.command_shell.specs.Requests.{is_end}
 use Rattle.command_shell.specs.declared.blocks.Block.{Block}
@@ -29,14 +29,14 @@ unfoldable pub block_bytes : ℕ → List (List ℕ) → Result (List ℕ) ℕ
 block_bytes number [] = Ok []
 block_bytes number (line ∷ rest) = joined_bytes (number + 1) (spelled line) (block_bytes (number + 1) rest)
 
--- the lines that follow a request, without the block that it opens, and how many lines its block has
-abbrev pub lines_after : Option (List ℕ) → List (List ℕ) → List (List ℕ)
-lines_after None rest = rest
-lines_after (Some name) rest = after_block rest
+-- the lines that follow a request, without its block if it opens one, and how many lines the block takes
+abbrev pub lines_after : Bool → List (List ℕ) → List (List ℕ)
+lines_after false rest = rest
+lines_after true rest = after_block rest
 
-abbrev pub lines_taken : Option (List ℕ) → List (List ℕ) → ℕ
-lines_taken None rest = 0
-lines_taken (Some name) rest = block_size rest
+abbrev pub lines_taken : Bool → List (List ℕ) → ℕ
+lines_taken false rest = 0
+lines_taken true rest = block_size rest
 
 -- a block as the code has read it
 abbrev pub result_of_block : Block → Result (List ℕ) ℕ

@@ -1,4 +1,4 @@
--- The lines that hand in an image and boot one: HEX and BOOT.
+-- The lines that hand in an image and boot one: HEX, ASM and BOOT.
 use Rattle.std.specs.Prelude.{ℕ, Bool, false, List, length, codes, Option, Some, None, Result, Ok, Err}
 use Rattle.image_loader.specs.Entries.{bytes_of, refusal_for, with_entry}
 use Rattle.image_loader.specs.declared.error.ImageError.{ImageError}
@@ -7,28 +7,44 @@ use Rattle.swi_dispatch.specs.MachineState.{MachineState}
 use Rattle.swi_dispatch.specs.Boot.{booted}
 use Rattle.swi_dispatch.specs.declared.boot_error.BootError.{BootError}
 use Rattle.swi_dispatch.specs.declared.boot_error.BootError.TheVariants as boot
-use Rattle.command_shell.specs.Answers.{hex_text, hex_syntax_text, hex_refused_text, boot_text, refused_text}
+use Rattle.assembler.specs.ErrorNames.{reason_name}
+use Rattle.assembler.specs.Passes.{means_lines}
+use Rattle.assembler.specs.declared.error.AsmError.{AsmError}
+use Rattle.command_shell.specs.Answers.{image_text, line_refused_text, image_refused_text, boot_text, refused_text}
 use Rattle.command_shell.specs.Blocks.{block_bytes}
 use Rattle.command_shell.specs.State.{ScriptState, Answered, answer}
 
+-- An image of a block, by its bytes. `word` is what its answer begins with.
+abbrev pub image_added : ScriptState → List ℕ → List ℕ → List ℕ → Option ImageError → Answered
+image_added s word name bytes (Some error) = answer s (image_refused_text word name (image_error_name error))
+image_added s word name bytes None = answer (record s { images = with_entry s.images name bytes }) (image_text word name (length bytes))
+
+abbrev pub image_sized : ScriptState → List ℕ → List ℕ → List ℕ → Answered
+image_sized s word name bytes = image_added s word name bytes (refusal_for s.images name (length bytes))
+
 -- HEX: the name and the table are tested first, then the lines, then the size.
-abbrev pub hex_added : ScriptState → List ℕ → List ℕ → Option ImageError → Answered
-hex_added s name bytes (Some error) = answer s (hex_refused_text name (image_error_name error))
-hex_added s name bytes None = answer (record s { images = with_entry s.images name bytes }) (hex_text name (length bytes))
-
-abbrev pub hex_sized : ScriptState → List ℕ → List ℕ → Answered
-hex_sized s name bytes = hex_added s name bytes (refusal_for s.images name (length bytes))
-
 abbrev pub hex_block : ScriptState → List ℕ → Result (List ℕ) ℕ → Answered
-hex_block s name (Err line) = answer s (hex_syntax_text name line)
-hex_block s name (Ok bytes) = hex_sized s name bytes
+hex_block s name (Err line) = answer s (line_refused_text (codes "hex ") name line (codes "Syntax"))
+hex_block s name (Ok bytes) = image_sized s (codes "hex ") name bytes
 
 abbrev pub hex_opened : ScriptState → List ℕ → List (List ℕ) → Option ImageError → Answered
-hex_opened s name block (Some error) = answer s (hex_refused_text name (image_error_name error))
+hex_opened s name block (Some error) = answer s (image_refused_text (codes "hex ") name (image_error_name error))
 hex_opened s name block None = hex_block s name (block_bytes 0 block)
 
 unfoldable pub hex_told : ScriptState → List ℕ → List (List ℕ) → Answered
 hex_told s name block = hex_opened s name block (refusal_for s.images name 0)
+
+-- ASM: likewise, with the bytes that the lines mean at the origin.
+abbrev pub asm_block : ScriptState → List ℕ → Result (List ℕ) AsmError → Answered
+asm_block s name (Err e) = answer s (line_refused_text (codes "asm ") name e.line (reason_name e.reason))
+asm_block s name (Ok bytes) = image_sized s (codes "asm ") name bytes
+
+abbrev pub asm_opened : ScriptState → List ℕ → ℕ → List (List ℕ) → Option ImageError → Answered
+asm_opened s name origin block (Some error) = answer s (image_refused_text (codes "asm ") name (image_error_name error))
+asm_opened s name origin block None = asm_block s name (means_lines block origin)
+
+unfoldable pub asm_told : ScriptState → List ℕ → ℕ → List (List ℕ) → Answered
+asm_told s name origin block = asm_opened s name origin block (refusal_for s.images name 0)
 
 -- BOOT: the image must be there, the machine as it was made, and the image no longer than the application space, in this order.
 abbrev pub boot_refusal_name : BootError → List ℕ

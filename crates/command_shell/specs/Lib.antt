@@ -3,7 +3,6 @@ pub mod Blocks
 pub mod Error
 pub mod HexPairs
 pub mod Images
-pub mod Lines
 pub mod Memory
 pub mod Numbers
 pub mod Operands

@@ -1,5 +1,5 @@
 -- What the words after a command stand for: a register that a script can set, the address of a word, a count.
-use Rattle.std.specs.Prelude.{ℕ, ◌-◌, ◌%◌, ◌==◌, ◌&&◌, nat_le, List, [], ◌∷◌, Option, Some, None, if◌then◌else◌}
+use Rattle.std.specs.Prelude.{ℕ, ◌-◌, ◌%◌, ◌^◌, ◌==◌, ◌&&◌, nat_le, nat_lt, List, [], ◌∷◌, Option, Some, None, if◌then◌else◌}
 use Rattle.std.specs.Int.{is_in_range}
 use Rattle.command_shell.specs.Numbers.{number_of}
 
@@ -16,6 +16,14 @@ of_a_word None = None
 -- the address of a word, a multiple of 4
 unfoldable pub word_address : List ℕ → Option ℕ
 word_address text = of_a_word (number_of text)
+
+abbrev pub of_an_origin : Option ℕ → Option ℕ
+of_an_origin (Some a) = if nat_lt a (2 ^ 26) then Some a else None
+of_an_origin None = None
+
+-- where a program can be assembled: the address of a word below 2^26
+unfoldable pub origin_of : List ℕ → Option ℕ
+origin_of text = of_an_origin (word_address text)
 
 abbrev pub of_a_count : ℕ → Option ℕ → Option ℕ
 of_a_count most (Some n) = if nat_le 1 n && nat_le n most then Some n else None

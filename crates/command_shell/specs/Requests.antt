@@ -5,13 +5,14 @@ use Rattle.std.specs.List.{slice_split}
 use Rattle.std.specs.Str.{bytes_eq}
 use Rattle.image_loader.specs.Entries.{is_name}
 use Rattle.command_shell.specs.Numbers.{number_of}
-use Rattle.command_shell.specs.Operands.{register_named, word_address, count_up_to}
+use Rattle.command_shell.specs.Operands.{register_named, word_address, origin_of, count_up_to}
 use Rattle.command_shell.specs.declared.requests.Command.{Command}
 use Rattle.command_shell.specs.declared.requests.Command.TheVariants as command
 
 pub data Request : Type 0 where
   Nothing : Request
   Hex : List ℕ → Request
+  Asm : List ℕ → ℕ → Request
   Boot : List ℕ → Request
   Run : Request
   Regs : Request
@@ -26,10 +27,11 @@ pub data Request : Type 0 where
   Heap : ℕ → Request
   Unknown : Request
 
--- the block that a request opens, by the name of its image
-abbrev pub opened : Request → Option (List ℕ)
-opened (Hex name) = Some name
-opened request = None
+-- whether the lines that follow are a block of the request's own
+abbrev pub opens_block : Request → Bool
+opens_block (Hex name) = true
+opens_block (Asm name origin) = true
+opens_block request = false
 
 -- equal but for the case of ASCII letters
 abbrev pub is_word : List ℕ → List ℕ → Bool
@@ -72,14 +74,21 @@ both_numbered (Some n) (Some m) request = request n m
 both_numbered (Some n) None request = Unknown
 both_numbered None second request = Unknown
 
+-- a line of a word, a name that an image can have and an address
+abbrev pub named_at : Bool → List ℕ → Option ℕ → Request
+named_at true name (Some origin) = Asm name origin
+named_at true name None = Unknown
+named_at false name origin = Unknown
+
 -- a line of three words
 abbrev pub request_of_three : List ℕ → List ℕ → List ℕ → Request
 request_of_three word first second =
+    if is_word word (codes "ASM") then named_at (is_name first) first (origin_of second) else (
     if is_word word (codes "SET") then both_numbered (register_named first) (number_of second) Set else (
     if is_word word (codes "POKE") then both_numbered (word_address first) (number_of second) Poke else (
     if is_word word (codes "MEM") then both_numbered (number_of first) (count_up_to 4096 second) Mem else (
     if is_word word (codes "CODE") then both_numbered (word_address first) (count_up_to 1024 second) Code else
-    Unknown)))
+    Unknown))))
 
 abbrev pub request_of_words : List (List ℕ) → Request
 request_of_words [] = Unknown
@@ -99,6 +108,7 @@ is_end line = is_word line (codes "END")
 abbrev pub request_of_command : Command → Request
 request_of_command command.Nothing = Nothing
 request_of_command (command.Hex name) = Hex name.now
+request_of_command (command.Asm name origin) = Asm name.now origin
 request_of_command (command.Boot name) = Boot name.now
 request_of_command command.Run = Run
 request_of_command command.Regs = Regs

@@ -4,17 +4,18 @@ use Rattle.std.specs.Str.Lines.{lines}
 use Rattle.profile.specs.Sizes.{Sizes}
 use Rattle.image_loader.specs.Entries.{Entry}
 use Rattle.command_shell.specs.Answers.{unknown_text}
-use Rattle.command_shell.specs.Images.{hex_told, boot_told}
+use Rattle.command_shell.specs.Images.{hex_told, asm_told, boot_told}
 use Rattle.command_shell.specs.Memory.{set_told, poke_told}
-use Rattle.command_shell.specs.Requests.{Request, Nothing, Hex, Boot, Run, Regs, Set, Poke, Call, Step, Break, Unbreak, Mem, Code, Heap, Unknown, opened, request_of, is_end}
+use Rattle.command_shell.specs.Requests.{Request, Nothing, Hex, Asm, Boot, Run, Regs, Set, Poke, Call, Step, Break, Unbreak, Mem, Code, Heap, Unknown, opens_block, request_of, is_end}
 use Rattle.command_shell.specs.State.{ScriptState, Answered, answer, then_answered, start_state}
 use Rattle.command_shell.specs.Stepping.{run_told, step_told, call_told, break_told, unbreak_told}
 use Rattle.command_shell.specs.Views.{regs_told, mem_told, code_told, heap_told}
 
--- A request at the line of that number; of a HEX line, with the lines of its block.
+-- A request at the line of that number; of a HEX or an ASM line, with the lines of its block.
 abbrev pub request_told : ScriptState → ℕ → Request → List (List ℕ) → Answered
 request_told s number Nothing block = answer s []
 request_told s number (Hex name) block = hex_told s name block
+request_told s number (Asm name origin) block = asm_told s name origin block
 request_told s number (Boot name) block = boot_told s name
 request_told s number Run block = run_told s
 request_told s number Regs block = regs_told s
@@ -29,21 +30,25 @@ request_told s number (Code address count) block = code_told s address count
 request_told s number (Heap address) block = heap_told s address
 request_told s number Unknown block = answer s (unknown_text number)
 
--- a block whose end has not come yet: its name, and its lines so far
+-- a block whose end has not come yet: the request that opened it, the number of its line, and the block's lines so far
 pub record OpenBlock : Type 0 where
-  pub name : List ℕ
+  pub request : Request
+  pub number : ℕ
   pub block : List (List ℕ)
 
 -- A line that opens a block is answered at the block's end; any other is answered at once.
-abbrev pub on_opened : ScriptState → ℕ → Request → Option (List ℕ) → (ScriptState → Option OpenBlock → Answered) → Answered
-on_opened s number request (Some name) next = next s (Some (record { name = name; block = [] }))
-on_opened s number request None next = then_answered (request_told s number request []) (λ after. next after None)
+abbrev pub on_opened : ScriptState → ℕ → Request → Bool → (ScriptState → Option OpenBlock → Answered) → Answered
+on_opened s number request true next = next s (Some (record { request = request; number = number; block = [] }))
+on_opened s number request false next = then_answered (request_told s number request []) (λ after. next after None)
 
 abbrev pub on_request : ScriptState → ℕ → Request → (ScriptState → Option OpenBlock → Answered) → Answered
-on_request s number request next = on_opened s number request (opened request) next
+on_request s number request next = on_opened s number request (opens_block request) next
+
+abbrev pub block_told : ScriptState → OpenBlock → Answered
+block_told s open_block = request_told s open_block.number open_block.request open_block.block
 
 abbrev pub in_block : ScriptState → OpenBlock → List ℕ → Bool → (ScriptState → Option OpenBlock → Answered) → Answered
-in_block s open_block line true next = then_answered (hex_told s open_block.name open_block.block) (λ after. next after None)
+in_block s open_block line true next = then_answered (block_told s open_block) (λ after. next after None)
 in_block s open_block line false next = next s (Some (record open_block { block = open_block.block ++ line ∷ [] }))
 
 abbrev pub on_line : ScriptState → ℕ → Option OpenBlock → List ℕ → (ScriptState → Option OpenBlock → Answered) → Answered
@@ -53,7 +58,7 @@ on_line s number (Some open_block) line next = in_block s open_block line (is_en
 -- A block without its last line ends with the script.
 abbrev pub at_the_end : ScriptState → Option OpenBlock → Answered
 at_the_end s None = answer s []
-at_the_end s (Some open_block) = hex_told s open_block.name open_block.block
+at_the_end s (Some open_block) = block_told s open_block
 
 -- lines, where so many came before
 unfoldable pub lines_told : ℕ → ScriptState → Option OpenBlock → List (List ℕ) → Answered

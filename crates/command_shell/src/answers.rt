@@ -1,7 +1,7 @@
 //! The lines that requests are answered with.
 
 ghost use Rattle.profile.specs.Output.{Writes};
-ghost use Rattle.command_shell.specs.Answers.{unknown_text, hex_text, hex_syntax_text, hex_refused_text, boot_text, refused_text, break_text, unbreak_text, ok_text, call_error_text, at_text, numbered_text, fault_text, stop_text, stepped_text};
+ghost use Rattle.command_shell.specs.Answers.{unknown_text, image_text, line_refused_text, image_refused_text, boot_text, refused_text, break_text, unbreak_text, ok_text, call_error_text, at_text, numbered_text, fault_text, stop_text, stepped_text};
 
 use itoa::Buffer;
 use profile::{Fault, HexText, Sink, Stop, WriteFault, push_all, push_parts};
@@ -22,16 +22,21 @@ pub fn tell_unknown<W: Sink>(sink: &mut W, line: usize) -> Result<(), WriteFault
     )
 }
 
-/// `hex name: n bytes`: the image was taken.
-#[tactic(auto, unfolding(crate::specs::Answers::hex_text))]
-pub fn tell_hex<W: Sink>(sink: &mut W, name: &[u8], len: usize) -> Result<(), WriteFault>
-    ensures { Writes W.contents W.has_failed sink.old sink.new result (hex_text name.now len) }
+/// `hex name: n bytes`, or `asm ` in place of `hex `: the image was taken.
+#[tactic(auto, unfolding(crate::specs::Answers::image_text))]
+pub fn tell_image<W: Sink>(
+    sink: &mut W,
+    word: &[u8],
+    name: &[u8],
+    len: usize,
+) -> Result<(), WriteFault>
+    ensures { Writes W.contents W.has_failed sink.old sink.new result (image_text word.now name.now len) }
 {
     let mut number = Buffer::new();
     push_parts(
         sink,
         &[
-            b"hex ".as_slice(),
+            word,
             name,
             b": ".as_slice(),
             number.format(len).as_bytes(),
@@ -40,38 +45,47 @@ pub fn tell_hex<W: Sink>(sink: &mut W, name: &[u8], len: usize) -> Result<(), Wr
     )
 }
 
-/// `hex name: line k: Syntax`: that line of the block spells no bytes.
-#[tactic(auto, unfolding(crate::specs::Answers::hex_syntax_text))]
-pub fn tell_hex_syntax<W: Sink>(sink: &mut W, name: &[u8], line: usize) -> Result<(), WriteFault>
-    ensures { Writes W.contents W.has_failed sink.old sink.new result (hex_syntax_text name.now line) }
+/// `hex name: line k: Syntax`, and the like: that line of the block is refused.
+#[tactic(auto, unfolding(crate::specs::Answers::line_refused_text))]
+pub fn tell_line_refused<'t, W: Sink>(
+    sink: &mut W,
+    word: &'t [u8],
+    name: &'t [u8],
+    line: usize,
+    reason: &'t [u8],
+) -> Result<(), WriteFault>
+    ensures { Writes W.contents W.has_failed sink.old sink.new result
+        (line_refused_text word.now name.now line reason.now) }
 {
     let mut number = Buffer::new();
     push_parts(
         sink,
         &[
-            b"hex ".as_slice(),
+            word,
             name,
             b": line ".as_slice(),
             number.format(line).as_bytes(),
-            b": Syntax\n".as_slice(),
+            b": ".as_slice(),
+            reason,
+            b"\n".as_slice(),
         ],
     )
 }
 
 /// `hex name: NameTaken`, and the like: the image was refused.
-#[tactic(auto, unfolding(crate::specs::Answers::hex_refused_text))]
-pub fn tell_hex_refused<W: Sink>(sink: &mut W, name: &[u8], reason: &[u8]) -> Result<(), WriteFault>
-    ensures { Writes W.contents W.has_failed sink.old sink.new result (hex_refused_text name.now reason.now) }
+#[tactic(auto, unfolding(crate::specs::Answers::image_refused_text))]
+pub fn tell_image_refused<W: Sink>(
+    sink: &mut W,
+    word: &[u8],
+    name: &[u8],
+    reason: &[u8],
+) -> Result<(), WriteFault>
+    ensures { Writes W.contents W.has_failed sink.old sink.new result
+        (image_refused_text word.now name.now reason.now) }
 {
     push_parts(
         sink,
-        &[
-            b"hex ".as_slice(),
-            name,
-            b": ".as_slice(),
-            reason,
-            b"\n".as_slice(),
-        ],
+        &[word, name, b": ".as_slice(), reason, b"\n".as_slice()],
     )
 }
 

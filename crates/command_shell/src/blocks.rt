@@ -1,10 +1,10 @@
-ghost use Rattle.std.specs.Prelude.{◌≡◌, ◌+◌, IfOk, OnOk};
+ghost use Rattle.std.specs.Prelude.{◌≡◌, ◌+◌, length, IfOk, OnOk};
 ghost use Rattle.command_shell.specs.Blocks.{block_lines, after_block, block_size, block_bytes, result_of_block};
 
 use crate::hex_pairs::append_spelled;
-use crate::lines::Lines;
 use crate::requests::is_block_end;
 use std::alloc::{AllocError, Global};
+use text_lines::Lines;
 
 /// What the lines of a HEX block spell.
 #[derive(Debug, Drop)]
@@ -37,15 +37,19 @@ pub fn read_block(alloc: Global, script: &mut Lines) -> Result<Block, AllocError
     Ok(Block::Bytes(bytes))
 }
 
-/// Passes over the lines of a block and the line that ends it.
+/// Passes over the lines of a block and the line that ends it, and answers how many lines the
+/// block has.
 #[tactic(auto, using(crate::proofs::BlockLemmas::block_steps))]
-pub fn skip_block(script: &mut Lines)
+pub fn skip_block(script: &mut Lines) -> usize
+    ensures lines { result ≡ length (block_lines script.old.left) }
     ensures left { script.new.left ≡ after_block script.old.left }
     ensures number { script.new.number ≡ script.old.number + block_size script.old.left }
 {
+    let first = script.number();
     while let Some(line) = script.next_line() {
         if is_block_end(line) {
-            return;
+            return script.number() - first - 1;
         }
     }
+    script.number() - first
 }

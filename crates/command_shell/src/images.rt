@@ -1,20 +1,22 @@
-//! The lines that hand in an image and boot one: HEX and BOOT.
+//! The lines that hand in an image and boot one: HEX, ASM and BOOT.
 
 ghost use Rattle.std.specs.Prelude.{◌≡◌, ◌+◌, true, IfErr, OnOk, OnErr};
 ghost use Rattle.command_shell.specs.Blocks.{block_lines, after_block, block_size, result_of_block};
 ghost use Rattle.command_shell.specs.Error.{IsLineError};
 
-use crate::answers::{tell_boot, tell_hex, tell_hex_refused, tell_hex_syntax, tell_refused};
+use crate::answers::{tell_boot, tell_image, tell_image_refused, tell_line_refused, tell_refused};
 use crate::blocks::{Block, read_block, skip_block};
 use crate::error::RunError;
-use crate::lines::Lines;
+use crate::operands::Origin;
 use crate::session::Session;
+use assembler::{AsmError, Program, Reason, assemble_lines};
 use image_loader::{ImageError, Images};
 use profile::{Sink, WriteFault};
 use swi_dispatch::BootError;
+use text_lines::Lines;
 
 impl Session {
-    ghost use Rattle.command_shell.specs.Images.{hex_told, hex_block, hex_sized, boot_told};
+    ghost use Rattle.command_shell.specs.Images.{asm_told, asm_block, hex_told, hex_block, image_sized, boot_told};
     ghost use Rattle.command_shell.specs.Session.{script_state};
     ghost use Rattle.command_shell.specs.State.{IsAnswered};
 
@@ -39,7 +41,7 @@ impl Session {
     {
         if let Some(error) = images.refusal(name, 0) {
             skip_block(script);
-            return Ok(tell_hex_refused(sink, name, error.name().as_bytes())?);
+            return Ok(tell_image_refused(sink, b"hex ", name, error.name().as_bytes())?);
         }
         let block = read_block(self.alloc, script)?;
         self.hex_block(images, sink, name, &block)
@@ -63,32 +65,94 @@ impl Session {
         ensures same_flag { OnOk result (W.has_failed sink.new ≡ W.has_failed sink.old) }
     {
         match block {
-            Block::Bytes(bytes) => self.add_image(images, sink, name, bytes.as_slice()),
-            Block::BadLine(line) => Ok(tell_hex_syntax(sink, name, *line)?),
+            Block::Bytes(bytes) => self.add_image(images, sink, b"hex ", name, bytes.as_slice()),
+            Block::BadLine(line) => Ok(tell_line_refused(sink, b"hex ", name, *line, b"Syntax")?),
         }
     }
 
-    // Adds the image of a block without fault.
+    /// Assembles the block of an ASM line, and adds its image.
+    #[tactic(auto, using(crate::proofs::BlockLemmas::block_is_front), unfolding(crate::specs::Images::asm_told, crate::specs::Session::script_state))]
+    pub(crate) fn asm<W: Sink>(
+        &self,
+        images: &mut Images,
+        sink: &mut W,
+        name: &[u8],
+        origin: Origin,
+        script: &mut Lines,
+    ) -> Result<(), RunError>
+        ensures told { OnOk result (IsAnswered (W.contents sink.old) (W.contents sink.new)
+            (script_state self.now images.new)
+            (asm_told (script_state self.now images.old) name.now origin (block_lines script.old.left))) }
+        ensures left { OnOk result (script.new.left ≡ after_block script.old.left) }
+        ensures number { OnOk result (script.new.number ≡ script.old.number + block_size script.old.left) }
+        ensures memory { result ≡ Err RunError.Memory → sink.new ≡ sink.old }
+        ensures write_fault { result ≡ Err RunError.WriteFault → W.has_failed sink.new ≡ true }
+        ensures errors { IfErr result IsLineError }
+        ensures same_flag { OnOk result (W.has_failed sink.new ≡ W.has_failed sink.old) }
+    {
+        let block = script.again();
+        let count = skip_block(script);
+        if let Some(error) = images.refusal(name, 0) {
+            let reason = error.name().as_bytes();
+            return Ok(tell_image_refused(sink, b"asm ", name, reason)?);
+        }
+        let answer = assemble_lines(self.alloc, &block, count, origin.address());
+        self.asm_block(images, sink, name, &answer)
+    }
+
+    // The answer to a block that was assembled.
+    #[tactic(auto, unfolding(crate::specs::Session::script_state))]
+    fn asm_block<W: Sink>(
+        &self,
+        images: &mut Images,
+        sink: &mut W,
+        name: &[u8],
+        answer: &Result<Program, AsmError>,
+    ) -> Result<(), RunError>
+        ensures told { OnOk result (IsAnswered (W.contents sink.old) (W.contents sink.new)
+            (script_state self.now images.new)
+            (asm_block (script_state self.now images.old) name.now answer.now)) }
+        ensures no_memory { answer.now ≡ Err (record { line = 0; reason = Reason.Memory })
+            → result ≡ Err RunError.Memory }
+        ensures memory { result ≡ Err RunError.Memory → sink.new ≡ sink.old }
+        ensures write_fault { result ≡ Err RunError.WriteFault → W.has_failed sink.new ≡ true }
+        ensures errors { IfErr result IsLineError }
+        ensures same_flag { OnOk result (W.has_failed sink.new ≡ W.has_failed sink.old) }
+    {
+        match answer {
+            Ok(program) => self.add_image(images, sink, b"asm ", name, program.bytes()),
+            Err(error) => match error.reason {
+                Reason::Memory => Err(RunError::Memory),
+                _ => {
+                    let reason = error.reason_name().as_bytes();
+                    Ok(tell_line_refused(sink, b"asm ", name, error.line, reason)?)
+                }
+            },
+        }
+    }
+
+    // Adds the image of a block without fault; `word` begins the answer.
     #[tactic(auto, unfolding(crate::specs::Session::script_state))]
     fn add_image<W: Sink>(
         &self,
         images: &mut Images,
         sink: &mut W,
+        word: &[u8],
         name: &[u8],
         bytes: &[u8],
     ) -> Result<(), RunError>
         ensures told { OnOk result (IsAnswered (W.contents sink.old) (W.contents sink.new)
             (script_state self.now images.new)
-            (hex_sized (script_state self.now images.old) name.now bytes.now)) }
+            (image_sized (script_state self.now images.old) word.now name.now bytes.now)) }
         ensures memory { result ≡ Err RunError.Memory → sink.new ≡ sink.old }
         ensures write_fault { result ≡ Err RunError.WriteFault → W.has_failed sink.new ≡ true }
         ensures errors { IfErr result IsLineError }
         ensures same_flag { OnOk result (W.has_failed sink.new ≡ W.has_failed sink.old) }
     {
         match images.add(self.alloc, name, bytes) {
-            Ok(()) => Ok(tell_hex(sink, name, bytes.len())?),
+            Ok(()) => Ok(tell_image(sink, word, name, bytes.len())?),
             Err(ImageError::Memory) => Err(RunError::Memory),
-            Err(error) => Ok(tell_hex_refused(sink, name, error.name().as_bytes())?),
+            Err(error) => Ok(tell_image_refused(sink, word, name, error.name().as_bytes())?),
         }
     }
 

@@ -7,7 +7,6 @@ mod blocks;
 mod error;
 mod hex_pairs;
 mod images;
-mod lines;
 mod memory;
 mod numbers;
 mod operands;

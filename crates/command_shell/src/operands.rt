@@ -1,9 +1,10 @@
 //! What the words after a command stand for.
 
-ghost use Rattle.std.specs.Prelude.{◌≡◌, ◌≤◌, ◌%◌, ℕ};
-ghost use Rattle.command_shell.specs.Operands.{register_named, word_address, count_up_to};
+ghost use Rattle.std.specs.Prelude.{◌≡◌, ◌≤◌, ◌<◌, ◌%◌, ◌^◌, ℕ};
+ghost use Rattle.command_shell.specs.Operands.{register_named, word_address, origin_of, count_up_to};
 
 use crate::numbers::number_of;
+use profile::memory_map::ADDRESS_LIMIT;
 use std::marker::Model;
 
 /// A register that a script can set: R0 to R14.
@@ -81,6 +82,45 @@ impl WordAddress {
     pub fn address(self) -> u32
         ensures value { result ≡ self }
         ensures whole { result % 4 ≡ 0 }
+    {
+        self.address
+    }
+}
+
+/// Where a program can be assembled: a multiple of 4 below 2^26.
+#[derive(Clone, Copy, Debug)]
+pub struct Origin {
+    address: u32,
+}
+
+impl Model for Origin {
+    ghost Value = { ℕ };
+
+    ghost view = { λ o. o.address };
+
+    ghost invariant = { λ o. (o.address % 4 ≡ 0) × (o.address < 2 ^ 26) };
+
+    ghost inverse = { λ n. record { address = n } };
+}
+
+impl Origin {
+    /// The origin that a number spells, if it is one.
+    #[tactic(auto, unfolding(crate::specs::Operands::origin_of))]
+    pub fn spelled(word: &[u8]) -> Option<Origin>
+        ensures { result ≡ origin_of word.now }
+    {
+        let address = WordAddress::spelled(word)?.address();
+        if address >= ADDRESS_LIMIT {
+            return None;
+        }
+        Some(Origin { address })
+    }
+
+    /// The origin as a number.
+    pub fn address(self) -> u32
+        ensures value { result ≡ self }
+        ensures whole { result % 4 ≡ 0 }
+        ensures below { result < 2 ^ 26 }
     {
         self.address
     }

@@ -1,13 +1,13 @@
 ghost use Rattle.std.specs.Prelude.{◌≡◌, [], ◌∷◌};
 ghost use Rattle.command_shell.specs.Numbers.{number_of};
-ghost use Rattle.command_shell.specs.Operands.{register_named, word_address, count_up_to};
-ghost use Rattle.command_shell.specs.Requests.{Hex, Boot, Set, Poke, Call, Step, Break, Unbreak, Mem, Code, Heap, is_word, is_end, words, named, numbered, both_numbered, request_of, request_of_word, request_of_two, request_of_three, request_of_words, request_of_command};
+ghost use Rattle.command_shell.specs.Operands.{register_named, word_address, origin_of, count_up_to};
+ghost use Rattle.command_shell.specs.Requests.{Hex, Boot, Set, Poke, Call, Step, Break, Unbreak, Mem, Code, Heap, is_word, is_end, words, named, named_at, numbered, both_numbered, request_of, request_of_word, request_of_two, request_of_three, request_of_words, request_of_command};
 ghost use Rattle.image_loader.specs.Entries.{is_name};
 
-use crate::lines::cut;
 use crate::numbers::number_of;
-use crate::operands::{Register, WordAddress, count_up_to};
+use crate::operands::{Origin, Register, WordAddress, count_up_to};
 use image_loader::is_image_name;
+use text_lines::cut;
 
 /// The most bytes of memory that a line shows.
 const MAX_BYTES_SHOWN: u32 = 4096;
@@ -22,6 +22,8 @@ pub enum Command<'a> {
     Nothing,
     /// `HEX name`, which opens a block.
     Hex(&'a [u8]),
+    /// `ASM name origin`, which opens a block.
+    Asm(&'a [u8], Origin),
     /// `BOOT name`.
     Boot(&'a [u8]),
     /// `RUN`.
@@ -95,7 +97,7 @@ fn command_of_words<'a>(word: &[u8], rest: &'a [u8]) -> Command<'a>
 }
 
 #[tactic(auto, using(crate::proofs::LineLemmas::four_words))]
-fn command_of_more(word: &[u8], first: &[u8], rest: &[u8]) -> Command<'static>
+fn command_of_more<'a>(word: &[u8], first: &'a [u8], rest: &[u8]) -> Command<'a>
     ensures { request_of_command result ≡ request_of_words (word.now ∷ first.now ∷ words rest.now) }
 {
     let (second, more) = cut(rest, b' ');
@@ -127,10 +129,12 @@ fn command_of_two<'a>(word: &[u8], other: &'a [u8]) -> Command<'a>
     }
 }
 
-fn command_of_three(word: &[u8], first: &[u8], second: &[u8]) -> Command<'static>
+fn command_of_three<'a>(word: &[u8], first: &'a [u8], second: &[u8]) -> Command<'a>
     ensures { request_of_command result ≡ request_of_three word.now first.now second.now }
 {
-    if has_letters(word, b"SET") {
+    if has_letters(word, b"ASM") {
+        asm_command(first, second)
+    } else if has_letters(word, b"SET") {
         set_command(first, second)
     } else if has_letters(word, b"POKE") {
         poke_command(first, second)
@@ -150,6 +154,15 @@ fn hex_command(name: &[u8]) -> Command<'_>
         Command::Hex(name)
     } else {
         Command::Unknown
+    }
+}
+
+fn asm_command<'a>(name: &'a [u8], origin: &[u8]) -> Command<'a>
+    ensures { request_of_command result ≡ named_at (is_name name.now) name.now (origin_of origin.now) }
+{
+    match Origin::spelled(origin) {
+        Some(origin) if is_image_name(name) => Command::Asm(name, origin),
+        _ => Command::Unknown,
     }
 }
 

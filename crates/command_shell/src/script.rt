@@ -8,13 +8,13 @@ ghost use Rattle.command_shell.specs.Session.{script_state};
 ghost use Rattle.command_shell.specs.State.{IsAnswered};
 
 use crate::error::RunError;
-use crate::lines::Lines;
 use crate::reading::read_script;
 use crate::requests::command_of;
 use crate::session::Session;
 use image_loader::Images;
 use profile::{Config, Sink, Source, Stop};
 use std::alloc::Global;
+use text_lines::Lines;
 
 /// What a script came to.
 #[derive(Clone, Copy, Debug, PartialEq, Eq)]

@@ -4,12 +4,12 @@ ghost use Rattle.command_shell.specs.Error.{IsLineError};
 
 use crate::answers::tell_unknown;
 use crate::error::RunError;
-use crate::lines::Lines;
 use crate::requests::Command;
 use image_loader::Images;
 use profile::{Config, Sink, Stop};
 use std::alloc::{AllocError, Global};
 use swi_dispatch::{Breaks, Machine};
+use text_lines::Lines;
 
 /// What the lines of a script work on beside the images: a machine, its breaks, what is left of the
 /// budget, and the last stop that a line was answered with.
@@ -24,7 +24,7 @@ pub struct Session {
 
 impl Session {
     ghost use Rattle.image_loader.specs.Entries.{Entry};
-    ghost use Rattle.command_shell.specs.Requests.{opened, request_of_command};
+    ghost use Rattle.command_shell.specs.Requests.{opens_block, request_of_command};
     ghost use Rattle.command_shell.specs.Script.{request_told};
     ghost use Rattle.command_shell.specs.Session.{script_state};
     ghost use Rattle.command_shell.specs.State.{IsAnswered, start_state};
@@ -53,7 +53,7 @@ impl Session {
         self.last
     }
 
-    /// Answers a request; of a HEX line, reads its block from the lines that follow.
+    /// Answers a request; of a HEX or an ASM line, reads its block from the lines that follow.
     ///
     /// # Errors
     ///
@@ -70,9 +70,9 @@ impl Session {
             (request_told (script_state self.old images.old) script.old.number
             (request_of_command command.entry) (block_lines script.old.left))) }
         ensures left { OnOk result (script.new.left
-            ≡ lines_after (opened (request_of_command command.entry)) script.old.left) }
+            ≡ lines_after (opens_block (request_of_command command.entry)) script.old.left) }
         ensures number { OnOk result (script.new.number
-            ≡ script.old.number + lines_taken (opened (request_of_command command.entry)) script.old.left) }
+            ≡ script.old.number + lines_taken (opens_block (request_of_command command.entry)) script.old.left) }
         ensures memory { result ≡ Err RunError.Memory → sink.new ≡ sink.old }
         ensures write_fault { result ≡ Err RunError.WriteFault → W.has_failed sink.new ≡ true }
         ensures errors { IfErr result IsLineError }
@@ -81,6 +81,7 @@ impl Session {
         match command {
             Command::Nothing => Ok(()),
             Command::Hex(name) => self.hex(images, sink, name, script),
+            Command::Asm(name, origin) => self.asm(images, sink, name, origin, script),
             Command::Boot(name) => Ok(self.boot(images, sink, name)?),
             Command::Run => Ok(self.run(images, sink)?),
             Command::Regs => Ok(self.regs(sink)?),

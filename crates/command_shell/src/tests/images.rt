@@ -6,7 +6,7 @@ use profile::Stop;
 use std::test::Fail;
 
 /// Scripts, and what each answers.
-static SCRIPTS: [(&str, &str); 10] = [
+static SCRIPTS: [(&str, &str); 11] = [
     // One line of each kind.
     (
         "BREAK 2
@@ -35,6 +35,42 @@ hex x: line 1: Syntax
 refused NoHeap
 stop FetchUnmapped &48000
 stop FetchUnmapped &48000
+",
+    ),
+    // Programs in assembler text; names, origins and lines that are refused.
+    (
+        "ASM six &8000
+ MOV R0,#3
+loop ADD R1,R1,R0
+ SUB R0,R0,#1
+ CMP R0,#0
+ BNE loop
+ SWI OS_Exit
+END
+BOOT six
+RUN
+ASM six 0
+ FOO
+END
+ASM bad 0
+ DCD 1
+ DCD nowhere
+end
+ASM bad 2
+ASM bad &4000000
+ASM bad 0
+END
+asm empty 0
+",
+        "asm six: 24 bytes
+boot six
+stop Exit
+asm six: NameTaken
+asm bad: line 2: UnknownLabel
+? line 18
+? line 19
+asm bad: 0 bytes
+asm empty: 0 bytes
 ",
     ),
     // Lines outside the language, by their numbers; those of blocks count, and case doesn't.
