@@ -1,15 +1,11 @@
 -- Words of one page: where they lie, what they read as, and whether one of them is owned.
-use Rattle.std.proofs.Common.{◌≡◌, ℕ, zero, suc, ◌+◌, ◌-◌, ◌*◌, ◌/◌, ◌%◌, ◌^◌, ◌<◌, ◌≤◌, Bool, true, false, not, ◌&&◌, ◌||◌, nat_lt, nat_le, List, [], ◌∷◌, length, get_or, slice_range, Some, None, is_some, arith, refl, sym, ◌∙◌, ap, add-one, inl, inr, add-zero}
-use Rattle.std.specs.List.{list_any}
-use Rattle.std.proofs.lemmas.Bool.{lt-ltb, false≢true}
-use Rattle.std.proofs.lemmas.Bool.Decides.{nat_tests}
+use Rattle.std.proofs.Common.{◌≡◌, ℕ, zero, suc, ◌+◌, ◌-◌, ◌*◌, ◌/◌, ◌%◌, ◌<◌, ◌≤◌, Bool, true, false, not, List, length, get_or, slice_range, Some, is_some, arith, refl, sym, ◌∙◌, ap}
 use Rattle.std.proofs.lemmas.List.{places}
 use Rattle.address_map.specs.declared.class.Class.TheVariants.{Plain}
 use Rattle.address_map.specs.declared.map.AddressMap.{AddressMap}
-use Rattle.address_map.specs.Bytes.{in_range, word_start}
 use Rattle.address_map.specs.Lent.{IsLent, any_owned}
 use Rattle.address_map.specs.Marks.{class_at}
-use Rattle.address_map.specs.Memory.{place, byte_at, bytes_of, regions, layout, class_of, is_owned, is_plain}
+use Rattle.address_map.specs.Memory.{place, bytes_of, is_owned, is_plain}
 use Rattle.address_map.proofs.Loads.{byte_found}
 use Rattle.address_map.proofs.Marking.{place_lane}
 use Rattle.address_map.proofs.Words.{class_found}

@@ -1,6 +1,6 @@
 -- The page table: the place of an address, and the table after a page got a frame or gave it back.
-use Rattle.std.proofs.Common.{◌≡◌, ◌≢◌, ℕ, ◌+◌, ◌-◌, ◌*◌, ◌/◌, ◌%◌, ◌^◌, ◌<◌, ◌≤◌, ◌++◌, false, true, cond, List, [], ◌∷◌, length, get_or, set, replicate, Option, Some, None, is_some, arith, rules, refl, sym, ◌∙◌, ap, inl, inr}
-use Rattle.std.specs.List.{All, AllPairs, count_by, sum_by}
+use Rattle.std.proofs.Common.{◌≡◌, ◌≢◌, ℕ, ◌+◌, ◌-◌, ◌*◌, ◌/◌, ◌%◌, ◌^◌, ◌<◌, ◌≤◌, ◌++◌, cond, List, [], ◌∷◌, length, get_or, set, replicate, Option, Some, None, is_some, arith, refl, sym, ◌∙◌, ap, inl, inr}
+use Rattle.std.specs.List.{All, AllPairs, count_by}
 use Rattle.std.proofs.lemmas.Bool.{cases_lt, cases_eq}
 use Rattle.std.proofs.lemmas.List.{get_or_past, get_or-set_same, get_or-set_other, length-set, get_or-replicate, length-replicate, places}
 use Rattle.std.proofs.lemmas.List.Elements.{All-pop, All-push}

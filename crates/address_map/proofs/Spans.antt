@@ -1,13 +1,13 @@
 -- The bytes from an address on to the end of its page, and what a walk over a range by such pieces leaves.
-use Rattle.std.proofs.Common.{◌≡◌, ℕ, ◌+◌, ◌-◌, ◌%◌, ◌^◌, ◌<◌, ◌≤◌, true, false, List, length, take, drop, get_or, Option, Some, None, is_some, arith, refl, sym, ◌∙◌, ap, subst, inl, inr, slice_range}
-use Rattle.std.proofs.lemmas.Bool.{le-leb, lt-ltb, cases_lt, both_ways}
+use Rattle.std.proofs.Common.{◌≡◌, ℕ, ◌+◌, ◌-◌, ◌%◌, ◌^◌, ◌<◌, ◌≤◌, true, false, List, length, take, Option, Some, None, is_some, arith, refl, ◌∙◌, ap, inl, inr, slice_range}
+use Rattle.std.proofs.lemmas.Bool.{cases_lt, both_ways}
 use Rattle.std.proofs.lemmas.Bool.Decides.{nat_tests}
-use Rattle.std.proofs.lemmas.List.{places, get_or-replicate, get_or_default}
+use Rattle.std.proofs.lemmas.List.{places, get_or-replicate}
 use Rattle.raw_store.specs.Region.{zeroed}
 use Rattle.address_map.specs.declared.map.AddressMap.{AddressMap}
-use Rattle.address_map.specs.Bytes.{in_range, AreMapped, with_bytes_at, with_zeros_at}
+use Rattle.address_map.specs.Bytes.{AreMapped, with_bytes_at, with_zeros_at}
 use Rattle.address_map.specs.Memory.{place, is_mapped, byte_at, layout, IsSpan}
-use Rattle.address_map.proofs.Loads.{place_fits, place_below}
+use Rattle.address_map.proofs.Loads.{place_below}
 use Rattle.address_map.proofs.PageTable.{place_within, place_near}
 use Rattle.address_map.proofs.Stores.{in_range-cases, bytes_written, layout-place, zeros, length-zeros}
 

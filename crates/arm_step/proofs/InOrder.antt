@@ -1,6 +1,5 @@
 -- The words of a block in the order of their registers.
-use Rattle.std.proofs.Common.{◌≡◌, ℕ, zero, suc, ◌+◌, ◌*◌, ◌^◌, ◌<◌, ◌≤◌, Bool, true, false, cond, ◌&&◌, nat_eq, nat_lt, List, [], ◌∷◌, ◌++◌, length, map, refl, ap, sym, ◌∙◌, arith, Option, Some, None, Ok, append-nil, length-append}
-use Rattle.std.specs.Prelude.{slice_get}
+use Rattle.std.proofs.Common.{◌≡◌, ℕ, zero, suc, ◌+◌, ◌*◌, ◌^◌, ◌<◌, Bool, true, false, cond, nat_lt, List, [], ◌∷◌, ◌++◌, length, map, refl, ap, sym, ◌∙◌, arith, Option, Some, None, append-nil, length-append}
 use Rattle.std.proofs.lemmas.Bool.Decides.{nat_tests}
 use Rattle.std.proofs.lemmas.List.{map-append, length-map}
 use Rattle.profile.specs.Word.{bit_of}
@@ -10,10 +9,10 @@ use Rattle.arm_decode.specs.declared.address.BlockMode.{BlockMode}
 use Rattle.arm_decode.specs.declared.address.BlockMode.TheVariants.{DecrementAfter, IncrementAfter, DecrementBefore, IncrementBefore}
 use Rattle.arm_step.specs.declared.psr.Mode.{Mode}
 use Rattle.arm_step.specs.State.{State, IsCore, register_in, with_pc, with_psr}
-use Rattle.arm_step.specs.Effect.{advanced, plain_operand, status_operand, with_result, with_status}
+use Rattle.arm_step.specs.Effect.{advanced, plain_operand, with_result, with_status}
 use Rattle.arm_step.specs.Words.{words_at, with_words}
 use Rattle.arm_step.specs.Blocks.{listed_below, listed, stepped_base, block_size, block_start, block_base, bank_of, with_block_base, with_loaded, with_status_if, with_block_status, block_value, block_values}
-use Rattle.arm_step.specs.BlockOrder.{place_of, LoadsInOrder, StoresInOrder}
+use Rattle.arm_step.specs.BlockOrder.{LoadsInOrder, StoresInOrder}
 use Rattle.arm_step.proofs.Back.{AreWords, words_back, store_left, load_left}
 use Rattle.arm_step.proofs.OperandWords.{status_word}
 use Rattle.arm_step.proofs.Restoring.{placed, size_kept}

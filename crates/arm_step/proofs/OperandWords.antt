@@ -6,7 +6,7 @@ use Rattle.std.proofs.lemmas.Bool.Decides.{nat_tests}
 use Rattle.std.proofs.lemmas.Int.{to_z_pos}
 use Rattle.std.proofs.lemmas.Nat.{pow-add, pow_pos, shr_below, shr_le, mul-add-lt}
 use Rattle.profile.specs.Sums.{signed}
-use Rattle.profile.specs.Shift.{shifted_right, shifted_signed, rotated, rotated_through}
+use Rattle.profile.specs.Shift.{rotated}
 use Rattle.profile.specs.declared.shift.Shifted.{Shifted}
 use Rattle.arm_decode.specs.Ranges.{FitsOperand}
 use Rattle.arm_decode.specs.declared.shift.Shift.{Shift}

@@ -1,5 +1,5 @@
 -- The loop over the items of DCD and DCB.
-use Rattle.std.proofs.Common.{◌≡◌, ◌<◌, ◌≤◌, ◌+◌, ◌-◌, ℕ, zero, suc, List, Option, Some, None, refl, arith}
+use Rattle.std.proofs.Common.{◌≡◌, ◌<◌, ◌≤◌, ◌+◌, ◌-◌, ℕ, suc, List, Some, None, refl, arith}
 use Rattle.assembler_names.specs.Expressions.{Lookup}
 use Rattle.assembler_names.specs.Words.{comma}
 use Rattle.assembler.specs.Directives.{item_at, more_items}

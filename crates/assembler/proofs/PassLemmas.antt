@@ -5,7 +5,6 @@ use Rattle.assembler_names.specs.Labels.{Entries, address_of}
 use Rattle.assembler_names.specs.declared.reason.Reason.{Reason}
 use Rattle.assembler.specs.Line.{line}
 use Rattle.assembler.specs.Passes.{Measured, first_pass, finished, measured, numbered, second_pass}
-use Rattle.assembler.specs.declared.error.AsmError.{AsmError}
 
 abbrev no_texts : List (List ℕ)
 no_texts = []

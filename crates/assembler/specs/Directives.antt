@@ -1,6 +1,6 @@
 -- What directives are written as; they are this project's own, in the manner of Acorn's assemblers. `DCD 1,loop` is two words,
 -- `DCB "Hi",0` three bytes, `SPACE 8` eight zero bytes, and `ALIGN` zero bytes up to the next multiple of 4.
-use Rattle.std.specs.Prelude.{ℕ, zero, suc, ◌+◌, ◌*◌, ◌==◌, ◌&&◌, not, min, List, [], ◌++◌, length, take, drop, replicate, codes, nat_le, nat_lt, Bool, Option, None, Some, if◌then◌else◌}
+use Rattle.std.specs.Prelude.{ℕ, zero, suc, ◌+◌, ◌*◌, ◌==◌, ◌&&◌, not, min, List, length, take, drop, codes, nat_le, nat_lt, Bool, Option, None, Some, if◌then◌else◌}
 use Rattle.std.specs.Char.{is_digit, digit_value}
 use Rattle.std.specs.List.{list_all, prefix_len}
 use Rattle.std.specs.Str.Parse.{digits_value}

@@ -1,5 +1,5 @@
 -- A program as it is written, item by item, and what the items of a line are refused for.
-use Rattle.std.specs.Prelude.{ℕ, ◌+◌, ◌-◌, ◌%◌, List, [], ◌∷◌, ◌++◌, length, replicate, nat_le, Option, None, Some, Result, Ok, Err, if◌then◌else◌}
+use Rattle.std.specs.Prelude.{ℕ, ◌-◌, ◌%◌, List, [], ◌∷◌, ◌++◌, length, replicate, nat_le, Option, None, Some, Result, Ok, Err, if◌then◌else◌}
 use Rattle.std.specs.Int.{to_le_bytes, w32}
 use Rattle.assembler_names.specs.declared.reason.Reason.{Reason}
 use Rattle.assembler_names.specs.declared.reason.Reason.TheVariants.{UnknownLabel, BadImmediate}

@@ -1,11 +1,11 @@
 -- The loop over the registers of a list.
-use Rattle.std.proofs.Common.{◌≡◌, ◌<◌, ◌≤◌, ◌+◌, ◌-◌, ℕ, Bool, true, false, not, ◌&&◌, suc, List, [], ◌∷◌, ◌++◌, Option, refl, sym, subst, arith, append_assoc}
+use Rattle.std.proofs.Common.{◌≡◌, ◌<◌, ◌≤◌, ◌+◌, ◌-◌, ℕ, Bool, true, false, not, ◌&&◌, suc, List, [], ◌++◌, Option, refl, sym, subst, arith}
 use Rattle.std.specs.Prelude.{codes}
 use Rattle.std.specs.Io.KnownBytes.{Appends}
 use Rattle.profile.specs.Output.{Completes}
 use Rattle.profile.specs.Word.{bit_of}
 use Rattle.profile.proofs.OutputLemmas.{Completes-start, Completes-more, Appends-from_completes}
-use Rattle.assembler_text.specs.Names.{text_if, register_text}
+use Rattle.assembler_text.specs.Names.{text_if}
 use Rattle.assembler_text.specs.Transfers.{listed_from, listed_piece, listed_text, separated}
 
 -- the text of the registers from the n-th on

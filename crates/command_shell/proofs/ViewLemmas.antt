@@ -1,5 +1,5 @@
 -- What HEAP answers, by whether a heap starts at the address.
-use Rattle.std.proofs.Common.{◌≡◌, ℕ, true, false, List, [], Option, Some, None, sym, ap, ◌∙◌}
+use Rattle.std.proofs.Common.{◌≡◌, ℕ, true, false, List, [], Option, Some, None}
 use Rattle.std.specs.Prelude.{codes, is_some, unwrap_or}
 use Rattle.debugger.specs.Heap.{blocks_text}
 use Rattle.command_shell.specs.Answers.{refused_text}

@@ -1,5 +1,5 @@
 -- The lines that hand in an image and boot one: HEX, ASM and BOOT.
-use Rattle.std.specs.Prelude.{ℕ, Bool, false, List, length, codes, Option, Some, None, Result, Ok, Err}
+use Rattle.std.specs.Prelude.{ℕ, false, List, length, codes, Option, Some, None, Result, Ok, Err}
 use Rattle.image_loader.specs.Entries.{bytes_of, refusal_for, with_entry}
 use Rattle.image_loader.specs.declared.error.ImageError.{ImageError}
 use Rattle.image_loader.specs.ErrorNames.{image_error_name}

@@ -1,3 +1,4 @@
+mod assembled;
 mod failures;
 mod heaps;
 mod images;

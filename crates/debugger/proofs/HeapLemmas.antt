@@ -1,14 +1,13 @@
 -- Where a heap that was found lies, and how its items go on.
-use Rattle.std.proofs.Common.{◌≡◌, ℕ, ◌+◌, ◌-◌, ◌%◌, ◌^◌, ◌≤◌, ◌<◌, true, false, List, [], ◌∷◌, ◌++◌, Option, Some, None, Result, Ok, Err, sym, ap, ◌∙◌, arith, refl, subst}
+use Rattle.std.proofs.Common.{◌≡◌, ℕ, ◌+◌, ◌-◌, ◌%◌, ◌^◌, ◌≤◌, true, false, List, [], ◌∷◌, ◌++◌, Option, Some, None, Ok, ap, ◌∙◌, arith, refl, subst}
 use Rattle.std.proofs.lemmas.Bool.Decides.{nat_tests}
-use Rattle.std.specs.Prelude.{nat_le, IsSome, IfSome, is_some, unwrap_or}
+use Rattle.std.specs.Prelude.{nat_le, IsSome, IfSome}
 use Rattle.std.specs.Option.{option_map}
-use Rattle.profile.specs.declared.fault.Fault.{Fault}
 use Rattle.profile.proofs.OutputLemmas.{Completes-start, Completes-more, Completes-same, Appends-from_completes}
 use Rattle.address_map.proofs.Spans.{mapped_below}
 use Rattle.address_map.specs.declared.item.Item.{Item}
 use Rattle.address_map.specs.declared.map.AddressMap.{AddressMap}
-use Rattle.address_map.specs.Bytes.{Bytes, word_loaded, word_at, word_start}
+use Rattle.address_map.specs.Bytes.{word_loaded, word_at, word_start}
 use Rattle.address_map.specs.Items.{total_of, size_of}
 use Rattle.address_map.specs.Memory.{bytes_of}
 use Rattle.os_heap_lists.specs.Heap.{HeapList, IsHeapIn}

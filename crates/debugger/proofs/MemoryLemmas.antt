@@ -1,5 +1,5 @@
 -- How the bytes and the lines of memory go on.
-use Rattle.std.proofs.Common.{◌≡◌, ℕ, zero, suc, ◌+◌, ◌-◌, ◌/◌, ◌≤◌, ◌<◌, List, [], ◌++◌, sym, ap, ◌∙◌, arith, refl}
+use Rattle.std.proofs.Common.{◌≡◌, ℕ, suc, ◌+◌, ◌-◌, ◌/◌, ◌<◌, [], ◌++◌, ap, ◌∙◌, arith, refl}
 use Rattle.std.specs.Prelude.{min}
 use Rattle.profile.proofs.OutputLemmas.{Completes-start, Completes-more, Completes-same, Appends-from_completes}
 use Rattle.address_map.specs.Bytes.{Bytes}

@@ -1,16 +1,15 @@
 -- Which words are marked while pages come and go: those that the heaps spell, as before.
-use Rattle.std.proofs.Common.{◌≡◌, ◌≢◌, ℕ, List, true, false, ◌∙◌, refl, sym, ap, inl, inr}
+use Rattle.std.proofs.Common.{◌≡◌, ◌≢◌, ℕ, List, false, ◌∙◌, refl, sym, ap, inl, inr}
 use Rattle.std.proofs.lemmas.Bool.{cases_Bool, both_ways}
 use Rattle.address_map.specs.Bytes.{in_range, word_start}
 use Rattle.address_map.specs.Classes.{is_anchor}
 use Rattle.address_map.specs.Memory.{bytes_of, class_of}
 use Rattle.address_map.specs.Records.{with_plain_at}
-use Rattle.address_map.specs.declared.class.Class.{Class}
 use Rattle.address_map.specs.declared.class.Class.TheVariants as class
 use Rattle.address_map.specs.declared.map.AddressMap.{AddressMap}
 use Rattle.os_heap_lists.specs.Heap.{HeapList}
 use Rattle.os_heap_lists.specs.Marks.{class_by, spells_any}
-use Rattle.os_heap.specs.Store.{Store, store_of, AreClasses, IsSound, IsClearOfHeaps}
+use Rattle.os_heap.specs.Store.{store_of, AreClasses, IsSound, IsClearOfHeaps}
 use Rattle.os_heap.proofs.Frame.{clear_unowned}
 
 class_told : (hs : List HeapList) (a : ℕ) → is_anchor (class_by hs a) ≡ false

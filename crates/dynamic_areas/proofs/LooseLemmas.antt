@@ -1,9 +1,9 @@
 -- The pages at an area's top that can go have no byte of a recorded range.
-use Rattle.std.proofs.Common.{◌≡◌, ◌≢◌, ℕ, ◌+◌, ◌-◌, ◌*◌, ◌<◌, ◌≤◌, ◌||◌, Bool, true, false, List, [], ◌∷◌, suc, zero, refl, sym, ap, subst, ◌∙◌, Some, None, inl, inr, arith}
+use Rattle.std.proofs.Common.{◌≡◌, ◌≢◌, ℕ, ◌+◌, ◌-◌, ◌*◌, ◌<◌, ◌≤◌, Bool, false, suc, zero, inl, inr, arith}
 use Rattle.std.specs.List.{list_any}
 use Rattle.std.proofs.lemmas.Bool.{cases_Bool, cases_lt, ne_eqb, or_parts}
 use Rattle.os_heap.specs.Store.{Store, IsClearOfHeaps}
-use Rattle.os_heap.specs.Ranges.{meets, meets_any}
+use Rattle.os_heap.specs.Ranges.{meets}
 use Rattle.os_heap.proofs.Added.{clear_of_heaps}
 use Rattle.dynamic_areas.specs.declared.area.Area.{Area}
 use Rattle.dynamic_areas.specs.Changing.{AreLoose, AreRangesClear, must_stay, held_from, loose_pages}

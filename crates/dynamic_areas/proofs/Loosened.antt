@@ -1,26 +1,20 @@
 -- The pages at the module area's top can go once its heap ends below them.
-use Rattle.std.proofs.Common.{◌≡◌, ◌≢◌, ℕ, ◌+◌, ◌-◌, ◌*◌, ◌<◌, ◌≤◌, ◌==◌, ◌&&◌, ◌||◌, Bool, true, false, leb, List, [], ◌∷◌, suc, zero, refl, sym, ap, subst, ◌∙◌, Some, None, inl, inr, arith}
-use Rattle.std.specs.Prelude.{Option}
-use Rattle.std.specs.List.{list_any}
-use Rattle.std.proofs.lemmas.Bool.{cases_Bool, cases_lt, eq-eqb, ne_eqb, le-leb, lt-leb, false≢true, false_from_ne_true, both_ways}
-use Rattle.address_map.specs.declared.region.Kind.{Kind}
-use Rattle.address_map.specs.declared.region.Kind.TheVariants as kind
+use Rattle.std.proofs.Common.{◌≡◌, ℕ, ◌+◌, ◌-◌, ◌*◌, ◌<◌, ◌≤◌, true, List, [], ◌∷◌, sym, ap, subst, ◌∙◌, Some, inl, inr, arith}
+use Rattle.std.proofs.lemmas.Bool.{eq-eqb, ne_eqb, false_from_ne_true}
 use Rattle.address_map.specs.declared.region.Region.{Region}
-use Rattle.address_map.specs.Bytes.{Bytes, in_range, word_at}
+use Rattle.address_map.specs.Bytes.{Bytes, in_range}
 use Rattle.address_map.specs.Items.{size_of}
 use Rattle.os_heap_lists.specs.Heap.{HeapList, IsHeapIn}
 use Rattle.os_heap_lists.specs.Lists.{live_total}
-use Rattle.os_heap_lists.specs.Words.{AreApart}
 use Rattle.os_heap_lists.proofs.LiveBlocks.{LiveBytes, live_bytes}
-use Rattle.os_heap.specs.Store.{Store, IsSound, IsClearOfHeaps, AreClear, ArePlaced, IsImageIn, StandAreas, is_area, is_image, find_heap}
-use Rattle.os_heap.specs.Calls.{ending, with_end}
-use Rattle.os_heap.proofs.Stores.{AreOthers, are_others, clear_of-found, clear_both_ways, image_kind}
+use Rattle.os_heap.specs.Store.{Store, IsSound, IsClearOfHeaps, AreClear, ArePlaced, IsImageIn, StandAreas, find_heap}
+use Rattle.os_heap.specs.Calls.{with_end}
+use Rattle.os_heap.proofs.Stores.{AreOthers, are_others, clear_of-found, clear_both_ways}
 use Rattle.dynamic_areas.specs.declared.area.Area.{Area}
 use Rattle.dynamic_areas.specs.Areas.{Land, find_area}
 use Rattle.dynamic_areas.specs.Changing.{AreLoose, AreRangesClear, loose_pages}
 use Rattle.dynamic_areas.specs.Ground.{AreAreas}
-use Rattle.dynamic_areas.proofs.LooseLemmas.{page_free, held_most}
-use Rattle.dynamic_areas.proofs.ModuleArea.{IsModuleArea, module_area_known, heap_below}
+use Rattle.dynamic_areas.proofs.ModuleArea.{IsModuleArea, heap_below}
 use Rattle.dynamic_areas.proofs.Remapped.{here, range_low, range_high}
 use Rattle.dynamic_areas.proofs.RoomLemmas.{found_number}
 
@@ -34,9 +28,9 @@ heaps_ended top len end h (g ∷ hs) others low high =
           let start : g.start ≡ h.start = ap (λ (x : HeapList). x.start) same in
           rw (eq-eqb g.start h.start start) (
             (λ x inside. false_from_ne_true (in_range g.start end x) (λ there.
-            let past : top ≤ x = range_low top len x inside in
-            let below : x < g.start + end = range_high g.start end x there in
-            absurd (omega arith))),
+                let past : top ≤ x = range_low top len x inside in
+                let below : x < g.start + end = range_high g.start end x there in
+                absurd (omega arith))),
             heaps_ended top len end h hs others.1 low high,
           )
       | inr apart ↦ rw (ne_eqb g.start h.start apart.0) (
@@ -106,5 +100,5 @@ loose_ended s t free l a count m areas e loose heaps others =
       fits = fits;
       heaps = rw heaps (heaps_ended (a.base + 4096 * (a.pages - count)) (4096 * count) (4096 * (a.pages - count)) h s.heaps beside (omega arith) (omega arith));
       ranges = rw others (ranges_behind (a.base + 4096 * (a.pages - count)) (4096 * count) h s.heaps s.others s.bytes beside sound.limits.place start m.found m.spelled
-      (omega arith) (omega arith) sound.placed);
+          (omega arith) (omega arith) sound.placed);
     }

@@ -1,8 +1,8 @@
 -- The module area's heap where its area grows or shrinks.
-use Rattle.std.proofs.Common.{◌≡◌, ◌≢◌, ℕ, ◌+◌, ◌-◌, ◌*◌, ◌%◌, ◌<◌, ◌≤◌, ◌==◌, ◌&&◌, ◌||◌, Bool, true, false, leb, List, [], ◌∷◌, suc, zero, refl, sym, ap, subst, ◌∙◌, Some, None, inl, inr, arith}
+use Rattle.std.proofs.Common.{◌≡◌, ℕ, ◌+◌, ◌-◌, ◌*◌, ◌%◌, ◌<◌, ◌≤◌, ◌==◌, Bool, true, false, List, [], ◌∷◌, refl, sym, ap, ◌∙◌, Some, None, inl, inr, arith}
 use Rattle.std.specs.Prelude.{Option}
 use Rattle.std.specs.List.{list_any}
-use Rattle.std.proofs.lemmas.Bool.{cases_Bool, cases_lt, cases_eq, eqb-true, eq-eqb, ne_eqb, lt-ltb, le-ltb, ltb-false, and_parts, false≢true, false_from_ne_true}
+use Rattle.std.proofs.lemmas.Bool.{cases_Bool, cases_lt, cases_eq, eqb-true, eq-eqb, lt-ltb, le-ltb, ltb-false, and_parts, false≢true, false_from_ne_true}
 use Rattle.address_map.specs.declared.region.Region.{Region}
 use Rattle.address_map.specs.Bytes.{Bytes, in_range, AreMapped, AreUnmapped}
 use Rattle.address_map.specs.Items.{size_of}
@@ -75,8 +75,8 @@ ranges_unmapped : (mapped : ℕ → Bool) (at len : ℕ) (rs : List Region) → 
 ranges_unmapped mapped at len [] unmapped ranges = tt
 ranges_unmapped mapped at len (r ∷ rs) unmapped ranges = (
   λ x inside. false_from_ne_true (in_range r.at r.len x) (λ there.
-  false≢true (sym (unmapped x (range_low at len x inside) (range_high at len x inside))
-  ∙ ranges.0 x (range_low r.at r.len x there) (range_high r.at r.len x there))),
+      false≢true (sym (unmapped x (range_low at len x inside) (range_high at len x inside))
+      ∙ ranges.0 x (range_low r.at r.len x there) (range_high r.at r.len x there))),
   ranges_unmapped mapped at len rs unmapped ranges.1,
 )
 
@@ -108,8 +108,8 @@ may_grow_heap s free l a count areas e fits pool =
           (find_paged 1 (a.pages + count) l.areas a e) x (omega arith) (omega arith));
       clear = elim (cases_lt h.end (4096 * (a.pages + count))) [
         | inl grows ↦ rw (lt-ltb h.end (4096 * (a.pages + count)) grows, top, more) (unmet_any t (a.base + 4096 * a.pages) (4096 * count) (omega arith)
-          (clear_unmapped s.bytes (a.base + 4096 * a.pages) (4096 * count) s.heaps unmapped areas.ground.sound.heaps)
-          (ranges_unmapped s.bytes.mapped (a.base + 4096 * a.pages) (4096 * count) s.others unmapped areas.ground.ranges))
+            (clear_unmapped s.bytes (a.base + 4096 * a.pages) (4096 * count) s.heaps unmapped areas.ground.sound.heaps)
+            (ranges_unmapped s.bytes.mapped (a.base + 4096 * a.pages) (4096 * count) s.others unmapped areas.ground.ranges))
         | inr stays ↦ rw (le-ltb h.end (4096 * (a.pages + count)) stays) refl
       ];
       inside = le-ltb (4096 * (a.pages + count)) (16 + size_of h.items) (omega arith);

@@ -1,12 +1,10 @@
 -- What the map asks of pages that go: that no recorded range has a byte in them.
-use Rattle.std.proofs.Common.{◌≡◌, ℕ, ◌+◌, ◌-◌, ◌*◌, ◌/◌, ◌<◌, ◌≤◌, ◌&&◌, ◌||◌, Bool, true, false, leb, List, [], ◌∷◌, refl, sym, ap, ◌∙◌, inl, inr, arith}
+use Rattle.std.proofs.Common.{◌≡◌, ℕ, ◌+◌, ◌-◌, ◌*◌, ◌/◌, ◌<◌, ◌≤◌, ◌&&◌, false, List, [], ◌∷◌, refl, sym, ◌∙◌, inl, inr, arith}
 use Rattle.std.specs.List.{list_any}
 use Rattle.std.proofs.Math.Dec.{ltb}
 use Rattle.std.proofs.lemmas.Bool.{cases_Bool, cases_lt, ltb-true, and_parts, or_parts, false≢true, false_from_ne_true}
-use Rattle.address_map.specs.declared.region.Kind.{Kind}
-use Rattle.address_map.specs.declared.region.Kind.TheVariants as kind
 use Rattle.address_map.specs.declared.region.Region.{Region}
-use Rattle.address_map.specs.Bytes.{Bytes, in_range, meets, word_at}
+use Rattle.address_map.specs.Bytes.{Bytes, meets}
 use Rattle.address_map.specs.Records.{is_heap_kind, meets_record}
 use Rattle.os_heap.specs.Store.{AreClear, IsClearOfHeaps, heaps_in, others_in}
 use Rattle.os_heap.specs.Ranges.{meets as meets_range}

@@ -1,6 +1,6 @@
 -- OS_ChangeDynamicArea: an area grows out of the pool, and shrinks down to the first page from its top that must stay (RISC OS 3 Programmer's
 -- Reference Manual, "OS_ChangeDynamicArea"; what must stay, and that as many pages move as can, are this project's own).
-use Rattle.std.specs.Prelude.{ℕ, ◌+◌, ◌-◌, ◌*◌, ◌/◌, ◌^◌, ◌==◌, ◌||◌, Bool, zero, suc, nat_lt, min, Option, Some, None, Result, Ok, Err, List, [], ◌∷◌, ◌≡◌, ◌≤◌, false, if◌then◌else◌}
+use Rattle.std.specs.Prelude.{ℕ, ◌+◌, ◌-◌, ◌*◌, ◌/◌, ◌^◌, ◌==◌, ◌||◌, Bool, zero, suc, nat_lt, min, Option, Some, None, Result, Ok, Err, List, [], ◌∷◌, ◌≤◌, if◌then◌else◌}
 use Rattle.profile.specs.Outcome.{bind}
 use Rattle.profile.specs.declared.error.ErrorNumber.{ErrorNumber}
 use Rattle.profile.specs.declared.error.ErrorNumber.TheVariants.{AreaUnknown, AreaInUse, AreaNoPages}

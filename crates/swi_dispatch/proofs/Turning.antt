@@ -1,5 +1,5 @@
 -- The core's part of a step, and then what its turn asks of the machine, are the written step.
-use Rattle.std.proofs.Common.{◌≡◌, ℕ, Bool, [], ◌∷◌, Option, Result, Ok, Err, refl, ◌∙◌, ap, subst}
+use Rattle.std.proofs.Common.{◌≡◌, ℕ, Bool, Option, Result, Ok, Err, refl, ◌∙◌, ap, subst}
 use Rattle.address_map.specs.declared.map.AddressMap.{AddressMap}
 use Rattle.address_map.specs.Bytes.{Bytes}
 use Rattle.address_map.specs.Memory.{bytes_of, layout, is_owned}
@@ -12,7 +12,7 @@ use Rattle.os_heap.specs.Store.{store_of, owned_in, AreClasses, IsSound}
 use Rattle.os_heap.proofs.Frame.{IsKept}
 use Rattle.os_heap.proofs.Owned.{owned_marks}
 use Rattle.swi_dispatch.specs.declared.halt.Halt.{Halt}
-use Rattle.swi_dispatch.specs.MachineState.{MachineState, quiet, system_pages}
+use Rattle.swi_dispatch.specs.MachineState.{MachineState, quiet}
 use Rattle.swi_dispatch.specs.Step.{turned, turn_end, Turned}
 use Rattle.swi_dispatch.specs.Parts.{TakesTurn}
 use Rattle.swi_dispatch.proofs.Kept.{by_words, keeps_kept, same_kept, kept_memory, kept_all, with_core}

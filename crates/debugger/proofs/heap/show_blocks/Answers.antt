@@ -7,7 +7,7 @@ use Rattle.os_heap.specs.Store.{Store, store_of}
 use Rattle.os_heap.specs.Calls.{items_of}
 use Rattle.swi_dispatch.specs.Parts.{state_of}
 use Rattle.debugger.specs.Heap.{limits_text, items_text, blocks_text}
-use Rattle.debugger.proofs.HeapLemmas.{IsShown, shown, not_shown, low_heap}
+use Rattle.debugger.proofs.HeapLemmas.{IsShown, shown, not_shown}
 use Rattle.debugger.proofs.heap.show_blocks.Goals as goal
 
 pub returns-in_default-clause-found : goal.returns-in_default-clause-found

@@ -1,4 +1,4 @@
-use Rattle.std.proofs.Common.{◌^◌, arith, sym}
+use Rattle.std.proofs.Common.{arith, sym}
 use Rattle.address_map.proofs.Loads.{place_below}
 use Rattle.address_map.proofs.Lending.{page_fits, marks_within, plain_words}
 use Rattle.address_map.proofs.map.AddressMap.owns_any.Goals as goal

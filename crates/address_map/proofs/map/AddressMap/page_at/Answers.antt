@@ -1,4 +1,4 @@
-use Rattle.std.proofs.Common.{◌∙◌, arith, sym}
+use Rattle.std.proofs.Common.{arith, sym}
 use Rattle.address_map.proofs.Spans.{page_span, place_offset}
 use Rattle.address_map.proofs.map.AddressMap.page_at.Goals as goal
 

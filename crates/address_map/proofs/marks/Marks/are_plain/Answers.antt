@@ -1,4 +1,4 @@
-use Rattle.std.proofs.Common.{◌≡◌, ◌*◌, ◌/◌, ◌<◌, get_or, arith, ap, sym, ◌∙◌, inl, inr, ℕ}
+use Rattle.std.proofs.Common.{◌≡◌, ◌*◌, ◌/◌, get_or, arith, ap, sym, ◌∙◌, inl, inr, ℕ}
 use Rattle.std.proofs.lemmas.Bool.{cases_lt}
 use Rattle.std.proofs.lemmas.List.{get_or_default}
 use Rattle.address_map.specs.Marks.{class_at}

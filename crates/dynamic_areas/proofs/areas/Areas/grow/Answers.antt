@@ -1,9 +1,7 @@
-use Rattle.std.proofs.Common.{◌≡◌, ℕ, ◌+◌, ◌-◌, ◌*◌, Some, None, sym, ap, arith}
-use Rattle.address_map.specs.Bytes.{AreUnmapped}
-use Rattle.address_map.specs.Memory.{is_mapped, free_pages}
+use Rattle.std.proofs.Common.{◌≡◌, ◌+◌, ◌-◌, ◌*◌, sym, ap, arith}
+use Rattle.address_map.specs.Memory.{free_pages}
 use Rattle.os_heap.specs.Store.{Store, store_of}
 use Rattle.os_heap.proofs.Frame.{classes_same}
-use Rattle.dynamic_areas.specs.Areas.{find_area}
 use Rattle.dynamic_areas.specs.Remapped.{with_pages_at}
 use Rattle.dynamic_areas.specs.Rooms.{IsRoom}
 use Rattle.dynamic_areas.proofs.GroundLemmas.{ground_grown, unmapped_above, FitsWindow, fits_window, land_none}

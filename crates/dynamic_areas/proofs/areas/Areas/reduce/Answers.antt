@@ -1,8 +1,7 @@
-use Rattle.std.proofs.Common.{◌≡◌, ◌≢◌, ℕ, ◌+◌, ◌-◌, ◌*◌, ◌≤◌, Some, refl, sym, ap, subst, ◌∙◌, arith}
+use Rattle.std.proofs.Common.{◌≡◌, ℕ, ◌-◌, ◌*◌, ◌≤◌, Some, refl, sym, ap, subst, ◌∙◌, arith}
 use Rattle.address_map.specs.Memory.{free_pages}
-use Rattle.os_heap_lists.specs.Heap.{HeapList}
 use Rattle.os_heap.specs.Calls.{ending}
-use Rattle.os_heap.specs.Store.{Store, store_of, find_heap}
+use Rattle.os_heap.specs.Store.{Store, store_of}
 use Rattle.dynamic_areas.specs.declared.area.Area.{Area}
 use Rattle.dynamic_areas.specs.Areas.{find_area, paged, with_pages}
 use Rattle.dynamic_areas.specs.Changing.{AreLoose, loose_pages}
@@ -50,20 +49,20 @@ shrink-requires-clause-loose c b found =
     let same : c.in-Some.area.now ≡ b = cc in
     let loose : c.args.count ≤ loose_pages (store_of c.args.map.now) a = c.requires.loose a (sym e) in
     subst (λ (y : Area). AreLoose (store_of c.if-number-eq-MODULE_AREA.map) y c.args.count) same (
-      elim c.if-number-eq-MODULE_AREA.branch [
-        | then-number-eq-MODULE_AREA w ↦
-            let first : find_area 1 c.args.self.now.areas ≡ Some a =
-            subst (λ (n : ℕ). find_area n c.args.self.now.areas ≡ Some a) w.if-number-eq-MODULE_AREA.true (sym e) in
-            let m : IsModuleArea (store_of c.args.map.now) a =
-            module_area_known (store_of c.args.map.now) (free_pages c.args.map.now) c.args.self.now a c.requires.areas first in
-            let is : store_of w.set_module_area_end.new.map ≡ ending (store_of c.args.map.now) m.heap (4096 * (a.pages - c.args.count)) =
-            (let ends = rw m.found at w.set_module_area_end.ensures.store in ends) in
-            rw w.map-is (loose_ended (store_of c.args.map.now) (store_of w.set_module_area_end.new.map) (free_pages c.args.map.now) c.args.self.now a c.args.count m
-            c.requires.areas first loose (ap (λ (s : Store). s.heaps) is) w.set_module_area_end.ensures.others)
-        | else-number-eq-MODULE_AREA w ↦
-            let number : a.number ≡ c.args.number = found_number c.args.number c.args.self.now.areas a (sym e) in
-            rw w.map-is (loose_created (store_of c.args.map.now) a c.args.count (λ is. w.if-number-eq-MODULE_AREA.false (sym number ∙ is)) loose)
-      ]
+    elim c.if-number-eq-MODULE_AREA.branch [
+      | then-number-eq-MODULE_AREA w ↦
+          let first : find_area 1 c.args.self.now.areas ≡ Some a =
+          subst (λ (n : ℕ). find_area n c.args.self.now.areas ≡ Some a) w.if-number-eq-MODULE_AREA.true (sym e) in
+          let m : IsModuleArea (store_of c.args.map.now) a =
+          module_area_known (store_of c.args.map.now) (free_pages c.args.map.now) c.args.self.now a c.requires.areas first in
+          let is : store_of w.set_module_area_end.new.map ≡ ending (store_of c.args.map.now) m.heap (4096 * (a.pages - c.args.count)) =
+          (let ends = rw m.found at w.set_module_area_end.ensures.store in ends) in
+          rw w.map-is (loose_ended (store_of c.args.map.now) (store_of w.set_module_area_end.new.map) (free_pages c.args.map.now) c.args.self.now a c.args.count m
+          c.requires.areas first loose (ap (λ (s : Store). s.heaps) is) w.set_module_area_end.ensures.others)
+      | else-number-eq-MODULE_AREA w ↦
+          let number : a.number ≡ c.args.number = found_number c.args.number c.args.self.now.areas a (sym e) in
+          rw w.map-is (loose_created (store_of c.args.map.now) a c.args.count (λ is. w.if-number-eq-MODULE_AREA.false (sym number ∙ is)) loose)
+    ]
     )
 
 pub returns-clause-areas : goal.returns-clause-areas

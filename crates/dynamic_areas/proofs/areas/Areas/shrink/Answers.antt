@@ -1,7 +1,6 @@
-use Rattle.std.proofs.Common.{◌≡◌, ℕ, ◌+◌, ◌-◌, ◌*◌, ◌≤◌, Some, None, sym, ap, ◌∙◌, arith}
-use Rattle.address_map.specs.Memory.{is_mapped, byte_at, bytes_of, regions, free_pages}
+use Rattle.std.proofs.Common.{◌≡◌, ◌+◌, ◌-◌, ◌*◌, ◌≤◌, sym, ap, arith}
+use Rattle.address_map.specs.Memory.{bytes_of, regions, free_pages}
 use Rattle.os_heap.specs.Store.{Store, store_of}
-use Rattle.dynamic_areas.specs.Areas.{find_area}
 use Rattle.dynamic_areas.specs.Changing.{AreLoose}
 use Rattle.dynamic_areas.specs.Remapped.{without_pages_at}
 use Rattle.dynamic_areas.specs.Rooms.{IsRoom}
