@@ -1,10 +1,9 @@
 -- A line that is a space and a printed word, in both passes.
-use Rattle.std.proofs.Common.{◌≡◌, ◌<◌, ◌≤◌, ◌+◌, ◌%◌, ◌^◌, ℕ, suc, Bool, true, false, List, [], ◌∷◌, ◌++◌, length, take, drop, Option, Some, None, Result, Ok, Err, refl, sym, ap, subst, ◌∙◌, arith}
+use Rattle.std.proofs.Common.{◌≡◌, ◌<◌, ◌≤◌, ◌+◌, ◌%◌, ◌^◌, ℕ, suc, Bool, true, false, List, [], ◌∷◌, ◌++◌, length, take, drop, Some, None, Ok, refl, ap, ◌∙◌, arith}
 use Rattle.std.proofs.lemmas.Bool.Decides.{nat_tests}
-use Rattle.std.specs.Prelude.{codes, nat_lt, ◌||◌}
+use Rattle.std.specs.Prelude.{codes, nat_lt}
 use Rattle.std.specs.Int.{to_le_bytes, w32}
 use Rattle.std.specs.List.{prefix_len}
-use Rattle.profile.specs.Digits.{hex_word}
 use Rattle.assembler_names.specs.Expressions.{Lookup, expression}
 use Rattle.assembler_names.specs.Labels.{address_of}
 use Rattle.assembler_names.specs.Words.{after_spaces, after_word, begins_comment, byte, is_end, is_space, is_word_byte, spaces, word}

@@ -1,5 +1,5 @@
 -- No printed text has the byte that ends a line.
-use Rattle.std.proofs.Common.{◌≡◌, ◌<◌, ◌+◌, ◌-◌, ◌*◌, ◌^◌, ℕ, Bool, true, false, not, List, [], ◌∷◌, ◌++◌, Option, None, refl, subst, arith}
+use Rattle.std.proofs.Common.{◌≡◌, ◌<◌, ◌+◌, ◌*◌, ◌^◌, ℕ, Bool, true, false, not, List, [], ◌∷◌, ◌++◌, None, refl, subst, arith}
 use Rattle.std.proofs.lemmas.Bool.Decides.{nat_tests}
 use Rattle.std.specs.Prelude.{◌==◌, ◌&&◌, nat_lt, codes, decimal, map, if◌then◌else◌}
 use Rattle.std.specs.List.{list_all}
@@ -86,6 +86,7 @@ letter_is_plain c h = by (c == 10) refl
   where
     no_letter : is_word_byte 10 ≡ true → is_plain c ≡ true
     no_letter k = absurd cc
+
     by : (b : Bool) → (c == 10) ≡ b → is_plain c ≡ true
     by true e = let same : c ≡ 10 = grind (arith, nat_tests, e) in no_letter (subst (λ (n : ℕ). is_word_byte n ≡ true) same h)
     by false e = rw e refl
@@ -261,7 +262,7 @@ multiply_operands_unbroken : (m : Multiply) → IsUnbroken (multiply_operands m)
 unfolding multiply_operands
 multiply_operands_unbroken m =
     with_comma m.rd (register_text m.rm ++ (codes "," ++ (register_text m.rs ++
-      (text_if m.accumulates (codes ",") ++ text_if m.accumulates (register_text m.rn)))))
+    (text_if m.accumulates (codes ",") ++ text_if m.accumulates (register_text m.rn)))))
     (with_comma m.rm (register_text m.rs ++ (text_if m.accumulates (codes ",") ++ text_if m.accumulates (register_text m.rn)))
     (join (register_text m.rs) (text_if m.accumulates (codes ",") ++ text_if m.accumulates (register_text m.rn)) (register_unbroken m.rs)
     (join (text_if m.accumulates (codes ",")) (text_if m.accumulates (register_text m.rn)) (optional m.accumulates (codes ",") refl)
@@ -310,10 +311,10 @@ transfer_head_unbroken : (c : Condition) (t : Transfer) → IsUnbroken (transfer
 unfolding transfer_head
 transfer_head_unbroken c t =
     join (choose_text t.loads (codes "LDR") (codes "STR")) (condition_text c ++ (text_if t.is_byte (codes "B") ++
-      (text_if (is_user t.address.indexing) (codes "T") ++ (codes " " ++ (register_text t.rd ++ codes ",")))))
+    (text_if (is_user t.address.indexing) (codes "T") ++ (codes " " ++ (register_text t.rd ++ codes ",")))))
     (chosen t.loads (codes "LDR") (codes "STR") refl refl)
     (join (condition_text c) (text_if t.is_byte (codes "B") ++
-      (text_if (is_user t.address.indexing) (codes "T") ++ (codes " " ++ (register_text t.rd ++ codes ","))))
+    (text_if (is_user t.address.indexing) (codes "T") ++ (codes " " ++ (register_text t.rd ++ codes ","))))
     (condition_unbroken c)
     (join (text_if t.is_byte (codes "B")) (text_if (is_user t.address.indexing) (codes "T") ++ (codes " " ++ (register_text t.rd ++ codes ",")))
     (optional t.is_byte (codes "B") refl)
@@ -335,7 +336,7 @@ block_head_unbroken : (c : Condition) (b : BlockTransfer) → IsUnbroken (block_
 unfolding block_head
 block_head_unbroken c b =
     join (choose_text b.loads (codes "LDM") (codes "STM")) (condition_text c ++ (block_mode_text b.mode ++ (codes " " ++
-      (register_text b.rn ++ (text_if b.writes_back (codes "!") ++ codes ",")))))
+    (register_text b.rn ++ (text_if b.writes_back (codes "!") ++ codes ",")))))
     (chosen b.loads (codes "LDM") (codes "STM") refl refl)
     (join (condition_text c) (block_mode_text b.mode ++ (codes " " ++ (register_text b.rn ++ (text_if b.writes_back (codes "!") ++ codes ","))))
     (condition_unbroken c)
