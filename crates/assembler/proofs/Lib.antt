@@ -1,4 +1,8 @@
+pub mod Beginnings
 pub mod ItemLemmas
 pub mod OutputLemmas
 pub mod PassLemmas
+pub mod PrintedLines
+pub mod PrintedPrograms
 pub mod SizeLemmas
+pub mod Unbroken

@@ -1,5 +1,6 @@
 pub mod Directives
 pub mod ErrorNames
+pub mod Laws
 pub mod Line
 pub mod Passes
 pub mod Written

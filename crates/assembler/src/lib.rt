@@ -7,6 +7,7 @@ mod assembling;
 pub mod directives;
 pub mod error;
 mod items;
+pub mod laws;
 mod line;
 mod output;
 pub mod program;
