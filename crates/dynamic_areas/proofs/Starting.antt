@@ -7,12 +7,14 @@ use Rattle.address_map.specs.declared.map.AddressMap.{AddressMap}
 use Rattle.address_map.specs.declared.region.Region.{Region}
 use Rattle.address_map.specs.declared.region.Kind.TheVariants.{Heap, Rma, SystemPage}
 use Rattle.address_map.specs.Bytes.{in_range}
-use Rattle.address_map.specs.Memory.{Mapping, mapping, is_mapped, byte_at, bytes_of, regions, free_pages}
+use Rattle.address_map.specs.Memory.{Mapping, mapping, is_mapped, byte_at, bytes_of, regions, free_pages, class_of}
+use Rattle.address_map.specs.declared.class.Class.TheVariants as class
 use Rattle.os_heap_lists.specs.Heap.{HeapList}
 use Rattle.os_heap.specs.Calls.{begun_with}
 use Rattle.os_heap.specs.Ranges.{MayBegin}
-use Rattle.os_heap.specs.Store.{Store, store_of, IsSound, AreClear}
+use Rattle.os_heap.specs.Store.{Store, store_of, AreClasses, IsSound, AreClear}
 use Rattle.os_heap.proofs.Added.{records_room}
+use Rattle.os_heap.proofs.Frame.{classes_empty, classes_same}
 use Rattle.os_heap.proofs.Recorded.{store_recorded, recorded_sound}
 use Rattle.dynamic_areas.specs.Areas.{start_land}
 use Rattle.dynamic_areas.specs.Ground.{AreAreas, is_fixed, is_land}
@@ -93,3 +95,11 @@ start_room m n s none begun sound =
     let heaps : (store_of n).heaps ≡ start_heap s ∷ [] =
     ap (λ (t : Store). t.heaps) begun ∙ ap (λ (hs : List HeapList). hs ++ start_heap s ∷ []) (no_heaps m none) in
     records_room n Heap 0 sound (rw heaps refl)
+
+-- and the words that are marked there are those that the heap spells
+pub start_classes : (m n o : AddressMap) → regions m ≡ [] → ((x : ℕ) → class_of m x ≡ class.Plain) → (AreClasses m → AreClasses n)
+    → regions o ≡ regions n ++ system_pages ∷ [] → mapping o ≡ mapping n → byte_at o ≡ byte_at n → ((x : ℕ) → class_of o x ≡ class_of n x) → AreClasses o
+start_classes m n o none plain begun records map_o bytes marks =
+    let same : bytes_of o ≡ bytes_of n = λ i. record { mapped = λ a. is_some ((map_o i).place a); at = bytes i } in
+    let store = store_recorded n o system_pages refl records same in
+    classes_same n o (ap (λ (t : Store). t.heaps) store) marks (begun (classes_empty m none plain))

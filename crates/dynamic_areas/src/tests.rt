@@ -1,7 +1,8 @@
 ghost use Rattle.std.specs.Prelude.{ℕ, [], ◌≡◌, ◌+◌, IfOk};
 ghost use Rattle.profile.specs.Sizes.{AreGood};
-ghost use Rattle.address_map.specs.Memory.{free_pages, is_mapped, regions};
-ghost use Rattle.os_heap.specs.Store.{store_of};
+ghost use Rattle.address_map.specs.Memory.{class_of, free_pages, is_mapped, regions};
+ghost use Rattle.address_map.specs.declared.class.Class.TheVariants.{Plain};
+ghost use Rattle.os_heap.specs.Store.{store_of, AreClasses};
 ghost use Rattle.dynamic_areas.specs.Areas.{start_land};
 ghost use Rattle.dynamic_areas.specs.Ground.{AreAreas, is_land};
 
@@ -19,6 +20,7 @@ const NONE: u32 = u32::MAX;
 fn mapped(alloc: Global, config: Config) -> Result<AddressMap, AllocError>
     ensures mapping { IfOk result (λ m. (x : ℕ) → is_mapped m x ≡ is_land (start_land config) x) }
     ensures regions { IfOk result (λ m. regions m ≡ []) }
+    ensures marks { IfOk result (λ m. (x : ℕ) → class_of m x ≡ Plain) }
     ensures pool { IfOk result (λ m. free_pages m + (config.app + config.rma + 3) ≡ config.pages) }
     ensures sizes { AreGood config }
 {
@@ -31,7 +33,8 @@ fn mapped(alloc: Global, config: Config) -> Result<AddressMap, AllocError>
 
 /// The areas of a machine at its start, and its memory.
 fn start(alloc: Global, config: Config) -> Result<(Areas, AddressMap), AllocError>
-    ensures { IfOk result (λ r. AreAreas (store_of r.1) (free_pages r.1) r.0) }
+    ensures areas { IfOk result (λ r. AreAreas (store_of r.1) (free_pages r.1) r.0) }
+    ensures classes { IfOk result (λ r. AreClasses r.1) }
 {
     let mut map = mapped(alloc, config)?;
     Heaps::new().init_module_area(&mut map, RMA_START, PAGE_SIZE * config.rma());
