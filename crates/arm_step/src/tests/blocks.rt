@@ -256,12 +256,12 @@ static LINES: [Line; 221] = [
 fn stores_no_block_with_an_owned_word_in_its_middle(rt: HostRuntime) -> Result<(), Fail> {
     let mut memory = AddressMap::new(rt.alloc(), 1)?;
     memory.map_pages(0x8000, 1);
-    // The four words of a heap's descriptor.
-    memory.own(Kind::Heap, 0x8104, 16);
+    // A word that a heap spells.
+    memory.own(Kind::HeadWord, 0x8108, 4);
     let mut cpu = Cpu::new();
     cpu.set_register(1, 0x8100);
     cpu.set_register(2, 0x22);
-    // STMIA R1!,{R2-R7}: the words at &8100 and &8114 are the guest's
+    // STMIA R1!,{R2-R7}: only the word at &8108 is not the guest's
     assert_eq!(rt; memory.store_word(0x8000, 0xE8A1_00FC), Ok(()));
     assert_eq!(rt; step(&mut cpu, &mut memory), Turn::Fault(Fault::OwnedWord));
     assert_eq!(rt; cpu.register(1), 0x8100);
