@@ -3,10 +3,12 @@
 use Rattle.std.specs.Prelude.{ℕ, ◌≡◌, ◌+◌, ◌*◌, ◌||◌, Bool, List, [], ◌∷◌, Option, Some, None}
 use Rattle.std.specs.List.{list_any}
 use Rattle.profile.specs.Sizes.{Sizes, AreGood}
+use Rattle.address_map.specs.declared.map.AddressMap.{AddressMap}
 use Rattle.address_map.specs.declared.region.Region.{Region}
+use Rattle.address_map.specs.Memory.{free_pages}
 use Rattle.address_map.specs.Bytes.{in_range, AreMapped}
 use Rattle.os_heap_lists.specs.Heap.{HeapList}
-use Rattle.os_heap.specs.Store.{Store, IsSound, find_heap}
+use Rattle.os_heap.specs.Store.{Store, IsSound, find_heap, store_of}
 use Rattle.dynamic_areas.specs.declared.area.Area.{Area}
 use Rattle.dynamic_areas.specs.Areas.{Land, find_area, pages_of}
 use Rattle.dynamic_areas.specs.Rooms.{IsAreaTable}
@@ -44,3 +46,16 @@ EndsWithArea None area = ⊥
 pub record AreAreas (s : Store) (free : ℕ) (l : Land) : Type 0 where
   pub ground : IsGround s free l
   pub heap : EndsWithArea (find_heap 0x01800000 s.heaps) (find_area 1 l.areas)
+
+-- All that calls on memory act on: the store, how many pages are in the pool, and the areas.
+pub record Estate : Type 0 where
+  pub store : Store
+  pub pool : ℕ
+  pub land : Land
+
+abbrev pub IsEstate : Estate → Type 0
+IsEstate e = AreAreas e.store e.pool e.land
+
+-- the estate that a map stands for, together with its areas
+abbrev pub estate_of : AddressMap → Land → Estate
+estate_of m l = record { store = store_of m; pool = free_pages m; land = l }
