@@ -1,0 +1,51 @@
+//! Full names.
+ghost use Rattle.std.specs.Prelude.{◌≡◌, ◌≤◌, length, option_map, MatchOption};
+ghost use Rattle.std.specs.List.{list_all};
+ghost use Rattle.module_header.specs.Title.{is_title_byte};
+ghost use Rattle.instances_table.specs.Names.{FullName, parted, is_instance_name};
+
+use crate::parts::{MOST_NAME_BYTES, Name};
+
+/// A full name: a title, and the instance's name behind the first `%`, if there is one.
+pub(crate) struct FullName<'a> {
+    pub(crate) title: &'a [u8],
+    pub(crate) name: Option<&'a [u8]>,
+}
+
+impl<'a> FullName<'a> {
+    pub(crate) fn of(full: &'a [u8]) -> FullName<'a>
+        ensures { record { title = result.title.now; name = option_map (λ n. n.now) result.name } ≡ parted full.now }
+    {
+        match full.iter().position(|byte| *byte == b'%') {
+            Some(place) => FullName {
+                title: &full[..place],
+                name: Some(&full[place + 1..]),
+            },
+            None => FullName {
+                title: full,
+                name: None,
+            },
+        }
+    }
+}
+
+/// Whether a new instance may have that name.
+pub(crate) fn is_instance_name(name: &[u8]) -> bool
+    ensures { result ≡ is_instance_name name.now }
+{
+    !name.is_empty()
+        && name.len() <= MOST_NAME_BYTES
+        && name
+            .iter()
+            .all(|byte| byte.is_ascii_graphic() && *byte != b'%')
+}
+
+/// A name of these bytes.
+pub(crate) fn name_of(bytes: &[u8]) -> Name
+    requires { length bytes.now ≤ 31 }
+    ensures { result.items ≡ bytes.now }
+{
+    let mut name = Name::new();
+    name.try_extend_from_slice(bytes).unwrap();
+    name
+}
