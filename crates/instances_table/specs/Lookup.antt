@@ -1,6 +1,6 @@
 -- What is found in the list of modules (RISC OS 3 Programmer's Reference Manual, "OS_Module", reasons 12 and 18, and "Modules", "SWI chunk base
 -- number"). Modules and instances are numbered by their places in the lists, from 0.
-use Rattle.std.specs.Prelude.{ℕ, Bool, not, ◌+◌, ◌-◌, ◌%◌, ◌==◌, ◌&&◌, nat_lt, List, [], ◌∷◌, length, Option, Some, None, option_map, ok_or, slice_get, Result, Ok, Err, zero, suc, if◌then◌else◌}
+use Rattle.std.specs.Prelude.{ℕ, Bool, not, ◌+◌, ◌-◌, ◌%◌, ◌==◌, ◌&&◌, nat_lt, List, [], ◌∷◌, length, Option, Some, None, option_map, ok_or, slice_get, Result, Ok, Err, if◌then◌else◌}
 use Rattle.std.specs.List.{position}
 use Rattle.profile.specs.Outcome.{bind}
 use Rattle.profile.specs.declared.error.ErrorNumber.{ErrorNumber}
@@ -9,7 +9,7 @@ use Rattle.instances_table.specs.declared.parts.Place.{Place}
 use Rattle.instances_table.specs.declared.parts.Information.{Information}
 use Rattle.instances_table.specs.declared.parts.ModuleInfo.{ModuleInfo}
 use Rattle.instances_table.specs.declared.parts.InstanceInfo.{InstanceInfo}
-use Rattle.instances_table.specs.Modules.{Instance, Module, has_title, has_name, has_slot, has_instance}
+use Rattle.instances_table.specs.Modules.{Instance, Module, has_title, has_name, has_slot}
 use Rattle.instances_table.specs.Names.{FullName, parted}
 
 abbrev pub module_at : List Module → ℕ → Result Module ErrorNumber
@@ -45,6 +45,14 @@ abbrev pub place_behind : Module → ℕ → ℕ → Place
 place_behind m number i =
     if nat_lt (i + 1) (length m.instances) then record { number = number; instance = i + 1 } else record { number = number + 1; instance = 0 }
 
+-- the slot of an instance of a module
+abbrev pub slot_in : ℕ → Option Module → Option ℕ
+slot_in i None = None
+slot_in i (Some m) = option_map (λ (x : Instance). x.slot) (slice_get m.instances i)
+
+abbrev pub slot_at : List Module → Place → Result ℕ ErrorNumber
+slot_at modules place = ok_or (slot_in place.instance (slice_get modules place.number)) ModuleNotFound
+
 -- OS_Module 12
 unfoldable pub information : List Module → ℕ → ℕ → Result Information ErrorNumber
 information modules number i =
@@ -59,14 +67,14 @@ has_call call m = m.header.chunk == call - call % 64 && not (m.header.handler ==
 abbrev pub number_of_call : ℕ → List Module → Option ℕ
 number_of_call call modules = position (has_call call) modules
 
--- where the instance of a slot is
-abbrev pub place_of_slot : List Module → ℕ → Option Place
-place_of_slot [] slot = None
-place_of_slot (m ∷ ms) slot = place_in (position (has_slot slot) m.instances) (place_of_slot ms slot)
-  where
-    abbrev pub place_in : Option ℕ → Option Place → Option Place
-    place_in (Some i) rest = Some (record { number = 0; instance = i })
-    place_in None rest = option_map (λ (p : Place). record p { number = p.number + 1 }) rest
+-- where the instance of a slot is: in the first module if its place there is known, else behind it
+abbrev pub place_from : Option ℕ → Option Place → Option Place
+place_from (Some i) later = Some (record { number = 0; instance = i })
+place_from None later = option_map (λ (p : Place). record p { number = p.number + 1 }) later
+
+abbrev pub place_of_slot : ℕ → List Module → Option Place
+place_of_slot slot [] = None
+place_of_slot slot (m ∷ ms) = place_from (position (has_slot slot) m.instances) (place_of_slot slot ms)
 
 -- what is told of a module, and of an instance
 abbrev pub told_of_module : Module → ModuleInfo
@@ -82,6 +90,6 @@ told_of_module m = record {
 abbrev pub told_of_instance : Module → Instance → InstanceInfo
 told_of_instance m i = record { name = record { items = i.name }; slot = i.slot; preferred = i.slot == m.preferred }
 
-abbrev pub told_instances : Option Module → ℕ → Option InstanceInfo
-told_instances None i = None
-told_instances (Some m) i = option_map (told_of_instance m) (slice_get m.instances i)
+abbrev pub told_of_place : ℕ → Option Module → Option InstanceInfo
+told_of_place i None = None
+told_of_place i (Some m) = option_map (told_of_instance m) (slice_get m.instances i)

@@ -1,6 +1,6 @@
 -- The modules of a machine as a list, oldest first, each with its instances, oldest first (RISC OS 3 Programmer's Reference Manual, "Modules", "Module
 -- instantiation"). A slot is the place of an instance's private word; that there are 64 of them is this project's own.
-use Rattle.std.specs.Prelude.{ℕ, ◌≡◌, ◌≤◌, ◌+◌, ◌==◌, ◌||◌, Bool, false, List, [], ◌∷◌, map, zero, suc, cond, nat_lt}
+use Rattle.std.specs.Prelude.{ℕ, ◌≡◌, ◌≤◌, ◌+◌, ◌==◌, Bool, true, List, [], ◌∷◌, zero, suc, cond, nat_lt}
 use Rattle.std.specs.List.{list_any}
 use Rattle.std.specs.Str.{str_eq_ignore_ascii_case}
 use Rattle.module_header.specs.declared.header.Header.{Header}

@@ -1,16 +1,19 @@
--- The table as the list that it stands for: the names of all instances stand by slot, and each module has the slots of its instances.
-use Rattle.std.specs.Prelude.{ℕ, List, [], map, slice_index_or}
+-- The table as the list that it stands for: the names of all instances stand by slots, and each module has the slots of its instances.
+use Rattle.std.specs.Prelude.{ℕ, List, [], ◌∷◌, ◌==◌, map, slice_index_or, if◌then◌else◌}
 use Rattle.arrayvec.specs.ArrayVec.{ArrayVec}
 use Rattle.instances_table.specs.declared.loaded.Loaded.{Loaded}
 use Rattle.instances_table.specs.Modules.{Instance, Module}
 
-abbrev pub name_at : List (ArrayVec ℕ) → ℕ → List ℕ
+abbrev pub Names : Type 0
+Names = List (ArrayVec ℕ)
+
+abbrev pub name_at : Names → ℕ → List ℕ
 name_at names slot = (slice_index_or names slot (record { items = [] })).items
 
-abbrev pub instance_of : List (ArrayVec ℕ) → ℕ → Instance
+abbrev pub instance_of : Names → ℕ → Instance
 instance_of names slot = record { name = name_at names slot; slot = slot }
 
-abbrev pub module_of : List (ArrayVec ℕ) → Loaded → Module
+abbrev pub module_of : Names → Loaded → Module
 module_of names l = record {
   header = l.header;
   image = l.image;
@@ -18,5 +21,10 @@ module_of names l = record {
   preferred = l.preferred;
 }
 
-abbrev pub modules_of : List (ArrayVec ℕ) → List Loaded → List Module
+abbrev pub modules_of : Names → List Loaded → List Module
 modules_of names modules = map (module_of names) modules
+
+-- who is preferred among the slots that are left: the oldest, where it was the one that went
+abbrev pub heir : ℕ → ℕ → List ℕ → ℕ
+heir slot preferred [] = preferred
+heir slot preferred (oldest ∷ slots) = if preferred == slot then oldest else preferred

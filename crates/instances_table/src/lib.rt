@@ -1,6 +1,7 @@
 //! The table of modules: each module that is loaded, with its header, its image, and its instances. No memory is touched here.
 #![tactic(auto)]
 
+mod changes;
 mod loaded;
 mod names;
 pub mod parts;
