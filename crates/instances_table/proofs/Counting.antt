@@ -1,10 +1,9 @@
 -- How many items of a list pass a test.
-use Rattle.std.proofs.Common.{◌≡◌, ◌≢◌, ℕ, ◌+◌, ◌<◌, ◌≤◌, ◌==◌, Bool, true, false, List, [], ◌∷◌, ◌++◌, length, map, refl, sym, ap, ◌∙◌, inl, inr, cond, zero, suc, Some, arith}
-use Rattle.std.specs.Prelude.{Option, slice_get}
+use Rattle.std.proofs.Common.{◌≡◌, ℕ, ◌+◌, ◌≤◌, Bool, true, false, List, [], ◌∷◌, ◌++◌, map, refl, ap, inl, inr, cond, zero, suc, arith}
 use Rattle.std.specs.List.{list_any}
 use Rattle.std.specs.Str.{str_eq_ignore_ascii_case, str_to_ascii_lowercase, bytes_eq}
 use Rattle.std.proofs.lemmas.Slice.Eq.{bytes_eq-Decides}
-use Rattle.std.proofs.lemmas.Bool.{cases_Bool, eqb-true, eq-eqb, or_parts}
+use Rattle.std.proofs.lemmas.Bool.{cases_Bool, or_parts}
 use Rattle.instances_table.specs.Modules.{number_of, changed_at}
 use Rattle.instances_table.specs.Changes.{without_first}
 
@@ -72,7 +71,7 @@ count_named name xs y none few n =
     elim (cases_Bool (str_eq_ignore_ascii_case (name y) n)) [
       | inl e ↦
           let same : number_of (λ x. str_eq_ignore_ascii_case (name x) (name y)) xs ≡ number_of (λ x. str_eq_ignore_ascii_case (name x) n) xs =
-              count_same _ _ xs (λ x. same_test (name y) n (name x) e) in
+          count_same _ _ xs (λ x. same_test (name y) n (name x) e) in
           let zero_of = count_none (λ x. str_eq_ignore_ascii_case (name x) (name y)) xs none in
           let m = rw e at more in
           omega (arith, m, same, zero_of)

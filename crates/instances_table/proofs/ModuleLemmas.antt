@@ -1,14 +1,14 @@
 -- What holds of every list of modules holds after each change.
-use Rattle.std.proofs.Common.{◌≡◌, ◌≢◌, ℕ, ◌+◌, ◌<◌, ◌≤◌, ◌==◌, Bool, true, false, List, [], ◌∷◌, ◌++◌, length, map, refl, sym, ap, ◌∙◌, subst, inl, inr, cond, zero, suc, Some, None, arith}
+use Rattle.std.proofs.Common.{◌≡◌, ℕ, ◌+◌, ◌<◌, ◌≤◌, ◌==◌, Bool, true, false, List, [], ◌∷◌, ◌++◌, refl, sym, ap, subst, inl, inr, cond, zero, suc, Some, None, arith}
 use Rattle.std.specs.Prelude.{Option, slice_get, nat_lt, codes}
 use Rattle.std.specs.List.{list_any}
 use Rattle.std.specs.Str.{str_eq_ignore_ascii_case}
-use Rattle.std.proofs.lemmas.Bool.{cases_Bool, eqb-true, eq-eqb, or_parts, and_parts, lt-ltb, ltb-true, false≢true}
+use Rattle.std.proofs.lemmas.Bool.{cases_Bool, eqb-true, eq-eqb, or_parts, lt-ltb, ltb-true}
 use Rattle.module_header.specs.declared.header.Header.{Header}
 use Rattle.instances_table.specs.declared.parts.Image.{Image}
 use Rattle.instances_table.specs.Modules.{Instance, Module, has_title, has_name, has_slot, has_instance, number_of, slot_count, IsModule, EachIsModule, AreModules, changed_at}
-use Rattle.instances_table.specs.Changes.{is_held, is_new, is_named, holds, new_module, with_instance, with_name, with_names, named, with_preferred, without_first, still, module_without, without_instance, with_image_at}
-use Rattle.instances_table.proofs.Counting.{count_push, count_none, count_some, none_counted, count_same, count-map, count_changed, count_without, same_test, count_named}
+use Rattle.instances_table.specs.Changes.{is_held, is_new, is_named, holds, new_module, with_instance, with_preferred, with_image_at}
+use Rattle.instances_table.proofs.Counting.{count_push, count_none, count_changed, count_named}
 
 pub not_held : (slot : ℕ) (ms : List Module) → is_held slot ms ≡ false → slot_count slot ms ≡ 0
 not_held slot [] none = refl
@@ -38,7 +38,7 @@ each_at (n ∷ ms) (suc k) m each found = each_at ms k m each.1 found
 -- one module more
 first_alone : (header : Header) (image : Image) (slot : ℕ) → IsModule (new_module header image slot)
 first_alone header image slot = record {
-  names = λ name. elim (cases_Bool (str_eq_ignore_ascii_case (codes "Base") name)) [ | inl e ↦ rw e (omega arith) | inr e ↦ rw e (omega arith) ];
+  names = λ name. elim (cases_Bool (str_eq_ignore_ascii_case (codes "Base") name)) [ inl e ↦ rw e (omega arith) | inr e ↦ rw e (omega arith) ];
   preferred = rw (eq-eqb slot slot refl) refl;
 }
 
@@ -108,7 +108,7 @@ instance_added ms k name slot are below fresh free = record {
   titles = λ title. rw (count_changed (has_title title) (with_instance name slot) k ms (λ n. refl)) (are.titles title);
   slots = λ s.
       let most = slots_changed s (cond (slot == s) 1 0) ms k (with_instance name slot)
-          (λ n. rw (count_push (has_slot s) n.instances (record { name = name; slot = slot })) (omega arith)) in
+      (λ n. rw (count_push (has_slot s) n.instances (record { name = name; slot = slot })) (omega arith)) in
       let once = taken_once s slot (slot_count s ms) (cond (slot == s) 1 0) below (are.slots s) (λ same. rw same (not_held slot ms fresh)) (omega arith) in
       omega (arith, most, once);
   each = each_changed ms k (with_instance name slot) are.each
@@ -144,10 +144,10 @@ new_parts title slot ms new =
     elim (cases_Bool (nat_lt slot 64)) [
       | inr a ↦ absurd (let e : false ≡ true = rw a at new in cc)
       | inl a ↦ elim (cases_Bool (is_held slot ms)) [
-          | inl b ↦ absurd (let e : false ≡ true = rw (a, b) at new in cc)
-          | inr b ↦ elim (cases_Bool (list_any (has_title title) ms)) [
-              | inl d ↦ absurd (let e : false ≡ true = rw (a, b, d) at new in cc)
-              | inr d ↦ record { below = ltb-true slot 64 a; free = b; untitled = d }
-            ]
+        | inl b ↦ absurd (let e : false ≡ true = rw (a, b) at new in cc)
+        | inr b ↦ elim (cases_Bool (list_any (has_title title) ms)) [
+          | inl d ↦ absurd (let e : false ≡ true = rw (a, b, d) at new in cc)
+          | inr d ↦ record { below = ltb-true slot 64 a; free = b; untitled = d }
         ]
+      ]
     ]

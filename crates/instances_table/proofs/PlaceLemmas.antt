@@ -1,5 +1,5 @@
 -- A list without its first item that passes a test.
-use Rattle.std.proofs.Common.{◌≡◌, ℕ, ◌<◌, ◌||◌, Bool, true, false, List, [], ◌∷◌, length, get_or, refl, ap, cond, zero, suc, Some, None, inl, inr, arith}
+use Rattle.std.proofs.Common.{◌≡◌, ℕ, ◌<◌, Bool, true, false, List, [], ◌∷◌, length, get_or, refl, ap, zero, suc, Some, None, inl, inr, arith}
 use Rattle.std.specs.List.{position, position_or_len, list_any, remove}
 use Rattle.std.proofs.lemmas.Bool.{cases_Bool, or_parts, lt-ltb}
 use Rattle.std.proofs.lemmas.List.Quantifiers.{position-Some}

@@ -1,10 +1,9 @@
 -- An instance goes, and its module with its last one.
-use Rattle.std.proofs.Common.{◌≡◌, ℕ, ◌+◌, ◌<◌, ◌≤◌, ◌==◌, Bool, true, false, List, [], ◌∷◌, ◌++◌, length, map, refl, sym, ap, ◌∙◌, subst, inl, inr, cond, zero, suc, Some, None, arith}
-use Rattle.std.specs.Prelude.{Option, slice_get, nat_lt}
+use Rattle.std.proofs.Common.{◌≡◌, ℕ, ◌≤◌, ◌==◌, Bool, true, false, List, [], ◌∷◌, ◌++◌, refl, sym, ◌∙◌, inl, inr, cond, arith}
 use Rattle.std.specs.List.{list_any}
 use Rattle.std.proofs.lemmas.Bool.{cases_Bool, eqb-true, eq-eqb}
-use Rattle.instances_table.specs.Modules.{Instance, Module, has_title, has_name, has_slot, has_instance, number_of, slot_count, IsModule, EachIsModule, AreModules}
-use Rattle.instances_table.specs.Changes.{without_first, still, module_without, without_instance}
+use Rattle.instances_table.specs.Modules.{Instance, Module, has_title, has_name, has_slot, has_instance, number_of, slot_count, EachIsModule, AreModules}
+use Rattle.instances_table.specs.Changes.{without_first, still, without_instance}
 use Rattle.instances_table.proofs.Counting.{count_without}
 
 any_without : (p test : Instance → Bool) (is : List Instance) → list_any p is ≡ true → ((i : Instance) → test i ≡ true → p i ≡ false)
@@ -14,9 +13,9 @@ any_without p test (i ∷ is) some apart =
     elim (cases_Bool (test i)) [
       | inl e ↦ rw e (let rest = rw (apart i e) at some in rest)
       | inr e ↦ rw e (elim (cases_Bool (p i)) [
-          | inl f ↦ rw f refl
-          | inr f ↦ let rest = any_without p test is (rw f at some) apart in rw f rest
-        ])
+        | inl f ↦ rw f refl
+        | inr f ↦ let rest = any_without p test is (rw f at some) apart in rw f rest
+      ])
     ]
 
 -- what is left of a module

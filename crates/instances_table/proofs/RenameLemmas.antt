@@ -1,10 +1,10 @@
 -- An instance gets another name.
-use Rattle.std.proofs.Common.{◌≡◌, ℕ, ◌+◌, ◌<◌, ◌≤◌, ◌==◌, Bool, true, false, List, [], ◌∷◌, length, map, refl, sym, ap, ◌∙◌, subst, inl, inr, cond, zero, suc, Some, None, arith}
-use Rattle.std.specs.Prelude.{Option, slice_get, nat_lt}
+use Rattle.std.proofs.Common.{◌≡◌, ℕ, ◌+◌, ◌<◌, ◌≤◌, ◌==◌, true, false, List, [], ◌∷◌, map, refl, inl, inr, zero, suc, arith}
+use Rattle.std.specs.Prelude.{slice_get}
 use Rattle.std.specs.List.{list_any}
 use Rattle.std.specs.Str.{str_eq_ignore_ascii_case}
-use Rattle.std.proofs.lemmas.Bool.{cases_Bool, eqb-true, eq-eqb}
-use Rattle.instances_table.specs.Modules.{Instance, Module, has_title, has_name, has_slot, has_instance, number_of, slot_count, IsModule, EachIsModule, AreModules}
+use Rattle.std.proofs.lemmas.Bool.{cases_Bool}
+use Rattle.instances_table.specs.Modules.{Instance, Module, has_title, has_name, has_slot, number_of, slot_count, IsModule, EachIsModule, AreModules}
 use Rattle.instances_table.specs.Changes.{holds, is_named, with_name, with_names, named}
 use Rattle.instances_table.proofs.RoomLemmas.{at_most_one, below_64}
 use Rattle.instances_table.proofs.Counting.{count_none, count_some, count_same, count-map, same_test}
@@ -43,10 +43,10 @@ any_named : (s slot : ℕ) (name : List ℕ) (is : List Instance) → list_any (
 any_named s slot name [] some = some
 any_named s slot name (i ∷ is) some =
     elim (cases_Bool (i.slot == s)) [
-      | inl e ↦ elim (cases_Bool (i.slot == slot)) [ | inl f ↦ rw (f, e) refl | inr f ↦ rw (f, e) refl ]
+      | inl e ↦ elim (cases_Bool (i.slot == slot)) [ inl f ↦ rw (f, e) refl | inr f ↦ rw (f, e) refl ]
       | inr e ↦
           let rest = any_named s slot name is (rw e at some) in
-          elim (cases_Bool (i.slot == slot)) [ | inl f ↦ rw (f, e) rest | inr f ↦ rw (f, e) rest ]
+          elim (cases_Bool (i.slot == slot)) [ inl f ↦ rw (f, e) rest | inr f ↦ rw (f, e) rest ]
     ]
 
 -- a module without the slot keeps its names, and the one with it gets a name that none of its instances has
@@ -65,7 +65,7 @@ named_module slot name m once free is = record {
   names = λ n. elim (cases_Bool (str_eq_ignore_ascii_case name n)) [
     | inl e ↦
         let same : number_of (has_name name) m.instances ≡ number_of (has_name n) m.instances =
-            count_same (has_name name) (has_name n) m.instances (λ i. same_test name n i.name e) in
+        count_same (has_name name) (has_name n) m.instances (λ i. same_test name n i.name e) in
         omega (arith, named_same slot name n m.instances e, same, count_none (has_name name) m.instances free)
     | inr e ↦ omega (arith, named_other slot name n m.instances e, is.names n)
   ];

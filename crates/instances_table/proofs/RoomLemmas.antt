@@ -1,13 +1,13 @@
 -- There is room for what is put in: slots differ and are below 64.
-use Rattle.std.proofs.Common.{◌≡◌, ℕ, ◌+◌, ◌<◌, ◌≤◌, ◌==◌, Bool, true, false, List, [], ◌∷◌, ◌++◌, length, map, refl, sym, ap, ◌∙◌, subst, inl, inr, cond, zero, suc, Some, None, eqb, arith, length-append}
-use Rattle.std.specs.Prelude.{Option, slice_get, nat_lt, ⊤}
+use Rattle.std.proofs.Common.{◌≡◌, ℕ, ◌+◌, ◌<◌, ◌≤◌, ◌==◌, Bool, true, false, List, [], ◌∷◌, ◌++◌, length, map, refl, sym, ap, ◌∙◌, inl, inr, cond, zero, suc, Some, None, eqb, arith, length-append}
+use Rattle.std.specs.Prelude.{Option, slice_get, nat_lt}
 use Rattle.std.specs.List.{list_any, IsDistinct, AllByRecursion}
-use Rattle.std.proofs.lemmas.Bool.{cases_Bool, eqb-true, eq-eqb, or_parts, ltb-true}
+use Rattle.std.proofs.lemmas.Bool.{cases_Bool, eqb-true, eq-eqb, ltb-true}
 use Rattle.std.proofs.lemmas.List.{length-map}
 use Rattle.std.proofs.lemmas.Map.Steps.{length-le_from_distinct_below}
-use Rattle.instances_table.specs.Modules.{Instance, Module, has_slot, has_instance, number_of, slot_count, IsModule, EachIsModule, AreModules}
+use Rattle.instances_table.specs.Modules.{Instance, Module, number_of, slot_count, EachIsModule, AreModules}
 use Rattle.instances_table.specs.Changes.{is_held}
-use Rattle.instances_table.proofs.Counting.{count_some, count_none, count_same, count-map, none_counted}
+use Rattle.instances_table.proofs.Counting.{count-map}
 use Rattle.instances_table.proofs.ModuleLemmas.{not_held}
 
 -- the slots of all instances
@@ -22,8 +22,11 @@ count_append p (x ∷ xs) ys = omega (arith, count_append p xs ys)
 slots_counted : (s : ℕ) (ms : List Module) → number_of (λ x. x == s) (slots_of ms) ≡ slot_count s ms
 slots_counted s [] = refl
 slots_counted s (m ∷ ms) =
-    rw (count_append (λ x. x == s) (map (λ (i : Instance). i.slot) m.instances) (slots_of ms),
-        count-map (λ (i : Instance). i.slot) (λ x. x == s) m.instances, slots_counted s ms) refl
+    rw (
+      count_append (λ x. x == s) (map (λ (i : Instance). i.slot) m.instances) (slots_of ms),
+      count-map (λ (i : Instance). i.slot) (λ x. x == s) m.instances,
+      slots_counted s ms,
+    ) refl
 
 -- a list in which each number is at most once has no two that are equal
 others_differ : (x : ℕ) (xs : List ℕ) → number_of (λ y. y == x) xs ≡ 0 → AllByRecursion (λ y. eqb x y ≡ false) xs
@@ -75,10 +78,10 @@ instances_le (n ∷ ms) zero m found =
 instances_le (n ∷ ms) (suc k) m found = rw length-append (omega (arith, instances_le ms k m found))
 
 pub below_64 : (s n : ℕ) → 1 ≤ n → n ≤ cond (nat_lt s 64) 1 0 → s < 64
-below_64 s n some few = elim (cases_Bool (nat_lt s 64)) [ | inl e ↦ ltb-true s 64 e | inr e ↦ let none : n ≤ 0 = rw e at few in absurd (omega arith) ]
+below_64 s n some few = elim (cases_Bool (nat_lt s 64)) [ inl e ↦ ltb-true s 64 e | inr e ↦ let none : n ≤ 0 = rw e at few in absurd (omega arith) ]
 
 pub at_most_one : (s n : ℕ) → n ≤ cond (nat_lt s 64) 1 0 → n ≤ 1
-at_most_one s n few = elim (cases_Bool (nat_lt s 64)) [ | inl e ↦ rw e at few | inr e ↦ let none : n ≤ 0 = rw e at few in omega arith ]
+at_most_one s n few = elim (cases_Bool (nat_lt s 64)) [ inl e ↦ rw e at few | inr e ↦ let none : n ≤ 0 = rw e at few in omega arith ]
 
 -- where a slot below 64 is free, fewer than 64 are held
 fewer : (ms : List Module) (slot : ℕ) → AreModules ms → slot < 64 → is_held slot ms ≡ false → length (slots_of ms) < 64
@@ -86,15 +89,15 @@ unfolding IsDistinct
 fewer ms slot are below fresh =
     let none : number_of (λ y. y == slot) (slots_of ms) ≡ 0 = slots_counted slot ms ∙ not_held slot ms fresh in
     let apart : IsDistinct eqb (slots_of ms) =
-        distinct_from_counts (slots_of ms) (λ x. omega (arith, slots_counted x ms, at_most_one x (slot_count x ms) (are.slots x))) in
+    distinct_from_counts (slots_of ms) (λ x. omega (arith, slots_counted x ms, at_most_one x (slot_count x ms) (are.slots x))) in
     let all : IsDistinct eqb (slot ∷ slots_of ms) = (others_differ slot (slots_of ms) none, apart) in
     let most : length (slot ∷ slots_of ms) ≤ 64 = length-le_from_distinct_below (slot ∷ slots_of ms) 64 all (λ q some.
-        elim (cases_Bool (eqb q slot)) [
-          | inl e ↦ let same : q ≡ slot = eqb-true q slot e in omega arith
-          | inr e ↦
-              let later : list_any (eqb q) (slots_of ms) ≡ true = rw e at some in
-              below_64 q (slot_count q ms) (omega (arith, counted q (slots_of ms) later, slots_counted q ms)) (are.slots q)
-        ]) in
+    elim (cases_Bool (eqb q slot)) [
+      | inl e ↦ let same : q ≡ slot = eqb-true q slot e in omega arith
+      | inr e ↦
+          let later : list_any (eqb q) (slots_of ms) ≡ true = rw e at some in
+          below_64 q (slot_count q ms) (omega (arith, counted q (slots_of ms) later, slots_counted q ms)) (are.slots q)
+    ]) in
     omega arith
 
 pub room_for_module : (ms : List Module) (slot : ℕ) → AreModules ms → slot < 64 → is_held slot ms ≡ false → length ms < 64

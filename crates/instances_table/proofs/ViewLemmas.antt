@@ -1,20 +1,20 @@
 -- What is asked of the list that a table stands for, and of the table itself; and what a change of the table is there.
-use Rattle.std.proofs.Common.{◌≡◌, ◌≢◌, ℕ, ◌+◌, ◌<◌, ◌≤◌, ◌||◌, ◌==◌, Bool, true, false, List, [], ◌∷◌, ◌++◌, length, map, take, drop, get_or, set, refl, sym, ap, subst, ◌∙◌, not, cond, zero, suc, Some, None, inl, inr, append-nil, arith}
-use Rattle.std.specs.Prelude.{Option, slice_get, option_map}
+use Rattle.std.proofs.Common.{◌≡◌, ◌≢◌, ℕ, ◌+◌, ◌<◌, ◌≤◌, ◌||◌, ◌==◌, Bool, true, false, List, [], ◌∷◌, ◌++◌, length, map, get_or, set, refl, sym, ap, subst, ◌∙◌, not, cond, zero, suc, Some, None, inl, inr, append-nil, arith}
+use Rattle.std.specs.Prelude.{Option, slice_get, option_map, IfSome}
 use Rattle.std.specs.List.{position, position_or_len, list_any, insert, remove, refill}
+use Rattle.std.specs.Str.{str_eq_ignore_ascii_case}
 use Rattle.arrayvec.specs.ArrayVec.{ArrayVec}
 use Rattle.std.proofs.lemmas.Bool.{cases_Bool, eqb-true, eq-eqb, or_parts}
 use Rattle.std.proofs.lemmas.List.{length-map, length-set, map-append, get_or-set_other, get_or-set_same, drop_all}
 use Rattle.std.proofs.Math.Seq.{take-length}
 use Rattle.std.proofs.lemmas.List.Quantifiers.{position-Some}
 use Rattle.std.proofs.lemmas.Option.{slice_get-map, slice_get-get_or}
-use Rattle.module_header.specs.declared.header.Header.{Header}
 use Rattle.instances_table.specs.declared.loaded.Loaded.{Loaded}
-use Rattle.instances_table.specs.declared.parts.Image.{Image}
-use Rattle.instances_table.specs.Modules.{Instance, Module, AreModules, has_slot, has_instance, changed_at}
-use Rattle.instances_table.specs.Lookup.{slot_in}
-use Rattle.instances_table.specs.Changes.{is_held, holds, with_name, with_names, with_instance, named, without_first, still, module_without, without_instance}
+use Rattle.instances_table.specs.Modules.{Instance, Module, AreModules, has_name, has_slot, has_instance, changed_at}
+use Rattle.instances_table.specs.Lookup.{slot_in, instance_in, instance_meant, told_of_instance, told_of_place}
+use Rattle.instances_table.specs.Changes.{is_held, is_named, holds, with_name, with_names, with_instance, named, without_first, still, module_without, without_instance}
 use Rattle.instances_table.specs.Table.{name_at, instance_of, module_of, modules_of, heir}
+use Rattle.instances_table.proofs.RenameLemmas.{held_below}
 use Rattle.instances_table.proofs.RoomLemmas.{room_for_instance}
 
 first-map : {X Y : Type 0} (f : X → Y) (p : Y → Bool) (xs : List X) → position_or_len p (map f xs) ≡ position_or_len (λ x. p (f x)) xs
@@ -50,6 +50,47 @@ pub slot_found : (i : ℕ) (o : Option Module) (s : ℕ) → slot_in i o ≡ Som
 slot_found i None s found = absurd (let e : None ≡ Some s = found in cc)
 slot_found i (Some m) s found = slot_among m.instances i s found
 
+pub held_if : (i : ℕ) (o : Option Module) (r : Option ℕ) → r ≡ slot_in i o → IfSome r (λ s. holds s o ≡ true)
+held_if i o None same = tt
+held_if i o (Some s) same = slot_found i o s (sym same)
+
+pub below_if : (ms : List Module) (k i : ℕ) (r : Option ℕ) → AreModules ms → r ≡ slot_in i (slice_get ms k) → IfSome r (λ s. s < 64)
+below_if ms k i None are same = tt
+below_if ms k i (Some s) are same = held_below ms k s are (slot_found i (slice_get ms k) s (sym same))
+
+-- what is read of a module that is there
+pub module_view : (names : List (ArrayVec ℕ)) (ms : List Loaded) (k : ℕ) (l : Loaded) → slice_get ms k ≡ Some l
+    → slice_get (modules_of names ms) k ≡ Some (module_of names l)
+module_view names ms k l found = slice_get-map (module_of names) ms k ∙ ap (option_map (module_of names)) found
+
+pub instance_view : (names : List (ArrayVec ℕ)) (l : Loaded) (i s : ℕ) → slice_get l.slots.items i ≡ Some s
+    → slice_get (module_of names l).instances i ≡ Some (instance_of names s)
+instance_view names l i s found = slice_get-map (instance_of names) l.slots.items i ∙ ap (option_map (instance_of names)) found
+
+pub told_view : (names : List (ArrayVec ℕ)) (ms : List Loaded) (k i s : ℕ) (l : Loaded) → slice_get ms k ≡ Some l → slice_get l.slots.items i ≡ Some s
+    → told_of_place i (slice_get (modules_of names ms) k) ≡ Some (told_of_instance (module_of names l) (instance_of names s))
+told_view names ms k i s l found there =
+    rw (module_view names ms k l found) (ap (option_map (told_of_instance (module_of names l))) (instance_view names l i s there))
+
+pub named_view : (names : List (ArrayVec ℕ)) (ms : List Loaded) (k : ℕ) (l : Loaded) (name : List ℕ) → slice_get ms k ≡ Some l
+    → is_named name (slice_get (modules_of names ms) k) ≡ list_any (λ s. str_eq_ignore_ascii_case (name_at names s) name) l.slots.items
+named_view names ms k l name found =
+    rw (module_view names ms k l found) (list_any-map (instance_of names) (has_name name) l.slots.items)
+
+pub meant_view : (names : List (ArrayVec ℕ)) (ms : List Loaded) (k : ℕ) (l : Loaded) (name : Option (List ℕ)) → slice_get ms k ≡ Some l
+    → instance_in name (slice_get (modules_of names ms) k) ≡ instance_meant name (module_of names l)
+meant_view names ms k l name found = ap (instance_in name) (module_view names ms k l found)
+
+slots_again : (names : List (ArrayVec ℕ)) (o : Option ℕ) → option_map (λ (x : Instance). x.slot) (option_map (instance_of names) o) ≡ o
+slots_again names None = refl
+slots_again names (Some s) = refl
+
+pub slot_view : (names : List (ArrayVec ℕ)) (ms : List Loaded) (k i : ℕ) (l : Loaded) → slice_get ms k ≡ Some l
+    → slot_in i (slice_get (modules_of names ms) k) ≡ slice_get l.slots.items i
+slot_view names ms k i l found =
+    rw (module_view names ms k l found)
+    (ap (option_map (λ (x : Instance). x.slot)) (slice_get-map (instance_of names) l.slots.items i) ∙ slots_again names (slice_get l.slots.items i))
+
 -- a name changed: where no instance has the slot nothing is, else its name
 kept_one : (names : List (ArrayVec ℕ)) (slot s : ℕ) (name : ArrayVec ℕ) → s ≢ slot → instance_of (set names slot name) s ≡ instance_of names s
 kept_one names slot s name other =
@@ -70,7 +111,7 @@ modules_kept names slot name [] none = refl
 modules_kept names slot name (l ∷ ls) none =
     let parts = or_parts (has_instance slot (module_of names l)) (is_held slot (modules_of names ls)) none in
     ap (λ (is : List Instance). record (module_of names l) { instances = is } ∷ modules_of (set names slot name) ls)
-        (instances_kept names slot name l.slots.items parts.0)
+    (instances_kept names slot name l.slots.items parts.0)
     ∙ ap (λ (ms : List Module). module_of names l ∷ ms) (modules_kept names slot name ls parts.1)
 
 named_one : (names : List (ArrayVec ℕ)) (slot s : ℕ) (name : ArrayVec ℕ) → slot < length names
@@ -80,7 +121,7 @@ named_one names slot s name below =
       | inl e ↦
           let same : s ≡ slot = eqb-true s slot e in
           let here : get_or (set names slot name) s (record { items = [] }) ≡ name =
-              rw same (get_or-set_same names slot name (record { items = [] }) below) in
+          rw same (get_or-set_same names slot name (record { items = [] }) below) in
           rw e (ap (λ (v : ArrayVec ℕ). let i : Instance = record { name = v.items; slot = s } in i) here)
       | inr e ↦
           let other : s ≢ slot = λ same. let f : (s == slot) ≡ true = eq-eqb s slot same in absurd (cc (e, f)) in
@@ -99,7 +140,7 @@ pub modules_named : (names : List (ArrayVec ℕ)) (slot : ℕ) (name : ArrayVec 
 modules_named names slot name [] below = refl
 modules_named names slot name (l ∷ ls) below =
     ap (λ (is : List Instance). record (module_of names l) { instances = is } ∷ modules_of (set names slot name) ls)
-        (instances_named names slot name l.slots.items below)
+    (instances_named names slot name l.slots.items below)
     ∙ ap (λ (ms : List Module). with_names slot name.items (module_of names l) ∷ ms) (modules_named names slot name ls below)
 
 -- one instance more, whose name stands at its slot
@@ -145,7 +186,7 @@ pub room_view : (names : List (ArrayVec ℕ)) (ms : List Loaded) (k slot : ℕ) 
     → is_held slot (modules_of names ms) ≡ false → k < length ms → length (get_or ms k d).slots.items < 64
 room_view names ms k slot d are below fresh within =
     let found : slice_get (modules_of names ms) k ≡ Some (module_of names (get_or ms k d)) =
-        slice_get-map (module_of names) ms k ∙ ap (option_map (module_of names)) (slice_get-get_or ms k d within) in
+    slice_get-map (module_of names) ms k ∙ ap (option_map (module_of names)) (slice_get-get_or ms k d within) in
     let room = room_for_instance (modules_of names ms) slot k (module_of names (get_or ms k d)) are below fresh found in
     omega (arith, room, length-map (get_or ms k d).slots.items (instance_of names))
 
@@ -168,7 +209,11 @@ pub record IsLeft (slot : ℕ) (l left : Loaded) : Type 0 where
 
 left_as : (names : List (ArrayVec ℕ)) (slot : ℕ) (m : Module) (ss : List ℕ) → 0 < length ss
     → still slot m (map (instance_of names) ss) ≡ record {
-        header = m.header; image = m.image; instances = map (instance_of names) ss; preferred = heir slot m.preferred ss } ∷ []
+      header = m.header;
+      image = m.image;
+      instances = map (instance_of names) ss;
+      preferred = heir slot m.preferred ss;
+    } ∷ []
 left_as names slot m [] some = absurd (omega arith)
 left_as names slot m (s ∷ ss) some = refl
 

@@ -1,15 +1,14 @@
 -- What changes the list of modules (RISC OS 3 Programmer's Reference Manual, "OS_Module", reasons 1, 4, 14, 15 and 16; the order of the refusals, the
 -- lowest slot, and who is preferred, are this project's own).
-use Rattle.std.specs.Prelude.{ℕ, Bool, false, not, ◌+◌, ◌==◌, ◌&&◌, ◌||◌, nat_lt, List, [], ◌∷◌, ◌++◌, map, Option, Some, None, is_some, ok_or, slice_get, Result, Ok, Err, zero, suc, codes, if◌then◌else◌}
-use Rattle.std.specs.List.{list_any, position}
+use Rattle.std.specs.Prelude.{ℕ, Bool, false, not, ◌+◌, ◌==◌, ◌&&◌, nat_lt, List, [], ◌∷◌, ◌++◌, map, Option, Some, None, ok_or, slice_get, Result, Ok, Err, zero, suc, codes, if◌then◌else◌}
+use Rattle.std.specs.List.{list_any}
 use Rattle.profile.specs.Outcome.{bind}
 use Rattle.profile.specs.declared.error.ErrorNumber.{ErrorNumber}
 use Rattle.profile.specs.declared.error.ErrorNumber.TheVariants.{ModuleNotFound, InstanceExists, InstanceTableFull}
 use Rattle.module_header.specs.declared.header.Header.{Header}
 use Rattle.instances_table.specs.declared.parts.Image.{Image}
-use Rattle.instances_table.specs.declared.parts.Place.{Place}
 use Rattle.instances_table.specs.Modules.{Instance, Module, has_title, has_name, has_slot, has_instance, changed_at}
-use Rattle.instances_table.specs.Names.{FullName, parted, name_given, new_name}
+use Rattle.instances_table.specs.Names.{parted, name_given, new_name}
 use Rattle.instances_table.specs.Lookup.{number_of_title, place_meant, slot_at}
 
 -- the lowest of `n` slots from one on that no instance has

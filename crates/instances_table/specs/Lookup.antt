@@ -1,6 +1,6 @@
 -- What is found in the list of modules (RISC OS 3 Programmer's Reference Manual, "OS_Module", reasons 12 and 18, and "Modules", "SWI chunk base
 -- number"). Modules and instances are numbered by their places in the lists, from 0.
-use Rattle.std.specs.Prelude.{ℕ, Bool, not, ◌+◌, ◌-◌, ◌%◌, ◌==◌, ◌&&◌, nat_lt, List, [], ◌∷◌, length, Option, Some, None, option_map, ok_or, slice_get, Result, Ok, Err, if◌then◌else◌}
+use Rattle.std.specs.Prelude.{ℕ, Bool, not, ◌+◌, ◌-◌, ◌%◌, ◌==◌, ◌&&◌, nat_lt, List, [], ◌∷◌, length, Option, Some, None, option_map, ok_or, slice_get, Result, Ok, if◌then◌else◌}
 use Rattle.std.specs.List.{position}
 use Rattle.profile.specs.Outcome.{bind}
 use Rattle.profile.specs.declared.error.ErrorNumber.{ErrorNumber}
@@ -29,12 +29,15 @@ is_meant (Some name) preferred i = has_name name i
 abbrev pub instance_meant : Option (List ℕ) → Module → Option ℕ
 instance_meant name m = position (is_meant name m.preferred) m.instances
 
+abbrev pub instance_in : Option (List ℕ) → Option Module → Option ℕ
+instance_in name None = None
+instance_in name (Some m) = instance_meant name m
+
 unfoldable pub place_meant : FullName → List Module → Result Place ErrorNumber
 place_meant full modules =
     bind (ok_or (number_of_title full.title modules) ModuleNotFound) (λ number.
-    bind (module_at modules number) (λ m.
-    bind (ok_or (instance_meant full.name m) ModuleNotFound) (λ i.
-    Ok (record { number = number; instance = i }))))
+    bind (ok_or (instance_in full.name (slice_get modules number)) ModuleNotFound) (λ i.
+    Ok (record { number = number; instance = i })))
 
 -- OS_Module 18, as far as the table knows it
 abbrev pub looked_up : List Module → List ℕ → Result Place ErrorNumber
@@ -66,15 +69,6 @@ has_call call m = m.header.chunk == call - call % 64 && not (m.header.handler ==
 
 abbrev pub number_of_call : ℕ → List Module → Option ℕ
 number_of_call call modules = position (has_call call) modules
-
--- where the instance of a slot is: in the first module if its place there is known, else behind it
-abbrev pub place_from : Option ℕ → Option Place → Option Place
-place_from (Some i) later = Some (record { number = 0; instance = i })
-place_from None later = option_map (λ (p : Place). record p { number = p.number + 1 }) later
-
-abbrev pub place_of_slot : ℕ → List Module → Option Place
-place_of_slot slot [] = None
-place_of_slot slot (m ∷ ms) = place_from (position (has_slot slot) m.instances) (place_of_slot slot ms)
 
 -- what is told of a module, and of an instance
 abbrev pub told_of_module : Module → ModuleInfo

@@ -1,6 +1,7 @@
 //! One module of the table.
-ghost use Rattle.std.specs.Prelude.{◌≡◌, ◌≤◌, length, ◌==◌, ◌-◌, ◌%◌, ◌&&◌, not, [], option_map, codes};
+ghost use Rattle.std.specs.Prelude.{◌≡◌, ◌<◌, ◌≤◌, length, IfSome, ◌==◌, ◌-◌, ◌%◌, ◌&&◌, not, [], option_map, codes, slice_get};
 ghost use Rattle.std.specs.List.{list_any, position};
+ghost use Rattle.std.specs.Option.{option_copied};
 ghost use Rattle.std.specs.Str.{str_eq_ignore_ascii_case};
 ghost use Rattle.instances_table.specs.Changes.{new_module, without_first};
 ghost use Rattle.instances_table.specs.Table.{Names, name_at, module_of, heir};
@@ -46,7 +47,8 @@ impl Loaded {
     /// Where among the instances the one of a name is, or without a name the preferred one.
     #[tactic(auto, using(crate::proofs::ViewLemmas::view_steps))]
     pub(crate) fn place_meant(&self, names: &[Name], name: Option<&[u8]>) -> Option<usize>
-        ensures { result ≡ instance_meant (option_map (λ n. n.now) name.entry) (module_of names.now self.now) }
+        ensures value { result ≡ instance_meant (option_map (λ n. n.now) name.entry) (module_of names.now self.now) }
+        ensures within { IfSome result (λ i. i < 64) }
     {
         match name {
             Some(name) => place_of_name(names, self.slots.as_slice(), name),
@@ -62,7 +64,9 @@ impl Loaded {
         ensures image { self.new.image ≡ self.old.image }
     {
         take_slot(&mut self.slots, slot);
-        if self.preferred == slot && let Some(oldest) = self.slots.as_slice().first() {
+        if self.preferred == slot
+            && let Some(oldest) = self.slots.as_slice().first()
+        {
             self.preferred = *oldest;
         }
     }
@@ -85,7 +89,8 @@ fn take_slot(slots: &mut ArrayVec<u32, MOST_INSTANCES>, slot: u32)
 }
 
 fn place_of_slot(slots: &[u32], slot: u32) -> Option<usize>
-    ensures { result ≡ position (λ s. s == slot) slots.now }
+    ensures value { result ≡ position (λ s. s == slot) slots.now }
+    ensures within { IfSome result (λ i. i < length slots.now) }
 {
     slots.iter().position(|held| *held == slot)
 }
@@ -97,7 +102,19 @@ pub(crate) fn new_module(header: Header, image: Image, slot: u32) -> Loaded
 {
     let mut slots = ArrayVec::new();
     slots.push(slot);
-    Loaded { header, image, slots, preferred: slot }
+    Loaded {
+        header,
+        image,
+        slots,
+        preferred: slot,
+    }
+}
+
+/// The module of a number, if there is one.
+pub(crate) fn loaded_at(modules: &[Loaded], number: usize) -> Option<&Loaded>
+    ensures { option_copied result ≡ slice_get modules.now number }
+{
+    modules.get(number)
 }
 
 /// Where in a list of modules the one of a title is.
@@ -117,7 +134,8 @@ pub(crate) fn has_title(modules: &[Loaded], title: &[u8]) -> bool
 pub(crate) fn number_of_call(modules: &[Loaded], call: u32) -> Option<usize>
     ensures { result ≡ position (λ l. l.header.chunk == call - call % 64 && not (l.header.handler == 0)) modules.now }
 {
-    modules.iter().position(|loaded| loaded.header.chunk == call - call % 64 && loaded.header.handler != 0)
+    modules.iter().position(|loaded| loaded.header.chunk == call - call % 64
+        && loaded.header.handler != 0)
 }
 
 /// Whether an instance has a slot.
@@ -147,7 +165,8 @@ pub(crate) fn name_at(names: &[Name], slot: u32) -> &[u8]
 
 /// Where among slots the one of an instance of that name is.
 pub(crate) fn place_of_name(names: &[Name], slots: &[u32], name: &[u8]) -> Option<usize>
-    ensures { result ≡ position (λ s. str_eq_ignore_ascii_case (name_at names.now s) name.now) slots.now }
+    ensures value { result ≡ position (λ s. str_eq_ignore_ascii_case (name_at names.now s) name.now) slots.now }
+    ensures within { IfSome result (λ i. i < length slots.now) }
 {
     slots
         .iter()

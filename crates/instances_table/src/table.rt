@@ -4,10 +4,13 @@ ghost use Rattle.instances_table.specs.Names.{FullName};
 ghost use Rattle.std.specs.List.{list_any};
 ghost use Rattle.profile.specs.Outcome.{Gives, Leaves};
 ghost use Rattle.instances_table.specs.Changes.{is_held, free_slot, holds, is_named, is_new, with_module, new_module, with_instance, instantiated, named, renamed, with_preferred, preferring, without_instance, with_image_at};
-ghost use Rattle.instances_table.specs.Lookup.{number_of_title, number_of_call, place_meant, looked_up, information, slot_in, told_of_module, told_of_place};
+ghost use Rattle.instances_table.specs.Lookup.{number_of_title, number_of_call, place_meant, looked_up, information, instance_in, slot_in, told_of_module, told_of_place};
 
 use crate::changes::{push_slot, remove_instance, set_image, set_preferred};
-use crate::loaded::{Loaded, MOST_INSTANCES, has_title, is_held, is_named, name_at, new_module, number_of_call, number_of_title};
+use crate::loaded::{
+    Loaded, MOST_INSTANCES, has_title, is_held, is_named, loaded_at, name_at, new_module,
+    number_of_call, number_of_title,
+};
 use crate::names::{FullName, is_instance_name, name_of};
 use crate::parts::{Image, Information, InstanceInfo, ModuleInfo, Name, Place};
 use arrayvec::ArrayVec;
@@ -91,24 +94,30 @@ impl InstanceTable {
     }
 
     /// The instance of a title and a name, or the preferred one.
-    #[tactic(auto, using(crate::proofs::ViewLemmas::view_steps), unfolding(crate::specs::Lookup::place_meant))]
+    #[tactic(auto, unfolding(crate::specs::Lookup::place_meant))]
     fn place_meant(&self, title: &[u8], name: Option<&[u8]>) -> Result<Place, ErrorNumber>
         ensures { result ≡ place_meant (record { title = title.now; name = option_map (λ n. n.now) name.entry }) self.now }
     {
-        let number =
-            number_of_title(self.modules.as_slice(), title).ok_or(ErrorNumber::ModuleNotFound)?;
-        let loaded = self
-            .modules
-            .as_slice()
-            .get(number)
+        let number = self
+            .number_of_title(title)
             .ok_or(ErrorNumber::ModuleNotFound)?;
-        let instance = loaded
-            .place_meant(&self.names, name)
+        let instance = self
+            .instance_meant(number, name)
             .ok_or(ErrorNumber::ModuleNotFound)?;
         Ok(Place {
             number: number as u32,
             instance: instance as u32,
         })
+    }
+
+    /// Where in the module of a number the instance of a name is, or the preferred one.
+    #[tactic(auto, using(crate::proofs::ViewLemmas::view_steps, crate::proofs::ViewLemmas::meant_view))]
+    fn instance_meant(&self, number: usize, name: Option<&[u8]>) -> Option<usize>
+        ensures value { result ≡ instance_in (option_map (λ n. n.now) name.entry) (slice_get self.now number) }
+        ensures within { IfSome result (λ i. i < 64) }
+    {
+        let loaded = self.modules.as_slice().get(number)?;
+        loaded.place_meant(&self.names, name)
     }
 
     /// What OS_Module 12 tells of an instance, the value of its private word aside. The place behind an instance is the next one of the module, or
@@ -134,15 +143,25 @@ impl InstanceTable {
             .get(instance as usize)
             .ok_or(ErrorNumber::ModuleNotFound)?;
         let next = if (instance as usize) + 1 < loaded.slots.len() {
-            Place { number, instance: instance + 1 }
+            Place {
+                number,
+                instance: instance + 1,
+            }
         } else {
-            Place { number: number + 1, instance: 0 }
+            Place {
+                number: number + 1,
+                instance: 0,
+            }
         };
-        Ok(Information { next, image: loaded.image.at, slot: *slot })
+        Ok(Information {
+            next,
+            image: loaded.image.at,
+            slot: *slot,
+        })
     }
 
     /// What is told of an instance, by its module's number and its own, if there is one.
-    #[tactic(auto, using(crate::proofs::ViewLemmas::view_steps))]
+    #[tactic(auto, using(crate::proofs::ViewLemmas::view_steps, crate::proofs::ViewLemmas::told_view))]
     pub fn instance(&self, number: u32, instance: u32) -> Option<InstanceInfo>
         ensures { result ≡ told_of_place instance (slice_get self.now number) }
     {
@@ -156,19 +175,30 @@ impl InstanceTable {
     }
 
     /// The slot of an instance, if there is one at the place.
-    #[tactic(auto, using(crate::proofs::ViewLemmas::view_steps))]
     pub fn slot_of(&self, place: Place) -> Option<u32>
         ensures value { result ≡ slot_in place.instance (slice_get self.now place.number) }
         ensures held { IfSome result (λ slot. holds slot (slice_get self.now place.number) ≡ true) }
         ensures below { IfSome result (λ slot. slot < 64) }
     {
+        let _ = &self.names;
+        self.slot_at(place)
+    }
+
+    #[tactic(auto, using(crate::proofs::ViewLemmas::view_steps, crate::proofs::ViewLemmas::slot_view))]
+    fn slot_at(&self, place: Place) -> Option<u32>
+        ensures { result ≡ slot_in place.instance (slice_get self.now place.number) }
+    {
         let loaded = self.modules.as_slice().get(place.number as usize)?;
-        loaded.slots.as_slice().get(place.instance as usize).copied()
+        loaded
+            .slots
+            .as_slice()
+            .get(place.instance as usize)
+            .copied()
     }
 
     /// Whether an instance has a slot.
     #[tactic(auto, using(crate::proofs::ViewLemmas::held_view))]
-    pub fn is_held(&self, slot: u32) -> bool
+    pub(crate) fn is_held(&self, slot: u32) -> bool
         ensures { result ≡ is_held slot self.now }
     {
         is_held(self.modules.as_slice(), slot)
@@ -257,16 +287,17 @@ impl InstanceTable {
     fn number_of_title(&self, title: &[u8]) -> Option<usize>
         ensures value { result ≡ number_of_title title.now self.now }
         ensures within { IfSome result (λ number. number < length self.now) }
+        ensures few { IfSome result (λ number. number < 64) }
     {
         number_of_title(self.modules.as_slice(), title)
     }
 
     /// Whether the module of a number has an instance of a name.
-    #[tactic(auto, using(crate::proofs::ViewLemmas::view_steps))]
+    #[tactic(auto, using(crate::proofs::ViewLemmas::view_steps, crate::proofs::ViewLemmas::named_view))]
     fn is_named(&self, number: usize, name: &[u8]) -> bool
         ensures { result ≡ is_named name.now (slice_get self.now number) }
     {
-        match self.modules.as_slice().get(number) {
+        match loaded_at(self.modules.as_slice(), number) {
             Some(loaded) => is_named(&self.names, loaded.slots.as_slice(), name),
             None => false,
         }

@@ -45,11 +45,17 @@ fn modules_and_instances_are_found(rt: HostRuntime) -> Result<(), Fail> {
     table.prefer(b"W%B")?;
     assert_eq!(rt; table.lookup(b"W"), Ok(place(0, 1)));
     let first = table.info(0, 0)?;
-    assert_eq!(rt; (first.next, first.image, first.slot), (place(0, 1), 0x01800014, 0));
+    assert_eq!(rt;
+        (first.next, first.image, first.slot),
+        (place(0, 1), 0x01800014, 0)
+    );
     let second = table.info(0, 1)?;
     assert_eq!(rt; (second.next, second.slot), (place(1, 0), 1));
     assert_eq!(rt; table.info(1, 0), Err(ErrorNumber::ModuleNotFound));
-    assert_eq!(rt; table.rename(b"W%B", b"base"), Err(ErrorNumber::InstanceExists));
+    assert_eq!(rt;
+        table.rename(b"W%B", b"base"),
+        Err(ErrorNumber::InstanceExists)
+    );
     table.rename(b"W%B", b"C")?;
     assert_eq!(rt; table.lookup(b"W%c"), Ok(place(0, 1)));
     table.moved(0, 0x01800000);

@@ -1,4 +1,4 @@
-use Rattle.std.proofs.Common.{◌∙◌, refl, ap, get_or, ◌++◌, ◌∷◌, []}
+use Rattle.std.proofs.Common.{refl}
 use Rattle.std.proofs.lemmas.List.{map-append}
 use Rattle.instances_table.specs.Changes.{with_instance}
 use Rattle.instances_table.specs.Table.{name_at, instance_of}

@@ -1,4 +1,4 @@
-use Rattle.std.proofs.Common.{◌≡◌, ◌<◌, ◌≤◌, length, sym, ◌∙◌, refl, arith}
+use Rattle.std.proofs.Common.{◌<◌, ◌≤◌, length, sym, refl, arith}
 use Rattle.std.proofs.lemmas.List.{length-map}
 use Rattle.instances_table.specs.Changes.{with_preferred}
 use Rattle.instances_table.specs.Table.{modules_of, module_of}

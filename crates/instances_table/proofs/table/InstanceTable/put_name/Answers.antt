@@ -1,4 +1,4 @@
-use Rattle.std.proofs.Common.{◌≡◌, ◌<◌, length, refl, arith}
+use Rattle.std.proofs.Common.{◌<◌, length, refl, arith}
 use Rattle.instances_table.proofs.RenameLemmas.{other_name}
 use Rattle.instances_table.proofs.ViewLemmas.{modules_named}
 use Rattle.instances_table.proofs.table.InstanceTable.put_name.Goals as goal

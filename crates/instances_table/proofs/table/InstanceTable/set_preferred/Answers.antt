@@ -4,4 +4,4 @@ use Rattle.instances_table.proofs.table.InstanceTable.set_preferred.Goals as goa
 pub invariant_of-self : goal.invariant_of-self
 invariant_of-self c =
     rw (c.set_preferred.ensures c.self.inside.names)
-    (other_preferred _ _ _ c.self.invariant (rw (← c.self.view_is) at c.requires))
+    (other_preferred _ _ _ c.self.invariant (rw (← c.self.view_is) at c.requires.held))
