@@ -3,7 +3,7 @@
 ghost use Rattle.std.specs.Prelude.{◌≡◌, option_map};
 ghost use Rattle.assembler_names.specs.Labels.{address_of};
 ghost use Rattle.assembler_names.specs.Words.{byte};
-ghost use Rattle.assembler_reading.specs.Instructions.{action_at, branch_at, branch_to, call_or_number, instruction, interrupt_at, interrupt_number, interrupt_of, plain_call, quoted_call, word_for};
+ghost use Rattle.assembler_reading.specs.Instructions.{action_at, branch_at, branch_to, call_or_number, instruction, swi_at, swi_number, swi_action, plain_call, quoted_call, word_for};
 
 use crate::addresses::transfer_at;
 use crate::operands::Outcome;
@@ -69,7 +69,7 @@ fn action_at<'t>(
         } => transfer_at(labels, address, loads, is_byte, translates, text),
         Command::BlockTransfer { loads, mode } => block_at(loads, mode, text),
         Command::Branch { links } => branch_at(labels, address, links, text),
-        Command::SoftwareInterrupt => interrupt_at(labels, text),
+        Command::SoftwareInterrupt => swi_at(labels, text),
     }
 }
 
@@ -102,18 +102,18 @@ fn branch_to(address: u32, links: bool, target: Value) -> Outcome<Action>
     Ok(Action::Branch { links, distance })
 }
 
-#[tactic(auto, unfolding(crate::specs::Instructions::interrupt_at))]
-fn interrupt_at<'t>(labels: &Labels, text: &'t [u8]) -> Read<'t, Outcome<Action>>
-    ensures { option_map (λ r. (r.0, r.1.now)) result ≡ interrupt_at (address_of labels.now) text.now }
+#[tactic(auto, unfolding(crate::specs::Instructions::swi_at))]
+fn swi_at<'t>(labels: &Labels, text: &'t [u8]) -> Read<'t, Outcome<Action>>
+    ensures { option_map (λ r. (r.0, r.1.now)) result ≡ swi_at (address_of labels.now) text.now }
 {
-    let (number, rest) = interrupt_number(labels, text)?;
-    Some((interrupt_of(number), rest))
+    let (number, rest) = swi_number(labels, text)?;
+    Some((swi_action(number), rest))
 }
 
 // A number of 24 bits.
-#[tactic(auto, unfolding(crate::specs::Instructions::interrupt_of))]
-fn interrupt_of(number: Value) -> Outcome<Action>
-    ensures { result ≡ interrupt_of number }
+#[tactic(auto, unfolding(crate::specs::Instructions::swi_action))]
+fn swi_action(number: Value) -> Outcome<Action>
+    ensures { result ≡ swi_action number }
 {
     let Some(number) = number else {
         return Err(Reason::UnknownLabel);
@@ -126,8 +126,8 @@ fn interrupt_of(number: Value) -> Outcome<Action>
 }
 
 // A call by its name, which wins over a label of that name, or an expression.
-fn interrupt_number<'t>(labels: &Labels, text: &'t [u8]) -> Read<'t, Value>
-    ensures { option_map (λ r. (r.0, r.1.now)) result ≡ interrupt_number (address_of labels.now) text.now (byte 34 text.now) }
+fn swi_number<'t>(labels: &Labels, text: &'t [u8]) -> Read<'t, Value>
+    ensures { option_map (λ r. (r.0, r.1.now)) result ≡ swi_number (address_of labels.now) text.now (byte 34 text.now) }
 {
     match byte(b'"', text) {
         Some(after) => quoted_call(after),
