@@ -2,6 +2,7 @@ pub mod Choices
 pub mod ClassLemmas
 pub mod GroundLemmas
 pub mod HeapBase
+pub mod HeapCalls
 pub mod LandLemmas
 pub mod LooseLemmas
 pub mod Loosened
