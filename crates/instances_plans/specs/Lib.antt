@@ -1,0 +1,4 @@
+pub mod Calls
+pub mod Carrying
+pub mod Code
+pub mod Plans
