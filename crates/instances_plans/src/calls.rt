@@ -18,7 +18,8 @@ impl Plan {
         requires { length old.now ≤ 64 }
         ensures { result ≡ load_plan given old.now slot }
     {
-        let mut plan = Plan::clear(given, old);
+        let mut plan = Plan::of(given);
+        push_clear(&mut plan.actions, old);
         plan.actions.push(Action::Insert(slot));
         plan.actions.push(Action::Initialise(slot));
         plan.instead.push(Action::GiveUp);
@@ -92,7 +93,8 @@ impl Plan {
 
 fn push_clear(actions: &mut Actions, slots: &[u32])
     requires { length actions.old.items + 2 * length slots.now ≤ 132 }
-    ensures { actions.new.items ≡ actions.old.items ++ clear_actions slots.now }
+    ensures items { actions.new.items ≡ actions.old.items ++ clear_actions slots.now }
+    ensures len { length actions.new.items ≡ length actions.old.items + 2 * length slots.now }
 {
     for slot in slots {
         actions.push(Action::Finalise(*slot, true));
@@ -102,7 +104,8 @@ fn push_clear(actions: &mut Actions, slots: &[u32])
 
 fn push_finalise_all(actions: &mut Actions, slots: &[u32])
     requires { length actions.old.items + length slots.now ≤ 132 }
-    ensures { actions.new.items ≡ actions.old.items ++ finalise_all slots.now }
+    ensures items { actions.new.items ≡ actions.old.items ++ finalise_all slots.now }
+    ensures len { length actions.new.items ≡ length actions.old.items + length slots.now }
 {
     for slot in slots {
         actions.push(Action::Finalise(*slot, false));
@@ -111,7 +114,8 @@ fn push_finalise_all(actions: &mut Actions, slots: &[u32])
 
 fn push_initialise_all(actions: &mut Actions, slots: &[u32])
     requires { length actions.old.items + length slots.now ≤ 132 }
-    ensures { actions.new.items ≡ actions.old.items ++ initialise_all slots.now }
+    ensures items { actions.new.items ≡ actions.old.items ++ initialise_all slots.now }
+    ensures len { length actions.new.items ≡ length actions.old.items + length slots.now }
 {
     for slot in slots {
         actions.push(Action::Initialise(*slot));

@@ -101,6 +101,7 @@ impl Plan {
     }
 
     /// The code that was under way, if any was, has come back.
+    #[tactic(auto, unfolding(crate::specs::Plans::settled))]
     pub fn settle(&mut self, outcome: Outcome)
         ensures { self.new ≡ settled self.old outcome }
     {
