@@ -11,7 +11,7 @@ abbrev pub shared_registers : State → List ℕ
 shared_registers cpu = take 13 cpu.file
 
 -- the frame of code that a core is about to enter
-unfoldable pub frame_of : State → Call → FrameKind → ℕ → Frame
+abbrev pub frame_of : State → Call → FrameKind → ℕ → Frame
 frame_of cpu call kind slot = record {
   call = call;
   kind = kind;
@@ -20,8 +20,8 @@ frame_of cpu call kind slot = record {
   stack = register_in Supervisor cpu 13;
 }
 
-unfoldable pub innermost : List Frame → Option Frame
+abbrev pub innermost : List Frame → Option Frame
 innermost frames = slice_get frames (length frames - 1)
 
-unfoldable pub closed : List Frame → List Frame
+abbrev pub closed : List Frame → List Frame
 closed frames = take (length frames - 1) frames

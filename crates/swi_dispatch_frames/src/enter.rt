@@ -9,6 +9,7 @@ use profile::memory_map::RETURN_GATE;
 
 /// The core goes to the SWI handler of a module: R11 is the number of the SWI in its chunk, R12 the address of the private word of the
 /// instance in `slot` (RISC OS 3 Programmer's Reference Manual, "Modules", "SWI handler code").
+#[tactic(auto, unfolding(crate::specs::Entering::swi_entered))]
 pub fn enter_swi(cpu: &mut Cpu, at: u32, number: u32, slot: u32)
     requires { slot < 64 }
     ensures { cpu.new ≡ swi_entered cpu.old at number slot }
@@ -19,6 +20,7 @@ pub fn enter_swi(cpu: &mut Cpu, at: u32, number: u32, slot: u32)
 }
 
 /// The core goes to an initialisation or finalisation entry of a module, with R10 to R12 as they are asked for.
+#[tactic(auto, unfolding(crate::specs::Entering::code_entered))]
 pub fn enter_code(cpu: &mut Cpu, code: Code)
     ensures { cpu.new ≡ code_entered cpu.old code }
 {
@@ -29,6 +31,7 @@ pub fn enter_code(cpu: &mut Cpu, code: Code)
 }
 
 // The core goes to an address in supervisor mode, and what is there returns to the gate.
+#[tactic(auto, unfolding(crate::specs::Entering::entered))]
 fn enter(cpu: &mut Cpu, at: u32)
     ensures { cpu.new ≡ entered cpu.old at }
 {

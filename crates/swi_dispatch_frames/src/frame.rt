@@ -68,12 +68,14 @@ impl Frame {
 }
 
 // R0 to R12 of the shared bank.
+#[tactic(auto, using(crate::proofs::Saving::saving), unfolding(arm_step::specs::State::register_in))]
 fn shared_registers(cpu: &Cpu) -> [u32; SAVED_REGISTERS]
     ensures { result ≡ shared_registers cpu.now }
 {
+    cpu.has_all_registers();
     let mut saved = [0; SAVED_REGISTERS];
-    for (number, word) in (0..).zip(saved.iter_mut()) {
-        *word = cpu.register_in(Mode::User, number);
+    for number in 0..SAVED_REGISTERS {
+        saved[number] = cpu.register_in(Mode::User, number as u32);
     }
     saved
 }

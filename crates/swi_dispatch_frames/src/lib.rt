@@ -12,3 +12,5 @@ pub use enter::{enter_code, enter_swi};
 pub use frame::{Frame, FrameKind};
 pub use frames::{Frames, MOST_FRAMES};
 
+#[cfg(test)]
+mod tests;
