@@ -40,6 +40,14 @@ pub enum Ended {
     Own(u32),
 }
 
+/// What one turn of a plan asks for: the next turn, the entry of module code, or the end of the call.
+#[derive(Clone, Copy, Debug, PartialEq, Eq)]
+pub enum Advance {
+    Next,
+    Code(Code),
+    End(Ended),
+}
+
 /// The address of the private word of an instance, by its slot.
 pub fn private_word(slot: u32) -> u32
     requires { slot < 64 }

@@ -5,10 +5,13 @@ pub mod action;
 pub mod calls;
 pub mod code;
 pub mod given;
+pub mod laws;
 pub mod plan;
 
 pub use action::Action;
-pub use code::{Code, CodeKind, Ended, Outcome, private_word};
+pub use code::{Advance, Code, CodeKind, Ended, Outcome, private_word};
 pub use given::Given;
 pub use plan::Plan;
 
+#[cfg(test)]
+mod tests;
