@@ -59,10 +59,10 @@ fn modules_and_instances_are_found(rt: HostRuntime) -> Result<(), Fail> {
     table.rename(b"W%B", b"C")?;
     assert_eq!(rt; table.lookup(b"W%c"), Ok(place(0, 1)));
     table.moved(0, 0x01800000);
-    let module = table.module(0)?;
+    let module = table.module(0).ok_or(ErrorNumber::ModuleNotFound)?;
     assert_eq!(rt; (module.image, module.len), (0x01800000, 30));
     assert_eq!(rt; module.title.as_slice(), b"W".as_slice());
-    let instance = table.instance(0, 1)?;
+    let instance = table.instance(0, 1).ok_or(ErrorNumber::ModuleNotFound)?;
     assert_eq!(rt; instance.name.as_slice(), b"C".as_slice());
     assert_eq!(rt; (instance.slot, instance.preferred), (1, true));
     Ok(())
@@ -95,7 +95,7 @@ fn the_lowest_slot_is_taken(rt: HostRuntime) -> Result<(), Fail> {
     table.instantiate(b"W%C")?;
     table.remove(0);
     assert_eq!(rt; table.lookup(b"W"), Ok(place(0, 0)));
-    let instance = table.instance(0, 0)?;
+    let instance = table.instance(0, 0).ok_or(ErrorNumber::ModuleNotFound)?;
     assert_eq!(rt; instance.name.as_slice(), b"B".as_slice());
     assert!(rt; instance.preferred);
     assert_eq!(rt; table.free_slot(), Some(0));
