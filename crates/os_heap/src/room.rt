@@ -1,0 +1,20 @@
+ghost use Rattle.std.specs.Prelude.{◌≡◌};
+ghost use Rattle.os_heap.specs.Room.{base_offset};
+ghost use Rattle.os_heap.specs.Store.{store_of, IsSound};
+
+use crate::heaps::{Heaps, find};
+use crate::words::{BASE, word};
+use address_map::AddressMap;
+
+impl Heaps {
+    /// Where the items of a heap end, in bytes from its start; 0 where no heap starts there.
+    pub fn base(&self, map: &AddressMap, heap: u32) -> u32
+        requires { IsSound (store_of map.now) }
+        ensures { result ≡ base_offset (store_of map.now) heap }
+    {
+        match find(map, heap) {
+            Some(_) => word(map, heap + BASE),
+            None => 0,
+        }
+    }
+}
