@@ -95,11 +95,12 @@ rma_freed e block = in_area e (gave_back e.store 0x01800000 block)
 abbrev pub total_changed : ℕ → ℕ → ℕ
 total_changed size change = round_up_8 (changed_by (size + 4) change)
 
--- where the heap would have to end for the block in its place, if that is the last, and for it at the base; 0 where it is none
+-- Where the heap would have to end for the block in its place, if that is the last, or for it at the base; 0 where there is none. A block that ends
+-- at the base is the last.
 abbrev pub end_in_place : ℕ → ℕ → ℕ → Result ℕ ErrorNumber → ℕ
 end_in_place base block change (Err f) = 0
 end_in_place base block change (Ok size) =
-    if block + size == 0x01800000 + base then (block + total_changed size change) - 0x01800004 else 0
+    if block + size == 0x01800000 + base then (base + total_changed size change) - (size + 4) else 0
 
 abbrev pub end_if_moved : ℕ → ℕ → Result ℕ ErrorNumber → ℕ
 end_if_moved base change (Err f) = 0

@@ -2,5 +2,13 @@
 #![tactic(auto)]
 
 pub mod area;
+pub mod claim;
+mod errors;
+pub mod extend;
+pub mod free;
+mod growth;
 
 pub use area::Rma;
+
+#[cfg(test)]
+mod tests;

@@ -1,0 +1,16 @@
+ghost use Rattle.std.specs.Prelude.{◌≡◌};
+ghost use Rattle.rma.specs.Calls.{rma_error};
+
+use profile::ErrorNumber;
+
+/// What a heap refuses has a name of its own in the module area.
+pub(crate) fn rma_error(error: ErrorNumber) -> ErrorNumber
+    ensures { result ≡ rma_error error }
+{
+    match error {
+        ErrorNumber::HeapNotABlock => ErrorNumber::RmaNotABlock,
+        ErrorNumber::HeapHoldsAnchor => ErrorNumber::RmaHoldsAnchor,
+        ErrorNumber::HeapNoRoom => ErrorNumber::RmaNoRoom,
+        other => other,
+    }
+}
