@@ -1,7 +1,7 @@
 -- The relocatable module area: the heap at its base, which grows with its area out of the pool of pages (RISC OS 3 Programmer's Reference Manual,
 -- "OS_Module", reasons 5, 6, 7 and 13; the numbers and the order of the refusals, and that the area grows by the fewest pages that suffice, are
 -- this project's own). All sums are exact.
-use Rattle.std.specs.Prelude.{ℕ, ◌+◌, ◌-◌, ◌*◌, ◌==◌, nat_le, nat_lt, Option, Some, None, Result, Ok, Err, if◌then◌else◌}
+use Rattle.std.specs.Prelude.{ℕ, Bool, true, false, ◌+◌, ◌-◌, ◌*◌, ◌==◌, nat_le, nat_lt, Option, Some, None, Result, Ok, Err, if◌then◌else◌}
 use Rattle.profile.specs.Outcome.{bind}
 use Rattle.profile.specs.declared.error.ErrorNumber.{ErrorNumber}
 use Rattle.profile.specs.declared.error.ErrorNumber.TheVariants.{HeapNotABlock, HeapHoldsAnchor, HeapNoRoom, RmaNotABlock, RmaHoldsAnchor, RmaNoRoom}
@@ -71,11 +71,17 @@ grown_to e end = if nat_le end (4096 * area_pages e) then Ok e else grown_by e (
 abbrev pub in_grown_area : {A : Type 0} → Estate → ℕ → (Store → Result (Store × A) ErrorNumber) → Result (Estate × A) ErrorNumber
 in_grown_area e end call = bind (grown_to e end) (λ g. in_area g (call g.store))
 
+abbrev pub is_no_room : ErrorNumber → Bool
+is_no_room HeapNoRoom = true
+is_no_room other = false
+
+abbrev pub is_full : {A : Type 0} → Result A ErrorNumber → Bool
+is_full (Ok r) = false
+is_full (Err f) = is_no_room f
+
 abbrev pub or_grown : {A : Type 0} → Estate → ℕ → (Store → Result (Store × A) ErrorNumber) → Result (Store × A) ErrorNumber
     → Result (Estate × A) ErrorNumber
-or_grown e end call (Ok r) = in_area e (Ok r)
-or_grown e end call (Err HeapNoRoom) = in_grown_area e end call
-or_grown e end call (Err f) = in_area e (Err f)
+or_grown e end call answer = if is_full answer then in_grown_area e end call else in_area e answer
 
 -- Reason 6, claim: a block of `size` bytes, in free room of the heap, or at its base, for which the area grows. The answer is the address of its
 -- first byte.

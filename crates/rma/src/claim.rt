@@ -1,6 +1,5 @@
-ghost use Rattle.std.specs.Prelude.{◌≡◌, ◌+◌, Err};
+ghost use Rattle.std.specs.Prelude.{◌≡◌, ◌+◌};
 ghost use Rattle.profile.specs.Outcome.{Gives};
-ghost use Rattle.profile.specs.declared.error.ErrorNumber.TheVariants.{HeapNoRoom};
 ghost use Rattle.address_map.specs.Memory.{StaysInPlace};
 ghost use Rattle.os_heap_lists.specs.Lists.{total_for};
 ghost use Rattle.os_heap.specs.Calls.{got};
@@ -10,7 +9,7 @@ ghost use Rattle.rma.specs.Calls.{in_grown_area, rma_base, rma_claimed};
 ghost use Rattle.rma.specs.Places.{KeepsPlaces};
 
 use crate::area::Rma;
-use crate::errors::rma_error;
+use crate::errors::{is_no_room, rma_error};
 use crate::growth::grow_to;
 use address_map::AddressMap;
 use dynamic_areas::Areas;
@@ -42,7 +41,7 @@ impl Rma {
     {
         match Heaps::new().get(map, RMA_START, size).answer {
             Ok(block) => Ok(block),
-            Err(ErrorNumber::HeapNoRoom) => claim_grown(map, areas, size),
+            Err(error) if is_no_room(error) => claim_grown(map, areas, size),
             Err(error) => Err(rma_error(error)),
         }
     }

@@ -1,5 +1,5 @@
 ghost use Rattle.std.specs.Prelude.{◌≡◌};
-ghost use Rattle.rma.specs.Calls.{rma_error};
+ghost use Rattle.rma.specs.Calls.{is_no_room, rma_error};
 
 use profile::ErrorNumber;
 
@@ -13,4 +13,11 @@ pub(crate) fn rma_error(error: ErrorNumber) -> ErrorNumber
         ErrorNumber::HeapNoRoom => ErrorNumber::RmaNoRoom,
         other => other,
     }
+}
+
+/// Whether a heap refused because no room was left.
+pub(crate) fn is_no_room(error: ErrorNumber) -> bool
+    ensures { result ≡ is_no_room error }
+{
+    matches!(error, ErrorNumber::HeapNoRoom)
 }

@@ -1,14 +1,14 @@
-ghost use Rattle.std.specs.Prelude.{◌≡◌, ◌<◌, ◌+◌, ◌^◌, Err};
+ghost use Rattle.std.specs.Prelude.{◌≡◌, ◌<◌, ◌+◌, ◌^◌, true};
 ghost use Rattle.profile.specs.Outcome.{Gives};
 ghost use Rattle.address_map.specs.Memory.{StaysInPlace};
 ghost use Rattle.os_heap.specs.Calls.{block_sized, resized};
-ghost use Rattle.os_heap.specs.Store.{store_of, AreClasses};
+ghost use Rattle.os_heap.specs.Store.{store_of, AreClasses, IsSound};
 ghost use Rattle.dynamic_areas.specs.Ground.{estate_of, IsEstate};
-ghost use Rattle.rma.specs.Calls.{end_if_moved, end_in_place, grown_in_place, in_grown_area, rma_base, rma_extended, total_changed};
+ghost use Rattle.rma.specs.Calls.{end_if_moved, end_in_place, grown_in_place, in_grown_area, is_full, rma_base, rma_extended, total_changed};
 ghost use Rattle.rma.specs.Places.{KeepsPlaces};
 
 use crate::area::Rma;
-use crate::errors::rma_error;
+use crate::errors::{is_no_room, rma_error};
 use crate::growth::grow_to;
 use address_map::AddressMap;
 use dynamic_areas::Areas;
@@ -44,7 +44,7 @@ impl Rma {
         grow_in_place(map, areas, block, change);
         match Heaps::new().resize(map, RMA_START, block, change).answer {
             Ok(new) => Ok(new),
-            Err(ErrorNumber::HeapNoRoom) => move_grown(map, areas, block, change),
+            Err(error) if is_no_room(error) => move_grown(map, areas, block, change),
             Err(error) => Err(rma_error(error)),
         }
     }
@@ -72,7 +72,7 @@ fn move_grown(
 ) -> Result<u32, ErrorNumber>
     requires estate { IsEstate (estate_of map.old areas.old) }
     requires classes { AreClasses map.old }
-    requires full { resized (store_of map.old) 0x01800000 block change ≡ Err HeapNoRoom }
+    requires full { is_full (resized (store_of map.old) 0x01800000 block change) ≡ true }
     ensures moved { Gives (estate_of map.old areas.old) (in_grown_area (estate_of map.old areas.old) (end_if_moved (rma_base (store_of map.old)) change (block_sized (store_of map.old) 0x01800000 block)) (λ s. resized s 0x01800000 block change)) result (estate_of map.new areas.new) }
     ensures estate { IsEstate (estate_of map.new areas.new) }
     ensures classes { AreClasses map.new }
