@@ -1,14 +1,14 @@
 -- The estate after calls on the module area's heap alone.
-use Rattle.std.proofs.Common.{◌≡◌, ℕ, Bool, true, false, refl, sym, ap, subst, ◌∙◌, Ok, Err}
+use Rattle.std.proofs.Common.{◌≡◌, ℕ, true, false, sym, ap, subst, ◌∙◌, Ok, Err}
 use Rattle.std.specs.Prelude.{Result, is_ok}
-use Rattle.profile.specs.Outcome.{bind, Gives}
+use Rattle.profile.specs.Outcome.{Gives}
 use Rattle.profile.specs.declared.error.ErrorNumber.{ErrorNumber}
-use Rattle.address_map.specs.Memory.{Layout, layout, free_pages, is_mapped, place}
+use Rattle.address_map.specs.Memory.{Layout, layout, free_pages}
 use Rattle.address_map.specs.declared.map.AddressMap.{AddressMap}
 use Rattle.os_heap.specs.Store.{Store, store_of}
 use Rattle.dynamic_areas.specs.Areas.{Land}
 use Rattle.dynamic_areas.specs.Ground.{Estate, estate_of}
-use Rattle.rma.specs.Calls.{in_area, in_grown_area, is_full, is_no_room, or_grown, rma_error, with_store}
+use Rattle.rma.specs.Calls.{in_area, is_full, is_no_room, or_grown, rma_error, with_store}
 
 pub estate_same : (m n : AddressMap) (l : Land) (s : Store) → layout n ≡ layout m → store_of n ≡ s → estate_of n l ≡ with_store (estate_of m l) s
 estate_same m n l s same e =

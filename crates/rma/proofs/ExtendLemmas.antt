@@ -1,8 +1,7 @@
 -- Blocks of the module area, and where a change of one is sure to be done once the area is grown.
-use Rattle.std.proofs.Common.{◌≡◌, ℕ, ◌+◌, ◌-◌, ◌*◌, ◌==◌, ◌^◌, ◌<◌, ◌≤◌, ◌⊎◌, Bool, true, false, List, [], ◌∷◌, refl, sym, ap, subst, ◌∙◌, Some, None, Ok, Err, inl, inr, arith}
+use Rattle.std.proofs.Common.{◌≡◌, ℕ, ◌+◌, ◌-◌, ◌==◌, ◌^◌, ◌≤◌, ◌⊎◌, Bool, true, false, refl, sym, ap, subst, ◌∙◌, Some, None, Ok, Err, inl, inr, arith}
 use Rattle.std.specs.Prelude.{Option, Result, is_some, is_ok, ok_or}
 use Rattle.std.proofs.lemmas.Bool.{cases_Bool, eqb-true}
-use Rattle.profile.specs.Outcome.{bind}
 use Rattle.profile.specs.declared.error.ErrorNumber.{ErrorNumber}
 use Rattle.profile.specs.declared.error.ErrorNumber.TheVariants.{HeapBadDesc, HeapNotABlock}
 use Rattle.address_map.specs.Items.{size_of}
@@ -130,6 +129,7 @@ in_place_done e block change good = sized (block_sized e.store 0x01800000 block)
   tried size is last (Err f) done = inr refl
   tried size is last (Ok g) done =
       inl (last_done e g block change size is last (is_grown e g ((rma_base e.store + total_changed size change) - (size + 4)) good done))
+
   sized : (r : Result ℕ ErrorNumber) → block_sized e.store 0x01800000 block ≡ r
       → (let g : Estate = or_as_before e (grown_to e (end_in_place (rma_base e.store) block change r)) in
       (is_ok (resized g.store 0x01800000 block change) ≡ true) ⊎ (g ≡ e))

@@ -1,12 +1,11 @@
 -- The module area where it grows: how far its heap reaches then.
-use Rattle.std.proofs.Common.{◌≡◌, ℕ, ◌+◌, ◌-◌, ◌*◌, ◌/◌, ◌<◌, ◌≤◌, Bool, true, false, refl, sym, ap, subst, ◌∙◌, Some, None, Ok, Err, inl, inr, arith}
+use Rattle.std.proofs.Common.{◌≡◌, ℕ, ◌+◌, ◌-◌, ◌*◌, ◌/◌, ◌<◌, ◌≤◌, true, false, refl, sym, ap, subst, Some, None, Ok, Err, inl, inr, arith}
 use Rattle.std.specs.Prelude.{Option, Result, is_some, nat_le, nat_lt, min}
-use Rattle.std.proofs.lemmas.Bool.{cases_Bool, cases_lt, lt-ltb, le-ltb, le-leb, lt-leb, leb-true, leb-false, ltb-true, ltb-false}
+use Rattle.std.proofs.lemmas.Bool.{cases_Bool, lt-ltb, le-ltb, le-leb, lt-leb, leb-true, ltb-true, ltb-false}
 use Rattle.profile.specs.Outcome.{Leaves}
 use Rattle.profile.specs.declared.error.ErrorNumber.{ErrorNumber}
 use Rattle.profile.specs.declared.error.ErrorNumber.TheVariants.{AreaNoPages, RmaNoRoom}
 use Rattle.address_map.specs.Bytes.{in_range}
-use Rattle.address_map.specs.Items.{size_of}
 use Rattle.os_heap_lists.specs.Heap.{HeapList, AreTotals}
 use Rattle.os_heap.specs.Store.{Store, find_heap}
 use Rattle.dynamic_areas.specs.declared.area.Area.{Area}
@@ -19,7 +18,7 @@ use Rattle.dynamic_areas.proofs.GroundLemmas.{or_true}
 use Rattle.dynamic_areas.proofs.LandLemmas.{pages_counted}
 use Rattle.dynamic_areas.proofs.ModuleArea.{IsModuleArea, module_area_known, find_ended}
 use Rattle.dynamic_areas.proofs.RoomLemmas.{found_room}
-use Rattle.rma.specs.Calls.{area_pages, area_room, grown_by, grown_to, pages_short, room_in, with_pages_more}
+use Rattle.rma.specs.Calls.{area_pages, area_room, grown_to, pages_short, room_in, with_pages_more}
 
 -- the area, with its heap
 pub record HasArea (e : Estate) : Type 0 where

@@ -1,5 +1,5 @@
 -- Where a claim, and a change of a block's size, can't be refused.
-use Rattle.std.proofs.Common.{◌≡◌, ℕ, ◌+◌, ◌-◌, ◌*◌, ◌==◌, ◌<◌, ◌≤◌, ◌⊎◌, Bool, true, false, List, [], ◌∷◌, refl, sym, ap, subst, ◌∙◌, Some, None, Ok, Err, inl, inr, option_map, arith}
+use Rattle.std.proofs.Common.{◌≡◌, ℕ, ◌+◌, ◌-◌, ◌==◌, ◌≤◌, ◌⊎◌, true, false, List, [], ◌∷◌, refl, sym, ap, ◌∙◌, Some, None, Ok, Err, inl, inr, option_map, arith}
 use Rattle.std.specs.Prelude.{Option, Result, is_some, is_ok, ok_or, nat_le}
 use Rattle.std.proofs.lemmas.Bool.{cases_Bool, le-leb, eqb-true}
 use Rattle.profile.specs.Outcome.{bind}

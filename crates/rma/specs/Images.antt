@@ -1,6 +1,6 @@
 -- Module images in the module area: each is a live block there, recorded over all bytes that the block holds, which no heap call gives back or
 -- moves until the record goes (RISC OS 3 Programmer's Reference Manual, "OS_Module", reasons 1, 4 and 11).
-use Rattle.std.specs.Prelude.{ℕ, Result, Ok, Err, List, [], ◌∷◌, ◌++◌}
+use Rattle.std.specs.Prelude.{ℕ, Result, Ok, Err, [], ◌∷◌, ◌++◌}
 use Rattle.profile.specs.declared.error.ErrorNumber.{ErrorNumber}
 use Rattle.address_map.specs.declared.region.Kind.TheVariants as kind
 use Rattle.address_map.specs.Records.{without_region}

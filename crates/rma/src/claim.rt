@@ -56,9 +56,10 @@ fn claim_grown(map: &mut AddressMap, areas: &mut Areas, size: u32) -> Result<u32
     ensures classes { AreClasses map.new }
     ensures places { KeepsPlaces map.old map.new }
 {
-    let end = u64::from(Heaps::new().base(map, RMA_START)) + total_for(size);
+    let heaps = Heaps::new();
+    let end = u64::from(heaps.base(map, RMA_START)) + total_for(size);
     grow_to(map, areas, end)?;
-    match Heaps::new().get(map, RMA_START, size).answer {
+    match heaps.get(map, RMA_START, size).answer {
         Ok(block) => Ok(block),
         Err(error) => Err(rma_error(error)),
     }

@@ -1,4 +1,4 @@
-use Rattle.std.proofs.Common.{◌≡◌, ◌+◌, Ok, Err, arith}
+use Rattle.std.proofs.Common.{◌≡◌, ◌+◌, Ok, arith}
 use Rattle.os_heap.specs.Calls.{got}
 use Rattle.os_heap.specs.Store.{store_of}
 use Rattle.dynamic_areas.specs.Ground.{Estate, estate_of}

@@ -1,4 +1,4 @@
-use Rattle.std.proofs.Common.{arith, sym, Ok}
+use Rattle.std.proofs.Common.{arith}
 use Rattle.dynamic_areas.proofs.RoomLemmas.{held_small}
 use Rattle.rma.proofs.growth.area_size.Goals as goal
 

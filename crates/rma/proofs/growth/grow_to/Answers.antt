@@ -1,4 +1,4 @@
-use Rattle.std.proofs.Common.{◌≡◌, ◌≤◌, ◌<◌, ◌+◌, ◌-◌, ◌*◌, true, false, refl, sym, ap, ◌∙◌, Ok, Err, arith}
+use Rattle.std.proofs.Common.{◌≡◌, ◌≤◌, ◌<◌, ◌-◌, ◌*◌, true, false, refl, sym, ap, ◌∙◌, arith}
 use Rattle.std.specs.Prelude.{is_some}
 use Rattle.std.proofs.lemmas.Bool.{lt-ltb}
 use Rattle.address_map.specs.Memory.{free_pages, is_mapped}
@@ -7,7 +7,7 @@ use Rattle.dynamic_areas.specs.declared.area.Changed.{Changed}
 use Rattle.dynamic_areas.specs.Changing.{is_growth, growth_room}
 use Rattle.dynamic_areas.specs.Creating.{pages_for}
 use Rattle.dynamic_areas.specs.Ground.{Estate, estate_of}
-use Rattle.rma.specs.Calls.{area_pages, grown_to, with_pages_more}
+use Rattle.rma.specs.Calls.{area_pages}
 use Rattle.rma.proofs.GrowthLemmas.{HasArea, area_there, error_none, error_there, far_refused, growth_done, growth_refused, grown_not, is_changed, mapped_more, measured}
 use Rattle.rma.proofs.growth.grow_to.Goals as goal
 

@@ -1,4 +1,4 @@
-use Rattle.std.proofs.Common.{◌≡◌, ◌+◌, ℕ, true, false, sym, ap, subst, ◌∙◌, Ok, Err}
+use Rattle.std.proofs.Common.{◌≡◌, ◌+◌, sym, ap, subst, ◌∙◌}
 use Rattle.profile.specs.Outcome.{Gives}
 use Rattle.os_heap_lists.specs.Lists.{total_for}
 use Rattle.os_heap.specs.Calls.{got}

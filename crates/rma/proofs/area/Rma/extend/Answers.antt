@@ -1,4 +1,4 @@
-use Rattle.std.proofs.Common.{◌≡◌, ◌+◌, ℕ, true, false, sym, ap, subst, ◌∙◌, inl, inr, Ok, Err}
+use Rattle.std.proofs.Common.{◌≡◌, true, sym, ap, subst, ◌∙◌, inl, inr, Ok, Err}
 use Rattle.std.specs.Prelude.{is_ok}
 use Rattle.profile.specs.Outcome.{Gives}
 use Rattle.os_heap.specs.Calls.{block_sized, resized}

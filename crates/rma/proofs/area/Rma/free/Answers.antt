@@ -1,4 +1,3 @@
-use Rattle.std.proofs.Common.{sym}
 use Rattle.os_heap.specs.Calls.{gave_back}
 use Rattle.os_heap.specs.Store.{store_of}
 use Rattle.dynamic_areas.proofs.HeapCalls.{areas_written}
