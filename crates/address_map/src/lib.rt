@@ -17,7 +17,7 @@ pub mod view;
 pub use class::Class;
 pub use item::Item;
 pub use map::AddressMap;
-pub use region::{Kind, Region};
+pub use region::{Kind, Region, do_meet};
 pub use view::View;
 
 #[cfg(test)]

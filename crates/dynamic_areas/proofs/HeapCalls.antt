@@ -1,11 +1,11 @@
 -- After calls on the heaps the areas stand as they stood: a heap call changes no mapping and no other record, and the module area's heap keeps its end.
-use Rattle.std.proofs.Common.{◌≡◌, ℕ, ◌+◌, ◌-◌, ◌*◌, ◌%◌, ◌==◌, ◌&&◌, Bool, true, false, List, [], ◌∷◌, ◌++◌, refl, sym, ap, subst, ◌∙◌, Some, None, Ok, Err, inl, inr}
+use Rattle.std.proofs.Common.{◌≡◌, ℕ, ◌+◌, ◌-◌, ◌*◌, ◌%◌, ◌==◌, ◌&&◌, Bool, true, false, List, [], ◌∷◌, ◌++◌, refl, sym, ap, subst, ◌∙◌, Some, None, Ok, Err, inl, inr, arith}
 use Rattle.std.specs.Prelude.{Option, Result, ok_or, is_some, nat_le, nat_lt}
 use Rattle.std.proofs.lemmas.Bool.{cases_Bool, eqb-true, eq-eqb, false≢true}
 use Rattle.profile.specs.Outcome.{bind, Gives}
 use Rattle.profile.specs.declared.error.ErrorNumber.{ErrorNumber}
 use Rattle.profile.specs.declared.error.ErrorNumber.TheVariants.{HeapBadDesc}
-use Rattle.address_map.specs.Bytes.{Bytes, in_range}
+use Rattle.address_map.specs.Bytes.{Bytes, in_range, AreMapped}
 use Rattle.address_map.specs.Memory.{Layout, Mapping, bytes_of, regions, layout, mapping, is_mapped, place, free_pages}
 use Rattle.address_map.specs.Records.{is_heap_kind}
 use Rattle.address_map.specs.declared.map.AddressMap.{AddressMap}
@@ -22,6 +22,7 @@ use Rattle.dynamic_areas.specs.declared.area.Area.{Area}
 use Rattle.dynamic_areas.specs.Areas.{Land}
 use Rattle.dynamic_areas.specs.Ground.{AreAreas, EndsWithArea}
 use Rattle.dynamic_areas.proofs.GroundLemmas.{or_true}
+use Rattle.dynamic_areas.proofs.Remapped.{here}
 
 -- the heap of the module area keeps its kind and its end
 abbrev pub KeepsEnd : List HeapList → List HeapList → Type 0
@@ -192,3 +193,7 @@ module _ (m n : AddressMap) (l : Land) (areas : AreAreas (store_of m) (free_page
 pub system_mapped : (s : Store) (free : ℕ) (l : Land) → AreAreas s free l → (a : ℕ) → in_range 0x01C00000 0x3000 a ≡ true → s.bytes.mapped a ≡ true
 system_mapped s free l areas a inside =
     areas.ground.land a ∙ rw (inside, or_true (in_range 0x8000 (4096 * l.sizes.app) a)) refl
+
+pub system_room : (s : Store) (free : ℕ) (l : Land) → AreAreas s free l → AreMapped s.bytes.mapped 0x01C02100 256
+system_room s free l areas a low high =
+    system_mapped s free l areas a (here 0x01C00000 0x3000 a (omega arith) (omega arith))

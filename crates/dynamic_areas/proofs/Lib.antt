@@ -1,3 +1,4 @@
+pub mod Choices
 pub mod ClassLemmas
 pub mod GroundLemmas
 pub mod HeapBase
