@@ -1,6 +1,6 @@
 -- What is found in the list of modules (RISC OS 3 Programmer's Reference Manual, "OS_Module", reasons 12 and 18, and "Modules", "SWI chunk base
 -- number"). Modules and instances are numbered by their places in the lists, from 0.
-use Rattle.std.specs.Prelude.{ℕ, Bool, not, ◌+◌, ◌-◌, ◌%◌, ◌==◌, ◌&&◌, nat_lt, List, [], ◌∷◌, length, Option, Some, None, option_map, ok_or, slice_get, Result, Ok, if◌then◌else◌}
+use Rattle.std.specs.Prelude.{ℕ, Bool, not, ◌+◌, ◌-◌, ◌%◌, ◌==◌, ◌&&◌, nat_lt, List, length, Option, Some, None, option_map, ok_or, slice_get, Result, Ok, if◌then◌else◌}
 use Rattle.std.specs.List.{position}
 use Rattle.profile.specs.Outcome.{bind}
 use Rattle.profile.specs.declared.error.ErrorNumber.{ErrorNumber}

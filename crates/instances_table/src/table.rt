@@ -6,7 +6,8 @@ ghost use Rattle.instances_table.specs.Changes.{holds};
 ghost use Rattle.instances_table.specs.Lookup.{number_of_title, number_of_call, place_meant, looked_up, information, instance_in, slot_in, slot_within, place_of_slot, told_of_module, told_of_place};
 
 use crate::loaded::{
-    Loaded, MOST_INSTANCES, name_at, number_of_call, number_of_slot, number_of_title, place_of_slot,
+    Loaded, MOST_INSTANCES, loaded_at, name_at, number_of_call, number_of_slot, number_of_title,
+    place_of_slot,
 };
 use crate::names::{FullName, name_of};
 use crate::parts::{Information, InstanceInfo, ModuleInfo, Name, Place};
@@ -205,7 +206,6 @@ impl InstanceTable {
         })
     }
 
-    #[tactic(auto, using(crate::proofs::ViewLemmas::holding_view))]
     fn number_of_slot(&self, slot: u32) -> Option<usize>
         ensures value { result ≡ position (has_instance slot) self.now }
         ensures few { IfSome result (λ number. number < 64) }
@@ -218,7 +218,7 @@ impl InstanceTable {
         ensures value { result ≡ slot_within slot (slice_get self.now number) }
         ensures few { IfSome result (λ i. i < 64) }
     {
-        let loaded = self.modules.as_slice().get(number)?;
+        let loaded = loaded_at(self.modules.as_slice(), number)?;
         place_of_slot(loaded.slots.as_slice(), slot)
     }
 

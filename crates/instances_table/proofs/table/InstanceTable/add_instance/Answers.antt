@@ -3,7 +3,7 @@ use Rattle.std.proofs.lemmas.List.{length-map}
 use Rattle.instances_table.specs.Table.{module_of}
 use Rattle.instances_table.proofs.ModuleLemmas.{instance_added}
 use Rattle.instances_table.proofs.ViewLemmas.{added_view, room_view}
-use Rattle.instances_table.proofs.editing.InstanceTable.add_instance.Goals as goal
+use Rattle.instances_table.proofs.table.InstanceTable.add_instance.Goals as goal
 
 pub push_slot-requires-clause-room : goal.push_slot-requires-clause-room
 push_slot-requires-clause-room c = λ d.

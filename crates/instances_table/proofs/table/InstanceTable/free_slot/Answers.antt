@@ -1,7 +1,7 @@
 use Rattle.std.proofs.Common.{◌≡◌, ◌-◌, ◌+◌, ◌<◌, true, refl, sym, ◌∙◌, arith}
 use Rattle.instances_table.specs.Changes.{free_slot, is_held}
 use Rattle.instances_table.proofs.SlotLemmas.{free_passed}
-use Rattle.instances_table.proofs.editing.InstanceTable.free_slot.Goals as goal
+use Rattle.instances_table.proofs.table.InstanceTable.free_slot.Goals as goal
 
 pub loop-slot-init : goal.loop-slot-init
 unfolding free_slot

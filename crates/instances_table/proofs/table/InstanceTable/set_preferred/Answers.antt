@@ -1,5 +1,5 @@
 use Rattle.instances_table.proofs.ModuleLemmas.{other_preferred}
-use Rattle.instances_table.proofs.editing.InstanceTable.set_preferred.Goals as goal
+use Rattle.instances_table.proofs.table.InstanceTable.set_preferred.Goals as goal
 
 pub invariant_of-self : goal.invariant_of-self
 invariant_of-self c =

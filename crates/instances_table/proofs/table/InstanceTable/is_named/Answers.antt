@@ -3,7 +3,7 @@ use Rattle.std.specs.Prelude.{slice_get}
 use Rattle.std.proofs.lemmas.Option.{slice_get-map}
 use Rattle.instances_table.specs.Table.{module_of}
 use Rattle.instances_table.proofs.ViewLemmas.{named_view}
-use Rattle.instances_table.proofs.editing.InstanceTable.is_named.Goals as goal
+use Rattle.instances_table.proofs.table.InstanceTable.is_named.Goals as goal
 
 pub returns-in-Some : goal.returns-in-Some
 returns-in-Some c =

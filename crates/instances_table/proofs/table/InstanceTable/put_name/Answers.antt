@@ -1,7 +1,7 @@
 use Rattle.std.proofs.Common.{◌<◌, length, refl, arith}
 use Rattle.instances_table.proofs.RenameLemmas.{other_name}
 use Rattle.instances_table.proofs.ViewLemmas.{modules_named}
-use Rattle.instances_table.proofs.editing.InstanceTable.put_name.Goals as goal
+use Rattle.instances_table.proofs.table.InstanceTable.put_name.Goals as goal
 
 pub invariant_of-self : goal.invariant_of-self
 invariant_of-self c =

@@ -5,7 +5,7 @@ use Rattle.instances_table.specs.Table.{module_of, modules_of}
 use Rattle.instances_table.proofs.ModuleLemmas.{module_added, new_parts}
 use Rattle.instances_table.proofs.RoomLemmas.{room_for_module}
 use Rattle.instances_table.proofs.ViewLemmas.{put_view}
-use Rattle.instances_table.proofs.editing.InstanceTable.push_module.Goals as goal
+use Rattle.instances_table.proofs.table.InstanceTable.push_module.Goals as goal
 
 pub push-requires : goal.push-requires
 push-requires c =

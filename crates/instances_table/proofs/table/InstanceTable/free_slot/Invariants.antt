@@ -1,6 +1,6 @@
 use Rattle.std.proofs.Common.{◌≡◌, ◌-◌}
 use Rattle.instances_table.specs.Changes.{free_slot, lowest_free}
-use Rattle.instances_table.proofs.editing.InstanceTable.free_slot.Given as goal
+use Rattle.instances_table.proofs.table.InstanceTable.free_slot.Given as goal
 
 -- all slots so far are held
 abbrev pub invariant-loop-slot : goal.invariant-loop-slot
