@@ -11,14 +11,14 @@ pub mod heaps;
 pub mod init;
 pub mod laws;
 mod links;
-mod marks;
+pub mod marks;
 mod refit;
 mod relocate;
 pub mod resize;
 pub mod size;
 mod sums;
 mod walk;
-mod words;
+pub mod words;
 
 pub use address_map::Item;
 pub use blocks::Blocks;
