@@ -69,7 +69,7 @@ with_slid s h movable =
     let at : ℕ = h.start + 16 in
     let items : List Item = slid (is_listed movable) at at h.items in
     let bytes : ℕ → ℕ = slid_bytes (is_listed movable) at at h.items s.bytes.at in
-    record {
+    record s {
       bytes = record { mapped = s.bytes.mapped; at = with_heap bytes h.start h.end items };
       heaps = with_items h.start items s.heaps;
       others = moved_regions (moves_of (is_listed movable) at at h.items) s.others;

@@ -1,8 +1,8 @@
-ghost use Rattle.std.specs.Prelude.{ℕ, List, [], ◌≡◌, ◌≤◌, ◌<◌, ◌+◌, ◌^◌, length};
+ghost use Rattle.std.specs.Prelude.{ℕ, List, [], ◌≡◌, ◌≢◌, ◌≤◌, ◌<◌, ◌+◌, ◌++◌, ◌^◌, length};
 ghost use Rattle.address_map.specs.Bytes.{word_at};
 ghost use Rattle.address_map.specs.Memory.{byte_at};
 ghost use Rattle.os_heap.specs.Outcomes.{HasHeapAt, items_at};
-ghost use Rattle.os_heap_slide.specs.Slide.{AreBlocks, begins, place_of, without_first};
+ghost use Rattle.os_heap_slide.specs.Slide.{AreBlocks, begins, move_of, place_of, without_first};
 ghost use Rattle.os_heap_slide.specs.Steps.{IsAllSlid, IsSliding};
 
 use crate::items::{Cursor, lay, pass_free};
@@ -28,13 +28,8 @@ pub(crate) fn slide_items(map: &mut AddressMap, heap: u32, movable: &[u32]) -> M
         } else {
             let total = word(map, cursor.at);
             let (to, rest) = place(&cursor, left);
-            if to != cursor.at {
-                moves.push(Move {
-                    from: cursor.at + 4,
-                    to: to + 4,
-                });
-            }
             left = rest;
+            add_move(&mut moves, cursor.at, to);
             cursor = lay(map, heap, &cursor, to, total);
         }
     }
@@ -68,5 +63,20 @@ fn place<'a>(cursor: &Cursor, left: &'a [u32]) -> (u32, &'a [u32])
     match left.split_first() {
         Some((first, rest)) if *first == cursor.at + 4 => (cursor.top, rest),
         _ => (cursor.at, left),
+    }
+}
+
+/// Adds the block of an item at `at` that goes to `to`, where that is another place.
+fn add_move(moves: &mut Moves, at: u32, to: u32)
+    requires room { to ≢ at → length moves.old.items < 128 }
+    requires low { to ≤ at }
+    requires fits { at + 4 < 2 ^ 32 }
+    ensures { moves.new.items ≡ moves.old.items ++ move_of at to }
+{
+    if to != at {
+        moves.push(Move {
+            from: at + 4,
+            to: to + 4,
+        });
     }
 }
