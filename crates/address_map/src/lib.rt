@@ -19,7 +19,7 @@ pub use class::Class;
 pub use follow::{Move, moved_to};
 pub use item::Item;
 pub use map::AddressMap;
-pub use region::{Kind, Region};
+pub use region::{Kind, Region, do_meet};
 pub use view::View;
 
 #[cfg(test)]

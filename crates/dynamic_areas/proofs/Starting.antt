@@ -4,8 +4,7 @@ use Rattle.std.specs.Prelude.{is_some}
 use Rattle.std.proofs.lemmas.Bool.{le-ltb, and_right}
 use Rattle.profile.specs.Sizes.{Sizes, AreGood}
 use Rattle.address_map.specs.declared.map.AddressMap.{AddressMap}
-use Rattle.address_map.specs.declared.region.Region.{Region}
-use Rattle.address_map.specs.declared.region.Kind.TheVariants.{Heap, Rma, SystemPage}
+use Rattle.address_map.specs.declared.region.Kind.TheVariants.{Heap, Rma}
 use Rattle.address_map.specs.Bytes.{in_range}
 use Rattle.address_map.specs.Memory.{Mapping, mapping, is_mapped, byte_at, bytes_of, regions, free_pages, class_of}
 use Rattle.address_map.specs.declared.class.Class.TheVariants as class
@@ -17,7 +16,7 @@ use Rattle.os_heap.proofs.Added.{records_room}
 use Rattle.os_heap.proofs.Frame.{classes_empty, classes_same}
 use Rattle.os_heap.proofs.Recorded.{store_recorded, recorded_sound}
 use Rattle.dynamic_areas.specs.Areas.{start_land}
-use Rattle.dynamic_areas.specs.Ground.{AreAreas, is_fixed, is_land}
+use Rattle.dynamic_areas.specs.Ground.{AreAreas, is_fixed, is_land, system_pages}
 use Rattle.dynamic_areas.proofs.GroundLemmas.{or_true}
 use Rattle.dynamic_areas.proofs.ModuleArea.{region_known}
 use Rattle.dynamic_areas.proofs.Remapped.{here, range_low}
@@ -43,9 +42,6 @@ may_begin_area m s good none mapped =
       clear = rw none refl;
       room = rw none (refl, refl);
     }
-
-abbrev system_pages : Region
-system_pages = record { kind = SystemPage; at = 0x01C00000; len = 0x3000 }
 
 abbrev start_heap : Sizes → HeapList
 start_heap s = record { kind = Rma; start = 0x01800000; end = 4096 * s.rma; items = [] }
@@ -86,7 +82,7 @@ start_areas m n o s good none mapped pool begun sound map_n records map_o bytes 
         );
         sound = kept;
       };
-      heap = rw heaps refl;
+      heap = rw heaps (refl, refl);
     })
 
 pub start_room : (m n : AddressMap) (s : Sizes) → regions m ≡ [] → store_of n ≡ begun_with Rma (store_of m) 0x01800000 (4096 * s.rma) → IsSound (store_of n)

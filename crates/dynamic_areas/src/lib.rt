@@ -6,6 +6,7 @@ pub mod areas;
 pub mod change;
 pub mod create;
 mod gaps;
+pub mod laws;
 pub mod measure;
 pub mod remove;
 mod table;

@@ -1,0 +1,5 @@
+pub mod Calls
+pub mod Carrying
+pub mod Code
+pub mod Laws
+pub mod Plans
