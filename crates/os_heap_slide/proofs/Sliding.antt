@@ -46,6 +46,21 @@ word_behind f g at p same low =
 size_split : (items passed rest : List Item) → items ≡ passed ++ rest → size_of items ≡ size_of passed + size_of rest
 size_split items passed rest split = ap size_of split ∙ size_of-append passed rest
 
+-- A walk over the items that `m` spells, in a memory `n` whose bytes are the same from the next one on.
+pub record IsPlaced (m n : AddressMap) (start at free : ℕ) : Type 0 where
+  pub passed : List Item
+  pub rest : List Item
+  pub split : items_at m start ≡ passed ++ rest
+  pub place : at ≡ start + 16 + size_of passed
+  pub next : free ≡ next_free at rest 0
+  pub same : layout n ≡ layout m
+  pub behind : (a : ℕ) → at ≤ a → byte_at n a ≡ byte_at m a
+
+placed : (m n : AddressMap) (start : ℕ) (movable left : List ℕ) (moves : List Move) (from top at free : ℕ)
+    → IsSliding m n start movable left moves from top at free → IsPlaced m n start at free
+placed m n start movable left moves from top at free s =
+    record { passed = s.passed; rest = s.rest; split = s.split; place = s.place; next = s.next; same = s.same; behind = s.behind }
+
 -- The slide is at a free item.
 pub record AtFree (m n : AddressMap) (start at : ℕ) (rest : List Item) : Type 0 where
   pub total : ℕ
@@ -56,10 +71,9 @@ pub record AtFree (m n : AddressMap) (start at : ℕ) (rest : List Item) : Type 
   pub onward : linked at (word_at (byte_at n) at) ≡ next_free (at + total) after 0
   pub here : IsFreeHere n start at
 
-pub at_free : (m n : AddressMap) (start : ℕ) (movable left : List ℕ) (moves : List Move) (from top at free : ℕ)
-    → (s : IsSliding m n start movable left moves from top at free) → HasHeapAt m start → at < start + word_at (byte_at m) (start + 8) → at ≡ free
-    → AtFree m n start at s.rest
-at_free m n start movable left moves from top at free s heap below here = by_rest s.rest refl where
+pub free_at : (m n : AddressMap) (start at free : ℕ) → (s : IsPlaced m n start at free) → HasHeapAt m start
+    → at < start + word_at (byte_at m) (start + 8) → at ≡ free → AtFree m n start at s.rest
+free_at m n start at free s heap below here = by_rest s.rest refl where
   by_rest : (rest : List Item) → s.rest ≡ rest → AtFree m n start at s.rest
   by_rest [] e = absurd (omega (arith, below, heap.base, s.place, size_split (items_at m start) s.passed [] (s.split ∙ ap (λ (ys : List Item). s.passed ++ ys) e)))
   by_rest (Live t ∷ xs) e =
@@ -88,6 +102,12 @@ at_free m n start movable left moves from top at free s heap below here = by_res
         };
       }
 
+pub at_free : (m n : AddressMap) (start : ℕ) (movable left : List ℕ) (moves : List Move) (from top at free : ℕ)
+    → (s : IsSliding m n start movable left moves from top at free) → HasHeapAt m start → at < start + word_at (byte_at m) (start + 8) → at ≡ free
+    → AtFree m n start at s.rest
+at_free m n start movable left moves from top at free s heap below here =
+    free_at m n start at free (placed m n start movable left moves from top at free s) heap below here
+
 -- The slide is at a live item.
 pub record AtLive (m n : AddressMap) (start at : ℕ) (rest : List Item) : Type 0 where
   pub total : ℕ
@@ -96,10 +116,9 @@ pub record AtLive (m n : AddressMap) (start at : ℕ) (rest : List Item) : Type 
   pub facts : LiveFacts m start (end_at m start) at total after
   pub word : word_at (byte_at n) at ≡ total
 
-pub at_live : (m n : AddressMap) (start : ℕ) (movable left : List ℕ) (moves : List Move) (from top at free : ℕ)
-    → (s : IsSliding m n start movable left moves from top at free) → HasHeapAt m start → at < start + word_at (byte_at m) (start + 8) → at ≢ free
-    → AtLive m n start at s.rest
-at_live m n start movable left moves from top at free s heap below other = by_rest s.rest refl where
+pub live_at : (m n : AddressMap) (start at free : ℕ) → (s : IsPlaced m n start at free) → HasHeapAt m start
+    → at < start + word_at (byte_at m) (start + 8) → at ≢ free → AtLive m n start at s.rest
+live_at m n start at free s heap below other = by_rest s.rest refl where
   by_rest : (rest : List Item) → s.rest ≡ rest → AtLive m n start at s.rest
   by_rest [] e = absurd (omega (arith, below, heap.base, s.place, size_split (items_at m start) s.passed [] (s.split ∙ ap (λ (ys : List Item). s.passed ++ ys) e)))
   by_rest (Free t ∷ xs) e = absurd (other (sym (s.next ∙ ap (λ (ys : List Item). next_free at ys 0) e)))
@@ -113,6 +132,12 @@ at_live m n start movable left moves from top at free s heap below other = by_re
         facts = facts;
         word = word_behind (byte_at m) (byte_at n) at at s.behind (omega arith) ∙ facts.total_word;
       }
+
+pub at_live : (m n : AddressMap) (start : ℕ) (movable left : List ℕ) (moves : List Move) (from top at free : ℕ)
+    → (s : IsSliding m n start movable left moves from top at free) → HasHeapAt m start → at < start + word_at (byte_at m) (start + 8) → at ≢ free
+    → AtLive m n start at s.rest
+at_live m n start movable left moves from top at free s heap below other =
+    live_at m n start at free (placed m n start movable left moves from top at free s) heap below other
 
 -- An item was passed, whose words are no heads any more, and items were laid in its place or below it.
 step_word : (before made passed given : Bool) (old mid new : Class) → mid ≡ marked before passed old → new ≡ marked made given mid
