@@ -4,7 +4,8 @@ use Rattle.std.proofs.lemmas.Bool.{false≢true}
 use Rattle.std.proofs.lemmas.List.{length-map}
 use Rattle.address_map.proofs.Bytes.{byte_at-lt, is_mapped-layout}
 use Rattle.address_map.proofs.Stores.{in_range-cases}
-use Rattle.address_map.specs.Bytes.{Bytes, in_range}
+use Rattle.address_map.specs.Bytes.{Bytes, in_range, word_start}
+use Rattle.address_map.specs.Classes.{is_heap_class}
 use Rattle.address_map.specs.Items.{size_of}
 use Rattle.address_map.specs.Memory.{byte_at, bytes_of, class_of, is_mapped, layout, mapping, regions}
 use Rattle.address_map.specs.Moves.{AreDown, moved_region, moved_regions}
@@ -15,10 +16,11 @@ use Rattle.address_map.specs.declared.map.AddressMap.{AddressMap}
 use Rattle.address_map.specs.declared.region.Region.{Region}
 use Rattle.os_heap_lists.proofs.HeapWords.{outside_before, outside_past, part_back}
 use Rattle.os_heap_lists.specs.Heap.{AreTotals, HeapList, IsHeapIn, with_heap}
-use Rattle.os_heap_lists.specs.Marks.{class_by, Remarks}
+use Rattle.os_heap_lists.specs.Marks.{Remarks, spells_any}
 use Rattle.os_heap_lists.specs.Words.{AreApart, IsOutside}
 use Rattle.os_heap.proofs.Found.{found_heap, found_start}
-use Rattle.os_heap.proofs.Held.{marks_held}
+use Rattle.os_heap.proofs.FlexWords.{AreSameFlex, flex_held, flex_on, same_flex}
+use Rattle.os_heap.proofs.Held.{heads_marked, marks_held}
 use Rattle.os_heap.proofs.Stores.{are_others, AreOthers, IsHeld, layout-regions, parts_held, places-held, read_parts, same_limits}
 use Rattle.os_heap.specs.Calls.{OfHeap, with_items}
 use Rattle.os_heap.specs.Outcomes.{end_at, HasHeapAt, items_at}
@@ -134,13 +136,13 @@ list_held m n q h movable old l =
 pub record IsSlidStore (m q : AddressMap) (h : HeapList) (movable : List ℕ) : Type 0 where
   pub store : store_of q ≡ with_slid (store_of m) h movable
   pub sound : IsSound (store_of q)
-  pub classes : AreClasses m → AreClasses q
+  pub classes : AreClasses q
 
-pub slid_store : (m n q : AddressMap) (h : HeapList) (movable : List ℕ) (moves : List Move) → IsSound (store_of m) → find_heap h.start (store_of m).heaps ≡ Some h
+pub slid_store : (m n q : AddressMap) (h : HeapList) (movable : List ℕ) (moves : List Move) → IsSound (store_of m) → AreClasses m → find_heap h.start (store_of m).heaps ≡ Some h
     → IsHeapIn (bytes_of m) h.start h.end h.items → IsRead m h.start h.end h.items → IsAllSlid m n h.start movable moves → IsDone m n q moves
     → IsSlidStore m q h movable
 unfolding store_of
-slid_store m n q h movable moves sound found old is a d =
+slid_store m n q h movable moves sound classes found old is a d =
     let mv : ℕ → Bool = is_listed movable in
     let first : ℕ = h.start + 16 in
     let hs : List HeapList = heaps_in (bytes_of m) (regions m) in
@@ -158,7 +160,17 @@ slid_store m n q h movable moves sound found old is a d =
     ap (λ (ys : List Region). heaps_in (bytes_of q) ys) l.records ∙ heaps_moved (bytes_of q) (moves_in h movable) (regions m)
     ∙ read_parts m q h (slid_in h movable) (regions m) held others sound.heaps in
     let records : others_in (regions q) ≡ moved_regions (moves_in h movable) rs = ap others_in l.records ∙ others_moved (moves_in h movable) (regions m) in
-    let store : store_of q ≡ with_slid (store_of m) h movable = λ i. record { bytes = bytes i; heaps = heaps i; others = records i } in
+    let flex : AreSameFlex (class_of m) (class_of n) =
+    flex_held (class_of m) (class_of n) first h.items (slid_in h movable) (heads_marked (class_of m) hs h classes found) l.marks
+    (λ a is. record { anchor = sound.anchors a; header = sound.headers a }) in
+    let same : AreSameFlex (class_of m) (class_of q) = flex_on (class_of m) (class_of n) (class_of q) flex (same_flex (class_of n) (class_of q) d.marks) in
+    let store : store_of q ≡ with_slid (store_of m) h movable = λ i. record {
+      bytes = bytes i;
+      heaps = heaps i;
+      others = records i;
+      anchor = λ a. same.anchors a i;
+      header = λ a. same.headers a i;
+    } in
     let parts : AreHeapsIn (bytes_of q) (with_items h.start (slid_in h movable) hs) = parts_held m q h (slid_in h movable) hs held others sound.heaps in
     let now : IsSound (with_slid (store_of m) h movable) = record {
       heaps = subst (λ (b : Bytes). AreHeapsIn b (with_items h.start (slid_in h movable) hs)) bytes parts;
@@ -166,27 +178,29 @@ slid_store m n q h movable moves sound found old is a d =
       placed = all_placed (bytes_of m) (bytes_of q) h hs movable rs s sound.heaps others found sound.placed;
       apart = ranges_apart (bytes_of m) (bytes_of q) h hs movable rs s sound.heaps others found sound.placed sound.apart;
       few = rw (length-map rs (λ (r : Region). moved_region (moves_in h movable) r)) sound.few;
+      anchors = sound.anchors;
+      headers = sound.headers;
     } in
     record {
       store = store;
       sound = subst IsSound (sym store) now;
-      classes = λ same a. ap (λ (f : ℕ → Class). f a) d.marks
-          ∙ marks_held (bytes_of m) (class_of m) (class_of n) h (slid_in h movable) hs sound.heaps found same l.marks a
-          ∙ ap (λ (gs : List HeapList). class_by gs a) (sym heaps);
+      classes = λ a. ap (λ (f : ℕ → Class). is_heap_class (f a)) d.marks
+          ∙ marks_held (bytes_of m) (class_of m) (class_of n) h (slid_in h movable) hs sound.heaps found classes l.marks a
+          ∙ ap (λ (gs : List HeapList). spells_any gs (word_start a)) (sym heaps);
     }
 
 -- the same of the heap at its address
-pub done_here : (m n q : AddressMap) (heap : ℕ) (movable : List ℕ) (moves : List Move) → IsSound (store_of m) → (k : Here m heap movable)
+pub done_here : (m n q : AddressMap) (heap : ℕ) (movable : List ℕ) (moves : List Move) → IsSound (store_of m) → AreClasses m → (k : Here m heap movable)
     → IsAllSlid m n heap movable moves → IsDone m n q moves → IsSlidStore m q k.h movable
-done_here m n q heap movable moves sound k a d =
-    slid_store m n q k.h movable moves sound (subst (λ (x : ℕ). find_heap x (store_of m).heaps ≡ Some k.h) (sym k.start) k.found) k.spelled k.is
+done_here m n q heap movable moves sound classes k a d =
+    slid_store m n q k.h movable moves sound classes (subst (λ (x : ℕ). find_heap x (store_of m).heaps ≡ Some k.h) (sym k.start) k.found) k.spelled k.is
     (subst (λ (x : ℕ). IsAllSlid m n x movable moves) (sym k.start) a) d
 
-pub slid_here : (m n q : AddressMap) (heap : ℕ) (movable : List ℕ) (moves : List Move) → IsSound (store_of m) → Here m heap movable
+pub slid_here : (m n q : AddressMap) (heap : ℕ) (movable : List ℕ) (moves : List Move) → IsSound (store_of m) → AreClasses m → Here m heap movable
     → IsAllSlid m n heap movable moves → IsDone m n q moves → IsSlid (store_of m) heap movable (store_of q) moves
-slid_here m n q heap movable moves sound k a d =
+slid_here m n q heap movable moves sound classes k a d =
     let mv : ℕ → Bool = is_listed movable in
     let moved : moves ≡ moves_of mv (heap + 16) (heap + 16) (items_at m heap) = a.moved in
     let moved' : moves ≡ moves_of mv (k.h.start + 16) (k.h.start + 16) (items_at m k.h.start) =
     subst (λ (x : ℕ). moves ≡ moves_of mv (x + 16) (x + 16) (items_at m x)) (sym k.start) moved in
-    rw k.found ((done_here m n q heap movable moves sound k a d).store, moved' ∙ ap (λ (ys : List Item). moves_of mv (k.h.start + 16) (k.h.start + 16) ys) k.is.list)
+    rw k.found ((done_here m n q heap movable moves sound classes k a d).store, moved' ∙ ap (λ (ys : List Item). moves_of mv (k.h.start + 16) (k.h.start + 16) ys) k.is.list)

@@ -1,6 +1,6 @@
 -- The written machine: its core, its store (memory as a function from addresses to bytes, the lists of all heaps, and the other recorded
 -- ranges), how many pages are in the pool, what stands beside core and memory, and the halt that keeps it from further steps.
-use Rattle.std.specs.Prelude.{ℕ, ◌+◌, ◌-◌, ◌*◌, Option, None, List, [], ◌∷◌}
+use Rattle.std.specs.Prelude.{ℕ, ◌+◌, ◌-◌, ◌*◌, false, Option, None, List, [], ◌∷◌}
 use Rattle.profile.specs.declared.stop.Stop.{Stop}
 use Rattle.profile.specs.declared.stop.Stop.TheVariants as stop
 use Rattle.profile.specs.Sizes.{Sizes}
@@ -51,7 +51,13 @@ with_estate s e = record s { store = e.store; pool = e.pool; tables = record s.t
 -- The start. Mapped are the application space, the first pages of the module area and the three system pages, which are recorded; each mapped
 -- byte is 0 but for the module area's descriptor, since the machine makes an empty heap there. All other pages are in the pool.
 abbrev pub bare_store : Sizes → Store
-bare_store s = record { bytes = record { mapped = is_land (start_land s); at = λ _. 0 }; heaps = []; others = system_pages ∷ [] }
+bare_store s = record {
+  bytes = record { mapped = is_land (start_land s); at = λ _. 0 };
+  heaps = [];
+  others = system_pages ∷ [];
+  anchor = λ _. false;
+  header = λ _. false;
+}
 
 abbrev pub start_store : Sizes → Store
 start_store s = begun_with Rma (bare_store s) 0x01800000 (4096 * s.rma)

@@ -24,7 +24,7 @@ follow-requires c =
 
 pub returns-clause-slid : goal.returns-clause-slid
 returns-clause-slid c =
-    slid_here c.args.map.now c.slide_items-moves.new.map c.follow.new.self c.args.heap c.args.movable.now c.slide_items-moves.result.items c.requires.sound
+    slid_here c.args.map.now c.slide_items-moves.new.map c.follow.new.self c.args.heap c.args.movable.now c.slide_items-moves.result.items c.requires.sound c.requires.classes
     (here c.args.map.now c.args.heap c.args.movable.now c.requires.sound c.requires.movable) c.slide_items-moves.ensures
     (record {
       records = c.follow.ensures.regions ∙ ap (λ (ms : List Move). moved_regions ms (regions c.slide_items-moves.new.map)) c.as_slice.ensures.value;
@@ -35,7 +35,7 @@ returns-clause-slid c =
 
 pub returns-clause-sound : goal.returns-clause-sound
 returns-clause-sound c =
-    (done_here c.args.map.now c.slide_items-moves.new.map c.follow.new.self c.args.heap c.args.movable.now c.slide_items-moves.result.items c.requires.sound
+    (done_here c.args.map.now c.slide_items-moves.new.map c.follow.new.self c.args.heap c.args.movable.now c.slide_items-moves.result.items c.requires.sound c.requires.classes
     (here c.args.map.now c.args.heap c.args.movable.now c.requires.sound c.requires.movable) c.slide_items-moves.ensures
     (record {
       records = c.follow.ensures.regions ∙ ap (λ (ms : List Move). moved_regions ms (regions c.slide_items-moves.new.map)) c.as_slice.ensures.value;
@@ -46,7 +46,7 @@ returns-clause-sound c =
 
 pub returns-clause-classes : goal.returns-clause-classes
 returns-clause-classes c =
-    (done_here c.args.map.now c.slide_items-moves.new.map c.follow.new.self c.args.heap c.args.movable.now c.slide_items-moves.result.items c.requires.sound
+    (done_here c.args.map.now c.slide_items-moves.new.map c.follow.new.self c.args.heap c.args.movable.now c.slide_items-moves.result.items c.requires.sound c.requires.classes
     (here c.args.map.now c.args.heap c.args.movable.now c.requires.sound c.requires.movable) c.slide_items-moves.ensures
     (record {
       records = c.follow.ensures.regions ∙ ap (λ (ms : List Move). moved_regions ms (regions c.slide_items-moves.new.map)) c.as_slice.ensures.value;
