@@ -62,9 +62,10 @@ slide_fits mv top at (Free t ∷ xs) low =
 slide_fits mv top at (Live t ∷ xs) low =
     let place : ℕ = place_of (mv (at + 4)) top at in
     let bounds : (top ≤ place) × (place ≤ at) = between (mv (at + 4)) top at low in
-    let rest = slide_fits mv (place + t) (at + t) xs (omega (arith, bounds.1)) in
-    (laid_spaced (place - top) t (slid mv (place + t) (at + t) xs) rest.0,
-    omega (arith, size_of-old (place - top) t (slid mv (place + t) (at + t) xs), rest.1, bounds.0))
+    let rest = slide_fits mv (place + t) (at + t) xs (omega (arith, bounds.1)) in (
+      laid_spaced (place - top) t (slid mv (place + t) (at + t) xs) rest.0,
+      omega (arith, size_of-old (place - top) t (slid mv (place + t) (at + t) xs), rest.1, bounds.0),
+    )
 
 no_gap : (n : ℕ) → n ≡ 0 → left_free n ≡ []
 no_gap n none = rw (eq-eqb n 0 none) refl

@@ -107,7 +107,7 @@ moved_live mv top at (Live u ∷ xs) b t low totals live =
           moved_live mv (place + u) (at + u) xs b t (omega (arith, bounds.1)) totals.1 live' in
           let above = some_low _ (place + u) t (slid mv (place + u) (at + u) xs) rest in
           rw to (laid_later top place u (slid mv (place + u) (at + u) xs) _ bounds.0
-              (λ (e : moved_to (moves_of mv (place + u) (at + u) xs) b ≡ place + 4). omega (arith, above, least.0)) ∙ rest)
+          (λ (e : moved_to (moves_of mv (place + u) (at + u) xs) b ≡ place + 4). omega (arith, above, least.0)) ∙ rest)
     ]
 
 -- blocks keep their order

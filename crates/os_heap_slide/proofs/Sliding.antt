@@ -43,7 +43,7 @@ word_behind f g at p same low =
     rw (b0, b1, b2, b3) refl
 
 -- the place of the slide, and what is left of the items
-size_split : (items passed rest : List Item) → items ≡ passed ++ rest → size_of items ≡ size_of passed + size_of rest
+pub size_split : (items passed rest : List Item) → items ≡ passed ++ rest → size_of items ≡ size_of passed + size_of rest
 size_split items passed rest split = ap size_of split ∙ size_of-append passed rest
 
 -- A walk over the items that `m` spells, in a memory `n` whose bytes are the same from the next one on.
@@ -105,6 +105,7 @@ free_at m n start at free s heap below here = by_rest s.rest refl where
 pub at_free : (m n : AddressMap) (start : ℕ) (movable left : List ℕ) (moves : List Move) (from top at free : ℕ)
     → (s : IsSliding m n start movable left moves from top at free) → HasHeapAt m start → at < start + word_at (byte_at m) (start + 8) → at ≡ free
     → AtFree m n start at s.rest
+unfolding placed
 at_free m n start movable left moves from top at free s heap below here =
     free_at m n start at free (placed m n start movable left moves from top at free s) heap below here
 
@@ -136,6 +137,7 @@ live_at m n start at free s heap below other = by_rest s.rest refl where
 pub at_live : (m n : AddressMap) (start : ℕ) (movable left : List ℕ) (moves : List Move) (from top at free : ℕ)
     → (s : IsSliding m n start movable left moves from top at free) → HasHeapAt m start → at < start + word_at (byte_at m) (start + 8) → at ≢ free
     → AtLive m n start at s.rest
+unfolding placed
 at_live m n start movable left moves from top at free s heap below other =
     live_at m n start at free (placed m n start movable left moves from top at free s) heap below other
 
@@ -306,7 +308,7 @@ live_passed m n p start movable left moves from top at free to new_from s w goes
     }
 
 -- The slide is over.
-none_left : (start at : ℕ) (rest : List Item) → AreTotals rest → size_of rest ≡ 0 → rest ≡ []
+pub none_left : (start at : ℕ) (rest : List Item) → AreTotals rest → size_of rest ≡ 0 → rest ≡ []
 none_left start at [] totals size = refl
 none_left start at (Live t ∷ xs) totals size = absurd (omega (arith, total_facts t totals.0))
 none_left start at (Free t ∷ xs) totals size = absurd (omega (arith, total_facts t totals.0))

@@ -65,7 +65,11 @@ pub(crate) fn lay(map: &mut AddressMap, heap: u32, cursor: &Cursor, to: u32, tot
     map.move_bytes(cursor.at, to, total);
     set_down(map, heap, cursor, to, total);
     Cursor {
-        from: if to == cursor.top { cursor.from } else { cursor.top },
+        from: if to == cursor.top {
+            cursor.from
+        } else {
+            cursor.top
+        },
         top: to + total,
         at: cursor.at + total,
         free: cursor.free,

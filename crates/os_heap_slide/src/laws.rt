@@ -21,7 +21,6 @@ pub fn slides_leave_no_free_item()
 {}
 
 /// And the largest block that can be claimed is all that is free, without its length word.
-#[tactic(auto, using(crate::proofs::LawLemmas::slide_describes))]
 pub fn slides_join_free_room()
     ensures { SlideDescribes }
 {}

@@ -55,7 +55,7 @@ fn begin(map: &mut AddressMap, heap: u32) -> Cursor
 }
 
 /// Where the next live item goes, and the addresses of those that can be moved behind it.
-fn place<'a>(cursor: &Cursor, left: &'a [u32]) -> (u32, &'a [u32])
+pub(crate) fn place<'a>(cursor: &Cursor, left: &'a [u32]) -> (u32, &'a [u32])
     requires { cursor.now.at + 4 < 2 ^ 32 }
     ensures to { result.0 ≡ place_of (begins (cursor.now.at + 4) left.now) cursor.now.top cursor.now.at }
     ensures rest { result.1.now ≡ without_first (cursor.now.at + 4) left.now }
