@@ -1,7 +1,6 @@
 -- What each action of a plan does to the world, before its code runs; and the code that it runs (RISC OS 3 Programmer's Reference Manual, "Modules",
 -- "Initialisation entry point", "Finalisation entry point"). An action of a slot that no instance has does nothing to the list.
-use Rattle.std.specs.Prelude.{ℕ, Bool, true, false, ◌+◌, ◌==◌, List, [], ◌∷◌, ◌++◌, map, Option, Some, None, option_map, slice_get, if◌then◌else◌}
-use Rattle.dynamic_areas.specs.Ground.{Estate}
+use Rattle.std.specs.Prelude.{ℕ, Bool, true, false, ◌+◌, ◌==◌, List, Option, Some, None, slice_get, if◌then◌else◌}
 use Rattle.instances_plans.specs.declared.action.Action.{Action}
 use Rattle.instances_plans.specs.declared.action.Action.TheVariants as act
 use Rattle.instances_plans.specs.declared.code.Code.{Code}
