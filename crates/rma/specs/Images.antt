@@ -1,11 +1,11 @@
 -- Module images in the module area: each is a live block there, recorded over all bytes that the block holds, which no heap call gives back or
 -- moves until the record goes (RISC OS 3 Programmer's Reference Manual, "OS_Module", reasons 1, 4 and 11).
-use Rattle.std.specs.Prelude.{ℕ, Result, Ok, Err, [], ◌∷◌, ◌++◌}
+use Rattle.std.specs.Prelude.{ℕ, ◌≡◌, ◌<◌, true, length, Result, Ok, Err, [], ◌∷◌, ◌++◌}
 use Rattle.profile.specs.declared.error.ErrorNumber.{ErrorNumber}
 use Rattle.address_map.specs.declared.region.Kind.TheVariants as kind
 use Rattle.address_map.specs.Records.{without_region}
-use Rattle.os_heap.specs.Calls.{block_sized}
-use Rattle.os_heap.specs.Store.{Store}
+use Rattle.os_heap.specs.Calls.{OfHeap, block_sized}
+use Rattle.os_heap.specs.Store.{Store, find_heap, is_area}
 use Rattle.dynamic_areas.specs.Ground.{Estate}
 use Rattle.rma.specs.Calls.{with_store, rma_freed}
 
@@ -24,3 +24,8 @@ image_dropped s at = record s { others = without_region s.others kind.Image at }
 -- Any live block goes, an image too.
 unfoldable pub block_freed : Estate → ℕ → Result (Estate × Unit {0}) ErrorNumber
 block_freed e at = rma_freed (with_store e (image_dropped e.store at)) at
+
+-- a block of the store can become an image: the heap at the module area's place is that area's, and there is room for a record more
+pub record CanRecord (s : Store) : Type 0 where
+  pub area : OfHeap (λ h. is_area h.kind ≡ true) (find_heap 0x01800000 s.heaps)
+  pub room : length s.others < 68
