@@ -1,13 +1,13 @@
 -- Records of images in the module area: one more, and one less.
-use Rattle.std.proofs.Common.{◌≡◌, ◌≢◌, ℕ, ◌+◌, ◌-◌, ◌*◌, ◌==◌, ◌%◌, ◌^◌, ◌&&◌, ◌<◌, ◌≤◌, ◌⊎◌, Bool, true, false, List, [], ◌∷◌, ◌++◌, length, refl, sym, ap, subst, ◌∙◌, Some, None, Ok, Err, inl, inr, arith}
-use Rattle.std.specs.Prelude.{Option, Result, is_some}
+use Rattle.std.proofs.Common.{◌≡◌, ◌≢◌, ℕ, ◌+◌, ◌-◌, ◌==◌, ◌%◌, ◌&&◌, ◌<◌, ◌≤◌, Bool, true, false, List, [], ◌∷◌, ◌++◌, length, refl, sym, ap, subst, ◌∙◌, Some, None, Ok, inl, inr, arith}
+use Rattle.std.specs.Prelude.{Option, is_some}
 use Rattle.std.proofs.Common.{length-append}
-use Rattle.std.proofs.lemmas.Bool.{cases_Bool, both_ways, false_from_ne_true, false≢true, eq-eqb, le-leb, lt-ltb, or_parts, and_left}
+use Rattle.std.proofs.lemmas.Bool.{cases_Bool, both_ways, false_from_ne_true, false≢true, eq-eqb, le-leb, lt-ltb, or_parts}
 use Rattle.address_map.specs.Bytes.{Bytes, AreMapped, in_range}
 use Rattle.address_map.specs.Classes.{is_anchor, is_flex_header}
 use Rattle.address_map.specs.Items.{size_of}
-use Rattle.address_map.specs.Memory.{Mapping, byte_at, bytes_of, class_of, free_pages, is_mapped, mapping, regions}
-use Rattle.address_map.specs.Records.{IsRegion, are_same, is_heap_kind, is_record, without_region}
+use Rattle.address_map.specs.Memory.{Mapping, byte_at, bytes_of, class_of, free_pages, mapping, regions}
+use Rattle.address_map.specs.Records.{are_same, is_heap_kind, is_record, without_region}
 use Rattle.address_map.specs.declared.map.AddressMap.{AddressMap}
 use Rattle.address_map.specs.declared.region.Kind.{Kind}
 use Rattle.address_map.specs.declared.region.Kind.TheVariants as kind
@@ -21,10 +21,10 @@ use Rattle.os_heap.proofs.Apart.{block_inside, one_block, range_parts}
 use Rattle.os_heap.proofs.Found.{found_heap, found_start}
 use Rattle.os_heap.proofs.Recorded.{IsClearOfAll, apart_other}
 use Rattle.os_heap.proofs.Stores.{AreOthers, are_others, clear_of-found}
-use Rattle.dynamic_areas.specs.Areas.{Land, find_area}
+use Rattle.dynamic_areas.specs.Areas.{Land}
 use Rattle.dynamic_areas.specs.Ground.{AreAreas, AreRangesMapped, Estate, IsEstate}
 use Rattle.rma.specs.Images.{CanRecord}
-use Rattle.rma.proofs.ExtendLemmas.{IsSized, LiesBelow, lies_below, sized_by}
+use Rattle.rma.proofs.ExtendLemmas.{IsSized, sized_by}
 use Rattle.rma.proofs.GrowthLemmas.{HasArea, area_there}
 
 -- the module area's heap of an estate is that area's

@@ -1,10 +1,9 @@
 -- A claim without growth, and the release of its block.
-use Rattle.std.proofs.Common.{◌≡◌, ℕ, ◌+◌, ◌-◌, true, false, List, refl, sym, ap, subst, ◌∙◌, Some, None, Ok, Err}
+use Rattle.std.proofs.Common.{◌≡◌, ℕ, ◌+◌, ◌-◌, true, false, refl, sym, subst, Some, None, Ok, Err}
 use Rattle.std.specs.Prelude.{Option, Result, ok_or}
 use Rattle.profile.specs.Outcome.{bind}
 use Rattle.profile.specs.declared.error.ErrorNumber.{ErrorNumber}
 use Rattle.profile.specs.declared.error.ErrorNumber.TheVariants.{HeapNoRoom}
-use Rattle.address_map.specs.declared.item.Item.{Item}
 use Rattle.os_heap_lists.specs.Heap.{HeapList, AreSpaced, AreTotals}
 use Rattle.os_heap_lists.specs.Lists.{Claim, claimed, released, total_for}
 use Rattle.os_heap_lists.proofs.ReleaseOfClaim.{gives_back}
@@ -12,7 +11,7 @@ use Rattle.os_heap.specs.Calls.{gave_back, got, holding, items_of, with_items}
 use Rattle.os_heap.specs.Store.{Store, find_heap, has_image}
 use Rattle.os_heap.proofs.Moving.{found_held}
 use Rattle.dynamic_areas.specs.Ground.{Estate, IsEstate}
-use Rattle.rma.specs.Calls.{in_area, in_grown_area, is_full, or_grown, rma_base, rma_claimed, rma_freed, with_store}
+use Rattle.rma.specs.Calls.{is_full, or_grown, rma_base, rma_claimed, rma_freed, with_store}
 use Rattle.rma.specs.Laws.{FreeUndoesClaim, IsUndone}
 use Rattle.rma.proofs.GrowthLemmas.{HasArea, area_there}
 

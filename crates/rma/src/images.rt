@@ -3,7 +3,7 @@ ghost use Rattle.address_map.specs.Memory.{mapping};
 ghost use Rattle.os_heap.specs.Store.{store_of, AreClasses, IsSound};
 ghost use Rattle.dynamic_areas.specs.Areas.{Land};
 ghost use Rattle.dynamic_areas.specs.Ground.{estate_of, IsEstate};
-ghost use Rattle.rma.specs.Images.{image_dropped, image_recorded, CanRecord};
+ghost use Rattle.rma.specs.Images.{image_dropped, image_freed, image_recorded, CanRecord};
 
 use crate::area::Rma;
 use address_map::{AddressMap, Kind};
@@ -38,5 +38,20 @@ impl Rma {
         ensures mapping { mapping map.new ≡ mapping map.old }
     {
         map.disown(Kind::Image, at);
+    }
+
+    /// Gives the block of a module image back: its record goes, and its room is free then. Of a block that is no image the same is done, and
+    /// where no block is nothing more.
+    pub fn free_image(&self, map: &mut AddressMap, at: u32)
+        requires sound { IsSound (store_of map.old) }
+        requires classes { AreClasses map.old }
+        ensures store { store_of map.new ≡ image_freed (store_of map.old) at }
+        ensures sound { IsSound (store_of map.new) }
+        ensures estate { (l : Land) → IsEstate (estate_of map.old l) → IsEstate (estate_of map.new l) }
+        ensures classes { AreClasses map.new }
+        ensures mapping { mapping map.new ≡ mapping map.old }
+    {
+        self.drop_image(map, at);
+        let _ = Heaps::new().free(map, RMA_START, at).answer;
     }
 }

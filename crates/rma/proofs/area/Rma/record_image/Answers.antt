@@ -1,5 +1,5 @@
 use Rattle.std.proofs.Common.{◌≡◌, Ok, refl, sym, ap, subst, ◌∙◌, arith}
-use Rattle.address_map.specs.Memory.{bytes_of, free_pages}
+use Rattle.address_map.specs.Memory.{free_pages}
 use Rattle.address_map.specs.declared.region.Kind.TheVariants as kind
 use Rattle.address_map.specs.declared.region.Region.{Region}
 use Rattle.os_heap.specs.Calls.{block_sized}
@@ -7,7 +7,6 @@ use Rattle.os_heap.specs.Store.{IsSound, Store, store_of}
 use Rattle.os_heap.proofs.Added.{range_room}
 use Rattle.os_heap.proofs.Frame.{classes_same}
 use Rattle.os_heap.proofs.Recorded.{store_recorded}
-use Rattle.dynamic_areas.specs.Ground.{AreAreas}
 use Rattle.rma.specs.Images.{image_recorded}
 use Rattle.rma.proofs.ExtendLemmas.{lies_below}
 use Rattle.rma.proofs.ImageLemmas.{areas_recorded, is_recorded, same_bytes, same_pool}
