@@ -1,4 +1,4 @@
-use crate::{AddressMap, Class, Kind, Move};
+use crate::{AddressMap, Class, Kind};
 use profile::{Fault, ImageBytes};
 use std::test::Fail;
 
@@ -289,32 +289,6 @@ fn tells_what_meets_a_record(rt: HostRuntime) -> Result<(), Fail> {
         (0x9100, 0x200, false),
     ] {
         assert_eq!(rt; map.meets_record(at, len), met, "{len} bytes from {at:x}");
-    }
-    Ok(())
-}
-
-// The second block goes to where the first was. An image alone follows: no other record of the same place does.
-#[test]
-fn records_of_images_follow_their_blocks(rt: HostRuntime) -> Result<(), Fail> {
-    let mut map = AddressMap::new(rt.alloc(), 1)?;
-    for at in [0x9014, 0x902C, 0x9044] {
-        map.own(Kind::Image, at, 20);
-    }
-    map.own(Kind::SystemPage, 0x902C, 20);
-    map.follow(&[
-        Move {
-            from: 0x902C,
-            to: 0x901C,
-        },
-        Move {
-            from: 0x9044,
-            to: 0x902C,
-        },
-    ]);
-    assert_eq!(rt; map.regions().len(), 4);
-    for (region, at) in map.regions().iter().zip([0x9014, 0x901C, 0x902C, 0x902C]) {
-        assert_eq!(rt; region.at, at);
-        assert_eq!(rt; region.len, 20);
     }
     Ok(())
 }
