@@ -3,7 +3,7 @@ use Rattle.std.proofs.Common.{◌≡◌, ℕ, Bool, false, Ok, Err, sym, ◌∙�
 use Rattle.arm_step.specs.declared.psr.Psr.{Psr}
 use Rattle.swi_dispatch.specs.declared.refusal.Refusal.{Refusal}
 use Rattle.swi_dispatch.specs.MachineState.{MachineState, Outcome, quiet}
-use Rattle.swi_dispatch.specs.Calls.{Answer}
+use Rattle.swi_dispatch.specs.Answers.{Answer}
 use Rattle.swi_dispatch.specs.Parts.{Answers}
 use Rattle.swi_dispatch.specs.Step.{gone_back, error_answered, erred, ended_by, ended}
 

@@ -15,7 +15,8 @@ use profile::{ErrorNumber, SwiName};
 impl Machine {
     ghost use Rattle.swi_dispatch.specs.MachineState.{quiet};
     ghost use Rattle.swi_dispatch.specs.Parts.{state_of, outcome_of, IsInStep, OnlySteps, OnlyState, Answers};
-    ghost use Rattle.swi_dispatch.specs.Calls.{call_answer, wrote_text_after, wrote_text_at, printable_at, with_answer, in_supervisor};
+    ghost use Rattle.swi_dispatch.specs.Answers.{with_answer};
+    ghost use Rattle.swi_dispatch.specs.Calls.{call_answer, wrote_text_after, wrote_text_at, printable_at, in_supervisor};
     ghost use Rattle.swi_dispatch.specs.Step.{called, gone_back};
     ghost use Rattle.arm_step.specs.State.{register_of};
 
