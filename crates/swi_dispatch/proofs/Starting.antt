@@ -1,5 +1,5 @@
 -- The store of a machine at its start is that of the written start.
-use Rattle.std.proofs.Common.{inl, ◌≡◌, ◌+◌, ◌*◌, arith, ℕ, Bool, false, true, IsSome, List, [], ◌∷◌, ◌++◌, Option, Some, None, refl, ◌∙◌, ap}
+use Rattle.std.proofs.Common.{inl, ◌≡◌, ◌*◌, ℕ, Bool, false, true, IsSome, List, [], ◌∷◌, ◌++◌, Option, Some, None, refl, ◌∙◌, ap}
 use Rattle.std.specs.Prelude.{is_some}
 use Rattle.profile.specs.Sizes.{Sizes}
 use Rattle.address_map.specs.declared.map.AddressMap.{AddressMap}

@@ -1,6 +1,6 @@
 -- The calls on dynamic areas (RISC OS 3 Programmer's Reference Manual, "OS_ChangeDynamicArea", "OS_ReadDynamicArea", and its supplement,
 -- "OS_DynamicArea"; what each refuses, and in which order, is this project's own).
-use Rattle.std.specs.Prelude.{ℕ, ◌+◌, ◌*◌, ◌==◌, Option, Some, None, option_map, Result, Ok, Err, List, codes, if◌then◌else◌}
+use Rattle.std.specs.Prelude.{ℕ, ◌*◌, ◌==◌, Option, Some, None, option_map, Result, Ok, List, codes, if◌then◌else◌}
 use Rattle.profile.specs.Outcome.{bind}
 use Rattle.profile.specs.declared.error.ErrorNumber.{ErrorNumber}
 use Rattle.profile.specs.declared.error.ErrorNumber.TheVariants.{AreaBadReason, BadString}

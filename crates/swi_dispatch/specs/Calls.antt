@@ -1,6 +1,6 @@
 -- The store calls: what each answers, by the registers of the caller's mode, and what it leaves (RISC OS 3 Programmer's Reference Manual, the
 -- chapters on character output, program environment, generating and handling errors, memory management, and "OS_Heap").
-use Rattle.std.specs.Prelude.{ℕ, ◌+◌, ◌%◌, ◌==◌, ◌&&◌, Option, Some, None, Result, Ok, Err, List, [], ◌∷◌, length, if◌then◌else◌}
+use Rattle.std.specs.Prelude.{ℕ, ◌+◌, ◌%◌, ◌==◌, ◌&&◌, Option, Some, None, Result, Ok, List, [], ◌∷◌, length, if◌then◌else◌}
 use Rattle.profile.specs.Outcome.{bind}
 use Rattle.profile.specs.declared.error.ErrorNumber.TheVariants.{SwiUnknown, BadString, BadPointer, HeapBadReason}
 use Rattle.profile.specs.declared.swi.SwiName.{SwiName}
