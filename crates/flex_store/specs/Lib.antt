@@ -1,0 +1,4 @@
+pub mod Blocks
+pub mod Calls
+pub mod Memory
+pub mod State

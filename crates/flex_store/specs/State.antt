@@ -1,0 +1,64 @@
+-- What an address map and a `Flex` stand for, and what holds of them whatever is called.
+use Rattle.std.specs.Prelude.{ℕ, ◌≡◌, ◌≢◌, ◌≤◌, ◌<◌, ◌⊎◌, ◌^◌, Bool, true, false, ◌+◌, ◌-◌, ◌%◌, List, [], ◌∷◌, length, Option, Some, None}
+use Rattle.address_map.specs.declared.class.Class.{Class}
+use Rattle.address_map.specs.declared.class.Class.TheVariants as class
+use Rattle.address_map.specs.declared.map.AddressMap.{AddressMap}
+use Rattle.address_map.specs.Bytes.{AreMapped, word_start}
+use Rattle.address_map.specs.Classes.{is_anchor}
+use Rattle.address_map.specs.Memory.{byte_at, class_of, is_mapped, regions}
+use Rattle.os_heap.specs.Store.{store_of}
+use Rattle.flex_store.specs.declared.flex.Extent.{Extent}
+use Rattle.flex_store.specs.declared.flex.Flex.{Flex}
+use Rattle.flex_store.specs.Blocks.{Block, FlexStore, used, whole_words, has_anchor, is_header}
+use Rattle.flex_store.specs.Memory.{Holds, AreAnchored, blocks_in, text_of}
+use Rattle.flex_store.specs.Calls.{FlexState}
+
+-- the flex store that the words of memory spell in a range
+abbrev pub flex_in : AddressMap → Option Extent → Option FlexStore
+flex_in m None = None
+flex_in m (Some e) = Some (record { start = e.start; end = e.end; blocks = blocks_in (byte_at m) e.start (e.start + e.used) })
+
+unfoldable pub state_of : AddressMap → Flex → FlexState
+state_of m f = record { store = store_of m; flex = flex_in m f.extent }
+
+abbrev pub is_flex_header : Class → Bool
+is_flex_header class.FlexHeader = true
+is_flex_header other = false
+
+-- A block has as many bytes as its size says, filled up to whole words, and its size is a word.
+abbrev pub AreWhole : List Block → Type 0
+AreWhole [] = Unit {0}
+AreWhole (b ∷ bs) = ((length b.bytes ≡ whole_words b.size) × (b.size < 2 ^ 32)) × AreWhole bs
+
+-- Each anchor is a mapped word outside the range from `start` to `end`, and no two blocks have the same.
+pub record IsAnchorWord (m : AddressMap) (start end a : ℕ) : Type 0 where
+  pub aligned : a % 4 ≡ 0
+  pub mapped : is_mapped m a ≡ true
+  pub outside : (a + 4 ≤ start) ⊎ (end ≤ a)
+
+abbrev pub AreAnchorWords : AddressMap → ℕ → ℕ → List Block → Type 0
+AreAnchorWords m start end [] = Unit {0}
+AreAnchorWords m start end (b ∷ bs) = (IsAnchorWord m start end b.anchor × (has_anchor bs b.anchor ≡ false)) × AreAnchorWords m start end bs
+
+-- The range has whole words, all mapped.
+pub record IsFlexRange (m : AddressMap) (start end : ℕ) : Type 0 where
+  pub start_aligned : start % 4 ≡ 0
+  pub end_aligned : end % 4 ≡ 0
+  pub mapped : AreMapped (is_mapped m) start (end - start)
+
+-- Memory spells these blocks from the store's start on; their anchors hold the addresses of their bytes; and just the words of their headers and
+-- their anchors are marked as such.
+pub record IsFlexStore (m : AddressMap) (start end : ℕ) (blocks : List Block) : Type 0 where
+  pub range : IsFlexRange m start end
+  pub fits : start + used blocks ≤ end
+  pub whole : AreWhole blocks
+  pub words : AreAnchorWords m start end blocks
+  pub text : Holds (byte_at m) start (text_of blocks)
+  pub anchored : AreAnchored (byte_at m) start blocks
+  pub headers : (a : ℕ) → is_flex_header (class_of m a) ≡ is_header start blocks (word_start a)
+  pub anchors : (a : ℕ) → is_anchor (class_of m a) ≡ has_anchor blocks (word_start a)
+
+-- before `init` no word is marked so
+pub record IsNoFlex (m : AddressMap) : Type 0 where
+  pub headers : (a : ℕ) → is_flex_header (class_of m a) ≡ false
+  pub anchors : (a : ℕ) → is_anchor (class_of m a) ≡ false

@@ -1,0 +1,6 @@
+//! The flex store: blocks that slide to fill its gaps, each behind an anchor that follows it.
+#![tactic(auto)]
+
+mod flex;
+
+pub use flex::Flex;
