@@ -1,0 +1,5 @@
+pub mod Anchoring
+pub mod Headers
+pub mod Holding
+pub mod Lists
+pub mod Reading
