@@ -1,5 +1,11 @@
 pub mod Anchoring
 pub mod Headers
 pub mod Holding
+pub mod Laying
 pub mod Lists
 pub mod Reading
+pub mod Sliding
+pub mod Splicing
+pub mod Storing
+pub mod Texts
+pub mod Walks

@@ -3,9 +3,10 @@ use Rattle.std.proofs.Common.{◌≡◌, ℕ, ◌+◌, ◌-◌, ◌*◌, ◌/◌
 use Rattle.std.proofs.lemmas.Bool.{cases_Bool, eqb-true, or_parts, or_from, true≢false, false≢true}
 use Rattle.std.proofs.lemmas.Bool.Decides.{nat_tests}
 use Rattle.std.proofs.Math.ListN.{length-append}
+use Rattle.raw_store.specs.Region.{word_bytes}
 use Rattle.address_map.specs.declared.map.AddressMap.{AddressMap}
 use Rattle.flex_store.specs.Blocks.{Block, used, taken, whole_words, has_anchor, with_block, without_block, find_block, is_header}
-use Rattle.flex_store.specs.Memory.{text_of, word_bytes, AreAnchored, Holds}
+use Rattle.flex_store.specs.Memory.{text_of, AreAnchored, Holds}
 use Rattle.flex_store.specs.State.{AreWhole, AreAnchorWords, IsAnchorWord}
 
 pub used-append : (xs ys : List Block) → used (xs ++ ys) ≡ used xs + used ys

@@ -1,11 +1,8 @@
 -- The bytes of memory that the blocks spell, and the blocks that memory spells.
 use Rattle.std.specs.Prelude.{ℕ, ◌≡◌, ◌<◌, zero, suc, ◌+◌, ◌-◌, ◌/◌, ◌%◌, ◌==◌, nat_le, List, [], ◌∷◌, ◌++◌, length, slice_index, if◌then◌else◌}
+use Rattle.raw_store.specs.Region.{word_bytes}
 use Rattle.address_map.specs.Bytes.{word_at, with_word_at, with_bytes_at, bytes_between}
 use Rattle.flex_store.specs.Blocks.{Block, taken, whole_words}
-
--- a word's bytes, the lowest first
-abbrev pub word_bytes : ℕ → List ℕ
-word_bytes w = w % 256 ∷ w / 256 % 256 ∷ w / 65536 % 256 ∷ w / 16777216 % 256 ∷ []
 
 -- All bytes of the blocks are one text, which holds no address of its own: the anchors lie elsewhere.
 abbrev pub text_of : List Block → List ℕ

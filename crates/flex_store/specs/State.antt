@@ -3,9 +3,9 @@ use Rattle.std.specs.Prelude.{ℕ, ◌≡◌, ◌≢◌, ◌≤◌, ◌<◌, ◌
 use Rattle.address_map.specs.declared.class.Class.{Class}
 use Rattle.address_map.specs.declared.class.Class.TheVariants as class
 use Rattle.address_map.specs.declared.map.AddressMap.{AddressMap}
-use Rattle.address_map.specs.Bytes.{AreMapped, word_start}
+use Rattle.address_map.specs.Bytes.{Bytes, AreMapped, word_start}
 use Rattle.address_map.specs.Classes.{is_anchor}
-use Rattle.address_map.specs.Memory.{byte_at, class_of, is_mapped, regions}
+use Rattle.address_map.specs.Memory.{byte_at, class_of, is_mapped}
 use Rattle.os_heap.specs.Store.{store_of}
 use Rattle.flex_store.specs.declared.flex.Extent.{Extent}
 use Rattle.flex_store.specs.declared.flex.Flex.{Flex}
@@ -31,28 +31,39 @@ AreWhole [] = Unit {0}
 AreWhole (b ∷ bs) = ((length b.bytes ≡ whole_words b.size) × (b.size < 2 ^ 32)) × AreWhole bs
 
 -- Each anchor is a mapped word outside the range from `start` to `end`, and no two blocks have the same.
-pub record IsAnchorWord (m : AddressMap) (start end a : ℕ) : Type 0 where
+pub record IsAnchorWord (mapped : ℕ → Bool) (start end a : ℕ) : Type 0 where
   pub aligned : a % 4 ≡ 0
-  pub mapped : is_mapped m a ≡ true
+  pub there : mapped a ≡ true
+  pub low : a < 2 ^ 26
   pub outside : (a + 4 ≤ start) ⊎ (end ≤ a)
 
-abbrev pub AreAnchorWords : AddressMap → ℕ → ℕ → List Block → Type 0
-AreAnchorWords m start end [] = Unit {0}
-AreAnchorWords m start end (b ∷ bs) = (IsAnchorWord m start end b.anchor × (has_anchor bs b.anchor ≡ false)) × AreAnchorWords m start end bs
+abbrev pub AreAnchorWords : (ℕ → Bool) → ℕ → ℕ → List Block → Type 0
+AreAnchorWords mapped start end [] = Unit {0}
+AreAnchorWords mapped start end (b ∷ bs) =
+    (IsAnchorWord mapped start end b.anchor × (has_anchor bs b.anchor ≡ false)) × AreAnchorWords mapped start end bs
+
+-- Memory spells these blocks from `at` up to `end`, and their anchors lie outside this range.
+pub record IsText (b : Bytes) (at end : ℕ) (blocks : List Block) : Type 0 where
+  pub whole : AreWhole blocks
+  pub words : AreAnchorWords b.mapped at end blocks
+  pub text : Holds b.at at (text_of blocks)
+  pub length : end ≡ at + used blocks
+  pub aligned : at % 4 ≡ 0
+  pub mapped : AreMapped b.mapped at (used blocks)
 
 -- The range has whole words, all mapped.
-pub record IsFlexRange (m : AddressMap) (start end : ℕ) : Type 0 where
+pub record IsFlexRange (mapped : ℕ → Bool) (start end : ℕ) : Type 0 where
   pub start_aligned : start % 4 ≡ 0
   pub end_aligned : end % 4 ≡ 0
-  pub mapped : AreMapped (is_mapped m) start (end - start)
+  pub there : AreMapped mapped start (end - start)
 
 -- Memory spells these blocks from the store's start on; their anchors hold the addresses of their bytes; and just the words of their headers and
 -- their anchors are marked as such.
 pub record IsFlexStore (m : AddressMap) (start end : ℕ) (blocks : List Block) : Type 0 where
-  pub range : IsFlexRange m start end
+  pub range : IsFlexRange (is_mapped m) start end
   pub fits : start + used blocks ≤ end
   pub whole : AreWhole blocks
-  pub words : AreAnchorWords m start end blocks
+  pub words : AreAnchorWords (is_mapped m) start end blocks
   pub text : Holds (byte_at m) start (text_of blocks)
   pub anchored : AreAnchored (byte_at m) start blocks
   pub headers : (a : ℕ) → is_flex_header (class_of m a) ≡ is_header start blocks (word_start a)

@@ -2,5 +2,9 @@
 #![tactic(auto)]
 
 mod flex;
+mod marks;
+mod slide;
+mod splice;
+mod walk;
 
 pub use flex::Flex;
