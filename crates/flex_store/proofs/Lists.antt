@@ -7,6 +7,7 @@ use Rattle.raw_store.specs.Region.{word_bytes}
 use Rattle.address_map.specs.declared.map.AddressMap.{AddressMap}
 use Rattle.flex_store.specs.Blocks.{Block, used, taken, whole_words, has_anchor, with_block, without_block, find_block, is_header}
 use Rattle.flex_store.specs.Memory.{text_of, AreAnchored, Holds}
+use Rattle.flex_store.specs.Places.{IsSplit, Split}
 use Rattle.flex_store.specs.State.{AreWhole, AreAnchorWords, IsAnchorWord}
 
 pub used-append : (xs ys : List Block) → used (xs ++ ys) ≡ used xs + used ys
@@ -63,20 +64,6 @@ text_length b rest = omega (arith, length-append b.bytes rest)
 pub text_used : (bs : List Block) → AreWhole bs → length (text_of bs) ≡ used bs
 text_used [] p = refl
 text_used (b ∷ bs) p = omega (arith, text_length b (text_of bs), text_used bs p.1, p.0.0)
-
--- where a list is split at the block of an anchor
-pub record IsSplit (wanted : ℕ) (bs before : List Block) (b : Block) (after : List Block) : Type 0 where
-  pub list : bs ≡ before ++ b ∷ after
-  pub anchor : b.anchor ≡ wanted
-  pub found : find_block wanted bs ≡ Some b
-  pub without : without_block wanted bs ≡ before ++ after
-  pub put : (new : Block) → with_block wanted new bs ≡ before ++ new ∷ after
-
-pub record Split (wanted : ℕ) (bs : List Block) : Type 0 where
-  pub before : List Block
-  pub block : Block
-  pub after : List Block
-  pub is : IsSplit wanted bs before block after
 
 split_by : (wanted : ℕ) (b : Block) (bs : List Block) → b.anchor ≡ wanted → nat_eq b.anchor wanted ≡ true → Split wanted (b ∷ bs)
 split_by wanted b bs e same = record {

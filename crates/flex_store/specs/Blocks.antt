@@ -68,19 +68,12 @@ resized bytes size = take size bytes ++ replicate (size - length bytes) 0
 abbrev pub spliced : List ℕ → ℕ → ℕ → ℕ → List ℕ
 spliced bytes at cut more = take (at - cut) bytes ++ (replicate more 0 ++ drop at bytes)
 
--- a block is as it was where its size stays
-abbrev pub extended_block : Block → ℕ → Block
-extended_block b size = if size == b.size then b else holding b (resized (contents b) size)
-
 -- a signed word in two's complement: how many bytes a change of it takes away, and how many it adds
 abbrev pub cut_of : ℕ → ℕ
 cut_of by = if nat_le (2 ^ 31) by then 2 ^ 32 - by else 0
 
 abbrev pub more_of : ℕ → ℕ
 more_of by = if nat_le (2 ^ 31) by then 0 else by
-
-abbrev pub spliced_block : Block → ℕ → ℕ → Block
-spliced_block b at by = if by == 0 then b else holding b (spliced (contents b) at (cut_of by) (more_of by))
 
 -- the words of a header, where the first block's is at `at`: is the word at `a` one of these?
 abbrev pub is_header : ℕ → List Block → ℕ → Bool

@@ -1,4 +1,4 @@
--- The flex calls, over memory with its heaps and records, and the flex store, if there is one. Refusals come in the order of their numbers (Acorn C
+-- The flex calls, over memory and the flex store, if there is one. Refusals come in the order of their numbers (Acorn C
 -- manual, "flex"; the numbers, this order, and one store in a range that the guest names are this project's own).
 use Rattle.std.specs.Prelude.{ℕ, ◌≡◌, Bool, true, false, not, ◌+◌, ◌-◌, ◌%◌, ◌==◌, ◌&&◌, ◌||◌, nat_le, nat_lt, Option, Some, None, ok_or, Result, Ok, Err, List, [], ◌∷◌, ◌++◌, if◌then◌else◌}
 use Rattle.std.specs.List.{list_any}
@@ -9,16 +9,17 @@ use Rattle.address_map.specs.declared.item.Item.{Item}
 use Rattle.address_map.specs.declared.item.Item.TheVariants.{Live, Free}
 use Rattle.address_map.specs.declared.region.Kind.TheVariants as kind
 use Rattle.address_map.specs.declared.region.Region.{Region}
-use Rattle.address_map.specs.Bytes.{in_range, meets, with_word_at}
+use Rattle.address_map.specs.Bytes.{Bytes, in_range, meets, with_word}
+use Rattle.address_map.specs.Records.{meets_record}
 use Rattle.os_heap_lists.specs.Heap.{HeapList}
 use Rattle.os_heap.specs.Store.{Store}
 use Rattle.os_heap.specs.Ranges.{are_mapped}
-use Rattle.flex_store.specs.Blocks.{Block, FlexStore, used, find_block, has_anchor, with_block, without_block, new_block, extended_block, spliced_block, cut_of}
+use Rattle.flex_store.specs.Blocks.{Block, FlexStore, used, find_block, has_anchor, with_block, without_block, new_block, holding, contents, resized, spliced, cut_of, more_of}
 use Rattle.flex_store.specs.Memory.{laid_out}
 
--- memory with its heaps and records, and the flex store after `init`
+-- memory, and the flex store after `init`
 pub record FlexState : Type 0 where
-  pub store : Store
+  pub bytes : Bytes
   pub flex : Option FlexStore
 
 -- is the byte at `a` in a live block's payload, where the first item is at `at`?
@@ -37,9 +38,9 @@ is_anchor_place s a = (a % 4 == 0 && s.bytes.mapped a)
     && (not (list_any (λ r. meets a 4 r.at r.len) s.others) && not (list_any (is_in_heap_alone a) s.heaps))
 
 -- May a range become the flex store? It has whole words, which are mapped, and it meets no recorded range.
-unfoldable pub is_flex_range : Store → ℕ → ℕ → Bool
-is_flex_range s start end = (start % 4 == 0 && end % 4 == 0) && (nat_lt start end && (are_mapped s.bytes.mapped start (end - start)
-    && not (list_any (λ h. meets start (end - start) h.start h.end) s.heaps || list_any (λ r. meets start (end - start) r.at r.len) s.others)))
+unfoldable pub is_flex_range : (ℕ → Bool) → List Region → ℕ → ℕ → Bool
+is_flex_range mapped regions start end =
+    (start % 4 == 0 && end % 4 == 0) && (nat_lt start end && (are_mapped mapped start (end - start) && not (meets_record regions start (end - start))))
 
 -- the store and the block of a call
 abbrev pub ready : FlexState → Result FlexStore ErrorNumber
@@ -51,8 +52,8 @@ live s anchor = ok_or (find_block anchor s.blocks) FlexBadAnchor
 -- the state after the store got other blocks
 abbrev pub with_blocks : FlexState → FlexStore → List Block → FlexState
 with_blocks t s blocks = record {
-  store = record t.store { bytes = record t.store.bytes { at = laid_out s.start blocks t.store.bytes.at } };
-  flex = Some (record s { blocks = blocks });
+  bytes = record { mapped = t.bytes.mapped; at = laid_out s.start blocks t.bytes.at };
+  flex = Some (record { start = s.start; end = s.end; blocks = blocks });
 }
 
 -- what is so where the store has room for these blocks; where it has none, nothing is changed, and the answer is false
@@ -64,30 +65,26 @@ abbrev pub flex_record : ℕ → ℕ → Region
 flex_record start end = record { kind = kind.FlexStore; at = start; len = end - start }
 
 abbrev pub with_flex : FlexState → ℕ → ℕ → FlexState
-with_flex t start end = record {
-  store = record t.store { others = t.store.others ++ flex_record start end ∷ [] };
-  flex = Some (record { start = start; end = end; blocks = [] });
-}
+with_flex t start end = record { bytes = t.bytes; flex = Some (record { start = start; end = end; blocks = [] }) }
 
-abbrev pub begun_by : FlexState → ℕ → ℕ → Option FlexStore → Result (FlexState × Unit {0}) ErrorNumber
-begun_by t start end (Some s) = Err FlexAlready
-begun_by t start end None = if is_flex_range t.store start end then Ok (with_flex t start end, tt) else Err FlexBadRange
+abbrev pub begun_by : List Region → FlexState → ℕ → ℕ → Option FlexStore → Result (FlexState × Unit {0}) ErrorNumber
+begun_by regions t start end (Some s) = Err FlexAlready
+begun_by regions t start end None = if is_flex_range t.bytes.mapped regions start end then Ok (with_flex t start end, tt) else Err FlexBadRange
 
-unfoldable pub begun : FlexState → ℕ → ℕ → Result (FlexState × Unit {0}) ErrorNumber
-begun t start end = begun_by t start end t.flex
+unfoldable pub begun : List Region → FlexState → ℕ → ℕ → Result (FlexState × Unit {0}) ErrorNumber
+begun regions t start end = begun_by regions t start end t.flex
 
--- Alloc: a block more, behind all others.
-unfoldable pub allocated : FlexState → ℕ → ℕ → Result (FlexState × Bool) ErrorNumber
-allocated t anchor size =
+-- Alloc: a block more, behind all others. The heaps and the recorded ranges say where an anchor may stand.
+unfoldable pub allocated : Store → FlexState → ℕ → ℕ → Result (FlexState × Bool) ErrorNumber
+allocated places t anchor size =
     bind (ready t) (λ s.
-    if not (is_anchor_place t.store anchor) then Err FlexBadAnchor else (
+    if not (is_anchor_place places anchor) then Err FlexBadAnchor else (
     if has_anchor s.blocks anchor then Err FlexAnchorInUse else
     Ok (fitted t s (s.blocks ++ new_block anchor size ∷ []))))
 
 -- Free: the block goes, and its anchor is 0.
 abbrev pub without_anchor : FlexState → ℕ → FlexState
-without_anchor t anchor =
-    record t { store = record t.store { bytes = record t.store.bytes { at = with_word_at t.store.bytes.at anchor 0 } } }
+without_anchor t anchor = record { bytes = with_word t.bytes anchor 0; flex = t.flex }
 
 unfoldable pub released : FlexState → ℕ → Result (FlexState × Unit {0}) ErrorNumber
 released t anchor =
@@ -102,12 +99,13 @@ sized t anchor =
     bind (live s anchor) (λ b.
     Ok b.size))
 
--- Extend: a block is cut, or zeros are appended.
+-- Extend: a block is cut, or zeros are appended. Where its size stays, it is as it was, with the bytes that fill it up.
 unfoldable pub extended : FlexState → ℕ → ℕ → Result (FlexState × Bool) ErrorNumber
 extended t anchor size =
     bind (ready t) (λ s.
     bind (live s anchor) (λ b.
-    Ok (fitted t s (with_block anchor (extended_block b size) s.blocks))))
+    if size == b.size then Ok (t, true) else
+    Ok (fitted t s (with_block anchor (holding b (resized (contents b) size)) s.blocks))))
 
 -- Midextend: where `by`, a signed word, is above 0, zeros are put in before the byte `at`; where it is below, as many bytes before that one go.
 unfoldable pub mid_extended : FlexState → ℕ → ℕ → ℕ → Result (FlexState × Bool) ErrorNumber
@@ -115,5 +113,6 @@ mid_extended t anchor at by =
     bind (ready t) (λ s.
     if nat_lt at (cut_of by) then Err FlexBadRange else
     bind (live s anchor) (λ b.
-    if nat_lt b.size at then Err FlexBadRange else
-    Ok (fitted t s (with_block anchor (spliced_block b at by) s.blocks))))
+    if nat_lt b.size at then Err FlexBadRange else (
+    if by == 0 then Ok (t, true) else
+    Ok (fitted t s (with_block anchor (holding b (spliced (contents b) at (cut_of by) (more_of by))) s.blocks)))))

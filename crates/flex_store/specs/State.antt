@@ -5,8 +5,7 @@ use Rattle.address_map.specs.declared.class.Class.TheVariants as class
 use Rattle.address_map.specs.declared.map.AddressMap.{AddressMap}
 use Rattle.address_map.specs.Bytes.{Bytes, AreMapped, word_start}
 use Rattle.address_map.specs.Classes.{is_anchor}
-use Rattle.address_map.specs.Memory.{byte_at, class_of, is_mapped}
-use Rattle.os_heap.specs.Store.{store_of}
+use Rattle.address_map.specs.Memory.{byte_at, bytes_of, class_of, is_mapped, layout}
 use Rattle.flex_store.specs.declared.flex.Extent.{Extent}
 use Rattle.flex_store.specs.declared.flex.Flex.{Flex}
 use Rattle.flex_store.specs.Blocks.{Block, FlexStore, used, whole_words, has_anchor, is_header}
@@ -14,12 +13,23 @@ use Rattle.flex_store.specs.Memory.{Holds, AreAnchored, blocks_in, text_of}
 use Rattle.flex_store.specs.Calls.{FlexState}
 
 -- the flex store that the words of memory spell in a range
+abbrev pub blocks_of : AddressMap → Extent → List Block
+blocks_of m e = blocks_in (byte_at m) e.start (e.start + e.used)
+
 abbrev pub flex_in : AddressMap → Option Extent → Option FlexStore
 flex_in m None = None
-flex_in m (Some e) = Some (record { start = e.start; end = e.end; blocks = blocks_in (byte_at m) e.start (e.start + e.used) })
+flex_in m (Some e) = Some (record { start = e.start; end = e.end; blocks = blocks_of m e })
+
+-- memory with the store in a range
+abbrev pub held_in : AddressMap → Extent → FlexState
+held_in m e = record { bytes = bytes_of m; flex = Some (record { start = e.start; end = e.end; blocks = blocks_of m e }) }
 
 unfoldable pub state_of : AddressMap → Flex → FlexState
-state_of m f = record { store = store_of m; flex = flex_in m f.extent }
+state_of m f = record { bytes = bytes_of m; flex = flex_in m f.extent }
+
+abbrev pub is_heap_class : Class → Bool
+is_heap_class class.Heap = true
+is_heap_class other = false
 
 abbrev pub is_flex_header : Class → Bool
 is_flex_header class.FlexHeader = true
@@ -73,3 +83,33 @@ pub record IsFlexStore (m : AddressMap) (start end : ℕ) (blocks : List Block) 
 pub record IsNoFlex (m : AddressMap) : Type 0 where
   pub headers : (a : ℕ) → is_flex_header (class_of m a) ≡ false
   pub anchors : (a : ℕ) → is_anchor (class_of m a) ≡ false
+
+pub record IsStoreAt (m : AddressMap) (e : Extent) : Type 0 where
+  pub store : IsFlexStore m e.start e.end (blocks_of m e)
+  pub used_is : used (blocks_of m e) ≡ e.used
+
+abbrev pub IsFlexAt : AddressMap → Option Extent → Type 0
+IsFlexAt m None = IsNoFlex m
+IsFlexAt m (Some e) = IsStoreAt m e
+
+-- What holds of memory and the flex store, whatever is called.
+abbrev pub IsFlex : AddressMap → Flex → Type 0
+IsFlex m f = IsFlexAt m f.extent
+
+-- no head of a heap lies in the store
+abbrev pub HasNoHead : AddressMap → Option Extent → Type 0
+HasNoHead m None = Unit {0}
+HasNoHead m (Some e) = (a : ℕ) → e.start ≤ a → a < e.end → is_heap_class (class_of m a) ≡ false
+
+-- The words of heaps are what they were, and just they are marked as such.
+pub record KeepsHeads (m n : AddressMap) : Type 0 where
+  pub bytes : (a : ℕ) → is_heap_class (class_of m a) ≡ true → byte_at n a ≡ byte_at m a
+  pub classes : (a : ℕ) → is_heap_class (class_of n a) ≡ is_heap_class (class_of m a)
+
+-- What each call on a store keeps.
+pub record Keeps (m : AddressMap) (e : Extent) (n : AddressMap) (f : Extent) : Type 0 where
+  pub store : IsStoreAt n f
+  pub same : layout n ≡ layout m
+  pub heads : HasNoHead m (Some e) → KeepsHeads m n
+  pub start : f.start ≡ e.start
+  pub end : f.end ≡ e.end
