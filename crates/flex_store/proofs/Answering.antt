@@ -15,12 +15,9 @@ use Rattle.flex_store.specs.Calls.{FlexState, extended, fitted, mid_extended, si
 use Rattle.flex_store.specs.Changes.{Fits, GotBlocks, IsChanged, IsChangedBlock}
 use Rattle.flex_store.specs.Places.{IsHeaderOf}
 use Rattle.flex_store.specs.Relaid.{first_at}
-use Rattle.flex_store.specs.State.{HasNoHead, IsStoreAt, Keeps, KeepsHeads, blocks_of, held_in, is_heap_class}
+use Rattle.flex_store.specs.State.{HasNoHead, IsStoreAt, Keeps, KeepsHeads, blocks_of, held_in, store_in, is_heap_class}
 use Rattle.flex_store.proofs.Finding.{IsHeaderWord}
 use Rattle.flex_store.proofs.Sliding.{contents_length}
-
-abbrev pub store_in : AddressMap → Extent → FlexStore
-store_in m e = record { start = e.start; end = e.end; blocks = blocks_of m e }
 
 -- nothing changed
 pub same_keeps : (m : AddressMap) (e : Extent) → IsStoreAt m e → Keeps m e m e
@@ -42,13 +39,13 @@ pub got_keeps : (m n : AddressMap) (e f : Extent) (bs : List Block) → GotBlock
 got_keeps m n e f bs g = record { store = g.store; same = g.same; heads = g.heads; start = g.start; end = g.end }
 
 -- the answer of a change of one block
-fits_state : (m n : AddressMap) (e f : Extent) (bs : List Block) (done : Bool) → Fits m e bs done n f
+pub fits_state : (m n : AddressMap) (e f : Extent) (bs : List Block) (done : Bool) → Fits m e bs done n f
     → Gives {U = Bool} {E = ErrorNumber} (held_in m e) (Ok (fitted (held_in m e) (store_in m e) bs)) (Ok done) (held_in n f)
 fits_state m n e f bs true fits = rw (le-leb (e.start + used bs) e.end fits.0) (got_state m n e f bs fits.1, refl)
 fits_state m n e f bs false fits =
     rw (lt-leb (e.start + used bs) e.end fits.0) ((λ i. held_in (fits.1.0 i) (fits.1.1 i)), refl)
 
-fits_keeps : (m n : AddressMap) (e f : Extent) (bs : List Block) (done : Bool) → IsStoreAt m e → Fits m e bs done n f → Keeps m e n f
+pub fits_keeps : (m n : AddressMap) (e f : Extent) (bs : List Block) (done : Bool) → IsStoreAt m e → Fits m e bs done n f → Keeps m e n f
 fits_keeps m n e f bs true s fits = got_keeps m n e f bs fits.1
 fits_keeps m n e f bs false s fits =
     subst (λ (x : Extent). Keeps m e n x) (sym fits.1.1) (subst (λ (x : AddressMap). Keeps m e x e) (sym fits.1.0) (same_keeps m e s))

@@ -22,7 +22,7 @@ use Rattle.flex_store.proofs.Texts.{IsFirst, text_first, text_next, text_read}
 abbrev pub is_live : AddressMap → ℕ → Bool
 is_live m anchor = nat_eq (anchor % 4) 0 && is_anchor (class_of m anchor)
 
-has_by : (m : AddressMap) (e : Extent) (anchor : ℕ) → IsStoreAt m e → anchor % 4 ≡ 0 → is_anchor (class_of m anchor) ≡ has_anchor (blocks_of m e) anchor
+pub has_by : (m : AddressMap) (e : Extent) (anchor : ℕ) → IsStoreAt m e → anchor % 4 ≡ 0 → is_anchor (class_of m anchor) ≡ has_anchor (blocks_of m e) anchor
 has_by m e anchor s aligned =
     let start : word_start anchor ≡ anchor = omega arith in
     s.store.anchors anchor ∙ ap (has_anchor (blocks_of m e)) start

@@ -1,3 +1,4 @@
+pub mod Allocating
 pub mod Anchoring
 pub mod Answering
 pub mod Changing
@@ -10,6 +11,7 @@ pub mod Reading
 pub mod Releasing
 pub mod Sliding
 pub mod Splicing
+pub mod Starting
 pub mod Storing
 pub mod Texts
 pub mod Walks

@@ -19,9 +19,9 @@ use Rattle.flex_store.specs.Changes.{GotBlocks}
 use Rattle.flex_store.specs.Memory.{AreAnchored, Holds, blocks_in, laid_out, text_of}
 use Rattle.flex_store.specs.Places.{IsHeaderOf, IsSplit}
 use Rattle.flex_store.specs.Relaid.{behind, first_at, MayLie, Relaid}
-use Rattle.flex_store.specs.State.{AreAnchorWords, AreWhole, HasNoHead, IsAnchorWord, IsFlexRange, IsFlexStore, IsStoreAt, IsText, Keeps, KeepsHeads, blocks_of, held_in, is_flex_header, is_heap_class}
+use Rattle.flex_store.specs.State.{AreAnchorWords, AreWhole, HasNoHead, IsAnchorWord, IsFlexRange, IsFlexStore, IsStoreAt, IsText, Keeps, KeepsHeads, blocks_of, held_in, store_in, is_flex_header, is_heap_class}
 use Rattle.flex_store.proofs.Anchoring.{other_word}
-use Rattle.flex_store.proofs.Answering.{got_keeps, got_state, store_in}
+use Rattle.flex_store.proofs.Answering.{got_keeps, got_state}
 use Rattle.flex_store.proofs.Changing.{got}
 use Rattle.flex_store.proofs.Finding.{IsPlaced, placed}
 use Rattle.flex_store.proofs.Headers.{IsWithin, header_within}

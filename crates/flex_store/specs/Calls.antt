@@ -37,6 +37,10 @@ unfoldable pub is_anchor_place : Store → ℕ → Bool
 is_anchor_place s a = (a % 4 == 0 && s.bytes.mapped a)
     && (not (list_any (λ r. meets a 4 r.at r.len) s.others) && not (list_any (is_in_heap_alone a) s.heaps))
 
+-- does a word lie in the flex store?
+abbrev pub is_in_store : FlexStore → ℕ → Bool
+is_in_store s a = meets a 4 s.start (s.end - s.start)
+
 -- May a range become the flex store? It has whole words, which are mapped, and it meets no recorded range.
 unfoldable pub is_flex_range : (ℕ → Bool) → List Region → ℕ → ℕ → Bool
 is_flex_range mapped regions start end =
@@ -78,7 +82,7 @@ begun regions t start end = begun_by regions t start end t.flex
 unfoldable pub allocated : Store → FlexState → ℕ → ℕ → Result (FlexState × Bool) ErrorNumber
 allocated places t anchor size =
     bind (ready t) (λ s.
-    if not (is_anchor_place places anchor) then Err FlexBadAnchor else (
+    if not (is_anchor_place places anchor && not (is_in_store s anchor)) then Err FlexBadAnchor else (
     if has_anchor s.blocks anchor then Err FlexAnchorInUse else
     Ok (fitted t s (s.blocks ++ new_block anchor size ∷ []))))
 

@@ -20,6 +20,9 @@ abbrev pub flex_in : AddressMap → Option Extent → Option FlexStore
 flex_in m None = None
 flex_in m (Some e) = Some (record { start = e.start; end = e.end; blocks = blocks_of m e })
 
+abbrev pub store_in : AddressMap → Extent → FlexStore
+store_in m e = record { start = e.start; end = e.end; blocks = blocks_of m e }
+
 -- memory with the store in a range
 abbrev pub held_in : AddressMap → Extent → FlexState
 held_in m e = record { bytes = bytes_of m; flex = Some (record { start = e.start; end = e.end; blocks = blocks_of m e }) }

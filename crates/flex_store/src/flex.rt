@@ -1,21 +1,13 @@
-ghost use Rattle.std.specs.Prelude.{◌≡◌, ◌≤◌, ◌<◌, ◌+◌, ◌-◌, ◌%◌, ◌==◌, ◌&&◌, ◌++◌, ◌∷◌, [], true, false, Ok, Err, Some, None, MatchOption, MatchResult, length};
-ghost use Rattle.profile.specs.Outcome.{Gives, Leaves};
-ghost use Rattle.address_map.specs.Classes.{is_anchor};
-ghost use Rattle.address_map.specs.Memory.{byte_at, class_of, is_mapped, layout, mapping, regions};
-ghost use Rattle.address_map.specs.Bytes.{word_at};
-ghost use Rattle.flex_store.specs.Blocks.{find_block};
-ghost use Rattle.flex_store.specs.Calls.{begun, extended, is_flex_range, live, mid_extended, ready, released, sized};
-ghost use Rattle.flex_store.specs.Changes.{IsChanged};
-ghost use Rattle.flex_store.specs.Places.{IsHeaderOf};
-ghost use Rattle.flex_store.specs.Splices.{IsSplice};
-ghost use Rattle.flex_store.specs.Blocks.{cut_of, more_of};
-ghost use Rattle.flex_store.specs.State.{blocks_of, held_in, state_of, IsFlex, IsStoreAt, Keeps};
+ghost use Rattle.std.specs.Prelude.{◌≡◌, ◌<◌, ◌++◌, ◌∷◌, [], true, false, Some, None, MatchOption, MatchResult, length};
+ghost use Rattle.std.specs.List.{list_any};
+ghost use Rattle.profile.specs.Outcome.{Gives};
+ghost use Rattle.os_heap.specs.Store.{store_of};
+ghost use Rattle.address_map.specs.Memory.{bytes_of, class_of, is_mapped, layout, mapping, regions};
+ghost use Rattle.flex_store.specs.Calls.{allocated, begun, extended, flex_record, is_flex_range, is_in_heap_alone, mid_extended, released, sized};
+ghost use Rattle.flex_store.specs.State.{held_in, is_heap_class, state_of, HasNoHead, IsFlex, IsNoFlex, IsStoreAt, KeepsHeads};
 
-use crate::marks::clear_mark;
-use crate::slide::{remove, replace};
-use crate::splice::Splice;
-use crate::walk::{HEADER, SIZE, taken, word};
-use address_map::{AddressMap, Class, Kind};
+use crate::block::{alloc_block, block_size, extend_block, mid_extend_block, release_block};
+use address_map::{AddressMap, Kind};
 use profile::ErrorNumber;
 
 /// The range of the flex store, in addresses, and how many bytes of it its blocks take up.
@@ -66,135 +58,170 @@ impl Flex {
         };
         block_size(map, &extent, anchor)
     }
-}
 
-/// The size of an anchor's block.
-#[tactic(auto, unfolding(crate::specs::Calls::sized))]
-fn block_size(map: &AddressMap, extent: &Extent, anchor: u32) -> Result<u32, ErrorNumber>
-    requires { IsStoreAt map.now extent.now }
-    ensures { result ≡ sized (held_in map.now extent.now) anchor }
-{
-    let Some(header) = find_header(map, extent, anchor) else {
-        return Err(ErrorNumber::FlexBadAnchor);
-    };
-    Ok(word(map, header + SIZE))
-}
-
-/// Cuts a block, or appends zeros to it.
-#[tactic(auto, unfolding(crate::specs::Calls::extended))]
-fn extend_block(map: &mut AddressMap, extent: &mut Extent, anchor: u32, size: u32) -> Result<bool, ErrorNumber>
-    requires { IsStoreAt map.old extent.old }
-    ensures state { Gives (held_in map.old extent.old) (extended (held_in map.old extent.old) anchor size) result (held_in map.new extent.new) }
-    ensures keeps { Keeps map.old extent.old map.new extent.new }
-{
-    let Some(header) = find_header(map, extent, anchor) else {
-        return Err(ErrorNumber::FlexBadAnchor);
-    };
-    let old = word(map, header + SIZE);
-    if size == old {
-        return Ok(true);
+    /// Makes the flex store of a range, without blocks.
+    ///
+    /// # Errors
+    ///
+    /// The first of these, and nothing is changed then: `FlexAlready` where there is a store; `FlexBadRange` where the addresses are no multiples of
+    /// 4, the start is not below the end, or not all of the range is mapped or it meets a recorded range.
+    ///
+    /// Acorn C manual, "flex", flex_init; that the caller names the range is this project's own.
+    #[tactic(auto, unfolding(crate::specs::State::state_of, crate::specs::Calls::begun))]
+    pub fn init(&mut self, map: &mut AddressMap, start: u32, end: u32) -> Result<(), ErrorNumber>
+        requires flex { IsFlex map.old self.old }
+        requires room { length (regions map.old) < 133 }
+        ensures state { Gives (state_of map.old self.old)
+            (begun (regions map.old) (state_of map.old self.old) start end) result (state_of map.new self.new) }
+        ensures flex { IsFlex map.new self.new }
+        ensures regions { MatchResult result
+            (λ _. regions map.new ≡ regions map.old ++ flex_record start end ∷ [])
+            (λ _. regions map.new ≡ regions map.old) }
+        ensures mapping { mapping map.new ≡ mapping map.old }
+        ensures marks { class_of map.new ≡ class_of map.old }
+    {
+        if self.extent.is_some() {
+            return Err(ErrorNumber::FlexAlready);
+        }
+        if !is_flex_range(map, start, end) {
+            return Err(ErrorNumber::FlexBadRange);
+        }
+        record_store(map, start, end);
+        self.extent = Some(Extent {
+            start,
+            end,
+            used: 0,
+        });
+        Ok(())
     }
-    let splice = Splice {
-        at: old,
-        cut: old.saturating_sub(size),
-        more: size.saturating_sub(old),
-    };
-    Ok(splice_block(map, extent, anchor, header, &splice))
-}
 
-/// Puts zeros into a block, or takes bytes out of it.
-#[tactic(auto, unfolding(crate::specs::Calls::mid_extended))]
-fn mid_extend_block(map: &mut AddressMap, extent: &mut Extent, anchor: u32, at: u32, by: u32) -> Result<bool, ErrorNumber>
-    requires { IsStoreAt map.old extent.old }
-    ensures state { Gives (held_in map.old extent.old) (mid_extended (held_in map.old extent.old) anchor at by) result (held_in map.new extent.new) }
-    ensures keeps { Keeps map.old extent.old map.new extent.new }
-{
-    let cut = cut_of(by);
-    if cut > at {
-        return Err(ErrorNumber::FlexBadRange);
+    /// Makes a block of `size` zeros behind all others, and writes the address of its bytes to the anchor. The answer is false, and nothing is changed,
+    /// where the store has no room for it. Whether an anchor in a heap lies in a live block's payload is the caller's to test.
+    ///
+    /// # Errors
+    ///
+    /// The first of these, and nothing is changed then: `FlexNotReady` before `init`; `FlexBadAnchor` where the anchor is no multiple of 4, not mapped,
+    /// in the store, in a system page or in a module image; `FlexAnchorInUse` where a block has it.
+    ///
+    /// Acorn C manual, "flex", flex_alloc.
+    #[tactic(auto, unfolding(crate::specs::State::state_of, crate::specs::Calls::allocated))]
+    pub fn alloc(&mut self, map: &mut AddressMap, anchor: u32, size: u32) -> Result<bool, ErrorNumber>
+        requires flex { IsFlex map.old self.old }
+        requires payload { list_any (is_in_heap_alone anchor) (store_of map.old).heaps ≡ false }
+        requires head { is_heap_class (class_of map.old anchor) ≡ false }
+        ensures state { Gives (state_of map.old self.old)
+            (allocated (store_of map.old) (state_of map.old self.old) anchor size) result (state_of map.new self.new) }
+        ensures flex { IsFlex map.new self.new }
+        ensures layout { layout map.new ≡ layout map.old }
+        ensures heads { HasNoHead map.old self.old.extent → KeepsHeads map.old map.new }
+    {
+        let Some(mut extent) = self.extent else {
+            return Err(ErrorNumber::FlexNotReady);
+        };
+        let answer = alloc_block(map, &mut extent, anchor, size);
+        self.extent = Some(extent);
+        answer
     }
-    let Some(header) = find_header(map, extent, anchor) else {
-        return Err(ErrorNumber::FlexBadAnchor);
-    };
-    if at > word(map, header + SIZE) {
-        return Err(ErrorNumber::FlexBadRange);
+
+    /// Takes an anchor's block away, and makes its anchor 0. The blocks behind it slide down, and their anchors follow.
+    ///
+    /// # Errors
+    ///
+    /// `FlexNotReady` before `init`; `FlexBadAnchor` where no block has the anchor. Nothing is changed then.
+    ///
+    /// Acorn C manual, "flex", flex_free.
+    #[tactic(auto, unfolding(crate::specs::State::state_of, crate::specs::Calls::released))]
+    pub fn release(&mut self, map: &mut AddressMap, anchor: u32) -> Result<(), ErrorNumber>
+        requires { IsFlex map.old self.old }
+        ensures state { Gives (state_of map.old self.old) (released (state_of map.old self.old) anchor) result (state_of map.new self.new) }
+        ensures flex { IsFlex map.new self.new }
+        ensures layout { layout map.new ≡ layout map.old }
+        ensures heads { HasNoHead map.old self.old.extent → KeepsHeads map.old map.new }
+    {
+        let Some(mut extent) = self.extent else {
+            return Err(ErrorNumber::FlexNotReady);
+        };
+        let answer = release_block(map, &mut extent, anchor);
+        self.extent = Some(extent);
+        answer
     }
-    if by == 0 {
-        return Ok(true);
+
+    /// Gives an anchor's block another size: bytes at its end go, or zeros come there. The answer is false, and nothing is changed, where the store has
+    /// no room for it. A block whose size stays is as it was, with the bytes that fill it up to whole words.
+    ///
+    /// # Errors
+    ///
+    /// `FlexNotReady` before `init`; `FlexBadAnchor` where no block has the anchor. Nothing is changed then.
+    ///
+    /// Acorn C manual, "flex", flex_extend.
+    #[tactic(auto, unfolding(crate::specs::State::state_of, crate::specs::Calls::extended))]
+    pub fn extend(&mut self, map: &mut AddressMap, anchor: u32, size: u32) -> Result<bool, ErrorNumber>
+        requires { IsFlex map.old self.old }
+        ensures state { Gives (state_of map.old self.old) (extended (state_of map.old self.old) anchor size) result (state_of map.new self.new) }
+        ensures flex { IsFlex map.new self.new }
+        ensures layout { layout map.new ≡ layout map.old }
+        ensures heads { HasNoHead map.old self.old.extent → KeepsHeads map.old map.new }
+    {
+        let Some(mut extent) = self.extent else {
+            return Err(ErrorNumber::FlexNotReady);
+        };
+        let answer = extend_block(map, &mut extent, anchor, size);
+        self.extent = Some(extent);
+        answer
     }
-    let splice = Splice {
-        at,
-        cut,
-        more: more_of(by),
-    };
-    Ok(splice_block(map, extent, anchor, header, &splice))
-}
 
-/// How many bytes a change by a signed word takes away.
-fn cut_of(by: u32) -> u32
-    ensures { result ≡ cut_of by }
-{
-    if by >= 0x8000_0000 { u32::MAX - by + 1 } else { 0 }
-}
-
-/// How many bytes a change by a signed word adds.
-fn more_of(by: u32) -> u32
-    ensures { result ≡ more_of by }
-{
-    if by >= 0x8000_0000 { 0 } else { by }
-}
-
-/// Takes a block away, and makes its anchor 0.
-#[tactic(auto, unfolding(crate::specs::Calls::released))]
-fn release_block(map: &mut AddressMap, extent: &mut Extent, anchor: u32) -> Result<(), ErrorNumber>
-    requires { IsStoreAt map.old extent.old }
-    ensures state { Gives (held_in map.old extent.old) (released (held_in map.old extent.old) anchor) result (held_in map.new extent.new) }
-    ensures keeps { Keeps map.old extent.old map.new extent.new }
-{
-    let Some(header) = find_header(map, extent, anchor) else {
-        return Err(ErrorNumber::FlexBadAnchor);
-    };
-    let size = word(map, header + SIZE);
-    clear_mark(map, Kind::Anchor, anchor);
-    map.put_word(anchor, 0);
-    remove(map, header, extent.start + extent.used);
-    extent.used -= taken(u64::from(size)) as u32;
-    Ok(())
-}
-
-/// Whether a word is the anchor of a block.
-fn is_live(map: &AddressMap, anchor: u32) -> bool
-    ensures { result ≡ (anchor % 4 == 0 && is_anchor (class_of map.now anchor)) }
-{
-    anchor % 4 == 0 && matches!(map.class(anchor), Class::Anchor)
-}
-
-/// Where the header of an anchor's block is.
-fn find_header(map: &AddressMap, extent: &Extent, anchor: u32) -> Option<u32>
-    requires { IsStoreAt map.now extent.now }
-    ensures { MatchOption result (find_block anchor (blocks_of map.now extent.now) ≡ None)
-        (λ at. IsHeaderOf extent.now.start anchor (blocks_of map.now extent.now) at) }
-{
-    if !is_live(map, anchor) {
-        return None;
+    /// Puts `by` zeros into an anchor's block before its byte `at`, or takes as many bytes before that one away where `by`, a signed word in two's
+    /// complement, is below 0. The answer is false, and nothing is changed, where the store has no room for it; a `by` of 0 changes nothing.
+    ///
+    /// # Errors
+    ///
+    /// The first of these, and nothing is changed then: `FlexNotReady` before `init`; `FlexBadRange` where more bytes would go than stand before
+    /// `at`; `FlexBadAnchor` where no block has the anchor; `FlexBadRange` where `at` is past the block's size.
+    ///
+    /// Acorn C manual, "flex", flex_midextend.
+    #[tactic(auto, unfolding(crate::specs::State::state_of, crate::specs::Calls::mid_extended))]
+    pub fn mid_extend(&mut self, map: &mut AddressMap, anchor: u32, at: u32, by: u32) -> Result<bool, ErrorNumber>
+        requires { IsFlex map.old self.old }
+        ensures state { Gives (state_of map.old self.old) (mid_extended (state_of map.old self.old) anchor at by) result (state_of map.new self.new) }
+        ensures flex { IsFlex map.new self.new }
+        ensures layout { layout map.new ≡ layout map.old }
+        ensures heads { HasNoHead map.old self.old.extent → KeepsHeads map.old map.new }
+    {
+        let Some(mut extent) = self.extent else {
+            return Err(ErrorNumber::FlexNotReady);
+        };
+        let answer = mid_extend_block(map, &mut extent, anchor, at, by);
+        self.extent = Some(extent);
+        answer
     }
-    Some(word(map, anchor) - HEADER)
 }
 
-/// Changes a block's bytes, where the store has room for it then.
-fn splice_block(map: &mut AddressMap, extent: &mut Extent, anchor: u32, header: u32, splice: &Splice) -> bool
-    requires store { IsStoreAt map.old extent.old }
-    requires place { IsHeaderOf extent.old.start anchor (blocks_of map.old extent.old) header }
-    requires splice { IsSplice splice.now (word_at (byte_at map.old) (header + 4)) }
-    ensures { IsChanged map.old extent.old anchor splice.now result map.new extent.new }
+/// Whether the flex store may be made of a range: of whole words, mapped, and meeting no recorded range.
+#[tactic(auto, unfolding(crate::specs::Calls::is_flex_range))]
+fn is_flex_range(map: &AddressMap, start: u32, end: u32) -> bool
+    ensures { result ≡ is_flex_range (is_mapped map.now) (regions map.now) start end }
 {
-    let size = word(map, header + SIZE);
-    let others = u64::from(extent.used) - taken(u64::from(size));
-    let used = others + taken(splice.size_after(size));
-    if u64::from(extent.start) + used > u64::from(extent.end) {
+    if start % 4 != 0 || end % 4 != 0 || start >= end {
         return false;
     }
-    replace(map, header, splice, extent.start + extent.used);
-    extent.used = used as u32;
-    true
+    let len = end - start;
+    if !map.maps(start, len) {
+        return false;
+    }
+    !map.meets_record(start, len)
+}
+
+/// Records the range of the store.
+fn record_store(map: &mut AddressMap, start: u32, end: u32)
+    requires flex { IsNoFlex map.old }
+    requires range { is_flex_range (is_mapped map.old) (regions map.old) start end ≡ true }
+    requires room { length (regions map.old) < 133 }
+    ensures store { IsStoreAt map.new (record { start = start; end = end; used = 0 }) }
+    ensures state { held_in map.new (record { start = start; end = end; used = 0 })
+        ≡ record { bytes = bytes_of map.old; flex = Some (record { start = start; end = end; blocks = [] }) } }
+    ensures regions { regions map.new ≡ regions map.old ++ flex_record start end ∷ [] }
+    ensures mapping { mapping map.new ≡ mapping map.old }
+    ensures marks { class_of map.new ≡ class_of map.old }
+{
+    map.own(Kind::FlexStore, start, end - start);
 }

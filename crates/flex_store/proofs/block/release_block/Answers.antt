@@ -8,7 +8,7 @@ use Rattle.flex_store.specs.Relaid.{first_at}
 use Rattle.flex_store.specs.State.{blocks_of}
 use Rattle.flex_store.proofs.Finding.{header_word, placed}
 use Rattle.flex_store.proofs.Releasing.{IsCleared, anchor_word, release_gets, release_gives, release_keeps, removes_text}
-use Rattle.flex_store.proofs.flex.release_block.Goals as goal
+use Rattle.flex_store.proofs.block.release_block.Goals as goal
 
 pub overflow_add-header : goal.overflow_add-header
 overflow_add-header c = omega (arith, (header_word c.args.map.now c.args.extent.now c.args.anchor c.in-Some.header c.requires c.in-Some.ensures).low)
@@ -42,7 +42,7 @@ overflow_cast-extent c =
     let w = (header_word c.args.map.now c.args.extent.now c.args.anchor c.in-Some.header c.requires c.in-Some.ensures) in
     let p = (placed c.args.map.now c.args.extent.now c.args.anchor c.in-Some.header c.requires c.in-Some.ensures) in
     let size : c.taken.result ≡ taken (first_at c.args.map.now c.in-Some.header).size = c.taken.ensures ∙ ap taken (c.from.ensures ∙ c.word-size.ensures) in
-    omega (arith, w.fits, p.low, p.total, p.store.fits, p.split.list)
+    omega (arith, w.fits, p.low, p.total, p.store.fits)
 
 pub overflow_sub-extent : goal.overflow_sub-extent
 overflow_sub-extent c =

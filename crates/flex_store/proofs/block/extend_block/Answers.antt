@@ -1,7 +1,7 @@
 use Rattle.std.proofs.Common.{ℕ, ◌≤◌, ◌+◌, ◌^◌, arith, ◌∙◌}
 use Rattle.flex_store.proofs.Answering.{change_keeps, extend_done, extend_same}
 use Rattle.flex_store.proofs.Finding.{header_word}
-use Rattle.flex_store.proofs.flex.extend_block.Goals as goal
+use Rattle.flex_store.proofs.block.extend_block.Goals as goal
 
 pub overflow_add-header : goal.overflow_add-header
 overflow_add-header c = omega (arith, (header_word c.args.map.now c.args.extent.now c.args.anchor c.in-Some.header c.requires c.in-Some.ensures).low)

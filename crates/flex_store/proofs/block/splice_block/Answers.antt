@@ -4,7 +4,7 @@ use Rattle.flex_store.specs.Relaid.{behind, first_at}
 use Rattle.flex_store.specs.Splices.{size_after}
 use Rattle.flex_store.proofs.Changing.{changed, may_change, no_room}
 use Rattle.flex_store.proofs.Finding.{IsHeaderWord, header_word, placed}
-use Rattle.flex_store.proofs.flex.splice_block.Goals as goal
+use Rattle.flex_store.proofs.block.splice_block.Goals as goal
 
 pub overflow_add-header : goal.overflow_add-header
 overflow_add-header c =

@@ -2,7 +2,7 @@ use Rattle.std.proofs.Common.{◌-◌, ◌≡◌, ◌≤◌, ℕ, sym, ◌∙◌
 use Rattle.flex_store.specs.Places.{IsHeaderOf}
 use Rattle.flex_store.specs.State.{blocks_of}
 use Rattle.flex_store.proofs.Finding.{found, not_live}
-use Rattle.flex_store.proofs.flex.find_header.Goals as goal
+use Rattle.flex_store.proofs.block.find_header.Goals as goal
 
 pub returns-then-not-is_live : goal.returns-then-not-is_live
 returns-then-not-is_live c = not_live c.args.map.now c.args.extent.now c.args.anchor c.requires (sym c.is_live.ensures ∙ c.if-not-is_live.true)
