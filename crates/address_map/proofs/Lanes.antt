@@ -1,8 +1,8 @@
 -- A number written into one lane of a byte, and what the lanes hold then.
-use Rattle.std.proofs.Common.{◌≡◌, ℕ, ◌+◌, ◌-◌, ◌*◌, ◌/◌, ◌%◌, ◌<◌, ◌≤◌, ◌==◌, true, false, cond, List, length, get_or, set, arith, refl, sym, ap, ◌∙◌, inl, inr}
-use Rattle.std.proofs.lemmas.Bool.{cases_eq, eq-eqb, ne_eqb, cond-true, cond-false}
+use Rattle.std.proofs.Common.{◌≡◌, ℕ, ◌+◌, ◌-◌, ◌*◌, ◌/◌, ◌%◌, ◌<◌, ◌≤◌, ◌==◌, true, false, cond, List, length, get_or, set, replicate, arith, refl, sym, ap, ◌∙◌, inl, inr}
+use Rattle.std.proofs.lemmas.Bool.{cases_eq, cases_lt, eq-eqb, ne_eqb, cond-true, cond-false}
 use Rattle.std.proofs.lemmas.Bool.Decides.{nat_tests}
-use Rattle.std.proofs.lemmas.List.{get_or-set_same, get_or-set_other}
+use Rattle.std.proofs.lemmas.List.{get_or-set_same, get_or-set_other, get_or-replicate, get_or_past, length-replicate}
 use Rattle.address_map.specs.declared.class.Class.{Class}
 use Rattle.address_map.specs.declared.class.Class.TheVariants.{Plain, Heap, FlexHeader, Anchor}
 use Rattle.address_map.specs.Bytes.{in_range}
@@ -82,3 +82,15 @@ pub class_zero : (items : List ℕ) (k : ℕ) → get_or items (k / 4) 0 ≡ 0 �
 class_zero items k is =
     let zero_lane : lane 0 (k % 4) ≡ 0 = grind (arith, nat_tests) in
     ap (λ (x : ℕ). class_of_number (lane x (k % 4))) is ∙ ap class_of_number zero_lane
+
+zero_there : (n i : ℕ) → get_or (replicate {A = ℕ} n 0) i 0 ≡ 0
+zero_there n i = elim (cases_lt i n) [
+  | inl below ↦ get_or-replicate n i 0 0 below
+  | inr past ↦ get_or_past (replicate {A = ℕ} n 0) i 0 (omega (arith, length-replicate {A = ℕ} n 0, past))
+]
+
+-- bytes that are 0 are the marks of plain words
+pub zeros_plain : (items : List ℕ) (n k : ℕ) → items ≡ replicate {A = ℕ} n 0 → class_of_number (lane (get_or items (k / 4) 0) (k % 4)) ≡ Plain
+zeros_plain items n k e =
+    let zero : get_or items (k / 4) 0 ≡ 0 = ap (λ (xs : List ℕ). get_or xs (k / 4) 0) e ∙ zero_there n (k / 4) in
+    rw zero (grind (arith, nat_tests))

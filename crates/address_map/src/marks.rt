@@ -17,7 +17,8 @@ impl Marks {
 
     /// The classes of four words for each of that many bytes, all plain.
     pub(crate) fn new(alloc: Global, bytes: usize) -> Result<Marks, AllocError>
-        ensures { IfOk result (λ m. length m.bytes.items ≡ bytes) }
+        ensures count { IfOk result (λ m. length m.bytes.items ≡ bytes) }
+        ensures plain { IfOk result (λ m. (k : ℕ) → class_at m k ≡ Class.Plain) }
     {
         Ok(Marks {
             bytes: vec![in alloc; 0; bytes]?,

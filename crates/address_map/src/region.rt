@@ -66,7 +66,7 @@ impl Region {
 }
 
 /// Whether two ranges share an address.
-pub(crate) fn do_meet(at: u32, len: u32, other: u32, other_len: u32) -> bool
+pub fn do_meet(at: u32, len: u32, other: u32, other_len: u32) -> bool
     ensures { result ≡ meets at len other other_len }
 {
     let end = u64::from(at) + u64::from(len);

@@ -160,7 +160,7 @@ impl Cpu {
 
     /// Sets the whole status, the mode too.
     #[inline(always)]
-    pub(crate) fn set_psr(&mut self, psr: Psr)
+    pub fn set_psr(&mut self, psr: Psr)
         ensures { self.new ≡ with_psr self.old psr }
     {
         self.psr = psr;

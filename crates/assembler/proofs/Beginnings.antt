@@ -7,7 +7,7 @@ use Rattle.arm_decode.specs.declared.condition.Condition.{Condition}
 use Rattle.arm_decode.specs.declared.operation.Operation.{Operation}
 use Rattle.arm_decode.specs.declared.operation.Operation.TheVariants as operation
 use Rattle.assembler_text.specs.Names.{choose_text, operation_text}
-use Rattle.assembler_text.specs.Printing.{action_text, branch_text, interrupt_text, multiply_head, operate_head}
+use Rattle.assembler_text.specs.Printing.{action_text, branch_text, swi_text, multiply_head, operate_head}
 use Rattle.assembler_text.specs.Transfers.{block_head, transfer_head}
 use Rattle.assembler_names.specs.Words.{after_spaces, is_word_byte, word}
 use Rattle.assembler.specs.Directives.{directive_named}
@@ -55,15 +55,15 @@ unfolding after_spaces directive_named
 branch_begins true front = record { no_space = refl; no_comment = refl; no_directive = ap directive_named (word_onto 66 (76 ∷ front) refl) }
 branch_begins false front = record { no_space = refl; no_comment = refl; no_directive = ap directive_named (word_onto 66 front refl) }
 
-interrupt_begins : (rest : List ℕ) → BeginsInstruction (codes "SWI" ++ rest)
+swi_begins : (rest : List ℕ) → BeginsInstruction (codes "SWI" ++ rest)
 unfolding after_spaces directive_named
-interrupt_begins rest = record { no_space = refl; no_comment = refl; no_directive = ap directive_named (two_letters 83 87 (73 ∷ (rest)) refl refl) }
+swi_begins rest = record { no_space = refl; no_comment = refl; no_directive = ap directive_named (two_letters 83 87 (73 ∷ (rest)) refl refl) }
 
 pub instruction_begins : (address : ℕ) (c : Condition) (a : Action) → BeginsInstruction (action_text address c a)
-unfolding operate_head multiply_head transfer_head block_head branch_text interrupt_text
+unfolding operate_head multiply_head transfer_head block_head branch_text swi_text
 instruction_begins address c (action.Operate o) = operation_begins o.operation _ _
 instruction_begins address c (action.Multiply m) = multiply_begins m.accumulates _ _
 instruction_begins address c (action.Transfer t) = transfer_begins t.loads _ _
 instruction_begins address c (action.BlockTransfer b) = block_begins b.loads _ _
 instruction_begins address c (action.Branch links distance) = branch_begins links _
-instruction_begins address c (action.SoftwareInterrupt number) = interrupt_begins _
+instruction_begins address c (action.SoftwareInterrupt number) = swi_begins _

@@ -34,7 +34,7 @@ use Rattle.arm_decode.specs.Names.{is_up}
 use Rattle.assembler_text.specs.Names.{block_mode_text, choose_text, condition_text, operation_text, register_text, shift_text, text_if}
 use Rattle.assembler_text.specs.Numbers.{immediate_text, immediate_value, is_field, least_rotation, number_text}
 use Rattle.assembler_text.specs.Operands.{amount_text, by_register_text, operand_text, shifted_text, shifting_text}
-use Rattle.assembler_text.specs.Printing.{action_text, branch_target, branch_text, flags_text, interrupt_text, multiply_head, multiply_operands, operate_head, registers_text}
+use Rattle.assembler_text.specs.Printing.{action_text, branch_target, branch_text, flags_text, swi_text, multiply_head, multiply_operands, operate_head, registers_text}
 use Rattle.assembler_text.specs.Transfers.{address_text, after_text, base_text, before_text, block_head, braces_text, close_text, indexed_text, is_nothing, is_user, listed_from, listed_text, offset_text, separated, sign_text, transfer_head}
 use Rattle.assembler_names.specs.Words.{is_word_byte}
 use Rattle.assembler_reading.proofs.MnemonicsAgain.{letters_join}
@@ -357,9 +357,9 @@ branch_unbroken c links t =
     (chosen links (codes "BL") (codes "B") refl refl)
     (join (condition_text c) (codes " " ++ number_text t) (condition_unbroken c) (number_unbroken t))
 
-interrupt_unbroken : (c : Condition) (n : ℕ) → IsUnbroken (interrupt_text c n)
-unfolding interrupt_text
-interrupt_unbroken c n = join (condition_text c) (codes " " ++ number_text n) (condition_unbroken c) (number_unbroken n)
+swi_unbroken : (c : Condition) (n : ℕ) → IsUnbroken (swi_text c n)
+unfolding swi_text
+swi_unbroken c n = join (condition_text c) (codes " " ++ number_text n) (condition_unbroken c) (number_unbroken n)
 
 pub action_unbroken : (address : ℕ) (c : Condition) (a : Action) → FitsFields a → IsUnbroken (action_text address c a)
 action_unbroken address c (action.Operate o) fits =
@@ -372,4 +372,4 @@ action_unbroken address c (action.Transfer t) fits =
 action_unbroken address c (action.BlockTransfer b) fits =
     join (block_head c b) (braces_text b) (block_head_unbroken c b) (braces_unbroken b)
 action_unbroken address c (action.Branch links d) fits = branch_unbroken c links (branch_target address d)
-action_unbroken address c (action.SoftwareInterrupt n) fits = interrupt_unbroken c n
+action_unbroken address c (action.SoftwareInterrupt n) fits = swi_unbroken c n

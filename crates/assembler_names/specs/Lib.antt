@@ -1,6 +1,6 @@
 pub mod Expressions
-pub mod Interrupts
 pub mod Labels
 pub mod Mnemonics
 pub mod Names
+pub mod SwiNames
 pub mod Words

@@ -73,8 +73,8 @@ block_mnemonic name = do
   Some (mnemonic (conditioned (drop 3 name)).0 (command.BlockTransfer loads mode))
 
 -- SWI, as `SWIEQ`
-unfoldable pub interrupt_mnemonic : List ℕ → Option Mnemonic
-interrupt_mnemonic name = do
+unfoldable pub swi_mnemonic : List ℕ → Option Mnemonic
+swi_mnemonic name = do
   condition ← if is_name (take 3 name) (codes "SWI") then condition_named (drop 3 name) else None
   Some (mnemonic condition command.SoftwareInterrupt)
 
@@ -92,5 +92,5 @@ plain_branch name = do
 -- the first that fits
 unfoldable pub mnemonic_named : List ℕ → Option Mnemonic
 mnemonic_named name =
-    operate_mnemonic name or multiply_mnemonic name or transfer_mnemonic name or block_mnemonic name or interrupt_mnemonic name
+    operate_mnemonic name or multiply_mnemonic name or transfer_mnemonic name or block_mnemonic name or swi_mnemonic name
     or linked_branch name or plain_branch name

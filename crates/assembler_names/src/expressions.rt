@@ -1,8 +1,9 @@
 //! Numbers, and sums and differences of numbers and labels.
 
-ghost use Rattle.std.specs.Prelude.{◌≡◌, option_map};
+ghost use Rattle.std.specs.Prelude.{◌≡◌};
 ghost use Rattle.assembler_names.specs.Expressions.{combined, expression, hexadecimal, more_terms, named_term, quoted, sign, term, word_value};
 ghost use Rattle.assembler_names.specs.Labels.{address_of};
+ghost use Rattle.assembler_names.specs.Words.{read_of};
 
 use crate::labels::{Labels, begins_with_digit, is_label};
 use crate::numerals::numeral;
@@ -14,7 +15,7 @@ pub type Value = Option<u32>;
 /// Terms joined by `+` and `-`, without spaces, modulo 2^32: `loop+4`, `'A'-&41+n`.
 #[tactic(auto, unfolding(crate::specs::Expressions::expression))]
 pub fn expression<'t>(labels: &Labels, text: &'t [u8]) -> Read<'t, Value>
-    ensures { option_map (λ r. (r.0, r.1.now)) result ≡ expression (address_of labels.now) text.now }
+    ensures { read_of result ≡ expression (address_of labels.now) text.now }
 {
     let (first, rest) = term(labels, text)?;
     more_terms(labels, rest.len(), first, rest)
@@ -23,7 +24,7 @@ pub fn expression<'t>(labels: &Labels, text: &'t [u8]) -> Read<'t, Value>
 // The terms behind a sum, at most `count`.
 #[tactic(auto, using(crate::proofs::Terms::term_steps))]
 fn more_terms<'t>(labels: &Labels, count: usize, first: Value, text: &'t [u8]) -> Read<'t, Value>
-    ensures { option_map (λ r. (r.0, r.1.now)) result ≡ more_terms count (address_of labels.now) first text.now }
+    ensures { read_of result ≡ more_terms count (address_of labels.now) first text.now }
 {
     let mut sum = first;
     let mut rest = text;
@@ -41,7 +42,7 @@ fn more_terms<'t>(labels: &Labels, count: usize, first: Value, text: &'t [u8]) -
 // `'c'`, `&FF`, `255` or a label.
 #[tactic(auto, unfolding(crate::specs::Expressions::term))]
 fn term<'t>(labels: &Labels, text: &'t [u8]) -> Read<'t, Value>
-    ensures { option_map (λ r. (r.0, r.1.now)) result ≡ term (address_of labels.now) text.now }
+    ensures { read_of result ≡ term (address_of labels.now) text.now }
 {
     match text {
         [] => None,
@@ -54,7 +55,7 @@ fn term<'t>(labels: &Labels, text: &'t [u8]) -> Read<'t, Value>
 // What follows the first quote of `'c'`.
 #[tactic(auto, unfolding(crate::specs::Expressions::quoted))]
 fn quoted(text: &[u8]) -> Read<'_, Value>
-    ensures { option_map (λ r. (r.0, r.1.now)) result ≡ quoted text.now }
+    ensures { read_of result ≡ quoted text.now }
 {
     match text {
         [c @ b' '..=b'~', b'\'', rest @ ..] => Some((Some(u32::from(*c)), rest)),
@@ -65,7 +66,7 @@ fn quoted(text: &[u8]) -> Read<'_, Value>
 // What follows `&`.
 #[tactic(auto, unfolding(crate::specs::Expressions::hexadecimal))]
 fn hexadecimal(text: &[u8]) -> Read<'_, Value>
-    ensures { option_map (λ r. (r.0, r.1.now)) result ≡ hexadecimal text.now }
+    ensures { read_of result ≡ hexadecimal text.now }
 {
     let number = numeral(16, word(text))?;
     Some((Some(number), after_word(text)))
@@ -73,7 +74,7 @@ fn hexadecimal(text: &[u8]) -> Read<'_, Value>
 
 #[tactic(auto, unfolding(crate::specs::Expressions::named_term))]
 fn named_term<'t>(labels: &Labels, text: &'t [u8]) -> Read<'t, Value>
-    ensures { option_map (λ r. (r.0, r.1.now)) result ≡ named_term (address_of labels.now) text.now }
+    ensures { read_of result ≡ named_term (address_of labels.now) text.now }
 {
     let value = word_value(labels, word(text))?;
     Some((value, after_word(text)))
@@ -97,7 +98,7 @@ fn word_value(labels: &Labels, name: &[u8]) -> Option<Value>
 /// A `-`, which is true, or a `+`, and what follows it.
 #[tactic(auto, unfolding(crate::specs::Expressions::sign))]
 pub fn sign(text: &[u8]) -> Read<'_, bool>
-    ensures { option_map (λ r. (r.0, r.1.now)) result ≡ sign text.now }
+    ensures { read_of result ≡ sign text.now }
 {
     match text {
         [b'-', rest @ ..] => Some((true, rest)),

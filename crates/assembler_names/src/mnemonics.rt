@@ -1,7 +1,7 @@
 //! The words that name an instruction: a name, a condition or none, and suffixes.
 
 ghost use Rattle.std.specs.Prelude.{◌≡◌, drop, take};
-ghost use Rattle.assembler_names.specs.Mnemonics.{block_mnemonic, conditioned, first_name, flag_text, interrupt_mnemonic, linked_branch, mnemonic_named, multiply_mnemonic, operate_mnemonic, plain_branch, suffix, transfer_mnemonic, transfer_suffix};
+ghost use Rattle.assembler_names.specs.Mnemonics.{block_mnemonic, conditioned, first_name, flag_text, swi_mnemonic, linked_branch, mnemonic_named, multiply_mnemonic, operate_mnemonic, plain_branch, suffix, transfer_mnemonic, transfer_suffix};
 
 use crate::names::{block_mode_named, condition_named, operation_named};
 use crate::words::is_name;
@@ -57,7 +57,7 @@ pub fn mnemonic_named(name: &[u8]) -> Option<Mnemonic>
         .or(multiply_mnemonic(name))
         .or(transfer_mnemonic(name))
         .or(block_mnemonic(name))
-        .or(interrupt_mnemonic(name))
+        .or(swi_mnemonic(name))
         .or(linked_branch(name))
         .or(plain_branch(name))
 }
@@ -121,9 +121,9 @@ fn block_mnemonic(name: &[u8]) -> Option<Mnemonic>
     })
 }
 
-#[tactic(auto, unfolding(crate::specs::Mnemonics::interrupt_mnemonic))]
-fn interrupt_mnemonic(name: &[u8]) -> Option<Mnemonic>
-    ensures { result ≡ interrupt_mnemonic name.now }
+#[tactic(auto, unfolding(crate::specs::Mnemonics::swi_mnemonic))]
+fn swi_mnemonic(name: &[u8]) -> Option<Mnemonic>
+    ensures { result ≡ swi_mnemonic name.now }
 {
     if !is_name(front(name, 3), b"SWI") {
         return None;

@@ -1,8 +1,9 @@
 //! The names of registers, conditions, operations, shifts and block modes, in letters of either
 //! case.
 
-ghost use Rattle.std.specs.Prelude.{◌≡◌, option_map};
+ghost use Rattle.std.specs.Prelude.{◌≡◌};
 ghost use Rattle.assembler_names.specs.Names.{block_mode_named, condition_named, names_block_mode, names_condition, names_operation, names_shift, numbered_register, operation_named, printed_condition, register, register_named, shift_named, stack_text};
+ghost use Rattle.assembler_names.specs.Words.{read_of};
 
 use crate::words::{Read, after_word, is_name, word};
 use arm_decode::{BlockMode, Condition, Operation, Register, Shift};
@@ -63,7 +64,7 @@ static BLOCK_MODES: [BlockMode; 4] = [
 /// The register at the front of a text: `R0` to `R15`, `SP`, `LR` or `PC`.
 #[tactic(auto, unfolding(crate::specs::Names::register))]
 pub fn register(text: &[u8]) -> Read<'_, Register>
-    ensures { option_map (λ r. (r.0, r.1.now)) result ≡ register text.now }
+    ensures { read_of result ≡ register text.now }
 {
     let named = register_named(word(text))?;
     Some((named, after_word(text)))

@@ -19,15 +19,15 @@ use Rattle.arm_decode.specs.declared.form.Form.{Form}
 use Rattle.assembler_text.specs.Names.{choose_text, condition_text, operation_text, text_if}
 use Rattle.assembler_text.specs.Numbers.{number_text}
 use Rattle.assembler_text.specs.Operands.{operand_text}
-use Rattle.assembler_text.specs.Printing.{branch_target, branch_text, flags_text, interrupt_text, multiply_head, multiply_operands, multiply_text, operate_head, operate_text, registers_text}
+use Rattle.assembler_text.specs.Printing.{branch_target, branch_text, flags_text, swi_text, multiply_head, multiply_operands, multiply_text, operate_head, operate_text, registers_text}
 use Rattle.assembler_names.specs.Expressions.{Lookup, expression, sign}
-use Rattle.assembler_names.specs.Interrupts.{call_named, swi_named}
+use Rattle.assembler_names.specs.SwiNames.{call_named, swi_named}
 use Rattle.assembler_names.specs.Mnemonics.{flag_text, mnemonic}
 use Rattle.assembler_names.specs.Words.{after_spaces, after_word, byte, spaces, word}
 use Rattle.assembler_names.specs.declared.mnemonics.Command.{Command}
 use Rattle.assembler_names.specs.declared.mnemonics.Command.TheVariants as command
-use Rattle.assembler_reading.specs.Instructions.{action_at, branch_at, branch_to, instruction, interrupt_at, interrupt_of, plain_call, word_for}
-use Rattle.assembler_reading.proofs.MnemonicsAgain.{IsMnemonic, branch_word, interrupt_word, multiply_word, operate_word}
+use Rattle.assembler_reading.specs.Instructions.{action_at, branch_at, branch_to, instruction, swi_at, swi_action, plain_call, word_for}
+use Rattle.assembler_reading.proofs.MnemonicsAgain.{IsMnemonic, branch_word, swi_word, multiply_word, operate_word}
 use Rattle.assembler_reading.proofs.Numbers.{number_again}
 use Rattle.assembler_reading.proofs.OperatingAgain.{allocated, flag_of, multiply_again, multiply_no_space, operate_again, operate_no_space}
 use Rattle.assembler_reading.proofs.Pieces.{after_before, ends_nothing, word_before}
@@ -165,25 +165,25 @@ no_quote : (n : ℕ) → byte 34 (number_text n) ≡ None
 unfolding byte
 no_quote n = refl
 
-interrupt_fits : (n : ℕ) → n < 2 ^ 24 → interrupt_of (Some n) ≡ Ok (action.SoftwareInterrupt n)
-unfolding interrupt_of
-interrupt_fits n small = let test : nat_lt n (2 ^ 24) ≡ true = grind (arith, nat_tests, small) in rw test refl
+swi_fits : (n : ℕ) → n < 2 ^ 24 → swi_action (Some n) ≡ Ok (action.SoftwareInterrupt n)
+unfolding swi_action
+swi_fits n small = let test : nat_lt n (2 ^ 24) ≡ true = grind (arith, nat_tests, small) in rw test refl
 
-interrupt_again : (labels : Lookup) (n : ℕ) → n < 2 ^ 24 → interrupt_at labels (number_text n) ≡ Some (Ok (action.SoftwareInterrupt n), [])
-unfolding interrupt_at
-interrupt_again labels n small =
+swi_again : (labels : Lookup) (n : ℕ) → n < 2 ^ 24 → swi_at labels (number_text n) ≡ Some (Ok (action.SoftwareInterrupt n), [])
+unfolding swi_at
+swi_again labels n small =
     let word_sized : n < 2 ^ 32 = omega arith in
-    rw (no_quote n, no_call n, number_alone labels n word_sized, interrupt_fits n small) refl
+    rw (no_quote n, no_call n, number_alone labels n word_sized, swi_fits n small) refl
 
-interrupt_shape : (c : Condition) (n : ℕ) → interrupt_text c n ≡ (codes "SWI" ++ condition_text c) ++ (32 ∷ number_text n)
-unfolding interrupt_text
-interrupt_shape c n = sym (append_assoc (codes "SWI") (condition_text c) (32 ∷ number_text n))
+swi_shape : (c : Condition) (n : ℕ) → swi_text c n ≡ (codes "SWI" ++ condition_text c) ++ (32 ∷ number_text n)
+unfolding swi_text
+swi_shape c n = sym (append_assoc (codes "SWI") (condition_text c) (32 ∷ number_text n))
 
-pub interrupt_is_read : (labels : Lookup) (address w : ℕ) (c : Condition) (n : ℕ) → n < 2 ^ 24 → refusal (action.SoftwareInterrupt n) ≡ None
-    → word_of (c, action.SoftwareInterrupt n) ≡ w → instruction labels address (interrupt_text c n) ≡ Some (Ok w, [])
-interrupt_is_read labels address w c n small free same =
-    rw (interrupt_shape c n)
+pub swi_is_read : (labels : Lookup) (address w : ℕ) (c : Condition) (n : ℕ) → n < 2 ^ 24 → refusal (action.SoftwareInterrupt n) ≡ None
+    → word_of (c, action.SoftwareInterrupt n) ≡ w → instruction labels address (swi_text c n) ≡ Some (Ok w, [])
+swi_is_read labels address w c n small free same =
+    rw (swi_shape c n)
     (read_again labels address w (codes "SWI" ++ condition_text c) (number_text n)
-    command.SoftwareInterrupt (c, action.SoftwareInterrupt n) (interrupt_word c) (number_no_space n)
-    (interrupt_again labels n small)
+    command.SoftwareInterrupt (c, action.SoftwareInterrupt n) (swi_word c) (number_no_space n)
+    (swi_again labels n small)
     (word_for_again w (c, action.SoftwareInterrupt n) free same))

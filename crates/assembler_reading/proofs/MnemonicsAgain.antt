@@ -10,7 +10,7 @@ use Rattle.arm_decode.specs.declared.condition.Condition.TheVariants as conditio
 use Rattle.arm_decode.specs.declared.operation.Operation.{Operation}
 use Rattle.arm_decode.specs.declared.operation.Operation.TheVariants as operation
 use Rattle.assembler_text.specs.Names.{block_mode_text, choose_text, condition_text, operation_text, text_if}
-use Rattle.assembler_names.specs.Mnemonics.{block_mnemonic, conditioned, first_name, flag_text, interrupt_mnemonic, linked_branch, mnemonic, mnemonic_named, multiply_mnemonic, operate_mnemonic, plain_branch, suffix, transfer_mnemonic, transfer_suffix}
+use Rattle.assembler_names.specs.Mnemonics.{block_mnemonic, conditioned, first_name, flag_text, swi_mnemonic, linked_branch, mnemonic, mnemonic_named, multiply_mnemonic, operate_mnemonic, plain_branch, suffix, transfer_mnemonic, transfer_suffix}
 use Rattle.assembler_names.specs.Names.{block_mode_named, condition_named, operation_named, printed_condition}
 use Rattle.assembler_names.specs.Words.{is_word_byte}
 use Rattle.assembler_names.specs.declared.mnemonics.Command.TheVariants as command
@@ -330,7 +330,7 @@ block_word c loads mode =
 -- B, BL, SWI: with their conditions whole words
 pub branch_word : (c : Condition) (links : Bool)
     → IsMnemonic (choose_text links (codes "BL") (codes "B") ++ condition_text c) (mnemonic c (command.Branch links))
-unfolding mnemonic_named operate_mnemonic multiply_mnemonic transfer_mnemonic block_mnemonic interrupt_mnemonic linked_branch plain_branch operation_named first_name condition_named printed_condition
+unfolding mnemonic_named operate_mnemonic multiply_mnemonic transfer_mnemonic block_mnemonic swi_mnemonic linked_branch plain_branch operation_named first_name condition_named printed_condition
 branch_word condition.Equal true = record { letters = refl; named = refl }
 branch_word condition.Equal false = record { letters = refl; named = refl }
 branch_word condition.NotEqual true = record { letters = refl; named = refl }
@@ -364,21 +364,21 @@ branch_word condition.Always false = record { letters = refl; named = refl }
 branch_word condition.Never true = record { letters = refl; named = refl }
 branch_word condition.Never false = record { letters = refl; named = refl }
 
-pub interrupt_word : (c : Condition) → IsMnemonic (codes "SWI" ++ condition_text c) (mnemonic c command.SoftwareInterrupt)
-unfolding mnemonic_named operate_mnemonic multiply_mnemonic transfer_mnemonic block_mnemonic interrupt_mnemonic operation_named first_name condition_named printed_condition
-interrupt_word condition.Equal = record { letters = refl; named = refl }
-interrupt_word condition.NotEqual = record { letters = refl; named = refl }
-interrupt_word condition.CarrySet = record { letters = refl; named = refl }
-interrupt_word condition.CarryClear = record { letters = refl; named = refl }
-interrupt_word condition.Minus = record { letters = refl; named = refl }
-interrupt_word condition.Plus = record { letters = refl; named = refl }
-interrupt_word condition.OverflowSet = record { letters = refl; named = refl }
-interrupt_word condition.OverflowClear = record { letters = refl; named = refl }
-interrupt_word condition.Higher = record { letters = refl; named = refl }
-interrupt_word condition.LowerOrSame = record { letters = refl; named = refl }
-interrupt_word condition.GreaterOrEqual = record { letters = refl; named = refl }
-interrupt_word condition.LessThan = record { letters = refl; named = refl }
-interrupt_word condition.GreaterThan = record { letters = refl; named = refl }
-interrupt_word condition.LessOrEqual = record { letters = refl; named = refl }
-interrupt_word condition.Always = record { letters = refl; named = refl }
-interrupt_word condition.Never = record { letters = refl; named = refl }
+pub swi_word : (c : Condition) → IsMnemonic (codes "SWI" ++ condition_text c) (mnemonic c command.SoftwareInterrupt)
+unfolding mnemonic_named operate_mnemonic multiply_mnemonic transfer_mnemonic block_mnemonic swi_mnemonic operation_named first_name condition_named printed_condition
+swi_word condition.Equal = record { letters = refl; named = refl }
+swi_word condition.NotEqual = record { letters = refl; named = refl }
+swi_word condition.CarrySet = record { letters = refl; named = refl }
+swi_word condition.CarryClear = record { letters = refl; named = refl }
+swi_word condition.Minus = record { letters = refl; named = refl }
+swi_word condition.Plus = record { letters = refl; named = refl }
+swi_word condition.OverflowSet = record { letters = refl; named = refl }
+swi_word condition.OverflowClear = record { letters = refl; named = refl }
+swi_word condition.Higher = record { letters = refl; named = refl }
+swi_word condition.LowerOrSame = record { letters = refl; named = refl }
+swi_word condition.GreaterOrEqual = record { letters = refl; named = refl }
+swi_word condition.LessThan = record { letters = refl; named = refl }
+swi_word condition.GreaterThan = record { letters = refl; named = refl }
+swi_word condition.LessOrEqual = record { letters = refl; named = refl }
+swi_word condition.Always = record { letters = refl; named = refl }
+swi_word condition.Never = record { letters = refl; named = refl }

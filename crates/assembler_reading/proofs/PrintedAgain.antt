@@ -19,7 +19,7 @@ use Rattle.assembler_reading.specs.Instructions.{instruction}
 use Rattle.assembler_reading.specs.Laws.{InstructionsAreReadAgain, DataIsReadAgain}
 use Rattle.assembler_reading.proofs.AddressesAgain.{transfer_is_read}
 use Rattle.assembler_reading.proofs.BlocksAgain.{block_is_read}
-use Rattle.assembler_reading.proofs.InstructionsAgain.{allowed, branch_is_read, interrupt_is_read, multiply_is_read, operate_is_read}
+use Rattle.assembler_reading.proofs.InstructionsAgain.{allowed, branch_is_read, swi_is_read, multiply_is_read, operate_is_read}
 use Rattle.assembler_reading.proofs.Numbers.{word_again}
 use Rattle.assembler_reading.proofs.Pieces.{ends_nothing}
 
@@ -30,7 +30,7 @@ action_again labels address w c (action.Multiply m) even low fits free same = mu
 action_again labels address w c (action.Transfer t) even low fits free same = transfer_is_read labels address w c t fits free same
 action_again labels address w c (action.BlockTransfer b) even low fits free same = block_is_read labels address w c b fits free same
 action_again labels address w c (action.Branch links d) even low fits free same = branch_is_read labels address w c links d even low fits free same
-action_again labels address w c (action.SoftwareInterrupt n) even low fits free same = interrupt_is_read labels address w c n fits free same
+action_again labels address w c (action.SoftwareInterrupt n) even low fits free same = swi_is_read labels address w c n fits free same
 
 pub instructions_are_read_again : InstructionsAreReadAgain
 unfolding print

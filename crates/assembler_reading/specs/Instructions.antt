@@ -9,7 +9,7 @@ use Rattle.arm_decode.specs.declared.action.Action.{Action}
 use Rattle.arm_decode.specs.declared.action.Action.TheVariants as action
 use Rattle.arm_decode.specs.declared.condition.Condition.{Condition}
 use Rattle.assembler_names.specs.Expressions.{Lookup, Value, expression, sign}
-use Rattle.assembler_names.specs.Interrupts.{swi_named}
+use Rattle.assembler_names.specs.SwiNames.{swi_named}
 use Rattle.assembler_names.specs.Mnemonics.{mnemonic_named}
 use Rattle.assembler_names.specs.Words.{after_word, byte, spaces, word, ◌>>=◌}
 use Rattle.assembler_names.specs.declared.mnemonics.Command.{Command}
@@ -34,9 +34,9 @@ branch_at labels address links text = do
   Some (branch_to address links target.0, target.1)
 
 -- a number of 24 bits
-unfoldable pub interrupt_of : Value → Outcome Action
-interrupt_of None = Err UnknownLabel
-interrupt_of (Some n) = if nat_lt n (2 ^ 24) then Ok (action.SoftwareInterrupt n) else Err BadImmediate
+unfoldable pub swi_action : Value → Outcome Action
+swi_action None = Err UnknownLabel
+swi_action (Some n) = if nat_lt n (2 ^ 24) then Ok (action.SoftwareInterrupt n) else Err BadImmediate
 
 -- the name of a call behind a double quote (34), with another behind it
 unfoldable pub quoted_call : List ℕ → Option (Value × List ℕ)
@@ -54,14 +54,14 @@ call_or_number labels text (Some number) = Some (Some number, after_word text)
 call_or_number labels text None = expression labels text
 
 -- a call by its name, which wins over a label of that name, or an expression
-abbrev pub interrupt_number : Lookup → List ℕ → Option (List ℕ) → Option (Value × List ℕ)
-interrupt_number labels text (Some after) = quoted_call after
-interrupt_number labels text None = call_or_number labels text (plain_call text)
+abbrev pub swi_number : Lookup → List ℕ → Option (List ℕ) → Option (Value × List ℕ)
+swi_number labels text (Some after) = quoted_call after
+swi_number labels text None = call_or_number labels text (plain_call text)
 
-unfoldable pub interrupt_at : Lookup → List ℕ → Option (Outcome Action × List ℕ)
-interrupt_at labels text = do
-  number ← interrupt_number labels text (byte 34 text)
-  Some (interrupt_of number.0, number.1)
+unfoldable pub swi_at : Lookup → List ℕ → Option (Outcome Action × List ℕ)
+swi_at labels text = do
+  number ← swi_number labels text (byte 34 text)
+  Some (swi_action number.0, number.1)
 
 -- the operands that a mnemonic asks for
 abbrev pub action_at : Lookup → ℕ → Command → List ℕ → Option (Outcome Action × List ℕ)
@@ -70,7 +70,7 @@ action_at labels address (command.Multiply adds sets) text = multiply_at adds se
 action_at labels address (command.Transfer loading of_byte translates) text = transfer_at labels address loading of_byte translates text
 action_at labels address (command.BlockTransfer loading way) text = block_at loading way text
 action_at labels address (command.Branch links) text = branch_at labels address links text
-action_at labels address command.SoftwareInterrupt text = interrupt_at labels text
+action_at labels address command.SoftwareInterrupt text = swi_at labels text
 
 abbrev pub word_unless : Result (Condition × Action) Fault → Outcome ℕ
 word_unless (Ok i) = Ok (word_of i)

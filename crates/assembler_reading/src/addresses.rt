@@ -1,8 +1,8 @@
 //! The addresses of LDR and STR.
 
-ghost use Rattle.std.specs.Prelude.{◌≡◌, ◌<◌, ◌^◌, false, option_map};
+ghost use Rattle.std.specs.Prelude.{◌≡◌, ◌<◌, ◌^◌, false};
 ghost use Rattle.assembler_names.specs.Labels.{address_of};
-ghost use Rattle.assembler_names.specs.Words.{byte, comma};
+ghost use Rattle.assembler_names.specs.Words.{byte, comma, read_of};
 ghost use Rattle.assembler_reading.specs.Addresses.{address_at, as_offset, based, before_bracket, bracketed, closed, indexed, labelled, number_offset, offset_in, offset_of, operand_offset, placed, reached, reached_from, shifted_offset, signed_direction, transfer_at, transferred};
 
 use crate::operands::{Outcome, shifted};
@@ -24,7 +24,8 @@ pub fn transfer_at<'t>(
     translates: bool,
     text: &'t [u8],
 ) -> Read<'t, Outcome<Action>>
-    ensures { option_map (λ r. (r.0, r.1.now)) result ≡ transfer_at (address_of labels.now) address loads is_byte translates text.now }
+    ensures { read_of result
+        ≡ transfer_at (address_of labels.now) address loads is_byte translates text.now }
 {
     let Some((rd, rest)) = register(text) else {
         return None;
@@ -56,7 +57,8 @@ fn address_at<'t>(
     translates: bool,
     text: &'t [u8],
 ) -> Read<'t, Outcome<Address>>
-    ensures { option_map (λ r. (r.0, r.1.now)) result ≡ address_at (address_of labels.now) address translates text.now (byte 91 text.now) }
+    ensures { read_of result
+        ≡ address_at (address_of labels.now) address translates text.now (byte 91 text.now) }
 {
     match byte(b'[', text) {
         Some(after) => bracketed(labels, translates, after),
@@ -67,7 +69,7 @@ fn address_at<'t>(
 
 #[tactic(auto, unfolding(crate::specs::Addresses::labelled))]
 fn labelled<'t>(labels: &Labels, address: u32, text: &'t [u8]) -> Read<'t, Outcome<Address>>
-    ensures { option_map (λ r. (r.0, r.1.now)) result ≡ labelled (address_of labels.now) address text.now }
+    ensures { read_of result ≡ labelled (address_of labels.now) address text.now }
 {
     let (target, rest) = expression(labels, text)?;
     Some((reached_from(address, target), rest))
@@ -113,7 +115,7 @@ fn from_pc(direction: Direction, number: u32) -> Address
 // Behind `[`.
 #[tactic(auto, unfolding(crate::specs::Addresses::bracketed))]
 fn bracketed<'t>(labels: &Labels, translates: bool, text: &'t [u8]) -> Read<'t, Outcome<Address>>
-    ensures { option_map (λ r. (r.0, r.1.now)) result ≡ bracketed (address_of labels.now) translates text.now }
+    ensures { read_of result ≡ bracketed (address_of labels.now) translates text.now }
 {
     let Some((rn, rest)) = register(text) else {
         return None;
@@ -128,7 +130,8 @@ fn based<'t>(
     rn: Register,
     text: &'t [u8],
 ) -> Read<'t, Outcome<Address>>
-    ensures { option_map (λ r. (r.0, r.1.now)) result ≡ based (address_of labels.now) translates rn text.now (byte 93 text.now) }
+    ensures { read_of result
+        ≡ based (address_of labels.now) translates rn text.now (byte 93 text.now) }
 {
     match byte(b']', text) {
         Some(after) => closed(labels, translates, rn, after),
@@ -145,7 +148,8 @@ fn closed<'t>(
     rn: Register,
     text: &'t [u8],
 ) -> Read<'t, Outcome<Address>>
-    ensures { option_map (λ r. (r.0, r.1.now)) result ≡ closed (address_of labels.now) translates rn text.now (comma text.now) }
+    ensures { read_of result
+        ≡ closed (address_of labels.now) translates rn text.now (comma text.now) }
 {
     match comma(text) {
         Some(after) => {
@@ -173,7 +177,7 @@ fn at_base(rn: Register) -> Address
 // Behind `[Rn`: a comma, the offset, `]`, and `!` where the address is written back.
 #[tactic(auto, unfolding(crate::specs::Addresses::before_bracket))]
 fn before_bracket<'t>(labels: &Labels, rn: Register, text: &'t [u8]) -> Read<'t, Outcome<Address>>
-    ensures { option_map (λ r. (r.0, r.1.now)) result ≡ before_bracket (address_of labels.now) rn text.now }
+    ensures { read_of result ≡ before_bracket (address_of labels.now) rn text.now }
 {
     let Some((by, rest)) = offset_in(labels, comma(text)?) else {
         return None;
@@ -199,7 +203,7 @@ fn indexed(indexing: Indexing, rn: Register, by: Outcome<SignedOffset>) -> Outco
 // `#n`, `#-n`, or a register with its shift, with a minus or without.
 #[tactic(auto, unfolding(crate::specs::Addresses::offset_in))]
 fn offset_in<'t>(labels: &Labels, text: &'t [u8]) -> Read<'t, Outcome<SignedOffset>>
-    ensures { option_map (λ r. (r.0, r.1.now)) result ≡ offset_in (address_of labels.now) text.now }
+    ensures { read_of result ≡ offset_in (address_of labels.now) text.now }
 {
     match byte(b'#', text) {
         Some(after) => {
@@ -229,7 +233,7 @@ fn number_offset<'t>(
     direction: Direction,
     text: &'t [u8],
 ) -> Read<'t, Outcome<SignedOffset>>
-    ensures { option_map (λ r. (r.0, r.1.now)) result ≡ number_offset (address_of labels.now) direction text.now }
+    ensures { read_of result ≡ number_offset (address_of labels.now) direction text.now }
 {
     let (number, rest) = expression(labels, text)?;
     Some((offset_of(direction, number), rest))
@@ -256,7 +260,7 @@ fn shifted_offset<'t>(
     direction: Direction,
     text: &'t [u8],
 ) -> Read<'t, Outcome<SignedOffset>>
-    ensures { option_map (λ r. (r.0, r.1.now)) result ≡ shifted_offset (address_of labels.now) direction text.now }
+    ensures { read_of result ≡ shifted_offset (address_of labels.now) direction text.now }
 {
     let Some((operand, rest)) = shifted(labels, text) else {
         return None;

@@ -1,9 +1,9 @@
 //! An instruction as it is written: a mnemonic, spaces and operands.
 
-ghost use Rattle.std.specs.Prelude.{◌≡◌, option_map};
+ghost use Rattle.std.specs.Prelude.{◌≡◌};
 ghost use Rattle.assembler_names.specs.Labels.{address_of};
-ghost use Rattle.assembler_names.specs.Words.{byte};
-ghost use Rattle.assembler_reading.specs.Instructions.{action_at, branch_at, branch_to, call_or_number, instruction, interrupt_at, interrupt_number, interrupt_of, plain_call, quoted_call, word_for};
+ghost use Rattle.assembler_names.specs.Words.{byte, read_of};
+ghost use Rattle.assembler_reading.specs.Instructions.{action_at, branch_at, branch_to, call_or_number, instruction, swi_at, swi_number, swi_action, plain_call, quoted_call, word_for};
 
 use crate::addresses::transfer_at;
 use crate::operands::Outcome;
@@ -23,7 +23,7 @@ use assembler_names::{
 /// written so.
 #[tactic(auto, unfolding(crate::specs::Instructions::instruction))]
 pub fn instruction<'t>(labels: &Labels, address: u32, text: &'t [u8]) -> Read<'t, Outcome<u32>>
-    ensures { option_map (λ r. (r.0, r.1.now)) result ≡ instruction (address_of labels.now) address text.now }
+    ensures { read_of result ≡ instruction (address_of labels.now) address text.now }
 {
     let mnemonic = mnemonic_named(word(text))?;
     let operands = spaces(after_word(text))?;
@@ -54,7 +54,7 @@ fn action_at<'t>(
     command: Command,
     text: &'t [u8],
 ) -> Read<'t, Outcome<Action>>
-    ensures { option_map (λ r. (r.0, r.1.now)) result ≡ action_at (address_of labels.now) address command text.now }
+    ensures { read_of result ≡ action_at (address_of labels.now) address command text.now }
 {
     match command {
         Command::Operate { operation, flag } => operate_at(labels, operation, flag, text),
@@ -69,7 +69,7 @@ fn action_at<'t>(
         } => transfer_at(labels, address, loads, is_byte, translates, text),
         Command::BlockTransfer { loads, mode } => block_at(loads, mode, text),
         Command::Branch { links } => branch_at(labels, address, links, text),
-        Command::SoftwareInterrupt => interrupt_at(labels, text),
+        Command::SoftwareInterrupt => swi_at(labels, text),
     }
 }
 
@@ -80,7 +80,7 @@ fn branch_at<'t>(
     links: bool,
     text: &'t [u8],
 ) -> Read<'t, Outcome<Action>>
-    ensures { option_map (λ r. (r.0, r.1.now)) result ≡ branch_at (address_of labels.now) address links text.now }
+    ensures { read_of result ≡ branch_at (address_of labels.now) address links text.now }
 {
     let (target, rest) = expression(labels, text)?;
     Some((branch_to(address, links, target), rest))
@@ -102,18 +102,18 @@ fn branch_to(address: u32, links: bool, target: Value) -> Outcome<Action>
     Ok(Action::Branch { links, distance })
 }
 
-#[tactic(auto, unfolding(crate::specs::Instructions::interrupt_at))]
-fn interrupt_at<'t>(labels: &Labels, text: &'t [u8]) -> Read<'t, Outcome<Action>>
-    ensures { option_map (λ r. (r.0, r.1.now)) result ≡ interrupt_at (address_of labels.now) text.now }
+#[tactic(auto, unfolding(crate::specs::Instructions::swi_at))]
+fn swi_at<'t>(labels: &Labels, text: &'t [u8]) -> Read<'t, Outcome<Action>>
+    ensures { read_of result ≡ swi_at (address_of labels.now) text.now }
 {
-    let (number, rest) = interrupt_number(labels, text)?;
-    Some((interrupt_of(number), rest))
+    let (number, rest) = swi_number(labels, text)?;
+    Some((swi_action(number), rest))
 }
 
 // A number of 24 bits.
-#[tactic(auto, unfolding(crate::specs::Instructions::interrupt_of))]
-fn interrupt_of(number: Value) -> Outcome<Action>
-    ensures { result ≡ interrupt_of number }
+#[tactic(auto, unfolding(crate::specs::Instructions::swi_action))]
+fn swi_action(number: Value) -> Outcome<Action>
+    ensures { result ≡ swi_action number }
 {
     let Some(number) = number else {
         return Err(Reason::UnknownLabel);
@@ -126,8 +126,8 @@ fn interrupt_of(number: Value) -> Outcome<Action>
 }
 
 // A call by its name, which wins over a label of that name, or an expression.
-fn interrupt_number<'t>(labels: &Labels, text: &'t [u8]) -> Read<'t, Value>
-    ensures { option_map (λ r. (r.0, r.1.now)) result ≡ interrupt_number (address_of labels.now) text.now (byte 34 text.now) }
+fn swi_number<'t>(labels: &Labels, text: &'t [u8]) -> Read<'t, Value>
+    ensures { read_of result ≡ swi_number (address_of labels.now) text.now (byte 34 text.now) }
 {
     match byte(b'"', text) {
         Some(after) => quoted_call(after),
@@ -136,7 +136,8 @@ fn interrupt_number<'t>(labels: &Labels, text: &'t [u8]) -> Read<'t, Value>
 }
 
 fn call_or_number<'t>(labels: &Labels, text: &'t [u8]) -> Read<'t, Value>
-    ensures { option_map (λ r. (r.0, r.1.now)) result ≡ call_or_number (address_of labels.now) text.now (plain_call text.now) }
+    ensures { read_of result
+        ≡ call_or_number (address_of labels.now) text.now (plain_call text.now) }
 {
     match plain_call(text) {
         Some(number) => Some((Some(number), after_word(text))),
@@ -147,7 +148,7 @@ fn call_or_number<'t>(labels: &Labels, text: &'t [u8]) -> Read<'t, Value>
 // The name of a call behind a double quote, with another behind it.
 #[tactic(auto, unfolding(crate::specs::Instructions::quoted_call))]
 fn quoted_call(text: &[u8]) -> Read<'_, Value>
-    ensures { option_map (λ r. (r.0, r.1.now)) result ≡ quoted_call text.now }
+    ensures { read_of result ≡ quoted_call text.now }
 {
     let number = swi_named(word(text))?;
     Some((Some(number), byte(b'"', after_word(text))?))

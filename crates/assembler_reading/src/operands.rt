@@ -1,8 +1,8 @@
 //! The second operand of data processing.
 
-ghost use Rattle.std.specs.Prelude.{◌≡◌, ◌<◌, option_map};
+ghost use Rattle.std.specs.Prelude.{◌≡◌, ◌<◌};
 ghost use Rattle.assembler_names.specs.Labels.{address_of};
-ghost use Rattle.assembler_names.specs.Words.{byte, comma};
+ghost use Rattle.assembler_names.specs.Words.{byte, comma, read_of};
 ghost use Rattle.assembler_reading.specs.Operands.{amount_at, immediate, immediate_of, is_rotated_byte, most_places, named_shift, places_of, rotated_of, rotation_at, second_operand, shift_at, shifted, shifted_by};
 
 use arm_decode::{Bits, Operand, Register, Shift, ShiftedRegister};
@@ -18,7 +18,7 @@ pub type Outcome<A> = Result<A, Reason>;
 /// The second operand of data processing: `#v`, `#b,r`, or a register with its shift.
 #[tactic(auto, unfolding(crate::specs::Operands::second_operand))]
 pub fn second_operand<'t>(labels: &Labels, text: &'t [u8]) -> Read<'t, Outcome<Operand>>
-    ensures { option_map (λ r. (r.0, r.1.now)) result ≡ second_operand (address_of labels.now) text.now }
+    ensures { read_of result ≡ second_operand (address_of labels.now) text.now }
 {
     match byte(b'#', text) {
         Some(after) => immediate(labels, after),
@@ -29,7 +29,7 @@ pub fn second_operand<'t>(labels: &Labels, text: &'t [u8]) -> Read<'t, Outcome<O
 // What follows `#`.
 #[tactic(auto, unfolding(crate::specs::Operands::immediate))]
 fn immediate<'t>(labels: &Labels, text: &'t [u8]) -> Read<'t, Outcome<Operand>>
-    ensures { option_map (λ r. (r.0, r.1.now)) result ≡ immediate (address_of labels.now) text.now }
+    ensures { read_of result ≡ immediate (address_of labels.now) text.now }
 {
     let (value, rest) = expression(labels, text)?;
     rotation_at(labels, value, rest)
@@ -38,7 +38,7 @@ fn immediate<'t>(labels: &Labels, text: &'t [u8]) -> Read<'t, Outcome<Operand>>
 // What stands behind a value: a comma and the rotation, or nothing.
 #[tactic(auto, unfolding(crate::specs::Operands::rotation_at))]
 fn rotation_at<'t>(labels: &Labels, value: Value, text: &'t [u8]) -> Read<'t, Outcome<Operand>>
-    ensures { option_map (λ r. (r.0, r.1.now)) result ≡ rotation_at (address_of labels.now) value text.now (comma text.now) }
+    ensures { read_of result ≡ rotation_at (address_of labels.now) value text.now (comma text.now) }
 {
     match comma(text) {
         Some(after) => {
@@ -90,7 +90,7 @@ fn rotated_of(byte: Value, turns: Value) -> Outcome<Operand>
 /// A register: `Rm`, `Rm,LSL #n`, `Rm,LSL Rs` or `Rm,RRX`.
 #[tactic(auto, unfolding(crate::specs::Operands::shifted))]
 pub fn shifted<'t>(labels: &Labels, text: &'t [u8]) -> Read<'t, Outcome<Operand>>
-    ensures { option_map (λ r. (r.0, r.1.now)) result ≡ shifted (address_of labels.now) text.now }
+    ensures { read_of result ≡ shifted (address_of labels.now) text.now }
 {
     let Some((rm, rest)) = register(text) else {
         return None;
@@ -101,7 +101,7 @@ pub fn shifted<'t>(labels: &Labels, text: &'t [u8]) -> Read<'t, Outcome<Operand>
 // What follows `Rm`: nothing, or a comma and RRX or a shift.
 #[tactic(auto, unfolding(crate::specs::Operands::shift_at))]
 fn shift_at<'t>(labels: &Labels, rm: Register, text: &'t [u8]) -> Read<'t, Outcome<Operand>>
-    ensures { option_map (λ r. (r.0, r.1.now)) result ≡ shift_at (address_of labels.now) rm text.now (comma text.now) }
+    ensures { read_of result ≡ shift_at (address_of labels.now) rm text.now (comma text.now) }
 {
     let Some(after) = comma(text) else {
         return Some((Ok(shifted_by(rm, Shift::LogicalLeft, 0)), text));
@@ -115,7 +115,7 @@ fn shift_at<'t>(labels: &Labels, rm: Register, text: &'t [u8]) -> Read<'t, Outco
 // A shift and its amount.
 #[tactic(auto, unfolding(crate::specs::Operands::named_shift))]
 fn named_shift<'t>(labels: &Labels, rm: Register, text: &'t [u8]) -> Read<'t, Outcome<Operand>>
-    ensures { option_map (λ r. (r.0, r.1.now)) result ≡ named_shift (address_of labels.now) rm text.now }
+    ensures { read_of result ≡ named_shift (address_of labels.now) rm text.now }
 {
     let shift = shift_named(word(text))?;
     let amount = spaces(after_word(text))?;
@@ -130,7 +130,8 @@ fn amount_at<'t>(
     shift: Shift,
     text: &'t [u8],
 ) -> Read<'t, Outcome<Operand>>
-    ensures { option_map (λ r. (r.0, r.1.now)) result ≡ amount_at (address_of labels.now) rm shift text.now (byte 35 text.now) }
+    ensures { read_of result
+        ≡ amount_at (address_of labels.now) rm shift text.now (byte 35 text.now) }
 {
     match byte(b'#', text) {
         Some(after) => {

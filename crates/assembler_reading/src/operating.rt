@@ -1,8 +1,9 @@
 //! The operands of data processing and of multiplication.
 
-ghost use Rattle.std.specs.Prelude.{◌≡◌, option_map};
+ghost use Rattle.std.specs.Prelude.{◌≡◌};
 ghost use Rattle.assembler_names.specs.Labels.{address_of};
 ghost use Rattle.assembler_reading.specs.Operating.{added_register, multiply_at, operate_at, operate_behind, operate_on, operate_with, operated};
+ghost use Rattle.assembler_names.specs.Words.{read_of};
 
 use crate::operands::{Outcome, second_operand};
 use arm_decode::{Action, Multiply, Operand, Operate, Operation, Register};
@@ -18,7 +19,7 @@ pub fn operate_at<'t>(
     flag: bool,
     text: &'t [u8],
 ) -> Read<'t, Outcome<Action>>
-    ensures { option_map (λ r. (r.0, r.1.now)) result ≡ operate_at (address_of labels.now) operation flag text.now }
+    ensures { read_of result ≡ operate_at (address_of labels.now) operation flag text.now }
 {
     let Some((first, rest)) = register(text) else {
         return None;
@@ -34,7 +35,8 @@ fn operate_behind<'t>(
     first: Register,
     text: &'t [u8],
 ) -> Read<'t, Outcome<Action>>
-    ensures { option_map (λ r. (r.0, r.1.now)) result ≡ operate_behind (address_of labels.now) operation flag first text.now }
+    ensures { read_of result
+        ≡ operate_behind (address_of labels.now) operation flag first text.now }
 {
     if operation.is_test() {
         let rd = Register::new(if flag { 15 } else { 0 });
@@ -55,7 +57,7 @@ fn operate_on<'t>(
     rd: Register,
     text: &'t [u8],
 ) -> Read<'t, Outcome<Action>>
-    ensures { option_map (λ r. (r.0, r.1.now)) result ≡ operate_on (address_of labels.now) operation sets_flags rd text.now }
+    ensures { read_of result ≡ operate_on (address_of labels.now) operation sets_flags rd text.now }
 {
     let Some((rn, rest)) = register(text) else {
         return None;
@@ -73,7 +75,8 @@ fn operate_with<'t>(
     rd: Register,
     text: &'t [u8],
 ) -> Read<'t, Outcome<Action>>
-    ensures { option_map (λ r. (r.0, r.1.now)) result ≡ operate_with (address_of labels.now) operation sets_flags rn rd text.now }
+    ensures { read_of result
+        ≡ operate_with (address_of labels.now) operation sets_flags rn rd text.now }
 {
     let Some((operand, rest)) = second_operand(labels, text) else {
         return None;
@@ -105,7 +108,7 @@ fn operated(
 /// The operands of MUL, and of MLA, which accumulates.
 #[tactic(auto, unfolding(crate::specs::Operating::multiply_at))]
 pub fn multiply_at(accumulates: bool, sets_flags: bool, text: &[u8]) -> Read<'_, Outcome<Action>>
-    ensures { option_map (λ r. (r.0, r.1.now)) result ≡ multiply_at accumulates sets_flags text.now }
+    ensures { read_of result ≡ multiply_at accumulates sets_flags text.now }
 {
     let Some((rd, behind_rd)) = register(text) else {
         return None;
@@ -133,7 +136,7 @@ pub fn multiply_at(accumulates: bool, sets_flags: bool, text: &[u8]) -> Read<'_,
 // `,Rn` of MLA; MUL has no Rn.
 #[tactic(auto, unfolding(crate::specs::Operating::added_register))]
 fn added_register(accumulates: bool, text: &[u8]) -> Read<'_, Register>
-    ensures { option_map (λ r. (r.0, r.1.now)) result ≡ added_register accumulates text.now }
+    ensures { read_of result ≡ added_register accumulates text.now }
 {
     if accumulates {
         register(comma(text)?)

@@ -1,7 +1,7 @@
 //! The register lists of LDM and STM.
 
-ghost use Rattle.std.specs.Prelude.{◌≡◌, ◌<◌, option_map};
-ghost use Rattle.assembler_names.specs.Words.{byte};
+ghost use Rattle.std.specs.Prelude.{◌≡◌, ◌<◌};
+ghost use Rattle.assembler_names.specs.Words.{byte, read_of};
 ghost use Rattle.assembler_reading.specs.RegisterLists.{block_at, last_register, more_registers, register_list, register_range, with_range, with_register};
 
 use crate::operands::Outcome;
@@ -13,7 +13,7 @@ use assembler_names::words::{byte, comma, mark};
 /// The operands of LDM or STM: `Rn!,{R0,R4-R6}^`.
 #[tactic(auto, unfolding(crate::specs::RegisterLists::block_at))]
 pub fn block_at(loads: bool, mode: BlockMode, text: &[u8]) -> Read<'_, Outcome<Action>>
-    ensures { option_map (λ r. (r.0, r.1.now)) result ≡ block_at loads mode text.now }
+    ensures { read_of result ≡ block_at loads mode text.now }
 {
     let Some((rn, rest)) = register(text) else {
         return None;
@@ -37,7 +37,7 @@ pub fn block_at(loads: bool, mode: BlockMode, text: &[u8]) -> Read<'_, Outcome<A
 // `{R0,R4-R6}`.
 #[tactic(auto, unfolding(crate::specs::RegisterLists::register_list))]
 fn register_list(text: &[u8]) -> Read<'_, RegisterList>
-    ensures { option_map (λ r. (r.0, r.1.now)) result ≡ register_list text.now }
+    ensures { read_of result ≡ register_list text.now }
 {
     let rest = byte(b'{', text)?;
     more_registers(rest.len(), rest)
@@ -46,7 +46,7 @@ fn register_list(text: &[u8]) -> Read<'_, RegisterList>
 // The registers and ranges up to the closing brace, at most `count`.
 #[tactic(auto, using(crate::proofs::Ranges::list_steps))]
 fn more_registers(count: usize, text: &[u8]) -> Read<'_, RegisterList>
-    ensures { option_map (λ r. (r.0, r.1.now)) result ≡ more_registers count 0 text.now }
+    ensures { read_of result ≡ more_registers count 0 text.now }
 {
     let mut list = RegisterList::new(0);
     let mut rest = text;
@@ -66,7 +66,7 @@ fn more_registers(count: usize, text: &[u8]) -> Read<'_, RegisterList>
 // `R0` or `R0-R3`, as its first and its last register.
 #[tactic(auto, unfolding(crate::specs::RegisterLists::register_range))]
 fn register_range(text: &[u8]) -> Read<'_, (Register, Register)>
-    ensures { option_map (λ r. (r.0, r.1.now)) result ≡ register_range text.now }
+    ensures { read_of result ≡ register_range text.now }
 {
     let Some((first, rest)) = register(text) else {
         return None;
@@ -80,7 +80,7 @@ fn register_range(text: &[u8]) -> Read<'_, (Register, Register)>
 // Behind a register a minus and one that is no lower, or else the register itself.
 #[tactic(auto, unfolding(crate::specs::RegisterLists::last_register))]
 fn last_register(first: Register, text: &[u8]) -> Read<'_, Register>
-    ensures { option_map (λ r. (r.0, r.1.now)) result ≡ last_register first text.now (byte 45 text.now) }
+    ensures { read_of result ≡ last_register first text.now (byte 45 text.now) }
 {
     let Some(after) = byte(b'-', text) else {
         return Some((first, text));

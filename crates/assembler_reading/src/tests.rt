@@ -193,7 +193,7 @@ static BRANCHES: [(&str, u32); 16] = [
 ];
 
 // SWI by number and by name.
-static INTERRUPTS: [(&str, u32); 13] = [
+static SWI_LINES: [(&str, u32); 13] = [
     ("SWI 0", 0xEF00_0000),
     ("SWI &11", 0xEF00_0011),
     ("SWI &FFFFFF", 0xEFFF_FFFF),
@@ -351,7 +351,7 @@ fn each_text_means_its_word(rt: HostRuntime) -> Result<(), Reason> {
     check_words(&rt, &labels, &TRANSFERS);
     check_words(&rt, &labels, &BLOCKS);
     check_words(&rt, &labels, &BRANCHES);
-    check_words(&rt, &labels, &INTERRUPTS);
+    check_words(&rt, &labels, &SWI_LINES);
     for text in &SYNTAX {
         check_text(&rt, &labels, text, None);
     }

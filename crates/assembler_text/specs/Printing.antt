@@ -54,8 +54,8 @@ branch_target address distance = (address + 8 + 4 * distance) % 2 ^ 26
 unfoldable pub branch_text : Condition → Bool → ℕ → List ℕ
 branch_text c links target = choose_text links (codes "BL") (codes "B") ++ (condition_text c ++ (codes " " ++ number_text target))
 
-unfoldable pub interrupt_text : Condition → ℕ → List ℕ
-interrupt_text c number = codes "SWI" ++ (condition_text c ++ (codes " " ++ number_text number))
+unfoldable pub swi_text : Condition → ℕ → List ℕ
+swi_text c number = codes "SWI" ++ (condition_text c ++ (codes " " ++ number_text number))
 
 abbrev pub action_text : ℕ → Condition → Action → List ℕ
 action_text address c (action.Operate o) = operate_text c o
@@ -63,7 +63,7 @@ action_text address c (action.Multiply m) = multiply_text c m
 action_text address c (action.Transfer t) = transfer_text c t
 action_text address c (action.BlockTransfer b) = block_text c b
 action_text address c (action.Branch links distance) = branch_text c links (branch_target address distance)
-action_text address c (action.SoftwareInterrupt number) = interrupt_text c number
+action_text address c (action.SoftwareInterrupt number) = swi_text c number
 
 -- a word that is no instruction, as a word of data
 unfoldable pub data_text : ℕ → List ℕ

@@ -2,7 +2,7 @@
 
 ghost use Rattle.std.specs.Prelude.{◌≡◌, ◌<◌, ◌^◌, true, OnOk, OnErr};
 ghost use Rattle.std.specs.Io.KnownBytes.{Appends};
-ghost use Rattle.assembler_text.specs.Printing.{action_text, branch_target, branch_text, data_text, flags_text, interrupt_text, multiply_head, multiply_operands, multiply_text, operate_head, operate_text, print, registers_text};
+ghost use Rattle.assembler_text.specs.Printing.{action_text, branch_target, branch_text, data_text, flags_text, swi_text, multiply_head, multiply_operands, multiply_text, operate_head, operate_text, print, registers_text};
 
 use crate::names::{RegisterName, choose_text, condition_text, operation_text, text_if};
 use crate::operands::push_operand;
@@ -52,7 +52,7 @@ fn push_action<W: Sink>(
             let target = branch_target(address, distance.number());
             push_branch(condition, links, target, sink)
         }
-        Action::SoftwareInterrupt(number) => push_interrupt(condition, number.number(), sink),
+        Action::SoftwareInterrupt(number) => push_swi(condition, number.number(), sink),
     }
 }
 
@@ -218,13 +218,9 @@ fn branch_target(address: u32, distance: u32) -> u32
     address.wrapping_add(8).wrapping_add(4 * distance) % (1 << 26)
 }
 
-#[tactic(auto, unfolding(crate::specs::Printing::interrupt_text))]
-fn push_interrupt<W: Sink>(
-    condition: Condition,
-    number: u32,
-    sink: &mut W,
-) -> Result<(), WriteFault>
-    ensures text { OnOk result (Appends (W.contents sink.old) (W.contents sink.new) (interrupt_text condition number)) }
+#[tactic(auto, unfolding(crate::specs::Printing::swi_text))]
+fn push_swi<W: Sink>(condition: Condition, number: u32, sink: &mut W) -> Result<(), WriteFault>
+    ensures text { OnOk result (Appends (W.contents sink.old) (W.contents sink.new) (swi_text condition number)) }
     ensures flag { OnErr result (W.has_failed sink.new ≡ true) }
     ensures same_flag { OnOk result (W.has_failed sink.new ≡ W.has_failed sink.old) }
 {

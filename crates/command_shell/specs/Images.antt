@@ -22,29 +22,28 @@ image_added s word name bytes None = answer (record s { images = with_entry s.im
 abbrev pub image_sized : ScriptState → List ℕ → List ℕ → List ℕ → Answered
 image_sized s word name bytes = image_added s word name bytes (refusal_for s.images name (length bytes))
 
--- HEX: the name and the table are tested first, then the lines, then the size.
+-- The name and the table are tested before the block is read; where they allow it, the answer is what its lines mean.
+abbrev pub image_opened : ScriptState → List ℕ → List ℕ → Answered → Option ImageError → Answered
+image_opened s word name meant (Some error) = answer s (image_refused_text word name (image_error_name error))
+image_opened s word name meant None = meant
+
+-- HEX: the lines, then the size.
 abbrev pub hex_block : ScriptState → List ℕ → Result (List ℕ) ℕ → Answered
 hex_block s name (Err line) = answer s (line_refused_text (codes "hex ") name line (codes "Syntax"))
 hex_block s name (Ok bytes) = image_sized s (codes "hex ") name bytes
 
-abbrev pub hex_opened : ScriptState → List ℕ → List (List ℕ) → Option ImageError → Answered
-hex_opened s name block (Some error) = answer s (image_refused_text (codes "hex ") name (image_error_name error))
-hex_opened s name block None = hex_block s name (block_bytes 0 block)
-
 unfoldable pub hex_told : ScriptState → List ℕ → List (List ℕ) → Answered
-hex_told s name block = hex_opened s name block (refusal_for s.images name 0)
+hex_told s name block =
+    image_opened s (codes "hex ") name (hex_block s name (block_bytes 0 block)) (refusal_for s.images name 0)
 
 -- ASM: likewise, with the bytes that the lines mean at the origin.
 abbrev pub asm_block : ScriptState → List ℕ → Result (List ℕ) AsmError → Answered
 asm_block s name (Err e) = answer s (line_refused_text (codes "asm ") name e.line (reason_name e.reason))
 asm_block s name (Ok bytes) = image_sized s (codes "asm ") name bytes
 
-abbrev pub asm_opened : ScriptState → List ℕ → ℕ → List (List ℕ) → Option ImageError → Answered
-asm_opened s name origin block (Some error) = answer s (image_refused_text (codes "asm ") name (image_error_name error))
-asm_opened s name origin block None = asm_block s name (means_lines block origin)
-
 unfoldable pub asm_told : ScriptState → List ℕ → ℕ → List (List ℕ) → Answered
-asm_told s name origin block = asm_opened s name origin block (refusal_for s.images name 0)
+asm_told s name origin block =
+    image_opened s (codes "asm ") name (asm_block s name (means_lines block origin)) (refusal_for s.images name 0)
 
 -- BOOT: the image must be there, the machine as it was made, and the image no longer than the application space, in this order.
 abbrev pub boot_refusal_name : BootError → List ℕ

@@ -1,3 +1,4 @@
+pub mod Areas
 pub mod Code
 pub mod Heap
 pub mod Memory

@@ -1,11 +1,13 @@
 //! Printed views of the machine.
 #![tactic(auto)]
 
+mod areas;
 mod code;
 mod heap;
 mod memory;
 mod registers;
 
+pub use areas::show_areas;
 pub use code::show_code;
 pub use heap::show_blocks;
 pub use memory::show_memory;

@@ -1,4 +1,4 @@
-use crate::{show_blocks, show_code, show_memory, show_regs};
+use crate::{show_areas, show_blocks, show_code, show_memory, show_regs};
 use image_loader::Images;
 use profile::{Config, MemorySink};
 use std::alloc::Global;
@@ -37,6 +37,11 @@ const CODE: &[u8] = b"00007FFC -------- unmapped
 00008000 E3A00001 MOV R0,#&1
 00008004 EAFFFFFE B &8004
 00008008 00000000 ANDEQ R0,R0,R0
+";
+
+/// The areas of a machine at its start: the module area with 16 pages, and what is left of 256.
+const AREAS: &[u8] = b"area 1 base 01800000 size 65536 max 4194304 RMA
+pool 173 pages
 ";
 
 /// Words past the last address are those from address 0 on.
@@ -117,6 +122,16 @@ fn a_heap_is_shown_by_items(rt: HostRuntime) -> Result<(), Fail> {
     assert!(rt; sink.written().is_empty());
     assert!(rt; show_blocks(&machine, 0x9000, &mut sink)?);
     assert_eq!(rt; sink.written(), HEAP);
+    Ok(())
+}
+
+#[test]
+fn areas_are_shown_with_the_pool(rt: HostRuntime) -> Result<(), Fail> {
+    let machine = usual_machine(&rt, rt.alloc());
+    let mut room = [0u8; 300];
+    let mut sink = MemorySink::new(&mut room, 7, 1000);
+    show_areas(&machine, &mut sink)?;
+    assert_eq!(rt; sink.written(), AREAS);
     Ok(())
 }
 

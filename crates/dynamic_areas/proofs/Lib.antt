@@ -1,6 +1,8 @@
+pub mod Choices
 pub mod ClassLemmas
 pub mod GroundLemmas
 pub mod HeapBase
+pub mod HeapCalls
 pub mod LandLemmas
 pub mod LooseLemmas
 pub mod Loosened

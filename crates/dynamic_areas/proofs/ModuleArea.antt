@@ -3,6 +3,7 @@ use Rattle.std.proofs.Common.{◌≡◌, ℕ, ◌+◌, ◌-◌, ◌*◌, ◌%◌
 use Rattle.std.specs.Prelude.{Option}
 use Rattle.std.specs.List.{list_any}
 use Rattle.std.proofs.lemmas.Bool.{cases_Bool, cases_lt, cases_eq, eqb-true, eq-eqb, lt-ltb, le-ltb, ltb-false, and_parts, false≢true, false_from_ne_true}
+use Rattle.address_map.specs.declared.region.Kind.TheVariants.{Rma}
 use Rattle.address_map.specs.declared.region.Region.{Region}
 use Rattle.address_map.specs.Bytes.{Bytes, in_range, AreMapped, AreUnmapped}
 use Rattle.address_map.specs.Items.{size_of}
@@ -30,6 +31,7 @@ pub record IsModuleArea (s : Store) (a : Area) : Type 0 where
   pub found : find_heap 0x01800000 s.heaps ≡ Some heap
   pub spelled : IsHeapIn s.bytes heap.start heap.end heap.items
   pub start : heap.start ≡ 0x01800000
+  pub kind : heap.kind ≡ Rma
   pub end : heap.end ≡ 4096 * a.pages
   pub base : a.base ≡ 0x01800000
   pub maximum : a.maximum ≡ 4194304
@@ -42,7 +44,8 @@ ends_there s a (Some h) sound base maximum e ends = record {
   found = e;
   spelled = found_heap s.bytes 0x01800000 s.heaps h sound.heaps e;
   start = found_start 0x01800000 s.heaps h e;
-  end = ends;
+  kind = ends.0;
+  end = ends.1;
   base = base;
   maximum = maximum;
 }

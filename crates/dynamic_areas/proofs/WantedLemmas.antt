@@ -10,14 +10,9 @@ use Rattle.dynamic_areas.specs.declared.area.Area.{Area}
 use Rattle.dynamic_areas.specs.declared.area.Wanted.{Wanted}
 use Rattle.dynamic_areas.specs.Areas.{Land, minus_one, find_area, paged, is_created}
 use Rattle.dynamic_areas.specs.Creating.{pages_for, least_number, lowest_from, lowest_gap, gap_count, wanted_maximum, wanted_number, wanted_base, are_good_sizes, is_good_number, is_good_base, is_good, new_area, area_wanted}
+use Rattle.dynamic_areas.specs.Laws.{IsGap}
 use Rattle.dynamic_areas.specs.Rooms.{IsRoom, AreRooms, is_name, is_in_window, meets_area}
 use Rattle.dynamic_areas.proofs.RoomLemmas.{none_there, created_place, least_free, IsLeast}
-
--- an address that was found in the window
-pub record IsGap (areas : List Area) (maximum base : ℕ) : Type 0 where
-  pub clear : meets_area base maximum areas ≡ false
-  pub page : base % 4096 ≡ 0
-  pub inside : is_in_window base maximum ≡ true
 
 lowest_is : (areas : List Area) (maximum base n b : ℕ) → lowest_from areas maximum base n ≡ Some b
     → (k : ℕ) × (k < n) × (b ≡ base + 4096 * k) × (meets_area b maximum areas ≡ false)
@@ -36,7 +31,7 @@ lowest_is areas maximum base (suc n) b e =
           (0, omega arith, omega arith, subst (λ (x : ℕ). meets_area x maximum areas ≡ false) same clear)
     ]
 
-gap_found : (areas : List Area) (maximum base : ℕ) → maximum ≤ 16777216 → lowest_gap areas maximum ≡ Some base → IsGap areas maximum base
+pub gap_found : (areas : List Area) (maximum base : ℕ) → maximum ≤ 16777216 → lowest_gap areas maximum ≡ Some base → IsGap areas maximum base
 unfolding lowest_gap
 gap_found areas maximum base small e =
     let found = lowest_is areas maximum 0x02000000 (gap_count maximum) base e in

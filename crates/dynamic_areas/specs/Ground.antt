@@ -4,6 +4,7 @@ use Rattle.std.specs.Prelude.{ℕ, ◌≡◌, ◌+◌, ◌*◌, ◌||◌, Bool, 
 use Rattle.std.specs.List.{list_any}
 use Rattle.profile.specs.Sizes.{Sizes, AreGood}
 use Rattle.address_map.specs.declared.map.AddressMap.{AddressMap}
+use Rattle.address_map.specs.declared.region.Kind.TheVariants.{Rma, SystemPage}
 use Rattle.address_map.specs.declared.region.Region.{Region}
 use Rattle.address_map.specs.Memory.{free_pages}
 use Rattle.address_map.specs.Bytes.{in_range, AreMapped}
@@ -16,6 +17,10 @@ use Rattle.dynamic_areas.specs.Rooms.{IsAreaTable}
 -- the application space and the system pages
 abbrev pub is_fixed : Sizes → ℕ → Bool
 is_fixed sizes x = in_range 0x8000 (4096 * sizes.app) x || in_range 0x01C00000 0x3000 x
+
+-- the system pages, a recorded range
+abbrev pub system_pages : Region
+system_pages = record { kind = SystemPage; at = 0x01C00000; len = 0x3000 }
 
 abbrev pub is_held : ℕ → Area → Bool
 is_held x a = in_range a.base (4096 * a.pages) x
@@ -36,9 +41,9 @@ pub record IsGround (s : Store) (free : ℕ) (l : Land) : Type 0 where
   pub ranges : AreRangesMapped s.bytes.mapped s.others
   pub sound : IsSound s
 
--- the module area's heap ends where the module area does
+-- the module area's heap is no guest's, and ends where the module area does
 abbrev pub EndsWithArea : Option HeapList → Option Area → Type 0
-EndsWithArea (Some h) (Some a) = h.end ≡ 4096 * a.pages
+EndsWithArea (Some h) (Some a) = (h.kind ≡ Rma) × (h.end ≡ 4096 * a.pages)
 EndsWithArea (Some h) None = ⊥
 EndsWithArea None area = ⊥
 

@@ -1,20 +1,11 @@
 ghost use Rattle.std.specs.Prelude.{◌≡◌, ◌≤◌, ◌<◌, ◌%◌, ◌&&◌};
-ghost use Rattle.address_map.specs.Bytes.{meets};
 ghost use Rattle.dynamic_areas.specs.Rooms.{meets_area, is_name, is_name_byte, is_in_window};
 ghost use Rattle.dynamic_areas.specs.Creating.{gap_count, lowest_gap};
 ghost use Rattle.std.specs.List.{list_all};
 
 use crate::area::{Area, MOST_NAME_BYTES};
+use address_map::do_meet;
 use profile::memory_map::{AREA_WINDOW_END, AREA_WINDOW_START, PAGE_SIZE};
-
-/// Whether two ranges share an address.
-fn do_meet(at: u32, len: u32, other: u32, other_len: u32) -> bool
-    ensures { result ≡ meets at len other other_len }
-{
-    let end = u64::from(at) + u64::from(len);
-    let other_end = u64::from(other) + u64::from(other_len);
-    len > 0 && other_len > 0 && u64::from(at) < other_end && u64::from(other) < end
-}
 
 /// Whether a range shares an address with an area's, taken with its maximum.
 pub(crate) fn meets_area(areas: &[Area], base: u32, maximum: u32) -> bool

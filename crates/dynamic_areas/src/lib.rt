@@ -6,12 +6,14 @@ pub mod areas;
 pub mod change;
 pub mod create;
 mod gaps;
+pub mod laws;
 pub mod measure;
 pub mod remove;
 mod table;
 
 pub use area::{Area, Changed, Created, Extent, MOST_NAME_BYTES, Wanted};
 pub use areas::Areas;
+pub use table::MODULE_AREA;
 
 #[cfg(test)]
 mod tests;

@@ -1,18 +1,17 @@
 -- The number of an error that a call answers, found where R0 points after the call went back.
 use Rattle.std.proofs.Common.{◌≡◌, ◌≢◌, ◌<◌, ◌^◌, ◌+◌, ◌*◌, ◌/◌, ◌%◌, ℕ, Bool, true, List, length, refl, sym, ◌∙◌, ap, arith, rules, get_or-set_other, get_or-set_same}
-use Rattle.std.proofs.lemmas.Bool.Decides.{nat_tests}
-use Rattle.profile.specs.Sizes.{Sizes}
 use Rattle.profile.specs.declared.error.ErrorNumber.{ErrorNumber}
 use Rattle.profile.specs.ErrorNames.{error_code, error_name}
 use Rattle.address_map.specs.Bytes.{Bytes, word_loaded}
-use Rattle.address_map.specs.Memory.{bytes_of, is_mapped}
+use Rattle.address_map.specs.Memory.{bytes_of, free_pages, is_mapped}
 use Rattle.arm_step.specs.declared.psr.Mode.{Mode}
 use Rattle.arm_step.specs.declared.psr.Mode.TheVariants.{User, FastInterrupt, Interrupt, Supervisor}
 use Rattle.arm_step.specs.declared.psr.Psr.{Psr}
 use Rattle.arm_step.specs.State.{State, slot_of, register_in, register_of, with_register, with_register_in, with_pc}
 use Rattle.os_heap.specs.Store.{store_of}
+use Rattle.dynamic_areas.proofs.HeapCalls.{system_mapped}
 use Rattle.swi_dispatch.specs.declared.refusal.Refusal.TheVariants as refusal
-use Rattle.swi_dispatch.specs.MachineState.{MachineState, is_start_mapped}
+use Rattle.swi_dispatch.specs.MachineState.{MachineState}
 use Rattle.swi_dispatch.specs.Errors.{error_at, error_number, error_block, with_error}
 use Rattle.swi_dispatch.specs.Step.{returned, return_word, gone_back}
 use Rattle.swi_dispatch.specs.Parts.{Parts, IsWellFormed, state_of}
@@ -53,14 +52,11 @@ block_number b n text mapped fits = rw mapped (word_back n fits)
 short_code : (e : ErrorNumber) → error_code e < 2 ^ 32
 short_code e = search rules
 
-system_mapped : (s : Sizes) → is_start_mapped s 0x01C02100 ≡ true
-system_mapped s = grind (arith, nat_tests)
-
 pub system_number : (p : Parts) (caller : Psr) (next : ℕ) (e : ErrorNumber) → IsWellFormed p → length p.cpu.file ≡ 26
     → error_number (gone_back caller (with_error (state_of p) (refusal.System e)) true next) ≡ error_code e
 unfolding state_of store_of
 system_number p caller next e well size =
-    let mapped : is_mapped p.map 0x01C02100 ≡ true = well.mapped 0x01C02100 ∙ system_mapped p.sizes in
+    let mapped : is_mapped p.map 0x01C02100 ≡ true = system_mapped (store_of p.map) (free_pages p.map) p.tables.land well.areas 0x01C02100 refl in
     sym (number_kept (with_error (state_of p) (refusal.System e)) caller true next)
     ∙ ap (error_at (error_block (bytes_of p.map) (error_code e) (error_name e))) (zero_set p.cpu 0x01C02100 size)
     ∙ block_number (bytes_of p.map) (error_code e) (error_name e) mapped (short_code e)

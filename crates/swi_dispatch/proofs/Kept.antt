@@ -1,5 +1,5 @@
 -- What writes to memory leave of the store: every heap keeps its list.
-use Rattle.std.proofs.Common.{inl, inr, ◌≡◌, ℕ, ◌+◌, ◌-◌, ◌*◌, ◌%◌, ◌^◌, ◌≤◌, Bool, true, false, cond, nat_le, nat_eq, List, [], ◌∷◌, length, ◌++◌, Option, Some, None, is_some, Result, Ok, Err, refl, sym, ◌∙◌, ap, subst, arith, lit<, length-append, rules}
+use Rattle.std.proofs.Common.{inl, inr, ◌≡◌, ℕ, ◌+◌, ◌-◌, ◌*◌, ◌%◌, ◌^◌, ◌≤◌, Bool, true, false, cond, nat_le, nat_eq, List, [], ◌∷◌, length, ◌++◌, Option, Some, None, Result, Ok, Err, refl, sym, ◌∙◌, ap, subst, arith, lit<, length-append, rules}
 use Rattle.std.proofs.lemmas.List.{places}
 use Rattle.std.proofs.lemmas.Bool.{true≢false, le-leb}
 use Rattle.profile.specs.declared.error.ErrorNumber.{ErrorNumber}
@@ -11,22 +11,24 @@ use Rattle.profile.specs.declared.fault.Fault.{Fault}
 use Rattle.profile.specs.declared.fault.Fault.TheVariants.{AddressException, DataUnmapped, OwnedWord}
 use Rattle.address_map.specs.declared.map.AddressMap.{AddressMap}
 use Rattle.address_map.specs.Bytes.{Bytes, in_range, unless, store_fault, word_stored, with_word, with_word_at, with_bytes_at, with_bytes}
-use Rattle.address_map.specs.Memory.{bytes_of, byte_at, is_mapped, place, free_pages, Layout, layout, class_of, is_owned}
-use Rattle.address_map.proofs.Stores.{layout-place}
+use Rattle.address_map.specs.Memory.{bytes_of, byte_at, is_mapped, free_pages, Layout, layout, class_of, is_owned}
 use Rattle.address_map.proofs.Equations.{stored_word, stored_bytes}
 use Rattle.arm_step.specs.State.{State}
 use Rattle.arm_step.specs.OwnedBytes.{IsByWords, Keeps}
 use Rattle.address_map.specs.declared.region.Kind.TheVariants.{Rma}
+use Rattle.address_map.specs.declared.region.Region.{Region}
 use Rattle.os_heap_lists.specs.Heap.{HeapList}
-use Rattle.os_heap.specs.Store.{Store, store_of, owned_in, AreClasses, IsSound}
-use Rattle.os_heap.proofs.Frame.{IsKept, classes_same, clear_kept, heads_kept, owned_word}
+use Rattle.os_heap.specs.Store.{Store, store_of, owned_in, AreClasses, ArePlaced, IsClearOfHeaps, IsSound}
+use Rattle.os_heap.proofs.Frame.{IsKept, classes_same, clear_kept, heads_kept, owned_word, spelled_owned}
 use Rattle.os_heap.proofs.Stores.{image_kind}
 use Rattle.os_heap.proofs.Owned.{owned_marks}
+use Rattle.dynamic_areas.specs.Ground.{AreAreas, system_pages}
+use Rattle.dynamic_areas.proofs.HeapCalls.{areas_written}
 use Rattle.swi_dispatch.specs.declared.halt.Halt.{Halt}
-use Rattle.swi_dispatch.specs.MachineState.{MachineState, with_memory, system_pages, is_start_mapped, start_of}
+use Rattle.swi_dispatch.specs.MachineState.{MachineState, Tables, with_memory, start_of}
 use Rattle.swi_dispatch.specs.Errors.{error_block}
 use Rattle.swi_dispatch.specs.Boot.{booted, poked}
-use Rattle.swi_dispatch.specs.Parts.{Parts, IsWellFormed, state_of}
+use Rattle.swi_dispatch.specs.Parts.{Parts, IsRecorded, IsWellFormed, state_of}
 
 pub by_words : (s : Store) → IsByWords (owned_in s)
 by_words s a k aligned below = owned_word s a k aligned below
@@ -40,20 +42,29 @@ unfolding store_of
 kept_all m n kept e = kept_memory m n (bytes_of m) kept e
 
 -- memory that is the same, and memory whose owned bytes are
-pub same_kept : (m n : AddressMap) → layout n ≡ layout m → IsSound (store_of m) → bytes_of n ≡ bytes_of m → IsKept m n
-same_kept m n same sound e = heads_kept m n same sound (λ a _. ap (λ (b : Bytes). b.at a) e)
+pub same_kept : (m n : AddressMap) → layout n ≡ layout m → class_of n ≡ class_of m → IsSound (store_of m) → bytes_of n ≡ bytes_of m → IsKept m n
+same_kept m n same marks sound e = heads_kept m n same marks sound (λ a _. ap (λ (b : Bytes). b.at a) e)
 
-pub keeps_kept : (m n : AddressMap) (b : Bytes) → layout n ≡ layout m → IsSound (store_of m) → bytes_of n ≡ b
+pub keeps_kept : (m n : AddressMap) (b : Bytes) → layout n ≡ layout m → class_of n ≡ class_of m → IsSound (store_of m) → bytes_of n ≡ b
     → Keeps (owned_in (store_of m)) (bytes_of m) b → IsKept m n
-keeps_kept m n b same sound e keeps = heads_kept m n same sound (λ a is. ap (λ (c : Bytes). c.at a) e ∙ keeps.bytes a is)
+keeps_kept m n b same marks sound e keeps =
+    heads_kept m n same marks sound (λ a is. ap (λ (c : Bytes). c.at a) e ∙ keeps.bytes a (spelled_owned (store_of m) a is))
 
 -- writes to the system pages
-pub system_kept : (m n : AddressMap) → layout n ≡ layout m → IsSound (store_of m) → (store_of m).others ≡ system_pages ∷ []
-    → ((a : ℕ) → in_range 0x01C00000 0x3000 a ≡ false → byte_at n a ≡ byte_at m a) → IsKept m n
-system_kept m n same sound others kept = elim (rw others at sound.placed).0 [
-  | inl clear ↦ clear_kept m n 0x01C00000 0x3000 same sound clear kept
-  | inr image ↦ absurd (true≢false (sym (image_kind (store_of m).heaps system_pages image)))
+system_clear : (hs : List HeapList) (rs : List Region) → ArePlaced hs rs → IsRecorded system_pages rs → IsClearOfHeaps 0x01C00000 0x3000 hs
+system_clear hs [] placed there = absurd there
+system_clear hs (r ∷ rs) placed there = elim there [
+  | inr later ↦ system_clear hs rs placed.1 later
+  | inl here ↦ elim (rw here at placed.0) [
+    | inl clear ↦ clear
+    | inr image ↦ absurd (true≢false (sym (image_kind hs system_pages image)))
+  ]
 ]
+
+pub system_kept : (m n : AddressMap) → layout n ≡ layout m → class_of n ≡ class_of m → IsSound (store_of m) → IsRecorded system_pages (store_of m).others
+    → ((a : ℕ) → in_range 0x01C00000 0x3000 a ≡ false → byte_at n a ≡ byte_at m a) → IsKept m n
+system_kept m n same marks sound there kept =
+    clear_kept m n 0x01C00000 0x3000 same marks sound (system_clear (store_of m).heaps (store_of m).others sound.placed there) kept
 
 outside_word : (old : ℕ → ℕ) (a number : ℕ) → in_range 0x01C00000 0x3000 a ≡ false → with_word_at old 0x01C02100 number a ≡ old a
 outside_word old a number out = grind (arith, nat_tests)
@@ -90,30 +101,41 @@ StoredBy m n (Ok b) = IsKept m n × (bytes_of n ≡ b)
 StoredBy m n (Err f) = IsKept m n × (bytes_of n ≡ bytes_of m)
 
 -- what a user's store leaves, whether it was refused or not
-abbrev pub with_core : State → Option Halt → Store → MachineState
-with_core cpu halt s = record { cpu = cpu; store = s; halt = halt }
+abbrev pub with_core : State → ℕ → Tables → Option Halt → Store → MachineState
+with_core cpu pool tables halt s = record { cpu = cpu; store = s; pool = pool; tables = tables; halt = halt }
 
-poked_by : (m n : AddressMap) (cpu : State) (halt : Option Halt) (a w : ℕ) (result : Result Unit Fault) (f : Option Fault)
-    → layout n ≡ layout m → IsSound (store_of m)
+abbrev pub over : AddressMap → State → Tables → Option Halt → MachineState
+over m cpu tables halt = with_core cpu (free_pages m) tables halt (store_of m)
+
+pub same_pool : (m n : AddressMap) → layout n ≡ layout m → free_pages n ≡ free_pages m
+same_pool m n same = ap (λ (l : Layout). l.free_pages) same
+
+poked_by : (m n : AddressMap) (cpu : State) (tables : Tables) (halt : Option Halt) (a w : ℕ) (result : Result Unit Fault) (f : Option Fault)
+    → layout n ≡ layout m → class_of n ≡ class_of m → IsSound (store_of m)
     → (f ≡ None → owned_in (store_of m) (a - a % 4) ≡ false)
     → Leaves (bytes_of m) (unless f (with_word (bytes_of m) (a - a % 4) w)) result (bytes_of n)
-    → IsKept m n × Leaves (with_core cpu halt (store_of m)) (bind (unless f (with_word (bytes_of m) (a - a % 4) w)) (λ b. Ok (with_core cpu halt (with_memory (store_of m) b)))) result (with_core cpu halt (store_of n))
-poked_by m n cpu halt a w (Ok u) None same sound free left =
-    let kept : IsKept m n = keeps_kept m n _ same sound left (word_kept (owned_in (store_of m)) (bytes_of m) (a - a % 4) w (by_words (store_of m)) (omega arith) (free refl)) in
-    (kept, ap (with_core cpu halt) (kept_memory m n _ kept left))
-poked_by m n cpu halt a w (Err e) None same sound free left = absurd left
-poked_by m n cpu halt a w (Ok u) (Some f) same sound free left = absurd left
-poked_by m n cpu halt a w (Err e) (Some f) same sound free left =
-    let kept : IsKept m n = same_kept m n same sound left.1 in
-    (kept, (left.0, ap (with_core cpu halt) (kept_all m n kept left.1)))
+    → IsKept m n × Leaves (over m cpu tables halt) (bind (unless f (with_word (bytes_of m) (a - a % 4) w))
+    (λ b. Ok (with_core cpu (free_pages m) tables halt (with_memory (store_of m) b)))) result (over n cpu tables halt)
+poked_by m n cpu tables halt a w (Ok u) None same marks sound free left =
+    let kept : IsKept m n = keeps_kept m n _ same marks sound left (word_kept (owned_in (store_of m)) (bytes_of m) (a - a % 4) w (by_words (store_of m)) (omega arith) (free refl)) in
+    let store = kept_memory m n _ kept left in
+    let pool = same_pool m n same in
+    (kept, λ i. with_core cpu (pool i) tables halt (store i))
+poked_by m n cpu tables halt a w (Err e) None same marks sound free left = absurd left
+poked_by m n cpu tables halt a w (Ok u) (Some f) same marks sound free left = absurd left
+poked_by m n cpu tables halt a w (Err e) (Some f) same marks sound free left =
+    let kept : IsKept m n = same_kept m n same marks sound left.1 in
+    let store = kept_all m n kept left.1 in
+    let pool = same_pool m n same in
+    (kept, (left.0, λ i. with_core cpu (pool i) tables halt (store i)))
 
-pub pokes : (m n : AddressMap) (cpu : State) (halt : Option Halt) (a w : ℕ) (result : Result Unit Fault)
-    → layout n ≡ layout m → IsSound (store_of m) → AreClasses m
+pub pokes : (m n : AddressMap) (cpu : State) (tables : Tables) (halt : Option Halt) (a w : ℕ) (result : Result Unit Fault)
+    → layout n ≡ layout m → class_of n ≡ class_of m → IsSound (store_of m) → AreClasses m
     → Leaves (bytes_of m) (word_stored (is_owned m) (bytes_of m) a w) result (bytes_of n)
-    → IsKept m n × Leaves (with_core cpu halt (store_of m)) (poked (with_core cpu halt (store_of m)) a w) result (with_core cpu halt (store_of n))
+    → IsKept m n × Leaves (over m cpu tables halt) (poked (over m cpu tables halt) a w) result (over n cpu tables halt)
 unfolding poked word_stored store_of
-pokes m n cpu halt a w result same sound classes left =
-    poked_by m n cpu halt a w result (store_fault (owned_in (store_of m)) (bytes_of m) (a - a % 4)) same sound
+pokes m n cpu tables halt a w result same marks sound classes left =
+    poked_by m n cpu tables halt a w result (store_fault (owned_in (store_of m)) (bytes_of m) (a - a % 4)) same marks sound
     (λ e. free_by (nat_le (2 ^ 26) (a - a % 4)) ((bytes_of m).mapped (a - a % 4)) (owned_in (store_of m) (a - a % 4)) e)
     (subst (λ (owned : ℕ → Bool). Leaves (bytes_of m) (word_stored owned (bytes_of m) a w) result (bytes_of n)) (owned_marks m classes) left)
 
@@ -122,11 +144,11 @@ abbrev pub module_area : Sizes → HeapList
 module_area s = record { kind = Rma; start = 0x01800000; end = 4096 * s.rma; items = [] }
 
 -- a program in the application space, which the module area doesn't meet
-pub program_kept : (m n : AddressMap) (s : Sizes) (program : List ℕ) → layout n ≡ layout m → IsSound (store_of m) → AreGood s
+pub program_kept : (m n : AddressMap) (s : Sizes) (program : List ℕ) → layout n ≡ layout m → class_of n ≡ class_of m → IsSound (store_of m) → AreGood s
     → (store_of m).heaps ≡ module_area s ∷ [] → length program ≤ 4096 * s.app
     → ((a : ℕ) → byte_at n a ≡ with_bytes_at (byte_at m) 0x8000 program a) → IsKept m n
-program_kept m n s program same sound good heaps fits bytes =
-    clear_kept m n 0x8000 (length program) same sound (rw heaps (λ a inside. apart s (length program) a good fits inside, tt))
+program_kept m n s program same marks sound good heaps fits bytes =
+    clear_kept m n 0x8000 (length program) same marks sound (rw heaps (λ a inside. apart s (length program) a good fits inside, tt))
     (λ a outside. bytes a ∙ untouched (byte_at m) program a outside) where
       apart : (s : Sizes) (len a : ℕ) → AreGood s → len ≤ 4096 * s.app → in_range 0x8000 len a ≡ true → in_range 0x01800000 (4096 * s.rma) a ≡ false
       apart s len a good fits inside = let limit = good.in_limit in let room = good.has_room in grind (arith, nat_tests)
@@ -135,45 +157,54 @@ program_kept m n s program same sound good heaps fits bytes =
       untouched old program a outside = rw outside refl
 
 -- the error block
-pub error_kept : (m n : AddressMap) (number : ℕ) (text : List ℕ) → layout n ≡ layout m → IsSound (store_of m) → (store_of m).others ≡ system_pages ∷ []
+pub error_kept : (m n : AddressMap) (number : ℕ) (text : List ℕ) → layout n ≡ layout m → class_of n ≡ class_of m → IsSound (store_of m) → IsRecorded system_pages (store_of m).others
     → length text ≤ 128 → bytes_of n ≡ with_bytes (with_word (bytes_of m) 0x01C02100 number) 0x01C02104 text → IsKept m n
-error_kept m n number text same sound others short e =
-    system_kept m n same sound others (λ a out. ap (λ (b : Bytes). b.at a) e
+error_kept m n number text same marks sound others short e =
+    system_kept m n same marks sound others (λ a out. ap (λ (b : Bytes). b.at a) e
     ∙ outside_bytes (with_word_at (byte_at m) 0x01C02100 number) a text short out ∙ outside_word (byte_at m) a number out)
 
 kept_classes : (m n : AddressMap) → IsKept m n → class_of n ≡ class_of m → AreClasses m → AreClasses n
 kept_classes m n kept marks same = classes_same m n (ap (λ (s : Store). s.heaps) kept.store) (λ a i. marks i a) same
 
--- the parts of a machine after a call that kept what is mapped and the other records
-pub well_by : (old new : Parts) → IsWellFormed old → IsSound (store_of new.map) → AreClasses new.map → (store_of new.map).others ≡ (store_of old.map).others
-    → place new.map ≡ place old.map → free_pages new.map ≡ free_pages old.map → new.sizes ≡ old.sizes
-    → (new.is_fresh ≡ true → state_of new ≡ start_of new.sizes) → IsWellFormed new
-well_by old new well sound classes others same pages sizes fresh = record {
-  sound = sound;
+-- the parts of a machine after a call that kept the other records
+pub well_by : (old new : Parts) → IsWellFormed old → AreAreas (store_of new.map) (free_pages new.map) new.tables.land → AreClasses new.map
+    → (store_of new.map).others ≡ (store_of old.map).others → (new.is_fresh ≡ true → state_of new ≡ start_of new.sizes) → IsWellFormed new
+well_by old new well areas classes others fresh = record {
+  areas = areas;
   classes = classes;
-  others = others ∙ well.others;
-  mapped = λ a. ap (λ (f : ℕ → Option ℕ). is_some (f a)) same ∙ well.mapped a ∙ ap (λ (s : Sizes). is_start_mapped s a) (sym sizes);
-  pool = ap (λ (n : ℕ). n + (new.sizes.app + new.sizes.rma + 3)) pages ∙ ap (λ (s : Sizes). free_pages old.map + (s.app + s.rma + 3)) sizes
-      ∙ well.pool ∙ ap (λ (s : Sizes). s.pages) (sym sizes);
+  system = rw others well.system;
   fresh = fresh;
 }
 
+-- the same of a machine that isn't as it was made
+pub well_called : (old new : Parts) → IsWellFormed old → AreAreas (store_of new.map) (free_pages new.map) new.tables.land → AreClasses new.map
+    → (store_of new.map).others ≡ (store_of old.map).others → new.is_fresh ≡ false → IsWellFormed new
+well_called old new well areas classes others stepped = well_by old new well areas classes others (λ e. absurd (true≢false (sym e ∙ stepped)))
+
+-- the areas, after a call that kept every list
+kept_areas : (old new : Parts) → IsWellFormed old → IsKept old.map new.map → layout new.map ≡ layout old.map → new.tables ≡ old.tables
+    → AreAreas (store_of new.map) (free_pages new.map) new.tables.land
+kept_areas old new well kept same tables =
+    rw tables (areas_written old.map new.map old.tables.land well.areas kept.sound same)
+
 -- the same after a call that kept every list, of a machine that isn't as it was made
 pub well_kept : (old new : Parts) → IsWellFormed old → IsKept old.map new.map → layout new.map ≡ layout old.map → class_of new.map ≡ class_of old.map
-    → new.is_fresh ≡ false → new.sizes ≡ old.sizes → IsWellFormed new
-well_kept old new well kept same marks stepped sizes =
-    well_by old new well kept.sound (kept_classes old.map new.map kept marks well.classes) (ap (λ (s : Store). s.others) kept.store) (layout-place _ _ same) (ap (λ (l : Layout). l.free_pages) same) sizes
-    (λ e. absurd (true≢false (sym e ∙ stepped)))
+    → new.tables ≡ old.tables → new.is_fresh ≡ false → IsWellFormed new
+well_kept old new well kept same marks tables stepped =
+    well_called old new well (kept_areas old new well kept same tables) (kept_classes old.map new.map kept marks well.classes)
+    (ap (λ (s : Store). s.others) kept.store) stepped
 
 -- the application space holds the program of the written machine
-pub boots : (m n : AddressMap) (cpu : State) (halt : Option Halt) (s : Sizes) (is_fresh : Bool) (program : List ℕ) → is_fresh ≡ true
+pub boots : (m n : AddressMap) (cpu : State) (tables : Tables) (halt : Option Halt) (s : Sizes) (is_fresh : Bool) (program : List ℕ) → is_fresh ≡ true
     → length program ≤ 4096 * s.app → layout n ≡ layout m → IsKept m n
     → ((a : ℕ) → byte_at n a ≡ with_bytes_at (byte_at m) 0x8000 program a)
-    → Leaves {U = Unit {0}} (with_core cpu halt (store_of m)) (booted s is_fresh (with_core cpu halt (store_of m)) program) (Ok tt) (with_core cpu halt (store_of n))
+    → Leaves {U = Unit {0}} (over m cpu tables halt) (booted s is_fresh (over m cpu tables halt) program) (Ok tt) (over n cpu tables halt)
 unfolding booted store_of
-boots m n cpu halt s is_fresh program fresh fits same kept bytes =
+boots m n cpu tables halt s is_fresh program fresh fits same kept bytes =
     let room : nat_le (length program) (4096 * s.app) ≡ true = le-leb _ _ fits in
-    rw (fresh, room) (ap (with_core cpu halt) (kept_memory m n _ kept (stored_bytes m n 0x8000 program same bytes)))
+    let store = kept_memory m n _ kept (stored_bytes m n 0x8000 program same bytes) in
+    let pool = same_pool m n same in
+    rw (fresh, room) (λ i. with_core cpu (pool i) tables halt (store i))
 
 -- two writes side by side are one
 pub two_writes : (old : ℕ → ℕ) (at : ℕ) (xs : List ℕ) (y a : ℕ)
@@ -202,10 +233,10 @@ short_name e = search rules
 
 -- the same of a machine that may be as it was made, where nothing changed
 pub well_same : (old new : Parts) → IsWellFormed old → IsKept old.map new.map → layout new.map ≡ layout old.map → class_of new.map ≡ class_of old.map
-    → state_of new ≡ state_of old → new.is_fresh ≡ old.is_fresh → new.sizes ≡ old.sizes → IsWellFormed new
-well_same old new well kept same marks state fresh sizes =
-    well_by old new well kept.sound (kept_classes old.map new.map kept marks well.classes) (ap (λ (s : Store). s.others) kept.store) (layout-place _ _ same) (ap (λ (l : Layout). l.free_pages) same) sizes
-    (λ e. state ∙ well.fresh (sym fresh ∙ e) ∙ ap start_of (sym sizes))
+    → state_of new ≡ state_of old → new.tables ≡ old.tables → new.is_fresh ≡ old.is_fresh → new.sizes ≡ old.sizes → IsWellFormed new
+well_same old new well kept same marks state tables fresh sizes =
+    well_by old new well (kept_areas old new well kept same tables) (kept_classes old.map new.map kept marks well.classes)
+    (ap (λ (s : Store). s.others) kept.store) (λ e. state ∙ well.fresh (sym fresh ∙ e) ∙ ap start_of (sym sizes))
 
 pub refused_same : {S E : Type 0} (old new : S) (r : Result S E) (e : E) → Leaves {U = Unit {0}} old r (Err e) new → new ≡ old
 refused_same old new (Ok s) e left = absurd left

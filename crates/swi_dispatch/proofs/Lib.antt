@@ -1,6 +1,5 @@
 pub mod Answering
 pub mod ErrorNumbers
-pub mod Heaping
 pub mod Kept
 pub mod Quiet
 pub mod RunLoop

@@ -1,21 +1,30 @@
 -- The written machine: its core, its store (memory as a function from addresses to bytes, the lists of all heaps, and the other recorded
--- ranges), and the halt that keeps it from further steps.
-use Rattle.std.specs.Prelude.{ℕ, Bool, ◌*◌, ◌||◌, Option, None, List, [], ◌∷◌}
+-- ranges), how many pages are in the pool, what stands beside core and memory, and the halt that keeps it from further steps.
+use Rattle.std.specs.Prelude.{ℕ, ◌+◌, ◌-◌, ◌*◌, false, Option, None, List, [], ◌∷◌}
 use Rattle.profile.specs.declared.stop.Stop.{Stop}
 use Rattle.profile.specs.declared.stop.Stop.TheVariants as stop
 use Rattle.profile.specs.Sizes.{Sizes}
-use Rattle.address_map.specs.Bytes.{Bytes, in_range}
-use Rattle.address_map.specs.declared.region.Kind.TheVariants.{Rma, SystemPage}
-use Rattle.address_map.specs.declared.region.Region.{Region}
+use Rattle.address_map.specs.Bytes.{Bytes}
+use Rattle.address_map.specs.declared.region.Kind.TheVariants.{Rma}
 use Rattle.arm_step.specs.State.{State, start_state}
 use Rattle.os_heap.specs.Calls.{begun_with}
 use Rattle.os_heap.specs.Store.{Store}
+use Rattle.dynamic_areas.specs.Areas.{Land, start_land}
+use Rattle.dynamic_areas.specs.Ground.{Estate, is_land, system_pages}
+use Rattle.swi_dispatch_frames.specs.declared.frame.Frame.{Frame}
 use Rattle.swi_dispatch.specs.declared.halt.Halt.{Halt}
 use Rattle.swi_dispatch.specs.declared.halt.Halt.TheVariants as halt
+
+-- what stands beside the core and the memory: the areas, and the frames of module code that is under way
+pub record Tables : Type 0 where
+  pub land : Land
+  pub frames : List Frame
 
 pub record MachineState : Type 0 where
   pub cpu : State
   pub store : Store
+  pub pool : ℕ
+  pub tables : Tables
   pub halt : Option Halt
 
 -- what a step leaves: the machine, and the bytes that it printed
@@ -34,19 +43,35 @@ stop_of (halt.Fault f) = stop.Fault f
 abbrev pub with_memory : Store → Bytes → Store
 with_memory s b = record s { bytes = b }
 
+-- what calls on memory act on, and the machine after one of them
+abbrev pub machine_estate : MachineState → Estate
+machine_estate s = record { store = s.store; pool = s.pool; land = s.tables.land }
+
+abbrev pub with_estate : MachineState → Estate → MachineState
+with_estate s e = record s { store = e.store; pool = e.pool; tables = record s.tables { land = e.land } }
+
 -- The start. Mapped are the application space, the first pages of the module area and the three system pages, which are recorded; each mapped
--- byte is 0 but for the module area's descriptor, since the machine makes an empty heap there.
-abbrev pub is_start_mapped : Sizes → ℕ → Bool
-is_start_mapped s a = in_range 0x8000 (4096 * s.app) a || in_range 0x01800000 (4096 * s.rma) a || in_range 0x01C00000 0x3000 a
-
-abbrev pub system_pages : Region
-system_pages = record { kind = SystemPage; at = 0x01C00000; len = 0x3000 }
-
+-- byte is 0 but for the module area's descriptor, since the machine makes an empty heap there. All other pages are in the pool.
 abbrev pub bare_store : Sizes → Store
-bare_store s = record { bytes = record { mapped = is_start_mapped s; at = λ _. 0 }; heaps = []; others = system_pages ∷ [] }
+bare_store s = record {
+  bytes = record { mapped = is_land (start_land s); at = λ _. 0 };
+  heaps = [];
+  others = system_pages ∷ [];
+  anchor = λ _. false;
+  header = λ _. false;
+}
 
 abbrev pub start_store : Sizes → Store
 start_store s = begun_with Rma (bare_store s) 0x01800000 (4096 * s.rma)
 
+abbrev pub start_pool : Sizes → ℕ
+start_pool s = s.pages - (s.app + s.rma + 3)
+
 unfoldable pub start_of : Sizes → MachineState
-start_of s = record { cpu = start_state; store = start_store s; halt = None }
+start_of s = record {
+  cpu = start_state;
+  store = start_store s;
+  pool = start_pool s;
+  tables = record { land = start_land s; frames = [] };
+  halt = None;
+}

@@ -1,27 +1,30 @@
 -- The parts of the real machine, and the written machine that they stand for.
-use Rattle.std.specs.Prelude.{◌≡◌, ◌+◌, ℕ, Bool, true, false, Option, Some, None, Result, Ok, Err, List, [], ◌∷◌}
+use Rattle.std.specs.Prelude.{◌≡◌, ◌⊎◌, ℕ, Bool, true, false, Option, Some, None, Result, Ok, Err, List, [], ◌∷◌}
 use Rattle.profile.specs.Sizes.{Sizes}
 use Rattle.address_map.specs.declared.map.AddressMap.{AddressMap}
-use Rattle.address_map.specs.Memory.{is_mapped, free_pages}
-use Rattle.os_heap.specs.Store.{AreClasses, IsSound, store_of}
+use Rattle.address_map.specs.declared.region.Region.{Region}
+use Rattle.address_map.specs.Memory.{free_pages}
+use Rattle.os_heap.specs.Store.{AreClasses, store_of}
+use Rattle.dynamic_areas.specs.Ground.{AreAreas, system_pages}
 use Rattle.arm_step.specs.declared.turn.Turn.{Turn}
 use Rattle.arm_step.specs.State.{State}
 use Rattle.swi_dispatch.specs.declared.halt.Halt.{Halt}
 use Rattle.swi_dispatch.specs.declared.refusal.Refusal.{Refusal}
 use Rattle.swi_dispatch.specs.Calls.{Answer}
-use Rattle.swi_dispatch.specs.MachineState.{MachineState, Outcome, start_of, is_start_mapped, system_pages}
+use Rattle.swi_dispatch.specs.MachineState.{MachineState, Outcome, Tables, start_of}
 use Rattle.swi_dispatch.specs.Step.{Turned, instructed}
 
 pub record Parts : Type 0 where
   pub cpu : State
   pub map : AddressMap
+  pub tables : Tables
   pub halt : Option Halt
   pub sizes : Sizes
   pub is_fresh : Bool
   pub printed : List ℕ
 
 unfoldable pub state_of : Parts → MachineState
-state_of p = record { cpu = p.cpu; store = store_of p.map; halt = p.halt }
+state_of p = record { cpu = p.cpu; store = store_of p.map; pool = free_pages p.map; tables = p.tables; halt = p.halt }
 
 -- the written machine, and what the last step printed
 abbrev pub outcome_of : Parts → Outcome
@@ -32,15 +35,17 @@ abbrev pub Answers : Answer → ℕ → Result ℕ Refusal → Outcome → Type 
 Answers a next (Ok to) o = (o ≡ a.left) × ((to ≡ a.next) × (a.error ≡ None))
 Answers a next (Err e) o = (o ≡ a.left) × ((next ≡ a.next) × (a.error ≡ Some e))
 
--- What holds of every machine, whatever its guest does: memory spells the lists of all heaps, which share no byte with one another and with the
--- system pages; the words that these lists spell are those that are marked; the fixed ranges are mapped, and their pages and the pool are all there are; and a machine that can still be booted stands as
--- at the start.
+-- a range is among those recorded
+abbrev pub IsRecorded : Region → List Region → Type 0
+IsRecorded r [] = ⊥
+IsRecorded r (q ∷ rs) = (q ≡ r) ⊎ IsRecorded r rs
+
+-- What holds of every machine, whatever its guest does: the areas stand on its memory, so that memory spells the lists of all heaps; the words that
+-- these lists spell are those that are marked; the system pages are recorded; and a machine that can still be booted stands as at the start.
 pub record IsWellFormed (p : Parts) : Type 0 where
-  pub sound : IsSound (store_of p.map)
+  pub areas : AreAreas (store_of p.map) (free_pages p.map) p.tables.land
   pub classes : AreClasses p.map
-  pub others : (store_of p.map).others ≡ system_pages ∷ []
-  pub mapped : (a : ℕ) → is_mapped p.map a ≡ is_start_mapped p.sizes a
-  pub pool : free_pages p.map + (p.sizes.app + p.sizes.rma + 3) ≡ p.sizes.pages
+  pub system : IsRecorded system_pages (store_of p.map).others
   pub fresh : p.is_fresh ≡ true → state_of p ≡ start_of p.sizes
 
 -- a step is under way, and has printed nothing yet

@@ -1,11 +1,14 @@
-ghost use Rattle.std.specs.Prelude.{◌≡◌, ◌≤◌, ◌+◌, ◌%◌, ◌&&◌, ℕ, Bool, true, false, not, [], ◌∷◌, List, Option, Some, None, IfOk, IsSome, is_err};
+ghost use Rattle.std.specs.Prelude.{◌≡◌, ◌≤◌, ◌+◌, ◌%◌, ◌&&◌, ℕ, Bool, true, false, not, [], ◌∷◌, List, Option, Some, None, IfOk, IsSome, is_err, length};
 ghost use Rattle.std.specs.Option.{option_map};
 ghost use Rattle.profile.specs.Outcome.{Leaves};
 ghost use Rattle.profile.specs.Sizes.{AreGood};
 ghost use Rattle.address_map.specs.Memory.{is_mapped, byte_at, regions, free_pages, class_of};
 ghost use Rattle.address_map.specs.declared.class.Class.TheVariants.{Plain};
 ghost use Rattle.os_heap.specs.Store.{store_of, AreClasses, IsSound};
-ghost use Rattle.swi_dispatch.specs.MachineState.{is_start_mapped, start_store, system_pages};
+ghost use Rattle.dynamic_areas.specs.Areas.{start_land};
+ghost use Rattle.dynamic_areas.specs.Ground.{AreAreas, is_land};
+ghost use Rattle.dynamic_areas.specs.Rooms.{IsAreaTable};
+ghost use Rattle.swi_dispatch.specs.MachineState.{start_store};
 ghost use Rattle.swi_dispatch.specs.Step.{without_x};
 
 use crate::boot_error::BootError;
@@ -13,6 +16,7 @@ use crate::halt::Halt;
 use address_map::{AddressMap, Kind};
 use arm_step::{Cpu, Turn, step};
 use arrayvec::ArrayVec;
+use dynamic_areas::Areas;
 use image_loader::Images;
 use os_heap::Heaps;
 use profile::memory_map::{
@@ -22,6 +26,7 @@ use profile::word::is_bit_set;
 use profile::{Config, Fault, Stop};
 use std::alloc::{AllocError, Global};
 use std::marker::Model;
+use swi_dispatch_frames::Frames;
 
 /// The most bytes that a step can print.
 pub(crate) const MOST_PRINTED: usize = 4096;
@@ -35,6 +40,8 @@ pub struct Machine {
     pub(crate) cpu: Cpu,
     pub(crate) memory: AddressMap,
     pub(crate) heaps: Heaps,
+    pub(crate) areas: Areas,
+    pub(crate) frames: Frames,
     pub(crate) halt: Option<Halt>,
     config: Config,
     is_fresh: bool,
@@ -46,9 +53,9 @@ impl Model for Machine {
 
     ghost Value = { Parts };
 
-    ghost view = { λ m. record { cpu = m.cpu; map = m.memory; halt = m.halt; sizes = m.config; is_fresh = m.is_fresh; printed = m.printed.items } };
+    ghost view = { λ m. record { cpu = m.cpu; map = m.memory; tables = record { land = m.areas; frames = m.frames }; halt = m.halt; sizes = m.config; is_fresh = m.is_fresh; printed = m.printed.items } };
 
-    ghost invariant = { λ m. IsWellFormed (record { cpu = m.cpu; map = m.memory; halt = m.halt; sizes = m.config; is_fresh = m.is_fresh; printed = m.printed.items }) };
+    ghost invariant = { λ m. IsWellFormed (record { cpu = m.cpu; map = m.memory; tables = record { land = m.areas; frames = m.frames }; halt = m.halt; sizes = m.config; is_fresh = m.is_fresh; printed = m.printed.items }) };
 }
 
 impl Machine {
@@ -72,6 +79,8 @@ impl Machine {
             cpu: Cpu::new(),
             memory,
             heaps: Heaps::new(),
+            areas: Areas::new(config),
+            frames: Frames::new(),
             halt: None,
             config,
             is_fresh: true,
@@ -200,6 +209,7 @@ impl Machine {
     #[tactic(auto, unfolding(crate::specs::Parts::state_of, os_heap::specs::Store::store_of))]
     pub fn memory(&self) -> &AddressMap
         ensures store { store_of result.now ≡ (state_of self.now).store }
+        ensures pool { free_pages result.now ≡ (state_of self.now).pool }
         ensures bytes { bytes_of result.now ≡ (state_of self.now).store.bytes }
         ensures sound { IsSound (store_of result.now) }
         ensures well_formed { IsWellFormed self.now }
@@ -212,11 +222,22 @@ impl Machine {
         &self.heaps
     }
 
-    /// How many frames of module code are open: none ever is.
-    pub fn frames(&self) -> usize
-        ensures { result ≡ 0 }
+    /// The dynamic areas, which stand on the memory.
+    #[tactic(auto, unfolding(crate::specs::Parts::state_of))]
+    pub fn areas(&self) -> &Areas
+        ensures land { result.now ≡ (state_of self.now).tables.land }
+        ensures table { IsAreaTable result.now.areas }
+        ensures well_formed { IsWellFormed self.now }
     {
-        0
+        &self.areas
+    }
+
+    /// How many frames of module code are open.
+    #[tactic(auto, unfolding(crate::specs::Parts::state_of))]
+    pub fn frames(&self) -> usize
+        ensures { result ≡ length (state_of self.now).tables.frames }
+    {
+        self.frames.len()
     }
 
     /// Why the machine is halted, if it is.
@@ -284,7 +305,7 @@ impl Machine {
         match turn {
             Turn::Done => {}
             Turn::Swi(number) => self.call_by_instruction(number),
-            Turn::Gate => self.halt_with(Halt::Fault(Fault::FetchUnmapped)),
+            Turn::Gate => self.pass_gate(),
             Turn::Fault(fault) => self.halt_with(Halt::Fault(fault)),
         }
     }
@@ -319,24 +340,23 @@ fn without_x_bit(number: u32) -> u32
     }
 }
 
-// The memory of a machine at its start: the fixed ranges, and the module area a heap without items.
+// The memory of a machine at its start: the fixed ranges, the module area a heap without items, and the record of the system pages.
 fn start_memory(alloc: Global, config: Config) -> Result<AddressMap, AllocError>
     ensures store { IfOk result (λ m. store_of m ≡ start_store config) }
-    ensures sound { IfOk result (λ m. IsSound (store_of m)) }
+    ensures areas { IfOk result (λ m. AreAreas (store_of m) (free_pages m) (start_land config)) }
     ensures classes { IfOk result AreClasses }
-    ensures pool { IfOk result (λ m. free_pages m + (config.app + config.rma + 3) ≡ config.pages) }
-    ensures sizes { AreGood config }
 {
     let mut memory = bare_memory(alloc, config)?;
     Heaps::new().init_module_area(&mut memory, RMA_START, PAGE_SIZE * config.rma());
+    memory.own(Kind::SystemPage, SYSTEM_START, PAGE_SIZE * SYSTEM_PAGES);
     Ok(memory)
 }
 
-// The fixed ranges, and the record of the system pages.
+// The fixed ranges, without any record.
 fn bare_memory(alloc: Global, config: Config) -> Result<AddressMap, AllocError>
-    ensures mapping { IfOk result (λ m. (a : ℕ) → is_mapped m a ≡ is_start_mapped config a) }
+    ensures mapping { IfOk result (λ m. (a : ℕ) → is_mapped m a ≡ is_land (start_land config) a) }
     ensures bytes { IfOk result (λ m. (a : ℕ) → byte_at m a ≡ 0) }
-    ensures regions { IfOk result (λ m. regions m ≡ system_pages ∷ []) }
+    ensures regions { IfOk result (λ m. regions m ≡ []) }
     ensures marks { IfOk result (λ m. (a : ℕ) → class_of m a ≡ Plain) }
     ensures pool { IfOk result (λ m. free_pages m + (config.app + config.rma + 3) ≡ config.pages) }
     ensures sizes { AreGood config }
@@ -345,6 +365,5 @@ fn bare_memory(alloc: Global, config: Config) -> Result<AddressMap, AllocError>
     memory.map_pages(APPLICATION_START, config.app());
     memory.map_pages(RMA_START, config.rma());
     memory.map_pages(SYSTEM_START, SYSTEM_PAGES);
-    memory.own(Kind::SystemPage, SYSTEM_START, PAGE_SIZE * SYSTEM_PAGES);
     Ok(memory)
 }

@@ -5,10 +5,10 @@ use Rattle.swi_dispatch.proofs.machine.bare_memory.Goals as goal
 
 pub returns-clause-bytes : goal.returns-clause-bytes
 returns-clause-bytes c = λ b.
-    ap (λ (f : ℕ → ℕ). f b) c.own.ensures.bytes ∙ c.map_pages-3.ensures.bytes b ∙ c.map_pages-2.ensures.bytes b ∙ c.map_pages.ensures.bytes b
+    c.map_pages-3.ensures.bytes b ∙ c.map_pages-2.ensures.bytes b ∙ c.map_pages.ensures.bytes b
     ∙ unmapped_zero c.in_ok-memory.memory b (c.in_ok-memory.ensures.mapping b)
 
 pub returns-clause-marks : goal.returns-clause-marks
 returns-clause-marks c = λ a.
-    c.own.ensures.marks a ∙ ap (λ (f : ℕ → Class). f a) (c.map_pages-3.ensures.marks ∙ c.map_pages-2.ensures.marks ∙ c.map_pages.ensures.marks)
+    ap (λ (f : ℕ → Class). f a) (c.map_pages-3.ensures.marks ∙ c.map_pages-2.ensures.marks ∙ c.map_pages.ensures.marks)
     ∙ c.in_ok-memory.ensures.marks a

@@ -65,7 +65,7 @@ returns-then-number-eq-MODULE_AREA-clause-areas c =
     record {
       ground = rw (is, free) (ground_ended (store_of c.grow.new.map) (free_pages c.grow.new.map) c.grow.new.self m.heap (4096 * (a.pages + c.args.count))
           c.grow.ensures.ground sound);
-      heap = rw (is, ended, land, there) refl;
+      heap = rw (is, ended, land, there) (m.kind, refl);
     }
 
 pub returns-else-number-eq-MODULE_AREA-clause-areas : goal.returns-else-number-eq-MODULE_AREA-clause-areas

@@ -86,7 +86,7 @@ returns-clause-areas c =
             subst (λ (n : ℕ). find_area n (with_pages c.args.number (a.pages - c.args.count) c.args.self.now.areas) ≡ Some (paged (a.pages - c.args.count) a))
             w.if-number-eq-MODULE_AREA.true (find_paged c.args.number (a.pages - c.args.count) c.args.self.now.areas a (sym e)) in
             let ended = find_ended (store_of c.args.map.now).heaps m.heap 0x01800000 (4096 * (a.pages - c.args.count)) m.found in
-            rw (heaps, w.map-is, is, ended, land, there) refl
+            rw (heaps, w.map-is, is, ended, land, there) (m.kind, refl)
         | else-number-eq-MODULE_AREA w ↦
             rw (heaps, w.map-is, land, find_paged_other c.args.number (a.pages - c.args.count) 1 c.args.self.now.areas w.if-number-eq-MODULE_AREA.false)
             c.requires.areas.heap

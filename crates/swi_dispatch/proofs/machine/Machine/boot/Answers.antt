@@ -1,4 +1,6 @@
-use Rattle.std.proofs.Common.{◌≤◌, ◌*◌, length, ap, refl, arith}
+use Rattle.std.proofs.Common.{◌≤◌, ◌*◌, ◌∙◌, length, ap, refl, arith}
+use Rattle.os_heap.specs.Store.{store_of}
+use Rattle.dynamic_areas.proofs.Remapped.{here}
 use Rattle.swi_dispatch.specs.MachineState.{MachineState, start_of}
 use Rattle.swi_dispatch.specs.Parts.{state_of}
 use Rattle.swi_dispatch.proofs.Kept.{well_kept, program_kept, boots}
@@ -11,7 +13,7 @@ invariant_of-self c =
     let fresh = c.if-not-self.false in
     let heaps = ap (λ (s : MachineState). s.store.heaps) (well.fresh fresh) in
     let fits : length c.args.program.now ≤ 4096 * c.self.inside.config.app = omega (arith, c.if-program-app.false, c.app.ensures.value) in
-    let kept = program_kept _ _ _ _ c.put_bytes.ensures.layout well.sound c.app.ensures.sizes heaps fits c.put_bytes.ensures.bytes in
+    let kept = program_kept _ _ _ _ c.put_bytes.ensures.layout c.put_bytes.ensures.marks well.areas.ground.sound c.app.ensures.sizes heaps fits c.put_bytes.ensures.bytes in
     well_kept _ _ well kept c.put_bytes.ensures.layout c.put_bytes.ensures.marks refl refl
 
 pub returns-clause-state : goal.returns-clause-state
@@ -21,8 +23,8 @@ returns-clause-state c =
     let fresh = c.if-not-self.false in
     let heaps = ap (λ (s : MachineState). s.store.heaps) (well.fresh fresh) in
     let fits : length c.args.program.now ≤ 4096 * c.self.inside.config.app = omega (arith, c.if-program-app.false, c.app.ensures.value) in
-    let kept = program_kept _ _ _ _ c.put_bytes.ensures.layout well.sound c.app.ensures.sizes heaps fits c.put_bytes.ensures.bytes in
-    rw (← c.self.view_is) (boots _ _ _ _ _ _ _ fresh fits c.put_bytes.ensures.layout kept c.put_bytes.ensures.bytes)
+    let kept = program_kept _ _ _ _ c.put_bytes.ensures.layout c.put_bytes.ensures.marks well.areas.ground.sound c.app.ensures.sizes heaps fits c.put_bytes.ensures.bytes in
+    rw (← c.self.view_is) (boots _ _ _ _ _ _ _ _ fresh fits c.put_bytes.ensures.layout kept c.put_bytes.ensures.bytes)
 
 pub returns-clause-well_formed : goal.returns-clause-well_formed
 unfolding state_of start_of
@@ -31,5 +33,12 @@ returns-clause-well_formed c =
     let fresh = c.if-not-self.false in
     let heaps = ap (λ (s : MachineState). s.store.heaps) (well.fresh fresh) in
     let fits : length c.args.program.now ≤ 4096 * c.self.inside.config.app = omega (arith, c.if-program-app.false, c.app.ensures.value) in
-    let kept = program_kept _ _ _ _ c.put_bytes.ensures.layout well.sound c.app.ensures.sizes heaps fits c.put_bytes.ensures.bytes in
+    let kept = program_kept _ _ _ _ c.put_bytes.ensures.layout c.put_bytes.ensures.marks well.areas.ground.sound c.app.ensures.sizes heaps fits c.put_bytes.ensures.bytes in
     well_kept _ _ well kept c.put_bytes.ensures.layout c.put_bytes.ensures.marks refl refl
+
+pub put_bytes-requires : goal.put_bytes-requires
+unfolding state_of start_of store_of
+put_bytes-requires c = λ a low high.
+    let mapped = ap (λ (s : MachineState). s.store.bytes.mapped a) (c.self.invariant.fresh c.if-not-self.false) in
+    let fits : length c.args.program.now ≤ 4096 * c.self.inside.config.app = omega (arith, c.if-program-app.false, c.app.ensures.value) in
+    mapped ∙ rw (here 0x8000 (4096 * c.self.inside.config.app) a low (omega arith)) refl

@@ -1,12 +1,12 @@
-use Rattle.std.proofs.Common.{refl, ap, ◌∙◌}
-use Rattle.address_map.specs.Memory.{Mapping}
+use Rattle.std.proofs.Common.{ap, ◌∙◌}
+use Rattle.dynamic_areas.proofs.HeapCalls.{areas_changed}
 use Rattle.swi_dispatch.specs.Parts.{Parts}
-use Rattle.swi_dispatch.proofs.Heaping.{well_called}
+use Rattle.swi_dispatch.proofs.Kept.{well_called}
 use Rattle.swi_dispatch.proofs.machine.Machine.change_heap.Goals as goal
 
 pub invariant_of-self : goal.invariant_of-self
 invariant_of-self c =
+    let well = c.self.invariant in
     let changed = c.change_size-changed.ensures in
-    well_called _ _ c.self.invariant changed.sound changed.classes changed.others (ap (λ k. k.place) changed.mapping)
-    (ap (λ (m : Mapping). m.free_pages) changed.mapping)
-    (ap (λ (p : Parts). p.is_fresh) c.self.view_is ∙ c.requires.stepped) refl
+    well_called _ _ well (areas_changed _ _ _ well.areas changed.sound changed.others changed.mapping _ _ _ changed.store) changed.classes changed.others
+    (ap (λ (p : Parts). p.is_fresh) c.self.view_is ∙ c.requires.stepped)

@@ -1,14 +1,13 @@
-use Rattle.std.proofs.Common.{refl, ap, ◌∙◌}
-use Rattle.address_map.proofs.Stores.{layout-place}
-use Rattle.address_map.specs.Memory.{Layout}
-use Rattle.swi_dispatch.specs.Parts.{Parts}
+use Rattle.std.proofs.Common.{ap, ◌∙◌}
 use Rattle.os_heap.proofs.Frame.{layout-others}
-use Rattle.swi_dispatch.proofs.Heaping.{well_called}
+use Rattle.dynamic_areas.proofs.HeapCalls.{areas_written}
+use Rattle.swi_dispatch.specs.Parts.{Parts}
+use Rattle.swi_dispatch.proofs.Kept.{well_called}
 use Rattle.swi_dispatch.proofs.machine.Machine.free_block.Goals as goal
 
 pub invariant_of-self : goal.invariant_of-self
 invariant_of-self c =
+    let well = c.self.invariant in
     let freed = c.free-freed.ensures in
-    well_called _ _ c.self.invariant freed.sound freed.classes (layout-others _ _ freed.layout) (layout-place _ _ freed.layout)
-    (ap (λ (l : Layout). l.free_pages) freed.layout)
-    (ap (λ (p : Parts). p.is_fresh) c.self.view_is ∙ c.requires.stepped) refl
+    well_called _ _ well (areas_written _ _ _ well.areas freed.sound freed.layout) freed.classes (layout-others _ _ freed.layout)
+    (ap (λ (p : Parts). p.is_fresh) c.self.view_is ∙ c.requires.stepped)

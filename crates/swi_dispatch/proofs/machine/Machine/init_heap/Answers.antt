@@ -1,12 +1,12 @@
-use Rattle.std.proofs.Common.{refl, ap, ◌∙◌}
-use Rattle.address_map.specs.Memory.{Mapping}
+use Rattle.std.proofs.Common.{ap, ◌∙◌}
+use Rattle.dynamic_areas.proofs.HeapCalls.{areas_begun}
 use Rattle.swi_dispatch.specs.Parts.{Parts}
-use Rattle.swi_dispatch.proofs.Heaping.{well_called}
+use Rattle.swi_dispatch.proofs.Kept.{well_called}
 use Rattle.swi_dispatch.proofs.machine.Machine.init_heap.Goals as goal
 
 pub invariant_of-self : goal.invariant_of-self
 invariant_of-self c =
+    let well = c.self.invariant in
     let made = c.init-made.ensures in
-    well_called _ _ c.self.invariant made.sound made.classes made.others (ap (λ k. k.place) made.mapping)
-    (ap (λ (m : Mapping). m.free_pages) made.mapping)
-    (ap (λ (p : Parts). p.is_fresh) c.self.view_is ∙ c.requires.stepped) refl
+    well_called _ _ well (areas_begun _ _ _ well.areas made.sound made.others made.mapping _ _ _ made.store) made.classes made.others
+    (ap (λ (p : Parts). p.is_fresh) c.self.view_is ∙ c.requires.stepped)

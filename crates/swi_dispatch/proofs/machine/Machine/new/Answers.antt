@@ -1,35 +1,31 @@
-use Rattle.std.proofs.Common.{ap}
-use Rattle.os_heap.specs.Store.{Store, store_of}
 use Rattle.swi_dispatch.specs.Parts.{state_of}
-use Rattle.swi_dispatch.proofs.Starting.{starts}
+use Rattle.swi_dispatch.proofs.Starting.{starts, system_recorded}
 use Rattle.swi_dispatch.proofs.machine.Machine.new.Goals as goal
 
 pub invariant_of-result : goal.invariant_of-result
-unfolding state_of store_of
+unfolding state_of
 invariant_of-result c =
     let memory = c.in_ok-memory.ensures in
     record {
-      sound = memory.sound;
+      areas = rw c.new-3.ensures.land memory.areas;
       classes = memory.classes;
-      others = ap (λ (s : Store). s.others) memory.store;
-      mapped = λ a. ap (λ (s : Store). s.bytes.mapped a) memory.store;
-      pool = memory.pool;
-      fresh = λ _. rw c.new.ensures (starts _ _ memory.store);
+      system = system_recorded _ c.args.config memory.store;
+      fresh = λ _. rw (c.new.ensures, c.new-3.ensures.land, c.new-4.ensures) (starts _ _ memory.store memory.areas);
     }
 
 pub returns-clause-start : goal.returns-clause-start
 unfolding state_of
-returns-clause-start c = rw c.new.ensures (starts _ _ c.in_ok-memory.ensures.store)
+returns-clause-start c =
+    let memory = c.in_ok-memory.ensures in
+    rw (c.new.ensures, c.new-3.ensures.land, c.new-4.ensures) (starts _ _ memory.store memory.areas)
 
 pub returns-clause-well_formed : goal.returns-clause-well_formed
-unfolding state_of store_of
+unfolding state_of
 returns-clause-well_formed c =
     let memory = c.in_ok-memory.ensures in
     record {
-      sound = memory.sound;
+      areas = rw c.new-3.ensures.land memory.areas;
       classes = memory.classes;
-      others = ap (λ (s : Store). s.others) memory.store;
-      mapped = λ a. ap (λ (s : Store). s.bytes.mapped a) memory.store;
-      pool = memory.pool;
-      fresh = λ _. rw c.new.ensures (starts _ _ memory.store);
+      system = system_recorded _ c.args.config memory.store;
+      fresh = λ _. rw (c.new.ensures, c.new-3.ensures.land, c.new-4.ensures) (starts _ _ memory.store memory.areas);
     }

@@ -1,20 +1,26 @@
 use Rattle.std.proofs.Common.{refl, ap, ◌∙◌}
 use Rattle.os_heap.specs.Store.{store_of}
+use Rattle.dynamic_areas.proofs.HeapCalls.{system_room}
 use Rattle.swi_dispatch.specs.Parts.{Parts, state_of}
-use Rattle.swi_dispatch.proofs.Kept.{well_kept, error_kept, kept_memory, short_name, with_core}
+use Rattle.swi_dispatch.proofs.Kept.{well_kept, error_kept, kept_memory, short_name, same_pool, with_core}
 use Rattle.swi_dispatch.proofs.machine.Machine.put_error.Goals as goal
 
 pub invariant_of-self : goal.invariant_of-self
 invariant_of-self c =
     let well = c.self.invariant in
-    let kept = error_kept _ _ _ _ c.write_error.ensures.layout well.sound well.others (short_name c.args.error) c.write_error.ensures.bytes in
-    well_kept _ _ well kept c.write_error.ensures.layout c.write_error.ensures.marks (ap (λ (p : Parts). p.is_fresh) c.self.view_is ∙ c.requires.stepped) refl
+    let kept = error_kept _ _ _ _ c.write_error.ensures.layout c.write_error.ensures.marks well.areas.ground.sound well.system (short_name c.args.error) c.write_error.ensures.bytes in
+    well_kept _ _ well kept c.write_error.ensures.layout c.write_error.ensures.marks refl (ap (λ (p : Parts). p.is_fresh) c.self.view_is ∙ c.requires.stepped)
 
 pub returns-clause-state : goal.returns-clause-state
 unfolding state_of store_of
 returns-clause-state c =
     let well = c.self.invariant in
-    let kept = error_kept _ _ _ _ c.write_error.ensures.layout well.sound well.others (short_name c.args.error) c.write_error.ensures.bytes in
+    let kept = error_kept _ _ _ _ c.write_error.ensures.layout c.write_error.ensures.marks well.areas.ground.sound well.system (short_name c.args.error) c.write_error.ensures.bytes in
     let store = kept_memory _ _ _ kept c.write_error.ensures.bytes in
     let core = c.set_register.ensures in
-    rw (← c.self.view_is) (λ i. with_core (core i) c.self.inside.halt (store i))
+    let pool = same_pool _ _ c.write_error.ensures.layout in
+    rw (← c.self.view_is) (λ i. with_core (core i) (pool i) (record { land = c.self.inside.areas; frames = c.self.inside.frames }) c.self.inside.halt (store i))
+
+pub write_error-requires : goal.write_error-requires
+unfolding store_of
+write_error-requires c = system_room _ _ _ c.self.invariant.areas

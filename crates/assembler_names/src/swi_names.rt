@@ -1,7 +1,7 @@
 //! The names of store calls, for SWI.
 
 ghost use Rattle.std.specs.Prelude.{◌≡◌};
-ghost use Rattle.assembler_names.specs.Interrupts.{call_named, names_call, swi_named, x_call_named};
+ghost use Rattle.assembler_names.specs.SwiNames.{call_named, names_call, swi_named, x_call_named};
 
 use profile::SwiName;
 
@@ -12,7 +12,7 @@ static CALL_NUMBERS: [u32; 19] = [
 
 /// The number of a store call by its name, which with X before it has bit 17. Capitals and small
 /// letters differ.
-#[tactic(auto, unfolding(crate::specs::Interrupts::swi_named))]
+#[tactic(auto, unfolding(crate::specs::SwiNames::swi_named))]
 pub fn swi_named(name: &[u8]) -> Option<u32>
     ensures { result ≡ swi_named name.now }
 {
@@ -28,7 +28,7 @@ fn x_call_named(name: &[u8]) -> Option<u32>
     }
 }
 
-#[tactic(auto, unfolding(crate::specs::Interrupts::call_named))]
+#[tactic(auto, unfolding(crate::specs::SwiNames::call_named))]
 fn call_named(name: &[u8]) -> Option<u32>
     ensures { result ≡ call_named name.now }
 {

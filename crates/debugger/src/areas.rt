@@ -1,0 +1,88 @@
+ghost use Rattle.std.specs.List.{flat_map};
+ghost use Rattle.profile.specs.Output.{Writes};
+ghost use Rattle.swi_dispatch.specs.Parts.{state_of};
+ghost use Rattle.debugger.specs.Areas.{area_text, areas_text, extent_text, pool_text};
+
+use dynamic_areas::Area;
+use itoa::Buffer;
+use profile::memory_map::PAGE_SIZE;
+use profile::{HexText, Sink, WriteFault, push_parts};
+use swi_dispatch::Machine;
+
+/// Writes a line for each area by number, `area 1 base 01800000 size 65536 max 4194304 RMA`, with its
+/// size and its maximum in bytes, and then how many pages are in the pool, `pool 173 pages`.
+#[tactic(auto, unfolding(crate::specs::Areas::areas_text))]
+pub fn show_areas<W: Sink>(machine: &Machine, sink: &mut W) -> Result<(), WriteFault>
+    ensures { Writes W.contents W.has_failed sink.old sink.new result
+        (areas_text (state_of machine.now).tables.land.areas (state_of machine.now).pool) }
+{
+    let areas = machine.areas();
+    show_list(areas.list(), sink)?;
+    show_pool(areas.pool(machine.memory()), sink)
+}
+
+// A line for each area.
+#[tactic(auto, using(profile::proofs::OutputLemmas::output_steps))]
+fn show_list<W: Sink>(areas: &[Area], sink: &mut W) -> Result<(), WriteFault>
+    ensures { Writes W.contents W.has_failed sink.old sink.new result (flat_map area_text areas.now) }
+{
+    for area in areas {
+        show_area(area, sink)?;
+    }
+    Ok(())
+}
+
+#[tactic(auto, unfolding(crate::specs::Areas::area_text))]
+fn show_area<W: Sink>(area: &Area, sink: &mut W) -> Result<(), WriteFault>
+    ensures { Writes W.contents W.has_failed sink.old sink.new result (area_text area.now) }
+{
+    let mut number = Buffer::new();
+    push_parts(
+        sink,
+        &[
+            b"area ".as_slice(),
+            number.format(area.number).as_bytes(),
+            b" base ".as_slice(),
+            HexText::word(area.base).as_slice(),
+        ],
+    )?;
+    show_extent(area, sink)?;
+    push_parts(
+        sink,
+        &[b" ".as_slice(), area.name.as_slice(), b"\n".as_slice()],
+    )
+}
+
+// The size of an area and its maximum.
+#[tactic(auto, unfolding(crate::specs::Areas::extent_text))]
+fn show_extent<W: Sink>(area: &Area, sink: &mut W) -> Result<(), WriteFault>
+    ensures { Writes W.contents W.has_failed sink.old sink.new result (extent_text area.now) }
+{
+    let mut size = Buffer::new();
+    let mut maximum = Buffer::new();
+    push_parts(
+        sink,
+        &[
+            b" size ".as_slice(),
+            size.format(u64::from(PAGE_SIZE) * u64::from(area.pages))
+                .as_bytes(),
+            b" max ".as_slice(),
+            maximum.format(area.maximum).as_bytes(),
+        ],
+    )
+}
+
+#[tactic(auto, unfolding(crate::specs::Areas::pool_text))]
+fn show_pool<W: Sink>(pages: u32, sink: &mut W) -> Result<(), WriteFault>
+    ensures { Writes W.contents W.has_failed sink.old sink.new result (pool_text pages) }
+{
+    let mut count = Buffer::new();
+    push_parts(
+        sink,
+        &[
+            b"pool ".as_slice(),
+            count.format(pages).as_bytes(),
+            b" pages\n".as_slice(),
+        ],
+    )
+}

@@ -1,0 +1,199 @@
+-- After calls on the heaps the areas stand as they stood: a heap call changes no mapping and no other record, and the module area's heap keeps its end.
+use Rattle.std.proofs.Common.{◌≡◌, ℕ, ◌+◌, ◌-◌, ◌*◌, ◌%◌, ◌==◌, ◌&&◌, Bool, true, false, List, [], ◌∷◌, ◌++◌, refl, sym, ap, subst, ◌∙◌, Some, None, Ok, Err, inl, inr, arith}
+use Rattle.std.specs.Prelude.{Option, Result, ok_or, is_some, nat_le, nat_lt}
+use Rattle.std.proofs.lemmas.Bool.{cases_Bool, eqb-true, eq-eqb, false≢true}
+use Rattle.profile.specs.Outcome.{bind, Gives}
+use Rattle.profile.specs.declared.error.ErrorNumber.{ErrorNumber}
+use Rattle.profile.specs.declared.error.ErrorNumber.TheVariants.{HeapBadDesc}
+use Rattle.address_map.specs.Bytes.{Bytes, in_range, AreMapped}
+use Rattle.address_map.specs.Memory.{Layout, Mapping, bytes_of, regions, layout, mapping, is_mapped, place, free_pages}
+use Rattle.address_map.specs.Records.{is_heap_kind}
+use Rattle.address_map.specs.declared.map.AddressMap.{AddressMap}
+use Rattle.address_map.specs.declared.region.Kind.TheVariants.{Heap}
+use Rattle.address_map.specs.declared.region.Region.{Region}
+use Rattle.address_map.specs.Items.{size_of}
+use Rattle.os_heap_lists.specs.Heap.{HeapList}
+use Rattle.os_heap_lists.specs.Lists.{changed_by}
+use Rattle.os_heap.specs.Store.{Store, store_of, heap_in, heaps_in, others_in, IsSound, find_heap, guest_count}
+use Rattle.os_heap.specs.Ranges.{is_heap_region, meets_any}
+use Rattle.os_heap.specs.Calls.{with_end, begun, changed, has_own_size, own_size, end_changed}
+use Rattle.os_heap.proofs.Found.{found_start}
+use Rattle.dynamic_areas.specs.declared.area.Area.{Area}
+use Rattle.dynamic_areas.specs.Areas.{Land}
+use Rattle.dynamic_areas.specs.Ground.{AreAreas, EndsWithArea}
+use Rattle.dynamic_areas.proofs.GroundLemmas.{or_true}
+use Rattle.dynamic_areas.proofs.Remapped.{here}
+
+-- the heap of the module area keeps its kind and its end
+abbrev pub KeepsEnd : List HeapList → List HeapList → Type 0
+KeepsEnd old new = (area : Option Area) → EndsWithArea (find_heap 0x01800000 old) area → EndsWithArea (find_heap 0x01800000 new) area
+
+pub areas_kept : (s t : Store) (free : ℕ) (l : Land) → AreAreas s free l → IsSound t → t.bytes.mapped ≡ s.bytes.mapped → t.others ≡ s.others
+    → KeepsEnd s.heaps t.heaps → AreAreas t free l
+areas_kept s t free l areas sound mapped others kept = record {
+  ground = record {
+    sizes = areas.ground.sizes;
+    table = areas.ground.table;
+    land = λ x. ap (λ (f : ℕ → Bool). f x) mapped ∙ areas.ground.land x;
+    pages = areas.ground.pages;
+    ranges = rw (mapped, others) areas.ground.ranges;
+    sound = sound;
+  };
+  heap = kept _ areas.heap;
+}
+
+same_end : (g h : HeapList) (area : Option Area) → h.kind ≡ g.kind → h.end ≡ g.end → EndsWithArea (Some g) area → EndsWithArea (Some h) area
+same_end g h None kind end ends = ends
+same_end g h (Some a) kind end ends = (kind ∙ ends.0, end ∙ ends.1)
+
+-- the records alone tell which heaps there are, and where they end
+records_end : (b c : Bytes) (rs : List Region) → KeepsEnd (heaps_in b rs) (heaps_in c rs)
+records_end b c [] area ends = ends
+records_end b c (r ∷ rs) area ends =
+    elim (cases_Bool (is_heap_kind r.kind)) [
+      | inl heap ↦ elim (cases_Bool (r.at == 0x01800000)) [
+        | inl here ↦ (let e = rw (heap, here) at ends in rw (heap, here) (same_end (heap_in b r) (heap_in c r) area refl refl e))
+        | inr other ↦ (let e = rw (heap, other) at ends in rw (heap, other) (records_end b c rs area e))
+      ]
+      | inr other ↦ (let e = rw other at ends in rw other (records_end b c rs area e))
+    ]
+
+pub layout_end : (m n : AddressMap) → layout n ≡ layout m → KeepsEnd (store_of m).heaps (store_of n).heaps
+unfolding store_of
+layout_end m n same =
+    let records : regions n ≡ regions m = ap (λ (l : Layout). l.regions) same in
+    rw records (records_end (bytes_of m) (bytes_of n) (regions m))
+
+-- calls that keep all records, as claims and releases of blocks, and writes
+pub areas_written : (m n : AddressMap) (l : Land) → AreAreas (store_of m) (free_pages m) l → IsSound (store_of n) → layout n ≡ layout m
+    → AreAreas (store_of n) (free_pages n) l
+unfolding store_of
+areas_written m n l areas sound same =
+    let records : regions n ≡ regions m = ap (λ (q : Layout). q.regions) same in
+    let there : place n ≡ place m = ap (λ (q : Layout). q.place) same in
+    let free : free_pages n ≡ free_pages m = ap (λ (q : Layout). q.free_pages) same in
+    let mapped : is_mapped n ≡ is_mapped m = λ i a. is_some (there i a) in
+    let others : others_in (regions n) ≡ others_in (regions m) = ap others_in records in
+    rw free (areas_kept (store_of m) (store_of n) (free_pages m) l areas sound mapped others (layout_end m n same))
+
+-- what a call leaves where it isn't refused
+abbrev KeepsBy : {U : Type 0} → Store → Result (Store × U) ErrorNumber → Type 0
+KeepsBy s (Ok r) = KeepsEnd s.heaps r.0.heaps
+KeepsBy s (Err e) = Unit {0}
+
+keeps_given : {U : Type 0} (s t : Store) (r : Result (Store × U) ErrorNumber) (answer : Result U ErrorNumber) → KeepsBy s r → Gives s r answer t
+    → KeepsEnd s.heaps t.heaps
+keeps_given s t (Ok r) (Ok u) keeps given = rw given.0 keeps
+keeps_given s t (Ok r) (Err e) keeps given = absurd given
+keeps_given s t (Err f) (Ok u) keeps given = absurd given
+keeps_given s t (Err f) (Err e) keeps given = rw given.1 (λ area ends. ends)
+
+-- a heap more
+more_end : (h : HeapList) (hs : List HeapList) → KeepsEnd hs (hs ++ h ∷ [])
+more_end h [] area ends = absurd ends
+more_end h (g ∷ hs) area ends =
+    elim (cases_Bool (g.start == 0x01800000)) [
+      | inl here ↦ (let e = rw here at ends in rw here e)
+      | inr other ↦ (let e = rw other at ends in rw other (more_end h hs area e))
+    ]
+
+begun_keeps : (s : Store) (at size : ℕ) → KeepsBy s (begun s at size)
+unfolding begun
+begun_keeps s at size =
+    elim (cases_Bool (is_heap_region s.bytes at size)) [
+      | inr bad ↦ rw bad tt
+      | inl good ↦ elim (cases_Bool (meets_any at size s)) [
+        | inl met ↦ rw (good, met) tt
+        | inr clear ↦ elim (cases_Bool (nat_le 64 (guest_count s.heaps))) [
+          | inl full ↦ rw (good, clear, full) tt
+          | inr room ↦ rw (good, clear, room) (more_end (record { kind = Heap; start = at; end = size; items = [] }) s.heaps)
+        ]
+      ]
+    ]
+
+-- another end of a heap that isn't the module area's
+other_end : (start end : ℕ) (hs : List HeapList) → (start == 0x01800000) ≡ false → KeepsEnd hs (with_end start end hs)
+other_end start end [] out area ends = ends
+other_end start end (g ∷ hs) out area ends =
+    elim (cases_Bool (g.start == 0x01800000)) [
+      | inl here ↦ elim (cases_Bool (g.start == start)) [
+        | inl this ↦ absurd (false≢true (sym out ∙ eq-eqb start 0x01800000 (sym (eqb-true g.start start this) ∙ eqb-true g.start 0x01800000 here)))
+        | inr apart ↦ (let e = rw here at ends in rw (apart, here) e)
+      ]
+      | inr other ↦ elim (cases_Bool (g.start == start)) [
+        | inl this ↦ (let e = rw other at ends in rw (this, other) (other_end start end hs out area e))
+        | inr apart ↦ (let e = rw other at ends in rw (apart, other) (other_end start end hs out area e))
+      ]
+    ]
+
+areas_own : (g : HeapList) (area : Option Area) → has_own_size g.kind ≡ true → EndsWithArea (Some g) area → ⊥
+areas_own g None own ends = ends
+areas_own g (Some a) own ends = false≢true (ap has_own_size (sym ends.0) ∙ own)
+
+guests_end : (s : Store) (heap end : ℕ) (g : HeapList) → find_heap heap s.heaps ≡ Some g → has_own_size g.kind ≡ true
+    → KeepsEnd s.heaps (with_end g.start end s.heaps)
+guests_end s heap end g e own area ends =
+    let start : g.start ≡ heap = found_start heap s.heaps g e in
+    elim (cases_Bool (g.start == 0x01800000)) [
+      | inl here ↦ (
+          let there : find_heap 0x01800000 s.heaps ≡ Some g =
+          subst (λ (a : ℕ). find_heap a s.heaps ≡ Some g) (sym start ∙ eqb-true g.start 0x01800000 here) e in
+          let f = rw there at ends in absurd (areas_own g area own f))
+      | inr other ↦ other_end g.start end s.heaps other area ends
+    ]
+
+ended_keeps : (s : Store) (h : HeapList) (change end : ℕ) → KeepsEnd s.heaps (with_end h.start end s.heaps) → KeepsBy s (end_changed s h change end)
+ended_keeps s h change end kept =
+    elim (cases_Bool (change % 4 == 0 && is_heap_region s.bytes h.start end)) [
+      | inr bad ↦ rw bad tt
+      | inl good ↦ elim (cases_Bool (nat_lt h.end end && meets_any (h.start + h.end) (end - h.end) s)) [
+        | inl met ↦ rw (good, met) tt
+        | inr clear ↦ elim (cases_Bool (nat_lt end (16 + size_of h.items))) [
+          | inl low ↦ rw (good, clear, low) tt
+          | inr inside ↦ rw (good, clear, inside) kept
+        ]
+      ]
+    ]
+
+changed_found : (s : Store) (heap change : ℕ) (found : Option HeapList) → find_heap heap s.heaps ≡ found
+    → KeepsBy s (bind (ok_or found HeapBadDesc) (λ g. bind (own_size g) (λ h. end_changed s h change (changed_by h.end change))))
+changed_found s heap change None e = tt
+changed_found s heap change (Some g) e =
+    elim (cases_Bool (has_own_size g.kind)) [
+      | inl own ↦ rw own (ended_keeps s g change (changed_by g.end change) (guests_end s heap (changed_by g.end change) g e own))
+      | inr fixed ↦ rw fixed tt
+    ]
+
+changed_keeps : (s : Store) (heap change : ℕ) → KeepsBy s (changed s heap change)
+unfolding changed
+changed_keeps s heap change = changed_found s heap change (find_heap heap s.heaps) refl
+
+-- OS_Heap's calls that change a record
+module _ (m n : AddressMap) (l : Land) (areas : AreAreas (store_of m) (free_pages m) l) (sound : IsSound (store_of n))
+    (others : (store_of n).others ≡ (store_of m).others) (same : mapping n ≡ mapping m) where
+  areas_mapped : KeepsEnd (store_of m).heaps (store_of n).heaps → AreAreas (store_of n) (free_pages n) l
+  unfolding store_of
+  areas_mapped kept =
+      let there : place n ≡ place m = ap (λ (q : Mapping). q.place) same in
+      let free : free_pages n ≡ free_pages m = ap (λ (q : Mapping). q.free_pages) same in
+      let mapped : is_mapped n ≡ is_mapped m = λ i a. is_some (there i a) in
+      rw free (areas_kept (store_of m) (store_of n) (free_pages m) l areas sound mapped others kept)
+
+  pub areas_begun : (at size : ℕ) (answer : Result (Unit {0}) ErrorNumber) → Gives (store_of m) (begun (store_of m) at size) answer (store_of n)
+      → AreAreas (store_of n) (free_pages n) l
+  areas_begun at size answer given =
+      areas_mapped (keeps_given (store_of m) (store_of n) (begun (store_of m) at size) answer (begun_keeps (store_of m) at size) given)
+
+  pub areas_changed : (heap change : ℕ) (answer : Result (Unit {0}) ErrorNumber) → Gives (store_of m) (changed (store_of m) heap change) answer (store_of n)
+      → AreAreas (store_of n) (free_pages n) l
+  areas_changed heap change answer given =
+      areas_mapped (keeps_given (store_of m) (store_of n) (changed (store_of m) heap change) answer (changed_keeps (store_of m) heap change) given)
+
+-- the system pages are mapped
+pub system_mapped : (s : Store) (free : ℕ) (l : Land) → AreAreas s free l → (a : ℕ) → in_range 0x01C00000 0x3000 a ≡ true → s.bytes.mapped a ≡ true
+system_mapped s free l areas a inside =
+    areas.ground.land a ∙ rw (inside, or_true (in_range 0x8000 (4096 * l.sizes.app) a)) refl
+
+pub system_room : (s : Store) (free : ℕ) (l : Land) → AreAreas s free l → AreMapped s.bytes.mapped 0x01C02100 256
+system_room s free l areas a low high =
+    system_mapped s free l areas a (here 0x01C00000 0x3000 a (omega arith) (omega arith))

@@ -1,0 +1,17 @@
+//! Plans: what of a module call is still to be done, since module code runs in between.
+#![tactic(auto)]
+
+pub mod action;
+pub mod calls;
+pub mod code;
+pub mod given;
+pub mod laws;
+pub mod plan;
+
+pub use action::Action;
+pub use code::{Advance, Code, CodeKind, Ended, Outcome, private_word};
+pub use given::Given;
+pub use plan::Plan;
+
+#[cfg(test)]
+mod tests;

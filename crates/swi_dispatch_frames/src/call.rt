@@ -1,0 +1,30 @@
+use arm_step::{Mode, Psr};
+
+/// What the end of a call needs to know of its begin.
+#[derive(Clone, Copy, Debug, PartialEq, Eq)]
+pub struct Call {
+    /// Whether an error goes back to the caller.
+    pub is_x: bool,
+    /// The caller's status.
+    pub caller: Psr,
+    /// Where the caller goes on.
+    pub next: u32,
+}
+
+impl Default for Call {
+    fn default() -> Call {
+        Call {
+            is_x: false,
+            caller: Psr {
+                negative: false,
+                zero: false,
+                carry: false,
+                overflow: false,
+                interrupts_off: false,
+                fast_interrupts_off: false,
+                mode: Mode::User,
+            },
+            next: 0,
+        }
+    }
+}

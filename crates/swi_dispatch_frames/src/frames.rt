@@ -1,0 +1,65 @@
+ghost use Rattle.std.specs.Prelude.{◌≡◌, ◌<◌, ◌≤◌, [], ◌∷◌, ◌++◌, length};
+ghost use Rattle.swi_dispatch_frames.specs.Frames.{innermost, closed};
+
+use crate::frame::Frame;
+use arrayvec::ArrayVec;
+use std::marker::Model;
+
+/// How many frames can be open.
+pub const MOST_FRAMES: usize = 32;
+
+/// The frames that are open, at most 32, the innermost last.
+#[derive(Drop)]
+pub struct Frames {
+    table: ArrayVec<Frame, MOST_FRAMES>,
+}
+
+impl Model for Frames {
+    ghost use Rattle.std.specs.Prelude.{List};
+    ghost use Rattle.swi_dispatch_frames.specs.declared.frame.Frame.{Frame};
+
+    ghost Value = { List Frame };
+
+    ghost view = { λ f. f.table.items };
+}
+
+impl Frames {
+    /// No frame.
+    pub fn new() -> Frames
+        ensures { result ≡ [] }
+    {
+        Frames {
+            table: ArrayVec::new(),
+        }
+    }
+
+    /// How many frames are open.
+    pub fn len(&self) -> usize
+        ensures value { result ≡ length self.now }
+        ensures fits { result ≤ 32 }
+    {
+        self.table.len()
+    }
+
+    /// Opens a frame.
+    pub fn open(&mut self, frame: Frame)
+        requires { length self.old < 32 }
+        ensures { self.new ≡ self.old ++ frame ∷ [] }
+    {
+        self.table.push(frame);
+    }
+
+    /// The frame that was opened last, if one is open.
+    pub fn innermost(&self) -> Option<Frame>
+        ensures { result ≡ innermost self.now }
+    {
+        self.table.as_slice().last().copied()
+    }
+
+    /// Closes the innermost frame, if one is open.
+    pub fn close(&mut self)
+        ensures { self.new ≡ closed self.old }
+    {
+        self.table.pop();
+    }
+}

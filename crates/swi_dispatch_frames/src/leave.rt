@@ -1,0 +1,58 @@
+//! The core on its way out of module code.
+
+ghost use Rattle.std.specs.Prelude.{◌≡◌, ◌≤◌, ◌-◌, length};
+ghost use Rattle.swi_dispatch_frames.specs.Leaving.{first_restored, left, restored, status_left};
+
+use crate::frame::{Frame, FrameKind, SAVED_REGISTERS};
+use arm_step::{Cpu, Mode, Psr};
+
+impl Frame {
+    /// The core comes back from module code to where the call goes on. After a SWI, R0 to R9 and the flags N, Z, C and V stay as the code left
+    /// them; after another entry nothing does, and whether it refused is for the caller to read before.
+    #[tactic(auto, unfolding(crate::specs::Leaving::left))]
+    pub fn leave(&self, cpu: &mut Cpu)
+        ensures { cpu.new ≡ left cpu.old self.now }
+    {
+        let status = status_left(self.kind, cpu.psr(), self.call.caller);
+        restore(cpu, &self.saved, first_restored(self.kind));
+        cpu.set_psr(status);
+        cpu.set_pc(self.call.next);
+    }
+}
+
+fn first_restored(kind: FrameKind) -> usize
+    ensures value { result ≡ first_restored kind }
+    ensures most { result ≤ 13 }
+{
+    match kind {
+        FrameKind::Swi => 10,
+        FrameKind::Entry(_) => 0,
+    }
+}
+
+// After a SWI the flags are as the code left them, the mode and the masks as the caller had them.
+fn status_left(kind: FrameKind, now: Psr, caller: Psr) -> Psr
+    ensures { result ≡ status_left kind now caller }
+{
+    match kind {
+        FrameKind::Swi => Psr {
+            negative: now.negative,
+            zero: now.zero,
+            carry: now.carry,
+            overflow: now.overflow,
+            ..caller
+        },
+        FrameKind::Entry(_) => caller,
+    }
+}
+
+// The registers of the shared bank, from one on to R12, get their old words.
+#[tactic(auto, using(crate::proofs::Restoring::restoring))]
+fn restore(cpu: &mut Cpu, saved: &[u32; SAVED_REGISTERS], first: usize)
+    requires { first ≤ 13 }
+    ensures { cpu.new ≡ restored first (13 - first) saved.now cpu.old }
+{
+    for number in first..SAVED_REGISTERS {
+        cpu.set_register_in(Mode::User, number as u32, saved[number]);
+    }
+}

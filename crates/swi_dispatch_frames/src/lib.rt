@@ -1,0 +1,16 @@
+//! Frames: module code that has been entered and has not come back yet, and what the core is like on its way in and out.
+#![tactic(auto)]
+
+pub mod call;
+pub mod enter;
+pub mod frame;
+pub mod frames;
+pub mod leave;
+
+pub use call::Call;
+pub use enter::{enter_code, enter_swi};
+pub use frame::{Frame, FrameKind};
+pub use frames::{Frames, MOST_FRAMES};
+
+#[cfg(test)]
+mod tests;
