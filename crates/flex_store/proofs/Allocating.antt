@@ -1,5 +1,5 @@
 -- A block that comes, whose anchor is marked first.
-use Rattle.std.proofs.Common.{◌≡◌, ℕ, Bool, ◌+◌, ◌-◌, ◌*◌, ◌/◌, ◌%◌, ◌^◌, ◌<◌, ◌≤◌, ◌||◌, ◌&&◌, not, true, false, nat_eq, nat_lt, cond, Option, Result, Ok, Err, List, [], ◌∷◌, ◌++◌, length, arith, refl, sym, ◌∙◌, ap, inl, inr, ◌⊎◌, subst}
+use Rattle.std.proofs.Common.{◌≡◌, ℕ, Bool, ◌+◌, ◌-◌, ◌*◌, ◌/◌, ◌%◌, ◌^◌, ◌<◌, ◌≤◌, ◌||◌, ◌&&◌, not, true, false, nat_eq, nat_lt, cond, Option, Result, Ok, Err, List, [], ◌∷◌, ◌++◌, length, arith, refl, sym, ◌∙◌, ap, inl, inr, ◌⊎◌, ◌↔◌, subst}
 use Rattle.std.specs.List.{list_any}
 use Rattle.std.proofs.lemmas.Bool.{and_parts, cases_Bool, cases_lt, eqb-true, eqb-false, eq-eqb, lt-ltb, ne_eqb, not-true, or_from, or_parts, true≢false}
 use Rattle.address_map.proofs.Bytes.{is_mapped-layout}
@@ -8,11 +8,13 @@ use Rattle.address_map.proofs.Spans.{mapped_below}
 use Rattle.profile.specs.Outcome.{Gives}
 use Rattle.profile.specs.declared.error.ErrorNumber.{ErrorNumber}
 use Rattle.profile.specs.declared.error.ErrorNumber.TheVariants.{FlexAnchorInUse, FlexBadAnchor}
-use Rattle.os_heap.specs.Store.{Store}
-use Rattle.address_map.specs.Bytes.{AreMapped, meets, word_start}
+use Rattle.os_heap.specs.Store.{Store, others_in, store_of}
+use Rattle.address_map.specs.declared.region.Region.{Region}
+use Rattle.os_heap.proofs.Frame.{store_bytes}
+use Rattle.address_map.specs.Bytes.{AreMapped, Bytes, meets, word_start}
 use Rattle.address_map.specs.Classes.{is_anchor}
-use Rattle.address_map.specs.Memory.{byte_at, bytes_of, class_of, is_mapped, layout}
-use Rattle.address_map.specs.Records.{with_class}
+use Rattle.address_map.specs.Memory.{byte_at, bytes_of, class_of, is_mapped, layout, regions}
+use Rattle.address_map.specs.Records.{is_heap_kind, with_class}
 use Rattle.address_map.specs.declared.class.Class.{Class}
 use Rattle.address_map.specs.declared.class.Class.TheVariants as class
 use Rattle.address_map.specs.declared.map.AddressMap.{AddressMap}
@@ -181,7 +183,7 @@ unfolding allocated
 alloc_used m e places anchor size place has = rw (place, has) (refl, refl)
 
 -- where an anchor may stand
-pub place_word : (m : AddressMap) (e : Extent) (places : Store) (anchor : ℕ) → places.bytes.mapped ≡ is_mapped m → e.start < e.end → e.start % 4 ≡ 0
+pub place_word : (m : AddressMap) (e : Extent) (places : Store) (anchor : ℕ) → places.bytes.mapped ≡ is_mapped m → e.start ≤ e.end → e.start % 4 ≡ 0
     → (is_anchor_place places anchor && not (is_in_store (store_in m e) anchor)) ≡ true → IsAnchorWord (is_mapped m) e.start e.end anchor
 unfolding is_anchor_place
 place_word m e places anchor mapped some start place =
@@ -197,14 +199,15 @@ place_word m e places anchor mapped some start place =
       aligned = aligned;
       there = there;
       low = mapped_below m anchor there;
-      outside = beside e.start e.end anchor some (not-true inside one.1);
+      outside = beside e.start e.end anchor some start aligned (not-true inside one.1);
     } where
-      beside : (start end anchor : ℕ) → start < end → meets anchor 4 start (end - start) ≡ false → (anchor + 4 ≤ start) ⊎ (end ≤ anchor)
-      beside start end anchor some clear = elim (cases_lt start (anchor + 4)) [
+      beside : (start end anchor : ℕ) → start ≤ end → start % 4 ≡ 0 → anchor % 4 ≡ 0 → meets anchor 4 start (end - start) ≡ false → (anchor + 4 ≤ start) ⊎ (end ≤ anchor)
+      beside start end anchor some aligned aligned' clear = elim (cases_lt start (anchor + 4)) [
         | inr low ↦ inl low
         | inl up ↦ elim (cases_lt anchor end) [
           | inr high ↦ inr high
           | inl below ↦
+              let more : start < end = omega arith in
               let len : nat_lt 0 (end - start) ≡ true = lt-ltb 0 (end - start) (omega arith) in
               let one : nat_lt anchor (start + (end - start)) ≡ true = lt-ltb anchor (start + (end - start)) (omega arith) in
               let two : nat_lt start (anchor + 4) ≡ true = lt-ltb start (anchor + 4) up in
@@ -215,3 +218,51 @@ place_word m e places anchor mapped some start place =
 
 pub live_has : (m : AddressMap) (e : Extent) (anchor : ℕ) → IsStoreAt m e → anchor % 4 ≡ 0 → (nat_eq (anchor % 4) 0 && is_anchor (class_of m anchor)) ≡ has_anchor (blocks_of m e) anchor
 live_has m e anchor s aligned = rw (eq-eqb (anchor % 4) 0 aligned) (has_by m e anchor s aligned)
+
+pub record MayAppend (m : AddressMap) (e : Extent) (anchor : ℕ) : Type 0 where
+  pub word : IsAnchorWord (is_mapped m) e.start e.end anchor
+  pub has : (nat_eq (anchor % 4) 0 && is_anchor (class_of m anchor)) ≡ has_anchor (blocks_of m e) anchor
+
+pub may_append : (m : AddressMap) (e : Extent) (anchor : ℕ) → IsStoreAt m e
+    → (is_anchor_place (store_of m) anchor && not (is_in_store (store_in m e) anchor)) ≡ true → MayAppend m e anchor
+may_append m e anchor s place =
+    let fits : e.start + used (blocks_of m e) ≤ e.end = s.store.fits in
+    let w : IsAnchorWord (is_mapped m) e.start e.end anchor =
+    place_word m e (store_of m) anchor (ap (λ (b : Bytes). b.mapped) (store_bytes m)) (omega arith) s.store.range.start_aligned place in
+    record { word = w; has = live_has m e anchor s w.aligned }
+
+-- the other records, as the record of all ranges has them
+others_any : (anchor : ℕ) (rs : List Region) → list_any (λ r. not (is_heap_kind r.kind) && meets anchor 4 r.at r.len) rs ≡ list_any (λ r. meets anchor 4 r.at r.len) (others_in rs)
+others_any anchor [] = refl
+others_any anchor (r ∷ rs) = elim (cases_Bool (is_heap_kind r.kind)) [
+  | inl heap ↦ rw heap (others_any anchor rs)
+  | inr other ↦ rw other (ap (λ (t : Bool). meets anchor 4 r.at r.len || t) (others_any anchor rs))
+]
+
+others_met : (m : AddressMap) (anchor : ℕ) → list_any (λ r. not (is_heap_kind r.kind) && meets anchor 4 r.at r.len) (regions m) ≡ list_any (λ r. meets anchor 4 r.at r.len) (store_of m).others
+unfolding store_of
+others_met m anchor = others_any anchor (regions m)
+
+-- the test of a place
+pub place_tested : (m : AddressMap) (anchor : ℕ) (there met inside : Bool) → anchor % 4 ≡ 0 → list_any (is_in_heap_alone anchor) (store_of m).heaps ≡ false
+    → ((there ≡ true) ↔ AreMapped (is_mapped m) anchor 1) → met ≡ list_any (λ r. not (is_heap_kind r.kind) && meets anchor 4 r.at r.len) (regions m)
+    → (there && (not met && not inside)) ≡ (is_anchor_place (store_of m) anchor && not inside)
+unfolding is_anchor_place
+place_tested m anchor there met inside aligned alone tested met_is =
+    let mapped : there ≡ (store_of m).bytes.mapped anchor = same_bool there (is_mapped m anchor) (λ e. tested.0 e anchor (omega arith) (omega arith))
+        (λ e. tested.1 (λ a low high. let here : a ≡ anchor = omega arith in ap (is_mapped m) here ∙ e)) ∙ ap (λ (b : Bytes). b.mapped anchor) (sym (store_bytes m)) in
+    let met' : met ≡ list_any (λ r. meets anchor 4 r.at r.len) (store_of m).others = met_is ∙ others_met m anchor in
+    rw (eq-eqb (anchor % 4) 0 aligned, alone, ← mapped, ← met') (by_cases there met inside) where
+      same_bool : (t u : Bool) → (t ≡ true → u ≡ true) → (u ≡ true → t ≡ true) → t ≡ u
+      same_bool true u f g = sym (f refl)
+      same_bool false true f g = g refl
+      same_bool false false f g = refl
+
+      by_cases : (t u v : Bool) → (t && (not u && not v)) ≡ ((t && (not u && true)) && not v)
+      by_cases true true v = refl
+      by_cases true false v = refl
+      by_cases false u v = refl
+
+pub place_unaligned : (m : AddressMap) (anchor : ℕ) (inside : Bool) → (anchor % 4 ≡ 0 → ⊥) → false ≡ (is_anchor_place (store_of m) anchor && not inside)
+unfolding is_anchor_place
+place_unaligned m anchor inside odd = rw (ne_eqb (anchor % 4) 0 odd) refl

@@ -1,7 +1,8 @@
 ghost use Rattle.std.specs.Prelude.{◌≡◌, ◌+◌, ◌%◌, ◌==◌, ◌&&◌, not, ◌++◌, ◌∷◌, [], false, None, MatchOption};
 ghost use Rattle.std.specs.List.{list_any};
 ghost use Rattle.profile.specs.Outcome.{Gives};
-ghost use Rattle.os_heap.specs.Store.{others_in, store_of};
+ghost use Rattle.address_map.specs.Records.{is_heap_kind};
+ghost use Rattle.os_heap.specs.Store.{store_of};
 ghost use Rattle.address_map.specs.Bytes.{meets, word_at};
 ghost use Rattle.address_map.specs.Classes.{is_anchor};
 ghost use Rattle.address_map.specs.Memory.{byte_at, class_of, is_mapped};
@@ -170,10 +171,17 @@ pub(crate) fn alloc_block(map: &mut AddressMap, extent: &mut Extent, anchor: u32
 
 /// Whether the word at an address may become an anchor.
 fn may_hold(map: &AddressMap, extent: &Extent, anchor: u32) -> bool
-    requires { list_any (is_in_heap_alone anchor) (store_of map.now).heaps ≡ false }
+    requires range { extent.now.start ≤ extent.now.end }
+    requires payload { list_any (is_in_heap_alone anchor) (store_of map.now).heaps ≡ false }
     ensures { result ≡ (is_anchor_place (store_of map.now) anchor && not (is_in_store (store_in map.now extent.now) anchor)) }
 {
-    if anchor % 4 != 0 || !map.maps(anchor, 1) || meets_other(map.regions(), anchor) {
+    if anchor % 4 != 0 {
+        return false;
+    }
+    if !map.maps(anchor, 1) {
+        return false;
+    }
+    if meets_other(map.regions(), anchor) {
         return false;
     }
     !is_met(anchor, extent.start, extent.end - extent.start)
@@ -181,14 +189,21 @@ fn may_hold(map: &AddressMap, extent: &Extent, anchor: u32) -> bool
 
 /// Whether a word meets a recorded range that is no heap.
 fn meets_other(regions: &[Region], at: u32) -> bool
-    ensures { result ≡ list_any (λ r. meets at 4 r.at r.len) (others_in regions.now) }
+    ensures { result ≡ list_any (λ r. not (is_heap_kind r.kind) && meets at 4 r.at r.len) regions.now }
 {
     for region in regions {
-        if !region.kind.is_heap() && is_met(at, region.at, region.len) {
+        if is_in_other(region, at) {
             return true;
         }
     }
     false
+}
+
+/// Whether a word meets a range, and this is no heap.
+fn is_in_other(region: &Region, at: u32) -> bool
+    ensures { result ≡ (not (is_heap_kind region.now.kind) && meets at 4 region.now.at region.now.len) }
+{
+    !region.kind.is_heap() && is_met(at, region.at, region.len)
 }
 
 /// Whether a word meets a range.
