@@ -4,7 +4,7 @@ ghost use Rattle.std.specs.List.{list_any, position};
 ghost use Rattle.std.specs.Option.{option_copied};
 ghost use Rattle.std.specs.Str.{str_eq_ignore_ascii_case};
 ghost use Rattle.instances_table.specs.Changes.{new_module, without_first};
-ghost use Rattle.instances_table.specs.Table.{Names, name_at, module_of, heir};
+ghost use Rattle.instances_table.specs.Table.{Names, name_at, all_slots, module_of, heir};
 ghost use Rattle.instances_table.specs.Lookup.{told_of_module, instance_meant};
 
 use crate::names::name_of;
@@ -13,7 +13,7 @@ use arrayvec::ArrayVec;
 use module_header::Header;
 
 /// The most instances of all modules, and so the most modules.
-pub(crate) const MOST_INSTANCES: usize = 64;
+pub const MOST_INSTANCES: usize = 64;
 
 /// A module. Its instances stand by their slots, oldest first; their names stand in the table.
 #[derive(Default, Drop)]
@@ -88,7 +88,7 @@ fn take_slot(slots: &mut ArrayVec<u32, MOST_INSTANCES>, slot: u32)
     }
 }
 
-fn place_of_slot(slots: &[u32], slot: u32) -> Option<usize>
+pub(crate) fn place_of_slot(slots: &[u32], slot: u32) -> Option<usize>
     ensures value { result ≡ position (λ s. s == slot) slots.now }
     ensures within { IfSome result (λ i. i < length slots.now) }
 {
@@ -138,6 +138,21 @@ pub(crate) fn number_of_call(modules: &[Loaded], call: u32) -> Option<usize>
         && loaded.header.handler != 0)
 }
 
+/// The slots of all modules, one after another.
+#[tactic(auto, using(crate::proofs::SlotLemmas::slots_more))]
+pub(crate) fn all_slots(modules: &[Loaded]) -> ArrayVec<u32, MOST_INSTANCES>
+    requires { length (all_slots modules.now) ≤ 64 }
+    ensures { result.items ≡ all_slots modules.now }
+{
+    let mut slots = ArrayVec::new();
+    for loaded in modules {
+        slots
+            .try_extend_from_slice(loaded.slots.as_slice())
+            .unwrap();
+    }
+    slots
+}
+
 /// Whether an instance has a slot.
 pub(crate) fn is_held(modules: &[Loaded], slot: u32) -> bool
     ensures { result ≡ list_any (λ l. list_any (λ s. s == slot) l.slots.items) modules.now }
@@ -147,7 +162,8 @@ pub(crate) fn is_held(modules: &[Loaded], slot: u32) -> bool
 
 /// Where in a list of modules the one with the instance of a slot is.
 pub(crate) fn number_of_slot(modules: &[Loaded], slot: u32) -> Option<usize>
-    ensures { result ≡ position (λ l. list_any (λ s. s == slot) l.slots.items) modules.now }
+    ensures value { result ≡ position (λ l. list_any (λ s. s == slot) l.slots.items) modules.now }
+    ensures within { IfSome result (λ number. number < length modules.now) }
 {
     modules.iter().position(|loaded| loaded.has_slot(slot))
 }
