@@ -45,9 +45,10 @@ words_push : (mapped : ℕ → Bool) (start end : ℕ) (xs : List Block) (b : Bl
 words_push mapped start end [] b words word none = ((word, refl), tt)
 words_push mapped start end (x ∷ xs) b words word none =
     let parts = or_parts (nat_eq b.anchor x.anchor) (has_anchor xs b.anchor) none in
-    let apart : nat_eq x.anchor b.anchor ≡ false = ne_eqb x.anchor b.anchor (λ e. eqb-false b.anchor x.anchor parts.0 (sym e)) in
-    ((words.0.0, anchor-append xs (b ∷ []) x.anchor ∙ or_from (has_anchor xs x.anchor) (nat_eq x.anchor b.anchor || false) words.0.1 (or_from (nat_eq x.anchor b.anchor) false apart refl)),
-    words_push mapped start end xs b words.1 word parts.1)
+    let apart : nat_eq x.anchor b.anchor ≡ false = ne_eqb x.anchor b.anchor (λ e. eqb-false b.anchor x.anchor parts.0 (sym e)) in (
+      (words.0.0, anchor-append xs (b ∷ []) x.anchor ∙ or_from (has_anchor xs x.anchor) (nat_eq x.anchor b.anchor || false) words.0.1 (or_from (nat_eq x.anchor b.anchor) false apart refl)),
+      words_push mapped start end xs b words.1 word parts.1,
+    )
 
 fh_marked : (own : Class) (here has : Bool) → (here ≡ true → has ≡ false) → is_flex_header own ≡ has → is_flex_header (cond here class.Anchor own) ≡ (has || false)
 fh_marked own true true clear is = sym (clear refl)
@@ -140,24 +141,26 @@ alloc_done m m1 n e f anchor size header s word none head small k fits place r s
     let at : header ≡ e.start + used bs = omega arith in
     let g : GotBlocks m1 e (bs ++ new_block anchor size ∷ []) n f =
     got m1 n e f bs [] (new_block anchor size ∷ []) (alloc_before m m1 e anchor size s word none small k fits)
-        (subst (λ (q : ℕ). Relaid m1 n q [] (new_block anchor size ∷ [])) at r) same_start same_end (omega arith) in
+    (subst (λ (q : ℕ). Relaid m1 n q [] (new_block anchor size ∷ [])) at r) same_start same_end (omega arith) in
     let classes : (a : ℕ) → is_heap_class (class_of m1 a) ≡ is_heap_class (class_of m a) = λ a.
-        ap is_heap_class (k.marks a) ∙ heap_marked (class_of m a) (nat_eq (word_start a) anchor)
-            (λ here. no_head m anchor a word.aligned head (eqb-true (word_start a) anchor here)) in
-    (omega arith, record {
-      bytes = λ a. g.bytes a ∙ ap (λ (h : ℕ → ℕ). laid_out e.start (bs ++ new_block anchor size ∷ []) h a) k.bytes;
-      blocks_are = g.blocks_are;
-      start = g.start;
-      end = g.end;
-      store = g.store;
-      same = g.same ∙ k.same;
-      heads = λ clear.
-          let h : KeepsHeads m1 n = g.heads (λ a low high. classes a ∙ clear a low high) in
-          record {
-            bytes = λ a is. h.bytes a (classes a ∙ is) ∙ ap (λ (x : ℕ → ℕ). x a) k.bytes;
-            classes = λ a. h.classes a ∙ classes a;
-          };
-    }) where
+    ap is_heap_class (k.marks a) ∙ heap_marked (class_of m a) (nat_eq (word_start a) anchor)
+    (λ here. no_head m anchor a word.aligned head (eqb-true (word_start a) anchor here)) in (
+      omega arith,
+      record {
+        bytes = λ a. g.bytes a ∙ ap (λ (h : ℕ → ℕ). laid_out e.start (bs ++ new_block anchor size ∷ []) h a) k.bytes;
+        blocks_are = g.blocks_are;
+        start = g.start;
+        end = g.end;
+        store = g.store;
+        same = g.same ∙ k.same;
+        heads = λ clear.
+            let h : KeepsHeads m1 n = g.heads (λ a low high. classes a ∙ clear a low high) in
+            record {
+              bytes = λ a is. h.bytes a (classes a ∙ is) ∙ ap (λ (x : ℕ → ℕ). x a) k.bytes;
+              classes = λ a. h.classes a ∙ classes a;
+            };
+      },
+    ) where
       no_head : (m : AddressMap) (anchor a : ℕ) → anchor % 4 ≡ 0 → is_heap_class (class_of m anchor) ≡ false → word_start a ≡ anchor → is_heap_class (class_of m a) ≡ false
       no_head m anchor a aligned head here =
           let same : word_start a ≡ word_start anchor = omega arith in
@@ -250,7 +253,7 @@ pub place_tested : (m : AddressMap) (anchor : ℕ) (there met inside : Bool) →
 unfolding is_anchor_place
 place_tested m anchor there met inside aligned alone tested met_is =
     let mapped : there ≡ (store_of m).bytes.mapped anchor = same_bool there (is_mapped m anchor) (λ e. tested.0 e anchor (omega arith) (omega arith))
-        (λ e. tested.1 (λ a low high. let here : a ≡ anchor = omega arith in ap (is_mapped m) here ∙ e)) ∙ ap (λ (b : Bytes). b.mapped anchor) (sym (store_bytes m)) in
+    (λ e. tested.1 (λ a low high. let here : a ≡ anchor = omega arith in ap (is_mapped m) here ∙ e)) ∙ ap (λ (b : Bytes). b.mapped anchor) (sym (store_bytes m)) in
     let met' : met ≡ list_any (λ r. meets anchor 4 r.at r.len) (store_of m).others = met_is ∙ others_met m anchor in
     rw (eq-eqb (anchor % 4) 0 aligned, alone, ← mapped, ← met') (by_cases there met inside) where
       same_bool : (t u : Bool) → (t ≡ true → u ≡ true) → (u ≡ true → t ≡ true) → t ≡ u

@@ -35,9 +35,9 @@ anchors_hold mapped start end at (b ∷ bs) f words =
     let g : ℕ → ℕ = with_word_at f b.anchor (at + 8) in
     let aligned : b.anchor % 4 ≡ 0 = words.0.0.aligned in (
       holds_kept g (with_anchors (at + taken b.size) bs g) b.anchor (word_bytes (at + 8))
-      (λ a low high. anchors_beside mapped start end (at + taken b.size) bs g a words.1
+          (λ a low high. anchors_beside mapped start end (at + taken b.size) bs g a words.1
           (let e : word_start a ≡ b.anchor = omega arith in rw e words.0.1))
-      (holds_word f b.anchor (at + 8)),
+          (holds_word f b.anchor (at + 8)),
       anchors_hold mapped start end (at + taken b.size) bs g words.1,
     )
 

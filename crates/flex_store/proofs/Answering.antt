@@ -131,7 +131,7 @@ unfolding mid_extended
 mid_done m n e f anchor header at by cut more done inside w within some cut_is more_is change =
     let change' : IsChanged m e anchor (record { at = at; cut = cut_of by; more = more_of by }) done n f =
     subst (λ (x : ℕ). IsChanged m e anchor (record { at = at; cut = cut_of by; more = x }) done n f) more_is
-        (subst (λ (x : ℕ). IsChanged m e anchor (record { at = at; cut = x; more = more }) done n f) cut_is change) in
+    (subst (λ (x : ℕ). IsChanged m e anchor (record { at = at; cut = x; more = more }) done n f) cut_is change) in
     rw (le-ltb at (cut_of by) inside, w.found, le-ltb (first_at m header).size at within, ne_eqb by 0 some)
     (fits_state m n e f (with_block anchor (holding (first_at m header) (spliced (contents (first_at m header)) at (cut_of by) (more_of by))) (blocks_of m e)) done (rw w.found at change'))
 

@@ -67,12 +67,12 @@ heads_kept m n e xs olds news b k r clear =
           (sym (b.anchors a) ∙ anchor_no_heap (class_of m a) is);
       classes = λ a.
           ap is_heap_class (r.marks a ∙ (headers_marked class.FlexHeader at news (with_headers class.Plain at olds (class_of m)) a
-              ∙ ap (marked class.FlexHeader (is_header at news (word_start a))) (headers_marked class.Plain at olds (class_of m) a)))
+          ∙ ap (marked class.FlexHeader (is_header at news (word_start a))) (headers_marked class.Plain at olds (class_of m) a)))
           ∙ heap_by (class_of m a) (is_header at news (word_start a)) (is_header at olds (word_start a))
-              (λ new. let w : IsWithin at (used news) (word_start a) = header_within at news (word_start a) new in
-                  clear a (omega (arith, w.from)) (omega (arith, w.below)))
-              (λ old. let w : IsWithin at (used olds) (word_start a) = header_within at olds (word_start a) old in
-                  clear a (omega (arith, w.from)) (omega (arith, w.below)));
+          (λ new. let w : IsWithin at (used news) (word_start a) = header_within at news (word_start a) new in
+          clear a (omega (arith, w.from)) (omega (arith, w.below)))
+          (λ old. let w : IsWithin at (used olds) (word_start a) = header_within at olds (word_start a) old in
+          clear a (omega (arith, w.from)) (omega (arith, w.below)));
     }
 
 pub got : (m n : AddressMap) (e f : Extent) (xs olds news : List Block) → IsBefore m e.start e.end xs olds news
@@ -161,7 +161,7 @@ no_room m e anchor header before s p inside past =
 pub changed : (m n : AddressMap) (e f : Extent) (anchor header : ℕ) (before : List Block) (s : Splice) → IsPlaced m e anchor header before → s.at ≤ (first_at m header).size
     → e.start + (e.used - taken (first_at m header).size + taken (size_after s (first_at m header).size)) ≤ e.end
     → Relaid m n header (first_at m header ∷ behind m header (e.start + e.used))
-        (holding (first_at m header) (spliced (contents (first_at m header)) s.at s.cut s.more) ∷ behind m header (e.start + e.used))
+    (holding (first_at m header) (spliced (contents (first_at m header)) s.at s.cut s.more) ∷ behind m header (e.start + e.used))
     → f.start ≡ e.start → f.end ≡ e.end
     → f.used ≡ e.used - taken (first_at m header).size + taken (size_after s (first_at m header).size) → IsChanged m e anchor s true n f
 changed m n e f anchor header before s p inside fits r same_start same_end used_is =
@@ -174,9 +174,11 @@ changed m n e f anchor header before s p inside fits r same_start same_end used_
     let sum : used (before ++ b' ∷ after) ≡ used before + (taken (length xs) + used after) = used-append before (b' ∷ after) in
     let fits' : e.start + used (before ++ b' ∷ after) ≤ e.end = omega arith in
     let low : e.end ≤ 2 ^ 26 = p.low in
-    rw p.split.found (rw list (fits',
-    got m n e f before (first_at m header ∷ after) (b' ∷ after) (hold_before m e anchor header before xs p (omega arith) fits')
-        (subst (λ (q : ℕ). Relaid m n q (first_at m header ∷ after) (b' ∷ after)) p.place r) same_start same_end (used_is ∙ sym total')))
+    rw p.split.found (rw list (
+      fits',
+      got m n e f before (first_at m header ∷ after) (b' ∷ after) (hold_before m e anchor header before xs p (omega arith) fits')
+          (subst (λ (q : ℕ). Relaid m n q (first_at m header ∷ after) (b' ∷ after)) p.place r) same_start same_end (used_is ∙ sym total'),
+    ))
 
 pub may_change : (m : AddressMap) (e : Extent) (anchor header : ℕ) (before : List Block) (s : Splice) → IsPlaced m e anchor header before → s.at ≤ (first_at m header).size
     → e.start + (e.used - taken (first_at m header).size + taken (size_after s (first_at m header).size)) ≤ e.end

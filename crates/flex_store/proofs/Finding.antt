@@ -88,7 +88,7 @@ placed_by : (m : AddressMap) (e : Extent) (anchor header : ℕ) (before : List B
 placed_by m e anchor header before b after s place p text is_first is_behind =
     let p' : IsSplit anchor (blocks_of m e) before (first_at m header) (behind m header (e.start + e.used)) =
     subst (λ (x : Block). IsSplit anchor (blocks_of m e) before x (behind m header (e.start + e.used))) is_first
-        (subst (λ (l : List Block). IsSplit anchor (blocks_of m e) before b l) is_behind p) in
+    (subst (λ (l : List Block). IsSplit anchor (blocks_of m e) before b l) is_behind p) in
     let store : IsFlexStore m e.start e.end (before ++ first_at m header ∷ behind m header (e.start + e.used)) =
     subst (λ (l : List Block). IsFlexStore m e.start e.end l) p'.list s.store in
     let all : used (blocks_of m e) ≡ used (before ++ first_at m header ∷ behind m header (e.start + e.used)) = ap used p'.list in
@@ -116,13 +116,13 @@ placed m e anchor header s h =
     let text' : IsText (bytes_of m) (e.start + used p.before) (e.start + used (p.before ++ p.block ∷ p.after)) (p.block ∷ p.after) = tail_text m e.start e.end p.before (p.block ∷ p.after) store in
     let text : IsText (bytes_of m) header (e.start + e.used) (p.block ∷ p.after) =
     subst (λ (n : ℕ). IsText (bytes_of m) n (e.start + e.used) (p.block ∷ p.after)) (sym h.place)
-        (subst (λ (n : ℕ). IsText (bytes_of m) (e.start + used p.before) n (p.block ∷ p.after)) end_is text') in
+    (subst (λ (n : ℕ). IsText (bytes_of m) (e.start + used p.before) n (p.block ∷ p.after)) end_is text') in
     let first : IsFirst (bytes_of m) header (e.start + e.used) p.block p.after = text_first (bytes_of m) header (e.start + e.used) p.block p.after text in
     let low : p.block.anchor < 2 ^ 26 = first.word.low in
     let is_first : first_at m header ≡ p.block = block_read (byte_at m) header p.block p.after first.whole (omega arith) text.whole.0.1 first.spelled in
     let rest : behind m header (e.start + e.used) ≡ p.after =
     ap (λ (x : Block). blocks_in (byte_at m) (header + taken x.size) (e.start + e.used)) is_first
-        ∙ text_read (bytes_of m) (header + taken p.block.size) (e.start + e.used) p.after (text_next (bytes_of m) header (e.start + e.used) p.block p.after text) in
+    ∙ text_read (bytes_of m) (header + taken p.block.size) (e.start + e.used) p.after (text_next (bytes_of m) header (e.start + e.used) p.block p.after text) in
     placed_by m e anchor header p.before p.block p.after s h.place p.is text (sym is_first) (sym rest)
 
 -- the words of the header of an anchor's block

@@ -37,8 +37,8 @@ pub bytes_read : (f : ℕ → ℕ) (at n : ℕ) (xs : List ℕ) → length xs �
 bytes_read f at n xs len h =
     same_number_lists (map f (range_with_len at n)) xs (length-map-range_with_len f at n ∙ sym len)
     (λ k below.
-        let low : k < n = omega (arith, length-map-range_with_len f at n) in
-        get_or-map-range_with_len f at n k (at + k) 0 low refl ∙ h k (omega arith))
+    let low : k < n = omega (arith, length-map-range_with_len f at n) in
+    get_or-map-range_with_len f at n k (at + k) 0 low refl ∙ h k (omega arith))
 
 pub block_read : (f : ℕ → ℕ) (at : ℕ) (b : Block) (bs : List Block) → length b.bytes ≡ whole_words b.size → b.anchor < 2 ^ 32 → b.size < 2 ^ 32
     → IsSpelled f at b bs → block_at f at ≡ b

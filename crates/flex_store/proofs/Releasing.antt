@@ -71,7 +71,7 @@ anchored_other mapped start end f g at (b ∷ bs) word words none same anchored 
     let parts = or_parts (nat_eq word b.anchor) (has_anchor bs word) none in
     let aligned : b.anchor % 4 ≡ 0 = words.0.0.aligned in (
       holds_kept f g b.anchor (word_bytes (at + 8))
-      (λ a low high. same a (λ here. let there : word_start a ≡ b.anchor = omega arith in eqb-false word b.anchor parts.0 (sym here ∙ there))) anchored.0,
+          (λ a low high. same a (λ here. let there : word_start a ≡ b.anchor = omega arith in eqb-false word b.anchor parts.0 (sym here ∙ there))) anchored.0,
       anchored_other mapped start end f g (at + taken b.size) bs word words.1 parts.1 same anchored.1,
     )
 
@@ -144,19 +144,19 @@ cleared_before m m2 e anchor header before p c =
       text = holds_kept (byte_at m) (byte_at m2) e.start (text_of before)
           (λ a low high. cleared_same m m2 anchor a c w.aligned (inside_other e.start e.end anchor a p.store.range.start_aligned w.outside low (omega arith)))
           (holds_left (byte_at m) e.start (text_of before) (text_of (b ∷ after))
-              (subst (λ (t : List ℕ). Holds (byte_at m) e.start t) (text-append before (b ∷ after)) p.store.text));
+          (subst (λ (t : List ℕ). Holds (byte_at m) e.start t) (text-append before (b ∷ after)) p.store.text));
       anchored = anchored_other (is_mapped m) e.start e.end (byte_at m) (byte_at m2) e.start before anchor
           (words_left (is_mapped m) e.start e.end before (b ∷ after) p.store.words) none_left
           (λ a other. cleared_same m m2 anchor a c w.aligned other)
           (anchored_left (byte_at m) e.start before (b ∷ after) p.store.anchored);
       headers = λ a. ap is_flex_header (c.marks a) ∙ fh_cleared (class_of m a) (nat_eq (word_start a) anchor) (is_header e.start before (word_start a) || is_header (e.start + used before) (b ∷ after) (word_start a))
           (λ here. let at : word_start a ≡ anchor = eqb-true (word_start a) anchor here in
-              sym (header-append e.start before (b ∷ after) (word_start a)) ∙ false_at (word_start a) at)
+          sym (header-append e.start before (b ∷ after) (word_start a)) ∙ false_at (word_start a) at)
           (p.store.headers a ∙ header-append e.start before (b ∷ after) (word_start a));
       anchors = λ a. ap is_anchor (c.marks a) ∙ (an_cleared (class_of m a) (nat_eq (word_start a) anchor) (has_anchor before (word_start a)) (has_anchor after (word_start a))
           (λ here. sym (anchor-append before after (word_start a)) ∙ ap (has_anchor (before ++ after)) (eqb-true (word_start a) anchor here) ∙ none)
           (p.store.anchors a ∙ (anchor-append before (b ∷ after) (word_start a)
-              ∙ ap (λ (x : ℕ). has_anchor before (word_start a) || (nat_eq (word_start a) x || has_anchor after (word_start a))) p.split.anchor))
+          ∙ ap (λ (x : ℕ). has_anchor before (word_start a) || (nat_eq (word_start a) x || has_anchor after (word_start a))) p.split.anchor))
           ∙ sym (anchor-append before after (word_start a)));
     } where
       false_at : (x : ℕ) → x ≡ anchor → is_header e.start (before ++ first_at m header ∷ behind m header (e.start + e.used)) x ≡ false
@@ -193,7 +193,7 @@ release_gets m m2 n e f anchor header before p c r same_start same_end used_is =
     let sum : used (before ++ after) ≡ used before + used after = used-append before after in
     let total : e.used ≡ used before + (taken b.size + used after) = p.total in
     rw p.split.without (got m2 n e f before (b ∷ after) after (cleared_before m m2 e anchor header before p c)
-        (subst (λ (q : ℕ). Relaid m2 n q (b ∷ after) after) p.place r') same_start same_end (omega arith))
+    (subst (λ (q : ℕ). Relaid m2 n q (b ∷ after) after) p.place r') same_start same_end (omega arith))
 
 pub release_state : (m m2 n : AddressMap) (e f : Extent) (anchor : ℕ) (bs : List Block) → IsCleared m m2 anchor → GotBlocks m2 e bs n f
     → held_in n f ≡ with_blocks (without_anchor (held_in m e) anchor) (store_in m e) bs
@@ -216,10 +216,10 @@ pub release_keeps : (m m2 n : AddressMap) (e f : Extent) (anchor header : ℕ) (
 release_keeps m m2 n e f anchor header before p c g =
     let w : IsAnchorWord (is_mapped m) e.start e.end anchor = anchor_word m e anchor header before p in
     let live : (a : ℕ) → word_start a ≡ anchor → is_heap_class (class_of m a) ≡ false = λ a here.
-        anchor_no_head (class_of m a) (p.store.anchors a ∙ (ap (has_anchor (before ++ first_at m header ∷ behind m header (e.start + e.used))) here
-            ∙ has_here before (first_at m header) (behind m header (e.start + e.used)) anchor p.split.anchor)) in
+    anchor_no_head (class_of m a) (p.store.anchors a ∙ (ap (has_anchor (before ++ first_at m header ∷ behind m header (e.start + e.used))) here
+    ∙ has_here before (first_at m header) (behind m header (e.start + e.used)) anchor p.split.anchor)) in
     let classes : (a : ℕ) → is_heap_class (class_of m2 a) ≡ is_heap_class (class_of m a) = λ a.
-        ap is_heap_class (c.marks a) ∙ plain_heap (class_of m a) (nat_eq (word_start a) anchor) (λ here. live a (eqb-true (word_start a) anchor here)) in
+    ap is_heap_class (c.marks a) ∙ plain_heap (class_of m a) (nat_eq (word_start a) anchor) (λ here. live a (eqb-true (word_start a) anchor here)) in
     record {
       store = g.store;
       same = g.same ∙ c.same;

@@ -107,7 +107,7 @@ pub replaced_text : (m : AddressMap) (f1 f2 g : ℕ → ℕ) (h end size new at 
     → IsText (bytes_of m) h end (first_at m h ∷ behind m h end) → at ≤ (first_at m h).size → size ≡ (first_at m h).size
     → new ≡ at - cut + more + (size - at) → f1 ≡ byte_at m
     → ((a : ℕ) → f2 a ≡ with_bytes_at f1 (h + 8) (filled (spliced (bytes_between f1 (h + 8) size) at cut more)
-        ++ bytes_between f1 (h + 8 + whole_words size) (end - (h + 8 + whole_words size))) a)
+    ++ bytes_between f1 (h + 8 + whole_words size) (end - (h + 8 + whole_words size))) a)
     → ((a : ℕ) → g a ≡ with_word_at f2 (h + 4) new a)
     → (a : ℕ) → g a ≡ with_bytes_at (byte_at m) h (text_of (holding (first_at m h) (spliced (contents (first_at m h)) at cut more) ∷ behind m h end)) a
 replaced_text m f1 f2 g h end size new at cut more is inside size_is new_is same h2 h3 =
@@ -126,10 +126,10 @@ replaced_text m f1 f2 g h end size new at cut more is inside size_is new_is same
     let new' : new ≡ length xs = new_is ∙ ap (λ (n : ℕ). at - cut + more + (n - at)) size_is ∙ sym count in
     replaced f f2 g h b xs (text_of after) first.spelled.anchor
     (λ a. h2 a
-        ∙ (ap (λ (k : ℕ → ℕ). with_bytes_at k (h + 8) (filled (spliced (bytes_between k (h + 8) size) at cut more) ++ bytes_between k (h + 8 + whole_words size) (end - (h + 8 + whole_words size))) a) same
-        ∙ (ap (λ (n : ℕ). with_bytes_at f (h + 8) (filled (spliced (bytes_between f (h + 8) n) at cut more) ++ bytes_between f (h + 8 + whole_words n) (end - (h + 8 + whole_words n))) a) size_is
-        ∙ (ap (λ (l : List ℕ). with_bytes_at f (h + 8) (filled (spliced l at cut more) ++ bytes_between f (h + 8 + whole_words b.size) (end - (h + 8 + whole_words b.size))) a) e1
-        ∙ ap (λ (t : List ℕ). with_bytes_at f (h + 8) (filled xs ++ t) a) e2))))
+    ∙ (ap (λ (k : ℕ → ℕ). with_bytes_at k (h + 8) (filled (spliced (bytes_between k (h + 8) size) at cut more) ++ bytes_between k (h + 8 + whole_words size) (end - (h + 8 + whole_words size))) a) same
+    ∙ (ap (λ (n : ℕ). with_bytes_at f (h + 8) (filled (spliced (bytes_between f (h + 8) n) at cut more) ++ bytes_between f (h + 8 + whole_words n) (end - (h + 8 + whole_words n))) a) size_is
+    ∙ (ap (λ (l : List ℕ). with_bytes_at f (h + 8) (filled (spliced l at cut more) ++ bytes_between f (h + 8 + whole_words b.size) (end - (h + 8 + whole_words b.size))) a) e1
+    ∙ ap (λ (t : List ℕ). with_bytes_at f (h + 8) (filled xs ++ t) a) e2))))
     (λ a. h3 a ∙ ap (λ (n : ℕ). with_word_at f2 (h + 4) n a) new')
 
 pub replaced_whole : (m : AddressMap) (h end at cut more : ℕ) → IsText (bytes_of m) h end (first_at m h ∷ behind m h end) → AreNumbers m h end at cut more
@@ -214,7 +214,7 @@ pub replaced_step : (m m1 m2 m3 : AddressMap) (h end size new old_total new_tota
     → size ≡ (first_at m h).size → new ≡ at - cut + more + (size - at) → old_total ≡ taken size → new_total ≡ taken new
     → byte_at m1 ≡ byte_at m → layout m3 ≡ layout m
     → ((a : ℕ) → byte_at m2 a ≡ with_bytes_at (byte_at m1) (h + 8) (filled (spliced (bytes_between (byte_at m1) (h + 8) size) at cut more)
-        ++ bytes_between (byte_at m1) (h + 8 + whole_words size) (end - (h + 8 + whole_words size))) a)
+    ++ bytes_between (byte_at m1) (h + 8 + whole_words size) (end - (h + 8 + whole_words size))) a)
     → ((a : ℕ) → byte_at m3 a ≡ with_word_at (byte_at m2) (h + 4) new a)
     → IsWrittenText m m3 h (h + new_total + (end - (h + old_total))) (holding (first_at m h) (spliced (contents (first_at m h)) at cut more) ∷ behind m h end)
 replaced_step m m1 m2 m3 h end size new old_total new_total at cut more is inside may size_is new_is old_is total_is same kept h2 h3 =
@@ -246,6 +246,6 @@ pub appended_step : (m m1 m2 m3 : AddressMap) (h anchor size words total : ℕ) 
 appended_step m m1 m2 m3 h anchor size words total fits aligned may words_is total_is kept h1 h2 h3 =
     let bytes : (a : ℕ) → byte_at m3 a ≡ with_bytes_at (byte_at m) h (text_of (new_block anchor size ∷ [])) a =
     appended (byte_at m) (byte_at m1) (byte_at m2) (byte_at m3) h anchor size (whole_words size) h1 h2
-        (λ a. h3 a ∙ ap (λ (n : ℕ). with_zeros_at (byte_at m2) (h + 8) n a) words_is) in
+    (λ a. h3 a ∙ ap (λ (n : ℕ). with_zeros_at (byte_at m2) (h + 8) n a) words_is) in
     let end_is : h + total ≡ h + (taken size + 0) = omega arith in
     record { bytes = bytes; text = settled_text m m3 h (h + total) (new_block anchor size ∷ []) (new_whole m h anchor size fits) may aligned kept bytes end_is }

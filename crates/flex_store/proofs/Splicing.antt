@@ -44,8 +44,14 @@ held_back f g at to n xs same h k below =
 
 pub spliced_length : (bytes : List ℕ) (at cut more : ℕ) → at ≤ length bytes → length (spliced bytes at cut more) ≡ at - cut + more + (length bytes - at)
 spliced_length bytes at cut more fits =
-    omega (arith, length-append (take (at - cut) bytes) (replicate {A = ℕ} more 0 ++ drop at bytes), length-append (replicate {A = ℕ} more 0) (drop at bytes),
-    length-take (at - cut) bytes, length-replicate {A = ℕ} more 0, length-drop at bytes)
+    omega (
+      arith,
+      length-append (take (at - cut) bytes) (replicate {A = ℕ} more 0 ++ drop at bytes),
+      length-append (replicate {A = ℕ} more 0) (drop at bytes),
+      length-take (at - cut) bytes,
+      length-replicate {A = ℕ} more 0,
+      length-drop at bytes,
+    )
 
 pub filled_length : (bytes : List ℕ) → length (filled bytes) ≡ whole_words (length bytes)
 filled_length bytes =
@@ -91,9 +97,9 @@ splice_held f c size at cut more xs fits len h =
     let front : Holds g c (take (at - cut) xs) = held_front f g c (at - cut) xs (omega arith) (λ j low. splice_front f c size at cut more j low) h in
     let gap : Holds g (c + (at - cut)) (replicate {A = ℕ} more 0) = holds_zeros g (c + (at - cut)) more (λ a low high. splice_gap f c size at cut more a low high) in
     let tail : Holds g (c + (at - cut) + more) (drop at xs) = held_back f g c (c + (at - cut) + more) at xs (λ j low.
-        let e : c + (at - cut) + more + j ≡ c + (at - cut + more) + j = omega arith in
-        let e' : c + at + j ≡ c + (at + j) = omega arith in
-        ap g e ∙ splice_tail f c size at cut more j (omega arith) ∙ ap f e') h in
+    let e : c + (at - cut) + more + j ≡ c + (at - cut + more) + j = omega arith in
+    let e' : c + at + j ≡ c + (at + j) = omega arith in
+    ap g e ∙ splice_tail f c size at cut more j (omega arith) ∙ ap f e') h in
     let e1 : c + length (take (at - cut) xs) ≡ c + (at - cut) = omega (arith, length-take (at - cut) xs) in
     let e2 : c + (at - cut) + length (replicate {A = ℕ} more 0) ≡ c + (at - cut) + more = omega (arith, length-replicate {A = ℕ} more 0) in
     holds_append g c (take (at - cut) xs) (replicate more 0 ++ drop at xs) front
@@ -109,9 +115,9 @@ splice_done f c size at cut more fits =
     let pad : ℕ = whole_words (length (spliced xs at cut more)) - length (spliced xs at cut more) in
     bytes_written f g c (filled (spliced xs at cut more))
     (holds_append g c (spliced xs at cut more) (replicate pad 0) (splice_held f c size at cut more xs fits len (between_held f c size))
-        (holds_zeros g (c + length (spliced xs at cut more)) pad (λ a low high.
-            zeros_in (with_zeros_at (with_moved_at f (c + at) (c + (at - cut + more)) (size - at)) (c + (at - cut)) more) (c + (at - cut + more + (size - at)))
-            (whole_words (at - cut + more + (size - at)) - (at - cut + more + (size - at))) a (omega arith) (omega arith))))
+    (holds_zeros g (c + length (spliced xs at cut more)) pad (λ a low high.
+    zeros_in (with_zeros_at (with_moved_at f (c + at) (c + (at - cut + more)) (size - at)) (c + (at - cut)) more) (c + (at - cut + more + (size - at)))
+    (whole_words (at - cut + more + (size - at)) - (at - cut + more + (size - at))) a (omega arith) (omega arith))))
     (λ a out. splice_out f c size at cut more a (elim out [ inl low ↦ inl low | inr high ↦ inr (omega (arith, filled_length (spliced xs at cut more))) ]))
 
 pub three_writes : (f f1 f2 g : ℕ → ℕ) (c size at cut more pad : ℕ) → at ≤ size

@@ -53,7 +53,6 @@ no_blocks f start =
     rw none refl
 
 pub mapped_same : (m n : AddressMap) → mapping n ≡ mapping m → is_mapped n ≡ is_mapped m
-
 mapped_same m n same = ap (λ (p : Mapping). λ (a : ℕ). is_some (p.place a)) same
 
 pub starts_empty : (m n : AddressMap) (rs : List Region) (start end : ℕ) → IsNoFlex m → is_flex_range (is_mapped m) rs start end ≡ true
@@ -98,4 +97,4 @@ unfolding is_flex_range
 range_tested mapped rs start end all met aligned whole some tested met_is =
     rw (eq-eqb (start % 4) 0 aligned, eq-eqb (end % 4) 0 whole, lt-ltb start end some, ← met_is)
     (ap (λ (t : Bool). t && not met) (same_tests all (are_mapped mapped start (end - start))
-        (λ e. are_mapped_from mapped start (end - start) (tested.0 e)) (λ e. tested.1 (are_mapped_all mapped start (end - start) e))))
+    (λ e. are_mapped_from mapped start (end - start) (tested.0 e)) (λ e. tested.1 (are_mapped_all mapped start (end - start) e))))

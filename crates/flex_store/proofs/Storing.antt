@@ -56,7 +56,7 @@ pub anchored_kept : (mapped : ℕ → Bool) (start end : ℕ) (f g : ℕ → ℕ
 anchored_kept mapped start end f g at [] words same anchored = tt
 anchored_kept mapped start end f g at (b ∷ bs) words same anchored = (
   holds_kept f g b.anchor (word_bytes (at + 8))
-  (λ a low high. same a (elim words.0.0.outside [ inl before ↦ inl (omega arith) | inr behind ↦ inr (omega arith) ])) anchored.0,
+      (λ a low high. same a (elim words.0.0.outside [ inl before ↦ inl (omega arith) | inr behind ↦ inr (omega arith) ])) anchored.0,
   anchored_kept mapped start end f g (at + taken b.size) bs words.1 same anchored.1,
 )
 
@@ -74,12 +74,12 @@ laid_behind mapped start end f xs ys whole words fits held anchored a =
     let fits' : at + used ys ≤ end = omega (arith, used-append xs ys) in
     let one : (x : ℕ) → g x ≡ with_bytes_at f start (text_of xs ++ text_of ys) x =
     bytes_written f g start (text_of xs ++ text_of ys)
-        (holds_append g start (text_of xs) (text_of ys)
-            (holds_kept f g start (text_of xs) (λ x low high. bytes_beside f at (text_of ys) x (inl (omega arith))) held)
-            (rw e (bytes_held f at (text_of ys))))
-        (λ x out. bytes_beside f at (text_of ys) x (elim out [ inl low ↦ inl (omega arith) | inr high ↦ inr (omega (arith, length-append (text_of xs) (text_of ys))) ])) in
+    (holds_append g start (text_of xs) (text_of ys)
+    (holds_kept f g start (text_of xs) (λ x low high. bytes_beside f at (text_of ys) x (inl (omega arith))) held)
+    (rw e (bytes_held f at (text_of ys))))
+    (λ x out. bytes_beside f at (text_of ys) x (elim out [ inl low ↦ inl (omega arith) | inr high ↦ inr (omega (arith, length-append (text_of xs) (text_of ys))) ])) in
     let two : AreAnchored g start xs = anchored_kept mapped start end f g start xs (words_left mapped start end xs ys words)
-        (λ x out. bytes_beside f at (text_of ys) x (elim out [ inl low ↦ inl (omega arith) | inr high ↦ inr (omega arith) ])) anchored in
+    (λ x out. bytes_beside f at (text_of ys) x (elim out [ inl low ↦ inl (omega arith) | inr high ↦ inr (omega arith) ])) anchored in
     ap (λ (h : ℕ → ℕ). with_anchors at ys h a) (λ i x. sym (anchors_again start xs g x two) i)
     ∙ (sym (anchors-append start xs ys g a)
     ∙ (ap (λ (h : ℕ → ℕ). with_anchors start (xs ++ ys) h a) (λ i x. one x i)
@@ -99,7 +99,7 @@ laid mapped start end f g bs aligned whole words fits h =
     record {
       text = holds_kept (with_bytes_at f start (text_of bs)) g start (text_of bs)
           (λ a low high. h a ∙ anchors_beside mapped start end start bs (with_bytes_at f start (text_of bs)) a words
-              (none_inside mapped start end bs (word_start a) words (omega arith) (omega arith)))
+          (none_inside mapped start end bs (word_start a) words (omega arith) (omega arith)))
           (bytes_held f start (text_of bs));
       anchored = subst (λ (k : ℕ → ℕ). AreAnchored k start bs) (sym same) (anchors_hold mapped start end start bs (with_bytes_at f start (text_of bs)) words);
     }
@@ -149,7 +149,7 @@ relaid m n start end xs olds news b r =
     let fits : at + used news ≤ end = omega (arith, b.fits, used-append xs news) in
     let classes : (a : ℕ) → class_of n a ≡ marked class.FlexHeader (is_header at news (word_start a)) (marked class.Plain (is_header at olds (word_start a)) (class_of m a)) =
     λ a. r.marks a ∙ (headers_marked class.FlexHeader at news (with_headers class.Plain at olds (class_of m)) a
-        ∙ ap (marked class.FlexHeader (is_header at news (word_start a))) (headers_marked class.Plain at olds (class_of m) a)) in
+    ∙ ap (marked class.FlexHeader (is_header at news (word_start a))) (headers_marked class.Plain at olds (class_of m) a)) in
     record {
       store = record {
         range = subst (λ (p : ℕ → Bool). IsFlexRange p start end) (sym mapped) b.range;
@@ -160,15 +160,15 @@ relaid m n start end xs olds news b r =
         anchored = there.anchored;
         headers = λ a. ap is_flex_header (classes a) ∙ (header_by (class_of m a) (is_header at news (word_start a)) (is_header at olds (word_start a)) (is_header start xs (word_start a))
             (λ old. false_from_ne_true (is_header start xs (word_start a)) (λ before.
-                let o : IsWithin at (used olds) (word_start a) = header_within at olds (word_start a) old in
-                let x : IsWithin start (used xs) (word_start a) = header_within start xs (word_start a) before in
-                omega (arith, o.from, x.below)))
+            let o : IsWithin at (used olds) (word_start a) = header_within at olds (word_start a) old in
+            let x : IsWithin start (used xs) (word_start a) = header_within start xs (word_start a) before in
+            omega (arith, o.from, x.below)))
             (b.headers a) ∙ sym (header-append start xs news (word_start a)));
         anchors = λ a. ap is_anchor (classes a) ∙ anchor_by (class_of m a) (is_header at news (word_start a)) (is_header at olds (word_start a)) (has_anchor (xs ++ news) (word_start a))
             (λ new. let w : IsWithin at (used news) (word_start a) = header_within at news (word_start a) new in
-                none_inside (is_mapped m) start end (xs ++ news) (word_start a) b.words (omega (arith, w.from)) (omega (arith, w.below)))
+            none_inside (is_mapped m) start end (xs ++ news) (word_start a) b.words (omega (arith, w.from)) (omega (arith, w.below)))
             (λ old. let w : IsWithin at (used olds) (word_start a) = header_within at olds (word_start a) old in
-                none_inside (is_mapped m) start end (xs ++ news) (word_start a) b.words (omega (arith, w.from)) (omega (arith, w.below, b.fitted)))
+            none_inside (is_mapped m) start end (xs ++ news) (word_start a) b.words (omega (arith, w.from)) (omega (arith, w.below, b.fitted)))
             (b.anchors a);
       };
       bytes = bytes;

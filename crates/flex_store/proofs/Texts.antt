@@ -13,12 +13,15 @@ use Rattle.flex_store.proofs.Reading.{IsSpelled, spelled, reads}
 pub words_within : (mapped : ℕ → Bool) (start end at to : ℕ) (bs : List Block) → start ≤ at → to ≤ end → AreAnchorWords mapped start end bs → AreAnchorWords mapped at to bs
 words_within mapped start end at to [] low high words = tt
 words_within mapped start end at to (b ∷ bs) low high words = (
-  (record {
-    aligned = words.0.0.aligned;
-    there = words.0.0.there;
-    low = words.0.0.low;
-    outside = elim words.0.0.outside [ inl before ↦ inl (omega arith) | inr behind ↦ inr (omega arith) ];
-  }, words.0.1),
+  (
+    record {
+      aligned = words.0.0.aligned;
+      there = words.0.0.there;
+      low = words.0.0.low;
+      outside = elim words.0.0.outside [ inl before ↦ inl (omega arith) | inr behind ↦ inr (omega arith) ];
+    },
+    words.0.1,
+  ),
   words_within mapped start end at to bs low high words.1,
 )
 

@@ -117,7 +117,7 @@ settling_by m at n n' to end (x ∷ bs) some is same anchors marks same' bytes' 
       rest = bs;
       text = text_kept (bytes_of n) (bytes_of n') (to + taken x.size) end bs (is_mapped-layout n n' same')
           (λ a low high. wrote a ∙ word_beside (byte_at n) x.anchor (to + 8) a
-              (elim f.word.outside [ inl before ↦ inr (omega arith) | inr behind ↦ inl (omega arith) ]))
+          (elim f.word.outside [ inl before ↦ inr (omega arith) | inr behind ↦ inl (omega arith) ]))
           (text_next (bytes_of n) to end x bs is);
       same = same' ∙ same;
       anchors = λ a. ap (λ (g : ℕ → ℕ). with_anchors (to + taken x.size) bs g a) (λ i p. wrote p i) ∙ anchors a;

@@ -1,4 +1,4 @@
-ghost use Rattle.std.specs.Prelude.{◌≡◌, ◌+◌, ◌%◌, ◌==◌, ◌&&◌, not, ◌++◌, ◌∷◌, [], false, None, MatchOption};
+ghost use Rattle.std.specs.Prelude.{◌≡◌, ◌≤◌, ◌+◌, ◌%◌, ◌==◌, ◌&&◌, not, ◌++◌, ◌∷◌, [], false, None, MatchOption};
 ghost use Rattle.std.specs.List.{list_any};
 ghost use Rattle.profile.specs.Outcome.{Gives};
 ghost use Rattle.address_map.specs.Records.{is_heap_kind};
@@ -35,7 +35,12 @@ pub(crate) fn block_size(map: &AddressMap, extent: &Extent, anchor: u32) -> Resu
 
 /// Cuts a block, or appends zeros to it.
 #[tactic(auto, unfolding(crate::specs::Calls::extended))]
-pub(crate) fn extend_block(map: &mut AddressMap, extent: &mut Extent, anchor: u32, size: u32) -> Result<bool, ErrorNumber>
+pub(crate) fn extend_block(
+    map: &mut AddressMap,
+    extent: &mut Extent,
+    anchor: u32,
+    size: u32,
+) -> Result<bool, ErrorNumber>
     requires { IsStoreAt map.old extent.old }
     ensures state { Gives (held_in map.old extent.old) (extended (held_in map.old extent.old) anchor size) result (held_in map.new extent.new) }
     ensures keeps { Keeps map.old extent.old map.new extent.new }
@@ -57,7 +62,13 @@ pub(crate) fn extend_block(map: &mut AddressMap, extent: &mut Extent, anchor: u3
 
 /// Puts zeros into a block, or takes bytes out of it.
 #[tactic(auto, unfolding(crate::specs::Calls::mid_extended))]
-pub(crate) fn mid_extend_block(map: &mut AddressMap, extent: &mut Extent, anchor: u32, at: u32, by: u32) -> Result<bool, ErrorNumber>
+pub(crate) fn mid_extend_block(
+    map: &mut AddressMap,
+    extent: &mut Extent,
+    anchor: u32,
+    at: u32,
+    by: u32,
+) -> Result<bool, ErrorNumber>
     requires { IsStoreAt map.old extent.old }
     ensures state { Gives (held_in map.old extent.old) (mid_extended (held_in map.old extent.old) anchor at by) result (held_in map.new extent.new) }
     ensures keeps { Keeps map.old extent.old map.new extent.new }
@@ -87,7 +98,11 @@ pub(crate) fn mid_extend_block(map: &mut AddressMap, extent: &mut Extent, anchor
 fn cut_of(by: u32) -> u32
     ensures { result ≡ cut_of by }
 {
-    if by >= 0x8000_0000 { u32::MAX - by + 1 } else { 0 }
+    if by >= 0x8000_0000 {
+        u32::MAX - by + 1
+    } else {
+        0
+    }
 }
 
 /// How many bytes a change by a signed word adds.
@@ -99,7 +114,11 @@ fn more_of(by: u32) -> u32
 
 /// Takes a block away, and makes its anchor 0.
 #[tactic(auto, unfolding(crate::specs::Calls::released))]
-pub(crate) fn release_block(map: &mut AddressMap, extent: &mut Extent, anchor: u32) -> Result<(), ErrorNumber>
+pub(crate) fn release_block(
+    map: &mut AddressMap,
+    extent: &mut Extent,
+    anchor: u32,
+) -> Result<(), ErrorNumber>
     requires { IsStoreAt map.old extent.old }
     ensures state { Gives (held_in map.old extent.old) (released (held_in map.old extent.old) anchor) result (held_in map.new extent.new) }
     ensures keeps { Keeps map.old extent.old map.new extent.new }
@@ -135,7 +154,13 @@ fn find_header(map: &AddressMap, extent: &Extent, anchor: u32) -> Option<u32>
 }
 
 /// Changes a block's bytes, where the store has room for it then.
-fn splice_block(map: &mut AddressMap, extent: &mut Extent, anchor: u32, header: u32, splice: &Splice) -> bool
+fn splice_block(
+    map: &mut AddressMap,
+    extent: &mut Extent,
+    anchor: u32,
+    header: u32,
+    splice: &Splice,
+) -> bool
     requires store { IsStoreAt map.old extent.old }
     requires place { IsHeaderOf extent.old.start anchor (blocks_of map.old extent.old) header }
     requires splice { IsSplice splice.now (word_at (byte_at map.old) (header + 4)) }
@@ -153,7 +178,12 @@ fn splice_block(map: &mut AddressMap, extent: &mut Extent, anchor: u32, header: 
 }
 
 /// Makes a block, where its anchor may stand, and no block has it.
-pub(crate) fn alloc_block(map: &mut AddressMap, extent: &mut Extent, anchor: u32, size: u32) -> Result<bool, ErrorNumber>
+pub(crate) fn alloc_block(
+    map: &mut AddressMap,
+    extent: &mut Extent,
+    anchor: u32,
+    size: u32,
+) -> Result<bool, ErrorNumber>
     requires store { IsStoreAt map.old extent.old }
     requires payload { list_any (is_in_heap_alone anchor) (store_of map.old).heaps ≡ false }
     requires head { is_heap_class (class_of map.old anchor) ≡ false }

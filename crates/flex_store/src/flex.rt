@@ -105,7 +105,12 @@ impl Flex {
     ///
     /// Acorn C manual, "flex", flex_alloc.
     #[tactic(auto, unfolding(crate::specs::State::state_of, crate::specs::Calls::allocated))]
-    pub fn alloc(&mut self, map: &mut AddressMap, anchor: u32, size: u32) -> Result<bool, ErrorNumber>
+    pub fn alloc(
+        &mut self,
+        map: &mut AddressMap,
+        anchor: u32,
+        size: u32,
+    ) -> Result<bool, ErrorNumber>
         requires flex { IsFlex map.old self.old }
         requires payload { list_any (is_in_heap_alone anchor) (store_of map.old).heaps ≡ false }
         requires head { is_heap_class (class_of map.old anchor) ≡ false }
@@ -155,7 +160,12 @@ impl Flex {
     ///
     /// Acorn C manual, "flex", flex_extend.
     #[tactic(auto, unfolding(crate::specs::State::state_of, crate::specs::Calls::extended))]
-    pub fn extend(&mut self, map: &mut AddressMap, anchor: u32, size: u32) -> Result<bool, ErrorNumber>
+    pub fn extend(
+        &mut self,
+        map: &mut AddressMap,
+        anchor: u32,
+        size: u32,
+    ) -> Result<bool, ErrorNumber>
         requires { IsFlex map.old self.old }
         ensures state { Gives (state_of map.old self.old) (extended (state_of map.old self.old) anchor size) result (state_of map.new self.new) }
         ensures flex { IsFlex map.new self.new }
@@ -180,7 +190,13 @@ impl Flex {
     ///
     /// Acorn C manual, "flex", flex_midextend.
     #[tactic(auto, unfolding(crate::specs::State::state_of, crate::specs::Calls::mid_extended))]
-    pub fn mid_extend(&mut self, map: &mut AddressMap, anchor: u32, at: u32, by: u32) -> Result<bool, ErrorNumber>
+    pub fn mid_extend(
+        &mut self,
+        map: &mut AddressMap,
+        anchor: u32,
+        at: u32,
+        by: u32,
+    ) -> Result<bool, ErrorNumber>
         requires { IsFlex map.old self.old }
         ensures state { Gives (state_of map.old self.old) (mid_extended (state_of map.old self.old) anchor at by) result (state_of map.new self.new) }
         ensures flex { IsFlex map.new self.new }

@@ -28,14 +28,14 @@ pub returns-then-is_live-clause-state : goal.returns-then-is_live-clause-state
 returns-then-is_live-clause-state c =
     alloc_used c.args.map.now c.args.extent.now (store_of c.args.map.now) c.args.anchor c.args.size (sym c.may_hold.ensures ∙ c.if-not-may_hold.false)
     (sym (may_append c.args.map.now c.args.extent.now c.args.anchor c.requires.store (sym c.may_hold.ensures ∙ c.if-not-may_hold.false)).has
-        ∙ (sym c.is_live.ensures ∙ c.if-is_live.true))
+    ∙ (sym c.is_live.ensures ∙ c.if-is_live.true))
 
 pub returns-clause-state : goal.returns-clause-state
 returns-clause-state c =
     alloc_gives c.args.map.now c.append_block.new.map c.args.extent.now c.append_block.new.extent (store_of c.args.map.now) c.args.anchor c.args.size c.append_block.result
     (sym c.may_hold.ensures ∙ c.if-not-may_hold.false)
     (sym (may_append c.args.map.now c.args.extent.now c.args.anchor c.requires.store (sym c.may_hold.ensures ∙ c.if-not-may_hold.false)).has
-        ∙ (sym c.is_live.ensures ∙ c.if-is_live.false))
+    ∙ (sym c.is_live.ensures ∙ c.if-is_live.false))
     c.append_block.ensures
 
 pub returns-clause-keeps : goal.returns-clause-keeps

@@ -1,5 +1,5 @@
-use Rattle.std.proofs.Common.{ℕ, ◌≡◌, ◌≤◌, ◌<◌, ◌+◌, ◌*◌, ◌/◌, ◌^◌, arith, refl, ap, ◌∙◌}
-use Rattle.flex_store.specs.Blocks.{taken, whole_words}
+use Rattle.std.proofs.Common.{◌≡◌, ◌+◌, arith, refl, ap, ◌∙◌}
+use Rattle.flex_store.specs.Blocks.{taken}
 use Rattle.flex_store.proofs.Allocating.{alloc_done, alloc_none, alloc_numbers}
 use Rattle.flex_store.proofs.block.append_block.Goals as goal
 

@@ -1,4 +1,4 @@
-use Rattle.std.proofs.Common.{ℕ, ◌≤◌, ◌+◌, ◌^◌, arith}
+use Rattle.std.proofs.Common.{arith}
 use Rattle.flex_store.proofs.Answering.{size_done}
 use Rattle.flex_store.proofs.Finding.{header_word}
 use Rattle.flex_store.proofs.block.block_size.Goals as goal

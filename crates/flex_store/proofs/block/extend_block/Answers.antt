@@ -1,5 +1,5 @@
-use Rattle.std.proofs.Common.{ℕ, ◌≤◌, ◌+◌, ◌^◌, arith, ◌∙◌}
-use Rattle.flex_store.proofs.Answering.{change_keeps, extend_done, extend_same}
+use Rattle.std.proofs.Common.{arith, ◌∙◌}
+use Rattle.flex_store.proofs.Answering.{extend_done, extend_same}
 use Rattle.flex_store.proofs.Finding.{header_word}
 use Rattle.flex_store.proofs.block.extend_block.Goals as goal
 

@@ -1,4 +1,4 @@
-use Rattle.std.proofs.Common.{◌-◌, ◌≡◌, ◌≤◌, ℕ, sym, ◌∙◌, subst, ap}
+use Rattle.std.proofs.Common.{◌-◌, ◌≤◌, ℕ, sym, ◌∙◌, subst}
 use Rattle.flex_store.specs.Places.{IsHeaderOf}
 use Rattle.flex_store.specs.State.{blocks_of}
 use Rattle.flex_store.proofs.Finding.{found, not_live}

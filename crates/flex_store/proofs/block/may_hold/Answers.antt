@@ -31,7 +31,7 @@ returns-then-meets_other c =
     let met : Bool = c.meets_other.result in
     sym (ap (λ (t : Bool). t && (not met && not inside)) c.if-not-maps.false ∙ ap (λ (t : Bool). not t && not inside) c.if-meets_other.true)
     ∙ place_tested m c.args.anchor c.maps.result met inside (omega arith) c.requires.payload c.maps.ensures
-        (c.meets_other.ensures ∙ ap (λ (rs : List Region). met_in c.args.anchor rs) c.regions.ensures)
+    (c.meets_other.ensures ∙ ap (λ (rs : List Region). met_in c.args.anchor rs) c.regions.ensures)
 
 pub returns : goal.returns
 returns c =
@@ -40,5 +40,5 @@ returns c =
     let met : Bool = c.meets_other.result in
     sym (ap (λ (t : Bool). t && (not met && not inside)) c.if-not-maps.false ∙ ap (λ (t : Bool). not t && not inside) c.if-meets_other.false)
     ∙ (place_tested m c.args.anchor c.maps.result met inside (omega arith) c.requires.payload c.maps.ensures
-        (c.meets_other.ensures ∙ ap (λ (rs : List Region). met_in c.args.anchor rs) c.regions.ensures)
+    (c.meets_other.ensures ∙ ap (λ (rs : List Region). met_in c.args.anchor rs) c.regions.ensures)
     ∙ ap (λ (t : Bool). is_anchor_place (store_of m) c.args.anchor && not t) c.is_met.ensures)

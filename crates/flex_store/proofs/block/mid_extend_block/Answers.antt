@@ -1,4 +1,4 @@
-use Rattle.std.proofs.Common.{ℕ, ◌≡◌, ◌≤◌, ◌<◌, ◌+◌, ◌^◌, arith, subst, ◌∙◌}
+use Rattle.std.proofs.Common.{ℕ, ◌≤◌, ◌<◌, arith, subst}
 use Rattle.flex_store.proofs.Answering.{mid_done, mid_past, mid_same}
 use Rattle.flex_store.proofs.Finding.{header_word}
 use Rattle.flex_store.proofs.block.mid_extend_block.Goals as goal

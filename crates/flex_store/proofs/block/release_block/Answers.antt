@@ -1,11 +1,9 @@
-use Rattle.std.proofs.Common.{ℕ, Bool, ◌≡◌, ◌≤◌, ◌+◌, ◌-◌, ◌*◌, ◌/◌, ◌^◌, arith, refl, ap, ◌∙◌}
+use Rattle.std.proofs.Common.{ℕ, Bool, ◌≡◌, ◌-◌, arith, refl, ap, ◌∙◌}
 use Rattle.address_map.proofs.Bytes.{is_mapped-layout}
 use Rattle.address_map.specs.Bytes.{with_word_at}
 use Rattle.address_map.specs.declared.class.Class.{Class}
-use Rattle.flex_store.specs.Blocks.{taken, whole_words, without_block}
-use Rattle.flex_store.specs.Changes.{GotBlocks}
+use Rattle.flex_store.specs.Blocks.{taken}
 use Rattle.flex_store.specs.Relaid.{first_at}
-use Rattle.flex_store.specs.State.{blocks_of}
 use Rattle.flex_store.proofs.Finding.{header_word, placed}
 use Rattle.flex_store.proofs.Releasing.{IsCleared, anchor_word, release_gets, release_gives, release_keeps, removes_text}
 use Rattle.flex_store.proofs.block.release_block.Goals as goal
@@ -57,7 +55,7 @@ returns-clause-state c =
     let size : c.taken.result ≡ taken (first_at c.args.map.now c.in-Some.header).size = c.taken.ensures ∙ ap taken (c.from.ensures ∙ c.word-size.ensures) in
     release_gives c.args.map.now c.put_word.new.self c.remove.new.map e (record { start = e.start; end = e.end; used = e.used - c.taken.result }) c.args.anchor c.in-Some.header c.in-Some.ensures.split.before (placed c.args.map.now c.args.extent.now c.args.anchor c.in-Some.header c.requires c.in-Some.ensures) k
     (release_gets c.args.map.now c.put_word.new.self c.remove.new.map e (record { start = e.start; end = e.end; used = e.used - c.taken.result }) c.args.anchor c.in-Some.header c.in-Some.ensures.split.before (placed c.args.map.now c.args.extent.now c.args.anchor c.in-Some.header c.requires c.in-Some.ensures) k
-        c.remove.ensures refl refl (ap (λ (n : ℕ). e.used - n) size))
+    c.remove.ensures refl refl (ap (λ (n : ℕ). e.used - n) size))
 
 pub returns-clause-keeps : goal.returns-clause-keeps
 returns-clause-keeps c =
@@ -66,4 +64,4 @@ returns-clause-keeps c =
     let size : c.taken.result ≡ taken (first_at c.args.map.now c.in-Some.header).size = c.taken.ensures ∙ ap taken (c.from.ensures ∙ c.word-size.ensures) in
     release_keeps c.args.map.now c.put_word.new.self c.remove.new.map e (record { start = e.start; end = e.end; used = e.used - c.taken.result }) c.args.anchor c.in-Some.header c.in-Some.ensures.split.before (placed c.args.map.now c.args.extent.now c.args.anchor c.in-Some.header c.requires c.in-Some.ensures) k
     (release_gets c.args.map.now c.put_word.new.self c.remove.new.map e (record { start = e.start; end = e.end; used = e.used - c.taken.result }) c.args.anchor c.in-Some.header c.in-Some.ensures.split.before (placed c.args.map.now c.args.extent.now c.args.anchor c.in-Some.header c.requires c.in-Some.ensures) k
-        c.remove.ensures refl refl (ap (λ (n : ℕ). e.used - n) size))
+    c.remove.ensures refl refl (ap (λ (n : ℕ). e.used - n) size))

@@ -1,6 +1,6 @@
-use Rattle.std.proofs.Common.{ℕ, ◌≡◌, ◌≤◌, ◌<◌, ◌+◌, ◌-◌, ◌*◌, ◌/◌, ◌%◌, ◌^◌, arith, refl, sym, ◌∙◌, ap}
-use Rattle.flex_store.specs.Blocks.{contents, spliced, taken, used, whole_words}
-use Rattle.flex_store.specs.Relaid.{behind, first_at}
+use Rattle.std.proofs.Common.{◌≡◌, ◌+◌, ◌-◌, arith, refl, ◌∙◌, ap}
+use Rattle.flex_store.specs.Blocks.{taken}
+use Rattle.flex_store.specs.Relaid.{first_at}
 use Rattle.flex_store.specs.Splices.{size_after}
 use Rattle.flex_store.proofs.Changing.{changed, may_change, no_room}
 use Rattle.flex_store.proofs.Finding.{IsHeaderWord, header_word, placed}

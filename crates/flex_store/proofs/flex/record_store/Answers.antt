@@ -1,4 +1,4 @@
-use Rattle.std.proofs.Common.{◌≡◌, ◌<◌, ◌≤◌, ◌+◌, ◌-◌, ◌^◌, arith, ap, ◌∙◌}
+use Rattle.std.proofs.Common.{arith}
 use Rattle.address_map.specs.Memory.{is_mapped, regions}
 use Rattle.flex_store.proofs.Starting.{begins_state, good_range, range_low, starts_empty}
 use Rattle.flex_store.proofs.flex.record_store.Goals as goal

@@ -1,5 +1,4 @@
-use Rattle.std.proofs.Common.{◌∙◌, ap, cond, false, true}
-use Rattle.std.proofs.lemmas.Bool.{true≢false}
+use Rattle.std.proofs.Common.{◌∙◌}
 use Rattle.os_heap.proofs.Marking.{same_parts, word_below}
 use Rattle.address_map.specs.Memory.{regions}
 use Rattle.flex_store.proofs.Walks.{with_word_region}

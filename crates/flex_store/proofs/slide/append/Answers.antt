@@ -1,10 +1,7 @@
-use Rattle.std.proofs.Common.{ℕ, ◌≡◌, ◌≤◌, ◌<◌, ◌+◌, ◌-◌, ◌*◌, ◌/◌, ◌^◌, List, [], ◌∷◌, arith, ap, sym, refl, ◌∙◌}
-use Rattle.address_map.specs.Bytes.{with_bytes_at, with_zeros_at}
-use Rattle.address_map.specs.Memory.{byte_at, bytes_of, class_of}
+use Rattle.std.proofs.Common.{ℕ, ◌≡◌, ◌+◌, [], ◌∷◌, arith, ap, ◌∙◌}
+use Rattle.address_map.specs.Memory.{bytes_of}
 use Rattle.address_map.specs.declared.class.Class.{Class}
-use Rattle.flex_store.specs.Blocks.{new_block, taken, used, whole_words}
-use Rattle.flex_store.specs.Memory.{text_of}
-use Rattle.flex_store.specs.State.{IsText}
+use Rattle.flex_store.specs.Blocks.{new_block, taken, whole_words}
 use Rattle.flex_store.proofs.Sliding.{IsWrittenText, appended_step, as_read, lie_low, relaid_from}
 use Rattle.flex_store.proofs.slide.append.Goals as goal
 

@@ -1,11 +1,8 @@
-use Rattle.std.proofs.Common.{ℕ, ◌≡◌, ◌≤◌, ◌+◌, ◌-◌, ◌*◌, ◌/◌, arith, ap, sym, refl, ◌∷◌, ◌∙◌}
-use Rattle.address_map.specs.Bytes.{with_bytes_at}
-use Rattle.address_map.specs.Memory.{byte_at, bytes_of, class_of}
+use Rattle.std.proofs.Common.{ℕ, ◌+◌, ◌-◌, ap, ◌∷◌, ◌∙◌}
+use Rattle.address_map.specs.Memory.{bytes_of}
 use Rattle.address_map.specs.declared.class.Class.{Class}
-use Rattle.flex_store.specs.Blocks.{taken, used}
-use Rattle.flex_store.specs.Memory.{text_of}
+use Rattle.flex_store.specs.Blocks.{taken}
 use Rattle.flex_store.specs.Relaid.{behind, first_at}
-use Rattle.flex_store.specs.State.{IsText}
 use Rattle.flex_store.proofs.Sliding.{IsWrittenText, as_read, closed_step, relaid_from, unmarked}
 use Rattle.flex_store.proofs.slide.remove.Goals as goal
 
@@ -29,6 +26,6 @@ returns c =
     (behind c.args.map.now c.args.header c.args.end)
     w.text
     (λ a. ap (λ (k : ℕ → Class). k a) c.move_bytes.ensures.marks
-        ∙ unmarked c.args.map.now c.unmark.new.map c.args.header c.args.end (first_at c.args.map.now c.args.header ∷ behind c.args.map.now c.args.header c.args.end) c.requires c.unmark.ensures.marks a)
+    ∙ unmarked c.args.map.now c.unmark.new.map c.args.header c.args.end (first_at c.args.map.now c.args.header ∷ behind c.args.map.now c.args.header c.args.end) c.requires c.unmark.ensures.marks a)
     (c.settle.ensures.layout ∙ (c.move_bytes.ensures.layout ∙ c.unmark.ensures.layout))
     w.bytes c.settle.ensures.bytes c.settle.ensures.marks

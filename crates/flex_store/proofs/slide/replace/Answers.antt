@@ -1,12 +1,9 @@
-use Rattle.std.proofs.Common.{ℕ, ◌≡◌, ◌≤◌, ◌<◌, ◌+◌, ◌-◌, ◌*◌, ◌/◌, ◌^◌, List, ◌∷◌, length, arith, ap, sym, refl, ◌∙◌}
-use Rattle.address_map.specs.Bytes.{with_bytes_at}
-use Rattle.address_map.specs.Memory.{byte_at, bytes_of, class_of, layout}
+use Rattle.std.proofs.Common.{ℕ, ◌≡◌, ◌+◌, ◌-◌, ◌∷◌, arith, ap, refl, ◌∙◌}
+use Rattle.address_map.specs.Memory.{bytes_of}
 use Rattle.address_map.specs.declared.class.Class.{Class}
-use Rattle.flex_store.specs.Blocks.{Block, contents, holding, spliced, taken, used, whole_words}
-use Rattle.flex_store.specs.Memory.{text_of}
+use Rattle.flex_store.specs.Blocks.{contents, holding, spliced, taken}
 use Rattle.flex_store.specs.Relaid.{behind, first_at}
 use Rattle.flex_store.specs.Splices.{size_after}
-use Rattle.flex_store.specs.State.{IsText}
 use Rattle.flex_store.proofs.Sliding.{AreNumbers, IsWrittenText, as_read, numbers, relaid_from, replaced_step, room_for, unmarked}
 use Rattle.flex_store.proofs.slide.replace.Goals as goal
 
@@ -77,6 +74,6 @@ returns c =
     (holding (first_at c.args.map.now c.args.header) (spliced (contents (first_at c.args.map.now c.args.header)) c.args.splice.now.at c.args.splice.now.cut c.args.splice.now.more) ∷ behind c.args.map.now c.args.header c.args.end)
     w.text
     (λ a. ap (λ (k : ℕ → Class). k a) (c.put_word.ensures.marks ∙ c.respace.ensures.marks)
-        ∙ unmarked c.args.map.now c.unmark.new.map c.args.header c.args.end (first_at c.args.map.now c.args.header ∷ behind c.args.map.now c.args.header c.args.end) c.requires.text c.unmark.ensures.marks a)
+    ∙ unmarked c.args.map.now c.unmark.new.map c.args.header c.args.end (first_at c.args.map.now c.args.header ∷ behind c.args.map.now c.args.header c.args.end) c.requires.text c.unmark.ensures.marks a)
     (c.settle.ensures.layout ∙ (c.put_word.ensures.layout ∙ (c.respace.ensures.layout ∙ c.unmark.ensures.layout)))
     w.bytes c.settle.ensures.bytes c.settle.ensures.marks

@@ -1,4 +1,4 @@
-use Rattle.std.proofs.Common.{ℕ, ◌≡◌, ◌≤◌, ◌<◌, ◌+◌, ◌-◌, ◌*◌, ◌/◌, ◌++◌, List, arith, ap, sym, refl, ◌∙◌}
+use Rattle.std.proofs.Common.{ℕ, ◌≡◌, ◌≤◌, ◌<◌, ◌+◌, ◌-◌, List, arith, ap, refl, ◌∙◌}
 use Rattle.address_map.specs.Bytes.{bytes_between, with_bytes_at, with_moved_at}
 use Rattle.address_map.specs.Memory.{byte_at}
 use Rattle.flex_store.specs.Blocks.{filled, spliced, whole_words}
@@ -18,9 +18,9 @@ returns-then-new_end-old_end-clause-bytes c =
     let l : List ℕ = filled (spliced (bytes_between f k c.args.size) s.at s.cut s.more) in
     respaced_down f (byte_at c.move_bytes.new.self) k c.args.size w w' (c.args.end - (k + w)) s.at s.cut s.more c.requires.splice.at (omega arith) refl
     (λ a. c.move_bytes.ensures.bytes a
-        ∙ (ap (λ (n : ℕ). with_moved_at (byte_at c.splice_bytes.new.map) (k + n) (k + c.whole_words-2.result) (c.args.end - (k + n)) a) old
-        ∙ (ap (λ (n : ℕ). with_moved_at (byte_at c.splice_bytes.new.map) (k + w) (k + n) (c.args.end - (k + w)) a) new
-        ∙ ap (λ (g : ℕ → ℕ). with_moved_at g (k + w) (k + w') (c.args.end - (k + w)) a) (λ i x. c.splice_bytes.ensures.bytes x i))))
+    ∙ (ap (λ (n : ℕ). with_moved_at (byte_at c.splice_bytes.new.map) (k + n) (k + c.whole_words-2.result) (c.args.end - (k + n)) a) old
+    ∙ (ap (λ (n : ℕ). with_moved_at (byte_at c.splice_bytes.new.map) (k + w) (k + n) (c.args.end - (k + w)) a) new
+    ∙ ap (λ (g : ℕ → ℕ). with_moved_at g (k + w) (k + w') (c.args.end - (k + w)) a) (λ i x. c.splice_bytes.ensures.bytes x i))))
 
 pub returns-clause-bytes : goal.returns-clause-bytes
 returns-clause-bytes c =
@@ -33,9 +33,9 @@ returns-clause-bytes c =
     let new : c.whole_words-2.result ≡ w' = c.whole_words-2.ensures ∙ ap whole_words c.size_after.ensures in
     let more : k + c.whole_words.result ≤ k + c.whole_words-2.result = c.if-new_end-old_end.false in
     let moved : (x : ℕ) → byte_at c.move_bytes-2.new.self x ≡ with_moved_at f (k + w) (k + w') (c.args.end - (k + w)) x = λ x.
-        c.move_bytes-2.ensures.bytes x
-        ∙ (ap (λ (n : ℕ). with_moved_at f (k + n) (k + c.whole_words-2.result) (c.args.end - (k + n)) x) old
-        ∙ ap (λ (n : ℕ). with_moved_at f (k + w) (k + n) (c.args.end - (k + w)) x) new) in
+    c.move_bytes-2.ensures.bytes x
+    ∙ (ap (λ (n : ℕ). with_moved_at f (k + n) (k + c.whole_words-2.result) (c.args.end - (k + n)) x) old
+    ∙ ap (λ (n : ℕ). with_moved_at f (k + w) (k + n) (c.args.end - (k + w)) x) new) in
     respaced_up f (byte_at c.splice_bytes-2.new.map) k c.args.size w w' (c.args.end - (k + w)) s.at s.cut s.more c.requires.splice.at (omega arith) (omega arith) refl
     (λ a. c.splice_bytes-2.ensures.bytes a
-        ∙ ap (λ (g : ℕ → ℕ). with_bytes_at g k (filled (spliced (bytes_between g k c.args.size) s.at s.cut s.more)) a) (λ i x. moved x i))
+    ∙ ap (λ (g : ℕ → ℕ). with_bytes_at g k (filled (spliced (bytes_between g k c.args.size) s.at s.cut s.more)) a) (λ i x. moved x i))

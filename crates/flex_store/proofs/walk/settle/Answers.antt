@@ -1,12 +1,12 @@
-use Rattle.std.proofs.Common.{ℕ, ◌≡◌, ◌≤◌, ◌<◌, ◌+◌, ◌*◌, ◌/◌, ◌%◌, ◌^◌, true, arith, refl, ◌∙◌, ap, Bool, sym}
+use Rattle.std.proofs.Common.{ℕ, ◌≡◌, ◌+◌, true, arith, ◌∙◌, ap, Bool, sym}
 use Rattle.address_map.proofs.Bytes.{is_mapped-layout}
 use Rattle.address_map.specs.Bytes.{word_at, with_word_at}
-use Rattle.address_map.specs.Memory.{byte_at, class_of, is_mapped}
+use Rattle.address_map.specs.Memory.{byte_at, is_mapped}
 use Rattle.address_map.specs.Records.{with_class}
 use Rattle.address_map.specs.declared.class.Class.{Class}
 use Rattle.address_map.specs.declared.class.Class.TheVariants as class
-use Rattle.flex_store.specs.Blocks.{taken, whole_words}
-use Rattle.flex_store.proofs.Walks.{IsAhead, ahead, IsSettled, settling_all, settling_more}
+use Rattle.flex_store.specs.Blocks.{taken}
+use Rattle.flex_store.proofs.Walks.{ahead, settling_all, settling_more}
 use Rattle.flex_store.proofs.walk.settle.Goals as goal
 
 pub overflow_add-header : goal.overflow_add-header
@@ -69,9 +69,9 @@ loop-header-preserved c =
     rw (← next) (settling_more c.args.map.now c.args.at m p c.loop-header.header c.args.end c.loop-header-test.true c.loop-header.invariant
     (c.put_word.ensures.layout ∙ (c.mark-in-loop-header.ensures.layout ∙ c.mark.ensures.layout))
     (λ a. c.put_word.ensures.bytes a ∙ (ap (λ (f : ℕ → ℕ). with_word_at f c.word-anchor.result (c.loop-header.header + 8) a) bytes
-        ∙ ap (λ (w : ℕ). with_word_at (byte_at m) w (c.loop-header.header + 8) a) c.word-anchor.ensures))
+    ∙ ap (λ (w : ℕ). with_word_at (byte_at m) w (c.loop-header.header + 8) a) c.word-anchor.ensures))
     (λ a. ap (λ (f : ℕ → Class). f a) c.put_word.ensures.marks ∙ (c.mark-in-loop-header.ensures.marks a
-        ∙ ap (λ (f : ℕ → Class). with_class f (c.loop-header.header + 4) class.FlexHeader a) (λ i x. c.mark.ensures.marks x i))))
+    ∙ ap (λ (f : ℕ → Class). with_class f (c.loop-header.header + 4) class.FlexHeader a) (λ i x. c.mark.ensures.marks x i))))
 
 pub returns-clause-bytes : goal.returns-clause-bytes
 returns-clause-bytes c =

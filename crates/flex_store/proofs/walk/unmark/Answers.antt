@@ -1,12 +1,12 @@
-use Rattle.std.proofs.Common.{ℕ, ◌≡◌, ◌≤◌, ◌<◌, ◌+◌, ◌*◌, ◌/◌, ◌%◌, ◌^◌, true, arith, refl, ◌∙◌, ap, Bool, sym}
+use Rattle.std.proofs.Common.{ℕ, ◌≡◌, ◌+◌, arith, ◌∙◌, ap, Bool, sym}
 use Rattle.address_map.proofs.Bytes.{is_mapped-layout}
 use Rattle.address_map.specs.Bytes.{word_at}
-use Rattle.address_map.specs.Memory.{byte_at, class_of, is_mapped}
+use Rattle.address_map.specs.Memory.{byte_at}
 use Rattle.address_map.specs.Records.{with_class}
 use Rattle.address_map.specs.declared.class.Class.{Class}
 use Rattle.address_map.specs.declared.class.Class.TheVariants as class
-use Rattle.flex_store.specs.Blocks.{taken, whole_words}
-use Rattle.flex_store.proofs.Walks.{IsAhead, ahead, marking_all, marking_more}
+use Rattle.flex_store.specs.Blocks.{taken}
+use Rattle.flex_store.proofs.Walks.{ahead, marking_all, marking_more}
 use Rattle.flex_store.proofs.walk.unmark.Goals as goal
 
 pub overflow_add-header : goal.overflow_add-header
