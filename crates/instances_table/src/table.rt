@@ -4,7 +4,7 @@ ghost use Rattle.instances_table.specs.Names.{FullName};
 ghost use Rattle.std.specs.List.{list_any};
 ghost use Rattle.profile.specs.Outcome.{Gives, Leaves};
 ghost use Rattle.instances_table.specs.Changes.{is_held, free_slot, holds, is_named, is_new, with_module, new_module, with_instance, instantiated, named, renamed, with_preferred, preferring, without_instance, with_image_at};
-ghost use Rattle.instances_table.specs.Lookup.{number_of_title, number_of_call, place_meant, looked_up, information, instance_in, slot_in, told_of_module, told_of_place};
+ghost use Rattle.instances_table.specs.Lookup.{handler_of, number_of_title, number_of_call, place_meant, looked_up, information, instance_in, slot_in, told_of_module, told_of_place};
 
 use crate::changes::{push_slot, remove_instance, set_image, set_preferred};
 use crate::loaded::{
@@ -12,7 +12,7 @@ use crate::loaded::{
     number_of_call, number_of_title,
 };
 use crate::names::{FullName, is_instance_name, name_of};
-use crate::parts::{Image, Information, InstanceInfo, ModuleInfo, Name, Place};
+use crate::parts::{Handler, Image, Information, InstanceInfo, ModuleInfo, Name, Place};
 use arrayvec::ArrayVec;
 use module_header::Header;
 use profile::ErrorNumber;
@@ -77,6 +77,19 @@ impl InstanceTable {
     {
         let number = number_of_call(self.modules.as_slice(), call)?;
         Some(number as u32)
+    }
+
+    /// Where a SWI of that number is handled: by the oldest module whose chunk has it.
+    ///
+    /// RISC OS 3 Programmer's Reference Manual, "Modules", "SWI handler code".
+    #[tactic(auto, using(crate::proofs::ViewLemmas::view_steps, crate::proofs::HandlerLemmas::handler_below))]
+    pub fn handler_of(&self, call: u32) -> Option<Handler>
+        ensures value { result ≡ handler_of call self.now }
+        ensures below { IfSome result (λ h. h.slot < 64) }
+    {
+        let number = self.with_chunk(call)?;
+        let loaded = self.modules.as_slice().get(number as usize)?;
+        Some(loaded.handled())
     }
 
     /// The instance that a name means: `Title%Name`, or the preferred one of `Title`, whatever the case of the letters.
