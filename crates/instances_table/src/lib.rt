@@ -2,6 +2,7 @@
 #![tactic(auto)]
 
 mod changes;
+pub mod editing;
 mod loaded;
 mod names;
 pub mod parts;
