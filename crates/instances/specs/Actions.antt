@@ -1,6 +1,6 @@
 -- What each action of a plan does to the world, before its code runs; and the code that it runs (RISC OS 3 Programmer's Reference Manual, "Modules",
 -- "Initialisation entry point", "Finalisation entry point"). An action of a slot that no instance has does nothing to the list.
-use Rattle.std.specs.Prelude.{ℕ, Bool, true, false, ◌+◌, ◌==◌, List, Option, Some, None, slice_get, if◌then◌else◌}
+use Rattle.std.specs.Prelude.{ℕ, Bool, true, false, ◌+◌, ◌%◌, ◌^◌, ◌==◌, List, Option, Some, None, slice_get, if◌then◌else◌}
 use Rattle.instances_plans.specs.declared.action.Action.{Action}
 use Rattle.instances_plans.specs.declared.action.Action.TheVariants as act
 use Rattle.instances_plans.specs.declared.code.Code.{Code}
@@ -43,7 +43,7 @@ acted slide g w (act.Initialise slot) = record w { estate = with_text w.estate g
 abbrev pub code_at : CodeKind → ℕ → ℕ → ℕ → ℕ → Module → Option Code
 code_at kind slot entry r10 number m =
     if entry == 0 then None
-    else Some (record { kind = kind; slot = slot; at = m.image.at + entry; r10 = r10; r11 = number; r12 = private_of slot })
+    else Some (record { kind = kind; slot = slot; at = (m.image.at + entry) % 2 ^ 32; r10 = r10; r11 = number; r12 = private_of slot })
 
 abbrev pub fatal_word : Bool → ℕ
 fatal_word true = 1
