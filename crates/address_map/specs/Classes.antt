@@ -3,6 +3,14 @@ use Rattle.std.specs.Prelude.{ℕ, Bool, true, false, ◌/◌, ◌%◌, ◌==◌
 use Rattle.address_map.specs.declared.class.Class.{Class}
 use Rattle.address_map.specs.declared.class.Class.TheVariants.{Plain, Heap, FlexHeader, Anchor}
 
+abbrev pub is_heap_class : Class → Bool
+is_heap_class Heap = true
+is_heap_class other = false
+
+abbrev pub is_flex_header : Class → Bool
+is_flex_header FlexHeader = true
+is_flex_header other = false
+
 abbrev pub is_anchor : Class → Bool
 is_anchor Anchor = true
 is_anchor other = false

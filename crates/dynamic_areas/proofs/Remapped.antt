@@ -1,14 +1,17 @@
 -- The store after pages were mapped, or taken away: memory spells the same heaps, and the store stays sound.
-use Rattle.std.proofs.Common.{◌≡◌, ℕ, ◌+◌, ◌<◌, ◌≤◌, ◌&&◌, ◌||◌, not, leb, true, false, List, [], ◌∷◌, refl, sym, ap, ◌∙◌}
-use Rattle.std.proofs.lemmas.Bool.{le-leb, lt-ltb, leb-true, ltb-true, and_parts, false≢true, false_from_ne_true}
+use Rattle.std.proofs.Common.{◌≡◌, ℕ, ◌+◌, ◌<◌, ◌≤◌, ◌&&◌, ◌||◌, not, leb, true, false, List, [], ◌∷◌, refl, sym, ap, ◌∙◌, inl, inr}
+use Rattle.std.proofs.lemmas.Bool.{cases_Bool, le-leb, lt-ltb, leb-true, ltb-true, and_parts, false≢true, false_from_ne_true}
 use Rattle.std.proofs.Math.Dec.{ltb}
 use Rattle.address_map.specs.declared.map.AddressMap.{AddressMap}
 use Rattle.address_map.specs.declared.item.Item.{Item}
 use Rattle.address_map.specs.Bytes.{Bytes, in_range, AreMapped, AreUnmapped, with_zeros_at}
-use Rattle.address_map.specs.Memory.{is_mapped, byte_at, bytes_of, regions}
+use Rattle.address_map.specs.Classes.{is_flex_header, is_anchor}
+use Rattle.address_map.specs.Memory.{is_mapped, byte_at, bytes_of, regions, class_of}
+use Rattle.address_map.specs.Records.{with_plain_at}
 use Rattle.os_heap_lists.specs.Heap.{HeapList, IsHeapIn}
 use Rattle.os_heap_lists.proofs.HeapWords.{heap_kept}
 use Rattle.os_heap.specs.Store.{Store, store_of, IsSound, AreHeapsIn, IsClearOfHeaps, AreClear}
+use Rattle.os_heap.proofs.FlexWords.{AreSameFlex, same_flex}
 use Rattle.os_heap.proofs.Frame.{store_spelled}
 use Rattle.os_heap.proofs.Stores.{clear_both_ways}
 use Rattle.dynamic_areas.specs.Remapped.{with_pages_at, without_pages_at}
@@ -59,13 +62,15 @@ heaps_remapped b c at len (h ∷ hs) change clear parts =
     )
 
 pub sound_remapped : (s : Store) (c : Bytes) (at len : ℕ) → IsSound s → ChangesWithin s.bytes c at len → IsClearOfHeaps at len s.heaps
-    → IsSound (record { bytes = c; heaps = s.heaps; others = s.others })
+    → IsSound (record s { bytes = c })
 sound_remapped s c at len sound change clear = record {
   heaps = heaps_remapped s.bytes c at len s.heaps change clear sound.heaps;
   limits = sound.limits;
   placed = sound.placed;
   apart = sound.apart;
   few = sound.few;
+  anchors = sound.anchors;
+  headers = sound.headers;
 }
 
 -- a range that is not mapped meets no heap
@@ -102,22 +107,37 @@ sound_shrunk s at len sound clear =
 -- the store of a map after its pages changed
 pub store_grown : (m n : AddressMap) (at len : ℕ) → IsSound (store_of m) → AreUnmapped (is_mapped m) at len
     → ((a : ℕ) → is_mapped n a ≡ (in_range at len a || is_mapped m a)) → ((a : ℕ) → byte_at n a ≡ byte_at m a) → regions n ≡ regions m
-    → store_of n ≡ with_pages_at (store_of m) at len
+    → class_of n ≡ class_of m → store_of n ≡ with_pages_at (store_of m) at len
 unfolding store_of
-store_grown m n at len sound unmapped mapped bytes same =
+store_grown m n at len sound unmapped mapped bytes same marks =
     let c : Bytes = record { mapped = λ a. in_range at len a || is_mapped m a; at = byte_at m } in
     let now : bytes_of n ≡ c = λ i. record { mapped = λ a. mapped a i; at = λ a. bytes a i } in
     let kept : IsSound (with_pages_at (store_of m) at len) = sound_grown (store_of m) at len sound unmapped in
     let heaps : AreHeapsIn (bytes_of n) (store_of m).heaps = rw now kept.heaps in
-    store_spelled m n same heaps ∙ ap (λ (b : Bytes). let t : Store = record { bytes = b; heaps = (store_of m).heaps; others = (store_of m).others } in t) now
+    store_spelled m n same heaps (same_flex (class_of m) (class_of n) marks) ∙ ap (λ (b : Bytes). let t : Store = record (store_of m) { bytes = b } in t) now
+
+-- no word of the flex store goes with pages
+flex_unmapped : (m n : AddressMap) (at len : ℕ) → IsSound (store_of m) → ((a : ℕ) → class_of n a ≡ with_plain_at (class_of m) at len a)
+    → AreSameFlex (class_of m) (class_of n)
+unfolding store_of
+flex_unmapped m n at len sound marks = record {
+  anchors = λ a. elim (cases_Bool (in_range at len a)) [
+    | inl inside ↦ ap is_anchor (marks a) ∙ rw inside (sym (sound.anchors a))
+    | inr outside ↦ ap is_anchor (marks a) ∙ rw outside refl
+  ];
+  headers = λ a. elim (cases_Bool (in_range at len a)) [
+    | inl inside ↦ ap is_flex_header (marks a) ∙ rw inside (sym (sound.headers a))
+    | inr outside ↦ ap is_flex_header (marks a) ∙ rw outside refl
+  ];
+}
 
 pub store_shrunk : (m n : AddressMap) (at len : ℕ) → IsSound (store_of m) → IsClearOfHeaps at len (store_of m).heaps
     → ((a : ℕ) → is_mapped n a ≡ (is_mapped m a && not (in_range at len a))) → ((a : ℕ) → byte_at n a ≡ with_zeros_at (byte_at m) at len a)
-    → regions n ≡ regions m → store_of n ≡ without_pages_at (store_of m) at len
+    → regions n ≡ regions m → ((a : ℕ) → class_of n a ≡ with_plain_at (class_of m) at len a) → store_of n ≡ without_pages_at (store_of m) at len
 unfolding store_of
-store_shrunk m n at len sound clear mapped bytes same =
+store_shrunk m n at len sound clear mapped bytes same marks =
     let c : Bytes = record { mapped = λ a. is_mapped m a && not (in_range at len a); at = with_zeros_at (byte_at m) at len } in
     let now : bytes_of n ≡ c = λ i. record { mapped = λ a. mapped a i; at = λ a. bytes a i } in
     let kept : IsSound (without_pages_at (store_of m) at len) = sound_shrunk (store_of m) at len sound clear in
     let heaps : AreHeapsIn (bytes_of n) (store_of m).heaps = rw now kept.heaps in
-    store_spelled m n same heaps ∙ ap (λ (b : Bytes). let t : Store = record { bytes = b; heaps = (store_of m).heaps; others = (store_of m).others } in t) now
+    store_spelled m n same heaps (flex_unmapped m n at len sound marks) ∙ ap (λ (b : Bytes). let t : Store = record (store_of m) { bytes = b } in t) now

@@ -7,13 +7,12 @@ use Rattle.address_map.specs.declared.map.AddressMap.{AddressMap}
 use Rattle.address_map.specs.declared.region.Kind.TheVariants.{Heap, Rma}
 use Rattle.address_map.specs.Bytes.{in_range}
 use Rattle.address_map.specs.Memory.{Mapping, mapping, is_mapped, byte_at, bytes_of, regions, free_pages, class_of}
-use Rattle.address_map.specs.declared.class.Class.TheVariants as class
 use Rattle.os_heap_lists.specs.Heap.{HeapList}
 use Rattle.os_heap.specs.Calls.{begun_with}
 use Rattle.os_heap.specs.Ranges.{MayBegin}
 use Rattle.os_heap.specs.Store.{Store, store_of, AreClasses, IsSound, AreClear}
 use Rattle.os_heap.proofs.Added.{records_room}
-use Rattle.os_heap.proofs.Frame.{classes_empty, classes_same}
+use Rattle.os_heap.proofs.Frame.{classes_same}
 use Rattle.os_heap.proofs.Recorded.{store_recorded, recorded_sound}
 use Rattle.dynamic_areas.specs.Areas.{start_land}
 use Rattle.dynamic_areas.specs.Ground.{AreAreas, is_fixed, is_land, system_pages}
@@ -49,14 +48,14 @@ start_heap s = record { kind = Rma; start = 0x01800000; end = 4096 * s.rma; item
 pub start_areas : (m n o : AddressMap) (s : Sizes) → AreGood s → regions m ≡ [] → ((x : ℕ) → is_mapped m x ≡ is_land (start_land s) x)
     → free_pages m + (s.app + s.rma + 3) ≡ s.pages → store_of n ≡ begun_with Rma (store_of m) 0x01800000 (4096 * s.rma) → IsSound (store_of n)
     → mapping n ≡ mapping m → regions o ≡ regions n ++ system_pages ∷ [] → mapping o ≡ mapping n → byte_at o ≡ byte_at n
-    → AreAreas (store_of o) (free_pages o) (start_land s)
+    → ((x : ℕ) → class_of o x ≡ class_of n x) → AreAreas (store_of o) (free_pages o) (start_land s)
 unfolding store_of
-start_areas m n o s good none mapped pool begun sound map_n records map_o bytes =
+start_areas m n o s good none mapped pool begun sound map_n records map_o bytes marks =
     let some : 1 ≤ s.rma = good.has_rma in
     let most : s.pages ≤ 1024 = good.in_limit in
     let fits : s.app + s.rma + 3 ≤ s.pages = good.has_room in
     let same : bytes_of o ≡ bytes_of n = λ i. record { mapped = λ a. is_some ((map_o i).place a); at = bytes i } in
-    let store = store_recorded n o system_pages refl records same in
+    let store = store_recorded n o system_pages refl records same marks in
     let heaps : (store_of n).heaps ≡ start_heap s ∷ [] =
     ap (λ (t : Store). t.heaps) begun ∙ ap (λ (hs : List HeapList). hs ++ start_heap s ∷ []) (no_heaps m none) in
     let others : (store_of n).others ≡ [] = ap (λ (t : Store). t.others) begun ∙ no_others m none in
@@ -93,9 +92,9 @@ start_room m n s none begun sound =
     records_room n Heap 0 sound (rw heaps refl)
 
 -- and the words that are marked there are those that the heap spells
-pub start_classes : (m n o : AddressMap) → regions m ≡ [] → ((x : ℕ) → class_of m x ≡ class.Plain) → (AreClasses m → AreClasses n)
+pub start_classes : (n o : AddressMap) → AreClasses n
     → regions o ≡ regions n ++ system_pages ∷ [] → mapping o ≡ mapping n → byte_at o ≡ byte_at n → ((x : ℕ) → class_of o x ≡ class_of n x) → AreClasses o
-start_classes m n o none plain begun records map_o bytes marks =
+start_classes n o classes records map_o bytes marks =
     let same : bytes_of o ≡ bytes_of n = λ i. record { mapped = λ a. is_some ((map_o i).place a); at = bytes i } in
-    let store = store_recorded n o system_pages refl records same in
-    classes_same n o (ap (λ (t : Store). t.heaps) store) marks (begun (classes_empty m none plain))
+    let store = store_recorded n o system_pages refl records same marks in
+    classes_same n o (ap (λ (t : Store). t.heaps) store) marks classes

@@ -1,5 +1,5 @@
 -- A heap more, behind all others: its descriptor is written, and its range recorded.
-use Rattle.std.proofs.Common.{cond, subst, Bool, arith, inl, ◌+◌, ◌≡◌, ℕ, true, inr, suc, zero, refl, false, [], List, ◌∷◌, ◌++◌, ◌≤◌, ◌%◌, ◌==◌, ◌&&◌, ◌-◌, leb, ◌^◌, ◌<◌, ◌⊎◌, ◌∙◌, sym, ◌↔◌, ◌||◌, length, Err, Ok}
+use Rattle.std.proofs.Common.{ap, cond, subst, Bool, arith, inl, ◌+◌, ◌≡◌, ℕ, true, inr, suc, zero, refl, false, [], List, ◌∷◌, ◌++◌, ◌≤◌, ◌%◌, ◌==◌, ◌&&◌, ◌-◌, leb, ◌^◌, ◌<◌, ◌⊎◌, ◌∙◌, sym, ◌↔◌, ◌||◌, length, Err, Ok}
 use Rattle.std.proofs.lemmas.Bool.{cases_lt, and_parts, both_ways, false_from_ne_true, or_parts, leb-true, eqb-true, le-leb, lt-ltb, cases_Bool, false≢true, eq-eqb, leb-false}
 use Rattle.std.proofs.lemmas.Bool.Decides.{nat_tests}
 use Rattle.std.specs.List.{list_any}
@@ -7,6 +7,7 @@ use Rattle.profile.specs.declared.error.ErrorNumber.TheVariants.{HeapBadRegion, 
 use Rattle.address_map.proofs.Spans.{mapped_below}
 use Rattle.address_map.specs.Bytes.{AreMapped, in_range, word_start, Bytes, with_word_at, word_at}
 use Rattle.address_map.specs.Items.{items_in}
+use Rattle.address_map.specs.Classes.{is_flex_header, is_anchor}
 use Rattle.address_map.specs.Memory.{is_mapped, bytes_of, byte_at, class_of, regions}
 use Rattle.address_map.specs.Records.{is_heap_kind, with_region}
 use Rattle.address_map.specs.declared.class.Class.TheVariants as class
@@ -16,6 +17,7 @@ use Rattle.address_map.specs.declared.region.Region.{Region}
 use Rattle.os_heap_lists.proofs.Reading.{items_in-heap}
 use Rattle.os_heap_lists.specs.Heap.{HeapList, IsHeapIn, with_heap}
 use Rattle.os_heap.proofs.Held.{AreBy, marks_begun}
+use Rattle.os_heap.proofs.FlexWords.{AreSameFlex}
 use Rattle.os_heap.proofs.Frame.{clear_parts, heaps_in-spelled}
 use Rattle.os_heap.specs.Ranges.{are_mapped, meets, is_heap_region, meets_any, HasRoom, MayBegin}
 use Rattle.os_heap.specs.Store.{AreClasses, AreClear, IsClearOfHeaps, AreHeapsIn, ArePlaced, Store, IsSound, heap_in, heaps_in, others_in, store_of, IsImageIn, is_area, guest_count, area_count, StandAreas, AreInLimits}
@@ -264,6 +266,8 @@ begun_sound k s at size may sound =
       placed = others_more s.heaps (empty k at size) s.others sound.placed none.1;
       apart = sound.apart;
       few = sound.few;
+      anchors = sound.anchors;
+      headers = sound.headers;
     }
 
 -- the record with a heap more
@@ -298,9 +302,9 @@ recorded rs kind.SystemPage at len heap = absurd (false≢true heap)
 pub store_begun : (m n : AddressMap) (k : Kind) (at size : ℕ) → is_heap_kind k ≡ true → MayBegin k (store_of m) at size → IsSound (store_of m)
     → regions n ≡ regions m ++ record { kind = k; at = at; len = size } ∷ []
     → bytes_of n ≡ record { mapped = is_mapped m; at = with_heap (byte_at m) at size [] }
-    → store_of n ≡ begun_with k (store_of m) at size
+    → AreSameFlex (class_of m) (class_of n) → store_of n ≡ begun_with k (store_of m) at size
 unfolding store_of
-store_begun m n k at size heap may sound records bytes =
+store_begun m n k at size heap may sound records bytes flex =
     let c : Bytes = record { mapped = is_mapped m; at = with_heap (byte_at m) at size [] } in
     let r : Region = record { kind = k; at = at; len = size } in
     let old : heaps_in c (regions m) ≡ heaps_in (bytes_of m) (regions m) =
@@ -310,7 +314,13 @@ store_begun m n k at size heap may sound records bytes =
     let heaps : heaps_in c (regions m ++ r ∷ []) ≡ heaps_in (bytes_of m) (regions m) ++ empty k at size ∷ [] =
     heaps_in-more c (regions m) r heap ∙ (rw (old, items) refl) in
     let others : others_in (regions m ++ r ∷ []) ≡ others_in (regions m) = others_in-more (regions m) r heap in
-    rw (bytes, records) (λ i. record { bytes = c; heaps = heaps i; others = others i })
+    rw (bytes, records) (λ i. record {
+      bytes = c;
+      heaps = heaps i;
+      others = others i;
+      anchor = λ a. flex.anchors a i;
+      header = λ a. flex.headers a i;
+    })
 
 -- the tests that the code makes
 same_tests : (t u : Bool) → (t ≡ true → u ≡ true) → (u ≡ true → t ≡ true) → t ≡ u
@@ -383,9 +393,17 @@ pub range_end : (m : AddressMap) (at len : ℕ) → AreMapped (is_mapped m) at l
 range_end m at len mapped some = omega (arith, mapped_below m (at + len - 1) (mapped (at + len - 1) (omega arith) (omega arith)))
 
 -- a store with no record is sound
-pub sound_empty : (m : AddressMap) → regions m ≡ [] → IsSound (store_of m)
+pub sound_empty : (m : AddressMap) → regions m ≡ [] → ((a : ℕ) → class_of m a ≡ class.Plain) → IsSound (store_of m)
 unfolding store_of
-sound_empty m none = rw none (record { heaps = tt; limits = record { guests = omega arith; areas = omega arith; place = tt }; placed = tt; apart = tt; few = omega arith })
+sound_empty m none plain = rw none (record {
+  heaps = tt;
+  limits = record { guests = omega arith; areas = omega arith; place = tt };
+  placed = tt;
+  apart = tt;
+  few = omega arith;
+  anchors = λ a. ap is_anchor (plain a);
+  headers = λ a. ap is_flex_header (plain a);
+})
 
 -- the marks with a heap more
 pub classes_begun : (m n : AddressMap) (k : Kind) (at size : ℕ) → store_of n ≡ begun_with k (store_of m) at size

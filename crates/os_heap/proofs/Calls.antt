@@ -18,9 +18,10 @@ use Rattle.os_heap_lists.specs.Counts.{looked_at, begun_below}
 use Rattle.os_heap_lists.specs.Heap.{HeapList, IsHeapIn}
 use Rattle.os_heap_lists.specs.Marks.{AreMarked, Remarks}
 use Rattle.os_heap_lists.specs.Lists.{Claim, claimed, total_for, released, live_total}
+use Rattle.os_heap.proofs.FlexWords.{IsUnflexed, AreUnflexed, AreSameFlex, flex_held}
 use Rattle.os_heap.proofs.Found.{found_heap}
 use Rattle.os_heap.proofs.Held.{AreBy, heads_marked, marks_held}
-use Rattle.os_heap.proofs.Stores.{sound_held, store_held}
+use Rattle.os_heap.proofs.Stores.{KeepsImages, sound_held, store_held}
 use Rattle.os_heap.specs.Outcomes.{Becomes, items_at, HasHeapAt, Claims, end_at, Releases}
 use Rattle.os_heap.specs.Store.{heap_in, find_heap, store_of, IsSound, AreClasses, heaps_in, others_in, has_image, is_image, Store}
 use Rattle.os_heap.specs.Calls.{got, gave_back, holding, unless_image}
@@ -45,58 +46,85 @@ heap_there kind m heap end sound found =
     let h : IsHeapIn (bytes_of m) heap end (items_at m heap) = heap_of-part kind m heap end sound found in
     subst (λ (e : ℕ). IsHeapIn (bytes_of m) heap e (items_at m heap)) (sym h.limit) h
 
--- the classes after a heap got another list
-pub classes_held : (m n : AddressMap) (h : HeapList) (items : List Item) → IsSound (store_of m) → find_heap h.start (store_of m).heaps ≡ Some h
-    → h.items ≡ items_at m h.start → Becomes m n h.start h.end items → AreClasses m → AreClasses n
-classes_held m n h items sound found list b same =
-    let s : Store = store_of m in
+-- the marks after a heap got another list
+marks_changed : (m n : AddressMap) (h : HeapList) (items : List Item) → find_heap h.start (store_of m).heaps ≡ Some h
+    → h.items ≡ items_at m h.start → Becomes m n h.start h.end items → AreClasses m → Remarks (class_of m) (class_of n) (h.start + 16) h.items items
+marks_changed m n h items found list b same =
     let change : AreMarked (class_of m) (h.start + 16) h.items → Remarks (class_of m) (class_of n) (h.start + 16) h.items items =
     subst (λ (xs : List Item). AreMarked (class_of m) (h.start + 16) xs → Remarks (class_of m) (class_of n) (h.start + 16) xs items) (sym list) b.marks in
-    subst (λ (t : Store). AreBy (class_of n) t.heaps) (sym (store_held m n h items sound found b))
-    (marks_held s.bytes (class_of m) (class_of n) h items s.heaps sound.heaps found same (change (heads_marked (class_of m) s.heaps h same found)))
+    change (heads_marked (class_of m) (store_of m).heaps h same found)
+
+-- no word that becomes a head is one of the flex store's
+pub unflexed : (m : AddressMap) → IsSound (store_of m) → (a : ℕ) → IsUnflexed (class_of m a)
+unfolding store_of
+unflexed m sound a = record { anchor = sound.anchors a; header = sound.headers a }
+
+-- what is so after a heap got another list
+pub record IsHeld (m n : AddressMap) (h : HeapList) (items : List Item) : Type 0 where
+  pub store : store_of n ≡ holding (store_of m) h items
+  pub sound : IsSound (store_of n)
+  pub classes : AreClasses n
+
+pub is_held : (m n : AddressMap) (h : HeapList) (items : List Item) → IsSound (store_of m) → AreClasses m → find_heap h.start (store_of m).heaps ≡ Some h
+    → h.items ≡ items_at m h.start → KeepsImages (store_of m).others h.start h.items items → Becomes m n h.start h.end items → IsHeld m n h items
+is_held m n h items sound classes found list kept b =
+    let s : Store = store_of m in
+    let change : Remarks (class_of m) (class_of n) (h.start + 16) h.items items = marks_changed m n h items found list b classes in
+    let flex : AreSameFlex (class_of m) (class_of n) =
+    flex_held (class_of m) (class_of n) (h.start + 16) h.items items (heads_marked (class_of m) s.heaps h classes found) change (λ a _. unflexed m sound a) in
+    let store : store_of n ≡ holding s h items = store_held m n h items sound found b flex in
+    record {
+      store = store;
+      sound = sound_held m n h items sound found kept b flex;
+      classes = subst (λ (t : Store). AreBy (class_of n) t.heaps) (sym store)
+          (marks_held s.bytes (class_of m) (class_of n) h items s.heaps sound.heaps found classes change);
+    }
 
 -- what a call on the heap leaves: memory, and whether all is sound
 pub record IsGiven (A : Type 0) (m n : AddressMap) (outcome : Result (Store × A) ErrorNumber) (answer : Result A ErrorNumber) : Type 0 where
   pub store : Gives (store_of m) outcome answer (store_of n)
   pub sound : IsSound (store_of n)
   pub same : layout n ≡ layout m
-  pub classes : AreClasses m → AreClasses n
+  pub classes : AreClasses n
 
-pub gives_none : (A : Type 0) (m n : AddressMap) (e : ErrorNumber) (answer : Result A ErrorNumber) → IsSound (store_of m) → answer ≡ Err e → n ≡ m
+pub gives_none : (A : Type 0) (m n : AddressMap) (e : ErrorNumber) (answer : Result A ErrorNumber) → IsSound (store_of m) → AreClasses m → answer ≡ Err e → n ≡ m
     → IsGiven A m n (Err e) answer
-gives_none A m n e answer sound refused same = record {
+gives_none A m n e answer sound classes refused same = record {
   store = rw refused (refl, ap store_of same);
   sound = rw same sound;
   same = ap layout same;
-  classes = rw same (λ classes. classes);
+  classes = rw same classes;
 }
 
 -- the claim, by the list that it leaves
 abbrev pub claimed_in : Store → HeapList → Option Claim → Result (Store × ℕ) ErrorNumber
 claimed_in s h o = bind (ok_or o HeapNoRoom) (λ c. Ok (holding s h c.items, h.start + 16 + c.offset + 4))
 
-pub gives_claim : (kind : Kind) (m n : AddressMap) (heap end : ℕ) (answer : Result ℕ ErrorNumber) (c : Option Claim) → IsSound (store_of m)
+pub gives_claim : (kind : Kind) (m n : AddressMap) (heap end : ℕ) (answer : Result ℕ ErrorNumber) (c : Option Claim) → IsSound (store_of m) → AreClasses m
     → find_heap heap (store_of m).heaps ≡ Some (part_at kind m heap end)
     → ((b t : ℕ) → live_total b (heap + 16) (items_at m heap) ≡ Some t → IsStill b t (heap + 16) c) → Claims m n heap end answer c
     → IsGiven ℕ m n (claimed_in (store_of m) (part_at kind m heap end) c) answer
-gives_claim kind m n heap end answer None sound found still claims = gives_none ℕ m n HeapNoRoom answer sound claims.0 claims.1
-gives_claim kind m n heap end answer (Some c) sound found still claims = record {
-  store = rw claims.0 (store_held m n (part_at kind m heap end) c.items sound found claims.1, refl);
-  sound = sound_held m n (part_at kind m heap end) c.items sound found (λ b t is live. still b t live) claims.1;
-  same = claims.1.same;
-  classes = classes_held m n (part_at kind m heap end) c.items sound found refl claims.1;
-}
+gives_claim kind m n heap end answer None sound classes found still claims = gives_none ℕ m n HeapNoRoom answer sound classes claims.0 claims.1
+gives_claim kind m n heap end answer (Some c) sound classes found still claims =
+    let held : IsHeld m n (part_at kind m heap end) c.items =
+    is_held m n (part_at kind m heap end) c.items sound classes found refl (λ b t is live. still b t live) claims.1 in
+    record {
+      store = rw claims.0 (held.store, refl);
+      sound = held.sound;
+      same = claims.1.same;
+      classes = held.classes;
+    }
 
-pub get_given : (kind : Kind) (m n : AddressMap) (heap size end : ℕ) (answer : Result ℕ ErrorNumber) → IsSound (store_of m)
+pub get_given : (kind : Kind) (m n : AddressMap) (heap size end : ℕ) (answer : Result ℕ ErrorNumber) → IsSound (store_of m) → AreClasses m
     → find_heap heap (store_of m).heaps ≡ Some (part_at kind m heap end)
     → Claims m n heap (end_at m heap) answer (claimed (total_for size) (end_at m heap - 16) (items_at m heap))
     → IsGiven ℕ m n (got (store_of m) heap size) answer
 unfolding got
-get_given kind m n heap size end answer sound found claims =
+get_given kind m n heap size end answer sound classes found claims =
     let there : IsHeapIn (bytes_of m) heap end (items_at m heap) = heap_of-part kind m heap end sound found in
     let still : (b t : ℕ) → live_total b (heap + 16) (items_at m heap) ≡ Some t → IsStill b t (heap + 16) (claimed (total_for size) (end - 16) (items_at m heap)) =
     λ b t live. claim_still (total_for size) (end - 16) b t (heap + 16) (items_at m heap) live there.totals in
-    rw found (gives_claim kind m n heap end answer (claimed (total_for size) (end - 16) (items_at m heap)) sound found still
+    rw found (gives_claim kind m n heap end answer (claimed (total_for size) (end - 16) (items_at m heap)) sound classes found still
     (subst (λ (e : ℕ). Claims m n heap e answer (claimed (total_for size) (e - 16) (items_at m heap))) there.limit claims))
 
 pub get_refused : (m : AddressMap) (heap size : ℕ) → find_heap heap (store_of m).heaps ≡ None → got (store_of m) heap size ≡ Err HeapBadDesc
@@ -140,17 +168,21 @@ image_apart b block rs is none same = both_ways (has_image block rs) none (subst
 abbrev pub released_in : Store → HeapList → Option (List Item) → Result (Store × Unit {0}) ErrorNumber
 released_in s h o = bind (ok_or o HeapNotABlock) (λ items. Ok (holding s h items, tt))
 
-pub gives_release : (kind : Kind) (m n : AddressMap) (heap end : ℕ) (answer : Result (Unit {0}) ErrorNumber) (o : Option (List Item)) → IsSound (store_of m)
+pub gives_release : (kind : Kind) (m n : AddressMap) (heap end : ℕ) (answer : Result (Unit {0}) ErrorNumber) (o : Option (List Item)) → IsSound (store_of m) → AreClasses m
     → find_heap heap (store_of m).heaps ≡ Some (part_at kind m heap end)
     → ((b t : ℕ) → has_image b (store_of m).others ≡ true → live_total b (heap + 16) (items_at m heap) ≡ Some t → IsStillIn b t (heap + 16) o)
     → Releases m n heap end answer o → IsGiven (Unit {0}) m n (released_in (store_of m) (part_at kind m heap end) o) answer
-gives_release kind m n heap end answer None sound found still releases = gives_none (Unit {0}) m n HeapNotABlock answer sound releases.0 releases.1
-gives_release kind m n heap end answer (Some items) sound found still releases = record {
-  store = rw releases.0 (store_held m n (part_at kind m heap end) items sound found releases.1, refl);
-  sound = sound_held m n (part_at kind m heap end) items sound found still releases.1;
-  same = releases.1.same;
-  classes = classes_held m n (part_at kind m heap end) items sound found refl releases.1;
-}
+gives_release kind m n heap end answer None sound classes found still releases =
+    gives_none (Unit {0}) m n HeapNotABlock answer sound classes releases.0 releases.1
+gives_release kind m n heap end answer (Some items) sound classes found still releases =
+    let held : IsHeld m n (part_at kind m heap end) items =
+    is_held m n (part_at kind m heap end) items sound classes found refl still releases.1 in
+    record {
+      store = rw releases.0 (held.store, refl);
+      sound = held.sound;
+      same = releases.1.same;
+      classes = held.classes;
+    }
 
 guest_still : (b t block at : ℕ) (rs : List Region) (xs : List Item) → has_image b rs ≡ true → live_total b at xs ≡ Some t
     → IsStillIn b t at (unless_image (has_image block rs) (released block at xs))
@@ -159,18 +191,18 @@ guest_still b t block at rs xs is live = elim (cases_Bool (has_image block rs)) 
   | inr own ↦ rw own (release_still b block t at xs (image_apart b block rs is own) live)
 ]
 
-pub free_given : (kind : Kind) (m n : AddressMap) (heap block end : ℕ) (answer : Result (Unit {0}) ErrorNumber) → IsSound (store_of m)
+pub free_given : (kind : Kind) (m n : AddressMap) (heap block end : ℕ) (answer : Result (Unit {0}) ErrorNumber) → IsSound (store_of m) → AreClasses m
     → find_heap heap (store_of m).heaps ≡ Some (part_at kind m heap end)
     → Releases m n heap (end_at m heap) answer (unless_image (has_image block (regions m)) (released block (heap + 16) (items_at m heap)))
     → IsGiven (Unit {0}) m n (gave_back (store_of m) heap block) answer
 unfolding gave_back
-free_given kind m n heap block end answer sound found releases =
+free_given kind m n heap block end answer sound classes found releases =
     let limit : end_at m heap ≡ end = (heap_of-part kind m heap end sound found).limit in
     let rs : List Region = (store_of m).others in
     let o : Option (List Item) = unless_image (has_image block rs) (released block (heap + 16) (items_at m heap)) in
     let here : Releases m n heap end answer o =
     rw (image_recorded m block) (subst (λ (e : ℕ). Releases m n heap e answer (unless_image (has_image block (regions m)) (released block (heap + 16) (items_at m heap)))) limit releases) in
-    rw found (gives_release kind m n heap end answer o sound found (λ b t is live. guest_still b t block (heap + 16) rs (items_at m heap) is live) here)
+    rw found (gives_release kind m n heap end answer o sound classes found (λ b t is live. guest_still b t block (heap + 16) rs (items_at m heap) is live) here)
 
 pub free_refused : (m : AddressMap) (heap block : ℕ) → find_heap heap (store_of m).heaps ≡ None → gave_back (store_of m) heap block ≡ Err HeapBadDesc
 unfolding gave_back

@@ -23,6 +23,7 @@ use Rattle.os_heap_lists.specs.Words.{IsWritten, AreApart}
 use Rattle.os_heap.proofs.Added.{CanHold, clear_unless, clear_of_heaps, can_hold}
 use Rattle.os_heap.proofs.Found.{found_heap}
 use Rattle.os_heap.proofs.Held.{AreBy, marks_ended}
+use Rattle.os_heap.proofs.FlexWords.{AreSameFlex, same_flex}
 use Rattle.os_heap.proofs.Stores.{SamePlaces, same_limits, AreOthers, clear_both_ways, clear_of-found, are_others, bytes_held}
 use Rattle.os_heap.specs.Calls.{with_end, has_own_size, ending}
 use Rattle.os_heap.specs.Ranges.{MayEnd, meets, meets_any}
@@ -378,37 +379,47 @@ all_beside m n h end e =
     (are_others (bytes_of m) h.start (heaps_in (bytes_of m) (regions m)) h e.sound.heaps e.found) (heaps_clear (store_of m) h end e.may)
 
 pub store_ended : (m n o : AddressMap) (h : HeapList) (end : ℕ) → EndsAt m n h end → bytes_of o ≡ bytes_of n
-    → regions o ≡ with_len (regions m) h.kind h.start end → store_of o ≡ ending (store_of m) h end
+    → regions o ≡ with_len (regions m) h.kind h.start end → class_of o ≡ class_of n → store_of o ≡ ending (store_of m) h end
 unfolding store_of
-store_ended m n o h end e bytes records =
+store_ended m n o h end e bytes records marks =
     let c : Bytes = bytes_of n in
     let rs : List Region = with_len (regions m) h.kind h.start end in
     let heaps : heaps_in c rs ≡ with_end h.start end (heaps_in (bytes_of m) (regions m)) =
     read_ended (bytes_of m) c h end (regions m) e.own (ended_bytes m n h end e) (all_beside m n h end e) e.sound.heaps in
     let others : others_in rs ≡ others_in (regions m) = others_in-ended h.kind h.start end (regions m) e.own in
     let written : c ≡ record { mapped = is_mapped m; at = with_heap (byte_at m) h.start end h.items } = bytes_held m n h.start end h.items (becomes_ended m n h end e) in
-    rw (bytes, records) (λ i. record { bytes = written i; heaps = heaps i; others = others i })
+    let flex : AreSameFlex (class_of m) (class_of o) = same_flex (class_of m) (class_of o) (marks ∙ e.marks) in
+    rw (bytes, records) (λ i. record {
+      bytes = written i;
+      heaps = heaps i;
+      others = others i;
+      anchor = λ a. flex.anchors a i;
+      header = λ a. flex.headers a i;
+    })
 
 pub sound_ended : (m n o : AddressMap) (h : HeapList) (end : ℕ) → EndsAt m n h end → bytes_of o ≡ bytes_of n
-    → regions o ≡ with_len (regions m) h.kind h.start end → IsSound (store_of o)
+    → regions o ≡ with_len (regions m) h.kind h.start end → class_of o ≡ class_of n → IsSound (store_of o)
 unfolding store_of
-sound_ended m n o h end e bytes records =
+sound_ended m n o h end e bytes records marks =
     let c : Bytes = bytes_of n in
     let hs : List HeapList = heaps_in (bytes_of m) (regions m) in
     let heaps : heaps_in c (with_len (regions m) h.kind h.start end) ≡ with_end h.start end hs =
     read_ended (bytes_of m) c h end (regions m) e.own (ended_bytes m n h end e) (all_beside m n h end e) e.sound.heaps in
     let others : others_in (with_len (regions m) h.kind h.start end) ≡ others_in (regions m) = others_in-ended h.kind h.start end (regions m) e.own in
     let ended : IsEnded (bytes_of m) c h end = ended_bytes m n h end e in
+    let flex : AreSameFlex (class_of m) (class_of o) = same_flex (class_of m) (class_of o) (marks ∙ e.marks) in
     rw (bytes, records, heaps, others) (record {
       heaps = parts_ended (bytes_of m) c h end hs ended.long ended.mapped ended.kept ended.heap (all_beside m n h end e) e.sound.heaps;
       limits = same_limits hs _ (places-ended h.start end hs) e.sound.limits;
       placed = others_ended h end hs (others_in (regions m)) e.found (ranges_clear (store_of m) h end e.may) e.sound.placed;
       apart = e.sound.apart;
       few = e.sound.few;
+      anchors = λ a. flex.anchors a ∙ e.sound.anchors a;
+      headers = λ a. flex.headers a ∙ e.sound.headers a;
     })
 
 pub classes_ended : (m n o : AddressMap) (h : HeapList) (end : ℕ) → EndsAt m n h end → bytes_of o ≡ bytes_of n
     → regions o ≡ with_len (regions m) h.kind h.start end → class_of o ≡ class_of n → AreClasses m → AreClasses o
 classes_ended m n o h end e bytes records marks same =
-    subst (λ (s : Store). AreBy (class_of o) s.heaps) (sym (store_ended m n o h end e bytes records))
+    subst (λ (s : Store). AreBy (class_of o) s.heaps) (sym (store_ended m n o h end e bytes records marks))
     (marks_ended (class_of m) (class_of o) h.start end (store_of m).heaps same (λ a. ap (λ (f : ℕ → Class). f a) (marks ∙ e.marks)))

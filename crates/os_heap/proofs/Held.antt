@@ -1,22 +1,29 @@
 -- The class of each word by the lists of all heaps: after one of them got another list or another end, and after a heap more was made.
 use Rattle.std.proofs.Common.{Bool, List, ℕ, [], ◌∷◌, ◌++◌, ◌≡◌, ◌==◌, ◌||◌, ◌+◌, ◌≤◌, ◌%◌, true, false, refl, sym, ap, subst, ◌∙◌, inl, inr, arith, Some, None, cond}
-use Rattle.std.proofs.lemmas.Bool.{cases_Bool, or_left, or_right, or_from, and_right, eqb-true, eq-eqb, ne_eqb, le-leb, lt-ltb, le-ltb, both_ways, false_from_ne_true}
+use Rattle.std.proofs.lemmas.Bool.{cases_Bool, or_left, or_right, or_from, and_right, eqb-true, eq-eqb, ne_eqb, le-leb, lt-ltb, le-ltb, both_ways, false_from_ne_true, false≢true}
 use Rattle.address_map.specs.Bytes.{Bytes, in_range, word_start}
+use Rattle.address_map.specs.Classes.{is_heap_class}
 use Rattle.address_map.specs.Items.{is_head, is_heap_word, size_of}
 use Rattle.address_map.specs.declared.class.Class.{Class}
 use Rattle.address_map.specs.declared.class.Class.TheVariants as class
 use Rattle.address_map.specs.declared.item.Item.{Item}
 use Rattle.os_heap_lists.proofs.HeadWords.{head_inside, word_inside}
 use Rattle.os_heap_lists.specs.Heap.{HeapList, IsHeapIn}
-use Rattle.os_heap_lists.specs.Marks.{marked, Remarks, AreMarked, spells_any, class_by}
+use Rattle.os_heap_lists.specs.Marks.{marked, Remarks, AreMarked, spells_any}
 use Rattle.os_heap.proofs.Found.{found_heap}
 use Rattle.os_heap.proofs.Stores.{AreOthers, are_others}
 use Rattle.os_heap.specs.Calls.{with_items, with_end}
 use Rattle.os_heap.specs.Store.{AreHeapsIn, find_heap}
 
--- the classes of all bytes are those that the lists give
+-- the bytes that are classed as a heap's are those that the lists spell
 abbrev pub AreBy : (ℕ → Class) → List HeapList → Type 0
-AreBy classes hs = (a : ℕ) → classes a ≡ class_by hs a
+AreBy classes hs = (a : ℕ) → is_heap_class (classes a) ≡ spells_any hs (word_start a)
+
+heap_class : (own : Class) → is_heap_class own ≡ true → own ≡ class.Heap
+heap_class class.Heap is = refl
+heap_class class.Plain is = absurd (false≢true is)
+heap_class class.FlexHeader is = absurd (false≢true is)
+heap_class class.Anchor is = absurd (false≢true is)
 
 -- a heap's words are marked
 found_spelled : (hs : List HeapList) (start : ℕ) (h : HeapList) (p : ℕ) → find_heap start hs ≡ Some h → is_heap_word h.start h.items p ≡ true
@@ -31,14 +38,10 @@ found_spelled (g ∷ hs) start h p e is =
       | inr other ↦ or_right (is_heap_word g.start g.items p) (spells_any hs p) (found_spelled hs start h p (rw other at e) is)
     ]
 
-class_spelled : (hs : List HeapList) (a : ℕ) → spells_any hs (word_start a) ≡ true → class_by hs a ≡ class.Heap
-unfolding class_by
-class_spelled hs a is = rw is refl
-
 pub heads_marked : (c : ℕ → Class) (hs : List HeapList) (h : HeapList) → AreBy c hs → find_heap h.start hs ≡ Some h → AreMarked c (h.start + 16) h.items
 heads_marked c hs h same found a is =
     let p : ℕ = word_start a in
-    same a ∙ class_spelled hs a (found_spelled hs h.start h p found (or_right (in_range h.start 16 p) (is_head (h.start + 16) h.items p) is))
+    heap_class (c a) (same a ∙ found_spelled hs h.start h p found (or_right (in_range h.start 16 p) (is_head (h.start + 16) h.items p) is))
 
 -- one heap got another list: a word that it spells now, one that it gives up, and one of which nothing changed
 made_spelled : (h : HeapList) (items : List Item) (hs : List HeapList) (p : ℕ) → find_heap h.start hs ≡ Some h → is_heap_word h.start items p ≡ true
@@ -85,14 +88,13 @@ same_spelled h items (g ∷ hs) p others same =
       | inr apart ↦ rw (ne_eqb g.start h.start apart.0) (ap (λ (t : Bool). is_heap_word g.start g.items p || t) rest)
     ]
 
-held_class : (hs gs : List HeapList) (made given : Bool) (a : ℕ) (old new : Class) → old ≡ class_by hs a → new ≡ marked made given old
+held_class : (hs gs : List HeapList) (made given : Bool) (a : ℕ) (old new : Class) → is_heap_class old ≡ spells_any hs (word_start a) → new ≡ marked made given old
     → (made ≡ true → spells_any gs (word_start a) ≡ true)
     → (made ≡ false → given ≡ true → spells_any gs (word_start a) ≡ false)
-    → (made ≡ false → given ≡ false → spells_any gs (word_start a) ≡ spells_any hs (word_start a)) → new ≡ class_by gs a
-unfolding class_by
-held_class hs gs true given a old new was change now gone kept = rw (now refl) change
-held_class hs gs false true a old new was change now gone kept = rw (gone refl refl) change
-held_class hs gs false false a old new was change now gone kept = rw (kept refl refl) (change ∙ was)
+    → (made ≡ false → given ≡ false → spells_any gs (word_start a) ≡ spells_any hs (word_start a)) → is_heap_class new ≡ spells_any gs (word_start a)
+held_class hs gs true given a old new was change now gone kept = ap is_heap_class change ∙ sym (now refl)
+held_class hs gs false true a old new was change now gone kept = ap is_heap_class change ∙ sym (gone refl refl)
+held_class hs gs false false a old new was change now gone kept = ap is_heap_class change ∙ was ∙ sym (kept refl refl)
 
 -- just the words of its old list were given up, and those of its new one made
 pub marks_held : (b : Bytes) (c d : ℕ → Class) (h : HeapList) (items : List Item) (hs : List HeapList) → AreHeapsIn b hs → find_heap h.start hs ≡ Some h
@@ -123,8 +125,7 @@ ended_spelled start end (h ∷ hs) p =
     ]
 
 pub marks_ended : (c d : ℕ → Class) (start end : ℕ) (hs : List HeapList) → AreBy c hs → ((a : ℕ) → d a ≡ c a) → AreBy d (with_end start end hs)
-unfolding class_by
-marks_ended c d start end hs same kept a = kept a ∙ same a ∙ (rw (ended_spelled start end hs (word_start a)) refl)
+marks_ended c d start end hs same kept a = ap is_heap_class (kept a) ∙ same a ∙ sym (ended_spelled start end hs (word_start a))
 
 -- a heap more without items, whose descriptor was marked
 or_none : (t : Bool) → (t || false) ≡ t
@@ -141,16 +142,15 @@ begun_spelled (g ∷ hs) h p =
     ap (λ (t : Bool). is_heap_word g.start g.items p || t) (begun_spelled hs h p)
     ∙ or_next (is_heap_word g.start g.items p) (spells_any hs p) (is_heap_word h.start h.items p)
 
-begun_class : (spelled here : Bool) (old new : Class) → old ≡ cond spelled class.Heap class.Plain → new ≡ cond here class.Heap old
-    → new ≡ cond (spelled || (here || false)) class.Heap class.Plain
-begun_class true true old new was change = change
-begun_class true false old new was change = change ∙ was
-begun_class false true old new was change = change
-begun_class false false old new was change = change ∙ was
+begun_class : (spelled here : Bool) (old new : Class) → is_heap_class old ≡ spelled → new ≡ cond here class.Heap old
+    → is_heap_class new ≡ (spelled || (here || false))
+begun_class true true old new was change = ap is_heap_class change
+begun_class true false old new was change = ap is_heap_class change ∙ was
+begun_class false true old new was change = ap is_heap_class change
+begun_class false false old new was change = ap is_heap_class change ∙ was
 
 pub marks_begun : (c d : ℕ → Class) (hs : List HeapList) (h : HeapList) → h.items ≡ [] → AreBy c hs
     → ((a : ℕ) → d a ≡ cond (in_range h.start 16 (word_start a)) class.Heap (c a)) → AreBy d (hs ++ h ∷ [])
-unfolding class_by
 marks_begun c d hs h none same change a =
     let p : ℕ = word_start a in
     rw (begun_spelled hs h p, none) (begun_class (spells_any hs p) (in_range h.start 16 p) (c a) (d a) (same a) (change a))

@@ -4,6 +4,7 @@ pub mod Bounds
 pub mod Calls
 pub mod Claiming
 pub mod Ending
+pub mod FlexWords
 pub mod Found
 pub mod Frame
 pub mod Freeing

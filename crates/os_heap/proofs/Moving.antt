@@ -19,16 +19,16 @@ use Rattle.os_heap_lists.proofs.Reading.{items_in-heap}
 use Rattle.os_heap_lists.specs.Counts.{looked_at, free_below}
 use Rattle.os_heap_lists.specs.Heap.{HeapList, IsHeapIn}
 use Rattle.os_heap_lists.specs.Lists.{Claim, claimed, live_total, released}
-use Rattle.os_heap.proofs.Calls.{part_at, heap_there, free_given, IsGiven, classes_held}
+use Rattle.os_heap.proofs.Calls.{part_at, heap_there, free_given, IsGiven, IsHeld, is_held}
 use Rattle.os_heap.proofs.Found.{found_heap, found_start}
 use Rattle.os_heap.proofs.Frame.{store_bytes, heads_kept, IsKept, classes_same}
 use Rattle.os_heap.proofs.Replace.{heap_below}
 use Rattle.os_heap.proofs.Searching.{looked-below}
-use Rattle.os_heap.proofs.Stores.{sound_held, store_held, IsOther, AreOthers, are_others}
+use Rattle.os_heap.proofs.Stores.{IsOther, AreOthers, are_others}
 use Rattle.os_heap.specs.Calls.{copied, moved, handed_over, holding, with_items, gave_back}
 use Rattle.os_heap.specs.Probes.{move_probes}
 use Rattle.os_heap.specs.Outcomes.{items_at, end_at, Becomes, Claims, HasHeapAt, Releases}
-use Rattle.os_heap.specs.Store.{has_image, IsSound, AreClasses, find_heap, store_of, AreHeapsIn, owned_in, Store}
+use Rattle.os_heap.specs.Store.{has_image, IsSound, AreClasses, find_heap, store_of, AreHeapsIn, Store}
 
 -- the part of a heap, by what memory spells of it
 part_same : (h : HeapList) (start end : ℕ) (items : List Item) → h.start ≡ start → h.end ≡ end → h.items ≡ items
@@ -85,13 +85,13 @@ pub record IsClaimed (m n : AddressMap) (kind : Kind) (heap block total needed n
   pub still : live_total block (heap + 16) claim.items ≡ Some total
   pub store : store_of n ≡ holding (store_of m) (part_at kind m heap (end_at m heap)) claim.items
   pub sound : IsSound (store_of n)
-  pub classes : AreClasses m → AreClasses n
+  pub classes : AreClasses n
 
 pub is_claimed : (m n : AddressMap) (heap block total needed new : ℕ) (answer : Result ℕ ErrorNumber) (p : HasPart heap (store_of m).heaps)
-    → IsSound (store_of m) → live_total block (heap + 16) (items_at m heap) ≡ Some total
+    → IsSound (store_of m) → AreClasses m → live_total block (heap + 16) (items_at m heap) ≡ Some total
     → Claims m n heap (end_at m heap) answer (claimed needed (end_at m heap - 16) (items_at m heap)) → answer ≡ Ok new
     → IsClaimed m n p.part.kind heap block total needed new
-is_claimed m n heap block total needed new answer p sound live claims ok =
+is_claimed m n heap block total needed new answer p sound classes live claims ok =
     let end : ℕ = end_at m heap in
     let items : List Item = items_at m heap in
     let kind : Kind = p.part.kind in
@@ -102,6 +102,8 @@ is_claimed m n heap block total needed new answer p sound live claims ok =
     let fresh : IsFresh needed (heap + 16) (Some b.claim) = subst (IsFresh needed (heap + 16)) b.is (claim_fresh needed (end - 16) (heap + 16) items there.totals) in
     let still : IsStill block total (heap + 16) (Some b.claim) =
     subst (IsStill block total (heap + 16)) b.is (claim_still needed (end - 16) block total (heap + 16) items live there.totals) in
+    let held : IsHeld m n (part_at kind m heap end) b.claim.items = is_held m n (part_at kind m heap end) b.claim.items sound classes found refl
+    (λ a t is there'. subst (IsStill a t (heap + 16)) b.is (claim_still needed (end - 16) a t (heap + 16) items there' there.totals)) b.becomes in
     record {
       claim = b.claim;
       found = found;
@@ -112,10 +114,9 @@ is_claimed m n heap block total needed new answer p sound live claims ok =
       same = b.becomes.same;
       fresh = subst (λ (a : ℕ). live_total a (heap + 16) b.claim.items ≡ Some needed) (sym b.place) fresh;
       still = still;
-      store = store_held m n (part_at kind m heap end) b.claim.items sound found b.becomes;
-      sound = sound_held m n (part_at kind m heap end) b.claim.items sound found
-          (λ a t is there'. subst (IsStill a t (heap + 16)) b.is (claim_still needed (end - 16) a t (heap + 16) items there' there.totals)) b.becomes;
-      classes = classes_held m n (part_at kind m heap end) b.claim.items sound found refl b.becomes;
+      store = held.store;
+      sound = held.sound;
+      classes = held.classes;
     }
 
 -- where the bytes of the two blocks lie
@@ -157,8 +158,8 @@ unowned b (g ∷ hs) h a parts others free inside =
           false_from_ne_true _ (λ is. both_ways (in_range g.start g.end a) (apart.1 a inside) (byte_inside b g.start g.end g.items a parts.0 is))
 
 unowned_in : (m : AddressMap) (h : HeapList) (a : ℕ) → IsSound (store_of m) → find_heap h.start (store_of m).heaps ≡ Some h
-    → is_heap_word h.start h.items (word_start a) ≡ false → in_range h.start h.end a ≡ true → owned_in (store_of m) a ≡ false
-unfolding store_of owned_in
+    → is_heap_word h.start h.items (word_start a) ≡ false → in_range h.start h.end a ≡ true → are_owned (store_of m).heaps a ≡ false
+unfolding store_of
 unowned_in m h a sound found free inside =
     unowned (bytes_of m) (store_of m).heaps h a sound.heaps (are_others (bytes_of m) h.start (store_of m).heaps h sound.heaps found) free inside
 
@@ -181,7 +182,7 @@ claim_part m n kind heap block total needed new c =
 
 -- no byte that the move writes is one that a heap spells
 payload_free : (m n : AddressMap) (kind : Kind) (heap block total needed new a : ℕ) → total < needed → (c : IsClaimed m n kind heap block total needed new)
-    → new ≤ a → a < new + (total - 4) → owned_in (store_of n) a ≡ false
+    → new ≤ a → a < new + (total - 4) → are_owned (store_of n).heaps a ≡ false
 payload_free m n kind heap block total needed new a larger c low high =
     let i : AreInside m n heap block total needed new = are_inside m n kind heap block total needed new larger c in
     let p : HeapList = record { kind = kind; start = heap; end = end_at m heap; items = c.claim.items } in
@@ -201,22 +202,22 @@ payload_free m n kind heap block total needed new a larger c low high =
 pub record IsCopied (m n p : AddressMap) (kind : Kind) (heap block total needed new : ℕ) (claim : Claim) : Type 0 where
   pub store : store_of p ≡ copied (holding (store_of m) (part_at kind m heap (end_at m heap)) claim.items) block new (total - 4)
   pub sound : IsSound (store_of p)
-  pub classes : AreClasses n → AreClasses p
+  pub classes : AreClasses p
   pub there : HasHeapAt p heap
   pub items : items_at p heap ≡ claim.items
   pub found : find_heap heap (store_of p).heaps ≡ Some (part_at kind p heap (end_at p heap))
   pub live : is_some (live_total block (heap + 16) (items_at p heap)) ≡ true
 
 store_bytes-same : (b c : Bytes) (s : Store) → b ≡ c
-    → (let x : Store = record { bytes = b; heaps = s.heaps; others = s.others } in let y : Store = record { bytes = c; heaps = s.heaps; others = s.others } in x ≡ y)
-store_bytes-same b c s e = λ i. record { bytes = e i; heaps = s.heaps; others = s.others }
+    → (let x : Store = record s { bytes = b } in let y : Store = record s { bytes = c } in x ≡ y)
+store_bytes-same b c s e = λ i. record s { bytes = e i }
 
 pub is_copied : (m n p : AddressMap) (kind : Kind) (heap block total needed new : ℕ) → total < needed → (c : IsClaimed m n kind heap block total needed new)
     → layout p ≡ layout n → ((a : ℕ) → byte_at p a ≡ with_moved_at (byte_at n) block new (total - 4) a) → class_of p ≡ class_of n
     → IsCopied m n p kind heap block total needed new c.claim
 is_copied m n p kind heap block total needed new larger c same bytes marks =
-    let kept : IsKept n p = heads_kept n p same c.sound (λ a owned. bytes a ∙ elim (in_range-cases new (total - 4) a) [
-      | inl r ↦ absurd (both_ways (owned_in (store_of n) a) (payload_free m n kind heap block total needed new a larger c r.1 r.2) owned)
+    let kept : IsKept n p = heads_kept n p same marks c.sound (λ a owned. bytes a ∙ elim (in_range-cases new (total - 4) a) [
+      | inl r ↦ absurd (both_ways (are_owned (store_of n).heaps a) (payload_free m n kind heap block total needed new a larger c r.1 r.2) owned)
       | inr r ↦ rw r.0 refl
     ]) in
     let moved_bytes : bytes_of p ≡ (copied (store_of n) block new (total - 4)).bytes =
@@ -231,7 +232,7 @@ is_copied m n p kind heap block total needed new larger c same bytes marks =
     record {
       store = store ∙ ap (λ (s : Store). copied s block new (total - 4)) c.store;
       sound = kept.sound;
-      classes = classes_same n p (ap (λ (s : Store). s.heaps) kept.store) (λ a i. marks i a);
+      classes = classes_same n p (ap (λ (s : Store). s.heaps) kept.store) (λ a i. marks i a) c.classes;
       there = heap_there kind p heap (end_at p heap) kept.sound found';
       items = items;
       found = found';
@@ -246,7 +247,7 @@ then_given s t (Err e) n left u = absurd left
 pub record IsMoved (m q : AddressMap) (heap block total needed new : ℕ) : Type 0 where
   pub store : (h : HeapList) → find_heap heap (store_of m).heaps ≡ Some h → Gives (store_of m) (moved (store_of m) h block total needed) (Ok new) (store_of q)
   pub sound : IsSound (store_of q)
-  pub classes : AreClasses m → AreClasses q
+  pub classes : AreClasses q
   pub same : layout q ≡ layout m
 
 pub is_moved : (m n p q : AddressMap) (kind : Kind) (heap block total needed new : ℕ) (c : IsClaimed m n kind heap block total needed new)
@@ -255,7 +256,7 @@ pub is_moved : (m n p q : AddressMap) (kind : Kind) (heap block total needed new
     → IsMoved m q heap block total needed new
 is_moved m n p q kind heap block total needed new c d same own releases =
     let left : IsGiven (Unit {0}) p q (gave_back (store_of p) heap block) (Ok tt) =
-    free_given kind p q heap block (end_at p heap) (Ok tt) d.sound d.found (rw own releases) in
+    free_given kind p q heap block (end_at p heap) (Ok tt) d.sound d.classes d.found (rw own releases) in
     let s : Store = store_of m in
     let part : HeapList = part_at kind m heap (end_at m heap) in
     let back : Gives (store_of p) (gave_back (copied (holding s part c.claim.items) block new (total - 4)) heap block) (Ok tt) (store_of q) =
@@ -268,7 +269,7 @@ is_moved m n p q kind heap block total needed new c d same own releases =
       store = λ h found. let e : Some part ≡ Some h = sym c.found ∙ found in let same : part ≡ h = cc in
           subst (λ (x : HeapList). Gives s (moved s x block total needed) (Ok new) (store_of q)) same given;
       sound = left.sound;
-      classes = λ old. left.classes (d.classes (c.classes old));
+      classes = left.classes;
       same = left.same ∙ same ∙ c.same;
     }
 

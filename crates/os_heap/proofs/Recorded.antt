@@ -1,8 +1,9 @@
 -- A recorded range more that is no heap, as the system pages or an image.
-use Rattle.std.proofs.Common.{false, inl, [], ◌≡◌, refl, List, ◌++◌, inr, ◌∷◌, length, arith, length-append, ◌<◌}
+use Rattle.std.proofs.Common.{ℕ, false, inl, [], ◌≡◌, refl, List, ◌++◌, inr, ◌∷◌, length, arith, length-append, ◌<◌}
 use Rattle.std.proofs.lemmas.Bool.{cases_Bool}
 use Rattle.address_map.specs.Bytes.{Bytes}
-use Rattle.address_map.specs.Memory.{bytes_of, regions}
+use Rattle.address_map.specs.Classes.{is_flex_header, is_anchor}
+use Rattle.address_map.specs.Memory.{bytes_of, regions, class_of}
 use Rattle.address_map.specs.Records.{is_heap_kind}
 use Rattle.address_map.specs.declared.map.AddressMap.{AddressMap}
 use Rattle.address_map.specs.declared.region.Region.{Region}
@@ -44,20 +45,28 @@ apart_other (q ∷ rs) r apart clear = (clear_other q r rs apart.0 clear.0, apar
 
 -- the store keeps its heaps
 pub store_recorded : (m n : AddressMap) (r : Region) → is_heap_kind r.kind ≡ false → regions n ≡ regions m ++ r ∷ [] → bytes_of n ≡ bytes_of m
-    → store_of n ≡ record { bytes = bytes_of m; heaps = (store_of m).heaps; others = (store_of m).others ++ r ∷ [] }
+    → ((a : ℕ) → class_of n a ≡ class_of m a) → store_of n ≡ record (store_of m) { others = (store_of m).others ++ r ∷ [] }
 unfolding store_of
-store_recorded m n r other records bytes =
+store_recorded m n r other records bytes marks =
     let heaps : heaps_in (bytes_of m) (regions m ++ r ∷ []) ≡ heaps_in (bytes_of m) (regions m) = heaps_in-other (bytes_of m) (regions m) r other in
     let others : others_in (regions m ++ r ∷ []) ≡ others_in (regions m) ++ r ∷ [] = others_in-other (regions m) r other in
-    rw (bytes, records) (λ i. record { bytes = bytes_of m; heaps = heaps i; others = others i })
+    rw (bytes, records) (λ i. record {
+      bytes = bytes_of m;
+      heaps = heaps i;
+      others = others i;
+      anchor = λ a. is_anchor (marks a i);
+      header = λ a. is_flex_header (marks a i);
+    })
 
 -- and stays sound, where the range meets no heap
 pub recorded_sound : (s : Store) (r : Region) → IsSound s → IsClearOfHeaps r.at r.len s.heaps → IsClearOfAll r s.others → length s.others < 68
-    → IsSound (record { bytes = s.bytes; heaps = s.heaps; others = s.others ++ r ∷ [] })
+    → IsSound (record s { others = s.others ++ r ∷ [] })
 recorded_sound s r sound clear apart room = record {
   heaps = sound.heaps;
   limits = sound.limits;
   placed = placed_other s.heaps s.others r sound.placed clear;
   apart = apart_other s.others r sound.apart apart;
   few = omega (arith, length-append {A = Region});
+  anchors = sound.anchors;
+  headers = sound.headers;
 }

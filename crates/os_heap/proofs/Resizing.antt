@@ -23,12 +23,11 @@ use Rattle.os_heap_lists.specs.Heap.{HeapList, IsHeapIn, AreTotals}
 use Rattle.os_heap_lists.specs.Lists.{live_total, released, changed_by, resized_in_place, round_up_8, refitted, claimed}
 use Rattle.os_heap_lists.specs.Walks.{IsBlock}
 use Rattle.os_heap.proofs.Bounds.{move_most}
-use Rattle.os_heap.proofs.Calls.{part_at, heap_of-part, heap_there, IsGiven, classes_held, free_given, image_recorded, image_apart}
+use Rattle.os_heap.proofs.Calls.{part_at, heap_of-part, heap_there, IsGiven, IsHeld, is_held, free_given, image_recorded, image_apart}
 use Rattle.os_heap.proofs.Freeing.{block_facts}
 use Rattle.os_heap.proofs.Moving.{part_there, HasPart}
 use Rattle.os_heap.proofs.Replace.{heap_mapped, heap_below}
 use Rattle.os_heap.proofs.Sized.{block_total}
-use Rattle.os_heap.proofs.Stores.{sound_held, store_held}
 use Rattle.os_heap.specs.Calls.{gave_back, unless_image, resized, resized_or_moved, moved}
 use Rattle.os_heap.specs.Probes.{resize_probes, probes_after_walk, refit_probes, move_probes}
 use Rattle.os_heap.specs.Outcomes.{IsGuestBlock, items_at, end_at, Releases, Refits}
@@ -138,7 +137,7 @@ pub record IsResized (m n : AddressMap) (heap block change : ℕ) (answer : Resu
   pub store : Gives (store_of m) (resized (store_of m) heap block change) answer (store_of n)
   pub sound : IsSound (store_of n)
   pub same : layout n ≡ layout m
-  pub classes : AreClasses m → AreClasses n
+  pub classes : AreClasses n
   pub probes : begun_below block (heap + 16) (items_at m heap) + more ≡ resize_probes (store_of m) heap block change
 
 -- nothing is left of the block
@@ -147,13 +146,13 @@ freed_given : (old new : Store) (o : Result (Store × Unit {0}) ErrorNumber) (an
 freed_given old new (Ok s) answer zero left = rw zero (left.0, refl)
 freed_given old new (Err e) answer zero left = absurd left
 
-pub resize_freed : (m n : AddressMap) (heap block change total : ℕ) → IsSound (store_of m) → is_some (find_heap heap (store_of m).heaps) ≡ true
+pub resize_freed : (m n : AddressMap) (heap block change total : ℕ) → IsSound (store_of m) → AreClasses m → is_some (find_heap heap (store_of m).heaps) ≡ true
     → has_image block (regions m) ≡ false → live_total block (heap + 16) (items_at m heap) ≡ Some total → changed_by total change ≤ 4
     → Releases m n heap (end_at m heap) (Ok tt) (released block (heap + 16) (items_at m heap)) → IsResized m n heap block change (Ok 0) 0
-resize_freed m n heap block change total sound is own live few releases =
+resize_freed m n heap block change total sound classes is own live few releases =
     let t : IsThere m heap = is_there m heap is in
     let test : nat_le (changed_by total change) 4 ≡ true = le-leb (changed_by total change) 4 few in
-    let l : IsGiven (Unit {0}) m n (gave_back (store_of m) heap block) (Ok tt) = free_given t.kind m n heap block t.end (Ok tt) sound t.found (rw own releases) in
+    let l : IsGiven (Unit {0}) m n (gave_back (store_of m) heap block) (Ok tt) = free_given t.kind m n heap block t.end (Ok tt) sound classes t.found (rw own releases) in
     let some = asked_live m heap block total own live in
     record {
       store = rw (by_total m heap block change t (Some total) some, test) (freed_given (store_of m) (store_of n) (gave_back (store_of m) heap block) (Ok 0) refl l.store);
@@ -164,28 +163,31 @@ resize_freed m n heap block change total sound is own live few releases =
     }
 
 -- the block stays where it is
-in_place_given : (m n : AddressMap) (kind : Kind) (heap end block old new : ℕ) (o : Option (List Item)) → IsSound (store_of m)
+in_place_given : (m n : AddressMap) (kind : Kind) (heap end block old new : ℕ) (o : Option (List Item)) → IsSound (store_of m) → AreClasses m
     → find_heap heap (store_of m).heaps ≡ Some (part_at kind m heap end)
     → ((b t : ℕ) → has_image b (store_of m).others ≡ true → live_total b (heap + 16) (items_at m heap) ≡ Some t → IsStillIn b t (heap + 16) o)
     → Refits m n heap end true o
     → IsGiven ℕ m n (resized_or_moved (store_of m) (part_at kind m heap end) block old new o) (Ok block)
-in_place_given m n kind heap end block old new None sound found still refits = absurd (false≢true (sym refits.0))
-in_place_given m n kind heap end block old new (Some items) sound found still refits = record {
-  store = (store_held m n (part_at kind m heap end) items sound found refits.1, refl);
-  sound = sound_held m n (part_at kind m heap end) items sound found still refits.1;
-  same = refits.1.same;
-  classes = classes_held m n (part_at kind m heap end) items sound found refl refits.1;
-}
+in_place_given m n kind heap end block old new None sound classes found still refits = absurd (false≢true (sym refits.0))
+in_place_given m n kind heap end block old new (Some items) sound classes found still refits =
+    let held : IsHeld m n (part_at kind m heap end) items =
+    is_held m n (part_at kind m heap end) items sound classes found refl still refits.1 in
+    record {
+      store = (held.store, refl);
+      sound = held.sound;
+      same = refits.1.same;
+      classes = held.classes;
+    }
 
 in_place_unmoved : (m n : AddressMap) (h : HeapList) (heap end block new : ℕ) (o : Option (List Item)) → Refits m n heap end true o → refit_probes h block new o ≡ 0
 in_place_unmoved m n h heap end block new None refits = absurd (false≢true (sym refits.0))
 in_place_unmoved m n h heap end block new (Some items) refits = refl
 
-pub resize_refitted : (m n : AddressMap) (heap block change total : ℕ) → IsSound (store_of m) → is_some (find_heap heap (store_of m).heaps) ≡ true
+pub resize_refitted : (m n : AddressMap) (heap block change total : ℕ) → IsSound (store_of m) → AreClasses m → is_some (find_heap heap (store_of m).heaps) ≡ true
     → has_image block (regions m) ≡ false → live_total block (heap + 16) (items_at m heap) ≡ Some total → 4 < changed_by total change
     → Refits m n heap (end_at m heap) true (resized_in_place block (heap + end_at m heap) (round_up_8 (changed_by total change)) (heap + 16) (items_at m heap))
     → IsResized m n heap block change (Ok block) 0
-resize_refitted m n heap block change total sound is own live more refits =
+resize_refitted m n heap block change total sound classes is own live more refits =
     let t : IsThere m heap = is_there m heap is in
     let h : HeapList = part_at t.kind m heap t.end in
     let new : ℕ = round_up_8 (changed_by total change) in
@@ -197,7 +199,7 @@ resize_refitted m n heap block change total sound is own live more refits =
     let still : (b u : ℕ) → has_image b (store_of m).others ≡ true → live_total b (heap + 16) (items_at m heap) ≡ Some u
     → IsStillIn b u (heap + 16) (resized_in_place block (heap + t.end) new (heap + 16) (items_at m heap)) =
     λ b u image there. refit_still b block u (heap + t.end) new (heap + 16) (items_at m heap) (image_apart b block (store_of m).others image none_of) there in
-    let g = in_place_given m n t.kind heap t.end block total new (resized_in_place block (heap + t.end) new (heap + 16) (items_at m heap)) sound t.found still here in
+    let g = in_place_given m n t.kind heap t.end block total new (resized_in_place block (heap + t.end) new (heap + 16) (items_at m heap)) sound classes t.found still here in
     let none = in_place_unmoved m n h heap t.end block new (resized_in_place block (heap + t.end) new (heap + 16) (items_at m heap)) here in
     record {
       store = rw (by_total m heap block change t (Some total) (asked_live m heap block total own live), test) g.store;
@@ -236,7 +238,7 @@ pub resize_moved : (m n : AddressMap) (heap block change total more : ℕ) (answ
     → resized_in_place block (heap + end_at m heap) (round_up_8 (changed_by total change)) (heap + 16) (items_at m heap) ≡ None
     → ((h : HeapList) → find_heap heap (store_of m).heaps ≡ Some h
     → Gives (store_of m) (moved (store_of m) h block total (round_up_8 (changed_by total change))) answer (store_of n))
-    → IsSound (store_of n) → layout n ≡ layout m → (AreClasses m → AreClasses n)
+    → IsSound (store_of n) → layout n ≡ layout m → AreClasses n
     → ((h : HeapList) → find_heap heap (store_of m).heaps ≡ Some h
     → more ≡ move_probes h block (round_up_8 (changed_by total change)) (claimed (round_up_8 (changed_by total change)) (h.end - 16) h.items))
     → IsResized m n heap block change answer more

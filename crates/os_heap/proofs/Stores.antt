@@ -5,9 +5,11 @@ use Rattle.address_map.proofs.Bytes.{byte_at-lt, is_mapped-layout}
 use Rattle.address_map.proofs.Equations.{same_bytes}
 use Rattle.address_map.proofs.Stores.{in_range-cases}
 use Rattle.address_map.specs.Bytes.{in_range, Bytes, word_at}
+use Rattle.address_map.specs.Classes.{is_flex_header, is_anchor}
 use Rattle.address_map.specs.Items.{items_in}
-use Rattle.address_map.specs.Memory.{is_mapped, bytes_of, byte_at, layout, regions}
+use Rattle.address_map.specs.Memory.{is_mapped, bytes_of, byte_at, layout, regions, class_of}
 use Rattle.address_map.specs.Records.{is_heap_kind}
+use Rattle.address_map.specs.declared.class.Class.{Class}
 use Rattle.address_map.specs.declared.item.Item.{Item}
 use Rattle.address_map.specs.declared.map.AddressMap.{AddressMap}
 use Rattle.address_map.specs.declared.region.Region.{Region}
@@ -15,6 +17,7 @@ use Rattle.os_heap_lists.proofs.HeapWords.{part_back, outside_before, outside_pa
 use Rattle.os_heap_lists.proofs.Reading.{items_in-heap}
 use Rattle.os_heap_lists.specs.Heap.{with_heap, HeapList, IsHeapIn}
 use Rattle.os_heap_lists.specs.Lists.{live_total}
+use Rattle.os_heap.proofs.FlexWords.{AreSameFlex}
 use Rattle.os_heap.proofs.Found.{found_heap}
 use Rattle.os_heap.specs.Outcomes.{Becomes}
 use Rattle.os_heap.specs.Store.{AreClear, IsClearOfHeaps, find_heap, AreHeapsIn, ArePlaced, Store, heap_in, heaps_in, others_in, IsSound, store_of, has_image, is_image, is_area, IsImageIn, guest_count, area_count, StandAreas, AreInLimits}
@@ -237,25 +240,27 @@ read_parts m n h items (r ∷ rs) b others parts =
           items_in-heap (bytes_of n) r.at r.len (items_in (word_at (byte_at m)) r.at) (other_kept m n h (heap_in (bytes_of m) r) items b apart.1 heap) in
           rw test (cons_part _ _ _ _ (ap (λ (xs : List Item). let p : HeapList = record { kind = r.kind; start = r.at; end = r.len; items = xs } in p) list) rest)
 
-store_parts : (b c : Bytes) (hs gs : List HeapList) (rs : List Region) → b ≡ c → hs ≡ gs
-    → (let s : Store = record { bytes = b; heaps = hs; others = rs } in let t : Store = record { bytes = c; heaps = gs; others = rs } in s ≡ t)
-store_parts b c hs gs rs e f = λ i. record { bytes = e i; heaps = f i; others = rs }
+store_parts : (b c : Bytes) (hs gs : List HeapList) (rs : List Region) (k l : ℕ → Class) → b ≡ c → hs ≡ gs → AreSameFlex l k
+    → (let s : Store = record { bytes = b; heaps = hs; others = rs; anchor = λ a. is_anchor (k a); header = λ a. is_flex_header (k a) } in
+    let t : Store = record { bytes = c; heaps = gs; others = rs; anchor = λ a. is_anchor (l a); header = λ a. is_flex_header (l a) } in s ≡ t)
+store_parts b c hs gs rs k l e f same =
+    λ i. record { bytes = e i; heaps = f i; others = rs; anchor = λ a. same.anchors a i; header = λ a. same.headers a i }
 
 pub layout-regions : (m n : AddressMap) → layout n ≡ layout m → regions n ≡ regions m
 layout-regions m n same = ap (λ l. l.regions) same
 
 pub store_held : (m n : AddressMap) (h : HeapList) (items : List Item) → IsSound (store_of m) → find_heap h.start (store_of m).heaps ≡ Some h
-    → Becomes m n h.start h.end items → store_of n ≡ holding (store_of m) h items
+    → Becomes m n h.start h.end items → AreSameFlex (class_of m) (class_of n) → store_of n ≡ holding (store_of m) h items
 unfolding store_of
-store_held m n h items sound found b =
+store_held m n h items sound found b flex =
     let others : AreOthers h (heaps_in (bytes_of m) (regions m)) = are_others (bytes_of m) h.start (heaps_in (bytes_of m) (regions m)) h sound.heaps found in
-    rw (layout-regions m n b.same) (store_parts _ _ _ _ (others_in (regions m)) (bytes_held m n h.start h.end items b)
-    (read_parts m n h items (regions m) b others sound.heaps))
+    rw (layout-regions m n b.same) (store_parts _ _ _ _ (others_in (regions m)) (class_of n) (class_of m) (bytes_held m n h.start h.end items b)
+    (read_parts m n h items (regions m) b others sound.heaps) flex)
 
 pub sound_held : (m n : AddressMap) (h : HeapList) (items : List Item) → IsSound (store_of m) → find_heap h.start (store_of m).heaps ≡ Some h
-    → KeepsImages (store_of m).others h.start h.items items → Becomes m n h.start h.end items → IsSound (store_of n)
+    → KeepsImages (store_of m).others h.start h.items items → Becomes m n h.start h.end items → AreSameFlex (class_of m) (class_of n) → IsSound (store_of n)
 unfolding store_of
-sound_held m n h items sound found kept b =
+sound_held m n h items sound found kept b flex =
     let others : AreOthers h (heaps_in (bytes_of m) (regions m)) = are_others (bytes_of m) h.start (heaps_in (bytes_of m) (regions m)) h sound.heaps found in
     let list : heaps_in (bytes_of n) (regions m) ≡ with_items h.start items (heaps_in (bytes_of m) (regions m)) = read_parts m n h items (regions m) b others sound.heaps in
     rw (layout-regions m n b.same, list) (record {
@@ -264,4 +269,6 @@ sound_held m n h items sound found kept b =
       placed = placed-held h items (heaps_in (bytes_of m) (regions m)) (others_in (regions m)) others kept sound.placed;
       apart = sound.apart;
       few = sound.few;
+      anchors = λ a. flex.anchors a ∙ sound.anchors a;
+      headers = λ a. flex.headers a ∙ sound.headers a;
     })

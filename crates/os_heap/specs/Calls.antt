@@ -41,24 +41,22 @@ with_end start end (h ∷ hs) =
 
 -- the store after a heap got another list, or another end
 abbrev pub holding : Store → HeapList → List Item → Store
-holding s h items = record {
+holding s h items = record s {
   bytes = record { mapped = s.bytes.mapped; at = with_heap s.bytes.at h.start h.end items };
   heaps = with_items h.start items s.heaps;
-  others = s.others;
 }
 
 abbrev pub ending : Store → HeapList → ℕ → Store
-ending s h end = record {
+ending s h end = record s {
   bytes = record { mapped = s.bytes.mapped; at = with_heap s.bytes.at h.start end h.items };
   heaps = with_end h.start end s.heaps;
-  others = s.others;
 }
 
 -- Reason 0, init: a heap without items, of a range that a heap may have, that meets no recorded one; guests make at most 64.
 abbrev pub begun_with : Kind → Store → ℕ → ℕ → Store
 begun_with k s at size =
     let h : HeapList = record { kind = k; start = at; end = size; items = [] } in
-    record { bytes = record { mapped = s.bytes.mapped; at = with_heap s.bytes.at at size [] }; heaps = s.heaps ++ h ∷ []; others = s.others }
+    record s { bytes = record { mapped = s.bytes.mapped; at = with_heap s.bytes.at at size [] }; heaps = s.heaps ++ h ∷ [] }
 
 unfoldable pub begun : Store → ℕ → ℕ → Result (Store × Unit {0}) ErrorNumber
 begun s at size =
@@ -92,7 +90,7 @@ gave_back s heap block =
 -- bytes are copied to it, and the old block is given back. Where no byte would be left beside the length word, the block is given back, and the
 -- answer is 0.
 abbrev pub copied : Store → ℕ → ℕ → ℕ → Store
-copied s from to len = record { bytes = with_moved s.bytes from to len; heaps = s.heaps; others = s.others }
+copied s from to len = record s { bytes = with_moved s.bytes from to len }
 
 abbrev pub handed_over : ℕ → ℕ → ℕ → Store → ℕ → Result (Store × ℕ) ErrorNumber
 handed_over heap block len s new = bind (gave_back (copied s block new len) heap block) (λ r. Ok (r.0, new))

@@ -1,24 +1,28 @@
 -- All heaps together with memory: the heaps that the words of memory spell at the recorded places, and what holds of them whatever is called (RISC
 -- OS 3 Programmer's Reference Manual, "OS_Heap", "The relocatable module area"; the limits are this project's own).
-use Rattle.std.specs.Prelude.{ℕ, ◌≡◌, ◌≤◌, ◌⊎◌, Bool, true, false, suc, ◌+◌, ◌==◌, ◌&&◌, Option, Some, None, List, [], ◌∷◌, length, if◌then◌else◌}
+use Rattle.std.specs.Prelude.{ℕ, ◌≡◌, ◌≤◌, ◌⊎◌, Bool, true, false, suc, ◌+◌, ◌==◌, ◌&&◌, ◌||◌, Option, Some, None, List, [], ◌∷◌, length, if◌then◌else◌}
 use Rattle.std.specs.List.{list_any}
 use Rattle.address_map.specs.declared.region.Kind.{Kind}
 use Rattle.address_map.specs.declared.region.Kind.TheVariants as kind
 use Rattle.address_map.specs.declared.region.Region.{Region}
 use Rattle.address_map.specs.declared.map.AddressMap.{AddressMap}
 use Rattle.address_map.specs.Bytes.{Bytes, in_range, word_at, word_start}
+use Rattle.address_map.specs.Classes.{is_heap_class, is_flex_header, is_anchor}
 use Rattle.address_map.specs.Items.{items_in, is_heap_word}
 use Rattle.address_map.specs.Records.{is_heap_kind}
 use Rattle.address_map.specs.Memory.{bytes_of, class_of, regions}
 use Rattle.os_heap_lists.specs.Heap.{HeapList, IsHeapIn}
 use Rattle.os_heap_lists.specs.Lists.{live_total}
-use Rattle.os_heap_lists.specs.Marks.{class_by}
+use Rattle.os_heap_lists.specs.Marks.{spells_any}
 
--- memory, the heaps in the order in which they were made, and the other recorded ranges
+-- memory, the heaps in the order in which they were made, the other recorded ranges, and which bytes are those of words that the flex store
+-- keeps its records in: the anchors of its blocks, and their headers
 pub record Store : Type 0 where
   pub bytes : Bytes
   pub heaps : List HeapList
   pub others : List Region
+  pub anchor : ℕ → Bool
+  pub header : ℕ → Bool
 
 -- The store that a map stands for: the heaps are those that its words spell at the recorded places.
 abbrev pub heap_in : Bytes → Region → HeapList
@@ -33,7 +37,13 @@ others_in [] = []
 others_in (r ∷ rs) = if is_heap_kind r.kind then others_in rs else r ∷ others_in rs
 
 unfoldable pub store_of : AddressMap → Store
-store_of m = record { bytes = bytes_of m; heaps = heaps_in (bytes_of m) (regions m); others = others_in (regions m) }
+store_of m = record {
+  bytes = bytes_of m;
+  heaps = heaps_in (bytes_of m) (regions m);
+  others = others_in (regions m);
+  anchor = λ a. is_anchor (class_of m a);
+  header = λ a. is_flex_header (class_of m a);
+}
 
 -- ranges that share no address
 abbrev pub AreClear : ℕ → ℕ → ℕ → ℕ → Type 0
@@ -110,14 +120,20 @@ pub record IsSound (s : Store) : Type 0 where
   pub placed : ArePlaced s.heaps s.others
   pub apart : AreRangesApart s.others
   pub few : length s.others ≤ 68
+  pub anchors : (a : ℕ) → s.anchor a ≡ false
+  pub headers : (a : ℕ) → s.header a ≡ false
 
--- The bytes that only store calls may write: those of the words that the heaps spell. A byte counts as its whole word does.
+-- The bytes that only store calls may write: those of the words that the heaps spell, of the headers of flex blocks, and of their anchors. A byte
+-- counts as its whole word does.
+abbrev pub is_flex_word : Store → ℕ → Bool
+is_flex_word s a = s.header a || s.anchor a
+
 unfoldable pub owned_in : Store → ℕ → Bool
-owned_in s a = list_any (λ h. is_heap_word h.start h.items (word_start a)) s.heaps
+owned_in s a = list_any (λ h. is_heap_word h.start h.items (word_start a)) s.heaps || is_flex_word s (word_start a)
 
--- The words that are marked are just those that the lists spell.
+-- The words that are marked as those of heaps are just those that the lists spell.
 abbrev pub AreClasses : AddressMap → Type 0
-AreClasses m = (a : ℕ) → class_of m a ≡ class_by (store_of m).heaps a
+AreClasses m = (a : ℕ) → is_heap_class (class_of m a) ≡ spells_any (store_of m).heaps (word_start a)
 
 -- the heap that starts at an address
 abbrev pub find_heap : ℕ → List HeapList → Option HeapList

@@ -28,10 +28,11 @@ impl Heaps {
     ///
     /// RISC OS 3 Programmer's Reference Manual, "OS_Heap", reason 5.
     pub fn change_size(&self, map: &mut AddressMap, heap: u32, change: u32) -> Counted<()>
-        requires { IsSound (store_of map.old) }
+        requires sound { IsSound (store_of map.old) }
+        requires classes { AreClasses map.old }
         ensures store { Gives (store_of map.old) (changed (store_of map.old) heap change) result.answer (store_of map.new) }
         ensures sound { IsSound (store_of map.new) }
-        ensures classes { AreClasses map.old → AreClasses map.new }
+        ensures classes { AreClasses map.new }
         ensures others { (store_of map.new).others ≡ (store_of map.old).others }
         ensures mapping { mapping map.new ≡ mapping map.old }
         ensures probes { result.probes ≡ 0 }
@@ -45,10 +46,11 @@ impl Heaps {
     /// Gives the module area's heap another end, where that is allowed, as its area's size changes.
     pub fn set_module_area_end(&self, map: &mut AddressMap, end: u32)
         requires sound { IsSound (store_of map.old) }
+        requires classes { AreClasses map.old }
         requires may { MayEndArea (store_of map.old) end }
         ensures store { IsAreaEnded (store_of map.old) end (store_of map.new) }
         ensures sound { IsSound (store_of map.new) }
-        ensures classes { AreClasses map.old → AreClasses map.new }
+        ensures classes { AreClasses map.new }
         ensures others { (store_of map.new).others ≡ (store_of map.old).others }
         ensures mapping { mapping map.new ≡ mapping map.old }
 
@@ -70,10 +72,11 @@ fn has_own_size(kind: Kind) -> bool
 
 /// Changes the end of a heap, where nothing speaks against it.
 fn change_end(map: &mut AddressMap, heap: u32, change: u32) -> Result<(), ErrorNumber>
-    requires { IsSound (store_of map.old) }
+    requires sound { IsSound (store_of map.old) }
+    requires classes { AreClasses map.old }
     ensures store { Gives (store_of map.old) (changed (store_of map.old) heap change) result (store_of map.new) }
     ensures sound { IsSound (store_of map.new) }
-    ensures classes { AreClasses map.old → AreClasses map.new }
+    ensures classes { AreClasses map.new }
     ensures others { (store_of map.new).others ≡ (store_of map.old).others }
     ensures mapping { mapping map.new ≡ mapping map.old }
 {
@@ -124,9 +127,10 @@ fn set_end(map: &mut AddressMap, region: &Region, end: u32)
     requires found { find_heap region.now.at (store_of map.old).heaps ≡ Some (heap_in (bytes_of map.old) region.now) }
     requires may { MayEnd (store_of map.old) (heap_in (bytes_of map.old) region.now) end }
     requires sound { IsSound (store_of map.old) }
+    requires classes { AreClasses map.old }
     ensures store { store_of map.new ≡ ending (store_of map.old) (heap_in (bytes_of map.old) region.now) end }
     ensures sound { IsSound (store_of map.new) }
-    ensures classes { AreClasses map.old → AreClasses map.new }
+    ensures classes { AreClasses map.new }
     ensures others { (store_of map.new).others ≡ (store_of map.old).others }
     ensures mapping { mapping map.new ≡ mapping map.old }
     ensures bytes { (a : ℕ) → AreApart a 1 (region.now.at + 12) 4 → byte_at map.new a ≡ byte_at map.old a }

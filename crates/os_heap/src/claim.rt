@@ -34,7 +34,7 @@ struct Search {
 }
 
 /// The total of a block for `size` bytes: its length word too, a multiple of 8.
-fn total_for(size: u32) -> u64
+pub fn total_for(size: u32) -> u64
     ensures { result ≡ total_for size }
 {
     round_up_8(u64::from(size) + 4)
@@ -139,10 +139,11 @@ impl Heaps {
     ///
     /// RISC OS 3 Programmer's Reference Manual, "OS_Heap", reason 2.
     pub fn get(&self, map: &mut AddressMap, heap: u32, size: u32) -> Counted<u32>
-        requires { IsSound (store_of map.old) }
+        requires sound { IsSound (store_of map.old) }
+        requires classes { AreClasses map.old }
         ensures store { Gives (store_of map.old) (got (store_of map.old) heap size) result.answer (store_of map.new) }
         ensures sound { IsSound (store_of map.new) }
-        ensures classes { AreClasses map.old → AreClasses map.new }
+        ensures classes { AreClasses map.new }
         ensures layout { layout map.new ≡ layout map.old }
         ensures probes { result.probes ≡ get_probes (store_of map.old) heap size }
     {

@@ -80,10 +80,11 @@ impl Heaps {
     ///
     /// RISC OS 3 Programmer's Reference Manual, "OS_Heap", reason 3.
     pub fn free(&self, map: &mut AddressMap, heap: u32, block: u32) -> Counted<()>
-        requires { IsSound (store_of map.old) }
+        requires sound { IsSound (store_of map.old) }
+        requires classes { AreClasses map.old }
         ensures store { Gives (store_of map.old) (gave_back (store_of map.old) heap block) result.answer (store_of map.new) }
         ensures sound { IsSound (store_of map.new) }
-        ensures classes { AreClasses map.old → AreClasses map.new }
+        ensures classes { AreClasses map.new }
         ensures layout { layout map.new ≡ layout map.old }
         ensures probes { result.probes ≡ walk_probes (store_of map.old) heap block }
     {

@@ -33,10 +33,11 @@ impl Heaps {
     /// is not within 16 to 16,777,216, or not all of the range is mapped; `HeapOverlaps` where it meets a recorded range;
     /// `HeapTableFull` where there are 64 heaps besides that of the module area.
     pub fn init(&self, map: &mut AddressMap, heap: u32, size: u32) -> Counted<()>
-        requires { IsSound (store_of map.old) }
+        requires sound { IsSound (store_of map.old) }
+        requires classes { AreClasses map.old }
         ensures store { Gives (store_of map.old) (begun (store_of map.old) heap size) result.answer (store_of map.new) }
         ensures sound { IsSound (store_of map.new) }
-        ensures classes { AreClasses map.old → AreClasses map.new }
+        ensures classes { AreClasses map.new }
         ensures others { (store_of map.new).others ≡ (store_of map.old).others }
         ensures mapping { mapping map.new ≡ mapping map.old }
         ensures probes { result.probes ≡ 0 }
@@ -51,9 +52,10 @@ impl Heaps {
     pub fn init_module_area(&self, map: &mut AddressMap, area: u32, size: u32)
         requires may { MayBegin Rma (store_of map.old) area size }
         requires sound { IsSound (store_of map.old) }
+        requires classes { AreClasses map.old }
         ensures store { store_of map.new ≡ begun_with Rma (store_of map.old) area size }
         ensures sound { IsSound (store_of map.new) }
-        ensures classes { AreClasses map.old → AreClasses map.new }
+        ensures classes { AreClasses map.new }
         ensures others { (store_of map.new).others ≡ (store_of map.old).others }
         ensures mapping { mapping map.new ≡ mapping map.old }
     {
@@ -63,10 +65,11 @@ impl Heaps {
 
 /// Makes a heap, where nothing speaks against it.
 fn begin(map: &mut AddressMap, heap: u32, size: u32) -> Result<(), ErrorNumber>
-    requires { IsSound (store_of map.old) }
+    requires sound { IsSound (store_of map.old) }
+    requires classes { AreClasses map.old }
     ensures store { Gives (store_of map.old) (begun (store_of map.old) heap size) result (store_of map.new) }
     ensures sound { IsSound (store_of map.new) }
-    ensures classes { AreClasses map.old → AreClasses map.new }
+    ensures classes { AreClasses map.new }
     ensures others { (store_of map.new).others ≡ (store_of map.old).others }
     ensures mapping { mapping map.new ≡ mapping map.old }
 {
@@ -80,9 +83,10 @@ fn make(map: &mut AddressMap, kind: Kind, heap: u32, size: u32)
     requires kind { is_heap_kind kind ≡ true }
     requires may { MayBegin kind (store_of map.old) heap size }
     requires sound { IsSound (store_of map.old) }
+    requires classes { AreClasses map.old }
     ensures store { store_of map.new ≡ begun_with kind (store_of map.old) heap size }
     ensures sound { IsSound (store_of map.new) }
-    ensures classes { AreClasses map.old → AreClasses map.new }
+    ensures classes { AreClasses map.new }
     ensures others { (store_of map.new).others ≡ (store_of map.old).others }
     ensures mapping { mapping map.new ≡ mapping map.old }
 {

@@ -15,6 +15,7 @@ mod marks;
 mod refit;
 mod relocate;
 pub mod resize;
+pub mod room;
 pub mod size;
 mod sums;
 mod walk;
@@ -22,8 +23,10 @@ mod words;
 
 pub use address_map::Item;
 pub use blocks::Blocks;
+pub use claim::total_for;
 pub use counted::Counted;
 pub use heaps::Heaps;
+pub use sums::{changed_by, round_up_8};
 
 #[cfg(test)]
 mod tests;

@@ -28,6 +28,7 @@ pub(crate) fn relocate(
     needed: u64,
 ) -> Counted<u32>
     requires sound { IsSound (store_of map.old) }
+    requires classes { AreClasses map.old }
     requires heap { HasHeapAt map.old heap }
     requires found { is_some (find_heap heap (store_of map.old).heaps) ≡ true }
     requires own { has_image block (regions map.old) ≡ false }
@@ -37,7 +38,7 @@ pub(crate) fn relocate(
     requires larger { total < needed }
     ensures store { (h : HeapList) → find_heap heap (store_of map.old).heaps ≡ Some h → Gives (store_of map.old) (moved (store_of map.old) h block total needed) result.answer (store_of map.new) }
     ensures sound { IsSound (store_of map.new) }
-    ensures classes { AreClasses map.old → AreClasses map.new }
+    ensures classes { AreClasses map.new }
     ensures layout { layout map.new ≡ layout map.old }
     ensures probes { (h : HeapList) → find_heap heap (store_of map.old).heaps ≡ Some h → result.probes ≡ move_probes h block needed (claimed needed (h.end - 16) h.items) }
 {

@@ -32,10 +32,11 @@ impl Heaps {
     ///
     /// RISC OS 3 Programmer's Reference Manual, "OS_Heap", reason 4.
     pub fn resize(&self, map: &mut AddressMap, heap: u32, block: u32, change: u32) -> Counted<u32>
-        requires { IsSound (store_of map.old) }
+        requires sound { IsSound (store_of map.old) }
+        requires classes { AreClasses map.old }
         ensures store { Gives (store_of map.old) (resized (store_of map.old) heap block change) result.answer (store_of map.new) }
         ensures sound { IsSound (store_of map.new) }
-        ensures classes { AreClasses map.old → AreClasses map.new }
+        ensures classes { AreClasses map.new }
         ensures layout { layout map.new ≡ layout map.old }
         ensures probes { result.probes ≡ resize_probes (store_of map.old) heap block change }
         ensures bounds { AreInBounds result.probes block (find_heap heap (store_of map.old).heaps) }
@@ -53,10 +54,11 @@ impl Heaps {
 /// Changes the total of a block, where the heap is there.
 fn resize_block(map: &mut AddressMap, heap: u32, block: u32, change: u32) -> Counted<u32>
     requires sound { IsSound (store_of map.old) }
+    requires classes { AreClasses map.old }
     requires found { is_some (find_heap heap (store_of map.old).heaps) ≡ true }
     ensures store { Gives (store_of map.old) (resized (store_of map.old) heap block change) result.answer (store_of map.new) }
     ensures sound { IsSound (store_of map.new) }
-    ensures classes { AreClasses map.old → AreClasses map.new }
+    ensures classes { AreClasses map.new }
     ensures layout { layout map.new ≡ layout map.old }
     ensures probes { result.probes ≡ resize_probes (store_of map.old) heap block change }
 {

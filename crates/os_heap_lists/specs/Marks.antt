@@ -40,7 +40,3 @@ AreStill at olds news rest = (p : ℕ) → is_head (at + size_of news) rest p �
 -- is the word at `p` one that some heap spells?
 abbrev pub spells_any : List HeapList → ℕ → Bool
 spells_any hs p = list_any (λ h. is_heap_word h.start h.items p) hs
-
--- The class of each byte, by the lists of all heaps: a byte counts as its whole word does.
-unfoldable pub class_by : List HeapList → ℕ → Class
-class_by hs a = if spells_any hs (word_start a) then class.Heap else class.Plain

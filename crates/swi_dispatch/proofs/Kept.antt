@@ -19,7 +19,7 @@ use Rattle.address_map.specs.declared.region.Kind.TheVariants.{Rma}
 use Rattle.address_map.specs.declared.region.Region.{Region}
 use Rattle.os_heap_lists.specs.Heap.{HeapList}
 use Rattle.os_heap.specs.Store.{Store, store_of, owned_in, AreClasses, ArePlaced, IsClearOfHeaps, IsSound}
-use Rattle.os_heap.proofs.Frame.{IsKept, classes_same, clear_kept, heads_kept, owned_word}
+use Rattle.os_heap.proofs.Frame.{IsKept, classes_same, clear_kept, heads_kept, owned_word, spelled_owned}
 use Rattle.os_heap.proofs.Stores.{image_kind}
 use Rattle.os_heap.proofs.Owned.{owned_marks}
 use Rattle.dynamic_areas.specs.Ground.{AreAreas, system_pages}
@@ -42,12 +42,13 @@ unfolding store_of
 kept_all m n kept e = kept_memory m n (bytes_of m) kept e
 
 -- memory that is the same, and memory whose owned bytes are
-pub same_kept : (m n : AddressMap) → layout n ≡ layout m → IsSound (store_of m) → bytes_of n ≡ bytes_of m → IsKept m n
-same_kept m n same sound e = heads_kept m n same sound (λ a _. ap (λ (b : Bytes). b.at a) e)
+pub same_kept : (m n : AddressMap) → layout n ≡ layout m → class_of n ≡ class_of m → IsSound (store_of m) → bytes_of n ≡ bytes_of m → IsKept m n
+same_kept m n same marks sound e = heads_kept m n same marks sound (λ a _. ap (λ (b : Bytes). b.at a) e)
 
-pub keeps_kept : (m n : AddressMap) (b : Bytes) → layout n ≡ layout m → IsSound (store_of m) → bytes_of n ≡ b
+pub keeps_kept : (m n : AddressMap) (b : Bytes) → layout n ≡ layout m → class_of n ≡ class_of m → IsSound (store_of m) → bytes_of n ≡ b
     → Keeps (owned_in (store_of m)) (bytes_of m) b → IsKept m n
-keeps_kept m n b same sound e keeps = heads_kept m n same sound (λ a is. ap (λ (c : Bytes). c.at a) e ∙ keeps.bytes a is)
+keeps_kept m n b same marks sound e keeps =
+    heads_kept m n same marks sound (λ a is. ap (λ (c : Bytes). c.at a) e ∙ keeps.bytes a (spelled_owned (store_of m) a is))
 
 -- writes to the system pages
 system_clear : (hs : List HeapList) (rs : List Region) → ArePlaced hs rs → IsRecorded system_pages rs → IsClearOfHeaps 0x01C00000 0x3000 hs
@@ -60,10 +61,10 @@ system_clear hs (r ∷ rs) placed there = elim there [
   ]
 ]
 
-pub system_kept : (m n : AddressMap) → layout n ≡ layout m → IsSound (store_of m) → IsRecorded system_pages (store_of m).others
+pub system_kept : (m n : AddressMap) → layout n ≡ layout m → class_of n ≡ class_of m → IsSound (store_of m) → IsRecorded system_pages (store_of m).others
     → ((a : ℕ) → in_range 0x01C00000 0x3000 a ≡ false → byte_at n a ≡ byte_at m a) → IsKept m n
-system_kept m n same sound there kept =
-    clear_kept m n 0x01C00000 0x3000 same sound (system_clear (store_of m).heaps (store_of m).others sound.placed there) kept
+system_kept m n same marks sound there kept =
+    clear_kept m n 0x01C00000 0x3000 same marks sound (system_clear (store_of m).heaps (store_of m).others sound.placed there) kept
 
 outside_word : (old : ℕ → ℕ) (a number : ℕ) → in_range 0x01C00000 0x3000 a ≡ false → with_word_at old 0x01C02100 number a ≡ old a
 outside_word old a number out = grind (arith, nat_tests)
@@ -110,31 +111,31 @@ pub same_pool : (m n : AddressMap) → layout n ≡ layout m → free_pages n �
 same_pool m n same = ap (λ (l : Layout). l.free_pages) same
 
 poked_by : (m n : AddressMap) (cpu : State) (tables : Tables) (halt : Option Halt) (a w : ℕ) (result : Result Unit Fault) (f : Option Fault)
-    → layout n ≡ layout m → IsSound (store_of m)
+    → layout n ≡ layout m → class_of n ≡ class_of m → IsSound (store_of m)
     → (f ≡ None → owned_in (store_of m) (a - a % 4) ≡ false)
     → Leaves (bytes_of m) (unless f (with_word (bytes_of m) (a - a % 4) w)) result (bytes_of n)
     → IsKept m n × Leaves (over m cpu tables halt) (bind (unless f (with_word (bytes_of m) (a - a % 4) w))
     (λ b. Ok (with_core cpu (free_pages m) tables halt (with_memory (store_of m) b)))) result (over n cpu tables halt)
-poked_by m n cpu tables halt a w (Ok u) None same sound free left =
-    let kept : IsKept m n = keeps_kept m n _ same sound left (word_kept (owned_in (store_of m)) (bytes_of m) (a - a % 4) w (by_words (store_of m)) (omega arith) (free refl)) in
+poked_by m n cpu tables halt a w (Ok u) None same marks sound free left =
+    let kept : IsKept m n = keeps_kept m n _ same marks sound left (word_kept (owned_in (store_of m)) (bytes_of m) (a - a % 4) w (by_words (store_of m)) (omega arith) (free refl)) in
     let store = kept_memory m n _ kept left in
     let pool = same_pool m n same in
     (kept, λ i. with_core cpu (pool i) tables halt (store i))
-poked_by m n cpu tables halt a w (Err e) None same sound free left = absurd left
-poked_by m n cpu tables halt a w (Ok u) (Some f) same sound free left = absurd left
-poked_by m n cpu tables halt a w (Err e) (Some f) same sound free left =
-    let kept : IsKept m n = same_kept m n same sound left.1 in
+poked_by m n cpu tables halt a w (Err e) None same marks sound free left = absurd left
+poked_by m n cpu tables halt a w (Ok u) (Some f) same marks sound free left = absurd left
+poked_by m n cpu tables halt a w (Err e) (Some f) same marks sound free left =
+    let kept : IsKept m n = same_kept m n same marks sound left.1 in
     let store = kept_all m n kept left.1 in
     let pool = same_pool m n same in
     (kept, (left.0, λ i. with_core cpu (pool i) tables halt (store i)))
 
 pub pokes : (m n : AddressMap) (cpu : State) (tables : Tables) (halt : Option Halt) (a w : ℕ) (result : Result Unit Fault)
-    → layout n ≡ layout m → IsSound (store_of m) → AreClasses m
+    → layout n ≡ layout m → class_of n ≡ class_of m → IsSound (store_of m) → AreClasses m
     → Leaves (bytes_of m) (word_stored (is_owned m) (bytes_of m) a w) result (bytes_of n)
     → IsKept m n × Leaves (over m cpu tables halt) (poked (over m cpu tables halt) a w) result (over n cpu tables halt)
 unfolding poked word_stored store_of
-pokes m n cpu tables halt a w result same sound classes left =
-    poked_by m n cpu tables halt a w result (store_fault (owned_in (store_of m)) (bytes_of m) (a - a % 4)) same sound
+pokes m n cpu tables halt a w result same marks sound classes left =
+    poked_by m n cpu tables halt a w result (store_fault (owned_in (store_of m)) (bytes_of m) (a - a % 4)) same marks sound
     (λ e. free_by (nat_le (2 ^ 26) (a - a % 4)) ((bytes_of m).mapped (a - a % 4)) (owned_in (store_of m) (a - a % 4)) e)
     (subst (λ (owned : ℕ → Bool). Leaves (bytes_of m) (word_stored owned (bytes_of m) a w) result (bytes_of n)) (owned_marks m classes) left)
 
@@ -143,11 +144,11 @@ abbrev pub module_area : Sizes → HeapList
 module_area s = record { kind = Rma; start = 0x01800000; end = 4096 * s.rma; items = [] }
 
 -- a program in the application space, which the module area doesn't meet
-pub program_kept : (m n : AddressMap) (s : Sizes) (program : List ℕ) → layout n ≡ layout m → IsSound (store_of m) → AreGood s
+pub program_kept : (m n : AddressMap) (s : Sizes) (program : List ℕ) → layout n ≡ layout m → class_of n ≡ class_of m → IsSound (store_of m) → AreGood s
     → (store_of m).heaps ≡ module_area s ∷ [] → length program ≤ 4096 * s.app
     → ((a : ℕ) → byte_at n a ≡ with_bytes_at (byte_at m) 0x8000 program a) → IsKept m n
-program_kept m n s program same sound good heaps fits bytes =
-    clear_kept m n 0x8000 (length program) same sound (rw heaps (λ a inside. apart s (length program) a good fits inside, tt))
+program_kept m n s program same marks sound good heaps fits bytes =
+    clear_kept m n 0x8000 (length program) same marks sound (rw heaps (λ a inside. apart s (length program) a good fits inside, tt))
     (λ a outside. bytes a ∙ untouched (byte_at m) program a outside) where
       apart : (s : Sizes) (len a : ℕ) → AreGood s → len ≤ 4096 * s.app → in_range 0x8000 len a ≡ true → in_range 0x01800000 (4096 * s.rma) a ≡ false
       apart s len a good fits inside = let limit = good.in_limit in let room = good.has_room in grind (arith, nat_tests)
@@ -156,10 +157,10 @@ program_kept m n s program same sound good heaps fits bytes =
       untouched old program a outside = rw outside refl
 
 -- the error block
-pub error_kept : (m n : AddressMap) (number : ℕ) (text : List ℕ) → layout n ≡ layout m → IsSound (store_of m) → IsRecorded system_pages (store_of m).others
+pub error_kept : (m n : AddressMap) (number : ℕ) (text : List ℕ) → layout n ≡ layout m → class_of n ≡ class_of m → IsSound (store_of m) → IsRecorded system_pages (store_of m).others
     → length text ≤ 128 → bytes_of n ≡ with_bytes (with_word (bytes_of m) 0x01C02100 number) 0x01C02104 text → IsKept m n
-error_kept m n number text same sound others short e =
-    system_kept m n same sound others (λ a out. ap (λ (b : Bytes). b.at a) e
+error_kept m n number text same marks sound others short e =
+    system_kept m n same marks sound others (λ a out. ap (λ (b : Bytes). b.at a) e
     ∙ outside_bytes (with_word_at (byte_at m) 0x01C02100 number) a text short out ∙ outside_word (byte_at m) a number out)
 
 kept_classes : (m n : AddressMap) → IsKept m n → class_of n ≡ class_of m → AreClasses m → AreClasses n

@@ -2,7 +2,7 @@
 use Rattle.std.proofs.Common.{◌≡◌, ℕ, Bool, Option, Result, Ok, Err, refl, ◌∙◌, ap, subst}
 use Rattle.address_map.specs.declared.map.AddressMap.{AddressMap}
 use Rattle.address_map.specs.Bytes.{Bytes}
-use Rattle.address_map.specs.Memory.{bytes_of, layout, is_owned}
+use Rattle.address_map.specs.Memory.{bytes_of, layout, class_of, is_owned}
 use Rattle.arm_step.specs.declared.turn.Turn.{Turn}
 use Rattle.arm_step.specs.State.{State}
 use Rattle.arm_step.specs.Step.{stepped}
@@ -23,29 +23,29 @@ turned_by s (Err e) t s' h = ap (λ (x : Turn). turn_end s' x) h.0 ∙ ap (λ (x
 
 -- the core's turn, as a turn of the whole machine: an instruction keeps the list of each heap
 turned_core : (m n : AddressMap) (cpu cpu' : State) (tables : Tables) (halt : Option Halt) (r : Result (State × Bytes) Turn) (t : Turn)
-    → layout n ≡ layout m → IsSound (store_of m) → stepped (owned_in (store_of m)) cpu (bytes_of m) ≡ r
+    → layout n ≡ layout m → class_of n ≡ class_of m → IsSound (store_of m) → stepped (owned_in (store_of m)) cpu (bytes_of m) ≡ r
     → Turns (cpu, bytes_of m) r t (cpu', bytes_of n)
     → IsKept m n × Turned (over m cpu tables halt) r t (over n cpu' tables halt)
-turned_core m n cpu cpu' tables halt (Ok w) t same sound e h =
+turned_core m n cpu cpu' tables halt (Ok w) t same marks sound e h =
     let core : cpu' ≡ w.0 = ap (λ (x : State × Bytes). x.0) h.1 in
     let memory : bytes_of n ≡ w.1 = ap (λ (x : State × Bytes). x.1) h.1 in
-    let kept : IsKept m n = keeps_kept m n w.1 same sound memory (step_keeps (owned_in (store_of m)) cpu (bytes_of m) (by_words (store_of m)) w.0 w.1 e) in
+    let kept : IsKept m n = keeps_kept m n w.1 same marks sound memory (step_keeps (owned_in (store_of m)) cpu (bytes_of m) (by_words (store_of m)) w.0 w.1 e) in
     let store = kept_memory m n w.1 kept memory in
     let pool = same_pool m n same in
     (kept, (h.0, λ i. with_core (core i) (pool i) tables halt (store i)))
-turned_core m n cpu cpu' tables halt (Err f) t same sound e h =
+turned_core m n cpu cpu' tables halt (Err f) t same marks sound e h =
     let core : cpu' ≡ cpu = ap (λ (x : State × Bytes). x.0) h.1 in
     let memory : bytes_of n ≡ bytes_of m = ap (λ (x : State × Bytes). x.1) h.1 in
-    let kept : IsKept m n = same_kept m n same sound memory in
+    let kept : IsKept m n = same_kept m n same marks sound memory in
     let store = kept_all m n kept memory in
     let pool = same_pool m n same in
     (kept, (h.0, λ i. with_core (core i) (pool i) tables halt (store i)))
 
 pub takes_turn : (m n : AddressMap) (cpu cpu' : State) (tables : Tables) (halt : Option Halt) (t : Turn)
-    → layout n ≡ layout m → IsSound (store_of m) → AreClasses m
+    → layout n ≡ layout m → class_of n ≡ class_of m → IsSound (store_of m) → AreClasses m
     → Turns (cpu, bytes_of m) (stepped (is_owned m) cpu (bytes_of m)) t (cpu', bytes_of n)
     → IsKept m n × TakesTurn (over m cpu tables halt) t (over n cpu' tables halt)
 unfolding store_of
-takes_turn m n cpu cpu' tables halt t same sound classes h =
-    turned_core m n cpu cpu' tables halt (stepped (owned_in (store_of m)) cpu (bytes_of m)) t same sound refl
+takes_turn m n cpu cpu' tables halt t same marks sound classes h =
+    turned_core m n cpu cpu' tables halt (stepped (owned_in (store_of m)) cpu (bytes_of m)) t same marks sound refl
     (subst (λ (owned : ℕ → Bool). Turns (cpu, bytes_of m) (stepped owned cpu (bytes_of m)) t (cpu', bytes_of n)) (owned_marks m classes) h)

@@ -1,6 +1,6 @@
 -- The written machine: its core, its store (memory as a function from addresses to bytes, the lists of all heaps, and the other recorded
 -- ranges), how many pages are in the pool, what stands beside core and memory, and the halt that keeps it from further steps.
-use Rattle.std.specs.Prelude.{ℕ, ◌+◌, ◌-◌, ◌*◌, Option, None, List, [], ◌∷◌}
+use Rattle.std.specs.Prelude.{ℕ, ◌+◌, ◌-◌, ◌*◌, false, Option, None, List, [], ◌∷◌}
 use Rattle.profile.specs.declared.stop.Stop.{Stop}
 use Rattle.profile.specs.declared.stop.Stop.TheVariants as stop
 use Rattle.profile.specs.Sizes.{Sizes}
@@ -11,12 +11,14 @@ use Rattle.os_heap.specs.Calls.{begun_with}
 use Rattle.os_heap.specs.Store.{Store}
 use Rattle.dynamic_areas.specs.Areas.{Land, start_land}
 use Rattle.dynamic_areas.specs.Ground.{Estate, is_land, system_pages}
+use Rattle.swi_dispatch_frames.specs.declared.frame.Frame.{Frame}
 use Rattle.swi_dispatch.specs.declared.halt.Halt.{Halt}
 use Rattle.swi_dispatch.specs.declared.halt.Halt.TheVariants as halt
 
--- what stands beside the core and the memory: the areas
+-- what stands beside the core and the memory: the areas, and the frames of module code that is under way
 pub record Tables : Type 0 where
   pub land : Land
+  pub frames : List Frame
 
 pub record MachineState : Type 0 where
   pub cpu : State
@@ -51,7 +53,13 @@ with_estate s e = record s { store = e.store; pool = e.pool; tables = record s.t
 -- The start. Mapped are the application space, the first pages of the module area and the three system pages, which are recorded; each mapped
 -- byte is 0 but for the module area's descriptor, since the machine makes an empty heap there. All other pages are in the pool.
 abbrev pub bare_store : Sizes → Store
-bare_store s = record { bytes = record { mapped = is_land (start_land s); at = λ _. 0 }; heaps = []; others = system_pages ∷ [] }
+bare_store s = record {
+  bytes = record { mapped = is_land (start_land s); at = λ _. 0 };
+  heaps = [];
+  others = system_pages ∷ [];
+  anchor = λ _. false;
+  header = λ _. false;
+}
 
 abbrev pub start_store : Sizes → Store
 start_store s = begun_with Rma (bare_store s) 0x01800000 (4096 * s.rma)
@@ -64,6 +72,6 @@ start_of s = record {
   cpu = start_state;
   store = start_store s;
   pool = start_pool s;
-  tables = record { land = start_land s };
+  tables = record { land = start_land s; frames = [] };
   halt = None;
 }

@@ -4,7 +4,7 @@ use profile::ErrorNumber;
 use std::test::Fail;
 
 #[test]
-#[tactic(auto, using(crate::proofs::Added::sound_empty))]
+#[tactic(auto, using(crate::proofs::Added::sound_empty, crate::proofs::Frame::classes_empty))]
 fn claims_blocks_at_the_base(rt: HostRuntime) -> Result<(), Fail> {
     let mut map = AddressMap::new(rt.alloc(), 1)?;
     map.map_pages(0x9000, 1);
@@ -29,7 +29,7 @@ fn claims_blocks_at_the_base(rt: HostRuntime) -> Result<(), Fail> {
 }
 
 #[test]
-#[tactic(auto, using(crate::proofs::Added::sound_empty))]
+#[tactic(auto, using(crate::proofs::Added::sound_empty, crate::proofs::Frame::classes_empty))]
 fn joins_free_blocks_and_sinks_the_base(rt: HostRuntime) -> Result<(), Fail> {
     let mut map = AddressMap::new(rt.alloc(), 1)?;
     map.map_pages(0x9000, 1);
@@ -60,7 +60,7 @@ fn joins_free_blocks_and_sinks_the_base(rt: HostRuntime) -> Result<(), Fail> {
 }
 
 #[test]
-#[tactic(auto, using(crate::proofs::Added::sound_empty))]
+#[tactic(auto, using(crate::proofs::Added::sound_empty, crate::proofs::Frame::classes_empty))]
 fn takes_the_first_free_block_that_fits(rt: HostRuntime) -> Result<(), Fail> {
     let mut map = AddressMap::new(rt.alloc(), 1)?;
     map.map_pages(0x9000, 1);
@@ -89,7 +89,7 @@ fn takes_the_first_free_block_that_fits(rt: HostRuntime) -> Result<(), Fail> {
 }
 
 #[test]
-#[tactic(auto, using(crate::proofs::Added::sound_empty))]
+#[tactic(auto, using(crate::proofs::Added::sound_empty, crate::proofs::Frame::classes_empty))]
 fn takes_the_front_of_a_free_block(rt: HostRuntime) -> Result<(), Fail> {
     let mut map = AddressMap::new(rt.alloc(), 1)?;
     map.map_pages(0x9000, 1);

@@ -4,7 +4,7 @@ use profile::ErrorNumber;
 use std::test::Fail;
 
 #[test]
-#[tactic(auto, using(crate::proofs::Added::sound_empty))]
+#[tactic(auto, using(crate::proofs::Added::sound_empty, crate::proofs::Frame::classes_empty))]
 fn changes_the_size_of_a_heap(rt: HostRuntime) -> Result<(), Fail> {
     let mut map = AddressMap::new(rt.alloc(), 1)?;
     map.map_pages(0x9000, 1);
@@ -35,7 +35,7 @@ fn changes_the_size_of_a_heap(rt: HostRuntime) -> Result<(), Fail> {
 }
 
 #[test]
-#[tactic(auto, using(crate::proofs::Added::sound_empty))]
+#[tactic(auto, using(crate::proofs::Added::sound_empty, crate::proofs::Frame::classes_empty))]
 fn grows_a_heap_up_to_another(rt: HostRuntime) -> Result<(), Fail> {
     let mut map = AddressMap::new(rt.alloc(), 1)?;
     map.map_pages(0x9000, 1);

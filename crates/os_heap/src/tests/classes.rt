@@ -4,7 +4,7 @@ use std::test::Fail;
 
 // Three blocks of 24 bytes, from 0x9010 on. The second is given back, and the first grows into it by 8.
 #[test]
-#[tactic(auto, using(crate::proofs::Added::sound_empty))]
+#[tactic(auto, using(crate::proofs::Added::sound_empty, crate::proofs::Frame::classes_empty))]
 fn owns_the_words_of_blocks_and_free_items(rt: HostRuntime) -> Result<(), Fail> {
     let mut map = AddressMap::new(rt.alloc(), 1)?;
     map.map_pages(0x9000, 1);
@@ -44,7 +44,7 @@ fn owns_the_words_of_blocks_and_free_items(rt: HostRuntime) -> Result<(), Fail> 
 
 // A block behind a free item is given back at the base: of the heap its descriptor is left.
 #[test]
-#[tactic(auto, using(crate::proofs::Added::sound_empty))]
+#[tactic(auto, using(crate::proofs::Added::sound_empty, crate::proofs::Frame::classes_empty))]
 fn owns_the_descriptor_of_an_empty_heap(rt: HostRuntime) -> Result<(), Fail> {
     let mut map = AddressMap::new(rt.alloc(), 1)?;
     map.map_pages(0x9000, 1);

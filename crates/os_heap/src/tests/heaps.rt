@@ -4,7 +4,7 @@ use profile::ErrorNumber;
 use std::test::Fail;
 
 #[test]
-#[tactic(auto, using(crate::proofs::Added::sound_empty))]
+#[tactic(auto, using(crate::proofs::Added::sound_empty, crate::proofs::Frame::classes_empty))]
 fn begins_heaps(rt: HostRuntime) -> Result<(), Fail> {
     let mut map = AddressMap::new(rt.alloc(), 1)?;
     map.map_pages(0x9000, 1);
@@ -27,7 +27,7 @@ fn begins_heaps(rt: HostRuntime) -> Result<(), Fail> {
 }
 
 #[test]
-#[tactic(auto, using(crate::proofs::Added::sound_empty))]
+#[tactic(auto, using(crate::proofs::Added::sound_empty, crate::proofs::Frame::classes_empty))]
 fn refuses_heaps_in_order(rt: HostRuntime) -> Result<(), Fail> {
     let mut map = AddressMap::new(rt.alloc(), 1)?;
     map.map_pages(0x9000, 1);
@@ -52,7 +52,7 @@ fn refuses_heaps_in_order(rt: HostRuntime) -> Result<(), Fail> {
 }
 
 #[test]
-#[tactic(auto, using(crate::proofs::Added::sound_empty))]
+#[tactic(auto, using(crate::proofs::Added::sound_empty, crate::proofs::Frame::classes_empty))]
 fn has_room_for_64_heaps(rt: HostRuntime) -> Result<(), Fail> {
     let mut map = AddressMap::new(rt.alloc(), 1)?;
     map.map_pages(0x9000, 1);
@@ -72,7 +72,7 @@ fn has_room_for_64_heaps(rt: HostRuntime) -> Result<(), Fail> {
 }
 
 #[test]
-#[tactic(auto, using(crate::proofs::Added::sound_empty))]
+#[tactic(auto, using(crate::proofs::Added::sound_empty, crate::proofs::Frame::classes_empty))]
 fn tells_items_and_room(rt: HostRuntime) -> Result<(), Fail> {
     let mut map = AddressMap::new(rt.alloc(), 1)?;
     map.map_pages(0x9000, 1);

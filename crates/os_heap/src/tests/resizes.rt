@@ -1,5 +1,5 @@
 ghost use Rattle.std.specs.Prelude.{MatchResult};
-ghost use Rattle.os_heap.specs.Store.{store_of, IsSound};
+ghost use Rattle.os_heap.specs.Store.{store_of, AreClasses, IsSound};
 
 use crate::Heaps;
 use address_map::AddressMap;
@@ -9,9 +9,10 @@ use std::test::Fail;
 const HEAP: u32 = 0x9000;
 
 /// A heap of 256 bytes at &9000 with blocks of 20 bytes at &9014, &9044 and &905C, and a free one of 24 bytes at &9028.
-#[tactic(auto, using(crate::proofs::Added::sound_empty))]
+#[tactic(auto, using(crate::proofs::Added::sound_empty, crate::proofs::Frame::classes_empty))]
 fn with_blocks(rt: &HostRuntime) -> Result<AddressMap, Fail>
-    ensures { MatchResult result (λ map. IsSound (store_of map)) (λ _. Unit {0}) }
+    ensures sound { MatchResult result (λ map. IsSound (store_of map)) (λ _. Unit {0}) }
+    ensures classes { MatchResult result AreClasses (λ _. Unit {0}) }
 {
     let mut map = AddressMap::new(rt.alloc(), 1)?;
     map.map_pages(HEAP, 1);
@@ -126,7 +127,7 @@ fn tells_the_size_of_blocks(rt: HostRuntime) -> Result<(), Fail> {
 
 /// Bytes of the guest's in the blocks, and where they are after the first block was moved.
 #[test]
-#[tactic(auto, using(crate::proofs::Added::sound_empty))]
+#[tactic(auto, using(crate::proofs::Added::sound_empty, crate::proofs::Frame::classes_empty))]
 fn copies_what_a_moved_block_holds(rt: HostRuntime) -> Result<(), Fail> {
     let mut map = AddressMap::new(rt.alloc(), 1)?;
     map.map_pages(HEAP, 1);

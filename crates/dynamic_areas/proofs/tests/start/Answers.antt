@@ -1,4 +1,5 @@
 use Rattle.os_heap.proofs.Added.{sound_empty}
+use Rattle.os_heap.proofs.Frame.{classes_empty}
 use Rattle.dynamic_areas.proofs.Starting.{may_begin_area, start_areas, start_classes, start_room}
 use Rattle.dynamic_areas.proofs.tests.start.Goals as goal
 
@@ -17,12 +18,15 @@ returns-clause-areas c =
     rw c.new-2.ensures.land
     (start_areas c.in_ok-map.map c.init_module_area.new.map c.own.new.self c.args.config c.in_ok-map.ensures.sizes c.in_ok-map.ensures.regions
     c.in_ok-map.ensures.mapping c.in_ok-map.ensures.pool begun c.init_module_area.ensures.sound c.init_module_area.ensures.mapping
-    c.own.ensures.regions c.own.ensures.mapping c.own.ensures.bytes)
+    c.own.ensures.regions c.own.ensures.mapping c.own.ensures.bytes c.own.ensures.marks)
 
 pub init_module_area-requires-clause-sound : goal.init_module_area-requires-clause-sound
-init_module_area-requires-clause-sound c = sound_empty c.in_ok-map.map c.in_ok-map.ensures.regions
+init_module_area-requires-clause-sound c = sound_empty c.in_ok-map.map c.in_ok-map.ensures.regions c.in_ok-map.ensures.marks
+
+pub init_module_area-requires-clause-classes : goal.init_module_area-requires-clause-classes
+init_module_area-requires-clause-classes c = classes_empty c.in_ok-map.map c.in_ok-map.ensures.regions c.in_ok-map.ensures.marks
 
 pub returns-clause-classes : goal.returns-clause-classes
 returns-clause-classes c =
-    start_classes c.in_ok-map.map c.init_module_area.new.map c.own.new.self c.in_ok-map.ensures.regions c.in_ok-map.ensures.marks
+    start_classes c.init_module_area.new.map c.own.new.self
     c.init_module_area.ensures.classes c.own.ensures.regions c.own.ensures.mapping c.own.ensures.bytes c.own.ensures.marks

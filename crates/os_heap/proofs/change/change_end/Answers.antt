@@ -35,7 +35,7 @@ returns-then-change-ne0-clause-store c =
     rw (is, refused) (refl, refl)
 
 pub may_end-requires : goal.may_end-requires
-may_end-requires c = found_at c.args.map.now c.in-Some.region.at c.in-Some.region c.requires refl
+may_end-requires c = found_at c.args.map.now c.in-Some.region.at c.in-Some.region c.requires.sound refl
     (subst (λ a. find_heap a (store_of c.args.map.now).heaps ≡ Some (heap_in (bytes_of c.args.map.now) c.in-Some.region)) (sym c.in-Some.ensures.0) c.in-Some.ensures.1)
 
 pub set_end-requires-clause-kind : goal.set_end-requires-clause-kind

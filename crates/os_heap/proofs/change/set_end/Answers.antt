@@ -58,7 +58,7 @@ returns-clause-store c =
     λ i. record { mapped = λ a. is_some ((c.set_len.ensures.mapping i).place a); at = c.set_len.ensures.bytes i } in
     let same = layout-regions m c.put.new.map c.put.ensures.layout in
     let records = rw same at c.set_len.ensures.regions in
-    store_ended m c.put.new.map c.set_len.new.self h c.args.end ends bytes records
+    store_ended m c.put.new.map c.set_len.new.self h c.args.end ends bytes records c.set_len.ensures.marks
 
 pub returns-clause-sound : goal.returns-clause-sound
 returns-clause-sound c =
@@ -77,7 +77,7 @@ returns-clause-sound c =
     λ i. record { mapped = λ a. is_some ((c.set_len.ensures.mapping i).place a); at = c.set_len.ensures.bytes i } in
     let same = layout-regions m c.put.new.map c.put.ensures.layout in
     let records = rw same at c.set_len.ensures.regions in
-    sound_ended m c.put.new.map c.set_len.new.self h c.args.end ends bytes records
+    sound_ended m c.put.new.map c.set_len.new.self h c.args.end ends bytes records c.set_len.ensures.marks
 
 pub returns-clause-classes : goal.returns-clause-classes
 returns-clause-classes c =
@@ -96,7 +96,7 @@ returns-clause-classes c =
     λ i. record { mapped = λ a. is_some ((c.set_len.ensures.mapping i).place a); at = c.set_len.ensures.bytes i } in
     let same = layout-regions m c.put.new.map c.put.ensures.layout in
     let records = rw same at c.set_len.ensures.regions in
-    classes_ended m c.put.new.map c.set_len.new.self h c.args.end ends bytes records c.set_len.ensures.marks
+    classes_ended m c.put.new.map c.set_len.new.self h c.args.end ends bytes records c.set_len.ensures.marks c.requires.classes
 
 pub returns-clause-others : goal.returns-clause-others
 returns-clause-others c = ap (λ s. s.others) (returns-clause-store c)

@@ -11,6 +11,8 @@ use Rattle.address_map.proofs.Stores.{layout-mapping}
 use Rattle.os_heap_lists.specs.Heap.{with_heap}
 use Rattle.os_heap.specs.Store.{store_of, IsSound}
 use Rattle.os_heap.specs.Calls.{begun_with}
+use Rattle.os_heap.proofs.Calls.{unflexed}
+use Rattle.os_heap.proofs.FlexWords.{flex_begun}
 use Rattle.os_heap.proofs.Frame.{layout-regions}
 use Rattle.os_heap.proofs.Added.{CanHold, can_hold, range_end, records_room, recorded, store_begun, begun_sound, classes_begun}
 use Rattle.os_heap.proofs.Marking.{heap_unmarked}
@@ -68,7 +70,12 @@ returns-clause-store c =
     let written = same_bytes c.args.map.now c.mark_descriptor.new.map (with_heap (byte_at c.args.map.now) c.args.heap c.args.size [])
     (c.mark_descriptor.ensures.layout ∙ c.write_descriptor.ensures.layout)
     (λ a. ap (λ (f : ℕ → ℕ). f a) c.mark_descriptor.ensures.bytes ∙ c.write_descriptor.ensures.bytes a) in
+    let marks : (a : ℕ) → class_of c.own.new.self a ≡ cond (in_range c.args.heap 16 (word_start a)) class.Heap (class_of c.args.map.now a) =
+    λ a. c.own.ensures.marks a ∙ heap_unmarked c.args.kind c.args.heap (class_of c.mark_descriptor.new.map) a c.requires.kind
+    ∙ c.mark_descriptor.ensures.marks a
+    ∙ ap (λ (f : ℕ → Class). cond (in_range c.args.heap 16 (word_start a)) class.Heap (f a)) c.write_descriptor.ensures.marks in
     store_begun c.args.map.now c.own.new.self c.args.kind c.args.heap c.args.size c.requires.kind c.requires.may c.requires.sound records (moved ∙ written)
+    (flex_begun (class_of c.args.map.now) (class_of c.own.new.self) c.args.heap marks (λ a _. unflexed c.args.map.now c.requires.sound a))
 
 pub returns-clause-sound : goal.returns-clause-sound
 returns-clause-sound c =
@@ -81,6 +88,7 @@ returns-clause-classes c =
     (λ a. c.own.ensures.marks a ∙ heap_unmarked c.args.kind c.args.heap (class_of c.mark_descriptor.new.map) a c.requires.kind
     ∙ c.mark_descriptor.ensures.marks a
     ∙ ap (λ (f : ℕ → Class). cond (in_range c.args.heap 16 (word_start a)) class.Heap (f a)) c.write_descriptor.ensures.marks)
+    c.requires.classes
 
 pub returns-clause-others : goal.returns-clause-others
 returns-clause-others c = ap (λ s. s.others) (returns-clause-store c)

@@ -15,7 +15,7 @@ returns-in_default-clause-probes c =
 pub overflow_sub-total : goal.overflow_sub-total
 overflow_sub-total c =
     let part = part_there c.args.heap (store_of c.args.map.now).heaps c.requires.found in
-    let claim = is_claimed c.args.map.now c.claim_total-claim.new.map c.args.heap c.args.block c.args.total c.args.needed c.in-Ok.new _ part c.requires.sound c.requires.live
+    let claim = is_claimed c.args.map.now c.claim_total-claim.new.map c.args.heap c.args.block c.args.total c.args.needed c.in-Ok.new _ part c.requires.sound c.requires.classes c.requires.live
     c.claim_total-claim.ensures.claim c.in-Ok.is in
     let inside = are_inside c.args.map.now c.claim_total-claim.new.map part.part.kind c.args.heap c.args.block c.args.total c.args.needed c.in-Ok.new c.requires.larger claim in
     inside.least
@@ -23,7 +23,7 @@ overflow_sub-total c =
 pub move_bytes-requires : goal.move_bytes-requires
 move_bytes-requires c =
     let part = part_there c.args.heap (store_of c.args.map.now).heaps c.requires.found in
-    let claim = is_claimed c.args.map.now c.claim_total-claim.new.map c.args.heap c.args.block c.args.total c.args.needed c.in-Ok.new _ part c.requires.sound c.requires.live
+    let claim = is_claimed c.args.map.now c.claim_total-claim.new.map c.args.heap c.args.block c.args.total c.args.needed c.in-Ok.new _ part c.requires.sound c.requires.classes c.requires.live
     c.claim_total-claim.ensures.claim c.in-Ok.is in
     let inside = are_inside c.args.map.now c.claim_total-claim.new.map part.part.kind c.args.heap c.args.block c.args.total c.args.needed c.in-Ok.new c.requires.larger claim in
     record { source = inside.source; target = inside.target }
@@ -31,7 +31,7 @@ move_bytes-requires c =
 pub find_by_links-cursor-requires : goal.find_by_links-cursor-requires
 find_by_links-cursor-requires c =
     let part = part_there c.args.heap (store_of c.args.map.now).heaps c.requires.found in
-    let claim = is_claimed c.args.map.now c.claim_total-claim.new.map c.args.heap c.args.block c.args.total c.args.needed c.in-Ok.new _ part c.requires.sound c.requires.live
+    let claim = is_claimed c.args.map.now c.claim_total-claim.new.map c.args.heap c.args.block c.args.total c.args.needed c.in-Ok.new _ part c.requires.sound c.requires.classes c.requires.live
     c.claim_total-claim.ensures.claim c.in-Ok.is in
     let copy = is_copied c.args.map.now c.claim_total-claim.new.map c.move_bytes.new.self part.part.kind c.args.heap c.args.block c.args.total c.args.needed c.in-Ok.new
     c.requires.larger claim c.move_bytes.ensures.layout c.move_bytes.ensures.bytes c.move_bytes.ensures.marks in
@@ -40,7 +40,7 @@ find_by_links-cursor-requires c =
 pub give_back-requires-clause-heap : goal.give_back-requires-clause-heap
 give_back-requires-clause-heap c =
     let part = part_there c.args.heap (store_of c.args.map.now).heaps c.requires.found in
-    let claim = is_claimed c.args.map.now c.claim_total-claim.new.map c.args.heap c.args.block c.args.total c.args.needed c.in-Ok.new _ part c.requires.sound c.requires.live
+    let claim = is_claimed c.args.map.now c.claim_total-claim.new.map c.args.heap c.args.block c.args.total c.args.needed c.in-Ok.new _ part c.requires.sound c.requires.classes c.requires.live
     c.claim_total-claim.ensures.claim c.in-Ok.is in
     let copy = is_copied c.args.map.now c.claim_total-claim.new.map c.move_bytes.new.self part.part.kind c.args.heap c.args.block c.args.total c.args.needed c.in-Ok.new
     c.requires.larger claim c.move_bytes.ensures.layout c.move_bytes.ensures.bytes c.move_bytes.ensures.marks in
@@ -49,7 +49,7 @@ give_back-requires-clause-heap c =
 pub overflow_add-result : goal.overflow_add-result
 overflow_add-result c =
     let part = part_there c.args.heap (store_of c.args.map.now).heaps c.requires.found in
-    let claim = is_claimed c.args.map.now c.claim_total-claim.new.map c.args.heap c.args.block c.args.total c.args.needed c.in-Ok.new _ part c.requires.sound c.requires.live
+    let claim = is_claimed c.args.map.now c.claim_total-claim.new.map c.args.heap c.args.block c.args.total c.args.needed c.in-Ok.new _ part c.requires.sound c.requires.classes c.requires.live
     c.claim_total-claim.ensures.claim c.in-Ok.is in
     let copy = is_copied c.args.map.now c.claim_total-claim.new.map c.move_bytes.new.self part.part.kind c.args.heap c.args.block c.args.total c.args.needed c.in-Ok.new
     c.requires.larger claim c.move_bytes.ensures.layout c.move_bytes.ensures.bytes c.move_bytes.ensures.marks in
@@ -60,7 +60,7 @@ overflow_add-result c =
 pub returns : goal.returns
 returns c =
     let part = part_there c.args.heap (store_of c.args.map.now).heaps c.requires.found in
-    let claim = is_claimed c.args.map.now c.claim_total-claim.new.map c.args.heap c.args.block c.args.total c.args.needed c.in-Ok.new _ part c.requires.sound c.requires.live
+    let claim = is_claimed c.args.map.now c.claim_total-claim.new.map c.args.heap c.args.block c.args.total c.args.needed c.in-Ok.new _ part c.requires.sound c.requires.classes c.requires.live
     c.claim_total-claim.ensures.claim c.in-Ok.is in
     let copy = is_copied c.args.map.now c.claim_total-claim.new.map c.move_bytes.new.self part.part.kind c.args.heap c.args.block c.args.total c.args.needed c.in-Ok.new
     c.requires.larger claim c.move_bytes.ensures.layout c.move_bytes.ensures.bytes c.move_bytes.ensures.marks in

@@ -17,7 +17,7 @@ returns-in_default c =
     record {
       store = rw refused.0 (refl, refl);
       sound = c.requires.sound;
-      classes = λ classes. classes;
+      classes = c.requires.classes;
       layout = refl;
       probes = c.find_guest_block-walk.ensures.probes ∙ sym refused.1;
     }
@@ -48,7 +48,7 @@ pub returns-then-size-le4 : goal.returns-then-size-le4
 returns-then-size-le4 c =
     let here = block_here c.args.map.now c.args.heap c.args.block _ c.in-Some.cursor.at _ _ c.requires.sound c.requires.found (rw c.in-Some.is at c.find_guest_block-walk.ensures.block) in
     let live : live_total c.args.block (c.args.heap + 16) (items_at c.args.map.now c.args.heap) ≡ Some c.word-total.result = here.live ∙ ap (λ n. Some n) (sym c.word-total.ensures) in
-    let done = resize_freed c.args.map.now c.give_back.new.map c.args.heap c.args.block c.args.change c.word-total.result c.requires.sound c.requires.found here.own live
+    let done = resize_freed c.args.map.now c.give_back.new.map c.args.heap c.args.block c.args.change c.word-total.result c.requires.sound c.requires.classes c.requires.found here.own live
     (omega (arith, c.changed_by-size.ensures, c.if-size-le4.true)) c.give_back.ensures in
     record {
       store = done.store;
@@ -64,7 +64,7 @@ returns-then-refit c =
     let live : live_total c.args.block (c.args.heap + 16) (items_at c.args.map.now c.args.heap) ≡ Some c.word-total.result = here.live ∙ ap (λ n. Some n) (sym c.word-total.ensures) in
     let size : c.changed_by-size.result ≡ changed_by c.word-total.result c.args.change = c.changed_by-size.ensures in
     let needed : c.round_up_8-needed.result ≡ round_up_8 (changed_by c.word-total.result c.args.change) = c.round_up_8-needed.ensures ∙ ap round_up_8 size in
-    let done = resize_refitted c.args.map.now c.refit.new.map c.args.heap c.args.block c.args.change c.word-total.result c.requires.sound c.requires.found here.own live
+    let done = resize_refitted c.args.map.now c.refit.new.map c.args.heap c.args.block c.args.change c.word-total.result c.requires.sound c.requires.classes c.requires.found here.own live
     (omega (arith, size, c.if-size-le4.false)) (rw (c.if-refit.true, needed) at c.refit.ensures) in
     record {
       store = done.store;
@@ -78,6 +78,11 @@ pub relocate-moved-requires-clause-sound : goal.relocate-moved-requires-clause-s
 relocate-moved-requires-clause-sound c =
     let un = unrefitted c.args.map.now c.refit.new.map c.args.heap (end_at c.args.map.now c.args.heap) _ (rw c.if-refit.false at c.refit.ensures) in
     rw un.1 c.requires.sound
+
+pub relocate-moved-requires-clause-classes : goal.relocate-moved-requires-clause-classes
+relocate-moved-requires-clause-classes c =
+    let un = unrefitted c.args.map.now c.refit.new.map c.args.heap (end_at c.args.map.now c.args.heap) _ (rw c.if-refit.false at c.refit.ensures) in
+    rw un.1 c.requires.classes
 
 pub relocate-moved-requires-clause-heap : goal.relocate-moved-requires-clause-heap
 relocate-moved-requires-clause-heap c =
@@ -119,7 +124,7 @@ returns c =
     let needed : c.round_up_8-needed.result ≡ round_up_8 (changed_by c.word-total.result c.args.change) = c.round_up_8-needed.ensures ∙ ap round_up_8 size in
     let un = unrefitted c.args.map.now c.refit.new.map c.args.heap (end_at c.args.map.now c.args.heap) _ (rw c.if-refit.false at c.refit.ensures) in
     let done = resize_moved c.args.map.now c.relocate-moved.new.map c.args.heap c.args.block c.args.change c.word-total.result c.relocate-moved.result.probes _ c.requires.sound c.requires.found here.own live
-    (omega (arith, size, c.if-size-le4.false)) (rw needed at un.0) (rw (un.1, needed) at c.relocate-moved.ensures.store) c.relocate-moved.ensures.sound (rw un.1 at c.relocate-moved.ensures.layout) (rw un.1 at c.relocate-moved.ensures.classes)
+    (omega (arith, size, c.if-size-le4.false)) (rw needed at un.0) (rw (un.1, needed) at c.relocate-moved.ensures.store) c.relocate-moved.ensures.sound (rw un.1 at c.relocate-moved.ensures.layout) c.relocate-moved.ensures.classes
     (rw (un.1, needed) at c.relocate-moved.ensures.probes) in
     record {
       store = done.store;

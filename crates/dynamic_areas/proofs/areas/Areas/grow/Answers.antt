@@ -68,7 +68,7 @@ returns-clause-store c =
     let a = c.in-Some.area.now in
     rw (← e) (store_grown c.args.map.now c.map_pages.new.self (a.base + 4096 * a.pages) (4096 * c.args.count) c.requires.ground.sound
     (unmapped_above (store_of c.args.map.now) (free_pages c.args.map.now) c.args.self.now c.args.number a c.args.count c.requires.ground (sym e)
-    (c.requires.room a (sym e))) c.map_pages.ensures.mapping c.map_pages.ensures.bytes c.map_pages.ensures.regions)
+    (c.requires.room a (sym e))) c.map_pages.ensures.mapping c.map_pages.ensures.bytes c.map_pages.ensures.regions c.map_pages.ensures.marks)
 
 pub returns-clause-ground : goal.returns-clause-ground
 returns-clause-ground c =

@@ -23,8 +23,8 @@ returns-in-None c =
     let none = resize_nowhere c.args.map.now c.args.heap c.args.block c.args.change c.in-None.ensures in
     record {
       store = rw none.0 (refl, refl);
-      sound = c.requires;
-      classes = λ classes. classes;
+      sound = c.requires.sound;
+      classes = c.requires.classes;
       layout = refl;
       probes = sym none.1;
       bounds = rw c.in-None.ensures refl;

@@ -13,7 +13,7 @@ invariant_of-self c =
     let fresh = c.if-not-self.false in
     let heaps = ap (λ (s : MachineState). s.store.heaps) (well.fresh fresh) in
     let fits : length c.args.program.now ≤ 4096 * c.self.inside.config.app = omega (arith, c.if-program-app.false, c.app.ensures.value) in
-    let kept = program_kept _ _ _ _ c.put_bytes.ensures.layout well.areas.ground.sound c.app.ensures.sizes heaps fits c.put_bytes.ensures.bytes in
+    let kept = program_kept _ _ _ _ c.put_bytes.ensures.layout c.put_bytes.ensures.marks well.areas.ground.sound c.app.ensures.sizes heaps fits c.put_bytes.ensures.bytes in
     well_kept _ _ well kept c.put_bytes.ensures.layout c.put_bytes.ensures.marks refl refl
 
 pub returns-clause-state : goal.returns-clause-state
@@ -23,7 +23,7 @@ returns-clause-state c =
     let fresh = c.if-not-self.false in
     let heaps = ap (λ (s : MachineState). s.store.heaps) (well.fresh fresh) in
     let fits : length c.args.program.now ≤ 4096 * c.self.inside.config.app = omega (arith, c.if-program-app.false, c.app.ensures.value) in
-    let kept = program_kept _ _ _ _ c.put_bytes.ensures.layout well.areas.ground.sound c.app.ensures.sizes heaps fits c.put_bytes.ensures.bytes in
+    let kept = program_kept _ _ _ _ c.put_bytes.ensures.layout c.put_bytes.ensures.marks well.areas.ground.sound c.app.ensures.sizes heaps fits c.put_bytes.ensures.bytes in
     rw (← c.self.view_is) (boots _ _ _ _ _ _ _ _ fresh fits c.put_bytes.ensures.layout kept c.put_bytes.ensures.bytes)
 
 pub returns-clause-well_formed : goal.returns-clause-well_formed
@@ -33,7 +33,7 @@ returns-clause-well_formed c =
     let fresh = c.if-not-self.false in
     let heaps = ap (λ (s : MachineState). s.store.heaps) (well.fresh fresh) in
     let fits : length c.args.program.now ≤ 4096 * c.self.inside.config.app = omega (arith, c.if-program-app.false, c.app.ensures.value) in
-    let kept = program_kept _ _ _ _ c.put_bytes.ensures.layout well.areas.ground.sound c.app.ensures.sizes heaps fits c.put_bytes.ensures.bytes in
+    let kept = program_kept _ _ _ _ c.put_bytes.ensures.layout c.put_bytes.ensures.marks well.areas.ground.sound c.app.ensures.sizes heaps fits c.put_bytes.ensures.bytes in
     well_kept _ _ well kept c.put_bytes.ensures.layout c.put_bytes.ensures.marks refl refl
 
 pub put_bytes-requires : goal.put_bytes-requires

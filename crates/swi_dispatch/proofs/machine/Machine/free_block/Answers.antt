@@ -9,5 +9,5 @@ pub invariant_of-self : goal.invariant_of-self
 invariant_of-self c =
     let well = c.self.invariant in
     let freed = c.free-freed.ensures in
-    well_called _ _ well (areas_written _ _ _ well.areas freed.sound freed.layout) (freed.classes well.classes) (layout-others _ _ freed.layout)
+    well_called _ _ well (areas_written _ _ _ well.areas freed.sound freed.layout) freed.classes (layout-others _ _ freed.layout)
     (ap (λ (p : Parts). p.is_fresh) c.self.view_is ∙ c.requires.stepped)

@@ -9,12 +9,12 @@ pub invariant_of-self : goal.invariant_of-self
 invariant_of-self c =
     let well = c.self.invariant in
     let got = c.get.ensures in
-    well_called _ _ well (areas_written _ _ _ well.areas got.sound got.layout) (got.classes well.classes) (layout-others _ _ got.layout)
+    well_called _ _ well (areas_written _ _ _ well.areas got.sound got.layout) got.classes (layout-others _ _ got.layout)
     (ap (λ (p : Parts). p.is_fresh) c.self.view_is ∙ c.requires.stepped)
 
 pub invariant_of-self-2 : goal.invariant_of-self-2
 invariant_of-self-2 c =
     let well = c.self.invariant in
     let got = c.get.ensures in
-    well_called _ _ well (areas_written _ _ _ well.areas got.sound got.layout) (got.classes well.classes) (layout-others _ _ got.layout)
+    well_called _ _ well (areas_written _ _ _ well.areas got.sound got.layout) got.classes (layout-others _ _ got.layout)
     (ap (λ (p : Parts). p.is_fresh) c.self.view_is ∙ c.requires.stepped)

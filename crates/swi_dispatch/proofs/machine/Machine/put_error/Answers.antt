@@ -8,18 +8,18 @@ use Rattle.swi_dispatch.proofs.machine.Machine.put_error.Goals as goal
 pub invariant_of-self : goal.invariant_of-self
 invariant_of-self c =
     let well = c.self.invariant in
-    let kept = error_kept _ _ _ _ c.write_error.ensures.layout well.areas.ground.sound well.system (short_name c.args.error) c.write_error.ensures.bytes in
+    let kept = error_kept _ _ _ _ c.write_error.ensures.layout c.write_error.ensures.marks well.areas.ground.sound well.system (short_name c.args.error) c.write_error.ensures.bytes in
     well_kept _ _ well kept c.write_error.ensures.layout c.write_error.ensures.marks refl (ap (λ (p : Parts). p.is_fresh) c.self.view_is ∙ c.requires.stepped)
 
 pub returns-clause-state : goal.returns-clause-state
 unfolding state_of store_of
 returns-clause-state c =
     let well = c.self.invariant in
-    let kept = error_kept _ _ _ _ c.write_error.ensures.layout well.areas.ground.sound well.system (short_name c.args.error) c.write_error.ensures.bytes in
+    let kept = error_kept _ _ _ _ c.write_error.ensures.layout c.write_error.ensures.marks well.areas.ground.sound well.system (short_name c.args.error) c.write_error.ensures.bytes in
     let store = kept_memory _ _ _ kept c.write_error.ensures.bytes in
     let core = c.set_register.ensures in
     let pool = same_pool _ _ c.write_error.ensures.layout in
-    rw (← c.self.view_is) (λ i. with_core (core i) (pool i) (record { land = c.self.inside.areas }) c.self.inside.halt (store i))
+    rw (← c.self.view_is) (λ i. with_core (core i) (pool i) (record { land = c.self.inside.areas; frames = c.self.inside.frames }) c.self.inside.halt (store i))
 
 pub write_error-requires : goal.write_error-requires
 unfolding store_of
