@@ -2,6 +2,7 @@
 #![tactic(auto)]
 
 mod changes;
+mod counts;
 mod loaded;
 mod names;
 pub mod parts;
