@@ -1,5 +1,6 @@
 pub mod Bytes
 pub mod Equations
+pub mod Following
 pub mod Lanes
 pub mod Lengths
 pub mod Lending

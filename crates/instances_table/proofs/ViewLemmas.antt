@@ -11,7 +11,7 @@ use Rattle.std.proofs.lemmas.List.Quantifiers.{position-Some}
 use Rattle.std.proofs.lemmas.Option.{slice_get-map, slice_get-get_or}
 use Rattle.instances_table.specs.declared.loaded.Loaded.{Loaded}
 use Rattle.instances_table.specs.Modules.{Instance, Module, AreModules, has_name, has_slot, has_instance, changed_at}
-use Rattle.instances_table.specs.Lookup.{slot_in, instance_in, instance_meant, told_of_instance, told_of_place}
+use Rattle.instances_table.specs.Lookup.{slot_in, instance_in, slot_within, instance_meant, told_of_instance, told_of_place}
 use Rattle.instances_table.specs.Changes.{is_held, is_named, holds, with_name, with_names, with_instance, named, without_first, still, module_without, without_instance}
 use Rattle.instances_table.specs.Table.{name_at, instance_of, module_of, modules_of, heir}
 use Rattle.instances_table.proofs.RenameLemmas.{held_below}
@@ -35,6 +35,23 @@ held_view names slot [] = refl
 held_view names slot (l ∷ ls) = rw (list_any-map (instance_of names) (has_slot slot) l.slots.items, held_view names slot ls) refl
 
 pub ruleset view_steps = (position-map, list_any-map, slice_get-map)
+
+first-same : {X : Type 0} (p q : X → Bool) (xs : List X) → ((x : X) → p x ≡ q x) → position_or_len p xs ≡ position_or_len q xs
+first-same p q [] same = refl
+first-same p q (x ∷ xs) same = rw (same x, first-same p q xs same) refl
+
+pub holding_view : (names : List (ArrayVec ℕ)) (slot : ℕ) (ms : List Loaded)
+    → position (has_instance slot) (modules_of names ms) ≡ position (λ l. list_any (λ s. s == slot) l.slots.items) ms
+holding_view names slot ms =
+    let same = first-same (λ l. has_instance slot (module_of names l)) (λ l. list_any (λ s. s == slot) l.slots.items) ms
+    (λ l. list_any-map (instance_of names) (has_slot slot) l.slots.items) in
+    position-map (module_of names) (has_instance slot) ms ∙ rw same refl
+
+pub within_view : (names : List (ArrayVec ℕ)) (ms : List Loaded) (k slot : ℕ) (l : Loaded) → slice_get ms k ≡ Some l
+    → slot_within slot (slice_get (modules_of names ms) k) ≡ position (λ s. s == slot) l.slots.items
+within_view names ms k slot l found =
+    ap (slot_within slot) (slice_get-map (module_of names) ms k ∙ ap (option_map (module_of names)) found)
+    ∙ position-map (instance_of names) (has_slot slot) l.slots.items
 
 -- the slot of an instance of a module is one of the module's
 slot_among : (is : List Instance) (i s : ℕ) → option_map (λ (x : Instance). x.slot) (slice_get is i) ≡ Some s → list_any (has_slot s) is ≡ true

@@ -1,6 +1,6 @@
 -- What is found in the list of modules (RISC OS 3 Programmer's Reference Manual, "OS_Module", reasons 12 and 18, and "Modules", "SWI chunk base
 -- number"). Modules and instances are numbered by their places in the lists, from 0.
-use Rattle.std.specs.Prelude.{ℕ, Bool, not, ◌+◌, ◌-◌, ◌%◌, ◌==◌, ◌&&◌, nat_lt, List, [], ◌∷◌, length, Option, Some, None, option_map, ok_or, slice_get, Result, Ok, if◌then◌else◌}
+use Rattle.std.specs.Prelude.{ℕ, Bool, not, ◌+◌, ◌-◌, ◌%◌, ◌==◌, ◌&&◌, nat_lt, List, length, Option, Some, None, option_map, ok_or, slice_get, Result, Ok, if◌then◌else◌}
 use Rattle.std.specs.List.{position}
 use Rattle.profile.specs.Outcome.{bind}
 use Rattle.profile.specs.declared.error.ErrorNumber.{ErrorNumber}
@@ -9,7 +9,7 @@ use Rattle.instances_table.specs.declared.parts.Place.{Place}
 use Rattle.instances_table.specs.declared.parts.Information.{Information}
 use Rattle.instances_table.specs.declared.parts.ModuleInfo.{ModuleInfo}
 use Rattle.instances_table.specs.declared.parts.InstanceInfo.{InstanceInfo}
-use Rattle.instances_table.specs.Modules.{Instance, Module, has_title, has_name, has_slot}
+use Rattle.instances_table.specs.Modules.{Instance, Module, has_title, has_name, has_slot, has_instance}
 use Rattle.instances_table.specs.Names.{FullName, parted}
 
 abbrev pub module_at : List Module → ℕ → Result Module ErrorNumber
@@ -69,6 +69,19 @@ has_call call m = m.header.chunk == call - call % 64 && not (m.header.handler ==
 
 abbrev pub number_of_call : ℕ → List Module → Option ℕ
 number_of_call call modules = position (has_call call) modules
+
+-- where the instance of a slot is
+abbrev pub slot_within : ℕ → Option Module → Option ℕ
+slot_within slot None = None
+slot_within slot (Some m) = position (has_slot slot) m.instances
+
+abbrev pub place_in : ℕ → List Module → Option ℕ → Option Place
+place_in slot modules None = None
+place_in slot modules (Some number) =
+    option_map (λ (i : ℕ). let p : Place = record { number = number; instance = i } in p) (slot_within slot (slice_get modules number))
+
+abbrev pub place_of_slot : ℕ → List Module → Option Place
+place_of_slot slot modules = place_in slot modules (position (has_instance slot) modules)
 
 -- what is told of a module, and of an instance
 abbrev pub told_of_module : Module → ModuleInfo

@@ -3,6 +3,7 @@
 
 mod changes;
 mod counts;
+pub mod editing;
 mod loaded;
 mod names;
 pub mod parts;

@@ -88,7 +88,7 @@ fn take_slot(slots: &mut ArrayVec<u32, MOST_INSTANCES>, slot: u32)
     }
 }
 
-fn place_of_slot(slots: &[u32], slot: u32) -> Option<usize>
+pub(crate) fn place_of_slot(slots: &[u32], slot: u32) -> Option<usize>
     ensures value { result ≡ position (λ s. s == slot) slots.now }
     ensures within { IfSome result (λ i. i < length slots.now) }
 {
@@ -147,7 +147,8 @@ pub(crate) fn is_held(modules: &[Loaded], slot: u32) -> bool
 
 /// Where in a list of modules the one with the instance of a slot is.
 pub(crate) fn number_of_slot(modules: &[Loaded], slot: u32) -> Option<usize>
-    ensures { result ≡ position (λ l. list_any (λ s. s == slot) l.slots.items) modules.now }
+    ensures value { result ≡ position (λ l. list_any (λ s. s == slot) l.slots.items) modules.now }
+    ensures within { IfSome result (λ number. number < length modules.now) }
 {
     modules.iter().position(|loaded| loaded.has_slot(slot))
 }

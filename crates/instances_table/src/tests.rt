@@ -62,6 +62,14 @@ fn modules_and_instances_are_found(rt: HostRuntime) -> Result<(), Fail> {
     let module = table.module(0).ok_or(ErrorNumber::ModuleNotFound)?;
     assert_eq!(rt; (module.image, module.len), (0x01800000, 30));
     assert_eq!(rt; module.title.as_slice(), b"W".as_slice());
+    let header = table.header(0).ok_or(ErrorNumber::ModuleNotFound)?;
+    assert_eq!(rt;
+        (header.start, header.initialise, header.finalise),
+        (0, 0, 0)
+    );
+    assert_eq!(rt; table.preferred(0), Some(1));
+    assert_eq!(rt; table.place_of_slot(1), Some(place(0, 1)));
+    assert_eq!(rt; table.place_of_slot(2), None);
     let instance = table.instance(0, 1).ok_or(ErrorNumber::ModuleNotFound)?;
     assert_eq!(rt; instance.name.as_slice(), b"C".as_slice());
     assert_eq!(rt; (instance.slot, instance.preferred), (1, true));

@@ -11,7 +11,7 @@ pub mod heaps;
 pub mod init;
 pub mod laws;
 mod links;
-mod marks;
+pub mod marks;
 mod refit;
 mod relocate;
 pub mod resize;
@@ -19,7 +19,7 @@ pub mod room;
 pub mod size;
 mod sums;
 mod walk;
-mod words;
+pub mod words;
 
 pub use address_map::Item;
 pub use blocks::Blocks;

@@ -6,7 +6,7 @@ use Rattle.instances_table.proofs.changes.remove_instance.Goals as goal
 
 pub returns-then-not-is_empty : goal.returns-then-not-is_empty
 returns-then-not-is_empty c = λ names.
-    let found : position (has_slot_in c.args.slot) c.as_slice.result.now ≡ Some c.in-Some.number = sym c.number_of_slot.ensures ∙ c.in-Some.is in
+    let found : position (has_slot_in c.args.slot) c.as_slice.result.now ≡ Some c.in-Some.number = sym c.number_of_slot.ensures.value ∙ c.in-Some.is in
     let left : IsLeft c.args.slot c.remove-loaded.result c.drop_slot.new.self = record {
       slots = c.drop_slot.ensures.slots;
       preferred = c.drop_slot.ensures.preferred;
@@ -20,7 +20,7 @@ returns-then-not-is_empty c = λ names.
 
 pub returns-else-not-is_empty : goal.returns-else-not-is_empty
 returns-else-not-is_empty c = λ names.
-    let found : position (has_slot_in c.args.slot) c.as_slice.result.now ≡ Some c.in-Some.number = sym c.number_of_slot.ensures ∙ c.in-Some.is in
+    let found : position (has_slot_in c.args.slot) c.as_slice.result.now ≡ Some c.in-Some.number = sym c.number_of_slot.ensures.value ∙ c.in-Some.is in
     let left : IsLeft c.args.slot c.remove-loaded.result c.drop_slot.new.self = record {
       slots = c.drop_slot.ensures.slots;
       preferred = c.drop_slot.ensures.preferred;
@@ -34,6 +34,6 @@ returns-else-not-is_empty c = λ names.
 
 pub returns-in_default : goal.returns-in_default
 returns-in_default c = λ names.
-    let none : position (has_slot_in c.args.slot) c.as_slice.result.now ≡ None = sym c.number_of_slot.ensures ∙ c.in_default.is in
+    let none : position (has_slot_in c.args.slot) c.as_slice.result.now ≡ None = sym c.number_of_slot.ensures.value ∙ c.in_default.is in
     none_gone names c.args.slot c.args.modules.now.items
     (nowhere (has_slot_in c.args.slot) c.args.modules.now.items (rw c.as_slice.ensures.value at none))
