@@ -1,5 +1,5 @@
 -- The slot that is told of an instance is one of its module's.
-use Rattle.std.proofs.Common.{◌≡◌, ℕ, ◌<◌, List, Option, Some, None, refl, sym}
+use Rattle.std.proofs.Common.{◌≡◌, ℕ, ◌<◌, List, Option, Some, None, sym}
 use Rattle.std.specs.Prelude.{slice_get, option_map, IfSome}
 use Rattle.instances_table.specs.Lookup.{slot_in, told_of_instance, told_of_place}
 use Rattle.instances_table.specs.Modules.{Instance, Module, AreModules}
