@@ -1,13 +1,13 @@
 ghost use Rattle.std.specs.Prelude.{◌≡◌, ◌<◌, [], length, map, true, option_map, slice_get, IfSome};
 ghost use Rattle.std.specs.List.{position};
 ghost use Rattle.std.specs.Option.{option_copied};
-ghost use Rattle.instances_table.specs.Modules.{Module, has_instance};
+ghost use Rattle.instances_table.specs.Modules.{Module, has_instance, slots_of};
 ghost use Rattle.instances_table.specs.Changes.{holds};
 ghost use Rattle.instances_table.specs.Lookup.{number_of_title, number_of_call, place_meant, looked_up, information, instance_in, slot_in, slot_within, place_of_slot, told_of_module, told_of_place};
 
 use crate::loaded::{
-    Loaded, MOST_INSTANCES, loaded_at, name_at, number_of_call, number_of_slot, number_of_title,
-    place_of_slot,
+    Loaded, MOST_INSTANCES, all_slots, loaded_at, name_at, number_of_call, number_of_slot,
+    number_of_title, place_of_slot,
 };
 use crate::names::{FullName, name_of};
 use crate::parts::{Information, InstanceInfo, ModuleInfo, Name, Place};
@@ -200,6 +200,13 @@ impl InstanceTable {
             slot: *slot,
             preferred: *slot == loaded.preferred,
         })
+    }
+
+    /// The slots of all instances, module by module, oldest first.
+    pub fn slots(&self) -> ArrayVec<u32, MOST_INSTANCES>
+        ensures { result.items ≡ slots_of self.now }
+    {
+        all_slots(self.modules.as_slice())
     }
 
     /// Where the instance of a slot is, if there is one.
