@@ -1,5 +1,6 @@
 pub mod CountLemmas
 pub mod Counting
+pub mod HandlerLemmas
 pub mod ModuleLemmas
 pub mod NameLemmas
 pub mod PlaceLemmas

@@ -5,10 +5,10 @@ ghost use Rattle.std.specs.Option.{option_copied};
 ghost use Rattle.std.specs.Str.{str_eq_ignore_ascii_case};
 ghost use Rattle.instances_table.specs.Changes.{new_module, without_first};
 ghost use Rattle.instances_table.specs.Table.{Names, name_at, all_slots, module_of, heir};
-ghost use Rattle.instances_table.specs.Lookup.{told_of_module, instance_meant};
+ghost use Rattle.instances_table.specs.Lookup.{handled_in, told_of_module, instance_meant};
 
 use crate::names::name_of;
-use crate::parts::{Image, ModuleInfo, Name};
+use crate::parts::{Handler, Image, ModuleInfo, Name};
 use arrayvec::ArrayVec;
 use module_header::Header;
 
@@ -41,6 +41,16 @@ impl Loaded {
             start: self.header.start,
             chunk: self.header.chunk,
             handler: self.header.handler,
+        }
+    }
+
+    /// Where the module handles its SWIs.
+    pub(crate) fn handled(&self) -> Handler
+        ensures { result ≡ handled_in (module_of [] self.now) }
+    {
+        Handler {
+            at: self.image.at.wrapping_add(self.header.handler),
+            slot: self.preferred,
         }
     }
 
