@@ -16,12 +16,12 @@ impl Machine {
     ghost use Rattle.swi_dispatch.specs.MachineState.{quiet};
     ghost use Rattle.swi_dispatch.specs.Parts.{state_of, outcome_of, IsInStep, OnlySteps, OnlyState, Answers};
     ghost use Rattle.swi_dispatch.specs.Calls.{call_answer, wrote_text_after, wrote_text_at, printable_at, with_answer, in_supervisor};
-    ghost use Rattle.swi_dispatch.specs.Step.{called, gone_back};
+    ghost use Rattle.swi_dispatch.specs.Step.{called, ended, gone_back};
     ghost use Rattle.arm_step.specs.State.{register_of};
 
     /// A store call by its number without the X bit. `is_x` says whether an error goes back to the
     /// guest, and `next` where the guest goes on.
-    #[tactic(auto, using(crate::proofs::Answering::ended_done, crate::proofs::Answering::ended_error), unfolding(crate::specs::Step::called))]
+    #[tactic(auto, unfolding(crate::specs::Step::called))]
     pub(crate) fn call(&mut self, is_x: bool, next: u32, number: u32)
         requires step { IsInStep self.old }
         requires next { next < 2 ^ 26 }
@@ -32,6 +32,20 @@ impl Machine {
         if is_exit(name) {
             return self.halt_with(Halt::Exit);
         }
+        match name {
+            None => self.call_module(is_x, next, number),
+            Some(_) => self.call_system(is_x, next, number, name),
+        }
+    }
+
+    // A call of the system's own.
+    #[tactic(auto, using(crate::proofs::Answering::ended_done, crate::proofs::Answering::ended_error))]
+    fn call_system(&mut self, is_x: bool, next: u32, number: u32, name: Option<SwiName>)
+        requires step { IsInStep self.old }
+        requires next { next < 2 ^ 26 }
+        ensures after { outcome_of self.new ≡ ended (state_of self.old) is_x (call_answer (state_of self.old) next number name) }
+        ensures others { OnlySteps self.old self.new }
+    {
         let caller = self.cpu().psr();
         match self.perform(next, number, name) {
             Ok(next) => self.go_back(caller, false, next),

@@ -3,6 +3,7 @@
 mod arguments;
 mod gate;
 mod heaps;
+mod module_swis;
 
 use crate::strings::text_at;
 use crate::{BootError, Breaks, Machine, TextEnd};
