@@ -30,7 +30,8 @@ use Rattle.instances_table.specs.Lookup.{handler_of}
 use Rattle.swi_dispatch.specs.declared.refusal.Refusal.{Refusal}
 use Rattle.swi_dispatch.specs.declared.refusal.Refusal.TheVariants as refusal
 use Rattle.swi_dispatch.specs.MachineState.{MachineState, Outcome, quiet, with_memory}
-use Rattle.swi_dispatch.specs.Calls.{Answer, call_answer, refused}
+use Rattle.swi_dispatch.specs.Answers.{Answer, refused}
+use Rattle.swi_dispatch.specs.Calls.{call_answer}
 use Rattle.swi_dispatch.specs.Errors.{error_number, with_error}
 
 abbrev pub halted : MachineState → Halt → Outcome
