@@ -1,6 +1,7 @@
 pub mod Anchors
 pub mod Bytes
 pub mod Equations
+pub mod Following
 pub mod Lanes
 pub mod Lengths
 pub mod Lending

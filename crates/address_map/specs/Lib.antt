@@ -5,5 +5,6 @@ pub mod Items
 pub mod Lent
 pub mod Marks
 pub mod Memory
+pub mod Moves
 pub mod Pages
 pub mod Records

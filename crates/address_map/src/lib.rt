@@ -4,6 +4,7 @@
 pub mod class;
 pub mod item;
 pub mod laws;
+pub mod follow;
 pub mod lent;
 pub mod map;
 pub mod marks;
@@ -15,6 +16,7 @@ pub mod region;
 pub mod view;
 
 pub use class::Class;
+pub use follow::{Move, moved_to};
 pub use item::Item;
 pub use map::AddressMap;
 pub use region::{Kind, Region, do_meet};

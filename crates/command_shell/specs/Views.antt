@@ -1,5 +1,6 @@
--- The lines that look at the machine and change nothing: REGS, MEM, CODE and HEAP.
+-- The lines that look at the machine and change nothing: REGS, MEM, CODE, HEAP and AREAS.
 use Rattle.std.specs.Prelude.{ℕ, List, codes, Option, Some, None}
+use Rattle.debugger.specs.Areas.{areas_text}
 use Rattle.debugger.specs.Code.{code_text}
 use Rattle.debugger.specs.Heap.{blocks_text}
 use Rattle.debugger.specs.Memory.{memory_text}
@@ -23,3 +24,6 @@ heap_shown s (Some text) = answer s text
 
 unfoldable pub heap_told : ScriptState → ℕ → Answered
 heap_told s address = heap_shown s (blocks_text s.machine.store address)
+
+abbrev pub areas_told : ScriptState → Answered
+areas_told s = answer s (areas_text s.machine.tables.land.areas s.machine.pool)

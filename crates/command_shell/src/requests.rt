@@ -48,6 +48,8 @@ pub enum Command<'a> {
     Code(WordAddress, u32),
     /// `HEAP a`.
     Heap(u32),
+    /// `AREAS`.
+    Areas,
     /// Any other line.
     Unknown,
 }
@@ -81,6 +83,8 @@ fn command_of_word(word: &[u8]) -> Command<'static>
         Command::Run
     } else if has_letters(word, b"REGS") {
         Command::Regs
+    } else if has_letters(word, b"AREAS") {
+        Command::Areas
     } else {
         Command::Unknown
     }

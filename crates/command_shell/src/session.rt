@@ -97,6 +97,7 @@ impl Session {
             Command::Mem(address, count) => Ok(self.mem(sink, address, count)?),
             Command::Code(address, count) => Ok(self.code(sink, address, count)?),
             Command::Heap(address) => Ok(self.heap(sink, address)?),
+            Command::Areas => Ok(self.areas(sink)?),
             Command::Unknown => Ok(tell_unknown(sink, script.number())?),
         }
     }

@@ -1,3 +1,4 @@
+mod areas;
 mod assembled;
 mod failures;
 mod heaps;

@@ -1,27 +1,24 @@
 ghost use Rattle.std.specs.List.{flat_map};
-ghost use Rattle.address_map.specs.Memory.{free_pages};
 ghost use Rattle.profile.specs.Output.{Writes};
+ghost use Rattle.swi_dispatch.specs.Parts.{state_of};
 ghost use Rattle.debugger.specs.Areas.{area_text, areas_text, extent_text, pool_text};
 
-use address_map::AddressMap;
-use dynamic_areas::{Area, Areas};
+use dynamic_areas::Area;
 use itoa::Buffer;
 use profile::memory_map::PAGE_SIZE;
-use profile::{HexText, Sink, WriteFault, push_all, push_parts};
+use profile::{HexText, Sink, WriteFault, push_parts};
+use swi_dispatch::Machine;
 
 /// Writes a line for each area by number, `area 1 base 01800000 size 65536 max 4194304 RMA`, with its
 /// size and its maximum in bytes, and then how many pages are in the pool, `pool 173 pages`.
 #[tactic(auto, unfolding(crate::specs::Areas::areas_text))]
-pub fn show_areas<W: Sink>(
-    areas: &Areas,
-    memory: &AddressMap,
-    sink: &mut W,
-) -> Result<(), WriteFault>
+pub fn show_areas<W: Sink>(machine: &Machine, sink: &mut W) -> Result<(), WriteFault>
     ensures { Writes W.contents W.has_failed sink.old sink.new result
-        (areas_text areas.now.areas (free_pages memory.now)) }
+        (areas_text (state_of machine.now).tables.land.areas (state_of machine.now).pool) }
 {
+    let areas = machine.areas();
     show_list(areas.list(), sink)?;
-    show_pool(areas.pool(memory), sink)
+    show_pool(areas.pool(machine.memory()), sink)
 }
 
 // A line for each area.

@@ -1,5 +1,4 @@
 use crate::{show_areas, show_blocks, show_code, show_memory, show_regs};
-use dynamic_areas::Areas;
 use image_loader::Images;
 use profile::{Config, MemorySink};
 use std::alloc::Global;
@@ -129,10 +128,9 @@ fn a_heap_is_shown_by_items(rt: HostRuntime) -> Result<(), Fail> {
 #[test]
 fn areas_are_shown_with_the_pool(rt: HostRuntime) -> Result<(), Fail> {
     let machine = usual_machine(&rt, rt.alloc());
-    let config = Config::new(256, 64, 16).expect(&rt, "sizes that a machine can have");
     let mut room = [0u8; 300];
     let mut sink = MemorySink::new(&mut room, 7, 1000);
-    show_areas(&Areas::new(config), machine.memory(), &mut sink)?;
+    show_areas(&machine, &mut sink)?;
     assert_eq!(rt; sink.written(), AREAS);
     Ok(())
 }

@@ -13,6 +13,7 @@ mod table;
 
 pub use area::{Area, Changed, Created, Extent, MOST_NAME_BYTES, Wanted};
 pub use areas::Areas;
+pub use table::MODULE_AREA;
 
 #[cfg(test)]
 mod tests;

@@ -16,7 +16,7 @@ use profile::ErrorNumber;
 pub const MOST_AREAS: usize = 32;
 
 /// The number of the module area.
-pub(crate) const MODULE_AREA: u32 = 1;
+pub const MODULE_AREA: u32 = 1;
 
 /// The word -1, which stands for no area.
 pub(crate) const MINUS_ONE: u32 = u32::MAX;

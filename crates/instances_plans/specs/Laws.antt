@@ -1,13 +1,15 @@
 -- Laws over plans: what turns come to, what a call does whose code never refuses, and what one does whose finalisation refuses.
-use Rattle.std.specs.Prelude.{◌≡◌, ◌≤◌, ℕ, true, false, Option, Some, None, List, [], ◌∷◌, ◌++◌, length}
+use Rattle.std.specs.Prelude.{◌≡◌, ◌≤◌, ◌<◌, ℕ, true, false, Option, Some, None, List, [], ◌∷◌, ◌++◌, length}
+use Rattle.instances_plans.specs.declared.action.Action.{Action}
 use Rattle.instances_plans.specs.declared.action.Action.TheVariants as act
 use Rattle.instances_plans.specs.declared.code.Code.{Code}
 use Rattle.instances_plans.specs.declared.code.Outcome.{Outcome}
 use Rattle.instances_plans.specs.declared.code.Outcome.TheVariants.{Refused}
 use Rattle.instances_plans.specs.declared.given.Given.{Given}
-use Rattle.instances_plans.specs.Calls.{clear_plan, initialise_all, tidy_plan}
+use Rattle.instances_plans.specs.Calls.{clear_plan, initialise_all, instantiate_plan, load_plan, reinit_plan, tidy_plan}
 use Rattle.instances_plans.specs.Carrying.{Doing, Carried, advanced, all_done, carried, carried_after, carried_well}
-use Rattle.instances_plans.specs.Plans.{Plan, finished, settled, started}
+use Rattle.instances_plans.specs.Doable.{AreSlots, IsDoable, is_used, used_after, without_all}
+use Rattle.instances_plans.specs.Plans.{Plan, finished, first_of, refused, settled, started}
 
 -- A plan that is carried on takes turns until code is to be entered or nothing is left.
 abbrev pub CarriesByTurns : Type 0 → Type 0
@@ -46,3 +48,27 @@ abbrev pub ClearStops : Type 0
 ClearStops = (given : Given) (before others : List ℕ) (slot r0 : ℕ)
     → settled (started (cleared before (clear_plan given (before ++ slot ∷ others)))) (Refused r0)
     ≡ record { given = given; actions = []; instead = []; runs = false; first = Some r0 }
+
+-- Each call's plan is doable when it is made, if its slots are those of instances, all different, and a slot for a new one is free.
+abbrev pub LoadIsDoable : Type 0
+LoadIsDoable = (given : Given) (used old : List ℕ) (slot : ℕ) → AreSlots used old → is_used slot (without_all old used) ≡ false → slot < 64
+    → IsDoable used (load_plan given old slot)
+
+abbrev pub ClearIsDoable : Type 0
+ClearIsDoable = (given : Given) (used slots : List ℕ) → AreSlots used slots → IsDoable used (clear_plan given slots)
+
+abbrev pub ReinitIsDoable : Type 0
+ReinitIsDoable = (given : Given) (used : List ℕ) (slot : ℕ) → is_used slot used ≡ true → IsDoable used (reinit_plan given slot)
+
+abbrev pub InstantiateIsDoable : Type 0
+InstantiateIsDoable = (given : Given) (used : List ℕ) (slot : ℕ) → is_used slot used ≡ false → slot < 64 → IsDoable used (instantiate_plan given slot)
+
+abbrev pub TidyIsDoable : Type 0
+TidyIsDoable = (given : Given) (used slots : List ℕ) → AreSlots used slots → IsDoable used (tidy_plan given slots)
+
+-- A plan stays doable: after an action that was well, and after one whose code refused.
+abbrev pub StaysDoable : Type 0
+StaysDoable = (used : List ℕ) (p : Plan) (a : Action) → first_of p.actions ≡ Some a → IsDoable used p → IsDoable (used_after used a) (finished p a)
+
+abbrev pub StaysDoableRefused : Type 0
+StaysDoableRefused = (used : List ℕ) (p : Plan) (a : Action) (r0 : ℕ) → first_of p.actions ≡ Some a → IsDoable used p → IsDoable used (refused p a r0)

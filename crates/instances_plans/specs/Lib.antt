@@ -1,5 +1,6 @@
 pub mod Calls
 pub mod Carrying
 pub mod Code
+pub mod Doable
 pub mod Laws
 pub mod Plans

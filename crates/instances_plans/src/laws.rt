@@ -1,6 +1,6 @@
 //! Laws over the definitions, each the contract of a function that does nothing.
 
-ghost use Rattle.instances_plans.specs.Laws.{CarriesByTurns, ClearStops, DoesAll, TidyGivesUp};
+ghost use Rattle.instances_plans.specs.Laws.{CarriesByTurns, ClearIsDoable, ClearStops, DoesAll, InstantiateIsDoable, LoadIsDoable, ReinitIsDoable, StaysDoable, StaysDoableRefused, TidyGivesUp, TidyIsDoable};
 
 /// A plan that is carried on takes turns until code is to be entered or nothing is left.
 #[tactic(auto, using(crate::proofs::Carrying::carries_by_turns))]
@@ -19,4 +19,21 @@ pub fn plans_do_all_their_actions<W>()
 pub fn refused_plans_give_up()
     ensures tidy { TidyGivesUp }
     ensures clear { ClearStops }
+{}
+
+/// Each action of a call's plan finds the instance that it names, or a free slot for one that it adds, whatever module code answers.
+#[tactic(auto, using(crate::proofs::Doable::reinit_is_doable))]
+pub fn plans_find_their_instances()
+    ensures load { LoadIsDoable }
+    ensures clear { ClearIsDoable }
+    ensures reinit { ReinitIsDoable }
+    ensures instantiate { InstantiateIsDoable }
+    ensures tidy { TidyIsDoable }
+{}
+
+/// And so it stays, as the plan is carried on.
+#[tactic(auto, using(crate::proofs::Doable::staying))]
+pub fn plans_go_on_finding_them()
+    ensures well { StaysDoable }
+    ensures refused { StaysDoableRefused }
 {}

@@ -28,7 +28,7 @@ const MIN_BYTES_WITH_SWIS: usize = 36;
 
 /// A module's header ("Modules" in the RISC OS 3 Programmer's Reference Manual). An entry is an
 /// offset in the image, and 0 where the module has none.
-#[derive(Drop)]
+#[derive(Default, Drop)]
 pub struct Header {
     /// The module's name: 1 to 31 characters from `!` to `~`, and no `%`.
     pub title: ArrayVec<u8, MAX_TITLE>,

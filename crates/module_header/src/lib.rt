@@ -8,6 +8,7 @@ mod words;
 
 pub use fault::HeaderFault;
 pub use header::Header;
+pub use title::is_title_byte;
 
 #[cfg(test)]
 mod tests;

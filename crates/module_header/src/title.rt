@@ -31,7 +31,8 @@ pub(crate) fn title_at<B: ImageBytes>(image: &B, at: usize) -> Option<ArrayVec<u
     None
 }
 
-fn is_title_byte(byte: u8) -> bool
+/// Whether a title may hold that character: printing ASCII other than the space and `%`.
+pub fn is_title_byte(byte: u8) -> bool
     ensures { result ≡ is_title_byte byte }
 {
     byte.is_ascii_graphic() && byte != b'%'

@@ -130,7 +130,7 @@ claims_part m n start end k from at t next items g fit heap same total some onwa
     rw (fit.first, ne_eqb (t - k) 0 some) (rw fit.place refl, b)
 
 -- a block more behind all items
-appended : (m n : AddressMap) (start end k : ℕ) (items : List Item) (g : ℕ → ℕ)
+pub appended : (m n : AddressMap) (start end k : ℕ) (items : List Item) (g : ℕ → ℕ)
     → IsHeapIn (bytes_of m) start end (items ++ []) → layout n ≡ layout m → is_total k ≡ true → 16 + size_of items + k ≤ end
     → IsWritten (byte_at m) g (start + 16 + size_of items) k
     → IsWritten g (byte_at n) (start + 8) (16 + size_of items + k)

@@ -4,6 +4,7 @@ use Rattle.profile.specs.declared.error.ErrorNumber.TheVariants.{HeapBadDesc, He
 use Rattle.std.proofs.lemmas.Bool.{cases_Bool}
 use Rattle.address_map.specs.declared.item.Item.{Item}
 use Rattle.address_map.specs.declared.region.Region.{Region}
+use Rattle.address_map.specs.Items.{size_of}
 use Rattle.address_map.specs.Memory.{regions}
 use Rattle.address_map.specs.declared.item.Item.TheVariants.{Live}
 use Rattle.address_map.specs.declared.map.AddressMap.{AddressMap}
@@ -16,6 +17,7 @@ use Rattle.os_heap_lists.specs.Walks.{IsBlock}
 use Rattle.os_heap.proofs.Calls.{part_at, image_recorded}
 use Rattle.os_heap.specs.Calls.{block_sized, bytes_held, unless_image, guests_total}
 use Rattle.os_heap.specs.Outcomes.{IsHeapAt, items_at}
+use Rattle.os_heap.specs.Room.{base_offset}
 use Rattle.os_heap.specs.Store.{find_heap, store_of, has_image}
 
 -- the same of the block that a walk comes to
@@ -61,3 +63,13 @@ unheld rs block at xs none = elim (cases_Bool (has_image block rs)) [
 pub unsized : (rs : List Region) (start block : ℕ) (items : List Item) → unless_image (has_image block rs) (released block (start + 16) items) ≡ None
     → bytes_held (guests_total rs start items block) ≡ Err HeapNotABlock
 unsized rs start block items none = rw (unheld rs block (start + 16) items none) refl
+
+-- and where its items end
+pub base_found : (kind : Kind) (m : AddressMap) (heap end : ℕ) → find_heap heap (store_of m).heaps ≡ Some (part_at kind m heap end)
+    → base_offset (store_of m) heap ≡ 16 + size_of (items_at m heap)
+unfolding base_offset
+base_found kind m heap end found = rw found refl
+
+pub base_none : (m : AddressMap) (heap : ℕ) → find_heap heap (store_of m).heaps ≡ None → base_offset (store_of m) heap ≡ 0
+unfolding base_offset
+base_none m heap none = rw none refl

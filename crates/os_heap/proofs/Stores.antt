@@ -93,7 +93,7 @@ are_others b start (g ∷ hs) h parts e =
           (inr (other_start b g h parts.0 clear (omega (arith, there.inside)), clear), are_others b start hs h parts.1.1 e')
     ]
 
-clear-held : (at len start : ℕ) (items : List Item) (hs : List HeapList) → IsClearOfHeaps at len hs → IsClearOfHeaps at len (with_items start items hs)
+pub clear-held : (at len start : ℕ) (items : List Item) (hs : List HeapList) → IsClearOfHeaps at len hs → IsClearOfHeaps at len (with_items start items hs)
 clear-held at len start items [] clear = tt
 clear-held at len start items (g ∷ hs) clear =
     elim (cases_Bool (g.start == start)) [
@@ -181,25 +181,34 @@ same_limits hs gs same limits = record {
   place = same_stand hs gs same limits.place;
 }
 
-places-held : (start : ℕ) (items : List Item) (hs : List HeapList) → SamePlaces hs (with_items start items hs)
+pub places-held : (start : ℕ) (items : List Item) (hs : List HeapList) → SamePlaces hs (with_items start items hs)
 places-held start items [] = tt
 places-held start items (h ∷ hs) = elim (cases_Bool (h.start == start)) [
   | inl here ↦ rw here ((refl, refl), places-held start items hs)
   | inr other ↦ rw other ((refl, refl), places-held start items hs)
 ]
 
-other_kept : (m n : AddressMap) (h g : HeapList) (items : List Item) → Becomes m n h.start h.end items → AreClear h.start h.end g.start g.end
+-- The heap has another list, the records are the same, and no byte past its own range changed.
+pub record IsHeld (m n : AddressMap) (start end : ℕ) (items : List Item) : Type 0 where
+  pub heap : IsHeapIn (bytes_of n) start end items
+  pub mapped : is_mapped n ≡ is_mapped m
+  pub beyond : (a : ℕ) → in_range start end a ≡ false → byte_at n a ≡ byte_at m a
+
+held : (m n : AddressMap) (start end : ℕ) (items : List Item) → Becomes m n start end items → IsHeld m n start end items
+held m n start end items b = record { heap = b.heap; mapped = is_mapped-layout m n b.same; beyond = kept_beyond m n start end items b }
+
+other_kept : (m n : AddressMap) (h g : HeapList) (items : List Item) → IsHeld m n h.start h.end items → AreClear h.start h.end g.start g.end
     → IsHeapIn (bytes_of m) g.start g.end g.items → IsHeapIn (bytes_of n) g.start g.end g.items
 other_kept m n h g items b clear heap =
-    heap_kept (bytes_of m) (bytes_of n) g.start g.end g.items heap (is_mapped-layout m n b.same)
-    (λ a low high. kept_beyond m n h.start h.end items b a
+    heap_kept (bytes_of m) (bytes_of n) g.start g.end g.items heap b.mapped
+    (λ a low high. b.beyond a
     (elim (in_range-cases g.start g.end a) [
       | inl r ↦ clear_both_ways _ _ _ _ clear a r.0
       | inr r ↦ elim r.1 [ inl less ↦ absurd (omega arith) | inr past ↦ absurd (omega arith) ]
     ]))
 
 -- all heaps after the call are spelled, each apart from the others
-parts_held : (m n : AddressMap) (h : HeapList) (items : List Item) (hs : List HeapList) → Becomes m n h.start h.end items → AreOthers h hs
+pub parts_held : (m n : AddressMap) (h : HeapList) (items : List Item) (hs : List HeapList) → IsHeld m n h.start h.end items → AreOthers h hs
     → AreHeapsIn (bytes_of m) hs → AreHeapsIn (bytes_of n) (with_items h.start items hs)
 parts_held m n h items [] b others parts = tt
 parts_held m n h items (g ∷ hs) b others parts =
@@ -214,7 +223,7 @@ parts_held m n h items (g ∷ hs) b others parts =
           rw test (other_kept m n h g items b apart.1 parts.0, (clear-held g.start g.end h.start items hs parts.1.0, parts_held m n h items hs b others.1 parts.1.1))
     ]
 
-read_parts : (m n : AddressMap) (h : HeapList) (items : List Item) (rs : List Region) → Becomes m n h.start h.end items
+pub read_parts : (m n : AddressMap) (h : HeapList) (items : List Item) (rs : List Region) → IsHeld m n h.start h.end items
     → AreOthers h (heaps_in (bytes_of m) rs) → AreHeapsIn (bytes_of m) (heaps_in (bytes_of m) rs)
     → heaps_in (bytes_of n) rs ≡ with_items h.start items (heaps_in (bytes_of m) rs)
 read_parts m n h items [] b others parts = refl
@@ -255,7 +264,7 @@ unfolding store_of
 store_held m n h items sound found b flex =
     let others : AreOthers h (heaps_in (bytes_of m) (regions m)) = are_others (bytes_of m) h.start (heaps_in (bytes_of m) (regions m)) h sound.heaps found in
     rw (layout-regions m n b.same) (store_parts _ _ _ _ (others_in (regions m)) (class_of n) (class_of m) (bytes_held m n h.start h.end items b)
-    (read_parts m n h items (regions m) b others sound.heaps) flex)
+    (read_parts m n h items (regions m) (held m n h.start h.end items b) others sound.heaps) flex)
 
 pub sound_held : (m n : AddressMap) (h : HeapList) (items : List Item) → IsSound (store_of m) → find_heap h.start (store_of m).heaps ≡ Some h
     → KeepsImages (store_of m).others h.start h.items items → Becomes m n h.start h.end items → AreSameFlex (class_of m) (class_of n)
@@ -263,9 +272,10 @@ pub sound_held : (m n : AddressMap) (h : HeapList) (items : List Item) → IsSou
 unfolding store_of
 sound_held m n h items sound found kept b flex places =
     let others : AreOthers h (heaps_in (bytes_of m) (regions m)) = are_others (bytes_of m) h.start (heaps_in (bytes_of m) (regions m)) h sound.heaps found in
-    let list : heaps_in (bytes_of n) (regions m) ≡ with_items h.start items (heaps_in (bytes_of m) (regions m)) = read_parts m n h items (regions m) b others sound.heaps in
+    let now : IsHeld m n h.start h.end items = held m n h.start h.end items b in
+    let list : heaps_in (bytes_of n) (regions m) ≡ with_items h.start items (heaps_in (bytes_of m) (regions m)) = read_parts m n h items (regions m) now others sound.heaps in
     rw (layout-regions m n b.same, list) (record {
-      heaps = parts_held m n h items (heaps_in (bytes_of m) (regions m)) b others sound.heaps;
+      heaps = parts_held m n h items (heaps_in (bytes_of m) (regions m)) now others sound.heaps;
       limits = same_limits _ _ (places-held h.start items (heaps_in (bytes_of m) (regions m))) sound.limits;
       placed = placed-held h items (heaps_in (bytes_of m) (regions m)) (others_in (regions m)) others kept sound.placed;
       apart = sound.apart;

@@ -3,4 +3,5 @@ pub mod Laws
 pub mod Outcomes
 pub mod Probes
 pub mod Ranges
+pub mod Room
 pub mod Store

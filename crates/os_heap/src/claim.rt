@@ -34,7 +34,7 @@ struct Search {
 }
 
 /// The total of a block for `size` bytes: its length word too, a multiple of 8.
-fn total_for(size: u32) -> u64
+pub fn total_for(size: u32) -> u64
     ensures { result ≡ total_for size }
 {
     round_up_8(u64::from(size) + 4)

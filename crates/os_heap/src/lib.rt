@@ -11,19 +11,22 @@ pub mod heaps;
 pub mod init;
 pub mod laws;
 mod links;
-mod marks;
+pub mod marks;
 mod refit;
 mod relocate;
 pub mod resize;
+pub mod room;
 pub mod size;
 mod sums;
 mod walk;
-mod words;
+pub mod words;
 
 pub use address_map::Item;
 pub use blocks::Blocks;
+pub use claim::total_for;
 pub use counted::Counted;
 pub use heaps::Heaps;
+pub use sums::{changed_by, round_up_8};
 
 #[cfg(test)]
 mod tests;

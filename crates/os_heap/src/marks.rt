@@ -30,7 +30,7 @@ fn mark(map: &mut AddressMap, at: u32, is_head: bool)
 }
 
 /// Marks the words of an item, or takes their marks away.
-fn mark_item(map: &mut AddressMap, at: u32, item: Item, is_head: bool)
+pub fn mark_item(map: &mut AddressMap, at: u32, item: Item, is_head: bool)
     requires { CanStand map.old at (item ∷ []) }
     ensures marks { (a : ℕ) → class_of map.new a ≡ with_item_marked at item (head_class is_head) (class_of map.old) a }
     ensures bytes { byte_at map.new ≡ byte_at map.old }
@@ -57,7 +57,7 @@ fn mark_items(map: &mut AddressMap, at: u32, items: &[Item], is_head: bool)
 }
 
 /// Marks the words of items that are made where there were none.
-pub(crate) fn make(map: &mut AddressMap, at: u32, news: &[Item])
+pub fn make(map: &mut AddressMap, at: u32, news: &[Item])
     requires { CanStand map.old at news.now }
     ensures marks { Remarks (class_of map.old) (class_of map.new) at [] news.now }
     ensures bytes { byte_at map.new ≡ byte_at map.old }

@@ -2,7 +2,7 @@ ghost use Rattle.std.specs.Prelude.{◌≡◌, ◌<◌, ◌^◌};
 ghost use Rattle.os_heap_lists.specs.Lists.{round_up_8, changed_by};
 
 /// A size after a change of it, a signed word in two's complement; a sum below 0 counts as 0.
-pub(crate) fn changed_by(size: u32, change: u32) -> u64
+pub fn changed_by(size: u32, change: u32) -> u64
     ensures { result ≡ changed_by size change }
 {
     let sum = u64::from(size) + u64::from(change);
@@ -14,7 +14,7 @@ pub(crate) fn changed_by(size: u32, change: u32) -> u64
 }
 
 /// The least multiple of 8 that is no less.
-pub(crate) fn round_up_8(size: u64) -> u64
+pub fn round_up_8(size: u64) -> u64
     requires { size < 2 ^ 34 }
     ensures { result ≡ round_up_8 size }
 {

@@ -10,12 +10,12 @@ use address_map::AddressMap;
 /// Where the words of a heap's descriptor stand, counted from its start: behind its name the distance to the first free item, the base, and the end.
 pub(crate) const LINK: u32 = 4;
 
-pub(crate) const BASE: u32 = 8;
+pub const BASE: u32 = 8;
 
 pub(crate) const END: u32 = 12;
 
 /// The word at an address.
-pub(crate) fn word(map: &AddressMap, at: u32) -> u32
+pub fn word(map: &AddressMap, at: u32) -> u32
     requires aligned { at % 4 ≡ 0 }
     requires mapped { is_mapped map.now at ≡ true }
     ensures { result ≡ word_at (byte_at map.now) at }
@@ -24,7 +24,7 @@ pub(crate) fn word(map: &AddressMap, at: u32) -> u32
 }
 
 /// Writes a word of a heap.
-pub(crate) fn put(map: &mut AddressMap, at: u32, word: u32)
+pub fn put(map: &mut AddressMap, at: u32, word: u32)
     requires aligned { at % 4 ≡ 0 }
     requires mapped { is_mapped map.old at ≡ true }
     ensures word { IsWritten (byte_at map.old) (byte_at map.new) at word }
@@ -43,7 +43,7 @@ pub(crate) fn link_at(heap: u32, from: u32) -> u32
 }
 
 /// The free item that the link at `from` leads to, or 0.
-pub(crate) fn follow(map: &AddressMap, heap: u32, from: u32) -> u32
+pub fn follow(map: &AddressMap, heap: u32, from: u32) -> u32
     requires below { from + 4 < 2 ^ 32 }
     requires aligned { link_at heap from % 4 ≡ 0 }
     requires mapped { is_mapped map.now (link_at heap from) ≡ true }
@@ -54,7 +54,7 @@ pub(crate) fn follow(map: &AddressMap, heap: u32, from: u32) -> u32
 }
 
 /// Makes the link at `from` lead to a free item, or nowhere, where that is 0.
-pub(crate) fn put_link(map: &mut AddressMap, heap: u32, from: u32, next: u32)
+pub fn put_link(map: &mut AddressMap, heap: u32, from: u32, next: u32)
     requires below { from + 4 < 2 ^ 32 }
     requires aligned { link_at heap from % 4 ≡ 0 }
     requires mapped { is_mapped map.old (link_at heap from) ≡ true }
@@ -66,7 +66,7 @@ pub(crate) fn put_link(map: &mut AddressMap, heap: u32, from: u32, next: u32)
 }
 
 /// Writes a free item: the link that leads to it, its own link, and its total.
-pub(crate) fn put_free(map: &mut AddressMap, heap: u32, from: u32, at: u32, total: u32, next: u32)
+pub fn put_free(map: &mut AddressMap, heap: u32, from: u32, at: u32, total: u32, next: u32)
     requires below { from + 4 < 2 ^ 32 }
     requires link_aligned { link_at heap from % 4 ≡ 0 }
     requires link_mapped { is_mapped map.old (link_at heap from) ≡ true }

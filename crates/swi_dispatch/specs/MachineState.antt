@@ -11,12 +11,14 @@ use Rattle.os_heap.specs.Calls.{begun_with}
 use Rattle.os_heap.specs.Store.{Store}
 use Rattle.dynamic_areas.specs.Areas.{Land, start_land}
 use Rattle.dynamic_areas.specs.Ground.{Estate, is_land, system_pages}
+use Rattle.swi_dispatch_frames.specs.declared.frame.Frame.{Frame}
 use Rattle.swi_dispatch.specs.declared.halt.Halt.{Halt}
 use Rattle.swi_dispatch.specs.declared.halt.Halt.TheVariants as halt
 
--- what stands beside the core and the memory: the areas
+-- what stands beside the core and the memory: the areas, and the frames of module code that is under way
 pub record Tables : Type 0 where
   pub land : Land
+  pub frames : List Frame
 
 pub record MachineState : Type 0 where
   pub cpu : State
@@ -70,6 +72,6 @@ start_of s = record {
   cpu = start_state;
   store = start_store s;
   pool = start_pool s;
-  tables = record { land = start_land s };
+  tables = record { land = start_land s; frames = [] };
   halt = None;
 }

@@ -1,6 +1,6 @@
 -- One step of the machine: an instruction, or a store call. A fault changes nothing but that the machine is halted with it.
-use Rattle.std.specs.Prelude.{◌≡◌, ℕ, Bool, true, false, ◌+◌, ◌-◌, ◌*◌, ◌/◌, ◌%◌, ◌^◌, Option, Some, None, Result, Ok, Err, List, if◌then◌else◌}
-use Rattle.profile.specs.declared.fault.Fault.TheVariants.{FetchUnmapped, ErrorStop}
+use Rattle.std.specs.Prelude.{◌≡◌, ℕ, Bool, true, false, ◌+◌, ◌-◌, ◌*◌, ◌/◌, ◌%◌, ◌^◌, ◌==◌, Option, Some, None, Result, Ok, Err, List, if◌then◌else◌}
+use Rattle.profile.specs.declared.fault.Fault.TheVariants.{FetchUnmapped, ErrorStop, StackChanged}
 use Rattle.profile.specs.declared.swi.SwiName.{SwiName}
 use Rattle.profile.specs.declared.swi.SwiName.TheVariants as swi
 use Rattle.profile.specs.SwiNames.{swi_of}
@@ -11,10 +11,13 @@ use Rattle.arm_step.specs.declared.turn.Turn.TheVariants as turn
 use Rattle.arm_step.specs.declared.psr.Mode.TheVariants.{Supervisor}
 use Rattle.arm_step.specs.declared.psr.Psr.{Psr}
 use Rattle.arm_step.specs.Psr.{psr_bits}
-use Rattle.arm_step.specs.State.{State, with_register_in, with_overflow, with_pc}
+use Rattle.arm_step.specs.State.{State, register_in, with_register_in, with_overflow, with_pc}
 use Rattle.arm_step.specs.Step.{stepped}
 use Rattle.os_heap.specs.Store.{owned_in}
 use Rattle.image_loader.specs.Entries.{Entry}
+use Rattle.swi_dispatch_frames.specs.declared.frame.Frame.{Frame}
+use Rattle.swi_dispatch_frames.specs.Frames.{closed, innermost}
+use Rattle.swi_dispatch_frames.specs.Leaving.{left}
 use Rattle.swi_dispatch.specs.declared.halt.Halt.{Halt}
 use Rattle.swi_dispatch.specs.declared.halt.Halt.TheVariants as halt
 use Rattle.swi_dispatch.specs.declared.refusal.Refusal.{Refusal}
@@ -74,11 +77,33 @@ called s x next number =
 abbrev pub swi_called : MachineState → ℕ → Outcome
 swi_called s n = called s (bit_of n 17) ((s.cpu.pc + 4) % 2 ^ 26) (without_x n)
 
--- What a turn of the core asks of the machine. No frame is ever open yet, so nothing is to be fetched at the return gate.
+-- The innermost frame is closed: the core is as the module code leaves it to the caller, and the call goes back. V says whether it was refused.
+unfoldable pub frame_closed : MachineState → Frame → MachineState
+frame_closed s f = record s {
+  cpu = returned f.call.caller (left s.cpu f) s.cpu.psr.overflow f.call.next;
+  tables = record s.tables { frames = closed s.tables.frames };
+}
+
+-- The error of a refused call is the module's own, which stands where R0 points.
+abbrev pub frame_left : MachineState → Frame → Outcome
+frame_left s f =
+    let answered : Outcome = quiet (frame_closed s f) in
+    if s.cpu.psr.overflow then erred s f.call.is_x answered else answered
+
+-- Module code has come back to the gate. It must have left the stack of supervisor mode as it was; where no code was entered, there is nothing at the
+-- gate to be fetched.
+abbrev pub gated_by : MachineState → Option Frame → Outcome
+gated_by s None = halted s (halt.Fault FetchUnmapped)
+gated_by s (Some f) = if register_in Supervisor s.cpu 13 == f.stack then frame_left s f else halted s (halt.Fault StackChanged)
+
+abbrev pub gated : MachineState → Outcome
+gated s = gated_by s (innermost s.tables.frames)
+
+-- What a turn of the core asks of the machine.
 abbrev pub turn_end : MachineState → Turn → Outcome
 turn_end s turn.Done = quiet s
 turn_end s (turn.Swi n) = swi_called s n
-turn_end s turn.Gate = halted s (halt.Fault FetchUnmapped)
+turn_end s turn.Gate = gated s
 turn_end s (turn.Fault f) = halted s (halt.Fault f)
 
 -- the core's part of a step, and then what it asks for

@@ -165,7 +165,7 @@ impl Machine {
 
 // The return address, with the caller's status, goes to the link register of supervisor mode.
 #[tactic(auto, unfolding(crate::specs::Step::returned))]
-fn return_to(cpu: &mut Cpu, caller: Psr, is_refused: bool, next: u32)
+pub(crate) fn return_to(cpu: &mut Cpu, caller: Psr, is_refused: bool, next: u32)
     ensures { cpu.new ≡ returned caller cpu.old is_refused next }
 {
     let address = next % ADDRESS_LIMIT / 4 * 4;

@@ -5,7 +5,7 @@ ghost use Rattle.std.specs.Prelude.{ℕ, ◌≡◌, false, true};
 ghost use Rattle.profile.specs.ErrorNames.{error_code, error_name};
 ghost use Rattle.address_map.specs.Bytes.{AreMapped};
 ghost use Rattle.address_map.specs.Memory.{bytes_of, is_mapped, layout, class_of};
-ghost use Rattle.swi_dispatch.specs.Errors.{error_block};
+ghost use Rattle.swi_dispatch.specs.Errors.{error_at, error_block};
 
 use crate::halt::Halt;
 use crate::machine::Machine;
@@ -24,16 +24,10 @@ impl Machine {
     ghost use Rattle.arm_step.specs.declared.psr.Psr.{Psr};
 
     /// The number of the error that R0 points to, or that of `BadPointer` where no block can stand there.
-    #[tactic(auto, unfolding(crate::specs::Errors::error_at))]
     pub fn error_number(&self) -> u32
         ensures { result ≡ error_number (state_of self.now) }
     {
-        let at = self.cpu().register(0);
-        let no_block = ErrorNumber::BadPointer.number();
-        if at % 4 != 0 {
-            return no_block;
-        }
-        self.memory().load_word(at).unwrap_or(no_block)
+        error_at(self.memory(), self.cpu().register(0))
     }
 
     /// A call that errs goes back with its error, or is a fault, and then nothing is changed.
@@ -112,6 +106,18 @@ impl Machine {
         self.cpu.set_register(0, ERROR_BLOCK);
         write_error(&mut self.memory, error);
     }
+}
+
+/// The number of the error whose block stands at an address, or that of `BadPointer` where none can stand there.
+#[tactic(auto, unfolding(crate::specs::Errors::error_at))]
+pub(crate) fn error_at(memory: &AddressMap, at: u32) -> u32
+    ensures { result ≡ error_at (bytes_of memory.now) at }
+{
+    let no_block = ErrorNumber::BadPointer.number();
+    if at % 4 != 0 {
+        return no_block;
+    }
+    memory.load_word(at).unwrap_or(no_block)
 }
 
 // The number and the text of an error, with a zero byte after it, go to the error block.

@@ -5,6 +5,7 @@ pub mod boot_error;
 pub mod breaks;
 pub mod calls;
 pub mod errors;
+pub mod gate;
 pub mod halt;
 pub mod heap_calls;
 pub mod laws;

@@ -1,4 +1,4 @@
-ghost use Rattle.std.specs.Prelude.{◌≡◌, ◌≤◌, ◌+◌, ◌%◌, ◌&&◌, ℕ, Bool, true, false, not, [], ◌∷◌, List, Option, Some, None, IfOk, IsSome, is_err};
+ghost use Rattle.std.specs.Prelude.{◌≡◌, ◌≤◌, ◌+◌, ◌%◌, ◌&&◌, ℕ, Bool, true, false, not, [], ◌∷◌, List, Option, Some, None, IfOk, IsSome, is_err, length};
 ghost use Rattle.std.specs.Option.{option_map};
 ghost use Rattle.profile.specs.Outcome.{Leaves};
 ghost use Rattle.profile.specs.Sizes.{AreGood};
@@ -26,6 +26,7 @@ use profile::word::is_bit_set;
 use profile::{Config, Fault, Stop};
 use std::alloc::{AllocError, Global};
 use std::marker::Model;
+use swi_dispatch_frames::Frames;
 
 /// The most bytes that a step can print.
 pub(crate) const MOST_PRINTED: usize = 4096;
@@ -40,6 +41,7 @@ pub struct Machine {
     pub(crate) memory: AddressMap,
     pub(crate) heaps: Heaps,
     pub(crate) areas: Areas,
+    pub(crate) frames: Frames,
     pub(crate) halt: Option<Halt>,
     config: Config,
     is_fresh: bool,
@@ -51,9 +53,9 @@ impl Model for Machine {
 
     ghost Value = { Parts };
 
-    ghost view = { λ m. record { cpu = m.cpu; map = m.memory; tables = record { land = m.areas }; halt = m.halt; sizes = m.config; is_fresh = m.is_fresh; printed = m.printed.items } };
+    ghost view = { λ m. record { cpu = m.cpu; map = m.memory; tables = record { land = m.areas; frames = m.frames }; halt = m.halt; sizes = m.config; is_fresh = m.is_fresh; printed = m.printed.items } };
 
-    ghost invariant = { λ m. IsWellFormed (record { cpu = m.cpu; map = m.memory; tables = record { land = m.areas }; halt = m.halt; sizes = m.config; is_fresh = m.is_fresh; printed = m.printed.items }) };
+    ghost invariant = { λ m. IsWellFormed (record { cpu = m.cpu; map = m.memory; tables = record { land = m.areas; frames = m.frames }; halt = m.halt; sizes = m.config; is_fresh = m.is_fresh; printed = m.printed.items }) };
 }
 
 impl Machine {
@@ -78,6 +80,7 @@ impl Machine {
             memory,
             heaps: Heaps::new(),
             areas: Areas::new(config),
+            frames: Frames::new(),
             halt: None,
             config,
             is_fresh: true,
@@ -229,11 +232,12 @@ impl Machine {
         &self.areas
     }
 
-    /// How many frames of module code are open: none ever is.
+    /// How many frames of module code are open.
+    #[tactic(auto, unfolding(crate::specs::Parts::state_of))]
     pub fn frames(&self) -> usize
-        ensures { result ≡ 0 }
+        ensures { result ≡ length (state_of self.now).tables.frames }
     {
-        0
+        self.frames.len()
     }
 
     /// Why the machine is halted, if it is.
@@ -301,7 +305,7 @@ impl Machine {
         match turn {
             Turn::Done => {}
             Turn::Swi(number) => self.call_by_instruction(number),
-            Turn::Gate => self.halt_with(Halt::Fault(Fault::FetchUnmapped)),
+            Turn::Gate => self.pass_gate(),
             Turn::Fault(fault) => self.halt_with(Halt::Fault(fault)),
         }
     }

@@ -1,6 +1,7 @@
 //! Machines taken step by step, with values worked out by hand.
 
 mod arguments;
+mod gate;
 mod heaps;
 
 use crate::strings::text_at;

@@ -1,0 +1,9 @@
+pub mod Counting
+pub mod ModuleLemmas
+pub mod NameLemmas
+pub mod PlaceLemmas
+pub mod RemoveLemmas
+pub mod RenameLemmas
+pub mod RoomLemmas
+pub mod SlotLemmas
+pub mod ViewLemmas

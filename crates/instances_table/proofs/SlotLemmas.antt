@@ -1,0 +1,19 @@
+-- The lowest free slot.
+use Rattle.std.proofs.Common.{◌≡◌, ℕ, ◌+◌, ◌<◌, true, false, List, zero, suc, Some, None, refl, ap, arith}
+use Rattle.instances_table.specs.Modules.{Module}
+use Rattle.instances_table.specs.Changes.{is_held, lowest_free}
+
+pub free_passed : (ms : List Module) (slot n k : ℕ) → is_held slot ms ≡ true → n ≡ k + 1 → lowest_free ms slot n ≡ lowest_free ms (slot + 1) k
+unfolding lowest_free
+free_passed ms slot zero k held next = absurd (omega arith)
+free_passed ms slot (suc n) k held next = let same : n ≡ k = omega arith in rw held (ap (lowest_free ms (slot + 1)) same)
+
+pub free_here : (ms : List Module) (slot n : ℕ) → is_held slot ms ≡ false → 0 < n → lowest_free ms slot n ≡ Some slot
+unfolding lowest_free
+free_here ms slot zero free some = absurd (omega arith)
+free_here ms slot (suc n) free some = rw free refl
+
+pub none_free : (ms : List Module) (slot n : ℕ) → n ≡ 0 → lowest_free ms slot n ≡ None
+unfolding lowest_free
+none_free ms slot zero none = refl
+none_free ms slot (suc n) none = absurd (omega arith)

@@ -1,0 +1,116 @@
+-- What changes the list of modules (RISC OS 3 Programmer's Reference Manual, "OS_Module", reasons 1, 4, 14, 15 and 16; the order of the refusals, the
+-- lowest slot, and who is preferred, are this project's own).
+use Rattle.std.specs.Prelude.{ℕ, Bool, false, not, ◌+◌, ◌==◌, ◌&&◌, nat_lt, List, [], ◌∷◌, ◌++◌, map, Option, Some, None, ok_or, slice_get, Result, Ok, Err, zero, suc, codes, if◌then◌else◌}
+use Rattle.std.specs.List.{list_any}
+use Rattle.profile.specs.Outcome.{bind}
+use Rattle.profile.specs.declared.error.ErrorNumber.{ErrorNumber}
+use Rattle.profile.specs.declared.error.ErrorNumber.TheVariants.{ModuleNotFound, InstanceExists, InstanceTableFull}
+use Rattle.module_header.specs.declared.header.Header.{Header}
+use Rattle.instances_table.specs.declared.parts.Image.{Image}
+use Rattle.instances_table.specs.Modules.{Instance, Module, has_title, has_name, has_slot, has_instance, changed_at}
+use Rattle.instances_table.specs.Names.{parted, name_given, new_name}
+use Rattle.instances_table.specs.Lookup.{number_of_title, place_meant, slot_at}
+
+-- the lowest of `n` slots from one on that no instance has
+abbrev pub is_held : ℕ → List Module → Bool
+is_held slot modules = list_any (has_instance slot) modules
+
+unfoldable pub lowest_free : List Module → ℕ → ℕ → Option ℕ
+lowest_free modules slot zero = None
+lowest_free modules slot (suc n) = if is_held slot modules then lowest_free modules (slot + 1) n else Some slot
+
+unfoldable pub free_slot : List Module → Option ℕ
+free_slot modules = lowest_free modules 0 64
+
+-- a module with its first instance, which is preferred
+abbrev pub new_module : Header → Image → ℕ → Module
+new_module header image slot = record {
+  header = header;
+  image = image;
+  instances = record { name = codes "Base"; slot = slot } ∷ [];
+  preferred = slot;
+}
+
+-- A new module is the youngest. It isn't put in where one of its title is there, or its slot isn't free.
+abbrev pub is_new : List ℕ → ℕ → List Module → Bool
+is_new title slot modules = nat_lt slot 64 && not (is_held slot modules) && not (list_any (has_title title) modules)
+
+unfoldable pub with_module : List Module → Header → Image → ℕ → List Module
+with_module modules header image slot =
+    if is_new header.title.items slot modules then modules ++ new_module header image slot ∷ [] else modules
+
+-- A module with one instance more, the youngest.
+abbrev pub with_instance : List ℕ → ℕ → Module → Module
+with_instance name slot m = record m { instances = m.instances ++ record { name = name; slot = slot } ∷ [] }
+
+-- has a module, if there is one, an instance of a name?
+abbrev pub is_named : List ℕ → Option Module → Bool
+is_named name None = false
+is_named name (Some m) = list_any (has_name name) m.instances
+
+-- and the instance of a slot?
+abbrev pub holds : ℕ → Option Module → Bool
+holds slot None = false
+holds slot (Some m) = has_instance slot m
+
+-- OS_Module 14, as far as the table knows it: the new instance takes the lowest free slot, which is the answer.
+unfoldable pub instantiated : List Module → List ℕ → Result (List Module × ℕ) ErrorNumber
+instantiated modules full =
+    bind (name_given (parted full).name) (λ given.
+    bind (new_name given) (λ name.
+    bind (ok_or (number_of_title (parted full).title modules) ModuleNotFound) (λ number.
+    if is_named name (slice_get modules number) then Err InstanceExists else
+    bind (ok_or (free_slot modules) InstanceTableFull) (λ slot.
+    Ok (changed_at number (with_instance name slot) modules, slot)))))
+
+-- OS_Module 15: an instance gets another name, formed like a title, that no instance of the module has, itself included. It is found by its slot.
+abbrev pub with_name : ℕ → List ℕ → Instance → Instance
+with_name slot name i = if has_slot slot i then record i { name = name } else i
+
+abbrev pub with_names : ℕ → List ℕ → Module → Module
+with_names slot name m = record m { instances = map (with_name slot name) m.instances }
+
+abbrev pub named : ℕ → List ℕ → List Module → List Module
+named slot name modules = map (with_names slot name) modules
+
+unfoldable pub renamed : List Module → List ℕ → List ℕ → Result (List Module) ErrorNumber
+renamed modules full new =
+    bind (name_given (parted full).name) (λ old.
+    bind (new_name new) (λ name.
+    bind (place_meant (parted full) modules) (λ place.
+    bind (slot_at modules place) (λ slot.
+    if is_named name (slice_get modules place.number) then Err InstanceExists else Ok (named slot name modules)))))
+
+-- OS_Module 16: an instance becomes the preferred one.
+abbrev pub with_preferred : ℕ → Module → Module
+with_preferred slot m = record m { preferred = slot }
+
+unfoldable pub preferring : List Module → List ℕ → Result (List Module) ErrorNumber
+preferring modules full =
+    bind (name_given (parted full).name) (λ name.
+    bind (place_meant (parted full) modules) (λ place.
+    bind (slot_at modules place) (λ slot.
+    Ok (changed_at place.number (with_preferred slot) modules))))
+
+-- A module without the instance of a slot: the oldest one left becomes preferred if the preferred one went. With its last instance the module goes.
+abbrev pub without_first : {X : Type 0} → (X → Bool) → List X → List X
+without_first test [] = []
+without_first test (x ∷ xs) = if test x then xs else x ∷ without_first test xs
+
+abbrev pub still : ℕ → Module → List Instance → List Module
+still slot m [] = []
+still slot m (i ∷ others) = record m {
+  instances = i ∷ others;
+  preferred = if m.preferred == slot then i.slot else m.preferred;
+} ∷ []
+
+abbrev pub module_without : ℕ → Module → List Module
+module_without slot m = still slot m (without_first (has_slot slot) m.instances)
+
+abbrev pub without_instance : ℕ → List Module → List Module
+without_instance slot [] = []
+without_instance slot (m ∷ ms) = if has_instance slot m then module_without slot m ++ ms else m ∷ without_instance slot ms
+
+-- a module whose image is at another address
+abbrev pub with_image_at : ℕ → Module → Module
+with_image_at at m = record m { image = record m.image { at = at } }

@@ -1,0 +1,5 @@
+pub mod Changes
+pub mod Lookup
+pub mod Modules
+pub mod Names
+pub mod Table

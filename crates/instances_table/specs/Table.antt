@@ -1,0 +1,30 @@
+-- The table as the list that it stands for: the names of all instances stand by slots, and each module has the slots of its instances.
+use Rattle.std.specs.Prelude.{ℕ, List, [], ◌∷◌, ◌==◌, map, slice_index_or, if◌then◌else◌}
+use Rattle.arrayvec.specs.ArrayVec.{ArrayVec}
+use Rattle.instances_table.specs.declared.loaded.Loaded.{Loaded}
+use Rattle.instances_table.specs.Modules.{Instance, Module}
+
+abbrev pub Names : Type 0
+Names = List (ArrayVec ℕ)
+
+abbrev pub name_at : Names → ℕ → List ℕ
+name_at names slot = (slice_index_or names slot (record { items = [] })).items
+
+abbrev pub instance_of : Names → ℕ → Instance
+instance_of names slot = record { name = name_at names slot; slot = slot }
+
+abbrev pub module_of : Names → Loaded → Module
+module_of names l = record {
+  header = l.header;
+  image = l.image;
+  instances = map (instance_of names) l.slots.items;
+  preferred = l.preferred;
+}
+
+abbrev pub modules_of : Names → List Loaded → List Module
+modules_of names modules = map (module_of names) modules
+
+-- who is preferred among the slots that are left: the oldest, where it was the one that went
+abbrev pub heir : ℕ → ℕ → List ℕ → ℕ
+heir slot preferred [] = preferred
+heir slot preferred (oldest ∷ slots) = if preferred == slot then oldest else preferred

@@ -1,0 +1,206 @@
+-- The store after a slide: what its words spell, and that it is sound.
+use Rattle.std.proofs.Common.{List, ℕ, Bool, [], ◌∷◌, ◌++◌, ◌≡◌, ◌≢◌, ◌≤◌, ◌<◌, ◌+◌, ◌-◌, ◌%◌, ◌∙◌, true, false, refl, sym, ap, subst, inl, inr, Some, None, Option, is_some, length, map, arith}
+use Rattle.std.proofs.lemmas.Bool.{false≢true}
+use Rattle.std.proofs.lemmas.List.{length-map}
+use Rattle.address_map.proofs.Bytes.{byte_at-lt, is_mapped-layout}
+use Rattle.address_map.proofs.Stores.{in_range-cases}
+use Rattle.address_map.specs.Bytes.{Bytes, in_range, word_start}
+use Rattle.address_map.specs.Classes.{is_heap_class}
+use Rattle.address_map.specs.Items.{size_of}
+use Rattle.address_map.specs.Memory.{byte_at, bytes_of, class_of, is_mapped, layout, mapping, regions}
+use Rattle.address_map.specs.Moves.{AreDown, moved_region, moved_regions}
+use Rattle.address_map.specs.declared.class.Class.{Class}
+use Rattle.address_map.specs.declared.follow.Move.{Move}
+use Rattle.address_map.specs.declared.item.Item.{Item}
+use Rattle.address_map.specs.declared.map.AddressMap.{AddressMap}
+use Rattle.address_map.specs.declared.region.Region.{Region}
+use Rattle.os_heap_lists.proofs.HeapWords.{outside_before, outside_past, part_back}
+use Rattle.os_heap_lists.specs.Heap.{AreTotals, HeapList, IsHeapIn, with_heap}
+use Rattle.os_heap_lists.specs.Marks.{Remarks, spells_any}
+use Rattle.os_heap_lists.specs.Words.{AreApart, IsOutside}
+use Rattle.os_heap.proofs.Found.{found_heap, found_start}
+use Rattle.os_heap.proofs.FlexWords.{AreSameFlex, flex_held, flex_on, same_flex}
+use Rattle.os_heap.proofs.Held.{heads_marked, marks_held}
+use Rattle.os_heap.proofs.Stores.{are_others, AreOthers, IsHeld, layout-regions, parts_held, places-held, read_parts, same_limits}
+use Rattle.os_heap.specs.Calls.{OfHeap, with_items}
+use Rattle.os_heap.specs.Outcomes.{end_at, HasHeapAt, items_at}
+use Rattle.os_heap.specs.Store.{AreClasses, AreHeapsIn, find_heap, heap_in, heaps_in, IsSound, others_in, Store, store_of}
+use Rattle.os_heap_slide.proofs.Laying.{IsRead, read}
+use Rattle.os_heap_slide.proofs.Places.{bytes_low, bytes_past, moves_down}
+use Rattle.os_heap_slide.proofs.Records.{all_placed, heaps_moved, IsSlide, moves_in, others_moved, ranges_apart, slid_in}
+use Rattle.os_heap_slide.specs.Slide.{AreBlocks, is_listed, IsSlid, MaySlide, moves_of, slid, slid_bytes, with_slid}
+use Rattle.os_heap_slide.specs.Steps.{IsAllSlid}
+
+-- the heap that slides
+pub record Here (m : AddressMap) (heap : ℕ) (movable : List ℕ) : Type 0 where
+  pub h : HeapList
+  pub start : h.start ≡ heap
+  pub found : find_heap heap (store_of m).heaps ≡ Some h
+  pub spelled : IsHeapIn (bytes_of m) h.start h.end h.items
+  pub is : IsRead m h.start h.end h.items
+  pub blocks : AreBlocks (h.start + 16) h.items movable
+  pub few : length movable ≤ 128
+
+pub here : (m : AddressMap) (heap : ℕ) (movable : List ℕ) → IsSound (store_of m) → MaySlide (store_of m) heap movable → Here m heap movable
+unfolding store_of
+here m heap movable sound may = by_heap (find_heap heap (store_of m).heaps) refl may where
+  by_heap : (o : Option HeapList) → find_heap heap (store_of m).heaps ≡ o
+      → OfHeap (λ h. AreBlocks (h.start + 16) h.items movable × (length movable ≤ 128)) o → Here m heap movable
+  by_heap None e is = absurd is
+  by_heap (Some h) e is =
+      let spelled : IsHeapIn (bytes_of m) h.start h.end h.items = found_heap (bytes_of m) heap (store_of m).heaps h sound.heaps e in
+      record {
+        h = h;
+        start = found_start heap (store_of m).heaps h e;
+        found = e;
+        spelled = spelled;
+        is = read m h.start h.end h.items spelled;
+        blocks = is.0;
+        few = is.1;
+      }
+
+pub heap_here : (m : AddressMap) (heap : ℕ) (movable : List ℕ) → Here m heap movable → HasHeapAt m heap
+heap_here m heap movable k = subst (λ (q : ℕ). HasHeapAt m q) k.start k.is.heap
+
+pub blocks_here : (m : AddressMap) (heap : ℕ) (movable : List ℕ) → Here m heap movable → AreBlocks (heap + 16) (items_at m heap) movable
+blocks_here m heap movable k =
+    subst (λ (q : ℕ). AreBlocks (q + 16) (items_at m q) movable) k.start
+    (subst (λ (ys : List Item). AreBlocks (k.h.start + 16) ys movable) (sym k.is.list) k.blocks)
+
+pub down_here : (m n : AddressMap) (heap : ℕ) (movable : List ℕ) (moves : List Move) → Here m heap movable → IsAllSlid m n heap movable moves → AreDown moves
+down_here m n heap movable moves k a =
+    let stands : HasHeapAt m heap = heap_here m heap movable k in
+    subst AreDown (sym a.moved)
+    (moves_down (is_listed movable) (heap + 16) (heap + 16) (items_at m heap) (omega arith) (omega (arith, stands.aligned)) (omega (arith, stands.aligned)) stands.totals)
+
+-- what the slide, and the records that followed, left
+pub record IsDone (m n q : AddressMap) (moves : List Move) : Type 0 where
+  pub records : regions q ≡ moved_regions moves (regions n)
+  pub places : mapping q ≡ mapping n
+  pub bytes : byte_at q ≡ byte_at n
+  pub marks : class_of q ≡ class_of n
+
+-- the same of the heap's list
+pub record IsListSlid (m n q : AddressMap) (h : HeapList) (movable : List ℕ) : Type 0 where
+  pub heap : IsHeapIn (bytes_of q) h.start h.end (slid_in h movable)
+  pub mapped : is_mapped q ≡ is_mapped m
+  pub others : (a : ℕ) → AreApart a 1 h.start 16 → IsOutside (h.start + 16) (slid_in h movable) a
+      → byte_at q a ≡ slid_bytes (is_listed movable) (h.start + 16) (h.start + 16) h.items (byte_at m) a
+  pub marks : Remarks (class_of m) (class_of n) (h.start + 16) h.items (slid_in h movable)
+  pub records : regions q ≡ moved_regions (moves_in h movable) (regions m)
+
+list_slid : (m n q : AddressMap) (h : HeapList) (movable : List ℕ) (moves : List Move) → IsRead m h.start h.end h.items
+    → IsAllSlid m n h.start movable moves → IsDone m n q moves → IsListSlid m n q h movable
+list_slid m n q h movable moves is a d =
+    let mv : ℕ → Bool = is_listed movable in
+    let first : ℕ = h.start + 16 in
+    let all : bytes_of q ≡ bytes_of n = λ i. record { mapped = λ x. is_some ((d.places i).place x); at = d.bytes i } in
+    let one : IsHeapIn (bytes_of n) h.start (end_at m h.start) (slid_in h movable) =
+    subst (λ (ys : List Item). IsHeapIn (bytes_of n) h.start (end_at m h.start) (slid mv first first ys)) is.list a.heap in
+    let two : IsHeapIn (bytes_of n) h.start h.end (slid_in h movable) = subst (λ (e : ℕ). IsHeapIn (bytes_of n) h.start e (slid_in h movable)) is.limit one in
+    let others : (x : ℕ) → AreApart x 1 h.start 16 → IsOutside first (slid_in h movable) x → byte_at n x ≡ slid_bytes mv first first h.items (byte_at m) x =
+    subst (λ (ys : List Item). (x : ℕ) → AreApart x 1 h.start 16 → IsOutside first (slid mv first first ys) x
+    → byte_at n x ≡ slid_bytes mv first first ys (byte_at m) x) is.list a.others in
+    let mapped : is_mapped q ≡ is_mapped n = λ i. λ x. is_some ((d.places i).place x) in
+    let moved : moves ≡ moves_in h movable = a.moved ∙ ap (λ (ys : List Item). moves_of mv first first ys) is.list in
+    record {
+      heap = subst (λ (b : Bytes). IsHeapIn b h.start h.end (slid_in h movable)) (sym all) two;
+      mapped = mapped ∙ is_mapped-layout m n a.same;
+      others = λ x head out. ap (λ (f : ℕ → ℕ). f x) d.bytes ∙ others x head out;
+      marks = subst (λ (ys : List Item). Remarks (class_of m) (class_of n) first ys (slid mv first first ys)) is.list a.marks;
+      records = d.records ∙ ap (λ (ms : List Move). moved_regions ms (regions n)) moved
+          ∙ ap (λ (rs : List Region). moved_regions (moves_in h movable) rs) (layout-regions m n a.same);
+    }
+
+-- no byte out of the heap's range changed
+list_held : (m n q : AddressMap) (h : HeapList) (movable : List ℕ) → IsHeapIn (bytes_of m) h.start h.end h.items → IsListSlid m n q h movable
+    → IsHeld m q h.start h.end (slid_in h movable)
+list_held m n q h movable old l =
+    let mv : ℕ → Bool = is_listed movable in
+    let first : ℕ = h.start + 16 in
+    record {
+      heap = l.heap;
+      mapped = l.mapped;
+      beyond = λ a out. elim (in_range-cases h.start h.end a) [
+        | inl r ↦ absurd (false≢true (sym out ∙ r.0))
+        | inr r ↦ elim r.1 [
+          | inl low ↦ l.others a (inl (omega arith)) (outside_before first (slid_in h movable) a (omega arith))
+              ∙ bytes_low mv first first h.items (byte_at m) a (omega arith) (omega arith)
+          | inr past ↦ l.others a (inr (omega (arith, l.heap.inside)))
+              (outside_past first (slid_in h movable) a (h.start + h.end) (omega (arith, l.heap.inside)) past l.heap.totals)
+              ∙ bytes_past mv first first h.items (byte_at m) a (omega arith) (omega (arith, old.inside))
+        ]
+      ];
+    }
+
+pub record IsSlidStore (m q : AddressMap) (h : HeapList) (movable : List ℕ) : Type 0 where
+  pub store : store_of q ≡ with_slid (store_of m) h movable
+  pub sound : IsSound (store_of q)
+  pub classes : AreClasses q
+
+pub slid_store : (m n q : AddressMap) (h : HeapList) (movable : List ℕ) (moves : List Move) → IsSound (store_of m) → AreClasses m → find_heap h.start (store_of m).heaps ≡ Some h
+    → IsHeapIn (bytes_of m) h.start h.end h.items → IsRead m h.start h.end h.items → IsAllSlid m n h.start movable moves → IsDone m n q moves
+    → IsSlidStore m q h movable
+unfolding store_of
+slid_store m n q h movable moves sound classes found old is a d =
+    let mv : ℕ → Bool = is_listed movable in
+    let first : ℕ = h.start + 16 in
+    let hs : List HeapList = heaps_in (bytes_of m) (regions m) in
+    let rs : List Region = others_in (regions m) in
+    let l : IsListSlid m n q h movable = list_slid m n q h movable moves is a d in
+    let held : IsHeld m q h.start h.end (slid_in h movable) = list_held m n q h movable old l in
+    let others : AreOthers h hs = are_others (bytes_of m) h.start hs h sound.heaps found in
+    let s : IsSlide (bytes_of m) (bytes_of q) h movable = record { old = old; new = l.heap } in
+    let new : Bytes = record { mapped = is_mapped m; at = with_heap (slid_bytes mv first first h.items (byte_at m)) h.start h.end (slid_in h movable) } in
+    let bytes : bytes_of q ≡ new = λ i. record {
+      mapped = l.mapped i;
+      at = λ x. (part_back (slid_bytes mv first first h.items (byte_at m)) (bytes_of q) h.start h.end (slid_in h movable) l.heap (byte_at-lt q) x (l.others x)) i;
+    } in
+    let heaps : heaps_in (bytes_of q) (regions q) ≡ with_items h.start (slid_in h movable) hs =
+    ap (λ (ys : List Region). heaps_in (bytes_of q) ys) l.records ∙ heaps_moved (bytes_of q) (moves_in h movable) (regions m)
+    ∙ read_parts m q h (slid_in h movable) (regions m) held others sound.heaps in
+    let records : others_in (regions q) ≡ moved_regions (moves_in h movable) rs = ap others_in l.records ∙ others_moved (moves_in h movable) (regions m) in
+    let flex : AreSameFlex (class_of m) (class_of n) =
+    flex_held (class_of m) (class_of n) first h.items (slid_in h movable) (heads_marked (class_of m) hs h classes found) l.marks
+    (λ a is. record { anchor = sound.anchors a; header = sound.headers a }) in
+    let same : AreSameFlex (class_of m) (class_of q) = flex_on (class_of m) (class_of n) (class_of q) flex (same_flex (class_of n) (class_of q) d.marks) in
+    let store : store_of q ≡ with_slid (store_of m) h movable = λ i. record {
+      bytes = bytes i;
+      heaps = heaps i;
+      others = records i;
+      anchor = λ a. same.anchors a i;
+      header = λ a. same.headers a i;
+    } in
+    let parts : AreHeapsIn (bytes_of q) (with_items h.start (slid_in h movable) hs) = parts_held m q h (slid_in h movable) hs held others sound.heaps in
+    let now : IsSound (with_slid (store_of m) h movable) = record {
+      heaps = subst (λ (b : Bytes). AreHeapsIn b (with_items h.start (slid_in h movable) hs)) bytes parts;
+      limits = same_limits hs _ (places-held h.start (slid_in h movable) hs) sound.limits;
+      placed = all_placed (bytes_of m) (bytes_of q) h hs movable rs s sound.heaps others found sound.placed;
+      apart = ranges_apart (bytes_of m) (bytes_of q) h hs movable rs s sound.heaps others found sound.placed sound.apart;
+      few = rw (length-map rs (λ (r : Region). moved_region (moves_in h movable) r)) sound.few;
+      anchors = sound.anchors;
+      headers = sound.headers;
+    } in
+    record {
+      store = store;
+      sound = subst IsSound (sym store) now;
+      classes = λ a. ap (λ (f : ℕ → Class). is_heap_class (f a)) d.marks
+          ∙ marks_held (bytes_of m) (class_of m) (class_of n) h (slid_in h movable) hs sound.heaps found classes l.marks a
+          ∙ ap (λ (gs : List HeapList). spells_any gs (word_start a)) (sym heaps);
+    }
+
+-- the same of the heap at its address
+pub done_here : (m n q : AddressMap) (heap : ℕ) (movable : List ℕ) (moves : List Move) → IsSound (store_of m) → AreClasses m → (k : Here m heap movable)
+    → IsAllSlid m n heap movable moves → IsDone m n q moves → IsSlidStore m q k.h movable
+done_here m n q heap movable moves sound classes k a d =
+    slid_store m n q k.h movable moves sound classes (subst (λ (x : ℕ). find_heap x (store_of m).heaps ≡ Some k.h) (sym k.start) k.found) k.spelled k.is
+    (subst (λ (x : ℕ). IsAllSlid m n x movable moves) (sym k.start) a) d
+
+pub slid_here : (m n q : AddressMap) (heap : ℕ) (movable : List ℕ) (moves : List Move) → IsSound (store_of m) → AreClasses m → Here m heap movable
+    → IsAllSlid m n heap movable moves → IsDone m n q moves → IsSlid (store_of m) heap movable (store_of q) moves
+slid_here m n q heap movable moves sound classes k a d =
+    let mv : ℕ → Bool = is_listed movable in
+    let moved : moves ≡ moves_of mv (heap + 16) (heap + 16) (items_at m heap) = a.moved in
+    let moved' : moves ≡ moves_of mv (k.h.start + 16) (k.h.start + 16) (items_at m k.h.start) =
+    subst (λ (x : ℕ). moves ≡ moves_of mv (x + 16) (x + 16) (items_at m x)) (sym k.start) moved in
+    rw k.found ((done_here m n q heap movable moves sound classes k a d).store, moved' ∙ ap (λ (ys : List Item). moves_of mv (k.h.start + 16) (k.h.start + 16) ys) k.is.list)

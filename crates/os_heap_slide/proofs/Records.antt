@@ -1,0 +1,313 @@
+-- The records of images follow their blocks, and those of other ranges stay.
+use Rattle.std.proofs.Common.{List, ℕ, Bool, [], ◌∷◌, ◌++◌, ◌≡◌, ◌≢◌, ◌≤◌, ◌<◌, ◌⊎◌, ◌+◌, ◌-◌, ◌%◌, ◌==◌, ◌∙◌, true, false, refl, sym, ap, subst, inl, inr, Some, None, length, map, arith}
+use Rattle.std.proofs.lemmas.Bool.{cases_Bool, cases_eq, eqb-true, eq-eqb, ne_eqb, false≢true, le-leb, lt-ltb, le-ltb, lt-leb}
+use Rattle.std.proofs.lemmas.List.{length-map}
+use Rattle.address_map.proofs.Stores.{in_range-cases}
+use Rattle.address_map.specs.Bytes.{Bytes, in_range}
+use Rattle.address_map.specs.Items.{size_of}
+use Rattle.address_map.specs.Moves.{moved_place, moved_region, moved_regions, moved_to}
+use Rattle.address_map.specs.Records.{is_heap_kind}
+use Rattle.address_map.specs.declared.follow.Move.{Move}
+use Rattle.address_map.specs.declared.item.Item.{Item}
+use Rattle.address_map.specs.declared.region.Kind.{Kind}
+use Rattle.address_map.specs.declared.region.Kind.TheVariants as kind
+use Rattle.address_map.specs.declared.region.Region.{Region}
+use Rattle.os_heap_lists.proofs.LiveBlocks.{LiveBytes, live_apart, live_bytes}
+use Rattle.os_heap_lists.specs.Heap.{AreTotals, HeapList, IsHeapIn}
+use Rattle.os_heap_lists.specs.Lists.{live_total}
+use Rattle.os_heap.proofs.Apart.{range_parts}
+use Rattle.os_heap.proofs.Stores.{AreOthers, clear-held, clear_of-found, IsOther}
+use Rattle.os_heap.specs.Calls.{with_items}
+use Rattle.os_heap.specs.Store.{AreClear, AreHeapsIn, ArePlaced, AreRangesApart, find_heap, heap_in, heaps_in, is_area, is_image, IsClearOfHeaps, IsClearOfRanges, IsImageBlock, IsImageIn, others_in}
+use Rattle.os_heap_slide.proofs.Places.{low_still, moved_live, past_still, stay_distinct}
+use Rattle.os_heap_slide.specs.Slide.{is_listed, moves_of, slid}
+
+-- kinds whose records stay, and the one whose records follow
+image_place : (moves : List Move) (k : Kind) (a : ℕ) → is_image k ≡ true → moved_place moves k a ≡ moved_to moves a
+image_place moves kind.Image a is = refl
+image_place moves kind.Heap a is = absurd (false≢true is)
+image_place moves kind.Rma a is = absurd (false≢true is)
+image_place moves kind.FlexStore a is = absurd (false≢true is)
+image_place moves kind.FlexHeader a is = absurd (false≢true is)
+image_place moves kind.Anchor a is = absurd (false≢true is)
+image_place moves kind.HeadWord a is = absurd (false≢true is)
+image_place moves kind.SystemPage a is = absurd (false≢true is)
+
+still_place : (moves : List Move) (k : Kind) (a : ℕ) → moved_to moves a ≡ a → moved_place moves k a ≡ a
+still_place moves kind.Image a still = still
+still_place moves kind.Heap a still = refl
+still_place moves kind.Rma a still = refl
+still_place moves kind.FlexStore a still = refl
+still_place moves kind.FlexHeader a still = refl
+still_place moves kind.Anchor a still = refl
+still_place moves kind.HeadWord a still = refl
+still_place moves kind.SystemPage a still = refl
+
+heap_place : (moves : List Move) (k : Kind) (a : ℕ) → is_heap_kind k ≡ true → moved_place moves k a ≡ a
+heap_place moves kind.Heap a is = refl
+heap_place moves kind.Rma a is = refl
+heap_place moves kind.Image a is = absurd (false≢true is)
+heap_place moves kind.FlexStore a is = refl
+heap_place moves kind.FlexHeader a is = refl
+heap_place moves kind.Anchor a is = refl
+heap_place moves kind.HeadWord a is = refl
+heap_place moves kind.SystemPage a is = refl
+
+-- the heaps are recorded where they were, and the others are those that follow
+pub heaps_moved : (b : Bytes) (moves : List Move) (rs : List Region) → heaps_in b (moved_regions moves rs) ≡ heaps_in b rs
+heaps_moved b moves [] = refl
+heaps_moved b moves (r ∷ rs) = elim (cases_Bool (is_heap_kind r.kind)) [
+  | inl heap ↦ rw (heap, heap_place moves r.kind r.at heap, heaps_moved b moves rs) refl
+  | inr other ↦ rw (other, heaps_moved b moves rs) refl
+]
+
+pub others_moved : (moves : List Move) (rs : List Region) → others_in (moved_regions moves rs) ≡ moved_regions moves (others_in rs)
+others_moved moves [] = refl
+others_moved moves (r ∷ rs) = elim (cases_Bool (is_heap_kind r.kind)) [
+  | inl heap ↦ rw heap (others_moved moves rs)
+  | inr other ↦ rw other (ap (λ (qs : List Region). moved_region moves r ∷ qs) (others_moved moves rs))
+]
+
+-- ranges that share no address
+apart_clear : (at len b other : ℕ) → (at + len ≤ b) ⊎ (b + other ≤ at) → AreClear at len b other
+apart_clear at len b other apart a inside =
+    let here : (at ≤ a) × (a < at + len) = range_parts at len a inside in
+    elim (in_range-cases b other a) [
+      | inl r ↦
+          let there : (b ≤ a) × (a < b + other) = range_parts b other a r.0 in
+          absurd (elim apart [ inl low ↦ omega (arith, here.1, there.0) | inr past ↦ omega (arith, here.0, there.1) ])
+      | inr r ↦ r.0
+    ]
+
+empty_clear : (at len b other : ℕ) → len ≡ 0 → AreClear at len b other
+empty_clear at len b other none a inside = let here : (at ≤ a) × (a < at + len) = range_parts at len a inside in absurd (omega (arith, here.0, here.1))
+
+clear_empty : (at len b other : ℕ) → other ≡ 0 → AreClear at len b other
+clear_empty at len b other none a inside = elim (in_range-cases b other a) [
+  | inl r ↦ let there : (b ≤ a) × (a < b + other) = range_parts b other a r.0 in absurd (omega (arith, there.0, there.1))
+  | inr r ↦ r.0
+]
+
+inside_range : (at len a : ℕ) → at ≤ a → a < at + len → in_range at len a ≡ true
+inside_range at len a low high = rw (le-leb at a low, lt-ltb a (at + len) high) refl
+
+turned : (at len b other : ℕ) → AreClear at len b other → AreClear b other at len
+turned at len b other clear a there = elim (in_range-cases at len a) [
+  | inl r ↦ absurd (false≢true (sym (clear a r.0) ∙ there))
+  | inr r ↦ r.0
+]
+
+-- a range in another one that is clear of a third
+within_clear : (at len b other c size : ℕ) → b ≤ at → at + len ≤ b + other → AreClear b other c size → AreClear at len c size
+within_clear at len b other c size low high clear a inside =
+    let here : (at ≤ a) × (a < at + len) = range_parts at len a inside in
+    clear a (inside_range b other a (omega (arith, here.0)) (omega (arith, here.1)))
+
+-- What a record is to the heap that slides: empty, clear of it and unmoved, or that of an image in it.
+pub record IsStill (h : HeapList) (moves : List Move) (r : Region) : Type 0 where
+  pub place : moved_place moves r.kind r.at ≡ r.at
+  pub clear : AreClear h.start h.end r.at r.len
+
+abbrev pub IsKnown : HeapList → List Move → Region → Type 0
+IsKnown h moves r = (r.len ≡ 0) ⊎ (IsStill h moves r ⊎ IsImageBlock h r)
+
+-- what the slide is of
+pub record IsSlide (b c : Bytes) (h : HeapList) (movable : List ℕ) : Type 0 where
+  pub old : IsHeapIn b h.start h.end h.items
+  pub new : IsHeapIn c h.start h.end (slid (is_listed movable) (h.start + 16) (h.start + 16) h.items)
+
+abbrev pub moves_in : HeapList → List ℕ → List Move
+moves_in h movable = moves_of (is_listed movable) (h.start + 16) (h.start + 16) h.items
+
+abbrev pub slid_in : HeapList → List ℕ → List Item
+slid_in h movable = slid (is_listed movable) (h.start + 16) (h.start + 16) h.items
+
+-- an address out of the heap is no block that moves
+out_still : (b c : Bytes) (h : HeapList) (movable : List ℕ) (a : ℕ) → IsSlide b c h movable → in_range h.start h.end a ≡ false
+    → moved_to (moves_in h movable) a ≡ a
+out_still b c h movable a s out = elim (in_range-cases h.start h.end a) [
+  | inl r ↦ absurd (false≢true (sym out ∙ r.0))
+  | inr r ↦ elim r.1 [
+    | inl low ↦ low_still (is_listed movable) (h.start + 16) (h.start + 16) h.items a (omega arith)
+    | inr past ↦ past_still (is_listed movable) (h.start + 16) (h.start + 16) h.items a s.old.totals (omega (arith, s.old.inside))
+  ]
+]
+
+clear_still : (b c : Bytes) (h : HeapList) (movable : List ℕ) (r : Region) → IsSlide b c h movable → AreClear r.at r.len h.start h.end → IsKnown h (moves_in h movable) r
+clear_still b c h movable r s clear = elim (cases_eq r.len 0) [
+  | inl none ↦ inl none
+  | inr some ↦ inr (inl (record {
+    place = still_place (moves_in h movable) r.kind r.at
+        (out_still b c h movable r.at s (clear r.at (inside_range r.at r.len r.at (omega arith) (omega (arith, some)))));
+    clear = turned r.at r.len h.start h.end clear;
+  }))
+]
+
+-- the bytes of an image in a heap
+image_range : (b : Bytes) (g : HeapList) (r : Region) → IsHeapIn b g.start g.end g.items → IsImageBlock g r
+    → (g.start ≤ r.at) × ((r.at + r.len ≤ g.start + g.end) × (4 ≤ r.len))
+image_range b g r heap image =
+    let place : LiveBytes r.at (r.len + 4) (g.start + 16) (g.start + 16 + size_of g.items) = live_bytes r.at (r.len + 4) (g.start + 16) g.items heap.totals image.live in
+    (omega (arith, place.low), (omega (arith, place.high, heap.inside), omega (arith, place.size)))
+
+other_image : (b c : Bytes) (h g : HeapList) (movable : List ℕ) (r : Region) → IsSlide b c h movable → IsHeapIn b g.start g.end g.items
+    → AreClear h.start h.end g.start g.end → IsImageBlock g r → IsStill h (moves_in h movable) r
+other_image b c h g movable r s heap clear image =
+    let range : (g.start ≤ r.at) × ((r.at + r.len ≤ g.start + g.end) × (4 ≤ r.len)) = image_range b g r heap image in
+    let away : AreClear r.at r.len h.start h.end = within_clear r.at r.len g.start g.end h.start h.end range.0 range.1.0 (turned h.start h.end g.start g.end clear) in
+    record {
+      place = still_place (moves_in h movable) r.kind r.at (out_still b c h movable r.at s
+          (away r.at (inside_range r.at r.len r.at (omega arith) (omega (arith, range.1.1)))));
+      clear = turned r.at r.len h.start h.end away;
+    }
+
+image_known : (b c : Bytes) (h : HeapList) (hs : List HeapList) (movable : List ℕ) (r : Region) → IsSlide b c h movable → AreHeapsIn b hs → AreOthers h hs
+    → IsImageIn hs r → IsKnown h (moves_in h movable) r
+image_known b c h [] movable r s heaps others image = absurd image
+image_known b c h (g ∷ hs) movable r s heaps others image = elim image [
+  | inr later ↦ image_known b c h hs movable r s heaps.1.1 others.1 later
+  | inl own ↦ elim others.0 [
+    | inl same ↦ inr (inr (subst (λ (x : HeapList). IsImageBlock x r) same own))
+    | inr apart ↦ inr (inl (other_image b c h g movable r s heaps.0 apart.1 own))
+  ]
+]
+
+known : (b c : Bytes) (h : HeapList) (hs : List HeapList) (movable : List ℕ) (r : Region) → IsSlide b c h movable → AreHeapsIn b hs → AreOthers h hs
+    → find_heap h.start hs ≡ Some h → IsClearOfHeaps r.at r.len hs ⊎ IsImageIn hs r → IsKnown h (moves_in h movable) r
+known b c h hs movable r s heaps others found (inl clear) = clear_still b c h movable r s (clear_of-found r.at r.len h.start hs h clear found)
+known b c h hs movable r s heaps others found (inr image) = image_known b c h hs movable r s heaps others image
+
+-- an image in the heap is one at its new place
+image_moved : (b c : Bytes) (h : HeapList) (movable : List ℕ) (r : Region) → IsSlide b c h movable → IsImageBlock h r
+    → live_total (moved_place (moves_in h movable) r.kind r.at) (h.start + 16) (slid_in h movable) ≡ Some (r.len + 4)
+image_moved b c h movable r s image =
+    rw (image_place (moves_in h movable) r.kind r.at image.image)
+    (moved_live (is_listed movable) (h.start + 16) (h.start + 16) h.items r.at (r.len + 4) (omega arith) s.old.totals image.live)
+
+moved_range : (b c : Bytes) (h : HeapList) (movable : List ℕ) (r : Region) → IsSlide b c h movable → IsImageBlock h r
+    → (h.start ≤ moved_place (moves_in h movable) r.kind r.at) × (moved_place (moves_in h movable) r.kind r.at + r.len ≤ h.start + h.end)
+moved_range b c h movable r s image =
+    let new : ℕ = moved_place (moves_in h movable) r.kind r.at in
+    let place : LiveBytes new (r.len + 4) (h.start + 16) (h.start + 16 + size_of (slid_in h movable)) =
+    live_bytes new (r.len + 4) (h.start + 16) (slid_in h movable) s.new.totals (image_moved b c h movable r s image) in
+    (omega (arith, place.low), omega (arith, place.high, s.new.inside))
+
+-- two records are apart afterwards
+both_images : (b c : Bytes) (h : HeapList) (movable : List ℕ) (r q : Region) → IsSlide b c h movable → IsImageBlock h r → IsImageBlock h q
+    → AreClear r.at r.len q.at q.len
+    → AreClear (moved_place (moves_in h movable) r.kind r.at) r.len (moved_place (moves_in h movable) q.kind q.at) q.len
+both_images b c h movable r q s one two clear =
+    let mv : ℕ → Bool = is_listed movable in
+    let moves : List Move = moves_in h movable in
+    let range : (h.start ≤ r.at) × ((r.at + r.len ≤ h.start + h.end) × (4 ≤ r.len)) = image_range b h r s.old one in
+    let range' : (h.start ≤ q.at) × ((q.at + q.len ≤ h.start + h.end) × (4 ≤ q.len)) = image_range b h q s.old two in
+    let other : r.at ≢ q.at = λ (e : r.at ≡ q.at).
+    false≢true (sym (clear r.at (inside_range r.at r.len r.at (omega arith) (omega (arith, range.1.1))))
+    ∙ inside_range q.at q.len r.at (omega (arith, e)) (omega (arith, e, range'.1.1))) in
+    let distinct : moved_to moves r.at ≢ moved_to moves q.at =
+    stay_distinct mv (h.start + 16) (h.start + 16) h.items r.at (r.len + 4) q.at (q.len + 4) (omega arith) s.old.totals one.live two.live other in
+    let new : ℕ = moved_place moves r.kind r.at in
+    let new' : ℕ = moved_place moves q.kind q.at in
+    let ne : new ≢ new' = λ (e : new ≡ new'). distinct (sym (image_place moves r.kind r.at one.image) ∙ e ∙ image_place moves q.kind q.at two.image) in
+    let low : LiveBytes new (r.len + 4) (h.start + 16) (h.start + 16 + size_of (slid_in h movable)) =
+    live_bytes new (r.len + 4) (h.start + 16) (slid_in h movable) s.new.totals (image_moved b c h movable r s one) in
+    let low' : LiveBytes new' (q.len + 4) (h.start + 16) (h.start + 16 + size_of (slid_in h movable)) =
+    live_bytes new' (q.len + 4) (h.start + 16) (slid_in h movable) s.new.totals (image_moved b c h movable q s two) in
+    apart_clear new r.len new' q.len
+    (elim (live_apart new (r.len + 4) new' (q.len + 4) (h.start + 16) (slid_in h movable) s.new.totals
+    (image_moved b c h movable r s one) (image_moved b c h movable q s two) ne) [
+      | inl before ↦ inl (omega (arith, before))
+      | inr behind ↦ inr (omega (arith, behind))
+    ])
+
+pair_apart : (b c : Bytes) (h : HeapList) (movable : List ℕ) (r q : Region) → IsSlide b c h movable → IsKnown h (moves_in h movable) r
+    → IsKnown h (moves_in h movable) q → AreClear r.at r.len q.at q.len
+    → AreClear (moved_place (moves_in h movable) r.kind r.at) r.len (moved_place (moves_in h movable) q.kind q.at) q.len
+pair_apart b c h movable r q s (inl none) two clear = empty_clear _ r.len _ q.len none
+pair_apart b c h movable r q s (inr one) (inl none) clear = clear_empty _ r.len _ q.len none
+pair_apart b c h movable r q s (inr (inl one)) (inr (inl two)) clear = rw (one.place, two.place) clear
+pair_apart b c h movable r q s (inr (inl one)) (inr (inr two)) clear =
+    let range : (h.start ≤ moved_place (moves_in h movable) q.kind q.at) × (moved_place (moves_in h movable) q.kind q.at + q.len ≤ h.start + h.end) =
+    moved_range b c h movable q s two in
+    rw one.place (turned _ q.len r.at r.len (within_clear _ q.len h.start h.end r.at r.len range.0 range.1 one.clear))
+pair_apart b c h movable r q s (inr (inr one)) (inr (inl two)) clear =
+    let range : (h.start ≤ moved_place (moves_in h movable) r.kind r.at) × (moved_place (moves_in h movable) r.kind r.at + r.len ≤ h.start + h.end) =
+    moved_range b c h movable r s one in
+    rw two.place (within_clear _ r.len h.start h.end q.at q.len range.0 range.1 two.clear)
+pair_apart b c h movable r q s (inr (inr one)) (inr (inr two)) clear = both_images b c h movable r q s one two clear
+
+abbrev AreKnown : HeapList → List Move → List Region → Type 0
+AreKnown h moves [] = Unit {0}
+AreKnown h moves (r ∷ rs) = IsKnown h moves r × AreKnown h moves rs
+
+all_known : (b c : Bytes) (h : HeapList) (hs : List HeapList) (movable : List ℕ) (rs : List Region) → IsSlide b c h movable → AreHeapsIn b hs → AreOthers h hs
+    → find_heap h.start hs ≡ Some h → ArePlaced hs rs → AreKnown h (moves_in h movable) rs
+all_known b c h hs movable [] s heaps others found placed = tt
+all_known b c h hs movable (r ∷ rs) s heaps others found placed =
+    (known b c h hs movable r s heaps others found placed.0, all_known b c h hs movable rs s heaps others found placed.1)
+
+one_apart : (b c : Bytes) (h : HeapList) (movable : List ℕ) (r : Region) (rs : List Region) → IsSlide b c h movable → IsKnown h (moves_in h movable) r
+    → AreKnown h (moves_in h movable) rs → IsClearOfRanges r rs
+    → IsClearOfRanges (moved_region (moves_in h movable) r) (moved_regions (moves_in h movable) rs)
+one_apart b c h movable r [] s one all clear = tt
+one_apart b c h movable r (q ∷ rs) s one all clear =
+    (pair_apart b c h movable r q s one all.0 clear.0, one_apart b c h movable r rs s one all.1 clear.1)
+
+all_apart : (b c : Bytes) (h : HeapList) (movable : List ℕ) (rs : List Region) → IsSlide b c h movable → AreKnown h (moves_in h movable) rs
+    → AreRangesApart rs → AreRangesApart (moved_regions (moves_in h movable) rs)
+all_apart b c h movable [] s all apart = tt
+all_apart b c h movable (r ∷ rs) s all apart =
+    (one_apart b c h movable r rs s all.0 all.1 apart.0, all_apart b c h movable rs s all.1 apart.1)
+
+pub ranges_apart : (b c : Bytes) (h : HeapList) (hs : List HeapList) (movable : List ℕ) (rs : List Region) → IsSlide b c h movable → AreHeapsIn b hs → AreOthers h hs
+    → find_heap h.start hs ≡ Some h → ArePlaced hs rs → AreRangesApart rs → AreRangesApart (moved_regions (moves_in h movable) rs)
+ranges_apart b c h hs movable rs s heaps others found placed apart = all_apart b c h movable rs s (all_known b c h hs movable rs s heaps others found placed) apart
+
+-- each is clear of all heaps still, or that of an image in one
+clear_none : (at len : ℕ) (hs : List HeapList) → len ≡ 0 → IsClearOfHeaps at len hs
+clear_none at len [] none = tt
+clear_none at len (h ∷ hs) none = (empty_clear at len h.start h.end none, clear_none at len hs none)
+
+clear_moved : (b c : Bytes) (h : HeapList) (hs : List HeapList) (movable : List ℕ) (r : Region) → IsSlide b c h movable → find_heap h.start hs ≡ Some h
+    → IsClearOfHeaps r.at r.len hs
+    → IsClearOfHeaps (moved_place (moves_in h movable) r.kind r.at) r.len (with_items h.start (slid_in h movable) hs)
+clear_moved b c h hs movable r s found clear = elim (cases_eq r.len 0) [
+  | inl none ↦ clear_none _ r.len (with_items h.start (slid_in h movable) hs) none
+  | inr some ↦
+      let own : AreClear r.at r.len h.start h.end = clear_of-found r.at r.len h.start hs h clear found in
+      let still : moved_place (moves_in h movable) r.kind r.at ≡ r.at = still_place (moves_in h movable) r.kind r.at
+      (out_still b c h movable r.at s (own r.at (inside_range r.at r.len r.at (omega arith) (omega (arith, some))))) in
+      rw still (clear-held r.at r.len h.start (slid_in h movable) hs clear)
+]
+
+image_in_moved : (b c : Bytes) (h : HeapList) (hs : List HeapList) (movable : List ℕ) (r : Region) → IsSlide b c h movable → AreHeapsIn b hs → AreOthers h hs
+    → IsImageIn hs r → IsImageIn (with_items h.start (slid_in h movable) hs) (moved_region (moves_in h movable) r)
+image_in_moved b c h [] movable r s heaps others image = image
+image_in_moved b c h (g ∷ hs) movable r s heaps others image = elim others.0 [
+  | inl same ↦
+      let start : g.start ≡ h.start = ap (λ (x : HeapList). x.start) same in
+      rw (eq-eqb g.start h.start start) (elim image [
+        | inr later ↦ inr (image_in_moved b c h hs movable r s heaps.1.1 others.1 later)
+        | inl own ↦
+            let own' : IsImageBlock h r = subst (λ (x : HeapList). IsImageBlock x r) same own in
+            inl (record { image = own.image; area = own.area; live = rw start (image_moved b c h movable r s own') })
+      ])
+  | inr apart ↦ rw (ne_eqb g.start h.start apart.0) (elim image [
+    | inr later ↦ inr (image_in_moved b c h hs movable r s heaps.1.1 others.1 later)
+    | inl own ↦
+        let still : moved_place (moves_in h movable) r.kind r.at ≡ r.at = (other_image b c h g movable r s heaps.0 apart.1 own).place in
+        inl (record { image = own.image; area = own.area; live = rw still own.live })
+  ])
+]
+
+pub all_placed : (b c : Bytes) (h : HeapList) (hs : List HeapList) (movable : List ℕ) (rs : List Region) → IsSlide b c h movable → AreHeapsIn b hs → AreOthers h hs
+    → find_heap h.start hs ≡ Some h → ArePlaced hs rs
+    → ArePlaced (with_items h.start (slid_in h movable) hs) (moved_regions (moves_in h movable) rs)
+all_placed b c h hs movable [] s heaps others found placed = tt
+all_placed b c h hs movable (r ∷ rs) s heaps others found placed = (
+  elim placed.0 [
+    | inl clear ↦ inl (clear_moved b c h hs movable r s found clear)
+    | inr image ↦ inr (image_in_moved b c h hs movable r s heaps others image)
+  ],
+  all_placed b c h hs movable rs s heaps others found placed.1,
+)

@@ -1,0 +1,85 @@
+-- The slide of a heap's movable blocks. A fixed block keeps its place, a movable one goes to the end of the live item before it, or to the place of
+-- the first item, where there is none. What lies between becomes free, and the base is the end of the last item (RISC OS 3 Programmer's Reference
+-- Manual, "OS_Module", reason 8, tidying of the module area; which blocks can be moved is this project's own).
+use Rattle.std.specs.Prelude.{ℕ, ◌≡◌, ◌≤◌, Bool, false, ◌+◌, ◌-◌, ◌==◌, List, [], ◌∷◌, ◌++◌, length, if◌then◌else◌}
+use Rattle.std.specs.List.{list_any}
+use Rattle.address_map.specs.Bytes.{with_moved_at}
+use Rattle.address_map.specs.Moves.{moved_regions}
+use Rattle.address_map.specs.declared.follow.Move.{Move}
+use Rattle.address_map.specs.declared.item.Item.{Item}
+use Rattle.address_map.specs.declared.item.Item.TheVariants.{Free, Live}
+use Rattle.os_heap_lists.specs.Heap.{HeapList, with_heap}
+use Rattle.os_heap_lists.specs.Lists.{left_free}
+use Rattle.os_heap.specs.Calls.{OfHeap, with_items}
+use Rattle.os_heap.specs.Store.{Store, find_heap}
+
+-- is the block whose bytes begin at an address one of those that can be moved?
+abbrev pub is_listed : List ℕ → ℕ → Bool
+is_listed movable block = list_any (λ m. m == block) movable
+
+-- where an item at `at` goes, the items before which end at `top`
+abbrev pub place_of : Bool → ℕ → ℕ → ℕ
+place_of moves top at = if moves then top else at
+
+-- the items after the slide: those before these end at `top` then, and the first of these is at `at` before it
+abbrev pub slid : (ℕ → Bool) → ℕ → ℕ → List Item → List Item
+slid movable top at [] = []
+slid movable top at (Live t ∷ xs) =
+    let place : ℕ = place_of (movable (at + 4)) top at in
+    left_free (place - top) ++ Live t ∷ slid movable (place + t) (at + t) xs
+slid movable top at (Free t ∷ xs) = slid movable top (at + t) xs
+
+-- the bytes after the live items were copied, one after another upwards
+abbrev pub slid_bytes : (ℕ → Bool) → ℕ → ℕ → List Item → (ℕ → ℕ) → ℕ → ℕ
+slid_bytes movable top at [] bytes = bytes
+slid_bytes movable top at (Live t ∷ xs) bytes =
+    let place : ℕ = place_of (movable (at + 4)) top at in
+    slid_bytes movable (place + t) (at + t) xs (with_moved_at bytes at place t)
+slid_bytes movable top at (Free t ∷ xs) bytes = slid_bytes movable top (at + t) xs bytes
+
+-- the old and the new address of each block that moved
+abbrev pub move_of : ℕ → ℕ → List Move
+move_of at place = if place == at then [] else (record { from = at + 4; to = place + 4 } ∷ [])
+
+abbrev pub moves_of : (ℕ → Bool) → ℕ → ℕ → List Item → List Move
+moves_of movable top at [] = []
+moves_of movable top at (Live t ∷ xs) =
+    let place : ℕ = place_of (movable (at + 4)) top at in
+    move_of at place ++ moves_of movable (place + t) (at + t) xs
+moves_of movable top at (Free t ∷ xs) = moves_of movable top (at + t) xs
+
+-- the addresses behind that of a block, where it is the first of them, else all
+abbrev pub begins : ℕ → List ℕ → Bool
+begins block [] = false
+begins block (m ∷ movable) = m == block
+
+abbrev pub without_first : ℕ → List ℕ → List ℕ
+without_first block [] = []
+without_first block (m ∷ movable) = if m == block then movable else m ∷ movable
+
+-- the addresses are those of live blocks, in order, where the first item is at `at`
+abbrev pub AreBlocks : ℕ → List Item → List ℕ → Type 0
+AreBlocks at [] movable = movable ≡ []
+AreBlocks at (Live t ∷ xs) movable = AreBlocks (at + t) xs (without_first (at + 4) movable)
+AreBlocks at (Free t ∷ xs) movable = AreBlocks (at + t) xs movable
+
+-- the store after the slide of one heap: the bytes copied, then the words of the new list over them, and the records of images that moved
+abbrev pub with_slid : Store → HeapList → List ℕ → Store
+with_slid s h movable =
+    let at : ℕ = h.start + 16 in
+    let items : List Item = slid (is_listed movable) at at h.items in
+    let bytes : ℕ → ℕ = slid_bytes (is_listed movable) at at h.items s.bytes.at in
+    record s {
+      bytes = record { mapped = s.bytes.mapped; at = with_heap bytes h.start h.end items };
+      heaps = with_items h.start items s.heaps;
+      others = moved_regions (moves_of (is_listed movable) at at h.items) s.others;
+    }
+
+-- the blocks that can be moved are live ones of that heap, in order, and at most 128
+abbrev pub MaySlide : Store → ℕ → List ℕ → Type 0
+MaySlide s heap movable = OfHeap (λ h. AreBlocks (h.start + 16) h.items movable × (length movable ≤ 128)) (find_heap heap s.heaps)
+
+-- the store after the slide of a heap, and the blocks that moved
+abbrev pub IsSlid : Store → ℕ → List ℕ → Store → List Move → Type 0
+IsSlid s heap movable t moves = OfHeap (λ h.
+    (t ≡ with_slid s h movable) × (moves ≡ moves_of (is_listed movable) (h.start + 16) (h.start + 16) h.items)) (find_heap heap s.heaps)

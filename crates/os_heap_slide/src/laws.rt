@@ -1,0 +1,26 @@
+//! Laws over the definitions, each the contract of a function that does nothing.
+
+ghost use Rattle.os_heap_slide.specs.Laws.{SlideClears, SlideDescribes, SlideFits, SlideKeeps};
+
+/// A slide keeps the bytes of each live item, at its new place.
+#[tactic(auto, using(crate::proofs::LawLemmas::slide_keeps))]
+pub fn slides_keep_contents()
+    ensures { SlideKeeps }
+{}
+
+/// After a slide no two free items are side by side, the last item is live, and the heap is no larger.
+#[tactic(auto, using(crate::proofs::LawLemmas::slide_fits))]
+pub fn slides_leave_spaced_items()
+    ensures { SlideFits }
+{}
+
+/// Where no live item is fixed, none is free after a slide.
+#[tactic(auto, using(crate::proofs::LawLemmas::slide_clears))]
+pub fn slides_leave_no_free_item()
+    ensures { SlideClears }
+{}
+
+/// And the largest block that can be claimed is all that is free, without its length word.
+pub fn slides_join_free_room()
+    ensures { SlideDescribes }
+{}

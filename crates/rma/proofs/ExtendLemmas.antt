@@ -1,0 +1,172 @@
+-- Blocks of the module area, and where a change of one is sure to be done once the area is grown.
+use Rattle.std.proofs.Common.{◌≡◌, ℕ, ◌+◌, ◌-◌, ◌==◌, ◌^◌, ◌≤◌, ◌⊎◌, Bool, true, false, refl, sym, ap, subst, ◌∙◌, Some, None, Ok, Err, inl, inr, arith}
+use Rattle.std.specs.Prelude.{Option, Result, is_some, is_ok, ok_or}
+use Rattle.std.proofs.lemmas.Bool.{cases_Bool, eqb-true}
+use Rattle.profile.specs.declared.error.ErrorNumber.{ErrorNumber}
+use Rattle.profile.specs.declared.error.ErrorNumber.TheVariants.{HeapBadDesc, HeapNotABlock}
+use Rattle.address_map.specs.Items.{size_of}
+use Rattle.address_map.specs.Memory.{bytes_of}
+use Rattle.address_map.specs.declared.map.AddressMap.{AddressMap}
+use Rattle.os_heap_lists.specs.Heap.{HeapList, AreTotals, IsHeapIn}
+use Rattle.os_heap_lists.specs.Lists.{changed_by, live_total, resized_in_place, round_up_8, total_for}
+use Rattle.os_heap_lists.proofs.LiveBlocks.{LiveBytes, live_bytes}
+use Rattle.os_heap.specs.Calls.{block_sized, bytes_held, got, guests_total, resized, unless_image}
+use Rattle.os_heap.specs.Room.{base_offset}
+use Rattle.os_heap.specs.Store.{Store, IsSound, find_heap, has_image, store_of}
+use Rattle.os_heap.proofs.Found.{found_heap, found_start}
+use Rattle.os_heap.proofs.Replace.{heap_below}
+use Rattle.dynamic_areas.specs.Ground.{Estate, IsEstate}
+use Rattle.rma.specs.Calls.{end_if_moved, end_in_place, grown_in_place, grown_to, is_full, or_as_before, rma_base, total_changed}
+use Rattle.rma.proofs.GrowthLemmas.{HasArea, IsGrown, area_there, grown_not, is_grown}
+use Rattle.rma.proofs.ResizeLemmas.{IsGuests, got_fits, last_fits, resized_fits}
+
+-- the block whose size is asked for
+pub record IsSized (s : Store) (h : HeapList) (block size : ℕ) : Type 0 where
+  pub total : ℕ
+  pub guests : IsGuests s h block total
+  pub same : size ≡ total - 4
+
+held_by : (s : Store) (h : HeapList) (block size : ℕ) → bytes_held (guests_total s.others h.start h.items block) ≡ Ok size → IsSized s h block size
+held_by s h block size e = go (has_image block s.others) (live_total block (h.start + 16) h.items) refl refl e where
+  go : (b : Bool) (o : Option ℕ) → has_image block s.others ≡ b → live_total block (h.start + 16) h.items ≡ o
+      → bytes_held (ok_or (unless_image b o) HeapNotABlock) ≡ Ok size → IsSized s h block size
+  go true o image live e = absurd (let no : Err HeapNotABlock ≡ Ok size = e in cc)
+  go false None image live e = absurd (let no : Err HeapNotABlock ≡ Ok size = e in cc)
+  go false (Some t) image live e =
+      let one : Ok (t - 4) ≡ Ok size = e in
+      let size' : t - 4 ≡ size = cc in
+      record { total = t; guests = record { own = image; live = live }; same = sym size' }
+
+pub sized_by : (s : Store) (heap : ℕ) (h : HeapList) (block size : ℕ) → find_heap heap s.heaps ≡ Some h → block_sized s heap block ≡ Ok size
+    → IsSized s h block size
+unfolding block_sized
+sized_by s heap h block size found e = held_by s h block size (let t = rw found at e in t)
+
+pub base_is : (s : Store) (heap : ℕ) (h : HeapList) → find_heap heap s.heaps ≡ Some h → base_offset s heap ≡ 16 + size_of h.items
+unfolding base_offset
+base_is s heap h found = rw found refl
+
+-- a block lies below the base, and this within memory
+pub record LiesBelow (m : AddressMap) (block size : ℕ) : Type 0 where
+  pub small : size + 20 ≤ base_offset (store_of m) 0x01800000
+  pub within : block + size ≤ 0x01800000 + base_offset (store_of m) 0x01800000
+  pub base : 0x01800000 + base_offset (store_of m) 0x01800000 ≤ 2 ^ 26
+
+lies_in : (m : AddressMap) (h : HeapList) (block size : ℕ) → IsSound (store_of m) → find_heap 0x01800000 (store_of m).heaps ≡ Some h
+    → block_sized (store_of m) 0x01800000 block ≡ Ok size → LiesBelow m block size
+unfolding store_of
+lies_in m h block size sound found e =
+    let heap : IsHeapIn (bytes_of m) h.start h.end h.items = found_heap (bytes_of m) 0x01800000 (store_of m).heaps h sound.heaps found in
+    let start : h.start ≡ 0x01800000 = found_start 0x01800000 (store_of m).heaps h found in
+    let top = heap_below m h.start h.end h.items heap in
+    let is : IsSized (store_of m) h block size = sized_by (store_of m) 0x01800000 h block size found e in
+    let place : LiveBytes block is.total (h.start + 16) (h.start + 16 + size_of h.items) =
+    live_bytes block is.total (h.start + 16) h.items heap.totals is.guests.live in
+    let base : base_offset (store_of m) 0x01800000 ≡ 16 + size_of h.items = base_is (store_of m) 0x01800000 h found in
+    record {
+      small = omega (arith, base, is.same, place.low, place.high, place.size, start);
+      within = omega (arith, base, is.same, place.high, place.size, start);
+      base = omega (arith, base, top, heap.inside, start);
+    }
+
+sized_none : (s : Store) (heap block size : ℕ) → find_heap heap s.heaps ≡ None → block_sized s heap block ≡ Ok size → ⊥
+unfolding block_sized
+sized_none s heap block size none e = let no : Err HeapBadDesc ≡ Ok size = rw none at e in cc
+
+pub lies_below : (m : AddressMap) (block size : ℕ) → IsSound (store_of m) → block_sized (store_of m) 0x01800000 block ≡ Ok size → LiesBelow m block size
+lies_below m block size sound e = go (find_heap 0x01800000 (store_of m).heaps) refl where
+  go : (o : Option HeapList) → find_heap 0x01800000 (store_of m).heaps ≡ o → LiesBelow m block size
+  go None none = absurd (sized_none (store_of m) 0x01800000 block size none e)
+  go (Some h) found = lies_in m h block size sound found e
+
+-- a claim in the grown area
+pub claim_done : (e g : Estate) (size end : ℕ) → IsGrown e g end → end ≡ rma_base e.store + total_for size → is_ok (got g.store 0x01800000 size) ≡ true
+claim_done e g size end grown is =
+    let h : HeapList = grown.heap in
+    got_fits g.store 0x01800000 size (record { kind = h.kind; start = h.start; end = grown.limit; items = h.items }) grown.there
+    (omega (arith, grown.reaches, is, base_is e.store 0x01800000 h grown.found))
+
+-- a change in the grown area, for which that has room
+resize_done : (e g : Estate) (block total change end : ℕ) (grown : IsGrown e g end) → IsGuests e.store grown.heap block total
+    → (is_some (resized_in_place block (grown.heap.start + grown.limit) (round_up_8 (changed_by total change)) (grown.heap.start + 16) grown.heap.items) ≡ true)
+    ⊎ (16 + size_of grown.heap.items + round_up_8 (changed_by total change) ≤ grown.limit)
+    → is_ok (resized g.store 0x01800000 block change) ≡ true
+resize_done e g block total change end grown own room =
+    let h : HeapList = grown.heap in
+    let k : HeapList = record { kind = h.kind; start = h.start; end = grown.limit; items = h.items } in
+    let there : find_heap k.start g.store.heaps ≡ Some k = subst (λ (p : ℕ). find_heap p g.store.heaps ≡ Some k) (sym grown.start) grown.there in
+    let guests : IsGuests g.store k block total = record { own = ap (has_image block) grown.others ∙ own.own; live = own.live } in
+    subst (λ (p : ℕ). is_ok (resized g.store p block change) ≡ true) grown.start
+    (resized_fits g.store k block total change there grown.totals guests room)
+
+-- the total that is asked for
+total_is : (size total change : ℕ) → size ≡ total - 4 → 4 ≤ total → total_changed size change ≡ round_up_8 (changed_by total change)
+total_is size total change same least = ap (λ (n : ℕ). round_up_8 (changed_by n change)) (let e : size + 4 ≡ total = omega (arith, same, least) in e)
+
+live_least : (s : Store) (h : HeapList) (block total : ℕ) → AreTotals h.items → IsGuests s h block total → LiveBytes block total (h.start + 16) (h.start + 16 + size_of h.items)
+live_least s h block total totals own = live_bytes block total (h.start + 16) h.items totals own.live
+
+-- the last block, in its place
+last_done : (e g : Estate) (block change size : ℕ) → block_sized e.store 0x01800000 block ≡ Ok size → block + size ≡ 0x01800000 + rma_base e.store
+    → IsGrown e g ((rma_base e.store + total_changed size change) - (size + 4)) → is_ok (resized g.store 0x01800000 block change) ≡ true
+last_done e g block change size sized last grown =
+    let h : HeapList = grown.heap in
+    let is : IsSized e.store h block size = sized_by e.store 0x01800000 h block size grown.found sized in
+    let place : LiveBytes block is.total (h.start + 16) (h.start + 16 + size_of h.items) = live_least e.store h block is.total grown.totals is.guests in
+    let new : total_changed size change ≡ round_up_8 (changed_by is.total change) = total_is size is.total change is.same (omega (arith, place.size)) in
+    let base : rma_base e.store ≡ 16 + size_of h.items = base_is e.store 0x01800000 h grown.found in
+    resize_done e g block is.total change ((rma_base e.store + total_changed size change) - (size + 4)) grown is.guests
+    (inl (last_fits block (h.start + grown.limit) (round_up_8 (changed_by is.total change)) (h.start + 16) is.total h.items grown.totals is.guests.live
+    (omega (arith, last, base, is.same, place.size, grown.start))
+    (omega (arith, last, base, is.same, place.size, grown.start, grown.reaches, new))))
+
+pub in_place_done : (e : Estate) (block change : ℕ) → IsEstate e
+    → (is_ok (resized (grown_in_place e block change).store 0x01800000 block change) ≡ true) ⊎ (grown_in_place e block change ≡ e)
+in_place_done e block change good = sized (block_sized e.store 0x01800000 block) refl where
+  tried : (size : ℕ) → block_sized e.store 0x01800000 block ≡ Ok size → block + size ≡ 0x01800000 + rma_base e.store → (r : Result Estate ErrorNumber)
+      → grown_to e ((rma_base e.store + total_changed size change) - (size + 4)) ≡ r
+      → (is_ok (resized (or_as_before e r).store 0x01800000 block change) ≡ true) ⊎ (or_as_before e r ≡ e)
+  tried size is last (Err f) done = inr refl
+  tried size is last (Ok g) done =
+      inl (last_done e g block change size is last (is_grown e g ((rma_base e.store + total_changed size change) - (size + 4)) good done))
+
+  sized : (r : Result ℕ ErrorNumber) → block_sized e.store 0x01800000 block ≡ r
+      → (let g : Estate = or_as_before e (grown_to e (end_in_place (rma_base e.store) block change r)) in
+      (is_ok (resized g.store 0x01800000 block change) ≡ true) ⊎ (g ≡ e))
+  sized (Err f) is = rw (grown_not e 0 (omega arith)) (inr refl)
+  sized (Ok size) is = elim (cases_Bool (block + size == 0x01800000 + rma_base e.store)) [
+    | inr other ↦ rw (other, grown_not e 0 (omega arith)) (inr refl)
+    | inl last ↦ rw last (tried size is (eqb-true (block + size) (0x01800000 + rma_base e.store) last) _ refl)
+  ]
+
+-- a block that found no room, at the base
+not_a_block : (s : Store) (heap : ℕ) (h : HeapList) (block change : ℕ) → find_heap heap s.heaps ≡ Some h → is_full (resized s heap block change) ≡ true
+    → is_ok (block_sized s heap block) ≡ true
+unfolding resized block_sized
+not_a_block s heap h block change found full = go (guests_total s.others h.start h.items block) refl where
+  go : (r : Result ℕ ErrorNumber) → guests_total s.others h.start h.items block ≡ r → is_ok (block_sized s heap block) ≡ true
+  go (Ok total) is = rw (found, is) refl
+  go (Err f) is = absurd (refused (has_image block s.others) (live_total block (h.start + 16) h.items) is) where
+    refused : (b : Bool) (o : Option ℕ) → ok_or (unless_image b o) HeapNotABlock ≡ Err f → ⊥
+    refused true o e = let same : HeapNotABlock ≡ f = cc in let t = rw (found, is, ← same) at full in let no : false ≡ true = t in cc
+    refused false None e = let same : HeapNotABlock ≡ f = cc in let t = rw (found, is, ← same) at full in let no : false ≡ true = t in cc
+    refused false (Some t) e = let no : Ok t ≡ Err f = e in cc
+
+pub move_done : (e g : Estate) (block change : ℕ) → IsEstate e → is_full (resized e.store 0x01800000 block change) ≡ true
+    → grown_to e (end_if_moved (rma_base e.store) change (block_sized e.store 0x01800000 block)) ≡ Ok g
+    → is_ok (resized g.store 0x01800000 block change) ≡ true
+move_done e g block change good full done =
+    let h : HasArea e = area_there e good in
+    go (block_sized e.store 0x01800000 block) refl (not_a_block e.store 0x01800000 h.known.heap block change h.known.found full) done where
+      go : (r : Result ℕ ErrorNumber) → block_sized e.store 0x01800000 block ≡ r → is_ok r ≡ true
+          → grown_to e (end_if_moved (rma_base e.store) change r) ≡ Ok g → is_ok (resized g.store 0x01800000 block change) ≡ true
+      go (Err f) is ok done = absurd (let no : false ≡ true = ok in cc)
+      go (Ok size) is ok done =
+          let end : ℕ = rma_base e.store + total_changed size change in
+          let grown : IsGrown e g end = is_grown e g end good done in
+          let k : HeapList = grown.heap in
+          let one : IsSized e.store k block size = sized_by e.store 0x01800000 k block size grown.found is in
+          let place : LiveBytes block one.total (k.start + 16) (k.start + 16 + size_of k.items) = live_least e.store k block one.total grown.totals one.guests in
+          let new : total_changed size change ≡ round_up_8 (changed_by one.total change) = total_is size one.total change one.same (omega (arith, place.size)) in
+          resize_done e g block one.total change end grown one.guests
+          (inr (omega (arith, grown.reaches, new, base_is e.store 0x01800000 k grown.found)))

@@ -1,0 +1,176 @@
+-- The module area where it grows: how far its heap reaches then.
+use Rattle.std.proofs.Common.{◌≡◌, ℕ, ◌+◌, ◌-◌, ◌*◌, ◌/◌, ◌<◌, ◌≤◌, true, false, refl, sym, ap, subst, Some, None, Ok, Err, inl, inr, arith}
+use Rattle.std.specs.Prelude.{Option, Result, is_some, nat_le, nat_lt, min}
+use Rattle.std.proofs.lemmas.Bool.{cases_Bool, lt-ltb, le-ltb, le-leb, lt-leb, leb-true, ltb-true, ltb-false}
+use Rattle.profile.specs.Outcome.{Leaves}
+use Rattle.profile.specs.declared.error.ErrorNumber.{ErrorNumber}
+use Rattle.profile.specs.declared.error.ErrorNumber.TheVariants.{AreaNoPages, RmaNoRoom}
+use Rattle.address_map.specs.Bytes.{in_range}
+use Rattle.os_heap_lists.specs.Heap.{HeapList, AreTotals}
+use Rattle.os_heap.specs.Store.{Store, find_heap}
+use Rattle.dynamic_areas.specs.declared.area.Area.{Area}
+use Rattle.dynamic_areas.specs.Areas.{Land, find_area}
+use Rattle.dynamic_areas.specs.Changing.{change_answer, growth_room, is_growth, land_changed, land_more, moving, pages_had, store_changed, store_extended}
+use Rattle.dynamic_areas.specs.Creating.{pages_for}
+use Rattle.dynamic_areas.specs.Ground.{AreAreas, Estate, IsEstate}
+use Rattle.dynamic_areas.specs.Rooms.{IsRoom}
+use Rattle.dynamic_areas.proofs.GroundLemmas.{or_true}
+use Rattle.dynamic_areas.proofs.LandLemmas.{pages_counted}
+use Rattle.dynamic_areas.proofs.ModuleArea.{IsModuleArea, module_area_known, find_ended}
+use Rattle.dynamic_areas.proofs.RoomLemmas.{found_room}
+use Rattle.rma.specs.Calls.{area_pages, area_room, grown_to, pages_short, room_in, with_pages_more}
+
+-- the area, with its heap
+pub record HasArea (e : Estate) : Type 0 where
+  pub area : Area
+  pub found : find_area 1 e.land.areas ≡ Some area
+  pub known : IsModuleArea e.store area
+  pub room : IsRoom area
+
+pub area_there : (e : Estate) → IsEstate e → HasArea e
+area_there e good = go (find_area 1 e.land.areas) refl good.ground.table.first where
+  go : (found : Option Area) → find_area 1 e.land.areas ≡ found → is_some found ≡ true → HasArea e
+  go None is some = absurd (let no : false ≡ true = some in cc)
+  go (Some a) is some = record {
+    area = a;
+    found = is;
+    known = module_area_known e.store e.pool e.land a good is;
+    room = found_room 1 e.land.areas a good.ground.table.rooms is;
+  }
+
+-- what growth leaves: the same heap, which reaches far enough
+pub record IsGrown (e g : Estate) (end : ℕ) : Type 0 where
+  pub heap : HeapList
+  pub found : find_heap 0x01800000 e.store.heaps ≡ Some heap
+  pub totals : AreTotals heap.items
+  pub start : heap.start ≡ 0x01800000
+  pub limit : ℕ
+  pub there : find_heap 0x01800000 g.store.heaps ≡ Some (record { kind = heap.kind; start = heap.start; end = limit; items = heap.items })
+  pub reaches : end ≤ limit
+  pub others : g.store.others ≡ e.store.others
+
+more_grown : (e : Estate) (end count : ℕ) (h : HasArea e) → end ≤ 4096 * (h.area.pages + count) → IsGrown e (with_pages_more e count) end
+more_grown e end count h enough =
+    let a : Area = h.area in
+    let m : IsModuleArea e.store a = h.known in
+    record {
+      heap = m.heap;
+      found = m.found;
+      totals = m.spelled.totals;
+      start = m.start;
+      limit = 4096 * (a.pages + count);
+      there = rw (h.found, m.found) (find_ended e.store.heaps m.heap 0x01800000 (4096 * (a.pages + count)) m.found);
+      reaches = enough;
+      others = rw (h.found, m.found) refl;
+    }
+
+pub is_grown : (e g : Estate) (end : ℕ) → IsEstate e → grown_to e end ≡ Ok g → IsGrown e g end
+unfolding grown_to
+is_grown e g end good is =
+    let h : HasArea e = area_there e good in
+    let a : Area = h.area in
+    let m : IsModuleArea e.store a = h.known in
+    let size : 4096 * area_pages e ≡ 4096 * a.pages = ap (λ (x : Option Area). 4096 * pages_had x) h.found in
+    let pages : pages_short e end ≡ (end - 4096 * a.pages + 4095) / 4096 = ap (λ (x : Option Area). pages_for (end - 4096 * pages_had x)) h.found in
+    elim (cases_Bool (nat_le end (4096 * area_pages e))) [
+      | inl fits ↦
+          let e' = rw fits at is in
+          let same : e ≡ g = cc in
+          let here : IsGrown e e end = record {
+            heap = m.heap;
+            found = m.found;
+            totals = m.spelled.totals;
+            start = m.start;
+            limit = m.heap.end;
+            there = m.found;
+            reaches = omega (arith, leb-true end (4096 * area_pages e) fits, size, m.end);
+            others = refl;
+          } in
+          subst (λ (x : Estate). IsGrown e x end) same here
+      | inr short ↦
+          let by = rw short at is in
+          elim (cases_Bool (nat_lt (area_room e) (pages_short e end))) [
+            | inl none ↦ absurd (let no : Err RmaNoRoom ≡ Ok g = rw none at by in cc)
+            | inr room ↦
+                let done : Ok (with_pages_more e (pages_short e end)) ≡ Ok g = rw room at by in
+                let same : with_pages_more e (pages_short e end) ≡ g = cc in
+                subst (λ (x : Estate). IsGrown e x end) same
+                (more_grown e end (pages_short e end) h (omega (arith, pages)))
+          ]
+    ]
+
+-- what is answered, and what the area's own call makes of it
+pub grown_not : (e : Estate) (end : ℕ) → end ≤ 4096 * area_pages e → grown_to e end ≡ Ok e
+unfolding grown_to
+grown_not e end fits = rw (le-leb end (4096 * area_pages e) fits) refl
+
+room_there : (e : Estate) (h : HasArea e) → area_room e ≡ growth_room e.pool h.area
+room_there e h = ap (room_in e.pool) h.found
+
+pub growth_refused : (e : Estate) (h : HasArea e) (end amount : ℕ) → 4096 * area_pages e < end → amount ≡ end - 4096 * area_pages e
+    → growth_room e.pool h.area < pages_for amount → grown_to e end ≡ Err RmaNoRoom
+unfolding grown_to
+growth_refused e h end amount past is few =
+    let test : nat_lt (area_room e) (pages_short e end) ≡ true =
+    lt-ltb (area_room e) (pages_short e end) (omega (arith, room_there e h, ap pages_for is, few)) in
+    rw (lt-leb end (4096 * area_pages e) past, test) refl
+
+pub growth_done : (e : Estate) (h : HasArea e) (end amount : ℕ) → 4096 * area_pages e < end → amount ≡ end - 4096 * area_pages e
+    → pages_for amount ≤ growth_room e.pool h.area → grown_to e end ≡ Ok (with_pages_more e (pages_for amount))
+unfolding grown_to
+growth_done e h end amount past is room =
+    let test : nat_lt (area_room e) (pages_short e end) ≡ false =
+    le-ltb (area_room e) (pages_short e end) (omega (arith, room_there e h, ap pages_for is, room)) in
+    rw (lt-leb end (4096 * area_pages e) past, test) (ap (λ (n : ℕ). Ok (with_pages_more e n)) (sym (ap pages_for is)))
+
+-- past the maximum there is no room
+pub far_refused : (e : Estate) (h : HasArea e) (end : ℕ) → 4194304 < end → grown_to e end ≡ Err RmaNoRoom
+far_refused e h end far =
+    let a : Area = h.area in
+    let size : area_pages e ≡ a.pages = ap pages_had h.found in
+    let most : growth_room e.pool a ≡ min (1024 - a.pages) e.pool = ap (λ (m : ℕ). min (m / 4096 - a.pages) e.pool) h.known.maximum in
+    growth_refused e h end (end - 4096 * area_pages e) (omega (arith, size, far, h.room.within, h.known.maximum)) refl
+    (omega (arith, size, far, h.room.within, h.known.maximum, most))
+
+pub measured : (e : Estate) (h : HasArea e) (amount : ℕ) → is_growth amount ≡ true
+    → change_answer e.land.areas e.store e.pool 1 amount ≡ moving (pages_for amount) (growth_room e.pool h.area) AreaNoPages
+unfolding change_answer
+measured e h amount grows = rw (h.found, grows) refl
+
+pub error_there : (asked room : ℕ) → is_some (moving asked room AreaNoPages).error ≡ true → room < asked
+error_there asked room some = elim (cases_Bool (nat_lt room asked)) [
+  | inl few ↦ ltb-true room asked few
+  | inr enough ↦ absurd (let no : false ≡ true = rw enough at some in cc)
+]
+
+pub error_none : (asked room : ℕ) → is_some (moving asked room AreaNoPages).error ≡ false → asked ≤ room
+error_none asked room none = elim (cases_Bool (nat_lt room asked)) [
+  | inl few ↦ absurd (let no : true ≡ false = rw few at none in cc)
+  | inr enough ↦ ltb-false room asked enough
+]
+
+-- the estate after the area's own call
+pub is_changed : (e : Estate) (h : HasArea e) (s : Store) (pool : ℕ) (l : Land) (amount bytes : ℕ) → IsEstate e → AreAreas s pool l
+    → is_growth amount ≡ true → bytes ≡ 4096 * min (pages_for amount) (growth_room e.pool h.area) → pages_for amount ≤ growth_room e.pool h.area
+    → l ≡ land_changed e.land 1 amount bytes → s ≡ store_changed e.store e.land.areas 1 amount bytes
+    → (let g : Estate = record { store = s; pool = pool; land = l } in g ≡ with_pages_more e (pages_for amount))
+is_changed e h s pool l amount bytes good after grows moved room land store =
+    let a : Area = h.area in
+    let count : ℕ = pages_for amount in
+    let whole : bytes / 4096 ≡ count = omega (arith, moved, room) in
+    let land' : l ≡ land_more e.land 1 count = (let t = rw (grows, whole) at land in t) in
+    let store' : s ≡ store_extended e.store 1 count (find_area 1 e.land.areas) = (let t = rw (grows, whole) at store in t) in
+    let pages = rw (land', h.found) at after.ground.pages in
+    let pool' : pool ≡ e.pool - count =
+    omega (arith, pages, good.ground.pages, pages_counted 1 e.land.areas a (a.pages + count) h.found) in
+    λ i. record { store = store' i; pool = pool' i; land = land' i }
+
+pub mapped_more : (e : Estate) (h : HasArea e) (count x : ℕ) → e.store.bytes.mapped x ≡ true
+    → (with_pages_more e count).store.bytes.mapped x ≡ true
+mapped_more e h count x mapped =
+    let m : IsModuleArea e.store h.area = h.known in
+    rw (h.found, m.found, mapped) (or_true (in_range (h.area.base + 4096 * h.area.pages) (4096 * count) x))
+
+pub leaves_done : (e g : Estate) (r : Result Estate ErrorNumber) → Leaves e r (let done : Result (Unit {0}) ErrorNumber = Ok tt in done) g → r ≡ Ok g
+leaves_done e g (Ok x) leaves = ap (λ (y : Estate). Ok y) (sym leaves)
+leaves_done e g (Err f) leaves = absurd leaves

@@ -1,0 +1,4 @@
+mod Estates
+mod ExtendLemmas
+mod GrowthLemmas
+mod ResizeLemmas

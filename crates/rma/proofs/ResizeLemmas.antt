@@ -1,0 +1,130 @@
+-- Where a claim, and a change of a block's size, can't be refused.
+use Rattle.std.proofs.Common.{◌≡◌, ℕ, ◌+◌, ◌-◌, ◌==◌, ◌≤◌, ◌⊎◌, true, false, List, [], ◌∷◌, refl, sym, ap, ◌∙◌, Some, None, Ok, Err, inl, inr, option_map, arith}
+use Rattle.std.specs.Prelude.{Option, Result, is_some, is_ok, ok_or, nat_le}
+use Rattle.std.proofs.lemmas.Bool.{cases_Bool, le-leb, eqb-true}
+use Rattle.profile.specs.Outcome.{bind}
+use Rattle.profile.specs.declared.error.ErrorNumber.{ErrorNumber}
+use Rattle.profile.specs.declared.error.ErrorNumber.TheVariants.{HeapNoRoom, HeapNotABlock}
+use Rattle.address_map.specs.Items.{size_of}
+use Rattle.address_map.specs.declared.item.Item.{Item}
+use Rattle.address_map.specs.declared.item.Item.TheVariants.{Live, Free}
+use Rattle.os_heap_lists.specs.Heap.{HeapList, AreTotals}
+use Rattle.os_heap_lists.specs.Lists.{Claim, changed_by, claimed, first_fit, live_total, or_at_base, refitted, released, resized_in_place, round_up_8, total_for}
+use Rattle.os_heap_lists.proofs.LiveBlocks.{IsStill, claim_still}
+use Rattle.os_heap_lists.proofs.Reading.{total_facts}
+use Rattle.os_heap_lists.proofs.Resizes.{last_some, unreleased}
+use Rattle.os_heap.specs.Calls.{copied, gave_back, got, handed_over, holding, moved, resized, resized_or_moved}
+use Rattle.os_heap.specs.Store.{Store, find_heap, has_image}
+use Rattle.os_heap.proofs.Moving.{found_held}
+
+some_ok : {A B : Type 0} (o : Option A) (e : ErrorNumber) (f : A → B) → is_some o ≡ true
+    → (let r : Result B ErrorNumber = bind (ok_or o e) (λ x. Ok (f x)) in is_ok r ≡ true)
+some_ok None e f some = some
+some_ok (Some x) e f some = refl
+
+then_ok : {A B : Type 0} (r : Result A ErrorNumber) (f : A → B) → is_ok r ≡ true
+    → (let q : Result B ErrorNumber = bind r (λ x. Ok (f x)) in is_ok q ≡ true)
+then_ok (Ok x) f ok = refl
+then_ok (Err e) f ok = ok
+
+-- a claim, where there is room at the base
+base_claimed : (n room : ℕ) (xs : List Item) (o : Option Claim) → size_of xs + n ≤ room → is_some (or_at_base n room xs o) ≡ true
+base_claimed n room xs (Some c) fits = refl
+base_claimed n room xs None fits = rw (le-leb (size_of xs + n) room fits) refl
+
+claim_fits : (n room : ℕ) (xs : List Item) → size_of xs + n ≤ room → is_some (claimed n room xs) ≡ true
+unfolding claimed
+claim_fits n room xs fits = base_claimed n room xs (first_fit n xs) fits
+
+pub got_fits : (s : Store) (heap size : ℕ) (h : HeapList) → find_heap heap s.heaps ≡ Some h → 16 + size_of h.items + total_for size ≤ h.end
+    → is_ok (got s heap size) ≡ true
+unfolding got
+got_fits s heap size h found fits =
+    rw found (some_ok (claimed (total_for size) (h.end - 16) h.items) HeapNoRoom (λ c. (holding s h c.items, h.start + 16 + c.offset + 4))
+    (claim_fits (total_for size) (h.end - 16) h.items (omega arith)))
+
+-- a block of the guest's
+pub record IsGuests (s : Store) (h : HeapList) (block total : ℕ) : Type 0 where
+  pub own : has_image block s.others ≡ false
+  pub live : live_total block (h.start + 16) h.items ≡ Some total
+
+can_release : (block at total : ℕ) (xs : List Item) → live_total block at xs ≡ Some total → is_some (released block at xs) ≡ true
+can_release block at total xs live = go (released block at xs) refl where
+  go : (o : Option (List Item)) → released block at xs ≡ o → is_some o ≡ true
+  go None none = absurd (let no : None ≡ Some total = sym (unreleased block at xs none) ∙ live in cc)
+  go (Some ys) is = refl
+
+given_back : (s : Store) (h : HeapList) (block total : ℕ) → find_heap h.start s.heaps ≡ Some h → IsGuests s h block total
+    → is_ok (gave_back s h.start block) ≡ true
+unfolding gave_back
+given_back s h block total found own =
+    rw (found, own.own) (some_ok (released block (h.start + 16) h.items) HeapNotABlock (λ items. (holding s h items, tt))
+    (let some = can_release block (h.start + 16) total h.items own.live in rw some refl))
+
+-- a move, where there is room at the base
+moved_by : (s : Store) (h : HeapList) (block total : ℕ) (c : Claim) → find_heap h.start s.heaps ≡ Some h → IsGuests s h block total
+    → live_total block (h.start + 16) c.items ≡ Some total
+    → is_ok (handed_over h.start block (total - 4) (holding s h c.items) (h.start + 16 + c.offset + 4)) ≡ true
+moved_by s h block total c found own still =
+    let new : ℕ = h.start + 16 + c.offset + 4 in
+    let t : Store = copied (holding s h c.items) block new (total - 4) in
+    let k : HeapList = record { kind = h.kind; start = h.start; end = h.end; items = c.items } in
+    then_ok (gave_back t h.start block) (λ r. (r.0, new))
+    (given_back t k block total (found_held h.start c.items s.heaps h found) (record { own = own.own; live = still }))
+
+moved_fits : (s : Store) (h : HeapList) (block total new : ℕ) → find_heap h.start s.heaps ≡ Some h → AreTotals h.items → IsGuests s h block total
+    → 16 + size_of h.items + new ≤ h.end → is_ok (moved s h block total new) ≡ true
+moved_fits s h block total new found totals own fits =
+    go (claimed new (h.end - 16) h.items) (claim_fits new (h.end - 16) h.items (omega arith))
+    (claim_still new (h.end - 16) block total (h.start + 16) h.items own.live totals) where
+      go : (o : Option Claim) → is_some o ≡ true → IsStill block total (h.start + 16) o
+          → is_ok (bind (ok_or o HeapNoRoom) (λ c. handed_over h.start block (total - 4) (holding s h c.items) (h.start + 16 + c.offset + 4))) ≡ true
+      go None some still = absurd (let no : false ≡ true = some in cc)
+      go (Some c) some still = moved_by s h block total c found own still
+
+-- a change of a block's size, where there is room in its place, or for it at the base
+placed_or_moved : (s : Store) (h : HeapList) (block total new : ℕ) → find_heap h.start s.heaps ≡ Some h → AreTotals h.items → IsGuests s h block total
+    → (o : Option (List Item)) → (is_some o ≡ true) ⊎ (16 + size_of h.items + new ≤ h.end) → is_ok (resized_or_moved s h block total new o) ≡ true
+placed_or_moved s h block total new found totals own (Some items) room = refl
+placed_or_moved s h block total new found totals own None (inl some) = absurd (let no : false ≡ true = some in cc)
+placed_or_moved s h block total new found totals own None (inr fits) = moved_fits s h block total new found totals own fits
+
+pub resized_fits : (s : Store) (h : HeapList) (block total change : ℕ) → find_heap h.start s.heaps ≡ Some h → AreTotals h.items
+    → IsGuests s h block total → (is_some (resized_in_place block (h.start + h.end) (round_up_8 (changed_by total change)) (h.start + 16) h.items) ≡ true)
+    ⊎ (16 + size_of h.items + round_up_8 (changed_by total change) ≤ h.end)
+    → is_ok (resized s h.start block change) ≡ true
+unfolding resized
+resized_fits s h block total change found totals own room =
+    elim (cases_Bool (nat_le (changed_by total change) 4)) [
+      | inl few ↦ rw (found, own.own, own.live, few) (then_ok (gave_back s h.start block) (λ r. (r.0, 0)) (given_back s h block total found own))
+      | inr more ↦ rw (found, own.own, own.live, more) (placed_or_moved s h block total (round_up_8 (changed_by total change)) found totals own
+          (resized_in_place block (h.start + h.end) (round_up_8 (changed_by total change)) (h.start + 16) h.items) room)
+    ]
+
+-- the last block gets what bytes there are behind it
+some_mapped : (f : List Item → List Item) (o : Option (List Item)) → is_some o ≡ true → is_some (option_map f o) ≡ true
+some_mapped f None some = some
+some_mapped f (Some ys) some = refl
+
+last_refitted : (room new t : ℕ) (xs : List Item) → AreTotals xs → size_of xs ≡ 0 → new ≤ room → is_some (refitted room new t xs) ≡ true
+last_refitted room new t [] totals none fits = ap is_some (last_some room new t fits)
+last_refitted room new t (Live u ∷ xs) totals none fits = absurd (omega (arith, (total_facts u totals.0).0, none))
+last_refitted room new t (Free u ∷ xs) totals none fits = absurd (omega (arith, (total_facts u totals.0).0, none))
+
+pub last_fits : (block end new at total : ℕ) (xs : List Item) → AreTotals xs → live_total block at xs ≡ Some total
+    → block + total ≡ at + size_of xs + 4 → block + new ≤ end + 4 → is_some (resized_in_place block end new at xs) ≡ true
+last_fits block end new at total [] totals live last fits = absurd (let no : None ≡ Some total = live in cc)
+last_fits block end new at total (Live t ∷ xs) totals live last fits = elim (cases_Bool (at + 4 == block)) [
+  | inl here ↦
+      let found = rw here at live in
+      let same : t ≡ total = cc in
+      let e : at + 4 ≡ block = eqb-true (at + 4) block here in
+      rw here (last_refitted (end - at) new t xs totals.1 (omega (arith, same, e, last)) (omega (arith, e, fits)))
+  | inr other ↦
+      let found = rw other at live in
+      rw other (some_mapped (λ ys. Live t ∷ ys) (resized_in_place block end new (at + t) xs)
+      (last_fits block end new (at + t) total xs totals.1 found (omega (arith, last)) fits))
+]
+last_fits block end new at total (Free t ∷ xs) totals live last fits =
+    some_mapped (λ ys. Free t ∷ ys) (resized_in_place block end new (at + t) xs)
+    (last_fits block end new (at + t) total xs totals.1 live (omega (arith, last)) fits)

@@ -1,0 +1,44 @@
+use Rattle.std.proofs.Common.{◌≡◌, ◌+◌, sym, ap, subst, ◌∙◌}
+use Rattle.profile.specs.Outcome.{Gives}
+use Rattle.os_heap_lists.specs.Lists.{total_for}
+use Rattle.os_heap.specs.Calls.{got}
+use Rattle.os_heap.specs.Store.{Store, store_of}
+use Rattle.dynamic_areas.specs.Ground.{Estate, estate_of}
+use Rattle.dynamic_areas.proofs.HeapCalls.{areas_written}
+use Rattle.rma.specs.Calls.{in_grown_area, is_no_room, rma_base, rma_claimed}
+use Rattle.rma.proofs.Estates.{estate_same, full_where, or_done, or_refused, store_kept}
+use Rattle.rma.proofs.area.Rma.claim.Goals as goal
+
+pub returns-in-Ok-clause-claimed : goal.returns-in-Ok-clause-claimed
+unfolding rma_claimed
+returns-in-Ok-clause-claimed c =
+    let s : Store = store_of c.args.map.now in
+    or_done c.args.map.now c.get.new.map c.args.areas.now (rma_base s + total_for c.args.size) (λ t. got t 0x01800000 c.args.size)
+    (got s 0x01800000 c.args.size) c.in-Ok.block c.get.ensures.layout (let given = rw c.in-Ok.is at c.get.ensures.store in given)
+
+pub returns-in-Ok-clause-estate : goal.returns-in-Ok-clause-estate
+returns-in-Ok-clause-estate c =
+    areas_written c.args.map.now c.get.new.map c.args.areas.now c.requires.estate c.get.ensures.sound c.get.ensures.layout
+
+pub returns-in-Err-clause-claimed : goal.returns-in-Err-clause-claimed
+unfolding rma_claimed
+returns-in-Err-clause-claimed c =
+    let s : Store = store_of c.args.map.now in
+    let given = rw c.in-Err.is at c.get.ensures.store in
+    let full = full_where s (store_of c.get.new.map) (got s 0x01800000 c.args.size) c.in-Err.error (sym c.is_no_room.ensures ∙ c.if-is_no_room.true) given in
+    let kept : store_of c.get.new.map ≡ s = store_kept s (store_of c.get.new.map) (got s 0x01800000 c.args.size) c.in-Err.error given in
+    let same : estate_of c.get.new.map c.args.areas.now ≡ estate_of c.args.map.now c.args.areas.now =
+    estate_same c.args.map.now c.get.new.map c.args.areas.now s c.get.ensures.layout kept in
+    rw full (subst (λ (x : Estate). Gives x (in_grown_area x (rma_base x.store + total_for c.args.size) (λ t. got t 0x01800000 c.args.size))
+    c.claim_grown.result (estate_of c.claim_grown.new.map c.claim_grown.new.areas)) same c.claim_grown.ensures.claimed)
+
+pub returns-in-Err-2-clause-claimed : goal.returns-in-Err-2-clause-claimed
+unfolding rma_claimed
+returns-in-Err-2-clause-claimed c =
+    let s : Store = store_of c.args.map.now in
+    let both = sym c.in-Err.is ∙ c.in-Err-2.is in
+    let same : c.in-Err.error ≡ c.in-Err-2.error = cc in
+    rw c.rma_error.ensures
+    (or_refused c.args.map.now c.get.new.map c.args.areas.now (rma_base s + total_for c.args.size) (λ t. got t 0x01800000 c.args.size)
+    (got s 0x01800000 c.args.size) c.in-Err-2.error c.get.ensures.layout (ap is_no_room (sym same) ∙ sym c.is_no_room.ensures ∙ c.if-is_no_room.false)
+    (let given = rw c.in-Err-2.is at c.get.ensures.store in given))

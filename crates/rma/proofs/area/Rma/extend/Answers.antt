@@ -1,0 +1,74 @@
+use Rattle.std.proofs.Common.{◌≡◌, true, sym, ap, subst, ◌∙◌, inl, inr, Ok, Err}
+use Rattle.std.specs.Prelude.{is_ok}
+use Rattle.profile.specs.Outcome.{Gives}
+use Rattle.os_heap.specs.Calls.{block_sized, resized}
+use Rattle.os_heap.specs.Store.{Store, store_of}
+use Rattle.dynamic_areas.specs.Ground.{Estate, estate_of}
+use Rattle.dynamic_areas.proofs.HeapCalls.{areas_written}
+use Rattle.rma.specs.Calls.{end_if_moved, grown_in_place, in_grown_area, is_full, is_no_room, resized_or_grown, rma_base, rma_extended}
+use Rattle.rma.proofs.Estates.{done_from, estate_same, full_where, given_from, is_done, not_full, or_done, or_refused, store_kept}
+use Rattle.rma.proofs.ExtendLemmas.{in_place_done}
+use Rattle.rma.proofs.area.Rma.extend.Goals as goal
+
+pub returns-in-Ok-clause-extended : goal.returns-in-Ok-clause-extended
+unfolding rma_extended
+returns-in-Ok-clause-extended c =
+    let e : Estate = estate_of c.args.map.now c.args.areas.now in
+    let g : Estate = estate_of c.grow_in_place.new.map c.grow_in_place.new.areas in
+    let f : Estate = estate_of c.resize.new.map c.grow_in_place.new.areas in
+    let done : Gives g (resized_or_grown g c.args.block c.args.change) (Ok c.in-Ok.new) f =
+    or_done c.grow_in_place.new.map c.resize.new.map c.grow_in_place.new.areas
+    (end_if_moved (rma_base g.store) c.args.change (block_sized g.store 0x01800000 c.args.block)) (λ t. resized t 0x01800000 c.args.block c.args.change)
+    (resized g.store 0x01800000 c.args.block c.args.change) c.in-Ok.new c.resize.ensures.layout (let given = rw c.in-Ok.is at c.resize.ensures.store in given) in
+    done_from g e f (resized_or_grown (grown_in_place e c.args.block c.args.change) c.args.block c.args.change) c.in-Ok.new
+    (subst (λ (x : Estate). Gives g (resized_or_grown x c.args.block c.args.change) (Ok c.in-Ok.new) f) c.grow_in_place.ensures.grown done)
+
+pub returns-in-Ok-clause-estate : goal.returns-in-Ok-clause-estate
+returns-in-Ok-clause-estate c =
+    areas_written c.grow_in_place.new.map c.resize.new.map c.grow_in_place.new.areas c.grow_in_place.ensures.estate c.resize.ensures.sound c.resize.ensures.layout
+
+pub returns-in-Err-clause-extended : goal.returns-in-Err-clause-extended
+unfolding rma_extended
+returns-in-Err-clause-extended c =
+    let e : Estate = estate_of c.args.map.now c.args.areas.now in
+    let g : Estate = estate_of c.grow_in_place.new.map c.grow_in_place.new.areas in
+    let f : Estate = estate_of c.move_grown.new.map c.move_grown.new.areas in
+    let s : Store = store_of c.grow_in_place.new.map in
+    let given = rw c.in-Err.is at c.resize.ensures.store in
+    let full : is_full (resized s 0x01800000 c.args.block c.args.change) ≡ true =
+    full_where s (store_of c.resize.new.map) (resized s 0x01800000 c.args.block c.args.change) c.in-Err.error (sym c.is_no_room.ensures ∙ c.if-is_no_room.true) given in
+    let kept : store_of c.resize.new.map ≡ s = store_kept s (store_of c.resize.new.map) (resized s 0x01800000 c.args.block c.args.change) c.in-Err.error given in
+    let same : estate_of c.resize.new.map c.grow_in_place.new.areas ≡ g =
+    estate_same c.grow_in_place.new.map c.resize.new.map c.grow_in_place.new.areas s c.resize.ensures.layout kept in
+    let moved = subst (λ (x : Estate). Gives x (in_grown_area x (end_if_moved (rma_base x.store) c.args.change (block_sized x.store 0x01800000 c.args.block))
+    (λ t. resized t 0x01800000 c.args.block c.args.change)) c.move_grown.result f) same c.move_grown.ensures.moved in
+    let again : Gives g (resized_or_grown g c.args.block c.args.change) c.move_grown.result f = rw full moved in
+    let grown : g ≡ grown_in_place e c.args.block c.args.change = c.grow_in_place.ensures.grown in
+    elim (in_place_done e c.args.block c.args.change c.requires.estate) [
+      | inl ok ↦ absurd (not_full (resized s 0x01800000 c.args.block c.args.change)
+          (subst (λ (x : Estate). (is_ok (resized x.store 0x01800000 c.args.block c.args.change)) ≡ true) (sym grown) ok) full)
+      | inr none ↦ given_from g e f (resized_or_grown (grown_in_place e c.args.block c.args.change) c.args.block c.args.change) c.move_grown.result (grown ∙ none)
+          (subst (λ (x : Estate). Gives g (resized_or_grown x c.args.block c.args.change) c.move_grown.result f) grown again)
+    ]
+
+pub returns-in-Err-2-clause-extended : goal.returns-in-Err-2-clause-extended
+unfolding rma_extended
+returns-in-Err-2-clause-extended c =
+    let e : Estate = estate_of c.args.map.now c.args.areas.now in
+    let g : Estate = estate_of c.grow_in_place.new.map c.grow_in_place.new.areas in
+    let f : Estate = estate_of c.resize.new.map c.grow_in_place.new.areas in
+    let s : Store = store_of c.grow_in_place.new.map in
+    let both = sym c.in-Err.is ∙ c.in-Err-2.is in
+    let same : c.in-Err.error ≡ c.in-Err-2.error = cc in
+    let given = rw c.in-Err-2.is at c.resize.ensures.store in
+    let again : Gives g (resized_or_grown g c.args.block c.args.change) (Err c.rma_error.result) f = rw c.rma_error.ensures
+    (or_refused c.grow_in_place.new.map c.resize.new.map c.grow_in_place.new.areas
+    (end_if_moved (rma_base g.store) c.args.change (block_sized g.store 0x01800000 c.args.block)) (λ t. resized t 0x01800000 c.args.block c.args.change)
+    (resized g.store 0x01800000 c.args.block c.args.change) c.in-Err-2.error c.resize.ensures.layout (ap is_no_room (sym same) ∙ sym c.is_no_room.ensures ∙ c.if-is_no_room.false) given) in
+    let grown : g ≡ grown_in_place e c.args.block c.args.change = c.grow_in_place.ensures.grown in
+    elim (in_place_done e c.args.block c.args.change c.requires.estate) [
+      | inl ok ↦ absurd (is_done s (store_of c.resize.new.map) (resized s 0x01800000 c.args.block c.args.change) c.in-Err-2.error
+          (subst (λ (x : Estate). (is_ok (resized x.store 0x01800000 c.args.block c.args.change)) ≡ true) (sym grown) ok) given)
+      | inr none ↦ given_from g e f (resized_or_grown (grown_in_place e c.args.block c.args.change) c.args.block c.args.change) (Err c.rma_error.result) (grown ∙ none)
+          (subst (λ (x : Estate). Gives g (resized_or_grown x c.args.block c.args.change) (Err c.rma_error.result) f) grown again)
+    ]

@@ -1,0 +1,25 @@
+use Rattle.std.proofs.Common.{◌≡◌, ◌+◌, Ok, arith}
+use Rattle.os_heap.specs.Calls.{got}
+use Rattle.os_heap.specs.Store.{store_of}
+use Rattle.dynamic_areas.specs.Ground.{Estate, estate_of}
+use Rattle.dynamic_areas.proofs.HeapCalls.{areas_written}
+use Rattle.rma.specs.Calls.{grown_to}
+use Rattle.rma.proofs.Estates.{is_done}
+use Rattle.rma.proofs.ExtendLemmas.{claim_done}
+use Rattle.rma.proofs.GrowthLemmas.{is_grown, leaves_done}
+use Rattle.rma.proofs.claim.claim_grown.Goals as goal
+
+pub returns-in-Ok-clause-estate : goal.returns-in-Ok-clause-estate
+returns-in-Ok-clause-estate c =
+    areas_written c.grow_to.new.map c.get.new.map c.grow_to.new.areas c.grow_to.ensures.estate c.get.ensures.sound c.get.ensures.layout
+
+pub returns-in-Err-clause-claimed : goal.returns-in-Err-clause-claimed
+returns-in-Err-clause-claimed c =
+    let e : Estate = estate_of c.args.map.now c.args.areas.now in
+    let g : Estate = estate_of c.grow_to.new.map c.grow_to.new.areas in
+    let end = c.from.result + c.total_for.result in
+    let done : grown_to e end ≡ Ok g = leaves_done e g (grown_to e end) c.in_ok-grow_to.ensures.grown in
+    let ok = claim_done e g c.args.size end (is_grown e g end c.requires.estate done)
+    (omega (arith, c.from.ensures, c.base.ensures, c.total_for.ensures)) in
+    absurd (is_done (store_of c.grow_to.new.map) (store_of c.get.new.map) (got (store_of c.grow_to.new.map) 0x01800000 c.args.size) c.in-Err.error ok
+    (let given = rw c.in-Err.is at c.get.ensures.store in given))

@@ -1,0 +1,66 @@
+ghost use Rattle.std.specs.Prelude.{◌≡◌, ◌+◌};
+ghost use Rattle.profile.specs.Outcome.{Gives};
+ghost use Rattle.address_map.specs.Memory.{StaysInPlace};
+ghost use Rattle.os_heap_lists.specs.Lists.{total_for};
+ghost use Rattle.os_heap.specs.Calls.{got};
+ghost use Rattle.os_heap.specs.Store.{store_of, AreClasses};
+ghost use Rattle.dynamic_areas.specs.Ground.{estate_of, IsEstate};
+ghost use Rattle.rma.specs.Calls.{in_grown_area, rma_base, rma_claimed};
+ghost use Rattle.rma.specs.Places.{KeepsPlaces};
+
+use crate::area::Rma;
+use crate::errors::{is_no_room, rma_error};
+use crate::growth::grow_to;
+use address_map::AddressMap;
+use dynamic_areas::Areas;
+use os_heap::{Heaps, total_for};
+use profile::ErrorNumber;
+use profile::memory_map::RMA_START;
+
+impl Rma {
+    /// Claims a block of `size` bytes, and answers the address of its first byte: in free room of the module area, or at the end of its last
+    /// block, for which the area grows by the fewest pages that suffice.
+    ///
+    /// # Errors
+    ///
+    /// `RmaNoRoom` where nothing fits, and the pool or the maximum does not allow that growth. Nothing is changed then.
+    ///
+    /// RISC OS 3 Programmer's Reference Manual, "OS_Module", reason 6.
+    pub fn claim(
+        &self,
+        map: &mut AddressMap,
+        areas: &mut Areas,
+        size: u32,
+    ) -> Result<u32, ErrorNumber>
+        requires estate { IsEstate (estate_of map.old areas.old) }
+        requires classes { AreClasses map.old }
+        ensures claimed { Gives (estate_of map.old areas.old) (rma_claimed (estate_of map.old areas.old) size) result (estate_of map.new areas.new) }
+        ensures estate { IsEstate (estate_of map.new areas.new) }
+        ensures classes { AreClasses map.new }
+        ensures stays { StaysInPlace map.old map.new }
+    {
+        match Heaps::new().get(map, RMA_START, size).answer {
+            Ok(block) => Ok(block),
+            Err(error) if is_no_room(error) => claim_grown(map, areas, size),
+            Err(error) => Err(rma_error(error)),
+        }
+    }
+}
+
+/// Claims a block where no room is left, once the area is grown.
+fn claim_grown(map: &mut AddressMap, areas: &mut Areas, size: u32) -> Result<u32, ErrorNumber>
+    requires estate { IsEstate (estate_of map.old areas.old) }
+    requires classes { AreClasses map.old }
+    ensures claimed { Gives (estate_of map.old areas.old) (in_grown_area (estate_of map.old areas.old) (rma_base (store_of map.old) + total_for size) (λ s. got s 0x01800000 size)) result (estate_of map.new areas.new) }
+    ensures estate { IsEstate (estate_of map.new areas.new) }
+    ensures classes { AreClasses map.new }
+    ensures places { KeepsPlaces map.old map.new }
+{
+    let heaps = Heaps::new();
+    let end = u64::from(heaps.base(map, RMA_START)) + total_for(size);
+    grow_to(map, areas, end)?;
+    match heaps.get(map, RMA_START, size).answer {
+        Ok(block) => Ok(block),
+        Err(error) => Err(rma_error(error)),
+    }
+}

@@ -1,0 +1,121 @@
+ghost use Rattle.std.specs.Prelude.{◌≡◌, ◌<◌, ◌+◌, ◌^◌, true};
+ghost use Rattle.profile.specs.Outcome.{Gives};
+ghost use Rattle.address_map.specs.Memory.{StaysInPlace};
+ghost use Rattle.os_heap.specs.Calls.{block_sized, resized};
+ghost use Rattle.os_heap.specs.Store.{store_of, AreClasses, IsSound};
+ghost use Rattle.dynamic_areas.specs.Ground.{estate_of, IsEstate};
+ghost use Rattle.rma.specs.Calls.{end_if_moved, end_in_place, grown_in_place, in_grown_area, is_full, rma_base, rma_extended, total_changed};
+ghost use Rattle.rma.specs.Places.{KeepsPlaces};
+
+use crate::area::Rma;
+use crate::errors::{is_no_room, rma_error};
+use crate::growth::grow_to;
+use address_map::AddressMap;
+use dynamic_areas::Areas;
+use os_heap::{Heaps, changed_by, round_up_8};
+use profile::ErrorNumber;
+use profile::memory_map::RMA_START;
+
+impl Rma {
+    /// Changes the size of a block by `change` bytes, a signed word in two's complement, and answers the address of its first byte then; or 0
+    /// where no byte is left, and the block is given back. The block stays where it is if there is room; for the last block the area grows, if
+    /// it can. Else it moves to a block that is claimed as `claim` does, and takes its bytes along.
+    ///
+    /// # Errors
+    ///
+    /// The first of these, and nothing is changed then: `RmaNotABlock` where no block's bytes begin at `block`, or they are a module image;
+    /// `RmaNoRoom` where it must move, and nothing fits, and the pool or the maximum does not allow the growth that would do.
+    ///
+    /// RISC OS 3 Programmer's Reference Manual, "OS_Module", reason 13.
+    pub fn extend(
+        &self,
+        map: &mut AddressMap,
+        areas: &mut Areas,
+        block: u32,
+        change: u32,
+    ) -> Result<u32, ErrorNumber>
+        requires estate { IsEstate (estate_of map.old areas.old) }
+        requires classes { AreClasses map.old }
+        ensures extended { Gives (estate_of map.old areas.old) (rma_extended (estate_of map.old areas.old) block change) result (estate_of map.new areas.new) }
+        ensures estate { IsEstate (estate_of map.new areas.new) }
+        ensures classes { AreClasses map.new }
+        ensures stays { StaysInPlace map.old map.new }
+    {
+        grow_in_place(map, areas, block, change);
+        match Heaps::new().resize(map, RMA_START, block, change).answer {
+            Ok(new) => Ok(new),
+            Err(error) if is_no_room(error) => move_grown(map, areas, block, change),
+            Err(error) => Err(rma_error(error)),
+        }
+    }
+}
+
+/// Grows the area for a change of its last block, where that needs it and can have it.
+fn grow_in_place(map: &mut AddressMap, areas: &mut Areas, block: u32, change: u32)
+    requires estate { IsEstate (estate_of map.old areas.old) }
+    requires classes { AreClasses map.old }
+    ensures grown { estate_of map.new areas.new ≡ grown_in_place (estate_of map.old areas.old) block change }
+    ensures estate { IsEstate (estate_of map.new areas.new) }
+    ensures classes { AreClasses map.new }
+    ensures places { KeepsPlaces map.old map.new }
+{
+    let end = end_in_place(map, block, change);
+    let _ = grow_to(map, areas, end);
+}
+
+/// Moves a block that found no room, once the area is grown.
+fn move_grown(
+    map: &mut AddressMap,
+    areas: &mut Areas,
+    block: u32,
+    change: u32,
+) -> Result<u32, ErrorNumber>
+    requires estate { IsEstate (estate_of map.old areas.old) }
+    requires classes { AreClasses map.old }
+    requires full { is_full (resized (store_of map.old) 0x01800000 block change) ≡ true }
+    ensures moved { Gives (estate_of map.old areas.old) (in_grown_area (estate_of map.old areas.old) (end_if_moved (rma_base (store_of map.old)) change (block_sized (store_of map.old) 0x01800000 block)) (λ s. resized s 0x01800000 block change)) result (estate_of map.new areas.new) }
+    ensures estate { IsEstate (estate_of map.new areas.new) }
+    ensures classes { AreClasses map.new }
+    ensures places { KeepsPlaces map.old map.new }
+{
+    let end = end_if_moved(map, block, change);
+    grow_to(map, areas, end)?;
+    match Heaps::new().resize(map, RMA_START, block, change).answer {
+        Ok(new) => Ok(new),
+        Err(error) => Err(rma_error(error)),
+    }
+}
+
+/// Where the heap would have to end for a change of its last block; 0 where the block is another, or none.
+fn end_in_place(map: &AddressMap, block: u32, change: u32) -> u64
+    requires { IsSound (store_of map.now) }
+    ensures { result ≡ end_in_place (rma_base (store_of map.now)) block change (block_sized (store_of map.now) 0x01800000 block) }
+{
+    let base = Heaps::new().base(map, RMA_START);
+    match Heaps::new().block_size(map, RMA_START, block).answer {
+        Ok(size) if block + size == RMA_START + base => {
+            u64::from(base) + total_changed(size, change) - u64::from(size + 4)
+        }
+        _ => 0,
+    }
+}
+
+/// Where the heap would have to end for a changed block at its base; 0 where there is none.
+fn end_if_moved(map: &AddressMap, block: u32, change: u32) -> u64
+    requires { IsSound (store_of map.now) }
+    ensures { result ≡ end_if_moved (rma_base (store_of map.now)) change (block_sized (store_of map.now) 0x01800000 block) }
+{
+    let base = Heaps::new().base(map, RMA_START);
+    match Heaps::new().block_size(map, RMA_START, block).answer {
+        Ok(size) => u64::from(base) + total_changed(size, change),
+        Err(_) => 0,
+    }
+}
+
+/// The total of a block that holds `size` bytes, after a change.
+fn total_changed(size: u32, change: u32) -> u64
+    requires { size + 4 < 2 ^ 32 }
+    ensures { result ≡ total_changed size change }
+{
+    round_up_8(changed_by(size + 4, change))
+}

@@ -1,0 +1,39 @@
+ghost use Rattle.std.specs.Prelude.{◌≡◌};
+ghost use Rattle.profile.specs.Outcome.{Gives};
+ghost use Rattle.address_map.specs.Memory.{layout};
+ghost use Rattle.os_heap.specs.Store.{AreClasses};
+ghost use Rattle.dynamic_areas.specs.Areas.{Land};
+ghost use Rattle.dynamic_areas.specs.Ground.{estate_of, IsEstate};
+ghost use Rattle.os_heap.specs.Store.{store_of, IsSound};
+ghost use Rattle.rma.specs.Calls.{rma_freed};
+
+use crate::area::Rma;
+use crate::errors::rma_error;
+use address_map::AddressMap;
+use os_heap::Heaps;
+use profile::ErrorNumber;
+use profile::memory_map::RMA_START;
+
+impl Rma {
+    /// Gives the block whose first byte is at `block` back to the module area, which keeps its size.
+    ///
+    /// # Errors
+    ///
+    /// `RmaNotABlock` where no block's bytes begin at `block`, or they are a module image. Nothing is changed then.
+    ///
+    /// RISC OS 3 Programmer's Reference Manual, "OS_Module", reason 7.
+    pub fn free(&self, map: &mut AddressMap, block: u32) -> Result<(), ErrorNumber>
+        requires sound { IsSound (store_of map.old) }
+        requires classes { AreClasses map.old }
+        ensures freed { (l : Land) → Gives (estate_of map.old l) (rma_freed (estate_of map.old l) block) result (estate_of map.new l) }
+        ensures sound { IsSound (store_of map.new) }
+        ensures estate { (l : Land) → IsEstate (estate_of map.old l) → IsEstate (estate_of map.new l) }
+        ensures classes { AreClasses map.new }
+        ensures layout { layout map.new ≡ layout map.old }
+    {
+        match Heaps::new().free(map, RMA_START, block).answer {
+            Ok(()) => Ok(()),
+            Err(error) => Err(rma_error(error)),
+        }
+    }
+}

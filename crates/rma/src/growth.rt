@@ -1,0 +1,55 @@
+ghost use Rattle.std.specs.Prelude.{◌≡◌, ◌*◌};
+ghost use Rattle.profile.specs.Outcome.{Leaves};
+ghost use Rattle.os_heap.specs.Store.{AreClasses};
+ghost use Rattle.dynamic_areas.specs.Areas.{find_area};
+ghost use Rattle.dynamic_areas.specs.Changing.{pages_had};
+ghost use Rattle.dynamic_areas.specs.Ground.{estate_of, IsEstate};
+ghost use Rattle.dynamic_areas.specs.Rooms.{IsAreaTable};
+ghost use Rattle.rma.specs.Calls.{grown_to};
+ghost use Rattle.rma.specs.Places.{KeepsPlaces};
+
+use address_map::AddressMap;
+use dynamic_areas::{Areas, MODULE_AREA};
+use profile::ErrorNumber;
+use profile::memory_map::{PAGE_SIZE, RMA_MAXIMUM};
+
+/// Grows the module area so that its heap reaches to `end`, in bytes from its start: by the fewest pages that suffice, and not at all where it
+/// does so.
+///
+/// # Errors
+///
+/// `RmaNoRoom` where the pool or the maximum does not allow so much. Nothing is changed then.
+pub(crate) fn grow_to(map: &mut AddressMap, areas: &mut Areas, end: u64) -> Result<(), ErrorNumber>
+    requires estate { IsEstate (estate_of map.old areas.old) }
+    requires classes { AreClasses map.old }
+    ensures grown { Leaves (estate_of map.old areas.old) (grown_to (estate_of map.old areas.old) end) result (estate_of map.new areas.new) }
+    ensures estate { IsEstate (estate_of map.new areas.new) }
+    ensures classes { AreClasses map.new }
+    ensures places { KeepsPlaces map.old map.new }
+{
+    let size = area_size(areas);
+    if end <= u64::from(size) {
+        return Ok(());
+    }
+    if end > u64::from(RMA_MAXIMUM) {
+        return Err(ErrorNumber::RmaNoRoom);
+    }
+    let amount = end as u32 - size;
+    let measured = areas.measure(map, MODULE_AREA, amount);
+    if measured.error.is_some() {
+        return Err(ErrorNumber::RmaNoRoom);
+    }
+    areas.change(map, MODULE_AREA, amount);
+    Ok(())
+}
+
+/// The size of the module area, in bytes.
+fn area_size(areas: &Areas) -> u32
+    requires { IsAreaTable areas.now.areas }
+    ensures { result ≡ 4096 * pages_had (find_area 1 areas.now.areas) }
+{
+    match areas.info(MODULE_AREA) {
+        Ok(area) => PAGE_SIZE * area.pages,
+        Err(_) => 0,
+    }
+}

@@ -1,0 +1,14 @@
+//! The relocatable module area: a heap whose blocks modules and programs claim, and which grows with its area.
+#![tactic(auto)]
+
+pub mod area;
+pub mod claim;
+mod errors;
+pub mod extend;
+pub mod free;
+mod growth;
+
+pub use area::Rma;
+
+#[cfg(test)]
+mod tests;
