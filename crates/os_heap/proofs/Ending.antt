@@ -436,9 +436,10 @@ sound_ended m n o h end e bytes records marks =
       apart = e.sound.apart;
       few = e.sound.few;
       anchors = λ a is.
-          let was = sym (flex.anchors a) ∙ is in
-          (ap (λ (f : ℕ → Bool). f a) (is_mapped-layout m n e.same) ∙ (e.sound.anchors a was).0,
-          place_ended h end hs a others_beside (anchor_outside (store_of m) h end a e.may was) (e.sound.anchors a was).1);
+          let was = sym (flex.anchors a) ∙ is in (
+            ap (λ (f : ℕ → Bool). f a) (is_mapped-layout m n e.same) ∙ (e.sound.anchors a was).0,
+            place_ended h end hs a others_beside (anchor_outside (store_of m) h end a e.may was) (e.sound.anchors a was).1,
+          );
       headers = λ a is. e.sound.headers a (sym (flex.headers a) ∙ is);
     })
 

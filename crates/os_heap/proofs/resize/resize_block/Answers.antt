@@ -173,7 +173,7 @@ returns-then-cut_holds_anchor-clause-store c =
     let needed : c.round_up_8-needed.result ≡ round_up_8 (changed_by c.word-total.result c.args.change) = c.round_up_8-needed.ensures ∙ ap round_up_8 size in
     let cut = rw needed at c.cut_holds_anchor.ensures in
     let refused = held_cut c.args.map.now c.args.heap c.args.block c.args.change c.word-total.result c.requires.found here.own live
-    (omega (arith, size, c.if-size-le4.false)) 
+    (omega (arith, size, c.if-size-le4.false))
     (cut_told c.args.map.now _ _ c.cut_holds_anchor.result true cut c.if-cut_holds_anchor.true) in
     rw (c.held-then-cut_holds_anchor.ensures, refused.0) (refl, refl)
 
