@@ -1,4 +1,5 @@
 pub mod Counting
+pub mod HandlerLemmas
 pub mod ModuleLemmas
 pub mod NameLemmas
 pub mod PlaceLemmas

@@ -5,15 +5,10 @@ use Rattle.std.specs.List.{list_any, IsDistinct, AllByRecursion}
 use Rattle.std.proofs.lemmas.Bool.{cases_Bool, eqb-true, eq-eqb, ltb-true}
 use Rattle.std.proofs.lemmas.List.{length-map}
 use Rattle.std.proofs.lemmas.Map.Steps.{length-le_from_distinct_below}
-use Rattle.instances_table.specs.Modules.{Instance, Module, number_of, slot_count, EachIsModule, AreModules}
+use Rattle.instances_table.specs.Modules.{slots_of, Instance, Module, number_of, slot_count, EachIsModule, AreModules}
 use Rattle.instances_table.specs.Changes.{is_held}
 use Rattle.instances_table.proofs.Counting.{count-map}
 use Rattle.instances_table.proofs.ModuleLemmas.{not_held}
-
--- the slots of all instances
-abbrev slots_of : List Module → List ℕ
-slots_of [] = []
-slots_of (m ∷ ms) = map (λ (i : Instance). i.slot) m.instances ++ slots_of ms
 
 count_append : {X : Type 0} (p : X → Bool) (xs ys : List X) → number_of p (xs ++ ys) ≡ number_of p xs + number_of p ys
 count_append p [] ys = omega arith
@@ -99,6 +94,14 @@ fewer ms slot are below fresh =
           below_64 q (slot_count q ms) (omega (arith, counted q (slots_of ms) later, slots_counted q ms)) (are.slots q)
     ]) in
     omega arith
+
+-- no more than 64 instances have slots
+pub most_slots : (ms : List Module) → AreModules ms → length (slots_of ms) ≤ 64
+most_slots ms are =
+    let apart : IsDistinct eqb (slots_of ms) =
+    distinct_from_counts (slots_of ms) (λ x. omega (arith, slots_counted x ms, at_most_one x (slot_count x ms) (are.slots x))) in
+    length-le_from_distinct_below (slots_of ms) 64 apart
+    (λ q some. below_64 q (slot_count q ms) (omega (arith, counted q (slots_of ms) some, slots_counted q ms)) (are.slots q))
 
 pub room_for_module : (ms : List Module) (slot : ℕ) → AreModules ms → slot < 64 → is_held slot ms ≡ false → length ms < 64
 room_for_module ms slot are below fresh = omega (arith, modules_le ms are.each, fewer ms slot are below fresh)

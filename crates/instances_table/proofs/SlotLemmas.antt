@@ -1,5 +1,8 @@
 -- The lowest free slot.
-use Rattle.std.proofs.Common.{◌≡◌, ℕ, ◌+◌, ◌<◌, true, false, List, zero, suc, Some, None, refl, ap, arith}
+use Rattle.std.proofs.Common.{◌≡◌, ℕ, ◌+◌, ◌<◌, ◌++◌, true, false, List, length, drop, get_or, zero, suc, Some, None, refl, ap, arith}
+use Rattle.std.proofs.lemmas.List.{drop_more}
+use Rattle.instances_table.specs.declared.loaded.Loaded.{Loaded}
+use Rattle.instances_table.specs.Table.{all_slots}
 use Rattle.instances_table.specs.Modules.{Module}
 use Rattle.instances_table.specs.Changes.{is_held, lowest_free}
 
@@ -17,3 +20,8 @@ pub none_free : (ms : List Module) (slot n : ℕ) → n ≡ 0 → lowest_free ms
 unfolding lowest_free
 none_free ms slot zero none = refl
 none_free ms slot (suc n) none = absurd (omega arith)
+
+-- the slots of the modules from one on
+pub slots_more : (ls : List Loaded) (i : ℕ) (d : Loaded) → i < length ls
+    → all_slots (drop i ls) ≡ (get_or ls i d).slots.items ++ all_slots (drop (i + 1) ls)
+slots_more ls i d within = ap all_slots (drop_more ls i d within)

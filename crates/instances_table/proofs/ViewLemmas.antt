@@ -10,10 +10,10 @@ use Rattle.std.proofs.Math.Seq.{take-length}
 use Rattle.std.proofs.lemmas.List.Quantifiers.{position-Some}
 use Rattle.std.proofs.lemmas.Option.{slice_get-map, slice_get-get_or}
 use Rattle.instances_table.specs.declared.loaded.Loaded.{Loaded}
-use Rattle.instances_table.specs.Modules.{Instance, Module, AreModules, has_name, has_slot, has_instance, changed_at}
+use Rattle.instances_table.specs.Modules.{slots_of, Instance, Module, AreModules, has_name, has_slot, has_instance, changed_at}
 use Rattle.instances_table.specs.Lookup.{slot_in, instance_in, slot_within, instance_meant, told_of_instance, told_of_place}
 use Rattle.instances_table.specs.Changes.{is_held, is_named, holds, with_name, with_names, with_instance, named, without_first, still, module_without, without_instance}
-use Rattle.instances_table.specs.Table.{name_at, instance_of, module_of, modules_of, heir}
+use Rattle.instances_table.specs.Table.{all_slots, name_at, instance_of, module_of, modules_of, heir}
 use Rattle.instances_table.proofs.RenameLemmas.{held_below}
 use Rattle.instances_table.proofs.RoomLemmas.{room_for_instance}
 
@@ -301,3 +301,14 @@ none_gone names slot [] none = refl
 none_gone names slot (m ∷ ms) none =
     let parts = or_parts (has_slot_in slot m) (list_any (has_slot_in slot) ms) none in
     rw (has_view names slot m, parts.0) (ap (λ (xs : List Module). module_of names m ∷ xs) (none_gone names slot ms parts.1))
+
+-- the slots of all modules
+slots_same : (names : List (ArrayVec ℕ)) (ss : List ℕ) → map (λ (i : Instance). i.slot) (map (instance_of names) ss) ≡ ss
+slots_same names [] = refl
+slots_same names (s ∷ ss) = ap (λ (xs : List ℕ). s ∷ xs) (slots_same names ss)
+
+pub slots_view : (names : List (ArrayVec ℕ)) (ms : List Loaded) → slots_of (modules_of names ms) ≡ all_slots ms
+slots_view names [] = refl
+slots_view names (l ∷ ls) =
+    ap (λ (xs : List ℕ). xs ++ slots_of (modules_of names ls)) (slots_same names l.slots.items)
+    ∙ ap (λ (xs : List ℕ). l.slots.items ++ xs) (slots_view names ls)

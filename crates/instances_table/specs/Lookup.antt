@@ -1,10 +1,11 @@
 -- What is found in the list of modules (RISC OS 3 Programmer's Reference Manual, "OS_Module", reasons 12 and 18, and "Modules", "SWI chunk base
 -- number"). Modules and instances are numbered by their places in the lists, from 0.
-use Rattle.std.specs.Prelude.{ℕ, Bool, not, ◌+◌, ◌-◌, ◌%◌, ◌==◌, ◌&&◌, nat_lt, List, length, Option, Some, None, option_map, ok_or, slice_get, Result, Ok, if◌then◌else◌}
+use Rattle.std.specs.Prelude.{ℕ, Bool, not, ◌+◌, ◌-◌, ◌%◌, ◌^◌, ◌==◌, ◌&&◌, nat_lt, List, length, Option, Some, None, option_map, ok_or, slice_get, Result, Ok, if◌then◌else◌}
 use Rattle.std.specs.List.{position}
 use Rattle.profile.specs.Outcome.{bind}
 use Rattle.profile.specs.declared.error.ErrorNumber.{ErrorNumber}
 use Rattle.profile.specs.declared.error.ErrorNumber.TheVariants.{ModuleNotFound}
+use Rattle.instances_table.specs.declared.parts.Handler.{Handler}
 use Rattle.instances_table.specs.declared.parts.Place.{Place}
 use Rattle.instances_table.specs.declared.parts.Information.{Information}
 use Rattle.instances_table.specs.declared.parts.ModuleInfo.{ModuleInfo}
@@ -69,6 +70,17 @@ has_call call m = m.header.chunk == call - call % 64 && not (m.header.handler ==
 
 abbrev pub number_of_call : ℕ → List Module → Option ℕ
 number_of_call call modules = position (has_call call) modules
+
+-- where a SWI is handled: at an offset in the module's image, and for its preferred instance
+abbrev pub handled_in : Module → Handler
+handled_in m = record { at = (m.image.at + m.header.handler) % 2 ^ 32; slot = m.preferred }
+
+abbrev pub handled_at : List Module → Option ℕ → Option Handler
+handled_at modules None = None
+handled_at modules (Some number) = option_map handled_in (slice_get modules number)
+
+abbrev pub handler_of : ℕ → List Module → Option Handler
+handler_of call modules = handled_at modules (number_of_call call modules)
 
 -- where the instance of a slot is
 abbrev pub slot_within : ℕ → Option Module → Option ℕ

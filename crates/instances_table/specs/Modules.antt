@@ -1,6 +1,6 @@
 -- The modules of a machine as a list, oldest first, each with its instances, oldest first (RISC OS 3 Programmer's Reference Manual, "Modules", "Module
 -- instantiation"). A slot is the place of an instance's private word; that there are 64 of them is this project's own.
-use Rattle.std.specs.Prelude.{ℕ, ◌≡◌, ◌≤◌, ◌+◌, ◌==◌, Bool, true, List, [], ◌∷◌, zero, suc, cond, nat_lt}
+use Rattle.std.specs.Prelude.{ℕ, ◌≡◌, ◌≤◌, ◌+◌, ◌==◌, Bool, true, List, [], ◌∷◌, zero, suc, cond, nat_lt, ◌++◌, map}
 use Rattle.std.specs.List.{list_any}
 use Rattle.std.specs.Str.{str_eq_ignore_ascii_case}
 use Rattle.module_header.specs.declared.header.Header.{Header}
@@ -39,6 +39,11 @@ number_of test (x ∷ xs) = cond (test x) 1 0 + number_of test xs
 abbrev pub slot_count : ℕ → List Module → ℕ
 slot_count slot [] = 0
 slot_count slot (m ∷ ms) = number_of (has_slot slot) m.instances + slot_count slot ms
+
+-- the slots of all instances, module by module
+abbrev pub slots_of : List Module → List ℕ
+slots_of [] = []
+slots_of (m ∷ ms) = map (λ (i : Instance). i.slot) m.instances ++ slots_of ms
 
 -- the instances of a module have different names, and one of them is preferred, so there is one
 pub record IsModule (m : Module) : Type 0 where

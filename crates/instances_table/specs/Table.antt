@@ -1,5 +1,5 @@
 -- The table as the list that it stands for: the names of all instances stand by slots, and each module has the slots of its instances.
-use Rattle.std.specs.Prelude.{ℕ, List, [], ◌∷◌, ◌==◌, map, slice_index_or, if◌then◌else◌}
+use Rattle.std.specs.Prelude.{ℕ, List, [], ◌∷◌, ◌++◌, ◌==◌, map, slice_index_or, if◌then◌else◌}
 use Rattle.arrayvec.specs.ArrayVec.{ArrayVec}
 use Rattle.instances_table.specs.declared.loaded.Loaded.{Loaded}
 use Rattle.instances_table.specs.Modules.{Instance, Module}
@@ -23,6 +23,11 @@ module_of names l = record {
 
 abbrev pub modules_of : Names → List Loaded → List Module
 modules_of names modules = map (module_of names) modules
+
+-- the slots of all modules
+abbrev pub all_slots : List Loaded → List ℕ
+all_slots [] = []
+all_slots (l ∷ ls) = l.slots.items ++ all_slots ls
 
 -- who is preferred among the slots that are left: the oldest, where it was the one that went
 abbrev pub heir : ℕ → ℕ → List ℕ → ℕ

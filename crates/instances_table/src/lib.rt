@@ -8,7 +8,7 @@ mod names;
 pub mod parts;
 pub mod table;
 
-pub use parts::{Image, Information, InstanceInfo, ModuleInfo, Name, Place};
+pub use parts::{Handler, Image, Information, InstanceInfo, ModuleInfo, Name, Place};
 pub use table::InstanceTable;
 
 #[cfg(test)]

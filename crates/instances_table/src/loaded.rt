@@ -4,16 +4,16 @@ ghost use Rattle.std.specs.List.{list_any, position};
 ghost use Rattle.std.specs.Option.{option_copied};
 ghost use Rattle.std.specs.Str.{str_eq_ignore_ascii_case};
 ghost use Rattle.instances_table.specs.Changes.{new_module, without_first};
-ghost use Rattle.instances_table.specs.Table.{Names, name_at, module_of, heir};
-ghost use Rattle.instances_table.specs.Lookup.{told_of_module, instance_meant};
+ghost use Rattle.instances_table.specs.Table.{Names, name_at, all_slots, module_of, heir};
+ghost use Rattle.instances_table.specs.Lookup.{handled_in, told_of_module, instance_meant};
 
 use crate::names::name_of;
-use crate::parts::{Image, ModuleInfo, Name};
+use crate::parts::{Handler, Image, ModuleInfo, Name};
 use arrayvec::ArrayVec;
 use module_header::Header;
 
 /// The most instances of all modules, and so the most modules.
-pub(crate) const MOST_INSTANCES: usize = 64;
+pub const MOST_INSTANCES: usize = 64;
 
 /// A module. Its instances stand by their slots, oldest first; their names stand in the table.
 #[derive(Default, Drop)]
@@ -41,6 +41,16 @@ impl Loaded {
             start: self.header.start,
             chunk: self.header.chunk,
             handler: self.header.handler,
+        }
+    }
+
+    /// Where the module handles its SWIs.
+    pub(crate) fn handled(&self) -> Handler
+        ensures { result ≡ handled_in (module_of [] self.now) }
+    {
+        Handler {
+            at: self.image.at.wrapping_add(self.header.handler),
+            slot: self.preferred,
         }
     }
 
@@ -136,6 +146,21 @@ pub(crate) fn number_of_call(modules: &[Loaded], call: u32) -> Option<usize>
 {
     modules.iter().position(|loaded| loaded.header.chunk == call - call % 64
         && loaded.header.handler != 0)
+}
+
+/// The slots of all modules, one after another.
+#[tactic(auto, using(crate::proofs::SlotLemmas::slots_more))]
+pub(crate) fn all_slots(modules: &[Loaded]) -> ArrayVec<u32, MOST_INSTANCES>
+    requires { length (all_slots modules.now) ≤ 64 }
+    ensures { result.items ≡ all_slots modules.now }
+{
+    let mut slots = ArrayVec::new();
+    for loaded in modules {
+        slots
+            .try_extend_from_slice(loaded.slots.as_slice())
+            .unwrap();
+    }
+    slots
 }
 
 /// Whether an instance has a slot.

@@ -42,6 +42,13 @@ pub struct ModuleInfo {
     pub handler: u32,
 }
 
+/// Where a SWI of a module is handled: the address of its handler, and the slot of its preferred instance.
+#[derive(Clone, Copy, Debug, PartialEq, Eq)]
+pub struct Handler {
+    pub at: u32,
+    pub slot: u32,
+}
+
 /// An instance: its name, the slot of its private word, and whether it is the preferred one of its module.
 #[derive(Drop)]
 pub struct InstanceInfo {

@@ -1,16 +1,16 @@
 ghost use Rattle.std.specs.Prelude.{◌≡◌, ◌<◌, [], length, map, true, option_map, slice_get, IfSome};
 ghost use Rattle.std.specs.List.{position};
 ghost use Rattle.std.specs.Option.{option_copied};
-ghost use Rattle.instances_table.specs.Modules.{Module, has_instance};
+ghost use Rattle.instances_table.specs.Modules.{Module, has_instance, slots_of};
 ghost use Rattle.instances_table.specs.Changes.{holds};
-ghost use Rattle.instances_table.specs.Lookup.{number_of_title, number_of_call, place_meant, looked_up, information, instance_in, slot_in, slot_within, place_of_slot, told_of_module, told_of_place};
+ghost use Rattle.instances_table.specs.Lookup.{handler_of, number_of_title, number_of_call, place_meant, looked_up, information, instance_in, slot_in, slot_within, place_of_slot, told_of_module, told_of_place};
 
 use crate::loaded::{
-    Loaded, MOST_INSTANCES, loaded_at, name_at, number_of_call, number_of_slot, number_of_title,
-    place_of_slot,
+    Loaded, MOST_INSTANCES, all_slots, loaded_at, name_at, number_of_call, number_of_slot,
+    number_of_title, place_of_slot,
 };
 use crate::names::{FullName, name_of};
-use crate::parts::{Information, InstanceInfo, ModuleInfo, Name, Place};
+use crate::parts::{Handler, Information, InstanceInfo, ModuleInfo, Name, Place};
 use arrayvec::ArrayVec;
 use module_header::Header;
 use profile::ErrorNumber;
@@ -93,6 +93,26 @@ impl InstanceTable {
     {
         let number = number_of_call(self.modules.as_slice(), call)?;
         Some(number as u32)
+    }
+
+    /// Where a SWI of that number is handled: by the oldest module whose chunk has it.
+    ///
+    /// RISC OS 3 Programmer's Reference Manual, "Modules", "SWI handler code".
+    pub fn handler_of(&self, call: u32) -> Option<Handler>
+        ensures value { result ≡ handler_of call self.now }
+        ensures below { IfSome result (λ h. h.slot < 64) }
+    {
+        let _ = &self.names;
+        self.find_handler(call)
+    }
+
+    #[tactic(auto, using(crate::proofs::ViewLemmas::view_steps, crate::proofs::ViewLemmas::module_view))]
+    fn find_handler(&self, call: u32) -> Option<Handler>
+        ensures { result ≡ handler_of call self.now }
+    {
+        let number = self.with_chunk(call)?;
+        let loaded = self.modules.as_slice().get(number as usize)?;
+        Some(loaded.handled())
     }
 
     /// The instance that a name means: `Title%Name`, or the preferred one of `Title`, whatever the case of the letters.
@@ -192,6 +212,13 @@ impl InstanceTable {
             slot: *slot,
             preferred: *slot == loaded.preferred,
         })
+    }
+
+    /// The slots of all instances, module by module, oldest first.
+    pub fn slots(&self) -> ArrayVec<u32, MOST_INSTANCES>
+        ensures { result.items ≡ slots_of self.now }
+    {
+        all_slots(self.modules.as_slice())
     }
 
     /// Where the instance of a slot is, if there is one.

@@ -396,6 +396,12 @@ unfolding store_of
 records_room m k at sound room =
     omega (arith, records_counted (bytes_of m) (regions m), few_heaps k (store_of m) at room sound.limits, sound.few)
 
+-- the same of another record
+pub range_room : (m : AddressMap) → IsSound (store_of m) → length (store_of m).others < 68 → length (regions m) < 133
+unfolding store_of
+range_room m sound room =
+    omega (arith, records_counted (bytes_of m) (regions m), heaps_counted (store_of m).heaps, sound.limits.guests, sound.limits.areas, room)
+
 -- the refusals in their order
 pub begun_bad : (s : Store) (at size : ℕ) → is_heap_region s.bytes at size ≡ false → begun s at size ≡ Err HeapBadRegion
 unfolding begun

@@ -34,7 +34,7 @@ block_inside b h block total a heap live inside =
     let parts : (block - 4 ≤ a) × (a < block - 4 + total) = range_parts (block - 4) total a inside in
     rw (le-leb h.start a (omega (arith, parts.0, place.low)), lt-ltb a (h.start + h.end) (omega (arith, parts.1, place.low, place.high, heap.inside))) refl
 
-one_block : (b : Bytes) (h : HeapList) (block total other other_total a : ℕ) → IsHeapIn b h.start h.end h.items
+pub one_block : (b : Bytes) (h : HeapList) (block total other other_total a : ℕ) → IsHeapIn b h.start h.end h.items
     → live_total block (h.start + 16) h.items ≡ Some total → live_total other (h.start + 16) h.items ≡ Some other_total
     → in_range (block - 4) total a ≡ true → in_range (other - 4) other_total a ≡ true → block ≡ other
 one_block b h block total other other_total a heap first second here there = elim (cases_eq block other) [

@@ -39,7 +39,7 @@ clear_other : (q r : Region) (rs : List Region) → IsClearOfRanges q rs → Are
 clear_other q r [] clear last = (last, tt)
 clear_other q r (p ∷ rs) clear last = (clear.0, clear_other q r rs clear.1 last)
 
-apart_other : (rs : List Region) (r : Region) → AreRangesApart rs → IsClearOfAll r rs → AreRangesApart (rs ++ r ∷ [])
+pub apart_other : (rs : List Region) (r : Region) → AreRangesApart rs → IsClearOfAll r rs → AreRangesApart (rs ++ r ∷ [])
 apart_other [] r apart clear = (tt, tt)
 apart_other (q ∷ rs) r apart clear = (clear_other q r rs apart.0 clear.0, apart_other rs r apart.1 clear.1)
 

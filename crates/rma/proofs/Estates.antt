@@ -9,6 +9,7 @@ use Rattle.os_heap.specs.Store.{Store, store_of}
 use Rattle.dynamic_areas.specs.Areas.{Land}
 use Rattle.dynamic_areas.specs.Ground.{Estate, estate_of}
 use Rattle.rma.specs.Calls.{in_area, is_full, is_no_room, or_grown, rma_error, with_store}
+use Rattle.rma.specs.Images.{or_kept}
 
 pub estate_same : (m n : AddressMap) (l : Land) (s : Store) → layout n ≡ layout m → store_of n ≡ s → estate_of n l ≡ with_store (estate_of m l) s
 estate_same m n l s same e =
@@ -66,3 +67,9 @@ done_from e g h (Err f) a given = absurd given
 pub given_from : {A : Type 0} (e g h : Estate) (r : Result (Estate × A) ErrorNumber) (answer : Result A ErrorNumber) → e ≡ g → Gives e r answer h
     → Gives g r answer h
 given_from e g h r answer same given = subst (λ (x : Estate). Gives x r answer h) same given
+
+pub kept_by : (s t : Store) (r : Result (Store × Unit {0}) ErrorNumber) (answer : Result (Unit {0}) ErrorNumber) → Gives s r answer t → t ≡ or_kept s r
+kept_by s t (Ok r) (Ok u) given = given.0
+kept_by s t (Ok r) (Err e) given = absurd given
+kept_by s t (Err f) (Ok u) given = absurd given
+kept_by s t (Err f) (Err e) given = given.1

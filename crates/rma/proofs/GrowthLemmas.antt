@@ -174,3 +174,6 @@ mapped_more e h count x mapped =
 pub leaves_done : (e g : Estate) (r : Result Estate ErrorNumber) → Leaves e r (let done : Result (Unit {0}) ErrorNumber = Ok tt in done) g → r ≡ Ok g
 leaves_done e g (Ok x) leaves = ap (λ (y : Estate). Ok y) (sym leaves)
 leaves_done e g (Err f) leaves = absurd leaves
+
+pub others_more : (e : Estate) (h : HasArea e) (count : ℕ) → (with_pages_more e count).store.others ≡ e.store.others
+others_more e h count = rw (h.found, h.known.found) refl

@@ -1,13 +1,11 @@
 -- Module images in the module area: each is a live block there, recorded over all bytes that the block holds, which no heap call gives back or
 -- moves until the record goes (RISC OS 3 Programmer's Reference Manual, "OS_Module", reasons 1, 4 and 11).
-use Rattle.std.specs.Prelude.{ℕ, Result, Ok, Err, [], ◌∷◌, ◌++◌}
+use Rattle.std.specs.Prelude.{ℕ, ◌≡◌, ◌<◌, true, length, Result, Ok, Err, [], ◌∷◌, ◌++◌}
 use Rattle.profile.specs.declared.error.ErrorNumber.{ErrorNumber}
 use Rattle.address_map.specs.declared.region.Kind.TheVariants as kind
 use Rattle.address_map.specs.Records.{without_region}
-use Rattle.os_heap.specs.Calls.{block_sized}
-use Rattle.os_heap.specs.Store.{Store}
-use Rattle.dynamic_areas.specs.Ground.{Estate}
-use Rattle.rma.specs.Calls.{with_store, rma_freed}
+use Rattle.os_heap.specs.Calls.{OfHeap, block_sized, gave_back}
+use Rattle.os_heap.specs.Store.{Store, find_heap, is_area}
 
 -- the store with a block of the module area as an image
 abbrev pub with_image : Store → ℕ → Result ℕ ErrorNumber → Store
@@ -21,6 +19,16 @@ image_recorded s at = with_image s at (block_sized s 0x01800000 at)
 unfoldable pub image_dropped : Store → ℕ → Store
 image_dropped s at = record s { others = without_region s.others kind.Image at }
 
--- Any live block goes, an image too.
-unfoldable pub block_freed : Estate → ℕ → Result (Estate × Unit {0}) ErrorNumber
-block_freed e at = rma_freed (with_store e (image_dropped e.store at)) at
+-- the store after a call of the heap, or as it was where that is refused
+abbrev pub or_kept : Store → Result (Store × Unit {0}) ErrorNumber → Store
+or_kept s (Ok r) = r.0
+or_kept s (Err f) = s
+
+-- An image goes: its record first, and then the block there, if one is live.
+unfoldable pub image_freed : Store → ℕ → Store
+image_freed s at = or_kept (image_dropped s at) (gave_back (image_dropped s at) 0x01800000 at)
+
+-- a block of the store can become an image: the heap at the module area's place is that area's, and there is room for a record more
+pub record CanRecord (s : Store) : Type 0 where
+  pub area : OfHeap (λ h. is_area h.kind ≡ true) (find_heap 0x01800000 s.heaps)
+  pub room : length s.others < 68

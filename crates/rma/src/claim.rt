@@ -37,6 +37,7 @@ impl Rma {
         ensures claimed { Gives (estate_of map.old areas.old) (rma_claimed (estate_of map.old areas.old) size) result (estate_of map.new areas.new) }
         ensures estate { IsEstate (estate_of map.new areas.new) }
         ensures classes { AreClasses map.new }
+        ensures others { (store_of map.new).others ≡ (store_of map.old).others }
         ensures stays { StaysInPlace map.old map.new }
     {
         match Heaps::new().get(map, RMA_START, size).answer {
@@ -54,6 +55,7 @@ fn claim_grown(map: &mut AddressMap, areas: &mut Areas, size: u32) -> Result<u32
     ensures claimed { Gives (estate_of map.old areas.old) (in_grown_area (estate_of map.old areas.old) (rma_base (store_of map.old) + total_for size) (λ s. got s 0x01800000 size)) result (estate_of map.new areas.new) }
     ensures estate { IsEstate (estate_of map.new areas.new) }
     ensures classes { AreClasses map.new }
+    ensures others { (store_of map.new).others ≡ (store_of map.old).others }
     ensures places { KeepsPlaces map.old map.new }
 {
     let heaps = Heaps::new();

@@ -39,6 +39,7 @@ impl Rma {
         ensures extended { Gives (estate_of map.old areas.old) (rma_extended (estate_of map.old areas.old) block change) result (estate_of map.new areas.new) }
         ensures estate { IsEstate (estate_of map.new areas.new) }
         ensures classes { AreClasses map.new }
+        ensures others { (store_of map.new).others ≡ (store_of map.old).others }
         ensures stays { StaysInPlace map.old map.new }
     {
         grow_in_place(map, areas, block, change);
@@ -57,6 +58,7 @@ fn grow_in_place(map: &mut AddressMap, areas: &mut Areas, block: u32, change: u3
     ensures grown { estate_of map.new areas.new ≡ grown_in_place (estate_of map.old areas.old) block change }
     ensures estate { IsEstate (estate_of map.new areas.new) }
     ensures classes { AreClasses map.new }
+    ensures others { (store_of map.new).others ≡ (store_of map.old).others }
     ensures places { KeepsPlaces map.old map.new }
 {
     let end = end_in_place(map, block, change);
@@ -76,6 +78,7 @@ fn move_grown(
     ensures moved { Gives (estate_of map.old areas.old) (in_grown_area (estate_of map.old areas.old) (end_if_moved (rma_base (store_of map.old)) change (block_sized (store_of map.old) 0x01800000 block)) (λ s. resized s 0x01800000 block change)) result (estate_of map.new areas.new) }
     ensures estate { IsEstate (estate_of map.new areas.new) }
     ensures classes { AreClasses map.new }
+    ensures others { (store_of map.new).others ≡ (store_of map.old).others }
     ensures places { KeepsPlaces map.old map.new }
 {
     let end = end_if_moved(map, block, change);

@@ -1,6 +1,6 @@
 ghost use Rattle.std.specs.Prelude.{◌≡◌, ◌*◌};
 ghost use Rattle.profile.specs.Outcome.{Leaves};
-ghost use Rattle.os_heap.specs.Store.{AreClasses};
+ghost use Rattle.os_heap.specs.Store.{store_of, AreClasses};
 ghost use Rattle.dynamic_areas.specs.Areas.{find_area};
 ghost use Rattle.dynamic_areas.specs.Changing.{pages_had};
 ghost use Rattle.dynamic_areas.specs.Ground.{estate_of, IsEstate};
@@ -25,6 +25,7 @@ pub(crate) fn grow_to(map: &mut AddressMap, areas: &mut Areas, end: u64) -> Resu
     ensures grown { Leaves (estate_of map.old areas.old) (grown_to (estate_of map.old areas.old) end) result (estate_of map.new areas.new) }
     ensures estate { IsEstate (estate_of map.new areas.new) }
     ensures classes { AreClasses map.new }
+    ensures others { (store_of map.new).others ≡ (store_of map.old).others }
     ensures places { KeepsPlaces map.old map.new }
 {
     let size = area_size(areas);

@@ -7,6 +7,8 @@ mod errors;
 pub mod extend;
 pub mod free;
 mod growth;
+pub mod images;
+pub mod laws;
 
 pub use area::Rma;
 

@@ -1,6 +1,7 @@
-use Rattle.std.proofs.Common.{◌≡◌, ◌+◌, Ok, arith}
+use Rattle.std.proofs.Common.{◌∙◌, ◌≡◌, ◌+◌, Ok, arith}
 use Rattle.os_heap.specs.Calls.{got}
 use Rattle.os_heap.specs.Store.{store_of}
+use Rattle.os_heap.proofs.Frame.{layout-others}
 use Rattle.dynamic_areas.specs.Ground.{Estate, estate_of}
 use Rattle.dynamic_areas.proofs.HeapCalls.{areas_written}
 use Rattle.rma.specs.Calls.{grown_to}
@@ -23,3 +24,9 @@ returns-in-Err-clause-claimed c =
     (omega (arith, c.from.ensures, c.base.ensures, c.total_for.ensures)) in
     absurd (is_done (store_of c.grow_to.new.map) (store_of c.get.new.map) (got (store_of c.grow_to.new.map) 0x01800000 c.args.size) c.in-Err.error ok
     (let given = rw c.in-Err.is at c.get.ensures.store in given))
+
+pub returns-in-Ok-clause-others : goal.returns-in-Ok-clause-others
+returns-in-Ok-clause-others c = layout-others c.grow_to.new.map c.get.new.map c.get.ensures.layout ∙ c.grow_to.ensures.others
+
+pub returns-in-Err-clause-others : goal.returns-in-Err-clause-others
+returns-in-Err-clause-others c = layout-others c.grow_to.new.map c.get.new.map c.get.ensures.layout ∙ c.grow_to.ensures.others

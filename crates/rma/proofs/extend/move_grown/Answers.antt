@@ -1,6 +1,7 @@
 use Rattle.std.proofs.Common.{◌≡◌, Ok, sym, ap, ◌∙◌}
 use Rattle.os_heap.specs.Calls.{block_sized, resized}
 use Rattle.os_heap.specs.Store.{store_of}
+use Rattle.os_heap.proofs.Frame.{layout-others}
 use Rattle.dynamic_areas.specs.Ground.{Estate, estate_of}
 use Rattle.dynamic_areas.proofs.HeapCalls.{areas_written}
 use Rattle.rma.specs.Calls.{end_if_moved, grown_to, rma_base}
@@ -23,3 +24,9 @@ returns-in-Err-clause-moved c =
     let ok = move_done e g c.args.block c.args.change c.requires.estate c.requires.full done' in
     absurd (is_done (store_of c.grow_to.new.map) (store_of c.resize.new.map) (resized (store_of c.grow_to.new.map) 0x01800000 c.args.block c.args.change) c.in-Err.error ok
     (let given = rw c.in-Err.is at c.resize.ensures.store in given))
+
+pub returns-in-Ok-clause-others : goal.returns-in-Ok-clause-others
+returns-in-Ok-clause-others c = layout-others c.grow_to.new.map c.resize.new.map c.resize.ensures.layout ∙ c.grow_to.ensures.others
+
+pub returns-in-Err-clause-others : goal.returns-in-Err-clause-others
+returns-in-Err-clause-others c = layout-others c.grow_to.new.map c.resize.new.map c.resize.ensures.layout ∙ c.grow_to.ensures.others

@@ -3,6 +3,7 @@ use Rattle.profile.specs.Outcome.{Gives}
 use Rattle.os_heap_lists.specs.Lists.{total_for}
 use Rattle.os_heap.specs.Calls.{got}
 use Rattle.os_heap.specs.Store.{Store, store_of}
+use Rattle.os_heap.proofs.Frame.{layout-others}
 use Rattle.dynamic_areas.specs.Ground.{Estate, estate_of}
 use Rattle.dynamic_areas.proofs.HeapCalls.{areas_written}
 use Rattle.rma.specs.Calls.{in_grown_area, is_no_room, rma_base, rma_claimed}
@@ -42,3 +43,12 @@ returns-in-Err-2-clause-claimed c =
     (or_refused c.args.map.now c.get.new.map c.args.areas.now (rma_base s + total_for c.args.size) (λ t. got t 0x01800000 c.args.size)
     (got s 0x01800000 c.args.size) c.in-Err-2.error c.get.ensures.layout (ap is_no_room (sym same) ∙ sym c.is_no_room.ensures ∙ c.if-is_no_room.false)
     (let given = rw c.in-Err-2.is at c.get.ensures.store in given))
+
+pub returns-in-Ok-clause-others : goal.returns-in-Ok-clause-others
+returns-in-Ok-clause-others c = layout-others c.args.map.now c.get.new.map c.get.ensures.layout
+
+pub returns-in-Err-clause-others : goal.returns-in-Err-clause-others
+returns-in-Err-clause-others c = c.claim_grown.ensures.others ∙ layout-others c.args.map.now c.get.new.map c.get.ensures.layout
+
+pub returns-in-Err-2-clause-others : goal.returns-in-Err-2-clause-others
+returns-in-Err-2-clause-others c = layout-others c.args.map.now c.get.new.map c.get.ensures.layout

@@ -3,6 +3,7 @@ use Rattle.std.specs.Prelude.{is_ok}
 use Rattle.profile.specs.Outcome.{Gives}
 use Rattle.os_heap.specs.Calls.{block_sized, resized}
 use Rattle.os_heap.specs.Store.{Store, store_of}
+use Rattle.os_heap.proofs.Frame.{layout-others}
 use Rattle.dynamic_areas.specs.Ground.{Estate, estate_of}
 use Rattle.dynamic_areas.proofs.HeapCalls.{areas_written}
 use Rattle.rma.specs.Calls.{end_if_moved, grown_in_place, in_grown_area, is_full, is_no_room, resized_or_grown, rma_base, rma_extended}
@@ -72,3 +73,15 @@ returns-in-Err-2-clause-extended c =
       | inr none ↦ given_from g e f (resized_or_grown (grown_in_place e c.args.block c.args.change) c.args.block c.args.change) (Err c.rma_error.result) (grown ∙ none)
           (subst (λ (x : Estate). Gives g (resized_or_grown x c.args.block c.args.change) (Err c.rma_error.result) f) grown again)
     ]
+
+pub returns-in-Ok-clause-others : goal.returns-in-Ok-clause-others
+returns-in-Ok-clause-others c =
+    layout-others c.grow_in_place.new.map c.resize.new.map c.resize.ensures.layout ∙ c.grow_in_place.ensures.others
+
+pub returns-in-Err-clause-others : goal.returns-in-Err-clause-others
+returns-in-Err-clause-others c =
+    c.move_grown.ensures.others ∙ layout-others c.grow_in_place.new.map c.resize.new.map c.resize.ensures.layout ∙ c.grow_in_place.ensures.others
+
+pub returns-in-Err-2-clause-others : goal.returns-in-Err-2-clause-others
+returns-in-Err-2-clause-others c =
+    layout-others c.grow_in_place.new.map c.resize.new.map c.resize.ensures.layout ∙ c.grow_in_place.ensures.others

@@ -1,0 +1,19 @@
+use Rattle.std.proofs.Common.{◌≡◌, subst}
+use Rattle.os_heap.specs.Calls.{gave_back}
+use Rattle.os_heap.specs.Store.{Store, store_of}
+use Rattle.dynamic_areas.proofs.HeapCalls.{areas_written}
+use Rattle.rma.specs.Images.{image_freed, or_kept}
+use Rattle.rma.proofs.Estates.{kept_by}
+use Rattle.rma.proofs.area.Rma.free_image.Goals as goal
+
+pub returns-clause-store : goal.returns-clause-store
+unfolding image_freed
+returns-clause-store c =
+    let s : Store = store_of c.drop_image.new.map in
+    let after : store_of c.free.new.map ≡ or_kept s (gave_back s 0x01800000 c.args.at) =
+    kept_by s (store_of c.free.new.map) (gave_back s 0x01800000 c.args.at) c.free.result.answer c.free.ensures.store in
+    subst (λ (t : Store). store_of c.free.new.map ≡ or_kept t (gave_back t 0x01800000 c.args.at)) c.drop_image.ensures.store after
+
+pub returns-clause-estate : goal.returns-clause-estate
+returns-clause-estate c l areas =
+    areas_written c.drop_image.new.map c.free.new.map l (c.drop_image.ensures.estate l areas) c.free.ensures.sound c.free.ensures.layout

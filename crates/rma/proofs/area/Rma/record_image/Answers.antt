@@ -1,0 +1,63 @@
+use Rattle.std.proofs.Common.{◌≡◌, Ok, refl, sym, ap, subst, ◌∙◌, arith}
+use Rattle.address_map.specs.Memory.{free_pages}
+use Rattle.address_map.specs.declared.region.Kind.TheVariants as kind
+use Rattle.address_map.specs.declared.region.Region.{Region}
+use Rattle.os_heap.specs.Calls.{block_sized}
+use Rattle.os_heap.specs.Store.{IsSound, Store, store_of}
+use Rattle.os_heap.proofs.Added.{range_room}
+use Rattle.os_heap.proofs.Frame.{classes_same}
+use Rattle.os_heap.proofs.Recorded.{store_recorded}
+use Rattle.rma.specs.Images.{image_recorded}
+use Rattle.rma.proofs.ExtendLemmas.{lies_below}
+use Rattle.rma.proofs.ImageLemmas.{areas_recorded, is_recorded, same_bytes, same_pool}
+use Rattle.rma.proofs.area.Rma.record_image.Goals as goal
+
+pub own-requires-clause-region : goal.own-requires-clause-region
+own-requires-clause-region c =
+    let sized : block_sized (store_of c.args.map.now) 0x01800000 c.args.at ≡ Ok c.in-Ok.len = sym c.block_size.ensures.answer ∙ c.in-Ok.is in
+    let below = lies_below c.args.map.now c.args.at c.in-Ok.len c.requires.sound sized in
+    record {
+      aligned = (is_recorded (store_of c.args.map.now) c.args.at c.in-Ok.len c.requires.sound c.requires.may sized).aligned;
+      end = omega (arith, below.within, below.base);
+    }
+
+pub own-requires-clause-room : goal.own-requires-clause-room
+own-requires-clause-room c = λ record_kind. range_room c.args.map.now c.requires.sound c.requires.may.room
+
+pub returns-in-Ok-clause-store : goal.returns-in-Ok-clause-store
+unfolding image_recorded
+returns-in-Ok-clause-store c =
+    let sized : block_sized (store_of c.args.map.now) 0x01800000 c.args.at ≡ Ok c.in-Ok.len = sym c.block_size.ensures.answer ∙ c.in-Ok.is in
+    let r : Region = record { kind = kind.Image; at = c.args.at; len = c.in-Ok.len } in
+    rw sized (store_recorded c.args.map.now c.own.new.self r refl c.own.ensures.regions
+    (same_bytes c.args.map.now c.own.new.self c.own.ensures.mapping c.own.ensures.bytes) c.own.ensures.marks)
+
+pub returns-in-Ok-clause-sound : goal.returns-in-Ok-clause-sound
+returns-in-Ok-clause-sound c =
+    let s : Store = store_of c.args.map.now in
+    let sized : block_sized s 0x01800000 c.args.at ≡ Ok c.in-Ok.len = sym c.block_size.ensures.answer ∙ c.in-Ok.is in
+    let r : Region = record { kind = kind.Image; at = c.args.at; len = c.in-Ok.len } in
+    let store = store_recorded c.args.map.now c.own.new.self r refl c.own.ensures.regions
+    (same_bytes c.args.map.now c.own.new.self c.own.ensures.mapping c.own.ensures.bytes) c.own.ensures.marks in
+    subst IsSound (sym store) (is_recorded s c.args.at c.in-Ok.len c.requires.sound c.requires.may sized).sound
+
+pub returns-in-Ok-clause-estate : goal.returns-in-Ok-clause-estate
+returns-in-Ok-clause-estate c l areas =
+    let s : Store = store_of c.args.map.now in
+    let sized : block_sized s 0x01800000 c.args.at ≡ Ok c.in-Ok.len = sym c.block_size.ensures.answer ∙ c.in-Ok.is in
+    let r : Region = record { kind = kind.Image; at = c.args.at; len = c.in-Ok.len } in
+    let store = store_recorded c.args.map.now c.own.new.self r refl c.own.ensures.regions
+    (same_bytes c.args.map.now c.own.new.self c.own.ensures.mapping c.own.ensures.bytes) c.own.ensures.marks in
+    let pool = same_pool c.args.map.now c.own.new.self c.own.ensures.mapping in
+    rw (store, pool) (areas_recorded s (free_pages c.args.map.now) l r areas (is_recorded s c.args.at c.in-Ok.len c.requires.sound c.requires.may sized))
+
+pub returns-in-Ok-clause-classes : goal.returns-in-Ok-clause-classes
+returns-in-Ok-clause-classes c classes =
+    let r : Region = record { kind = kind.Image; at = c.args.at; len = c.in-Ok.len } in
+    let store = store_recorded c.args.map.now c.own.new.self r refl c.own.ensures.regions
+    (same_bytes c.args.map.now c.own.new.self c.own.ensures.mapping c.own.ensures.bytes) c.own.ensures.marks in
+    classes_same c.args.map.now c.own.new.self (ap (λ (t : Store). t.heaps) store) c.own.ensures.marks classes
+
+pub returns-in-Err-clause-store : goal.returns-in-Err-clause-store
+unfolding image_recorded
+returns-in-Err-clause-store c = rw (sym c.block_size.ensures.answer ∙ c.in-Err.is) refl

@@ -1,0 +1,57 @@
+ghost use Rattle.std.specs.Prelude.{◌≡◌};
+ghost use Rattle.address_map.specs.Memory.{mapping};
+ghost use Rattle.os_heap.specs.Store.{store_of, AreClasses, IsSound};
+ghost use Rattle.dynamic_areas.specs.Areas.{Land};
+ghost use Rattle.dynamic_areas.specs.Ground.{estate_of, IsEstate};
+ghost use Rattle.rma.specs.Images.{image_dropped, image_freed, image_recorded, CanRecord};
+
+use crate::area::Rma;
+use address_map::{AddressMap, Kind};
+use os_heap::Heaps;
+use profile::memory_map::RMA_START;
+
+impl Rma {
+    /// Records the block whose first byte is at `at` as a module image, over all bytes that it holds; no call gives it back or moves it then,
+    /// but a slide, which the record follows. Where no block of a guest's is there nothing is done.
+    pub fn record_image(&self, map: &mut AddressMap, at: u32)
+        requires sound { IsSound (store_of map.old) }
+        requires may { CanRecord (store_of map.old) }
+        ensures store { store_of map.new ≡ image_recorded (store_of map.old) at }
+        ensures sound { IsSound (store_of map.new) }
+        ensures estate { (l : Land) → IsEstate (estate_of map.old l) → IsEstate (estate_of map.new l) }
+        ensures classes { AreClasses map.old → AreClasses map.new }
+        ensures mapping { mapping map.new ≡ mapping map.old }
+    {
+        match Heaps::new().block_size(map, RMA_START, at).answer {
+            Ok(len) => map.own(Kind::Image, at, len),
+            Err(_) => {}
+        }
+    }
+
+    /// Takes the record of the image at an address away, if there is one: a block there is a guest's then, and can be given back.
+    pub fn drop_image(&self, map: &mut AddressMap, at: u32)
+        requires { IsSound (store_of map.old) }
+        ensures store { store_of map.new ≡ image_dropped (store_of map.old) at }
+        ensures sound { IsSound (store_of map.new) }
+        ensures estate { (l : Land) → IsEstate (estate_of map.old l) → IsEstate (estate_of map.new l) }
+        ensures classes { AreClasses map.old → AreClasses map.new }
+        ensures mapping { mapping map.new ≡ mapping map.old }
+    {
+        map.disown(Kind::Image, at);
+    }
+
+    /// Gives the block of a module image back: its record goes, and its room is free then. Of a block that is no image the same is done, and
+    /// where no block is nothing more.
+    pub fn free_image(&self, map: &mut AddressMap, at: u32)
+        requires sound { IsSound (store_of map.old) }
+        requires classes { AreClasses map.old }
+        ensures store { store_of map.new ≡ image_freed (store_of map.old) at }
+        ensures sound { IsSound (store_of map.new) }
+        ensures estate { (l : Land) → IsEstate (estate_of map.old l) → IsEstate (estate_of map.new l) }
+        ensures classes { AreClasses map.new }
+        ensures mapping { mapping map.new ≡ mapping map.old }
+    {
+        self.drop_image(map, at);
+        let _ = Heaps::new().free(map, RMA_START, at).answer;
+    }
+}
