@@ -1,0 +1,271 @@
+-- A block that comes, whose anchor is marked first.
+use Rattle.std.proofs.Common.{◌≡◌, ℕ, Bool, ◌+◌, ◌-◌, ◌*◌, ◌/◌, ◌%◌, ◌^◌, ◌<◌, ◌≤◌, ◌||◌, ◌&&◌, not, true, false, nat_eq, nat_lt, cond, Option, Result, Ok, Err, List, [], ◌∷◌, ◌++◌, length, arith, refl, sym, ◌∙◌, ap, inl, inr, ◌⊎◌, ◌↔◌, subst}
+use Rattle.std.specs.List.{list_any}
+use Rattle.std.proofs.lemmas.Bool.{and_parts, cases_Bool, cases_lt, eqb-true, eqb-false, eq-eqb, lt-ltb, ne_eqb, not-true, or_from, or_parts, true≢false}
+use Rattle.address_map.proofs.Bytes.{is_mapped-layout}
+use Rattle.address_map.proofs.Words.{class_of-word}
+use Rattle.address_map.proofs.Spans.{mapped_below}
+use Rattle.profile.specs.Outcome.{Gives}
+use Rattle.profile.specs.declared.error.ErrorNumber.{ErrorNumber}
+use Rattle.profile.specs.declared.error.ErrorNumber.TheVariants.{FlexAnchorInUse, FlexBadAnchor}
+use Rattle.os_heap.specs.Store.{Store, others_in, store_of}
+use Rattle.address_map.specs.declared.region.Region.{Region}
+use Rattle.os_heap.proofs.Frame.{store_bytes}
+use Rattle.address_map.specs.Bytes.{AreMapped, Bytes, meets, word_start}
+use Rattle.address_map.specs.Classes.{is_anchor}
+use Rattle.address_map.specs.Memory.{byte_at, bytes_of, class_of, is_mapped, layout, regions}
+use Rattle.address_map.specs.Records.{is_heap_kind, with_class}
+use Rattle.address_map.specs.declared.class.Class.{Class}
+use Rattle.address_map.specs.declared.class.Class.TheVariants as class
+use Rattle.address_map.specs.declared.map.AddressMap.{AddressMap}
+use Rattle.flex_store.specs.declared.flex.Extent.{Extent}
+use Rattle.flex_store.specs.Blocks.{Block, has_anchor, is_header, new_block, taken, used, whole_words}
+use Rattle.flex_store.specs.Calls.{allocated, is_anchor_place, is_in_heap_alone, is_in_store}
+use Rattle.flex_store.specs.Changes.{Fits, GotBlocks}
+use Rattle.flex_store.specs.Memory.{AreAnchored, Holds, laid_out, text_of}
+use Rattle.flex_store.specs.Relaid.{MayLie, Relaid}
+use Rattle.flex_store.specs.State.{AreAnchorWords, AreWhole, HasNoHead, IsAnchorWord, IsFlexRange, IsFlexStore, IsStoreAt, KeepsHeads, blocks_of, held_in, store_in, is_flex_header, is_heap_class}
+use Rattle.flex_store.proofs.Answering.{fits_state}
+use Rattle.flex_store.proofs.Changing.{got}
+use Rattle.flex_store.proofs.Finding.{has_by, store_low}
+use Rattle.flex_store.proofs.Headers.{IsWithin, header_within}
+use Rattle.flex_store.proofs.Lists.{anchor-append, used-append, whole-append}
+use Rattle.flex_store.proofs.Sliding.{new_whole}
+use Rattle.flex_store.proofs.Storing.{IsBefore, used_aligned}
+use Rattle.flex_store.proofs.Texts.{words_within}
+
+-- a word that was marked as an anchor
+pub record IsMarkedAnchor (m n : AddressMap) (anchor : ℕ) : Type 0 where
+  pub bytes : byte_at n ≡ byte_at m
+  pub marks : (a : ℕ) → class_of n a ≡ with_class (class_of m) anchor class.Anchor a
+  pub same : layout n ≡ layout m
+
+words_push : (mapped : ℕ → Bool) (start end : ℕ) (xs : List Block) (b : Block) → AreAnchorWords mapped start end xs → IsAnchorWord mapped start end b.anchor
+    → has_anchor xs b.anchor ≡ false → AreAnchorWords mapped start end (xs ++ b ∷ [])
+words_push mapped start end [] b words word none = ((word, refl), tt)
+words_push mapped start end (x ∷ xs) b words word none =
+    let parts = or_parts (nat_eq b.anchor x.anchor) (has_anchor xs b.anchor) none in
+    let apart : nat_eq x.anchor b.anchor ≡ false = ne_eqb x.anchor b.anchor (λ e. eqb-false b.anchor x.anchor parts.0 (sym e)) in (
+      (words.0.0, anchor-append xs (b ∷ []) x.anchor ∙ or_from (has_anchor xs x.anchor) (nat_eq x.anchor b.anchor || false) words.0.1 (or_from (nat_eq x.anchor b.anchor) false apart refl)),
+      words_push mapped start end xs b words.1 word parts.1,
+    )
+
+fh_marked : (own : Class) (here has : Bool) → (here ≡ true → has ≡ false) → is_flex_header own ≡ has → is_flex_header (cond here class.Anchor own) ≡ (has || false)
+fh_marked own true true clear is = sym (clear refl)
+fh_marked own true false clear is = refl
+fh_marked own false true clear is = is
+fh_marked own false false clear is = is
+
+an_marked : (own : Class) (here has : Bool) → is_anchor own ≡ has → is_anchor (cond here class.Anchor own) ≡ (has || (here || false))
+an_marked own true true is = refl
+an_marked own true false is = refl
+an_marked own false true is = is
+an_marked own false false is = is
+
+heap_marked : (own : Class) (here : Bool) → (here ≡ true → is_heap_class own ≡ false) → is_heap_class (cond here class.Anchor own) ≡ is_heap_class own
+heap_marked own true clear = sym (clear refl)
+heap_marked own false clear = refl
+
+header_clear : (start end anchor p : ℕ) (bs : List Block) → start + used bs ≤ end → (anchor + 4 ≤ start) ⊎ (end ≤ anchor) → p ≡ anchor → is_header start bs p ≡ false
+header_clear start end anchor p bs fits outside here = elim (cases_Bool (is_header start bs p)) [
+  | inr none ↦ none
+  | inl has ↦
+      let i : IsWithin start (used bs) p = header_within start bs p has in
+      absurd (elim outside [ inl low ↦ omega (arith, i.from) | inr high ↦ omega (arith, i.below) ])
+]
+
+pub alloc_before : (m m1 : AddressMap) (e : Extent) (anchor size : ℕ) → IsStoreAt m e → IsAnchorWord (is_mapped m) e.start e.end anchor
+    → has_anchor (blocks_of m e) anchor ≡ false → size < 2 ^ 32 → IsMarkedAnchor m m1 anchor → e.start + (e.used + taken size) ≤ e.end
+    → IsBefore m1 e.start e.end (blocks_of m e) [] (new_block anchor size ∷ [])
+alloc_before m m1 e anchor size s word none small k fits =
+    let bs : List Block = blocks_of m e in
+    let mapped : is_mapped m1 ≡ is_mapped m = is_mapped-layout m m1 k.same in
+    let total : used bs ≡ e.used = s.used_is in
+    let sum : used (bs ++ new_block anchor size ∷ []) ≡ used bs + (taken size + 0) = used-append bs (new_block anchor size ∷ []) in
+    record {
+      range = subst (λ (q : ℕ → Bool). IsFlexRange q e.start e.end) (sym mapped) s.store.range;
+      fits = omega arith;
+      fitted = omega (arith, s.store.fits);
+      whole = whole-append bs (new_block anchor size ∷ []) s.store.whole (new_whole m e.start anchor size small);
+      words = subst (λ (q : ℕ → Bool). AreAnchorWords q e.start e.end (bs ++ new_block anchor size ∷ [])) (sym mapped)
+          (words_push (is_mapped m) e.start e.end bs (new_block anchor size) s.store.words word none);
+      text = subst (λ (f : ℕ → ℕ). Holds f e.start (text_of bs)) (sym k.bytes) s.store.text;
+      anchored = subst (λ (f : ℕ → ℕ). AreAnchored f e.start bs) (sym k.bytes) s.store.anchored;
+      headers = λ a. ap is_flex_header (k.marks a) ∙ fh_marked (class_of m a) (nat_eq (word_start a) anchor) (is_header e.start bs (word_start a))
+          (λ here. header_clear e.start e.end anchor (word_start a) bs s.store.fits word.outside (eqb-true (word_start a) anchor here)) (s.store.headers a);
+      anchors = λ a. ap is_anchor (k.marks a) ∙ (an_marked (class_of m a) (nat_eq (word_start a) anchor) (has_anchor bs (word_start a)) (s.store.anchors a)
+          ∙ sym (anchor-append bs (new_block anchor size ∷ []) (word_start a)));
+    }
+
+pub alloc_may : (m m1 : AddressMap) (e : Extent) (anchor size header : ℕ) → IsStoreAt m e → IsAnchorWord (is_mapped m) e.start e.end anchor
+    → IsMarkedAnchor m m1 anchor → e.start + (e.used + taken size) ≤ e.end → header ≡ e.start + e.used → MayLie m1 header (new_block anchor size ∷ [])
+alloc_may m m1 e anchor size header s word k fits place =
+    let mapped : is_mapped m1 ≡ is_mapped m = is_mapped-layout m m1 k.same in
+    let words : AreAnchorWords (is_mapped m) e.start e.end (new_block anchor size ∷ []) = ((word, refl), tt) in
+    record {
+      words = subst (λ (q : ℕ → Bool). AreAnchorWords q header (header + used (new_block anchor size ∷ [])) (new_block anchor size ∷ [])) (sym mapped)
+          (words_within (is_mapped m) e.start e.end header (header + used (new_block anchor size ∷ [])) (new_block anchor size ∷ []) (omega arith) (omega arith) words);
+      there = subst (λ (q : ℕ → Bool). AreMapped q header (used (new_block anchor size ∷ []))) (sym mapped)
+          (λ a low high. s.store.range.there a (omega arith) (omega arith));
+    }
+
+pub record AllocNumbers (m : AddressMap) (e : Extent) (size : ℕ) : Type 0 where
+  pub low : e.end ≤ 2 ^ 26
+  pub aligned : (e.start + e.used) % 4 ≡ 0
+
+pub alloc_numbers : (m : AddressMap) (e : Extent) (size : ℕ) → IsStoreAt m e → e.start + (e.used + taken size) ≤ e.end → AllocNumbers m e size
+alloc_numbers m e size s fits =
+    let total : used (blocks_of m e) ≡ e.used = s.used_is in
+    let multiple : used (blocks_of m e) % 4 ≡ 0 = used_aligned (blocks_of m e) in
+    let start : e.start % 4 ≡ 0 = s.store.range.start_aligned in
+    record {
+      low = store_low m e.start e.end (blocks_of m e) s.store (omega arith);
+      aligned = omega arith;
+    }
+
+pub alloc_none : (m : AddressMap) (e : Extent) (anchor size : ℕ) → IsStoreAt m e → e.end < e.start + (e.used + taken size)
+    → Fits m e (blocks_of m e ++ new_block anchor size ∷ []) false m e
+alloc_none m e anchor size s past =
+    let total : used (blocks_of m e) ≡ e.used = s.used_is in
+    let sum : used (blocks_of m e ++ new_block anchor size ∷ []) ≡ used (blocks_of m e) + (taken size + 0) = used-append (blocks_of m e) (new_block anchor size ∷ []) in
+    (omega arith, (refl, refl))
+
+pub alloc_done : (m m1 n : AddressMap) (e f : Extent) (anchor size header : ℕ) → IsStoreAt m e → IsAnchorWord (is_mapped m) e.start e.end anchor
+    → has_anchor (blocks_of m e) anchor ≡ false → is_heap_class (class_of m anchor) ≡ false → size < 2 ^ 32 → IsMarkedAnchor m m1 anchor → e.start + (e.used + taken size) ≤ e.end
+    → header ≡ e.start + e.used → Relaid m1 n header [] (new_block anchor size ∷ []) → f.start ≡ e.start → f.end ≡ e.end → f.used ≡ e.used + taken size
+    → Fits m e (blocks_of m e ++ new_block anchor size ∷ []) true n f
+alloc_done m m1 n e f anchor size header s word none head small k fits place r same_start same_end used_is =
+    let bs : List Block = blocks_of m e in
+    let total : used bs ≡ e.used = s.used_is in
+    let sum : used (bs ++ new_block anchor size ∷ []) ≡ used bs + (taken size + 0) = used-append bs (new_block anchor size ∷ []) in
+    let at : header ≡ e.start + used bs = omega arith in
+    let g : GotBlocks m1 e (bs ++ new_block anchor size ∷ []) n f =
+    got m1 n e f bs [] (new_block anchor size ∷ []) (alloc_before m m1 e anchor size s word none small k fits)
+    (subst (λ (q : ℕ). Relaid m1 n q [] (new_block anchor size ∷ [])) at r) same_start same_end (omega arith) in
+    let classes : (a : ℕ) → is_heap_class (class_of m1 a) ≡ is_heap_class (class_of m a) = λ a.
+    ap is_heap_class (k.marks a) ∙ heap_marked (class_of m a) (nat_eq (word_start a) anchor)
+    (λ here. no_head m anchor a word.aligned head (eqb-true (word_start a) anchor here)) in (
+      omega arith,
+      record {
+        bytes = λ a. g.bytes a ∙ ap (λ (h : ℕ → ℕ). laid_out e.start (bs ++ new_block anchor size ∷ []) h a) k.bytes;
+        blocks_are = g.blocks_are;
+        start = g.start;
+        end = g.end;
+        store = g.store;
+        same = g.same ∙ k.same;
+        heads = λ clear.
+            let h : KeepsHeads m1 n = g.heads (λ a low high. classes a ∙ clear a low high) in
+            record {
+              bytes = λ a is. h.bytes a (classes a ∙ is) ∙ ap (λ (x : ℕ → ℕ). x a) k.bytes;
+              classes = λ a. h.classes a ∙ classes a;
+            };
+      },
+    ) where
+      no_head : (m : AddressMap) (anchor a : ℕ) → anchor % 4 ≡ 0 → is_heap_class (class_of m anchor) ≡ false → word_start a ≡ anchor → is_heap_class (class_of m a) ≡ false
+      no_head m anchor a aligned head here =
+          let same : word_start a ≡ word_start anchor = omega arith in
+          ap is_heap_class (class_of-word m a anchor same) ∙ head
+
+-- what an alloc answers
+pub alloc_gives : (m n : AddressMap) (e f : Extent) (places : Store) (anchor size : ℕ) (done : Bool) → (is_anchor_place places anchor && not (is_in_store (store_in m e) anchor)) ≡ true
+    → has_anchor (blocks_of m e) anchor ≡ false → Fits m e (blocks_of m e ++ new_block anchor size ∷ []) done n f
+    → Gives (held_in m e) (allocated places (held_in m e) anchor size) (Ok done) (held_in n f)
+unfolding allocated
+alloc_gives m n e f places anchor size done place none fits =
+    rw (place, none) (fits_state m n e f (blocks_of m e ++ new_block anchor size ∷ []) done fits)
+
+pub alloc_bad : (m : AddressMap) (e : Extent) (places : Store) (anchor size : ℕ) → (is_anchor_place places anchor && not (is_in_store (store_in m e) anchor)) ≡ false
+    → Gives {U = Bool} (held_in m e) (allocated places (held_in m e) anchor size) (Err FlexBadAnchor) (held_in m e)
+unfolding allocated
+alloc_bad m e places anchor size place = rw place (refl, refl)
+
+pub alloc_used : (m : AddressMap) (e : Extent) (places : Store) (anchor size : ℕ) → (is_anchor_place places anchor && not (is_in_store (store_in m e) anchor)) ≡ true
+    → has_anchor (blocks_of m e) anchor ≡ true
+    → Gives {U = Bool} (held_in m e) (allocated places (held_in m e) anchor size) (Err FlexAnchorInUse) (held_in m e)
+unfolding allocated
+alloc_used m e places anchor size place has = rw (place, has) (refl, refl)
+
+-- where an anchor may stand
+pub place_word : (m : AddressMap) (e : Extent) (places : Store) (anchor : ℕ) → places.bytes.mapped ≡ is_mapped m → e.start ≤ e.end → e.start % 4 ≡ 0
+    → (is_anchor_place places anchor && not (is_in_store (store_in m e) anchor)) ≡ true → IsAnchorWord (is_mapped m) e.start e.end anchor
+unfolding is_anchor_place
+place_word m e places anchor mapped some start place =
+    let met : Bool = list_any (λ r. meets anchor 4 r.at r.len) places.others in
+    let alone : Bool = list_any (is_in_heap_alone anchor) places.heaps in
+    let inside : Bool = is_in_store (store_in m e) anchor in
+    let one = and_parts ((nat_eq (anchor % 4) 0 && places.bytes.mapped anchor) && (not met && not alone)) (not inside) place in
+    let two = and_parts (nat_eq (anchor % 4) 0 && places.bytes.mapped anchor) (not met && not alone) one.0 in
+    let three = and_parts (nat_eq (anchor % 4) 0) (places.bytes.mapped anchor) two.0 in
+    let aligned : anchor % 4 ≡ 0 = eqb-true (anchor % 4) 0 three.0 in
+    let there : is_mapped m anchor ≡ true = ap (λ (p : ℕ → Bool). p anchor) (sym mapped) ∙ three.1 in
+    record {
+      aligned = aligned;
+      there = there;
+      low = mapped_below m anchor there;
+      outside = beside e.start e.end anchor some start aligned (not-true inside one.1);
+    } where
+      beside : (start end anchor : ℕ) → start ≤ end → start % 4 ≡ 0 → anchor % 4 ≡ 0 → meets anchor 4 start (end - start) ≡ false → (anchor + 4 ≤ start) ⊎ (end ≤ anchor)
+      beside start end anchor some aligned aligned' clear = elim (cases_lt start (anchor + 4)) [
+        | inr low ↦ inl low
+        | inl up ↦ elim (cases_lt anchor end) [
+          | inr high ↦ inr high
+          | inl below ↦
+              let more : start < end = omega arith in
+              let len : nat_lt 0 (end - start) ≡ true = lt-ltb 0 (end - start) (omega arith) in
+              let one : nat_lt anchor (start + (end - start)) ≡ true = lt-ltb anchor (start + (end - start)) (omega arith) in
+              let two : nat_lt start (anchor + 4) ≡ true = lt-ltb start (anchor + 4) up in
+              let both : meets anchor 4 start (end - start) ≡ true = rw (len, one, two) refl in
+              absurd (true≢false (sym both ∙ clear))
+        ]
+      ]
+
+pub live_has : (m : AddressMap) (e : Extent) (anchor : ℕ) → IsStoreAt m e → anchor % 4 ≡ 0 → (nat_eq (anchor % 4) 0 && is_anchor (class_of m anchor)) ≡ has_anchor (blocks_of m e) anchor
+live_has m e anchor s aligned = rw (eq-eqb (anchor % 4) 0 aligned) (has_by m e anchor s aligned)
+
+pub record MayAppend (m : AddressMap) (e : Extent) (anchor : ℕ) : Type 0 where
+  pub word : IsAnchorWord (is_mapped m) e.start e.end anchor
+  pub has : (nat_eq (anchor % 4) 0 && is_anchor (class_of m anchor)) ≡ has_anchor (blocks_of m e) anchor
+
+pub may_append : (m : AddressMap) (e : Extent) (anchor : ℕ) → IsStoreAt m e
+    → (is_anchor_place (store_of m) anchor && not (is_in_store (store_in m e) anchor)) ≡ true → MayAppend m e anchor
+may_append m e anchor s place =
+    let fits : e.start + used (blocks_of m e) ≤ e.end = s.store.fits in
+    let w : IsAnchorWord (is_mapped m) e.start e.end anchor =
+    place_word m e (store_of m) anchor (ap (λ (b : Bytes). b.mapped) (store_bytes m)) (omega arith) s.store.range.start_aligned place in
+    record { word = w; has = live_has m e anchor s w.aligned }
+
+-- the other records, as the record of all ranges has them
+others_any : (anchor : ℕ) (rs : List Region) → list_any (λ r. not (is_heap_kind r.kind) && meets anchor 4 r.at r.len) rs ≡ list_any (λ r. meets anchor 4 r.at r.len) (others_in rs)
+others_any anchor [] = refl
+others_any anchor (r ∷ rs) = elim (cases_Bool (is_heap_kind r.kind)) [
+  | inl heap ↦ rw heap (others_any anchor rs)
+  | inr other ↦ rw other (ap (λ (t : Bool). meets anchor 4 r.at r.len || t) (others_any anchor rs))
+]
+
+others_met : (m : AddressMap) (anchor : ℕ) → list_any (λ r. not (is_heap_kind r.kind) && meets anchor 4 r.at r.len) (regions m) ≡ list_any (λ r. meets anchor 4 r.at r.len) (store_of m).others
+unfolding store_of
+others_met m anchor = others_any anchor (regions m)
+
+-- the test of a place
+pub place_tested : (m : AddressMap) (anchor : ℕ) (there met inside : Bool) → anchor % 4 ≡ 0 → list_any (is_in_heap_alone anchor) (store_of m).heaps ≡ false
+    → ((there ≡ true) ↔ AreMapped (is_mapped m) anchor 1) → met ≡ list_any (λ r. not (is_heap_kind r.kind) && meets anchor 4 r.at r.len) (regions m)
+    → (there && (not met && not inside)) ≡ (is_anchor_place (store_of m) anchor && not inside)
+unfolding is_anchor_place
+place_tested m anchor there met inside aligned alone tested met_is =
+    let mapped : there ≡ (store_of m).bytes.mapped anchor = same_bool there (is_mapped m anchor) (λ e. tested.0 e anchor (omega arith) (omega arith))
+    (λ e. tested.1 (λ a low high. let here : a ≡ anchor = omega arith in ap (is_mapped m) here ∙ e)) ∙ ap (λ (b : Bytes). b.mapped anchor) (sym (store_bytes m)) in
+    let met' : met ≡ list_any (λ r. meets anchor 4 r.at r.len) (store_of m).others = met_is ∙ others_met m anchor in
+    rw (eq-eqb (anchor % 4) 0 aligned, alone, ← mapped, ← met') (by_cases there met inside) where
+      same_bool : (t u : Bool) → (t ≡ true → u ≡ true) → (u ≡ true → t ≡ true) → t ≡ u
+      same_bool true u f g = sym (f refl)
+      same_bool false true f g = g refl
+      same_bool false false f g = refl
+
+      by_cases : (t u v : Bool) → (t && (not u && not v)) ≡ ((t && (not u && true)) && not v)
+      by_cases true true v = refl
+      by_cases true false v = refl
+      by_cases false u v = refl
+
+pub place_unaligned : (m : AddressMap) (anchor : ℕ) (inside : Bool) → (anchor % 4 ≡ 0 → ⊥) → false ≡ (is_anchor_place (store_of m) anchor && not inside)
+unfolding is_anchor_place
+place_unaligned m anchor inside odd = rw (ne_eqb (anchor % 4) 0 odd) refl

@@ -1,0 +1,17 @@
+pub mod Allocating
+pub mod Anchoring
+pub mod Answering
+pub mod Changing
+pub mod Finding
+pub mod Headers
+pub mod Holding
+pub mod Laying
+pub mod Lists
+pub mod Reading
+pub mod Releasing
+pub mod Sliding
+pub mod Splicing
+pub mod Starting
+pub mod Storing
+pub mod Texts
+pub mod Walks

@@ -1,0 +1,70 @@
+-- Memory that spells blocks is read as just these blocks.
+use Rattle.std.proofs.Common.{◌≡◌, ℕ, Bool, ◌+◌, ◌-◌, ◌*◌, ◌/◌, ◌^◌, ◌<◌, ◌≤◌, List, [], ◌∷◌, ◌++◌, length, map, get_or, arith, refl, sym, ◌∙◌, ap, suc, zero, true, false}
+use Rattle.std.proofs.lemmas.Bool.{le-leb, lt-leb}
+use Rattle.std.proofs.lemmas.List.{same_lists}
+use Rattle.std.proofs.lemmas.Grind.{same_number_lists}
+use Rattle.std.proofs.lemmas.List.FromFn.{get_or-map-range_with_len, length-map-range_with_len}
+use Rattle.std.specs.List.{range_with_len}
+use Rattle.raw_store.specs.Region.{word_bytes}
+use Rattle.address_map.specs.Bytes.{bytes_between, word_at}
+use Rattle.flex_store.specs.Blocks.{Block, used, taken, whole_words}
+use Rattle.flex_store.specs.Memory.{Holds, text_of, block_at, blocks_from, blocks_in}
+use Rattle.flex_store.specs.State.{AreWhole, AreAnchorWords}
+use Rattle.flex_store.proofs.Holding.{holds_left, holds_right, word_read}
+
+-- what memory holds of a block, and of those behind it
+pub record IsSpelled (f : ℕ → ℕ) (at : ℕ) (b : Block) (bs : List Block) : Type 0 where
+  pub anchor : Holds f at (word_bytes b.anchor)
+  pub size : Holds f (at + 4) (word_bytes b.size)
+  pub bytes : Holds f (at + 8) b.bytes
+  pub rest : Holds f (at + taken b.size) (text_of bs)
+
+pub spelled : (f : ℕ → ℕ) (at : ℕ) (b : Block) (bs : List Block) → length b.bytes ≡ whole_words b.size → Holds f at (text_of (b ∷ bs))
+    → IsSpelled f at b bs
+spelled f at b bs whole h =
+    let tail : Holds f (at + 4) (word_bytes b.size ++ (b.bytes ++ text_of bs)) = holds_right f at (word_bytes b.anchor) (word_bytes b.size ++ (b.bytes ++ text_of bs)) h in
+    let inner : Holds f (at + 4 + 4) (b.bytes ++ text_of bs) = holds_right f (at + 4) (word_bytes b.size) (b.bytes ++ text_of bs) tail in
+    let e8 : at + 4 + 4 ≡ at + 8 = omega arith in
+    let after : at + 4 + 4 + length b.bytes ≡ at + taken b.size = omega arith in
+    record {
+      anchor = holds_left f at (word_bytes b.anchor) (word_bytes b.size ++ (b.bytes ++ text_of bs)) h;
+      size = holds_left f (at + 4) (word_bytes b.size) (b.bytes ++ text_of bs) tail;
+      bytes = rw e8 at (holds_left f (at + 4 + 4) b.bytes (text_of bs) inner);
+      rest = rw after at (holds_right f (at + 4 + 4) b.bytes (text_of bs) inner);
+    }
+
+pub bytes_read : (f : ℕ → ℕ) (at n : ℕ) (xs : List ℕ) → length xs ≡ n → Holds f at xs → bytes_between f at n ≡ xs
+bytes_read f at n xs len h =
+    same_number_lists (map f (range_with_len at n)) xs (length-map-range_with_len f at n ∙ sym len)
+    (λ k below.
+    let low : k < n = omega (arith, length-map-range_with_len f at n) in
+    get_or-map-range_with_len f at n k (at + k) 0 low refl ∙ h k (omega arith))
+
+pub block_read : (f : ℕ → ℕ) (at : ℕ) (b : Block) (bs : List Block) → length b.bytes ≡ whole_words b.size → b.anchor < 2 ^ 32 → b.size < 2 ^ 32
+    → IsSpelled f at b bs → block_at f at ≡ b
+block_read f at b bs whole anchor_fits size_fits is =
+    let anchor : word_at f at ≡ b.anchor = word_read f at b.anchor anchor_fits is.anchor in
+    let size : word_at f (at + 4) ≡ b.size = word_read f (at + 4) b.size size_fits is.size in
+    let bytes : bytes_between f (at + 8) (whole_words (word_at f (at + 4))) ≡ b.bytes =
+    rw size (bytes_read f (at + 8) (whole_words b.size) b.bytes whole is.bytes) in
+    λ i. record { anchor = anchor i; size = size i; bytes = bytes i }
+
+reads_from : (mapped : ℕ → Bool) (start end most : ℕ) (f : ℕ → ℕ) (at : ℕ) (bs : List Block) → used bs ≤ most → AreWhole bs
+    → AreAnchorWords mapped start end bs → Holds f at (text_of bs) → blocks_from most f at (at + used bs) ≡ bs
+reads_from mapped start end zero f at [] enough whole words h = refl
+reads_from mapped start end (suc most) f at [] enough whole words h = rw (le-leb (at + 0) at (omega arith)) refl
+reads_from mapped start end zero f at (b ∷ bs) enough whole words h = absurd (omega arith)
+reads_from mapped start end (suc most) f at (b ∷ bs) enough whole words h =
+    let is : IsSpelled f at b bs = spelled f at b bs whole.0.0 h in
+    let fits : b.anchor < 2 ^ 26 = words.0.0.low in
+    let size : word_at f (at + 4) ≡ b.size = word_read f (at + 4) b.size whole.0.1 is.size in
+    let here : block_at f at ≡ b = block_read f at b bs whole.0.0 (omega arith) whole.0.1 is in
+    let e : at + (taken b.size + used bs) ≡ at + taken b.size + used bs = omega arith in
+    let rest : blocks_from most f (at + taken b.size) (at + taken b.size + used bs) ≡ bs =
+    reads_from mapped start end most f (at + taken b.size) bs (omega arith) whole.1 words.1 is.rest in
+    rw (lt-leb (at + (taken b.size + used bs)) at (omega arith), here, size, e, rest) refl
+
+pub reads : (mapped : ℕ → Bool) (start end : ℕ) (f : ℕ → ℕ) (at : ℕ) (bs : List Block) → AreWhole bs → AreAnchorWords mapped start end bs
+    → Holds f at (text_of bs) → blocks_in f at (at + used bs) ≡ bs
+unfolding blocks_in
+reads mapped start end f at bs whole words h = reads_from mapped start end (at + used bs - at) f at bs (omega arith) whole words h

@@ -1,0 +1,251 @@
+-- Texts in memory that are laid out anew: what the walk that settles them needs, and what it leaves.
+use Rattle.std.proofs.Common.{◌≡◌, ℕ, Bool, ◌+◌, ◌-◌, ◌*◌, ◌/◌, ◌%◌, ◌^◌, ◌<◌, ◌≤◌, true, false, List, [], ◌∷◌, ◌++◌, length, take, replicate, arith, refl, sym, ◌∙◌, ap, subst}
+use Rattle.std.proofs.lemmas.List.{length-replicate}
+use Rattle.address_map.proofs.Bytes.{is_mapped-layout}
+use Rattle.address_map.proofs.Spans.{mapped_below}
+use Rattle.address_map.specs.Bytes.{AreMapped, Bytes, bytes_between, with_bytes_at, with_moved_at, with_word_at, with_zeros_at}
+use Rattle.address_map.specs.Memory.{byte_at, bytes_of, class_of, is_mapped, layout}
+use Rattle.address_map.specs.declared.class.Class.{Class}
+use Rattle.address_map.specs.declared.class.Class.TheVariants as class
+use Rattle.address_map.specs.declared.map.AddressMap.{AddressMap}
+use Rattle.flex_store.specs.Blocks.{Block, contents, filled, holding, new_block, spliced, taken, used, whole_words}
+use Rattle.flex_store.specs.Marks.{with_headers}
+use Rattle.flex_store.specs.Memory.{Holds, blocks_in, laid_out, text_of, with_anchors}
+use Rattle.flex_store.specs.Relaid.{behind, first_at, MayLie, Relaid}
+use Rattle.flex_store.specs.Splices.{HasRoom}
+use Rattle.flex_store.specs.State.{AreAnchorWords, AreWhole, IsText}
+use Rattle.flex_store.proofs.Holding.{bytes_held}
+use Rattle.flex_store.proofs.Laying.{appended, closed, contents_between, replaced}
+use Rattle.flex_store.proofs.Lists.{text_used}
+use Rattle.flex_store.proofs.Reading.{bytes_read}
+use Rattle.flex_store.proofs.Splicing.{between_length, filled_length, spliced_length}
+use Rattle.flex_store.proofs.Texts.{IsFirst, text_first, text_next, text_read, words_within}
+
+-- what lies there lies below 2^26
+pub lie_low : (m : AddressMap) (h : ℕ) (bs : List Block) → MayLie m h bs → 0 < used bs → h + used bs ≤ 2 ^ 26
+lie_low m h bs may some =
+    let last : is_mapped m (h + used bs - 1) ≡ true = may.there (h + used bs - 1) (omega arith) (omega arith) in
+    omega (arith, mapped_below m (h + used bs - 1) last)
+
+pub as_read : (b : Bytes) (at end : ℕ) (bs : List Block) → IsText b at end bs → IsText b at end (blocks_in b.at at end)
+as_read b at end bs is = subst (λ (l : List Block). IsText b at end l) (sym (text_read b at end bs is)) is
+
+-- the text is there once its bytes are
+pub settled_text : (m n : AddressMap) (h end : ℕ) (news : List Block) → AreWhole news → MayLie m h news → h % 4 ≡ 0 → layout n ≡ layout m
+    → ((a : ℕ) → byte_at n a ≡ with_bytes_at (byte_at m) h (text_of news) a) → end ≡ h + used news → IsText (bytes_of n) h end news
+settled_text m n h end news whole may aligned same bytes length_is =
+    let mapped : is_mapped n ≡ is_mapped m = is_mapped-layout m n same in
+    record {
+      whole = whole;
+      words = rw length_is (subst (λ (p : ℕ → Bool). AreAnchorWords p h (h + used news) news) (sym mapped) may.words);
+      text = λ k below. bytes (h + k) ∙ bytes_held (byte_at m) h (text_of news) k below;
+      length = length_is;
+      aligned = aligned;
+      mapped = subst (λ (p : ℕ → Bool). AreMapped p h (used news)) (sym mapped) may.there;
+    }
+
+-- the walk that settles a text leaves it laid out
+pub relaid_from : (m m3 n : AddressMap) (h end : ℕ) (olds news : List Block) → IsText (bytes_of m3) h end news
+    → ((a : ℕ) → class_of m3 a ≡ with_headers class.Plain h olds (class_of m) a) → layout n ≡ layout m
+    → ((a : ℕ) → byte_at m3 a ≡ with_bytes_at (byte_at m) h (text_of news) a)
+    → ((a : ℕ) → byte_at n a ≡ with_anchors h (blocks_in (byte_at m3) h end) (byte_at m3) a)
+    → ((a : ℕ) → class_of n a ≡ with_headers class.FlexHeader h (blocks_in (byte_at m3) h end) (class_of m3) a)
+    → Relaid m n h olds news
+unfolding laid_out
+relaid_from m m3 n h end olds news is marks3 same bytes3 bytes marks =
+    let read : blocks_in (byte_at m3) h end ≡ news = text_read (bytes_of m3) h end news is in
+    record {
+      bytes = λ a. bytes a ∙ (ap (λ (l : List Block). with_anchors h l (byte_at m3) a) read
+          ∙ ap (λ (f : ℕ → ℕ). with_anchors h news f a) (λ i x. bytes3 x i));
+      same = same;
+      marks = λ a. marks a ∙ (ap (λ (l : List Block). with_headers class.FlexHeader h l (class_of m3) a) read
+          ∙ ap (λ (c : ℕ → Class). with_headers class.FlexHeader h news c a) (λ i x. marks3 x i));
+    }
+
+-- the marks that a walk took away, by what memory spelled
+pub unmarked : (m n : AddressMap) (h end : ℕ) (olds : List Block) → IsText (bytes_of m) h end olds
+    → ((a : ℕ) → class_of n a ≡ with_headers class.Plain h (blocks_in (byte_at m) h end) (class_of m) a)
+    → (a : ℕ) → class_of n a ≡ with_headers class.Plain h olds (class_of m) a
+unmarked m n h end olds is marks a =
+    marks a ∙ ap (λ (l : List Block). with_headers class.Plain h l (class_of m) a) (text_read (bytes_of m) h end olds is)
+
+-- a block that holds other bytes, with those behind it
+pub record AreNumbers (m : AddressMap) (h end at cut more : ℕ) : Type 0 where
+  pub new : length (spliced (contents (first_at m h)) at cut more) ≡ at - cut + more + ((first_at m h).size - at)
+  pub old_fits : h + taken (first_at m h).size ≤ end
+  pub used_is : used (behind m h end) ≡ end - (h + taken (first_at m h).size)
+  pub old_low : end ≤ 2 ^ 26
+  pub new_low : h + (taken (at - cut + more + ((first_at m h).size - at)) + used (behind m h end)) ≤ 2 ^ 26
+
+pub contents_length : (m : AddressMap) (h : ℕ) → length (contents (first_at m h)) ≡ (first_at m h).size
+contents_length m h =
+    ap length (contents_between (byte_at m) (h + 8) (first_at m h).size) ∙ between_length (byte_at m) (h + 8) (first_at m h).size
+
+pub new_length : (m : AddressMap) (h at cut more : ℕ) → at ≤ (first_at m h).size
+    → length (spliced (contents (first_at m h)) at cut more) ≡ at - cut + more + ((first_at m h).size - at)
+new_length m h at cut more inside =
+    let size : length (contents (first_at m h)) ≡ (first_at m h).size = contents_length m h in
+    spliced_length (contents (first_at m h)) at cut more (omega arith) ∙ ap (λ (n : ℕ). at - cut + more + (n - at)) size
+
+pub numbers : (m : AddressMap) (h end at cut more : ℕ) → IsText (bytes_of m) h end (first_at m h ∷ behind m h end) → at ≤ (first_at m h).size
+    → MayLie m h (holding (first_at m h) (spliced (contents (first_at m h)) at cut more) ∷ behind m h end) → AreNumbers m h end at cut more
+numbers m h end at cut more is inside may =
+    let new : length (spliced (contents (first_at m h)) at cut more) ≡ at - cut + more + ((first_at m h).size - at) = new_length m h at cut more inside in
+    let length_is : end ≡ h + (taken (first_at m h).size + used (behind m h end)) = is.length in
+    let low : h + used (holding (first_at m h) (spliced (contents (first_at m h)) at cut more) ∷ behind m h end) ≤ 2 ^ 26 =
+    lie_low m h (holding (first_at m h) (spliced (contents (first_at m h)) at cut more) ∷ behind m h end) may (omega arith) in
+    let last : is_mapped m (end - 1) ≡ true = is.mapped (end - 1) (omega arith) (omega arith) in
+    record {
+      new = new;
+      old_fits = omega arith;
+      used_is = omega arith;
+      old_low = omega (arith, mapped_below m (end - 1) last);
+      new_low = rw (← new) low;
+    }
+
+pub replaced_text : (m : AddressMap) (f1 f2 g : ℕ → ℕ) (h end size new at cut more : ℕ)
+    → IsText (bytes_of m) h end (first_at m h ∷ behind m h end) → at ≤ (first_at m h).size → size ≡ (first_at m h).size
+    → new ≡ at - cut + more + (size - at) → f1 ≡ byte_at m
+    → ((a : ℕ) → f2 a ≡ with_bytes_at f1 (h + 8) (filled (spliced (bytes_between f1 (h + 8) size) at cut more)
+    ++ bytes_between f1 (h + 8 + whole_words size) (end - (h + 8 + whole_words size))) a)
+    → ((a : ℕ) → g a ≡ with_word_at f2 (h + 4) new a)
+    → (a : ℕ) → g a ≡ with_bytes_at (byte_at m) h (text_of (holding (first_at m h) (spliced (contents (first_at m h)) at cut more) ∷ behind m h end)) a
+replaced_text m f1 f2 g h end size new at cut more is inside size_is new_is same h2 h3 =
+    let f : ℕ → ℕ = byte_at m in
+    let b : Block = first_at m h in
+    let after : List Block = behind m h end in
+    let xs : List ℕ = spliced (contents b) at cut more in
+    let first : IsFirst (bytes_of m) h end b after = text_first (bytes_of m) h end b after is in
+    let length_is : end ≡ h + (taken b.size + used after) = is.length in
+    let e : h + taken b.size ≡ h + 8 + whole_words b.size = omega arith in
+    let e1 : bytes_between f (h + 8) b.size ≡ contents b = sym (contents_between f (h + 8) b.size) in
+    let held : Holds f (h + 8 + whole_words b.size) (text_of after) = subst (λ (p : ℕ). Holds f p (text_of after)) e first.spelled.rest in
+    let e2 : bytes_between f (h + 8 + whole_words b.size) (end - (h + 8 + whole_words b.size)) ≡ text_of after =
+    bytes_read f (h + 8 + whole_words b.size) (end - (h + 8 + whole_words b.size)) (text_of after) (omega (arith, text_used after is.whole.1)) held in
+    let count : length xs ≡ at - cut + more + (b.size - at) = new_length m h at cut more inside in
+    let new' : new ≡ length xs = new_is ∙ ap (λ (n : ℕ). at - cut + more + (n - at)) size_is ∙ sym count in
+    replaced f f2 g h b xs (text_of after) first.spelled.anchor
+    (λ a. h2 a
+    ∙ (ap (λ (k : ℕ → ℕ). with_bytes_at k (h + 8) (filled (spliced (bytes_between k (h + 8) size) at cut more) ++ bytes_between k (h + 8 + whole_words size) (end - (h + 8 + whole_words size))) a) same
+    ∙ (ap (λ (n : ℕ). with_bytes_at f (h + 8) (filled (spliced (bytes_between f (h + 8) n) at cut more) ++ bytes_between f (h + 8 + whole_words n) (end - (h + 8 + whole_words n))) a) size_is
+    ∙ (ap (λ (l : List ℕ). with_bytes_at f (h + 8) (filled (spliced l at cut more) ++ bytes_between f (h + 8 + whole_words b.size) (end - (h + 8 + whole_words b.size))) a) e1
+    ∙ ap (λ (t : List ℕ). with_bytes_at f (h + 8) (filled xs ++ t) a) e2))))
+    (λ a. h3 a ∙ ap (λ (n : ℕ). with_word_at f2 (h + 4) n a) new')
+
+pub replaced_whole : (m : AddressMap) (h end at cut more : ℕ) → IsText (bytes_of m) h end (first_at m h ∷ behind m h end) → AreNumbers m h end at cut more
+    → AreWhole (holding (first_at m h) (spliced (contents (first_at m h)) at cut more) ∷ behind m h end)
+replaced_whole m h end at cut more is n =
+    let new : length (spliced (contents (first_at m h)) at cut more) ≡ at - cut + more + ((first_at m h).size - at) = n.new in
+    ((filled_length (spliced (contents (first_at m h)) at cut more), omega (arith, n.new_low)), is.whole.1)
+
+pub room_for : (m n : AddressMap) (h end size new at cut more : ℕ) → layout n ≡ layout m → size ≡ (first_at m h).size → new ≡ at - cut + more + (size - at)
+    → IsText (bytes_of m) h end (first_at m h ∷ behind m h end) → AreNumbers m h end at cut more
+    → MayLie m h (holding (first_at m h) (spliced (contents (first_at m h)) at cut more) ∷ behind m h end)
+    → HasRoom (is_mapped n) (h + 8) size new
+room_for m n h end size new at cut more same size_is new_is is k may =
+    let count : length (spliced (contents (first_at m h)) at cut more) ≡ at - cut + more + ((first_at m h).size - at) = k.new in
+    let mapped : is_mapped n ≡ is_mapped m = is_mapped-layout m n same in
+    let length_is : end ≡ h + (taken (first_at m h).size + used (behind m h end)) = is.length in
+    let new' : new ≡ length (spliced (contents (first_at m h)) at cut more) = new_is ∙ ap (λ (x : ℕ). at - cut + more + (x - at)) size_is ∙ sym count in
+    subst (λ (p : ℕ → Bool). HasRoom p (h + 8) size new) (sym mapped) (record {
+      old = λ a low high. is.mapped a (omega arith) (omega arith);
+      new_bytes = λ a low high. may.there a (omega arith) (omega arith);
+      old_low = omega (arith, k.old_low, k.old_fits);
+      new_low = omega (arith, k.new_low);
+    })
+
+-- a block that went, with those behind it in its place
+pub record AreClosed (m : AddressMap) (h end : ℕ) : Type 0 where
+  pub may : MayLie m h (behind m h end)
+  pub whole : AreWhole (behind m h end)
+  pub fits : h + taken (first_at m h).size ≤ end
+  pub low : end ≤ 2 ^ 26
+  pub used_is : used (behind m h end) ≡ end - (h + taken (first_at m h).size)
+  pub aligned : h % 4 ≡ 0
+  pub held : Holds (byte_at m) (h + taken (first_at m h).size) (text_of (behind m h end))
+  pub text_is : length (text_of (behind m h end)) ≡ used (behind m h end)
+
+pub closing : (m : AddressMap) (h end : ℕ) → IsText (bytes_of m) h end (first_at m h ∷ behind m h end) → AreClosed m h end
+closing m h end is =
+    let length_is : end ≡ h + (taken (first_at m h).size + used (behind m h end)) = is.length in
+    let last : is_mapped m (end - 1) ≡ true = is.mapped (end - 1) (omega arith) (omega arith) in
+    let first : IsFirst (bytes_of m) h end (first_at m h) (behind m h end) = text_first (bytes_of m) h end (first_at m h) (behind m h end) is in
+    record {
+      may = record {
+        words = words_within (is_mapped m) h end h (h + used (behind m h end)) (behind m h end) (omega arith) (omega arith) is.words.1;
+        there = λ a low high. is.mapped a (omega arith) (omega arith);
+      };
+      whole = is.whole.1;
+      fits = omega arith;
+      low = omega (arith, mapped_below m (end - 1) last);
+      used_is = omega arith;
+      aligned = is.aligned;
+      held = first.spelled.rest;
+      text_is = text_used (behind m h end) is.whole.1;
+    }
+
+pub closed_text : (m m1 m3 : AddressMap) (h end next : ℕ) → AreClosed m h end → next ≡ h + taken (first_at m h).size → byte_at m1 ≡ byte_at m
+    → ((a : ℕ) → byte_at m3 a ≡ with_moved_at (byte_at m1) next h (end - next) a)
+    → (a : ℕ) → byte_at m3 a ≡ with_bytes_at (byte_at m) h (text_of (behind m h end)) a
+closed_text m m1 m3 h end next c next_is same moved =
+    let size : length (text_of (behind m h end)) ≡ end - next = c.text_is ∙ c.used_is ∙ ap (λ (n : ℕ). end - n) (sym next_is) in
+    closed (byte_at m) (byte_at m3) h next (end - next) (text_of (behind m h end)) size (rw next_is c.held)
+    (λ a. moved a ∙ ap (λ (f : ℕ → ℕ). with_moved_at f next h (end - next) a) same)
+
+-- a text's bytes were written, and it can be settled
+pub record IsWrittenText (m n : AddressMap) (h end : ℕ) (news : List Block) : Type 0 where
+  pub bytes : (a : ℕ) → byte_at n a ≡ with_bytes_at (byte_at m) h (text_of news) a
+  pub text : IsText (bytes_of n) h end news
+
+pub closed_step : (m m1 m3 : AddressMap) (h end total : ℕ) → IsText (bytes_of m) h end (first_at m h ∷ behind m h end)
+    → total ≡ taken (first_at m h).size → byte_at m1 ≡ byte_at m → layout m3 ≡ layout m
+    → ((a : ℕ) → byte_at m3 a ≡ with_moved_at (byte_at m1) (h + total) h (end - (h + total)) a)
+    → IsWrittenText m m3 h (h + (end - (h + total))) (behind m h end)
+closed_step m m1 m3 h end total is size same kept moved =
+    let k : AreClosed m h end = closing m h end is in
+    let next_is : h + total ≡ h + taken (first_at m h).size = ap (λ (n : ℕ). h + n) size in
+    let bytes : (a : ℕ) → byte_at m3 a ≡ with_bytes_at (byte_at m) h (text_of (behind m h end)) a = closed_text m m1 m3 h end (h + total) k next_is same moved in
+    let end_is : h + (end - (h + total)) ≡ h + used (behind m h end) = ap (λ (n : ℕ). h + (end - n)) next_is ∙ ap (λ (n : ℕ). h + n) (sym k.used_is) in
+    record { bytes = bytes; text = settled_text m m3 h (h + (end - (h + total))) (behind m h end) k.whole k.may k.aligned kept bytes end_is }
+
+pub replaced_step : (m m1 m2 m3 : AddressMap) (h end size new old_total new_total at cut more : ℕ)
+    → IsText (bytes_of m) h end (first_at m h ∷ behind m h end) → at ≤ (first_at m h).size
+    → MayLie m h (holding (first_at m h) (spliced (contents (first_at m h)) at cut more) ∷ behind m h end)
+    → size ≡ (first_at m h).size → new ≡ at - cut + more + (size - at) → old_total ≡ taken size → new_total ≡ taken new
+    → byte_at m1 ≡ byte_at m → layout m3 ≡ layout m
+    → ((a : ℕ) → byte_at m2 a ≡ with_bytes_at (byte_at m1) (h + 8) (filled (spliced (bytes_between (byte_at m1) (h + 8) size) at cut more)
+    ++ bytes_between (byte_at m1) (h + 8 + whole_words size) (end - (h + 8 + whole_words size))) a)
+    → ((a : ℕ) → byte_at m3 a ≡ with_word_at (byte_at m2) (h + 4) new a)
+    → IsWrittenText m m3 h (h + new_total + (end - (h + old_total))) (holding (first_at m h) (spliced (contents (first_at m h)) at cut more) ∷ behind m h end)
+replaced_step m m1 m2 m3 h end size new old_total new_total at cut more is inside may size_is new_is old_is total_is same kept h2 h3 =
+    let b : Block = first_at m h in
+    let xs : List ℕ = spliced (contents b) at cut more in
+    let k : AreNumbers m h end at cut more = numbers m h end at cut more is inside may in
+    let bytes : (a : ℕ) → byte_at m3 a ≡ with_bytes_at (byte_at m) h (text_of (holding b xs ∷ behind m h end)) a =
+    replaced_text m (byte_at m1) (byte_at m2) (byte_at m3) h end size new at cut more is inside size_is new_is same h2 h3 in
+    let count : new ≡ length xs = new_is ∙ ap (λ (n : ℕ). at - cut + more + (n - at)) size_is ∙ sym k.new in
+    let total : new_total ≡ taken (length xs) = total_is ∙ ap taken count in
+    let old : old_total ≡ taken b.size = old_is ∙ ap taken size_is in
+    let behind_is : used (behind m h end) ≡ end - (h + taken b.size) = k.used_is in
+    let end_is : h + new_total + (end - (h + old_total)) ≡ h + (taken (length xs) + used (behind m h end)) =
+    rw (total, old, ← behind_is) (omega arith) in
+    record {
+      bytes = bytes;
+      text = settled_text m m3 h (h + new_total + (end - (h + old_total))) (holding b xs ∷ behind m h end) (replaced_whole m h end at cut more is k) may is.aligned kept bytes end_is;
+    }
+
+-- a block of zeros behind all others
+pub new_whole : (m : AddressMap) (h anchor size : ℕ) → size < 2 ^ 32 → AreWhole (new_block anchor size ∷ [])
+new_whole m h anchor size fits = ((length-replicate {A = ℕ} (whole_words size) 0, fits), tt)
+
+pub appended_step : (m m1 m2 m3 : AddressMap) (h anchor size words total : ℕ) → size < 2 ^ 32 → h % 4 ≡ 0 → MayLie m h (new_block anchor size ∷ [])
+    → words ≡ whole_words size → total ≡ taken size → layout m3 ≡ layout m
+    → ((a : ℕ) → byte_at m1 a ≡ with_word_at (byte_at m) h anchor a) → ((a : ℕ) → byte_at m2 a ≡ with_word_at (byte_at m1) (h + 4) size a)
+    → ((a : ℕ) → byte_at m3 a ≡ with_zeros_at (byte_at m2) (h + 8) words a)
+    → IsWrittenText m m3 h (h + total) (new_block anchor size ∷ [])
+appended_step m m1 m2 m3 h anchor size words total fits aligned may words_is total_is kept h1 h2 h3 =
+    let bytes : (a : ℕ) → byte_at m3 a ≡ with_bytes_at (byte_at m) h (text_of (new_block anchor size ∷ [])) a =
+    appended (byte_at m) (byte_at m1) (byte_at m2) (byte_at m3) h anchor size (whole_words size) h1 h2
+    (λ a. h3 a ∙ ap (λ (n : ℕ). with_zeros_at (byte_at m2) (h + 8) n a) words_is) in
+    let end_is : h + total ≡ h + (taken size + 0) = omega arith in
+    record { bytes = bytes; text = settled_text m m3 h (h + total) (new_block anchor size ∷ []) (new_whole m h anchor size fits) may aligned kept bytes end_is }

@@ -1,0 +1,100 @@
+-- The store as it begins.
+use Rattle.std.proofs.Common.{◌≡◌, ℕ, Bool, ◌+◌, ◌-◌, ◌%◌, ◌^◌, ◌<◌, ◌≤◌, ◌&&◌, not, true, false, nat_eq, nat_lt, List, [], ◌∷◌, length, Option, Some, is_some, arith, refl, sym, ◌∙◌, ap, subst, ◌↔◌}
+use Rattle.std.proofs.lemmas.Bool.{and_parts, eqb-true, eq-eqb, ltb-true, lt-ltb}
+use Rattle.os_heap.proofs.Added.{are_mapped_all, are_mapped_from}
+use Rattle.os_heap.specs.Ranges.{are_mapped}
+use Rattle.address_map.proofs.Spans.{mapped_below}
+use Rattle.address_map.specs.Bytes.{AreMapped}
+use Rattle.address_map.specs.Memory.{byte_at, bytes_of, class_of, is_mapped, mapping, Mapping, regions}
+use Rattle.address_map.specs.Classes.{is_anchor}
+use Rattle.address_map.specs.Records.{meets_record}
+use Rattle.address_map.specs.declared.class.Class.{Class}
+use Rattle.address_map.specs.declared.map.AddressMap.{AddressMap}
+use Rattle.address_map.specs.declared.region.Region.{Region}
+use Rattle.flex_store.specs.declared.flex.Extent.{Extent}
+use Rattle.flex_store.specs.Blocks.{Block, used}
+use Rattle.flex_store.specs.Calls.{is_flex_range}
+use Rattle.flex_store.specs.Memory.{blocks_in}
+use Rattle.flex_store.specs.State.{IsFlexRange, IsFlexStore, IsNoFlex, IsStoreAt, blocks_of, held_in, is_flex_header}
+
+pub record IsGoodRange (mapped : ℕ → Bool) (start end : ℕ) : Type 0 where
+  pub start_aligned : start % 4 ≡ 0
+  pub end_aligned : end % 4 ≡ 0
+  pub some : start < end
+  pub there : AreMapped mapped start (end - start)
+
+pub good_range : (mapped : ℕ → Bool) (rs : List Region) (start end : ℕ) → is_flex_range mapped rs start end ≡ true → IsGoodRange mapped start end
+unfolding is_flex_range
+good_range mapped rs start end is =
+    let clear : Bool = not (meets_record rs start (end - start)) in
+    let one = and_parts (nat_eq (start % 4) 0 && nat_eq (end % 4) 0) (nat_lt start end && (are_mapped mapped start (end - start) && clear)) is in
+    let two = and_parts (nat_eq (start % 4) 0) (nat_eq (end % 4) 0) one.0 in
+    let three = and_parts (nat_lt start end) (are_mapped mapped start (end - start) && clear) one.1 in
+    let four = and_parts (are_mapped mapped start (end - start)) clear three.1 in
+    record {
+      start_aligned = eqb-true (start % 4) 0 two.0;
+      end_aligned = eqb-true (end % 4) 0 two.1;
+      some = ltb-true start end three.0;
+      there = are_mapped_all mapped start (end - start) four.0;
+    }
+
+pub range_low : (m : AddressMap) (start end : ℕ) → IsGoodRange (is_mapped m) start end → end ≤ 2 ^ 26
+range_low m start end g =
+    let some : start < end = g.some in
+    omega (arith, mapped_below m (end - 1) (g.there (end - 1) (omega arith) (omega arith)))
+
+abbrev pub empty_extent : ℕ → ℕ → Extent
+empty_extent start end = record { start = start; end = end; used = 0 }
+
+pub no_blocks : (f : ℕ → ℕ) (start : ℕ) → blocks_in f start (start + 0) ≡ []
+unfolding blocks_in
+no_blocks f start =
+    let none : start + 0 - start ≡ 0 = omega arith in
+    rw none refl
+
+pub mapped_same : (m n : AddressMap) → mapping n ≡ mapping m → is_mapped n ≡ is_mapped m
+mapped_same m n same = ap (λ (p : Mapping). λ (a : ℕ). is_some (p.place a)) same
+
+pub starts_empty : (m n : AddressMap) (rs : List Region) (start end : ℕ) → IsNoFlex m → is_flex_range (is_mapped m) rs start end ≡ true
+    → mapping n ≡ mapping m → class_of n ≡ class_of m → IsStoreAt n (empty_extent start end)
+starts_empty m n rs start end none is same marks =
+    let g : IsGoodRange (is_mapped m) start end = good_range (is_mapped m) rs start end is in
+    let mapped : is_mapped n ≡ is_mapped m = mapped_same m n same in
+    let some : start < end = g.some in
+    let empty : blocks_of n (empty_extent start end) ≡ [] = no_blocks (byte_at n) start in
+    record {
+      store = subst (λ (l : List Block). IsFlexStore n start end l) (sym empty) (record {
+        range = record {
+          start_aligned = g.start_aligned;
+          end_aligned = g.end_aligned;
+          there = λ a low high. ap (λ (p : ℕ → Bool). p a) mapped ∙ g.there a low high;
+        };
+        fits = omega arith;
+        whole = tt;
+        words = tt;
+        text = λ k below. absurd (omega arith);
+        anchored = tt;
+        headers = λ a. ap (λ (c : ℕ → Class). is_flex_header (c a)) marks ∙ none.headers a;
+        anchors = λ a. ap (λ (c : ℕ → Class). is_anchor (c a)) marks ∙ none.anchors a;
+      });
+      used_is = ap used empty;
+    }
+
+pub begins_state : (m n : AddressMap) (start end : ℕ) → mapping n ≡ mapping m → byte_at n ≡ byte_at m
+    → held_in n (empty_extent start end) ≡ record { bytes = bytes_of m; flex = Some (record { start = start; end = end; blocks = [] }) }
+begins_state m n start end same bytes =
+    let empty : blocks_of n (empty_extent start end) ≡ [] = no_blocks (byte_at n) start in
+    λ i. record { bytes = record { mapped = mapped_same m n same i; at = bytes i }; flex = Some (record { start = start; end = end; blocks = empty i }) }
+
+same_tests : (t u : Bool) → (t ≡ true → u ≡ true) → (u ≡ true → t ≡ true) → t ≡ u
+same_tests true u f g = sym (f refl)
+same_tests false true f g = g refl
+same_tests false false f g = refl
+
+pub range_tested : (mapped : ℕ → Bool) (rs : List Region) (start end : ℕ) (all met : Bool) → start % 4 ≡ 0 → end % 4 ≡ 0 → start < end
+    → ((all ≡ true) ↔ AreMapped mapped start (end - start)) → met ≡ meets_record rs start (end - start) → (all && not met) ≡ is_flex_range mapped rs start end
+unfolding is_flex_range
+range_tested mapped rs start end all met aligned whole some tested met_is =
+    rw (eq-eqb (start % 4) 0 aligned, eq-eqb (end % 4) 0 whole, lt-ltb start end some, ← met_is)
+    (ap (λ (t : Bool). t && not met) (same_tests all (are_mapped mapped start (end - start))
+    (λ e. are_mapped_from mapped start (end - start) (tested.0 e)) (λ e. tested.1 (are_mapped_all mapped start (end - start) e))))

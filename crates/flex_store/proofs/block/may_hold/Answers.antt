@@ -1,0 +1,44 @@
+use Rattle.std.proofs.Common.{ℕ, ◌≡◌, ◌+◌, ◌*◌, ◌-◌, ◌%◌, Bool, ◌&&◌, not, List, arith, ap, refl, ◌∙◌, sym}
+use Rattle.std.specs.List.{list_any}
+use Rattle.address_map.specs.Bytes.{meets}
+use Rattle.address_map.specs.Memory.{regions}
+use Rattle.address_map.specs.Records.{is_heap_kind}
+use Rattle.address_map.specs.declared.region.Region.{Region}
+use Rattle.os_heap.specs.Store.{store_of}
+use Rattle.flex_store.specs.Calls.{is_anchor_place, is_in_store}
+use Rattle.flex_store.specs.State.{store_in}
+use Rattle.flex_store.proofs.Allocating.{place_tested, place_unaligned}
+use Rattle.flex_store.proofs.block.may_hold.Goals as goal
+
+abbrev met_in : ℕ → List Region → Bool
+met_in anchor rs = list_any (λ r. not (is_heap_kind r.kind) && meets anchor 4 r.at r.len) rs
+
+pub returns-then-anchor-ne0 : goal.returns-then-anchor-ne0
+returns-then-anchor-ne0 c = place_unaligned c.args.map.now c.args.anchor (is_in_store (store_in c.args.map.now c.args.extent.now) c.args.anchor) c.if-anchor-ne0.true
+
+pub returns-then-not-maps : goal.returns-then-not-maps
+returns-then-not-maps c =
+    let m = c.args.map.now in
+    let inside : Bool = is_in_store (store_in m c.args.extent.now) c.args.anchor in
+    let met : Bool = met_in c.args.anchor (regions m) in
+    sym (ap (λ (t : Bool). t && (not met && not inside)) c.if-not-maps.true)
+    ∙ place_tested m c.args.anchor c.maps.result met inside (omega arith) c.requires.payload c.maps.ensures refl
+
+pub returns-then-meets_other : goal.returns-then-meets_other
+returns-then-meets_other c =
+    let m = c.args.map.now in
+    let inside : Bool = is_in_store (store_in m c.args.extent.now) c.args.anchor in
+    let met : Bool = c.meets_other.result in
+    sym (ap (λ (t : Bool). t && (not met && not inside)) c.if-not-maps.false ∙ ap (λ (t : Bool). not t && not inside) c.if-meets_other.true)
+    ∙ place_tested m c.args.anchor c.maps.result met inside (omega arith) c.requires.payload c.maps.ensures
+    (c.meets_other.ensures ∙ ap (λ (rs : List Region). met_in c.args.anchor rs) c.regions.ensures)
+
+pub returns : goal.returns
+returns c =
+    let m = c.args.map.now in
+    let inside : Bool = c.is_met.result in
+    let met : Bool = c.meets_other.result in
+    sym (ap (λ (t : Bool). t && (not met && not inside)) c.if-not-maps.false ∙ ap (λ (t : Bool). not t && not inside) c.if-meets_other.false)
+    ∙ (place_tested m c.args.anchor c.maps.result met inside (omega arith) c.requires.payload c.maps.ensures
+    (c.meets_other.ensures ∙ ap (λ (rs : List Region). met_in c.args.anchor rs) c.regions.ensures)
+    ∙ ap (λ (t : Bool). is_anchor_place (store_of m) c.args.anchor && not t) c.is_met.ensures)

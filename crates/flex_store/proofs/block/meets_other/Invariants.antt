@@ -1,0 +1,8 @@
+use Rattle.std.proofs.Common.{◌≡◌, false, take, ◌&&◌, not}
+use Rattle.std.specs.List.{list_any}
+use Rattle.address_map.specs.Bytes.{meets}
+use Rattle.address_map.specs.Records.{is_heap_kind}
+use Rattle.flex_store.proofs.block.meets_other.Given as goal
+
+abbrev pub invariant-loop-region : goal.invariant-loop-region
+invariant-loop-region l = list_any (λ r. not (is_heap_kind r.kind) && meets l.at 4 r.at r.len) (take l.region-index l.regions) ≡ false

@@ -1,0 +1,67 @@
+use Rattle.std.proofs.Common.{ℕ, Bool, ◌≡◌, ◌-◌, arith, refl, ap, ◌∙◌}
+use Rattle.address_map.proofs.Bytes.{is_mapped-layout}
+use Rattle.address_map.specs.Bytes.{with_word_at}
+use Rattle.address_map.specs.declared.class.Class.{Class}
+use Rattle.flex_store.specs.Blocks.{taken}
+use Rattle.flex_store.specs.Relaid.{first_at}
+use Rattle.flex_store.proofs.Finding.{header_word, placed}
+use Rattle.flex_store.proofs.Releasing.{IsCleared, anchor_word, release_gets, release_gives, release_keeps, removes_text}
+use Rattle.flex_store.proofs.block.release_block.Goals as goal
+
+pub overflow_add-header : goal.overflow_add-header
+overflow_add-header c = omega (arith, (header_word c.args.map.now c.args.extent.now c.args.anchor c.in-Some.header c.requires c.in-Some.ensures).low)
+
+pub word-size-requires-clause-aligned : goal.word-size-requires-clause-aligned
+word-size-requires-clause-aligned c = (header_word c.args.map.now c.args.extent.now c.args.anchor c.in-Some.header c.requires c.in-Some.ensures).aligned
+
+pub word-size-requires-clause-mapped : goal.word-size-requires-clause-mapped
+word-size-requires-clause-mapped c = (header_word c.args.map.now c.args.extent.now c.args.anchor c.in-Some.header c.requires c.in-Some.ensures).there
+
+pub clear_mark-requires-clause-aligned : goal.clear_mark-requires-clause-aligned
+clear_mark-requires-clause-aligned c = (anchor_word c.args.map.now c.args.extent.now c.args.anchor c.in-Some.header c.in-Some.ensures.split.before (placed c.args.map.now c.args.extent.now c.args.anchor c.in-Some.header c.requires c.in-Some.ensures)).aligned
+
+pub clear_mark-requires-clause-mapped : goal.clear_mark-requires-clause-mapped
+clear_mark-requires-clause-mapped c = (anchor_word c.args.map.now c.args.extent.now c.args.anchor c.in-Some.header c.in-Some.ensures.split.before (placed c.args.map.now c.args.extent.now c.args.anchor c.in-Some.header c.requires c.in-Some.ensures)).there
+
+pub put_word-requires-clause-aligned : goal.put_word-requires-clause-aligned
+put_word-requires-clause-aligned c = (anchor_word c.args.map.now c.args.extent.now c.args.anchor c.in-Some.header c.in-Some.ensures.split.before (placed c.args.map.now c.args.extent.now c.args.anchor c.in-Some.header c.requires c.in-Some.ensures)).aligned
+
+pub put_word-requires-clause-mapped : goal.put_word-requires-clause-mapped
+put_word-requires-clause-mapped c =
+    ap (λ (p : ℕ → Bool). p c.args.anchor) (is_mapped-layout c.args.map.now c.clear_mark.new.map c.clear_mark.ensures.layout) ∙ (anchor_word c.args.map.now c.args.extent.now c.args.anchor c.in-Some.header c.in-Some.ensures.split.before (placed c.args.map.now c.args.extent.now c.args.anchor c.in-Some.header c.requires c.in-Some.ensures)).there
+
+pub remove-requires : goal.remove-requires
+remove-requires c =
+    let k : IsCleared c.args.map.now c.put_word.new.self c.args.anchor = (record { bytes = λ a. c.put_word.ensures.bytes a ∙ ap (λ (h : ℕ → ℕ). with_word_at h c.args.anchor 0 a) c.clear_mark.ensures.bytes; marks = λ a. ap (λ (h : ℕ → Class). h a) c.put_word.ensures.marks ∙ c.clear_mark.ensures.marks a; same = c.put_word.ensures.layout ∙ c.clear_mark.ensures.layout }) in
+    removes_text c.args.map.now c.put_word.new.self c.args.extent.now c.args.anchor c.in-Some.header c.in-Some.ensures.split.before (placed c.args.map.now c.args.extent.now c.args.anchor c.in-Some.header c.requires c.in-Some.ensures) k
+
+pub overflow_cast-extent : goal.overflow_cast-extent
+overflow_cast-extent c =
+    let w = (header_word c.args.map.now c.args.extent.now c.args.anchor c.in-Some.header c.requires c.in-Some.ensures) in
+    let p = (placed c.args.map.now c.args.extent.now c.args.anchor c.in-Some.header c.requires c.in-Some.ensures) in
+    let size : c.taken.result ≡ taken (first_at c.args.map.now c.in-Some.header).size = c.taken.ensures ∙ ap taken (c.from.ensures ∙ c.word-size.ensures) in
+    omega (arith, w.fits, p.low, p.total, p.store.fits)
+
+pub overflow_sub-extent : goal.overflow_sub-extent
+overflow_sub-extent c =
+    let w = (header_word c.args.map.now c.args.extent.now c.args.anchor c.in-Some.header c.requires c.in-Some.ensures) in
+    let size : c.taken.result ≡ taken (first_at c.args.map.now c.in-Some.header).size = c.taken.ensures ∙ ap taken (c.from.ensures ∙ c.word-size.ensures) in
+    omega (arith, w.fits)
+
+pub returns-clause-state : goal.returns-clause-state
+returns-clause-state c =
+    let e = c.args.extent.now in
+    let k : IsCleared c.args.map.now c.put_word.new.self c.args.anchor = (record { bytes = λ a. c.put_word.ensures.bytes a ∙ ap (λ (h : ℕ → ℕ). with_word_at h c.args.anchor 0 a) c.clear_mark.ensures.bytes; marks = λ a. ap (λ (h : ℕ → Class). h a) c.put_word.ensures.marks ∙ c.clear_mark.ensures.marks a; same = c.put_word.ensures.layout ∙ c.clear_mark.ensures.layout }) in
+    let size : c.taken.result ≡ taken (first_at c.args.map.now c.in-Some.header).size = c.taken.ensures ∙ ap taken (c.from.ensures ∙ c.word-size.ensures) in
+    release_gives c.args.map.now c.put_word.new.self c.remove.new.map e (record { start = e.start; end = e.end; used = e.used - c.taken.result }) c.args.anchor c.in-Some.header c.in-Some.ensures.split.before (placed c.args.map.now c.args.extent.now c.args.anchor c.in-Some.header c.requires c.in-Some.ensures) k
+    (release_gets c.args.map.now c.put_word.new.self c.remove.new.map e (record { start = e.start; end = e.end; used = e.used - c.taken.result }) c.args.anchor c.in-Some.header c.in-Some.ensures.split.before (placed c.args.map.now c.args.extent.now c.args.anchor c.in-Some.header c.requires c.in-Some.ensures) k
+    c.remove.ensures refl refl (ap (λ (n : ℕ). e.used - n) size))
+
+pub returns-clause-keeps : goal.returns-clause-keeps
+returns-clause-keeps c =
+    let e = c.args.extent.now in
+    let k : IsCleared c.args.map.now c.put_word.new.self c.args.anchor = (record { bytes = λ a. c.put_word.ensures.bytes a ∙ ap (λ (h : ℕ → ℕ). with_word_at h c.args.anchor 0 a) c.clear_mark.ensures.bytes; marks = λ a. ap (λ (h : ℕ → Class). h a) c.put_word.ensures.marks ∙ c.clear_mark.ensures.marks a; same = c.put_word.ensures.layout ∙ c.clear_mark.ensures.layout }) in
+    let size : c.taken.result ≡ taken (first_at c.args.map.now c.in-Some.header).size = c.taken.ensures ∙ ap taken (c.from.ensures ∙ c.word-size.ensures) in
+    release_keeps c.args.map.now c.put_word.new.self c.remove.new.map e (record { start = e.start; end = e.end; used = e.used - c.taken.result }) c.args.anchor c.in-Some.header c.in-Some.ensures.split.before (placed c.args.map.now c.args.extent.now c.args.anchor c.in-Some.header c.requires c.in-Some.ensures) k
+    (release_gets c.args.map.now c.put_word.new.self c.remove.new.map e (record { start = e.start; end = e.end; used = e.used - c.taken.result }) c.args.anchor c.in-Some.header c.in-Some.ensures.split.before (placed c.args.map.now c.args.extent.now c.args.anchor c.in-Some.header c.requires c.in-Some.ensures) k
+    c.remove.ensures refl refl (ap (λ (n : ℕ). e.used - n) size))

@@ -1,0 +1,9 @@
+pub mod Blocks
+pub mod Calls
+pub mod Changes
+pub mod Marks
+pub mod Memory
+pub mod Places
+pub mod Relaid
+pub mod Splices
+pub mod State

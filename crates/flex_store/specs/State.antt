@@ -1,0 +1,118 @@
+-- What an address map and a `Flex` stand for, and what holds of them whatever is called.
+use Rattle.std.specs.Prelude.{ℕ, ◌≡◌, ◌≢◌, ◌≤◌, ◌<◌, ◌⊎◌, ◌^◌, Bool, true, false, ◌+◌, ◌-◌, ◌%◌, List, [], ◌∷◌, length, Option, Some, None}
+use Rattle.address_map.specs.declared.class.Class.{Class}
+use Rattle.address_map.specs.declared.class.Class.TheVariants as class
+use Rattle.address_map.specs.declared.map.AddressMap.{AddressMap}
+use Rattle.address_map.specs.Bytes.{Bytes, AreMapped, word_start}
+use Rattle.address_map.specs.Classes.{is_anchor}
+use Rattle.address_map.specs.Memory.{byte_at, bytes_of, class_of, is_mapped, layout}
+use Rattle.flex_store.specs.declared.flex.Extent.{Extent}
+use Rattle.flex_store.specs.declared.flex.Flex.{Flex}
+use Rattle.flex_store.specs.Blocks.{Block, FlexStore, used, whole_words, has_anchor, is_header}
+use Rattle.flex_store.specs.Memory.{Holds, AreAnchored, blocks_in, text_of}
+use Rattle.flex_store.specs.Calls.{FlexState}
+
+-- the flex store that the words of memory spell in a range
+abbrev pub blocks_of : AddressMap → Extent → List Block
+blocks_of m e = blocks_in (byte_at m) e.start (e.start + e.used)
+
+abbrev pub flex_in : AddressMap → Option Extent → Option FlexStore
+flex_in m None = None
+flex_in m (Some e) = Some (record { start = e.start; end = e.end; blocks = blocks_of m e })
+
+abbrev pub store_in : AddressMap → Extent → FlexStore
+store_in m e = record { start = e.start; end = e.end; blocks = blocks_of m e }
+
+-- memory with the store in a range
+abbrev pub held_in : AddressMap → Extent → FlexState
+held_in m e = record { bytes = bytes_of m; flex = Some (record { start = e.start; end = e.end; blocks = blocks_of m e }) }
+
+unfoldable pub state_of : AddressMap → Flex → FlexState
+state_of m f = record { bytes = bytes_of m; flex = flex_in m f.extent }
+
+abbrev pub is_heap_class : Class → Bool
+is_heap_class class.Heap = true
+is_heap_class other = false
+
+abbrev pub is_flex_header : Class → Bool
+is_flex_header class.FlexHeader = true
+is_flex_header other = false
+
+-- A block has as many bytes as its size says, filled up to whole words, and its size is a word.
+abbrev pub AreWhole : List Block → Type 0
+AreWhole [] = Unit {0}
+AreWhole (b ∷ bs) = ((length b.bytes ≡ whole_words b.size) × (b.size < 2 ^ 32)) × AreWhole bs
+
+-- Each anchor is a mapped word outside the range from `start` to `end`, and no two blocks have the same.
+pub record IsAnchorWord (mapped : ℕ → Bool) (start end a : ℕ) : Type 0 where
+  pub aligned : a % 4 ≡ 0
+  pub there : mapped a ≡ true
+  pub low : a < 2 ^ 26
+  pub outside : (a + 4 ≤ start) ⊎ (end ≤ a)
+
+abbrev pub AreAnchorWords : (ℕ → Bool) → ℕ → ℕ → List Block → Type 0
+AreAnchorWords mapped start end [] = Unit {0}
+AreAnchorWords mapped start end (b ∷ bs) =
+    (IsAnchorWord mapped start end b.anchor × (has_anchor bs b.anchor ≡ false)) × AreAnchorWords mapped start end bs
+
+-- Memory spells these blocks from `at` up to `end`, and their anchors lie outside this range.
+pub record IsText (b : Bytes) (at end : ℕ) (blocks : List Block) : Type 0 where
+  pub whole : AreWhole blocks
+  pub words : AreAnchorWords b.mapped at end blocks
+  pub text : Holds b.at at (text_of blocks)
+  pub length : end ≡ at + used blocks
+  pub aligned : at % 4 ≡ 0
+  pub mapped : AreMapped b.mapped at (used blocks)
+
+-- The range has whole words, all mapped.
+pub record IsFlexRange (mapped : ℕ → Bool) (start end : ℕ) : Type 0 where
+  pub start_aligned : start % 4 ≡ 0
+  pub end_aligned : end % 4 ≡ 0
+  pub there : AreMapped mapped start (end - start)
+
+-- Memory spells these blocks from the store's start on; their anchors hold the addresses of their bytes; and just the words of their headers and
+-- their anchors are marked as such.
+pub record IsFlexStore (m : AddressMap) (start end : ℕ) (blocks : List Block) : Type 0 where
+  pub range : IsFlexRange (is_mapped m) start end
+  pub fits : start + used blocks ≤ end
+  pub whole : AreWhole blocks
+  pub words : AreAnchorWords (is_mapped m) start end blocks
+  pub text : Holds (byte_at m) start (text_of blocks)
+  pub anchored : AreAnchored (byte_at m) start blocks
+  pub headers : (a : ℕ) → is_flex_header (class_of m a) ≡ is_header start blocks (word_start a)
+  pub anchors : (a : ℕ) → is_anchor (class_of m a) ≡ has_anchor blocks (word_start a)
+
+-- before `init` no word is marked so
+pub record IsNoFlex (m : AddressMap) : Type 0 where
+  pub headers : (a : ℕ) → is_flex_header (class_of m a) ≡ false
+  pub anchors : (a : ℕ) → is_anchor (class_of m a) ≡ false
+
+pub record IsStoreAt (m : AddressMap) (e : Extent) : Type 0 where
+  pub store : IsFlexStore m e.start e.end (blocks_of m e)
+  pub used_is : used (blocks_of m e) ≡ e.used
+
+abbrev pub IsFlexAt : AddressMap → Option Extent → Type 0
+IsFlexAt m None = IsNoFlex m
+IsFlexAt m (Some e) = IsStoreAt m e
+
+-- What holds of memory and the flex store, whatever is called.
+abbrev pub IsFlex : AddressMap → Flex → Type 0
+IsFlex m f = IsFlexAt m f.extent
+
+-- no head of a heap lies in the store
+abbrev pub HasNoHead : AddressMap → Option Extent → Type 0
+HasNoHead m None = Unit {0}
+HasNoHead m (Some e) = (a : ℕ) → e.start ≤ a → a < e.end → is_heap_class (class_of m a) ≡ false
+
+-- The words of heaps are what they were, and just they are marked as such.
+pub record KeepsHeads (m n : AddressMap) : Type 0 where
+  pub bytes : (a : ℕ) → is_heap_class (class_of m a) ≡ true → byte_at n a ≡ byte_at m a
+  pub classes : (a : ℕ) → is_heap_class (class_of n a) ≡ is_heap_class (class_of m a)
+
+-- What each call on a store keeps.
+pub record Keeps (m : AddressMap) (e : Extent) (n : AddressMap) (f : Extent) : Type 0 where
+  pub store : IsStoreAt n f
+  pub same : layout n ≡ layout m
+  pub heads : HasNoHead m (Some e) → KeepsHeads m n
+  pub start : f.start ≡ e.start
+  pub end : f.end ≡ e.end

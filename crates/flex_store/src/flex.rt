@@ -1,0 +1,243 @@
+ghost use Rattle.std.specs.Prelude.{◌≡◌, ◌<◌, ◌++◌, ◌∷◌, [], true, false, Some, None, MatchOption, MatchResult, length};
+ghost use Rattle.std.specs.List.{list_any};
+ghost use Rattle.profile.specs.Outcome.{Gives};
+ghost use Rattle.os_heap.specs.Store.{store_of};
+ghost use Rattle.address_map.specs.Memory.{bytes_of, class_of, is_mapped, layout, mapping, regions};
+ghost use Rattle.flex_store.specs.Calls.{allocated, begun, extended, flex_record, is_flex_range, is_in_heap_alone, mid_extended, released, sized};
+ghost use Rattle.flex_store.specs.State.{held_in, is_heap_class, state_of, HasNoHead, IsFlex, IsNoFlex, IsStoreAt, KeepsHeads};
+
+use crate::block::{alloc_block, block_size, extend_block, mid_extend_block, release_block};
+use address_map::{AddressMap, Kind};
+use profile::ErrorNumber;
+
+/// The range of the flex store, in addresses, and how many bytes of it its blocks take up.
+#[derive(Clone, Copy, Debug, PartialEq, Eq)]
+pub(crate) struct Extent {
+    pub(crate) start: u32,
+    pub(crate) end: u32,
+    pub(crate) used: u32,
+}
+
+/// The flex store of a machine, none before `init`. Its blocks stand in memory alone, each behind a header.
+#[derive(Clone, Copy, Debug, Default)]
+pub struct Flex {
+    pub(crate) extent: Option<Extent>,
+}
+
+impl Flex {
+    /// No flex store, as a machine has at its start.
+    pub fn new() -> Flex
+        ensures { result.extent ≡ None }
+    {
+        Flex { extent: None }
+    }
+
+    /// Where the store starts and ends, and how many bytes its blocks take up, in bytes; `None` before `init`.
+    pub fn range(&self) -> Option<(u32, u32, u32)>
+        ensures { MatchOption result (self.now.extent ≡ None)
+            (λ r. self.now.extent ≡ Some (record { start = r.0; end = r.1; used = r.2 })) }
+    {
+        let extent = self.extent?;
+        Some((extent.start, extent.end, extent.used))
+    }
+
+    /// The size of an anchor's block, in bytes, without those that fill it up to whole words.
+    ///
+    /// # Errors
+    ///
+    /// `FlexNotReady` before `init`; `FlexBadAnchor` where no block has the anchor.
+    ///
+    /// Acorn C manual, "flex", flex_size.
+    #[tactic(auto, unfolding(crate::specs::Calls::sized, crate::specs::State::state_of))]
+    pub fn size(&self, map: &AddressMap, anchor: u32) -> Result<u32, ErrorNumber>
+        requires { IsFlex map.now self.now }
+        ensures { result ≡ sized (state_of map.now self.now) anchor }
+    {
+        let Some(extent) = self.extent else {
+            return Err(ErrorNumber::FlexNotReady);
+        };
+        block_size(map, &extent, anchor)
+    }
+
+    /// Makes the flex store of a range, without blocks.
+    ///
+    /// # Errors
+    ///
+    /// The first of these, and nothing is changed then: `FlexAlready` where there is a store; `FlexBadRange` where the addresses are no multiples of
+    /// 4, the start is not below the end, or not all of the range is mapped or it meets a recorded range.
+    ///
+    /// Acorn C manual, "flex", flex_init; that the caller names the range is this project's own.
+    #[tactic(auto, unfolding(crate::specs::State::state_of, crate::specs::Calls::begun))]
+    pub fn init(&mut self, map: &mut AddressMap, start: u32, end: u32) -> Result<(), ErrorNumber>
+        requires flex { IsFlex map.old self.old }
+        requires room { length (regions map.old) < 133 }
+        ensures state { Gives (state_of map.old self.old)
+            (begun (regions map.old) (state_of map.old self.old) start end) result (state_of map.new self.new) }
+        ensures flex { IsFlex map.new self.new }
+        ensures regions { MatchResult result
+            (λ _. regions map.new ≡ regions map.old ++ flex_record start end ∷ [])
+            (λ _. regions map.new ≡ regions map.old) }
+        ensures mapping { mapping map.new ≡ mapping map.old }
+        ensures marks { class_of map.new ≡ class_of map.old }
+    {
+        if self.extent.is_some() {
+            return Err(ErrorNumber::FlexAlready);
+        }
+        if !is_flex_range(map, start, end) {
+            return Err(ErrorNumber::FlexBadRange);
+        }
+        record_store(map, start, end);
+        self.extent = Some(Extent {
+            start,
+            end,
+            used: 0,
+        });
+        Ok(())
+    }
+
+    /// Makes a block of `size` zeros behind all others, and writes the address of its bytes to the anchor. The answer is false, and nothing is changed,
+    /// where the store has no room for it. Whether an anchor in a heap lies in a live block's payload is the caller's to test.
+    ///
+    /// # Errors
+    ///
+    /// The first of these, and nothing is changed then: `FlexNotReady` before `init`; `FlexBadAnchor` where the anchor is no multiple of 4, not mapped,
+    /// in the store, in a system page or in a module image; `FlexAnchorInUse` where a block has it.
+    ///
+    /// Acorn C manual, "flex", flex_alloc.
+    #[tactic(auto, unfolding(crate::specs::State::state_of, crate::specs::Calls::allocated))]
+    pub fn alloc(
+        &mut self,
+        map: &mut AddressMap,
+        anchor: u32,
+        size: u32,
+    ) -> Result<bool, ErrorNumber>
+        requires flex { IsFlex map.old self.old }
+        requires payload { list_any (is_in_heap_alone anchor) (store_of map.old).heaps ≡ false }
+        requires head { is_heap_class (class_of map.old anchor) ≡ false }
+        ensures state { Gives (state_of map.old self.old)
+            (allocated (store_of map.old) (state_of map.old self.old) anchor size) result (state_of map.new self.new) }
+        ensures flex { IsFlex map.new self.new }
+        ensures layout { layout map.new ≡ layout map.old }
+        ensures heads { HasNoHead map.old self.old.extent → KeepsHeads map.old map.new }
+    {
+        let Some(mut extent) = self.extent else {
+            return Err(ErrorNumber::FlexNotReady);
+        };
+        let answer = alloc_block(map, &mut extent, anchor, size);
+        self.extent = Some(extent);
+        answer
+    }
+
+    /// Takes an anchor's block away, and makes its anchor 0. The blocks behind it slide down, and their anchors follow.
+    ///
+    /// # Errors
+    ///
+    /// `FlexNotReady` before `init`; `FlexBadAnchor` where no block has the anchor. Nothing is changed then.
+    ///
+    /// Acorn C manual, "flex", flex_free.
+    #[tactic(auto, unfolding(crate::specs::State::state_of, crate::specs::Calls::released))]
+    pub fn release(&mut self, map: &mut AddressMap, anchor: u32) -> Result<(), ErrorNumber>
+        requires { IsFlex map.old self.old }
+        ensures state { Gives (state_of map.old self.old) (released (state_of map.old self.old) anchor) result (state_of map.new self.new) }
+        ensures flex { IsFlex map.new self.new }
+        ensures layout { layout map.new ≡ layout map.old }
+        ensures heads { HasNoHead map.old self.old.extent → KeepsHeads map.old map.new }
+    {
+        let Some(mut extent) = self.extent else {
+            return Err(ErrorNumber::FlexNotReady);
+        };
+        let answer = release_block(map, &mut extent, anchor);
+        self.extent = Some(extent);
+        answer
+    }
+
+    /// Gives an anchor's block another size: bytes at its end go, or zeros come there. The answer is false, and nothing is changed, where the store has
+    /// no room for it. A block whose size stays is as it was, with the bytes that fill it up to whole words.
+    ///
+    /// # Errors
+    ///
+    /// `FlexNotReady` before `init`; `FlexBadAnchor` where no block has the anchor. Nothing is changed then.
+    ///
+    /// Acorn C manual, "flex", flex_extend.
+    #[tactic(auto, unfolding(crate::specs::State::state_of, crate::specs::Calls::extended))]
+    pub fn extend(
+        &mut self,
+        map: &mut AddressMap,
+        anchor: u32,
+        size: u32,
+    ) -> Result<bool, ErrorNumber>
+        requires { IsFlex map.old self.old }
+        ensures state { Gives (state_of map.old self.old) (extended (state_of map.old self.old) anchor size) result (state_of map.new self.new) }
+        ensures flex { IsFlex map.new self.new }
+        ensures layout { layout map.new ≡ layout map.old }
+        ensures heads { HasNoHead map.old self.old.extent → KeepsHeads map.old map.new }
+    {
+        let Some(mut extent) = self.extent else {
+            return Err(ErrorNumber::FlexNotReady);
+        };
+        let answer = extend_block(map, &mut extent, anchor, size);
+        self.extent = Some(extent);
+        answer
+    }
+
+    /// Puts `by` zeros into an anchor's block before its byte `at`, or takes as many bytes before that one away where `by`, a signed word in two's
+    /// complement, is below 0. The answer is false, and nothing is changed, where the store has no room for it; a `by` of 0 changes nothing.
+    ///
+    /// # Errors
+    ///
+    /// The first of these, and nothing is changed then: `FlexNotReady` before `init`; `FlexBadRange` where more bytes would go than stand before
+    /// `at`; `FlexBadAnchor` where no block has the anchor; `FlexBadRange` where `at` is past the block's size.
+    ///
+    /// Acorn C manual, "flex", flex_midextend.
+    #[tactic(auto, unfolding(crate::specs::State::state_of, crate::specs::Calls::mid_extended))]
+    pub fn mid_extend(
+        &mut self,
+        map: &mut AddressMap,
+        anchor: u32,
+        at: u32,
+        by: u32,
+    ) -> Result<bool, ErrorNumber>
+        requires { IsFlex map.old self.old }
+        ensures state { Gives (state_of map.old self.old) (mid_extended (state_of map.old self.old) anchor at by) result (state_of map.new self.new) }
+        ensures flex { IsFlex map.new self.new }
+        ensures layout { layout map.new ≡ layout map.old }
+        ensures heads { HasNoHead map.old self.old.extent → KeepsHeads map.old map.new }
+    {
+        let Some(mut extent) = self.extent else {
+            return Err(ErrorNumber::FlexNotReady);
+        };
+        let answer = mid_extend_block(map, &mut extent, anchor, at, by);
+        self.extent = Some(extent);
+        answer
+    }
+}
+
+/// Whether the flex store may be made of a range: of whole words, mapped, and meeting no recorded range.
+#[tactic(auto, unfolding(crate::specs::Calls::is_flex_range))]
+fn is_flex_range(map: &AddressMap, start: u32, end: u32) -> bool
+    ensures { result ≡ is_flex_range (is_mapped map.now) (regions map.now) start end }
+{
+    if start % 4 != 0 || end % 4 != 0 || start >= end {
+        return false;
+    }
+    let len = end - start;
+    if !map.maps(start, len) {
+        return false;
+    }
+    !map.meets_record(start, len)
+}
+
+/// Records the range of the store.
+fn record_store(map: &mut AddressMap, start: u32, end: u32)
+    requires flex { IsNoFlex map.old }
+    requires range { is_flex_range (is_mapped map.old) (regions map.old) start end ≡ true }
+    requires room { length (regions map.old) < 133 }
+    ensures store { IsStoreAt map.new (record { start = start; end = end; used = 0 }) }
+    ensures state { held_in map.new (record { start = start; end = end; used = 0 })
+        ≡ record { bytes = bytes_of map.old; flex = Some (record { start = start; end = end; blocks = [] }) } }
+    ensures regions { regions map.new ≡ regions map.old ++ flex_record start end ∷ [] }
+    ensures mapping { mapping map.new ≡ mapping map.old }
+    ensures marks { class_of map.new ≡ class_of map.old }
+{
+    map.own(Kind::FlexStore, start, end - start);
+}

@@ -1,0 +1,11 @@
+//! The flex store: blocks that slide to fill its gaps, each behind an anchor that follows it.
+#![tactic(auto)]
+
+mod block;
+mod flex;
+mod marks;
+mod slide;
+mod splice;
+mod walk;
+
+pub use flex::Flex;

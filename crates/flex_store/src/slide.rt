@@ -1,0 +1,78 @@
+ghost use Rattle.std.specs.Prelude.{ℕ, ◌≡◌, ◌≤◌, ◌<◌, ◌+◌, ◌-◌, ◌%◌, ◌^◌, ◌++◌, [], ◌∷◌, true};
+ghost use Rattle.address_map.specs.Bytes.{AreMapped, bytes_between, with_bytes_at};
+ghost use Rattle.address_map.specs.Memory.{byte_at, bytes_of, class_of, is_mapped, layout};
+ghost use Rattle.flex_store.specs.Blocks.{contents, filled, holding, new_block, spliced, taken, whole_words};
+ghost use Rattle.flex_store.specs.Relaid.{behind, first_at, MayLie, Relaid};
+ghost use Rattle.flex_store.specs.Splices.{size_after, IsRest, IsSplice, HasRoom};
+ghost use Rattle.flex_store.specs.State.{IsText};
+
+use crate::splice::{Splice, splice_bytes};
+use crate::walk::{HEADER, SIZE, settle, taken, unmark, whole_words, word};
+use address_map::AddressMap;
+
+/// Changes a block's bytes, and moves those behind it, up to `end`, to where the block then ends.
+fn respace(map: &mut AddressMap, contents: u32, size: u32, splice: &Splice, end: u32)
+    requires splice { IsSplice splice.now size }
+    requires room { HasRoom (is_mapped map.old) contents size (size_after splice.now size) }
+    requires rest { IsRest (is_mapped map.old) (contents + whole_words size) (contents + whole_words (size_after splice.now size)) end }
+    ensures bytes { (a : ℕ) → byte_at map.new a ≡ with_bytes_at (byte_at map.old) contents
+        (filled (spliced (bytes_between (byte_at map.old) contents size) splice.now.at splice.now.cut splice.now.more)
+        ++ bytes_between (byte_at map.old) (contents + whole_words size) (end - (contents + whole_words size))) a }
+    ensures layout { layout map.new ≡ layout map.old }
+    ensures marks { class_of map.new ≡ class_of map.old }
+{
+    let old_end = contents + whole_words(u64::from(size)) as u32;
+    let new_end = contents + whole_words(splice.size_after(size)) as u32;
+    let len = end - old_end;
+    if new_end < old_end {
+        splice_bytes(map, contents, size, splice);
+        map.move_bytes(old_end, new_end, len);
+        return;
+    }
+    map.move_bytes(old_end, new_end, len);
+    splice_bytes(map, contents, size, splice);
+}
+
+/// Changes the bytes of the block whose header is at `header`. Those behind it, up to `end`, slide, and their anchors follow.
+pub(crate) fn replace(map: &mut AddressMap, header: u32, splice: &Splice, end: u32)
+    requires text { IsText (bytes_of map.old) header end (first_at map.old header ∷ behind map.old header end) }
+    requires splice { IsSplice splice.now (first_at map.old header).size }
+    requires room { MayLie map.old header (holding (first_at map.old header)
+        (spliced (contents (first_at map.old header)) splice.now.at splice.now.cut splice.now.more) ∷ behind map.old header end) }
+    ensures { Relaid map.old map.new header (first_at map.old header ∷ behind map.old header end)
+        (holding (first_at map.old header) (spliced (contents (first_at map.old header)) splice.now.at splice.now.cut splice.now.more)
+        ∷ behind map.old header end) }
+{
+    let size = word(map, header + SIZE);
+    let new_size = splice.size_after(size) as u32;
+    let next = header + taken(u64::from(size)) as u32;
+    let new_next = header + taken(u64::from(new_size)) as u32;
+    unmark(map, header, end);
+    respace(map, header + HEADER, size, splice, end);
+    map.put_word(header + SIZE, new_size);
+    settle(map, header, new_next + (end - next));
+}
+
+/// Takes the block whose header is at `header` out of the text. Those behind it, up to `end`, slide, and their anchors follow.
+pub(crate) fn remove(map: &mut AddressMap, header: u32, end: u32)
+    requires { IsText (bytes_of map.old) header end (first_at map.old header ∷ behind map.old header end) }
+    ensures { Relaid map.old map.new header (first_at map.old header ∷ behind map.old header end) (behind map.old header end) }
+{
+    let size = word(map, header + SIZE);
+    let next = header + taken(u64::from(size)) as u32;
+    unmark(map, header, end);
+    map.move_bytes(next, header, end - next);
+    settle(map, header, header + (end - next));
+}
+
+/// Makes a block of `size` zeros at `header`, behind all others.
+pub(crate) fn append(map: &mut AddressMap, header: u32, anchor: u32, size: u32)
+    requires aligned { header % 4 ≡ 0 }
+    requires room { MayLie map.old header (new_block anchor size ∷ []) }
+    ensures { Relaid map.old map.new header [] (new_block anchor size ∷ []) }
+{
+    map.put_word(header, anchor);
+    map.put_word(header + SIZE, size);
+    map.zero_bytes(header + HEADER, whole_words(u64::from(size)) as u32);
+    settle(map, header, header + taken(u64::from(size)) as u32);
+}

@@ -1,0 +1,45 @@
+ghost use Rattle.std.specs.Prelude.{ℕ, ◌≡◌, ◌≤◌, ◌<◌, ◌+◌, ◌-◌, ◌^◌, ◌++◌, ◌∷◌, true};
+ghost use Rattle.address_map.specs.Bytes.{AreMapped, bytes_between, with_bytes_at};
+ghost use Rattle.address_map.specs.Memory.{byte_at, class_of, is_mapped, layout};
+ghost use Rattle.flex_store.specs.Blocks.{filled, spliced, taken, whole_words};
+ghost use Rattle.flex_store.specs.Splices.{size_after, IsSplice, HasRoom};
+
+use crate::walk::{HEADER, taken, whole_words};
+use address_map::AddressMap;
+
+/// A change of a block's bytes: the `cut` bytes before `at` go, and `more` zeros come in their place.
+#[derive(Clone, Copy)]
+pub(crate) struct Splice {
+    pub(crate) at: u32,
+    pub(crate) cut: u32,
+    pub(crate) more: u32,
+}
+
+impl Splice {
+    /// The size of a block after it.
+    pub(crate) fn size_after(&self, size: u32) -> u64
+        requires { IsSplice self.now size }
+        ensures { result ≡ size_after self.now size }
+    {
+        u64::from(self.at - self.cut) + u64::from(self.more) + u64::from(size - self.at)
+    }
+}
+
+/// Changes a block's bytes, of which there are `size`. Those that fill it up to whole words become zero.
+pub(crate) fn splice_bytes(map: &mut AddressMap, contents: u32, size: u32, splice: &Splice)
+    requires splice { IsSplice splice.now size }
+    requires room { HasRoom (is_mapped map.old) contents size (size_after splice.now size) }
+    ensures bytes { (a : ℕ) → byte_at map.new a ≡ with_bytes_at (byte_at map.old) contents
+        (filled (spliced (bytes_between (byte_at map.old) contents size) splice.now.at splice.now.cut splice.now.more)) a }
+    ensures layout { layout map.new ≡ layout map.old }
+    ensures marks { class_of map.new ≡ class_of map.old }
+{
+    let gap = splice.at - splice.cut;
+    let tail = gap + splice.more;
+    let len = size - splice.at;
+    let new_size = tail + len;
+    map.move_bytes(contents + splice.at, contents + tail, len);
+    map.zero_bytes(contents + gap, splice.more);
+    let padding = whole_words(u64::from(new_size)) as u32 - new_size;
+    map.zero_bytes(contents + new_size, padding);
+}

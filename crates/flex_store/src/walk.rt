@@ -1,0 +1,80 @@
+ghost use Rattle.std.specs.Prelude.{ℕ, ◌≡◌, ◌≤◌, ◌<◌, ◌+◌, ◌%◌, ◌^◌, true};
+ghost use Rattle.address_map.specs.Bytes.{word_at};
+ghost use Rattle.address_map.specs.Memory.{byte_at, bytes_of, class_of, is_mapped, layout};
+ghost use Rattle.address_map.specs.declared.class.Class.TheVariants.{FlexHeader, Plain};
+ghost use Rattle.flex_store.specs.Blocks.{taken, whole_words};
+ghost use Rattle.flex_store.specs.Marks.{with_headers};
+ghost use Rattle.flex_store.specs.Memory.{blocks_in, with_anchors};
+ghost use Rattle.flex_store.specs.State.{IsText};
+
+use crate::marks::{clear_mark, mark};
+use address_map::{AddressMap, Kind};
+
+/// The bytes of a block's header: its anchor's address, and its size.
+pub(crate) const HEADER: u32 = 8;
+
+/// Where in a header the size stands.
+pub(crate) const SIZE: u32 = 4;
+
+/// The word at an address.
+#[tactic(auto, using(os_heap::proofs::Writing::word_mapped))]
+pub(crate) fn word(map: &AddressMap, at: u32) -> u32
+    requires aligned { at % 4 ≡ 0 }
+    requires mapped { is_mapped map.now at ≡ true }
+    ensures { result ≡ word_at (byte_at map.now) at }
+{
+    map.load_word(at).unwrap()
+}
+
+/// A number of bytes filled up to whole words.
+pub(crate) fn whole_words(size: u64) -> u64
+    requires { size < 2 ^ 33 }
+    ensures { result ≡ whole_words size }
+{
+    (size + 3) / 4 * 4
+}
+
+/// The bytes that a block of some size takes up, those of its header too.
+pub(crate) fn taken(size: u64) -> u64
+    requires { size < 2 ^ 33 }
+    ensures { result ≡ taken size }
+{
+    u64::from(HEADER) + whole_words(size)
+}
+
+/// Takes the marks off the headers of all blocks from `at` up to `end`.
+pub(crate) fn unmark(map: &mut AddressMap, at: u32, end: u32)
+    requires { IsText (bytes_of map.old) at end (blocks_in (byte_at map.old) at end) }
+    ensures bytes { byte_at map.new ≡ byte_at map.old }
+    ensures layout { layout map.new ≡ layout map.old }
+    ensures marks { (a : ℕ) → class_of map.new a
+        ≡ with_headers Plain at (blocks_in (byte_at map.old) at end) (class_of map.old) a }
+{
+    let mut header = at;
+    while header < end {
+        let size = word(map, header + SIZE);
+        clear_mark(map, Kind::FlexHeader, header);
+        clear_mark(map, Kind::FlexHeader, header + SIZE);
+        header += taken(u64::from(size)) as u32;
+    }
+}
+
+/// Marks the headers of all blocks from `at` up to `end`, and writes the address of its bytes to each block's anchor.
+pub(crate) fn settle(map: &mut AddressMap, at: u32, end: u32)
+    requires { IsText (bytes_of map.old) at end (blocks_in (byte_at map.old) at end) }
+    ensures bytes { (a : ℕ) → byte_at map.new a
+        ≡ with_anchors at (blocks_in (byte_at map.old) at end) (byte_at map.old) a }
+    ensures layout { layout map.new ≡ layout map.old }
+    ensures marks { (a : ℕ) → class_of map.new a
+        ≡ with_headers FlexHeader at (blocks_in (byte_at map.old) at end) (class_of map.old) a }
+{
+    let mut header = at;
+    while header < end {
+        let anchor = word(map, header);
+        let size = word(map, header + SIZE);
+        mark(map, Kind::FlexHeader, header);
+        mark(map, Kind::FlexHeader, header + SIZE);
+        map.put_word(anchor, header + HEADER);
+        header += taken(u64::from(size)) as u32;
+    }
+}
