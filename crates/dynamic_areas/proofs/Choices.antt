@@ -1,13 +1,13 @@
 -- What the searches over gaps, numbers and pages leave behind.
-use Rattle.std.proofs.Common.{◌≡◌, ℕ, ◌+◌, ◌-◌, ◌*◌, ◌/◌, ◌%◌, ◌<◌, ◌≤◌, ◌==◌, Bool, true, false, leb, List, [], ◌∷◌, suc, zero, refl, sym, subst, ◌∙◌, Some, None, inl, inr, arith}
+use Rattle.std.proofs.Common.{◌≡◌, ℕ, ◌+◌, ◌-◌, ◌*◌, ◌/◌, ◌<◌, ◌≤◌, true, leb, List, [], ◌∷◌, suc, zero, refl, sym, subst, ◌∙◌, Some, None, inl, inr, arith}
 use Rattle.std.specs.Prelude.{Option, is_some, MatchOption}
 use Rattle.std.proofs.lemmas.Bool.{cases_Bool, cases_eq, cases_lt, eq-eqb, ne_eqb, lt-ltb, le-ltb, leb-true, and_parts, false≢true}
 use Rattle.dynamic_areas.specs.declared.area.Area.{Area}
 use Rattle.dynamic_areas.specs.Areas.{find_area}
 use Rattle.dynamic_areas.specs.Changing.{held_from}
 use Rattle.dynamic_areas.specs.Creating.{least_number, lowest_from, lowest_gap, gap_count}
-use Rattle.dynamic_areas.specs.Laws.{IsGap, LowestGapIsChosen, IsLeastFree, LeastNumberIsChosen, IsHeldAt, ShrinksToFirstHeld}
-use Rattle.dynamic_areas.specs.Rooms.{AreRooms, is_in_window, meets_area}
+use Rattle.dynamic_areas.specs.Laws.{IsGap, LowestGapIsChosen, LeastNumberIsChosen, IsHeldAt, ShrinksToFirstHeld}
+use Rattle.dynamic_areas.specs.Rooms.{meets_area}
 use Rattle.dynamic_areas.proofs.RoomLemmas.{least_free, IsLeast}
 use Rattle.dynamic_areas.proofs.WantedLemmas.{gap_found}
 

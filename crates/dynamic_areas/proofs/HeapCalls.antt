@@ -19,8 +19,8 @@ use Rattle.os_heap.specs.Ranges.{is_heap_region, meets_any}
 use Rattle.os_heap.specs.Calls.{with_end, begun, changed, has_own_size, own_size, end_changed}
 use Rattle.os_heap.proofs.Found.{found_start}
 use Rattle.dynamic_areas.specs.declared.area.Area.{Area}
-use Rattle.dynamic_areas.specs.Areas.{Land}
-use Rattle.dynamic_areas.specs.Ground.{AreAreas, EndsWithArea}
+use Rattle.dynamic_areas.specs.Areas.{Land, pages_of}
+use Rattle.dynamic_areas.specs.Ground.{AreAreas, EndsWithArea, pool_of}
 use Rattle.dynamic_areas.proofs.GroundLemmas.{or_true}
 use Rattle.dynamic_areas.proofs.Remapped.{here}
 
@@ -197,3 +197,8 @@ system_mapped s free l areas a inside =
 pub system_room : (s : Store) (free : ℕ) (l : Land) → AreAreas s free l → AreMapped s.bytes.mapped 0x01C02100 256
 system_room s free l areas a low high =
     system_mapped s free l areas a (here 0x01C00000 0x3000 a (omega arith) (omega arith))
+
+pub pool_is : (s : Store) (free : ℕ) (l : Land) → AreAreas s free l → free ≡ pool_of l
+pool_is s free l areas =
+    let sum : pages_of l.areas + (l.sizes.app + 3) + free ≡ l.sizes.pages = areas.ground.pages in
+    omega arith

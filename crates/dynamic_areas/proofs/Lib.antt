@@ -13,5 +13,6 @@ pub mod Remapped
 pub mod RenumberLemmas
 pub mod RoomLemmas
 pub mod Starting
+pub mod SystemPages
 pub mod Tables
 pub mod WantedLemmas

@@ -1,6 +1,6 @@
 -- Which memory is mapped, on a machine with dynamic areas: the application space, the system pages, and each area's pages; all other pages are in
 -- the pool (RISC OS 3 Programmer's Reference Manual, "Memory management"; the places are this project's own).
-use Rattle.std.specs.Prelude.{ℕ, ◌≡◌, ◌+◌, ◌*◌, ◌||◌, Bool, List, [], ◌∷◌, Option, Some, None}
+use Rattle.std.specs.Prelude.{ℕ, ◌≡◌, ◌+◌, ◌-◌, ◌*◌, ◌||◌, Bool, List, [], ◌∷◌, Option, Some, None}
 use Rattle.std.specs.List.{list_any}
 use Rattle.profile.specs.Sizes.{Sizes, AreGood}
 use Rattle.address_map.specs.declared.map.AddressMap.{AddressMap}
@@ -40,6 +40,10 @@ pub record IsGround (s : Store) (free : ℕ) (l : Land) : Type 0 where
   pub pages : pages_of l.areas + (l.sizes.app + 3) + free ≡ l.sizes.pages
   pub ranges : AreRangesMapped s.bytes.mapped s.others
   pub sound : IsSound s
+
+-- the pages that are neither an area's nor fixed
+abbrev pub pool_of : Land → ℕ
+pool_of l = l.sizes.pages - (pages_of l.areas + (l.sizes.app + 3))
 
 -- the module area's heap is no guest's, and ends where the module area does
 abbrev pub EndsWithArea : Option HeapList → Option Area → Type 0

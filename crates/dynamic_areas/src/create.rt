@@ -61,9 +61,18 @@ impl Areas {
         Ok(made)
     }
 
-    /// The area that is made of the words of a call, where nothing speaks against it.
+    /// The area that `create` would make of the words of a call where `free` pages are in the pool.
+    ///
+    /// # Errors
+    ///
+    /// Those of `create`, in their order.
     #[tactic(auto, unfolding(crate::specs::Creating::area_wanted))]
-    fn area_wanted(&self, free: u32, wanted: &Wanted, name: &[u8]) -> Result<Area, ErrorNumber>
+    pub fn area_wanted(
+        &self,
+        free: u32,
+        wanted: &Wanted,
+        name: &[u8],
+    ) -> Result<Area, ErrorNumber>
         ensures { result ≡ area_wanted self.now free wanted.now name.now }
     {
         let maximum = wanted_maximum(self.sizes(), wanted.maximum);

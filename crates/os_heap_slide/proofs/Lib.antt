@@ -7,3 +7,4 @@ pub mod Places
 pub mod Records
 pub mod Setting
 pub mod Sliding
+pub mod TestedBlocks

@@ -1,9 +1,9 @@
 -- A call's answer, and then what the machine does with it, are the written call.
-use Rattle.std.proofs.Common.{◌≡◌, ℕ, Bool, false, Ok, Err, sym, ◌∙◌, ap}
+use Rattle.std.proofs.Common.{◌≡◌, ℕ, Bool, true, false, Ok, Err, refl, sym, ◌∙◌, ap}
 use Rattle.arm_step.specs.declared.psr.Psr.{Psr}
 use Rattle.swi_dispatch.specs.declared.refusal.Refusal.{Refusal}
 use Rattle.swi_dispatch.specs.MachineState.{MachineState, Outcome, quiet}
-use Rattle.swi_dispatch.specs.Calls.{Answer}
+use Rattle.swi_dispatch.specs.Answers.{Answer}
 use Rattle.swi_dispatch.specs.Parts.{Answers}
 use Rattle.swi_dispatch.specs.Step.{gone_back, error_answered, erred, ended_by, ended}
 
@@ -17,10 +17,15 @@ ended_done s a x next to caller o end done psr now printed =
     let both : end ≡ record a.left { now = gone_back s.cpu.psr a.left.now false a.next } = λ i. record { now = went i; printed = text i } in
     both ∙ sym (ap (ended_by s x a) done.1.1)
 
+-- with the X bit it doesn't count what the machine was before
+erred_same : (s : MachineState) (x : Bool) (o answered : Outcome) → (x ≡ false → o ≡ quiet s) → erred o.now x answered ≡ erred s x answered
+erred_same s true o answered unmoved = refl
+erred_same s false o answered unmoved = ap (λ (y : Outcome). erred y.now false answered) (unmoved refl)
+
 pub ended_error : (s : MachineState) (a : Answer) (x : Bool) (next : ℕ) (e : Refusal) (caller : Psr) (o end : Outcome)
-    → Answers a next (Err e) o → o ≡ quiet s → caller ≡ s.cpu.psr → end ≡ erred o.now x (error_answered caller o next e) → end ≡ ended s x a
+    → Answers a next (Err e) o → (x ≡ false → o ≡ quiet s) → caller ≡ s.cpu.psr → end ≡ erred o.now x (error_answered caller o next e) → end ≡ ended s x a
 ended_error s a x next e caller o end given unmoved psr after =
-    after ∙ ap (λ (y : Outcome). erred y.now x (error_answered caller o next e)) unmoved
+    after ∙ erred_same s x o (error_answered caller o next e) unmoved
     ∙ ap (λ (p : Psr). erred s x (error_answered p o next e)) psr
     ∙ ap (λ (y : Outcome). erred s x (error_answered s.cpu.psr y next e)) given.0
     ∙ ap (λ (n : ℕ). erred s x (error_answered s.cpu.psr a.left n e)) given.1.0

@@ -3,7 +3,7 @@ use Rattle.std.proofs.Common.{◌≡◌, ◌≢◌, ◌<◌, ◌^◌, ◌+◌, �
 use Rattle.profile.specs.declared.error.ErrorNumber.{ErrorNumber}
 use Rattle.profile.specs.ErrorNames.{error_code, error_name}
 use Rattle.address_map.specs.Bytes.{Bytes, word_loaded}
-use Rattle.address_map.specs.Memory.{bytes_of, free_pages, is_mapped}
+use Rattle.address_map.specs.Memory.{free_pages}
 use Rattle.arm_step.specs.declared.psr.Mode.{Mode}
 use Rattle.arm_step.specs.declared.psr.Mode.TheVariants.{User, FastInterrupt, Interrupt, Supervisor}
 use Rattle.arm_step.specs.declared.psr.Psr.{Psr}
@@ -52,11 +52,16 @@ block_number b n text mapped fits = rw mapped (word_back n fits)
 short_code : (e : ErrorNumber) → error_code e < 2 ^ 32
 short_code e = search rules
 
+-- an error of the system, in any state where its block is mapped
+pub block_read : (s : MachineState) (caller : Psr) (next : ℕ) (e : ErrorNumber) → s.store.bytes.mapped 0x01C02100 ≡ true → length s.cpu.file ≡ 26
+    → error_number (gone_back caller (with_error s (refusal.System e)) true next) ≡ error_code e
+block_read s caller next e mapped size =
+    sym (number_kept (with_error s (refusal.System e)) caller true next)
+    ∙ ap (error_at (error_block s.store.bytes (error_code e) (error_name e))) (zero_set s.cpu 0x01C02100 size)
+    ∙ block_number s.store.bytes (error_code e) (error_name e) mapped (short_code e)
+
 pub system_number : (p : Parts) (caller : Psr) (next : ℕ) (e : ErrorNumber) → IsWellFormed p → length p.cpu.file ≡ 26
     → error_number (gone_back caller (with_error (state_of p) (refusal.System e)) true next) ≡ error_code e
-unfolding state_of store_of
+unfolding state_of
 system_number p caller next e well size =
-    let mapped : is_mapped p.map 0x01C02100 ≡ true = system_mapped (store_of p.map) (free_pages p.map) p.tables.land well.areas 0x01C02100 refl in
-    sym (number_kept (with_error (state_of p) (refusal.System e)) caller true next)
-    ∙ ap (error_at (error_block (bytes_of p.map) (error_code e) (error_name e))) (zero_set p.cpu 0x01C02100 size)
-    ∙ block_number (bytes_of p.map) (error_code e) (error_name e) mapped (short_code e)
+    block_read (state_of p) caller next e (system_mapped (store_of p.map) (free_pages p.map) p.tables.land well.areas 0x01C02100 refl) size

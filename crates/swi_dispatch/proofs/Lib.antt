@@ -1,4 +1,5 @@
 pub mod Answering
+pub mod AreaAnswers
 pub mod ErrorNumbers
 pub mod Kept
 pub mod Quiet

@@ -1,5 +1,5 @@
 -- The store of a machine at its start is that of the written start.
-use Rattle.std.proofs.Common.{inl, ◌≡◌, ◌+◌, ◌*◌, arith, ℕ, Bool, false, true, IsSome, List, [], ◌∷◌, ◌++◌, Option, Some, None, refl, ◌∙◌, ap}
+use Rattle.std.proofs.Common.{inl, ◌≡◌, ◌*◌, ℕ, Bool, false, true, IsSome, List, [], ◌∷◌, ◌++◌, Option, Some, None, refl, ◌∙◌, ap}
 use Rattle.std.specs.Prelude.{is_some}
 use Rattle.profile.specs.Sizes.{Sizes}
 use Rattle.address_map.specs.Classes.{is_flex_header, is_anchor}
@@ -12,9 +12,10 @@ use Rattle.os_heap.specs.Calls.{begun_with}
 use Rattle.os_heap.specs.Store.{Store, store_of, heaps_in, others_in}
 use Rattle.os_heap.proofs.Recorded.{store_recorded}
 use Rattle.dynamic_areas.specs.Areas.{start_land}
-use Rattle.dynamic_areas.specs.Ground.{AreAreas, is_land, system_pages}
+use Rattle.dynamic_areas.specs.Ground.{AreAreas, is_land, pool_of, system_pages}
+use Rattle.dynamic_areas.proofs.HeapCalls.{pool_is}
 use Rattle.swi_dispatch.specs.declared.halt.Halt.{Halt}
-use Rattle.swi_dispatch.specs.MachineState.{MachineState, start_of, bare_store, start_pool, start_store}
+use Rattle.swi_dispatch.specs.MachineState.{MachineState, start_of, bare_store, start_store}
 use Rattle.swi_dispatch.specs.Parts.{IsRecorded}
 use Rattle.swi_dispatch.proofs.Kept.{over, with_core}
 
@@ -57,8 +58,7 @@ pub starts : (m : AddressMap) (s : Sizes) → store_of m ≡ start_store s → A
     → over m start_state (record { land = start_land s; frames = [] }) None ≡ start_of s
 unfolding start_of
 starts m s e areas =
-    let pages : s.rma + 0 + (s.app + 3) + free_pages m ≡ s.pages = areas.ground.pages in
-    let pool : free_pages m ≡ start_pool s = omega arith in
+    let pool : free_pages m ≡ pool_of (start_land s) = pool_is _ _ _ areas in
     λ i. with_core start_state (pool i) (record { land = start_land s; frames = [] }) None (e i)
 
 -- a machine that stands as it was made isn't halted

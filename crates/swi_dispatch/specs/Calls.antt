@@ -1,41 +1,22 @@
 -- The store calls: what each answers, by the registers of the caller's mode, and what it leaves (RISC OS 3 Programmer's Reference Manual, the
--- chapters on character output, program environment, generating and handling errors, and "OS_Heap").
-use Rattle.std.specs.Prelude.{ℕ, ◌+◌, ◌%◌, ◌==◌, ◌&&◌, Option, Some, None, Result, Ok, Err, List, [], ◌∷◌, length, if◌then◌else◌}
+-- chapters on character output, program environment, generating and handling errors, memory management, and "OS_Heap").
+use Rattle.std.specs.Prelude.{ℕ, ◌+◌, ◌%◌, ◌==◌, ◌&&◌, Option, Some, None, Result, Ok, List, [], ◌∷◌, length, if◌then◌else◌}
 use Rattle.profile.specs.Outcome.{bind}
-use Rattle.profile.specs.declared.error.ErrorNumber.{ErrorNumber}
 use Rattle.profile.specs.declared.error.ErrorNumber.TheVariants.{SwiUnknown, BadString, BadPointer, HeapBadReason}
 use Rattle.profile.specs.declared.swi.SwiName.{SwiName}
 use Rattle.profile.specs.declared.swi.SwiName.TheVariants as swi
 use Rattle.address_map.specs.Bytes.{Bytes}
 use Rattle.arm_step.specs.declared.psr.Mode.TheVariants.{Supervisor}
-use Rattle.arm_step.specs.State.{register_of, with_register, with_mode}
+use Rattle.arm_step.specs.State.{register_of, with_mode}
 use Rattle.os_heap.specs.Calls.{resized, changed, block_sized, got, gave_back, described, begun}
 use Rattle.os_heap.specs.Store.{Store}
 use Rattle.swi_dispatch.specs.declared.refusal.Refusal.{Refusal}
 use Rattle.swi_dispatch.specs.declared.refusal.Refusal.TheVariants as refusal
 use Rattle.swi_dispatch.specs.declared.strings.TextEnd.TheVariants as end
-use Rattle.swi_dispatch.specs.MachineState.{MachineState, Outcome, quiet}
+use Rattle.swi_dispatch.specs.Answers.{Answer, done, refused, went_on, system_error, or_error, with_answer}
+use Rattle.swi_dispatch.specs.AreaCalls.{area_called, area_changed, area_read}
+use Rattle.swi_dispatch.specs.MachineState.{MachineState}
 use Rattle.swi_dispatch.specs.Strings.{ends, text_at, next_word}
-
--- What a call answers: what it leaves, the machine but for what every call does to the core and the bytes printed, where the guest goes on, and the
--- error, if there is one. So a call may change something and err.
-pub record Answer : Type 0 where
-  pub left : Outcome
-  pub next : ℕ
-  pub error : Option Refusal
-
-abbrev pub done : MachineState → List ℕ → ℕ → Answer
-done s printed next = record { left = record { now = s; printed = printed }; next = next; error = None }
-
--- an error, and nothing is changed
-abbrev pub refused : MachineState → ℕ → Refusal → Answer
-refused s next e = record { left = quiet s; next = next; error = Some e }
-
-abbrev pub system_error : {A : Type 0} → ErrorNumber → Result A Refusal
-system_error e = Err (refusal.System e)
-
-abbrev pub with_answer : MachineState → ℕ → ℕ → MachineState
-with_answer s n v = record s { cpu = with_register s.cpu n v }
 
 abbrev pub with_store : MachineState → Store → MachineState
 with_store s t = record s { store = t }
@@ -60,11 +41,6 @@ wrote_text_at s next at (Some text) = done (with_answer s 0 (at + length text + 
 -- OS_GenerateError is always an error: that of the block that R0 points to, if there can be one.
 abbrev pub generated : MachineState → ℕ → Refusal
 generated s at = if at % 4 == 0 && s.store.bytes.mapped at then refusal.Own else refusal.System BadPointer
-
--- an error of the system, or a store or what is answered
-abbrev pub or_error : {A : Type 0} → Result A ErrorNumber → Result A Refusal
-or_error (Ok a) = Ok a
-or_error (Err e) = system_error e
 
 -- OS_Heap, by its reason in R0: the heap is in R1, a block in R2, a size or a change of one in R3; what is answered goes to R2 and R3.
 abbrev pub heap_began : MachineState → Result MachineState Refusal
@@ -100,10 +76,6 @@ heap_called s =
     if reason == 6 then heap_sized s else
     system_error HeapBadReason))))))
 
-abbrev pub went_on : MachineState → ℕ → Result MachineState Refusal → Answer
-went_on s next (Ok t) = done t [] next
-went_on s next (Err e) = refused s next e
-
 -- A call by its name and its number without the X bit; `next` is where the guest goes on. Calls that are not here are unknown.
 unfoldable pub call_answer : MachineState → ℕ → ℕ → Option SwiName → Answer
 call_answer s next number (Some swi.WriteC) = done s (register_of s.cpu 0 % 256 ∷ []) next
@@ -112,6 +84,9 @@ call_answer s next number (Some swi.Write0) = wrote_text_at s next (register_of 
 call_answer s next number (Some swi.NewLine) = done s (10 ∷ 13 ∷ []) next
 call_answer s next number (Some swi.EnterOs) = done (in_supervisor s) [] next
 call_answer s next number (Some swi.Heap) = went_on s next (heap_called s)
+call_answer s next number (Some swi.ChangeDynamicArea) = area_changed s next
+call_answer s next number (Some swi.ReadDynamicArea) = went_on s next (area_read s)
+call_answer s next number (Some swi.DynamicArea) = went_on s next (area_called s)
 call_answer s next number (Some swi.GenerateError) = refused s next (generated s (register_of s.cpu 0))
 call_answer s next number (Some swi.WriteI) = done s (number % 256 ∷ []) next
 call_answer s next number _ = refused s next (refusal.System SwiUnknown)

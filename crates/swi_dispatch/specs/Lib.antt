@@ -1,3 +1,5 @@
+pub mod Answers
+pub mod AreaCalls
 pub mod Boot
 pub mod Breaks
 pub mod Calls

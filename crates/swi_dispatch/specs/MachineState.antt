@@ -1,6 +1,6 @@
 -- The written machine: its core, its store (memory as a function from addresses to bytes, the lists of all heaps, and the other recorded
 -- ranges), how many pages are in the pool, what stands beside core and memory, and the halt that keeps it from further steps.
-use Rattle.std.specs.Prelude.{ℕ, ◌+◌, ◌-◌, ◌*◌, false, Option, None, List, [], ◌∷◌}
+use Rattle.std.specs.Prelude.{ℕ, ◌*◌, false, Option, None, List, [], ◌∷◌}
 use Rattle.profile.specs.declared.stop.Stop.{Stop}
 use Rattle.profile.specs.declared.stop.Stop.TheVariants as stop
 use Rattle.profile.specs.Sizes.{Sizes}
@@ -10,7 +10,7 @@ use Rattle.arm_step.specs.State.{State, start_state}
 use Rattle.os_heap.specs.Calls.{begun_with}
 use Rattle.os_heap.specs.Store.{Store}
 use Rattle.dynamic_areas.specs.Areas.{Land, start_land}
-use Rattle.dynamic_areas.specs.Ground.{Estate, is_land, system_pages}
+use Rattle.dynamic_areas.specs.Ground.{Estate, is_land, pool_of, system_pages}
 use Rattle.swi_dispatch_frames.specs.declared.frame.Frame.{Frame}
 use Rattle.swi_dispatch.specs.declared.halt.Halt.{Halt}
 use Rattle.swi_dispatch.specs.declared.halt.Halt.TheVariants as halt
@@ -64,14 +64,11 @@ bare_store s = record {
 abbrev pub start_store : Sizes → Store
 start_store s = begun_with Rma (bare_store s) 0x01800000 (4096 * s.rma)
 
-abbrev pub start_pool : Sizes → ℕ
-start_pool s = s.pages - (s.app + s.rma + 3)
-
 unfoldable pub start_of : Sizes → MachineState
 start_of s = record {
   cpu = start_state;
   store = start_store s;
-  pool = start_pool s;
+  pool = pool_of (start_land s);
   tables = record { land = start_land s; frames = [] };
   halt = None;
 }

@@ -10,7 +10,7 @@ use Rattle.arm_step.specs.declared.turn.Turn.{Turn}
 use Rattle.arm_step.specs.State.{State}
 use Rattle.swi_dispatch.specs.declared.halt.Halt.{Halt}
 use Rattle.swi_dispatch.specs.declared.refusal.Refusal.{Refusal}
-use Rattle.swi_dispatch.specs.Calls.{Answer}
+use Rattle.swi_dispatch.specs.Answers.{Answer}
 use Rattle.swi_dispatch.specs.MachineState.{MachineState, Outcome, Tables, start_of}
 use Rattle.swi_dispatch.specs.Step.{Turned, instructed}
 

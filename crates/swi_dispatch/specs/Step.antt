@@ -22,7 +22,8 @@ use Rattle.swi_dispatch.specs.declared.halt.Halt.{Halt}
 use Rattle.swi_dispatch.specs.declared.halt.Halt.TheVariants as halt
 use Rattle.swi_dispatch.specs.declared.refusal.Refusal.{Refusal}
 use Rattle.swi_dispatch.specs.MachineState.{MachineState, Outcome, quiet, with_memory}
-use Rattle.swi_dispatch.specs.Calls.{Answer, call_answer}
+use Rattle.swi_dispatch.specs.Answers.{Answer}
+use Rattle.swi_dispatch.specs.Calls.{call_answer}
 use Rattle.swi_dispatch.specs.Errors.{error_number, with_error}
 
 abbrev pub halted : MachineState → Halt → Outcome

@@ -1,6 +1,6 @@
 //! Store calls: what each does, and how a guest comes back from one.
 
-ghost use Rattle.std.specs.Prelude.{◌≡◌, ◌<◌, ◌≤◌, ◌^◌, false, [], ◌∷◌, ◌++◌, length, OnErr};
+ghost use Rattle.std.specs.Prelude.{◌≡◌, ◌<◌, ◌≤◌, ◌^◌, false, [], ◌∷◌, ◌++◌, None, length, OnErr};
 ghost use Rattle.swi_dispatch.specs.Step.{returned, is_exit};
 
 use crate::halt::Halt;
@@ -10,12 +10,14 @@ use crate::strings::{TextEnd, next_word, text_at};
 use arm_step::{Cpu, Mode, Psr};
 use arrayvec::ArrayVec;
 use profile::memory_map::ADDRESS_LIMIT;
-use profile::{ErrorNumber, SwiName};
+use profile::{ErrorNumber, Fault, SwiName};
 
 impl Machine {
     ghost use Rattle.swi_dispatch.specs.MachineState.{quiet};
     ghost use Rattle.swi_dispatch.specs.Parts.{state_of, outcome_of, IsInStep, OnlySteps, OnlyState, Answers};
-    ghost use Rattle.swi_dispatch.specs.Calls.{call_answer, wrote_text_after, wrote_text_at, printable_at, with_answer, in_supervisor};
+    ghost use Rattle.swi_dispatch.specs.Answers.{with_answer};
+    ghost use Rattle.swi_dispatch.specs.AreaCalls.{moving_error};
+    ghost use Rattle.swi_dispatch.specs.Calls.{call_answer, wrote_text_after, wrote_text_at, printable_at, in_supervisor};
     ghost use Rattle.swi_dispatch.specs.Step.{called, gone_back};
     ghost use Rattle.arm_step.specs.State.{register_of};
 
@@ -32,6 +34,9 @@ impl Machine {
         if is_exit(name) {
             return self.halt_with(Halt::Exit);
         }
+        if !is_x && let Some(error) = self.moving_error(name) {
+            return self.halt_with(Halt::Fault(Fault::ErrorStop(error.number())));
+        }
         let caller = self.cpu().psr();
         match self.perform(next, number, name) {
             Ok(next) => self.go_back(caller, false, next),
@@ -40,12 +45,13 @@ impl Machine {
     }
 
     // What the call itself does. Answers where the guest goes on.
-    #[tactic(auto, unfolding(crate::specs::Calls::call_answer))]
+    #[tactic(auto, using(crate::proofs::AreaAnswers::errs_moving), unfolding(crate::specs::Calls::call_answer))]
     fn perform(&mut self, next: u32, number: u32, name: Option<SwiName>) -> Result<u32, Refusal>
         requires step { IsInStep self.old }
         requires next { next < 2 ^ 26 }
         ensures done { Answers (call_answer (state_of self.old) next number name) next result (outcome_of self.new) }
-        ensures unmoved { OnErr result (outcome_of self.new ≡ quiet (state_of self.old)) }
+        ensures unmoved { OnErr result (moving_error (state_of self.old) name ≡ None → outcome_of self.new ≡ quiet (state_of self.old)) }
+        ensures silent { OnErr result (self.new.printed ≡ []) }
         ensures others { OnlySteps self.old self.new }
     {
         match name {
@@ -67,6 +73,15 @@ impl Machine {
             }
             Some(SwiName::Heap) => {
                 self.call_heap()?;
+                Ok(next)
+            }
+            Some(SwiName::ChangeDynamicArea) => self.change_area(next),
+            Some(SwiName::ReadDynamicArea) => {
+                self.read_area()?;
+                Ok(next)
+            }
+            Some(SwiName::DynamicArea) => {
+                self.call_area()?;
                 Ok(next)
             }
             Some(SwiName::GenerateError) => Err(self.own_error()),

@@ -1,6 +1,7 @@
 //! The machine: the core over its memory, the store calls, one step at a time or many.
 #![tactic(auto)]
 
+pub mod area_calls;
 pub mod boot_error;
 pub mod breaks;
 pub mod calls;

@@ -1,5 +1,6 @@
 //! Machines taken step by step, with values worked out by hand.
 
+mod areas;
 mod arguments;
 mod gate;
 mod heaps;
@@ -12,7 +13,7 @@ use Line::{
 };
 use arm_step::Mode;
 use image_loader::Images;
-use profile::{Config, Fault, MemorySink, Stop};
+use profile::{Config, ErrorNumber, Fault, MemorySink, Stop};
 use std::alloc::Global;
 use std::process::Abort;
 use std::test::Fail;
@@ -36,6 +37,8 @@ pub(crate) enum Line {
     Set(u32, u32),
     /// R0 to R3 are set.
     Registers(u32, u32, u32, u32),
+    /// R4 to R8 are set.
+    Others(u32, u32, u32, u32, u32),
     /// A word is poked.
     Put(u32, u32),
     /// A poke is refused.
@@ -49,6 +52,8 @@ pub(crate) enum Line {
     /// A register, as a mode sees it, has this value.
     In(Mode, u32, u32),
     Overflow(bool),
+    /// The last call ended with this error of the system, or with none.
+    Errs(Option<ErrorNumber>),
     /// The program counter has this value.
     At(u32),
     Holds(u32, u32),
@@ -93,6 +98,14 @@ pub(crate) fn play(rt: &impl Abort, alloc: Global, lines: &[Line]) -> Result<(),
             }
             Line::Set(number, value) => machine.set_register(number.min(14), value),
             Line::Registers(r0, r1, r2, r3) => set_registers(&mut machine, r0, r1, r2, r3),
+            Line::Others(r4, r5, r6, r7, r8) => {
+                set_others(&mut machine, [r4, r5, r6, r7, r8]);
+            }
+            Line::Errs(error) => assert_eq!(rt;
+                machine.cpu().psr().overflow.then(|| machine.error_number()),
+                error.map(ErrorNumber::number),
+                "line {index}"
+            ),
             Line::Run(budget, stop, taken, text) => run(
                 rt,
                 &mut machine,
@@ -183,6 +196,13 @@ pub(crate) fn set_registers(machine: &mut Machine, r0: u32, r1: u32, r2: u32, r3
     machine.set_register(1, r1);
     machine.set_register(2, r2);
     machine.set_register(3, r3);
+}
+
+/// Sets R4 to R8.
+fn set_others(machine: &mut Machine, values: [u32; 5]) {
+    for (index, value) in values.iter().enumerate() {
+        machine.set_register(4 + index as u32, *value);
+    }
 }
 
 fn has_text(rt: &impl Abort, machine: &Machine, address: u32, text: &str) {

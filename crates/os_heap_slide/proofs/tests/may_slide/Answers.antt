@@ -1,0 +1,11 @@
+use Rattle.std.proofs.Common.{◌∙◌, sym}
+use Rattle.os_heap_slide.proofs.TestedBlocks.{may, there}
+use Rattle.os_heap_slide.proofs.tests.may_slide.Goals as goal
+
+pub are_blocks-requires : goal.are_blocks-requires
+are_blocks-requires c = (there c.args.map.now c.args.heap c.requires (sym c.has_heap.ensures ∙ c.if-has_heap.true)).stands
+
+pub returns-then-movable-le128 : goal.returns-then-movable-le128
+returns-then-movable-le128 c = λ is.
+    may c.args.map.now c.args.heap c.args.movable.now (there c.args.map.now c.args.heap c.requires (sym c.has_heap.ensures ∙ c.if-has_heap.true))
+    c.if-movable-le128.true (c.are_blocks.ensures is)

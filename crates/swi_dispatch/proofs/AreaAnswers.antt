@@ -1,0 +1,82 @@
+-- OS_ChangeDynamicArea: what it answers, and that without the X bit it is a fault before anything moves.
+use Rattle.std.proofs.Common.{◌≡◌, ℕ, true, false, List, [], length, Option, Some, None, Result, Ok, Err, refl, sym, ◌∙◌, ap}
+use Rattle.std.proofs.lemmas.List.{length-set}
+use Rattle.std.specs.Prelude.{OnErr, option_map}
+use Rattle.profile.specs.declared.error.ErrorNumber.{ErrorNumber}
+use Rattle.profile.specs.declared.fault.Fault.TheVariants.{ErrorStop}
+use Rattle.profile.specs.declared.swi.SwiName.{SwiName}
+use Rattle.profile.specs.declared.swi.SwiName.TheVariants as swi
+use Rattle.profile.specs.ErrorNames.{error_code}
+use Rattle.arm_step.specs.State.{State, register_of, slot_of, with_register, with_register_in}
+use Rattle.dynamic_areas.specs.declared.area.Area.{Area}
+use Rattle.dynamic_areas.specs.Areas.{area_in, find_area}
+use Rattle.dynamic_areas.specs.Changing.{change_answer}
+use Rattle.dynamic_areas.specs.Ground.{AreAreas}
+use Rattle.dynamic_areas.proofs.HeapCalls.{system_mapped}
+use Rattle.dynamic_areas.proofs.SystemPages.{change_keeps_system}
+use Rattle.swi_dispatch.specs.declared.halt.Halt.TheVariants as halt
+use Rattle.swi_dispatch.specs.declared.refusal.Refusal.{Refusal}
+use Rattle.swi_dispatch.specs.declared.refusal.Refusal.TheVariants as refusal
+use Rattle.swi_dispatch.specs.AreaCalls.{area_changed, change_asked, change_left, moving_error}
+use Rattle.swi_dispatch.specs.Calls.{call_answer}
+use Rattle.swi_dispatch.specs.MachineState.{MachineState, Outcome, quiet}
+use Rattle.swi_dispatch.specs.Parts.{Answers, IsWellFormed, Parts, state_of}
+use Rattle.swi_dispatch.specs.Step.{ended, ended_by, halted}
+use Rattle.swi_dispatch.proofs.ErrorNumbers.{block_read}
+
+-- where no area has the number
+unknown_found : (s : MachineState) (next : ℕ) (e : ErrorNumber) (r : Result ℕ Refusal) (printed : List ℕ) (found : Option Area)
+    → find_area (register_of s.cpu 0) s.tables.land.areas ≡ found → area_in s.tables.land.areas (register_of s.cpu 0) ≡ Err e
+    → r ≡ Err (refusal.System e) → printed ≡ [] → Answers (area_changed s next) next r (record { now = s; printed = printed })
+unfolding area_changed change_answer
+unknown_found s next e r printed (Some a) there unknown is none = absurd (let f = rw there at unknown in cc)
+unknown_found s next e r printed None there unknown is none =
+    let f = rw there at unknown in
+    rw (is, there, none) (refl, (refl, cc))
+
+pub unknown_answer : (s : MachineState) (next : ℕ) (e : ErrorNumber) (r : Result ℕ Refusal) (printed : List ℕ)
+    → area_in s.tables.land.areas (register_of s.cpu 0) ≡ Err e → r ≡ Err (refusal.System e) → printed ≡ []
+    → Answers (area_changed s next) next r (record { now = s; printed = printed })
+unknown_answer s next e r printed unknown is none =
+    unknown_found s next e r printed (find_area (register_of s.cpu 0) s.tables.land.areas) refl unknown is none
+
+-- where it errs something may have moved
+pub errs_moving : (s : MachineState) (next : ℕ) (name : Option SwiName) (r : Result ℕ Refusal) (o : Outcome) → name ≡ Some swi.ChangeDynamicArea
+    → Answers (area_changed s next) next r o → OnErr r (moving_error s name ≡ None → o ≡ quiet s)
+unfolding area_changed
+errs_moving s next name (Ok to) o is done = tt
+errs_moving s next name (Err e) o is done = λ still.
+    let none : (change_asked s).error ≡ None = sym (ap (moving_error s) is) ∙ still in
+    let some : None ≡ Some e = sym (ap (option_map refusal.System) none) ∙ done.1.1 in
+    absurd (let never = some in cc)
+
+size_set : (s : State) (n v : ℕ) → length (with_register s n v).file ≡ length s.file
+unfolding with_register with_register_in
+size_set s n v = length-set s.file (slot_of s.psr.mode n) v
+
+left_mapped : (s : MachineState) (found : Option Area) → AreAreas s.store s.pool s.tables.land → find_area (register_of s.cpu 0) s.tables.land.areas ≡ found
+    → (change_left s found (change_asked s).bytes).store.bytes.mapped 0x01C02100 ≡ true
+left_mapped s None areas e = system_mapped s.store s.pool s.tables.land areas 0x01C02100 refl
+left_mapped s (Some a) areas e =
+    change_keeps_system s.store s.pool s.tables.land (register_of s.cpu 0) (register_of s.cpu 1) a 0x01C02100 areas e refl
+
+left_size : (s : MachineState) (found : Option Area) (bytes : ℕ) → length s.cpu.file ≡ 26 → length (change_left s found bytes).cpu.file ≡ 26
+left_size s None bytes size = size
+left_size s (Some a) bytes size = size_set s.cpu 1 bytes ∙ size
+
+pub change_stop : (s : MachineState) (next : ℕ) (e : ErrorNumber) → AreAreas s.store s.pool s.tables.land → length s.cpu.file ≡ 26
+    → (change_asked s).error ≡ Some e → ended s false (area_changed s next) ≡ halted s (halt.Fault (ErrorStop (error_code e)))
+unfolding area_changed
+change_stop s next e areas size err =
+    let found : Option Area = find_area (register_of s.cpu 0) s.tables.land.areas in
+    let left : MachineState = change_left s (find_area (register_of s.cpu 0) s.tables.land.areas) (change_asked s).bytes in
+    ap (λ (o : Option ErrorNumber). ended_by s false (area_changed s next) (option_map refusal.System o)) err
+    ∙ ap (λ (n : ℕ). halted s (halt.Fault (ErrorStop n))) (block_read left s.cpu.psr next e
+    (left_mapped s (find_area (register_of s.cpu 0) s.tables.land.areas) areas refl)
+    (left_size s (find_area (register_of s.cpu 0) s.tables.land.areas) (change_asked s).bytes size))
+
+pub moving_stop : (p : Parts) (next number : ℕ) (name : Option SwiName) (e : ErrorNumber) → IsWellFormed p → length p.cpu.file ≡ 26
+    → name ≡ Some swi.ChangeDynamicArea → (change_asked (state_of p)).error ≡ Some e
+    → ended (state_of p) false (call_answer (state_of p) next number name) ≡ halted (state_of p) (halt.Fault (ErrorStop (error_code e)))
+unfolding call_answer state_of
+moving_stop p next number name e well size is err = rw is (change_stop (state_of p) next e well.areas size err)

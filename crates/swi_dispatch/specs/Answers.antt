@@ -1,0 +1,36 @@
+-- What store calls answer, in words that all of them share.
+use Rattle.std.specs.Prelude.{ℕ, Option, Some, None, Result, Ok, Err, List, []}
+use Rattle.profile.specs.declared.error.ErrorNumber.{ErrorNumber}
+use Rattle.arm_step.specs.State.{with_register}
+use Rattle.swi_dispatch.specs.declared.refusal.Refusal.{Refusal}
+use Rattle.swi_dispatch.specs.declared.refusal.Refusal.TheVariants as refusal
+use Rattle.swi_dispatch.specs.MachineState.{MachineState, Outcome, quiet}
+
+-- What a call answers: what it leaves, the machine but for what every call does to the core and the bytes printed, where the guest goes on, and the
+-- error, if there is one. So a call may change something and err.
+pub record Answer : Type 0 where
+  pub left : Outcome
+  pub next : ℕ
+  pub error : Option Refusal
+
+abbrev pub done : MachineState → List ℕ → ℕ → Answer
+done s printed next = record { left = record { now = s; printed = printed }; next = next; error = None }
+
+-- an error, and nothing is changed
+abbrev pub refused : MachineState → ℕ → Refusal → Answer
+refused s next e = record { left = quiet s; next = next; error = Some e }
+
+abbrev pub went_on : MachineState → ℕ → Result MachineState Refusal → Answer
+went_on s next (Ok t) = done t [] next
+went_on s next (Err e) = refused s next e
+
+abbrev pub system_error : {A : Type 0} → ErrorNumber → Result A Refusal
+system_error e = Err (refusal.System e)
+
+-- an error of the system, or a store or what is answered
+abbrev pub or_error : {A : Type 0} → Result A ErrorNumber → Result A Refusal
+or_error (Ok a) = Ok a
+or_error (Err e) = system_error e
+
+abbrev pub with_answer : MachineState → ℕ → ℕ → MachineState
+with_answer s n v = record s { cpu = with_register s.cpu n v }
