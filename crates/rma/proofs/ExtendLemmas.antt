@@ -118,10 +118,12 @@ last_done e g block change size sized last more grown =
     let new : total_changed size change ≡ round_up_8 (changed_by is.total change) = total_is size is.total change is.same (omega (arith, place.size)) in
     let base : rma_base e.store ≡ 16 + size_of h.items = base_is e.store 0x01800000 h grown.found in
     resize_done e g block is.total change ((rma_base e.store + total_changed size change) - (size + 4)) grown is.guests
-    (inl (last_fits block (h.start + grown.limit) (round_up_8 (changed_by is.total change)) (h.start + 16) is.total h.items grown.totals is.guests.live
-    (omega (arith, last, base, is.same, place.size, grown.start))
-    (omega (arith, last, base, is.same, place.size, grown.start, grown.reaches, new)),
-    omega (arith, more, is.same, place.size, new)))
+    (inl (
+      last_fits block (h.start + grown.limit) (round_up_8 (changed_by is.total change)) (h.start + 16) is.total h.items grown.totals is.guests.live
+          (omega (arith, last, base, is.same, place.size, grown.start))
+          (omega (arith, last, base, is.same, place.size, grown.start, grown.reaches, new)),
+      omega (arith, more, is.same, place.size, new),
+    ))
 
 -- the heap's base lies within the area
 base_below : (e : Estate) → IsEstate e → rma_base e.store ≤ 4096 * area_pages e
