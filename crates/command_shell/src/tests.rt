@@ -1,3 +1,4 @@
+mod area_limits;
 mod areas;
 mod assembled;
 mod failures;

@@ -13,5 +13,6 @@ pub mod Sliding
 pub mod Splicing
 pub mod Starting
 pub mod Storing
+pub mod TestedBlocks
 pub mod Texts
 pub mod Walks

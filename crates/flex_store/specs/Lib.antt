@@ -6,4 +6,5 @@ pub mod Memory
 pub mod Places
 pub mod Relaid
 pub mod Splices
+pub mod Tested
 pub mod State

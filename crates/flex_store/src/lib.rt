@@ -9,3 +9,6 @@ mod splice;
 mod walk;
 
 pub use flex::Flex;
+
+#[cfg(test)]
+mod tests;

@@ -5,7 +5,7 @@ use std::test::Fail;
 
 /// Scripts, and what each answers. A block of n bytes takes n and the 4 of its length, rounded up to
 /// a multiple of 8, and the first stands 16 bytes from the heap's start.
-static SCRIPTS: [(&str, &str); 8] = [
+static SCRIPTS: [(&str, &str); 7] = [
     // A heap is made, two blocks are claimed, and what can be claimed is asked for; one claim is too
     // large, and the length of a block is no word for a guest.
     (
@@ -381,17 +381,6 @@ ok
 ok
 ok
 error 6
-",
-    ),
-    // No heap starts there.
-    (
-        "HEAP &9000
-HEAP &1800000
-HEAP 1
-",
-        "refused NoHeap
-heap 01800000 base 16 end 65536
-refused NoHeap
 ",
     ),
 ];

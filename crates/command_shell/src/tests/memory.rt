@@ -4,7 +4,7 @@ use crate::tests::run_all;
 use std::test::Fail;
 
 /// Scripts, and what each answers.
-static SCRIPTS: [(&str, &str); 6] = [
+static SCRIPTS: [(&str, &str); 7] = [
     // Registers of the present mode. Nothing is printed, and the machine can't be booted then.
     (
         "SET R7 &7fFfFFF
@@ -123,6 +123,17 @@ POKE &9000 &100000000
 ? line 9
 ? line 10
 ? line 11
+",
+    ),
+    // No heap starts there, but in the module area.
+    (
+        "HEAP &9000
+HEAP &1800000
+HEAP 1
+",
+        "refused NoHeap
+heap 01800000 base 16 end 65536
+refused NoHeap
 ",
     ),
 ];
