@@ -14,7 +14,7 @@ impl Machine {
 
     /// OS_Module, by its reason in R0. A block is in R2, a size or a change of one in R3.
     #[tactic(auto, unfolding(crate::specs::ModuleCalls::module_area_called))]
-    pub(crate) fn call_module(&mut self) -> Result<(), Refusal>
+    pub(crate) fn call_module_area(&mut self) -> Result<(), Refusal>
         requires stepped { self.old.is_fresh ≡ false }
         ensures state { Leaves (state_of self.old) (module_area_called (state_of self.old)) result (state_of self.new) }
         ensures others { OnlyState self.old self.new }
