@@ -1,3 +1,4 @@
+pub mod Anchors
 pub mod Bytes
 pub mod Equations
 pub mod Following

@@ -6,6 +6,7 @@ use Rattle.address_map.specs.declared.class.Class.TheVariants.{Plain}
 use Rattle.address_map.specs.declared.region.Region.{Region}
 use Rattle.address_map.specs.declared.map.AddressMap.{AddressMap}
 use Rattle.address_map.specs.Bytes.{Bytes}
+use Rattle.address_map.specs.Classes.{is_anchor}
 use Rattle.address_map.specs.Marks.{mark_in}
 use Rattle.address_map.specs.Pages.{place_in}
 
@@ -65,6 +66,10 @@ layout m = record { place = place m; regions = regions m; free_pages = free_page
 -- what the store calls use the byte at an address for, as its word is marked; where nothing is mapped all is plain
 unfoldable pub class_of : AddressMap → ℕ → Class
 class_of m a = mark_in m.marks (place m a)
+
+-- the bytes that are an anchor's
+abbrev pub anchor_of : AddressMap → ℕ → Bool
+anchor_of m a = is_anchor (class_of m a)
 
 abbrev pub is_plain : Class → Bool
 is_plain Plain = true

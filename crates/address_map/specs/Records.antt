@@ -1,6 +1,6 @@
 -- The record of the ranges that the store calls use, and the marks of the words that only store calls may write: descriptors, lengths and
 -- links of heaps, headers of flex blocks, and anchors.
-use Rattle.std.specs.Prelude.{ℕ, ◌≡◌, ◌≢◌, ◌≤◌, ◌<◌, Bool, true, false, ◌+◌, ◌%◌, ◌^◌, ◌&&◌, List, [], ◌∷◌, ◌++◌, if◌then◌else◌, ◌==◌, Option, Some, None, is_some}
+use Rattle.std.specs.Prelude.{ℕ, zero, suc, ◌≡◌, ◌≢◌, ◌≤◌, ◌<◌, Bool, true, false, ◌||◌, ◌+◌, ◌%◌, ◌^◌, ◌&&◌, List, [], ◌∷◌, ◌++◌, if◌then◌else◌, ◌==◌, Option, Some, None, is_some}
 use Rattle.std.specs.List.{list_any}
 use Rattle.address_map.specs.declared.class.Class.{Class}
 use Rattle.address_map.specs.declared.class.Class.TheVariants as class
@@ -86,12 +86,10 @@ with_len (region ∷ regions) kind at len = if is_record kind at region
     then record { kind = region.kind; at = region.at; len = len } ∷ regions
     else region ∷ with_len regions kind at len
 
--- an address of an anchor among the `len` bytes from `at` on
-pub record HasAnchor (classes : ℕ → Class) (at len : ℕ) : Type 0 where
-  pub addr : ℕ
-  pub from : at ≤ addr
-  pub below : addr < at + len
-  pub is : classes addr ≡ class.Anchor
+-- Is one of the `len` bytes from `at` on an anchor's? `anchor` tells of each byte whether it is.
+unfoldable pub anchor_among : (ℕ → Bool) → ℕ → ℕ → Bool
+anchor_among anchor at zero = false
+anchor_among anchor at (suc n) = anchor at || anchor_among anchor (at + 1) n
 
 -- none of these bytes is an anchor's
 abbrev pub HasNoAnchor : (ℕ → Class) → ℕ → ℕ → Type 0

@@ -2,9 +2,9 @@
 #![tactic(auto)]
 
 pub mod class;
+pub mod follow;
 pub mod item;
 pub mod laws;
-pub mod follow;
 pub mod lent;
 pub mod map;
 pub mod marks;

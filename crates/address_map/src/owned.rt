@@ -1,13 +1,13 @@
-ghost use Rattle.std.specs.Prelude.{◌≡◌, ◌≤◌, ◌+◌, ◌/◌, length, MatchBool};
+ghost use Rattle.std.specs.Prelude.{◌≡◌, ◌≤◌, ◌+◌, ◌/◌, length};
 ghost use Rattle.address_map.specs.Marks.{class_at};
-ghost use Rattle.address_map.specs.Records.{HasAnchor, HasNoAnchor};
+ghost use Rattle.address_map.specs.Records.{anchor_among};
 
 use crate::class::Class;
 use crate::map::AddressMap;
 use profile::memory_map::ADDRESS_LIMIT;
 
 impl AddressMap {
-    ghost use Rattle.address_map.specs.Memory.{class_of, is_owned};
+    ghost use Rattle.address_map.specs.Memory.{anchor_of, class_of, is_owned};
 
     /// What the store calls use the byte at an address for.
     #[inline(always)]
@@ -40,7 +40,7 @@ impl AddressMap {
 
     /// Whether the anchor of a flex block has a byte in the `len` bytes from `at` on.
     pub fn anchor_in(&self, at: u32, len: u32) -> bool
-        ensures { MatchBool result (HasAnchor (class_of self.now) at len) (HasNoAnchor (class_of self.now) at len) }
+        ensures { result ≡ anchor_among (anchor_of self.now) at len }
     {
         let end = (at as u64 + len as u64).min(ADDRESS_LIMIT as u64) as u32;
         let mut addr = at;

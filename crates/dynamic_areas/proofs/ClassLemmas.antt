@@ -1,20 +1,20 @@
 -- Which words are marked while pages come and go: those that the heaps spell, as before.
-use Rattle.std.proofs.Common.{◌≡◌, ◌≢◌, ℕ, List, false, ◌∙◌, sym, ap, inl, inr}
-use Rattle.std.proofs.lemmas.Bool.{cases_Bool, both_ways}
+use Rattle.std.proofs.Common.{◌≡◌, ℕ, List, false, ◌∙◌, sym, ap, inl, inr}
+use Rattle.std.proofs.lemmas.Bool.{cases_Bool}
 use Rattle.address_map.specs.Bytes.{in_range, word_start}
-use Rattle.address_map.specs.Classes.{is_heap_class, is_anchor}
+use Rattle.address_map.specs.Classes.{is_heap_class}
 use Rattle.address_map.specs.Memory.{bytes_of, class_of}
-use Rattle.address_map.specs.Records.{with_plain_at}
-use Rattle.address_map.specs.declared.class.Class.TheVariants as class
+use Rattle.address_map.proofs.Anchors.{unanchored}
+use Rattle.address_map.specs.Records.{anchor_among, HasNoAnchor, with_plain_at}
 use Rattle.address_map.specs.declared.map.AddressMap.{AddressMap}
 use Rattle.os_heap_lists.specs.Heap.{HeapList}
 use Rattle.os_heap_lists.specs.Marks.{spells_any}
 use Rattle.os_heap.specs.Store.{store_of, AreClasses, IsSound, IsClearOfHeaps}
 use Rattle.os_heap.proofs.Frame.{clear_unowned}
 
-pub no_anchor : (m : AddressMap) (a : ℕ) → IsSound (store_of m) → class_of m a ≢ class.Anchor
+pub no_anchor : (m : AddressMap) (at len : ℕ) → anchor_among (store_of m).anchor at len ≡ false → HasNoAnchor (class_of m) at len
 unfolding store_of
-no_anchor m a sound is = both_ways (is_anchor (class_of m a)) (sound.anchors a) (ap is_anchor is)
+no_anchor m at len none = unanchored m at len none
 
 -- pages that no heap meets have no word of a heap, so nothing is lost with them
 pub classes_unmapped : (m n : AddressMap) (at len : ℕ) → IsSound (store_of m) → IsClearOfHeaps at len (store_of m).heaps

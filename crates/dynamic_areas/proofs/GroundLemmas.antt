@@ -3,6 +3,7 @@ use Rattle.std.proofs.Common.{◌≡◌, ℕ, ◌+◌, ◌-◌, ◌*◌, ◌<◌
 use Rattle.std.specs.List.{list_any}
 use Rattle.std.proofs.lemmas.Bool.{cases_Bool, le-ltb, and_right}
 use Rattle.address_map.specs.declared.region.Region.{Region}
+use Rattle.address_map.specs.Records.{anchor_among}
 use Rattle.address_map.specs.Bytes.{in_range, AreUnmapped}
 use Rattle.os_heap.specs.Store.{Store, IsClearOfHeaps}
 use Rattle.os_heap.proofs.Stores.{clear_both_ways}
@@ -116,9 +117,10 @@ module _ (s : Store) (free : ℕ) (l : Land) (number : ℕ) (a : Area) (count : 
 
   pub ground_shrunk : IsClearOfHeaps (a.base + 4096 * (a.pages - count)) (4096 * count) s.heaps
       → AreRangesClear (a.base + 4096 * (a.pages - count)) (4096 * count) s.others
+      → anchor_among s.anchor (a.base + 4096 * (a.pages - count)) (4096 * count) ≡ false
       → IsGround (without_pages_at s (a.base + 4096 * (a.pages - count)) (4096 * count)) (free + count)
       (with_areas l (with_pages number (a.pages - count) l.areas))
-  ground_shrunk heaps ranges =
+  ground_shrunk heaps ranges anchors =
       let room : IsRoom a = found_room number l.areas a ground.table.rooms e in
       let within : 4096 * a.pages ≤ a.maximum = room.within in
       let counted : pages_of (with_pages number (a.pages - count) l.areas) + a.pages ≡ pages_of l.areas + (a.pages - count) =
@@ -140,7 +142,7 @@ module _ (s : Store) (free : ℕ) (l : Land) (number : ℕ) (a : Area) (count : 
             )));
         pages = omega arith;
         ranges = ranges_less s (a.base + 4096 * (a.pages - count)) (4096 * count) s.others ground.ranges ranges;
-        sound = sound_shrunk s (a.base + 4096 * (a.pages - count)) (4096 * count) ground.sound heaps;
+        sound = sound_shrunk s (a.base + 4096 * (a.pages - count)) (4096 * count) ground.sound heaps anchors;
       }
 
 pub mapped_held : (s : Store) (free : ℕ) (l : Land) (number : ℕ) (a : Area) → IsGround s free l → find_area number l.areas ≡ Some a

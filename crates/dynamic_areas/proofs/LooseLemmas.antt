@@ -1,10 +1,12 @@
 -- The pages at an area's top that can go have no byte of a recorded range.
-use Rattle.std.proofs.Common.{◌≡◌, ◌≢◌, ℕ, ◌+◌, ◌-◌, ◌*◌, ◌<◌, ◌≤◌, Bool, false, suc, zero, inl, inr, arith}
+use Rattle.std.proofs.Common.{◌≡◌, ◌≢◌, ℕ, ◌+◌, ◌-◌, ◌*◌, ◌/◌, ◌<◌, ◌≤◌, Bool, false, suc, zero, inl, inr, arith}
 use Rattle.std.specs.List.{list_any}
 use Rattle.std.proofs.lemmas.Bool.{cases_Bool, cases_lt, ne_eqb, or_parts}
 use Rattle.os_heap.specs.Store.{Store, IsClearOfHeaps}
 use Rattle.os_heap.specs.Ranges.{meets}
-use Rattle.os_heap.proofs.Added.{clear_of_heaps}
+use Rattle.address_map.proofs.Anchors.{among_none, none_among}
+use Rattle.address_map.specs.Records.{anchor_among}
+use Rattle.os_heap.proofs.Added.{clear_of_heaps, unmet}
 use Rattle.dynamic_areas.specs.declared.area.Area.{Area}
 use Rattle.dynamic_areas.specs.Changing.{AreLoose, AreRangesClear, must_stay, held_from, loose_pages}
 use Rattle.dynamic_areas.proofs.RecordLemmas.{heaps_by_pages, ranges_by_pages, clear_of_ranges}
@@ -37,12 +39,19 @@ page_free s a count k loose low high =
     held_above (must_stay s a.number) a.base a.pages k (omega arith) (omega arith)
 
 unmet_page : (s : Store) (number page : ℕ) → number ≢ 1 → must_stay s number page ≡ false
-    → (IsClearOfHeaps page 4096 s.heaps) × (AreRangesClear page 4096 s.others)
+    → (IsClearOfHeaps page 4096 s.heaps) × (AreRangesClear page 4096 s.others × (anchor_among s.anchor page 4096 ≡ false))
 unfolding must_stay
 unmet_page s number page other free =
     let none = rw (ne_eqb number 1 other) at free in
-    let parts = or_parts (list_any (λ h. meets page 4096 h.start h.end) s.heaps) (list_any (λ r. meets page 4096 r.at r.len) s.others) none in
-    (clear_of_heaps page 4096 s.heaps parts.0, clear_of_ranges page 4096 s.others parts.1)
+    let parts = unmet page 4096 s none in
+    (clear_of_heaps page 4096 s.heaps parts.0.0, (clear_of_ranges page 4096 s.others parts.0.1, parts.1))
+
+anchors_by_pages : (base first count : ℕ) (anchor : ℕ → Bool) → ((k : ℕ) → first ≤ k → k < first + count → anchor_among anchor (base + 4096 * k) 4096 ≡ false)
+    → anchor_among anchor (base + 4096 * first) (4096 * count) ≡ false
+anchors_by_pages base first count anchor none =
+    among_none anchor (base + 4096 * first) (4096 * count) (λ a low high.
+    let k : ℕ = (a - base) / 4096 in
+    none_among anchor (base + 4096 * k) 4096 a (none k (omega arith) (omega arith)) (omega arith) (omega arith))
 
 pub loose_created : (s : Store) (a : Area) (count : ℕ) → a.number ≢ 1 → count ≤ loose_pages s a → AreLoose s a count
 loose_created s a count other loose = record {
@@ -50,5 +59,7 @@ loose_created s a count other loose = record {
   heaps = heaps_by_pages a.base (a.pages - count) count s.heaps
       (λ k low high. (unmet_page s a.number (a.base + 4096 * k) other (page_free s a count k loose low high)).0);
   ranges = ranges_by_pages a.base (a.pages - count) count s.others
-      (λ k low high. (unmet_page s a.number (a.base + 4096 * k) other (page_free s a count k loose low high)).1);
+      (λ k low high. (unmet_page s a.number (a.base + 4096 * k) other (page_free s a count k loose low high)).1.0);
+  anchors = anchors_by_pages a.base (a.pages - count) count s.anchor
+      (λ k low high. (unmet_page s a.number (a.base + 4096 * k) other (page_free s a count k loose low high)).1.1);
 }

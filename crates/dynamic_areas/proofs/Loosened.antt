@@ -1,6 +1,6 @@
 -- The pages at the module area's top can go once its heap ends below them.
-use Rattle.std.proofs.Common.{◌≡◌, ℕ, ◌+◌, ◌-◌, ◌*◌, ◌<◌, ◌≤◌, true, List, [], ◌∷◌, sym, ap, subst, ◌∙◌, Some, inl, inr, arith}
-use Rattle.std.proofs.lemmas.Bool.{eq-eqb, ne_eqb, false_from_ne_true}
+use Rattle.std.proofs.Common.{◌≡◌, ℕ, ◌+◌, ◌-◌, ◌*◌, ◌<◌, ◌≤◌, true, false, List, [], ◌∷◌, sym, ap, subst, ◌∙◌, Some, inl, inr, arith}
+use Rattle.std.proofs.lemmas.Bool.{both_ways, eq-eqb, ne_eqb, false_from_ne_true}
 use Rattle.address_map.specs.declared.region.Region.{Region}
 use Rattle.address_map.specs.Bytes.{Bytes, in_range}
 use Rattle.address_map.specs.Items.{size_of}
@@ -8,6 +8,9 @@ use Rattle.os_heap_lists.specs.Heap.{HeapList, IsHeapIn}
 use Rattle.os_heap_lists.specs.Lists.{live_total}
 use Rattle.os_heap_lists.proofs.LiveBlocks.{LiveBytes, live_bytes}
 use Rattle.os_heap.specs.Store.{Store, IsSound, IsClearOfHeaps, AreClear, ArePlaced, IsImageIn, StandAreas, find_heap}
+use Rattle.address_map.proofs.Anchors.{among_none}
+use Rattle.address_map.specs.Records.{anchor_among}
+use Rattle.os_heap.proofs.Anchored.{place_in}
 use Rattle.os_heap.specs.Calls.{with_end}
 use Rattle.os_heap.proofs.Stores.{AreOthers, are_others, clear_of-found, clear_both_ways}
 use Rattle.dynamic_areas.specs.declared.area.Area.{Area}
@@ -81,11 +84,25 @@ ranges_behind top len h hs (r ∷ rs) b others stand start found spelled low hig
   ranges_behind top len h hs rs b others stand start found spelled low high placed.1,
 )
 
+-- anchors in the heap lie in its live blocks, below its base
+anchors_behind : (s : Store) (h : HeapList) (top len : ℕ) → IsSound s → find_heap 0x01800000 s.heaps ≡ Some h → h.start ≡ 0x01800000
+    → IsHeapIn s.bytes h.start h.end h.items → h.start + (16 + size_of h.items) ≤ top → top + len ≤ h.start + h.end → anchor_among s.anchor top len ≡ false
+anchors_behind s h top len sound found start spelled low high =
+    among_none s.anchor top len (λ a above below. false_from_ne_true (s.anchor a) (λ is.
+    elim (place_in 0x01800000 s.heaps h a found (sound.anchors a is).1) [
+      | inl out ↦ both_ways (in_range h.start h.end a) out (here h.start h.end a (omega (arith, above)) (omega (arith, below)))
+      | inr held ↦
+          let lies : LiveBytes held.block held.total (h.start + 16) (h.start + 16 + size_of h.items) =
+          live_bytes held.block held.total (h.start + 16) h.items spelled.totals held.live in
+          absurd (omega (arith, held.high, lies.high, above))
+    ]))
+
 -- `t` is the store after the heap got the end of the pages that are left
 pub loose_ended : (s t : Store) (free : ℕ) (l : Land) (a : Area) (count : ℕ) (m : IsModuleArea s a) → AreAreas s free l → find_area 1 l.areas ≡ Some a
     → count ≤ loose_pages s a → t.heaps ≡ with_end m.heap.start (4096 * (a.pages - count)) s.heaps → t.others ≡ s.others
+    → t.anchor ≡ s.anchor
     → AreLoose t a count
-loose_ended s t free l a count m areas e loose heaps others =
+loose_ended s t free l a count m areas e loose heaps others anchors =
     let h : HeapList = m.heap in
     let start : h.start ≡ 0x01800000 = m.start in
     let end : h.end ≡ 4096 * a.pages = m.end in
@@ -101,4 +118,5 @@ loose_ended s t free l a count m areas e loose heaps others =
       heaps = rw heaps (heaps_ended (a.base + 4096 * (a.pages - count)) (4096 * count) (4096 * (a.pages - count)) h s.heaps beside (omega arith) (omega arith));
       ranges = rw others (ranges_behind (a.base + 4096 * (a.pages - count)) (4096 * count) h s.heaps s.others s.bytes beside sound.limits.place start m.found m.spelled
           (omega arith) (omega arith) sound.placed);
+      anchors = rw anchors (anchors_behind s h (a.base + 4096 * (a.pages - count)) (4096 * count) sound m.found start m.spelled (omega arith) (omega arith));
     }

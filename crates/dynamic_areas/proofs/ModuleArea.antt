@@ -5,6 +5,8 @@ use Rattle.std.specs.List.{list_any}
 use Rattle.std.proofs.lemmas.Bool.{cases_Bool, cases_lt, cases_eq, eqb-true, eq-eqb, lt-ltb, le-ltb, ltb-false, and_parts, false≢true, false_from_ne_true}
 use Rattle.address_map.specs.declared.region.Kind.TheVariants.{Rma}
 use Rattle.address_map.specs.declared.region.Region.{Region}
+use Rattle.address_map.proofs.Anchors.{among_none}
+use Rattle.address_map.specs.Records.{anchor_among}
 use Rattle.address_map.specs.Bytes.{Bytes, in_range, AreMapped, AreUnmapped}
 use Rattle.address_map.specs.Items.{size_of}
 use Rattle.os_heap_lists.specs.Heap.{HeapList, IsHeapIn}
@@ -71,8 +73,14 @@ unmet_ranges : (at len : ℕ) (rs : List Region) → 0 < len → AreRangesClear 
 unmet_ranges at len [] some clear = refl
 unmet_ranges at len (r ∷ rs) some clear = rw (unmet_range at len r.at r.len some clear.0, unmet_ranges at len rs some clear.1) refl
 
-unmet_any : (s : Store) (at len : ℕ) → 0 < len → IsClearOfHeaps at len s.heaps → AreRangesClear at len s.others → meets_any at len s ≡ false
-unmet_any s at len some heaps ranges = rw (unmet_heaps at len s.heaps some heaps, unmet_ranges at len s.others some ranges) refl
+unmet_any : (s : Store) (at len : ℕ) → 0 < len → IsClearOfHeaps at len s.heaps → AreRangesClear at len s.others → anchor_among s.anchor at len ≡ false
+    → meets_any at len s ≡ false
+unmet_any s at len some heaps ranges anchors = rw (unmet_heaps at len s.heaps some heaps, unmet_ranges at len s.others some ranges, anchors) refl
+
+-- anchors are mapped
+anchors_unmapped : (s : Store) (at len : ℕ) → IsSound s → AreUnmapped s.bytes.mapped at len → anchor_among s.anchor at len ≡ false
+anchors_unmapped s at len sound unmapped =
+    among_none s.anchor at len (λ a low high. false_from_ne_true (s.anchor a) (λ is. false≢true (sym (unmapped a low high) ∙ (sound.anchors a is).0)))
 
 ranges_unmapped : (mapped : ℕ → Bool) (at len : ℕ) (rs : List Region) → AreUnmapped mapped at len → AreRangesMapped mapped rs → AreRangesClear at len rs
 ranges_unmapped mapped at len [] unmapped ranges = tt
@@ -112,7 +120,8 @@ may_grow_heap s free l a count areas e fits pool =
       clear = elim (cases_lt h.end (4096 * (a.pages + count))) [
         | inl grows ↦ rw (lt-ltb h.end (4096 * (a.pages + count)) grows, top, more) (unmet_any t (a.base + 4096 * a.pages) (4096 * count) (omega arith)
             (clear_unmapped s.bytes (a.base + 4096 * a.pages) (4096 * count) s.heaps unmapped areas.ground.sound.heaps)
-            (ranges_unmapped s.bytes.mapped (a.base + 4096 * a.pages) (4096 * count) s.others unmapped areas.ground.ranges))
+            (ranges_unmapped s.bytes.mapped (a.base + 4096 * a.pages) (4096 * count) s.others unmapped areas.ground.ranges)
+            (anchors_unmapped s (a.base + 4096 * a.pages) (4096 * count) areas.ground.sound unmapped))
         | inr stays ↦ rw (le-ltb h.end (4096 * (a.pages + count)) stays) refl
       ];
       inside = le-ltb (4096 * (a.pages + count)) (16 + size_of h.items) (omega arith);

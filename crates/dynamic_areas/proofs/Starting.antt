@@ -5,8 +5,12 @@ use Rattle.std.proofs.lemmas.Bool.{le-ltb, and_right}
 use Rattle.profile.specs.Sizes.{Sizes, AreGood}
 use Rattle.address_map.specs.declared.map.AddressMap.{AddressMap}
 use Rattle.address_map.specs.declared.region.Kind.TheVariants.{Heap, Rma}
+use Rattle.address_map.proofs.Anchors.{among_none}
 use Rattle.address_map.specs.Bytes.{in_range}
-use Rattle.address_map.specs.Memory.{Mapping, mapping, is_mapped, byte_at, bytes_of, regions, free_pages, class_of}
+use Rattle.address_map.specs.Classes.{is_anchor}
+use Rattle.address_map.specs.Records.{anchor_among}
+use Rattle.address_map.specs.declared.class.Class.TheVariants as class
+use Rattle.address_map.specs.Memory.{anchor_of, Mapping, mapping, is_mapped, byte_at, bytes_of, regions, free_pages, class_of}
 use Rattle.os_heap_lists.specs.Heap.{HeapList}
 use Rattle.os_heap.specs.Calls.{begun_with}
 use Rattle.os_heap.specs.Ranges.{MayBegin}
@@ -28,17 +32,20 @@ no_others : (m : AddressMap) → regions m ≡ [] → (store_of m).others ≡ []
 unfolding store_of
 no_others m none = rw none refl
 
+plain_among : (m : AddressMap) (at len : ℕ) → ((x : ℕ) → class_of m x ≡ class.Plain) → anchor_among (anchor_of m) at len ≡ false
+plain_among m at len plain = among_none (anchor_of m) at len (λ a low high. ap is_anchor (plain a))
+
 pub may_begin_area : (m : AddressMap) (s : Sizes) → AreGood s → regions m ≡ [] → ((x : ℕ) → is_mapped m x ≡ is_land (start_land s) x)
-    → MayBegin Rma (store_of m) 0x01800000 (4096 * s.rma)
+    → ((x : ℕ) → class_of m x ≡ class.Plain) → MayBegin Rma (store_of m) 0x01800000 (4096 * s.rma)
 unfolding store_of
-may_begin_area m s good none mapped =
+may_begin_area m s good none mapped plain =
     let some : 1 ≤ s.rma = good.has_rma in
     let most : s.pages ≤ 1024 = good.in_limit in
     let fits : s.app + s.rma + 3 ≤ s.pages = good.has_room in
     record {
       region = region_known (bytes_of m) 0x01800000 (4096 * s.rma) refl (omega arith) (omega arith) (omega arith)
           (λ x low high. mapped x ∙ rw (here 0x01800000 (4096 * s.rma) x low high) (or_true (is_fixed s x)));
-      clear = rw none refl;
+      clear = rw (none, plain_among m 0x01800000 (4096 * s.rma) plain) refl;
       room = rw none (refl, refl);
     }
 

@@ -1,10 +1,11 @@
 -- OS_ChangeDynamicArea: an area grows out of the pool, and shrinks down to the first page from its top that must stay (RISC OS 3 Programmer's
 -- Reference Manual, "OS_ChangeDynamicArea"; what must stay, and that as many pages move as can, are this project's own).
-use Rattle.std.specs.Prelude.{ℕ, ◌+◌, ◌-◌, ◌*◌, ◌/◌, ◌^◌, ◌==◌, ◌||◌, Bool, zero, suc, nat_lt, min, Option, Some, None, Result, Ok, Err, List, [], ◌∷◌, ◌≤◌, if◌then◌else◌}
+use Rattle.std.specs.Prelude.{ℕ, ◌+◌, ◌-◌, ◌*◌, ◌/◌, ◌^◌, ◌==◌, ◌||◌, Bool, false, zero, suc, ◌≡◌, nat_lt, min, Option, Some, None, Result, Ok, Err, List, [], ◌∷◌, ◌≤◌, if◌then◌else◌}
 use Rattle.profile.specs.Outcome.{bind}
 use Rattle.profile.specs.declared.error.ErrorNumber.{ErrorNumber}
 use Rattle.profile.specs.declared.error.ErrorNumber.TheVariants.{AreaUnknown, AreaInUse, AreaNoPages}
 use Rattle.address_map.specs.Items.{size_of}
+use Rattle.address_map.specs.Records.{anchor_among}
 use Rattle.address_map.specs.declared.region.Region.{Region}
 use Rattle.os_heap_lists.specs.Heap.{HeapList}
 use Rattle.os_heap.specs.Store.{Store, AreClear, IsClearOfHeaps, find_heap}
@@ -28,7 +29,7 @@ abbrev pub heap_base : Option HeapList → ℕ
 heap_base None = 0
 heap_base (Some h) = h.start + (16 + size_of h.items)
 
--- Must the page at an address stay? It must where it has a byte of a recorded range; in the module area, which is itself such a range, up to the
+-- Must the page at an address stay? It must where it has a byte of a recorded range or of an anchor; in the module area, which is itself such a range, up to the
 -- last byte below its base.
 unfoldable pub must_stay : Store → ℕ → ℕ → Bool
 must_stay s number page = if number == 1 then nat_lt page (heap_base (find_heap 0x01800000 s.heaps)) else meets_any page 4096 s
@@ -82,11 +83,12 @@ abbrev pub AreRangesClear : ℕ → ℕ → List Region → Type 0
 AreRangesClear at len [] = Unit {0}
 AreRangesClear at len (r ∷ rs) = AreClear at len r.at r.len × AreRangesClear at len rs
 
--- the `count` pages at an area's top can go: they have no byte of a recorded range
+-- the `count` pages at an area's top can go: they have no byte of a recorded range, nor of an anchor
 pub record AreLoose (s : Store) (a : Area) (count : ℕ) : Type 0 where
   pub fits : count ≤ a.pages
   pub heaps : IsClearOfHeaps (a.base + 4096 * (a.pages - count)) (4096 * count) s.heaps
   pub ranges : AreRangesClear (a.base + 4096 * (a.pages - count)) (4096 * count) s.others
+  pub anchors : anchor_among s.anchor (a.base + 4096 * (a.pages - count)) (4096 * count) ≡ false
 
 -- OS_DynamicArea, reason 1: an area goes, where all its pages can.
 abbrev pub store_emptied : Store → Option Area → Store

@@ -116,7 +116,7 @@ fn held_pages(map: &AddressMap, area: &Area) -> u32
     0
 }
 
-/// Whether the page at an address must stay an area's: it has a byte of a recorded range, or in the
+/// Whether the page at an address must stay an area's: it has a byte of a recorded range or of an anchor, or in the
 /// module area of what is below its base.
 #[tactic(auto, unfolding(crate::specs::Changing::must_stay))]
 fn must_stay(map: &AddressMap, number: u32, page: u32) -> bool
@@ -127,7 +127,7 @@ fn must_stay(map: &AddressMap, number: u32, page: u32) -> bool
     if number == MODULE_AREA {
         page < heap_base(map)
     } else {
-        map.meets_record(page, PAGE_SIZE)
+        map.meets_record(page, PAGE_SIZE) || map.anchor_in(page, PAGE_SIZE)
     }
 }
 

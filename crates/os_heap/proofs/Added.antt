@@ -1,6 +1,7 @@
 -- A heap more, behind all others: its descriptor is written, and its range recorded.
 use Rattle.std.proofs.Common.{ap, cond, subst, Bool, arith, inl, ◌+◌, ◌≡◌, ℕ, true, inr, suc, zero, refl, false, [], List, ◌∷◌, ◌++◌, ◌≤◌, ◌%◌, ◌==◌, ◌&&◌, ◌-◌, leb, ◌^◌, ◌<◌, ◌⊎◌, ◌∙◌, sym, ◌↔◌, ◌||◌, length, Err, Ok}
-use Rattle.std.proofs.lemmas.Bool.{cases_lt, and_parts, both_ways, false_from_ne_true, or_parts, leb-true, eqb-true, le-leb, lt-ltb, cases_Bool, false≢true, eq-eqb, leb-false}
+use Rattle.std.proofs.lemmas.Bool.{cases_lt, and_parts, both_ways, false_from_ne_true, or_parts, leb-true, ltb-true, eqb-true, le-leb, lt-ltb, cases_Bool, false≢true, eq-eqb, leb-false}
+use Rattle.std.proofs.Math.Dec.{ltb}
 use Rattle.std.proofs.lemmas.Bool.Decides.{nat_tests}
 use Rattle.std.specs.List.{list_any}
 use Rattle.profile.specs.declared.error.ErrorNumber.TheVariants.{HeapBadRegion, HeapOverlaps, HeapTableFull}
@@ -8,7 +9,9 @@ use Rattle.address_map.proofs.Spans.{mapped_below}
 use Rattle.address_map.specs.Bytes.{AreMapped, in_range, word_start, Bytes, with_word_at, word_at}
 use Rattle.address_map.specs.Items.{items_in}
 use Rattle.address_map.specs.Classes.{is_flex_header, is_anchor}
-use Rattle.address_map.specs.Memory.{is_mapped, bytes_of, byte_at, class_of, regions}
+use Rattle.address_map.proofs.Anchors.{none_among}
+use Rattle.address_map.specs.Memory.{anchor_of, is_mapped, bytes_of, byte_at, class_of, regions}
+use Rattle.address_map.specs.Records.{anchor_among}
 use Rattle.address_map.specs.Records.{is_heap_kind, with_region}
 use Rattle.address_map.specs.declared.class.Class.TheVariants as class
 use Rattle.address_map.specs.declared.map.AddressMap.{AddressMap}
@@ -17,10 +20,11 @@ use Rattle.address_map.specs.declared.region.Region.{Region}
 use Rattle.os_heap_lists.proofs.Reading.{items_in-heap}
 use Rattle.os_heap_lists.specs.Heap.{HeapList, IsHeapIn, with_heap}
 use Rattle.os_heap.proofs.Held.{AreBy, marks_begun}
-use Rattle.os_heap.proofs.FlexWords.{AreSameFlex}
+use Rattle.os_heap.proofs.Anchored.{place_more}
+use Rattle.os_heap.proofs.FlexWords.{AreSameFlex, IsUnflexed}
 use Rattle.os_heap.proofs.Frame.{clear_parts, heaps_in-spelled}
 use Rattle.os_heap.specs.Ranges.{are_mapped, meets, is_heap_region, meets_any, HasRoom, MayBegin}
-use Rattle.os_heap.specs.Store.{AreClasses, AreClear, IsClearOfHeaps, AreHeapsIn, ArePlaced, Store, IsSound, heap_in, heaps_in, others_in, store_of, IsImageIn, is_area, guest_count, area_count, StandAreas, AreInLimits}
+use Rattle.os_heap.specs.Store.{AreClasses, AreClear, IsClearOfHeaps, AreHeapsIn, ArePlaced, Store, IsSound, heap_in, heaps_in, is_flex_store, is_in_flex_store, others_in, store_of, IsImageIn, is_area, guest_count, area_count, StandAreas, AreInLimits}
 use Rattle.os_heap.specs.Calls.{begun_with, begun}
 use Rattle.address_map.specs.declared.region.Kind.TheVariants as kind
 
@@ -241,10 +245,26 @@ empty_heap b at size can =
       inside = can.low;
     }
 
+range_low : (at len a : ℕ) → in_range at len a ≡ true → at ≤ a
+range_low at len a inside = leb-true at a (and_parts (leb at a) (ltb a (at + len)) inside).0
+
+range_high : (at len a : ℕ) → in_range at len a ≡ true → a < at + len
+range_high at len a inside = ltb-true a (at + len) (and_parts (leb at a) (ltb a (at + len)) inside).1
+
+-- what meets neither a record nor an anchor
+pub unmet : (at len : ℕ) (s : Store) → meets_any at len s ≡ false
+    → ((list_any (λ h. meets at len h.start h.end) s.heaps ≡ false) × (list_any (λ r. meets at len r.at r.len) s.others ≡ false))
+    × (anchor_among s.anchor at len ≡ false)
+unmet at len s clear =
+    let heaps : Bool = list_any (λ h. meets at len h.start h.end) s.heaps in
+    let others : Bool = list_any (λ r. meets at len r.at r.len) s.others in
+    let both = or_parts (heaps || others) (anchor_among s.anchor at len) clear in
+    (or_parts heaps others both.0, both.1)
+
 pub begun_old : (k : Kind) (s : Store) (at size : ℕ) → MayBegin k s at size → IsSound s → AreHeapsIn (begun_with k s at size).bytes s.heaps
 begun_old k s at size may sound =
     let can : CanHold s.bytes at size = can_hold s.bytes at size may.region in
-    let none = or_parts (list_any (λ h. meets at size h.start h.end) s.heaps) (list_any (λ r. meets at size r.at r.len) s.others) may.clear in
+    let none = (unmet at size s may.clear).0 in
     clear_parts s.bytes (begun_with k s at size).bytes s.heaps at size refl sound.heaps (clear_of_heaps at size s.heaps none.0)
     (λ a outside. written_other s.bytes.at at size (omega (arith, can.high)) a (elim (cases_lt a at) [
       | inl low ↦ inl (omega arith)
@@ -258,7 +278,7 @@ begun_old k s at size may sound =
 pub begun_sound : (k : Kind) (s : Store) (at size : ℕ) → MayBegin k s at size → IsSound s → IsSound (begun_with k s at size)
 begun_sound k s at size may sound =
     let can : CanHold s.bytes at size = can_hold s.bytes at size may.region in
-    let none = or_parts (list_any (λ h. meets at size h.start h.end) s.heaps) (list_any (λ r. meets at size r.at r.len) s.others) may.clear in
+    let none = (unmet at size s may.clear).0 in
     record {
       heaps = parts_more (begun_with k s at size).bytes s.heaps (empty k at size) (begun_old k s at size may sound)
           (clear_of_heaps at size s.heaps none.0) (empty_heap s.bytes at size can);
@@ -266,7 +286,11 @@ begun_sound k s at size may sound =
       placed = others_more s.heaps (empty k at size) s.others sound.placed none.1;
       apart = sound.apart;
       few = sound.few;
-      anchors = sound.anchors;
+      anchors = λ a is. (
+        (sound.anchors a is).0,
+        place_more s.heaps (empty k at size) a (sound.anchors a is).1 (false_from_ne_true (in_range at size a) (λ inside.
+            both_ways (s.anchor a) (none_among s.anchor at size a (unmet at size s may.clear).1 (range_low at size a inside) (range_high at size a inside)) is)),
+      );
       headers = sound.headers;
     }
 
@@ -354,9 +378,10 @@ meets_ranges b at len (r ∷ rs) =
       | inr other ↦ rw (other, meets_ranges b at len rs) (or_middle (meets at len r.at r.len) parts others)
     ]
 
-pub meets_recorded : (m : AddressMap) (at len : ℕ) → list_any (λ r. meets at len r.at r.len) (regions m) ≡ meets_any at len (store_of m)
+pub meets_recorded : (m : AddressMap) (at len : ℕ)
+    → (list_any (λ r. meets at len r.at r.len) (regions m) || anchor_among (anchor_of m) at len) ≡ meets_any at len (store_of m)
 unfolding store_of
-meets_recorded m at len = meets_ranges (bytes_of m) at len (regions m)
+meets_recorded m at len = ap (λ (t : Bool). t || anchor_among (anchor_of m) at len) (meets_ranges (bytes_of m) at len (regions m))
 
 records_counted : (b : Bytes) (rs : List Region) → length rs ≡ length (heaps_in b rs) + length (others_in rs)
 records_counted b [] = refl
@@ -407,9 +432,43 @@ sound_empty m none plain = rw none (record {
   placed = tt;
   apart = tt;
   few = omega arith;
-  anchors = λ a. ap is_anchor (plain a);
-  headers = λ a. ap is_flex_header (plain a);
+  anchors = λ a is. absurd (false≢true (sym (ap is_anchor (plain a)) ∙ is));
+  headers = λ a is. absurd (false≢true (sym (ap is_flex_header (plain a)) ∙ is));
 })
+
+unmet_flex : (at size : ℕ) (rs : List Region) (a : ℕ) → list_any (λ r. meets at size r.at r.len) rs ≡ false → at ≤ a → a < at + size
+    → is_in_flex_store rs a ≡ true → ⊥
+unmet_flex at size [] a none low high is = false≢true is
+unmet_flex at size (r ∷ rs) a none low high is =
+    let parts = or_parts (meets at size r.at r.len) (list_any (λ q. meets at size q.at q.len) rs) none in
+    elim (cases_Bool (is_flex_store r.kind && in_range r.at r.len a)) [
+      | inr other ↦ unmet_flex at size rs a parts.1 low high (rw other at is)
+      | inl here ↦
+          let inside : in_range r.at r.len a ≡ true = (and_parts (is_flex_store r.kind) (in_range r.at r.len a) here).1 in
+          let from : r.at ≤ a = range_low r.at r.len a inside in
+          let to : a < r.at + r.len = range_high r.at r.len a inside in
+          both_ways (meets at size r.at r.len) parts.0
+          (rw (lt-ltb 0 r.len (omega arith), lt-ltb at (r.at + r.len) (omega arith), lt-ltb r.at (at + size) (omega arith)) refl)
+    ]
+
+-- no word of the new heap's descriptor is an anchor's or a header's
+pub begun_unflexed : (m : AddressMap) (k : Kind) (at size : ℕ) → MayBegin k (store_of m) at size → IsSound (store_of m)
+    → (a : ℕ) → in_range at 16 (word_start a) ≡ true → IsUnflexed (class_of m a)
+unfolding store_of
+begun_unflexed m k at size may sound a inside =
+    let can : CanHold (bytes_of m) at size = can_hold (bytes_of m) at size may.region in
+    let low : at ≤ word_start a = range_low at 16 (word_start a) inside in
+    let high : word_start a < at + 16 = range_high at 16 (word_start a) inside in
+    let none = unmet at size (store_of m) may.clear in
+    let aligned = can.aligned in
+    let most : 16 ≤ size = can.low in
+    let above : at ≤ a = omega arith in
+    let below : a < at + size = omega arith in
+    record {
+      anchor = none_among (store_of m).anchor at size a none.1 above below;
+      header = false_from_ne_true (is_flex_header (class_of m a)) (λ is.
+          unmet_flex at size (store_of m).others a none.0.1 above below (sound.headers a is));
+    }
 
 -- the marks with a heap more
 pub classes_begun : (m n : AddressMap) (k : Kind) (at size : ℕ) → store_of n ≡ begun_with k (store_of m) at size

@@ -1,15 +1,15 @@
 -- From one heap to the calls on all heaps.
-use Rattle.std.proofs.Common.{true, false, [], ◌∷◌, inl, inr, ◌≢◌, ok_or, Ok, ℕ, ◌≡◌, ◌∙◌, Some, ap, ◌-◌, subst, sym, Result, refl, Err, None, Option, List, ◌+◌}
-use Rattle.std.proofs.lemmas.Bool.{cases_Bool, both_ways}
+use Rattle.std.proofs.Common.{Bool, if◌then◌else◌, true, false, [], ◌∷◌, inl, inr, ◌≢◌, ok_or, Ok, ℕ, ◌≡◌, ◌∙◌, Some, ap, ◌-◌, subst, sym, Result, refl, Err, None, Option, List, ◌+◌}
+use Rattle.std.proofs.lemmas.Bool.{cases_Bool, both_ways, false≢true}
 use Rattle.profile.specs.Outcome.{bind, Gives}
 use Rattle.profile.specs.declared.error.ErrorNumber.{ErrorNumber}
-use Rattle.profile.specs.declared.error.ErrorNumber.TheVariants.{HeapNoRoom, HeapBadDesc, HeapNotABlock}
+use Rattle.profile.specs.declared.error.ErrorNumber.TheVariants.{HeapNoRoom, HeapBadDesc, HeapHoldsAnchor, HeapNotABlock}
 use Rattle.address_map.specs.Records.{is_heap_kind}
 use Rattle.address_map.specs.declared.region.Kind.TheVariants as kind
 use Rattle.os_heap_lists.proofs.LiveBlocks.{IsStill, claim_still, IsStillIn, release_still}
 use Rattle.address_map.specs.Bytes.{word_at}
 use Rattle.address_map.specs.Items.{items_in}
-use Rattle.address_map.specs.Memory.{bytes_of, byte_at, regions, layout, class_of}
+use Rattle.address_map.specs.Memory.{anchor_of, bytes_of, byte_at, regions, layout, class_of}
 use Rattle.address_map.specs.declared.item.Item.{Item}
 use Rattle.address_map.specs.declared.map.AddressMap.{AddressMap}
 use Rattle.address_map.specs.declared.region.Kind.{Kind}
@@ -18,13 +18,14 @@ use Rattle.os_heap_lists.specs.Counts.{looked_at, begun_below}
 use Rattle.os_heap_lists.specs.Heap.{HeapList, IsHeapIn}
 use Rattle.os_heap_lists.specs.Marks.{AreMarked, Remarks}
 use Rattle.os_heap_lists.specs.Lists.{Claim, claimed, total_for, released, live_total}
-use Rattle.os_heap.proofs.FlexWords.{IsUnflexed, AreUnflexed, AreSameFlex, flex_held}
+use Rattle.os_heap.proofs.Anchored.{KeepsAnchors, heads_unflexed, place_held, release_keeps}
+use Rattle.os_heap.proofs.FlexWords.{AreSameFlex, flex_held}
 use Rattle.os_heap.proofs.Found.{found_heap}
 use Rattle.os_heap.proofs.Held.{AreBy, heads_marked, marks_held}
-use Rattle.os_heap.proofs.Stores.{KeepsImages, sound_held, store_held}
-use Rattle.os_heap.specs.Outcomes.{Becomes, items_at, HasHeapAt, Claims, end_at, Releases}
+use Rattle.os_heap.proofs.Stores.{AreOthers, KeepsImages, are_others, sound_held, store_held}
+use Rattle.os_heap.specs.Outcomes.{Becomes, items_at, HasHeapAt, Claims, end_at, Releases, Frees, has_anchor_in}
 use Rattle.os_heap.specs.Store.{heap_in, find_heap, store_of, IsSound, AreClasses, heaps_in, others_in, has_image, is_image, Store}
-use Rattle.os_heap.specs.Calls.{got, gave_back, holding, unless_image}
+use Rattle.os_heap.specs.Calls.{got, gave_back, holding, holds_anchor, unless_image}
 use Rattle.os_heap.specs.Probes.{get_probes, counted_of, walk_probes}
 
 abbrev pub part_at : Kind → AddressMap → ℕ → ℕ → HeapList
@@ -54,11 +55,6 @@ marks_changed m n h items found list b same =
     subst (λ (xs : List Item). AreMarked (class_of m) (h.start + 16) xs → Remarks (class_of m) (class_of n) (h.start + 16) xs items) (sym list) b.marks in
     change (heads_marked (class_of m) (store_of m).heaps h same found)
 
--- no word that becomes a head is one of the flex store's
-pub unflexed : (m : AddressMap) → IsSound (store_of m) → (a : ℕ) → IsUnflexed (class_of m a)
-unfolding store_of
-unflexed m sound a = record { anchor = sound.anchors a; header = sound.headers a }
-
 -- what is so after a heap got another list
 pub record IsHeld (m n : AddressMap) (h : HeapList) (items : List Item) : Type 0 where
   pub store : store_of n ≡ holding (store_of m) h items
@@ -66,16 +62,20 @@ pub record IsHeld (m n : AddressMap) (h : HeapList) (items : List Item) : Type 0
   pub classes : AreClasses n
 
 pub is_held : (m n : AddressMap) (h : HeapList) (items : List Item) → IsSound (store_of m) → AreClasses m → find_heap h.start (store_of m).heaps ≡ Some h
-    → h.items ≡ items_at m h.start → KeepsImages (store_of m).others h.start h.items items → Becomes m n h.start h.end items → IsHeld m n h items
-is_held m n h items sound classes found list kept b =
+    → h.items ≡ items_at m h.start → KeepsImages (store_of m).others h.start h.items items
+    → KeepsAnchors (store_of m).anchor (h.start + 16) h.items items → Becomes m n h.start h.end items → IsHeld m n h items
+is_held m n h items sound classes found list kept keeps b =
     let s : Store = store_of m in
     let change : Remarks (class_of m) (class_of n) (h.start + 16) h.items items = marks_changed m n h items found list b classes in
     let flex : AreSameFlex (class_of m) (class_of n) =
-    flex_held (class_of m) (class_of n) (h.start + 16) h.items items (heads_marked (class_of m) s.heaps h classes found) change (λ a _. unflexed m sound a) in
+    flex_held (class_of m) (class_of n) (h.start + 16) h.items items (heads_marked (class_of m) s.heaps h classes found) change
+    (heads_unflexed m (bytes_of n) h items sound found b.heap keeps) in
+    let others : AreOthers h s.heaps = are_others s.bytes h.start s.heaps h sound.heaps found in
     let store : store_of n ≡ holding s h items = store_held m n h items sound found b flex in
     record {
       store = store;
-      sound = sound_held m n h items sound found kept b flex;
+      sound = sound_held m n h items sound found kept b flex
+          (λ a is. place_held h items s.heaps a others (keeps a is) (sound.anchors a is).1);
       classes = subst (λ (t : Store). AreBy (class_of n) t.heaps) (sym store)
           (marks_held s.bytes (class_of m) (class_of n) h items s.heaps sound.heaps found classes change);
     }
@@ -107,7 +107,8 @@ pub gives_claim : (kind : Kind) (m n : AddressMap) (heap end : ℕ) (answer : Re
 gives_claim kind m n heap end answer None sound classes found still claims = gives_none ℕ m n HeapNoRoom answer sound classes claims.0 claims.1
 gives_claim kind m n heap end answer (Some c) sound classes found still claims =
     let held : IsHeld m n (part_at kind m heap end) c.items =
-    is_held m n (part_at kind m heap end) c.items sound classes found refl (λ b t is live. still b t live) claims.1 in
+    is_held m n (part_at kind m heap end) c.items sound classes found refl (λ b t is live. still b t live)
+    (λ a _ held. record { block = held.block; total = held.total; live = still held.block held.total held.live; low = held.low; high = held.high }) claims.1 in
     record {
       store = rw claims.0 (held.store, refl);
       sound = held.sound;
@@ -165,24 +166,41 @@ pub image_apart : (b block : ℕ) (rs : List Region) → has_image b rs ≡ true
 image_apart b block rs is none same = both_ways (has_image block rs) none (subst (λ (x : ℕ). has_image x rs ≡ true) same is)
 
 -- the release, by the list that it leaves
-abbrev pub released_in : Store → HeapList → Option (List Item) → Result (Store × Unit {0}) ErrorNumber
-released_in s h o = bind (ok_or o HeapNotABlock) (λ items. Ok (holding s h items, tt))
+abbrev pub released_in : Store → HeapList → Bool → Option (List Item) → Result (Store × Unit {0}) ErrorNumber
+released_in s h held o = bind (ok_or o HeapNotABlock) (λ items. if held then Err HeapHoldsAnchor else Ok (holding s h items, tt))
 
-pub gives_release : (kind : Kind) (m n : AddressMap) (heap end : ℕ) (answer : Result (Unit {0}) ErrorNumber) (o : Option (List Item)) → IsSound (store_of m) → AreClasses m
+abbrev pub KeepsIn : (ℕ → Bool) → ℕ → List Item → Bool → Option (List Item) → Type 0
+KeepsIn anchor at old true o = Unit {0}
+KeepsIn anchor at old false None = Unit {0}
+KeepsIn anchor at old false (Some new) = KeepsAnchors anchor at old new
+
+pub gives_release : (kind : Kind) (m n : AddressMap) (heap end : ℕ) (answer : Result (Unit {0}) ErrorNumber) (holds : Bool) (o : Option (List Item)) → IsSound (store_of m) → AreClasses m
     → find_heap heap (store_of m).heaps ≡ Some (part_at kind m heap end)
     → ((b t : ℕ) → has_image b (store_of m).others ≡ true → live_total b (heap + 16) (items_at m heap) ≡ Some t → IsStillIn b t (heap + 16) o)
-    → Releases m n heap end answer o → IsGiven (Unit {0}) m n (released_in (store_of m) (part_at kind m heap end) o) answer
-gives_release kind m n heap end answer None sound classes found still releases =
+    → KeepsIn (store_of m).anchor (heap + 16) (items_at m heap) holds o
+    → Frees m n heap end answer holds o → IsGiven (Unit {0}) m n (released_in (store_of m) (part_at kind m heap end) holds o) answer
+gives_release kind m n heap end answer true None sound classes found still keeps releases =
     gives_none (Unit {0}) m n HeapNotABlock answer sound classes releases.0 releases.1
-gives_release kind m n heap end answer (Some items) sound classes found still releases =
+gives_release kind m n heap end answer false None sound classes found still keeps releases =
+    gives_none (Unit {0}) m n HeapNotABlock answer sound classes releases.0 releases.1
+gives_release kind m n heap end answer true (Some items) sound classes found still keeps releases =
+    gives_none (Unit {0}) m n HeapHoldsAnchor answer sound classes releases.0 releases.1
+gives_release kind m n heap end answer false (Some items) sound classes found still keeps releases =
     let held : IsHeld m n (part_at kind m heap end) items =
-    is_held m n (part_at kind m heap end) items sound classes found refl still releases.1 in
+    is_held m n (part_at kind m heap end) items sound classes found refl still keeps releases.1 in
     record {
       store = rw releases.0 (held.store, refl);
       sound = held.sound;
       same = releases.1.same;
       classes = held.classes;
     }
+
+release_keeps_in : (anchor : ℕ → Bool) (block at : ℕ) (image holds : Bool) (o : Option (List Item)) (xs : List Item)
+    → unless_image image (released block at xs) ≡ o → holds_anchor anchor block (live_total block at xs) ≡ holds → KeepsIn anchor at xs holds o
+release_keeps_in anchor block at image true o xs is none = tt
+release_keeps_in anchor block at image false None xs is none = tt
+release_keeps_in anchor block at true false (Some ys) xs is none = absurd (let no : None ≡ Some ys = is in cc)
+release_keeps_in anchor block at false false (Some ys) xs is none = release_keeps anchor block at xs ys is none
 
 guest_still : (b t block at : ℕ) (rs : List Region) (xs : List Item) → has_image b rs ≡ true → live_total b at xs ≡ Some t
     → IsStillIn b t at (unless_image (has_image block rs) (released block at xs))
@@ -193,16 +211,18 @@ guest_still b t block at rs xs is live = elim (cases_Bool (has_image block rs)) 
 
 pub free_given : (kind : Kind) (m n : AddressMap) (heap block end : ℕ) (answer : Result (Unit {0}) ErrorNumber) → IsSound (store_of m) → AreClasses m
     → find_heap heap (store_of m).heaps ≡ Some (part_at kind m heap end)
-    → Releases m n heap (end_at m heap) answer (unless_image (has_image block (regions m)) (released block (heap + 16) (items_at m heap)))
+    → Frees m n heap (end_at m heap) answer (has_anchor_in m heap block) (unless_image (has_image block (regions m)) (released block (heap + 16) (items_at m heap)))
     → IsGiven (Unit {0}) m n (gave_back (store_of m) heap block) answer
-unfolding gave_back
+unfolding gave_back store_of
 free_given kind m n heap block end answer sound classes found releases =
     let limit : end_at m heap ≡ end = (heap_of-part kind m heap end sound found).limit in
     let rs : List Region = (store_of m).others in
     let o : Option (List Item) = unless_image (has_image block rs) (released block (heap + 16) (items_at m heap)) in
-    let here : Releases m n heap end answer o =
-    rw (image_recorded m block) (subst (λ (e : ℕ). Releases m n heap e answer (unless_image (has_image block (regions m)) (released block (heap + 16) (items_at m heap)))) limit releases) in
-    rw found (gives_release kind m n heap end answer o sound classes found (λ b t is live. guest_still b t block (heap + 16) rs (items_at m heap) is live) here)
+    let holds : Bool = has_anchor_in m heap block in
+    let here : Frees m n heap end answer holds o =
+    rw (image_recorded m block) (subst (λ (e : ℕ). Frees m n heap e answer holds (unless_image (has_image block (regions m)) (released block (heap + 16) (items_at m heap)))) limit releases) in
+    rw found (gives_release kind m n heap end answer holds o sound classes found (λ b t is live. guest_still b t block (heap + 16) rs (items_at m heap) is live)
+    (release_keeps_in (anchor_of m) block (heap + 16) (has_image block rs) holds o (items_at m heap) refl refl) here)
 
 pub free_refused : (m : AddressMap) (heap block : ℕ) → find_heap heap (store_of m).heaps ≡ None → gave_back (store_of m) heap block ≡ Err HeapBadDesc
 unfolding gave_back
@@ -216,3 +236,10 @@ free_counted kind m heap block end found = ap (counted_of (λ h. begun_below blo
 pub free_counted_none : (m : AddressMap) (heap block : ℕ) → find_heap heap (store_of m).heaps ≡ None → walk_probes (store_of m) heap block ≡ 0
 unfolding walk_probes
 free_counted_none m heap block none = ap (counted_of (λ h. begun_below block (h.start + 16) h.items)) none
+
+-- a release of a block that has no anchor
+pub frees_done : (m n : AddressMap) (start end : ℕ) (held : Bool) (o : Option (List Item)) → held ≡ false → Releases m n start end (Ok tt) o
+    → Frees m n start end (Ok tt) held o
+frees_done m n start end true o free releases = absurd (false≢true (sym free))
+frees_done m n start end false None free releases = absurd (let no : Ok tt ≡ Err HeapNotABlock = releases.0 in cc)
+frees_done m n start end false (Some items) free releases = releases

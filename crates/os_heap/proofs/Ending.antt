@@ -1,9 +1,10 @@
 -- A heap that gets another end: the word that tells it is written, and the length of its record changed.
 use Rattle.std.proofs.Common.{◌≡◌, arith, ◌≤◌, ℕ, Bool, List, ◌∙◌, inr, ◌-◌, inl, ◌+◌, ap, refl, ◌≢◌, sym, ◌<◌, ◌⊎◌, [], ◌∷◌, true, subst, ◌==◌, false, Some}
-use Rattle.std.proofs.lemmas.Bool.{le-leb, false≢true, cases_lt, lt-ltb, eqb-true, cases_Bool, ne_eqb, both_ways, eq-eqb, or_parts, ltb-false}
+use Rattle.std.proofs.lemmas.Bool.{le-leb, false≢true, cases_lt, lt-ltb, eqb-true, cases_Bool, ne_eqb, both_ways, eq-eqb, or_parts, ltb-false, false_from_ne_true}
 use Rattle.std.specs.List.{list_any}
 use Rattle.address_map.proofs.Bytes.{is_mapped-layout}
 use Rattle.address_map.proofs.Lengths.{record_parts}
+use Rattle.address_map.proofs.Anchors.{none_among}
 use Rattle.address_map.proofs.Stores.{in_range-cases}
 use Rattle.address_map.specs.Bytes.{word_at, Bytes, in_range}
 use Rattle.address_map.specs.Items.{size_of, items_in, is_head}
@@ -20,9 +21,10 @@ use Rattle.os_heap_lists.proofs.Reading.{items_in-heap}
 use Rattle.os_heap_lists.proofs.Spelling.{spells-kept}
 use Rattle.os_heap_lists.specs.Heap.{IsHeapIn, HeapList, with_heap}
 use Rattle.os_heap_lists.specs.Words.{IsWritten, AreApart}
-use Rattle.os_heap.proofs.Added.{CanHold, clear_unless, clear_of_heaps, can_hold}
+use Rattle.os_heap.proofs.Added.{unmet, CanHold, clear_unless, clear_of_heaps, can_hold}
 use Rattle.os_heap.proofs.Found.{found_heap}
 use Rattle.os_heap.proofs.Held.{AreBy, marks_ended}
+use Rattle.os_heap.proofs.Anchored.{place_ended}
 use Rattle.os_heap.proofs.FlexWords.{AreSameFlex, same_flex}
 use Rattle.os_heap.proofs.Stores.{SamePlaces, same_limits, AreOthers, clear_both_ways, clear_of-found, are_others, bytes_held}
 use Rattle.os_heap.specs.Calls.{with_end, has_own_size, ending}
@@ -206,7 +208,7 @@ heaps_clear : (s : Store) (h : HeapList) (end : ℕ) → MayEnd s h end → h.en
 heaps_clear s h end may more =
     let at : ℕ = h.start + h.end in
     let len : ℕ = end - h.end in
-    let none = or_parts (list_any (λ g. meets at len g.start g.end) s.heaps) (list_any (λ r. meets at len r.at r.len) s.others) (may_grow s h end may more) in
+    let none = (unmet at len s (may_grow s h end may more)).0 in
     clear_of_heaps at len s.heaps none.0
 
 ranges_clear : (s : Store) (h : HeapList) (end : ℕ) → MayEnd s h end → h.end < end
@@ -214,8 +216,26 @@ ranges_clear : (s : Store) (h : HeapList) (end : ℕ) → MayEnd s h end → h.e
 ranges_clear s h end may more =
     let at : ℕ = h.start + h.end in
     let len : ℕ = end - h.end in
-    let none = or_parts (list_any (λ g. meets at len g.start g.end) s.heaps) (list_any (λ r. meets at len r.at r.len) s.others) (may_grow s h end may more) in
+    let none = (unmet at len s (may_grow s h end may more)).0 in
     none.1
+
+-- an anchor outside the heap isn't in what it grows by either
+anchor_outside : (s : Store) (h : HeapList) (end a : ℕ) → MayEnd s h end → s.anchor a ≡ true → in_range h.start h.end a ≡ false
+    → in_range h.start end a ≡ false
+anchor_outside s h end a may is out = false_from_ne_true (in_range h.start end a) (λ inside.
+    elim (in_range-cases h.start end a) [
+      | inr other ↦ both_ways (in_range h.start end a) other.0 inside
+      | inl here ↦ elim (in_range-cases h.start h.end a) [
+        | inl there ↦ both_ways (in_range h.start h.end a) out there.0
+        | inr beyond ↦ elim beyond.1 [
+          | inl low ↦ absurd (omega (arith, here.1, low))
+          | inr past ↦
+              let more : h.end < end = omega (arith, here.2, past) in
+              let none = (unmet (h.start + h.end) (end - h.end) s (may_grow s h end may more)).1 in
+              both_ways (s.anchor a) (none_among s.anchor (h.start + h.end) (end - h.end) a none (omega (arith, past)) (omega (arith, here.2))) is
+        ]
+      ]
+    ])
 
 -- the records after the length of one changed
 same_kind : (k : Kind) → is_heap_kind k ≡ true → are_same k k ≡ true
@@ -407,6 +427,7 @@ sound_ended m n o h end e bytes records marks =
     read_ended (bytes_of m) c h end (regions m) e.own (ended_bytes m n h end e) (all_beside m n h end e) e.sound.heaps in
     let others : others_in (with_len (regions m) h.kind h.start end) ≡ others_in (regions m) = others_in-ended h.kind h.start end (regions m) e.own in
     let ended : IsEnded (bytes_of m) c h end = ended_bytes m n h end e in
+    let others_beside : AreOthers h hs = are_others (bytes_of m) h.start hs h e.sound.heaps e.found in
     let flex : AreSameFlex (class_of m) (class_of o) = same_flex (class_of m) (class_of o) (marks ∙ e.marks) in
     rw (bytes, records, heaps, others) (record {
       heaps = parts_ended (bytes_of m) c h end hs ended.long ended.mapped ended.kept ended.heap (all_beside m n h end e) e.sound.heaps;
@@ -414,8 +435,12 @@ sound_ended m n o h end e bytes records marks =
       placed = others_ended h end hs (others_in (regions m)) e.found (ranges_clear (store_of m) h end e.may) e.sound.placed;
       apart = e.sound.apart;
       few = e.sound.few;
-      anchors = λ a. flex.anchors a ∙ e.sound.anchors a;
-      headers = λ a. flex.headers a ∙ e.sound.headers a;
+      anchors = λ a is.
+          let was = sym (flex.anchors a) ∙ is in (
+            ap (λ (f : ℕ → Bool). f a) (is_mapped-layout m n e.same) ∙ (e.sound.anchors a was).0,
+            place_ended h end hs a others_beside (anchor_outside (store_of m) h end a e.may was) (e.sound.anchors a was).1,
+          );
+      headers = λ a is. e.sound.headers a (sym (flex.headers a) ∙ is);
     })
 
 pub classes_ended : (m n o : AddressMap) (h : HeapList) (end : ℕ) → EndsAt m n h end → bytes_of o ≡ bytes_of n

@@ -1,5 +1,5 @@
 -- The words of the flex store, its headers and anchors, over calls on heaps: they stay what they are.
-use Rattle.std.proofs.Common.{Bool, List, ℕ, ◌≡◌, ◌+◌, true, false, refl, sym, ap, ◌∙◌, cond}
+use Rattle.std.proofs.Common.{Bool, List, ℕ, ◌≡◌, true, false, refl, sym, ap, ◌∙◌, cond}
 use Rattle.std.proofs.lemmas.Bool.{false≢true}
 use Rattle.address_map.specs.Bytes.{in_range, word_start}
 use Rattle.address_map.specs.Classes.{is_flex_header, is_anchor}

@@ -1,5 +1,5 @@
 -- What a write leaves of the heaps: where no byte of the words that they spell changes, memory spells the same lists.
-use Rattle.std.proofs.Common.{◌∙◌, ◌≡◌, [], List, ℕ, true, ◌∷◌, inl, refl, inr, ap, subst, sym, false, arith, ◌+◌, ◌%◌, ◌<◌, ◌||◌}
+use Rattle.std.proofs.Common.{Bool, ◌∙◌, ◌≡◌, [], List, ℕ, true, ◌∷◌, inl, refl, inr, ap, subst, sym, false, arith, ◌+◌, ◌%◌, ◌<◌, ◌||◌}
 use Rattle.std.proofs.lemmas.Bool.{or_left, or_right, cases_Bool, both_ways, or_from, false_from_ne_true}
 use Rattle.std.specs.List.{list_any}
 use Rattle.address_map.proofs.Bytes.{is_mapped-layout}
@@ -65,14 +65,14 @@ unfolding store_of
 layout-others m n same = ap (λ l. others_in l.regions) same
 
 -- A sound store stays sound, with the same lists, where the bytes of memory change but memory spells its heaps still.
-pub sound_spelled : (s : Store) (c : Bytes) → IsSound s → AreHeapsIn c s.heaps → IsSound (record s { bytes = c })
-sound_spelled s c sound parts = record {
+pub sound_spelled : (s : Store) (c : Bytes) → c.mapped ≡ s.bytes.mapped → IsSound s → AreHeapsIn c s.heaps → IsSound (record s { bytes = c })
+sound_spelled s c mapping sound parts = record {
   heaps = parts;
   limits = sound.limits;
   placed = sound.placed;
   apart = sound.apart;
   few = sound.few;
-  anchors = sound.anchors;
+  anchors = λ a is. (ap (λ (f : ℕ → Bool). f a) mapping ∙ (sound.anchors a is).0, (sound.anchors a is).1);
   headers = sound.headers;
 }
 
@@ -81,13 +81,17 @@ pub record IsKept (m n : AddressMap) : Type 0 where
   pub store : store_of n ≡ record (store_of m) { bytes = bytes_of n }
   pub sound : IsSound (store_of n)
 
+store_mapped : (m n : AddressMap) → layout n ≡ layout m → (bytes_of n).mapped ≡ (store_of m).bytes.mapped
+unfolding store_of
+store_mapped m n same = is_mapped-layout m n same
+
 kept_by_parts : (m n : AddressMap) → layout n ≡ layout m → class_of n ≡ class_of m → IsSound (store_of m) → AreHeapsIn (bytes_of n) (store_of m).heaps → IsKept m n
 kept_by_parts m n same marks sound parts =
     let store : store_of n ≡ record (store_of m) { bytes = bytes_of n } =
     store_spelled m n (layout-regions m n same) parts (same_flex (class_of m) (class_of n) marks) in
     record {
       store = store;
-      sound = subst IsSound (sym store) (sound_spelled (store_of m) (bytes_of n) sound parts);
+      sound = subst IsSound (sym store) (sound_spelled (store_of m) (bytes_of n) (store_mapped m n same) sound parts);
     }
 
 -- stores to bytes that no heap spells keep every list
@@ -104,7 +108,7 @@ spelled_owned s a is = or_left (are_owned s.heaps a) (is_flex_word s (word_start
 -- the same of a pure store
 pub store_kept : (s : Store) (c : Bytes) → c.mapped ≡ s.bytes.mapped → IsSound s
     → ((a : ℕ) → owned_in s a ≡ true → c.at a ≡ s.bytes.at a) → IsSound (record s { bytes = c })
-store_kept s c mapping sound kept = sound_spelled s c sound (parts_kept s.bytes c s.heaps mapping (λ a is. kept a (spelled_owned s a is)) sound.heaps)
+store_kept s c mapping sound kept = sound_spelled s c mapping sound (parts_kept s.bytes c s.heaps mapping (λ a is. kept a (spelled_owned s a is)) sound.heaps)
 
 -- the classes of a map without records, and of one that has the same lists and marks as another
 pub classes_empty : (m : AddressMap) → regions m ≡ [] → ((a : ℕ) → class_of m a ≡ class.Plain) → AreClasses m
@@ -138,7 +142,7 @@ clear_kept m n at len same marks sound clear kept =
 -- the same of a pure store
 pub store_clear : (s : Store) (c : Bytes) (at len : ℕ) → c.mapped ≡ s.bytes.mapped → IsSound s → IsClearOfHeaps at len s.heaps
     → ((a : ℕ) → in_range at len a ≡ false → c.at a ≡ s.bytes.at a) → IsSound (record s { bytes = c })
-store_clear s c at len mapping sound clear kept = sound_spelled s c sound (clear_parts s.bytes c s.heaps at len mapping sound.heaps clear kept)
+store_clear s c at len mapping sound clear kept = sound_spelled s c mapping sound (clear_parts s.bytes c s.heaps at len mapping sound.heaps clear kept)
 
 -- a byte is owned as its whole word is
 pub owned_word : (s : Store) (a k : ℕ) → a % 4 ≡ 0 → k < 4 → owned_in s (a + k) ≡ owned_in s a

@@ -1,11 +1,11 @@
 -- What a call that is done leaves of the bytes of live blocks: all of them.
 use Rattle.std.proofs.Common.{if◌then◌else◌, Bool, List, ℕ, [], ◌≡◌, ◌≢◌, ◌==◌, ◌&&◌, ◌+◌, ◌-◌, ◌%◌, ◌≤◌, ◌<◌, Option, Some, None, ok_or, is_some, Result, Ok, Err, not, true, false, refl, sym, ap, subst, ◌∙◌, inl, inr, arith}
-use Rattle.std.proofs.lemmas.Bool.{cases_Bool, both_ways, not-false, or_parts, false_from_ne_true, false≢true, le-leb, lt-ltb, leb-false}
+use Rattle.std.proofs.lemmas.Bool.{cases_Bool, both_ways, not-false, false_from_ne_true, false≢true, le-leb, lt-ltb, leb-false}
 use Rattle.std.specs.Prelude.{nat_le, nat_lt}
-use Rattle.std.specs.List.{list_any}
 use Rattle.profile.specs.Outcome.{bind}
 use Rattle.profile.specs.declared.error.ErrorNumber.{ErrorNumber}
-use Rattle.profile.specs.declared.error.ErrorNumber.TheVariants.{HeapBadDesc, HeapBadRegion, HeapOverlaps, HeapTableFull, HeapNotABlock, HeapNoRoom, HeapBadShrink}
+use Rattle.profile.specs.declared.error.ErrorNumber.TheVariants.{HeapHoldsAnchor, HeapBadDesc, HeapBadRegion, HeapOverlaps, HeapTableFull, HeapNotABlock, HeapNoRoom, HeapBadShrink}
+use Rattle.address_map.specs.Records.{anchor_among}
 use Rattle.address_map.specs.Bytes.{Bytes, in_range, word_start}
 use Rattle.address_map.specs.Items.{is_heap_word, is_total, size_of}
 use Rattle.address_map.specs.declared.item.Item.{Item}
@@ -16,16 +16,16 @@ use Rattle.os_heap_lists.proofs.Payloads.{heap_beside, payload_unspelled, spelle
 use Rattle.os_heap_lists.proofs.Spelling.{total_of-numbers}
 use Rattle.os_heap_lists.specs.Heap.{AreTotals, HeapList, IsHeapIn, with_heap}
 use Rattle.os_heap_lists.specs.Lists.{Claim, changed_by, claimed, live_total, released, resized_in_place, round_up_8, total_for}
-use Rattle.os_heap.proofs.Added.{CanHold, can_hold, clear_of_heaps}
+use Rattle.os_heap.proofs.Added.{unmet, CanHold, can_hold, clear_of_heaps}
 use Rattle.os_heap.proofs.Apart.{found_other, block_inside, range_parts}
 use Rattle.os_heap.proofs.Calls.{claimed_in, released_in}
 use Rattle.os_heap.proofs.Found.{found_heap, found_start}
 use Rattle.os_heap.proofs.Moving.{found_held}
 use Rattle.os_heap.proofs.Resizing.{larger_where_none}
 use Rattle.os_heap.proofs.Stores.{are_others, clear_of-found}
-use Rattle.os_heap.specs.Calls.{copied, handed_over, moved, resized_or_moved, begun, begun_with, got, gave_back, resized, changed, own_size, has_own_size, end_changed, ending, holding, with_items, unless_image}
+use Rattle.os_heap.specs.Calls.{holds_anchor, copied, handed_over, moved, resized_or_moved, begun, begun_with, got, gave_back, resized, changed, own_size, has_own_size, end_changed, ending, holding, with_items, unless_image}
 use Rattle.os_heap.specs.Laws.{KeepPayloads, KeepsPayloads}
-use Rattle.os_heap.specs.Ranges.{is_heap_region, meets, meets_any}
+use Rattle.os_heap.specs.Ranges.{is_heap_region, meets_any}
 use Rattle.os_heap.specs.Store.{Store, IsSound, find_heap, guest_count, has_image}
 
 -- what is done was not refused
@@ -126,12 +126,16 @@ pub keeps_freed : (s t : Store) (heap block : ℕ) → IsSound s → IsSound t �
 unfolding gave_back
 keeps_freed s t heap block sound sound' e =
     let list : HeapList → Option (List Item) = λ h. unless_image (has_image block s.others) (released block (h.start + 16) h.items) in
-    let one : FromSome HeapList (Store × Unit {0}) (find_heap heap s.heaps) (λ h. released_in s h (list h)) (t, tt) =
-    some_of HeapList (Store × Unit {0}) (find_heap heap s.heaps) HeapBadDesc (λ h. released_in s h (list h)) (t, tt) e in
+    let holds : HeapList → Bool = λ h. holds_anchor s.anchor block (live_total block (h.start + 16) h.items) in
+    let next : HeapList → List Item → Result (Store × Unit {0}) ErrorNumber = λ h items.
+    if holds h then Err HeapHoldsAnchor else Ok (holding s h items, tt) in
+    let one : FromSome HeapList (Store × Unit {0}) (find_heap heap s.heaps) (λ h. released_in s h (holds h) (list h)) (t, tt) =
+    some_of HeapList (Store × Unit {0}) (find_heap heap s.heaps) HeapBadDesc (λ h. released_in s h (holds h) (list h)) (t, tt) e in
     let h : HeapList = one.value in
-    let two : FromSome (List Item) (Store × Unit {0}) (list h) (λ items. Ok (holding s h items, tt)) (t, tt) =
-    some_of (List Item) (Store × Unit {0}) (list h) HeapNotABlock (λ items. Ok (holding s h items, tt)) (t, tt) one.done in
-    keeps_done s t h two.value sound sound' (own_start heap s h one.is) (done_store (Unit {0}) (holding s h two.value) t tt tt two.done)
+    let two : FromSome (List Item) (Store × Unit {0}) (list h) (next h) (t, tt) =
+    some_of (List Item) (Store × Unit {0}) (list h) HeapNotABlock (next h) (t, tt) one.done in
+    let three = past_if (Store × Unit {0}) (holds h) HeapHoldsAnchor (Ok (holding s h two.value, tt)) (t, tt) two.done in
+    keeps_done s t h two.value sound sound' (own_start heap s h one.is) (done_store (Unit {0}) (holding s h two.value) t tt tt three.1)
 
 -- a heap got another end
 keeps_ended : (s : Store) (k : HeapList) (end : ℕ) → IsSound s → find_heap k.start s.heaps ≡ Some k → KeepsPayloads s (ending s k end)
@@ -172,7 +176,7 @@ keeps_begun s t at size sound e =
     let two = past_if (Store × Unit {0}) (meets_any at size s) HeapOverlaps _ r one.1 in
     let three = past_if (Store × Unit {0}) (nat_le 64 (guest_count s.heaps)) HeapTableFull (Ok (begun_with kind.Heap s at size, tt)) r two.1 in
     let can : CanHold s.bytes at size = can_hold s.bytes at size (not-false (is_heap_region s.bytes at size) one.0) in
-    let clear = or_parts (list_any (λ h. meets at size h.start h.end) s.heaps) (list_any (λ r. meets at size r.at r.len) s.others) two.0 in
+    let clear = (unmet at size s two.0).0 in
     subst (λ (u : Store). KeepsPayloads s u) (done_store (Unit {0}) (begun_with kind.Heap s at size) t tt tt three.1)
     (λ h g block total new_total a found found' live live' here there.
     heap_beside s.bytes.at at size [] a can.aligned tt
@@ -185,8 +189,12 @@ gave_by : (s t : Store) (heap block : ℕ) (k : HeapList) → find_heap heap s.h
     → FromSome (List Item) (Store × Unit {0}) (unless_image (has_image block s.others) (released block (k.start + 16) k.items)) (λ items. Ok (holding s k items, tt)) (t, tt)
 unfolding gave_back
 gave_by s t heap block k found e =
-    some_of (List Item) (Store × Unit {0}) (unless_image (has_image block s.others) (released block (k.start + 16) k.items)) HeapNotABlock
-    (λ items. Ok (holding s k items, tt)) (t, tt) (rw found at e)
+    let holds : Bool = holds_anchor s.anchor block (live_total block (k.start + 16) k.items) in
+    let next : List Item → Result (Store × Unit {0}) ErrorNumber = λ items. if holds then Err HeapHoldsAnchor else Ok (holding s k items, tt) in
+    let one : FromSome (List Item) (Store × Unit {0}) (unless_image (has_image block s.others) (released block (k.start + 16) k.items)) next (t, tt) =
+    some_of (List Item) (Store × Unit {0}) (unless_image (has_image block s.others) (released block (k.start + 16) k.items)) HeapNotABlock next (t, tt) (rw found at e) in
+    let done = past_if (Store × Unit {0}) holds HeapHoldsAnchor (Ok (holding s k one.value, tt)) (t, tt) one.done in
+    record { value = one.value; is = one.is; done = done.1 }
 
 given_back : (r : Result (Store × Unit {0}) ErrorNumber) (t : Store) (x y : ℕ)
     → (let two : Result (Store × ℕ) ErrorNumber = Ok (t, y) in bind r (λ u. Ok (u.0, x)) ≡ two) → r ≡ Ok (t, tt)
@@ -282,9 +290,12 @@ keeps_moved s t h block old new answer sound sound' found total less e =
 
 keeps_in_place : (s t : Store) (h : HeapList) (block old new answer : ℕ) (o : Option (List Item)) → IsSound s → IsSound t → find_heap h.start s.heaps ≡ Some h
     → is_total new ≡ true → (o ≡ None → old ≤ new) → resized_or_moved s h block old new o ≡ Ok (t, answer) → KeepsPayloads s t
-keeps_in_place s t h block old new answer None sound sound' found total less e = keeps_moved s t h block old new answer sound sound' found total (less refl) e
+keeps_in_place s t h block old new answer None sound sound' found total less e =
+    let free = past_if (Store × ℕ) (holds_anchor s.anchor block (Some old)) HeapHoldsAnchor (moved s h block old new) (t, answer) e in
+    keeps_moved s t h block old new answer sound sound' found total (less refl) free.1
 keeps_in_place s t h block old new answer (Some items) sound sound' found total less e =
-    keeps_done s t h items sound sound' found (done_store ℕ (holding s h items) t block answer e)
+    let free = past_if (Store × ℕ) (anchor_among s.anchor (block - 4 + new) (old - new)) HeapHoldsAnchor (Ok (holding s h items, block)) (t, answer) e in
+    keeps_done s t h items sound sound' found (done_store ℕ (holding s h items) t block answer free.1)
 
 unheld_image : (b : Bool) (o : Option ℕ) (t : ℕ) → unless_image b o ≡ Some t → o ≡ Some t
 unheld_image true o t e = absurd (let none : None ≡ Some t = e in cc)

@@ -1,4 +1,5 @@
 pub mod Added
+pub mod Anchored
 pub mod Apart
 pub mod Bounds
 pub mod Calls

@@ -8,7 +8,7 @@ use Rattle.address_map.proofs.Equations.{stored_moved}
 use Rattle.address_map.proofs.Stores.{in_range-cases}
 use Rattle.address_map.specs.Bytes.{AreMapped, Bytes, word_start, in_range, with_moved_at}
 use Rattle.address_map.specs.Items.{size_of, is_heap_word, is_head}
-use Rattle.address_map.specs.Memory.{bytes_of, layout, is_mapped, byte_at, regions, class_of}
+use Rattle.address_map.specs.Memory.{anchor_of, bytes_of, layout, is_mapped, byte_at, regions, class_of}
 use Rattle.address_map.specs.declared.item.Item.{Item}
 use Rattle.address_map.specs.declared.map.AddressMap.{AddressMap}
 use Rattle.address_map.specs.declared.region.Kind.{Kind}
@@ -19,15 +19,15 @@ use Rattle.os_heap_lists.proofs.Reading.{items_in-heap}
 use Rattle.os_heap_lists.specs.Counts.{looked_at, free_below}
 use Rattle.os_heap_lists.specs.Heap.{HeapList, IsHeapIn}
 use Rattle.os_heap_lists.specs.Lists.{Claim, claimed, live_total, released}
-use Rattle.os_heap.proofs.Calls.{part_at, heap_there, free_given, IsGiven, IsHeld, is_held}
+use Rattle.os_heap.proofs.Calls.{part_at, heap_there, free_given, IsGiven, IsHeld, frees_done, is_held}
 use Rattle.os_heap.proofs.Found.{found_heap, found_start}
 use Rattle.os_heap.proofs.Frame.{store_bytes, heads_kept, IsKept, classes_same}
 use Rattle.os_heap.proofs.Replace.{heap_below}
 use Rattle.os_heap.proofs.Searching.{looked-below}
 use Rattle.os_heap.proofs.Stores.{IsOther, AreOthers, are_others}
-use Rattle.os_heap.specs.Calls.{copied, moved, handed_over, holding, with_items, gave_back}
+use Rattle.os_heap.specs.Calls.{holds_anchor, copied, moved, handed_over, holding, with_items, gave_back}
 use Rattle.os_heap.specs.Probes.{move_probes}
-use Rattle.os_heap.specs.Outcomes.{items_at, end_at, Becomes, Claims, HasHeapAt, Releases}
+use Rattle.os_heap.specs.Outcomes.{has_anchor_in, items_at, end_at, Becomes, Claims, HasHeapAt, Releases}
 use Rattle.os_heap.specs.Store.{has_image, IsSound, AreClasses, find_heap, store_of, AreHeapsIn, Store}
 
 -- the part of a heap, by what memory spells of it
@@ -102,8 +102,11 @@ is_claimed m n heap block total needed new answer p sound classes live claims ok
     let fresh : IsFresh needed (heap + 16) (Some b.claim) = subst (IsFresh needed (heap + 16)) b.is (claim_fresh needed (end - 16) (heap + 16) items there.totals) in
     let still : IsStill block total (heap + 16) (Some b.claim) =
     subst (IsStill block total (heap + 16)) b.is (claim_still needed (end - 16) block total (heap + 16) items live there.totals) in
+    let keeps : (a t : ℕ) → live_total a (heap + 16) items ≡ Some t → live_total a (heap + 16) b.claim.items ≡ Some t =
+    λ a t there'. subst (IsStill a t (heap + 16)) b.is (claim_still needed (end - 16) a t (heap + 16) items there' there.totals) in
     let held : IsHeld m n (part_at kind m heap end) b.claim.items = is_held m n (part_at kind m heap end) b.claim.items sound classes found refl
-    (λ a t is there'. subst (IsStill a t (heap + 16)) b.is (claim_still needed (end - 16) a t (heap + 16) items there' there.totals)) b.becomes in
+    (λ a t is. keeps a t)
+    (λ a _ in'. record { block = in'.block; total = in'.total; live = keeps in'.block in'.total in'.live; low = in'.low; high = in'.high }) b.becomes in
     record {
       claim = b.claim;
       found = found;
@@ -239,6 +242,10 @@ is_copied m n p kind heap block total needed new larger c same bytes marks =
       live = ap (λ (xs : List Item). is_some (live_total block (heap + 16) xs)) items ∙ ap is_some c.still;
     }
 
+store_anchor : (m : AddressMap) → anchor_of m ≡ (store_of m).anchor
+unfolding store_of
+store_anchor m = refl
+
 -- the whole move
 then_given : (s t : Store) (r : Result (Store × Unit {0}) ErrorNumber) (n : ℕ) → Gives s r (let done : Result (Unit {0}) ErrorNumber = Ok tt in done) t → (u : Store) → Gives u (bind r (λ x. Ok (x.0, n))) (Ok n) t
 then_given s t (Ok x) n left u = (left.0, refl)
@@ -252,11 +259,16 @@ pub record IsMoved (m q : AddressMap) (heap block total needed new : ℕ) : Type
 
 pub is_moved : (m n p q : AddressMap) (kind : Kind) (heap block total needed new : ℕ) (c : IsClaimed m n kind heap block total needed new)
     → IsCopied m n p kind heap block total needed new c.claim → layout p ≡ layout n
-    → has_image block (regions p) ≡ false → Releases p q heap (end_at p heap) (Ok tt) (released block (heap + 16) (items_at p heap))
+    → has_image block (regions p) ≡ false → holds_anchor (store_of m).anchor block (Some total) ≡ false → Releases p q heap (end_at p heap) (Ok tt) (released block (heap + 16) (items_at p heap))
     → IsMoved m q heap block total needed new
-is_moved m n p q kind heap block total needed new c d same own releases =
+is_moved m n p q kind heap block total needed new c d same own free releases =
+    let live : live_total block (heap + 16) (items_at p heap) ≡ Some total =
+    ap (λ (xs : List Item). live_total block (heap + 16) xs) d.items ∙ c.still in
+    let anchors : anchor_of p ≡ (store_of m).anchor = store_anchor p ∙ ap (λ (s : Store). s.anchor) d.store in
+    let free' : has_anchor_in p heap block ≡ false = rw (anchors, live) free in
     let left : IsGiven (Unit {0}) p q (gave_back (store_of p) heap block) (Ok tt) =
-    free_given kind p q heap block (end_at p heap) (Ok tt) d.sound d.classes d.found (rw own releases) in
+    free_given kind p q heap block (end_at p heap) (Ok tt) d.sound d.classes d.found
+    (rw own (frees_done p q heap (end_at p heap) (has_anchor_in p heap block) (released block (heap + 16) (items_at p heap)) free' releases)) in
     let s : Store = store_of m in
     let part : HeapList = part_at kind m heap (end_at m heap) in
     let back : Gives (store_of p) (gave_back (copied (holding s part c.claim.items) block new (total - 4)) heap block) (Ok tt) (store_of q) =

@@ -1,9 +1,7 @@
 -- The bytes that guests must leave alone are those of the words that the heaps spell, and of the flex store's.
-use Rattle.std.proofs.Common.{Bool, false, ◌≡◌, refl, sym, ◌∙◌, true, ℕ, not, ◌||◌, ap, arith}
-use Rattle.std.specs.List.{list_any}
+use Rattle.std.proofs.Common.{Bool, ◌≡◌, refl, ◌∙◌, ℕ, not, ◌||◌, ap, arith}
 use Rattle.address_map.specs.Bytes.{word_start}
 use Rattle.address_map.specs.Classes.{is_heap_class, is_flex_header, is_anchor}
-use Rattle.address_map.specs.Items.{is_heap_word}
 use Rattle.address_map.specs.Memory.{is_plain, class_of, is_owned}
 use Rattle.address_map.specs.declared.class.Class.{Class}
 use Rattle.address_map.specs.declared.class.Class.TheVariants as class

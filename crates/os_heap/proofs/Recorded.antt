@@ -1,14 +1,14 @@
 -- A recorded range more that is no heap, as the system pages or an image.
-use Rattle.std.proofs.Common.{ℕ, false, inl, [], ◌≡◌, refl, List, ◌++◌, inr, ◌∷◌, length, arith, length-append, ◌<◌}
-use Rattle.std.proofs.lemmas.Bool.{cases_Bool}
-use Rattle.address_map.specs.Bytes.{Bytes}
+use Rattle.std.proofs.Common.{ℕ, true, ◌&&◌, false, inl, [], ◌≡◌, refl, List, ◌++◌, inr, ◌∷◌, length, arith, length-append, ◌<◌}
+use Rattle.std.proofs.lemmas.Bool.{cases_Bool, false≢true, or_left, or_right}
+use Rattle.address_map.specs.Bytes.{Bytes, in_range}
 use Rattle.address_map.specs.Classes.{is_flex_header, is_anchor}
 use Rattle.address_map.specs.Memory.{bytes_of, regions, class_of}
 use Rattle.address_map.specs.Records.{is_heap_kind}
 use Rattle.address_map.specs.declared.map.AddressMap.{AddressMap}
 use Rattle.address_map.specs.declared.region.Region.{Region}
 use Rattle.os_heap_lists.specs.Heap.{HeapList}
-use Rattle.os_heap.specs.Store.{AreClear, heaps_in, others_in, IsClearOfHeaps, ArePlaced, IsClearOfRanges, AreRangesApart, store_of, IsSound, Store}
+use Rattle.os_heap.specs.Store.{AreClear, heaps_in, others_in, IsClearOfHeaps, ArePlaced, IsClearOfRanges, AreRangesApart, is_flex_store, is_in_flex_store, store_of, IsSound, Store}
 
 heaps_in-other : (b : Bytes) (rs : List Region) (r : Region) → is_heap_kind r.kind ≡ false → heaps_in b (rs ++ r ∷ []) ≡ heaps_in b rs
 heaps_in-other b [] r other = rw other refl
@@ -58,6 +58,13 @@ store_recorded m n r other records bytes marks =
       header = λ a. is_flex_header (marks a i);
     })
 
+in_more : (rs : List Region) (r : Region) (a : ℕ) → is_in_flex_store rs a ≡ true → is_in_flex_store (rs ++ r ∷ []) a ≡ true
+in_more [] r a is = absurd (false≢true is)
+in_more (q ∷ rs) r a is = elim (cases_Bool (is_flex_store q.kind && in_range q.at q.len a)) [
+  | inl here ↦ or_left _ (is_in_flex_store (rs ++ r ∷ []) a) here
+  | inr other ↦ or_right (is_flex_store q.kind && in_range q.at q.len a) _ (in_more rs r a (rw other at is))
+]
+
 -- and stays sound, where the range meets no heap
 pub recorded_sound : (s : Store) (r : Region) → IsSound s → IsClearOfHeaps r.at r.len s.heaps → IsClearOfAll r s.others → length s.others < 68
     → IsSound (record s { others = s.others ++ r ∷ [] })
@@ -68,5 +75,5 @@ recorded_sound s r sound clear apart room = record {
   apart = apart_other s.others r sound.apart apart;
   few = omega (arith, length-append {A = Region});
   anchors = sound.anchors;
-  headers = sound.headers;
+  headers = λ a is. in_more s.others r a (sound.headers a is);
 }

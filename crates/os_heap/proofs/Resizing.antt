@@ -1,14 +1,15 @@
 -- What a change of a block's size leaves of all heaps, by the ways that it can go.
-use Rattle.std.proofs.Common.{ok_or, if◌then◌else◌, ◌==◌, ◌-◌, inl, ◌≡◌, [], None, List, subst, ℕ, Some, inr, ap, ◌∷◌, ◌∙◌, true, is_some, ◌+◌, Option, ◌%◌, arith, sym, Err, refl, Result, Ok, ◌≤◌, false, ◌<◌, ◌*◌, ◌^◌}
-use Rattle.std.proofs.lemmas.Bool.{eqb-true, cases_Bool, le-leb, false≢true, lt-leb, leb-false}
+use Rattle.std.proofs.Common.{Bool, ok_or, if◌then◌else◌, ◌==◌, ◌-◌, inl, ◌≡◌, [], None, List, subst, ℕ, Some, inr, ap, ◌∷◌, ◌∙◌, true, is_some, ◌+◌, Option, ◌%◌, arith, sym, Err, refl, Result, Ok, ◌≤◌, false, ◌<◌, ◌*◌, ◌^◌}
+use Rattle.std.proofs.lemmas.Bool.{both_ways, cases_lt, eqb-true, cases_Bool, le-leb, false≢true, lt-leb, leb-false}
 use Rattle.std.specs.Prelude.{nat_le}
 use Rattle.profile.specs.Outcome.{bind, Gives}
 use Rattle.profile.specs.declared.error.ErrorNumber.{ErrorNumber}
-use Rattle.profile.specs.declared.error.ErrorNumber.TheVariants.{HeapNotABlock, HeapBadDesc}
+use Rattle.profile.specs.declared.error.ErrorNumber.TheVariants.{HeapNotABlock, HeapHoldsAnchor, HeapBadDesc}
+use Rattle.address_map.proofs.Anchors.{among_none}
 use Rattle.address_map.specs.Bytes.{Bytes, word_at}
 use Rattle.address_map.specs.Items.{items_in, size_of}
-use Rattle.address_map.specs.Memory.{bytes_of, regions, is_mapped, byte_at, layout}
-use Rattle.address_map.specs.Records.{is_heap_kind}
+use Rattle.address_map.specs.Memory.{anchor_of, bytes_of, regions, is_mapped, byte_at, layout}
+use Rattle.address_map.specs.Records.{anchor_among, is_heap_kind}
 use Rattle.address_map.specs.declared.item.Item.{Item}
 use Rattle.address_map.specs.declared.item.Item.TheVariants.{Free, Live}
 use Rattle.address_map.specs.declared.map.AddressMap.{AddressMap}
@@ -16,21 +17,22 @@ use Rattle.address_map.specs.declared.region.Kind.{Kind}
 use Rattle.address_map.specs.declared.region.Region.{Region}
 use Rattle.os_heap_lists.proofs.Counts.{claim_no_more}
 use Rattle.os_heap_lists.proofs.Reading.{total_facts}
-use Rattle.os_heap_lists.proofs.LiveBlocks.{IsStillIn, refit_still}
-use Rattle.os_heap_lists.proofs.Resizes.{map_none}
+use Rattle.os_heap_lists.proofs.LiveBlocks.{IsStillIn, LiveBytes, live_bytes, refit_still}
+use Rattle.os_heap_lists.proofs.Resizes.{map_none, unreleased}
 use Rattle.os_heap_lists.specs.Counts.{begun_below, free_count}
 use Rattle.os_heap_lists.specs.Heap.{HeapList, IsHeapIn, AreTotals}
 use Rattle.os_heap_lists.specs.Lists.{live_total, released, changed_by, resized_in_place, round_up_8, refitted, claimed}
 use Rattle.os_heap_lists.specs.Walks.{IsBlock}
+use Rattle.os_heap.proofs.Anchored.{refit_keeps}
 use Rattle.os_heap.proofs.Bounds.{move_most}
-use Rattle.os_heap.proofs.Calls.{part_at, heap_of-part, heap_there, IsGiven, IsHeld, is_held, free_given, image_recorded, image_apart}
+use Rattle.os_heap.proofs.Calls.{part_at, heap_of-part, heap_there, IsGiven, IsHeld, KeepsIn, frees_done, is_held, free_given, image_recorded, image_apart}
 use Rattle.os_heap.proofs.Freeing.{block_facts}
 use Rattle.os_heap.proofs.Moving.{part_there, HasPart}
 use Rattle.os_heap.proofs.Replace.{heap_mapped, heap_below}
 use Rattle.os_heap.proofs.Sized.{block_total}
-use Rattle.os_heap.specs.Calls.{gave_back, unless_image, resized, resized_or_moved, moved}
+use Rattle.os_heap.specs.Calls.{gave_back, holds_anchor, unless_image, resized, resized_or_moved, moved}
 use Rattle.os_heap.specs.Probes.{resize_probes, probes_after_walk, refit_probes, move_probes}
-use Rattle.os_heap.specs.Outcomes.{IsGuestBlock, items_at, end_at, Releases, Refits}
+use Rattle.os_heap.specs.Outcomes.{IsGuestBlock, has_anchor_in, items_at, end_at, Releases, Refits}
 use Rattle.os_heap.specs.Store.{has_image, heap_in, heaps_in, find_heap, store_of, IsSound, AreClasses, Store}
 
 -- the heap that is found is the one that memory spells there
@@ -92,11 +94,11 @@ by_total m heap block change t total e =
 
 probes_by_total : (m : AddressMap) (heap block change : ℕ) (t : IsThere m heap) (total : Option ℕ) → asked m heap block ≡ total
     → resize_probes (store_of m) heap block change
-    ≡ begun_below block (heap + 16) (items_at m heap) + probes_after_walk (part_at t.kind m heap t.end) block change total
+    ≡ begun_below block (heap + 16) (items_at m heap) + probes_after_walk (store_of m).anchor (part_at t.kind m heap t.end) block change total
 unfolding resize_probes
 probes_by_total m heap block change t total e =
     rw (t.found, image_recorded m block)
-    (ap (λ (o : Option ℕ). begun_below block (heap + 16) (items_at m heap) + probes_after_walk (part_at t.kind m heap t.end) block change o) e)
+    (ap (λ (o : Option ℕ). begun_below block (heap + 16) (items_at m heap) + probes_after_walk (store_of m).anchor (part_at t.kind m heap t.end) block change o) e)
 
 -- what a walk to the block tells
 pub record IsHere (m : AddressMap) (heap block at : ℕ) : Type 0 where
@@ -148,11 +150,12 @@ freed_given old new (Err e) answer zero left = absurd left
 
 pub resize_freed : (m n : AddressMap) (heap block change total : ℕ) → IsSound (store_of m) → AreClasses m → is_some (find_heap heap (store_of m).heaps) ≡ true
     → has_image block (regions m) ≡ false → live_total block (heap + 16) (items_at m heap) ≡ Some total → changed_by total change ≤ 4
-    → Releases m n heap (end_at m heap) (Ok tt) (released block (heap + 16) (items_at m heap)) → IsResized m n heap block change (Ok 0) 0
-resize_freed m n heap block change total sound classes is own live few releases =
+    → has_anchor_in m heap block ≡ false → Releases m n heap (end_at m heap) (Ok tt) (released block (heap + 16) (items_at m heap)) → IsResized m n heap block change (Ok 0) 0
+resize_freed m n heap block change total sound classes is own live few free releases =
     let t : IsThere m heap = is_there m heap is in
     let test : nat_le (changed_by total change) 4 ≡ true = le-leb (changed_by total change) 4 few in
-    let l : IsGiven (Unit {0}) m n (gave_back (store_of m) heap block) (Ok tt) = free_given t.kind m n heap block t.end (Ok tt) sound classes t.found (rw own releases) in
+    let l : IsGiven (Unit {0}) m n (gave_back (store_of m) heap block) (Ok tt) = free_given t.kind m n heap block t.end (Ok tt) sound classes t.found
+    (rw own (frees_done m n heap (end_at m heap) (has_anchor_in m heap block) (released block (heap + 16) (items_at m heap)) free releases)) in
     let some = asked_live m heap block total own live in
     record {
       store = rw (by_total m heap block change t (Some total) some, test) (freed_given (store_of m) (store_of n) (gave_back (store_of m) heap block) (Ok 0) refl l.store);
@@ -163,31 +166,39 @@ resize_freed m n heap block change total sound classes is own live few releases 
     }
 
 -- the block stays where it is
+refit_keeps_in : (anchor : ℕ → Bool) (block old end new at : ℕ) (xs : List Item) (o : Option (List Item)) → resized_in_place block end new at xs ≡ o
+    → live_total block at xs ≡ Some old → 4 ≤ block → anchor_among anchor (block - 4 + new) (old - new) ≡ false → KeepsIn anchor at xs false o
+refit_keeps_in anchor block old end new at xs None is live above uncut = tt
+refit_keeps_in anchor block old end new at xs (Some ys) is live above uncut = refit_keeps anchor block old end new at xs ys is live above uncut
+
 in_place_given : (m n : AddressMap) (kind : Kind) (heap end block old new : ℕ) (o : Option (List Item)) → IsSound (store_of m) → AreClasses m
     → find_heap heap (store_of m).heaps ≡ Some (part_at kind m heap end)
     → ((b t : ℕ) → has_image b (store_of m).others ≡ true → live_total b (heap + 16) (items_at m heap) ≡ Some t → IsStillIn b t (heap + 16) o)
+    → anchor_among (store_of m).anchor (block - 4 + new) (old - new) ≡ false → KeepsIn (store_of m).anchor (heap + 16) (items_at m heap) false o
     → Refits m n heap end true o
     → IsGiven ℕ m n (resized_or_moved (store_of m) (part_at kind m heap end) block old new o) (Ok block)
-in_place_given m n kind heap end block old new None sound classes found still refits = absurd (false≢true (sym refits.0))
-in_place_given m n kind heap end block old new (Some items) sound classes found still refits =
+in_place_given m n kind heap end block old new None sound classes found still uncut keeps refits = absurd (false≢true (sym refits.0))
+in_place_given m n kind heap end block old new (Some items) sound classes found still uncut keeps refits =
     let held : IsHeld m n (part_at kind m heap end) items =
-    is_held m n (part_at kind m heap end) items sound classes found refl still refits.1 in
+    is_held m n (part_at kind m heap end) items sound classes found refl still keeps refits.1 in
     record {
-      store = (held.store, refl);
+      store = rw uncut (held.store, refl);
       sound = held.sound;
       same = refits.1.same;
       classes = held.classes;
     }
 
-in_place_unmoved : (m n : AddressMap) (h : HeapList) (heap end block new : ℕ) (o : Option (List Item)) → Refits m n heap end true o → refit_probes h block new o ≡ 0
-in_place_unmoved m n h heap end block new None refits = absurd (false≢true (sym refits.0))
-in_place_unmoved m n h heap end block new (Some items) refits = refl
+in_place_unmoved : (m n : AddressMap) (h : HeapList) (heap end block old new : ℕ) (o : Option (List Item)) → Refits m n heap end true o
+    → refit_probes (store_of m).anchor h block old new o ≡ 0
+in_place_unmoved m n h heap end block old new None refits = absurd (false≢true (sym refits.0))
+in_place_unmoved m n h heap end block old new (Some items) refits = refl
 
 pub resize_refitted : (m n : AddressMap) (heap block change total : ℕ) → IsSound (store_of m) → AreClasses m → is_some (find_heap heap (store_of m).heaps) ≡ true
     → has_image block (regions m) ≡ false → live_total block (heap + 16) (items_at m heap) ≡ Some total → 4 < changed_by total change
+    → anchor_among (store_of m).anchor (block - 4 + round_up_8 (changed_by total change)) (total - round_up_8 (changed_by total change)) ≡ false
     → Refits m n heap (end_at m heap) true (resized_in_place block (heap + end_at m heap) (round_up_8 (changed_by total change)) (heap + 16) (items_at m heap))
     → IsResized m n heap block change (Ok block) 0
-resize_refitted m n heap block change total sound classes is own live more refits =
+resize_refitted m n heap block change total sound classes is own live more uncut refits =
     let t : IsThere m heap = is_there m heap is in
     let h : HeapList = part_at t.kind m heap t.end in
     let new : ℕ = round_up_8 (changed_by total change) in
@@ -199,8 +210,13 @@ resize_refitted m n heap block change total sound classes is own live more refit
     let still : (b u : ℕ) → has_image b (store_of m).others ≡ true → live_total b (heap + 16) (items_at m heap) ≡ Some u
     → IsStillIn b u (heap + 16) (resized_in_place block (heap + t.end) new (heap + 16) (items_at m heap)) =
     λ b u image there. refit_still b block u (heap + t.end) new (heap + 16) (items_at m heap) (image_apart b block (store_of m).others image none_of) there in
-    let g = in_place_given m n t.kind heap t.end block total new (resized_in_place block (heap + t.end) new (heap + 16) (items_at m heap)) sound classes t.found still here in
-    let none = in_place_unmoved m n h heap t.end block new (resized_in_place block (heap + t.end) new (heap + 16) (items_at m heap)) here in
+    let heap_is : IsHeapIn (bytes_of m) heap t.end (items_at m heap) = heap_of-part t.kind m heap t.end sound t.found in
+    let lies : LiveBytes block total (heap + 16) (heap + 16 + size_of (items_at m heap)) =
+    live_bytes block total (heap + 16) (items_at m heap) heap_is.totals live in
+    let g = in_place_given m n t.kind heap t.end block total new (resized_in_place block (heap + t.end) new (heap + 16) (items_at m heap)) sound classes t.found still uncut
+    (refit_keeps_in (store_of m).anchor block total (heap + t.end) new (heap + 16) (items_at m heap)
+    (resized_in_place block (heap + t.end) new (heap + 16) (items_at m heap)) refl live (omega (arith, lies.low)) uncut) here in
+    let none = in_place_unmoved m n h heap t.end block total new (resized_in_place block (heap + t.end) new (heap + 16) (items_at m heap)) here in
     record {
       store = rw (by_total m heap block change t (Some total) (asked_live m heap block total own live), test) g.store;
       sound = g.sound;
@@ -235,14 +251,14 @@ larger_where_none block end new at total (Free t ∷ xs) live none =
 pub resize_moved : (m n : AddressMap) (heap block change total more : ℕ) (answer : Result ℕ ErrorNumber) → IsSound (store_of m)
     → is_some (find_heap heap (store_of m).heaps) ≡ true → has_image block (regions m) ≡ false
     → live_total block (heap + 16) (items_at m heap) ≡ Some total → 4 < changed_by total change
-    → resized_in_place block (heap + end_at m heap) (round_up_8 (changed_by total change)) (heap + 16) (items_at m heap) ≡ None
+    → resized_in_place block (heap + end_at m heap) (round_up_8 (changed_by total change)) (heap + 16) (items_at m heap) ≡ None → holds_anchor (store_of m).anchor block (Some total) ≡ false
     → ((h : HeapList) → find_heap heap (store_of m).heaps ≡ Some h
     → Gives (store_of m) (moved (store_of m) h block total (round_up_8 (changed_by total change))) answer (store_of n))
     → IsSound (store_of n) → layout n ≡ layout m → AreClasses n
     → ((h : HeapList) → find_heap heap (store_of m).heaps ≡ Some h
     → more ≡ move_probes h block (round_up_8 (changed_by total change)) (claimed (round_up_8 (changed_by total change)) (h.end - 16) h.items))
     → IsResized m n heap block change answer more
-resize_moved m n heap block change total more answer sound is own live large none store kept same classes probes =
+resize_moved m n heap block change total more answer sound is own live large none free store kept same classes probes =
     let t : IsThere m heap = is_there m heap is in
     let h : HeapList = part_at t.kind m heap t.end in
     let new : ℕ = round_up_8 (changed_by total change) in
@@ -251,13 +267,106 @@ resize_moved m n heap block change total more answer sound is own live large non
     let none' : resized_in_place block (heap + t.end) new (heap + 16) (items_at m heap) ≡ None =
     subst (λ (e : ℕ). resized_in_place block (heap + e) new (heap + 16) (items_at m heap) ≡ None) limit none in
     record {
-      store = rw (by_total m heap block change t (Some total) (asked_live m heap block total own live), test, none') (store h t.found);
+      store = rw (by_total m heap block change t (Some total) (asked_live m heap block total own live), test, none', free) (store h t.found);
       sound = kept;
       same = same;
       classes = classes;
       probes = ap (λ (k : ℕ). begun_below block (heap + 16) (items_at m heap) + k) (probes h t.found)
-          ∙ sym (rw (test, none') at (probes_by_total m heap block change t (Some total) (asked_live m heap block total own live)));
+          ∙ sym (rw (test, none', free) at (probes_by_total m heap block change t (Some total) (asked_live m heap block total own live)));
     }
+
+-- what the tests for anchors tell
+pub anchor_told : (m : AddressMap) (heap block total : ℕ) (answer t : Bool) → live_total block (heap + 16) (items_at m heap) ≡ Some total
+    → answer ≡ has_anchor_in m heap block → answer ≡ t → holds_anchor (store_of m).anchor block (Some total) ≡ t
+unfolding store_of
+anchor_told m heap block total answer t live e is = ap (λ (o : Option ℕ). holds_anchor (anchor_of m) block o) (sym live) ∙ sym e ∙ is
+
+pub cut_told : (m : AddressMap) (at len : ℕ) (answer t : Bool) → answer ≡ anchor_among (anchor_of m) at len → answer ≡ t
+    → anchor_among (store_of m).anchor at len ≡ t
+unfolding store_of
+cut_told m at len answer t e is = sym e ∙ is
+
+pub below_all : (m : AddressMap) (heap block total : ℕ) → IsHeapIn (bytes_of m) heap (end_at m heap) (items_at m heap)
+    → live_total block (heap + 16) (items_at m heap) ≡ Some total → block + total < 2 ^ 32
+below_all m heap block total heap_is live =
+    let lies : LiveBytes block total (heap + 16) (heap + 16 + size_of (items_at m heap)) =
+    live_bytes block total (heap + 16) (items_at m heap) heap_is.totals live in
+    omega (arith, lies.high, heap_is.inside, heap_below m heap (end_at m heap) (items_at m heap) heap_is)
+
+-- an anchor is in the way: of a release, of a cut, or of a move
+abbrev pub IsRefused : AddressMap → ℕ → ℕ → ℕ → Type 0
+IsRefused m heap block change = (resized (store_of m) heap block change ≡ Err HeapHoldsAnchor)
+    × (resize_probes (store_of m) heap block change ≡ begun_below block (heap + 16) (items_at m heap))
+
+held_released : (s : Store) (heap block : ℕ) (h : HeapList) (total : ℕ) → find_heap heap s.heaps ≡ Some h → has_image block s.others ≡ false
+    → live_total block (h.start + 16) h.items ≡ Some total → holds_anchor s.anchor block (Some total) ≡ true → gave_back s heap block ≡ Err HeapHoldsAnchor
+unfolding gave_back
+held_released s heap block h total found own live held = rw (found, own, live, held) (by_list (released block (h.start + 16) h.items) refl) where
+  by_list : (o : Option (List Item)) → released block (h.start + 16) h.items ≡ o
+      → (let left : List Item → Result (Store × Unit {0}) ErrorNumber = λ items. Err HeapHoldsAnchor in bind (ok_or o HeapNotABlock) left ≡ Err HeapHoldsAnchor)
+  by_list (Some items) is = refl
+  by_list None is =
+      let none : live_total block (h.start + 16) h.items ≡ None = unreleased block (h.start + 16) h.items is in
+      absurd (let no : None ≡ Some total = sym none ∙ live in cc)
+
+pub held_freed : (m : AddressMap) (heap block change total : ℕ) → is_some (find_heap heap (store_of m).heaps) ≡ true
+    → has_image block (regions m) ≡ false → live_total block (heap + 16) (items_at m heap) ≡ Some total → changed_by total change ≤ 4
+    → holds_anchor (store_of m).anchor block (Some total) ≡ true → IsRefused m heap block change
+held_freed m heap block change total is own live few held =
+    let t : IsThere m heap = is_there m heap is in
+    let test : nat_le (changed_by total change) 4 ≡ true = le-leb (changed_by total change) 4 few in
+    let some = asked_live m heap block total own live in
+    let refused : gave_back (store_of m) heap block ≡ Err HeapHoldsAnchor =
+    held_released (store_of m) heap block (part_at t.kind m heap t.end) total t.found (image_recorded m block ∙ own) live held in (
+      rw (by_total m heap block change t (Some total) some, test, refused) refl,
+      omega (arith, (rw test at (probes_by_total m heap block change t (Some total) some))),
+    )
+
+-- what has an anchor isn't empty
+among_few : (anchor : ℕ → Bool) (at old new : ℕ) → anchor_among anchor at (old - new) ≡ true → new < old
+among_few anchor at old new held = elim (cases_lt new old) [
+  | inl smaller ↦ smaller
+  | inr none ↦ absurd (both_ways (anchor_among anchor at (old - new)) (among_none anchor at (old - new) (λ a low high. absurd (omega (arith, low, high)))) held)
+]
+
+cut_refused : (s : Store) (h : HeapList) (block old new : ℕ) (o : Option (List Item)) → (o ≡ None → old < new) → new < old
+    → anchor_among s.anchor (block - 4 + new) (old - new) ≡ true
+    → (resized_or_moved s h block old new o ≡ Err HeapHoldsAnchor) × (refit_probes s.anchor h block old new o ≡ 0)
+cut_refused s h block old new None larger smaller held = let more : old < new = larger refl in absurd (omega arith)
+cut_refused s h block old new (Some items) larger smaller held = (rw held refl, refl)
+
+pub held_cut : (m : AddressMap) (heap block change total : ℕ) → is_some (find_heap heap (store_of m).heaps) ≡ true
+    → has_image block (regions m) ≡ false → live_total block (heap + 16) (items_at m heap) ≡ Some total → 4 < changed_by total change
+    → anchor_among (store_of m).anchor (block - 4 + round_up_8 (changed_by total change)) (total - round_up_8 (changed_by total change)) ≡ true
+    → IsRefused m heap block change
+held_cut m heap block change total is own live large held =
+    let t : IsThere m heap = is_there m heap is in
+    let new : ℕ = round_up_8 (changed_by total change) in
+    let test : nat_le (changed_by total change) 4 ≡ false = lt-leb (changed_by total change) 4 large in
+    let some = asked_live m heap block total own live in
+    let o : Option (List Item) = resized_in_place block (heap + t.end) new (heap + 16) (items_at m heap) in
+    let cut = cut_refused (store_of m) (part_at t.kind m heap t.end) block total new o
+    (λ none. larger_where_none block (heap + t.end) new (heap + 16) total (items_at m heap) live none)
+    (among_few (store_of m).anchor (block - 4 + new) total new held) held in (
+      rw (by_total m heap block change t (Some total) some, test) cut.0,
+      omega (arith, (rw (test, cut.1) at (probes_by_total m heap block change t (Some total) some))),
+    )
+
+pub held_moved : (m : AddressMap) (heap block change total : ℕ) → IsSound (store_of m) → is_some (find_heap heap (store_of m).heaps) ≡ true
+    → has_image block (regions m) ≡ false → live_total block (heap + 16) (items_at m heap) ≡ Some total → 4 < changed_by total change
+    → resized_in_place block (heap + end_at m heap) (round_up_8 (changed_by total change)) (heap + 16) (items_at m heap) ≡ None
+    → holds_anchor (store_of m).anchor block (Some total) ≡ true → IsRefused m heap block change
+held_moved m heap block change total sound is own live large none held =
+    let t : IsThere m heap = is_there m heap is in
+    let new : ℕ = round_up_8 (changed_by total change) in
+    let test : nat_le (changed_by total change) 4 ≡ false = lt-leb (changed_by total change) 4 large in
+    let limit : end_at m heap ≡ t.end = (heap_of-part t.kind m heap t.end sound t.found).limit in
+    let none' : resized_in_place block (heap + t.end) new (heap + 16) (items_at m heap) ≡ None =
+    subst (λ (e : ℕ). resized_in_place block (heap + e) new (heap + 16) (items_at m heap) ≡ None) limit none in
+    let some = asked_live m heap block total own live in (
+      rw (by_total m heap block change t (Some total) some, test, none', held) refl,
+      omega (arith, (rw (test, none', held) at (probes_by_total m heap block change t (Some total) some))),
+    )
 
 -- the counts are small
 free_small : (xs : List Item) → AreTotals xs → free_count xs ≤ size_of xs

@@ -1,5 +1,5 @@
 -- What a call on one heap leaves of all heaps and of memory as a whole.
-use Rattle.std.proofs.Common.{◌&&◌, ◌≡◌, List, ℕ, false, arith, inl, ◌+◌, ◌≢◌, ◌∙◌, sym, inr, ◌==◌, None, [], subst, Some, ◌∷◌, ◌⊎◌, ◌<◌, true, ap, refl}
+use Rattle.std.proofs.Common.{Bool, ◌&&◌, ◌≡◌, List, ℕ, false, arith, inl, ◌+◌, ◌≢◌, ◌∙◌, sym, inr, ◌==◌, None, [], subst, Some, ◌∷◌, ◌⊎◌, ◌<◌, true, ap, refl}
 use Rattle.std.proofs.lemmas.Bool.{false≢true, cases_Bool, ne_eqb, eq-eqb, eqb-true, or_left, or_right}
 use Rattle.address_map.proofs.Bytes.{byte_at-lt, is_mapped-layout}
 use Rattle.address_map.proofs.Equations.{same_bytes}
@@ -20,7 +20,7 @@ use Rattle.os_heap_lists.specs.Lists.{live_total}
 use Rattle.os_heap.proofs.FlexWords.{AreSameFlex}
 use Rattle.os_heap.proofs.Found.{found_heap}
 use Rattle.os_heap.specs.Outcomes.{Becomes}
-use Rattle.os_heap.specs.Store.{AreClear, IsClearOfHeaps, find_heap, AreHeapsIn, ArePlaced, Store, heap_in, heaps_in, others_in, IsSound, store_of, has_image, is_image, is_area, IsImageIn, guest_count, area_count, StandAreas, AreInLimits}
+use Rattle.os_heap.specs.Store.{AreClear, IsClearOfHeaps, find_heap, AreHeapsIn, ArePlaced, Store, heap_in, heaps_in, others_in, IsSound, store_of, has_image, is_image, is_area, IsImageIn, IsAnchorPlace, guest_count, area_count, StandAreas, AreInLimits}
 use Rattle.os_heap.specs.Calls.{with_items, holding}
 
 pub bytes_held : (m n : AddressMap) (start end : ℕ) (items : List Item) → Becomes m n start end items
@@ -267,9 +267,10 @@ store_held m n h items sound found b flex =
     (read_parts m n h items (regions m) (held m n h.start h.end items b) others sound.heaps) flex)
 
 pub sound_held : (m n : AddressMap) (h : HeapList) (items : List Item) → IsSound (store_of m) → find_heap h.start (store_of m).heaps ≡ Some h
-    → KeepsImages (store_of m).others h.start h.items items → Becomes m n h.start h.end items → AreSameFlex (class_of m) (class_of n) → IsSound (store_of n)
+    → KeepsImages (store_of m).others h.start h.items items → Becomes m n h.start h.end items → AreSameFlex (class_of m) (class_of n)
+    → ((a : ℕ) → (store_of m).anchor a ≡ true → IsAnchorPlace (with_items h.start items (store_of m).heaps) a) → IsSound (store_of n)
 unfolding store_of
-sound_held m n h items sound found kept b flex =
+sound_held m n h items sound found kept b flex places =
     let others : AreOthers h (heaps_in (bytes_of m) (regions m)) = are_others (bytes_of m) h.start (heaps_in (bytes_of m) (regions m)) h sound.heaps found in
     let now : IsHeld m n h.start h.end items = held m n h.start h.end items b in
     let list : heaps_in (bytes_of n) (regions m) ≡ with_items h.start items (heaps_in (bytes_of m) (regions m)) = read_parts m n h items (regions m) now others sound.heaps in
@@ -279,6 +280,8 @@ sound_held m n h items sound found kept b flex =
       placed = placed-held h items (heaps_in (bytes_of m) (regions m)) (others_in (regions m)) others kept sound.placed;
       apart = sound.apart;
       few = sound.few;
-      anchors = λ a. flex.anchors a ∙ sound.anchors a;
-      headers = λ a. flex.headers a ∙ sound.headers a;
+      anchors = λ a is.
+          let was = sym (flex.anchors a) ∙ is in
+          (ap (λ (f : ℕ → Bool). f a) (is_mapped-layout m n b.same) ∙ (sound.anchors a was).0, places a was);
+      headers = λ a is. sound.headers a (sym (flex.headers a) ∙ is);
     })

@@ -4,13 +4,14 @@
 use Rattle.std.specs.Prelude.{ℕ, ◌≡◌, Bool, true, false, not, ◌+◌, ◌-◌, ◌%◌, ◌==◌, ◌&&◌, nat_le, nat_lt, Option, Some, None, ok_or, option_map, Result, Ok, Err, List, [], ◌∷◌, ◌++◌, if◌then◌else◌}
 use Rattle.profile.specs.Outcome.{bind}
 use Rattle.profile.specs.declared.error.ErrorNumber.{ErrorNumber}
-use Rattle.profile.specs.declared.error.ErrorNumber.TheVariants.{HeapBadDesc, HeapBadRegion, HeapOverlaps, HeapTableFull, HeapNotABlock, HeapNoRoom, HeapBadShrink}
+use Rattle.profile.specs.declared.error.ErrorNumber.TheVariants.{HeapBadDesc, HeapBadRegion, HeapOverlaps, HeapTableFull, HeapNotABlock, HeapHoldsAnchor, HeapNoRoom, HeapBadShrink}
 use Rattle.address_map.specs.declared.item.Item.{Item}
 use Rattle.address_map.specs.declared.region.Kind.{Kind}
 use Rattle.address_map.specs.declared.region.Kind.TheVariants as kind
 use Rattle.address_map.specs.declared.region.Region.{Region}
 use Rattle.address_map.specs.Bytes.{with_moved}
 use Rattle.address_map.specs.Items.{size_of}
+use Rattle.address_map.specs.Records.{anchor_among}
 use Rattle.os_heap_lists.specs.Heap.{HeapList, with_heap}
 use Rattle.os_heap_lists.specs.Lists.{round_up_8, total_for, claimed, released, changed_by, live_total, resized_in_place}
 use Rattle.os_heap_lists.specs.Counts.{all_free, largest_block}
@@ -52,7 +53,7 @@ ending s h end = record s {
   heaps = with_end h.start end s.heaps;
 }
 
--- Reason 0, init: a heap without items, of a range that a heap may have, that meets no recorded one; guests make at most 64.
+-- Reason 0, init: a heap without items, of a range that a heap may have, that meets no recorded one and no anchor; guests make at most 64.
 abbrev pub begun_with : Kind → Store → ℕ → ℕ → Store
 begun_with k s at size =
     let h : HeapList = record { kind = k; start = at; end = size; items = [] } in
@@ -79,16 +80,25 @@ got s heap size =
     bind (ok_or (claimed (total_for size) (h.end - 16) h.items) HeapNoRoom) (λ c.
     Ok (holding s h c.items, h.start + 16 + c.offset + 4)))
 
+-- Does a block hold an anchor, its length word counted with it?
+abbrev pub total_or_0 : Option ℕ → ℕ
+total_or_0 None = 0
+total_or_0 (Some total) = total
+
+abbrev pub holds_anchor : (ℕ → Bool) → ℕ → Option ℕ → Bool
+holds_anchor anchor block total = anchor_among anchor (block - 4) (total_or_0 total)
+
 -- Reason 3, free: the block whose bytes begin at `block`.
 unfoldable pub gave_back : Store → ℕ → ℕ → Result (Store × Unit {0}) ErrorNumber
 gave_back s heap block =
     bind (heap_at s heap) (λ h.
     bind (ok_or (unless_image (has_image block s.others) (released block (h.start + 16) h.items)) HeapNotABlock) (λ items.
+    if holds_anchor s.anchor block (live_total block (h.start + 16) h.items) then Err HeapHoldsAnchor else
     Ok (holding s h items, tt)))
 
 -- Reason 4, resize: a block whose size cannot change where it stands is moved. That is three actions in turn: another block is claimed, the old
 -- bytes are copied to it, and the old block is given back. Where no byte would be left beside the length word, the block is given back, and the
--- answer is 0.
+-- answer is 0. No anchor may lie in a block that is moved, or in what is cut off one.
 abbrev pub copied : Store → ℕ → ℕ → ℕ → Store
 copied s from to len = record s { bytes = with_moved s.bytes from to len }
 
@@ -101,8 +111,10 @@ moved s h block old new =
     handed_over h.start block (old - 4) (holding s h c.items) (h.start + 16 + c.offset + 4))
 
 abbrev pub resized_or_moved : Store → HeapList → ℕ → ℕ → ℕ → Option (List Item) → Result (Store × ℕ) ErrorNumber
-resized_or_moved s h block old new (Some items) = Ok (holding s h items, block)
-resized_or_moved s h block old new None = moved s h block old new
+resized_or_moved s h block old new (Some items) =
+    if anchor_among s.anchor (block - 4 + new) (old - new) then Err HeapHoldsAnchor else Ok (holding s h items, block)
+resized_or_moved s h block old new None =
+    if holds_anchor s.anchor block (Some old) then Err HeapHoldsAnchor else moved s h block old new
 
 unfoldable pub resized : Store → ℕ → ℕ → ℕ → Result (Store × ℕ) ErrorNumber
 resized s heap block change =
@@ -113,7 +125,7 @@ resized s heap block change =
     resized_or_moved s h block old (round_up_8 sum) (resized_in_place block (h.start + h.end) (round_up_8 sum) (h.start + 16) h.items)))
 
 -- Reason 5, change of a heap's size. The module area's heap has the size of its area, so no call changes it. The new range is one that a heap may
--- have; what it grows by meets no recorded range; and it holds all items.
+-- have; what it grows by meets no recorded range and no anchor; and it holds all items.
 abbrev pub has_own_size : Kind → Bool
 has_own_size kind.Heap = true
 has_own_size other = false

@@ -1,18 +1,19 @@
 -- What a call on one heap leaves of memory.
 use Rattle.std.specs.Prelude.{ℕ, List, ◌+◌, ◌%◌, ◌≡◌, None, Option, Result, Err, Ok, Some, Bool, false, true}
 use Rattle.profile.specs.declared.error.ErrorNumber.{ErrorNumber}
-use Rattle.profile.specs.declared.error.ErrorNumber.TheVariants.{HeapNoRoom, HeapNotABlock}
+use Rattle.profile.specs.declared.error.ErrorNumber.TheVariants.{HeapHoldsAnchor, HeapNoRoom, HeapNotABlock}
 use Rattle.address_map.specs.Bytes.{AreMapped, word_at}
 use Rattle.address_map.specs.Items.{items_in, size_of}
-use Rattle.address_map.specs.Memory.{byte_at, bytes_of, is_mapped, layout, class_of}
+use Rattle.address_map.specs.Memory.{anchor_of, byte_at, bytes_of, is_mapped, layout, class_of}
 use Rattle.address_map.specs.declared.item.Item.{Item}
 use Rattle.address_map.specs.declared.map.AddressMap.{AddressMap}
 use Rattle.address_map.specs.declared.region.Region.{Region}
 use Rattle.os_heap_lists.specs.Heap.{AreTotals, IsHeapIn}
 use Rattle.os_heap_lists.specs.Marks.{AreMarked, Remarks}
 use Rattle.os_heap_lists.specs.Walks.{IsBlock}
+use Rattle.os_heap.specs.Calls.{holds_anchor}
 use Rattle.os_heap.specs.Store.{has_image}
-use Rattle.os_heap_lists.specs.Lists.{Claim}
+use Rattle.os_heap_lists.specs.Lists.{Claim, live_total}
 use Rattle.os_heap_lists.specs.Words.{IsOutside, AreApart}
 
 -- memory spells a heap at `start`, whose items are those that its words tell
@@ -50,6 +51,16 @@ Claims old new start end answer (Some c) = (answer ≡ Ok (start + 16 + c.offset
 abbrev pub Releases : AddressMap → AddressMap → ℕ → ℕ → Result (Unit {0}) ErrorNumber → Option (List Item) → Type 0
 Releases old new start end answer None = (answer ≡ Err HeapNotABlock) × (new ≡ old)
 Releases old new start end answer (Some items) = (answer ≡ Ok tt) × Becomes old new start end items
+
+-- the block at `block` holds an anchor
+abbrev pub has_anchor_in : AddressMap → ℕ → ℕ → Bool
+has_anchor_in m start block = holds_anchor (anchor_of m) block (live_total block (start + 16) (items_at m start))
+
+-- a release that is refused where the block holds an anchor
+abbrev pub Frees : AddressMap → AddressMap → ℕ → ℕ → Result (Unit {0}) ErrorNumber → Bool → Option (List Item) → Type 0
+Frees old new start end answer held None = (answer ≡ Err HeapNotABlock) × (new ≡ old)
+Frees old new start end answer true (Some items) = (answer ≡ Err HeapHoldsAnchor) × (new ≡ old)
+Frees old new start end answer false (Some items) = (answer ≡ Ok tt) × Becomes old new start end items
 
 abbrev pub Refits : AddressMap → AddressMap → ℕ → ℕ → Bool → Option (List Item) → Type 0
 Refits old new start end done None = (done ≡ false) × (new ≡ old)

@@ -1,12 +1,12 @@
 -- How much of a heap the calls look at: a probe is one free item looked at along the links, or one item passed in a walk. Where there is no heap
 -- there is none (that a call's work is counted is this project's own).
-use Rattle.std.specs.Prelude.{ℕ, ◌≡◌, ◌≤◌, ◌+◌, ◌-◌, ◌*◌, nat_le, Option, Some, None, List, length, if◌then◌else◌}
+use Rattle.std.specs.Prelude.{ℕ, Bool, ◌≡◌, ◌≤◌, ◌+◌, ◌-◌, ◌*◌, nat_le, Option, Some, None, List, length, if◌then◌else◌}
 use Rattle.address_map.specs.declared.item.Item.{Item}
 use Rattle.os_heap_lists.specs.Counts.{looked_at, begun_below, free_below, free_count}
 use Rattle.os_heap_lists.specs.Heap.{HeapList}
 use Rattle.os_heap_lists.specs.Lists.{Claim, round_up_8, total_for, claimed, changed_by, live_total, resized_in_place}
 use Rattle.os_heap.specs.Store.{Store, find_heap, has_image}
-use Rattle.os_heap.specs.Calls.{unless_image}
+use Rattle.os_heap.specs.Calls.{unless_image, holds_anchor}
 
 abbrev pub counted_of : (HeapList → ℕ) → Option HeapList → ℕ
 counted_of count None = 0
@@ -28,22 +28,23 @@ abbrev pub move_probes : HeapList → ℕ → ℕ → Option Claim → ℕ
 move_probes h block new None = looked_at new h.items
 move_probes h block new (Some c) = looked_at new h.items + free_below block (h.start + 16) c.items
 
-abbrev pub refit_probes : HeapList → ℕ → ℕ → Option (List Item) → ℕ
-refit_probes h block new (Some items) = 0
-refit_probes h block new None = move_probes h block new (claimed new (h.end - 16) h.items)
+abbrev pub refit_probes : (ℕ → Bool) → HeapList → ℕ → ℕ → ℕ → Option (List Item) → ℕ
+refit_probes anchor h block old new (Some items) = 0
+refit_probes anchor h block old new None =
+    if holds_anchor anchor block (Some old) then 0 else move_probes h block new (claimed new (h.end - 16) h.items)
 
-abbrev pub sum_probes : HeapList → ℕ → ℕ → ℕ
-sum_probes h block sum = if nat_le sum 4 then 0 else
-    refit_probes h block (round_up_8 sum) (resized_in_place block (h.start + h.end) (round_up_8 sum) (h.start + 16) h.items)
+abbrev pub sum_probes : (ℕ → Bool) → HeapList → ℕ → ℕ → ℕ → ℕ
+sum_probes anchor h block old sum = if nat_le sum 4 then 0 else
+    refit_probes anchor h block old (round_up_8 sum) (resized_in_place block (h.start + h.end) (round_up_8 sum) (h.start + 16) h.items)
 
-abbrev pub probes_after_walk : HeapList → ℕ → ℕ → Option ℕ → ℕ
-probes_after_walk h block change None = 0
-probes_after_walk h block change (Some total) = sum_probes h block (changed_by total change)
+abbrev pub probes_after_walk : (ℕ → Bool) → HeapList → ℕ → ℕ → Option ℕ → ℕ
+probes_after_walk anchor h block change None = 0
+probes_after_walk anchor h block change (Some total) = sum_probes anchor h block total (changed_by total change)
 
 unfoldable pub resize_probes : Store → ℕ → ℕ → ℕ → ℕ
 resize_probes s heap block change =
     counted_of (λ h. begun_below block (h.start + 16) h.items
-    + probes_after_walk h block change (unless_image (has_image block s.others) (live_total block (h.start + 16) h.items))) (find_heap heap s.heaps)
+    + probes_after_walk s.anchor h block change (unless_image (has_image block s.others) (live_total block (h.start + 16) h.items))) (find_heap heap s.heaps)
 
 -- At least the items up to the block are looked at, and at most all items once and all free items twice more; where there is no heap, none.
 abbrev pub AreInBounds : ℕ → ℕ → Option HeapList → Type 0

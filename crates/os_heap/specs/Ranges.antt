@@ -5,6 +5,7 @@ use Rattle.address_map.specs.declared.region.Kind.{Kind}
 use Rattle.address_map.specs.declared.region.Kind.TheVariants as kind
 use Rattle.address_map.specs.Bytes.{Bytes}
 use Rattle.address_map.specs.Items.{size_of}
+use Rattle.address_map.specs.Records.{anchor_among}
 use Rattle.os_heap_lists.specs.Heap.{HeapList}
 use Rattle.os_heap.specs.Store.{Store, guest_count, area_count}
 
@@ -20,9 +21,10 @@ is_heap_region b at size = (at % 4 == 0 && size % 4 == 0) && ((nat_le 16 size &&
 abbrev pub meets : ℕ → ℕ → ℕ → ℕ → Bool
 meets at len other other_len = nat_lt 0 other_len && (nat_lt at (other + other_len) && nat_lt other (at + len))
 
--- does a range meet a recorded one?
+-- does a range meet a recorded one, or hold an anchor?
 abbrev pub meets_any : ℕ → ℕ → Store → Bool
-meets_any at len s = list_any (λ h. meets at len h.start h.end) s.heaps || list_any (λ r. meets at len r.at r.len) s.others
+meets_any at len s =
+    (list_any (λ h. meets at len h.start h.end) s.heaps || list_any (λ r. meets at len r.at r.len) s.others) || anchor_among s.anchor at len
 
 -- whether one heap more of a kind is within the limits: 64 that guests have made, and the module area at its place
 abbrev pub HasRoom : Kind → Store → ℕ → Type 0
@@ -41,8 +43,8 @@ pub record MayBegin (k : Kind) (s : Store) (at size : ℕ) : Type 0 where
   pub clear : meets_any at size s ≡ false
   pub room : HasRoom k s at
 
--- The heap may have another end, counted from its start: the new range is one that a heap may have; what it grows by meets no recorded range; and
--- it holds all items.
+-- The heap may have another end, counted from its start: the new range is one that a heap may have; what it grows by meets no recorded range and no
+-- anchor; and it holds all items.
 pub record MayEnd (s : Store) (h : HeapList) (end : ℕ) : Type 0 where
   pub region : is_heap_region s.bytes h.start end ≡ true
   pub clear : (nat_lt h.end end && meets_any (h.start + h.end) (end - h.end) s) ≡ false

@@ -1,6 +1,6 @@
 -- All heaps together with memory: the heaps that the words of memory spell at the recorded places, and what holds of them whatever is called (RISC
 -- OS 3 Programmer's Reference Manual, "OS_Heap", "The relocatable module area"; the limits are this project's own).
-use Rattle.std.specs.Prelude.{ℕ, ◌≡◌, ◌≤◌, ◌⊎◌, Bool, true, false, suc, ◌+◌, ◌==◌, ◌&&◌, ◌||◌, Option, Some, None, List, [], ◌∷◌, length, if◌then◌else◌}
+use Rattle.std.specs.Prelude.{ℕ, ◌≡◌, ◌≤◌, ◌<◌, ◌⊎◌, Bool, true, false, suc, ◌+◌, ◌==◌, ◌&&◌, ◌||◌, Option, Some, None, List, [], ◌∷◌, length, if◌then◌else◌}
 use Rattle.std.specs.List.{list_any}
 use Rattle.address_map.specs.declared.region.Kind.{Kind}
 use Rattle.address_map.specs.declared.region.Kind.TheVariants as kind
@@ -9,6 +9,7 @@ use Rattle.address_map.specs.declared.map.AddressMap.{AddressMap}
 use Rattle.address_map.specs.Bytes.{Bytes, in_range, word_at, word_start}
 use Rattle.address_map.specs.Classes.{is_heap_class, is_flex_header, is_anchor}
 use Rattle.address_map.specs.Items.{items_in, is_heap_word}
+use Rattle.address_map.specs.declared.item.Item.{Item}
 use Rattle.address_map.specs.Records.{is_heap_kind}
 use Rattle.address_map.specs.Memory.{bytes_of, class_of, regions}
 use Rattle.os_heap_lists.specs.Heap.{HeapList, IsHeapIn}
@@ -113,6 +114,26 @@ abbrev pub AreRangesApart : List Region → Type 0
 AreRangesApart [] = Unit {0}
 AreRangesApart (r ∷ rs) = IsClearOfRanges r rs × AreRangesApart rs
 
+-- An anchor lies in no heap, or inside a block that is live: no call on heaps writes a word there.
+pub record IsInBlock (at : ℕ) (items : List Item) (a : ℕ) : Type 0 where
+  pub block : ℕ
+  pub total : ℕ
+  pub live : live_total block at items ≡ Some total
+  pub low : block ≤ a
+  pub high : a + 4 < block + total
+
+abbrev pub IsAnchorPlace : List HeapList → ℕ → Type 0
+IsAnchorPlace [] a = Unit {0}
+IsAnchorPlace (h ∷ hs) a = ((in_range h.start h.end a ≡ false) ⊎ IsInBlock (h.start + 16) h.items a) × IsAnchorPlace hs a
+
+-- is a byte in the recorded range of the flex store?
+abbrev pub is_flex_store : Kind → Bool
+is_flex_store kind.FlexStore = true
+is_flex_store other = false
+
+abbrev pub is_in_flex_store : List Region → ℕ → Bool
+is_in_flex_store rs a = list_any (λ r. is_flex_store r.kind && in_range r.at r.len a) rs
+
 -- What holds of every store. The other records are so few that all heaps find room beside them.
 pub record IsSound (s : Store) : Type 0 where
   pub heaps : AreHeapsIn s.bytes s.heaps
@@ -120,8 +141,8 @@ pub record IsSound (s : Store) : Type 0 where
   pub placed : ArePlaced s.heaps s.others
   pub apart : AreRangesApart s.others
   pub few : length s.others ≤ 68
-  pub anchors : (a : ℕ) → s.anchor a ≡ false
-  pub headers : (a : ℕ) → s.header a ≡ false
+  pub anchors : (a : ℕ) → s.anchor a ≡ true → (s.bytes.mapped a ≡ true) × IsAnchorPlace s.heaps a
+  pub headers : (a : ℕ) → s.header a ≡ true → is_in_flex_store s.others a ≡ true
 
 -- The bytes that only store calls may write: those of the words that the heaps spell, of the headers of flex blocks, and of their anchors. A byte
 -- counts as its whole word does.

@@ -24,7 +24,7 @@ impl Heaps {
     ///
     /// The first of these, and nothing is changed then: `HeapBadDesc` where no heap starts at `heap`, or it is that of the module area;
     /// `HeapBadRegion` where `change` is no multiple of 4, the new size is not within 16 to 16,777,216, or not all of the range is mapped;
-    /// `HeapOverlaps` where what the heap grows by meets a recorded range; `HeapBadShrink` where the heap would end below its base.
+    /// `HeapOverlaps` where what the heap grows by meets a recorded range or an anchor; `HeapBadShrink` where the heap would end below its base.
     ///
     /// RISC OS 3 Programmer's Reference Manual, "OS_Heap", reason 5.
     pub fn change_size(&self, map: &mut AddressMap, heap: u32, change: u32) -> Counted<()>

@@ -3,7 +3,7 @@ ghost use Rattle.profile.specs.Outcome.{Gives};
 ghost use Rattle.address_map.specs.Memory.{layout, regions};
 ghost use Rattle.os_heap_lists.specs.Lists.{released};
 ghost use Rattle.os_heap_lists.specs.Counts.{begun_below};
-ghost use Rattle.os_heap.specs.Outcomes.{HasHeapAt, end_at, items_at, Releases};
+ghost use Rattle.os_heap.specs.Outcomes.{HasHeapAt, end_at, has_anchor_in, items_at, Frees, Releases};
 ghost use Rattle.os_heap_lists.specs.Walks.{IsBlock};
 ghost use Rattle.os_heap.specs.Store.{store_of, has_image, AreClasses, IsSound};
 ghost use Rattle.os_heap.specs.Calls.{unless_image, gave_back};
@@ -47,25 +47,39 @@ pub(crate) fn give_back(map: &mut AddressMap, heap: u32, block: u32, cursor: &Cu
     remark_gap(map, cursor, &[Item::Live(own)], &[Item::Free(total)]);
 }
 
-/// Gives a block of one heap back.
+/// Whether the block at the cursor holds an anchor, its length word counted with it.
+pub(crate) fn holds_anchor(map: &AddressMap, heap: u32, block: u32, cursor: &Cursor) -> bool
+    requires heap { HasHeapAt map.now heap }
+    requires block { IsBlock heap (items_at map.now heap) block cursor.now.from cursor.now.at cursor.now.free cursor.now.gap }
+    ensures { result ≡ has_anchor_in map.now heap block }
+{
+    map.anchor_in(cursor.at, word(map, cursor.at))
+}
+
+/// Gives a block of one heap back, where no anchor is in it.
 fn release(map: &mut AddressMap, heap: u32, block: u32) -> Counted<()>
     requires { HasHeapAt map.old heap }
-    ensures release { Releases map.old map.new heap (end_at map.old heap) result.answer (unless_image (has_image block (regions map.old)) (released block (heap + 16) (items_at map.old heap))) }
+    ensures release { let left = unless_image (has_image block (regions map.old)) (released block (heap + 16) (items_at map.old heap)) in
+        Frees map.old map.new heap (end_at map.old heap) result.answer (has_anchor_in map.old heap block) left }
     ensures probes { result.probes ≡ begun_below block (heap + 16) (items_at map.old heap) }
 {
     let walk = find_guest_block(map, heap, block);
-    match walk.block {
-        Some(cursor) => {
-            give_back(map, heap, block, &cursor);
-            Counted {
-                answer: Ok(()),
-                probes: walk.probes,
-            }
-        }
-        None => Counted {
+    let Some(cursor) = walk.block else {
+        return Counted {
             answer: Err(ErrorNumber::HeapNotABlock),
             probes: walk.probes,
-        },
+        };
+    };
+    if holds_anchor(map, heap, block, &cursor) {
+        return Counted {
+            answer: Err(ErrorNumber::HeapHoldsAnchor),
+            probes: walk.probes,
+        };
+    }
+    give_back(map, heap, block, &cursor);
+    Counted {
+        answer: Ok(()),
+        probes: walk.probes,
     }
 }
 
@@ -76,7 +90,7 @@ impl Heaps {
     /// # Errors
     ///
     /// `HeapBadDesc` where no heap starts at `heap`; `HeapNotABlock` where no block's bytes begin at `block`, or they are a
-    /// module image. Nothing is changed then.
+    /// module image; `HeapHoldsAnchor` where an anchor of the flex store lies in the block. Nothing is changed then.
     ///
     /// RISC OS 3 Programmer's Reference Manual, "OS_Heap", reason 3.
     pub fn free(&self, map: &mut AddressMap, heap: u32, block: u32) -> Counted<()>

@@ -30,8 +30,8 @@ impl Heaps {
     /// # Errors
     ///
     /// The first of these, and nothing is changed then: `HeapBadRegion` where the address or the size is no multiple of 4, the size
-    /// is not within 16 to 16,777,216, or not all of the range is mapped; `HeapOverlaps` where it meets a recorded range;
-    /// `HeapTableFull` where there are 64 heaps besides that of the module area.
+    /// is not within 16 to 16,777,216, or not all of the range is mapped; `HeapOverlaps` where it meets a recorded range or an
+    /// anchor; `HeapTableFull` where there are 64 heaps besides that of the module area.
     pub fn init(&self, map: &mut AddressMap, heap: u32, size: u32) -> Counted<()>
         requires sound { IsSound (store_of map.old) }
         requires classes { AreClasses map.old }
@@ -139,11 +139,11 @@ pub(crate) fn is_heap_region(map: &AddressMap, heap: u32, size: u32) -> bool
     map.maps(heap, size)
 }
 
-/// Whether a range meets a recorded one.
+/// Whether a range meets a recorded one, or holds an anchor of the flex store.
 pub(crate) fn meets_any(map: &AddressMap, heap: u32, size: u32) -> bool
     ensures { result ≡ meets_any heap size (store_of map.now) }
 {
-    meets_regions(map.regions(), heap, size)
+    meets_regions(map.regions(), heap, size) || map.anchor_in(heap, size)
 }
 
 fn meets_regions(regions: &[Region], heap: u32, size: u32) -> bool

@@ -2,7 +2,7 @@ ghost use Rattle.std.specs.Prelude.{false, ◌≡◌, ◌≢◌, ◌<◌, ◌+�
 ghost use Rattle.profile.specs.Outcome.{Gives};
 ghost use Rattle.address_map.specs.Items.{is_total};
 ghost use Rattle.address_map.specs.Memory.{layout, regions};
-ghost use Rattle.os_heap.specs.Calls.{moved};
+ghost use Rattle.os_heap.specs.Calls.{holds_anchor, moved};
 ghost use Rattle.os_heap.specs.Probes.{move_probes};
 ghost use Rattle.os_heap_lists.specs.Heap.{HeapList};
 ghost use Rattle.os_heap.specs.Outcomes.{HasHeapAt, items_at};
@@ -33,6 +33,7 @@ pub(crate) fn relocate(
     requires found { is_some (find_heap heap (store_of map.old).heaps) ≡ true }
     requires own { has_image block (regions map.old) ≡ false }
     requires live { live_total block (heap + 16) (items_at map.old heap) ≡ Some total }
+    requires unheld { holds_anchor (store_of map.old).anchor block (Some total) ≡ false }
     requires whole { is_total needed ≡ true }
     requires small { needed < 2 ^ 34 }
     requires larger { total < needed }

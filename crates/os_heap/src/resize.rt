@@ -1,12 +1,14 @@
-ghost use Rattle.std.specs.Prelude.{◌≡◌, is_some, true};
+ghost use Rattle.std.specs.Prelude.{◌≡◌, ◌≤◌, ◌<◌, ◌+◌, ◌-◌, ◌^◌, is_some, true, Err};
 ghost use Rattle.profile.specs.Outcome.{Gives};
-ghost use Rattle.address_map.specs.Memory.{layout};
+ghost use Rattle.profile.specs.declared.error.ErrorNumber.TheVariants.{HeapHoldsAnchor};
+ghost use Rattle.address_map.specs.Memory.{anchor_of, layout};
+ghost use Rattle.address_map.specs.Records.{anchor_among};
 ghost use Rattle.os_heap.specs.Calls.{resized};
 ghost use Rattle.os_heap.specs.Probes.{resize_probes, AreInBounds};
 ghost use Rattle.os_heap.specs.Store.{store_of, find_heap, AreClasses, IsSound};
 
 use crate::counted::Counted;
-use crate::free::give_back;
+use crate::free::{give_back, holds_anchor};
 use crate::heaps::{Heaps, find};
 use crate::refit::refit;
 use crate::relocate::relocate;
@@ -28,7 +30,8 @@ impl Heaps {
     /// # Errors
     ///
     /// `HeapBadDesc` where no heap starts at `heap`; `HeapNotABlock` where no block's bytes begin at `block`, or they are a
-    /// module image; `HeapNoRoom` where the block would have to move and there is no room. Nothing is changed then.
+    /// module image; `HeapHoldsAnchor` where an anchor of the flex store lies in what is freed, cut off or moved; `HeapNoRoom`
+    /// where the block would have to move and there is no room. Nothing is changed then.
     ///
     /// RISC OS 3 Programmer's Reference Manual, "OS_Heap", reason 4.
     pub fn resize(&self, map: &mut AddressMap, heap: u32, block: u32, change: u32) -> Counted<u32>
@@ -72,6 +75,9 @@ fn resize_block(map: &mut AddressMap, heap: u32, block: u32, change: u32) -> Cou
     let total = word(map, cursor.at);
     let size = changed_by(total, change);
     if size <= 4 {
+        if holds_anchor(map, heap, block, &cursor) {
+            return held(walk.probes);
+        }
         give_back(map, heap, block, &cursor);
         return Counted {
             answer: Ok(0),
@@ -79,15 +85,44 @@ fn resize_block(map: &mut AddressMap, heap: u32, block: u32, change: u32) -> Cou
         };
     }
     let needed = round_up_8(size);
+    if cut_holds_anchor(map, block, total, needed) {
+        return held(walk.probes);
+    }
     if refit(map, heap, block, &cursor, needed) {
         return Counted {
             answer: Ok(block),
             probes: walk.probes,
         };
     }
+    if holds_anchor(map, heap, block, &cursor) {
+        return held(walk.probes);
+    }
     let moved = relocate(map, heap, block, total, needed);
     Counted {
         answer: moved.answer,
         probes: walk.probes + moved.probes,
+    }
+}
+
+/// Whether an anchor lies in what is cut off a block that gets another total: in nothing, where that is no smaller.
+fn cut_holds_anchor(map: &AddressMap, block: u32, total: u32, needed: u64) -> bool
+    requires block { 4 ≤ block }
+    requires below { block + total < 2 ^ 32 }
+    ensures { result ≡ anchor_among (anchor_of map.now) (block - 4 + needed) (total - needed) }
+{
+    if needed >= u64::from(total) {
+        return false;
+    }
+    let needed = needed as u32;
+    map.anchor_in(block - 4 + needed, total - needed)
+}
+
+/// The refusal of a call that an anchor is in the way of.
+fn held(probes: u32) -> Counted<u32>
+    ensures { result ≡ record { answer = Err HeapHoldsAnchor; probes = probes } }
+{
+    Counted {
+        answer: Err(ErrorNumber::HeapHoldsAnchor),
+        probes,
     }
 }

@@ -224,6 +224,33 @@ refit_still other block total end new at (Live t ∷ xs) apart live = elim (case
 refit_still other block total end new at (Free t ∷ xs) apart live =
     pass_still other total at t (resized_in_place block end new (at + t) xs) (refit_still other block total end new (at + t) xs apart live)
 
+-- the block itself has its new total then
+grown_own : (block at room new t : ℕ) (xs : List Item) → (at + 4 == block) ≡ true → IsStillIn block new at (grown room new t xs)
+grown_own block at room new t [] here = elim (cases_Bool (nat_le new room)) [
+  | inl fits ↦ rw (fits, here) refl
+  | inr short ↦ rw short tt
+]
+grown_own block at room new t (Live u ∷ xs) here = tt
+grown_own block at room new t (Free u ∷ xs) here = elim (cases_Bool (nat_le new (t + u))) [
+  | inl fits ↦ rw (fits, here) refl
+  | inr short ↦ rw short tt
+]
+
+refitted_own : (block at room new t : ℕ) (xs : List Item) → (at + 4 == block) ≡ true → IsStillIn block new at (refitted room new t xs)
+refitted_own block at room new t xs here = elim (cases_Bool (nat_le new t)) [
+  | inl fits ↦ rw (fits, here) refl
+  | inr more ↦ rw more (grown_own block at room new t xs here)
+]
+
+pub refit_own : (block end new at : ℕ) (xs : List Item) → IsStillIn block new at (resized_in_place block end new at xs)
+refit_own block end new at [] = tt
+refit_own block end new at (Live t ∷ xs) = elim (cases_Bool (at + 4 == block)) [
+  | inl here ↦ rw here (refitted_own block at (end - at) new t xs here)
+  | inr away ↦ rw away (live_still block new at t (resized_in_place block end new (at + t) xs) away (refit_own block end new (at + t) xs))
+]
+refit_own block end new at (Free t ∷ xs) =
+    pass_still block new at t (resized_in_place block end new (at + t) xs) (refit_own block end new (at + t) xs)
+
 -- where a live block's bytes lie
 pub record LiveBytes (block total at end : ℕ) : Type 0 where
   pub low : at + 4 ≤ block

@@ -1,10 +1,8 @@
 -- A heap that was made one without items, whose bytes are as they were.
-use Rattle.std.proofs.Common.{List, ℕ, [], ◌++◌, ◌≡◌, ◌≤◌, ◌+◌, ◌-◌, ◌∙◌, refl, sym, ap, add-zero, inl, inr, arith, length}
+use Rattle.std.proofs.Common.{List, ℕ, [], ◌≡◌, ◌≤◌, ◌+◌, ◌-◌, ◌∙◌, refl, sym, ap, add-zero, inl, inr, arith, length}
 use Rattle.address_map.proofs.Bytes.{is_mapped-layout}
-use Rattle.address_map.specs.Bytes.{word_start}
 use Rattle.address_map.specs.Memory.{byte_at, bytes_of, class_of, layout}
 use Rattle.address_map.specs.declared.class.Class.{Class}
-use Rattle.address_map.specs.declared.item.Item.{Item}
 use Rattle.address_map.specs.declared.map.AddressMap.{AddressMap}
 use Rattle.os_heap_lists.proofs.LastLink.{link_of-heap, replaced}
 use Rattle.os_heap_lists.specs.Heap.{IsHeapIn, next_free}

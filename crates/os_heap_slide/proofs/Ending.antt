@@ -1,14 +1,18 @@
 -- The store after a slide: what its words spell, and that it is sound.
-use Rattle.std.proofs.Common.{List, ℕ, Bool, [], ◌∷◌, ◌++◌, ◌≡◌, ◌≢◌, ◌≤◌, ◌<◌, ◌+◌, ◌-◌, ◌%◌, ◌∙◌, true, false, refl, sym, ap, subst, inl, inr, Some, None, Option, is_some, length, map, arith}
-use Rattle.std.proofs.lemmas.Bool.{false≢true}
+use Rattle.std.proofs.Common.{List, ℕ, Bool, [], ◌∷◌, ◌≡◌, ◌≤◌, ◌+◌, ◌-◌, ◌∙◌, ◌&&◌, true, false, refl, sym, ap, subst, inl, inr, Some, None, Option, is_some, length, arith}
+use Rattle.std.proofs.lemmas.Bool.{and_parts, both_ways, cases_Bool, false≢true, or_left, or_right}
 use Rattle.std.proofs.lemmas.List.{length-map}
 use Rattle.address_map.proofs.Bytes.{byte_at-lt, is_mapped-layout}
 use Rattle.address_map.proofs.Stores.{in_range-cases}
 use Rattle.address_map.specs.Bytes.{Bytes, in_range, word_start}
 use Rattle.address_map.specs.Classes.{is_heap_class}
-use Rattle.address_map.specs.Items.{size_of}
-use Rattle.address_map.specs.Memory.{byte_at, bytes_of, class_of, is_mapped, layout, mapping, regions}
-use Rattle.address_map.specs.Moves.{AreDown, moved_region, moved_regions}
+use Rattle.address_map.specs.Memory.{anchor_of, byte_at, bytes_of, class_of, is_mapped, mapping, regions}
+use Rattle.address_map.proofs.Anchors.{none_among}
+use Rattle.address_map.specs.Moves.{AreDown, moved_place, moved_region, moved_regions, moved_to}
+use Rattle.address_map.specs.Records.{anchor_among}
+use Rattle.address_map.specs.declared.region.Kind.{Kind}
+use Rattle.address_map.specs.declared.region.Kind.TheVariants as kind
+use Rattle.os_heap_lists.specs.Lists.{live_total}
 use Rattle.address_map.specs.declared.class.Class.{Class}
 use Rattle.address_map.specs.declared.follow.Move.{Move}
 use Rattle.address_map.specs.declared.item.Item.{Item}
@@ -19,16 +23,17 @@ use Rattle.os_heap_lists.specs.Heap.{AreTotals, HeapList, IsHeapIn, with_heap}
 use Rattle.os_heap_lists.specs.Marks.{Remarks, spells_any}
 use Rattle.os_heap_lists.specs.Words.{AreApart, IsOutside}
 use Rattle.os_heap.proofs.Found.{found_heap, found_start}
+use Rattle.os_heap.proofs.Anchored.{KeepsAnchors, heads_unflexed, place_held}
 use Rattle.os_heap.proofs.FlexWords.{AreSameFlex, flex_held, flex_on, same_flex}
 use Rattle.os_heap.proofs.Held.{heads_marked, marks_held}
 use Rattle.os_heap.proofs.Stores.{are_others, AreOthers, IsHeld, layout-regions, parts_held, places-held, read_parts, same_limits}
-use Rattle.os_heap.specs.Calls.{OfHeap, with_items}
+use Rattle.os_heap.specs.Calls.{OfHeap, holds_anchor, with_items}
 use Rattle.os_heap.specs.Outcomes.{end_at, HasHeapAt, items_at}
-use Rattle.os_heap.specs.Store.{AreClasses, AreHeapsIn, find_heap, heap_in, heaps_in, IsSound, others_in, Store, store_of}
+use Rattle.os_heap.specs.Store.{AreClasses, AreHeapsIn, find_heap, heaps_in, IsSound, is_flex_store, is_in_flex_store, others_in, store_of}
 use Rattle.os_heap_slide.proofs.Laying.{IsRead, read}
-use Rattle.os_heap_slide.proofs.Places.{bytes_low, bytes_past, moves_down}
+use Rattle.os_heap_slide.proofs.Places.{bytes_low, bytes_past, moved_live, moved_stays, moves_down}
 use Rattle.os_heap_slide.proofs.Records.{all_placed, heaps_moved, IsSlide, moves_in, others_moved, ranges_apart, slid_in}
-use Rattle.os_heap_slide.specs.Slide.{AreBlocks, is_listed, IsSlid, MaySlide, moves_of, slid, slid_bytes, with_slid}
+use Rattle.os_heap_slide.specs.Slide.{AreBlocks, HoldNoAnchor, is_listed, IsSlid, MaySlide, moves_of, slid, slid_bytes, with_slid}
 use Rattle.os_heap_slide.specs.Steps.{IsAllSlid}
 
 -- the heap that slides
@@ -40,12 +45,13 @@ pub record Here (m : AddressMap) (heap : ℕ) (movable : List ℕ) : Type 0 wher
   pub is : IsRead m h.start h.end h.items
   pub blocks : AreBlocks (h.start + 16) h.items movable
   pub few : length movable ≤ 128
+  pub free : HoldNoAnchor (store_of m) h movable
 
 pub here : (m : AddressMap) (heap : ℕ) (movable : List ℕ) → IsSound (store_of m) → MaySlide (store_of m) heap movable → Here m heap movable
 unfolding store_of
 here m heap movable sound may = by_heap (find_heap heap (store_of m).heaps) refl may where
   by_heap : (o : Option HeapList) → find_heap heap (store_of m).heaps ≡ o
-      → OfHeap (λ h. AreBlocks (h.start + 16) h.items movable × (length movable ≤ 128)) o → Here m heap movable
+      → OfHeap (λ h. AreBlocks (h.start + 16) h.items movable × ((length movable ≤ 128) × HoldNoAnchor (store_of m) h movable)) o → Here m heap movable
   by_heap None e is = absurd is
   by_heap (Some h) e is =
       let spelled : IsHeapIn (bytes_of m) h.start h.end h.items = found_heap (bytes_of m) heap (store_of m).heaps h sound.heaps e in
@@ -56,7 +62,8 @@ here m heap movable sound may = by_heap (find_heap heap (store_of m).heaps) refl
         spelled = spelled;
         is = read m h.start h.end h.items spelled;
         blocks = is.0;
-        few = is.1;
+        few = is.1.0;
+        free = is.1.1;
       }
 
 pub heap_here : (m : AddressMap) (heap : ℕ) (movable : List ℕ) → Here m heap movable → HasHeapAt m heap
@@ -138,11 +145,53 @@ pub record IsSlidStore (m q : AddressMap) (h : HeapList) (movable : List ℕ) : 
   pub sound : IsSound (store_of q)
   pub classes : AreClasses q
 
+-- anchors lie in blocks that stay
+slide_keeps : (anchor mv : ℕ → Bool) (at : ℕ) (xs : List Item) → AreTotals xs
+    → ((b : ℕ) → mv b ≡ true → holds_anchor anchor b (live_total b at xs) ≡ false) → KeepsAnchors anchor at xs (slid mv at at xs)
+slide_keeps anchor mv at xs totals free a anchored held = elim (cases_Bool (mv held.block)) [
+  | inl moves ↦
+      let none : anchor_among anchor (held.block - 4) held.total ≡ false =
+      ap (λ (o : Option ℕ). holds_anchor anchor held.block o) (sym held.live) ∙ free held.block moves in
+      let low = held.low in
+      let high = held.high in
+      absurd (both_ways (anchor a) (none_among anchor (held.block - 4) held.total a none (omega arith) (omega arith)) anchored)
+  | inr stays ↦
+      let there : live_total (moved_to (moves_of mv at at xs) held.block) at (slid mv at at xs) ≡ Some held.total =
+      moved_live mv at at xs held.block held.total (omega arith) totals held.live in
+      let same : moved_to (moves_of mv at at xs) held.block ≡ held.block = moved_stays mv at at xs held.block stays in
+      record {
+        block = held.block;
+        total = held.total;
+        live = subst (λ (b : ℕ). live_total b at (slid mv at at xs) ≡ Some held.total) same there;
+        low = held.low;
+        high = held.high;
+      }
+]
+
+moved_flex : (moves : List Move) (rs : List Region) (a : ℕ) → is_in_flex_store rs a ≡ true → is_in_flex_store (moved_regions moves rs) a ≡ true
+moved_flex moves [] a is = is
+moved_flex moves (r ∷ rs) a is = elim (cases_Bool (is_flex_store r.kind && in_range r.at r.len a)) [
+  | inl here ↦
+      let parts = and_parts (is_flex_store r.kind) (in_range r.at r.len a) here in
+      let place : moved_place moves r.kind r.at ≡ r.at = flex_place moves r.kind r.at parts.0 in
+      or_left _ (is_in_flex_store (moved_regions moves rs) a) (rw (place, parts.0, parts.1) refl)
+  | inr other ↦ or_right _ (is_in_flex_store (moved_regions moves rs) a) (moved_flex moves rs a (rw other at is))
+] where
+  flex_place : (moves : List Move) (k : Kind) (at : ℕ) → is_flex_store k ≡ true → moved_place moves k at ≡ at
+  flex_place moves kind.FlexStore at is = refl
+  flex_place moves kind.Heap at is = refl
+  flex_place moves kind.Rma at is = refl
+  flex_place moves kind.FlexHeader at is = refl
+  flex_place moves kind.Anchor at is = refl
+  flex_place moves kind.HeadWord at is = refl
+  flex_place moves kind.Image at is = absurd (false≢true is)
+  flex_place moves kind.SystemPage at is = refl
+
 pub slid_store : (m n q : AddressMap) (h : HeapList) (movable : List ℕ) (moves : List Move) → IsSound (store_of m) → AreClasses m → find_heap h.start (store_of m).heaps ≡ Some h
-    → IsHeapIn (bytes_of m) h.start h.end h.items → IsRead m h.start h.end h.items → IsAllSlid m n h.start movable moves → IsDone m n q moves
-    → IsSlidStore m q h movable
+    → IsHeapIn (bytes_of m) h.start h.end h.items → IsRead m h.start h.end h.items → HoldNoAnchor (store_of m) h movable
+    → IsAllSlid m n h.start movable moves → IsDone m n q moves → IsSlidStore m q h movable
 unfolding store_of
-slid_store m n q h movable moves sound classes found old is a d =
+slid_store m n q h movable moves sound classes found old is free a d =
     let mv : ℕ → Bool = is_listed movable in
     let first : ℕ = h.start + 16 in
     let hs : List HeapList = heaps_in (bytes_of m) (regions m) in
@@ -160,9 +209,10 @@ slid_store m n q h movable moves sound classes found old is a d =
     ap (λ (ys : List Region). heaps_in (bytes_of q) ys) l.records ∙ heaps_moved (bytes_of q) (moves_in h movable) (regions m)
     ∙ read_parts m q h (slid_in h movable) (regions m) held others sound.heaps in
     let records : others_in (regions q) ≡ moved_regions (moves_in h movable) rs = ap others_in l.records ∙ others_moved (moves_in h movable) (regions m) in
+    let keeps : KeepsAnchors (anchor_of m) first h.items (slid_in h movable) = slide_keeps (anchor_of m) mv first h.items old.totals free in
     let flex : AreSameFlex (class_of m) (class_of n) =
     flex_held (class_of m) (class_of n) first h.items (slid_in h movable) (heads_marked (class_of m) hs h classes found) l.marks
-    (λ a is. record { anchor = sound.anchors a; header = sound.headers a }) in
+    (heads_unflexed m (bytes_of q) h (slid_in h movable) sound found l.heap keeps) in
     let same : AreSameFlex (class_of m) (class_of q) = flex_on (class_of m) (class_of n) (class_of q) flex (same_flex (class_of n) (class_of q) d.marks) in
     let store : store_of q ≡ with_slid (store_of m) h movable = λ i. record {
       bytes = bytes i;
@@ -178,8 +228,8 @@ slid_store m n q h movable moves sound classes found old is a d =
       placed = all_placed (bytes_of m) (bytes_of q) h hs movable rs s sound.heaps others found sound.placed;
       apart = ranges_apart (bytes_of m) (bytes_of q) h hs movable rs s sound.heaps others found sound.placed sound.apart;
       few = rw (length-map rs (λ (r : Region). moved_region (moves_in h movable) r)) sound.few;
-      anchors = sound.anchors;
-      headers = sound.headers;
+      anchors = λ a is. ((sound.anchors a is).0, place_held h (slid_in h movable) hs a others (keeps a is) (sound.anchors a is).1);
+      headers = λ a is. moved_flex (moves_in h movable) rs a (sound.headers a is);
     } in
     record {
       store = store;
@@ -193,7 +243,7 @@ slid_store m n q h movable moves sound classes found old is a d =
 pub done_here : (m n q : AddressMap) (heap : ℕ) (movable : List ℕ) (moves : List Move) → IsSound (store_of m) → AreClasses m → (k : Here m heap movable)
     → IsAllSlid m n heap movable moves → IsDone m n q moves → IsSlidStore m q k.h movable
 done_here m n q heap movable moves sound classes k a d =
-    slid_store m n q k.h movable moves sound classes (subst (λ (x : ℕ). find_heap x (store_of m).heaps ≡ Some k.h) (sym k.start) k.found) k.spelled k.is
+    slid_store m n q k.h movable moves sound classes (subst (λ (x : ℕ). find_heap x (store_of m).heaps ≡ Some k.h) (sym k.start) k.found) k.spelled k.is k.free
     (subst (λ (x : ℕ). IsAllSlid m n x movable moves) (sym k.start) a) d
 
 pub slid_here : (m n q : AddressMap) (heap : ℕ) (movable : List ℕ) (moves : List Move) → IsSound (store_of m) → AreClasses m → Here m heap movable

@@ -1,6 +1,6 @@
 -- The laws of slides.
-use Rattle.std.proofs.Common.{List, ℕ, Bool, [], ◌∷◌, ◌++◌, ◌≡◌, ◌≤◌, ◌<◌, ◌+◌, ◌-◌, ◌*◌, ◌/◌, ◌%◌, ◌==◌, ◌∙◌, true, false, refl, sym, ap, inl, inr, zero-add, Some, None, Ok, arith}
-use Rattle.std.proofs.lemmas.Bool.{cases_Bool, eqb-true, eq-eqb, le-leb, lt-leb, lt-ltb}
+use Rattle.std.proofs.Common.{List, ℕ, Bool, [], ◌∷◌, ◌++◌, ◌≡◌, ◌≤◌, ◌<◌, ◌+◌, ◌-◌, ◌*◌, ◌/◌, ◌%◌, ◌==◌, ◌∙◌, true, false, refl, inl, inr, zero-add, arith}
+use Rattle.std.proofs.lemmas.Bool.{cases_Bool, eq-eqb, le-leb, lt-ltb}
 use Rattle.std.proofs.lemmas.Bool.Decides.{nat_tests}
 use Rattle.address_map.specs.Bytes.{with_moved_at}
 use Rattle.address_map.specs.Items.{is_total, size_of}
@@ -10,15 +10,14 @@ use Rattle.os_heap_lists.proofs.ItemWalk.{size_of-old}
 use Rattle.os_heap_lists.proofs.Reading.{total_facts}
 use Rattle.os_heap_lists.proofs.Spelling.{size_of-multiple, total_of-numbers}
 use Rattle.os_heap_lists.specs.Counts.{all_free, free_count, free_total, largest_block, largest_free}
-use Rattle.os_heap_lists.specs.Heap.{AreSpaced, AreTotals, HeapList}
+use Rattle.os_heap_lists.specs.Heap.{AreSpaced, AreTotals}
 use Rattle.os_heap_lists.specs.Lists.{left_free}
 use Rattle.os_heap.proofs.Moving.{found_held}
 use Rattle.os_heap.specs.Calls.{described}
-use Rattle.os_heap.specs.Store.{find_heap, Store}
 use Rattle.os_heap_slide.proofs.Laying.{moved_past}
 use Rattle.os_heap_slide.proofs.Places.{between, bytes_low}
-use Rattle.os_heap_slide.specs.Laws.{AreMovable, KeepsContents, SlideClears, SlideDescribes, SlideFits, SlideKeeps}
-use Rattle.os_heap_slide.specs.Slide.{is_listed, place_of, slid, slid_bytes, with_slid}
+use Rattle.os_heap_slide.specs.Laws.{KeepsContents, SlideClears, SlideDescribes, SlideFits, SlideKeeps}
+use Rattle.os_heap_slide.specs.Slide.{is_listed, place_of, slid, slid_bytes}
 
 -- contents that were kept of other bytes, where these are the same from the first item on
 kept_of : (mv : ℕ → Bool) (top at : ℕ) (xs : List Item) (f g new : ℕ → ℕ) → ((a : ℕ) → at ≤ a → g a ≡ f a) → KeepsContents mv top at xs g new

@@ -1,22 +1,20 @@
 -- A block that is copied to its new place, and laid there.
-use Rattle.std.proofs.Common.{List, ℕ, Bool, [], ◌∷◌, ◌++◌, ◌≡◌, ◌≤◌, ◌<◌, ◌+◌, ◌-◌, ◌%◌, ◌^◌, ◌∙◌, true, false, refl, sym, ap, subst, inl, inr, arith, cond}
-use Rattle.std.proofs.lemmas.Bool.{and_parts, le-leb, leb-true, lt-leb, lt-ltb, le-ltb, ltb-true, or_cases}
+use Rattle.std.proofs.Common.{List, ℕ, Bool, ◌≡◌, ◌≤◌, ◌<◌, ◌+◌, ◌-◌, ◌%◌, ◌∙◌, true, false, refl, inl, inr, arith, cond}
+use Rattle.std.proofs.lemmas.Bool.{and_parts, le-leb, leb-true, lt-leb, le-ltb, ltb-true, or_cases}
 use Rattle.address_map.proofs.Bytes.{is_mapped-layout}
-use Rattle.address_map.specs.Bytes.{Bytes, in_range, with_moved_at, word_at, word_start}
-use Rattle.address_map.specs.Items.{is_head, is_head_of, is_heap_word, items_in, size_of}
-use Rattle.address_map.specs.Memory.{byte_at, bytes_of, class_of, is_mapped, layout}
+use Rattle.address_map.specs.Bytes.{Bytes, in_range, with_moved_at, word_start}
+use Rattle.address_map.specs.Items.{is_head, is_head_of, size_of}
+use Rattle.address_map.specs.Memory.{byte_at, bytes_of, class_of, layout}
 use Rattle.address_map.specs.declared.class.Class.{Class}
 use Rattle.address_map.specs.declared.class.Class.TheVariants as class
 use Rattle.address_map.specs.declared.item.Item.{Item}
-use Rattle.address_map.specs.declared.item.Item.TheVariants.{Free, Live}
+use Rattle.address_map.specs.declared.item.Item.TheVariants.{Live}
 use Rattle.address_map.specs.declared.map.AddressMap.{AddressMap}
 use Rattle.os_heap_lists.proofs.HeadWords.{head_inside, heaps_kept}
 use Rattle.os_heap_lists.proofs.Reading.{items_in-heap}
-use Rattle.os_heap_lists.specs.Heap.{IsHeapIn, last_free}
-use Rattle.os_heap_lists.specs.Marks.{head_class, marked, Remarks, with_item_marked}
-use Rattle.os_heap_lists.specs.Words.{AreApart, IsOutside}
+use Rattle.os_heap_lists.specs.Heap.{IsHeapIn}
+use Rattle.os_heap_lists.specs.Marks.{head_class, marked, with_item_marked}
 use Rattle.os_heap.specs.Outcomes.{end_at, HasHeapAt, items_at}
-use Rattle.os_heap_slide.proofs.Setting.{RoomFacts, room_facts}
 use Rattle.os_heap_slide.specs.Steps.{IsLaid, IsRoom, IsSetDown, laid}
 
 -- bytes that a copy leaves alone

@@ -1,5 +1,5 @@
 -- Where blocks are after a slide: each at its new place, in the same order, and none out of the items' range.
-use Rattle.std.proofs.Common.{List, ℕ, Bool, [], ◌∷◌, ◌++◌, ◌≡◌, ◌≢◌, ◌≤◌, ◌<◌, ◌⊎◌, ◌+◌, ◌-◌, ◌%◌, ◌==◌, ◌∙◌, true, false, refl, sym, ap, subst, inl, inr, Some, None, is_some, arith}
+use Rattle.std.proofs.Common.{List, ℕ, Bool, [], ◌∷◌, ◌++◌, ◌≡◌, ◌≢◌, ◌≤◌, ◌<◌, ◌+◌, ◌-◌, ◌%◌, ◌==◌, ◌∙◌, true, false, refl, sym, ap, inl, inr, Some, None, arith}
 use Rattle.std.proofs.lemmas.Bool.{cases_Bool, cases_eq, cases_lt, eqb-true, eq-eqb, ne_eqb}
 use Rattle.address_map.specs.Bytes.{with_moved_at}
 use Rattle.address_map.specs.Items.{size_of}
@@ -108,6 +108,22 @@ moved_live mv top at (Live u ∷ xs) b t low totals live =
           let above = some_low _ (place + u) t (slid mv (place + u) (at + u) xs) rest in
           rw to (laid_later top place u (slid mv (place + u) (at + u) xs) _ bounds.0
           (λ (e : moved_to (moves_of mv (place + u) (at + u) xs) b ≡ place + 4). omega (arith, above, least.0)) ∙ rest)
+    ]
+
+-- a block that can't be moved stays where it is
+pub moved_stays : (mv : ℕ → Bool) (top at : ℕ) (xs : List Item) (b : ℕ) → mv b ≡ false → moved_to (moves_of mv top at xs) b ≡ b
+moved_stays mv top at [] b fixed = refl
+moved_stays mv top at (Free u ∷ xs) b fixed = moved_stays mv top (at + u) xs b fixed
+moved_stays mv top at (Live u ∷ xs) b fixed =
+    let place : ℕ = place_of (mv (at + 4)) top at in
+    let rest : moved_to (moves_of mv (place + u) (at + u) xs) b ≡ b = moved_stays mv (place + u) (at + u) xs b fixed in
+    elim (cases_eq (at + 4) b) [
+      | inr other ↦ one_moved at place (moves_of mv (place + u) (at + u) xs) b other ∙ rest
+      | inl here ↦
+          let own : mv (at + 4) ≡ false = ap mv here ∙ fixed in
+          let stays : place ≡ at = rw own refl in
+          let none : move_of at place ≡ [] = rw (eq-eqb place at stays) refl in
+          ap (λ (ms : List Move). moved_to (ms ++ moves_of mv (place + u) (at + u) xs) b) none ∙ rest
     ]
 
 -- blocks keep their order

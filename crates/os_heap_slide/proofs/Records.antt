@@ -1,7 +1,6 @@
 -- The records of images follow their blocks, and those of other ranges stay.
-use Rattle.std.proofs.Common.{List, ℕ, Bool, [], ◌∷◌, ◌++◌, ◌≡◌, ◌≢◌, ◌≤◌, ◌<◌, ◌⊎◌, ◌+◌, ◌-◌, ◌%◌, ◌==◌, ◌∙◌, true, false, refl, sym, ap, subst, inl, inr, Some, None, length, map, arith}
-use Rattle.std.proofs.lemmas.Bool.{cases_Bool, cases_eq, eqb-true, eq-eqb, ne_eqb, false≢true, le-leb, lt-ltb, le-ltb, lt-leb}
-use Rattle.std.proofs.lemmas.List.{length-map}
+use Rattle.std.proofs.Common.{List, ℕ, Bool, [], ◌∷◌, ◌≡◌, ◌≢◌, ◌≤◌, ◌<◌, ◌⊎◌, ◌+◌, ◌∙◌, true, false, refl, sym, ap, subst, inl, inr, Some, arith}
+use Rattle.std.proofs.lemmas.Bool.{cases_Bool, cases_eq, eq-eqb, ne_eqb, false≢true, le-leb, lt-ltb}
 use Rattle.address_map.proofs.Stores.{in_range-cases}
 use Rattle.address_map.specs.Bytes.{Bytes, in_range}
 use Rattle.address_map.specs.Items.{size_of}
@@ -13,12 +12,12 @@ use Rattle.address_map.specs.declared.region.Kind.{Kind}
 use Rattle.address_map.specs.declared.region.Kind.TheVariants as kind
 use Rattle.address_map.specs.declared.region.Region.{Region}
 use Rattle.os_heap_lists.proofs.LiveBlocks.{LiveBytes, live_apart, live_bytes}
-use Rattle.os_heap_lists.specs.Heap.{AreTotals, HeapList, IsHeapIn}
+use Rattle.os_heap_lists.specs.Heap.{HeapList, IsHeapIn}
 use Rattle.os_heap_lists.specs.Lists.{live_total}
 use Rattle.os_heap.proofs.Apart.{range_parts}
-use Rattle.os_heap.proofs.Stores.{AreOthers, clear-held, clear_of-found, IsOther}
+use Rattle.os_heap.proofs.Stores.{AreOthers, clear-held, clear_of-found}
 use Rattle.os_heap.specs.Calls.{with_items}
-use Rattle.os_heap.specs.Store.{AreClear, AreHeapsIn, ArePlaced, AreRangesApart, find_heap, heap_in, heaps_in, is_area, is_image, IsClearOfHeaps, IsClearOfRanges, IsImageBlock, IsImageIn, others_in}
+use Rattle.os_heap.specs.Store.{AreClear, AreHeapsIn, ArePlaced, AreRangesApart, find_heap, heaps_in, is_image, IsClearOfHeaps, IsClearOfRanges, IsImageBlock, IsImageIn, others_in}
 use Rattle.os_heap_slide.proofs.Places.{low_still, moved_live, past_still, stay_distinct}
 use Rattle.os_heap_slide.specs.Slide.{is_listed, moves_of, slid}
 

@@ -1,8 +1,7 @@
 -- Items laid at the end of a heap's list: a block, and a free item before it where there is a gap.
-use Rattle.std.proofs.Common.{List, ℕ, [], ◌∷◌, ◌++◌, ◌≡◌, ◌≢◌, ◌≤◌, ◌<◌, ◌+◌, ◌-◌, ◌%◌, ◌^◌, ◌∙◌, true, refl, sym, ap, subst, inl, inr, append-nil, arith}
+use Rattle.std.proofs.Common.{List, ℕ, [], ◌∷◌, ◌++◌, ◌≡◌, ◌≢◌, ◌≤◌, ◌<◌, ◌+◌, ◌-◌, ◌%◌, ◌^◌, ◌∙◌, true, refl, subst, inl, inr, append-nil, arith}
 use Rattle.std.proofs.lemmas.Bool.{eq-eqb, ne_eqb}
 use Rattle.address_map.proofs.Bytes.{is_mapped-layout}
-use Rattle.address_map.specs.Bytes.{word_at}
 use Rattle.address_map.specs.Items.{is_total, size_of}
 use Rattle.address_map.specs.Memory.{byte_at, bytes_of, class_of, is_mapped, layout}
 use Rattle.address_map.specs.declared.item.Item.{Item}
@@ -13,13 +12,11 @@ use Rattle.os_heap_lists.proofs.Marks.{remarked}
 use Rattle.os_heap_lists.proofs.Reading.{total_facts}
 use Rattle.os_heap_lists.proofs.Spelling.{size_of-append, size_of-multiple, spaced-join, total_of-numbers, totals-front}
 use Rattle.os_heap_lists.specs.Heap.{AreSpaced, AreTotals, IsHeapIn, last_free}
-use Rattle.os_heap_lists.specs.Lists.{left_free}
 use Rattle.os_heap_lists.specs.Marks.{Remarks}
 use Rattle.os_heap_lists.specs.Words.{IsFreed, IsWritten, link_at}
 use Rattle.os_heap.proofs.Claiming.{appended}
-use Rattle.os_heap.proofs.Marking.{can_stand}
-use Rattle.os_heap.proofs.Replace.{becomes, heap_below, heap_mapped}
-use Rattle.os_heap.specs.Outcomes.{Becomes, CanStand, end_at, items_at}
+use Rattle.os_heap.proofs.Replace.{becomes, heap_below}
+use Rattle.os_heap.specs.Outcomes.{Becomes, end_at, items_at}
 use Rattle.os_heap_slide.specs.Steps.{IsRoom, IsSetDown, laid}
 
 -- what the room for a block says

@@ -1,14 +1,12 @@
 -- A slide from item to item: what the words of the next one say, and what holds behind it.
-use Rattle.std.proofs.Common.{List, ℕ, Bool, [], ◌∷◌, ◌++◌, ◌≡◌, ◌≢◌, ◌≤◌, ◌<◌, ◌+◌, ◌-◌, ◌%◌, ◌^◌, ◌==◌, ◌||◌, ◌∙◌, true, false, refl, sym, ap, subst, inl, inr, append_assoc, append-nil, arith, length, cond}
-use Rattle.std.proofs.lemmas.Bool.{cases_Bool, eqb-true, eq-eqb, ne_eqb}
-use Rattle.address_map.proofs.Bytes.{is_mapped-layout}
+use Rattle.std.proofs.Common.{List, ℕ, Bool, [], ◌∷◌, ◌++◌, ◌≡◌, ◌≢◌, ◌≤◌, ◌<◌, ◌+◌, ◌-◌, ◌%◌, ◌==◌, ◌||◌, ◌∙◌, true, false, refl, sym, ap, subst, inl, inr, append_assoc, append-nil, arith, length, cond}
+use Rattle.std.proofs.lemmas.Bool.{cases_Bool, eqb-true, eq-eqb}
 use Rattle.address_map.proofs.Equations.{same_bytes}
 use Rattle.address_map.proofs.Stores.{in_range-cases}
-use Rattle.address_map.specs.Bytes.{Bytes, in_range, with_moved_at, word_at, word_start}
+use Rattle.address_map.specs.Bytes.{Bytes, with_moved_at, word_at, word_start}
 use Rattle.address_map.specs.Items.{is_head, is_head_of, is_total, items_in, linked, size_of}
 use Rattle.address_map.specs.Memory.{byte_at, bytes_of, class_of, layout}
 use Rattle.address_map.specs.declared.class.Class.{Class}
-use Rattle.address_map.specs.declared.class.Class.TheVariants as class
 use Rattle.address_map.specs.declared.follow.Move.{Move}
 use Rattle.address_map.specs.declared.item.Item.{Item}
 use Rattle.address_map.specs.declared.item.Item.TheVariants.{Free, Live}
@@ -22,7 +20,7 @@ use Rattle.os_heap_lists.proofs.Spelling.{last_free-append, size_of-append, size
 use Rattle.os_heap_lists.specs.Heap.{AreTotals, IsHeapIn, last_free, next_free}
 use Rattle.os_heap_lists.specs.Lists.{left_free}
 use Rattle.os_heap_lists.specs.Marks.{head_class, marked, Remarks, with_item_marked}
-use Rattle.os_heap_lists.specs.Words.{AreApart, IsOutside}
+use Rattle.os_heap_lists.specs.Words.{IsOutside}
 use Rattle.os_heap.proofs.Marking.{can_stand}
 use Rattle.os_heap.proofs.Searching.{FreeFacts, free_facts}
 use Rattle.os_heap.proofs.Walking.{LiveFacts, live_facts}

@@ -1,16 +1,20 @@
 -- A walk that tests whether addresses are those of live blocks, in order.
-use Rattle.std.proofs.Common.{List, ℕ, Bool, [], ◌∷◌, ◌++◌, ◌≡◌, ◌≢◌, ◌≤◌, ◌<◌, ◌+◌, ◌∙◌, true, false, refl, sym, ap, subst, inl, inr, append_assoc, append-nil, add-zero, None, Some, Option, is_some, is_none, length, arith}
+use Rattle.std.proofs.Common.{List, ℕ, Bool, [], ◌∷◌, ◌++◌, ◌≡◌, ◌≢◌, ◌≤◌, ◌<◌, ◌+◌, ◌-◌, ◌∙◌, true, false, refl, sym, ap, subst, inl, inr, append_assoc, append-nil, add-zero, None, Some, Option, is_some, is_none, length, arith}
 use Rattle.std.proofs.lemmas.Bool.{false≢true, true≢false}
+use Rattle.address_map.proofs.Anchors.{among_none, none_among}
 use Rattle.address_map.specs.Bytes.{word_at}
 use Rattle.address_map.specs.Items.{linked, size_of}
-use Rattle.address_map.specs.Memory.{byte_at, bytes_of}
+use Rattle.address_map.specs.Memory.{anchor_of, byte_at, bytes_of}
+use Rattle.address_map.specs.Records.{anchor_among}
 use Rattle.address_map.specs.declared.item.Item.{Item}
 use Rattle.address_map.specs.declared.item.Item.TheVariants.{Free, Live}
 use Rattle.address_map.specs.declared.map.AddressMap.{AddressMap}
 use Rattle.os_heap_lists.proofs.Spelling.{size_of-append, totals-back}
+use Rattle.os_heap_lists.proofs.LiveBlocks.{LiveBytes, live_bytes}
 use Rattle.os_heap_lists.specs.Heap.{AreTotals, HeapList, IsHeapIn, next_free}
+use Rattle.os_heap_lists.specs.Lists.{live_total}
 use Rattle.os_heap.proofs.Found.{found_heap, found_start}
-use Rattle.os_heap.specs.Calls.{items_of, OfHeap}
+use Rattle.os_heap.specs.Calls.{holds_anchor, items_of, OfHeap}
 use Rattle.os_heap.specs.Outcomes.{end_at, HasHeapAt, items_at}
 use Rattle.os_heap.specs.Store.{find_heap, IsSound, store_of}
 use Rattle.os_heap_slide.proofs.Laying.{IsRead, read}
@@ -100,13 +104,29 @@ there m heap sound some = by_heap (find_heap heap (store_of m).heaps) refl where
         list = subst (λ (q : ℕ). items_at m q ≡ h.items) start is.list;
       }
 
+-- no block holds an anchor, where none lies below the base
+none_holds : (anchor : ℕ → Bool) (at len : ℕ) (xs : List Item) → AreTotals xs → anchor_among anchor at len ≡ false → 16 + size_of xs ≤ len → (b : ℕ)
+    → holds_anchor anchor b (live_total b (at + 16) xs) ≡ false
+none_holds anchor at len xs totals none fits b = by_total (live_total b (at + 16) xs) refl where
+  by_total : (o : Option ℕ) → live_total b (at + 16) xs ≡ o → holds_anchor anchor b o ≡ false
+  by_total None e = among_none anchor (b - 4) 0 (λ a low high. absurd (omega (arith, low, high)))
+  by_total (Some t) e =
+      let place : LiveBytes b t (at + 16) (at + 16 + size_of xs) = live_bytes b t (at + 16) xs totals e in
+      among_none anchor (b - 4) t (λ a low high.
+      none_among anchor at len a none (omega (arith, low, place.low)) (omega (arith, high, fits, place.low, place.high)))
+
 pub may : (m : AddressMap) (heap : ℕ) (movable : List ℕ) → IsThere m heap → length movable ≤ 128 → AreBlocks (heap + 16) (items_at m heap) movable
-    → MaySlide (store_of m) heap movable
-may m heap movable k few blocks =
+    → anchor_among (anchor_of m) heap (word_at (byte_at m) (heap + 8)) ≡ false → MaySlide (store_of m) heap movable
+unfolding store_of
+may m heap movable k few blocks none =
     let here : AreBlocks (k.h.start + 16) k.h.items movable =
     subst (λ (ys : List Item). AreBlocks (k.h.start + 16) ys movable) k.list
     (subst (λ (q : ℕ). AreBlocks (q + 16) (items_at m heap) movable) (sym k.start) blocks) in
-    rw k.found (here, few)
+    let free : (b : ℕ) → holds_anchor (anchor_of m) b (live_total b (k.h.start + 16) k.h.items) ≡ false =
+    subst (λ (ys : List Item). (b : ℕ) → holds_anchor (anchor_of m) b (live_total b (k.h.start + 16) ys) ≡ false) k.list
+    (subst (λ (q : ℕ). (b : ℕ) → holds_anchor (anchor_of m) b (live_total b (q + 16) (items_at m heap)) ≡ false) (sym k.start)
+    (none_holds (anchor_of m) heap (word_at (byte_at m) (heap + 8)) (items_at m heap) k.stands.totals none (omega (arith, k.stands.base)))) in
+    rw k.found (here, (few, λ b _. free b))
 
 pub listed_all : (m : AddressMap) (heap : ℕ) (movable left : List ℕ) (at free : ℕ) → HasHeapAt m heap → (s : IsListing m heap movable left at free)
     → heap + word_at (byte_at m) (heap + 8) ≤ at → left ≡ [] → AreBlocks (heap + 16) (items_at m heap) movable

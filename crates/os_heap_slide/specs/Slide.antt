@@ -1,7 +1,7 @@
 -- The slide of a heap's movable blocks. A fixed block keeps its place, a movable one goes to the end of the live item before it, or to the place of
 -- the first item, where there is none. What lies between becomes free, and the base is the end of the last item (RISC OS 3 Programmer's Reference
 -- Manual, "OS_Module", reason 8, tidying of the module area; which blocks can be moved is this project's own).
-use Rattle.std.specs.Prelude.{ℕ, ◌≡◌, ◌≤◌, Bool, false, ◌+◌, ◌-◌, ◌==◌, List, [], ◌∷◌, ◌++◌, length, if◌then◌else◌}
+use Rattle.std.specs.Prelude.{ℕ, ◌≡◌, ◌≤◌, Bool, true, false, ◌+◌, ◌-◌, ◌==◌, List, [], ◌∷◌, ◌++◌, length, if◌then◌else◌}
 use Rattle.std.specs.List.{list_any}
 use Rattle.address_map.specs.Bytes.{with_moved_at}
 use Rattle.address_map.specs.Moves.{moved_regions}
@@ -9,8 +9,8 @@ use Rattle.address_map.specs.declared.follow.Move.{Move}
 use Rattle.address_map.specs.declared.item.Item.{Item}
 use Rattle.address_map.specs.declared.item.Item.TheVariants.{Free, Live}
 use Rattle.os_heap_lists.specs.Heap.{HeapList, with_heap}
-use Rattle.os_heap_lists.specs.Lists.{left_free}
-use Rattle.os_heap.specs.Calls.{OfHeap, with_items}
+use Rattle.os_heap_lists.specs.Lists.{left_free, live_total}
+use Rattle.os_heap.specs.Calls.{OfHeap, holds_anchor, with_items}
 use Rattle.os_heap.specs.Store.{Store, find_heap}
 
 -- is the block whose bytes begin at an address one of those that can be moved?
@@ -75,9 +75,14 @@ with_slid s h movable =
       others = moved_regions (moves_of (is_listed movable) at at h.items) s.others;
     }
 
--- the blocks that can be moved are live ones of that heap, in order, and at most 128
+-- no anchor lies in a block that can be moved
+abbrev pub HoldNoAnchor : Store → HeapList → List ℕ → Type 0
+HoldNoAnchor s h movable =
+    (b : ℕ) → is_listed movable b ≡ true → holds_anchor s.anchor b (live_total b (h.start + 16) h.items) ≡ false
+
+-- the blocks that can be moved are live ones of that heap, in order, at most 128, and hold no anchor
 abbrev pub MaySlide : Store → ℕ → List ℕ → Type 0
-MaySlide s heap movable = OfHeap (λ h. AreBlocks (h.start + 16) h.items movable × (length movable ≤ 128)) (find_heap heap s.heaps)
+MaySlide s heap movable = OfHeap (λ h. AreBlocks (h.start + 16) h.items movable × ((length movable ≤ 128) × HoldNoAnchor s h movable)) (find_heap heap s.heaps)
 
 -- the store after the slide of a heap, and the blocks that moved
 abbrev pub IsSlid : Store → ℕ → List ℕ → Store → List Move → Type 0

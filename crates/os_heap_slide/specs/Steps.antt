@@ -1,6 +1,6 @@
 -- Where a slide stands: the heap's words spell the items that have their new places, as a list by itself, and those that come next lie behind them
 -- as they were.
-use Rattle.std.specs.Prelude.{ℕ, ◌≡◌, ◌≤◌, ◌<◌, Bool, true, false, ◌+◌, ◌-◌, ◌%◌, ◌^◌, ◌==◌, List, [], ◌∷◌, ◌++◌, length, if◌then◌else◌}
+use Rattle.std.specs.Prelude.{ℕ, ◌≡◌, ◌≤◌, true, ◌+◌, ◌-◌, ◌%◌, ◌^◌, List, [], ◌∷◌, ◌++◌, length}
 use Rattle.address_map.specs.Bytes.{word_at, with_moved_at, word_start}
 use Rattle.address_map.specs.Items.{is_head, is_head_of, is_total, linked, size_of}
 use Rattle.address_map.specs.Memory.{byte_at, bytes_of, class_of, layout}

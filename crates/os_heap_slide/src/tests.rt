@@ -1,7 +1,8 @@
-ghost use Rattle.std.specs.Prelude.{◌≡◌, ◌+◌, true, is_some, MatchResult};
+ghost use Rattle.std.specs.Prelude.{◌≡◌, ◌+◌, true, false, is_some, MatchResult};
 ghost use Rattle.address_map.specs.Bytes.{word_at};
 ghost use Rattle.address_map.specs.Items.{linked};
-ghost use Rattle.address_map.specs.Memory.{byte_at};
+ghost use Rattle.address_map.specs.Memory.{anchor_of, byte_at};
+ghost use Rattle.address_map.specs.Records.{anchor_among};
 ghost use Rattle.os_heap.specs.Calls.{items_of};
 ghost use Rattle.os_heap.specs.Outcomes.{HasHeapAt, items_at};
 ghost use Rattle.os_heap.specs.Store.{store_of, AreClasses, IsSound};
@@ -88,17 +89,27 @@ fn has_heap(map: &AddressMap, heap: u32) -> bool
     Heaps::new().blocks(map, heap).is_some()
 }
 
-/// Whether the addresses are those of live blocks of a heap, in order, and at most 128.
+/// Whether the addresses are those of live blocks of a heap without anchors, in order, and at most 128.
 fn may_slide(map: &AddressMap, heap: u32, movable: &[u32]) -> bool
     requires { IsSound (store_of map.now) }
     ensures { result ≡ true → MaySlide (store_of map.now) heap movable.now }
 {
     if has_heap(map, heap) {
         if movable.len() <= 128 {
-            return are_blocks(map, heap, movable);
+            if are_blocks(map, heap, movable) {
+                return is_unanchored(map, heap);
+            }
         }
     }
     false
+}
+
+/// Whether no anchor lies below the base of a heap.
+fn is_unanchored(map: &AddressMap, heap: u32) -> bool
+    requires { HasHeapAt map.now heap }
+    ensures { result ≡ true → anchor_among (anchor_of map.now) heap (word_at (byte_at map.now) (heap + 8)) ≡ false }
+{
+    !map.anchor_in(heap, word(map, heap + BASE))
 }
 
 /// Whether the addresses are those of live blocks of a heap, in order.

@@ -1,7 +1,7 @@
 -- Blocks of the module area, and where a change of one is sure to be done once the area is grown.
-use Rattle.std.proofs.Common.{◌≡◌, ℕ, ◌+◌, ◌-◌, ◌==◌, ◌^◌, ◌≤◌, ◌⊎◌, Bool, true, false, refl, sym, ap, subst, ◌∙◌, Some, None, Ok, Err, inl, inr, arith}
-use Rattle.std.specs.Prelude.{Option, Result, is_some, is_ok, ok_or}
-use Rattle.std.proofs.lemmas.Bool.{cases_Bool, eqb-true}
+use Rattle.std.proofs.Common.{◌≡◌, ℕ, ◌+◌, ◌-◌, ◌==◌, ◌*◌, ◌^◌, ◌<◌, ◌≤◌, ◌⊎◌, Bool, true, false, refl, sym, ap, subst, ◌∙◌, Some, None, Ok, Err, inl, inr, arith}
+use Rattle.std.specs.Prelude.{Option, Result, is_some, is_ok, nat_le, ok_or}
+use Rattle.std.proofs.lemmas.Bool.{cases_Bool, eqb-true, leb-true, leb-false}
 use Rattle.profile.specs.declared.error.ErrorNumber.{ErrorNumber}
 use Rattle.profile.specs.declared.error.ErrorNumber.TheVariants.{HeapBadDesc, HeapNotABlock}
 use Rattle.address_map.specs.Items.{size_of}
@@ -10,15 +10,16 @@ use Rattle.address_map.specs.declared.map.AddressMap.{AddressMap}
 use Rattle.os_heap_lists.specs.Heap.{HeapList, AreTotals, IsHeapIn}
 use Rattle.os_heap_lists.specs.Lists.{changed_by, live_total, resized_in_place, round_up_8, total_for}
 use Rattle.os_heap_lists.proofs.LiveBlocks.{LiveBytes, live_bytes}
-use Rattle.os_heap.specs.Calls.{block_sized, bytes_held, got, guests_total, resized, unless_image}
+use Rattle.os_heap.specs.Calls.{block_sized, bytes_held, got, guests_total, holds_anchor, resized, unless_image}
 use Rattle.os_heap.specs.Room.{base_offset}
 use Rattle.os_heap.specs.Store.{Store, IsSound, find_heap, has_image, store_of}
 use Rattle.os_heap.proofs.Found.{found_heap, found_start}
 use Rattle.os_heap.proofs.Replace.{heap_below}
+use Rattle.dynamic_areas.specs.Changing.{pages_had}
 use Rattle.dynamic_areas.specs.Ground.{Estate, IsEstate}
-use Rattle.rma.specs.Calls.{end_if_moved, end_in_place, grown_in_place, grown_to, is_full, or_as_before, rma_base, total_changed}
+use Rattle.rma.specs.Calls.{area_pages, end_if_moved, end_in_place, grown_in_place, grown_to, is_full, or_as_before, rma_base, total_changed}
 use Rattle.rma.proofs.GrowthLemmas.{HasArea, IsGrown, area_there, grown_not, is_grown}
-use Rattle.rma.proofs.ResizeLemmas.{IsGuests, got_fits, last_fits, resized_fits}
+use Rattle.rma.proofs.ResizeLemmas.{IsGuests, full_free, got_fits, last_fits, resized_fits}
 
 -- the block whose size is asked for
 pub record IsSized (s : Store) (h : HeapList) (block size : ℕ) : Type 0 where
@@ -88,8 +89,9 @@ claim_done e g size end grown is =
 
 -- a change in the grown area, for which that has room
 resize_done : (e g : Estate) (block total change end : ℕ) (grown : IsGrown e g end) → IsGuests e.store grown.heap block total
-    → (is_some (resized_in_place block (grown.heap.start + grown.limit) (round_up_8 (changed_by total change)) (grown.heap.start + 16) grown.heap.items) ≡ true)
-    ⊎ (16 + size_of grown.heap.items + round_up_8 (changed_by total change) ≤ grown.limit)
+    → ((is_some (resized_in_place block (grown.heap.start + grown.limit) (round_up_8 (changed_by total change)) (grown.heap.start + 16) grown.heap.items) ≡ true)
+    × (total < round_up_8 (changed_by total change)))
+    ⊎ ((holds_anchor g.store.anchor block (Some total) ≡ false) × (16 + size_of grown.heap.items + round_up_8 (changed_by total change) ≤ grown.limit))
     → is_ok (resized g.store 0x01800000 block change) ≡ true
 resize_done e g block total change end grown own room =
     let h : HeapList = grown.heap in
@@ -108,17 +110,27 @@ live_least s h block total totals own = live_bytes block total (h.start + 16) h.
 
 -- the last block, in its place
 last_done : (e g : Estate) (block change size : ℕ) → block_sized e.store 0x01800000 block ≡ Ok size → block + size ≡ 0x01800000 + rma_base e.store
-    → IsGrown e g ((rma_base e.store + total_changed size change) - (size + 4)) → is_ok (resized g.store 0x01800000 block change) ≡ true
-last_done e g block change size sized last grown =
+    → size + 4 < total_changed size change → IsGrown e g ((rma_base e.store + total_changed size change) - (size + 4)) → is_ok (resized g.store 0x01800000 block change) ≡ true
+last_done e g block change size sized last more grown =
     let h : HeapList = grown.heap in
     let is : IsSized e.store h block size = sized_by e.store 0x01800000 h block size grown.found sized in
     let place : LiveBytes block is.total (h.start + 16) (h.start + 16 + size_of h.items) = live_least e.store h block is.total grown.totals is.guests in
     let new : total_changed size change ≡ round_up_8 (changed_by is.total change) = total_is size is.total change is.same (omega (arith, place.size)) in
     let base : rma_base e.store ≡ 16 + size_of h.items = base_is e.store 0x01800000 h grown.found in
     resize_done e g block is.total change ((rma_base e.store + total_changed size change) - (size + 4)) grown is.guests
-    (inl (last_fits block (h.start + grown.limit) (round_up_8 (changed_by is.total change)) (h.start + 16) is.total h.items grown.totals is.guests.live
-    (omega (arith, last, base, is.same, place.size, grown.start))
-    (omega (arith, last, base, is.same, place.size, grown.start, grown.reaches, new))))
+    (inl (
+      last_fits block (h.start + grown.limit) (round_up_8 (changed_by is.total change)) (h.start + 16) is.total h.items grown.totals is.guests.live
+          (omega (arith, last, base, is.same, place.size, grown.start))
+          (omega (arith, last, base, is.same, place.size, grown.start, grown.reaches, new)),
+      omega (arith, more, is.same, place.size, new),
+    ))
+
+-- the heap's base lies within the area
+base_below : (e : Estate) → IsEstate e → rma_base e.store ≤ 4096 * area_pages e
+base_below e good =
+    let h : HasArea e = area_there e good in
+    let size : area_pages e ≡ h.area.pages = ap pages_had h.found in
+    omega (arith, base_is e.store 0x01800000 h.known.heap h.known.found, h.known.spelled.inside, h.known.end, size)
 
 pub in_place_done : (e : Estate) (block change : ℕ) → IsEstate e
     → (is_ok (resized (grown_in_place e block change).store 0x01800000 block change) ≡ true) ⊎ (grown_in_place e block change ≡ e)
@@ -128,7 +140,13 @@ in_place_done e block change good = sized (block_sized e.store 0x01800000 block)
       → (is_ok (resized (or_as_before e r).store 0x01800000 block change) ≡ true) ⊎ (or_as_before e r ≡ e)
   tried size is last (Err f) done = inr refl
   tried size is last (Ok g) done =
-      inl (last_done e g block change size is last (is_grown e g ((rma_base e.store + total_changed size change) - (size + 4)) good done))
+      let end : ℕ = (rma_base e.store + total_changed size change) - (size + 4) in
+      elim (cases_Bool (nat_le end (4096 * area_pages e))) [
+        | inl fits ↦ inr (let same : Ok e ≡ Ok g = sym (grown_not e end (leb-true end (4096 * area_pages e) fits)) ∙ done in let e' : e ≡ g = cc in sym e')
+        | inr short ↦
+            inl (last_done e g block change size is last
+            (omega (arith, leb-false end (4096 * area_pages e) short, base_below e good)) (is_grown e g end good done))
+      ]
 
   sized : (r : Result ℕ ErrorNumber) → block_sized e.store 0x01800000 block ≡ r
       → (let g : Estate = or_as_before e (grown_to e (end_in_place (rma_base e.store) block change r)) in
@@ -168,5 +186,8 @@ move_done e g block change good full done =
           let one : IsSized e.store k block size = sized_by e.store 0x01800000 k block size grown.found is in
           let place : LiveBytes block one.total (k.start + 16) (k.start + 16 + size_of k.items) = live_least e.store k block one.total grown.totals one.guests in
           let new : total_changed size change ≡ round_up_8 (changed_by one.total change) = total_is size one.total change one.same (omega (arith, place.size)) in
+          let none : holds_anchor e.store.anchor block (Some one.total) ≡ false = full_free e.store 0x01800000 k block one.total change grown.found one.guests full in
+          let none' : holds_anchor g.store.anchor block (Some one.total) ≡ false =
+          ap (λ (x : ℕ → Bool). holds_anchor x block (Some one.total)) grown.anchors ∙ none in
           resize_done e g block one.total change end grown one.guests
-          (inr (omega (arith, grown.reaches, new, base_is e.store 0x01800000 k grown.found)))
+          (inr (none', omega (arith, grown.reaches, new, base_is e.store 0x01800000 k grown.found)))

@@ -48,6 +48,7 @@ pub record IsGrown (e g : Estate) (end : ℕ) : Type 0 where
   pub there : find_heap 0x01800000 g.store.heaps ≡ Some (record { kind = heap.kind; start = heap.start; end = limit; items = heap.items })
   pub reaches : end ≤ limit
   pub others : g.store.others ≡ e.store.others
+  pub anchors : g.store.anchor ≡ e.store.anchor
 
 more_grown : (e : Estate) (end count : ℕ) (h : HasArea e) → end ≤ 4096 * (h.area.pages + count) → IsGrown e (with_pages_more e count) end
 more_grown e end count h enough =
@@ -62,6 +63,7 @@ more_grown e end count h enough =
       there = rw (h.found, m.found) (find_ended e.store.heaps m.heap 0x01800000 (4096 * (a.pages + count)) m.found);
       reaches = enough;
       others = rw (h.found, m.found) refl;
+      anchors = rw (h.found, m.found) refl;
     }
 
 pub is_grown : (e g : Estate) (end : ℕ) → IsEstate e → grown_to e end ≡ Ok g → IsGrown e g end
@@ -85,6 +87,7 @@ is_grown e g end good is =
             there = m.found;
             reaches = omega (arith, leb-true end (4096 * area_pages e) fits, size, m.end);
             others = refl;
+            anchors = refl;
           } in
           subst (λ (x : Estate). IsGrown e x end) same here
       | inr short ↦

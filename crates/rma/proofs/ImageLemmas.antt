@@ -2,7 +2,7 @@
 use Rattle.std.proofs.Common.{◌≡◌, ◌≢◌, ℕ, ◌+◌, ◌-◌, ◌==◌, ◌%◌, ◌&&◌, ◌<◌, ◌≤◌, Bool, true, false, List, [], ◌∷◌, ◌++◌, length, refl, sym, ap, subst, ◌∙◌, Some, None, Ok, inl, inr, arith}
 use Rattle.std.specs.Prelude.{Option, is_some}
 use Rattle.std.proofs.Common.{length-append}
-use Rattle.std.proofs.lemmas.Bool.{cases_Bool, both_ways, false_from_ne_true, false≢true, eq-eqb, le-leb, lt-ltb, or_parts}
+use Rattle.std.proofs.lemmas.Bool.{and_parts, cases_Bool, both_ways, false_from_ne_true, false≢true, eq-eqb, le-leb, lt-ltb, or_parts}
 use Rattle.address_map.specs.Bytes.{Bytes, AreMapped, in_range}
 use Rattle.address_map.specs.Classes.{is_anchor, is_flex_header}
 use Rattle.address_map.specs.Items.{size_of}
@@ -16,7 +16,7 @@ use Rattle.os_heap_lists.specs.Heap.{HeapList, IsHeapIn}
 use Rattle.os_heap_lists.specs.Lists.{live_total}
 use Rattle.os_heap_lists.proofs.LiveBlocks.{LiveBytes, live_bytes}
 use Rattle.os_heap.specs.Calls.{OfHeap, block_sized}
-use Rattle.os_heap.specs.Store.{AreClear, AreHeapsIn, ArePlaced, AreRangesApart, IsClearOfHeaps, IsClearOfRanges, IsImageBlock, IsImageIn, IsSound, Store, find_heap, has_image, heaps_in, is_area, is_image, others_in, store_of}
+use Rattle.os_heap.specs.Store.{AreClear, AreHeapsIn, ArePlaced, AreRangesApart, IsClearOfHeaps, IsClearOfRanges, IsImageBlock, IsImageIn, IsSound, Store, find_heap, has_image, heaps_in, is_area, is_flex_store, is_image, is_in_flex_store, others_in, store_of}
 use Rattle.os_heap.proofs.Apart.{block_inside, one_block, range_parts}
 use Rattle.os_heap.proofs.Found.{found_heap, found_start}
 use Rattle.os_heap.proofs.Recorded.{IsClearOfAll, apart_other}
@@ -98,6 +98,14 @@ mapped_more : (f : ℕ → Bool) (rs : List Region) (r : Region) → AreRangesMa
 mapped_more f [] r mapped last = (last, tt)
 mapped_more f (q ∷ rs) r mapped last = (mapped.0, mapped_more f rs r mapped.1 last)
 
+-- the flex store's bytes, beside one range more
+flex_more : (rs : List Region) (r : Region) (a : ℕ) → is_in_flex_store rs a ≡ true → is_in_flex_store (rs ++ r ∷ []) a ≡ true
+flex_more [] r a is = absurd (false≢true is)
+flex_more (q ∷ rs) r a is = elim (cases_Bool (is_flex_store q.kind && in_range q.at q.len a)) [
+  | inl here ↦ rw here refl
+  | inr other ↦ rw other (flex_more rs r a (rw other at is))
+]
+
 -- what is so of the record of a block as an image
 pub record IsRecorded (s : Store) (r : Region) : Type 0 where
   pub sound : IsSound (record s { others = s.others ++ r ∷ [] })
@@ -126,7 +134,7 @@ recorded_in s h at len sound can found sized =
         apart = apart_other s.others r sound.apart apart;
         few = omega (arith, length-append {A = Region}, can.room);
         anchors = sound.anchors;
-        headers = sound.headers;
+        headers = λ a is. flex_more s.others r a (sound.headers a is);
       };
       mapped = λ a low high. heap.mapped a (omega (arith, low, place.low)) (omega (arith, high, total, place.high, heap.inside));
       aligned = place.whole (omega (arith, heap.aligned));
@@ -231,6 +239,29 @@ mapped_less f at (r ∷ rs) mapped = elim (cases_Bool (is_record kind.Image at r
   | inr later ↦ rw later (mapped.0, mapped_less f at rs mapped.1)
 ]
 
+-- the flex store's bytes, beside an image less
+no_flex : (k : Kind) → are_same kind.Image k ≡ true → is_flex_store k ≡ false
+no_flex kind.Heap same = refl
+no_flex kind.Rma same = refl
+no_flex kind.FlexStore same = absurd (false≢true same)
+no_flex kind.FlexHeader same = refl
+no_flex kind.Anchor same = refl
+no_flex kind.HeadWord same = refl
+no_flex kind.Image same = refl
+no_flex kind.SystemPage same = refl
+
+flex_less : (at : ℕ) (rs : List Region) (a : ℕ) → is_in_flex_store rs a ≡ true → is_in_flex_store (without_region rs kind.Image at) a ≡ true
+flex_less at [] a is = absurd (false≢true is)
+flex_less at (r ∷ rs) a is = elim (cases_Bool (is_record kind.Image at r)) [
+  | inl here ↦
+      let own : is_flex_store r.kind ≡ false = no_flex r.kind (and_parts (are_same kind.Image r.kind) (r.at == at) here).0 in
+      rw here (rw own at is)
+  | inr later ↦ rw later (elim (cases_Bool (is_flex_store r.kind && in_range r.at r.len a)) [
+    | inl flex ↦ rw flex refl
+    | inr other ↦ rw other (flex_less at rs a (rw other at is))
+  ])
+]
+
 pub sound_less : (s : Store) (at : ℕ) → IsSound s → IsSound (record s { others = without_region s.others kind.Image at })
 sound_less s at sound = record {
   heaps = sound.heaps;
@@ -239,7 +270,7 @@ sound_less s at sound = record {
   apart = apart_less at s.others sound.apart;
   few = omega (arith, few_less at s.others, sound.few);
   anchors = sound.anchors;
-  headers = sound.headers;
+  headers = λ a is. flex_less at s.others a (sound.headers a is);
 }
 
 pub areas_less : (s : Store) (free : ℕ) (l : Land) (at : ℕ) → AreAreas s free l

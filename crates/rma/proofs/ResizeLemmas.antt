@@ -1,21 +1,24 @@
 -- Where a claim, and a change of a block's size, can't be refused.
-use Rattle.std.proofs.Common.{◌≡◌, ℕ, ◌+◌, ◌-◌, ◌==◌, ◌≤◌, ◌⊎◌, true, false, List, [], ◌∷◌, refl, sym, ap, ◌∙◌, Some, None, Ok, Err, inl, inr, option_map, arith}
+use Rattle.std.proofs.Common.{◌≡◌, ℕ, ◌+◌, ◌-◌, ◌==◌, ◌<◌, ◌≤◌, ◌⊎◌, Bool, true, false, List, [], ◌∷◌, refl, sym, ap, ◌∙◌, Some, None, Ok, Err, inl, inr, option_map, arith}
 use Rattle.std.specs.Prelude.{Option, Result, is_some, is_ok, ok_or, nat_le}
-use Rattle.std.proofs.lemmas.Bool.{cases_Bool, le-leb, eqb-true}
+use Rattle.std.proofs.lemmas.Bool.{cases_Bool, le-leb, leb-true, eqb-true, false_from_ne_true}
 use Rattle.profile.specs.Outcome.{bind}
 use Rattle.profile.specs.declared.error.ErrorNumber.{ErrorNumber}
 use Rattle.profile.specs.declared.error.ErrorNumber.TheVariants.{HeapNoRoom, HeapNotABlock}
+use Rattle.address_map.proofs.Anchors.{among_none, none_among}
 use Rattle.address_map.specs.Items.{size_of}
+use Rattle.address_map.specs.Records.{anchor_among}
 use Rattle.address_map.specs.declared.item.Item.{Item}
 use Rattle.address_map.specs.declared.item.Item.TheVariants.{Live, Free}
 use Rattle.os_heap_lists.specs.Heap.{HeapList, AreTotals}
 use Rattle.os_heap_lists.specs.Lists.{Claim, changed_by, claimed, first_fit, live_total, or_at_base, refitted, released, resized_in_place, round_up_8, total_for}
-use Rattle.os_heap_lists.proofs.LiveBlocks.{IsStill, claim_still}
+use Rattle.os_heap_lists.proofs.LiveBlocks.{IsStill, LiveBytes, claim_still, live_bytes}
 use Rattle.os_heap_lists.proofs.Reading.{total_facts}
 use Rattle.os_heap_lists.proofs.Resizes.{last_some, unreleased}
-use Rattle.os_heap.specs.Calls.{copied, gave_back, got, handed_over, holding, moved, resized, resized_or_moved}
+use Rattle.os_heap.specs.Calls.{copied, gave_back, got, handed_over, holding, holds_anchor, moved, resized, resized_or_moved}
 use Rattle.os_heap.specs.Store.{Store, find_heap, has_image}
 use Rattle.os_heap.proofs.Moving.{found_held}
+use Rattle.rma.specs.Calls.{is_full}
 
 some_ok : {A B : Type 0} (o : Option A) (e : ErrorNumber) (f : A → B) → is_some o ≡ true
     → (let r : Result B ErrorNumber = bind (ok_or o e) (λ x. Ok (f x)) in is_ok r ≡ true)
@@ -55,51 +58,94 @@ can_release block at total xs live = go (released block at xs) refl where
   go (Some ys) is = refl
 
 given_back : (s : Store) (h : HeapList) (block total : ℕ) → find_heap h.start s.heaps ≡ Some h → IsGuests s h block total
-    → is_ok (gave_back s h.start block) ≡ true
+    → holds_anchor s.anchor block (Some total) ≡ false → is_ok (gave_back s h.start block) ≡ true
 unfolding gave_back
-given_back s h block total found own =
-    rw (found, own.own) (some_ok (released block (h.start + 16) h.items) HeapNotABlock (λ items. (holding s h items, tt))
-    (let some = can_release block (h.start + 16) total h.items own.live in rw some refl))
+given_back s h block total found own none =
+    rw (found, own.own, own.live, none) (some_ok (released block (h.start + 16) h.items) HeapNotABlock (λ items. (holding s h items, tt))
+    (can_release block (h.start + 16) total h.items own.live))
 
 -- a move, where there is room at the base
 moved_by : (s : Store) (h : HeapList) (block total : ℕ) (c : Claim) → find_heap h.start s.heaps ≡ Some h → IsGuests s h block total
-    → live_total block (h.start + 16) c.items ≡ Some total
+    → live_total block (h.start + 16) c.items ≡ Some total → holds_anchor s.anchor block (Some total) ≡ false
     → is_ok (handed_over h.start block (total - 4) (holding s h c.items) (h.start + 16 + c.offset + 4)) ≡ true
-moved_by s h block total c found own still =
+moved_by s h block total c found own still none =
     let new : ℕ = h.start + 16 + c.offset + 4 in
     let t : Store = copied (holding s h c.items) block new (total - 4) in
     let k : HeapList = record { kind = h.kind; start = h.start; end = h.end; items = c.items } in
     then_ok (gave_back t h.start block) (λ r. (r.0, new))
-    (given_back t k block total (found_held h.start c.items s.heaps h found) (record { own = own.own; live = still }))
+    (given_back t k block total (found_held h.start c.items s.heaps h found) (record { own = own.own; live = still }) none)
 
 moved_fits : (s : Store) (h : HeapList) (block total new : ℕ) → find_heap h.start s.heaps ≡ Some h → AreTotals h.items → IsGuests s h block total
-    → 16 + size_of h.items + new ≤ h.end → is_ok (moved s h block total new) ≡ true
-moved_fits s h block total new found totals own fits =
+    → holds_anchor s.anchor block (Some total) ≡ false → 16 + size_of h.items + new ≤ h.end → is_ok (moved s h block total new) ≡ true
+moved_fits s h block total new found totals own free fits =
     go (claimed new (h.end - 16) h.items) (claim_fits new (h.end - 16) h.items (omega arith))
     (claim_still new (h.end - 16) block total (h.start + 16) h.items own.live totals) where
       go : (o : Option Claim) → is_some o ≡ true → IsStill block total (h.start + 16) o
           → is_ok (bind (ok_or o HeapNoRoom) (λ c. handed_over h.start block (total - 4) (holding s h c.items) (h.start + 16 + c.offset + 4))) ≡ true
       go None some still = absurd (let no : false ≡ true = some in cc)
-      go (Some c) some still = moved_by s h block total c found own still
+      go (Some c) some still = moved_by s h block total c found own still free
 
--- a change of a block's size, where there is room in its place, or for it at the base
+-- no anchor lies in what is cut off a block that holds none, or off one that grows
+uncut : (anchor : ℕ → Bool) (at old new : ℕ) → old ≤ new → anchor_among anchor at (old - new) ≡ false
+uncut anchor at old new more = among_none anchor at (old - new) (λ a low high. absurd (omega (arith, more, low, high)))
+
+part_free : (anchor : ℕ → Bool) (at old new : ℕ) → anchor_among anchor at old ≡ false → anchor_among anchor (at + new) (old - new) ≡ false
+part_free anchor at old new none =
+    among_none anchor (at + new) (old - new) (λ a low high. none_among anchor at old a none (omega (arith, low)) (omega (arith, low, high)))
+
+-- a change of a block's size, where there is room for more in its place, or at the base for one that holds no anchor
 placed_or_moved : (s : Store) (h : HeapList) (block total new : ℕ) → find_heap h.start s.heaps ≡ Some h → AreTotals h.items → IsGuests s h block total
-    → (o : Option (List Item)) → (is_some o ≡ true) ⊎ (16 + size_of h.items + new ≤ h.end) → is_ok (resized_or_moved s h block total new o) ≡ true
-placed_or_moved s h block total new found totals own (Some items) room = refl
-placed_or_moved s h block total new found totals own None (inl some) = absurd (let no : false ≡ true = some in cc)
-placed_or_moved s h block total new found totals own None (inr fits) = moved_fits s h block total new found totals own fits
+    → (o : Option (List Item))
+    → ((is_some o ≡ true) × (total < new)) ⊎ ((holds_anchor s.anchor block (Some total) ≡ false) × (16 + size_of h.items + new ≤ h.end))
+    → is_ok (resized_or_moved s h block total new o) ≡ true
+placed_or_moved s h block total new found totals own (Some items) (inl room) =
+    rw (uncut s.anchor (block - 4 + new) total new (omega (arith, room.1))) refl
+placed_or_moved s h block total new found totals own (Some items) (inr room) = rw (part_free s.anchor (block - 4) total new room.0) refl
+placed_or_moved s h block total new found totals own None (inl room) = absurd (let some = room.0 in let no : false ≡ true = some in cc)
+placed_or_moved s h block total new found totals own None (inr room) =
+    let none = room.0 in
+    rw none (moved_fits s h block total new found totals own room.0 room.1)
 
 pub resized_fits : (s : Store) (h : HeapList) (block total change : ℕ) → find_heap h.start s.heaps ≡ Some h → AreTotals h.items
-    → IsGuests s h block total → (is_some (resized_in_place block (h.start + h.end) (round_up_8 (changed_by total change)) (h.start + 16) h.items) ≡ true)
-    ⊎ (16 + size_of h.items + round_up_8 (changed_by total change) ≤ h.end)
+    → IsGuests s h block total
+    → ((is_some (resized_in_place block (h.start + h.end) (round_up_8 (changed_by total change)) (h.start + 16) h.items) ≡ true)
+    × (total < round_up_8 (changed_by total change)))
+    ⊎ ((holds_anchor s.anchor block (Some total) ≡ false) × (16 + size_of h.items + round_up_8 (changed_by total change) ≤ h.end))
     → is_ok (resized s h.start block change) ≡ true
 unfolding resized
 resized_fits s h block total change found totals own room =
+    let place : LiveBytes block total (h.start + 16) (h.start + 16 + size_of h.items) = live_bytes block total (h.start + 16) h.items totals own.live in
     elim (cases_Bool (nat_le (changed_by total change) 4)) [
-      | inl few ↦ rw (found, own.own, own.live, few) (then_ok (gave_back s h.start block) (λ r. (r.0, 0)) (given_back s h block total found own))
+      | inl few ↦ elim room [
+        | inl grows ↦ absurd (omega (arith, leb-true (changed_by total change) 4 few, grows.1, place.size))
+        | inr free ↦ rw (found, own.own, own.live, few) (then_ok (gave_back s h.start block) (λ r. (r.0, 0)) (given_back s h block total found own free.0))
+      ]
       | inr more ↦ rw (found, own.own, own.live, more) (placed_or_moved s h block total (round_up_8 (changed_by total change)) found totals own
           (resized_in_place block (h.start + h.end) (round_up_8 (changed_by total change)) (h.start + 16) h.items) room)
     ]
+
+-- a block that finds no room holds no anchor
+pub full_free : (s : Store) (heap : ℕ) (h : HeapList) (block total change : ℕ) → find_heap heap s.heaps ≡ Some h → IsGuests s h block total
+    → is_full (resized s heap block change) ≡ true → holds_anchor s.anchor block (Some total) ≡ false
+unfolding resized gave_back
+full_free s heap h block total change found own full =
+    false_from_ne_true (holds_anchor s.anchor block (Some total)) (λ held. elim (cases_Bool (nat_le (changed_by total change) 4)) [
+      | inl few ↦ not_freed held few (released block (h.start + 16) h.items) refl
+      | inr more ↦ not_moved held more (resized_in_place block (h.start + h.end) (round_up_8 (changed_by total change)) (h.start + 16) h.items) refl
+    ]) where
+      not_freed : holds_anchor s.anchor block (Some total) ≡ true → nat_le (changed_by total change) 4 ≡ true → (o : Option (List Item))
+          → released block (h.start + 16) h.items ≡ o → ⊥
+      not_freed held few None is = let t = rw (found, own.own, own.live, few, is) at full in let no : false ≡ true = t in cc
+      not_freed held few (Some items) is = let t = rw (found, own.own, own.live, few, is, held) at full in let no : false ≡ true = t in cc
+
+      not_moved : holds_anchor s.anchor block (Some total) ≡ true → nat_le (changed_by total change) 4 ≡ false → (o : Option (List Item))
+          → resized_in_place block (h.start + h.end) (round_up_8 (changed_by total change)) (h.start + 16) h.items ≡ o → ⊥
+      not_moved held more None is = let t = rw (found, own.own, own.live, more, is, held) at full in let no : false ≡ true = t in cc
+      not_moved held more (Some items) is =
+          elim (cases_Bool (anchor_among s.anchor (block - 4 + round_up_8 (changed_by total change)) (total - round_up_8 (changed_by total change)))) [
+            | inl cut ↦ let t = rw (found, own.own, own.live, more, is, cut) at full in let no : false ≡ true = t in cc
+            | inr none ↦ let t = rw (found, own.own, own.live, more, is, none) at full in let no : false ≡ true = t in cc
+          ]
 
 -- the last block gets what bytes there are behind it
 some_mapped : (f : List Item → List Item) (o : Option (List Item)) → is_some o ≡ true → is_some (option_map f o) ≡ true

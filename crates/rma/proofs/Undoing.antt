@@ -1,14 +1,22 @@
 -- A claim without growth, and the release of its block.
-use Rattle.std.proofs.Common.{◌≡◌, ℕ, ◌+◌, ◌-◌, true, false, refl, sym, subst, Some, None, Ok, Err}
-use Rattle.std.specs.Prelude.{Option, Result, ok_or}
+use Rattle.std.proofs.Common.{◌≡◌, ◌≢◌, ℕ, ◌+◌, ◌-◌, ◌≤◌, ◌==◌, List, [], ◌∷◌, true, false, refl, sym, ap, subst, ◌∙◌, Some, None, Ok, Err, inl, inr, arith}
+use Rattle.std.specs.Prelude.{Option, Result, is_some, ok_or}
+use Rattle.std.proofs.lemmas.Bool.{both_ways, cases_Bool, false_from_ne_true, false≢true, le-leb, lt-ltb}
 use Rattle.profile.specs.Outcome.{bind}
 use Rattle.profile.specs.declared.error.ErrorNumber.{ErrorNumber}
 use Rattle.profile.specs.declared.error.ErrorNumber.TheVariants.{HeapNoRoom}
-use Rattle.os_heap_lists.specs.Heap.{HeapList, AreSpaced, AreTotals}
-use Rattle.os_heap_lists.specs.Lists.{Claim, claimed, released, total_for}
+use Rattle.address_map.proofs.Anchors.{among_none}
+use Rattle.address_map.specs.Bytes.{in_range}
+use Rattle.address_map.specs.Items.{is_total, size_of}
+use Rattle.os_heap_lists.specs.Heap.{HeapList, AreSpaced, AreTotals, IsHeapIn}
+use Rattle.os_heap_lists.specs.Lists.{Claim, claimed, live_total, released, total_for}
+use Rattle.os_heap_lists.proofs.ClaimedLists.{HasTotals, IsUnheld, IsWithin, claim_totals, claim_unheld, claim_within}
+use Rattle.os_heap_lists.proofs.LiveBlocks.{IsFresh, IsStill, LiveBytes, claim_fresh, claim_still, live_apart, live_bytes}
 use Rattle.os_heap_lists.proofs.ReleaseOfClaim.{gives_back}
-use Rattle.os_heap.specs.Calls.{gave_back, got, holding, items_of, with_items}
-use Rattle.os_heap.specs.Store.{Store, find_heap, has_image}
+use Rattle.os_heap_lists.proofs.Spelling.{total_of-numbers}
+use Rattle.os_heap.specs.Calls.{gave_back, got, holding, holds_anchor, items_of, with_items}
+use Rattle.os_heap.specs.Store.{IsAnchorPlace, IsSound, Store, find_heap, has_image}
+use Rattle.os_heap.proofs.Anchored.{IsPlacedBy}
 use Rattle.os_heap.proofs.Moving.{found_held}
 use Rattle.dynamic_areas.specs.Ground.{Estate, IsEstate}
 use Rattle.rma.specs.Calls.{is_full, or_grown, rma_base, rma_claimed, rma_freed, with_store}
@@ -20,11 +28,52 @@ abbrev IsUndoneBy : Estate → Result (Estate × ℕ) ErrorNumber → Type 0
 IsUndoneBy e (Ok r) = has_image r.1 e.store.others ≡ false → IsUndone e (rma_freed r.0 r.1)
 IsUndoneBy e (Err f) = Unit {0}
 
+-- where an anchor lies, by one heap
+placed_by : (start : ℕ) (hs : List HeapList) (h : HeapList) (a : ℕ) → find_heap start hs ≡ Some h → IsAnchorPlace hs a → IsPlacedBy h a
+placed_by start [] h a found place = absurd (let none : None ≡ Some h = found in cc)
+placed_by start (g ∷ hs) h a found place = elim (cases_Bool (g.start == start)) [
+  | inl here ↦
+      let found' = rw here at found in
+      let same : g ≡ h = cc in
+      subst (λ (x : HeapList). IsPlacedBy x a) same place.0
+  | inr other ↦ placed_by start hs h a (rw other at found) place.1
+]
+
+-- no anchor lies where a claim makes a block
+claim_unanchored : (s : Store) (h : HeapList) (n : ℕ) (c : Claim) → IsSound s → is_total n ≡ true → find_heap h.start s.heaps ≡ Some h
+    → IsHeapIn s.bytes h.start h.end h.items → claimed n (h.end - 16) h.items ≡ Some c
+    → holds_anchor s.anchor (h.start + 16 + c.offset + 4) (live_total (h.start + 16 + c.offset + 4) (h.start + 16) c.items) ≡ false
+claim_unanchored s h n c sound total found heap made =
+    let new : ℕ = h.start + 16 + c.offset + 4 in
+    let within : size_of c.items ≤ h.end - 16 =
+    subst (IsWithin (h.end - 16)) made (claim_within n (h.end - 16) h.items (omega (arith, heap.inside))) in
+    let totals : AreTotals c.items = subst HasTotals made (claim_totals n (h.end - 16) h.items total heap.totals) in
+    let fresh : live_total (h.start + 16 + c.offset + 4) (h.start + 16) c.items ≡ Some n =
+    subst (IsFresh n (h.start + 16)) made (claim_fresh n (h.end - 16) (h.start + 16) h.items heap.totals) in
+    let unheld : is_some (live_total (h.start + 16 + c.offset + 4) (h.start + 16) h.items) ≡ false =
+    subst (IsUnheld (h.start + 16) h.items) made (claim_unheld n (h.end - 16) (h.start + 16) h.items heap.totals) in
+    let place : LiveBytes new n (h.start + 16) (h.start + 16 + size_of c.items) = live_bytes new n (h.start + 16) c.items totals fresh in
+    rw fresh (among_none s.anchor (h.start + 16 + c.offset + 4 - 4) n (λ a low high. false_from_ne_true (s.anchor a) (λ is.
+    elim (placed_by h.start s.heaps h a found (sound.anchors a is).1) [
+      | inl out ↦ both_ways (in_range h.start h.end a) out
+          (rw (le-leb h.start a (omega (arith, low)), lt-ltb a (h.start + h.end) (omega (arith, high, place.high, place.size, within))) refl)
+      | inr held ↦
+          let still : live_total held.block (h.start + 16) c.items ≡ Some held.total =
+          subst (IsStill held.block held.total (h.start + 16)) made (claim_still n (h.end - 16) held.block held.total (h.start + 16) h.items held.live heap.totals) in
+          let other : held.block ≢ new = λ (same : held.block ≡ new).
+          false≢true (sym unheld ∙ ap is_some (subst (λ (p : ℕ). live_total p (h.start + 16) h.items ≡ Some held.total) same held.live)) in
+          elim (live_apart held.block held.total new n (h.start + 16) c.items totals still fresh other) [
+            | inl before ↦ omega (arith, before, held.high, low)
+            | inr behind ↦ omega (arith, behind, held.low, high)
+          ]
+    ])))
+
 undone : (e : Estate) (h : HeapList) (size : ℕ) (c : Claim) → h.start ≡ 0x01800000 → find_heap 0x01800000 e.store.heaps ≡ Some h
     → released (h.start + 16 + c.offset + 4) (h.start + 16) c.items ≡ Some h.items → has_image (h.start + 16 + c.offset + 4) e.store.others ≡ false
+    → holds_anchor e.store.anchor (h.start + 16 + c.offset + 4) (live_total (h.start + 16 + c.offset + 4) (h.start + 16) c.items) ≡ false
     → IsUndone e (rma_freed (with_store e (holding e.store h c.items)) (h.start + 16 + c.offset + 4))
 unfolding rma_freed gave_back items_of
-undone e h size c start found back own =
+undone e h size c start found back own free =
     let s : Store = e.store in
     let k : HeapList = record { kind = h.kind; start = h.start; end = h.end; items = c.items } in
     let there : find_heap 0x01800000 (with_items h.start c.items s.heaps) ≡ Some k =
@@ -34,16 +83,20 @@ undone e h size c start found back own =
     subst (λ (p : ℕ). find_heap 0x01800000 (with_items p h.items (with_items h.start c.items s.heaps))
     ≡ Some (record { kind = h.kind; start = h.start; end = h.end; items = h.items })) (sym start)
     (found_held 0x01800000 h.items (with_items h.start c.items s.heaps) k there) in
-    rw (there, own, back, last, found) (refl, (refl, refl))
+    rw (there, own, back, free, last, found) (refl, (refl, refl))
 
 claim_undone : (e : Estate) (h : HeapList) (size end : ℕ) (call : Store → Result (Store × ℕ) ErrorNumber) → h.start ≡ 0x01800000
-    → find_heap 0x01800000 e.store.heaps ≡ Some h → AreTotals h.items → AreSpaced h.items → (o : Option Claim)
+    → find_heap 0x01800000 e.store.heaps ≡ Some h → AreTotals h.items → AreSpaced h.items → IsSound e.store
+    → IsHeapIn e.store.bytes h.start h.end h.items → (o : Option Claim)
     → claimed (total_for size) (h.end - 16) h.items ≡ o
     → (let r : Result (Store × ℕ) ErrorNumber = bind (ok_or o HeapNoRoom) (λ c. Ok (holding e.store h c.items, h.start + 16 + c.offset + 4)) in
     is_full r ≡ false → IsUndoneBy e (or_grown e end call r))
-claim_undone e h size end call start found totals spaced None made roomy = absurd (let no : true ≡ false = roomy in cc)
-claim_undone e h size end call start found totals spaced (Some c) made roomy = λ own.
+claim_undone e h size end call start found totals spaced sound heap None made roomy = absurd (let no : true ≡ false = roomy in cc)
+claim_undone e h size end call start found totals spaced sound heap (Some c) made roomy = λ own.
+    let there : find_heap h.start e.store.heaps ≡ Some h = subst (λ (p : ℕ). find_heap p e.store.heaps ≡ Some h) (sym start) found in
+    let total : is_total (total_for size) ≡ true = total_of-numbers (total_for size) (omega arith) (omega arith) in
     undone e h size c start found (gives_back (total_for size) (h.end - 16) (h.start + 16) h.items c totals spaced made) own
+    (claim_unanchored e.store h (total_for size) c sound total there heap made)
 
 claim_by : (e : Estate) (size : ℕ) → IsEstate e → is_full (got e.store 0x01800000 size) ≡ false → IsUndoneBy e (rma_claimed e size)
 unfolding rma_claimed got
@@ -52,7 +105,7 @@ claim_by e size good roomy =
     let h : HeapList = a.known.heap in
     let roomy' = rw a.known.found at roomy in
     rw a.known.found (claim_undone e h size (rma_base e.store + total_for size) (λ s. got s 0x01800000 size) a.known.start a.known.found a.known.spelled.totals
-    a.known.spelled.spaced (claimed (total_for size) (h.end - 16) h.items) refl roomy')
+    a.known.spelled.spaced good.ground.sound a.known.spelled (claimed (total_for size) (h.end - 16) h.items) refl roomy')
 
 pub free_undoes_claim : FreeUndoesClaim
 free_undoes_claim e g size block good roomy is own =

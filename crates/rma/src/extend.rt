@@ -24,7 +24,8 @@ impl Rma {
     /// # Errors
     ///
     /// The first of these, and nothing is changed then: `RmaNotABlock` where no block's bytes begin at `block`, or they are a module image;
-    /// `RmaNoRoom` where it must move, and nothing fits, and the pool or the maximum does not allow the growth that would do.
+    /// `RmaHoldsAnchor` where an anchor of the flex store lies in what is freed, cut off or moved; `RmaNoRoom` where it must move, and nothing
+    /// fits, and the pool or the maximum does not allow the growth that would do.
     ///
     /// RISC OS 3 Programmer's Reference Manual, "OS_Module", reason 13.
     pub fn extend(

@@ -19,7 +19,8 @@ impl Rma {
     ///
     /// # Errors
     ///
-    /// `RmaNotABlock` where no block's bytes begin at `block`, or they are a module image. Nothing is changed then.
+    /// `RmaNotABlock` where no block's bytes begin at `block`, or they are a module image; `RmaHoldsAnchor` where an anchor of the flex store
+    /// lies in the block. Nothing is changed then.
     ///
     /// RISC OS 3 Programmer's Reference Manual, "OS_Module", reason 7.
     pub fn free(&self, map: &mut AddressMap, block: u32) -> Result<(), ErrorNumber>

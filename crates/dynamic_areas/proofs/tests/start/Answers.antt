@@ -5,7 +5,7 @@ use Rattle.dynamic_areas.proofs.tests.start.Goals as goal
 
 pub init_module_area-requires-clause-may : goal.init_module_area-requires-clause-may
 init_module_area-requires-clause-may c =
-    rw c.rma.ensures.value (may_begin_area c.in_ok-map.map c.args.config c.in_ok-map.ensures.sizes c.in_ok-map.ensures.regions c.in_ok-map.ensures.mapping)
+    rw c.rma.ensures.value (may_begin_area c.in_ok-map.map c.args.config c.in_ok-map.ensures.sizes c.in_ok-map.ensures.regions c.in_ok-map.ensures.mapping c.in_ok-map.ensures.marks)
 
 pub own-requires-clause-room : goal.own-requires-clause-room
 own-requires-clause-room c = λ record_kind.

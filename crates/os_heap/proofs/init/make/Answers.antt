@@ -11,10 +11,9 @@ use Rattle.address_map.proofs.Stores.{layout-mapping}
 use Rattle.os_heap_lists.specs.Heap.{with_heap}
 use Rattle.os_heap.specs.Store.{store_of, IsSound}
 use Rattle.os_heap.specs.Calls.{begun_with}
-use Rattle.os_heap.proofs.Calls.{unflexed}
 use Rattle.os_heap.proofs.FlexWords.{flex_begun}
 use Rattle.os_heap.proofs.Frame.{layout-regions}
-use Rattle.os_heap.proofs.Added.{CanHold, can_hold, range_end, records_room, recorded, store_begun, begun_sound, classes_begun}
+use Rattle.os_heap.proofs.Added.{begun_unflexed, CanHold, can_hold, range_end, records_room, recorded, store_begun, begun_sound, classes_begun}
 use Rattle.os_heap.proofs.Marking.{heap_unmarked}
 use Rattle.os_heap.proofs.Writing.{still_mapped}
 use Rattle.os_heap.proofs.init.make.Goals as goal
@@ -75,7 +74,7 @@ returns-clause-store c =
     ∙ c.mark_descriptor.ensures.marks a
     ∙ ap (λ (f : ℕ → Class). cond (in_range c.args.heap 16 (word_start a)) class.Heap (f a)) c.write_descriptor.ensures.marks in
     store_begun c.args.map.now c.own.new.self c.args.kind c.args.heap c.args.size c.requires.kind c.requires.may c.requires.sound records (moved ∙ written)
-    (flex_begun (class_of c.args.map.now) (class_of c.own.new.self) c.args.heap marks (λ a _. unflexed c.args.map.now c.requires.sound a))
+    (flex_begun (class_of c.args.map.now) (class_of c.own.new.self) c.args.heap marks (λ a inside. begun_unflexed c.args.map.now c.args.kind c.args.heap c.args.size c.requires.may c.requires.sound a inside))
 
 pub returns-clause-sound : goal.returns-clause-sound
 returns-clause-sound c =

@@ -65,7 +65,7 @@ returns c =
     let copy = is_copied c.args.map.now c.claim_total-claim.new.map c.move_bytes.new.self part.part.kind c.args.heap c.args.block c.args.total c.args.needed c.in-Ok.new
     c.requires.larger claim c.move_bytes.ensures.layout c.move_bytes.ensures.bytes c.move_bytes.ensures.marks in
     let moved = is_moved c.args.map.now c.claim_total-claim.new.map c.move_bytes.new.self c.give_back.new.map part.part.kind c.args.heap c.args.block c.args.total c.args.needed
-    c.in-Ok.new claim copy c.move_bytes.ensures.layout (rw (layout-regions _ _ (c.move_bytes.ensures.layout ∙ claim.same)) c.requires.own) c.give_back.ensures in
+    c.in-Ok.new claim copy c.move_bytes.ensures.layout (rw (layout-regions _ _ (c.move_bytes.ensures.layout ∙ claim.same)) c.requires.own) c.requires.unheld c.give_back.ensures in
     record {
       store = moved.store;
       sound = moved.sound;

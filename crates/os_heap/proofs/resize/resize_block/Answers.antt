@@ -1,7 +1,7 @@
-use Rattle.std.proofs.Common.{◌≡◌, ◌+◌, Some, refl, sym, ◌∙◌, ap, arith}
+use Rattle.std.proofs.Common.{true, false, ◌≡◌, ◌+◌, Some, refl, sym, ◌∙◌, ap, arith}
 use Rattle.os_heap.specs.Outcomes.{items_at, end_at}
 use Rattle.os_heap_lists.specs.Lists.{round_up_8, changed_by, live_total}
-use Rattle.os_heap.proofs.Resizing.{there_heap, block_here, resize_refused, resize_freed, resize_refitted, unrefitted, larger_where_none, resize_moved, move_few}
+use Rattle.os_heap.proofs.Resizing.{there_heap, block_here, resize_refused, resize_freed, resize_refitted, unrefitted, larger_where_none, resize_moved, move_few, anchor_told, cut_told, below_all, held_freed, held_cut, held_moved}
 use Rattle.address_map.specs.Memory.{regions}
 use Rattle.os_heap.proofs.Sized.{unheld}
 use Rattle.os_heap.proofs.Walking.{begun_few}
@@ -49,7 +49,7 @@ returns-then-size-le4 c =
     let here = block_here c.args.map.now c.args.heap c.args.block _ c.in-Some.cursor.at _ _ c.requires.sound c.requires.found (rw c.in-Some.is at c.find_guest_block-walk.ensures.block) in
     let live : live_total c.args.block (c.args.heap + 16) (items_at c.args.map.now c.args.heap) ≡ Some c.word-total.result = here.live ∙ ap (λ n. Some n) (sym c.word-total.ensures) in
     let done = resize_freed c.args.map.now c.give_back.new.map c.args.heap c.args.block c.args.change c.word-total.result c.requires.sound c.requires.classes c.requires.found here.own live
-    (omega (arith, c.changed_by-size.ensures, c.if-size-le4.true)) c.give_back.ensures in
+    (omega (arith, c.changed_by-size.ensures, c.if-size-le4.true)) (sym c.holds_anchor.ensures ∙ c.if-holds_anchor.false) c.give_back.ensures in
     record {
       store = done.store;
       sound = done.sound;
@@ -64,8 +64,10 @@ returns-then-refit c =
     let live : live_total c.args.block (c.args.heap + 16) (items_at c.args.map.now c.args.heap) ≡ Some c.word-total.result = here.live ∙ ap (λ n. Some n) (sym c.word-total.ensures) in
     let size : c.changed_by-size.result ≡ changed_by c.word-total.result c.args.change = c.changed_by-size.ensures in
     let needed : c.round_up_8-needed.result ≡ round_up_8 (changed_by c.word-total.result c.args.change) = c.round_up_8-needed.ensures ∙ ap round_up_8 size in
+    let cut = rw needed at c.cut_holds_anchor.ensures in
+    let uncut = cut_told c.args.map.now _ _ c.cut_holds_anchor.result false cut c.if-cut_holds_anchor.false in
     let done = resize_refitted c.args.map.now c.refit.new.map c.args.heap c.args.block c.args.change c.word-total.result c.requires.sound c.requires.classes c.requires.found here.own live
-    (omega (arith, size, c.if-size-le4.false)) (rw (c.if-refit.true, needed) at c.refit.ensures) in
+    (omega (arith, size, c.if-size-le4.false)) uncut (rw (c.if-refit.true, needed) at c.refit.ensures) in
     record {
       store = done.store;
       sound = done.sound;
@@ -123,8 +125,10 @@ returns c =
     let size : c.changed_by-size.result ≡ changed_by c.word-total.result c.args.change = c.changed_by-size.ensures in
     let needed : c.round_up_8-needed.result ≡ round_up_8 (changed_by c.word-total.result c.args.change) = c.round_up_8-needed.ensures ∙ ap round_up_8 size in
     let un = unrefitted c.args.map.now c.refit.new.map c.args.heap (end_at c.args.map.now c.args.heap) _ (rw c.if-refit.false at c.refit.ensures) in
+    let told = rw un.1 at c.holds_anchor-2.ensures in
+    let free = anchor_told c.args.map.now c.args.heap c.args.block c.word-total.result c.holds_anchor-2.result false live told c.if-holds_anchor-2.false in
     let done = resize_moved c.args.map.now c.relocate-moved.new.map c.args.heap c.args.block c.args.change c.word-total.result c.relocate-moved.result.probes _ c.requires.sound c.requires.found here.own live
-    (omega (arith, size, c.if-size-le4.false)) (rw needed at un.0) (rw (un.1, needed) at c.relocate-moved.ensures.store) c.relocate-moved.ensures.sound (rw un.1 at c.relocate-moved.ensures.layout) c.relocate-moved.ensures.classes
+    (omega (arith, size, c.if-size-le4.false)) (rw needed at un.0) free (rw (un.1, needed) at c.relocate-moved.ensures.store) c.relocate-moved.ensures.sound (rw un.1 at c.relocate-moved.ensures.layout) c.relocate-moved.ensures.classes
     (rw (un.1, needed) at c.relocate-moved.ensures.probes) in
     record {
       store = done.store;
@@ -133,3 +137,94 @@ returns c =
       layout = done.same;
       probes = rw (sym c.find_guest_block-walk.ensures.probes) at done.probes;
     }
+
+pub holds_anchor-requires-clause-heap : goal.holds_anchor-requires-clause-heap
+holds_anchor-requires-clause-heap c = there_heap c.args.map.now c.args.heap c.requires.sound c.requires.found
+
+pub returns-then-holds_anchor-clause-store : goal.returns-then-holds_anchor-clause-store
+returns-then-holds_anchor-clause-store c =
+    let here = block_here c.args.map.now c.args.heap c.args.block _ c.in-Some.cursor.at _ _ c.requires.sound c.requires.found (rw c.in-Some.is at c.find_guest_block-walk.ensures.block) in
+    let live : live_total c.args.block (c.args.heap + 16) (items_at c.args.map.now c.args.heap) ≡ Some c.word-total.result = here.live ∙ ap (λ n. Some n) (sym c.word-total.ensures) in
+    let refused = held_freed c.args.map.now c.args.heap c.args.block c.args.change c.word-total.result c.requires.found here.own live
+    (omega (arith, c.changed_by-size.ensures, c.if-size-le4.true))
+    (anchor_told c.args.map.now c.args.heap c.args.block c.word-total.result c.holds_anchor.result true live c.holds_anchor.ensures c.if-holds_anchor.true) in
+    rw (c.held.ensures, refused.0) (refl, refl)
+
+pub returns-then-holds_anchor-clause-probes : goal.returns-then-holds_anchor-clause-probes
+returns-then-holds_anchor-clause-probes c =
+    let here = block_here c.args.map.now c.args.heap c.args.block _ c.in-Some.cursor.at _ _ c.requires.sound c.requires.found (rw c.in-Some.is at c.find_guest_block-walk.ensures.block) in
+    let live : live_total c.args.block (c.args.heap + 16) (items_at c.args.map.now c.args.heap) ≡ Some c.word-total.result = here.live ∙ ap (λ n. Some n) (sym c.word-total.ensures) in
+    let refused = held_freed c.args.map.now c.args.heap c.args.block c.args.change c.word-total.result c.requires.found here.own live
+    (omega (arith, c.changed_by-size.ensures, c.if-size-le4.true))
+    (anchor_told c.args.map.now c.args.heap c.args.block c.word-total.result c.holds_anchor.result true live c.holds_anchor.ensures c.if-holds_anchor.true) in
+    rw c.held.ensures (c.find_guest_block-walk.ensures.probes ∙ sym refused.1)
+
+pub cut_holds_anchor-requires-clause-below : goal.cut_holds_anchor-requires-clause-below
+cut_holds_anchor-requires-clause-below c =
+    let here = block_here c.args.map.now c.args.heap c.args.block _ c.in-Some.cursor.at _ _ c.requires.sound c.requires.found (rw c.in-Some.is at c.find_guest_block-walk.ensures.block) in
+    let live : live_total c.args.block (c.args.heap + 16) (items_at c.args.map.now c.args.heap) ≡ Some c.word-total.result = here.live ∙ ap (λ n. Some n) (sym c.word-total.ensures) in
+    below_all c.args.map.now c.args.heap c.args.block c.word-total.result (there_heap c.args.map.now c.args.heap c.requires.sound c.requires.found) live
+
+pub returns-then-cut_holds_anchor-clause-store : goal.returns-then-cut_holds_anchor-clause-store
+returns-then-cut_holds_anchor-clause-store c =
+    let here = block_here c.args.map.now c.args.heap c.args.block _ c.in-Some.cursor.at _ _ c.requires.sound c.requires.found (rw c.in-Some.is at c.find_guest_block-walk.ensures.block) in
+    let live : live_total c.args.block (c.args.heap + 16) (items_at c.args.map.now c.args.heap) ≡ Some c.word-total.result = here.live ∙ ap (λ n. Some n) (sym c.word-total.ensures) in
+    let size : c.changed_by-size.result ≡ changed_by c.word-total.result c.args.change = c.changed_by-size.ensures in
+    let needed : c.round_up_8-needed.result ≡ round_up_8 (changed_by c.word-total.result c.args.change) = c.round_up_8-needed.ensures ∙ ap round_up_8 size in
+    let cut = rw needed at c.cut_holds_anchor.ensures in
+    let refused = held_cut c.args.map.now c.args.heap c.args.block c.args.change c.word-total.result c.requires.found here.own live
+    (omega (arith, size, c.if-size-le4.false))
+    (cut_told c.args.map.now _ _ c.cut_holds_anchor.result true cut c.if-cut_holds_anchor.true) in
+    rw (c.held-then-cut_holds_anchor.ensures, refused.0) (refl, refl)
+
+pub returns-then-cut_holds_anchor-clause-probes : goal.returns-then-cut_holds_anchor-clause-probes
+returns-then-cut_holds_anchor-clause-probes c =
+    let here = block_here c.args.map.now c.args.heap c.args.block _ c.in-Some.cursor.at _ _ c.requires.sound c.requires.found (rw c.in-Some.is at c.find_guest_block-walk.ensures.block) in
+    let live : live_total c.args.block (c.args.heap + 16) (items_at c.args.map.now c.args.heap) ≡ Some c.word-total.result = here.live ∙ ap (λ n. Some n) (sym c.word-total.ensures) in
+    let size : c.changed_by-size.result ≡ changed_by c.word-total.result c.args.change = c.changed_by-size.ensures in
+    let needed : c.round_up_8-needed.result ≡ round_up_8 (changed_by c.word-total.result c.args.change) = c.round_up_8-needed.ensures ∙ ap round_up_8 size in
+    let cut = rw needed at c.cut_holds_anchor.ensures in
+    let refused = held_cut c.args.map.now c.args.heap c.args.block c.args.change c.word-total.result c.requires.found here.own live
+    (omega (arith, size, c.if-size-le4.false))
+    (cut_told c.args.map.now _ _ c.cut_holds_anchor.result true cut c.if-cut_holds_anchor.true) in
+    rw c.held-then-cut_holds_anchor.ensures (c.find_guest_block-walk.ensures.probes ∙ sym refused.1)
+
+pub holds_anchor-requires-2-clause-heap : goal.holds_anchor-requires-2-clause-heap
+holds_anchor-requires-2-clause-heap c =
+    let un = unrefitted c.args.map.now c.refit.new.map c.args.heap (end_at c.args.map.now c.args.heap) _ (rw c.if-refit.false at c.refit.ensures) in
+    rw un.1 (there_heap c.args.map.now c.args.heap c.requires.sound c.requires.found)
+
+pub returns-then-holds_anchor-2-clause-store : goal.returns-then-holds_anchor-2-clause-store
+returns-then-holds_anchor-2-clause-store c =
+    let here = block_here c.args.map.now c.args.heap c.args.block _ c.in-Some.cursor.at _ _ c.requires.sound c.requires.found (rw c.in-Some.is at c.find_guest_block-walk.ensures.block) in
+    let live : live_total c.args.block (c.args.heap + 16) (items_at c.args.map.now c.args.heap) ≡ Some c.word-total.result = here.live ∙ ap (λ n. Some n) (sym c.word-total.ensures) in
+    let size : c.changed_by-size.result ≡ changed_by c.word-total.result c.args.change = c.changed_by-size.ensures in
+    let needed : c.round_up_8-needed.result ≡ round_up_8 (changed_by c.word-total.result c.args.change) = c.round_up_8-needed.ensures ∙ ap round_up_8 size in
+    let un = unrefitted c.args.map.now c.refit.new.map c.args.heap (end_at c.args.map.now c.args.heap) _ (rw c.if-refit.false at c.refit.ensures) in
+    let told = rw un.1 at c.holds_anchor-2.ensures in
+    let refused = held_moved c.args.map.now c.args.heap c.args.block c.args.change c.word-total.result c.requires.sound c.requires.found here.own live
+    (omega (arith, size, c.if-size-le4.false)) (rw needed at un.0)
+    (anchor_told c.args.map.now c.args.heap c.args.block c.word-total.result c.holds_anchor-2.result true live told c.if-holds_anchor-2.true) in
+    rw (un.1, c.held-then-holds_anchor-2.ensures, refused.0) (refl, refl)
+
+pub returns-then-holds_anchor-2-clause-probes : goal.returns-then-holds_anchor-2-clause-probes
+returns-then-holds_anchor-2-clause-probes c =
+    let here = block_here c.args.map.now c.args.heap c.args.block _ c.in-Some.cursor.at _ _ c.requires.sound c.requires.found (rw c.in-Some.is at c.find_guest_block-walk.ensures.block) in
+    let live : live_total c.args.block (c.args.heap + 16) (items_at c.args.map.now c.args.heap) ≡ Some c.word-total.result = here.live ∙ ap (λ n. Some n) (sym c.word-total.ensures) in
+    let size : c.changed_by-size.result ≡ changed_by c.word-total.result c.args.change = c.changed_by-size.ensures in
+    let needed : c.round_up_8-needed.result ≡ round_up_8 (changed_by c.word-total.result c.args.change) = c.round_up_8-needed.ensures ∙ ap round_up_8 size in
+    let un = unrefitted c.args.map.now c.refit.new.map c.args.heap (end_at c.args.map.now c.args.heap) _ (rw c.if-refit.false at c.refit.ensures) in
+    let told = rw un.1 at c.holds_anchor-2.ensures in
+    let refused = held_moved c.args.map.now c.args.heap c.args.block c.args.change c.word-total.result c.requires.sound c.requires.found here.own live
+    (omega (arith, size, c.if-size-le4.false)) (rw needed at un.0)
+    (anchor_told c.args.map.now c.args.heap c.args.block c.word-total.result c.holds_anchor-2.result true live told c.if-holds_anchor-2.true) in
+    rw c.held-then-holds_anchor-2.ensures (c.find_guest_block-walk.ensures.probes ∙ sym refused.1)
+
+pub relocate-moved-requires-clause-unheld : goal.relocate-moved-requires-clause-unheld
+relocate-moved-requires-clause-unheld c =
+    let here = block_here c.args.map.now c.args.heap c.args.block _ c.in-Some.cursor.at _ _ c.requires.sound c.requires.found (rw c.in-Some.is at c.find_guest_block-walk.ensures.block) in
+    let live : live_total c.args.block (c.args.heap + 16) (items_at c.args.map.now c.args.heap) ≡ Some c.word-total.result = here.live ∙ ap (λ n. Some n) (sym c.word-total.ensures) in
+    let un = unrefitted c.args.map.now c.refit.new.map c.args.heap (end_at c.args.map.now c.args.heap) _ (rw c.if-refit.false at c.refit.ensures) in
+    let told = rw un.1 at c.holds_anchor-2.ensures in
+    let free = anchor_told c.args.map.now c.args.heap c.args.block c.word-total.result c.holds_anchor-2.result false live told c.if-holds_anchor-2.false in
+    rw un.1 free

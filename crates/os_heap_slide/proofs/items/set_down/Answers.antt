@@ -1,4 +1,4 @@
-use Rattle.std.proofs.Common.{◌∙◌, ◌≡◌, ◌+◌, ◌-◌, [], ◌∷◌, refl, inl, arith}
+use Rattle.std.proofs.Common.{◌∙◌, ◌-◌, [], ◌∷◌, refl, inl, arith}
 use Rattle.address_map.specs.Memory.{class_of}
 use Rattle.address_map.specs.declared.item.Item.TheVariants.{Free, Live}
 use Rattle.os_heap.proofs.Marking.{can_stand, remarks_after, still_written}

@@ -1,4 +1,4 @@
-use Rattle.std.proofs.Common.{List, ◌∙◌, ◌≡◌, ap, sym, subst}
+use Rattle.std.proofs.Common.{List, ◌∙◌, ap, sym, subst}
 use Rattle.address_map.specs.Memory.{regions}
 use Rattle.address_map.specs.Moves.{AreDown, moved_regions}
 use Rattle.address_map.specs.declared.follow.Move.{Move}

@@ -7,7 +7,7 @@ use Rattle.swi_dispatch.proofs.machine.start_memory.Goals as goal
 pub init_module_area-requires-clause-may : goal.init_module_area-requires-clause-may
 init_module_area-requires-clause-may c =
     let bare = c.in_ok-memory.ensures in
-    rw c.rma.ensures.value (may_begin_area c.in_ok-memory.memory c.args.config bare.sizes bare.regions bare.mapping)
+    rw c.rma.ensures.value (may_begin_area c.in_ok-memory.memory c.args.config bare.sizes bare.regions bare.mapping bare.marks)
 
 pub init_module_area-requires-clause-sound : goal.init_module_area-requires-clause-sound
 init_module_area-requires-clause-sound c = sound_empty c.in_ok-memory.memory c.in_ok-memory.ensures.regions c.in_ok-memory.ensures.marks

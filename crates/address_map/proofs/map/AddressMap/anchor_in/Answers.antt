@@ -1,6 +1,7 @@
 use Rattle.std.proofs.Common.{◌≡◌, ◌^◌, true, false, ap, arith, sym, ◌∙◌, inl, inr}
 use Rattle.std.proofs.lemmas.Bool.{cases_lt, false≢true}
 use Rattle.address_map.specs.Classes.{is_anchor}
+use Rattle.address_map.proofs.Anchors.{marks_none, marks_some}
 use Rattle.address_map.proofs.Words.{none_more, class_past}
 use Rattle.address_map.proofs.map.AddressMap.anchor_in.Goals as goal
 
@@ -14,8 +15,13 @@ loop-addr-preserved c = record {
 }
 
 pub returns : goal.returns
-returns c a low high =
-    elim (cases_lt a (2 ^ 26)) [
+returns c =
+    marks_none c.args.self.now c.args.at c.args.len (λ a low high. elim (cases_lt a (2 ^ 26)) [
       | inl below ↦ c.loop-addr.invariant.clear a low (omega arith)
       | inr past ↦ λ is. let plain = class_past c.args.self.now a past in cc (is, plain)
-    ]
+    ])
+
+pub returns-then-is_anchor : goal.returns-then-is_anchor
+returns-then-is_anchor c =
+    let yes : is_anchor c.class.result ≡ true = cc in
+    marks_some c.args.self.now c.args.at c.args.len c.loop-addr.addr c.loop-addr.invariant.from (omega arith) (ap is_anchor (sym c.class.ensures) ∙ yes)

@@ -58,7 +58,7 @@ shrink-requires-clause-loose c b found =
           let is : store_of w.set_module_area_end.new.map ≡ ending (store_of c.args.map.now) m.heap (4096 * (a.pages - c.args.count)) =
           (let ends = rw m.found at w.set_module_area_end.ensures.store in ends) in
           rw w.map-is (loose_ended (store_of c.args.map.now) (store_of w.set_module_area_end.new.map) (free_pages c.args.map.now) c.args.self.now a c.args.count m
-          c.requires.areas first loose (ap (λ (s : Store). s.heaps) is) w.set_module_area_end.ensures.others)
+          c.requires.areas first loose (ap (λ (s : Store). s.heaps) is) w.set_module_area_end.ensures.others (ap (λ (s : Store). s.anchor) is))
       | else-number-eq-MODULE_AREA w ↦
           let number : a.number ≡ c.args.number = found_number c.args.number c.args.self.now.areas a (sym e) in
           rw w.map-is (loose_created (store_of c.args.map.now) a c.args.count (λ is. w.if-number-eq-MODULE_AREA.false (sym number ∙ is)) loose)

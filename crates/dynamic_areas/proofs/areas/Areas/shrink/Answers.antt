@@ -61,7 +61,9 @@ unmap_pages-requires-clause-unrecorded c =
     unmet_records (bytes_of c.args.map.now) _ _ (regions c.args.map.now) loose.heaps loose.ranges
 
 pub unmap_pages-requires-clause-unanchored : goal.unmap_pages-requires-clause-unanchored
-unmap_pages-requires-clause-unanchored c = λ x low high. no_anchor c.args.map.now x c.requires.ground.sound
+unmap_pages-requires-clause-unanchored c =
+    let e = rw c.list.ensures.value at c.in-Some.ensures in
+    no_anchor c.args.map.now _ _ (c.requires.loose c.in-Some.area.now (sym e)).anchors
 
 pub returns-clause-store : goal.returns-clause-store
 returns-clause-store c =
@@ -69,7 +71,7 @@ returns-clause-store c =
     let a = c.in-Some.area.now in
     let loose : AreLoose (store_of c.args.map.now) a c.args.count = c.requires.loose a (sym e) in
     rw (← e) (store_shrunk c.args.map.now c.unmap_pages.new.self (a.base + 4096 * (a.pages - c.args.count)) (4096 * c.args.count)
-    c.requires.ground.sound loose.heaps c.unmap_pages.ensures.mapping c.unmap_pages.ensures.bytes c.unmap_pages.ensures.regions c.unmap_pages.ensures.marks)
+    c.requires.ground.sound loose.heaps loose.ranges loose.anchors c.unmap_pages.ensures.mapping c.unmap_pages.ensures.bytes c.unmap_pages.ensures.regions c.unmap_pages.ensures.marks)
 
 pub returns-clause-ground : goal.returns-clause-ground
 returns-clause-ground c =
@@ -81,7 +83,7 @@ returns-clause-ground c =
     (let store = returns-clause-store c in rw (← e) at store) in
     rw (after, c.unmap_pages.ensures.pages, c.set_pages.ensures)
     (ground_shrunk (store_of c.args.map.now) (free_pages c.args.map.now) c.args.self.now c.args.number a c.args.count c.requires.ground (sym e)
-    loose.fits loose.heaps loose.ranges)
+    loose.fits loose.heaps loose.ranges loose.anchors)
 
 pub returns-clause-classes : goal.returns-clause-classes
 returns-clause-classes c =
