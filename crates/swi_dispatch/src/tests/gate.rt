@@ -16,9 +16,11 @@ fn at_gate(machine: &mut Machine, is_x: bool, is_refused: bool) {
         next: 0x8004,
     };
     machine.set_register(10, 10);
-    machine
-        .frames
-        .open(Frame::of(&machine.cpu, call, FrameKind::Swi, 3));
+    if machine.frames.len() < 32 {
+        machine
+            .frames
+            .open(Frame::of(&machine.cpu, call, FrameKind::Swi, 3));
+    }
     enter_swi(&mut machine.cpu, 0x0180_0038, 0x40003, 3);
     machine.set_register(0, 0x9000);
     machine.set_register(10, 11);
