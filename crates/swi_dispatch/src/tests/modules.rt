@@ -64,6 +64,5 @@ fn the_module_area_takes_pages(rt: HostRuntime) -> Result<(), Fail> {
         assert_eq!(rt; machine.cpu().psr().overflow, is_refused);
         assert_eq!(rt; machine.memory().free_pages(), pool);
     }
-    assert_eq!(rt; machine.error_number(), ErrorNumber::RmaNoRoom.number());
     Ok(())
 }
