@@ -1,3 +1,4 @@
 pub mod CodeLines
 pub mod HeapLemmas
 pub mod MemoryLemmas
+pub mod ModuleLemmas

@@ -5,12 +5,14 @@ mod areas;
 mod code;
 mod heap;
 mod memory;
+mod modules;
 mod registers;
 
 pub use areas::show_areas;
 pub use code::show_code;
 pub use heap::show_blocks;
 pub use memory::show_memory;
+pub use modules::show_modules;
 pub use registers::show_regs;
 
 #[cfg(test)]

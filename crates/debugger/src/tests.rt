@@ -1,5 +1,7 @@
-use crate::{show_areas, show_blocks, show_code, show_memory, show_regs};
+use crate::{show_areas, show_blocks, show_code, show_memory, show_modules, show_regs};
 use image_loader::Images;
+use instances_table::{Image, InstanceTable};
+use module_header::Header;
 use profile::{Config, MemorySink};
 use std::alloc::Global;
 use std::process::Abort;
@@ -42,6 +44,16 @@ const CODE: &[u8] = b"00007FFC -------- unmapped
 /// The areas of a machine at its start: the module area with 16 pages, and what is left of 256.
 const AREAS: &[u8] = b"area 1 base 01800000 size 65536 max 4194304 RMA
 pool 173 pages
+";
+
+/// The image of a module without code: seven words, of which one tells where its title is, and the
+/// title, `W` and a zero.
+const MODULE: &[u8] = b"\0\0\0\0\0\0\0\0\0\0\0\0\0\0\0\0\x1C\0\0\0\0\0\0\0\0\0\0\0W\0";
+
+/// That module with a second instance, whose private word holds the address of a block.
+const MODULES: &[u8] = b"module W at 01800014 length 30
+  Base word 01C02000 00000000 preferred
+  B word 01C02004 01800054
 ";
 
 /// Words past the last address are those from address 0 on.
@@ -132,6 +144,25 @@ fn areas_are_shown_with_the_pool(rt: HostRuntime) -> Result<(), Fail> {
     let mut sink = MemorySink::new(&mut room, 7, 1000);
     show_areas(&machine, &mut sink)?;
     assert_eq!(rt; sink.written(), AREAS);
+    Ok(())
+}
+
+#[test]
+fn modules_are_shown_by_instances(rt: HostRuntime) -> Result<(), Fail> {
+    let mut machine = usual_machine(&rt, rt.alloc());
+    machine.poke(0x01C0_2004, 0x0180_0054)?;
+    let image = Image {
+        at: 0x0180_0014,
+        len: 30,
+        in_rma: true,
+    };
+    let mut modules = InstanceTable::new();
+    assert!(rt; modules.insert(Header::read(MODULE)?, image, 0));
+    modules.instantiate(b"W%B")?;
+    let mut room = [0u8; 300];
+    let mut sink = MemorySink::new(&mut room, 7, 1000);
+    show_modules(&modules, machine.memory(), &mut sink)?;
+    assert_eq!(rt; sink.written(), MODULES);
     Ok(())
 }
 

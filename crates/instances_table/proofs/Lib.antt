@@ -1,3 +1,4 @@
+pub mod CountLemmas
 pub mod Counting
 pub mod HandlerLemmas
 pub mod ModuleLemmas

@@ -112,3 +112,8 @@ told_of_instance m i = record { name = record { items = i.name }; slot = i.slot;
 abbrev pub told_of_place : ℕ → Option Module → Option InstanceInfo
 told_of_place i None = None
 told_of_place i (Some m) = option_map (told_of_instance m) (slice_get m.instances i)
+
+-- how many instances a module has, none where there is no module
+abbrev pub instance_count : Option Module → ℕ
+instance_count None = 0
+instance_count (Some m) = length m.instances

@@ -2,6 +2,7 @@
 #![tactic(auto)]
 
 mod changes;
+mod counts;
 pub mod editing;
 mod loaded;
 mod names;

@@ -201,8 +201,16 @@ impl InstanceTable {
     }
 
     /// What is told of an instance, by its module's number and its own, if there is one.
-    #[tactic(auto, using(crate::proofs::ViewLemmas::view_steps, crate::proofs::ViewLemmas::told_view))]
     pub fn instance(&self, number: u32, instance: u32) -> Option<InstanceInfo>
+        ensures value { result ≡ told_of_place instance (slice_get self.now number) }
+        ensures below { IfSome result (λ i. i.slot < 64) }
+    {
+        let _ = &self.names;
+        self.told(number, instance)
+    }
+
+    #[tactic(auto, using(crate::proofs::ViewLemmas::view_steps, crate::proofs::ViewLemmas::told_view))]
+    fn told(&self, number: u32, instance: u32) -> Option<InstanceInfo>
         ensures { result ≡ told_of_place instance (slice_get self.now number) }
     {
         let loaded = self.modules.as_slice().get(number as usize)?;

@@ -4,7 +4,7 @@ use Rattle.arm_step.specs.declared.psr.Psr.{Psr}
 use Rattle.swi_dispatch.specs.declared.refusal.Refusal.{Refusal}
 use Rattle.swi_dispatch.specs.MachineState.{MachineState, Outcome, quiet}
 use Rattle.swi_dispatch.specs.Answers.{Answer}
-use Rattle.swi_dispatch.specs.Parts.{Answers}
+use Rattle.swi_dispatch.specs.Parts.{Answers, IsInStep, Parts, outcome_of, state_of}
 use Rattle.swi_dispatch.specs.Step.{gone_back, error_answered, erred, ended_by, ended}
 
 pub ended_done : (s : MachineState) (a : Answer) (x : Bool) (next to : ℕ) (caller : Psr) (o end : Outcome)
@@ -30,3 +30,7 @@ ended_error s a x next e caller o end given unmoved psr after =
     ∙ ap (λ (y : Outcome). erred s x (error_answered s.cpu.psr y next e)) given.0
     ∙ ap (λ (n : ℕ). erred s x (error_answered s.cpu.psr a.left n e)) given.1.0
     ∙ sym (ap (ended_by s x a) given.1.1)
+
+-- a step that has done nothing yet
+pub nothing_done : (p : Parts) → IsInStep p → outcome_of p ≡ quiet (state_of p)
+nothing_done p step = λ i. record { now = state_of p; printed = step.printed i }

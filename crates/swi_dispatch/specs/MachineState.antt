@@ -11,13 +11,15 @@ use Rattle.os_heap.specs.Calls.{begun_with}
 use Rattle.os_heap.specs.Store.{Store}
 use Rattle.dynamic_areas.specs.Areas.{Land, start_land}
 use Rattle.dynamic_areas.specs.Ground.{Estate, is_land, pool_of, system_pages}
+use Rattle.instances_table.specs.Modules.{Module}
 use Rattle.swi_dispatch_frames.specs.declared.frame.Frame.{Frame}
 use Rattle.swi_dispatch.specs.declared.halt.Halt.{Halt}
 use Rattle.swi_dispatch.specs.declared.halt.Halt.TheVariants as halt
 
--- what stands beside the core and the memory: the areas, and the frames of module code that is under way
+-- what stands beside the core and the memory: the areas, the modules, and the frames of module code that is under way
 pub record Tables : Type 0 where
   pub land : Land
+  pub modules : List Module
   pub frames : List Frame
 
 pub record MachineState : Type 0 where
@@ -69,6 +71,6 @@ start_of s = record {
   cpu = start_state;
   store = start_store s;
   pool = pool_of (start_land s);
-  tables = record { land = start_land s; frames = [] };
+  tables = record { land = start_land s; modules = []; frames = [] };
   halt = None;
 }

@@ -1,6 +1,8 @@
 -- One step of the machine: an instruction, or a store call. A fault changes nothing but that the machine is halted with it.
-use Rattle.std.specs.Prelude.{◌≡◌, ℕ, Bool, true, false, ◌+◌, ◌-◌, ◌*◌, ◌/◌, ◌%◌, ◌^◌, ◌==◌, Option, Some, None, Result, Ok, Err, List, if◌then◌else◌}
+use Rattle.std.specs.Prelude.{◌≡◌, ℕ, Bool, true, false, ◌+◌, ◌-◌, ◌*◌, ◌/◌, ◌%◌, ◌^◌, ◌==◌, Option, Some, None, Result, Ok, Err, List, length, ◌++◌, ◌∷◌, [], if◌then◌else◌}
 use Rattle.profile.specs.declared.fault.Fault.TheVariants.{FetchUnmapped, ErrorStop, StackChanged}
+use Rattle.profile.specs.declared.error.ErrorNumber.{ErrorNumber}
+use Rattle.profile.specs.declared.error.ErrorNumber.TheVariants.{FrameLimit, SwiUnknown}
 use Rattle.profile.specs.declared.swi.SwiName.{SwiName}
 use Rattle.profile.specs.declared.swi.SwiName.TheVariants as swi
 use Rattle.profile.specs.SwiNames.{swi_of}
@@ -16,13 +18,19 @@ use Rattle.arm_step.specs.Step.{stepped}
 use Rattle.os_heap.specs.Store.{owned_in}
 use Rattle.image_loader.specs.Entries.{Entry}
 use Rattle.swi_dispatch_frames.specs.declared.frame.Frame.{Frame}
-use Rattle.swi_dispatch_frames.specs.Frames.{closed, innermost}
+use Rattle.swi_dispatch_frames.specs.declared.call.Call.{Call}
+use Rattle.swi_dispatch_frames.specs.declared.frame.FrameKind.TheVariants.{Swi}
+use Rattle.swi_dispatch_frames.specs.Entering.{swi_entered}
+use Rattle.swi_dispatch_frames.specs.Frames.{closed, frame_of, innermost}
 use Rattle.swi_dispatch_frames.specs.Leaving.{left}
 use Rattle.swi_dispatch.specs.declared.halt.Halt.{Halt}
 use Rattle.swi_dispatch.specs.declared.halt.Halt.TheVariants as halt
+use Rattle.instances_table.specs.declared.parts.Handler.{Handler}
+use Rattle.instances_table.specs.Lookup.{handler_of}
 use Rattle.swi_dispatch.specs.declared.refusal.Refusal.{Refusal}
+use Rattle.swi_dispatch.specs.declared.refusal.Refusal.TheVariants as refusal
 use Rattle.swi_dispatch.specs.MachineState.{MachineState, Outcome, quiet, with_memory}
-use Rattle.swi_dispatch.specs.Answers.{Answer}
+use Rattle.swi_dispatch.specs.Answers.{Answer, refused}
 use Rattle.swi_dispatch.specs.Calls.{call_answer}
 use Rattle.swi_dispatch.specs.Errors.{error_number, with_error}
 
@@ -70,9 +78,30 @@ abbrev pub is_exit : Option SwiName → Bool
 is_exit (Some swi.Exit) = true
 is_exit _ = false
 
+-- A SWI of a module: its handler is entered in a frame.
+unfoldable pub handler_entered : MachineState → Call → ℕ → Handler → MachineState
+handler_entered s call number h = record s {
+  cpu = swi_entered s.cpu h.at number h.slot;
+  tables = record s.tables { frames = s.tables.frames ++ frame_of s.cpu call Swi h.slot ∷ [] };
+}
+
+abbrev pub call_refused : MachineState → Bool → ℕ → ErrorNumber → Outcome
+call_refused s x next e = ended s x (refused s next (refusal.System e))
+
+abbrev pub module_called : MachineState → Bool → ℕ → ℕ → Option Handler → Outcome
+module_called s x next number None = call_refused s x next SwiUnknown
+module_called s x next number (Some h) =
+    if length s.tables.frames == 32 then call_refused s x next FrameLimit else
+    quiet (handler_entered s (record { is_x = x; caller = s.cpu.psr; next = next }) number h)
+
+-- A call without a name is looked for among the modules.
+abbrev pub called_by : MachineState → Bool → ℕ → ℕ → Option SwiName → Outcome
+called_by s x next number None = module_called s x next number (handler_of number s.tables.modules)
+called_by s x next number (Some name) = ended s x (call_answer s next number (Some name))
+
 unfoldable pub called : MachineState → Bool → ℕ → ℕ → Outcome
 called s x next number =
-    if is_exit (swi_of number) then halted s halt.Exit else ended s x (call_answer s next number (swi_of number))
+    if is_exit (swi_of number) then halted s halt.Exit else called_by s x next number (swi_of number)
 
 -- a call by an instruction: the guest goes on after it
 abbrev pub swi_called : MachineState → ℕ → Outcome

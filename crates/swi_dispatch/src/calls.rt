@@ -18,12 +18,12 @@ impl Machine {
     ghost use Rattle.swi_dispatch.specs.Answers.{with_answer};
     ghost use Rattle.swi_dispatch.specs.AreaCalls.{moving_error};
     ghost use Rattle.swi_dispatch.specs.Calls.{call_answer, wrote_text_after, wrote_text_at, printable_at, in_supervisor};
-    ghost use Rattle.swi_dispatch.specs.Step.{called, gone_back};
+    ghost use Rattle.swi_dispatch.specs.Step.{called, ended, gone_back};
     ghost use Rattle.arm_step.specs.State.{register_of};
 
     /// A store call by its number without the X bit. `is_x` says whether an error goes back to the
     /// guest, and `next` where the guest goes on.
-    #[tactic(auto, using(crate::proofs::Answering::ended_done, crate::proofs::Answering::ended_error), unfolding(crate::specs::Step::called))]
+    #[tactic(auto, unfolding(crate::specs::Step::called))]
     pub(crate) fn call(&mut self, is_x: bool, next: u32, number: u32)
         requires step { IsInStep self.old }
         requires next { next < 2 ^ 26 }
@@ -34,6 +34,20 @@ impl Machine {
         if is_exit(name) {
             return self.halt_with(Halt::Exit);
         }
+        match name {
+            None => self.call_module(is_x, next, number),
+            Some(_) => self.call_system(is_x, next, number, name),
+        }
+    }
+
+    // A call of the system's own.
+    #[tactic(auto, using(crate::proofs::Answering::ended_done, crate::proofs::Answering::ended_error))]
+    fn call_system(&mut self, is_x: bool, next: u32, number: u32, name: Option<SwiName>)
+        requires step { IsInStep self.old }
+        requires next { next < 2 ^ 26 }
+        ensures after { outcome_of self.new ≡ ended (state_of self.old) is_x (call_answer (state_of self.old) next number name) }
+        ensures others { OnlySteps self.old self.new }
+    {
         if !is_x && let Some(error) = self.moving_error(name) {
             return self.halt_with(Halt::Fault(Fault::ErrorStop(error.number())));
         }

@@ -18,6 +18,7 @@ use arm_step::{Cpu, Turn, step};
 use arrayvec::ArrayVec;
 use dynamic_areas::Areas;
 use image_loader::Images;
+use instances_table::InstanceTable;
 use os_heap::Heaps;
 use profile::memory_map::{
     ADDRESS_LIMIT, APPLICATION_START, PAGE_SIZE, RMA_START, SYSTEM_PAGES, SYSTEM_START,
@@ -41,6 +42,7 @@ pub struct Machine {
     pub(crate) memory: AddressMap,
     pub(crate) heaps: Heaps,
     pub(crate) areas: Areas,
+    pub(crate) modules: InstanceTable,
     pub(crate) frames: Frames,
     pub(crate) halt: Option<Halt>,
     config: Config,
@@ -53,9 +55,9 @@ impl Model for Machine {
 
     ghost Value = { Parts };
 
-    ghost view = { λ m. record { cpu = m.cpu; map = m.memory; tables = record { land = m.areas; frames = m.frames }; halt = m.halt; sizes = m.config; is_fresh = m.is_fresh; printed = m.printed.items } };
+    ghost view = { λ m. record { cpu = m.cpu; map = m.memory; tables = record { land = m.areas; modules = m.modules; frames = m.frames }; halt = m.halt; sizes = m.config; is_fresh = m.is_fresh; printed = m.printed.items } };
 
-    ghost invariant = { λ m. IsWellFormed (record { cpu = m.cpu; map = m.memory; tables = record { land = m.areas; frames = m.frames }; halt = m.halt; sizes = m.config; is_fresh = m.is_fresh; printed = m.printed.items }) };
+    ghost invariant = { λ m. IsWellFormed (record { cpu = m.cpu; map = m.memory; tables = record { land = m.areas; modules = m.modules; frames = m.frames }; halt = m.halt; sizes = m.config; is_fresh = m.is_fresh; printed = m.printed.items }) };
 }
 
 impl Machine {
@@ -80,6 +82,7 @@ impl Machine {
             memory,
             heaps: Heaps::new(),
             areas: Areas::new(config),
+            modules: InstanceTable::new(),
             frames: Frames::new(),
             halt: None,
             config,
@@ -235,7 +238,8 @@ impl Machine {
     /// How many frames of module code are open.
     #[tactic(auto, unfolding(crate::specs::Parts::state_of))]
     pub fn frames(&self) -> usize
-        ensures { result ≡ length (state_of self.now).tables.frames }
+        ensures value { result ≡ length (state_of self.now).tables.frames }
+        ensures most { result ≤ 32 }
     {
         self.frames.len()
     }

@@ -4,6 +4,7 @@ mod areas;
 mod arguments;
 mod gate;
 mod heaps;
+mod module_swis;
 mod modules;
 
 use crate::strings::text_at;

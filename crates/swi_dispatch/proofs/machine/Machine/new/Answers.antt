@@ -10,14 +10,14 @@ invariant_of-result c =
       areas = rw c.new-3.ensures.land memory.areas;
       classes = memory.classes;
       system = system_recorded _ c.args.config memory.store;
-      fresh = λ _. rw (c.new.ensures, c.new-3.ensures.land, c.new-4.ensures) (starts _ _ memory.store memory.areas);
+      fresh = λ _. rw (c.new.ensures, c.new-3.ensures.land, c.new-4.ensures, c.new-5.ensures) (starts _ _ memory.store memory.areas);
     }
 
 pub returns-clause-start : goal.returns-clause-start
 unfolding state_of
 returns-clause-start c =
     let memory = c.in_ok-memory.ensures in
-    rw (c.new.ensures, c.new-3.ensures.land, c.new-4.ensures) (starts _ _ memory.store memory.areas)
+    rw (c.new.ensures, c.new-3.ensures.land, c.new-4.ensures, c.new-5.ensures) (starts _ _ memory.store memory.areas)
 
 pub returns-clause-well_formed : goal.returns-clause-well_formed
 unfolding state_of
@@ -27,5 +27,5 @@ returns-clause-well_formed c =
       areas = rw c.new-3.ensures.land memory.areas;
       classes = memory.classes;
       system = system_recorded _ c.args.config memory.store;
-      fresh = λ _. rw (c.new.ensures, c.new-3.ensures.land, c.new-4.ensures) (starts _ _ memory.store memory.areas);
+      fresh = λ _. rw (c.new.ensures, c.new-3.ensures.land, c.new-4.ensures, c.new-5.ensures) (starts _ _ memory.store memory.areas);
     }

@@ -1,0 +1,129 @@
+ghost use Rattle.std.specs.Prelude.{◌≡◌, ◌<◌, slice_get};
+ghost use Rattle.address_map.specs.Memory.{bytes_of};
+ghost use Rattle.profile.specs.Output.{Writes};
+ghost use Rattle.instances_table.specs.Lookup.{told_of_place};
+ghost use Rattle.debugger.specs.Modules.{instance_line, instances_text, module_line, module_text, modules_text, one_text, preferred_text};
+
+use address_map::AddressMap;
+use instances_table::{InstanceInfo, InstanceTable, ModuleInfo};
+use itoa::Buffer;
+use profile::memory_map::PRIVATE_WORDS;
+use profile::{HexText, Sink, WriteFault, push_parts};
+
+/// Writes a line for each module, oldest first, `module Title at 01800014 length 47`, and under it a
+/// line for each of its instances, `  Base word 01C02000 00000000 preferred`, with the address of its
+/// private word and what stands there.
+#[tactic(auto, using(crate::proofs::ModuleLemmas::module_steps), unfolding(crate::specs::Modules::modules_text))]
+pub fn show_modules<W: Sink>(
+    modules: &InstanceTable,
+    memory: &AddressMap,
+    sink: &mut W,
+) -> Result<(), WriteFault>
+    ensures { Writes W.contents W.has_failed sink.old sink.new result (modules_text (bytes_of memory.now) modules.now) }
+{
+    for number in 0..modules.count() {
+        show_module(modules, number, memory, sink)?;
+    }
+    Ok(())
+}
+
+// The lines of the module of a number, if there is one.
+#[tactic(auto, unfolding(crate::specs::Modules::module_text))]
+fn show_module<W: Sink>(
+    modules: &InstanceTable,
+    number: u32,
+    memory: &AddressMap,
+    sink: &mut W,
+) -> Result<(), WriteFault>
+    ensures { Writes W.contents W.has_failed sink.old sink.new result
+        (one_text (module_text (bytes_of memory.now)) (slice_get modules.now number)) }
+{
+    let Some(info) = modules.module(number) else {
+        return Ok(());
+    };
+    show_title(&info, sink)?;
+    show_instances(modules, number, memory, sink)
+}
+
+#[tactic(auto, unfolding(crate::specs::Modules::module_line))]
+fn show_title<W: Sink>(info: &ModuleInfo, sink: &mut W) -> Result<(), WriteFault>
+    ensures { Writes W.contents W.has_failed sink.old sink.new result (module_line info.now) }
+{
+    let mut length = Buffer::new();
+    push_parts(
+        sink,
+        &[
+            b"module ".as_slice(),
+            info.title.as_slice(),
+            b" at ".as_slice(),
+            HexText::word(info.image).as_slice(),
+            b" length ".as_slice(),
+            length.format(info.len).as_bytes(),
+            b"\n".as_slice(),
+        ],
+    )
+}
+
+// A line for each instance of the module of a number.
+#[tactic(auto, using(crate::proofs::ModuleLemmas::instance_steps))]
+fn show_instances<W: Sink>(
+    modules: &InstanceTable,
+    number: u32,
+    memory: &AddressMap,
+    sink: &mut W,
+) -> Result<(), WriteFault>
+    ensures { Writes W.contents W.has_failed sink.old sink.new result
+        (one_text (instances_text (bytes_of memory.now)) (slice_get modules.now number)) }
+{
+    for instance in 0..modules.instance_count(number) {
+        show_instance(modules, number, instance, memory, sink)?;
+    }
+    Ok(())
+}
+
+// The line of an instance, if there is one.
+fn show_instance<W: Sink>(
+    modules: &InstanceTable,
+    number: u32,
+    instance: u32,
+    memory: &AddressMap,
+    sink: &mut W,
+) -> Result<(), WriteFault>
+    ensures { Writes W.contents W.has_failed sink.old sink.new result
+        (one_text (instance_line (bytes_of memory.now)) (told_of_place instance (slice_get modules.now number))) }
+{
+    match modules.instance(number, instance) {
+        Some(told) => show_told(&told, memory, sink),
+        None => Ok(()),
+    }
+}
+
+#[tactic(auto, unfolding(crate::specs::Modules::instance_line))]
+fn show_told<W: Sink>(
+    told: &InstanceInfo,
+    memory: &AddressMap,
+    sink: &mut W,
+) -> Result<(), WriteFault>
+    requires { told.now.slot < 64 }
+    ensures { Writes W.contents W.has_failed sink.old sink.new result (instance_line (bytes_of memory.now) told.now) }
+{
+    let word = PRIVATE_WORDS + 4 * told.slot;
+    push_parts(
+        sink,
+        &[
+            b"  ".as_slice(),
+            told.name.as_slice(),
+            b" word ".as_slice(),
+            HexText::word(word).as_slice(),
+            b" ".as_slice(),
+            HexText::word(memory.load_word(word).unwrap_or(0)).as_slice(),
+            preferred_text(told.preferred),
+        ],
+    )
+}
+
+fn preferred_text<'a>(is_preferred: bool) -> &'a [u8]
+    ensures { result.now ≡ preferred_text is_preferred }
+{
+    if is_preferred { b" preferred\n" } else { b"\n" }
+}

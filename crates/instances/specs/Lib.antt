@@ -1,0 +1,4 @@
+pub mod Actions
+pub mod Plans
+pub mod Reading
+pub mod World

@@ -1,0 +1,17 @@
+use instances_table::Place;
+
+/// What OS_Module 18 finds: where an instance is, the address of its module's image, and the value of its private word.
+#[derive(Clone, Copy, Debug, PartialEq, Eq)]
+pub struct Found {
+    pub place: Place,
+    pub image: u32,
+    pub word: u32,
+}
+
+/// What OS_Module 12 tells of an instance: the place behind it, the address of its module's image, and the value of its private word.
+#[derive(Clone, Copy, Debug, PartialEq, Eq)]
+pub struct Told {
+    pub next: Place,
+    pub image: u32,
+    pub word: u32,
+}

@@ -1,0 +1,138 @@
+ghost use Rattle.std.specs.Prelude.{◌≡◌, ◌<◌, [], option_map, slice_get};
+ghost use Rattle.profile.specs.Outcome.{Leaves};
+ghost use Rattle.address_map.specs.Bytes.{AreMapped, word_at};
+ghost use Rattle.address_map.specs.Memory.{byte_at, is_mapped};
+ghost use Rattle.instances_plans.specs.Code.{private_of};
+ghost use Rattle.instances_table.specs.Lookup.{told_of_module, told_of_place};
+ghost use Rattle.instances_table.specs.Changes.{preferring, renamed};
+ghost use Rattle.instances.specs.Reading.{found, told};
+
+use crate::answers::{Found, Told};
+use address_map::AddressMap;
+use instances_plans::private_word;
+use instances_table::{InstanceInfo, InstanceTable, ModuleInfo, Place};
+use profile::ErrorNumber;
+use std::marker::Model;
+
+/// The modules of a machine and their instances.
+///
+/// RISC OS 3 Programmer's Reference Manual, "Modules".
+#[derive(Drop)]
+pub struct Instances {
+    pub(crate) table: InstanceTable,
+}
+
+impl Model for Instances {
+    ghost use Rattle.std.specs.Prelude.{List};
+    ghost use Rattle.instances_table.specs.Modules.{Module};
+
+    ghost Value = { List Module };
+
+    ghost view = { λ i. i.table };
+}
+
+impl Instances {
+    /// No module.
+    pub fn new() -> Instances
+        ensures { result ≡ [] }
+    {
+        Instances {
+            table: InstanceTable::new(),
+        }
+    }
+
+    /// What is told of the module of a number, if there is one.
+    pub fn module(&self, number: u32) -> Option<ModuleInfo>
+        ensures { result ≡ option_map told_of_module (slice_get self.now number) }
+    {
+        self.table.module(number)
+    }
+
+    /// What is told of an instance, by its module's number and its own, if there is one.
+    pub fn instance(&self, number: u32, instance: u32) -> Option<InstanceInfo>
+        ensures { result ≡ told_of_place instance (slice_get self.now number) }
+    {
+        self.table.instance(number, instance)
+    }
+
+    /// What is told of an instance, its private word's value with it.
+    ///
+    /// # Errors
+    ///
+    /// `ModuleNotFound` where there is no such module or instance.
+    ///
+    /// RISC OS 3 Programmer's Reference Manual, "OS_Module", reason 12.
+    #[tactic(auto, unfolding(crate::specs::Reading::told))]
+    pub fn info(&self, map: &AddressMap, place: Place) -> Result<Told, ErrorNumber>
+        requires { AreMapped (is_mapped map.now) 0x01C02000 256 }
+        ensures { result ≡ told (byte_at map.now) self.now place }
+    {
+        let information = self.table.info(place.number, place.instance)?;
+        let slot = self
+            .table
+            .slot_of(place)
+            .ok_or(ErrorNumber::ModuleNotFound)?;
+        Ok(Told {
+            next: information.next,
+            image: information.image,
+            word: private_value(map, slot),
+        })
+    }
+
+    /// The instance that a name means: `Title%Name`, or the preferred one of `Title`, whatever the case of the letters.
+    ///
+    /// # Errors
+    ///
+    /// `ModuleNotFound` where there is none.
+    ///
+    /// RISC OS 3 Programmer's Reference Manual, "OS_Module", reason 18.
+    #[tactic(auto, unfolding(crate::specs::Reading::found))]
+    pub fn lookup(&self, map: &AddressMap, full: &[u8]) -> Result<Found, ErrorNumber>
+        requires { AreMapped (is_mapped map.now) 0x01C02000 256 }
+        ensures { result ≡ found (byte_at map.now) self.now full.now }
+    {
+        let place = self.table.lookup(full)?;
+        let told = self.info(map, place)?;
+        Ok(Found {
+            place,
+            image: told.image,
+            word: told.word,
+        })
+    }
+
+    /// Gives an instance, `Title%Name`, another name.
+    ///
+    /// # Errors
+    ///
+    /// The first of these, and nothing is changed then: `BadString` where the full name has no `%`, or the new name isn't formed like a title;
+    /// `ModuleNotFound` where there is no such instance; `InstanceExists` where an instance of the module has the new name, this one included.
+    ///
+    /// RISC OS 3 Programmer's Reference Manual, "OS_Module", reason 15.
+    pub fn rename(&mut self, full: &[u8], new: &[u8]) -> Result<(), ErrorNumber>
+        ensures { Leaves self.old (renamed self.old full.now new.now) result self.new }
+    {
+        self.table.rename(full, new)
+    }
+
+    /// Makes an instance, `Title%Name`, the preferred one of its module.
+    ///
+    /// # Errors
+    ///
+    /// The first of these, and nothing is changed then: `BadString` where the full name has no `%`; `ModuleNotFound` where there is no such instance.
+    ///
+    /// RISC OS 3 Programmer's Reference Manual, "OS_Module", reason 16.
+    pub fn prefer(&mut self, full: &[u8]) -> Result<(), ErrorNumber>
+        ensures { Leaves self.old (preferring self.old full.now) result self.new }
+    {
+        self.table.prefer(full)
+    }
+}
+
+/// The value of the private word of a slot.
+fn private_value(map: &AddressMap, slot: u32) -> u32
+    requires below { slot < 64 }
+    requires mapped { AreMapped (is_mapped map.now) 0x01C02000 256 }
+    ensures { result ≡ word_at (byte_at map.now) (private_of slot) }
+{
+    map.load_word(private_word(slot)).unwrap()
+}
