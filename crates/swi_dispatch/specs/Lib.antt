@@ -6,6 +6,7 @@ pub mod Calls
 pub mod Ending
 pub mod Errors
 pub mod MachineState
+pub mod ModuleCalls
 pub mod Parts
 pub mod Run
 pub mod Step

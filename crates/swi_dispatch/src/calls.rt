@@ -89,6 +89,10 @@ impl Machine {
                 self.call_heap()?;
                 Ok(next)
             }
+            Some(SwiName::Module) => {
+                self.call_module_area()?;
+                Ok(next)
+            }
             Some(SwiName::ChangeDynamicArea) => self.change_area(next),
             Some(SwiName::ReadDynamicArea) => {
                 self.read_area()?;

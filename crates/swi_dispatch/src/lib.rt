@@ -11,6 +11,7 @@ pub mod halt;
 pub mod heap_calls;
 pub mod laws;
 pub mod machine;
+pub mod module_calls;
 pub mod module_swis;
 pub mod refusal;
 pub mod running;

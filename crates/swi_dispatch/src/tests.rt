@@ -5,6 +5,7 @@ mod arguments;
 mod gate;
 mod heaps;
 mod module_swis;
+mod modules;
 
 use crate::strings::text_at;
 use crate::{BootError, Breaks, Machine, TextEnd};
