@@ -67,12 +67,7 @@ impl Areas {
     ///
     /// Those of `create`, in their order.
     #[tactic(auto, unfolding(crate::specs::Creating::area_wanted))]
-    pub fn area_wanted(
-        &self,
-        free: u32,
-        wanted: &Wanted,
-        name: &[u8],
-    ) -> Result<Area, ErrorNumber>
+    pub fn area_wanted(&self, free: u32, wanted: &Wanted, name: &[u8]) -> Result<Area, ErrorNumber>
         ensures { result ≡ area_wanted self.now free wanted.now name.now }
     {
         let maximum = wanted_maximum(self.sizes(), wanted.maximum);

@@ -104,9 +104,13 @@ finalise_then : (used before slots : List ℕ) (after : List Action) → AreSlot
     → CanDo used (initialise_all before) (finalise_all slots ++ after)
 finalise_then used before [] after are can = can (initialise_all before)
 finalise_then used before (slot ∷ others) after are can =
-    let next : AreSlots used ((before ++ slot ∷ []) ++ others) = subst (AreSlots used) (sym (append_assoc before (slot ∷ []) others)) are in
-    ((back_slots used before (slot ∷ others) are).0, (stands_all used before (front_slots used before (slot ∷ others) are),
-        subst (λ (instead : List Action). CanDo used instead (finalise_all others ++ after)) (owing before slot) (finalise_then used (before ++ slot ∷ []) others after next can)))
+    let next : AreSlots used ((before ++ slot ∷ []) ++ others) = subst (AreSlots used) (sym (append_assoc before (slot ∷ []) others)) are in (
+      (back_slots used before (slot ∷ others) are).0,
+      (
+        stands_all used before (front_slots used before (slot ∷ others) are),
+        subst (λ (instead : List Action). CanDo used instead (finalise_all others ++ after)) (owing before slot) (finalise_then used (before ++ slot ∷ []) others after next can),
+      ),
+    )
 
 pub tidy_is_doable : TidyIsDoable
 tidy_is_doable given used slots are =
