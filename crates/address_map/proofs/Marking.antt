@@ -1,5 +1,5 @@
 -- The class of each address after one word was marked, and after a page was mapped or taken away.
-use Rattle.std.proofs.Common.{◌≡◌, ◌≢◌, ℕ, ◌+◌, ◌-◌, ◌*◌, ◌/◌, ◌%◌, ◌<◌, ◌≤◌, ◌⊎◌, ◌==◌, true, false, cond, List, [], ◌∷◌, length, set, Option, Some, None, arith, refl, sym, ap, ◌∙◌, inl, inr}
+use Rattle.std.proofs.Common.{◌≡◌, ◌≢◌, ℕ, ◌+◌, ◌-◌, ◌*◌, ◌/◌, ◌%◌, ◌<◌, ◌≤◌, ◌⊎◌, ◌==◌, true, false, cond, List, [], ◌∷◌, length, set, slice_index, Option, Some, None, arith, refl, sym, ap, ◌∙◌, inl, inr}
 use Rattle.std.proofs.lemmas.Bool.{cases_eq, eq-eqb, ne_eqb, le-leb, lt-ltb, false≢true, cond-false}
 use Rattle.address_map.specs.declared.class.Class.{Class}
 use Rattle.address_map.specs.declared.class.Class.TheVariants.{Plain}
@@ -9,6 +9,7 @@ use Rattle.address_map.specs.declared.region.Kind.{Kind}
 use Rattle.address_map.specs.declared.region.Kind.TheVariants as kind
 use Rattle.address_map.specs.declared.region.Region.{Region}
 use Rattle.address_map.specs.Bytes.{in_range, word_start}
+use Rattle.address_map.specs.Classes.{class_of_number, lane}
 use Rattle.address_map.specs.Marks.{class_at, mark_in}
 use Rattle.address_map.specs.Memory.{place, is_mapped, class_of}
 use Rattle.address_map.specs.Pages.{frame_at, place_by, place_in, IsUnused}
@@ -22,6 +23,17 @@ use Rattle.address_map.proofs.Stores.{in_range-cases}
 pub same_marks : (m n : AddressMap) → n.frames ≡ m.frames → n.marks ≡ m.marks → class_of n ≡ class_of m
 unfolding class_of place
 same_marks m n frames marks = λ i a. mark_in (marks i) (place_in (frames i).items a)
+
+mark_same : (marks news : Marks) → news.bytes.items ≡ marks.bytes.items → (there : Option ℕ) → mark_in news there ≡ mark_in marks there
+unfolding class_at
+mark_same marks news bytes None = refl
+mark_same marks news bytes (Some k) = ap (λ (xs : List ℕ). class_of_number (lane (slice_index xs (k / 4 / 4)) (k / 4 % 4))) bytes
+
+-- the same of copies
+pub copied_marks : (m n : AddressMap) → n.frames.items ≡ m.frames.items → n.marks.bytes.items ≡ m.marks.bytes.items → class_of n ≡ class_of m
+unfolding class_of place
+copied_marks m n frames marks = λ i a.
+    (ap (λ (xs : List (Option ℕ)). mark_in n.marks (place_in xs a)) frames ∙ mark_same m.marks n.marks marks (place_in m.frames.items a)) i
 
 pub place_lane : (m : AddressMap) (a k : ℕ) → place m a ≡ Some k → k % 4096 ≡ a % 4096
 unfolding place

@@ -25,6 +25,14 @@ impl Marks {
         })
     }
 
+    /// Becomes a copy of the classes of as many words.
+    pub(crate) fn copy_from(&mut self, other: &Marks)
+        requires { length self.old.bytes.items ≡ length other.now.bytes.items }
+        ensures { self.new.bytes.items ≡ other.now.bytes.items }
+    {
+        self.bytes.copy_from_slice(&other.bytes);
+    }
+
     /// The class of a word.
     #[inline(always)]
     #[tactic(auto, unfolding(crate::specs::Marks::class_at))]

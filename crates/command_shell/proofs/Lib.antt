@@ -1,8 +1,9 @@
+pub mod AnswerLemmas
 pub mod BlockLemmas
+pub mod CallLemmas
 pub mod HexLemmas
 pub mod LineLemmas
 pub mod NumberLemmas
 pub mod ReadLemmas
 pub mod ScriptLemmas
-pub mod SteppingLemmas
 pub mod ViewLemmas

@@ -1,5 +1,6 @@
 pub mod Answers
 pub mod Blocks
+pub mod Calls
 pub mod Error
 pub mod HexPairs
 pub mod Images

@@ -1,19 +1,11 @@
--- The lines that take steps, RUN, STEP and CALL, and those that set the breaks at which RUN and STEP stop: BREAK and UNBREAK. A store call is over
--- after its one step, so CALL comes to no break.
-use Rattle.std.specs.Prelude.{ℕ, false, ◌-◌, ◌==◌, ◌&&◌, nat_le, min, List, ◌++◌, codes, Option, Some, None, Result, Ok, Err, if◌then◌else◌}
-use Rattle.profile.specs.declared.stop.Stop.{Stop}
-use Rattle.profile.specs.declared.stop.Stop.TheVariants as stop
-use Rattle.swi_dispatch.specs.declared.halt.Halt.{Halt}
+-- The lines that take steps, RUN and STEP, and those that set the breaks at which steps stop: BREAK and UNBREAK.
+use Rattle.std.specs.Prelude.{ℕ, ◌-◌, ◌==◌, ◌&&◌, nat_le, min, List, ◌++◌, codes, Some, Result, Ok, Err}
 use Rattle.swi_dispatch.specs.declared.breaks.BreakError.{BreakError}
 use Rattle.swi_dispatch.specs.declared.breaks.BreakError.TheVariants as break
 use Rattle.swi_dispatch.specs.Breaks.{with_break, without_break}
-use Rattle.swi_dispatch.specs.Errors.{error_number}
-use Rattle.swi_dispatch.specs.MachineState.{MachineState, Outcome, stop_of}
-use Rattle.swi_dispatch.specs.Step.{store_called}
-use Rattle.swi_dispatch.specs.Run.{count_after}
 use Rattle.swi_dispatch.specs.Run as machine
-use Rattle.command_shell.specs.Answers.{break_text, unbreak_text, refused_text, ok_text, call_error_text, stop_text, stepped_text}
-use Rattle.command_shell.specs.State.{ScriptState, Answered, answer, then_answered}
+use Rattle.command_shell.specs.Answers.{break_text, unbreak_text, refused_text, stop_text, stepped_text}
+use Rattle.command_shell.specs.State.{ScriptState, Answered, answer}
 
 -- RUN: all that is left of the budget may be used. What the guest prints comes first, then the stop line.
 abbrev pub run_done : ScriptState → machine.Run → Answered
@@ -37,42 +29,6 @@ step_done s count r =
 
 unfoldable pub step_told : ScriptState → ℕ → Answered
 step_told s count = step_done s count (machine.ran s.images s.breaks (min count s.left) s.machine)
-
--- Why no step can be taken, by what halts the machine and what is left of the budget.
-abbrev pub stop_before_step_by : Option Halt → ℕ → Option Stop
-stop_before_step_by (Some halt) left = Some (stop_of halt)
-stop_before_step_by None left = if left == 0 then Some stop.Budget else None
-
-abbrev pub stop_before_step : ScriptState → Option Stop
-stop_before_step s = stop_before_step_by s.machine.halt s.left
-
--- what a call tells that did not halt the machine: V says whether it was refused, and R0 points to the error then
-unfoldable pub call_text : MachineState → List ℕ
-call_text s = if s.cpu.psr.overflow then call_error_text (error_number s) else ok_text
-
--- a stop line, which is the last one then
-abbrev pub stop_told : ScriptState → Stop → Answered
-stop_told s stop = answer (record s { last = Some stop }) (stop_text stop s.machine.cpu.pc)
-
-abbrev pub call_ended : ScriptState → Option Halt → Answered
-call_ended s (Some halt) = stop_told s (stop_of halt)
-call_ended s None = answer s (call_text s.machine)
-
--- the state after a store call, which is one step
-abbrev pub call_made : ScriptState → Outcome → ScriptState
-call_made s a = record s { machine = a.now; is_fresh = false; left = s.left - count_after a.now.halt }
-
--- what the call prints, and then how it ended
-abbrev pub call_done : ScriptState → Outcome → Answered
-call_done s a = then_answered (answer (call_made s a) a.printed) (λ after. call_ended after after.machine.halt)
-
-abbrev pub call_unless : ScriptState → ℕ → Option Stop → Answered
-call_unless s number (Some stop) = stop_told s stop
-call_unless s number None = call_done s (store_called s.images s.machine number)
-
--- CALL makes a store call, unless no step can be taken.
-unfoldable pub call_told : ScriptState → ℕ → Answered
-call_told s number = call_unless s number (stop_before_step s)
 
 -- BREAK and UNBREAK: what the breaks are then, or why they stay as they are.
 abbrev pub break_error_name : BreakError → List ℕ

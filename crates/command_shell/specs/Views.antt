@@ -1,9 +1,10 @@
--- The lines that look at the machine and change nothing: REGS, MEM, CODE, HEAP and AREAS.
+-- The lines that look at the machine and change nothing: REGS, MEM, CODE, HEAP, AREAS and MODULES.
 use Rattle.std.specs.Prelude.{ℕ, List, codes, Option, Some, None}
 use Rattle.debugger.specs.Areas.{areas_text}
 use Rattle.debugger.specs.Code.{code_text}
 use Rattle.debugger.specs.Heap.{blocks_text}
 use Rattle.debugger.specs.Memory.{memory_text}
+use Rattle.debugger.specs.Modules.{modules_text}
 use Rattle.debugger.specs.Registers.{registers_text}
 use Rattle.command_shell.specs.Answers.{refused_text}
 use Rattle.command_shell.specs.State.{ScriptState, Answered, answer}
@@ -27,3 +28,6 @@ heap_told s address = heap_shown s (blocks_text s.machine.store address)
 
 abbrev pub areas_told : ScriptState → Answered
 areas_told s = answer s (areas_text s.machine.tables.land.areas s.machine.pool)
+
+abbrev pub modules_told : ScriptState → Answered
+modules_told s = answer s (modules_text s.machine.store.bytes s.machine.tables.modules)

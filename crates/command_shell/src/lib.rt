@@ -4,6 +4,7 @@
 
 mod answers;
 mod blocks;
+mod calls;
 mod error;
 mod hex_pairs;
 mod images;

@@ -50,6 +50,8 @@ pub enum Command<'a> {
     Heap(u32),
     /// `AREAS`.
     Areas,
+    /// `MODULES`.
+    Modules,
     /// Any other line.
     Unknown,
 }
@@ -85,6 +87,8 @@ fn command_of_word(word: &[u8]) -> Command<'static>
         Command::Regs
     } else if has_letters(word, b"AREAS") {
         Command::Areas
+    } else if has_letters(word, b"MODULES") {
+        Command::Modules
     } else {
         Command::Unknown
     }

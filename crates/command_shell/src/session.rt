@@ -98,6 +98,7 @@ impl Session {
             Command::Code(address, count) => Ok(self.code(sink, address, count)?),
             Command::Heap(address) => Ok(self.heap(sink, address)?),
             Command::Areas => Ok(self.areas(sink)?),
+            Command::Modules => Ok(self.modules(sink)?),
             Command::Unknown => Ok(tell_unknown(sink, script.number())?),
         }
     }

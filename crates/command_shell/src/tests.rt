@@ -5,6 +5,7 @@ mod failures;
 mod heaps;
 mod images;
 mod memory;
+mod modules;
 mod stepping;
 
 use crate::{RunError, Summary, run_script};

@@ -1,18 +1,18 @@
-//! The lines that look at the machine and change nothing: REGS, MEM, CODE, HEAP and AREAS.
+//! The lines that look at the machine and change nothing: REGS, MEM, CODE, HEAP, AREAS and MODULES.
 
 ghost use Rattle.std.specs.Prelude.{◌≡◌, true, List, OnOk, OnErr};
 
 use crate::answers::tell_refused;
 use crate::operands::WordAddress;
 use crate::session::Session;
-use debugger::{show_areas, show_blocks, show_code, show_memory, show_regs};
+use debugger::{show_areas, show_blocks, show_code, show_memory, show_modules, show_regs};
 use profile::{Sink, WriteFault};
 
 impl Session {
     ghost use Rattle.image_loader.specs.Entries.{Entry};
     ghost use Rattle.command_shell.specs.Session.{script_state};
     ghost use Rattle.command_shell.specs.State.{IsAnswered};
-    ghost use Rattle.command_shell.specs.Views.{regs_told, mem_told, code_told, heap_told, areas_told};
+    ghost use Rattle.command_shell.specs.Views.{regs_told, mem_told, code_told, heap_told, areas_told, modules_told};
 
     /// Shows the registers of the present mode and the status.
     #[tactic(auto, unfolding(crate::specs::Session::script_state))]
@@ -85,5 +85,17 @@ impl Session {
         ensures same_flag { OnOk result (W.has_failed sink.new ≡ W.has_failed sink.old) }
     {
         show_areas(&self.machine, sink)
+    }
+
+    /// Shows all modules and their instances.
+    #[tactic(auto, unfolding(crate::specs::Session::script_state))]
+    pub(crate) fn modules<W: Sink>(&self, sink: &mut W) -> Result<(), WriteFault>
+        ensures told { (images : List Entry) → OnOk result (IsAnswered (W.contents sink.old) (W.contents sink.new)
+            (script_state self.now images)
+            (modules_told (script_state self.now images))) }
+        ensures flag { OnErr result (W.has_failed sink.new ≡ true) }
+        ensures same_flag { OnOk result (W.has_failed sink.new ≡ W.has_failed sink.old) }
+    {
+        show_modules(self.machine.instances(), self.machine.memory(), sink)
     }
 }

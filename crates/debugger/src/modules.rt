@@ -5,7 +5,7 @@ ghost use Rattle.instances_table.specs.Lookup.{told_of_place};
 ghost use Rattle.debugger.specs.Modules.{instance_line, instances_text, module_line, module_text, modules_text, one_text, preferred_text};
 
 use address_map::AddressMap;
-use instances_table::{InstanceInfo, InstanceTable, ModuleInfo};
+use instances::{InstanceInfo, Instances, ModuleInfo};
 use itoa::Buffer;
 use profile::memory_map::PRIVATE_WORDS;
 use profile::{HexText, Sink, WriteFault, push_parts};
@@ -15,7 +15,7 @@ use profile::{HexText, Sink, WriteFault, push_parts};
 /// private word and what stands there.
 #[tactic(auto, using(crate::proofs::ModuleLemmas::module_steps), unfolding(crate::specs::Modules::modules_text))]
 pub fn show_modules<W: Sink>(
-    modules: &InstanceTable,
+    modules: &Instances,
     memory: &AddressMap,
     sink: &mut W,
 ) -> Result<(), WriteFault>
@@ -30,7 +30,7 @@ pub fn show_modules<W: Sink>(
 // The lines of the module of a number, if there is one.
 #[tactic(auto, unfolding(crate::specs::Modules::module_text))]
 fn show_module<W: Sink>(
-    modules: &InstanceTable,
+    modules: &Instances,
     number: u32,
     memory: &AddressMap,
     sink: &mut W,
@@ -67,7 +67,7 @@ fn show_title<W: Sink>(info: &ModuleInfo, sink: &mut W) -> Result<(), WriteFault
 // A line for each instance of the module of a number.
 #[tactic(auto, using(crate::proofs::ModuleLemmas::instance_steps))]
 fn show_instances<W: Sink>(
-    modules: &InstanceTable,
+    modules: &Instances,
     number: u32,
     memory: &AddressMap,
     sink: &mut W,
@@ -83,7 +83,7 @@ fn show_instances<W: Sink>(
 
 // The line of an instance, if there is one.
 fn show_instance<W: Sink>(
-    modules: &InstanceTable,
+    modules: &Instances,
     number: u32,
     instance: u32,
     memory: &AddressMap,

@@ -1,5 +1,6 @@
 use crate::{show_areas, show_blocks, show_code, show_memory, show_modules, show_regs};
 use image_loader::Images;
+use instances::Instances;
 use instances_table::{Image, InstanceTable};
 use module_header::Header;
 use profile::{Config, MemorySink};
@@ -161,7 +162,7 @@ fn modules_are_shown_by_instances(rt: HostRuntime) -> Result<(), Fail> {
     modules.instantiate(b"W%B")?;
     let mut room = [0u8; 300];
     let mut sink = MemorySink::new(&mut room, 7, 1000);
-    show_modules(&modules, machine.memory(), &mut sink)?;
+    show_modules(&Instances::of(modules), machine.memory(), &mut sink)?;
     assert_eq!(rt; sink.written(), MODULES);
     Ok(())
 }

@@ -14,5 +14,6 @@ pub mod RenumberLemmas
 pub mod RoomLemmas
 pub mod Starting
 pub mod SystemPages
+pub mod SystemWrites
 pub mod Tables
 pub mod WantedLemmas

@@ -1,5 +1,5 @@
 -- The memory of a machine at its start: the areas stand on it.
-use Rattle.std.proofs.Common.{◌≡◌, ℕ, ◌+◌, ◌*◌, ◌<◌, ◌≤◌, ◌++◌, false, leb, List, [], ◌∷◌, length, refl, ap, ◌∙◌, arith}
+use Rattle.std.proofs.Common.{◌≡◌, ℕ, ◌+◌, ◌*◌, ◌<◌, ◌≤◌, ◌++◌, false, leb, List, [], ◌∷◌, length, refl, ap, ◌∙◌, arith, Option, Some, None}
 use Rattle.std.specs.Prelude.{is_some}
 use Rattle.std.proofs.lemmas.Bool.{le-ltb, and_right}
 use Rattle.profile.specs.Sizes.{Sizes, AreGood}
@@ -7,15 +7,15 @@ use Rattle.address_map.specs.declared.map.AddressMap.{AddressMap}
 use Rattle.address_map.specs.declared.region.Kind.TheVariants.{Heap, Rma}
 use Rattle.address_map.proofs.Anchors.{among_none}
 use Rattle.address_map.specs.Bytes.{in_range}
-use Rattle.address_map.specs.Classes.{is_anchor}
+use Rattle.address_map.specs.Classes.{is_anchor, is_flex_header}
 use Rattle.address_map.specs.Records.{anchor_among}
 use Rattle.address_map.specs.declared.class.Class.TheVariants as class
-use Rattle.address_map.specs.Memory.{anchor_of, Mapping, mapping, is_mapped, byte_at, bytes_of, regions, free_pages, class_of}
+use Rattle.address_map.specs.Memory.{anchor_of, Mapping, mapping, is_mapped, byte_at, bytes_of, regions, free_pages, class_of, byte_in, place}
 use Rattle.os_heap_lists.specs.Heap.{HeapList}
 use Rattle.os_heap.specs.Calls.{begun_with}
 use Rattle.os_heap.specs.Ranges.{MayBegin}
-use Rattle.os_heap.specs.Store.{Store, store_of, AreClasses, IsSound, AreClear}
-use Rattle.os_heap.proofs.Added.{records_room}
+use Rattle.os_heap.specs.Store.{Store, store_of, AreClasses, IsSound, AreClear, heaps_in, others_in}
+use Rattle.os_heap.proofs.Limits.{records_room}
 use Rattle.os_heap.proofs.Frame.{classes_same}
 use Rattle.os_heap.proofs.Recorded.{store_recorded, recorded_sound}
 use Rattle.dynamic_areas.specs.Areas.{start_land}
@@ -23,6 +23,7 @@ use Rattle.dynamic_areas.specs.Ground.{AreAreas, is_fixed, is_land, system_pages
 use Rattle.dynamic_areas.proofs.GroundLemmas.{or_true}
 use Rattle.dynamic_areas.proofs.ModuleArea.{region_known}
 use Rattle.dynamic_areas.proofs.Remapped.{here, range_low}
+use Rattle.dynamic_areas.specs.Start.{bare_store, start_store}
 
 no_heaps : (m : AddressMap) → regions m ≡ [] → (store_of m).heaps ≡ []
 unfolding store_of
@@ -105,3 +106,38 @@ start_classes n o classes records map_o bytes marks =
     let same : bytes_of o ≡ bytes_of n = λ i. record { mapped = λ a. is_some ((map_o i).place a); at = bytes i } in
     let store = store_recorded n o system_pages refl records same marks in
     classes_same n o (ap (λ (t : Store). t.heaps) store) marks classes
+
+none_zero : (store : List ℕ) (o : Option ℕ) → is_some o ≡ false → byte_in store o ≡ 0
+none_zero store None e = refl
+none_zero store (Some k) e = cc
+
+-- an address that is not mapped counts as 0
+pub unmapped_zero : (m : AddressMap) (a : ℕ) → is_mapped m a ≡ false → byte_at m a ≡ 0
+unfolding byte_at
+unmapped_zero m a e = none_zero m.store (place m a) e
+
+-- the memory of a machine before anything is recorded
+bare : (m : AddressMap) (s : Sizes) → ((a : ℕ) → is_mapped m a ≡ is_land (start_land s) a) → ((a : ℕ) → byte_at m a ≡ 0) → regions m ≡ []
+    → ((a : ℕ) → class_of m a ≡ class.Plain) → store_of m ≡ record (bare_store s) { others = [] }
+unfolding store_of
+bare m s mapped bytes none plain =
+    let memory : bytes_of m ≡ (bare_store s).bytes = λ i. record { mapped = λ a. mapped a i; at = λ a. bytes a i } in
+    λ i. record {
+      bytes = memory i;
+      heaps = heaps_in (memory i) (none i);
+      others = others_in (none i);
+      anchor = λ a. is_anchor (plain a i);
+      header = λ a. is_flex_header (plain a i);
+    }
+
+-- and after it made the module area a heap, and recorded the system pages
+pub started : (m n o : AddressMap) (s : Sizes) → ((a : ℕ) → is_mapped m a ≡ is_land (start_land s) a) → ((a : ℕ) → byte_at m a ≡ 0) → regions m ≡ []
+    → ((a : ℕ) → class_of m a ≡ class.Plain) → store_of n ≡ begun_with Rma (store_of m) 0x01800000 (4096 * s.rma) → regions o ≡ regions n ++ system_pages ∷ [] → mapping o ≡ mapping n
+    → byte_at o ≡ byte_at n → ((a : ℕ) → class_of o a ≡ class_of n a) → store_of o ≡ start_store s
+unfolding store_of
+started m n o s mapped bytes none plain begun records map_o same_bytes marks =
+    let same : bytes_of o ≡ bytes_of n = λ i. record { mapped = λ a. is_some ((map_o i).place a); at = same_bytes i } in
+    let start : store_of n ≡ begun_with Rma (record (bare_store s) { others = [] }) 0x01800000 (4096 * s.rma) =
+    begun ∙ ap (λ (t : Store). begun_with Rma t 0x01800000 (4096 * s.rma)) (bare m s mapped bytes none plain) in
+    store_recorded n o system_pages refl records same marks
+    ∙ ap (λ (t : Store). let u : Store = record t { others = t.others ++ system_pages ∷ [] } in u) start

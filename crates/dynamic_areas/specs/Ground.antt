@@ -1,6 +1,6 @@
 -- Which memory is mapped, on a machine with dynamic areas: the application space, the system pages, and each area's pages; all other pages are in
 -- the pool (RISC OS 3 Programmer's Reference Manual, "Memory management"; the places are this project's own).
-use Rattle.std.specs.Prelude.{ℕ, ◌≡◌, ◌+◌, ◌-◌, ◌*◌, ◌||◌, Bool, List, [], ◌∷◌, Option, Some, None}
+use Rattle.std.specs.Prelude.{ℕ, ◌≡◌, ◌+◌, ◌-◌, ◌*◌, ◌||◌, ◌⊎◌, Bool, List, [], ◌∷◌, Option, Some, None}
 use Rattle.std.specs.List.{list_any}
 use Rattle.profile.specs.Sizes.{Sizes, AreGood}
 use Rattle.address_map.specs.declared.map.AddressMap.{AddressMap}
@@ -21,6 +21,11 @@ is_fixed sizes x = in_range 0x8000 (4096 * sizes.app) x || in_range 0x01C00000 0
 -- the system pages, a recorded range
 abbrev pub system_pages : Region
 system_pages = record { kind = SystemPage; at = 0x01C00000; len = 0x3000 }
+
+-- a range is among those recorded
+abbrev pub IsRecorded : Region → List Region → Type 0
+IsRecorded r [] = ⊥
+IsRecorded r (q ∷ rs) = (q ≡ r) ⊎ IsRecorded r rs
 
 abbrev pub is_held : ℕ → Area → Bool
 is_held x a = in_range a.base (4096 * a.pages) x

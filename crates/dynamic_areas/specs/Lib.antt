@@ -6,3 +6,4 @@ pub mod Laws
 pub mod Places
 pub mod Remapped
 pub mod Rooms
+pub mod Start

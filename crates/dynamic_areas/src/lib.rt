@@ -9,10 +9,12 @@ mod gaps;
 pub mod laws;
 pub mod measure;
 pub mod remove;
+pub mod start;
 mod table;
 
 pub use area::{Area, Changed, Created, Extent, MOST_NAME_BYTES, Wanted};
 pub use areas::Areas;
+pub use start::start_memory;
 pub use table::MODULE_AREA;
 
 #[cfg(test)]

@@ -1,45 +1,22 @@
-ghost use Rattle.std.specs.Prelude.{ℕ, [], ◌≡◌, ◌+◌, IfOk};
-ghost use Rattle.profile.specs.Sizes.{AreGood};
-ghost use Rattle.address_map.specs.Memory.{class_of, free_pages, is_mapped, regions};
-ghost use Rattle.address_map.specs.declared.class.Class.TheVariants.{Plain};
+ghost use Rattle.std.specs.Prelude.{IfOk};
+ghost use Rattle.address_map.specs.Memory.{free_pages};
 ghost use Rattle.os_heap.specs.Store.{store_of, AreClasses};
-ghost use Rattle.dynamic_areas.specs.Areas.{start_land};
-ghost use Rattle.dynamic_areas.specs.Ground.{AreAreas, is_land};
+ghost use Rattle.dynamic_areas.specs.Ground.{AreAreas};
 
-use crate::{Areas, Changed, Created, Extent, Wanted};
-use address_map::{AddressMap, Kind};
-use os_heap::Heaps;
-use profile::memory_map::{APPLICATION_START, PAGE_SIZE, RMA_START, SYSTEM_PAGES, SYSTEM_START};
+use crate::{Areas, Changed, Created, Extent, Wanted, start_memory};
+use address_map::AddressMap;
 use profile::{Config, ErrorNumber};
 use std::alloc::{AllocError, Global};
 use std::test::Fail;
 
 const NONE: u32 = u32::MAX;
 
-/// The memory of a machine at its start, without any record.
-fn mapped(alloc: Global, config: Config) -> Result<AddressMap, AllocError>
-    ensures mapping { IfOk result (λ m. (x : ℕ) → is_mapped m x ≡ is_land (start_land config) x) }
-    ensures regions { IfOk result (λ m. regions m ≡ []) }
-    ensures marks { IfOk result (λ m. (x : ℕ) → class_of m x ≡ Plain) }
-    ensures pool { IfOk result (λ m. free_pages m + (config.app + config.rma + 3) ≡ config.pages) }
-    ensures sizes { AreGood config }
-{
-    let mut map = AddressMap::new(alloc, config.pages())?;
-    map.map_pages(APPLICATION_START, config.app());
-    map.map_pages(RMA_START, config.rma());
-    map.map_pages(SYSTEM_START, SYSTEM_PAGES);
-    Ok(map)
-}
-
 /// The areas of a machine at its start, and its memory.
 fn start(alloc: Global, config: Config) -> Result<(Areas, AddressMap), AllocError>
     ensures areas { IfOk result (λ r. AreAreas (store_of r.1) (free_pages r.1) r.0) }
     ensures classes { IfOk result (λ r. AreClasses r.1) }
 {
-    let mut map = mapped(alloc, config)?;
-    Heaps::new().init_module_area(&mut map, RMA_START, PAGE_SIZE * config.rma());
-    map.own(Kind::SystemPage, SYSTEM_START, PAGE_SIZE * SYSTEM_PAGES);
-    Ok((Areas::new(config), map))
+    Ok((Areas::new(config), start_memory(alloc, config)?))
 }
 
 fn wanted(number: u32, size: u32, base: u32, maximum: u32) -> Wanted {

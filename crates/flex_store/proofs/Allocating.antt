@@ -1,7 +1,7 @@
 -- A block that comes, whose anchor is marked first.
 use Rattle.std.proofs.Common.{◌≡◌, ℕ, Bool, ◌+◌, ◌-◌, ◌*◌, ◌/◌, ◌%◌, ◌^◌, ◌<◌, ◌≤◌, ◌||◌, ◌&&◌, not, true, false, nat_eq, nat_lt, cond, Option, Result, Ok, Err, List, [], ◌∷◌, ◌++◌, length, arith, refl, sym, ◌∙◌, ap, inl, inr, ◌⊎◌, ◌↔◌, subst}
 use Rattle.std.specs.List.{list_any}
-use Rattle.std.proofs.lemmas.Bool.{and_parts, cases_Bool, cases_lt, eqb-true, eqb-false, eq-eqb, lt-ltb, ne_eqb, not-true, or_from, or_parts, true≢false}
+use Rattle.std.proofs.lemmas.Bool.{and_parts, cases_Bool, cases_lt, eqb-true, eqb-false, eq-eqb, lt-ltb, ne_eqb, not-true, or_from, or_parts, true≢false, false≢true}
 use Rattle.address_map.proofs.Bytes.{is_mapped-layout}
 use Rattle.address_map.proofs.Words.{class_of-word}
 use Rattle.address_map.proofs.Spans.{mapped_below}
@@ -12,7 +12,7 @@ use Rattle.os_heap.specs.Store.{Store, others_in, store_of}
 use Rattle.address_map.specs.declared.region.Region.{Region}
 use Rattle.os_heap.proofs.Frame.{store_bytes}
 use Rattle.address_map.specs.Bytes.{AreMapped, Bytes, meets, word_start}
-use Rattle.address_map.specs.Classes.{is_anchor}
+use Rattle.address_map.specs.Classes.{is_anchor, is_flex_header, is_heap_class}
 use Rattle.address_map.specs.Memory.{byte_at, bytes_of, class_of, is_mapped, layout, regions}
 use Rattle.address_map.specs.Records.{is_heap_kind, with_class}
 use Rattle.address_map.specs.declared.class.Class.{Class}
@@ -20,12 +20,13 @@ use Rattle.address_map.specs.declared.class.Class.TheVariants as class
 use Rattle.address_map.specs.declared.map.AddressMap.{AddressMap}
 use Rattle.flex_store.specs.declared.flex.Extent.{Extent}
 use Rattle.flex_store.specs.Blocks.{Block, has_anchor, is_header, new_block, taken, used, whole_words}
-use Rattle.flex_store.specs.Calls.{allocated, is_anchor_place, is_in_heap_alone, is_in_store}
+use Rattle.flex_store.specs.Calls.{allocated, is_anchor_place, is_in_store}
+use Rattle.os_heap.specs.Payloads.{is_other, payload_of}
 use Rattle.flex_store.specs.Changes.{Fits, GotBlocks}
 use Rattle.flex_store.specs.Memory.{AreAnchored, Holds, laid_out, text_of}
 use Rattle.flex_store.specs.Relaid.{MayLie, Relaid}
-use Rattle.flex_store.specs.State.{AreAnchorWords, AreWhole, HasNoHead, IsAnchorWord, IsFlexRange, IsFlexStore, IsStoreAt, KeepsHeads, blocks_of, held_in, store_in, is_flex_header, is_heap_class}
-use Rattle.flex_store.proofs.Answering.{fits_state}
+use Rattle.flex_store.specs.State.{AreAnchorWords, AreWhole, HasNoHead, IsAnchorWord, IsFlexRange, IsFlexStore, IsStoreAt, KeepsHeads, blocks_of, held_in, store_in}
+use Rattle.flex_store.proofs.Answering.{AreAllowed, fits_state}
 use Rattle.flex_store.proofs.Changing.{got}
 use Rattle.flex_store.proofs.Finding.{has_by, store_low}
 use Rattle.flex_store.proofs.Headers.{IsWithin, header_within}
@@ -191,7 +192,7 @@ pub place_word : (m : AddressMap) (e : Extent) (places : Store) (anchor : ℕ) �
 unfolding is_anchor_place
 place_word m e places anchor mapped some start place =
     let met : Bool = list_any (λ r. meets anchor 4 r.at r.len) places.others in
-    let alone : Bool = list_any (is_in_heap_alone anchor) places.heaps in
+    let alone : Bool = is_other (payload_of places.heaps anchor) in
     let inside : Bool = is_in_store (store_in m e) anchor in
     let one = and_parts ((nat_eq (anchor % 4) 0 && places.bytes.mapped anchor) && (not met && not alone)) (not inside) place in
     let two = and_parts (nat_eq (anchor % 4) 0 && places.bytes.mapped anchor) (not met && not alone) one.0 in
@@ -247,25 +248,38 @@ unfolding store_of
 others_met m anchor = others_any anchor (regions m)
 
 -- the test of a place
-pub place_tested : (m : AddressMap) (anchor : ℕ) (there met inside : Bool) → anchor % 4 ≡ 0 → list_any (is_in_heap_alone anchor) (store_of m).heaps ≡ false
+pub place_tested : (m : AddressMap) (anchor : ℕ) (there met other inside : Bool) → anchor % 4 ≡ 0 → other ≡ is_other (payload_of (store_of m).heaps anchor)
     → ((there ≡ true) ↔ AreMapped (is_mapped m) anchor 1) → met ≡ list_any (λ r. not (is_heap_kind r.kind) && meets anchor 4 r.at r.len) (regions m)
-    → (there && (not met && not inside)) ≡ (is_anchor_place (store_of m) anchor && not inside)
+    → (there && ((not met && not other) && not inside)) ≡ (is_anchor_place (store_of m) anchor && not inside)
 unfolding is_anchor_place
-place_tested m anchor there met inside aligned alone tested met_is =
+place_tested m anchor there met other inside aligned other_is tested met_is =
     let mapped : there ≡ (store_of m).bytes.mapped anchor = same_bool there (is_mapped m anchor) (λ e. tested.0 e anchor (omega arith) (omega arith))
     (λ e. tested.1 (λ a low high. let here : a ≡ anchor = omega arith in ap (is_mapped m) here ∙ e)) ∙ ap (λ (b : Bytes). b.mapped anchor) (sym (store_bytes m)) in
     let met' : met ≡ list_any (λ r. meets anchor 4 r.at r.len) (store_of m).others = met_is ∙ others_met m anchor in
-    rw (eq-eqb (anchor % 4) 0 aligned, alone, ← mapped, ← met') (by_cases there met inside) where
+    rw (eq-eqb (anchor % 4) 0 aligned, ← other_is, ← mapped, ← met') (by_cases there met other inside) where
       same_bool : (t u : Bool) → (t ≡ true → u ≡ true) → (u ≡ true → t ≡ true) → t ≡ u
       same_bool true u f g = sym (f refl)
       same_bool false true f g = g refl
       same_bool false false f g = refl
 
-      by_cases : (t u v : Bool) → (t && (not u && not v)) ≡ ((t && (not u && true)) && not v)
-      by_cases true true v = refl
-      by_cases true false v = refl
-      by_cases false u v = refl
+      by_cases : (t u o v : Bool) → (t && ((not u && not o) && not v)) ≡ ((t && (not u && not o)) && not v)
+      by_cases true u o v = refl
+      by_cases false u o v = refl
 
 pub place_unaligned : (m : AddressMap) (anchor : ℕ) (inside : Bool) → (anchor % 4 ≡ 0 → ⊥) → false ≡ (is_anchor_place (store_of m) anchor && not inside)
 unfolding is_anchor_place
 place_unaligned m anchor inside odd = rw (ne_eqb (anchor % 4) 0 odd) refl
+
+-- the anchors after an alloc
+pub alloc_allowed : (m : AddressMap) (e : Extent) (anchor size : ℕ) → (is_anchor_place (store_of m) anchor && not (is_in_store (store_in m e) anchor)) ≡ true
+    → AreAllowed m e (blocks_of m e ++ new_block anchor size ∷ [])
+alloc_allowed m e anchor size place a has = elim (cases_Bool (has_anchor (blocks_of m e) a)) [
+  | inl old ↦ inl old
+  | inr none ↦
+      let has' : (has_anchor (blocks_of m e) a || (nat_eq a anchor || false)) ≡ true = sym (anchor-append (blocks_of m e) (new_block anchor size ∷ []) a) ∙ has in
+      let may : is_anchor_place (store_of m) anchor ≡ true = (and_parts (is_anchor_place (store_of m) anchor) (not (is_in_store (store_in m e) anchor)) place).0 in
+      elim (cases_Bool (nat_eq a anchor)) [
+        | inl same ↦ inr (ap (is_anchor_place (store_of m)) (eqb-true a anchor same) ∙ may)
+        | inr other ↦ absurd (false≢true (rw (none, other) at has'))
+      ]
+]

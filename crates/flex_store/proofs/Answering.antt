@@ -1,21 +1,23 @@
 -- What calls on one block answer, and what they leave.
-use Rattle.std.proofs.Common.{◌≡◌, ℕ, Bool, ◌+◌, ◌-◌, ◌*◌, ◌/◌, ◌%◌, ◌^◌, ◌<◌, ◌≤◌, true, false, nat_eq, nat_lt, nat_le, List, [], ◌∷◌, ◌++◌, length, take, drop, replicate, Option, Some, None, Result, Ok, Err, arith, refl, sym, ◌∙◌, ap, inl, inr, ◌⊎◌, subst, zero, suc}
-use Rattle.std.proofs.lemmas.Bool.{cases_lt, le-leb, lt-leb, lt-ltb, le-ltb, eq-eqb, ne_eqb}
+use Rattle.std.proofs.Common.{◌≡◌, ℕ, Bool, ◌+◌, ◌-◌, ◌*◌, ◌/◌, ◌%◌, ◌^◌, ◌<◌, ◌≤◌, ◌||◌, true, false, nat_eq, nat_lt, nat_le, List, [], ◌∷◌, ◌++◌, length, take, drop, replicate, Option, Some, None, Result, Ok, Err, arith, refl, sym, ◌∙◌, ap, inl, inr, ◌⊎◌, subst, zero, suc}
+use Rattle.std.proofs.lemmas.Bool.{cases_Bool, cases_lt, eqb-true, or_left, or_right, le-leb, lt-leb, lt-ltb, le-ltb, eq-eqb, ne_eqb}
 use Rattle.std.proofs.Math.Seq.{take-length, drop-length}
 use Rattle.profile.specs.Outcome.{Gives}
 use Rattle.profile.specs.declared.error.ErrorNumber.{ErrorNumber}
 use Rattle.profile.specs.declared.error.ErrorNumber.TheVariants.{FlexBadAnchor, FlexBadRange}
 use Rattle.address_map.proofs.Bytes.{is_mapped-layout}
+use Rattle.address_map.specs.Classes.{is_heap_class}
 use Rattle.address_map.specs.Memory.{byte_at, bytes_of, class_of, is_mapped, layout}
 use Rattle.address_map.specs.declared.map.AddressMap.{AddressMap}
 use Rattle.flex_store.specs.declared.flex.Extent.{Extent}
 use Rattle.flex_store.specs.declared.splice.Splice.{Splice}
-use Rattle.flex_store.specs.Blocks.{Block, FlexStore, contents, cut_of, find_block, holding, more_of, resized, spliced, used, with_block}
-use Rattle.flex_store.specs.Calls.{FlexState, extended, fitted, mid_extended, sized, with_blocks}
+use Rattle.flex_store.specs.Blocks.{Block, FlexStore, contents, cut_of, find_block, has_anchor, holding, more_of, resized, spliced, used, with_block}
+use Rattle.flex_store.specs.Calls.{FlexState, extended, fitted, is_anchor_place, mid_extended, sized, with_blocks}
+use Rattle.os_heap.specs.Store.{store_of}
 use Rattle.flex_store.specs.Changes.{Fits, GotBlocks, IsChanged, IsChangedBlock}
 use Rattle.flex_store.specs.Places.{IsHeaderOf}
 use Rattle.flex_store.specs.Relaid.{first_at}
-use Rattle.flex_store.specs.State.{HasNoHead, IsStoreAt, Keeps, KeepsHeads, blocks_of, held_in, store_in, is_heap_class}
+use Rattle.flex_store.specs.State.{HasNoHead, IsStoreAt, Keeps, KeepsHeads, blocks_of, held_in, store_in}
 use Rattle.flex_store.proofs.Finding.{IsHeaderWord}
 use Rattle.flex_store.proofs.Sliding.{contents_length}
 
@@ -25,6 +27,7 @@ same_keeps m e s = record {
   store = s;
   same = refl;
   heads = λ clear. record { bytes = λ a is. refl; classes = λ a. refl };
+  anchors = λ a has. inl has;
   start = refl;
   end = refl;
 }
@@ -35,8 +38,34 @@ got_state m n e f bs g = λ i. record {
   flex = Some (record { start = g.start i; end = g.end i; blocks = g.blocks_are i });
 }
 
-pub got_keeps : (m n : AddressMap) (e f : Extent) (bs : List Block) → GotBlocks m e bs n f → Keeps m e n f
-got_keeps m n e f bs g = record { store = g.store; same = g.same; heads = g.heads; start = g.start; end = g.end }
+-- the anchors of some blocks are those of the store's, or words that may be anchors
+abbrev pub AreAllowed : AddressMap → Extent → List Block → Type 0
+AreAllowed m e bs = (a : ℕ) → has_anchor bs a ≡ true → (has_anchor (blocks_of m e) a ≡ true) ⊎ (is_anchor_place (store_of m) a ≡ true)
+
+has_with : (anchor : ℕ) (new : Block) (bs : List Block) (a : ℕ) → new.anchor ≡ anchor → has_anchor (with_block anchor new bs) a ≡ true → has_anchor bs a ≡ true
+has_with anchor new [] a same has = has
+has_with anchor new (b ∷ bs) a same has = elim (cases_Bool (nat_eq b.anchor anchor)) [
+  | inl here ↦
+      let has' = rw here at has in
+      let e : new.anchor ≡ b.anchor = same ∙ sym (eqb-true b.anchor anchor here) in
+      ap (λ (x : ℕ). nat_eq a x || has_anchor bs a) (sym e) ∙ has'
+  | inr other ↦
+      let has' = rw other at has in
+      elim (cases_Bool (nat_eq a b.anchor)) [
+        | inl own ↦ or_left (nat_eq a b.anchor) (has_anchor bs a) own
+        | inr apart ↦ or_right (nat_eq a b.anchor) (has_anchor bs a) (has_with anchor new bs a same (rw apart at has'))
+      ]
+]
+
+pub got_keeps : (m n : AddressMap) (e f : Extent) (bs : List Block) → AreAllowed m e bs → GotBlocks m e bs n f → Keeps m e n f
+got_keeps m n e f bs allowed g = record {
+  store = g.store;
+  same = g.same;
+  heads = g.heads;
+  anchors = λ a has. allowed a (ap (λ (l : List Block). has_anchor l a) (sym g.blocks_are) ∙ has);
+  start = g.start;
+  end = g.end;
+}
 
 -- the answer of a change of one block
 pub fits_state : (m n : AddressMap) (e f : Extent) (bs : List Block) (done : Bool) → Fits m e bs done n f
@@ -45,15 +74,27 @@ fits_state m n e f bs true fits = rw (le-leb (e.start + used bs) e.end fits.0) (
 fits_state m n e f bs false fits =
     rw (lt-leb (e.start + used bs) e.end fits.0) ((λ i. held_in (fits.1.0 i) (fits.1.1 i)), refl)
 
-pub fits_keeps : (m n : AddressMap) (e f : Extent) (bs : List Block) (done : Bool) → IsStoreAt m e → Fits m e bs done n f → Keeps m e n f
-fits_keeps m n e f bs true s fits = got_keeps m n e f bs fits.1
-fits_keeps m n e f bs false s fits =
+pub fits_keeps : (m n : AddressMap) (e f : Extent) (bs : List Block) (done : Bool) → IsStoreAt m e → AreAllowed m e bs → Fits m e bs done n f → Keeps m e n f
+fits_keeps m n e f bs true s allowed fits = got_keeps m n e f bs allowed fits.1
+fits_keeps m n e f bs false s allowed fits =
     subst (λ (x : Extent). Keeps m e n x) (sym fits.1.1) (subst (λ (x : AddressMap). Keeps m e x e) (sym fits.1.0) (same_keeps m e s))
+
+found_anchor : (anchor : ℕ) (bs : List Block) (b : Block) → find_block anchor bs ≡ Some b → b.anchor ≡ anchor
+found_anchor anchor [] b found = absurd (let none : None ≡ Some b = found in cc)
+found_anchor anchor (x ∷ bs) b found = elim (cases_Bool (nat_eq x.anchor anchor)) [
+  | inl here ↦
+      let found' = rw here at found in
+      let same : x ≡ b = cc in
+      ap (λ (y : Block). y.anchor) (sym same) ∙ eqb-true x.anchor anchor here
+  | inr other ↦ found_anchor anchor bs b (rw other at found)
+]
 
 pub change_keeps : (m n : AddressMap) (e f : Extent) (anchor header : ℕ) (s : Splice) (done : Bool) → IsStoreAt m e → IsHeaderWord m e anchor header
     → IsChanged m e anchor s done n f → Keeps m e n f
 change_keeps m n e f anchor header s done store w change =
-    fits_keeps m n e f (with_block anchor (holding (first_at m header) (spliced (contents (first_at m header)) s.at s.cut s.more)) (blocks_of m e)) done store (rw w.found at change)
+    let b : Block = holding (first_at m header) (spliced (contents (first_at m header)) s.at s.cut s.more) in
+    fits_keeps m n e f (with_block anchor b (blocks_of m e)) done store
+    (λ a has. inl (has_with anchor b (blocks_of m e) a (found_anchor anchor (blocks_of m e) (first_at m header) w.found) has)) (rw w.found at change)
 
 take_past : (n : ℕ) (c : List ℕ) → length c ≤ n → take n c ≡ c
 take_past zero [] fits = refl

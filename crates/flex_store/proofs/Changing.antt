@@ -2,7 +2,7 @@
 use Rattle.std.proofs.Common.{◌≡◌, ℕ, Bool, ◌+◌, ◌-◌, ◌*◌, ◌/◌, ◌%◌, ◌^◌, ◌<◌, ◌≤◌, ◌||◌, true, false, nat_eq, List, [], ◌∷◌, ◌++◌, length, Some, None, arith, refl, sym, ◌∙◌, ap, inl, inr, ◌⊎◌, subst}
 use Rattle.std.proofs.lemmas.Bool.{cases_Bool, cases_lt, or_parts, false_from_ne_true, true≢false, false≢true}
 use Rattle.address_map.specs.Bytes.{with_bytes_at, word_start}
-use Rattle.address_map.specs.Classes.{is_anchor}
+use Rattle.address_map.specs.Classes.{is_anchor, is_heap_class}
 use Rattle.address_map.specs.Memory.{byte_at, bytes_of, class_of, is_mapped, layout}
 use Rattle.address_map.specs.declared.class.Class.{Class}
 use Rattle.address_map.specs.declared.class.Class.TheVariants as class
@@ -15,7 +15,7 @@ use Rattle.flex_store.specs.Memory.{Holds, blocks_in, laid_out, text_of}
 use Rattle.flex_store.specs.Relaid.{behind, first_at, MayLie, Relaid}
 use Rattle.flex_store.specs.Splices.{size_after}
 use Rattle.flex_store.specs.declared.splice.Splice.{Splice}
-use Rattle.flex_store.specs.State.{AreAnchorWords, AreWhole, HasNoHead, IsFlexStore, IsStoreAt, KeepsHeads, blocks_of, is_heap_class}
+use Rattle.flex_store.specs.State.{AreAnchorWords, AreWhole, HasNoHead, IsFlexStore, IsStoreAt, KeepsHeads, blocks_of}
 use Rattle.flex_store.proofs.Anchoring.{anchors_beside}
 use Rattle.flex_store.proofs.Finding.{IsPlaced}
 use Rattle.flex_store.proofs.Headers.{IsWithin, header_within, headers_marked}

@@ -1,12 +1,12 @@
 -- A block that goes, whose anchor is 0 then; a block that comes, whose anchor is marked first.
 use Rattle.std.proofs.Common.{◌≡◌, ℕ, Bool, ◌+◌, ◌-◌, ◌*◌, ◌/◌, ◌%◌, ◌^◌, ◌<◌, ◌≤◌, ◌||◌, true, false, nat_eq, cond, List, [], ◌∷◌, ◌++◌, length, Option, Some, None, Result, Ok, Err, arith, refl, sym, ◌∙◌, ap, inl, inr, ◌⊎◌, subst}
-use Rattle.std.proofs.lemmas.Bool.{cases_Bool, eqb-true, eqb-false, eq-eqb, ne_eqb, le-leb, lt-leb, or_from, or_parts, or_right, true≢false, false≢true}
+use Rattle.std.proofs.lemmas.Bool.{cases_Bool, eqb-true, eqb-false, eq-eqb, ne_eqb, le-leb, lt-leb, or_from, or_left, or_parts, or_right, true≢false, false≢true}
 use Rattle.profile.specs.Outcome.{Gives}
 use Rattle.profile.specs.declared.error.ErrorNumber.{ErrorNumber}
 use Rattle.raw_store.specs.Region.{word_bytes}
 use Rattle.address_map.proofs.Bytes.{is_mapped-layout}
 use Rattle.address_map.specs.Bytes.{with_word, with_word_at, word_start}
-use Rattle.address_map.specs.Classes.{is_anchor}
+use Rattle.address_map.specs.Classes.{is_anchor, is_flex_header, is_heap_class}
 use Rattle.address_map.specs.Memory.{byte_at, bytes_of, class_of, is_mapped, layout}
 use Rattle.address_map.specs.Records.{with_class}
 use Rattle.address_map.specs.declared.class.Class.{Class}
@@ -19,7 +19,7 @@ use Rattle.flex_store.specs.Changes.{GotBlocks}
 use Rattle.flex_store.specs.Memory.{AreAnchored, Holds, blocks_in, laid_out, text_of}
 use Rattle.flex_store.specs.Places.{IsHeaderOf, IsSplit}
 use Rattle.flex_store.specs.Relaid.{behind, first_at, MayLie, Relaid}
-use Rattle.flex_store.specs.State.{AreAnchorWords, AreWhole, HasNoHead, IsAnchorWord, IsFlexRange, IsFlexStore, IsStoreAt, IsText, Keeps, KeepsHeads, blocks_of, held_in, store_in, is_flex_header, is_heap_class}
+use Rattle.flex_store.specs.State.{AreAnchorWords, AreWhole, HasNoHead, IsAnchorWord, IsFlexRange, IsFlexStore, IsStoreAt, IsText, Keeps, KeepsHeads, blocks_of, held_in, store_in}
 use Rattle.flex_store.proofs.Anchoring.{other_word}
 use Rattle.flex_store.proofs.Answering.{got_keeps, got_state}
 use Rattle.flex_store.proofs.Changing.{got}
@@ -211,6 +211,18 @@ unfolding released
 release_gives m m2 n e f anchor header before p c g =
     rw p.split.found (release_state m m2 n e f anchor (without_block anchor (blocks_of m e)) c g, refl)
 
+has_without : (anchor : ℕ) (bs : List Block) (a : ℕ) → has_anchor (without_block anchor bs) a ≡ true → has_anchor bs a ≡ true
+has_without anchor [] a has = has
+has_without anchor (b ∷ bs) a has = elim (cases_Bool (nat_eq b.anchor anchor)) [
+  | inl here ↦ or_right (nat_eq a b.anchor) (has_anchor bs a) (rw here at has)
+  | inr other ↦
+      let has' = rw other at has in
+      elim (cases_Bool (nat_eq a b.anchor)) [
+        | inl own ↦ or_left (nat_eq a b.anchor) (has_anchor bs a) own
+        | inr apart ↦ or_right (nat_eq a b.anchor) (has_anchor bs a) (has_without anchor bs a (rw apart at has'))
+      ]
+]
+
 pub release_keeps : (m m2 n : AddressMap) (e f : Extent) (anchor header : ℕ) (before : List Block) → IsPlaced m e anchor header before → IsCleared m m2 anchor
     → GotBlocks m2 e (without_block anchor (blocks_of m e)) n f → Keeps m e n f
 release_keeps m m2 n e f anchor header before p c g =
@@ -229,6 +241,7 @@ release_keeps m m2 n e f anchor header before p c g =
             bytes = λ a is. k.bytes a (classes a ∙ is) ∙ cleared_same m m2 anchor a c w.aligned (λ here. true≢false (sym is ∙ live a here));
             classes = λ a. k.classes a ∙ classes a;
           };
+      anchors = λ a has. inl (has_without anchor (blocks_of m e) a (ap (λ (l : List Block). has_anchor l a) (sym g.blocks_are) ∙ has));
       start = g.start;
       end = g.end;
     } where

@@ -6,7 +6,7 @@ use Rattle.os_heap.specs.Ranges.{are_mapped}
 use Rattle.address_map.proofs.Spans.{mapped_below}
 use Rattle.address_map.specs.Bytes.{AreMapped}
 use Rattle.address_map.specs.Memory.{byte_at, bytes_of, class_of, is_mapped, mapping, Mapping, regions}
-use Rattle.address_map.specs.Classes.{is_anchor}
+use Rattle.address_map.specs.Classes.{is_anchor, is_flex_header}
 use Rattle.address_map.specs.Records.{meets_record}
 use Rattle.address_map.specs.declared.class.Class.{Class}
 use Rattle.address_map.specs.declared.map.AddressMap.{AddressMap}
@@ -15,7 +15,7 @@ use Rattle.flex_store.specs.declared.flex.Extent.{Extent}
 use Rattle.flex_store.specs.Blocks.{Block, used}
 use Rattle.flex_store.specs.Calls.{is_flex_range}
 use Rattle.flex_store.specs.Memory.{blocks_in}
-use Rattle.flex_store.specs.State.{IsFlexRange, IsFlexStore, IsNoFlex, IsStoreAt, blocks_of, held_in, is_flex_header}
+use Rattle.flex_store.specs.State.{IsFlexRange, IsFlexStore, IsNoFlex, IsStoreAt, blocks_of, held_in}
 
 pub record IsGoodRange (mapped : ℕ → Bool) (start end : ℕ) : Type 0 where
   pub start_aligned : start % 4 ≡ 0

@@ -5,7 +5,7 @@ use Rattle.std.proofs.Math.ListN.{length-append}
 use Rattle.raw_store.specs.Region.{word_bytes}
 use Rattle.address_map.proofs.Bytes.{is_mapped-layout}
 use Rattle.address_map.specs.Bytes.{AreMapped, Bytes, with_bytes_at, word_start}
-use Rattle.address_map.specs.Classes.{is_anchor}
+use Rattle.address_map.specs.Classes.{is_anchor, is_flex_header}
 use Rattle.address_map.specs.Memory.{byte_at, bytes_of, class_of, is_mapped, layout}
 use Rattle.address_map.specs.declared.class.Class.{Class}
 use Rattle.address_map.specs.declared.class.Class.TheVariants as class
@@ -14,7 +14,7 @@ use Rattle.flex_store.specs.Blocks.{Block, has_anchor, is_header, taken, used, w
 use Rattle.flex_store.specs.Marks.{marked, with_headers}
 use Rattle.flex_store.specs.Memory.{AreAnchored, Holds, laid_out, text_of, with_anchors}
 use Rattle.flex_store.specs.Relaid.{MayLie, Relaid}
-use Rattle.flex_store.specs.State.{AreAnchorWords, AreWhole, IsAnchorWord, IsFlexRange, IsFlexStore, IsText, is_flex_header}
+use Rattle.flex_store.specs.State.{AreAnchorWords, AreWhole, IsAnchorWord, IsFlexRange, IsFlexStore, IsText}
 use Rattle.flex_store.proofs.Anchoring.{anchors-append, anchors_again, anchors_beside, anchors_hold}
 use Rattle.flex_store.proofs.Headers.{IsWithin, header_within, headers_marked}
 use Rattle.flex_store.proofs.Holding.{bytes_beside, bytes_held, bytes_written, holds_append, holds_kept, holds_left, holds_right}

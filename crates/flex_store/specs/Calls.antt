@@ -5,13 +5,11 @@ use Rattle.std.specs.List.{list_any}
 use Rattle.profile.specs.Outcome.{bind}
 use Rattle.profile.specs.declared.error.ErrorNumber.{ErrorNumber}
 use Rattle.profile.specs.declared.error.ErrorNumber.TheVariants.{FlexNotReady, FlexAlready, FlexBadRange, FlexBadAnchor, FlexAnchorInUse}
-use Rattle.address_map.specs.declared.item.Item.{Item}
-use Rattle.address_map.specs.declared.item.Item.TheVariants.{Live, Free}
 use Rattle.address_map.specs.declared.region.Kind.TheVariants as kind
 use Rattle.address_map.specs.declared.region.Region.{Region}
 use Rattle.address_map.specs.Bytes.{Bytes, in_range, meets, with_word}
 use Rattle.address_map.specs.Records.{meets_record}
-use Rattle.os_heap_lists.specs.Heap.{HeapList}
+use Rattle.os_heap.specs.Payloads.{is_other, payload_of}
 use Rattle.os_heap.specs.Store.{Store}
 use Rattle.os_heap.specs.Ranges.{are_mapped}
 use Rattle.flex_store.specs.Blocks.{Block, FlexStore, used, find_block, has_anchor, with_block, without_block, new_block, holding, contents, resized, spliced, cut_of, more_of}
@@ -22,20 +20,11 @@ pub record FlexState : Type 0 where
   pub bytes : Bytes
   pub flex : Option FlexStore
 
--- is the byte at `a` in a live block's payload, where the first item is at `at`?
-abbrev pub is_in_payload : ℕ → List Item → ℕ → Bool
-is_in_payload at [] a = false
-is_in_payload at (Live t ∷ xs) a = in_range (at + 4) (t - 4) a || is_in_payload (at + t) xs a
-is_in_payload at (Free t ∷ xs) a = is_in_payload (at + t) xs a
-
--- inside a heap, but in no live payload of it
-abbrev pub is_in_heap_alone : ℕ → HeapList → Bool
-is_in_heap_alone a h = in_range h.start h.end a && not (is_in_payload (h.start + 16) h.items a)
-
--- May the word at an address become an anchor? It is mapped, and lies in no recorded range but a heap; in a heap it lies in a live payload.
+-- May the word at an address become an anchor? It is mapped, and lies in no recorded range but a heap; in a heap it lies among the bytes that a
+-- live block holds. The record of a module image in the module area covers all bytes that its block holds, so none of these may be an anchor.
 unfoldable pub is_anchor_place : Store → ℕ → Bool
 is_anchor_place s a = (a % 4 == 0 && s.bytes.mapped a)
-    && (not (list_any (λ r. meets a 4 r.at r.len) s.others) && not (list_any (is_in_heap_alone a) s.heaps))
+    && (not (list_any (λ r. meets a 4 r.at r.len) s.others) && not (is_other (payload_of s.heaps a)))
 
 -- does a word lie in the flex store?
 abbrev pub is_in_store : FlexStore → ℕ → Bool

@@ -1,6 +1,8 @@
 pub mod Blocks
 pub mod Calls
 pub mod Changes
+pub mod Laws
+pub mod Listed
 pub mod Marks
 pub mod Memory
 pub mod Places

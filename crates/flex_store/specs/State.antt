@@ -1,16 +1,17 @@
 -- What an address map and a `Flex` stand for, and what holds of them whatever is called.
-use Rattle.std.specs.Prelude.{ℕ, ◌≡◌, ◌≢◌, ◌≤◌, ◌<◌, ◌⊎◌, ◌^◌, Bool, true, false, ◌+◌, ◌-◌, ◌%◌, List, [], ◌∷◌, length, Option, Some, None}
-use Rattle.address_map.specs.declared.class.Class.{Class}
-use Rattle.address_map.specs.declared.class.Class.TheVariants as class
+use Rattle.std.specs.Prelude.{ℕ, ◌≡◌, ◌≢◌, ◌≤◌, ◌<◌, ◌⊎◌, ◌^◌, Bool, true, false, ◌+◌, ◌-◌, ◌%◌, ◌==◌, ◌&&◌, List, [], ◌∷◌, length, Option, Some, None}
+use Rattle.std.specs.List.{list_any}
+use Rattle.address_map.specs.declared.region.Region.{Region}
 use Rattle.address_map.specs.declared.map.AddressMap.{AddressMap}
 use Rattle.address_map.specs.Bytes.{Bytes, AreMapped, word_start}
-use Rattle.address_map.specs.Classes.{is_anchor}
+use Rattle.address_map.specs.Classes.{is_anchor, is_flex_header, is_heap_class}
 use Rattle.address_map.specs.Memory.{byte_at, bytes_of, class_of, is_mapped, layout}
+use Rattle.os_heap.specs.Store.{is_flex_store, store_of}
 use Rattle.flex_store.specs.declared.flex.Extent.{Extent}
 use Rattle.flex_store.specs.declared.flex.Flex.{Flex}
 use Rattle.flex_store.specs.Blocks.{Block, FlexStore, used, whole_words, has_anchor, is_header}
 use Rattle.flex_store.specs.Memory.{Holds, AreAnchored, blocks_in, text_of}
-use Rattle.flex_store.specs.Calls.{FlexState}
+use Rattle.flex_store.specs.Calls.{FlexState, is_anchor_place}
 
 -- the flex store that the words of memory spell in a range
 abbrev pub blocks_of : AddressMap → Extent → List Block
@@ -29,14 +30,6 @@ held_in m e = record { bytes = bytes_of m; flex = Some (record { start = e.start
 
 unfoldable pub state_of : AddressMap → Flex → FlexState
 state_of m f = record { bytes = bytes_of m; flex = flex_in m f.extent }
-
-abbrev pub is_heap_class : Class → Bool
-is_heap_class class.Heap = true
-is_heap_class other = false
-
-abbrev pub is_flex_header : Class → Bool
-is_flex_header class.FlexHeader = true
-is_flex_header other = false
 
 -- A block has as many bytes as its size says, filled up to whole words, and its size is a word.
 abbrev pub AreWhole : List Block → Type 0
@@ -87,13 +80,25 @@ pub record IsNoFlex (m : AddressMap) : Type 0 where
   pub headers : (a : ℕ) → is_flex_header (class_of m a) ≡ false
   pub anchors : (a : ℕ) → is_anchor (class_of m a) ≡ false
 
+-- is the range of the store among the recorded ones?
+abbrev pub is_store_record : ℕ → ℕ → Region → Bool
+is_store_record start end r = is_flex_store r.kind && (r.at == start && r.len == end - start)
+
+abbrev pub is_recorded : List Region → ℕ → ℕ → Bool
+is_recorded rs start end = list_any (is_store_record start end) rs
+
 pub record IsStoreAt (m : AddressMap) (e : Extent) : Type 0 where
   pub store : IsFlexStore m e.start e.end (blocks_of m e)
   pub used_is : used (blocks_of m e) ≡ e.used
 
+-- and its range is recorded
+pub record IsRecordedStore (m : AddressMap) (e : Extent) : Type 0 where
+  pub held : IsStoreAt m e
+  pub recorded : is_recorded (store_of m).others e.start e.end ≡ true
+
 abbrev pub IsFlexAt : AddressMap → Option Extent → Type 0
 IsFlexAt m None = IsNoFlex m
-IsFlexAt m (Some e) = IsStoreAt m e
+IsFlexAt m (Some e) = IsRecordedStore m e
 
 -- What holds of memory and the flex store, whatever is called.
 abbrev pub IsFlex : AddressMap → Flex → Type 0
@@ -109,10 +114,11 @@ pub record KeepsHeads (m n : AddressMap) : Type 0 where
   pub bytes : (a : ℕ) → is_heap_class (class_of m a) ≡ true → byte_at n a ≡ byte_at m a
   pub classes : (a : ℕ) → is_heap_class (class_of n a) ≡ is_heap_class (class_of m a)
 
--- What each call on a store keeps.
+-- What each call on a store keeps. An anchor that comes is a word that may be one.
 pub record Keeps (m : AddressMap) (e : Extent) (n : AddressMap) (f : Extent) : Type 0 where
   pub store : IsStoreAt n f
   pub same : layout n ≡ layout m
   pub heads : HasNoHead m (Some e) → KeepsHeads m n
+  pub anchors : (a : ℕ) → has_anchor (blocks_of n f) a ≡ true → (has_anchor (blocks_of m e) a ≡ true) ⊎ (is_anchor_place (store_of m) a ≡ true)
   pub start : f.start ≡ e.start
   pub end : f.end ≡ e.end

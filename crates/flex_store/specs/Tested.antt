@@ -1,19 +1,28 @@
--- What the tests of this crate go on from: memory without heaps, and without a flex store.
-use Rattle.std.specs.Prelude.{ℕ, ◌≡◌, false, [], None}
-use Rattle.std.specs.List.{list_any}
+-- What the tests of this crate go on from.
+use Rattle.std.specs.Prelude.{ℕ, ◌≡◌, ◌<◌, length, [], None}
 use Rattle.address_map.specs.declared.class.Class.TheVariants as class
 use Rattle.address_map.specs.declared.map.AddressMap.{AddressMap}
 use Rattle.address_map.specs.Memory.{class_of, regions}
-use Rattle.address_map.specs.Records.{is_heap_kind}
+use Rattle.os_heap.specs.Store.{AreClasses, IsSound, store_of}
 use Rattle.flex_store.specs.declared.flex.Flex.{Flex}
-use Rattle.flex_store.specs.State.{IsFlex, is_heap_class}
+use Rattle.flex_store.specs.State.{IsFlex}
 
-pub record IsBench (m : AddressMap) (f : Flex) : Type 0 where
-  pub flex : IsFlex m f
-  pub heads : (a : ℕ) → is_heap_class (class_of m a) ≡ false
-  pub heaps : list_any (λ r. is_heap_kind r.kind) (regions m) ≡ false
-
-pub record IsBare (m : AddressMap) (f : Flex) : Type 0 where
-  pub none : f.extent ≡ None
+-- memory of which nothing is recorded
+pub record IsBare (m : AddressMap) : Type 0 where
   pub plain : (a : ℕ) → class_of m a ≡ class.Plain
   pub empty : regions m ≡ []
+
+-- all that a call on the flex store asks for
+pub record IsBench (m : AddressMap) (f : Flex) : Type 0 where
+  pub flex : IsFlex m f
+  pub sound : IsSound (store_of m)
+  pub classes : AreClasses m
+  pub few : length (store_of m).others < 68
+
+-- and what holds before the first one
+pub record IsStart (m : AddressMap) (f : Flex) : Type 0 where
+  pub flex : IsFlex m f
+  pub sound : IsSound (store_of m)
+  pub classes : AreClasses m
+  pub none : f.extent ≡ None
+  pub few : length (store_of m).others < 67

@@ -2,16 +2,16 @@ ghost use Rattle.std.specs.Prelude.{◌≡◌, ◌≤◌, ◌+◌, ◌%◌, ◌=
 ghost use Rattle.std.specs.List.{list_any};
 ghost use Rattle.profile.specs.Outcome.{Gives};
 ghost use Rattle.address_map.specs.Records.{is_heap_kind};
-ghost use Rattle.os_heap.specs.Store.{store_of};
+ghost use Rattle.os_heap.specs.Store.{AreClasses, IsSound, store_of};
 ghost use Rattle.address_map.specs.Bytes.{meets, word_at};
-ghost use Rattle.address_map.specs.Classes.{is_anchor};
+ghost use Rattle.address_map.specs.Classes.{is_anchor, is_heap_class};
 ghost use Rattle.address_map.specs.Memory.{byte_at, class_of, is_mapped};
 ghost use Rattle.flex_store.specs.Blocks.{cut_of, find_block, has_anchor, more_of, new_block};
-ghost use Rattle.flex_store.specs.Calls.{allocated, extended, is_anchor_place, is_in_heap_alone, is_in_store, mid_extended, released, sized};
+ghost use Rattle.flex_store.specs.Calls.{allocated, extended, is_anchor_place, is_in_store, mid_extended, released, sized};
 ghost use Rattle.flex_store.specs.Changes.{Fits, IsChanged};
 ghost use Rattle.flex_store.specs.Places.{IsHeaderOf};
 ghost use Rattle.flex_store.specs.Splices.{IsSplice};
-ghost use Rattle.flex_store.specs.State.{blocks_of, held_in, is_heap_class, store_in, IsAnchorWord, IsStoreAt, Keeps};
+ghost use Rattle.flex_store.specs.State.{blocks_of, held_in, store_in, IsAnchorWord, IsStoreAt, Keeps};
 
 use crate::flex::Extent;
 use crate::marks::{clear_mark, mark};
@@ -19,6 +19,7 @@ use crate::slide::{append, remove, replace};
 use crate::splice::Splice;
 use crate::walk::{HEADER, SIZE, taken, word};
 use address_map::{AddressMap, Class, Kind, Region};
+use os_heap::Heaps;
 use profile::ErrorNumber;
 
 /// The size of an anchor's block.
@@ -185,8 +186,8 @@ pub(crate) fn alloc_block(
     size: u32,
 ) -> Result<bool, ErrorNumber>
     requires store { IsStoreAt map.old extent.old }
-    requires payload { list_any (is_in_heap_alone anchor) (store_of map.old).heaps ≡ false }
-    requires head { is_heap_class (class_of map.old anchor) ≡ false }
+    requires sound { IsSound (store_of map.old) }
+    requires classes { AreClasses map.old }
     ensures state { Gives (held_in map.old extent.old) (allocated (store_of map.old) (held_in map.old extent.old) anchor size) result (held_in map.new extent.new) }
     ensures keeps { Keeps map.old extent.old map.new extent.new }
 {
@@ -202,7 +203,7 @@ pub(crate) fn alloc_block(
 /// Whether the word at an address may become an anchor.
 fn may_hold(map: &AddressMap, extent: &Extent, anchor: u32) -> bool
     requires range { extent.now.start ≤ extent.now.end }
-    requires payload { list_any (is_in_heap_alone anchor) (store_of map.now).heaps ≡ false }
+    requires sound { IsSound (store_of map.now) }
     ensures { result ≡ (is_anchor_place (store_of map.now) anchor && not (is_in_store (store_in map.now extent.now) anchor)) }
 {
     if anchor % 4 != 0 {
@@ -212,6 +213,10 @@ fn may_hold(map: &AddressMap, extent: &Extent, anchor: u32) -> bool
         return false;
     }
     if meets_other(map.regions(), anchor) {
+        return false;
+    }
+    let place = Heaps::new().live_payload(map, anchor);
+    if place.is_other() {
         return false;
     }
     !is_met(anchor, extent.start, extent.end - extent.start)

@@ -1,10 +1,9 @@
 ghost use Rattle.std.specs.Prelude.{◌≡◌, ◌<◌, ◌++◌, ◌∷◌, [], true, false, Some, None, MatchOption, MatchResult, length};
-ghost use Rattle.std.specs.List.{list_any};
 ghost use Rattle.profile.specs.Outcome.{Gives};
-ghost use Rattle.os_heap.specs.Store.{store_of};
+ghost use Rattle.os_heap.specs.Store.{AreClasses, IsSound, store_of};
 ghost use Rattle.address_map.specs.Memory.{bytes_of, class_of, is_mapped, layout, mapping, regions};
-ghost use Rattle.flex_store.specs.Calls.{allocated, begun, extended, flex_record, is_flex_range, is_in_heap_alone, mid_extended, released, sized};
-ghost use Rattle.flex_store.specs.State.{held_in, is_heap_class, state_of, HasNoHead, IsFlex, IsNoFlex, IsStoreAt, KeepsHeads};
+ghost use Rattle.flex_store.specs.Calls.{allocated, begun, extended, flex_record, is_flex_range, mid_extended, released, sized};
+ghost use Rattle.flex_store.specs.State.{held_in, state_of, IsFlex, IsNoFlex, IsRecordedStore};
 
 use crate::block::{alloc_block, block_size, extend_block, mid_extend_block, release_block};
 use address_map::{AddressMap, Kind};
@@ -70,7 +69,9 @@ impl Flex {
     #[tactic(auto, unfolding(crate::specs::State::state_of, crate::specs::Calls::begun))]
     pub fn init(&mut self, map: &mut AddressMap, start: u32, end: u32) -> Result<(), ErrorNumber>
         requires flex { IsFlex map.old self.old }
-        requires room { length (regions map.old) < 133 }
+        requires sound { IsSound (store_of map.old) }
+        requires classes { AreClasses map.old }
+        requires few { length (store_of map.old).others < 68 }
         ensures state { Gives (state_of map.old self.old)
             (begun (regions map.old) (state_of map.old self.old) start end) result (state_of map.new self.new) }
         ensures flex { IsFlex map.new self.new }
@@ -79,6 +80,9 @@ impl Flex {
             (λ _. regions map.new ≡ regions map.old) }
         ensures mapping { mapping map.new ≡ mapping map.old }
         ensures marks { class_of map.new ≡ class_of map.old }
+        ensures heaps { (store_of map.new).heaps ≡ (store_of map.old).heaps }
+        ensures sound { IsSound (store_of map.new) }
+        ensures classes { AreClasses map.new }
     {
         if self.extent.is_some() {
             return Err(ErrorNumber::FlexAlready);
@@ -96,15 +100,16 @@ impl Flex {
     }
 
     /// Makes a block of `size` zeros behind all others, and writes the address of its bytes to the anchor. The answer is false, and nothing is changed,
-    /// where the store has no room for it. Whether an anchor in a heap lies in a live block's payload is the caller's to test.
+    /// where the store has no room for it.
     ///
     /// # Errors
     ///
     /// The first of these, and nothing is changed then: `FlexNotReady` before `init`; `FlexBadAnchor` where the anchor is no multiple of 4, not mapped,
-    /// in the store, in a system page or in a module image; `FlexAnchorInUse` where a block has it.
+    /// in the store, in a system page or in a module image, or inside a heap but not among the bytes that a live block holds; `FlexAnchorInUse` where
+    /// a block has it.
     ///
     /// Acorn C manual, "flex", flex_alloc.
-    #[tactic(auto, unfolding(crate::specs::State::state_of, crate::specs::Calls::allocated))]
+    #[tactic(auto, unfolding(crate::specs::State::state_of, crate::specs::Calls::allocated), using(crate::proofs::Keeping::keeping))]
     pub fn alloc(
         &mut self,
         map: &mut AddressMap,
@@ -112,13 +117,15 @@ impl Flex {
         size: u32,
     ) -> Result<bool, ErrorNumber>
         requires flex { IsFlex map.old self.old }
-        requires payload { list_any (is_in_heap_alone anchor) (store_of map.old).heaps ≡ false }
-        requires head { is_heap_class (class_of map.old anchor) ≡ false }
+        requires sound { IsSound (store_of map.old) }
+        requires classes { AreClasses map.old }
         ensures state { Gives (state_of map.old self.old)
             (allocated (store_of map.old) (state_of map.old self.old) anchor size) result (state_of map.new self.new) }
         ensures flex { IsFlex map.new self.new }
         ensures layout { layout map.new ≡ layout map.old }
-        ensures heads { HasNoHead map.old self.old.extent → KeepsHeads map.old map.new }
+        ensures heaps { (store_of map.new).heaps ≡ (store_of map.old).heaps }
+        ensures sound { IsSound (store_of map.new) }
+        ensures classes { AreClasses map.new }
     {
         let Some(mut extent) = self.extent else {
             return Err(ErrorNumber::FlexNotReady);
@@ -135,13 +142,17 @@ impl Flex {
     /// `FlexNotReady` before `init`; `FlexBadAnchor` where no block has the anchor. Nothing is changed then.
     ///
     /// Acorn C manual, "flex", flex_free.
-    #[tactic(auto, unfolding(crate::specs::State::state_of, crate::specs::Calls::released))]
+    #[tactic(auto, unfolding(crate::specs::State::state_of, crate::specs::Calls::released), using(crate::proofs::Keeping::keeping))]
     pub fn release(&mut self, map: &mut AddressMap, anchor: u32) -> Result<(), ErrorNumber>
-        requires { IsFlex map.old self.old }
+        requires flex { IsFlex map.old self.old }
+        requires sound { IsSound (store_of map.old) }
+        requires classes { AreClasses map.old }
         ensures state { Gives (state_of map.old self.old) (released (state_of map.old self.old) anchor) result (state_of map.new self.new) }
         ensures flex { IsFlex map.new self.new }
         ensures layout { layout map.new ≡ layout map.old }
-        ensures heads { HasNoHead map.old self.old.extent → KeepsHeads map.old map.new }
+        ensures heaps { (store_of map.new).heaps ≡ (store_of map.old).heaps }
+        ensures sound { IsSound (store_of map.new) }
+        ensures classes { AreClasses map.new }
     {
         let Some(mut extent) = self.extent else {
             return Err(ErrorNumber::FlexNotReady);
@@ -159,18 +170,22 @@ impl Flex {
     /// `FlexNotReady` before `init`; `FlexBadAnchor` where no block has the anchor. Nothing is changed then.
     ///
     /// Acorn C manual, "flex", flex_extend.
-    #[tactic(auto, unfolding(crate::specs::State::state_of, crate::specs::Calls::extended))]
+    #[tactic(auto, unfolding(crate::specs::State::state_of, crate::specs::Calls::extended), using(crate::proofs::Keeping::keeping))]
     pub fn extend(
         &mut self,
         map: &mut AddressMap,
         anchor: u32,
         size: u32,
     ) -> Result<bool, ErrorNumber>
-        requires { IsFlex map.old self.old }
+        requires flex { IsFlex map.old self.old }
+        requires sound { IsSound (store_of map.old) }
+        requires classes { AreClasses map.old }
         ensures state { Gives (state_of map.old self.old) (extended (state_of map.old self.old) anchor size) result (state_of map.new self.new) }
         ensures flex { IsFlex map.new self.new }
         ensures layout { layout map.new ≡ layout map.old }
-        ensures heads { HasNoHead map.old self.old.extent → KeepsHeads map.old map.new }
+        ensures heaps { (store_of map.new).heaps ≡ (store_of map.old).heaps }
+        ensures sound { IsSound (store_of map.new) }
+        ensures classes { AreClasses map.new }
     {
         let Some(mut extent) = self.extent else {
             return Err(ErrorNumber::FlexNotReady);
@@ -189,7 +204,7 @@ impl Flex {
     /// `at`; `FlexBadAnchor` where no block has the anchor; `FlexBadRange` where `at` is past the block's size.
     ///
     /// Acorn C manual, "flex", flex_midextend.
-    #[tactic(auto, unfolding(crate::specs::State::state_of, crate::specs::Calls::mid_extended))]
+    #[tactic(auto, unfolding(crate::specs::State::state_of, crate::specs::Calls::mid_extended), using(crate::proofs::Keeping::keeping))]
     pub fn mid_extend(
         &mut self,
         map: &mut AddressMap,
@@ -197,11 +212,15 @@ impl Flex {
         at: u32,
         by: u32,
     ) -> Result<bool, ErrorNumber>
-        requires { IsFlex map.old self.old }
+        requires flex { IsFlex map.old self.old }
+        requires sound { IsSound (store_of map.old) }
+        requires classes { AreClasses map.old }
         ensures state { Gives (state_of map.old self.old) (mid_extended (state_of map.old self.old) anchor at by) result (state_of map.new self.new) }
         ensures flex { IsFlex map.new self.new }
         ensures layout { layout map.new ≡ layout map.old }
-        ensures heads { HasNoHead map.old self.old.extent → KeepsHeads map.old map.new }
+        ensures heaps { (store_of map.new).heaps ≡ (store_of map.old).heaps }
+        ensures sound { IsSound (store_of map.new) }
+        ensures classes { AreClasses map.new }
     {
         let Some(mut extent) = self.extent else {
             return Err(ErrorNumber::FlexNotReady);
@@ -231,13 +250,18 @@ fn is_flex_range(map: &AddressMap, start: u32, end: u32) -> bool
 fn record_store(map: &mut AddressMap, start: u32, end: u32)
     requires flex { IsNoFlex map.old }
     requires range { is_flex_range (is_mapped map.old) (regions map.old) start end ≡ true }
-    requires room { length (regions map.old) < 133 }
-    ensures store { IsStoreAt map.new (record { start = start; end = end; used = 0 }) }
+    requires sound { IsSound (store_of map.old) }
+    requires classes { AreClasses map.old }
+    requires few { length (store_of map.old).others < 68 }
+    ensures store { IsRecordedStore map.new (record { start = start; end = end; used = 0 }) }
     ensures state { held_in map.new (record { start = start; end = end; used = 0 })
         ≡ record { bytes = bytes_of map.old; flex = Some (record { start = start; end = end; blocks = [] }) } }
     ensures regions { regions map.new ≡ regions map.old ++ flex_record start end ∷ [] }
     ensures mapping { mapping map.new ≡ mapping map.old }
     ensures marks { class_of map.new ≡ class_of map.old }
+    ensures heaps { (store_of map.new).heaps ≡ (store_of map.old).heaps }
+    ensures sound { IsSound (store_of map.new) }
+    ensures classes { AreClasses map.new }
 {
     map.own(Kind::FlexStore, start, end - start);
 }

@@ -2,12 +2,15 @@
 #![tactic(auto)]
 
 mod block;
+mod blocks;
 mod flex;
+pub mod laws;
 mod marks;
 mod slide;
 mod splice;
 mod walk;
 
+pub use blocks::{FlexBlock, FlexBlocks};
 pub use flex::Flex;
 
 #[cfg(test)]

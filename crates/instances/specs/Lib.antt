@@ -1,4 +1,4 @@
-pub mod Actions
+pub mod Adding
 pub mod Plans
 pub mod Reading
-pub mod World
+pub mod Turns

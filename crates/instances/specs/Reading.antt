@@ -1,13 +1,14 @@
--- What the calls answer that read of the modules and of their private words (RISC OS 3 Programmer's Reference Manual, "OS_Module", reasons 12 and 18).
-use Rattle.std.specs.Prelude.{ℕ, List, Result, Ok}
+-- What the calls answer that read of the modules and of their private words (RISC OS 3 Programmer's Reference Manual, "OS_Module", reasons 2, 12 and 18).
+use Rattle.std.specs.Prelude.{ℕ, ◌+◌, ◌%◌, ◌^◌, ◌==◌, List, Option, Some, None, Result, Ok, if◌then◌else◌}
 use Rattle.profile.specs.Outcome.{bind}
 use Rattle.profile.specs.declared.error.ErrorNumber.{ErrorNumber}
 use Rattle.address_map.specs.Bytes.{word_at}
 use Rattle.instances_plans.specs.Code.{private_of}
 use Rattle.instances_table.specs.declared.parts.Place.{Place}
 use Rattle.instances_table.specs.Modules.{Module}
-use Rattle.instances_table.specs.Lookup.{information, looked_up, slot_at}
+use Rattle.instances_table.specs.Lookup.{information, looked_up, module_at, slot_at}
 use Rattle.instances.specs.declared.answers.Found.{Found}
+use Rattle.instances.specs.declared.answers.Start.{Start}
 use Rattle.instances.specs.declared.answers.Told.{Told}
 
 -- OS_Module 12: the place behind an instance, its module's image, and the value of its private word
@@ -23,3 +24,18 @@ found bytes modules full =
     bind (looked_up modules full) (λ place.
     bind (told bytes modules place) (λ t.
     Ok (record { place = place; image = t.image; word = t.word })))
+
+-- OS_Module 2: where the module of an instance is entered, at an offset in its image, and the instance's slot. A start of 0 is none.
+abbrev pub start_in : Module → Option ℕ
+start_in m = if m.header.start == 0 then None else Some ((m.image.at + m.header.start) % 2 ^ 32)
+
+-- the slot of the instance that a name means
+unfoldable pub slot_meant : List Module → List ℕ → Result ℕ ErrorNumber
+slot_meant modules full = bind (looked_up modules full) (λ place. slot_at modules place)
+
+unfoldable pub start_found : List Module → List ℕ → Result Start ErrorNumber
+start_found modules full =
+    bind (looked_up modules full) (λ place.
+    bind (slot_at modules place) (λ slot.
+    bind (module_at modules place.number) (λ m.
+    Ok (record { at = start_in m; slot = slot }))))

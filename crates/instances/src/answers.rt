@@ -15,3 +15,10 @@ pub struct Told {
     pub image: u32,
     pub word: u32,
 }
+
+/// Where the module of an instance is entered as a program, if it has a start, and the instance's slot.
+#[derive(Clone, Copy, Debug, PartialEq, Eq)]
+pub struct Start {
+    pub at: Option<u32>,
+    pub slot: u32,
+}

@@ -1,15 +1,14 @@
-ghost use Rattle.std.specs.Prelude.{◌≡◌, ◌<◌, [], option_map, slice_get};
+ghost use Rattle.std.specs.Prelude.{◌≡◌, ◌<◌, [], option_map, slice_get, IfSome};
 ghost use Rattle.profile.specs.Outcome.{Leaves};
-ghost use Rattle.address_map.specs.Bytes.{AreMapped, word_at};
+ghost use Rattle.address_map.specs.Bytes.{AreMapped};
 ghost use Rattle.address_map.specs.Memory.{byte_at, is_mapped};
-ghost use Rattle.instances_plans.specs.Code.{private_of};
 ghost use Rattle.instances_table.specs.Lookup.{told_of_module, told_of_place};
 ghost use Rattle.instances_table.specs.Changes.{preferring, renamed};
 ghost use Rattle.instances.specs.Reading.{found, told};
 
 use crate::answers::{Found, Told};
 use address_map::AddressMap;
-use instances_plans::private_word;
+use instances_ground::private_value;
 use instances_table::{InstanceInfo, InstanceTable, ModuleInfo, Place};
 use profile::ErrorNumber;
 use std::marker::Model;
@@ -41,6 +40,13 @@ impl Instances {
         }
     }
 
+    /// Become a copy of other instances.
+    pub fn copy_from(&mut self, other: &Instances)
+        ensures { self.new ≡ other.now }
+    {
+        self.table.copy_from(&other.table);
+    }
+
     /// What is told of the module of a number, if there is one.
     pub fn module(&self, number: u32) -> Option<ModuleInfo>
         ensures { result ≡ option_map told_of_module (slice_get self.now number) }
@@ -50,7 +56,8 @@ impl Instances {
 
     /// What is told of an instance, by its module's number and its own, if there is one.
     pub fn instance(&self, number: u32, instance: u32) -> Option<InstanceInfo>
-        ensures { result ≡ told_of_place instance (slice_get self.now number) }
+        ensures value { result ≡ told_of_place instance (slice_get self.now number) }
+        ensures below { IfSome result (λ i. i.slot < 64) }
     {
         self.table.instance(number, instance)
     }
@@ -126,13 +133,4 @@ impl Instances {
     {
         self.table.prefer(full)
     }
-}
-
-/// The value of the private word of a slot.
-fn private_value(map: &AddressMap, slot: u32) -> u32
-    requires below { slot < 64 }
-    requires mapped { AreMapped (is_mapped map.now) 0x01C02000 256 }
-    ensures { result ≡ word_at (byte_at map.now) (private_of slot) }
-{
-    map.load_word(private_word(slot)).unwrap()
 }

@@ -1,13 +1,18 @@
 //! The modules of a machine and their instances, together with the memory that they stand in.
 #![tactic(auto)]
 
+pub mod adding;
+pub mod advance;
 pub mod answers;
+pub mod in_place;
 pub mod instances;
+pub mod instantiating;
 pub mod plans;
+pub mod reading;
 
-pub use answers::{Found, Told};
+pub use answers::{Found, Start, Told};
 pub use instances::Instances;
-pub use instances_table::{InstanceInfo, ModuleInfo, Place};
+pub use instances_table::{Handler, InstanceInfo, InstanceTable, ModuleInfo, Place};
 
 #[cfg(test)]
 mod tests;

@@ -1,5 +1,7 @@
 //! The plans of the calls on instances that are there.
-ghost use Rattle.std.specs.Prelude.{◌≡◌, ◌≤◌, [], length};
+ghost use Rattle.std.specs.Prelude.{◌≡◌, ◌≤◌, [], false, length, IfOk};
+ghost use Rattle.instances_actions.specs.Pending.{pending_of};
+ghost use Rattle.instances_actions.specs.Ready.{IsReady};
 ghost use Rattle.instances.specs.Plans.{clearing, deletion, given_only, no_header, reinitialisation, tidying};
 
 use crate::instances::Instances;
@@ -16,9 +18,12 @@ impl Instances {
     /// `ModuleNotFound` where there is none.
     ///
     /// RISC OS 3 Programmer's Reference Manual, "OS_Module", reason 4.
-    #[tactic(auto, unfolding(crate::specs::Plans::deletion))]
+    #[tactic(auto, unfolding(crate::specs::Plans::deletion), using(crate::proofs::ReadyLemmas::delete_ready))]
     pub fn plan_delete(&self, full: &[u8]) -> Result<Plan, ErrorNumber>
-        ensures { result ≡ deletion self.now full.now }
+        ensures value { result ≡ deletion self.now full.now }
+        ensures ready { IfOk result (λ plan. IsReady self.now plan) }
+        ensures rests { IfOk result (λ plan. plan.runs ≡ false) }
+        ensures pending { IfOk result (λ plan. pending_of plan ≡ []) }
     {
         let place = self.table.lookup(full)?;
         let slot = self
@@ -35,10 +40,13 @@ impl Instances {
     /// `ModuleNotFound` where there is none.
     ///
     /// RISC OS 3 Programmer's Reference Manual, "OS_Module", reason 3.
-    #[tactic(auto, unfolding(crate::specs::Plans::reinitialisation))]
+    #[tactic(auto, unfolding(crate::specs::Plans::reinitialisation), using(crate::proofs::ReadyLemmas::reinit_ready))]
     pub fn plan_reinit(&self, full: &[u8], text: &[u8]) -> Result<Plan, ErrorNumber>
         requires { length text.now ≤ 255 }
-        ensures { result ≡ reinitialisation self.now full.now text.now }
+        ensures value { result ≡ reinitialisation self.now full.now text.now }
+        ensures ready { IfOk result (λ plan. IsReady self.now plan) }
+        ensures rests { IfOk result (λ plan. plan.runs ≡ false) }
+        ensures pending { IfOk result (λ plan. pending_of plan ≡ []) }
     {
         let place = self.table.lookup(full)?;
         let slot = self
@@ -51,8 +59,12 @@ impl Instances {
     /// All instances are finalised and removed, oldest first.
     ///
     /// RISC OS 3 Programmer's Reference Manual, "OS_Module", reason 9.
+    #[tactic(auto, using(crate::proofs::ReadyLemmas::clear_ready, crate::proofs::ReadyLemmas::clear_pending))]
     pub fn plan_clear(&self) -> Plan
-        ensures { result ≡ clearing self.now }
+        ensures value { result ≡ clearing self.now }
+        ensures ready { IsReady self.now result }
+        ensures rests { result.runs ≡ false }
+        ensures pending { pending_of result ≡ [] }
     {
         let slots = self.table.slots();
         Plan::clear(given_only(&[], 0), slots.as_slice())
@@ -61,8 +73,12 @@ impl Instances {
     /// The module area is tidied, while all instances are finalised; the caller goes on at the return address.
     ///
     /// RISC OS 3 Programmer's Reference Manual, "OS_Module", reason 8.
+    #[tactic(auto, using(crate::proofs::ReadyLemmas::tidy_ready, crate::proofs::ReadyLemmas::tidy_pending))]
     pub fn plan_tidy(&self, return_address: u32) -> Plan
-        ensures { result ≡ tidying self.now return_address }
+        ensures value { result ≡ tidying self.now return_address }
+        ensures ready { IsReady self.now result }
+        ensures rests { result.runs ≡ false }
+        ensures pending { pending_of result ≡ [] }
     {
         let slots = self.table.slots();
         Plan::tidy(given_only(&[], return_address), slots.as_slice())
@@ -70,7 +86,7 @@ impl Instances {
 }
 
 /// What a call is given that names an instance: a text, or a return address.
-fn given_only(text: &[u8], return_address: u32) -> Given
+pub(crate) fn given_only(text: &[u8], return_address: u32) -> Given
     requires { length text.now ≤ 255 }
     ensures { result ≡ given_only text.now return_address }
 {

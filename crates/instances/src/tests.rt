@@ -11,6 +11,9 @@ use profile::ErrorNumber;
 use std::alloc::{AllocError, Global};
 use std::test::Fail;
 
+mod adding;
+mod carrying;
+
 // Memory with the page of the private words alone.
 fn private_page(alloc: Global) -> Result<AddressMap, AllocError>
     ensures { IfOk result (λ m. AreMapped (is_mapped m) 0x01C02000 256) }

@@ -4,6 +4,7 @@
 pub mod action;
 pub mod calls;
 pub mod code;
+pub mod copies;
 pub mod given;
 pub mod laws;
 pub mod plan;

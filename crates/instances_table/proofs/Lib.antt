@@ -1,11 +1,13 @@
 pub mod CountLemmas
 pub mod Counting
 pub mod HandlerLemmas
+pub mod ImageLemmas
 pub mod ModuleLemmas
 pub mod NameLemmas
 pub mod PlaceLemmas
 pub mod RemoveLemmas
 pub mod RenameLemmas
 pub mod RoomLemmas
+pub mod RoomViews
 pub mod SlotLemmas
 pub mod ViewLemmas

@@ -1,20 +1,20 @@
 -- There is room for what is put in: slots differ and are below 64.
-use Rattle.std.proofs.Common.{◌≡◌, ℕ, ◌+◌, ◌<◌, ◌≤◌, ◌==◌, Bool, true, false, List, [], ◌∷◌, ◌++◌, length, map, refl, sym, ap, ◌∙◌, inl, inr, cond, zero, suc, Some, None, eqb, arith, length-append}
+use Rattle.std.proofs.Common.{◌≡◌, ℕ, ◌+◌, ◌<◌, ◌≤◌, ◌==◌, Bool, true, false, List, [], ◌∷◌, ◌++◌, length, map, refl, sym, ap, ◌∙◌, inl, inr, cond, zero, suc, Some, None, eqb, get_or, arith, length-append}
 use Rattle.std.specs.Prelude.{Option, slice_get, nat_lt}
 use Rattle.std.specs.List.{list_any, IsDistinct, AllByRecursion}
 use Rattle.std.proofs.lemmas.Bool.{cases_Bool, eqb-true, eq-eqb, ltb-true}
 use Rattle.std.proofs.lemmas.List.{length-map}
 use Rattle.std.proofs.lemmas.Map.Steps.{length-le_from_distinct_below}
-use Rattle.instances_table.specs.Modules.{slots_of, Instance, Module, number_of, slot_count, EachIsModule, AreModules}
+use Rattle.instances_table.specs.Modules.{slots_of, Instance, Module, has_slot, has_instance, number_of, slot_count, EachIsModule, AreModules}
 use Rattle.instances_table.specs.Changes.{is_held}
-use Rattle.instances_table.proofs.Counting.{count-map}
+use Rattle.instances_table.proofs.Counting.{count-map, count_some}
 use Rattle.instances_table.proofs.ModuleLemmas.{not_held}
 
 count_append : {X : Type 0} (p : X → Bool) (xs ys : List X) → number_of p (xs ++ ys) ≡ number_of p xs + number_of p ys
 count_append p [] ys = omega arith
 count_append p (x ∷ xs) ys = omega (arith, count_append p xs ys)
 
-slots_counted : (s : ℕ) (ms : List Module) → number_of (λ x. x == s) (slots_of ms) ≡ slot_count s ms
+pub slots_counted : (s : ℕ) (ms : List Module) → number_of (λ x. x == s) (slots_of ms) ≡ slot_count s ms
 slots_counted s [] = refl
 slots_counted s (m ∷ ms) =
     rw (
@@ -55,7 +55,7 @@ counted q (y ∷ ys) some =
     ]
 
 -- each module has an instance, and no module has more instances than all have together
-modules_le : (ms : List Module) → EachIsModule ms → length ms ≤ length (slots_of ms)
+pub modules_le : (ms : List Module) → EachIsModule ms → length ms ≤ length (slots_of ms)
 modules_le [] each = omega arith
 modules_le (m ∷ ms) each =
     let some : 1 ≤ length m.instances = has_one m.instances (λ (i : Instance). i.slot == m.preferred) each.0.preferred in
@@ -109,3 +109,33 @@ room_for_module ms slot are below fresh = omega (arith, modules_le ms are.each, 
 pub room_for_instance : (ms : List Module) (slot k : ℕ) (m : Module) → AreModules ms → slot < 64 → is_held slot ms ≡ false → slice_get ms k ≡ Some m
     → length m.instances < 64
 room_for_instance ms slot k m are below fresh found = omega (arith, instances_le ms k m found, fewer ms slot are below fresh)
+
+pub few_modules : (ms : List Module) → AreModules ms → length ms ≤ 64
+few_modules ms are = omega (arith, modules_le ms are.each, most_slots ms are)
+
+-- each slot that an instance has is below 64
+counted_at : (xs : List ℕ) (k : ℕ) → k < length xs → 1 ≤ number_of (λ y. y == get_or xs k 0) xs
+counted_at [] k within = absurd (omega arith)
+counted_at (x ∷ xs) zero within = rw (eq-eqb x x refl) (omega arith)
+counted_at (x ∷ xs) (suc k) within = omega (arith, counted_at xs k (omega arith))
+
+pub slots_low : (ms : List Module) → AreModules ms → (k : ℕ) → k < length (slots_of ms) → get_or (slots_of ms) k 0 < 64
+slots_low ms are k within =
+    let s : ℕ = get_or (slots_of ms) k 0 in
+    below_64 s (slot_count s ms) (omega (arith, counted_at (slots_of ms) k within, slots_counted s ms)) (are.slots s)
+
+-- an instance that is there has a slot below 64
+count_held : (slot : ℕ) (ms : List Module) → is_held slot ms ≡ true → 1 ≤ slot_count slot ms
+count_held slot [] held = absurd (let e : false ≡ true = held in cc)
+count_held slot (m ∷ ms) held = elim (cases_Bool (has_instance slot m)) [
+  | inl e ↦ omega (arith, count_some (has_slot slot) m.instances e)
+  | inr e ↦ omega (arith, count_held slot ms (rw e at held))
+]
+
+pub held_slot : (slot : ℕ) (ms : List Module) → AreModules ms → is_held slot ms ≡ true → slot < 64
+held_slot slot ms are held = below_64 slot (slot_count slot ms) (count_held slot ms held) (are.slots slot)
+
+-- and no other instance has it
+pub slots_once : (ms : List Module) → AreModules ms → (slot : ℕ) → is_held slot ms ≡ true → number_of (λ x. x == slot) (slots_of ms) ≡ 1
+slots_once ms are slot held =
+    omega (arith, slots_counted slot ms, count_held slot ms held, at_most_one slot (slot_count slot ms) (are.slots slot))

@@ -1,12 +1,13 @@
 -- What changes the list of modules (RISC OS 3 Programmer's Reference Manual, "OS_Module", reasons 1, 4, 14, 15 and 16; the order of the refusals, the
 -- lowest slot, and who is preferred, are this project's own).
-use Rattle.std.specs.Prelude.{ℕ, Bool, false, not, ◌+◌, ◌==◌, ◌&&◌, nat_lt, List, [], ◌∷◌, ◌++◌, map, Option, Some, None, ok_or, slice_get, Result, Ok, Err, zero, suc, codes, if◌then◌else◌}
+use Rattle.std.specs.Prelude.{ℕ, ◌≡◌, ◌≤◌, ◌<◌, Bool, false, filter, not, length, ◌+◌, ◌==◌, ◌&&◌, nat_lt, List, [], ◌∷◌, ◌++◌, map, Option, Some, None, ok_or, slice_get, Result, Ok, Err, zero, suc, codes, if◌then◌else◌}
 use Rattle.std.specs.List.{list_any}
 use Rattle.profile.specs.Outcome.{bind}
 use Rattle.profile.specs.declared.error.ErrorNumber.{ErrorNumber}
 use Rattle.profile.specs.declared.error.ErrorNumber.TheVariants.{ModuleNotFound, InstanceExists, InstanceTableFull}
 use Rattle.module_header.specs.declared.header.Header.{Header}
 use Rattle.instances_table.specs.declared.parts.Image.{Image}
+use Rattle.instances_table.specs.declared.parts.NewInstance.{NewInstance}
 use Rattle.instances_table.specs.Modules.{Instance, Module, has_title, has_name, has_slot, has_instance, changed_at}
 use Rattle.instances_table.specs.Names.{parted, name_given, new_name}
 use Rattle.instances_table.specs.Lookup.{number_of_title, place_meant, slot_at}
@@ -21,6 +22,17 @@ lowest_free modules slot (suc n) = if is_held slot modules then lowest_free modu
 
 unfoldable pub free_slot : List Module → Option ℕ
 free_slot modules = lowest_free modules 0 64
+
+-- the modules of a title, of which there is one at most, and those of all other titles
+abbrev pub titled : List ℕ → List Module → List Module
+titled title modules = filter (has_title title) modules
+
+abbrev pub titled_otherwise : List ℕ → List Module → List Module
+titled_otherwise title modules = filter (λ m. not (has_title title m)) modules
+
+-- The lowest slot for an instance of a new module of a title: those of an older module of the title count as free, since that module goes first.
+abbrev pub free_slot_for : List ℕ → List Module → Option ℕ
+free_slot_for title modules = free_slot (titled_otherwise title modules)
 
 -- a module with its first instance, which is preferred
 abbrev pub new_module : Header → Image → ℕ → Module
@@ -53,15 +65,30 @@ abbrev pub holds : ℕ → Option Module → Bool
 holds slot None = false
 holds slot (Some m) = has_instance slot m
 
--- OS_Module 14, as far as the table knows it: the new instance takes the lowest free slot, which is the answer.
-unfoldable pub instantiated : List Module → List ℕ → Result (List Module × ℕ) ErrorNumber
-instantiated modules full =
+-- OS_Module 14, as far as the table knows it: which module the new instance is of, its name, and its slot, which is the lowest free one.
+unfoldable pub instance_room : List Module → List ℕ → Result NewInstance ErrorNumber
+instance_room modules full =
     bind (name_given (parted full).name) (λ given.
     bind (new_name given) (λ name.
     bind (ok_or (number_of_title (parted full).title modules) ModuleNotFound) (λ number.
     if is_named name (slice_get modules number) then Err InstanceExists else
     bind (ok_or (free_slot modules) InstanceTableFull) (λ slot.
-    Ok (changed_at number (with_instance name slot) modules, slot)))))
+    Ok (record { number = number; name = record { items = name }; slot = slot })))))
+
+-- what is so of it: the module is there, and has no instance of the name; the slot is free
+pub record IsRoomFor (new : NewInstance) (modules : List Module) : Type 0 where
+  pub number : new.number < length modules
+  pub below : new.slot < 64
+  pub free : is_held new.slot modules ≡ false
+  pub formed : length new.name.items ≤ 31
+  pub unnamed : is_named new.name.items (slice_get modules new.number) ≡ false
+
+-- The new instance is put in; its slot is the answer.
+abbrev pub with_new_instance : NewInstance → List Module → List Module
+with_new_instance new modules = changed_at new.number (with_instance new.name.items new.slot) modules
+
+unfoldable pub instantiated : List Module → List ℕ → Result (List Module × ℕ) ErrorNumber
+instantiated modules full = bind (instance_room modules full) (λ new. Ok (with_new_instance new modules, new.slot))
 
 -- OS_Module 15: an instance gets another name, formed like a title, that no instance of the module has, itself included. It is found by its slot.
 abbrev pub with_name : ℕ → List ℕ → Instance → Instance

@@ -1,4 +1,6 @@
+pub mod Additions
 pub mod Changes
+pub mod Images
 pub mod Lookup
 pub mod Modules
 pub mod Names

@@ -1,7 +1,7 @@
 -- What is found in the list of modules (RISC OS 3 Programmer's Reference Manual, "OS_Module", reasons 12 and 18, and "Modules", "SWI chunk base
 -- number"). Modules and instances are numbered by their places in the lists, from 0.
 use Rattle.std.specs.Prelude.{ℕ, Bool, not, ◌+◌, ◌-◌, ◌%◌, ◌^◌, ◌==◌, ◌&&◌, nat_lt, List, length, Option, Some, None, option_map, ok_or, slice_get, Result, Ok, if◌then◌else◌}
-use Rattle.std.specs.List.{position}
+use Rattle.std.specs.List.{list_any, position}
 use Rattle.profile.specs.Outcome.{bind}
 use Rattle.profile.specs.declared.error.ErrorNumber.{ErrorNumber}
 use Rattle.profile.specs.declared.error.ErrorNumber.TheVariants.{ModuleNotFound}
@@ -117,3 +117,10 @@ told_of_place i (Some m) = option_map (told_of_instance m) (slice_get m.instance
 abbrev pub instance_count : Option Module → ℕ
 instance_count None = 0
 instance_count (Some m) = length m.instances
+
+-- the module whose image stands at an address of the module area
+abbrev pub is_image_at : ℕ → Module → Bool
+is_image_at at m = m.image.in_rma && m.image.at == at
+
+abbrev pub has_image_at : ℕ → List Module → Bool
+has_image_at at modules = list_any (is_image_at at) modules

@@ -1,5 +1,6 @@
 -- The table as the list that it stands for: the names of all instances stand by slots, and each module has the slots of its instances.
 use Rattle.std.specs.Prelude.{ℕ, List, [], ◌∷◌, ◌++◌, ◌==◌, map, slice_index_or, if◌then◌else◌}
+use Rattle.std.specs.Str.{str_eq_ignore_ascii_case}
 use Rattle.arrayvec.specs.ArrayVec.{ArrayVec}
 use Rattle.instances_table.specs.declared.loaded.Loaded.{Loaded}
 use Rattle.instances_table.specs.Modules.{Instance, Module}
@@ -28,6 +29,11 @@ modules_of names modules = map (module_of names) modules
 abbrev pub all_slots : List Loaded → List ℕ
 all_slots [] = []
 all_slots (l ∷ ls) = l.slots.items ++ all_slots ls
+
+-- the slots of the first module of a title, if there is one
+abbrev pub titled_slots : List ℕ → List Loaded → List ℕ
+titled_slots title [] = []
+titled_slots title (l ∷ ls) = if str_eq_ignore_ascii_case l.header.title.items title then l.slots.items else titled_slots title ls
 
 -- who is preferred among the slots that are left: the oldest, where it was the one that went
 abbrev pub heir : ℕ → ℕ → List ℕ → ℕ

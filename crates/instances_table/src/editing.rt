@@ -85,25 +85,14 @@ impl InstanceTable {
     pub fn instantiate(&mut self, full: &[u8]) -> Result<u32, ErrorNumber>
         ensures { Gives self.old (instantiated self.old full.now) result self.new }
     {
-        let full = FullName::of(full);
-        let name = full.name.ok_or(ErrorNumber::BadString)?;
-        if !is_instance_name(name) {
-            return Err(ErrorNumber::BadString);
-        }
-        let number = self
-            .number_of_title(full.title)
-            .ok_or(ErrorNumber::ModuleNotFound)?;
-        if self.is_named(number, name) {
-            return Err(ErrorNumber::InstanceExists);
-        }
-        let slot = self.free_slot().ok_or(ErrorNumber::InstanceTableFull)?;
-        self.add_instance(number, name, slot);
-        Ok(slot)
+        let new = self.room_for(full)?;
+        self.add_instance(new.number as usize, new.name.as_slice(), new.slot);
+        Ok(new.slot)
     }
 
     /// Whether the module of a number has an instance of a name.
     #[tactic(auto, using(crate::proofs::ViewLemmas::view_steps, crate::proofs::ViewLemmas::named_view))]
-    fn is_named(&self, number: usize, name: &[u8]) -> bool
+    pub(crate) fn is_named(&self, number: usize, name: &[u8]) -> bool
         ensures { result ≡ is_named name.now (slice_get self.now number) }
     {
         match loaded_at(self.modules.as_slice(), number) {
@@ -112,7 +101,7 @@ impl InstanceTable {
         }
     }
 
-    fn add_instance(&mut self, number: usize, name: &[u8], slot: u32)
+    pub(crate) fn add_instance(&mut self, number: usize, name: &[u8], slot: u32)
         requires number { number < length self.old }
         requires below { slot < 64 }
         requires free { is_held slot self.old ≡ false }

@@ -1,15 +1,19 @@
 //! The table of modules: each module that is loaded, with its header, its image, and its instances. No memory is touched here.
 #![tactic(auto)]
 
+pub mod additions;
 mod changes;
+pub mod copies;
 mod counts;
 pub mod editing;
+pub mod images;
 mod loaded;
 mod names;
 pub mod parts;
+pub mod room;
 pub mod table;
 
-pub use parts::{Handler, Image, Information, InstanceInfo, ModuleInfo, Name, Place};
+pub use parts::{Handler, Image, Information, InstanceInfo, ModuleInfo, Name, NewInstance, Place};
 pub use table::InstanceTable;
 
 #[cfg(test)]

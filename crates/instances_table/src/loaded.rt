@@ -4,7 +4,7 @@ ghost use Rattle.std.specs.List.{list_any, position};
 ghost use Rattle.std.specs.Option.{option_copied};
 ghost use Rattle.std.specs.Str.{str_eq_ignore_ascii_case};
 ghost use Rattle.instances_table.specs.Changes.{new_module, without_first};
-ghost use Rattle.instances_table.specs.Table.{Names, name_at, all_slots, module_of, heir};
+ghost use Rattle.instances_table.specs.Table.{Names, name_at, all_slots, titled_slots, module_of, heir};
 ghost use Rattle.instances_table.specs.Lookup.{handled_in, told_of_module, instance_meant};
 
 use crate::names::name_of;
@@ -161,6 +161,37 @@ pub(crate) fn all_slots(modules: &[Loaded]) -> ArrayVec<u32, MOST_INSTANCES>
             .unwrap();
     }
     slots
+}
+
+/// The slots of the module of a title, if there is one.
+#[tactic(auto, using(crate::proofs::RoomViews::titled_passed, crate::proofs::RoomViews::titled_found))]
+pub(crate) fn slots_of_title(modules: &[Loaded], title: &[u8]) -> ArrayVec<u32, MOST_INSTANCES>
+    ensures { result.items ≡ titled_slots title.now modules.now }
+{
+    for loaded in modules {
+        if loaded.has_title(title) {
+            return copy_of(&loaded.slots);
+        }
+    }
+    ArrayVec::new()
+}
+
+fn copy_of(slots: &ArrayVec<u32, MOST_INSTANCES>) -> ArrayVec<u32, MOST_INSTANCES>
+    ensures { result.items ≡ slots.now.items }
+{
+    let mut copy = ArrayVec::new();
+    copy.try_extend_from_slice(slots.as_slice()).unwrap();
+    copy
+}
+
+/// Whether an instance of a module of another title has a slot.
+pub(crate) fn is_held_beside(modules: &[Loaded], title: &[u8], slot: u32) -> bool
+    ensures { result
+        ≡ list_any (λ l. not (str_eq_ignore_ascii_case l.header.title.items title.now) && list_any (λ s. s == slot) l.slots.items) modules.now }
+{
+    modules
+        .iter()
+        .any(|loaded| !loaded.has_title(title) && loaded.has_slot(slot))
 }
 
 /// Whether an instance has a slot.

@@ -49,6 +49,14 @@ pub struct Handler {
     pub slot: u32,
 }
 
+/// Where a new instance is to go: the number of its module, its name, and its slot.
+#[derive(Drop)]
+pub struct NewInstance {
+    pub number: u32,
+    pub name: Name,
+    pub slot: u32,
+}
+
 /// An instance: its name, the slot of its private word, and whether it is the preferred one of its module.
 #[derive(Drop)]
 pub struct InstanceInfo {

@@ -1,7 +1,7 @@
-ghost use Rattle.std.specs.Prelude.{◌≡◌, ◌<◌, [], length, map, true, option_map, slice_get, IfSome};
+ghost use Rattle.std.specs.Prelude.{◌≡◌, ◌≤◌, ◌<◌, [], length, map, true, option_map, slice_get, slice_index, EachIndex, IfSome};
 ghost use Rattle.std.specs.List.{position};
 ghost use Rattle.std.specs.Option.{option_copied};
-ghost use Rattle.instances_table.specs.Modules.{Module, has_instance, slots_of};
+ghost use Rattle.instances_table.specs.Modules.{AreModules, Module, has_instance, slots_of};
 ghost use Rattle.instances_table.specs.Changes.{holds};
 ghost use Rattle.instances_table.specs.Lookup.{handler_of, number_of_title, number_of_call, place_meant, looked_up, information, instance_in, slot_in, slot_within, place_of_slot, told_of_module, told_of_place};
 
@@ -48,6 +48,13 @@ impl InstanceTable {
             names: array::from_fn(|_| Name::new()),
             modules: ArrayVec::new(),
         }
+    }
+
+    /// What holds of every table.
+    pub fn known(&self)
+        ensures { AreModules self.now }
+    {
+        let _ = &self.names;
     }
 
     /// What is told of the module of a number, if there is one.
@@ -222,9 +229,12 @@ impl InstanceTable {
         })
     }
 
-    /// The slots of all instances, module by module, oldest first.
+    /// The slots of all instances, module by module, oldest first. Each module has one at least.
     pub fn slots(&self) -> ArrayVec<u32, MOST_INSTANCES>
-        ensures { result.items ≡ slots_of self.now }
+        ensures value { result.items ≡ slots_of self.now }
+        ensures table { AreModules self.now }
+        ensures below { EachIndex result.items (λ k. slice_index result.items k < 64) }
+        ensures modules { length self.now ≤ length result.items }
     {
         all_slots(self.modules.as_slice())
     }

@@ -47,6 +47,20 @@ pub struct Header {
 impl Header {
     ghost use Rattle.module_header.specs.Header.{header_of};
 
+    /// The same header once more.
+    pub fn copied(&self) -> Header
+        ensures { result ≡ self.now }
+    {
+        Header {
+            title: ArrayVec::try_from(self.title.as_slice()).unwrap(),
+            start: self.start,
+            initialise: self.initialise,
+            finalise: self.finalise,
+            chunk: self.chunk,
+            handler: self.handler,
+        }
+    }
+
     /// The header of an image.
     ///
     /// # Errors

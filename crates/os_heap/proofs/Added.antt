@@ -1,6 +1,6 @@
 -- A heap more, behind all others: its descriptor is written, and its range recorded.
-use Rattle.std.proofs.Common.{ap, cond, subst, Bool, arith, inl, ◌+◌, ◌≡◌, ℕ, true, inr, suc, zero, refl, false, [], List, ◌∷◌, ◌++◌, ◌≤◌, ◌%◌, ◌==◌, ◌&&◌, ◌-◌, leb, ◌^◌, ◌<◌, ◌⊎◌, ◌∙◌, sym, ◌↔◌, ◌||◌, length, Err, Ok}
-use Rattle.std.proofs.lemmas.Bool.{cases_lt, and_parts, both_ways, false_from_ne_true, or_parts, leb-true, ltb-true, eqb-true, le-leb, lt-ltb, cases_Bool, false≢true, eq-eqb, leb-false}
+use Rattle.std.proofs.Common.{ap, cond, subst, Bool, arith, inl, ◌+◌, ◌≡◌, ℕ, true, inr, suc, zero, refl, false, [], List, ◌∷◌, ◌++◌, ◌≤◌, ◌%◌, ◌==◌, ◌&&◌, ◌-◌, leb, ◌^◌, ◌<◌, ◌⊎◌, ◌∙◌, sym, ◌↔◌, ◌||◌, Err, Ok}
+use Rattle.std.proofs.lemmas.Bool.{cases_lt, and_parts, both_ways, false_from_ne_true, or_parts, leb-true, ltb-true, eqb-true, le-leb, lt-ltb, cases_Bool, false≢true, eq-eqb}
 use Rattle.std.proofs.Math.Dec.{ltb}
 use Rattle.std.proofs.lemmas.Bool.Decides.{nat_tests}
 use Rattle.std.specs.List.{list_any}
@@ -23,10 +23,11 @@ use Rattle.os_heap.proofs.Held.{AreBy, marks_begun}
 use Rattle.os_heap.proofs.Anchored.{place_more}
 use Rattle.os_heap.proofs.FlexWords.{AreSameFlex, IsUnflexed}
 use Rattle.os_heap.proofs.Frame.{clear_parts, heaps_in-spelled}
-use Rattle.os_heap.specs.Ranges.{are_mapped, meets, is_heap_region, meets_any, HasRoom, MayBegin}
-use Rattle.os_heap.specs.Store.{AreClasses, AreClear, IsClearOfHeaps, AreHeapsIn, ArePlaced, Store, IsSound, heap_in, heaps_in, is_flex_store, is_in_flex_store, others_in, store_of, IsImageIn, is_area, guest_count, area_count, StandAreas, AreInLimits}
+use Rattle.os_heap.specs.Ranges.{are_mapped, meets, is_heap_region, meets_any, MayBegin}
+use Rattle.os_heap.specs.Store.{AreClasses, AreClear, IsClearOfHeaps, AreHeapsIn, ArePlaced, Store, IsSound, heap_in, heaps_in, is_flex_store, is_in_flex_store, others_in, store_of, IsImageIn, guest_count}
 use Rattle.os_heap.specs.Calls.{begun_with, begun}
 use Rattle.address_map.specs.declared.region.Kind.TheVariants as kind
+use Rattle.os_heap.proofs.Limits.{empty, limits_more}
 
 -- the tests of ranges, and what they say
 pub are_mapped_all : (mapped : ℕ → Bool) (at n : ℕ) → are_mapped mapped at n ≡ true → AreMapped mapped at n
@@ -81,78 +82,6 @@ others_more hs h (r ∷ rs) placed none =
       ],
       others_more hs h rs placed.1 parts.1,
     )
-
--- a heap without items
-abbrev pub empty : Kind → ℕ → ℕ → HeapList
-empty kind at size = record { kind = kind; start = at; end = size; items = [] }
-
--- one heap more is counted
-guests_more : (hs : List HeapList) (h : HeapList) → is_area h.kind ≡ false → guest_count (hs ++ h ∷ []) ≡ guest_count hs + 1
-guests_more [] h guest = rw guest refl
-guests_more (g ∷ hs) h guest = elim (cases_Bool (is_area g.kind)) [
-  | inl area ↦ rw area (guests_more hs h guest)
-  | inr other ↦ rw other (omega (arith, guests_more hs h guest))
-]
-
-guests_same : (hs : List HeapList) (h : HeapList) → is_area h.kind ≡ true → guest_count (hs ++ h ∷ []) ≡ guest_count hs
-guests_same [] h area = rw area refl
-guests_same (g ∷ hs) h area = elim (cases_Bool (is_area g.kind)) [
-  | inl there ↦ rw there (guests_same hs h area)
-  | inr other ↦ rw other (omega (arith, guests_same hs h area))
-]
-
-areas_more : (hs : List HeapList) (h : HeapList) → area_count (hs ++ h ∷ []) ≤ area_count hs + 1
-areas_more [] h = elim (cases_Bool (is_area h.kind)) [ inl area ↦ rw area (omega arith) | inr other ↦ rw other (omega arith) ]
-areas_more (g ∷ hs) h = elim (cases_Bool (is_area g.kind)) [
-  | inl there ↦ rw there (omega (arith, areas_more hs h))
-  | inr other ↦ rw other (areas_more hs h)
-]
-
-areas_same : (hs : List HeapList) (h : HeapList) → is_area h.kind ≡ false → area_count (hs ++ h ∷ []) ≡ area_count hs
-areas_same [] h guest = rw guest refl
-areas_same (g ∷ hs) h guest = elim (cases_Bool (is_area g.kind)) [
-  | inl there ↦ rw there (omega (arith, areas_same hs h guest))
-  | inr other ↦ rw other (areas_same hs h guest)
-]
-
-stand_more : (hs : List HeapList) (h : HeapList) → (is_area h.kind ≡ true → h.start ≡ 0x01800000) → StandAreas hs → StandAreas (hs ++ h ∷ [])
-stand_more [] h here stand = (here, tt)
-stand_more (g ∷ hs) h here stand = (stand.0, stand_more hs h here stand.1)
-
-limits_more : (k : Kind) (s : Store) (at size : ℕ) → HasRoom k s at → AreInLimits s.heaps → AreInLimits (s.heaps ++ empty k at size ∷ [])
-limits_more kind.Heap s at size room limits = record {
-  guests = omega (arith, guests_more s.heaps (empty kind.Heap at size) refl, leb-false 64 (guest_count s.heaps) room);
-  areas = omega (arith, areas_same s.heaps (empty kind.Heap at size) refl, limits.areas);
-  place = stand_more s.heaps (empty kind.Heap at size) (λ area. absurd (false≢true area)) limits.place;
-}
-limits_more kind.Rma s at size room limits = record {
-  guests = omega (arith, guests_same s.heaps (empty kind.Rma at size) refl, limits.guests);
-  areas = omega (arith, areas_more s.heaps (empty kind.Rma at size), room.0);
-  place = stand_more s.heaps (empty kind.Rma at size) (λ _. room.1) limits.place;
-}
-limits_more kind.FlexStore s at size room limits = absurd room
-limits_more kind.FlexHeader s at size room limits = absurd room
-limits_more kind.Anchor s at size room limits = absurd room
-limits_more kind.HeadWord s at size room limits = absurd room
-limits_more kind.Image s at size room limits = absurd room
-limits_more kind.SystemPage s at size room limits = absurd room
-
-heaps_counted : (hs : List HeapList) → length hs ≡ guest_count hs + area_count hs
-heaps_counted [] = refl
-heaps_counted (h ∷ hs) = elim (cases_Bool (is_area h.kind)) [
-  | inl area ↦ rw area (omega (arith, heaps_counted hs))
-  | inr other ↦ rw other (omega (arith, heaps_counted hs))
-]
-
-few_heaps : (k : Kind) (s : Store) (at : ℕ) → HasRoom k s at → AreInLimits s.heaps → length s.heaps ≤ 64
-few_heaps kind.Heap s at room limits = omega (arith, heaps_counted s.heaps, leb-false 64 (guest_count s.heaps) room, limits.areas)
-few_heaps kind.Rma s at room limits = omega (arith, heaps_counted s.heaps, room.0, limits.guests)
-few_heaps kind.FlexStore s at room limits = absurd room
-few_heaps kind.FlexHeader s at room limits = absurd room
-few_heaps kind.Anchor s at room limits = absurd room
-few_heaps kind.HeadWord s at room limits = absurd room
-few_heaps kind.Image s at room limits = absurd room
-few_heaps kind.SystemPage s at room limits = absurd room
 
 -- what the test of a heap's range says
 pub record CanHold (b : Bytes) (at size : ℕ) : Type 0 where
@@ -347,7 +276,7 @@ store_begun m n k at size heap may sound records bytes flex =
     })
 
 -- the tests that the code makes
-same_tests : (t u : Bool) → (t ≡ true → u ≡ true) → (u ≡ true → t ≡ true) → t ≡ u
+pub same_tests : (t u : Bool) → (t ≡ true → u ≡ true) → (u ≡ true → t ≡ true) → t ≡ u
 same_tests true u h g = sym (h refl)
 same_tests false u h g = sym (false_from_ne_true u (λ e. false≢true (g e)))
 
@@ -367,40 +296,22 @@ or_next : (a b c : Bool) → ((a || b) || c) ≡ (a || (b || c))
 or_next true b c = refl
 or_next false b c = refl
 
-meets_ranges : (b : Bytes) (at len : ℕ) (rs : List Region)
-    → list_any (λ r. meets at len r.at r.len) rs ≡ (list_any (λ h. meets at len h.start h.end) (heaps_in b rs) || list_any (λ r. meets at len r.at r.len) (others_in rs))
-meets_ranges b at len [] = refl
-meets_ranges b at len (r ∷ rs) =
-    let parts : Bool = list_any (λ h. meets at len h.start h.end) (heaps_in b rs) in
-    let others : Bool = list_any (λ r. meets at len r.at r.len) (others_in rs) in
+-- a test of ranges is made of heaps and of the other records
+pub ranges_split : (test : ℕ → ℕ → Bool) (b : Bytes) (rs : List Region)
+    → list_any (λ r. test r.at r.len) rs ≡ (list_any (λ h. test h.start h.end) (heaps_in b rs) || list_any (λ r. test r.at r.len) (others_in rs))
+ranges_split test b [] = refl
+ranges_split test b (r ∷ rs) =
+    let parts : Bool = list_any (λ h. test h.start h.end) (heaps_in b rs) in
+    let others : Bool = list_any (λ r. test r.at r.len) (others_in rs) in
     elim (cases_Bool (is_heap_kind r.kind)) [
-      | inl heap ↦ rw (heap, meets_ranges b at len rs) (sym (or_next (meets at len r.at r.len) parts others))
-      | inr other ↦ rw (other, meets_ranges b at len rs) (or_middle (meets at len r.at r.len) parts others)
+      | inl heap ↦ rw (heap, ranges_split test b rs) (sym (or_next (test r.at r.len) parts others))
+      | inr other ↦ rw (other, ranges_split test b rs) (or_middle (test r.at r.len) parts others)
     ]
 
 pub meets_recorded : (m : AddressMap) (at len : ℕ)
     → (list_any (λ r. meets at len r.at r.len) (regions m) || anchor_among (anchor_of m) at len) ≡ meets_any at len (store_of m)
 unfolding store_of
-meets_recorded m at len = ap (λ (t : Bool). t || anchor_among (anchor_of m) at len) (meets_ranges (bytes_of m) at len (regions m))
-
-records_counted : (b : Bytes) (rs : List Region) → length rs ≡ length (heaps_in b rs) + length (others_in rs)
-records_counted b [] = refl
-records_counted b (r ∷ rs) =
-    elim (cases_Bool (is_heap_kind r.kind)) [
-      | inl heap ↦ rw heap (omega (arith, records_counted b rs))
-      | inr other ↦ rw other (omega (arith, records_counted b rs))
-    ]
-
-pub records_room : (m : AddressMap) (k : Kind) (at : ℕ) → IsSound (store_of m) → HasRoom k (store_of m) at → length (regions m) < 133
-unfolding store_of
-records_room m k at sound room =
-    omega (arith, records_counted (bytes_of m) (regions m), few_heaps k (store_of m) at room sound.limits, sound.few)
-
--- the same of another record
-pub range_room : (m : AddressMap) → IsSound (store_of m) → length (store_of m).others < 68 → length (regions m) < 133
-unfolding store_of
-range_room m sound room =
-    omega (arith, records_counted (bytes_of m) (regions m), heaps_counted (store_of m).heaps, sound.limits.guests, sound.limits.areas, room)
+meets_recorded m at len = ap (λ (t : Bool). t || anchor_among (anchor_of m) at len) (ranges_split (meets at len) (bytes_of m) (regions m))
 
 -- the refusals in their order
 pub begun_bad : (s : Store) (at size : ℕ) → is_heap_region s.bytes at size ≡ false → begun s at size ≡ Err HeapBadRegion

@@ -71,7 +71,7 @@ place_more [] h a place out = (inl out, tt)
 place_more (g ∷ hs) h a place out = (place.0, place_more hs h a place.1 out)
 
 -- the flex store meets no heap, so its headers lie in none
-not_flex : (k : Kind) → is_flex_store k ≡ true → is_image k ≡ true → ⊥
+pub not_flex : (k : Kind) → is_flex_store k ≡ true → is_image k ≡ true → ⊥
 not_flex kind.FlexStore flex image = false≢true image
 not_flex kind.Heap flex image = false≢true flex
 not_flex kind.Rma flex image = false≢true flex

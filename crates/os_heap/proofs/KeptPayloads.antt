@@ -203,14 +203,14 @@ given_back (Ok u) t x y e =
 given_back (Err f) t x y e = absurd (let no : Err f ≡ Ok (t, y) = e in cc)
 
 -- what a claim in a heap says of its list
-record IsClaim (h : HeapList) (new : ℕ) (c : Claim) : Type 0 where
-  totals : AreTotals c.items
-  inside : 16 + size_of c.items ≤ h.end
-  fresh : live_total (h.start + 16 + c.offset + 4) (h.start + 16) c.items ≡ Some new
-  unheld : is_some (live_total (h.start + 16 + c.offset + 4) (h.start + 16) h.items) ≡ false
-  still : (block total : ℕ) → live_total block (h.start + 16) h.items ≡ Some total → live_total block (h.start + 16) c.items ≡ Some total
+pub record IsClaim (h : HeapList) (new : ℕ) (c : Claim) : Type 0 where
+  pub totals : AreTotals c.items
+  pub inside : 16 + size_of c.items ≤ h.end
+  pub fresh : live_total (h.start + 16 + c.offset + 4) (h.start + 16) c.items ≡ Some new
+  pub unheld : is_some (live_total (h.start + 16 + c.offset + 4) (h.start + 16) h.items) ≡ false
+  pub still : (block total : ℕ) → live_total block (h.start + 16) h.items ≡ Some total → live_total block (h.start + 16) c.items ≡ Some total
 
-is_claim : (b : Bytes) (h : HeapList) (new : ℕ) (c : Claim) → IsHeapIn b h.start h.end h.items → is_total new ≡ true
+pub is_claim : (b : Bytes) (h : HeapList) (new : ℕ) (c : Claim) → IsHeapIn b h.start h.end h.items → is_total new ≡ true
     → claimed new (h.end - 16) h.items ≡ Some c → IsClaim h new c
 is_claim b h new c heap total e =
     let within : size_of c.items ≤ h.end - 16 =

@@ -160,7 +160,7 @@ unowned b (g ∷ hs) h a parts others free inside =
       head_free (inr apart) =
           false_from_ne_true _ (λ is. both_ways (in_range g.start g.end a) (apart.1 a inside) (byte_inside b g.start g.end g.items a parts.0 is))
 
-unowned_in : (m : AddressMap) (h : HeapList) (a : ℕ) → IsSound (store_of m) → find_heap h.start (store_of m).heaps ≡ Some h
+pub unowned_in : (m : AddressMap) (h : HeapList) (a : ℕ) → IsSound (store_of m) → find_heap h.start (store_of m).heaps ≡ Some h
     → is_heap_word h.start h.items (word_start a) ≡ false → in_range h.start h.end a ≡ true → are_owned (store_of m).heaps a ≡ false
 unfolding store_of
 unowned_in m h a sound found free inside =

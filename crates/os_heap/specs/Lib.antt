@@ -1,6 +1,7 @@
 pub mod Calls
 pub mod Laws
 pub mod Outcomes
+pub mod Payloads
 pub mod Probes
 pub mod Ranges
 pub mod Room

@@ -65,7 +65,8 @@ impl Heaps {
     }
 }
 
-fn blocks_of<'a>(map: &'a AddressMap, heap: u32, end: u32) -> Blocks<'a>
+/// The items of a heap that memory spells.
+pub(crate) fn blocks_of<'a>(map: &'a AddressMap, heap: u32, end: u32) -> Blocks<'a>
     requires { IsHeapAt map.now heap end }
     ensures { result ≡ items_at map.now heap }
 {

@@ -12,8 +12,9 @@ ghost use Rattle.os_heap.specs.Probes.{walk_probes};
 use crate::counted::Counted;
 use crate::heaps::{Heaps, find};
 use crate::marks::remark_gap;
+use crate::neighbour::{free_behind, own_total};
 use crate::walk::{Cursor, find_guest_block};
-use crate::words::{BASE, follow, put, put_free, put_link, word};
+use crate::words::{BASE, put, put_free, put_link, word};
 use address_map::{AddressMap, Item};
 use profile::ErrorNumber;
 
@@ -24,7 +25,7 @@ pub(crate) fn give_back(map: &mut AddressMap, heap: u32, block: u32, cursor: &Cu
     ensures { Releases map.old map.new heap (end_at map.old heap) (Ok tt) (released block (heap + 16) (items_at map.old heap)) }
 {
     let base = heap + word(map, heap + BASE);
-    let own = word(map, cursor.at);
+    let own = own_total(map, heap, block, cursor);
     let behind = cursor.at + own;
     let at = cursor.at - cursor.gap;
     let total = cursor.gap + own;
@@ -35,11 +36,10 @@ pub(crate) fn give_back(map: &mut AddressMap, heap: u32, block: u32, cursor: &Cu
         return;
     }
     if behind == cursor.free {
-        let room = word(map, behind + 4);
-        let joined = total + room;
-        let next = follow(map, heap, behind);
-        put_free(map, heap, cursor.from, at, joined, next);
-        let olds = [Item::Live(own), Item::Free(room)];
+        let item = free_behind(map, heap, block, cursor);
+        let joined = total + item.total;
+        put_free(map, heap, cursor.from, at, joined, item.next);
+        let olds = [Item::Live(own), Item::Free(item.total)];
         remark_gap(map, cursor, &olds, &[Item::Free(joined)]);
         return;
     }
@@ -53,7 +53,7 @@ pub(crate) fn holds_anchor(map: &AddressMap, heap: u32, block: u32, cursor: &Cur
     requires block { IsBlock heap (items_at map.now heap) block cursor.now.from cursor.now.at cursor.now.free cursor.now.gap }
     ensures { result ≡ has_anchor_in map.now heap block }
 {
-    map.anchor_in(cursor.at, word(map, cursor.at))
+    map.anchor_in(cursor.at, own_total(map, heap, block, cursor))
 }
 
 /// Gives a block of one heap back, where no anchor is in it.

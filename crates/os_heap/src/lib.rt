@@ -12,6 +12,8 @@ pub mod init;
 pub mod laws;
 mod links;
 pub mod marks;
+mod neighbour;
+pub mod payload;
 mod refit;
 mod relocate;
 pub mod resize;
@@ -26,6 +28,7 @@ pub use blocks::Blocks;
 pub use claim::total_for;
 pub use counted::Counted;
 pub use heaps::Heaps;
+pub use payload::Payload;
 pub use sums::{changed_by, round_up_8};
 
 #[cfg(test)]

@@ -8,8 +8,9 @@ ghost use Rattle.os_heap_lists.specs.Walks.{last_link, IsBlock};
 ghost use Rattle.os_heap_lists.specs.Lists.{resized_in_place};
 
 use crate::marks::remark;
+use crate::neighbour::{free_behind, own_total};
 use crate::walk::{Cursor, last_link};
-use crate::words::{BASE, END, follow, put, put_free, put_link, word};
+use crate::words::{BASE, END, put, put_free, put_link, word};
 use address_map::{AddressMap, Item};
 
 /// Gives a block another total where it stands, if it can, and tells whether it did.
@@ -26,7 +27,7 @@ pub(crate) fn refit(
     requires small { needed < 2 ^ 34 }
     ensures { Refits map.old map.new heap (end_at map.old heap) result (resized_in_place block (heap + end_at map.old heap) needed (heap + 16) (items_at map.old heap)) }
 {
-    let total = word(map, cursor.at);
+    let total = own_total(map, heap, block, cursor);
     if needed == u64::from(total) {
         return true;
     }
@@ -68,15 +69,14 @@ fn cut(map: &mut AddressMap, heap: u32, block: u32, cursor: &Cursor, needed: u32
     requires smaller { needed < word_at (byte_at map.old) cursor.now.at }
     ensures { Refits map.old map.new heap (end_at map.old heap) true (resized_in_place block (heap + end_at map.old heap) needed (heap + 16) (items_at map.old heap)) }
 {
-    let total = word(map, cursor.at);
+    let total = own_total(map, heap, block, cursor);
     let behind = cursor.at + total;
     let left = total - needed;
     if behind == cursor.free {
-        let room = word(map, behind + 4);
-        let joined = left + room;
-        let next = follow(map, heap, behind);
-        divide(map, heap, cursor, needed, joined, next);
-        let olds = [Item::Live(total), Item::Free(room)];
+        let item = free_behind(map, heap, block, cursor);
+        let joined = left + item.total;
+        divide(map, heap, cursor, needed, joined, item.next);
+        let olds = [Item::Live(total), Item::Free(item.total)];
         remark(
             map,
             cursor.at,
@@ -99,28 +99,27 @@ fn grow(map: &mut AddressMap, heap: u32, block: u32, cursor: &Cursor, needed: u6
     requires larger { word_at (byte_at map.old) cursor.now.at < needed }
     ensures { Refits map.old map.new heap (end_at map.old heap) result (resized_in_place block (heap + end_at map.old heap) needed (heap + 16) (items_at map.old heap)) }
 {
-    let total = word(map, cursor.at);
+    let total = own_total(map, heap, block, cursor);
     let behind = cursor.at + total;
     if behind != cursor.free {
         return false;
     }
-    let free = word(map, behind + 4);
-    let room = total + free;
+    let item = free_behind(map, heap, block, cursor);
+    let room = total + item.total;
     if needed > u64::from(room) {
         return false;
     }
-    let next = follow(map, heap, behind);
     let grown = needed as u32;
     let left = room - grown;
-    let olds = [Item::Live(total), Item::Free(free)];
+    let olds = [Item::Live(total), Item::Free(item.total)];
     if left == 0 {
         let from = last_link(cursor);
-        put_link(map, heap, from, next);
+        put_link(map, heap, from, item.next);
         put(map, cursor.at, grown);
         remark(map, cursor.at, &olds, &[Item::Live(grown)]);
         return true;
     }
-    divide(map, heap, cursor, grown, left, next);
+    divide(map, heap, cursor, grown, left, item.next);
     remark(
         map,
         cursor.at,

@@ -89,7 +89,7 @@ place_whole : (moves : Bool) (top at : ℕ) → (at - top) % 8 ≡ 0 → ((place
 place_whole true top at whole = (let none : top - top ≡ 0 = omega arith in rw none refl, whole)
 place_whole false top at whole = (whole, let none : at - at ≡ 0 = omega arith in rw none refl)
 
-slid_totals : (mv : ℕ → Bool) (top at : ℕ) (xs : List Item) → top ≤ at → (at - top) % 8 ≡ 0 → AreTotals xs → AreTotals (slid mv top at xs)
+pub slid_totals : (mv : ℕ → Bool) (top at : ℕ) (xs : List Item) → top ≤ at → (at - top) % 8 ≡ 0 → AreTotals xs → AreTotals (slid mv top at xs)
 slid_totals mv top at [] low whole totals = tt
 slid_totals mv top at (Free t ∷ xs) low whole totals =
     slid_totals mv top (at + t) xs (omega arith) (omega (arith, whole, total_facts t totals.0)) totals.1

@@ -1,5 +1,6 @@
 pub mod Beginning
 pub mod Ending
+pub mod KeptBlocks
 pub mod LawLemmas
 pub mod Laying
 pub mod Listing

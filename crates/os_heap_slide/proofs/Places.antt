@@ -24,13 +24,13 @@ eighths true top at one two = one
 eighths false top at one two = two
 
 -- the first of some moves
-one_moved : (at place : ℕ) (ms : List Move) (b : ℕ) → at + 4 ≢ b → moved_to (move_of at place ++ ms) b ≡ moved_to ms b
+pub one_moved : (at place : ℕ) (ms : List Move) (b : ℕ) → at + 4 ≢ b → moved_to (move_of at place ++ ms) b ≡ moved_to ms b
 one_moved at place ms b other = elim (cases_Bool (place == at)) [
   | inl here ↦ rw here refl
   | inr moves ↦ rw (moves, ne_eqb (at + 4) b other) refl
 ]
 
-first_moved : (at place : ℕ) (ms : List Move) → moved_to ms (at + 4) ≡ at + 4 → moved_to (move_of at place ++ ms) (at + 4) ≡ place + 4
+pub first_moved : (at place : ℕ) (ms : List Move) → moved_to ms (at + 4) ≡ at + 4 → moved_to (move_of at place ++ ms) (at + 4) ≡ place + 4
 first_moved at place ms rest = elim (cases_Bool (place == at)) [
   | inl here ↦ let e : place ≡ at = eqb-true place at here in rw (here, e) rest
   | inr moves ↦ rw (moves, eq-eqb (at + 4) (at + 4) refl) refl
@@ -78,7 +78,7 @@ laid_later top place t zs b low other = elim (cases_Bool (place - top == 0)) [
       rw (some, k, ne_eqb (place + 4) b ne) refl
 ]
 
-some_low : (b at t : ℕ) (xs : List Item) → live_total b at xs ≡ Some t → at + 4 ≤ b
+pub some_low : (b at t : ℕ) (xs : List Item) → live_total b at xs ≡ Some t → at + 4 ≤ b
 some_low b at t xs live = live_low b at xs (rw live refl)
 
 -- a live block is live at its new address

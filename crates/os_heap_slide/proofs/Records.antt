@@ -22,7 +22,7 @@ use Rattle.os_heap_slide.proofs.Places.{low_still, moved_live, past_still, stay_
 use Rattle.os_heap_slide.specs.Slide.{is_listed, moves_of, slid}
 
 -- kinds whose records stay, and the one whose records follow
-image_place : (moves : List Move) (k : Kind) (a : ℕ) → is_image k ≡ true → moved_place moves k a ≡ moved_to moves a
+pub image_place : (moves : List Move) (k : Kind) (a : ℕ) → is_image k ≡ true → moved_place moves k a ≡ moved_to moves a
 image_place moves kind.Image a is = refl
 image_place moves kind.Heap a is = absurd (false≢true is)
 image_place moves kind.Rma a is = absurd (false≢true is)
@@ -32,7 +32,7 @@ image_place moves kind.Anchor a is = absurd (false≢true is)
 image_place moves kind.HeadWord a is = absurd (false≢true is)
 image_place moves kind.SystemPage a is = absurd (false≢true is)
 
-still_place : (moves : List Move) (k : Kind) (a : ℕ) → moved_to moves a ≡ a → moved_place moves k a ≡ a
+pub still_place : (moves : List Move) (k : Kind) (a : ℕ) → moved_to moves a ≡ a → moved_place moves k a ≡ a
 still_place moves kind.Image a still = still
 still_place moves kind.Heap a still = refl
 still_place moves kind.Rma a still = refl
@@ -122,7 +122,7 @@ abbrev pub slid_in : HeapList → List ℕ → List Item
 slid_in h movable = slid (is_listed movable) (h.start + 16) (h.start + 16) h.items
 
 -- an address out of the heap is no block that moves
-out_still : (b c : Bytes) (h : HeapList) (movable : List ℕ) (a : ℕ) → IsSlide b c h movable → in_range h.start h.end a ≡ false
+pub out_still : (b c : Bytes) (h : HeapList) (movable : List ℕ) (a : ℕ) → IsSlide b c h movable → in_range h.start h.end a ≡ false
     → moved_to (moves_in h movable) a ≡ a
 out_still b c h movable a s out = elim (in_range-cases h.start h.end a) [
   | inl r ↦ absurd (false≢true (sym out ∙ r.0))
@@ -279,7 +279,7 @@ clear_moved b c h hs movable r s found clear = elim (cases_eq r.len 0) [
       rw still (clear-held r.at r.len h.start (slid_in h movable) hs clear)
 ]
 
-image_in_moved : (b c : Bytes) (h : HeapList) (hs : List HeapList) (movable : List ℕ) (r : Region) → IsSlide b c h movable → AreHeapsIn b hs → AreOthers h hs
+pub image_in_moved : (b c : Bytes) (h : HeapList) (hs : List HeapList) (movable : List ℕ) (r : Region) → IsSlide b c h movable → AreHeapsIn b hs → AreOthers h hs
     → IsImageIn hs r → IsImageIn (with_items h.start (slid_in h movable) hs) (moved_region (moves_in h movable) r)
 image_in_moved b c h [] movable r s heaps others image = image
 image_in_moved b c h (g ∷ hs) movable r s heaps others image = elim others.0 [

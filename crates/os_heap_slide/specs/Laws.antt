@@ -1,13 +1,15 @@
 -- What holds of every slide, said another way than its definition.
 use Rattle.std.specs.Prelude.{ℕ, ◌≡◌, ◌≤◌, ◌<◌, Bool, true, ◌+◌, ◌-◌, ◌%◌, List, [], ◌∷◌, Some, Ok}
 use Rattle.address_map.specs.Items.{size_of}
+use Rattle.address_map.specs.Moves.{moved_to}
 use Rattle.address_map.specs.declared.item.Item.{Item}
 use Rattle.address_map.specs.declared.item.Item.TheVariants.{Free, Live}
 use Rattle.os_heap_lists.specs.Counts.{free_count}
 use Rattle.os_heap_lists.specs.Heap.{AreSpaced, AreTotals, HeapList}
+use Rattle.os_heap_lists.specs.Lists.{live_total}
 use Rattle.os_heap.specs.Calls.{described}
 use Rattle.os_heap.specs.Store.{find_heap, Store}
-use Rattle.os_heap_slide.specs.Slide.{is_listed, place_of, slid, slid_bytes, with_slid}
+use Rattle.os_heap_slide.specs.Slide.{is_listed, moves_of, place_of, slid, slid_bytes, with_slid}
 
 -- the bytes of each live item stand at its new place
 abbrev pub KeepsContents : (ℕ → Bool) → ℕ → ℕ → List Item → (ℕ → ℕ) → (ℕ → ℕ) → Type 0
@@ -20,6 +22,14 @@ KeepsContents movable top at (Free t ∷ xs) old new = KeepsContents movable top
 abbrev pub SlideKeeps : Type 0
 SlideKeeps = (movable : ℕ → Bool) (top at : ℕ) (xs : List Item) (bytes : ℕ → ℕ) → top ≤ at
     → KeepsContents movable top at xs bytes (slid_bytes movable top at xs bytes)
+
+-- The same of the store, block by block: a live block is live where it went, and holds the same bytes there.
+abbrev pub SlideKeepsBlocks : Type 0
+SlideKeepsBlocks = (s : Store) (h : HeapList) (movable : List ℕ) → h.start % 4 ≡ 0 → AreTotals h.items
+    → (block total : ℕ) → live_total block (h.start + 16) h.items ≡ Some total
+    → (let to : ℕ = moved_to (moves_of (is_listed movable) (h.start + 16) (h.start + 16) h.items) block in
+    (live_total to (h.start + 16) (slid (is_listed movable) (h.start + 16) (h.start + 16) h.items) ≡ Some total)
+    × ((k : ℕ) → k + 4 < total → (with_slid s h movable).bytes.at (to + k) ≡ s.bytes.at (block + k)))
 
 -- no two free items are side by side, the last item is live, and the heap doesn't grow
 abbrev pub SlideFits : Type 0

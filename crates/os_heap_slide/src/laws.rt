@@ -1,11 +1,16 @@
 //! Laws over the definitions, each the contract of a function that does nothing.
 
-ghost use Rattle.os_heap_slide.specs.Laws.{SlideClears, SlideDescribes, SlideFits, SlideKeeps};
+ghost use Rattle.os_heap_slide.specs.Laws.{SlideClears, SlideDescribes, SlideFits, SlideKeeps, SlideKeepsBlocks};
 
 /// A slide keeps the bytes of each live item, at its new place.
 #[tactic(auto, using(crate::proofs::LawLemmas::slide_keeps))]
 pub fn slides_keep_contents()
     ensures { SlideKeeps }
+{}
+
+/// A live block is live after a slide, where it went, with the bytes that it held.
+pub fn slides_keep_blocks()
+    ensures { SlideKeepsBlocks }
 {}
 
 /// After a slide no two free items are side by side, the last item is live, and the heap is no larger.

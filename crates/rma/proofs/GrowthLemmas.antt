@@ -1,5 +1,5 @@
 -- The module area where it grows: how far its heap reaches then.
-use Rattle.std.proofs.Common.{◌≡◌, ℕ, ◌+◌, ◌-◌, ◌*◌, ◌/◌, ◌<◌, ◌≤◌, true, false, refl, sym, ap, subst, Some, None, Ok, Err, inl, inr, arith}
+use Rattle.std.proofs.Common.{◌≡◌, ℕ, ◌+◌, ◌-◌, ◌*◌, ◌/◌, ◌<◌, ◌≤◌, true, false, refl, sym, ap, ◌∙◌, subst, Some, None, Ok, Err, inl, inr, arith}
 use Rattle.std.specs.Prelude.{Option, Result, is_some, nat_le, nat_lt, min}
 use Rattle.std.proofs.lemmas.Bool.{cases_Bool, lt-ltb, le-ltb, le-leb, lt-leb, leb-true, ltb-true, ltb-false}
 use Rattle.profile.specs.Outcome.{Leaves}
@@ -9,6 +9,7 @@ use Rattle.address_map.specs.Bytes.{in_range}
 use Rattle.os_heap_lists.specs.Heap.{HeapList, AreTotals}
 use Rattle.os_heap.specs.Store.{Store, find_heap}
 use Rattle.dynamic_areas.specs.declared.area.Area.{Area}
+use Rattle.dynamic_areas.specs.declared.area.Changed.{Changed}
 use Rattle.dynamic_areas.specs.Areas.{Land, find_area}
 use Rattle.dynamic_areas.specs.Changing.{change_answer, growth_room, is_growth, land_changed, land_more, moving, pages_had, store_changed, store_extended}
 use Rattle.dynamic_areas.specs.Creating.{pages_for}
@@ -167,6 +168,23 @@ is_changed e h s pool l amount bytes good after grows moved room land store =
     let pool' : pool ≡ e.pool - count =
     omega (arith, pages, good.ground.pages, pages_counted 1 e.land.areas a (a.pages + count) h.found) in
     λ i. record { store = store' i; pool = pool' i; land = land' i }
+
+-- the area's own call where the measure told no error: there is room for all pages, and the estate has them
+pub record HasMore (e : Estate) (h : HasArea e) (s : Store) (pool : ℕ) (l : Land) (amount : ℕ) : Type 0 where
+  pub room : pages_for amount ≤ growth_room e.pool h.area
+  pub same : (let g : Estate = record { store = s; pool = pool; land = l } in g ≡ with_pages_more e (pages_for amount))
+
+pub has_more : (e : Estate) (h : HasArea e) (s : Store) (pool : ℕ) (l : Land) (amount : ℕ) (told made : Changed) → IsEstate e → AreAreas s pool l
+    → amount < 2147483648 → told ≡ change_answer e.land.areas e.store e.pool 1 amount → is_some told.error ≡ false
+    → made ≡ change_answer e.land.areas e.store e.pool 1 amount
+    → l ≡ land_changed e.land 1 amount made.bytes → s ≡ store_changed e.store e.land.areas 1 amount made.bytes → HasMore e h s pool l amount
+has_more e h s pool l amount told made good after low measure none change land store =
+    let grows : is_growth amount ≡ true = lt-ltb amount 2147483648 low in
+    let answer = measure ∙ measured e h amount grows in
+    let room : pages_for amount ≤ growth_room e.pool h.area =
+    error_none (pages_for amount) (growth_room e.pool h.area) (sym (ap (λ (x : Changed). is_some x.error) answer) ∙ none) in
+    let moved = ap (λ (x : Changed). x.bytes) (change ∙ measured e h amount grows) in
+    record { room = room; same = is_changed e h s pool l amount made.bytes good after grows moved room land store }
 
 pub mapped_more : (e : Estate) (h : HasArea e) (count x : ℕ) → e.store.bytes.mapped x ≡ true
     → (with_pages_more e count).store.bytes.mapped x ≡ true

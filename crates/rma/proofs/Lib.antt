@@ -2,5 +2,7 @@ mod Estates
 mod ExtendLemmas
 mod GrowthLemmas
 pub mod ImageLemmas
+pub mod InPlaceLemmas
+mod NewImageLemmas
 mod ResizeLemmas
 mod Undoing

@@ -1,7 +1,7 @@
 -- A claim without growth, and the release of its block.
-use Rattle.std.proofs.Common.{◌≡◌, ◌≢◌, ℕ, ◌+◌, ◌-◌, ◌≤◌, ◌==◌, List, [], ◌∷◌, true, false, refl, sym, ap, subst, ◌∙◌, Some, None, Ok, Err, inl, inr, arith}
+use Rattle.std.proofs.Common.{◌≡◌, ◌≢◌, ℕ, ◌+◌, ◌-◌, ◌≤◌, true, false, refl, sym, ap, subst, ◌∙◌, Some, None, Ok, Err, inl, inr, arith}
 use Rattle.std.specs.Prelude.{Option, Result, is_some, ok_or}
-use Rattle.std.proofs.lemmas.Bool.{both_ways, cases_Bool, false_from_ne_true, false≢true, le-leb, lt-ltb}
+use Rattle.std.proofs.lemmas.Bool.{both_ways, false_from_ne_true, false≢true, le-leb, lt-ltb}
 use Rattle.profile.specs.Outcome.{bind}
 use Rattle.profile.specs.declared.error.ErrorNumber.{ErrorNumber}
 use Rattle.profile.specs.declared.error.ErrorNumber.TheVariants.{HeapNoRoom}
@@ -15,8 +15,8 @@ use Rattle.os_heap_lists.proofs.LiveBlocks.{IsFresh, IsStill, LiveBytes, claim_f
 use Rattle.os_heap_lists.proofs.ReleaseOfClaim.{gives_back}
 use Rattle.os_heap_lists.proofs.Spelling.{total_of-numbers}
 use Rattle.os_heap.specs.Calls.{gave_back, got, holding, holds_anchor, items_of, with_items}
-use Rattle.os_heap.specs.Store.{IsAnchorPlace, IsSound, Store, find_heap, has_image}
-use Rattle.os_heap.proofs.Anchored.{IsPlacedBy}
+use Rattle.os_heap.specs.Store.{IsSound, Store, find_heap, has_image}
+use Rattle.os_heap.proofs.Anchored.{place_in}
 use Rattle.os_heap.proofs.Moving.{found_held}
 use Rattle.dynamic_areas.specs.Ground.{Estate, IsEstate}
 use Rattle.rma.specs.Calls.{is_full, or_grown, rma_base, rma_claimed, rma_freed, with_store}
@@ -27,17 +27,6 @@ use Rattle.rma.proofs.GrowthLemmas.{HasArea, area_there}
 abbrev IsUndoneBy : Estate → Result (Estate × ℕ) ErrorNumber → Type 0
 IsUndoneBy e (Ok r) = has_image r.1 e.store.others ≡ false → IsUndone e (rma_freed r.0 r.1)
 IsUndoneBy e (Err f) = Unit {0}
-
--- where an anchor lies, by one heap
-placed_by : (start : ℕ) (hs : List HeapList) (h : HeapList) (a : ℕ) → find_heap start hs ≡ Some h → IsAnchorPlace hs a → IsPlacedBy h a
-placed_by start [] h a found place = absurd (let none : None ≡ Some h = found in cc)
-placed_by start (g ∷ hs) h a found place = elim (cases_Bool (g.start == start)) [
-  | inl here ↦
-      let found' = rw here at found in
-      let same : g ≡ h = cc in
-      subst (λ (x : HeapList). IsPlacedBy x a) same place.0
-  | inr other ↦ placed_by start hs h a (rw other at found) place.1
-]
 
 -- no anchor lies where a claim makes a block
 claim_unanchored : (s : Store) (h : HeapList) (n : ℕ) (c : Claim) → IsSound s → is_total n ≡ true → find_heap h.start s.heaps ≡ Some h
@@ -54,7 +43,7 @@ claim_unanchored s h n c sound total found heap made =
     subst (IsUnheld (h.start + 16) h.items) made (claim_unheld n (h.end - 16) (h.start + 16) h.items heap.totals) in
     let place : LiveBytes new n (h.start + 16) (h.start + 16 + size_of c.items) = live_bytes new n (h.start + 16) c.items totals fresh in
     rw fresh (among_none s.anchor (h.start + 16 + c.offset + 4 - 4) n (λ a low high. false_from_ne_true (s.anchor a) (λ is.
-    elim (placed_by h.start s.heaps h a found (sound.anchors a is).1) [
+    elim (place_in h.start s.heaps h a found (sound.anchors a is).1) [
       | inl out ↦ both_ways (in_range h.start h.end a) out
           (rw (le-leb h.start a (omega (arith, low)), lt-ltb a (h.start + h.end) (omega (arith, high, place.high, place.size, within))) refl)
       | inr held ↦

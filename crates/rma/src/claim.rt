@@ -1,4 +1,4 @@
-ghost use Rattle.std.specs.Prelude.{◌≡◌, ◌+◌};
+ghost use Rattle.std.specs.Prelude.{◌≡◌, ◌+◌, false, IfOk};
 ghost use Rattle.profile.specs.Outcome.{Gives};
 ghost use Rattle.address_map.specs.Memory.{StaysInPlace};
 ghost use Rattle.os_heap_lists.specs.Lists.{total_for};
@@ -6,6 +6,7 @@ ghost use Rattle.os_heap.specs.Calls.{got};
 ghost use Rattle.os_heap.specs.Store.{store_of, AreClasses};
 ghost use Rattle.dynamic_areas.specs.Ground.{estate_of, IsEstate};
 ghost use Rattle.rma.specs.Calls.{in_grown_area, rma_base, rma_claimed};
+ghost use Rattle.rma.specs.NewImages.{is_in_record, IsLiveBlock};
 ghost use Rattle.rma.specs.Places.{KeepsPlaces};
 
 use crate::area::Rma;
@@ -39,6 +40,9 @@ impl Rma {
         ensures classes { AreClasses map.new }
         ensures others { (store_of map.new).others ≡ (store_of map.old).others }
         ensures stays { StaysInPlace map.old map.new }
+        ensures places { KeepsPlaces map.old map.new }
+        ensures live { IfOk result (λ block. IsLiveBlock (store_of map.new) block (total_for size)) }
+        ensures alone { IfOk result (λ block. is_in_record (store_of map.old).others block ≡ false) }
     {
         match Heaps::new().get(map, RMA_START, size).answer {
             Ok(block) => Ok(block),
@@ -57,6 +61,8 @@ fn claim_grown(map: &mut AddressMap, areas: &mut Areas, size: u32) -> Result<u32
     ensures classes { AreClasses map.new }
     ensures others { (store_of map.new).others ≡ (store_of map.old).others }
     ensures places { KeepsPlaces map.old map.new }
+    ensures live { IfOk result (λ block. IsLiveBlock (store_of map.new) block (total_for size)) }
+    ensures alone { IfOk result (λ block. is_in_record (store_of map.old).others block ≡ false) }
 {
     let heaps = Heaps::new();
     let end = u64::from(heaps.base(map, RMA_START)) + total_for(size);

@@ -8,7 +8,9 @@ pub mod extend;
 pub mod free;
 mod growth;
 pub mod images;
+pub mod in_place;
 pub mod laws;
+pub mod new_images;
 
 pub use area::Rma;
 

@@ -22,13 +22,13 @@ use Rattle.os_heap.specs.Store.{Store, store_of, owned_in, AreClasses, ArePlaced
 use Rattle.os_heap.proofs.Frame.{IsKept, classes_same, clear_kept, heads_kept, owned_word, spelled_owned}
 use Rattle.os_heap.proofs.Stores.{image_kind}
 use Rattle.os_heap.proofs.Owned.{owned_marks}
-use Rattle.dynamic_areas.specs.Ground.{AreAreas, system_pages}
+use Rattle.dynamic_areas.specs.Ground.{AreAreas, IsRecorded, system_pages}
 use Rattle.dynamic_areas.proofs.HeapCalls.{areas_written}
 use Rattle.swi_dispatch.specs.declared.halt.Halt.{Halt}
 use Rattle.swi_dispatch.specs.MachineState.{MachineState, Tables, with_memory, start_of}
 use Rattle.swi_dispatch.specs.Errors.{error_block}
 use Rattle.swi_dispatch.specs.Boot.{booted, poked}
-use Rattle.swi_dispatch.specs.Parts.{Parts, IsRecorded, IsWellFormed, state_of}
+use Rattle.swi_dispatch.specs.Parts.{Parts, IsWellFormed, state_of}
 
 pub by_words : (s : Store) → IsByWords (owned_in s)
 by_words s a k aligned below = owned_word s a k aligned below

@@ -7,4 +7,5 @@ pub mod RunLoop
 pub mod Runs
 pub mod Starting
 pub mod StringLemmas
+pub mod SystemRoom
 pub mod Turning

@@ -13,9 +13,10 @@ use Rattle.swi_dispatch.specs.Parts.{TakesTurn}
 use Rattle.swi_dispatch.specs.Run.{Run, is_among, ran, then_run, quiet_run}
 use Rattle.swi_dispatch.proofs.RunLoop.{one_step, one_run, ran-none, steps_more}
 
-done_by : (s : MachineState) (r : Result (State × Bytes) Turn) (s' : MachineState) → Turned s r turn.Done s' → (turned s r ≡ quiet s') × (s'.halt ≡ s.halt)
-done_by s (Ok w) s' h = (ap quiet (sym h.1), ap (λ (x : MachineState). x.halt) h.1)
-done_by s (Err e) s' h = (ap (λ (t : Turn). turned s (Err t)) (sym h.0) ∙ ap quiet (sym h.1), ap (λ (x : MachineState). x.halt) h.1)
+done_by : (images : List Entry) (s : MachineState) (r : Result (State × Bytes) Turn) (s' : MachineState) → Turned s r turn.Done s'
+    → (turned images s r ≡ quiet s') × (s'.halt ≡ s.halt)
+done_by images s (Ok w) s' h = (ap quiet (sym h.1), ap (λ (x : MachineState). x.halt) h.1)
+done_by images s (Err e) s' h = (ap (λ (t : Turn). turned images s (Err t)) (sym h.0) ∙ ap quiet (sym h.1), ap (λ (x : MachineState). x.halt) h.1)
 
 other_by : (s : MachineState) (r : Result (State × Bytes) Turn) (t : Turn) (s' : MachineState) → t ≢ turn.Done → Turned s r t s' → s' ≡ s
 other_by s (Ok w) t s' other h = absurd (other h.0)
@@ -26,12 +27,12 @@ pub other_stays : (s : MachineState) (t : Turn) (s' : MachineState) → t ≢ tu
 other_stays s t s' other h = other_by s (instructed s) t s' other h
 
 pub done_awake : (s s' : MachineState) (t : Turn) → t ≡ turn.Done → s.halt ≡ None → TakesTurn s t s' → s'.halt ≡ None
-done_awake s s' t done awake h = (done_by s (instructed s) s' (subst (λ (x : Turn). TakesTurn s x s') done h)).1 ∙ awake
+done_awake s s' t done awake h = (done_by [] s (instructed s) s' (subst (λ (x : Turn). TakesTurn s x s') done h)).1 ∙ awake
 
 done_step : (images : List Entry) (s s' : MachineState) → s.halt ≡ None → TakesTurn s turn.Done s' → machine_step images s ≡ quiet s'
 unfolding machine_step
 done_step images s s' awake h =
-    ap (λ (o : Option Halt). unless_halted s o (turned s (instructed s))) awake ∙ (done_by s (instructed s) s' h).0
+    ap (λ (o : Option Halt). unless_halted s o (turned images s (instructed s))) awake ∙ (done_by images s (instructed s) s' h).0
 
 quiet_one : (images : List Entry) (s s' : MachineState) → s.halt ≡ None → TakesTurn s turn.Done s' → ran images [] 1 s ≡ quiet_run s' 1
 unfolding is_among

@@ -1,5 +1,5 @@
 -- The core's part of a step, and then what its turn asks of the machine, are the written step.
-use Rattle.std.proofs.Common.{◌≡◌, ℕ, Bool, Option, Result, Ok, Err, refl, ◌∙◌, ap, subst}
+use Rattle.std.proofs.Common.{◌≡◌, ℕ, Bool, List, Option, Result, Ok, Err, refl, ◌∙◌, ap, subst}
 use Rattle.address_map.specs.declared.map.AddressMap.{AddressMap}
 use Rattle.address_map.specs.Bytes.{Bytes}
 use Rattle.address_map.specs.Memory.{bytes_of, layout, class_of, is_owned}
@@ -11,15 +11,17 @@ use Rattle.arm_step.proofs.Framing.{step_keeps}
 use Rattle.os_heap.specs.Store.{store_of, owned_in, AreClasses, IsSound}
 use Rattle.os_heap.proofs.Frame.{IsKept}
 use Rattle.os_heap.proofs.Owned.{owned_marks}
+use Rattle.image_loader.specs.Entries.{Entry}
 use Rattle.swi_dispatch.specs.declared.halt.Halt.{Halt}
 use Rattle.swi_dispatch.specs.MachineState.{MachineState, Tables, quiet}
 use Rattle.swi_dispatch.specs.Step.{turned, turn_end, Turned}
 use Rattle.swi_dispatch.specs.Parts.{TakesTurn}
 use Rattle.swi_dispatch.proofs.Kept.{by_words, keeps_kept, same_kept, kept_memory, kept_all, same_pool, with_core, over}
 
-pub turned_by : (s : MachineState) (r : Result (State × Bytes) Turn) (t : Turn) (s' : MachineState) → Turned s r t s' → turn_end s' t ≡ turned s r
-turned_by s (Ok w) t s' h = ap (λ (x : Turn). turn_end s' x) h.0 ∙ ap quiet h.1
-turned_by s (Err e) t s' h = ap (λ (x : Turn). turn_end s' x) h.0 ∙ ap (λ (x : MachineState). turn_end x e) h.1
+pub turned_by : (images : List Entry) (s : MachineState) (r : Result (State × Bytes) Turn) (t : Turn) (s' : MachineState) → Turned s r t s'
+    → turn_end images s' t ≡ turned images s r
+turned_by images s (Ok w) t s' h = ap (λ (x : Turn). turn_end images s' x) h.0 ∙ ap quiet h.1
+turned_by images s (Err e) t s' h = ap (λ (x : Turn). turn_end images s' x) h.0 ∙ ap (λ (x : MachineState). turn_end images x e) h.1
 
 -- the core's turn, as a turn of the whole machine: an instruction keeps the list of each heap
 turned_core : (m n : AddressMap) (cpu cpu' : State) (tables : Tables) (halt : Option Halt) (r : Result (State × Bytes) Turn) (t : Turn)

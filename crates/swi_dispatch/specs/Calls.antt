@@ -15,7 +15,7 @@ use Rattle.swi_dispatch.specs.declared.refusal.Refusal.TheVariants as refusal
 use Rattle.swi_dispatch.specs.declared.strings.TextEnd.TheVariants as end
 use Rattle.swi_dispatch.specs.Answers.{Answer, done, refused, went_on, system_error, or_error, with_answer}
 use Rattle.swi_dispatch.specs.AreaCalls.{area_called, area_changed, area_read}
-use Rattle.swi_dispatch.specs.ModuleCalls.{module_area_called}
+use Rattle.swi_dispatch.specs.ModuleCalls.{module_reason_called}
 use Rattle.swi_dispatch.specs.MachineState.{MachineState}
 use Rattle.swi_dispatch.specs.Strings.{ends, text_at, next_word}
 
@@ -85,7 +85,7 @@ call_answer s next number (Some swi.Write0) = wrote_text_at s next (register_of 
 call_answer s next number (Some swi.NewLine) = done s (10 ∷ 13 ∷ []) next
 call_answer s next number (Some swi.EnterOs) = done (in_supervisor s) [] next
 call_answer s next number (Some swi.Heap) = went_on s next (heap_called s)
-call_answer s next number (Some swi.Module) = went_on s next (module_area_called s)
+call_answer s next number (Some swi.Module) = went_on s next (module_reason_called s)
 call_answer s next number (Some swi.ChangeDynamicArea) = area_changed s next
 call_answer s next number (Some swi.ReadDynamicArea) = went_on s next (area_read s)
 call_answer s next number (Some swi.DynamicArea) = went_on s next (area_called s)

@@ -5,8 +5,12 @@ pub mod Breaks
 pub mod Calls
 pub mod Ending
 pub mod Errors
+pub mod InstanceCalls
 pub mod MachineState
 pub mod ModuleCalls
+pub mod ModulePlans
+pub mod ModuleStart
+pub mod ModuleWords
 pub mod Parts
 pub mod Run
 pub mod Step

@@ -5,22 +5,24 @@ use Rattle.profile.specs.declared.stop.Stop.{Stop}
 use Rattle.profile.specs.declared.stop.Stop.TheVariants as stop
 use Rattle.profile.specs.Sizes.{Sizes}
 use Rattle.address_map.specs.Bytes.{Bytes}
-use Rattle.address_map.specs.declared.region.Kind.TheVariants.{Rma}
 use Rattle.arm_step.specs.State.{State, start_state}
-use Rattle.os_heap.specs.Calls.{begun_with}
 use Rattle.os_heap.specs.Store.{Store}
 use Rattle.dynamic_areas.specs.Areas.{Land, start_land}
-use Rattle.dynamic_areas.specs.Ground.{Estate, is_land, pool_of, system_pages}
+use Rattle.dynamic_areas.specs.Ground.{Estate, pool_of}
+use Rattle.dynamic_areas.specs.Start.{start_store}
+use Rattle.instances_plans.specs.Plans.{Plan}
 use Rattle.instances_table.specs.Modules.{Module}
 use Rattle.swi_dispatch_frames.specs.declared.frame.Frame.{Frame}
 use Rattle.swi_dispatch.specs.declared.halt.Halt.{Halt}
 use Rattle.swi_dispatch.specs.declared.halt.Halt.TheVariants as halt
 
--- what stands beside the core and the memory: the areas, the modules, and the frames of module code that is under way
+-- what stands beside the core and the memory: the areas, the modules, the frames of module code that is under way, and what is left to do of a call on
+-- modules whose code is under way
 pub record Tables : Type 0 where
   pub land : Land
   pub modules : List Module
   pub frames : List Frame
+  pub plan : Option Plan
 
 pub record MachineState : Type 0 where
   pub cpu : State
@@ -52,25 +54,12 @@ machine_estate s = record { store = s.store; pool = s.pool; land = s.tables.land
 abbrev pub with_estate : MachineState → Estate → MachineState
 with_estate s e = record s { store = e.store; pool = e.pool; tables = record s.tables { land = e.land } }
 
--- The start. Mapped are the application space, the first pages of the module area and the three system pages, which are recorded; each mapped
--- byte is 0 but for the module area's descriptor, since the machine makes an empty heap there. All other pages are in the pool.
-abbrev pub bare_store : Sizes → Store
-bare_store s = record {
-  bytes = record { mapped = is_land (start_land s); at = λ _. 0 };
-  heaps = [];
-  others = system_pages ∷ [];
-  anchor = λ _. false;
-  header = λ _. false;
-}
-
-abbrev pub start_store : Sizes → Store
-start_store s = begun_with Rma (bare_store s) 0x01800000 (4096 * s.rma)
-
+-- the start: all pages but those mapped then are in the pool
 unfoldable pub start_of : Sizes → MachineState
 start_of s = record {
   cpu = start_state;
   store = start_store s;
   pool = pool_of (start_land s);
-  tables = record { land = start_land s; modules = []; frames = [] };
+  tables = record { land = start_land s; modules = []; frames = []; plan = None };
   halt = None;
 }

@@ -1,11 +1,10 @@
 -- The parts of the real machine, and the written machine that they stand for.
-use Rattle.std.specs.Prelude.{◌≡◌, ◌⊎◌, ℕ, Bool, true, false, Option, Some, None, Result, Ok, Err, List, [], ◌∷◌}
+use Rattle.std.specs.Prelude.{◌≡◌, ℕ, Bool, true, false, Option, Some, None, Result, Ok, Err, List, []}
 use Rattle.profile.specs.Sizes.{Sizes}
 use Rattle.address_map.specs.declared.map.AddressMap.{AddressMap}
-use Rattle.address_map.specs.declared.region.Region.{Region}
 use Rattle.address_map.specs.Memory.{free_pages}
 use Rattle.os_heap.specs.Store.{AreClasses, store_of}
-use Rattle.dynamic_areas.specs.Ground.{AreAreas, system_pages}
+use Rattle.dynamic_areas.specs.Ground.{AreAreas, IsRecorded, system_pages}
 use Rattle.arm_step.specs.declared.turn.Turn.{Turn}
 use Rattle.arm_step.specs.State.{State}
 use Rattle.swi_dispatch.specs.declared.halt.Halt.{Halt}
@@ -34,11 +33,6 @@ outcome_of p = record { now = state_of p; printed = p.printed }
 abbrev pub Answers : Answer → ℕ → Result ℕ Refusal → Outcome → Type 0
 Answers a next (Ok to) o = (o ≡ a.left) × ((to ≡ a.next) × (a.error ≡ None))
 Answers a next (Err e) o = (o ≡ a.left) × ((next ≡ a.next) × (a.error ≡ Some e))
-
--- a range is among those recorded
-abbrev pub IsRecorded : Region → List Region → Type 0
-IsRecorded r [] = ⊥
-IsRecorded r (q ∷ rs) = (q ≡ r) ⊎ IsRecorded r rs
 
 -- What holds of every machine, whatever its guest does: the areas stand on its memory, so that memory spells the lists of all heaps; the words that
 -- these lists spell are those that are marked; the system pages are recorded; and a machine that can still be booted stands as at the start.

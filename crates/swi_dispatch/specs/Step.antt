@@ -13,7 +13,7 @@ use Rattle.arm_step.specs.declared.turn.Turn.TheVariants as turn
 use Rattle.arm_step.specs.declared.psr.Mode.TheVariants.{Supervisor}
 use Rattle.arm_step.specs.declared.psr.Psr.{Psr}
 use Rattle.arm_step.specs.Psr.{psr_bits}
-use Rattle.arm_step.specs.State.{State, register_in, with_register_in, with_overflow, with_pc}
+use Rattle.arm_step.specs.State.{State, register_in, register_of, with_register_in, with_overflow, with_pc}
 use Rattle.arm_step.specs.Step.{stepped}
 use Rattle.os_heap.specs.Store.{owned_in}
 use Rattle.image_loader.specs.Entries.{Entry}
@@ -29,7 +29,9 @@ use Rattle.instances_table.specs.declared.parts.Handler.{Handler}
 use Rattle.instances_table.specs.Lookup.{handler_of}
 use Rattle.swi_dispatch.specs.declared.refusal.Refusal.{Refusal}
 use Rattle.swi_dispatch.specs.declared.refusal.Refusal.TheVariants as refusal
+use Rattle.swi_dispatch.specs.declared.module_start.Opening.{Opening}
 use Rattle.swi_dispatch.specs.MachineState.{MachineState, Outcome, quiet, with_memory}
+use Rattle.swi_dispatch.specs.ModuleStart.{module_opened, opening_asked}
 use Rattle.swi_dispatch.specs.Answers.{Answer, refused}
 use Rattle.swi_dispatch.specs.Calls.{call_answer}
 use Rattle.swi_dispatch.specs.Errors.{error_number, with_error}
@@ -94,18 +96,31 @@ module_called s x next number (Some h) =
     if length s.tables.frames == 32 then call_refused s x next FrameLimit else
     quiet (handler_entered s (record { is_x = x; caller = s.cpu.psr; next = next }) number h)
 
--- A call without a name is looked for among the modules.
-abbrev pub called_by : MachineState → Bool → ℕ → ℕ → Option SwiName → Outcome
-called_by s x next number None = module_called s x next number (handler_of number s.tables.modules)
-called_by s x next number (Some name) = ended s x (call_answer s next number (Some name))
+-- OS_Module 2: the call goes back, and then the module is entered.
+abbrev pub module_entered : MachineState → Bool → ℕ → Result Opening ErrorNumber → Outcome
+module_entered s x next (Err e) = call_refused s x next e
+module_entered s x next (Ok o) = quiet (module_opened (gone_back s.cpu.psr s false next) o)
 
-unfoldable pub called : MachineState → Bool → ℕ → ℕ → Outcome
-called s x next number =
-    if is_exit (swi_of number) then halted s halt.Exit else called_by s x next number (swi_of number)
+-- OS_Module, by its reason in R0
+unfoldable pub os_module_called : List Entry → MachineState → Bool → ℕ → ℕ → Outcome
+os_module_called images s x next number =
+    let reason : ℕ = register_of s.cpu 0 in
+    if reason == 2 then module_entered s x next (opening_asked s) else
+    ended s x (call_answer s next number (Some swi.Module))
+
+-- A call without a name is looked for among the modules.
+abbrev pub called_by : List Entry → MachineState → Bool → ℕ → ℕ → Option SwiName → Outcome
+called_by images s x next number None = module_called s x next number (handler_of number s.tables.modules)
+called_by images s x next number (Some swi.Module) = os_module_called images s x next number
+called_by images s x next number (Some name) = ended s x (call_answer s next number (Some name))
+
+unfoldable pub called : List Entry → MachineState → Bool → ℕ → ℕ → Outcome
+called images s x next number =
+    if is_exit (swi_of number) then halted s halt.Exit else called_by images s x next number (swi_of number)
 
 -- a call by an instruction: the guest goes on after it
-abbrev pub swi_called : MachineState → ℕ → Outcome
-swi_called s n = called s (bit_of n 17) ((s.cpu.pc + 4) % 2 ^ 26) (without_x n)
+abbrev pub swi_called : List Entry → MachineState → ℕ → Outcome
+swi_called images s n = called images s (bit_of n 17) ((s.cpu.pc + 4) % 2 ^ 26) (without_x n)
 
 -- The innermost frame is closed: the core is as the module code leaves it to the caller, and the call goes back. V says whether it was refused.
 unfoldable pub frame_closed : MachineState → Frame → MachineState
@@ -130,16 +145,16 @@ abbrev pub gated : MachineState → Outcome
 gated s = gated_by s (innermost s.tables.frames)
 
 -- What a turn of the core asks of the machine.
-abbrev pub turn_end : MachineState → Turn → Outcome
-turn_end s turn.Done = quiet s
-turn_end s (turn.Swi n) = swi_called s n
-turn_end s turn.Gate = gated s
-turn_end s (turn.Fault f) = halted s (halt.Fault f)
+abbrev pub turn_end : List Entry → MachineState → Turn → Outcome
+turn_end images s turn.Done = quiet s
+turn_end images s (turn.Swi n) = swi_called images s n
+turn_end images s turn.Gate = gated s
+turn_end images s (turn.Fault f) = halted s (halt.Fault f)
 
 -- the core's part of a step, and then what it asks for
-abbrev pub turned : MachineState → Result (State × Bytes) Turn → Outcome
-turned s (Ok w) = moved_on s w
-turned s (Err t) = turn_end s t
+abbrev pub turned : List Entry → MachineState → Result (State × Bytes) Turn → Outcome
+turned images s (Ok w) = moved_on s w
+turned images s (Err t) = turn_end images s t
 
 -- what the core's part of a step leaves: on another turn than Done nothing is changed
 abbrev pub Turned : MachineState → Result (State × Bytes) Turn → Turn → MachineState → Type 0
@@ -154,11 +169,11 @@ abbrev pub unless_halted : MachineState → Option Halt → Outcome → Outcome
 unless_halted s (Some h) a = quiet s
 unless_halted s None a = a
 
--- A halted machine stays as it is. A step is a function of the machine and the images, which no store call reads yet.
+-- A halted machine stays as it is. A step is a function of the machine and the images.
 unfoldable pub machine_step : List Entry → MachineState → Outcome
-machine_step images s = unless_halted s s.halt (turned s (instructed s))
+machine_step images s = unless_halted s s.halt (turned images s (instructed s))
 
 -- A store call that a user makes from outside acts as one with the X bit, at the present program counter; bits 31 to 24 of its number and its
 -- X bit are left out.
 unfoldable pub store_called : List Entry → MachineState → ℕ → Outcome
-store_called images s number = unless_halted s s.halt (called s true s.cpu.pc (without_x (number % 2 ^ 24)))
+store_called images s number = unless_halted s s.halt (called images s true s.cpu.pc (without_x (number % 2 ^ 24)))

@@ -11,13 +11,10 @@ ghost use Rattle.profile.specs.declared.fault.Fault.TheVariants.{ErrorStop};
 use crate::halt::Halt;
 use crate::machine::Machine;
 use crate::refusal::Refusal;
-use crate::strings::{TextEnd, text_at};
+use crate::strings::{MOST_TEXT, TextEnd, text_at};
 use dynamic_areas::{Changed, Wanted};
 use profile::memory_map::PAGE_SIZE;
 use profile::{ErrorNumber, SwiName};
-
-/// The most bytes of a string that is not printed.
-const MOST_TEXT: usize = 255;
 
 impl Machine {
     ghost use Rattle.swi_dispatch.specs.MachineState.{quiet};

@@ -9,6 +9,7 @@ use crate::refusal::Refusal;
 use crate::strings::{TextEnd, next_word, text_at};
 use arm_step::{Cpu, Mode, Psr};
 use arrayvec::ArrayVec;
+use image_loader::Images;
 use profile::memory_map::ADDRESS_LIMIT;
 use profile::{ErrorNumber, Fault, SwiName};
 
@@ -18,16 +19,16 @@ impl Machine {
     ghost use Rattle.swi_dispatch.specs.Answers.{with_answer};
     ghost use Rattle.swi_dispatch.specs.AreaCalls.{moving_error};
     ghost use Rattle.swi_dispatch.specs.Calls.{call_answer, wrote_text_after, wrote_text_at, printable_at, in_supervisor};
-    ghost use Rattle.swi_dispatch.specs.Step.{called, ended, gone_back};
+    ghost use Rattle.swi_dispatch.specs.Step.{called, ended, gone_back, os_module_called};
     ghost use Rattle.arm_step.specs.State.{register_of};
 
     /// A store call by its number without the X bit. `is_x` says whether an error goes back to the
     /// guest, and `next` where the guest goes on.
     #[tactic(auto, unfolding(crate::specs::Step::called))]
-    pub(crate) fn call(&mut self, is_x: bool, next: u32, number: u32)
+    pub(crate) fn call(&mut self, images: &Images, is_x: bool, next: u32, number: u32)
         requires step { IsInStep self.old }
         requires next { next < 2 ^ 26 }
-        ensures after { outcome_of self.new ≡ called (state_of self.old) is_x next number }
+        ensures after { outcome_of self.new ≡ called images.now (state_of self.old) is_x next number }
         ensures others { OnlySteps self.old self.new }
     {
         let name = SwiName::of(number);
@@ -36,7 +37,23 @@ impl Machine {
         }
         match name {
             None => self.call_module(is_x, next, number),
+            Some(SwiName::Module) => self.call_os_module(images, is_x, next, number),
             Some(_) => self.call_system(is_x, next, number, name),
+        }
+    }
+
+    // OS_Module, by its reason in R0.
+    #[tactic(auto, unfolding(crate::specs::Step::os_module_called))]
+    fn call_os_module(&mut self, images: &Images, is_x: bool, next: u32, number: u32)
+        requires step { IsInStep self.old }
+        requires next { next < 2 ^ 26 }
+        ensures after { outcome_of self.new ≡ os_module_called images.now (state_of self.old) is_x next number }
+        ensures others { OnlySteps self.old self.new }
+    {
+        let _ = images;
+        match self.cpu().register(0) {
+            2 => self.enter_module(is_x, next),
+            _ => self.call_system(is_x, next, number, Some(SwiName::Module)),
         }
     }
 
@@ -90,7 +107,7 @@ impl Machine {
                 Ok(next)
             }
             Some(SwiName::Module) => {
-                self.call_module_area()?;
+                self.call_module_reason()?;
                 Ok(next)
             }
             Some(SwiName::ChangeDynamicArea) => self.change_area(next),

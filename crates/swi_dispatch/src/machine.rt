@@ -1,28 +1,22 @@
-ghost use Rattle.std.specs.Prelude.{◌≡◌, ◌≤◌, ◌+◌, ◌%◌, ◌&&◌, ℕ, Bool, true, false, not, [], ◌∷◌, List, Option, Some, None, IfOk, IsSome, is_err, length};
+ghost use Rattle.std.specs.Prelude.{◌≡◌, ◌≤◌, ◌+◌, ◌%◌, ◌&&◌, Bool, true, false, not, [], ◌∷◌, List, Option, Some, None, IfOk, IsSome, is_err, length};
 ghost use Rattle.std.specs.Option.{option_map};
 ghost use Rattle.profile.specs.Outcome.{Leaves};
-ghost use Rattle.profile.specs.Sizes.{AreGood};
-ghost use Rattle.address_map.specs.Memory.{is_mapped, byte_at, regions, free_pages, class_of};
-ghost use Rattle.address_map.specs.declared.class.Class.TheVariants.{Plain};
-ghost use Rattle.os_heap.specs.Store.{store_of, AreClasses, IsSound};
-ghost use Rattle.dynamic_areas.specs.Areas.{start_land};
-ghost use Rattle.dynamic_areas.specs.Ground.{AreAreas, is_land};
+ghost use Rattle.address_map.specs.Memory.{free_pages};
+ghost use Rattle.os_heap.specs.Store.{store_of, IsSound};
 ghost use Rattle.dynamic_areas.specs.Rooms.{IsAreaTable};
-ghost use Rattle.swi_dispatch.specs.MachineState.{start_store};
 ghost use Rattle.swi_dispatch.specs.Step.{without_x};
 
 use crate::boot_error::BootError;
 use crate::halt::Halt;
-use address_map::{AddressMap, Kind};
+use address_map::AddressMap;
 use arm_step::{Cpu, Turn, step};
 use arrayvec::ArrayVec;
-use dynamic_areas::Areas;
+use dynamic_areas::{Areas, start_memory};
 use image_loader::Images;
-use instances_table::InstanceTable;
+use instances::Instances;
+use instances_plans::Plan;
 use os_heap::Heaps;
-use profile::memory_map::{
-    ADDRESS_LIMIT, APPLICATION_START, PAGE_SIZE, RMA_START, SYSTEM_PAGES, SYSTEM_START,
-};
+use profile::memory_map::{ADDRESS_LIMIT, APPLICATION_START, PAGE_SIZE};
 use profile::word::is_bit_set;
 use profile::{Config, Fault, Stop};
 use std::alloc::{AllocError, Global};
@@ -42,8 +36,9 @@ pub struct Machine {
     pub(crate) memory: AddressMap,
     pub(crate) heaps: Heaps,
     pub(crate) areas: Areas,
-    pub(crate) modules: InstanceTable,
+    pub(crate) instances: Instances,
     pub(crate) frames: Frames,
+    pub(crate) plan: Option<Plan>,
     pub(crate) halt: Option<Halt>,
     config: Config,
     is_fresh: bool,
@@ -55,9 +50,9 @@ impl Model for Machine {
 
     ghost Value = { Parts };
 
-    ghost view = { λ m. record { cpu = m.cpu; map = m.memory; tables = record { land = m.areas; modules = m.modules; frames = m.frames }; halt = m.halt; sizes = m.config; is_fresh = m.is_fresh; printed = m.printed.items } };
+    ghost view = { λ m. record { cpu = m.cpu; map = m.memory; tables = record { land = m.areas; modules = m.instances; frames = m.frames; plan = m.plan }; halt = m.halt; sizes = m.config; is_fresh = m.is_fresh; printed = m.printed.items } };
 
-    ghost invariant = { λ m. IsWellFormed (record { cpu = m.cpu; map = m.memory; tables = record { land = m.areas; modules = m.modules; frames = m.frames }; halt = m.halt; sizes = m.config; is_fresh = m.is_fresh; printed = m.printed.items }) };
+    ghost invariant = { λ m. IsWellFormed (record { cpu = m.cpu; map = m.memory; tables = record { land = m.areas; modules = m.instances; frames = m.frames; plan = m.plan }; halt = m.halt; sizes = m.config; is_fresh = m.is_fresh; printed = m.printed.items }) };
 }
 
 impl Machine {
@@ -82,8 +77,9 @@ impl Machine {
             memory,
             heaps: Heaps::new(),
             areas: Areas::new(config),
-            modules: InstanceTable::new(),
+            instances: Instances::new(),
             frames: Frames::new(),
+            plan: None,
             halt: None,
             config,
             is_fresh: true,
@@ -132,7 +128,7 @@ impl Machine {
             return self.stop();
         }
         let turn = self.instruction();
-        self.after_turn(turn);
+        self.after_turn(images, turn);
         self.stop()
     }
 
@@ -152,7 +148,7 @@ impl Machine {
             return Some(stop);
         }
         let next = self.cpu().pc();
-        self.call(true, next, without_x_bit(number % (1 << 24)));
+        self.call(images, true, next, without_x_bit(number % (1 << 24)));
         self.stop()
     }
 
@@ -235,6 +231,14 @@ impl Machine {
         &self.areas
     }
 
+    /// The modules and their instances.
+    #[tactic(auto, unfolding(crate::specs::Parts::state_of))]
+    pub fn instances(&self) -> &Instances
+        ensures { result.now ≡ (state_of self.now).tables.modules }
+    {
+        &self.instances
+    }
+
     /// How many frames of module code are open.
     #[tactic(auto, unfolding(crate::specs::Parts::state_of))]
     pub fn frames(&self) -> usize
@@ -301,27 +305,27 @@ impl Machine {
     }
 
     // What a turn of the core leaves to the machine.
-    fn after_turn(&mut self, turn: Turn)
+    fn after_turn(&mut self, images: &Images, turn: Turn)
         requires step { IsInStep self.old }
-        ensures after { outcome_of self.new ≡ turn_end (state_of self.old) turn }
+        ensures after { outcome_of self.new ≡ turn_end images.now (state_of self.old) turn }
         ensures others { OnlySteps self.old self.new }
     {
         match turn {
             Turn::Done => {}
-            Turn::Swi(number) => self.call_by_instruction(number),
+            Turn::Swi(number) => self.call_by_instruction(images, number),
             Turn::Gate => self.pass_gate(),
             Turn::Fault(fault) => self.halt_with(Halt::Fault(fault)),
         }
     }
 
     // A call by an instruction; the guest goes on after it.
-    fn call_by_instruction(&mut self, number: u32)
+    fn call_by_instruction(&mut self, images: &Images, number: u32)
         requires step { IsInStep self.old }
-        ensures after { outcome_of self.new ≡ swi_called (state_of self.old) number }
+        ensures after { outcome_of self.new ≡ swi_called images.now (state_of self.old) number }
         ensures others { OnlySteps self.old self.new }
     {
         let next = (self.cpu().pc() + 4) % ADDRESS_LIMIT;
-        self.call(is_bit_set(number, 17), next, without_x_bit(number));
+        self.call(images, is_bit_set(number, 17), next, without_x_bit(number));
     }
 
     #[tactic(auto, unfolding(crate::specs::Parts::state_of))]
@@ -342,32 +346,4 @@ fn without_x_bit(number: u32) -> u32
     } else {
         number
     }
-}
-
-// The memory of a machine at its start: the fixed ranges, the module area a heap without items, and the record of the system pages.
-fn start_memory(alloc: Global, config: Config) -> Result<AddressMap, AllocError>
-    ensures store { IfOk result (λ m. store_of m ≡ start_store config) }
-    ensures areas { IfOk result (λ m. AreAreas (store_of m) (free_pages m) (start_land config)) }
-    ensures classes { IfOk result AreClasses }
-{
-    let mut memory = bare_memory(alloc, config)?;
-    Heaps::new().init_module_area(&mut memory, RMA_START, PAGE_SIZE * config.rma());
-    memory.own(Kind::SystemPage, SYSTEM_START, PAGE_SIZE * SYSTEM_PAGES);
-    Ok(memory)
-}
-
-// The fixed ranges, without any record.
-fn bare_memory(alloc: Global, config: Config) -> Result<AddressMap, AllocError>
-    ensures mapping { IfOk result (λ m. (a : ℕ) → is_mapped m a ≡ is_land (start_land config) a) }
-    ensures bytes { IfOk result (λ m. (a : ℕ) → byte_at m a ≡ 0) }
-    ensures regions { IfOk result (λ m. regions m ≡ []) }
-    ensures marks { IfOk result (λ m. (a : ℕ) → class_of m a ≡ Plain) }
-    ensures pool { IfOk result (λ m. free_pages m + (config.app + config.rma + 3) ≡ config.pages) }
-    ensures sizes { AreGood config }
-{
-    let mut memory = AddressMap::new(alloc, config.pages())?;
-    memory.map_pages(APPLICATION_START, config.app());
-    memory.map_pages(RMA_START, config.rma());
-    memory.map_pages(SYSTEM_START, SYSTEM_PAGES);
-    Ok(memory)
 }

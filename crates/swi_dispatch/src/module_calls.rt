@@ -1,4 +1,5 @@
-//! OS_Module, the reasons that act on the module area (RISC OS 3 Programmer's Reference Manual, "OS_Module").
+//! OS_Module, the reasons that run no module code, and here those that act on the module area (RISC OS 3 Programmer's Reference Manual,
+//! "OS_Module").
 
 ghost use Rattle.std.specs.Prelude.{◌≡◌, false};
 ghost use Rattle.profile.specs.Outcome.{Leaves};
@@ -10,20 +11,24 @@ use rma::Rma;
 
 impl Machine {
     ghost use Rattle.swi_dispatch.specs.Parts.{state_of, OnlyState};
-    ghost use Rattle.swi_dispatch.specs.ModuleCalls.{module_area_called, area_described, block_claimed, block_freed, block_extended};
+    ghost use Rattle.swi_dispatch.specs.ModuleCalls.{module_reason_called, area_described, block_claimed, block_freed, block_extended};
 
-    /// OS_Module, by its reason in R0. A block is in R2, a size or a change of one in R3.
-    #[tactic(auto, unfolding(crate::specs::ModuleCalls::module_area_called))]
-    pub(crate) fn call_module_area(&mut self) -> Result<(), Refusal>
+    /// OS_Module, by its reason in R0. A block is in R2, a size or a change of one in R3; names are strings.
+    #[tactic(auto, unfolding(crate::specs::ModuleCalls::module_reason_called))]
+    pub(crate) fn call_module_reason(&mut self) -> Result<(), Refusal>
         requires stepped { self.old.is_fresh ≡ false }
-        ensures state { Leaves (state_of self.old) (module_area_called (state_of self.old)) result (state_of self.new) }
+        ensures state { Leaves (state_of self.old) (module_reason_called (state_of self.old)) result (state_of self.new) }
         ensures others { OnlyState self.old self.new }
     {
         match self.cpu().register(0) {
             5 => self.describe_area(),
             6 => self.claim_block(),
             7 => self.free_area_block(),
+            12 => self.tell_instance(),
             13 => self.extend_block(),
+            15 => self.rename_instance(),
+            16 => self.prefer_instance(),
+            18 => self.find_instance(),
             _ => Err(Refusal::System(ErrorNumber::ModuleBadReason)),
         }
     }

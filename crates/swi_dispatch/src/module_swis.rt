@@ -4,7 +4,7 @@ ghost use Rattle.std.specs.Prelude.{◌≡◌, ◌<◌, ◌^◌, false, length};
 
 use crate::machine::Machine;
 use crate::refusal::Refusal;
-use instances_table::Handler;
+use instances::Handler;
 use profile::ErrorNumber;
 use swi_dispatch_frames::{Call, Frame, FrameKind, MOST_FRAMES, enter_swi};
 
@@ -22,7 +22,7 @@ impl Machine {
             (handler_of number (state_of self.old).tables.modules) }
         ensures others { OnlySteps self.old self.new }
     {
-        let Some(handler) = self.modules.handler_of(number) else {
+        let Some(handler) = self.instances.handler_of(number) else {
             return self.refuse_call(is_x, next, ErrorNumber::SwiUnknown);
         };
         if self.frames() == MOST_FRAMES {
@@ -34,7 +34,7 @@ impl Machine {
 
     // A call that is refused before it did anything.
     #[tactic(auto, using(crate::proofs::Answering::nothing_done))]
-    fn refuse_call(&mut self, is_x: bool, next: u32, error: ErrorNumber)
+    pub(crate) fn refuse_call(&mut self, is_x: bool, next: u32, error: ErrorNumber)
         requires step { IsInStep self.old }
         ensures after { outcome_of self.new ≡ call_refused (state_of self.old) is_x next error }
         ensures others { OnlySteps self.old self.new }

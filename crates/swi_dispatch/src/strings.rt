@@ -9,6 +9,9 @@ use address_map::AddressMap;
 use arrayvec::ArrayVec;
 use profile::memory_map::ADDRESS_LIMIT;
 
+/// The most bytes of a string that is not printed.
+pub(crate) const MOST_TEXT: usize = 255;
+
 /// What ends a string in memory.
 #[derive(Clone, Copy, Debug, PartialEq, Eq)]
 pub enum TextEnd {

@@ -4,15 +4,13 @@ mod areas;
 mod arguments;
 mod gate;
 mod heaps;
+mod instance_calls;
 mod module_swis;
 mod modules;
+mod steps;
 
 use crate::strings::text_at;
 use crate::{BootError, Breaks, Machine, TextEnd};
-use Line::{
-    At, Boot, BootText, Call, Has, Holds, In, Lacks, New, Overflow, Prints, PrintsMany, Put, Run,
-    Set, Step, Text,
-};
 use arm_step::Mode;
 use image_loader::Images;
 use profile::{Config, ErrorNumber, Fault, MemorySink, Stop};
@@ -217,163 +215,6 @@ fn has_text(rt: &impl Abort, machine: &Machine, address: u32, text: &str) {
     }
 }
 
-static LINES: [Line; 139] = [
-    // the six words: a loop of three turns, and OS_Exit; nothing is written, and a halted machine stays as it is
-    Boot(None),
-    Run(1_000_000, Stop::Exit, 14, ""),
-    Has(0, 0),
-    Has(1, 6),
-    Has(15, 0x6000_8014),
-    Step(Some(Stop::Exit)),
-    Has(15, 0x6000_8014),
-    Prints(""),
-    // budgets add up
-    New(256, 64, 16),
-    Boot(None),
-    Run(0, Stop::Budget, 0, ""),
-    Run(13, Stop::Budget, 13, ""),
-    Has(1, 6),
-    Has(15, 0x6000_8014),
-    Run(5, Stop::Exit, 1, ""),
-    // the start: the module area's descriptor, and the first and last words of what is mapped
-    New(256, 64, 16),
-    Has(13, 0),
-    Has(15, 0x8000),
-    Holds(0x0180_0000, 0x7061_6548),
-    Holds(0x0180_0004, 0),
-    Holds(0x0180_0008, 16),
-    Holds(0x0180_000C, 65536),
-    Holds(0x0180_FFFC, 0),
-    Holds(0x8000, 0),
-    Holds(0x0004_7FFC, 0),
-    Holds(0x01C0_2FFC, 0),
-    Lacks(0),
-    Lacks(0x7FFC),
-    Lacks(0x0004_8000),
-    Lacks(0x017F_FFFC),
-    Lacks(0x0181_0000),
-    Lacks(0x01BF_FFFC),
-    Lacks(0x01C0_3000),
-    // a program must fit, and a machine boots once
-    New(11, 6, 2),
-    BootText(24577, Some(BootError::TooLarge)),
-    Boot(None),
-    Holds(0x8014, 0xEF00_0011),
-    Boot(Some(BootError::Booted)),
-    // a step ends booting
-    New(256, 64, 16),
-    Step(None),
-    At(0x8004),
-    Boot(Some(BootError::Booted)),
-    // SWI OS_WriteI+"H"; SWI OS_WriteI+"i"; SWI OS_NewLine; SWI OS_Exit
-    New(256, 64, 16),
-    Put(0x8000, 0xEF00_0148),
-    Put(0x8004, 0xEF00_0169),
-    Put(0x8008, 0xEF00_0003),
-    Put(0x800C, 0xEF00_0011),
-    Run(9, Stop::Exit, 4, "Hi\n\r"),
-    // SWI &99 without the X bit
-    New(256, 64, 16),
-    Put(0x8000, 0xEF00_0099),
-    Step(Some(Stop::Fault(Fault::ErrorStop(80)))),
-    Has(0, 0),
-    Has(15, 0x8000),
-    Call(0x11, Some(Stop::Fault(Fault::ErrorStop(80)))),
-    // the same made from outside, so with the X bit
-    New(256, 64, 16),
-    Call(0x99, None),
-    Has(0, 0x01C0_2100),
-    Has(15, 0x1000_8000),
-    In(Mode::Supervisor, 14, 0x8000),
-    Holds(0x01C0_2100, 80),
-    Text(0x01C0_2104, "SwiUnknown\0"),
-    Boot(Some(BootError::Booted)),
-    Call(0x11, Some(Stop::Exit)),
-    // OS_GenerateError: an error of the guest keeps its block, and one whose pointer is bad is another
-    New(256, 64, 16),
-    Set(0, 0x9000),
-    Put(0x9000, 0x123),
-    Boot(Some(BootError::Booted)),
-    Call(0x2B, None),
-    Has(0, 0x9000),
-    Overflow(true),
-    Set(0, 0x9002),
-    Call(0x2B, None),
-    Holds(0x01C0_2100, 82),
-    // without the X bit the step ends with the number of that block, or with that of a bad pointer, and nothing is written
-    New(256, 64, 16),
-    Put(0x8000, 0xEF00_002B),
-    Put(0x9000, 0x123),
-    Set(0, 0x9000),
-    Step(Some(Stop::Fault(Fault::ErrorStop(0x123)))),
-    Has(0, 0x9000),
-    Holds(0x01C0_2100, 0),
-    New(256, 64, 16),
-    Put(0x8000, 0xEF00_002B),
-    Set(0, 0x9002),
-    Step(Some(Stop::Fault(Fault::ErrorStop(82)))),
-    Has(0, 0x9002),
-    Holds(0x01C0_2100, 0),
-    // its block may lie where a heap keeps its records, and in a system page
-    New(256, 64, 16),
-    Set(0, 0x0180_0004),
-    Call(0x2B, None),
-    Overflow(true),
-    Has(0, 0x0180_0004),
-    Set(0, 0x01C0_2100),
-    Call(0x2B, None),
-    Overflow(true),
-    Has(0, 0x01C0_2100),
-    Call(0x11, Some(Stop::Exit)),
-    // SWI OS_WriteS; "abcd", 0; SWI OS_EnterOS
-    New(256, 64, 16),
-    Put(0x8000, 0xEF00_0001),
-    Put(0x8004, 0x6463_6261),
-    Put(0x8008, 0),
-    Put(0x800C, 0xEF00_0016),
-    Step(None),
-    Prints("abcd"),
-    At(0x800C),
-    Step(None),
-    Prints(""),
-    Has(15, 0x8013),
-    Has(14, 0x8010),
-    // the same text, by a call made from outside
-    New(256, 64, 16),
-    Put(0x8000, 0x6463_6261),
-    Put(0x8004, 0),
-    Put(0x8008, 0xEF00_0016),
-    Call(1, None),
-    Prints("abcd"),
-    At(0x8008),
-    // a text of OS_Write0 has at most 4096 bytes
-    New(256, 64, 16),
-    BootText(4096, None),
-    Set(0, 0x8000),
-    Call(2, None),
-    PrintsMany(4096),
-    Has(0, 0x9001),
-    New(256, 64, 16),
-    BootText(4097, None),
-    Set(0, 0x8000),
-    Call(2, None),
-    Prints(""),
-    Holds(0x01C0_2100, 81),
-    // B to &3800000, the return gate, with no frame open; B to &48000, where nothing is mapped
-    New(256, 64, 16),
-    Put(0x8000, 0xEADF_DFFE),
-    Step(None),
-    At(0x0380_0000),
-    Step(Some(Stop::Fault(Fault::FetchUnmapped))),
-    At(0x0380_0000),
-    New(256, 64, 16),
-    Put(0x8000, 0xEA00_FFFE),
-    Step(None),
-    At(0x0004_8000),
-    Step(Some(Stop::Fault(Fault::FetchUnmapped))),
-    At(0x0004_8000),
-];
-
 // "ab", a line end, "cd", zero: how many bytes a string there has
 #[test]
 fn strings_end_and_are_limited(rt: HostRuntime) -> Result<(), Fail> {
@@ -397,9 +238,4 @@ fn strings_end_and_are_limited(rt: HostRuntime) -> Result<(), Fail> {
         None
     );
     Ok(())
-}
-
-#[test]
-fn steps_and_calls(rt: HostRuntime) -> Result<(), Fail> {
-    play(&rt, rt.alloc(), &LINES)
 }

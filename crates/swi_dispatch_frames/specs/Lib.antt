@@ -1,3 +1,4 @@
+pub mod Busy
 pub mod Entering
 pub mod Frames
 pub mod Leaving

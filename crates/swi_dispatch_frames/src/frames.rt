@@ -41,6 +41,12 @@ impl Frames {
         self.table.len()
     }
 
+    pub(crate) fn as_slice(&self) -> &[Frame]
+        ensures { result.now ≡ self.now }
+    {
+        self.table.as_slice()
+    }
+
     /// Opens a frame.
     pub fn open(&mut self, frame: Frame)
         requires { length self.old < 32 }

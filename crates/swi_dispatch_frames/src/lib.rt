@@ -1,6 +1,7 @@
 //! Frames: module code that has been entered and has not come back yet, and what the core is like on its way in and out.
 #![tactic(auto)]
 
+pub mod busy;
 pub mod call;
 pub mod enter;
 pub mod frame;

@@ -3,7 +3,8 @@
 use crate::Machine;
 use crate::tests::usual_machine;
 use image_loader::Images;
-use instances_table::Image;
+use instances::Instances;
+use instances_table::{Image, InstanceTable};
 use module_header::Header;
 use std::alloc::Global;
 use std::process::Abort;
@@ -24,7 +25,9 @@ fn doubling(rt: &impl Abort, alloc: Global) -> Result<Machine, Fail> {
         len: 48,
         in_rma: true,
     };
-    assert!(rt; machine.modules.insert(header, image, 2));
+    let mut modules = InstanceTable::new();
+    assert!(rt; modules.insert(header, image, 2));
+    machine.instances = Instances::of(modules);
     Ok(machine)
 }
 

@@ -1,8 +1,11 @@
-use Rattle.std.proofs.Common.{ℕ, ◌≡◌, ◌≤◌, ◌+◌, ◌++◌, ◌∷◌, [], arith, sym, ◌∙◌}
+use Rattle.std.proofs.Common.{not, ℕ, ◌≡◌, ◌≤◌, ◌+◌, ◌++◌, ◌∷◌, [], arith, sym, ◌∙◌}
 use Rattle.os_heap.specs.Store.{store_of}
 use Rattle.flex_store.specs.Blocks.{new_block, used}
-use Rattle.flex_store.specs.State.{blocks_of}
-use Rattle.flex_store.proofs.Allocating.{alloc_bad, alloc_gives, alloc_used, may_append}
+use Rattle.flex_store.specs.State.{blocks_of, store_in}
+use Rattle.std.proofs.lemmas.Bool.{and_parts}
+use Rattle.flex_store.specs.Calls.{is_anchor_place, is_in_store}
+use Rattle.flex_store.proofs.Keeping.{place_headless}
+use Rattle.flex_store.proofs.Allocating.{alloc_allowed, alloc_bad, alloc_gives, alloc_used, may_append}
 use Rattle.flex_store.proofs.Answering.{fits_keeps}
 use Rattle.flex_store.proofs.block.alloc_block.Goals as goal
 
@@ -41,4 +44,11 @@ returns-clause-state c =
 pub returns-clause-keeps : goal.returns-clause-keeps
 returns-clause-keeps c =
     fits_keeps c.args.map.now c.append_block.new.map c.args.extent.now c.append_block.new.extent (blocks_of c.args.map.now c.args.extent.now ++ new_block c.args.anchor c.args.size ∷ [])
-    c.append_block.result c.requires.store c.append_block.ensures
+    c.append_block.result c.requires.store (alloc_allowed c.args.map.now c.args.extent.now c.args.anchor c.args.size (sym c.may_hold.ensures ∙ c.if-not-may_hold.false))
+    c.append_block.ensures
+
+pub append_block-requires-clause-head : goal.append_block-requires-clause-head
+append_block-requires-clause-head c =
+    let m = c.args.map.now in
+    place_headless m c.args.anchor c.requires.sound c.requires.classes
+    (and_parts (is_anchor_place (store_of m) c.args.anchor) (not (is_in_store (store_in m c.args.extent.now) c.args.anchor)) (sym c.may_hold.ensures ∙ c.if-not-may_hold.false)).0

@@ -5,6 +5,7 @@ use Rattle.address_map.specs.Memory.{regions}
 use Rattle.address_map.specs.Records.{is_heap_kind}
 use Rattle.address_map.specs.declared.region.Region.{Region}
 use Rattle.os_heap.specs.Store.{store_of}
+use Rattle.os_heap.specs.Payloads.{is_other, payload_of}
 use Rattle.flex_store.specs.Calls.{is_anchor_place, is_in_store}
 use Rattle.flex_store.specs.State.{store_in}
 use Rattle.flex_store.proofs.Allocating.{place_tested, place_unaligned}
@@ -21,16 +22,29 @@ returns-then-not-maps c =
     let m = c.args.map.now in
     let inside : Bool = is_in_store (store_in m c.args.extent.now) c.args.anchor in
     let met : Bool = met_in c.args.anchor (regions m) in
-    sym (ap (λ (t : Bool). t && (not met && not inside)) c.if-not-maps.true)
-    ∙ place_tested m c.args.anchor c.maps.result met inside (omega arith) c.requires.payload c.maps.ensures refl
+    let other : Bool = is_other (payload_of (store_of m).heaps c.args.anchor) in
+    sym (ap (λ (t : Bool). t && ((not met && not other) && not inside)) c.if-not-maps.true)
+    ∙ place_tested m c.args.anchor c.maps.result met other inside (omega arith) refl c.maps.ensures refl
 
 pub returns-then-meets_other : goal.returns-then-meets_other
 returns-then-meets_other c =
     let m = c.args.map.now in
     let inside : Bool = is_in_store (store_in m c.args.extent.now) c.args.anchor in
     let met : Bool = c.meets_other.result in
-    sym (ap (λ (t : Bool). t && (not met && not inside)) c.if-not-maps.false ∙ ap (λ (t : Bool). not t && not inside) c.if-meets_other.true)
-    ∙ place_tested m c.args.anchor c.maps.result met inside (omega arith) c.requires.payload c.maps.ensures
+    let other : Bool = is_other (payload_of (store_of m).heaps c.args.anchor) in
+    sym (ap (λ (t : Bool). t && ((not met && not other) && not inside)) c.if-not-maps.false ∙ ap (λ (t : Bool). (not t && not other) && not inside) c.if-meets_other.true)
+    ∙ place_tested m c.args.anchor c.maps.result met other inside (omega arith) refl c.maps.ensures
+    (c.meets_other.ensures ∙ ap (λ (rs : List Region). met_in c.args.anchor rs) c.regions.ensures)
+
+pub returns-then-is_other : goal.returns-then-is_other
+returns-then-is_other c =
+    let m = c.args.map.now in
+    let inside : Bool = is_in_store (store_in m c.args.extent.now) c.args.anchor in
+    let met : Bool = c.meets_other.result in
+    let other : Bool = c.is_other.result in
+    sym (ap (λ (t : Bool). t && ((not met && not other) && not inside)) c.if-not-maps.false ∙ ap (λ (t : Bool). (not t && not other) && not inside) c.if-meets_other.false
+    ∙ ap (λ (t : Bool). not t && not inside) c.if-is_other.true)
+    ∙ place_tested m c.args.anchor c.maps.result met other inside (omega arith) (c.is_other.ensures ∙ ap is_other c.live_payload-place.ensures) c.maps.ensures
     (c.meets_other.ensures ∙ ap (λ (rs : List Region). met_in c.args.anchor rs) c.regions.ensures)
 
 pub returns : goal.returns
@@ -38,7 +52,9 @@ returns c =
     let m = c.args.map.now in
     let inside : Bool = c.is_met.result in
     let met : Bool = c.meets_other.result in
-    sym (ap (λ (t : Bool). t && (not met && not inside)) c.if-not-maps.false ∙ ap (λ (t : Bool). not t && not inside) c.if-meets_other.false)
-    ∙ (place_tested m c.args.anchor c.maps.result met inside (omega arith) c.requires.payload c.maps.ensures
+    let other : Bool = c.is_other.result in
+    sym (ap (λ (t : Bool). t && ((not met && not other) && not inside)) c.if-not-maps.false ∙ ap (λ (t : Bool). (not t && not other) && not inside) c.if-meets_other.false
+    ∙ ap (λ (t : Bool). not t && not inside) c.if-is_other.false)
+    ∙ (place_tested m c.args.anchor c.maps.result met other inside (omega arith) (c.is_other.ensures ∙ ap is_other c.live_payload-place.ensures) c.maps.ensures
     (c.meets_other.ensures ∙ ap (λ (rs : List Region). met_in c.args.anchor rs) c.regions.ensures)
     ∙ ap (λ (t : Bool). is_anchor_place (store_of m) c.args.anchor && not t) c.is_met.ensures)

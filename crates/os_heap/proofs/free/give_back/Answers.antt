@@ -10,6 +10,9 @@ use Rattle.os_heap.proofs.Replace.{heap_below, heap_mapped}
 use Rattle.os_heap.proofs.Freeing.{block_facts, next_free_facts, gap_stands, releases_sunk, releases_joined, releases_alone}
 use Rattle.os_heap.proofs.free.give_back.Goals as goal
 
+pub free_behind-item-requires-clause-here : goal.free_behind-item-requires-clause-here
+free_behind-item-requires-clause-here c = sym (ap (λ n. c.args.cursor.now.at + n) c.own_total-own.ensures.word) ∙ c.if-behind-cursor.true
+
 pub overflow_add-base : goal.overflow_add-base
 overflow_add-base c =
     omega (arith, heap_below c.args.map.now c.args.heap (end_at c.args.map.now c.args.heap) _ c.requires.heap, c.requires.heap.inside, c.word.ensures, c.requires.heap.base)
@@ -19,27 +22,11 @@ overflow_sub-at c =
     let f = block_facts c.args.map.now c.args.heap (end_at c.args.map.now c.args.heap) c.args.block c.args.cursor.now.from c.args.cursor.now.at c.args.cursor.now.free c.args.cursor.now.gap c.requires.heap c.requires.block in
     omega (arith, f.low)
 
-pub word-own-requires-clause-aligned : goal.word-own-requires-clause-aligned
-word-own-requires-clause-aligned c =
-    let f = block_facts c.args.map.now c.args.heap (end_at c.args.map.now c.args.heap) c.args.block c.args.cursor.now.from c.args.cursor.now.at c.args.cursor.now.free c.args.cursor.now.gap c.requires.heap c.requires.block in
-    f.facts.whole
-
-pub word-own-requires-clause-mapped : goal.word-own-requires-clause-mapped
-word-own-requires-clause-mapped c =
-    let f = block_facts c.args.map.now c.args.heap (end_at c.args.map.now c.args.heap) c.args.block c.args.cursor.now.from c.args.cursor.now.at c.args.cursor.now.free c.args.cursor.now.gap c.requires.heap c.requires.block in
-    heap_mapped c.args.map.now c.args.heap (end_at c.args.map.now c.args.heap) _ _ c.requires.heap (omega (arith, f.facts.low)) (omega (arith, f.facts.high, f.facts.size))
-
 pub overflow_add-total : goal.overflow_add-total
 overflow_add-total c =
     let f = block_facts c.args.map.now c.args.heap (end_at c.args.map.now c.args.heap) c.args.block c.args.cursor.now.from c.args.cursor.now.at c.args.cursor.now.free c.args.cursor.now.gap c.requires.heap c.requires.block in
-    let own = c.word-own.ensures ∙ f.facts.total_word in
+    let own = c.own_total-own.ensures.word ∙ f.facts.total_word in
     omega (arith, own, f.low, f.facts.high, f.facts.top)
-
-pub overflow_add-behind : goal.overflow_add-behind
-overflow_add-behind c =
-    let f = block_facts c.args.map.now c.args.heap (end_at c.args.map.now c.args.heap) c.args.block c.args.cursor.now.from c.args.cursor.now.at c.args.cursor.now.free c.args.cursor.now.gap c.requires.heap c.requires.block in
-    let own = c.word-own.ensures ∙ f.facts.total_word in
-    omega (arith, own, f.facts.high, f.facts.top)
 
 pub put_link-requires-clause-below : goal.put_link-requires-clause-below
 put_link-requires-clause-below c =
@@ -154,9 +141,9 @@ remark_gap-requires-clause-gap c =
 pub remark_gap-requires-clause-olds : goal.remark_gap-requires-clause-olds
 remark_gap-requires-clause-olds c =
     let f = block_facts c.args.map.now c.args.heap (end_at c.args.map.now c.args.heap) c.args.block c.args.cursor.now.from c.args.cursor.now.at c.args.cursor.now.free c.args.cursor.now.gap c.requires.heap c.requires.block in
-    let own = c.word-own.ensures ∙ f.facts.total_word in
-    can_stand c.args.map.now c.put.new.map c.args.heap (end_at c.args.map.now c.args.heap) c.args.cursor.now.at _ (Live c.word-own.result ∷ []) c.requires.heap (c.put.ensures.layout ∙ c.put_link.ensures.layout)
-    (total_of-numbers c.word-own.result (omega (arith, own, f.facts.size)) (omega (arith, own, f.facts.eighths)), tt) f.facts.whole (omega (arith, f.low)) (omega (arith, own, f.facts.high))
+    let own = c.own_total-own.ensures.word ∙ f.facts.total_word in
+    can_stand c.args.map.now c.put.new.map c.args.heap (end_at c.args.map.now c.args.heap) c.args.cursor.now.at _ (Live c.own_total-own.result ∷ []) c.requires.heap (c.put.ensures.layout ∙ c.put_link.ensures.layout)
+    (total_of-numbers c.own_total-own.result (omega (arith, own, f.facts.size)) (omega (arith, own, f.facts.eighths)), tt) f.facts.whole (omega (arith, f.low)) (omega (arith, own, f.facts.high))
 
 pub remark_gap-requires-clause-news : goal.remark_gap-requires-clause-news
 remark_gap-requires-clause-news c =
@@ -177,26 +164,26 @@ remark_gap-requires-then-behind-cursor-clause-gap c =
 pub remark_gap-requires-then-behind-cursor-clause-olds : goal.remark_gap-requires-then-behind-cursor-clause-olds
 remark_gap-requires-then-behind-cursor-clause-olds c =
     let f = block_facts c.args.map.now c.args.heap (end_at c.args.map.now c.args.heap) c.args.block c.args.cursor.now.from c.args.cursor.now.at c.args.cursor.now.free c.args.cursor.now.gap c.requires.heap c.requires.block in
-    let own = c.word-own.ensures ∙ f.facts.total_word in
+    let own = c.own_total-own.ensures.word ∙ f.facts.total_word in
     let here : c.args.cursor.now.at + c.requires.block.total ≡ c.args.cursor.now.free = sym (ap (λ n. c.args.cursor.now.at + n) own) ∙ c.if-behind-cursor.true in
     let k = next_free_facts c.args.map.now c.args.heap (end_at c.args.map.now c.args.heap) c.args.block c.args.cursor.now.from c.args.cursor.now.at c.args.cursor.now.free c.args.cursor.now.gap c.requires.heap c.requires.block here in
-    let other = rw own at c.word-room.ensures in
+    let other = rw (sym here) at c.free_behind-item.ensures.total in
     let sum = other ∙ k.facts.total_word in
-    can_stand c.args.map.now c.put_free.new.map c.args.heap (end_at c.args.map.now c.args.heap) c.args.cursor.now.at _ (Live c.word-own.result ∷ (Free c.word-room.result ∷ [])) c.requires.heap c.put_free.ensures.layout (
-      total_of-numbers c.word-own.result (omega (arith, own, f.facts.size)) (omega (arith, own, f.facts.eighths)),
-      (total_of-numbers c.word-room.result (omega (arith, sum, k.facts.size)) (omega (arith, sum, k.facts.eighths)), tt),
+    can_stand c.args.map.now c.put_free.new.map c.args.heap (end_at c.args.map.now c.args.heap) c.args.cursor.now.at _ (Live c.own_total-own.result ∷ (Free c.free_behind-item.result.total ∷ [])) c.requires.heap c.put_free.ensures.layout (
+      total_of-numbers c.own_total-own.result (omega (arith, own, f.facts.size)) (omega (arith, own, f.facts.eighths)),
+      (total_of-numbers c.free_behind-item.result.total (omega (arith, sum, k.facts.size)) (omega (arith, sum, k.facts.eighths)), tt),
     ) f.facts.whole (omega (arith, f.low)) (omega (arith, own, sum, k.facts.high))
 
 pub remark_gap-requires-then-behind-cursor-clause-news : goal.remark_gap-requires-then-behind-cursor-clause-news
 remark_gap-requires-then-behind-cursor-clause-news c =
     let f = block_facts c.args.map.now c.args.heap (end_at c.args.map.now c.args.heap) c.args.block c.args.cursor.now.from c.args.cursor.now.at c.args.cursor.now.free c.args.cursor.now.gap c.requires.heap c.requires.block in
-    let own = c.word-own.ensures ∙ f.facts.total_word in
+    let own = c.own_total-own.ensures.word ∙ f.facts.total_word in
     let here : c.args.cursor.now.at + c.requires.block.total ≡ c.args.cursor.now.free = sym (ap (λ n. c.args.cursor.now.at + n) own) ∙ c.if-behind-cursor.true in
     let k = next_free_facts c.args.map.now c.args.heap (end_at c.args.map.now c.args.heap) c.args.block c.args.cursor.now.from c.args.cursor.now.at c.args.cursor.now.free c.args.cursor.now.gap c.requires.heap c.requires.block here in
-    let other = rw own at c.word-room.ensures in
+    let other = rw (sym here) at c.free_behind-item.ensures.total in
     let sum = other ∙ k.facts.total_word in
-    can_stand c.args.map.now c.put_free.new.map c.args.heap (end_at c.args.map.now c.args.heap) (c.args.cursor.now.at - c.args.cursor.now.gap) _ (Free (c.args.cursor.now.gap + c.word-own.result + c.word-room.result) ∷ []) c.requires.heap c.put_free.ensures.layout
-    (total_of-numbers (c.args.cursor.now.gap + c.word-own.result + c.word-room.result) (omega (arith, own, sum, f.facts.size)) (omega (arith, own, sum, f.eighths, f.facts.eighths, k.facts.eighths)), tt) f.whole (omega (arith, f.low)) (omega (arith, own, sum, f.low, k.facts.high))
+    can_stand c.args.map.now c.put_free.new.map c.args.heap (end_at c.args.map.now c.args.heap) (c.args.cursor.now.at - c.args.cursor.now.gap) _ (Free (c.args.cursor.now.gap + c.own_total-own.result + c.free_behind-item.result.total) ∷ []) c.requires.heap c.put_free.ensures.layout
+    (total_of-numbers (c.args.cursor.now.gap + c.own_total-own.result + c.free_behind-item.result.total) (omega (arith, own, sum, f.facts.size)) (omega (arith, own, sum, f.eighths, f.facts.eighths, k.facts.eighths)), tt) f.whole (omega (arith, f.low)) (omega (arith, own, sum, f.low, k.facts.high))
 
 pub remark_gap-requires-2-clause-low : goal.remark_gap-requires-2-clause-low
 remark_gap-requires-2-clause-low c =
@@ -211,21 +198,21 @@ remark_gap-requires-2-clause-gap c =
 pub remark_gap-requires-2-clause-olds : goal.remark_gap-requires-2-clause-olds
 remark_gap-requires-2-clause-olds c =
     let f = block_facts c.args.map.now c.args.heap (end_at c.args.map.now c.args.heap) c.args.block c.args.cursor.now.from c.args.cursor.now.at c.args.cursor.now.free c.args.cursor.now.gap c.requires.heap c.requires.block in
-    let own = c.word-own.ensures ∙ f.facts.total_word in
-    can_stand c.args.map.now c.put_free-2.new.map c.args.heap (end_at c.args.map.now c.args.heap) c.args.cursor.now.at _ (Live c.word-own.result ∷ []) c.requires.heap c.put_free-2.ensures.layout
-    (total_of-numbers c.word-own.result (omega (arith, own, f.facts.size)) (omega (arith, own, f.facts.eighths)), tt) f.facts.whole (omega (arith, f.low)) (omega (arith, own, f.facts.high))
+    let own = c.own_total-own.ensures.word ∙ f.facts.total_word in
+    can_stand c.args.map.now c.put_free-2.new.map c.args.heap (end_at c.args.map.now c.args.heap) c.args.cursor.now.at _ (Live c.own_total-own.result ∷ []) c.requires.heap c.put_free-2.ensures.layout
+    (total_of-numbers c.own_total-own.result (omega (arith, own, f.facts.size)) (omega (arith, own, f.facts.eighths)), tt) f.facts.whole (omega (arith, f.low)) (omega (arith, own, f.facts.high))
 
 pub remark_gap-requires-2-clause-news : goal.remark_gap-requires-2-clause-news
 remark_gap-requires-2-clause-news c =
     let f = block_facts c.args.map.now c.args.heap (end_at c.args.map.now c.args.heap) c.args.block c.args.cursor.now.from c.args.cursor.now.at c.args.cursor.now.free c.args.cursor.now.gap c.requires.heap c.requires.block in
-    let own = c.word-own.ensures ∙ f.facts.total_word in
-    can_stand c.args.map.now c.put_free-2.new.map c.args.heap (end_at c.args.map.now c.args.heap) (c.args.cursor.now.at - c.args.cursor.now.gap) _ (Free (c.args.cursor.now.gap + c.word-own.result) ∷ []) c.requires.heap c.put_free-2.ensures.layout
-    (total_of-numbers (c.args.cursor.now.gap + c.word-own.result) (omega (arith, own, f.facts.size)) (omega (arith, own, f.eighths, f.facts.eighths)), tt) f.whole (omega (arith, f.low)) (omega (arith, own, f.low, f.facts.high))
+    let own = c.own_total-own.ensures.word ∙ f.facts.total_word in
+    can_stand c.args.map.now c.put_free-2.new.map c.args.heap (end_at c.args.map.now c.args.heap) (c.args.cursor.now.at - c.args.cursor.now.gap) _ (Free (c.args.cursor.now.gap + c.own_total-own.result) ∷ []) c.requires.heap c.put_free-2.ensures.layout
+    (total_of-numbers (c.args.cursor.now.gap + c.own_total-own.result) (omega (arith, own, f.facts.size)) (omega (arith, own, f.eighths, f.facts.eighths)), tt) f.whole (omega (arith, f.low)) (omega (arith, own, f.low, f.facts.high))
 
 pub returns-then-behind-base : goal.returns-then-behind-base
 returns-then-behind-base c =
     let f = block_facts c.args.map.now c.args.heap (end_at c.args.map.now c.args.heap) c.args.block c.args.cursor.now.from c.args.cursor.now.at c.args.cursor.now.free c.args.cursor.now.gap c.requires.heap c.requires.block in
-    let own = c.word-own.ensures ∙ f.facts.total_word in
+    let own = c.own_total-own.ensures.word ∙ f.facts.total_word in
     let ends : c.args.cursor.now.at + c.requires.block.total ≡ c.args.heap + word_at (byte_at c.args.map.now) (c.args.heap + 8) =
     sym (ap (λ n. c.args.cursor.now.at + n) own) ∙ c.if-behind-base.true ∙ ap (λ n. c.args.heap + n) c.word.ensures in
     releases_sunk c.args.map.now _ c.args.heap (end_at c.args.map.now c.args.heap) c.args.block c.args.cursor.now.from c.args.cursor.now.at c.args.cursor.now.free c.args.cursor.now.gap _ c.requires.heap c.requires.block ends
@@ -234,84 +221,28 @@ returns-then-behind-base c =
     (remarks_after (class_of c.args.map.now) (class_of c.put.new.map) (class_of c.remark_gap.new.map) (c.args.cursor.now.at - c.args.cursor.now.gap) (left_free c.args.cursor.now.gap ++ Live c.requires.block.total ∷ []) []
     (c.put.ensures.marks ∙ c.put_link.ensures.marks) (rw own at c.remark_gap.ensures.marks))
 
-pub overflow_add-behind-then-behind-cursor : goal.overflow_add-behind-then-behind-cursor
-overflow_add-behind-then-behind-cursor c =
-    let f = block_facts c.args.map.now c.args.heap (end_at c.args.map.now c.args.heap) c.args.block c.args.cursor.now.from c.args.cursor.now.at c.args.cursor.now.free c.args.cursor.now.gap c.requires.heap c.requires.block in
-    let own = c.word-own.ensures ∙ f.facts.total_word in
-    let here : c.args.cursor.now.at + c.requires.block.total ≡ c.args.cursor.now.free = sym (ap (λ n. c.args.cursor.now.at + n) own) ∙ c.if-behind-cursor.true in
-    let k = next_free_facts c.args.map.now c.args.heap (end_at c.args.map.now c.args.heap) c.args.block c.args.cursor.now.from c.args.cursor.now.at c.args.cursor.now.free c.args.cursor.now.gap c.requires.heap c.requires.block here in
-    omega (arith, own, k.facts.high, k.facts.top, k.facts.size)
-
-pub word-room-requires-clause-aligned : goal.word-room-requires-clause-aligned
-word-room-requires-clause-aligned c =
-    let f = block_facts c.args.map.now c.args.heap (end_at c.args.map.now c.args.heap) c.args.block c.args.cursor.now.from c.args.cursor.now.at c.args.cursor.now.free c.args.cursor.now.gap c.requires.heap c.requires.block in
-    let own = c.word-own.ensures ∙ f.facts.total_word in
-    let here : c.args.cursor.now.at + c.requires.block.total ≡ c.args.cursor.now.free = sym (ap (λ n. c.args.cursor.now.at + n) own) ∙ c.if-behind-cursor.true in
-    let k = next_free_facts c.args.map.now c.args.heap (end_at c.args.map.now c.args.heap) c.args.block c.args.cursor.now.from c.args.cursor.now.at c.args.cursor.now.free c.args.cursor.now.gap c.requires.heap c.requires.block here in
-    rw own (omega (arith, k.facts.whole))
-
-pub word-room-requires-clause-mapped : goal.word-room-requires-clause-mapped
-word-room-requires-clause-mapped c =
-    let f = block_facts c.args.map.now c.args.heap (end_at c.args.map.now c.args.heap) c.args.block c.args.cursor.now.from c.args.cursor.now.at c.args.cursor.now.free c.args.cursor.now.gap c.requires.heap c.requires.block in
-    let own = c.word-own.ensures ∙ f.facts.total_word in
-    let here : c.args.cursor.now.at + c.requires.block.total ≡ c.args.cursor.now.free = sym (ap (λ n. c.args.cursor.now.at + n) own) ∙ c.if-behind-cursor.true in
-    let k = next_free_facts c.args.map.now c.args.heap (end_at c.args.map.now c.args.heap) c.args.block c.args.cursor.now.from c.args.cursor.now.at c.args.cursor.now.free c.args.cursor.now.gap c.requires.heap c.requires.block here in
-    rw own (heap_mapped c.args.map.now c.args.heap (end_at c.args.map.now c.args.heap) _ _ c.requires.heap (omega (arith, k.facts.low)) (omega (arith, k.facts.high, k.facts.size)))
-
 pub overflow_add-joined : goal.overflow_add-joined
 overflow_add-joined c =
     let f = block_facts c.args.map.now c.args.heap (end_at c.args.map.now c.args.heap) c.args.block c.args.cursor.now.from c.args.cursor.now.at c.args.cursor.now.free c.args.cursor.now.gap c.requires.heap c.requires.block in
-    let own = c.word-own.ensures ∙ f.facts.total_word in
+    let own = c.own_total-own.ensures.word ∙ f.facts.total_word in
     let here : c.args.cursor.now.at + c.requires.block.total ≡ c.args.cursor.now.free = sym (ap (λ n. c.args.cursor.now.at + n) own) ∙ c.if-behind-cursor.true in
     let k = next_free_facts c.args.map.now c.args.heap (end_at c.args.map.now c.args.heap) c.args.block c.args.cursor.now.from c.args.cursor.now.at c.args.cursor.now.free c.args.cursor.now.gap c.requires.heap c.requires.block here in
-    let other = rw own at c.word-room.ensures in
+    let other = rw (sym here) at c.free_behind-item.ensures.total in
     let sum = other ∙ k.facts.total_word in
     omega (arith, own, sum, f.low, k.facts.high, k.facts.top)
-
-pub follow-next-requires-clause-below : goal.follow-next-requires-clause-below
-follow-next-requires-clause-below c =
-    let f = block_facts c.args.map.now c.args.heap (end_at c.args.map.now c.args.heap) c.args.block c.args.cursor.now.from c.args.cursor.now.at c.args.cursor.now.free c.args.cursor.now.gap c.requires.heap c.requires.block in
-    let own = c.word-own.ensures ∙ f.facts.total_word in
-    let here : c.args.cursor.now.at + c.requires.block.total ≡ c.args.cursor.now.free = sym (ap (λ n. c.args.cursor.now.at + n) own) ∙ c.if-behind-cursor.true in
-    let k = next_free_facts c.args.map.now c.args.heap (end_at c.args.map.now c.args.heap) c.args.block c.args.cursor.now.from c.args.cursor.now.at c.args.cursor.now.free c.args.cursor.now.gap c.requires.heap c.requires.block here in
-    omega (arith, own, k.facts.high, k.facts.top, k.facts.size)
-
-pub follow-next-requires-clause-aligned : goal.follow-next-requires-clause-aligned
-follow-next-requires-clause-aligned c =
-    let f = block_facts c.args.map.now c.args.heap (end_at c.args.map.now c.args.heap) c.args.block c.args.cursor.now.from c.args.cursor.now.at c.args.cursor.now.free c.args.cursor.now.gap c.requires.heap c.requires.block in
-    let own = c.word-own.ensures ∙ f.facts.total_word in
-    let here : c.args.cursor.now.at + c.requires.block.total ≡ c.args.cursor.now.free = sym (ap (λ n. c.args.cursor.now.at + n) own) ∙ c.if-behind-cursor.true in
-    let k = next_free_facts c.args.map.now c.args.heap (end_at c.args.map.now c.args.heap) c.args.block c.args.cursor.now.from c.args.cursor.now.at c.args.cursor.now.free c.args.cursor.now.gap c.requires.heap c.requires.block here in
-    rw (own, k.link) k.facts.whole
-
-pub follow-next-requires-clause-mapped : goal.follow-next-requires-clause-mapped
-follow-next-requires-clause-mapped c =
-    let f = block_facts c.args.map.now c.args.heap (end_at c.args.map.now c.args.heap) c.args.block c.args.cursor.now.from c.args.cursor.now.at c.args.cursor.now.free c.args.cursor.now.gap c.requires.heap c.requires.block in
-    let own = c.word-own.ensures ∙ f.facts.total_word in
-    let here : c.args.cursor.now.at + c.requires.block.total ≡ c.args.cursor.now.free = sym (ap (λ n. c.args.cursor.now.at + n) own) ∙ c.if-behind-cursor.true in
-    let k = next_free_facts c.args.map.now c.args.heap (end_at c.args.map.now c.args.heap) c.args.block c.args.cursor.now.from c.args.cursor.now.at c.args.cursor.now.free c.args.cursor.now.gap c.requires.heap c.requires.block here in
-    rw (own, k.link) (heap_mapped c.args.map.now c.args.heap (end_at c.args.map.now c.args.heap) _ _ c.requires.heap (omega (arith, k.facts.low)) (omega (arith, k.facts.high, k.facts.size)))
-
-pub follow-next-requires-clause-fits : goal.follow-next-requires-clause-fits
-follow-next-requires-clause-fits c =
-    let f = block_facts c.args.map.now c.args.heap (end_at c.args.map.now c.args.heap) c.args.block c.args.cursor.now.from c.args.cursor.now.at c.args.cursor.now.free c.args.cursor.now.gap c.requires.heap c.requires.block in
-    let own = c.word-own.ensures ∙ f.facts.total_word in
-    let here : c.args.cursor.now.at + c.requires.block.total ≡ c.args.cursor.now.free = sym (ap (λ n. c.args.cursor.now.at + n) own) ∙ c.if-behind-cursor.true in
-    let k = next_free_facts c.args.map.now c.args.heap (end_at c.args.map.now c.args.heap) c.args.block c.args.cursor.now.from c.args.cursor.now.at c.args.cursor.now.free c.args.cursor.now.gap c.requires.heap c.requires.block here in
-    rw (own, k.onward) (omega (arith, k.facts.next_high))
 
 pub returns-then-behind-cursor : goal.returns-then-behind-cursor
 returns-then-behind-cursor c =
     let f = block_facts c.args.map.now c.args.heap (end_at c.args.map.now c.args.heap) c.args.block c.args.cursor.now.from c.args.cursor.now.at c.args.cursor.now.free c.args.cursor.now.gap c.requires.heap c.requires.block in
-    let own = c.word-own.ensures ∙ f.facts.total_word in
+    let own = c.own_total-own.ensures.word ∙ f.facts.total_word in
     let here : c.args.cursor.now.at + c.requires.block.total ≡ c.args.cursor.now.free = sym (ap (λ n. c.args.cursor.now.at + n) own) ∙ c.if-behind-cursor.true in
     let k = next_free_facts c.args.map.now c.args.heap (end_at c.args.map.now c.args.heap) c.args.block c.args.cursor.now.from c.args.cursor.now.at c.args.cursor.now.free c.args.cursor.now.gap c.requires.heap c.requires.block here in
-    let other = rw own at c.word-room.ensures in
+    let other = rw (sym here) at c.free_behind-item.ensures.total in
     let sum = other ∙ k.facts.total_word in
-    let next = rw own at c.follow-next.ensures in
+    let next = rw (sym here) at c.free_behind-item.ensures.next in
     let words = rw (own, sum) at c.put_free.ensures.words in
     let change = rw (own, sum) at c.remark_gap-then-behind-cursor.ensures.marks in
-    releases_joined c.args.map.now _ c.args.heap (end_at c.args.map.now c.args.heap) c.args.block c.args.cursor.now.from c.args.cursor.now.at c.args.cursor.now.free c.args.cursor.now.gap c.follow-next.result c.requires.heap c.requires.block k
+    releases_joined c.args.map.now _ c.args.heap (end_at c.args.map.now c.args.heap) c.args.block c.args.cursor.now.from c.args.cursor.now.at c.args.cursor.now.free c.args.cursor.now.gap c.free_behind-item.result.next c.requires.heap c.requires.block k
     (c.remark_gap-then-behind-cursor.ensures.layout ∙ c.put_free.ensures.layout) (next ∙ k.onward)
     (still_freed _ _ _ _ _ _ _ _ c.remark_gap-then-behind-cursor.ensures.bytes words) (remarks_after (class_of c.args.map.now) (class_of c.put_free.new.map) (class_of c.remark_gap-then-behind-cursor.new.map) (c.args.cursor.now.at - c.args.cursor.now.gap) (left_free c.args.cursor.now.gap ++ Live c.requires.block.total ∷ (Free k.total ∷ [])) (Free (c.args.cursor.now.gap + c.requires.block.total + k.total) ∷ [])
     c.put_free.ensures.marks change)
@@ -319,7 +250,7 @@ returns-then-behind-cursor c =
 pub returns : goal.returns
 returns c =
     let f = block_facts c.args.map.now c.args.heap (end_at c.args.map.now c.args.heap) c.args.block c.args.cursor.now.from c.args.cursor.now.at c.args.cursor.now.free c.args.cursor.now.gap c.requires.heap c.requires.block in
-    let own = c.word-own.ensures ∙ f.facts.total_word in
+    let own = c.own_total-own.ensures.word ∙ f.facts.total_word in
     let words = rw own at c.put_free-2.ensures.words in
     let change = rw own at c.remark_gap-2.ensures.marks in
     let inside : c.args.cursor.now.at + c.requires.block.total ≢ c.args.heap + word_at (byte_at c.args.map.now) (c.args.heap + 8) =

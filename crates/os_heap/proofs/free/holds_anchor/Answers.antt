@@ -4,21 +4,8 @@ use Rattle.address_map.specs.Records.{anchor_among}
 use Rattle.os_heap.specs.Calls.{holds_anchor}
 use Rattle.os_heap.specs.Outcomes.{end_at}
 use Rattle.os_heap.proofs.Freeing.{block_facts}
-use Rattle.os_heap.proofs.Replace.{heap_mapped}
 use Rattle.os_heap.proofs.Sized.{block_total}
 use Rattle.os_heap.proofs.free.holds_anchor.Goals as goal
-
-pub word-requires-clause-aligned : goal.word-requires-clause-aligned
-word-requires-clause-aligned c =
-    let f = block_facts c.args.map.now c.args.heap (end_at c.args.map.now c.args.heap) c.args.block c.args.cursor.now.from c.args.cursor.now.at
-    c.args.cursor.now.free c.args.cursor.now.gap c.requires.heap c.requires.block in
-    f.facts.whole
-
-pub word-requires-clause-mapped : goal.word-requires-clause-mapped
-word-requires-clause-mapped c =
-    let f = block_facts c.args.map.now c.args.heap (end_at c.args.map.now c.args.heap) c.args.block c.args.cursor.now.from c.args.cursor.now.at
-    c.args.cursor.now.free c.args.cursor.now.gap c.requires.heap c.requires.block in
-    heap_mapped c.args.map.now c.args.heap (end_at c.args.map.now c.args.heap) _ _ c.requires.heap (omega (arith, f.facts.low)) (omega (arith, f.facts.high, f.facts.size))
 
 pub returns : goal.returns
 returns c =
@@ -27,9 +14,9 @@ returns c =
     let f = block_facts m c.args.heap (end_at m c.args.heap) c.args.block c.args.cursor.now.from c.args.cursor.now.at c.args.cursor.now.free
     c.args.cursor.now.gap c.requires.heap b in
     let at : c.args.cursor.now.at ≡ c.args.block - 4 = omega (arith, b.here) in
-    let total : c.word.result ≡ b.total = c.word.ensures ∙ f.facts.total_word in
+    let total : c.own_total.result ≡ b.total = c.own_total.ensures.word ∙ f.facts.total_word in
     let live = block_total m c.args.heap (end_at m c.args.heap) c.args.block c.args.cursor.now.from c.args.cursor.now.at c.args.cursor.now.free
     c.args.cursor.now.gap c.requires.heap b in
-    c.anchor_in.ensures ∙ ap (λ (a : ℕ). anchor_among (anchor_of m) a c.word.result) at
+    c.anchor_in.ensures ∙ ap (λ (a : ℕ). anchor_among (anchor_of m) a c.own_total.result) at
     ∙ ap (λ (n : ℕ). anchor_among (anchor_of m) (c.args.block - 4) n) total
     ∙ sym (ap (λ (o : Option ℕ). holds_anchor (anchor_of m) c.args.block o) live)

@@ -13,92 +13,23 @@ use Rattle.os_heap.proofs.Refitting.{place_facts}
 use Rattle.os_heap.proofs.Refitted.{refits_part, refits_whole, refits_full, refits_blocked}
 use Rattle.os_heap.proofs.refit.grow.Goals as goal
 
-pub word-total-requires-clause-aligned : goal.word-total-requires-clause-aligned
-word-total-requires-clause-aligned c =
-    let f = place_facts c.args.map.now c.args.heap (end_at c.args.map.now c.args.heap) c.args.block c.args.cursor.now.from c.args.cursor.now.at c.args.cursor.now.free c.args.cursor.now.gap c.requires.heap c.requires.block in
-    f.facts.whole
-
-pub word-total-requires-clause-mapped : goal.word-total-requires-clause-mapped
-word-total-requires-clause-mapped c =
-    let f = place_facts c.args.map.now c.args.heap (end_at c.args.map.now c.args.heap) c.args.block c.args.cursor.now.from c.args.cursor.now.at c.args.cursor.now.free c.args.cursor.now.gap c.requires.heap c.requires.block in
-    heap_mapped c.args.map.now c.args.heap (end_at c.args.map.now c.args.heap) _ _ c.requires.heap (omega (arith, f.facts.low)) (omega (arith, f.facts.high, f.facts.size))
-
-pub overflow_add-behind : goal.overflow_add-behind
-overflow_add-behind c =
-    let f = place_facts c.args.map.now c.args.heap (end_at c.args.map.now c.args.heap) c.args.block c.args.cursor.now.from c.args.cursor.now.at c.args.cursor.now.free c.args.cursor.now.gap c.requires.heap c.requires.block in
-    let own = c.word-total.ensures ∙ f.facts.total_word in
-    omega (arith, own, f.facts.high, f.facts.top)
-
-pub overflow_add-behind-2 : goal.overflow_add-behind-2
-overflow_add-behind-2 c =
-    let f = place_facts c.args.map.now c.args.heap (end_at c.args.map.now c.args.heap) c.args.block c.args.cursor.now.from c.args.cursor.now.at c.args.cursor.now.free c.args.cursor.now.gap c.requires.heap c.requires.block in
-    let own = c.word-total.ensures ∙ f.facts.total_word in
-    let here : c.args.cursor.now.at + c.requires.block.total ≡ c.args.cursor.now.free = sym (ap (λ n. c.args.cursor.now.at + n) own) ∙ c.if-behind-cursor.false in
-    let k = next_free_facts c.args.map.now c.args.heap (end_at c.args.map.now c.args.heap) c.args.block c.args.cursor.now.from c.args.cursor.now.at c.args.cursor.now.free c.args.cursor.now.gap c.requires.heap c.requires.block here in
-    omega (arith, own, k.facts.high, k.facts.top, k.facts.size)
-
-pub word-free-requires-clause-aligned : goal.word-free-requires-clause-aligned
-word-free-requires-clause-aligned c =
-    let f = place_facts c.args.map.now c.args.heap (end_at c.args.map.now c.args.heap) c.args.block c.args.cursor.now.from c.args.cursor.now.at c.args.cursor.now.free c.args.cursor.now.gap c.requires.heap c.requires.block in
-    let own = c.word-total.ensures ∙ f.facts.total_word in
-    let here : c.args.cursor.now.at + c.requires.block.total ≡ c.args.cursor.now.free = sym (ap (λ n. c.args.cursor.now.at + n) own) ∙ c.if-behind-cursor.false in
-    let k = next_free_facts c.args.map.now c.args.heap (end_at c.args.map.now c.args.heap) c.args.block c.args.cursor.now.from c.args.cursor.now.at c.args.cursor.now.free c.args.cursor.now.gap c.requires.heap c.requires.block here in
-    rw own (omega (arith, k.facts.whole))
-
-pub word-free-requires-clause-mapped : goal.word-free-requires-clause-mapped
-word-free-requires-clause-mapped c =
-    let f = place_facts c.args.map.now c.args.heap (end_at c.args.map.now c.args.heap) c.args.block c.args.cursor.now.from c.args.cursor.now.at c.args.cursor.now.free c.args.cursor.now.gap c.requires.heap c.requires.block in
-    let own = c.word-total.ensures ∙ f.facts.total_word in
-    let here : c.args.cursor.now.at + c.requires.block.total ≡ c.args.cursor.now.free = sym (ap (λ n. c.args.cursor.now.at + n) own) ∙ c.if-behind-cursor.false in
-    let k = next_free_facts c.args.map.now c.args.heap (end_at c.args.map.now c.args.heap) c.args.block c.args.cursor.now.from c.args.cursor.now.at c.args.cursor.now.free c.args.cursor.now.gap c.requires.heap c.requires.block here in
-    rw own (heap_mapped c.args.map.now c.args.heap (end_at c.args.map.now c.args.heap) _ _ c.requires.heap (omega (arith, k.facts.low)) (omega (arith, k.facts.high, k.facts.size)))
+pub free_behind-item-requires-clause-here : goal.free_behind-item-requires-clause-here
+free_behind-item-requires-clause-here c = sym (ap (λ n. c.args.cursor.now.at + n) c.own_total-total.ensures.word) ∙ c.if-behind-cursor.false
 
 pub overflow_add-room : goal.overflow_add-room
 overflow_add-room c =
     let f = place_facts c.args.map.now c.args.heap (end_at c.args.map.now c.args.heap) c.args.block c.args.cursor.now.from c.args.cursor.now.at c.args.cursor.now.free c.args.cursor.now.gap c.requires.heap c.requires.block in
-    let own = c.word-total.ensures ∙ f.facts.total_word in
+    let own = c.own_total-total.ensures.word ∙ f.facts.total_word in
     let here : c.args.cursor.now.at + c.requires.block.total ≡ c.args.cursor.now.free = sym (ap (λ n. c.args.cursor.now.at + n) own) ∙ c.if-behind-cursor.false in
     let k = next_free_facts c.args.map.now c.args.heap (end_at c.args.map.now c.args.heap) c.args.block c.args.cursor.now.from c.args.cursor.now.at c.args.cursor.now.free c.args.cursor.now.gap c.requires.heap c.requires.block here in
-    let other = rw own at c.word-free.ensures in
+    let other = rw (sym here) at c.free_behind-item.ensures.total in
     let sum = other ∙ k.facts.total_word in
     omega (arith, own, sum, k.facts.high, k.facts.top)
-
-pub follow-next-requires-clause-below : goal.follow-next-requires-clause-below
-follow-next-requires-clause-below c =
-    let f = place_facts c.args.map.now c.args.heap (end_at c.args.map.now c.args.heap) c.args.block c.args.cursor.now.from c.args.cursor.now.at c.args.cursor.now.free c.args.cursor.now.gap c.requires.heap c.requires.block in
-    let own = c.word-total.ensures ∙ f.facts.total_word in
-    let here : c.args.cursor.now.at + c.requires.block.total ≡ c.args.cursor.now.free = sym (ap (λ n. c.args.cursor.now.at + n) own) ∙ c.if-behind-cursor.false in
-    let k = next_free_facts c.args.map.now c.args.heap (end_at c.args.map.now c.args.heap) c.args.block c.args.cursor.now.from c.args.cursor.now.at c.args.cursor.now.free c.args.cursor.now.gap c.requires.heap c.requires.block here in
-    rw own (omega (arith, k.facts.high, k.facts.top, k.facts.size))
-
-pub follow-next-requires-clause-aligned : goal.follow-next-requires-clause-aligned
-follow-next-requires-clause-aligned c =
-    let f = place_facts c.args.map.now c.args.heap (end_at c.args.map.now c.args.heap) c.args.block c.args.cursor.now.from c.args.cursor.now.at c.args.cursor.now.free c.args.cursor.now.gap c.requires.heap c.requires.block in
-    let own = c.word-total.ensures ∙ f.facts.total_word in
-    let here : c.args.cursor.now.at + c.requires.block.total ≡ c.args.cursor.now.free = sym (ap (λ n. c.args.cursor.now.at + n) own) ∙ c.if-behind-cursor.false in
-    let k = next_free_facts c.args.map.now c.args.heap (end_at c.args.map.now c.args.heap) c.args.block c.args.cursor.now.from c.args.cursor.now.at c.args.cursor.now.free c.args.cursor.now.gap c.requires.heap c.requires.block here in
-    rw (own, k.link) k.facts.whole
-
-pub follow-next-requires-clause-mapped : goal.follow-next-requires-clause-mapped
-follow-next-requires-clause-mapped c =
-    let f = place_facts c.args.map.now c.args.heap (end_at c.args.map.now c.args.heap) c.args.block c.args.cursor.now.from c.args.cursor.now.at c.args.cursor.now.free c.args.cursor.now.gap c.requires.heap c.requires.block in
-    let own = c.word-total.ensures ∙ f.facts.total_word in
-    let here : c.args.cursor.now.at + c.requires.block.total ≡ c.args.cursor.now.free = sym (ap (λ n. c.args.cursor.now.at + n) own) ∙ c.if-behind-cursor.false in
-    let k = next_free_facts c.args.map.now c.args.heap (end_at c.args.map.now c.args.heap) c.args.block c.args.cursor.now.from c.args.cursor.now.at c.args.cursor.now.free c.args.cursor.now.gap c.requires.heap c.requires.block here in
-    rw (own, k.link) (heap_mapped c.args.map.now c.args.heap (end_at c.args.map.now c.args.heap) _ _ c.requires.heap (omega (arith, k.facts.low)) (omega (arith, k.facts.high, k.facts.size)))
-
-pub follow-next-requires-clause-fits : goal.follow-next-requires-clause-fits
-follow-next-requires-clause-fits c =
-    let f = place_facts c.args.map.now c.args.heap (end_at c.args.map.now c.args.heap) c.args.block c.args.cursor.now.from c.args.cursor.now.at c.args.cursor.now.free c.args.cursor.now.gap c.requires.heap c.requires.block in
-    let own = c.word-total.ensures ∙ f.facts.total_word in
-    let here : c.args.cursor.now.at + c.requires.block.total ≡ c.args.cursor.now.free = sym (ap (λ n. c.args.cursor.now.at + n) own) ∙ c.if-behind-cursor.false in
-    let k = next_free_facts c.args.map.now c.args.heap (end_at c.args.map.now c.args.heap) c.args.block c.args.cursor.now.from c.args.cursor.now.at c.args.cursor.now.free c.args.cursor.now.gap c.requires.heap c.requires.block here in
-    rw (own, k.onward) (omega (arith, k.facts.next_high))
 
 pub returns-then-behind-cursor : goal.returns-then-behind-cursor
 returns-then-behind-cursor c =
     let f = place_facts c.args.map.now c.args.heap (end_at c.args.map.now c.args.heap) c.args.block c.args.cursor.now.from c.args.cursor.now.at c.args.cursor.now.free c.args.cursor.now.gap c.requires.heap c.requires.block in
-    let own = c.word-total.ensures ∙ f.facts.total_word in
+    let own = c.own_total-total.ensures.word ∙ f.facts.total_word in
     let larger : c.requires.block.total < c.args.needed = rw f.facts.total_word at c.requires.larger in
     let inside : c.args.cursor.now.at + c.requires.block.total ≢ c.args.heap + word_at (byte_at c.args.map.now) (c.args.heap + 8) =
     λ e. c.requires.inside (ap (λ n. c.args.cursor.now.at + n) f.facts.total_word ∙ e) in
@@ -108,20 +39,20 @@ returns-then-behind-cursor c =
 pub returns-then-needed-from : goal.returns-then-needed-from
 returns-then-needed-from c =
     let f = place_facts c.args.map.now c.args.heap (end_at c.args.map.now c.args.heap) c.args.block c.args.cursor.now.from c.args.cursor.now.at c.args.cursor.now.free c.args.cursor.now.gap c.requires.heap c.requires.block in
-    let own = c.word-total.ensures ∙ f.facts.total_word in
+    let own = c.own_total-total.ensures.word ∙ f.facts.total_word in
     let here : c.args.cursor.now.at + c.requires.block.total ≡ c.args.cursor.now.free = sym (ap (λ n. c.args.cursor.now.at + n) own) ∙ c.if-behind-cursor.false in
     let k = next_free_facts c.args.map.now c.args.heap (end_at c.args.map.now c.args.heap) c.args.block c.args.cursor.now.from c.args.cursor.now.at c.args.cursor.now.free c.args.cursor.now.gap c.requires.heap c.requires.block here in
-    let other = rw own at c.word-free.ensures in
+    let other = rw (sym here) at c.free_behind-item.ensures.total in
     let sum = other ∙ k.facts.total_word in
     refits_full c.args.map.now c.args.heap (end_at c.args.map.now c.args.heap) _ c.args.needed c.args.block c.args.cursor.now.from c.args.cursor.now.at c.args.cursor.now.free c.args.cursor.now.gap c.requires.heap c.requires.block k (omega (arith, own, sum))
 
 pub overflow_cast-grown : goal.overflow_cast-grown
 overflow_cast-grown c =
     let f = place_facts c.args.map.now c.args.heap (end_at c.args.map.now c.args.heap) c.args.block c.args.cursor.now.from c.args.cursor.now.at c.args.cursor.now.free c.args.cursor.now.gap c.requires.heap c.requires.block in
-    let own = c.word-total.ensures ∙ f.facts.total_word in
+    let own = c.own_total-total.ensures.word ∙ f.facts.total_word in
     let here : c.args.cursor.now.at + c.requires.block.total ≡ c.args.cursor.now.free = sym (ap (λ n. c.args.cursor.now.at + n) own) ∙ c.if-behind-cursor.false in
     let k = next_free_facts c.args.map.now c.args.heap (end_at c.args.map.now c.args.heap) c.args.block c.args.cursor.now.from c.args.cursor.now.at c.args.cursor.now.free c.args.cursor.now.gap c.requires.heap c.requires.block here in
-    let other = rw own at c.word-free.ensures in
+    let other = rw (sym here) at c.free_behind-item.ensures.total in
     let sum = other ∙ k.facts.total_word in
     omega (arith, own, sum, k.facts.high, k.facts.top)
 
@@ -158,23 +89,23 @@ put-requires-clause-mapped c =
 pub remark-requires-clause-olds : goal.remark-requires-clause-olds
 remark-requires-clause-olds c =
     let f = place_facts c.args.map.now c.args.heap (end_at c.args.map.now c.args.heap) c.args.block c.args.cursor.now.from c.args.cursor.now.at c.args.cursor.now.free c.args.cursor.now.gap c.requires.heap c.requires.block in
-    let own = c.word-total.ensures ∙ f.facts.total_word in
+    let own = c.own_total-total.ensures.word ∙ f.facts.total_word in
     let here : c.args.cursor.now.at + c.requires.block.total ≡ c.args.cursor.now.free = sym (ap (λ n. c.args.cursor.now.at + n) own) ∙ c.if-behind-cursor.false in
     let k = next_free_facts c.args.map.now c.args.heap (end_at c.args.map.now c.args.heap) c.args.block c.args.cursor.now.from c.args.cursor.now.at c.args.cursor.now.free c.args.cursor.now.gap c.requires.heap c.requires.block here in
-    let other = rw own at c.word-free.ensures in
+    let other = rw (sym here) at c.free_behind-item.ensures.total in
     let sum = other ∙ k.facts.total_word in
-    can_stand c.args.map.now c.put.new.map c.args.heap (end_at c.args.map.now c.args.heap) c.args.cursor.now.at _ (Live c.word-total.result ∷ (Free c.word-free.result ∷ [])) c.requires.heap (c.put.ensures.layout ∙ c.put_link.ensures.layout) (
-      total_of-numbers c.word-total.result (omega (arith, own, f.facts.size)) (omega (arith, own, f.facts.eighths)),
-      (total_of-numbers c.word-free.result (omega (arith, sum, k.facts.size)) (omega (arith, sum, k.facts.eighths)), tt),
+    can_stand c.args.map.now c.put.new.map c.args.heap (end_at c.args.map.now c.args.heap) c.args.cursor.now.at _ (Live c.own_total-total.result ∷ (Free c.free_behind-item.result.total ∷ [])) c.requires.heap (c.put.ensures.layout ∙ c.put_link.ensures.layout) (
+      total_of-numbers c.own_total-total.result (omega (arith, own, f.facts.size)) (omega (arith, own, f.facts.eighths)),
+      (total_of-numbers c.free_behind-item.result.total (omega (arith, sum, k.facts.size)) (omega (arith, sum, k.facts.eighths)), tt),
     ) f.facts.whole (omega (arith, f.facts.low)) (omega (arith, own, sum, k.facts.high))
 
 pub remark-requires-clause-news : goal.remark-requires-clause-news
 remark-requires-clause-news c =
     let f = place_facts c.args.map.now c.args.heap (end_at c.args.map.now c.args.heap) c.args.block c.args.cursor.now.from c.args.cursor.now.at c.args.cursor.now.free c.args.cursor.now.gap c.requires.heap c.requires.block in
-    let own = c.word-total.ensures ∙ f.facts.total_word in
+    let own = c.own_total-total.ensures.word ∙ f.facts.total_word in
     let here : c.args.cursor.now.at + c.requires.block.total ≡ c.args.cursor.now.free = sym (ap (λ n. c.args.cursor.now.at + n) own) ∙ c.if-behind-cursor.false in
     let k = next_free_facts c.args.map.now c.args.heap (end_at c.args.map.now c.args.heap) c.args.block c.args.cursor.now.from c.args.cursor.now.at c.args.cursor.now.free c.args.cursor.now.gap c.requires.heap c.requires.block here in
-    let other = rw own at c.word-free.ensures in
+    let other = rw (sym here) at c.free_behind-item.ensures.total in
     let sum = other ∙ k.facts.total_word in
     can_stand c.args.map.now c.put.new.map c.args.heap (end_at c.args.map.now c.args.heap) c.args.cursor.now.at _ (Live c.args.needed ∷ []) c.requires.heap (c.put.ensures.layout ∙ c.put_link.ensures.layout)
     (c.requires.total, tt) f.facts.whole (omega (arith, f.facts.low)) (omega (arith, own, sum, k.facts.high, c.if-needed-from.false))
@@ -182,29 +113,29 @@ remark-requires-clause-news c =
 pub remark-requires-2-clause-olds : goal.remark-requires-2-clause-olds
 remark-requires-2-clause-olds c =
     let f = place_facts c.args.map.now c.args.heap (end_at c.args.map.now c.args.heap) c.args.block c.args.cursor.now.from c.args.cursor.now.at c.args.cursor.now.free c.args.cursor.now.gap c.requires.heap c.requires.block in
-    let own = c.word-total.ensures ∙ f.facts.total_word in
+    let own = c.own_total-total.ensures.word ∙ f.facts.total_word in
     let here : c.args.cursor.now.at + c.requires.block.total ≡ c.args.cursor.now.free = sym (ap (λ n. c.args.cursor.now.at + n) own) ∙ c.if-behind-cursor.false in
     let k = next_free_facts c.args.map.now c.args.heap (end_at c.args.map.now c.args.heap) c.args.block c.args.cursor.now.from c.args.cursor.now.at c.args.cursor.now.free c.args.cursor.now.gap c.requires.heap c.requires.block here in
-    let other = rw own at c.word-free.ensures in
+    let other = rw (sym here) at c.free_behind-item.ensures.total in
     let sum = other ∙ k.facts.total_word in
-    can_stand c.args.map.now c.divide.new.map c.args.heap (end_at c.args.map.now c.args.heap) c.args.cursor.now.at _ (Live c.word-total.result ∷ (Free c.word-free.result ∷ [])) c.requires.heap c.divide.ensures.layout (
-      total_of-numbers c.word-total.result (omega (arith, own, f.facts.size)) (omega (arith, own, f.facts.eighths)),
-      (total_of-numbers c.word-free.result (omega (arith, sum, k.facts.size)) (omega (arith, sum, k.facts.eighths)), tt),
+    can_stand c.args.map.now c.divide.new.map c.args.heap (end_at c.args.map.now c.args.heap) c.args.cursor.now.at _ (Live c.own_total-total.result ∷ (Free c.free_behind-item.result.total ∷ [])) c.requires.heap c.divide.ensures.layout (
+      total_of-numbers c.own_total-total.result (omega (arith, own, f.facts.size)) (omega (arith, own, f.facts.eighths)),
+      (total_of-numbers c.free_behind-item.result.total (omega (arith, sum, k.facts.size)) (omega (arith, sum, k.facts.eighths)), tt),
     ) f.facts.whole (omega (arith, f.facts.low)) (omega (arith, own, sum, k.facts.high))
 
 pub remark-requires-2-clause-news : goal.remark-requires-2-clause-news
 remark-requires-2-clause-news c =
     let f = place_facts c.args.map.now c.args.heap (end_at c.args.map.now c.args.heap) c.args.block c.args.cursor.now.from c.args.cursor.now.at c.args.cursor.now.free c.args.cursor.now.gap c.requires.heap c.requires.block in
-    let own = c.word-total.ensures ∙ f.facts.total_word in
+    let own = c.own_total-total.ensures.word ∙ f.facts.total_word in
     let here : c.args.cursor.now.at + c.requires.block.total ≡ c.args.cursor.now.free = sym (ap (λ n. c.args.cursor.now.at + n) own) ∙ c.if-behind-cursor.false in
     let k = next_free_facts c.args.map.now c.args.heap (end_at c.args.map.now c.args.heap) c.args.block c.args.cursor.now.from c.args.cursor.now.at c.args.cursor.now.free c.args.cursor.now.gap c.requires.heap c.requires.block here in
-    let other = rw own at c.word-free.ensures in
+    let other = rw (sym here) at c.free_behind-item.ensures.total in
     let sum = other ∙ k.facts.total_word in
     let n = total_facts c.args.needed c.requires.total in
-    can_stand c.args.map.now c.divide.new.map c.args.heap (end_at c.args.map.now c.args.heap) c.args.cursor.now.at _ (Live c.args.needed ∷ (Free (c.word-total.result + c.word-free.result - c.args.needed) ∷ [])) c.requires.heap c.divide.ensures.layout (
+    can_stand c.args.map.now c.divide.new.map c.args.heap (end_at c.args.map.now c.args.heap) c.args.cursor.now.at _ (Live c.args.needed ∷ (Free (c.own_total-total.result + c.free_behind-item.result.total - c.args.needed) ∷ [])) c.requires.heap c.divide.ensures.layout (
       c.requires.total,
       (
-        total_of-numbers (c.word-total.result + c.word-free.result - c.args.needed) (omega (arith, own, sum, n.1, f.facts.eighths, k.facts.eighths, c.if-left-eq0.false))
+        total_of-numbers (c.own_total-total.result + c.free_behind-item.result.total - c.args.needed) (omega (arith, own, sum, n.1, f.facts.eighths, k.facts.eighths, c.if-left-eq0.false))
             (omega (arith, own, sum, n.1, f.facts.eighths, k.facts.eighths)),
         tt,
       ),
@@ -213,29 +144,29 @@ remark-requires-2-clause-news c =
 pub returns-then-left-eq0 : goal.returns-then-left-eq0
 returns-then-left-eq0 c =
     let f = place_facts c.args.map.now c.args.heap (end_at c.args.map.now c.args.heap) c.args.block c.args.cursor.now.from c.args.cursor.now.at c.args.cursor.now.free c.args.cursor.now.gap c.requires.heap c.requires.block in
-    let own = c.word-total.ensures ∙ f.facts.total_word in
+    let own = c.own_total-total.ensures.word ∙ f.facts.total_word in
     let here : c.args.cursor.now.at + c.requires.block.total ≡ c.args.cursor.now.free = sym (ap (λ n. c.args.cursor.now.at + n) own) ∙ c.if-behind-cursor.false in
     let k = next_free_facts c.args.map.now c.args.heap (end_at c.args.map.now c.args.heap) c.args.block c.args.cursor.now.from c.args.cursor.now.at c.args.cursor.now.free c.args.cursor.now.gap c.requires.heap c.requires.block here in
-    let other = rw own at c.word-free.ensures in
+    let other = rw (sym here) at c.free_behind-item.ensures.total in
     let sum = other ∙ k.facts.total_word in
     let larger : c.requires.block.total < c.args.needed = rw f.facts.total_word at c.requires.larger in
     let fits : c.args.needed ≤ c.requires.block.total + k.total = omega (arith, own, sum) in
-    let next = rw own at c.follow-next.ensures in
+    let next = rw (sym here) at c.free_behind-item.ensures.next in
     let none : c.requires.block.total + k.total - c.args.needed ≡ 0 = omega (arith, own, sum) in
     let one = rw c.last_link-from.ensures at c.put_link.ensures.word in
-    refits_whole c.args.map.now _ c.args.heap (end_at c.args.map.now c.args.heap) _ c.args.needed c.follow-next.result c.args.block c.args.cursor.now.from c.args.cursor.now.at c.args.cursor.now.free c.args.cursor.now.gap _ c.requires.heap c.requires.block k
+    refits_whole c.args.map.now _ c.args.heap (end_at c.args.map.now c.args.heap) _ c.args.needed c.free_behind-item.result.next c.args.block c.args.cursor.now.from c.args.cursor.now.at c.args.cursor.now.free c.args.cursor.now.gap _ c.requires.heap c.requires.block k
     (c.remark.ensures.layout ∙ c.put.ensures.layout ∙ c.put_link.ensures.layout) c.requires.total larger fits none (next ∙ k.onward) one
     (still_written _ _ _ _ _ c.remark.ensures.bytes c.put.ensures.word)
-    (rw own at (remarks_after (class_of c.args.map.now) (class_of c.put.new.map) (class_of c.remark.new.map) c.args.cursor.now.at (Live c.word-total.result ∷ (Free c.word-free.result ∷ [])) (Live c.args.needed ∷ [])
+    (rw own at (remarks_after (class_of c.args.map.now) (class_of c.put.new.map) (class_of c.remark.new.map) c.args.cursor.now.at (Live c.own_total-total.result ∷ (Free c.free_behind-item.result.total ∷ [])) (Live c.args.needed ∷ [])
     (c.put.ensures.marks ∙ c.put_link.ensures.marks) c.remark.ensures.marks))
 
 pub divide-requires-clause-room : goal.divide-requires-clause-room
 divide-requires-clause-room c =
     let f = place_facts c.args.map.now c.args.heap (end_at c.args.map.now c.args.heap) c.args.block c.args.cursor.now.from c.args.cursor.now.at c.args.cursor.now.free c.args.cursor.now.gap c.requires.heap c.requires.block in
-    let own = c.word-total.ensures ∙ f.facts.total_word in
+    let own = c.own_total-total.ensures.word ∙ f.facts.total_word in
     let here : c.args.cursor.now.at + c.requires.block.total ≡ c.args.cursor.now.free = sym (ap (λ n. c.args.cursor.now.at + n) own) ∙ c.if-behind-cursor.false in
     let k = next_free_facts c.args.map.now c.args.heap (end_at c.args.map.now c.args.heap) c.args.block c.args.cursor.now.from c.args.cursor.now.at c.args.cursor.now.free c.args.cursor.now.gap c.requires.heap c.requires.block here in
-    let other = rw own at c.word-free.ensures in
+    let other = rw (sym here) at c.free_behind-item.ensures.total in
     let sum = other ∙ k.facts.total_word in
     let n = total_facts c.args.needed c.requires.total in
     omega (arith, own, sum, n.1, f.facts.eighths, k.facts.eighths, k.facts.high)
@@ -243,17 +174,17 @@ divide-requires-clause-room c =
 pub returns : goal.returns
 returns c =
     let f = place_facts c.args.map.now c.args.heap (end_at c.args.map.now c.args.heap) c.args.block c.args.cursor.now.from c.args.cursor.now.at c.args.cursor.now.free c.args.cursor.now.gap c.requires.heap c.requires.block in
-    let own = c.word-total.ensures ∙ f.facts.total_word in
+    let own = c.own_total-total.ensures.word ∙ f.facts.total_word in
     let here : c.args.cursor.now.at + c.requires.block.total ≡ c.args.cursor.now.free = sym (ap (λ n. c.args.cursor.now.at + n) own) ∙ c.if-behind-cursor.false in
     let k = next_free_facts c.args.map.now c.args.heap (end_at c.args.map.now c.args.heap) c.args.block c.args.cursor.now.from c.args.cursor.now.at c.args.cursor.now.free c.args.cursor.now.gap c.requires.heap c.requires.block here in
-    let other = rw own at c.word-free.ensures in
+    let other = rw (sym here) at c.free_behind-item.ensures.total in
     let sum = other ∙ k.facts.total_word in
     let larger : c.requires.block.total < c.args.needed = rw f.facts.total_word at c.requires.larger in
     let fits : c.args.needed ≤ c.requires.block.total + k.total = omega (arith, own, sum) in
-    let next = rw own at c.follow-next.ensures in
+    let next = rw (sym here) at c.free_behind-item.ensures.next in
     let some : c.requires.block.total + k.total - c.args.needed ≢ 0 = λ e. c.if-left-eq0.false (omega (arith, own, sum)) in
     let words = rw (own, sum) at (still_divided _ _ _ _ _ _ _ _ _ c.remark-2.ensures.bytes c.divide.ensures.words) in
-    let change = rw own at (remarks_after (class_of c.args.map.now) (class_of c.divide.new.map) (class_of c.remark-2.new.map) c.args.cursor.now.at (Live c.word-total.result ∷ (Free c.word-free.result ∷ [])) (Live c.args.needed ∷ (Free (c.word-total.result + c.word-free.result - c.args.needed) ∷ []))
+    let change = rw own at (remarks_after (class_of c.args.map.now) (class_of c.divide.new.map) (class_of c.remark-2.new.map) c.args.cursor.now.at (Live c.own_total-total.result ∷ (Free c.free_behind-item.result.total ∷ [])) (Live c.args.needed ∷ (Free (c.own_total-total.result + c.free_behind-item.result.total - c.args.needed) ∷ []))
     c.divide.ensures.marks c.remark-2.ensures.marks) in
-    refits_part c.args.map.now _ c.args.heap (end_at c.args.map.now c.args.heap) _ c.args.needed c.follow-next.result c.args.block c.args.cursor.now.from c.args.cursor.now.at c.args.cursor.now.free c.args.cursor.now.gap c.requires.heap c.requires.block k
+    refits_part c.args.map.now _ c.args.heap (end_at c.args.map.now c.args.heap) _ c.args.needed c.free_behind-item.result.next c.args.block c.args.cursor.now.from c.args.cursor.now.at c.args.cursor.now.free c.args.cursor.now.gap c.requires.heap c.requires.block k
     (c.remark-2.ensures.layout ∙ c.divide.ensures.layout) c.requires.total larger fits some (next ∙ k.onward) words change

@@ -1,31 +1,15 @@
 use Rattle.std.proofs.Common.{◌∙◌, arith}
 use Rattle.os_heap.specs.Outcomes.{end_at}
-use Rattle.os_heap.proofs.Replace.{heap_below, heap_mapped}
+use Rattle.os_heap.proofs.Replace.{heap_below}
 use Rattle.os_heap.proofs.Refitting.{place_facts}
 use Rattle.os_heap.proofs.Refitted.{refits_same}
 use Rattle.os_heap.proofs.refit.refit.Goals as goal
 
-pub word-total-requires-clause-aligned : goal.word-total-requires-clause-aligned
-word-total-requires-clause-aligned c =
-    let f = place_facts c.args.map.now c.args.heap (end_at c.args.map.now c.args.heap) c.args.block c.args.cursor.now.from c.args.cursor.now.at c.args.cursor.now.free c.args.cursor.now.gap c.requires.heap c.requires.block in
-    f.facts.whole
-
-pub word-total-requires-clause-mapped : goal.word-total-requires-clause-mapped
-word-total-requires-clause-mapped c =
-    let f = place_facts c.args.map.now c.args.heap (end_at c.args.map.now c.args.heap) c.args.block c.args.cursor.now.from c.args.cursor.now.at c.args.cursor.now.free c.args.cursor.now.gap c.requires.heap c.requires.block in
-    heap_mapped c.args.map.now c.args.heap (end_at c.args.map.now c.args.heap) _ _ c.requires.heap (omega (arith, f.facts.low)) (omega (arith, f.facts.high, f.facts.size))
-
 pub returns-then-needed-from : goal.returns-then-needed-from
 returns-then-needed-from c =
     let f = place_facts c.args.map.now c.args.heap (end_at c.args.map.now c.args.heap) c.args.block c.args.cursor.now.from c.args.cursor.now.at c.args.cursor.now.free c.args.cursor.now.gap c.requires.heap c.requires.block in
-    let own = c.word-total.ensures ∙ f.facts.total_word in
+    let own = c.own_total-total.ensures.word ∙ f.facts.total_word in
     refits_same c.args.map.now c.args.heap (end_at c.args.map.now c.args.heap) _ c.args.needed c.args.block c.args.cursor.now.from c.args.cursor.now.at c.args.cursor.now.free c.args.cursor.now.gap c.requires.heap c.requires.block (omega (arith, c.from.ensures, own))
-
-pub overflow_add-cursor : goal.overflow_add-cursor
-overflow_add-cursor c =
-    let f = place_facts c.args.map.now c.args.heap (end_at c.args.map.now c.args.heap) c.args.block c.args.cursor.now.from c.args.cursor.now.at c.args.cursor.now.free c.args.cursor.now.gap c.requires.heap c.requires.block in
-    let own = c.word-total.ensures ∙ f.facts.total_word in
-    omega (arith, own, f.facts.high, f.facts.top)
 
 pub overflow_add-heap-2 : goal.overflow_add-heap-2
 overflow_add-heap-2 c =

@@ -8,6 +8,7 @@ use Rattle.rma.specs.Calls.{grown_to}
 use Rattle.rma.proofs.Estates.{is_done}
 use Rattle.rma.proofs.ExtendLemmas.{claim_done}
 use Rattle.rma.proofs.GrowthLemmas.{is_grown, leaves_done}
+use Rattle.rma.proofs.NewImageLemmas.{block_made}
 use Rattle.rma.proofs.claim.claim_grown.Goals as goal
 
 pub returns-in-Ok-clause-estate : goal.returns-in-Ok-clause-estate
@@ -30,3 +31,14 @@ returns-in-Ok-clause-others c = layout-others c.grow_to.new.map c.get.new.map c.
 
 pub returns-in-Err-clause-others : goal.returns-in-Err-clause-others
 returns-in-Err-clause-others c = layout-others c.grow_to.new.map c.get.new.map c.get.ensures.layout ∙ c.grow_to.ensures.others
+
+pub returns-in-Ok-clause-live : goal.returns-in-Ok-clause-live
+returns-in-Ok-clause-live c =
+    (block_made (store_of c.grow_to.new.map) (store_of c.get.new.map) c.args.size c.in-Ok.block c.get.result.answer c.grow_to.ensures.estate.ground.sound c.in-Ok.is
+    c.get.ensures.store).live
+
+pub returns-in-Ok-clause-alone : goal.returns-in-Ok-clause-alone
+returns-in-Ok-clause-alone c =
+    rw (← c.grow_to.ensures.others)
+    (block_made (store_of c.grow_to.new.map) (store_of c.get.new.map) c.args.size c.in-Ok.block c.get.result.answer c.grow_to.ensures.estate.ground.sound c.in-Ok.is
+    c.get.ensures.store).alone

@@ -8,7 +8,7 @@ use Rattle.dynamic_areas.specs.Changing.{is_growth, growth_room}
 use Rattle.dynamic_areas.specs.Creating.{pages_for}
 use Rattle.dynamic_areas.specs.Ground.{Estate, estate_of}
 use Rattle.rma.specs.Calls.{area_pages}
-use Rattle.rma.proofs.GrowthLemmas.{HasArea, area_there, error_none, error_there, far_refused, growth_done, growth_refused, grown_not, is_changed, mapped_more, measured, others_more}
+use Rattle.rma.proofs.GrowthLemmas.{HasArea, area_there, error_there, far_refused, growth_done, growth_refused, grown_not, has_more, mapped_more, measured, others_more}
 use Rattle.rma.proofs.growth.grow_to.Goals as goal
 
 pub returns-then-end-from-clause-grown : goal.returns-then-end-from-clause-grown
@@ -40,15 +40,10 @@ returns-clause-grown c =
     let h : HasArea e = area_there e c.requires.estate in
     let amount = c.args.end - c.area_size-size.result in
     let past : 4096 * area_pages e < c.args.end = omega (arith, c.if-end-from.false, c.from.ensures, c.area_size-size.ensures) in
-    let grows : is_growth amount ≡ true = lt-ltb amount 2147483648 (omega (arith, c.if-end-from-2.false, c.from-2.ensures)) in
-    let answer = c.measure-measured.ensures ∙ measured e h amount grows in
-    let none : is_some c.measure-measured.result.error ≡ false = sym c.is_some.ensures ∙ c.if-is_some.false in
-    let room : pages_for amount ≤ growth_room e.pool h.area =
-    error_none (pages_for amount) (growth_room e.pool h.area) (sym (ap (λ (x : Changed). is_some x.error) answer) ∙ none) in
-    let moved = ap (λ (x : Changed). x.bytes) (c.change.ensures.answer ∙ measured e h amount grows) in
-    rw (growth_done e h c.args.end amount past (ap (λ n. c.args.end - n) c.area_size-size.ensures) room)
-    (is_changed e h (store_of c.change.new.map) (free_pages c.change.new.map) c.change.new.self amount c.change.result.bytes c.requires.estate
-    c.change.ensures.areas grows moved room c.change.ensures.land c.change.ensures.store)
+    let more = has_more e h (store_of c.change.new.map) (free_pages c.change.new.map) c.change.new.self amount c.measure-measured.result c.change.result
+    c.requires.estate c.change.ensures.areas (omega (arith, c.if-end-from-2.false, c.from-2.ensures)) c.measure-measured.ensures
+    (sym c.is_some.ensures ∙ c.if-is_some.false) c.change.ensures.answer c.change.ensures.land c.change.ensures.store in
+    rw (growth_done e h c.args.end amount past (ap (λ n. c.args.end - n) c.area_size-size.ensures) more.room) more.same
 
 pub returns-clause-places : goal.returns-clause-places
 unfolding store_of
@@ -56,16 +51,11 @@ returns-clause-places c a mapped =
     let e : Estate = estate_of c.args.map.now c.args.areas.now in
     let h : HasArea e = area_there e c.requires.estate in
     let amount = c.args.end - c.area_size-size.result in
-    let grows : is_growth amount ≡ true = lt-ltb amount 2147483648 (omega (arith, c.if-end-from-2.false, c.from-2.ensures)) in
-    let answer = c.measure-measured.ensures ∙ measured e h amount grows in
-    let none : is_some c.measure-measured.result.error ≡ false = sym c.is_some.ensures ∙ c.if-is_some.false in
-    let room : pages_for amount ≤ growth_room e.pool h.area =
-    error_none (pages_for amount) (growth_room e.pool h.area) (sym (ap (λ (x : Changed). is_some x.error) answer) ∙ none) in
-    let moved = ap (λ (x : Changed). x.bytes) (c.change.ensures.answer ∙ measured e h amount grows) in
-    let same = is_changed e h (store_of c.change.new.map) (free_pages c.change.new.map) c.change.new.self amount c.change.result.bytes c.requires.estate
-    c.change.ensures.areas grows moved room c.change.ensures.land c.change.ensures.store in
+    let more = has_more e h (store_of c.change.new.map) (free_pages c.change.new.map) c.change.new.self amount c.measure-measured.result c.change.result
+    c.requires.estate c.change.ensures.areas (omega (arith, c.if-end-from-2.false, c.from-2.ensures)) c.measure-measured.ensures
+    (sym c.is_some.ensures ∙ c.if-is_some.false) c.change.ensures.answer c.change.ensures.land c.change.ensures.store in
     let there : is_mapped c.change.new.map a ≡ true =
-    ap (λ (x : Estate). x.store.bytes.mapped a) same ∙ mapped_more e h (pages_for amount) a mapped in
+    ap (λ (x : Estate). x.store.bytes.mapped a) more.same ∙ mapped_more e h (pages_for amount) a mapped in
     c.change.ensures.stays a mapped there
 
 pub returns-clause-others : goal.returns-clause-others
@@ -73,12 +63,7 @@ returns-clause-others c =
     let e : Estate = estate_of c.args.map.now c.args.areas.now in
     let h : HasArea e = area_there e c.requires.estate in
     let amount = c.args.end - c.area_size-size.result in
-    let grows : is_growth amount ≡ true = lt-ltb amount 2147483648 (omega (arith, c.if-end-from-2.false, c.from-2.ensures)) in
-    let answer = c.measure-measured.ensures ∙ measured e h amount grows in
-    let none : is_some c.measure-measured.result.error ≡ false = sym c.is_some.ensures ∙ c.if-is_some.false in
-    let room : pages_for amount ≤ growth_room e.pool h.area =
-    error_none (pages_for amount) (growth_room e.pool h.area) (sym (ap (λ (x : Changed). is_some x.error) answer) ∙ none) in
-    let moved = ap (λ (x : Changed). x.bytes) (c.change.ensures.answer ∙ measured e h amount grows) in
-    let same = is_changed e h (store_of c.change.new.map) (free_pages c.change.new.map) c.change.new.self amount c.change.result.bytes c.requires.estate
-    c.change.ensures.areas grows moved room c.change.ensures.land c.change.ensures.store in
-    ap (λ (x : Estate). x.store.others) same ∙ others_more e h (pages_for amount)
+    let more = has_more e h (store_of c.change.new.map) (free_pages c.change.new.map) c.change.new.self amount c.measure-measured.result c.change.result
+    c.requires.estate c.change.ensures.areas (omega (arith, c.if-end-from-2.false, c.from-2.ensures)) c.measure-measured.ensures
+    (sym c.is_some.ensures ∙ c.if-is_some.false) c.change.ensures.answer c.change.ensures.land c.change.ensures.store in
+    ap (λ (x : Estate). x.store.others) more.same ∙ others_more e h (pages_for amount)

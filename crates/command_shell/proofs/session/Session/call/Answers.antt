@@ -1,8 +1,9 @@
 use Rattle.std.proofs.Common.{sym, ◌∙◌}
 use Rattle.swi_dispatch.specs.Step.{store_called}
+use Rattle.command_shell.specs.Calls.{call_done, call_told, stop_told}
 use Rattle.command_shell.specs.Session.{script_state}
-use Rattle.command_shell.specs.Stepping.{call_done, call_told, stop_told}
-use Rattle.command_shell.proofs.SteppingLemmas.{can_step, tells_same, call_refused, call_allowed}
+use Rattle.command_shell.proofs.AnswerLemmas.{tells_same}
+use Rattle.command_shell.proofs.CallLemmas.{can_step, call_refused, call_allowed}
 use Rattle.command_shell.proofs.session.Session.call.Goals as goal
 
 pub store_call-requires : goal.store_call-requires

@@ -6,7 +6,7 @@ use Rattle.command_shell.specs.Answers.{refused_text}
 use Rattle.command_shell.specs.Session.{script_state}
 use Rattle.command_shell.specs.State.{answer}
 use Rattle.command_shell.specs.Views.{heap_told}
-use Rattle.command_shell.proofs.SteppingLemmas.{tells_then, tells_same, tells_text}
+use Rattle.command_shell.proofs.AnswerLemmas.{tells_then, tells_same, tells_text}
 use Rattle.command_shell.proofs.ViewLemmas.{heap_missing, nothing_shown}
 use Rattle.command_shell.proofs.session.Session.heap.Goals as goal
 

@@ -8,6 +8,7 @@ use Rattle.dynamic_areas.specs.Ground.{Estate, estate_of}
 use Rattle.dynamic_areas.proofs.HeapCalls.{areas_written}
 use Rattle.rma.specs.Calls.{in_grown_area, is_no_room, rma_base, rma_claimed}
 use Rattle.rma.proofs.Estates.{estate_same, full_where, or_done, or_refused, store_kept}
+use Rattle.rma.proofs.NewImageLemmas.{block_made}
 use Rattle.rma.proofs.area.Rma.claim.Goals as goal
 
 pub returns-in-Ok-clause-claimed : goal.returns-in-Ok-clause-claimed
@@ -52,3 +53,13 @@ returns-in-Err-clause-others c = c.claim_grown.ensures.others ∙ layout-others 
 
 pub returns-in-Err-2-clause-others : goal.returns-in-Err-2-clause-others
 returns-in-Err-2-clause-others c = layout-others c.args.map.now c.get.new.map c.get.ensures.layout
+
+pub returns-in-Ok-clause-live : goal.returns-in-Ok-clause-live
+returns-in-Ok-clause-live c =
+    (block_made (store_of c.args.map.now) (store_of c.get.new.map) c.args.size c.in-Ok.block c.get.result.answer c.requires.estate.ground.sound c.in-Ok.is
+    c.get.ensures.store).live
+
+pub returns-in-Ok-clause-alone : goal.returns-in-Ok-clause-alone
+returns-in-Ok-clause-alone c =
+    (block_made (store_of c.args.map.now) (store_of c.get.new.map) c.args.size c.in-Ok.block c.get.result.answer c.requires.estate.ground.sound c.in-Ok.is
+    c.get.ensures.store).alone

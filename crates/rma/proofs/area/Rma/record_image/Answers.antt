@@ -4,7 +4,7 @@ use Rattle.address_map.specs.declared.region.Kind.TheVariants as kind
 use Rattle.address_map.specs.declared.region.Region.{Region}
 use Rattle.os_heap.specs.Calls.{block_sized}
 use Rattle.os_heap.specs.Store.{IsSound, Store, store_of}
-use Rattle.os_heap.proofs.Added.{range_room}
+use Rattle.os_heap.proofs.Limits.{range_room}
 use Rattle.os_heap.proofs.Frame.{classes_same}
 use Rattle.os_heap.proofs.Recorded.{store_recorded}
 use Rattle.rma.specs.Images.{image_recorded}

@@ -7,7 +7,7 @@ use Rattle.swi_dispatch.proofs.machine.Machine.instruction.Goals as goal
 pub invariant_of-self : goal.invariant_of-self
 invariant_of-self c =
     let well = c.self.invariant in
-    let turn = takes_turn _ _ _ _ (record { land = c.self.inside.areas; modules = c.self.inside.modules; frames = c.self.inside.frames }) c.self.inside.halt _ c.step.ensures.layout c.step.ensures.marks well.areas.ground.sound well.classes c.step.ensures.turn in
+    let turn = takes_turn _ _ _ _ (record { land = c.self.inside.areas; modules = c.self.inside.instances; frames = c.self.inside.frames; plan = c.self.inside.plan }) c.self.inside.halt _ c.step.ensures.layout c.step.ensures.marks well.areas.ground.sound well.classes c.step.ensures.turn in
     well_kept _ _ well turn.0 c.step.ensures.layout c.step.ensures.marks refl (ap (λ (p : Parts). p.is_fresh) c.self.view_is ∙ c.requires)
 
 pub returns-clause-turn : goal.returns-clause-turn
@@ -19,5 +19,5 @@ returns-clause-turn c =
 pub returns-clause-well_formed : goal.returns-clause-well_formed
 returns-clause-well_formed c =
     let well = c.self.invariant in
-    let turn = takes_turn _ _ _ _ (record { land = c.self.inside.areas; modules = c.self.inside.modules; frames = c.self.inside.frames }) c.self.inside.halt _ c.step.ensures.layout c.step.ensures.marks well.areas.ground.sound well.classes c.step.ensures.turn in
+    let turn = takes_turn _ _ _ _ (record { land = c.self.inside.areas; modules = c.self.inside.instances; frames = c.self.inside.frames; plan = c.self.inside.plan }) c.self.inside.halt _ c.step.ensures.layout c.step.ensures.marks well.areas.ground.sound well.classes c.step.ensures.turn in
     well_kept _ _ well turn.0 c.step.ensures.layout c.step.ensures.marks refl (ap (λ (p : Parts). p.is_fresh) c.self.view_is ∙ c.requires)

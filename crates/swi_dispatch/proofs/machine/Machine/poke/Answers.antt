@@ -7,7 +7,7 @@ pub invariant_of-self : goal.invariant_of-self
 unfolding state_of
 invariant_of-self c =
     let well = c.self.invariant in
-    let left = pokes _ _ c.self.inside.cpu (record { land = c.self.inside.areas; modules = c.self.inside.modules; frames = c.self.inside.frames }) c.self.inside.halt _ _ _ c.store_word.ensures.layout c.store_word.ensures.marks well.areas.ground.sound well.classes c.in-Err.ensures.bytes in
+    let left = pokes _ _ c.self.inside.cpu (record { land = c.self.inside.areas; modules = c.self.inside.instances; frames = c.self.inside.frames; plan = c.self.inside.plan }) c.self.inside.halt _ _ _ c.store_word.ensures.layout c.store_word.ensures.marks well.areas.ground.sound well.classes c.in-Err.ensures.bytes in
     well_same _ _ well left.0 c.store_word.ensures.layout c.store_word.ensures.marks (refused_same _ _ _ _ left.1) refl refl refl
 
 pub returns-in-Err-clause-state : goal.returns-in-Err-clause-state
@@ -20,13 +20,13 @@ pub returns-in-Err-clause-well_formed : goal.returns-in-Err-clause-well_formed
 unfolding state_of
 returns-in-Err-clause-well_formed c =
     let well = c.self.invariant in
-    let left = pokes _ _ c.self.inside.cpu (record { land = c.self.inside.areas; modules = c.self.inside.modules; frames = c.self.inside.frames }) c.self.inside.halt _ _ _ c.store_word.ensures.layout c.store_word.ensures.marks well.areas.ground.sound well.classes c.in-Err.ensures.bytes in
+    let left = pokes _ _ c.self.inside.cpu (record { land = c.self.inside.areas; modules = c.self.inside.instances; frames = c.self.inside.frames; plan = c.self.inside.plan }) c.self.inside.halt _ _ _ c.store_word.ensures.layout c.store_word.ensures.marks well.areas.ground.sound well.classes c.in-Err.ensures.bytes in
     well_same _ _ well left.0 c.store_word.ensures.layout c.store_word.ensures.marks (refused_same _ _ _ _ left.1) refl refl refl
 
 pub invariant_of-self-2 : goal.invariant_of-self-2
 invariant_of-self-2 c =
     let well = c.self.invariant in
-    let left = pokes _ _ c.self.inside.cpu (record { land = c.self.inside.areas; modules = c.self.inside.modules; frames = c.self.inside.frames }) c.self.inside.halt _ _ _ c.store_word.ensures.layout c.store_word.ensures.marks well.areas.ground.sound well.classes c.in_default.ensures.bytes in
+    let left = pokes _ _ c.self.inside.cpu (record { land = c.self.inside.areas; modules = c.self.inside.instances; frames = c.self.inside.frames; plan = c.self.inside.plan }) c.self.inside.halt _ _ _ c.store_word.ensures.layout c.store_word.ensures.marks well.areas.ground.sound well.classes c.in_default.ensures.bytes in
     well_kept _ _ well left.0 c.store_word.ensures.layout c.store_word.ensures.marks refl refl
 
 pub returns-clause-state : goal.returns-clause-state
@@ -39,5 +39,5 @@ pub returns-clause-well_formed : goal.returns-clause-well_formed
 unfolding state_of
 returns-clause-well_formed c =
     let well = c.self.invariant in
-    let left = pokes _ _ c.self.inside.cpu (record { land = c.self.inside.areas; modules = c.self.inside.modules; frames = c.self.inside.frames }) c.self.inside.halt _ _ _ c.store_word.ensures.layout c.store_word.ensures.marks well.areas.ground.sound well.classes c.in_default.ensures.bytes in
+    let left = pokes _ _ c.self.inside.cpu (record { land = c.self.inside.areas; modules = c.self.inside.instances; frames = c.self.inside.frames; plan = c.self.inside.plan }) c.self.inside.halt _ _ _ c.store_word.ensures.layout c.store_word.ensures.marks well.areas.ground.sound well.classes c.in_default.ensures.bytes in
     well_kept _ _ well left.0 c.store_word.ensures.layout c.store_word.ensures.marks refl refl

@@ -1,0 +1,75 @@
+-- The line CALL: a store call made from outside, and then the steps of the module code that it enters, until that code has come back.
+use Rattle.std.specs.Prelude.{ℕ, zero, suc, false, ◌-◌, ◌==◌, List, length, Option, Some, None, if◌then◌else◌}
+use Rattle.profile.specs.declared.stop.Stop.{Stop}
+use Rattle.profile.specs.declared.stop.Stop.TheVariants as stop
+use Rattle.swi_dispatch.specs.declared.halt.Halt.{Halt}
+use Rattle.swi_dispatch.specs.Errors.{error_number}
+use Rattle.swi_dispatch.specs.MachineState.{MachineState, Outcome, stop_of}
+use Rattle.swi_dispatch.specs.Run.{count_after, is_among}
+use Rattle.swi_dispatch.specs.Step.{machine_step, store_called}
+use Rattle.command_shell.specs.Answers.{ok_text, call_error_text, stop_text}
+use Rattle.command_shell.specs.State.{ScriptState, Answered, answer, then_answered}
+use Rattle.command_shell.specs.declared.calls.CallEnd.{CallEnd}
+use Rattle.command_shell.specs.declared.calls.CallEnd.TheVariants as end
+
+-- Why no step can be taken, by what halts the machine and what is left of the budget.
+abbrev pub stop_before_step_by : Option Halt → ℕ → Option Stop
+stop_before_step_by (Some halt) left = Some (stop_of halt)
+stop_before_step_by None left = if left == 0 then Some stop.Budget else None
+
+abbrev pub stop_before_step : ScriptState → Option Stop
+stop_before_step s = stop_before_step_by s.machine.halt s.left
+
+-- what a call tells that came back: V says whether it was refused, and R0 points to the error then
+unfoldable pub call_text : MachineState → List ℕ
+call_text s = if s.cpu.psr.overflow then call_error_text (error_number s) else ok_text
+
+-- a stop line, which is the last one then
+abbrev pub stop_told : ScriptState → Stop → Answered
+stop_told s stop = answer (record s { last = Some stop }) (stop_text stop s.machine.cpu.pc)
+
+-- Why a call goes no further after a step, if so many frames were open before it. It is tested in this order: the machine is halted; the call
+-- has come back; the program counter is among the breaks; the budget is used up.
+abbrev pub call_end_by : ScriptState → ℕ → Option Halt → Option CallEnd
+call_end_by s frames (Some halt) = Some (end.Stopped (stop_of halt))
+call_end_by s frames None =
+    if length s.machine.tables.frames == frames then Some end.Returned else (
+    if is_among s.breaks s.machine.cpu.pc then Some (end.Stopped (stop.Break s.machine.cpu.pc)) else (
+    if s.left == 0 then Some (end.Stopped stop.Budget) else
+    None))
+
+unfoldable pub call_end : ScriptState → ℕ → Option CallEnd
+call_end s frames = call_end_by s frames s.machine.halt
+
+abbrev pub end_told : ScriptState → CallEnd → Answered
+end_told s end.Returned = answer s (call_text s.machine)
+end_told s (end.Stopped stop) = stop_told s stop
+
+-- the state after a step, which counts unless it ended in a fault
+abbrev pub step_made : ScriptState → Outcome → ScriptState
+step_made s a = record s { machine = a.now; is_fresh = false; left = s.left - count_after a.now.halt }
+
+-- a step, what it prints, and then what follows
+abbrev pub step_then : ScriptState → Outcome → (ScriptState → Answered) → Answered
+step_then s a next = then_answered (answer (step_made s a) a.printed) next
+
+abbrev pub finished_by : ScriptState → Option CallEnd → Answered → Answered
+finished_by s (Some e) more = end_told s e
+finished_by s None more = more
+
+-- The rest of a call after a step of it, with so many steps left.
+unfoldable pub finished : ℕ → ℕ → ScriptState → Answered
+finished frames zero s = finished_by s (call_end s frames) (stop_told s stop.Budget)
+finished frames (suc n) s = finished_by s (call_end s frames) (step_then s (machine_step s.images s.machine) (finished frames n))
+
+-- a call whose first step leaves this
+abbrev pub call_done : ScriptState → Outcome → Answered
+call_done s a = step_then s a (λ after. finished (length s.machine.tables.frames) after.left after)
+
+abbrev pub call_unless : ScriptState → Outcome → Option Stop → Answered
+call_unless s a (Some stop) = stop_told s stop
+call_unless s a None = call_done s a
+
+-- CALL makes a store call, unless no step can be taken.
+unfoldable pub call_told : ScriptState → ℕ → Answered
+call_told s number = call_unless s (store_called s.images s.machine number) (stop_before_step s)

@@ -1,0 +1,230 @@
+//! The line CALL: a store call, and the steps of the module code that it enters.
+
+ghost use Rattle.std.specs.Prelude.{◌≡◌, ◌≤◌, ◌<◌, ◌+◌, true, List, Option, OnOk, OnErr};
+ghost use Rattle.std.specs.Option.{option_map};
+ghost use Rattle.std.specs.Io.KnownBytes.{Appends};
+ghost use Rattle.profile.specs.Output.{Writes};
+ghost use Rattle.swi_dispatch.specs.declared.halt.Halt.{Halt};
+ghost use Rattle.swi_dispatch.specs.MachineState.{stop_of};
+ghost use Rattle.swi_dispatch.specs.Run.{count_after};
+
+use crate::answers::{tell_error, tell_ok, tell_stop};
+use crate::session::Session;
+use image_loader::Images;
+use profile::{Sink, Stop, WriteFault, push_all};
+
+/// Why a call made by a script goes no further.
+#[derive(Clone, Copy, Debug, PartialEq, Eq)]
+pub(crate) enum CallEnd {
+    /// As many frames are open as before it.
+    Returned,
+    /// The machine is halted, a break was reached, or the budget is used up.
+    Stopped(Stop),
+}
+
+impl Session {
+    ghost use Rattle.image_loader.specs.Entries.{Entry};
+    ghost use Rattle.swi_dispatch.specs.Parts.{state_of};
+    ghost use Rattle.swi_dispatch.specs.Step.{machine_step, store_called};
+    ghost use Rattle.command_shell.specs.Calls.{call_told, call_done, call_end, call_text, end_told, finished, step_made, stop_told, stop_before_step};
+    ghost use Rattle.command_shell.specs.Session.{script_state};
+    ghost use Rattle.command_shell.specs.State.{IsAnswered};
+
+    /// Makes a store call, takes the steps of the module code that it enters, until that has come
+    /// back, and tells how the call ended.
+    #[tactic(auto, unfolding(crate::specs::Calls::call_told))]
+    pub(crate) fn call<W: Sink>(
+        &mut self,
+        images: &Images,
+        sink: &mut W,
+        number: u32,
+    ) -> Result<(), WriteFault>
+        ensures told { OnOk result (IsAnswered (W.contents sink.old) (W.contents sink.new)
+            (script_state self.new images.now)
+            (call_told (script_state self.old images.now) number)) }
+        ensures flag { OnErr result (W.has_failed sink.new ≡ true) }
+        ensures same_flag { OnOk result (W.has_failed sink.new ≡ W.has_failed sink.old) }
+    {
+        match self.stop_before_step() {
+            Some(stop) => self.stopped(sink, stop),
+            None => self.store_call(images, sink, number),
+        }
+    }
+
+    // Why no step can be taken, if none can.
+    #[tactic(auto, unfolding(crate::specs::Session::script_state))]
+    fn stop_before_step(&self) -> Option<Stop>
+        ensures { (images : List Entry) → result ≡ stop_before_step (script_state self.now images) }
+    {
+        match self.machine.stop() {
+            None if self.left == 0 => Some(Stop::Budget),
+            stop => stop,
+        }
+    }
+
+    // Tells a stop, which is the last one then.
+    #[tactic(auto, unfolding(crate::specs::Session::script_state))]
+    fn stopped<W: Sink>(&mut self, sink: &mut W, stop: Stop) -> Result<(), WriteFault>
+        ensures told { (images : List Entry) → OnOk result (IsAnswered (W.contents sink.old) (W.contents sink.new)
+            (script_state self.new images)
+            (stop_told (script_state self.old images) stop)) }
+        ensures flag { OnErr result (W.has_failed sink.new ≡ true) }
+        ensures same_flag { OnOk result (W.has_failed sink.new ≡ W.has_failed sink.old) }
+    {
+        self.last = Some(stop);
+        tell_stop(sink, stop, self.machine.cpu().pc())
+    }
+
+    // A store call where a step can be taken.
+    fn store_call<W: Sink>(
+        &mut self,
+        images: &Images,
+        sink: &mut W,
+        number: u32,
+    ) -> Result<(), WriteFault>
+        requires { 0 < self.old.left }
+        ensures told { OnOk result (IsAnswered (W.contents sink.old) (W.contents sink.new)
+            (script_state self.new images.now)
+            (call_done (script_state self.old images.now)
+            (store_called images.now (script_state self.old images.now).machine number))) }
+        ensures flag { OnErr result (W.has_failed sink.new ≡ true) }
+        ensures same_flag { OnOk result (W.has_failed sink.new ≡ W.has_failed sink.old) }
+    {
+        let frames = self.machine.frames();
+        self.make_call(images, sink, number)?;
+        self.finish(images, sink, frames)
+    }
+
+    // The step that makes the call.
+    #[tactic(auto, unfolding(crate::specs::Session::script_state))]
+    fn make_call<W: Sink>(
+        &mut self,
+        images: &Images,
+        sink: &mut W,
+        number: u32,
+    ) -> Result<(), WriteFault>
+        requires { 0 < self.old.left }
+        ensures state { OnOk result (script_state self.new images.now
+            ≡ step_made (script_state self.old images.now)
+            (store_called images.now (script_state self.old images.now).machine number)) }
+        ensures text { OnOk result (Appends (W.contents sink.old) (W.contents sink.new)
+            (store_called images.now (script_state self.old images.now).machine number).printed) }
+        ensures flag { OnErr result (W.has_failed sink.new ≡ true) }
+        ensures same_flag { OnOk result (W.has_failed sink.new ≡ W.has_failed sink.old) }
+    {
+        let halt = self.machine.store_call(images, number);
+        self.count_step(sink, halt)
+    }
+
+    // Takes the steps of a call that is under way, until it ends, and tells how.
+    #[tactic(auto, using(crate::proofs::CallLemmas::call_steps))]
+    fn finish<W: Sink>(
+        &mut self,
+        images: &Images,
+        sink: &mut W,
+        frames: usize,
+    ) -> Result<(), WriteFault>
+        ensures told { OnOk result (IsAnswered (W.contents sink.old) (W.contents sink.new)
+            (script_state self.new images.now)
+            (finished frames (script_state self.old images.now).left (script_state self.old images.now))) }
+        ensures flag { OnErr result (W.has_failed sink.new ≡ true) }
+        ensures same_flag { OnOk result (W.has_failed sink.new ≡ W.has_failed sink.old) }
+    {
+        loop {
+            match self.call_end(frames) {
+                Some(end) => return self.tell_end(sink, end),
+                None => self.take_step(images, sink)?,
+            }
+        }
+    }
+
+    // Why a call that is under way goes no further, if it does not. So many frames were open before it.
+    #[tactic(auto, unfolding(crate::specs::Calls::call_end, crate::specs::Session::script_state))]
+    fn call_end(&self, frames: usize) -> Option<CallEnd>
+        ensures { (images : List Entry) → result ≡ call_end (script_state self.now images) frames }
+    {
+        if let Some(stop) = self.machine.stop() {
+            return Some(CallEnd::Stopped(stop));
+        }
+        let at = self.machine.cpu().pc();
+        if self.machine.frames() == frames {
+            Some(CallEnd::Returned)
+        } else if self.breaks.has(at) {
+            Some(CallEnd::Stopped(Stop::Break(at)))
+        } else if self.left == 0 {
+            Some(CallEnd::Stopped(Stop::Budget))
+        } else {
+            None
+        }
+    }
+
+    fn tell_end<W: Sink>(&mut self, sink: &mut W, end: CallEnd) -> Result<(), WriteFault>
+        ensures told { (images : List Entry) → OnOk result (IsAnswered (W.contents sink.old) (W.contents sink.new)
+            (script_state self.new images)
+            (end_told (script_state self.old images) end)) }
+        ensures flag { OnErr result (W.has_failed sink.new ≡ true) }
+        ensures same_flag { OnOk result (W.has_failed sink.new ≡ W.has_failed sink.old) }
+    {
+        match end {
+            CallEnd::Returned => self.tell_call(sink),
+            CallEnd::Stopped(stop) => self.stopped(sink, stop),
+        }
+    }
+
+    // A step of a call that is under way.
+    #[tactic(auto, unfolding(crate::specs::Session::script_state))]
+    fn take_step<W: Sink>(&mut self, images: &Images, sink: &mut W) -> Result<(), WriteFault>
+        requires { 0 < self.old.left }
+        ensures state { OnOk result (script_state self.new images.now
+            ≡ step_made (script_state self.old images.now)
+            (machine_step images.now (script_state self.old images.now).machine)) }
+        ensures text { OnOk result (Appends (W.contents sink.old) (W.contents sink.new)
+            (machine_step images.now (script_state self.old images.now).machine).printed) }
+        ensures flag { OnErr result (W.has_failed sink.new ≡ true) }
+        ensures same_flag { OnOk result (W.has_failed sink.new ≡ W.has_failed sink.old) }
+    {
+        let halt = self.machine.step(images);
+        self.count_step(sink, halt)
+    }
+
+    // Counts the step that the machine has just taken, and writes what it printed.
+    #[tactic(auto, unfolding(crate::specs::Session::script_state))]
+    fn count_step<W: Sink>(&mut self, sink: &mut W, halt: Option<Stop>) -> Result<(), WriteFault>
+        requires left { 0 < self.old.left }
+        requires halt { halt ≡ option_map stop_of (state_of self.old.machine).halt }
+        ensures machine { self.new.machine ≡ self.old.machine }
+        ensures breaks { self.new.breaks ≡ self.old.breaks }
+        ensures left { self.new.left + count_after (state_of self.old.machine).halt ≡ self.old.left }
+        ensures last { self.new.last ≡ self.old.last }
+        ensures text { OnOk result (Appends (W.contents sink.old) (W.contents sink.new) self.old.machine.printed) }
+        ensures flag { OnErr result (W.has_failed sink.new ≡ true) }
+        ensures same_flag { OnOk result (W.has_failed sink.new ≡ W.has_failed sink.old) }
+    {
+        self.left -= steps_of(halt);
+        push_all(sink, self.machine.output())
+    }
+
+    // How a call ended that came back.
+    #[tactic(auto, unfolding(crate::specs::Calls::call_text))]
+    fn tell_call<W: Sink>(&self, sink: &mut W) -> Result<(), WriteFault>
+        ensures { Writes W.contents W.has_failed sink.old sink.new result
+            (call_text (state_of self.now.machine)) }
+    {
+        if self.machine.cpu().psr().overflow {
+            tell_error(sink, self.machine.error_number())
+        } else {
+            tell_ok(sink)
+        }
+    }
+}
+
+// How many steps of a budget a step takes: one, but none where it ended in a fault.
+fn steps_of(halt: Option<Stop>) -> u64
+    ensures most { result ≤ 1 }
+    ensures count { (end : Option Halt) → halt ≡ option_map stop_of end → result ≡ count_after end }
+{
+    match halt {
+        None | Some(Stop::Exit) => 1,
+        _ => 0,
+    }
+}

@@ -1,0 +1,22 @@
+-- The memory of a machine at its start (this project's own).
+use Rattle.std.specs.Prelude.{ℕ, ◌*◌, false, [], ◌∷◌}
+use Rattle.profile.specs.Sizes.{Sizes}
+use Rattle.address_map.specs.declared.region.Kind.TheVariants.{Rma}
+use Rattle.os_heap.specs.Calls.{begun_with}
+use Rattle.os_heap.specs.Store.{Store}
+use Rattle.dynamic_areas.specs.Areas.{start_land}
+use Rattle.dynamic_areas.specs.Ground.{is_land, system_pages}
+
+-- The start. Mapped are the application space, the first pages of the module area and the three system pages, which are recorded; each mapped
+-- byte is 0 but for the module area's descriptor, since the machine makes an empty heap there. All other pages are in the pool.
+abbrev pub bare_store : Sizes → Store
+bare_store s = record {
+  bytes = record { mapped = is_land (start_land s); at = λ _. 0 };
+  heaps = [];
+  others = system_pages ∷ [];
+  anchor = λ _. false;
+  header = λ _. false;
+}
+
+abbrev pub start_store : Sizes → Store
+start_store s = begun_with Rma (bare_store s) 0x01800000 (4096 * s.rma)

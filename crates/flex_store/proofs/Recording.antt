@@ -1,0 +1,101 @@
+-- The record of a flex store: it shares no byte with a heap or a range that is recorded already, and keeps all heaps.
+use Rattle.std.proofs.Common.{◌≡◌, ℕ, ◌+◌, ◌-◌, ◌<◌, ◌≤◌, ◌&&◌, ◌||◌, ◌==◌, ◌++◌, not, Bool, true, false, List, [], ◌∷◌, length, refl, sym, ap, subst, ◌∙◌, arith, inl, inr, ◌%◌}
+use Rattle.std.specs.List.{list_any}
+use Rattle.std.specs.Prelude.{nat_lt}
+use Rattle.std.proofs.lemmas.Bool.{and_parts, cases_Bool, leb-true, ltb-true, lt-ltb, eq-eqb, not-true, or_left, or_parts, or_right, true≢false}
+use Rattle.address_map.specs.Bytes.{Bytes, in_range, meets}
+use Rattle.address_map.specs.Memory.{byte_at, bytes_of, class_of, is_mapped, mapping, regions}
+use Rattle.address_map.specs.Records.{is_heap_kind, meets_record}
+use Rattle.address_map.specs.declared.class.Class.{Class}
+use Rattle.address_map.specs.declared.map.AddressMap.{AddressMap}
+use Rattle.address_map.specs.declared.region.Region.{Region}
+use Rattle.os_heap.proofs.Frame.{classes_same}
+use Rattle.os_heap.proofs.Recorded.{IsClearOfAll, recorded_sound, store_recorded}
+use Rattle.os_heap.specs.Ranges.{are_mapped}
+use Rattle.os_heap.specs.Store.{AreClasses, AreClear, heaps_in, IsClearOfHeaps, IsSound, others_in, Store, store_of}
+use Rattle.os_heap_lists.specs.Heap.{HeapList}
+use Rattle.flex_store.specs.Calls.{flex_record, is_flex_range}
+use Rattle.flex_store.specs.State.{is_recorded, is_store_record}
+use Rattle.flex_store.proofs.Starting.{mapped_same}
+
+range_clear : (at len other other_len : ℕ) → meets at len other other_len ≡ false → AreClear at len other other_len
+range_clear at len other other_len apart a inside = elim (cases_Bool (in_range other other_len a)) [
+  | inr clear ↦ clear
+  | inl there ↦
+      let one = and_parts _ _ inside in
+      let two = and_parts _ _ there in
+      let low : at ≤ a = leb-true at a one.0 in
+      let high : a < at + len = ltb-true a (at + len) one.1 in
+      let from : other ≤ a = leb-true other a two.0 in
+      let below : a < other + other_len = ltb-true a (other + other_len) two.1 in
+      let both : meets at len other other_len ≡ true =
+      rw (lt-ltb 0 len (omega arith), lt-ltb 0 other_len (omega arith), lt-ltb at (other + other_len) (omega arith), lt-ltb other (at + len) (omega arith)) refl in
+      absurd (true≢false (sym both ∙ apart))
+]
+
+range_clear_back : (at len other other_len : ℕ) → meets at len other other_len ≡ false → AreClear other other_len at len
+range_clear_back at len other other_len apart a inside = elim (cases_Bool (in_range at len a)) [
+  | inr clear ↦ clear
+  | inl there ↦ absurd (true≢false (sym inside ∙ range_clear at len other other_len apart a there))
+]
+
+heaps_clear : (b : Bytes) (rs : List Region) (at len : ℕ) → meets_record rs at len ≡ false → IsClearOfHeaps at len (heaps_in b rs)
+heaps_clear b [] at len apart = tt
+heaps_clear b (r ∷ rs) at len apart =
+    let parts = or_parts (meets at len r.at r.len) (meets_record rs at len) apart in
+    elim (cases_Bool (is_heap_kind r.kind)) [
+      | inl heap ↦ rw heap (range_clear at len r.at r.len parts.0, heaps_clear b rs at len parts.1)
+      | inr other ↦ rw other (heaps_clear b rs at len parts.1)
+    ]
+
+ranges_clear : (rs : List Region) (r : Region) → meets_record rs r.at r.len ≡ false → IsClearOfAll r (others_in rs)
+ranges_clear [] r apart = tt
+ranges_clear (q ∷ rs) r apart =
+    let parts = or_parts (meets r.at r.len q.at q.len) (meets_record rs r.at r.len) apart in
+    elim (cases_Bool (is_heap_kind q.kind)) [
+      | inl heap ↦ rw heap (ranges_clear rs r parts.1)
+      | inr other ↦ rw other (range_clear_back r.at r.len q.at q.len parts.0, ranges_clear rs r parts.1)
+    ]
+
+range_apart : (mapped : ℕ → Bool) (rs : List Region) (start end : ℕ) → is_flex_range mapped rs start end ≡ true → meets_record rs start (end - start) ≡ false
+unfolding is_flex_range
+range_apart mapped rs start end is =
+    let apart : Bool = not (meets_record rs start (end - start)) in
+    let one = and_parts ((start % 4) == 0 && (end % 4) == 0) (nat_lt start end && (are_mapped mapped start (end - start) && apart)) is in
+    let two = and_parts (nat_lt start end) (are_mapped mapped start (end - start) && apart) one.1 in
+    not-true (meets_record rs start (end - start)) (and_parts (are_mapped mapped start (end - start)) apart two.1).1
+
+-- the range at the end of the record is there
+last_recorded : (rs : List Region) (start end : ℕ) → is_recorded (rs ++ flex_record start end ∷ []) start end ≡ true
+last_recorded [] start end = rw (eq-eqb start start refl, eq-eqb (end - start) (end - start) refl) refl
+last_recorded (r ∷ rs) start end = or_right (is_store_record start end r) (is_recorded (rs ++ flex_record start end ∷ []) start end) (last_recorded rs start end)
+
+-- the store after a record of its range
+pub record IsBegun (m n : AddressMap) (start end : ℕ) : Type 0 where
+  pub heaps : (store_of n).heaps ≡ (store_of m).heaps
+  pub sound : IsSound (store_of n)
+  pub classes : AreClasses n
+  pub recorded : is_recorded (store_of n).others start end ≡ true
+
+clear_store : (m : AddressMap) (start end : ℕ) → meets_record (regions m) start (end - start) ≡ false
+    → IsClearOfHeaps start (end - start) (store_of m).heaps × IsClearOfAll (flex_record start end) (store_of m).others
+unfolding store_of
+clear_store m start end apart = (heaps_clear (bytes_of m) (regions m) start (end - start) apart, ranges_clear (regions m) (flex_record start end) apart)
+
+pub begun_store : (m n : AddressMap) (start end : ℕ) → IsSound (store_of m) → AreClasses m → length (store_of m).others < 68
+    → is_flex_range (is_mapped m) (regions m) start end ≡ true → regions n ≡ regions m ++ flex_record start end ∷ [] → mapping n ≡ mapping m
+    → byte_at n ≡ byte_at m → class_of n ≡ class_of m → IsBegun m n start end
+begun_store m n start end sound classes few range records same bytes marks =
+    let mapped : is_mapped n ≡ is_mapped m = mapped_same m n same in
+    let memory : bytes_of n ≡ bytes_of m = λ i. record { mapped = mapped i; at = bytes i } in
+    let words : (a : ℕ) → class_of n a ≡ class_of m a = λ a. ap (λ (c : ℕ → Class). c a) marks in
+    let store : store_of n ≡ record (store_of m) { others = (store_of m).others ++ flex_record start end ∷ [] } =
+    store_recorded m n (flex_record start end) refl records memory words in
+    let heaps : (store_of n).heaps ≡ (store_of m).heaps = ap (λ (s : Store). s.heaps) store in
+    let clear = clear_store m start end (range_apart (is_mapped m) (regions m) start end range) in
+    record {
+      heaps = heaps;
+      sound = subst IsSound (sym store) (recorded_sound (store_of m) (flex_record start end) sound clear.0 clear.1 few);
+      classes = classes_same m n heaps words classes;
+      recorded = ap (λ (s : Store). is_recorded s.others start end) store ∙ last_recorded (store_of m).others start end;
+    }

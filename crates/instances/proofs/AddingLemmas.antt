@@ -1,0 +1,55 @@
+-- What a call that adds a module leaves: a world whose new image is pending.
+use Rattle.std.proofs.Common.{◌≡◌, ℕ, ◌+◌, ◌-◌, ◌==◌, ◌&&◌, ◌<◌, ◌≤◌, Bool, true, false, List, [], ◌∷◌, ◌++◌, length, refl, sym, ap, subst, ◌∙◌, Ok, Err, inl, inr, arith}
+use Rattle.std.specs.Prelude.{IfOk, Result, nat_lt}
+use Rattle.std.specs.List.{list_any}
+use Rattle.std.proofs.lemmas.Bool.{and_parts, both_ways, cases_Bool, eqb-true, false_from_ne_true, le-leb, lt-ltb, ltb-false, or_from, or_parts}
+use Rattle.address_map.specs.Bytes.{bytes_between, in_range}
+use Rattle.address_map.proofs.Viewing.{bytes_counted}
+use Rattle.address_map.specs.declared.region.Kind.TheVariants as kind
+use Rattle.address_map.specs.declared.region.Region.{Region}
+use Rattle.module_header.specs.Header.{header_of}
+use Rattle.module_header.specs.declared.fault.HeaderFault.{HeaderFault}
+use Rattle.module_header.specs.declared.fault.HeaderFault.TheVariants.{Short}
+use Rattle.module_header.specs.declared.header.Header.{Header}
+use Rattle.os_heap.specs.Store.{has_image, is_image}
+use Rattle.os_heap_lists.specs.Lists.{total_for}
+use Rattle.dynamic_areas.specs.Ground.{IsEstate}
+use Rattle.rma.specs.NewImages.{image_record, is_in_record}
+use Rattle.instances_ground.specs.Sound.{AreSolid, IsWorld}
+use Rattle.instances_ground.specs.World.{World}
+use Rattle.instances_ground.proofs.Worlds.{world_more}
+use Rattle.instances.specs.Adding.{good_header}
+
+-- where no record lies no image begins, since none is empty
+pub no_image : (at : ℕ) (rs : List Region) → AreSolid rs → is_in_record rs at ≡ false → has_image at rs ≡ false
+no_image at [] solid none = refl
+no_image at (r ∷ rs) solid none =
+    let parts = or_parts (in_range r.at r.len at) (is_in_record rs at) none in
+    or_from (is_image r.kind && r.at == at) (has_image at rs)
+    (false_from_ne_true (is_image r.kind && r.at == at) (λ is.
+    let both = and_parts (is_image r.kind) (r.at == at) is in
+    let here : r.at ≡ at = eqb-true r.at at both.1 in
+    let some : 0 < r.len = solid.0 both.0 in
+    both_ways (in_range r.at r.len at) parts.0 (rw (le-leb r.at at (omega (arith, here)), lt-ltb at (r.at + r.len) (omega (arith, here, some))) refl)))
+    (no_image at rs solid.1 parts.1)
+
+-- the image of a block that was claimed is pending
+pub world_with_block : (v w : World) (block len : ℕ) → IsWorld v [] → w.modules ≡ v.modules → is_in_record v.estate.store.others block ≡ false
+    → (has_image block v.estate.store.others ≡ false → w.estate.store.others ≡ v.estate.store.others ++ image_record block len ∷ [])
+    → IsEstate w.estate → IsWorld w (block ∷ [])
+world_with_block v w block len world modules alone others estate =
+    world_more v w block (total_for len - 4) [] world modules (others (no_image block v.estate.store.others world.solid alone)) (omega arith) estate
+
+-- an image with a good header isn't empty
+pub header_long : (image : List ℕ) (header : Header) → header_of image ≡ Ok header → 28 ≤ length image
+header_long image header is = elim (cases_Bool (nat_lt (length image) 28)) [
+  | inl short ↦ absurd (let no : Err Short ≡ Ok header = rw short at is in cc)
+  | inr long ↦ ltb-false (length image) 28 long
+]
+
+-- so an image in memory isn't
+pub header_some : (f : ℕ → ℕ) (at len : ℕ) → IfOk (good_header (header_of (bytes_between f at len))) (λ header. 0 < len)
+header_some f at len = go (header_of (bytes_between f at len)) refl where
+  go : (r : Result Header HeaderFault) → header_of (bytes_between f at len) ≡ r → IfOk (good_header r) (λ header. 0 < len)
+  go (Ok header) is = omega (arith, header_long (bytes_between f at len) header is, bytes_counted f at len)
+  go (Err fault) is = tt

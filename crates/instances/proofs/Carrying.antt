@@ -1,0 +1,100 @@
+-- Turns that follow one another carry a call on, and each leaves fewer actions.
+use Rattle.std.proofs.Common.{◌≡◌, ◌<◌, ℕ, Some, None, List, [], ◌∷◌, length, refl, sym, ap, subst, ◌∙◌, arith}
+use Rattle.std.specs.Prelude.{Option}
+use Rattle.instances_plans.specs.declared.action.Action.{Action}
+use Rattle.instances_plans.specs.declared.code.Advance.{Advance}
+use Rattle.instances_plans.specs.declared.code.Advance.TheVariants as advance
+use Rattle.instances_plans.specs.declared.code.Code.{Code}
+use Rattle.instances_plans.specs.declared.code.Ended.{Ended}
+use Rattle.instances_plans.specs.declared.code.Outcome.{Outcome}
+use Rattle.instances_plans.specs.declared.code.Outcome.TheVariants.{Well}
+use Rattle.instances_plans.specs.Carrying.{Advanced, Carried, Doing, advanced, advanced_by, advanced_from, carried, carried_after}
+use Rattle.instances_plans.specs.Plans.{Plan, all_but_first, finished, settled}
+use Rattle.instances_plans.proofs.Carrying.{carries_by_turns}
+use Rattle.instances_ground.specs.Sound.{IsWorld}
+use Rattle.instances_ground.specs.World.{World}
+use Rattle.instances_actions.specs.Pending.{is_pending, pending_by, pending_of}
+use Rattle.instances.specs.Turns.{IsUnderWay, module_doing}
+
+pub turned : (w : World) (p : Plan) (o : Outcome) (r : Advanced World) → advanced module_doing w p o ≡ r
+    → carried module_doing w (settled p o) ≡ carried_after module_doing r r.step
+turned w p o r turn =
+    carries_by_turns module_doing w p o ∙ ap (λ (x : Advanced World). carried_after module_doing x x.step) turn
+
+-- a turn that asks for the next has done an action
+abbrev is_next : Advance → Type 0
+is_next advance.Next = Unit {0}
+is_next (advance.Code code) = ⊥
+is_next (advance.End e) = ⊥
+
+settled_rest : (q : Plan) (a : Action) → (settled (finished q a) Well).actions ≡ all_but_first q.actions
+unfolding settled
+settled_rest q a = refl
+
+fewer_by : (d : Doing World) (w : World) (q : Plan) (a : Action) (code : Option Code) (rest : Plan) → (advanced_by d w q a code).rest ≡ rest
+    → is_next (advanced_by d w q a code).step → (settled rest Well).actions ≡ all_but_first q.actions
+fewer_by d w q a None rest same next = ap (λ (p : Plan). (settled p Well).actions) (sym same) ∙ settled_rest q a
+fewer_by d w q a (Some code) rest same next = absurd next
+
+fewer_from : (d : Doing World) (w : World) (q : Plan) (actions : List Action) (rest : Plan) → q.actions ≡ actions
+    → (advanced_from d actions w q).rest ≡ rest → is_next (advanced_from d actions w q).step → length (settled rest Well).actions < length actions
+fewer_from d w q [] rest are same next = absurd next
+fewer_from d w q (a ∷ others) rest are same next =
+    let left : (settled rest Well).actions ≡ others = fewer_by d w q a (d.code_of w a) rest same next ∙ ap all_but_first are in
+    let few : length (settled rest Well).actions ≡ length others = ap length left in
+    omega (arith, few)
+
+fewer : (w v : World) (p rest : Plan) (o : Outcome) → advanced module_doing w p o ≡ record { world = v; rest = rest; step = advance.Next }
+    → length (settled rest Well).actions < length (settled p o).actions
+unfolding advanced
+fewer w v p rest o turn =
+    fewer_from module_doing w (settled p o) (settled p o).actions rest refl (ap (λ (r : Advanced World). r.rest) turn)
+    (subst is_next (sym (ap (λ (r : Advanced World). r.step) turn)) tt)
+
+-- a turn that ends the call finds nothing left to do
+abbrev is_end : Advance → Type 0
+is_end advance.Next = ⊥
+is_end (advance.Code code) = ⊥
+is_end (advance.End e) = Unit {0}
+
+none_by : (d : Doing World) (w : World) (q : Plan) (a : Action) (code : Option Code) → is_end (advanced_by d w q a code).step → ⊥
+none_by d w q a None end = end
+none_by d w q a (Some code) end = end
+
+none_from : (d : Doing World) (w : World) (q : Plan) (actions : List Action) (rest : Plan) → q.actions ≡ actions
+    → (advanced_from d actions w q).rest ≡ rest → is_end (advanced_from d actions w q).step → rest.actions ≡ []
+none_from d w q [] rest are same end = ap (λ (p : Plan). p.actions) (sym same) ∙ are
+none_from d w q (a ∷ others) rest are same end = absurd (none_by d w q a (d.code_of w a) end)
+
+none_left : (w v : World) (p rest : Plan) (o : Outcome) (e : Ended) → advanced module_doing w p o ≡ record { world = v; rest = rest; step = advance.End e }
+    → rest.actions ≡ []
+unfolding advanced
+none_left w v p rest o e turn =
+    none_from module_doing w (settled p o) (settled p o).actions rest refl (ap (λ (r : Advanced World). r.rest) turn)
+    (subst is_end (sym (ap (λ (r : Advanced World). r.step) turn)) tt)
+
+-- by what a turn asked for
+module _ (w v : World) (p q : Plan) (o : Outcome) (step : Advance) (turn : advanced module_doing w p o ≡ record { world = v; rest = q; step = step }) where
+  stepped : (asked : Advance) → step ≡ asked → advanced module_doing w p o ≡ record { world = v; rest = q; step = asked }
+  stepped asked is = turn ∙ ap (λ (a : Advance). let r : Advanced World = record { world = v; rest = q; step = a } in r) is
+
+  pub next_fewer : step ≡ advance.Next → length (settled q Well).actions < length (settled p o).actions
+  next_fewer is = fewer w v p q o (stepped advance.Next is)
+
+  pub next_carried : (start : Carried World) → step ≡ advance.Next → carried module_doing w (settled p o) ≡ start → carried module_doing v (settled q Well) ≡ start
+  next_carried start is begun = sym (turned w p o _ (stepped advance.Next is)) ∙ begun
+
+  pub code_carried : (start : Carried World) (code : Code) → step ≡ advance.Code code → carried module_doing w (settled p o) ≡ start
+      → start ≡ record { world = v; rest = q; code = Some code }
+  code_carried start code is begun = sym begun ∙ turned w p o _ (stepped (advance.Code code) is)
+
+  pub end_carried : (start : Carried World) (e : Ended) → step ≡ advance.End e → carried module_doing w (settled p o) ≡ start
+      → start ≡ record { world = v; rest = q; code = None }
+  end_carried start e is begun = sym begun ∙ turned w p o _ (stepped (advance.End e) is)
+
+  pub world_at_end : (e : Ended) → step ≡ advance.End e → IsUnderWay v q → IsWorld v []
+  world_at_end e is going =
+      let none : pending_of q ≡ [] = ap (λ (actions : List Action). pending_by (is_pending actions) q.given []) (none_left w v p q o e (stepped (advance.End e) is)) in
+      subst (IsWorld v) none going.world
+
+pub ruleset carrying = (next_fewer, next_carried, code_carried, end_carried, world_at_end)

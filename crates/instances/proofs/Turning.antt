@@ -1,0 +1,211 @@
+-- A turn of a call: what it makes of the world and of the plan, and that both go on well.
+use Rattle.std.proofs.Common.{◌≡◌, ◌≢◌, ℕ, Bool, true, false, Some, None, inl, inr, List, [], ◌∷◌, map, refl, sym, ap, subst, ◌∙◌}
+use Rattle.std.specs.Prelude.{Option, if◌then◌else◌}
+use Rattle.std.proofs.lemmas.Bool.{cases_Bool, false≢true}
+use Rattle.address_map.specs.declared.follow.Move.{Move}
+use Rattle.os_heap_lists.specs.Heap.{HeapList}
+use Rattle.os_heap.specs.Store.{find_heap}
+use Rattle.instances_plans.specs.declared.action.Action.{Action}
+use Rattle.instances_plans.specs.declared.action.Action.TheVariants.{Finalise, Remove, FreePrivate, Insert, Instantiate, GiveUp, Slide, Initialise}
+use Rattle.instances_plans.specs.declared.code.Advance.TheVariants as advance
+use Rattle.instances_plans.specs.declared.code.Code.{Code}
+use Rattle.instances_plans.specs.declared.code.Outcome.{Outcome}
+use Rattle.instances_plans.specs.declared.code.Outcome.TheVariants.{Refused, Well}
+use Rattle.instances_plans.specs.declared.given.Given.{Given}
+use Rattle.instances_plans.specs.Carrying.{Advanced, Doing, advanced, advanced_by, advanced_from}
+use Rattle.instances_plans.specs.Plans.{Plan, end_by, finished, first_of, refused, settled, settled_by, started}
+use Rattle.instances_table.specs.Modules.{AreModules, Module}
+use Rattle.instances_ground.specs.Sound.{IsWorld}
+use Rattle.instances_ground.specs.World.{World, removed}
+use Rattle.instances_actions.specs.Actions.{acted}
+use Rattle.instances_actions.specs.Codes.{code_among}
+use Rattle.instances_actions.specs.Pending.{pending_of, settles}
+use Rattle.instances_actions.specs.Ready.{AreAfter, IsReady, IsSlid, outline}
+use Rattle.instances_actions.proofs.Readying.{stays_ready, stays_ready_refused}
+use Rattle.instances_actions.proofs.Settling.{none_slides, pending_is_settled, pending_outlasts, pending_stays}
+use Rattle.instances_slide.specs.Slid.{image_moved, world_slid, world_slid_in}
+use Rattle.instances.specs.Turns.{IsUnderWay, calls_module, module_doing}
+
+-- A call begins.
+pub begins : (w : World) (p : Plan) → IsWorld w (pending_of p) → IsReady w.modules p → p.runs ≡ false → IsUnderWay w p
+begins w p world ready rests = record { world = world; ready = ready; code = λ runs. absurd (false≢true (sym rests ∙ runs)) }
+
+-- Code came back: it was that of a finalisation or of an initialisation.
+well_back : (w : World) (p : Plan) (a : Action) → first_of p.actions ≡ Some a → AreModules w.modules → IsUnderWay w p → settles a ≡ false
+    → AreAfter p.given a w.modules w.modules → IsUnderWay w (finished p a)
+well_back w p a first are going none same = record {
+  world = subst (IsWorld w) (sym (pending_stays p a first none)) going.world;
+  ready = stays_ready w.modules w.modules p a are first going.ready same;
+  code = λ runs. absurd (false≢true runs);
+}
+
+abbrev EndsCode : Plan → Action → Type 0
+EndsCode p a = (r0 : ℕ) → (refused p a r0).runs ≡ false
+
+refused_back : (w : World) (p : Plan) (a : Action) (r0 : ℕ) → first_of p.actions ≡ Some a → IsUnderWay w p → EndsCode p a → IsUnderWay w (refused p a r0)
+refused_back w p a r0 first going ends = record {
+  world = subst (IsWorld w) (sym (pending_outlasts _ p a r0 first going.ready.settles)) going.world;
+  ready = stays_ready_refused w.modules p a r0 first going.ready;
+  code = λ runs. absurd (false≢true (sym (ends r0) ∙ runs));
+}
+
+back_by : (w : World) (p : Plan) (o : Outcome) (head : Option Action) → first_of p.actions ≡ head → AreModules w.modules → IsUnderWay w p
+    → calls_module head ≡ true → IsUnderWay w (settled_by p o head)
+back_by w p o None first are going calls = absurd (false≢true calls)
+back_by w p Well (Some (Finalise s f)) first are going calls = well_back w p (Finalise s f) first are going refl refl
+back_by w p (Refused r0) (Some (Finalise s f)) first are going calls = refused_back w p (Finalise s f) r0 first going (λ r. refl)
+back_by w p Well (Some (Initialise s)) first are going calls = well_back w p (Initialise s) first are going refl refl
+back_by w p (Refused r0) (Some (Initialise s)) first are going calls = refused_back w p (Initialise s) r0 first going (λ r. refl)
+back_by w p o (Some (Remove s)) first are going calls = absurd (false≢true calls)
+back_by w p o (Some (FreePrivate s)) first are going calls = absurd (false≢true calls)
+back_by w p o (Some (Insert s)) first are going calls = absurd (false≢true calls)
+back_by w p o (Some (Instantiate s)) first are going calls = absurd (false≢true calls)
+back_by w p o (Some GiveUp) first are going calls = absurd (false≢true calls)
+back_by w p o (Some Slide) first are going calls = absurd (false≢true calls)
+
+chosen : (t : Bool) (w : World) (p q : Plan) → (t ≡ true → IsUnderWay w p) → (t ≡ false → IsUnderWay w q) → IsUnderWay w (if t then p else q)
+chosen true w p q first second = first refl
+chosen false w p q first second = second refl
+
+pub going_back : (w : World) (p : Plan) (o : Outcome) → AreModules w.modules → IsUnderWay w p → IsUnderWay w (settled p o)
+unfolding settled
+going_back w p o are going =
+    chosen p.runs w (settled_by p o (first_of p.actions)) p (λ runs. back_by w p o (first_of p.actions) refl are going (going.code runs)) (λ rests. going)
+
+-- What an action leaves of the modules.
+outline_moved : (moves : List Move) (ms : List Module) → map outline (map (image_moved moves) ms) ≡ map outline ms
+outline_moved moves [] = refl
+outline_moved moves (m ∷ ms) = ap (λ (xs : List Module). outline m ∷ xs) (outline_moved moves ms)
+
+outline_slid : (to : ℕ) (w : World) (found : Option HeapList) → IsSlid w.modules (world_slid_in to w found).modules
+outline_slid to w None = refl
+outline_slid to w (Some h) = outline_moved _ w.modules
+
+after_slide : (to : ℕ) (w : World) → IsSlid w.modules (world_slid to w).modules
+unfolding world_slid
+after_slide to w = outline_slid to w (find_heap 0x01800000 w.estate.store.heaps)
+
+after_removal : (slot : ℕ) (g : Given) (w : World) → AreAfter g (Remove slot) w.modules (removed w slot).modules
+unfolding removed
+after_removal slot g w = refl
+
+after_acted : (g : Given) (a : Action) (w : World) → AreAfter g a w.modules (acted world_slid g w a).modules
+after_acted g (Finalise s f) w = refl
+after_acted g (Remove s) w = after_removal s g w
+after_acted g (FreePrivate s) w = refl
+after_acted g (Insert s) w = refl
+after_acted g (Instantiate s) w = refl
+after_acted g GiveUp w = refl
+after_acted g Slide w = after_slide g.return_address w
+after_acted g (Initialise s) w = refl
+
+-- The call goes on after an action is done, and while its code runs.
+pub goes_on : (w v : World) (p : Plan) (a : Action) → first_of p.actions ≡ Some a → AreModules w.modules → IsUnderWay w p
+    → v ≡ acted world_slid p.given w a → IsWorld v (pending_of (finished p a)) → IsUnderWay v (finished p a)
+goes_on w v p a first are going acts world =
+    let after : AreAfter p.given a w.modules v.modules = subst (λ (x : World). AreAfter p.given a w.modules x.modules) (sym acts) (after_acted p.given a w) in
+    record {
+      world = world;
+      ready = stays_ready w.modules v.modules p a are first going.ready after;
+      code = λ runs. absurd (false≢true runs);
+    }
+
+same_modules : (g : Given) (a : Action) (w : World) → calls_module (Some a) ≡ true → (acted world_slid g w a).modules ≡ w.modules
+same_modules g (Finalise s f) w calls = refl
+same_modules g (Initialise s) w calls = refl
+same_modules g (Remove s) w calls = absurd (false≢true calls)
+same_modules g (FreePrivate s) w calls = absurd (false≢true calls)
+same_modules g (Insert s) w calls = absurd (false≢true calls)
+same_modules g (Instantiate s) w calls = absurd (false≢true calls)
+same_modules g GiveUp w calls = absurd (false≢true calls)
+same_modules g Slide w calls = absurd (false≢true calls)
+
+none_settled : (a : Action) → calls_module (Some a) ≡ true → settles a ≡ false
+none_settled (Finalise s f) calls = refl
+none_settled (Initialise s) calls = refl
+none_settled (Remove s) calls = refl
+none_settled (FreePrivate s) calls = refl
+none_settled (Insert s) calls = absurd (false≢true calls)
+none_settled (Instantiate s) calls = refl
+none_settled GiveUp calls = absurd (false≢true calls)
+none_settled Slide calls = refl
+
+calls_by : (ms : List Module) (a : Action) (code : Code) → code_among ms a ≡ Some code → calls_module (Some a) ≡ true
+unfolding code_among
+calls_by ms (Finalise s f) code is = refl
+calls_by ms (Initialise s) code is = refl
+calls_by ms (Remove s) code is = cc
+calls_by ms (FreePrivate s) code is = cc
+calls_by ms (Insert s) code is = cc
+calls_by ms (Instantiate s) code is = cc
+calls_by ms GiveUp code is = cc
+calls_by ms Slide code is = cc
+
+pub goes_into_code : (w v : World) (p : Plan) (a : Action) (code : Code) → first_of p.actions ≡ Some a → IsUnderWay w p
+    → v ≡ acted world_slid p.given w a → IsWorld v (pending_of (finished p a)) → code_among w.modules a ≡ Some code → IsUnderWay v (started p)
+goes_into_code w v p a code first going acts world is =
+    let calls : calls_module (Some a) ≡ true = calls_by w.modules a code is in
+    let same : v.modules ≡ w.modules = ap (λ (x : World). x.modules) acts ∙ same_modules p.given a w calls in
+    let ready : IsReady v.modules p = subst (λ (ms : List Module). IsReady ms p) (sym same) going.ready in
+    record {
+      world = subst (IsWorld v) (pending_stays p a first (none_settled a calls)) world;
+      ready = record { doable = ready.doable; settles = ready.settles; names = ready.names; instead = ready.instead };
+      code = λ runs. ap calls_module first ∙ calls;
+    }
+
+-- What an action leaves pending.
+pub world_acted : (w v : World) (p : Plan) (a : Action) → first_of p.actions ≡ Some a → IsUnderWay w p
+    → ((pending : List ℕ) → settles a ≡ false → IsWorld w pending → IsWorld v pending)
+    → (settles a ≡ true → IsWorld w (p.given.image ∷ []) → IsWorld v [])
+    → IsWorld v (pending_of (finished p a))
+world_acted w v p a first going keeps ends = elim (cases_Bool (settles a)) [
+  | inl does ↦
+      let both = pending_is_settled _ p a first going.ready.settles does in
+      subst (IsWorld v) (sym both.1) (ends does (subst (IsWorld w) both.0 going.world))
+  | inr none ↦ subst (IsWorld v) (sym (pending_stays p a first none)) (keeps (pending_of p) none going.world)
+]
+
+pub world_before_slide : (w : World) (p : Plan) → first_of p.actions ≡ Some Slide → IsUnderWay w p → IsWorld w []
+world_before_slide w p first going = subst (IsWorld w) (none_slides _ p first going.ready.settles).0 going.world
+
+pub world_after_slide : (w v : World) (p : Plan) → first_of p.actions ≡ Some Slide → IsUnderWay w p → IsWorld v [] → IsWorld v (pending_of (finished p Slide))
+world_after_slide w v p first going world = subst (IsWorld v) (sym (none_slides _ p first going.ready.settles).1) world
+
+-- The turn is that of the definitions.
+ends_by : (d : Doing World) (w : World) (q : Plan) (actions : List Action) → first_of actions ≡ None
+    → advanced_from d actions w q ≡ record { world = w; rest = q; step = advance.End (end_by q.first) }
+ends_by d w q [] none = refl
+ends_by d w q (a ∷ others) none = cc
+
+acts_by : (d : Doing World) (w : World) (q : Plan) (actions : List Action) (a : Action) → first_of actions ≡ Some a
+    → advanced_from d actions w q ≡ advanced_by d w q a (d.code_of w a)
+acts_by d w q [] a first = cc
+acts_by d w q (b ∷ others) a first = ap (λ (x : Action). advanced_by d w q x (d.code_of w x)) (same b a first) where
+  same : (b a : Action) → Some b ≡ Some a → b ≡ a
+  same b a e = cc
+
+pub turn_ends : (w : World) (p q : Plan) (o : Outcome) → q ≡ settled p o → first_of q.actions ≡ None
+    → advanced module_doing w p o ≡ record { world = w; rest = q; step = advance.End (end_by q.first) }
+unfolding advanced
+turn_ends w p q o is none =
+    ap (λ (x : Plan). advanced_from module_doing x.actions w x) (sym is) ∙ ends_by module_doing w q q.actions none
+
+turn_acts : (w : World) (p q : Plan) (o : Outcome) (a : Action) → q ≡ settled p o → first_of q.actions ≡ Some a
+    → advanced module_doing w p o ≡ advanced_by module_doing w q a (code_among w.modules a)
+unfolding advanced
+turn_acts w p q o a is first =
+    ap (λ (x : Plan). advanced_from module_doing x.actions w x) (sym is) ∙ acts_by module_doing w q q.actions a first
+
+pub turn_enters : (w v : World) (p q : Plan) (o : Outcome) (a : Action) (code : Code) → q ≡ settled p o → first_of q.actions ≡ Some a
+    → v ≡ acted world_slid q.given w a → code_among w.modules a ≡ Some code
+    → advanced module_doing w p o ≡ record { world = v; rest = started q; step = advance.Code code }
+turn_enters w v p q o a code is first acts has =
+    turn_acts w p q o a is first ∙ ap (advanced_by module_doing w q a) has
+    ∙ ap (λ (x : World). let r : Advanced World = record { world = x; rest = started q; step = advance.Code code } in r) (sym acts)
+
+pub turn_goes_on : (w v : World) (p q : Plan) (o : Outcome) (a : Action) → q ≡ settled p o → first_of q.actions ≡ Some a
+    → v ≡ acted world_slid q.given w a → code_among w.modules a ≡ None
+    → advanced module_doing w p o ≡ record { world = v; rest = finished q a; step = advance.Next }
+turn_goes_on w v p q o a is first acts has =
+    turn_acts w p q o a is first ∙ ap (advanced_by module_doing w q a) has
+    ∙ ap (λ (x : World). let r : Advanced World = record { world = x; rest = finished q a; step = advance.Next } in r) (sym acts)

@@ -1,0 +1,26 @@
+use Rattle.instances_ground.specs.World.{world_of}
+use Rattle.instances.proofs.Carrying.{code_carried, end_carried, next_fewer, world_at_end}
+use Rattle.instances.proofs.instances.Instances.carry.Goals as goal
+
+pub loop-outcome-smaller : goal.loop-outcome-smaller
+loop-outcome-smaller c =
+    next_fewer (world_of c.loop-outcome.map c.args.areas.now c.loop-outcome.self) (world_of c.advance.new.map c.args.areas.now c.advance.new.self)
+    c.loop-outcome.plan c.advance.new.plan c.loop-outcome.outcome c.advance.result c.advance.ensures.advanced c.in-Next.is
+
+pub returns-in-Code-clause-carried : goal.returns-in-Code-clause-carried
+returns-in-Code-clause-carried c =
+    code_carried (world_of c.loop-outcome.map c.args.areas.now c.loop-outcome.self) (world_of c.advance.new.map c.args.areas.now c.advance.new.self)
+    c.loop-outcome.plan c.advance.new.plan c.loop-outcome.outcome c.advance.result c.advance.ensures.advanced _ c.in-Code.code c.in-Code.is
+    c.loop-outcome.invariant.carried
+
+pub returns-in-End-clause-carried : goal.returns-in-End-clause-carried
+returns-in-End-clause-carried c =
+    end_carried (world_of c.loop-outcome.map c.args.areas.now c.loop-outcome.self) (world_of c.advance.new.map c.args.areas.now c.advance.new.self)
+    c.loop-outcome.plan c.advance.new.plan c.loop-outcome.outcome c.advance.result c.advance.ensures.advanced _ c.in-End.field-0 c.in-End.is
+    c.loop-outcome.invariant.carried
+
+pub returns-in-End-clause-ended : goal.returns-in-End-clause-ended
+returns-in-End-clause-ended c = λ none.
+    world_at_end (world_of c.loop-outcome.map c.args.areas.now c.loop-outcome.self) (world_of c.advance.new.map c.args.areas.now c.advance.new.self)
+    c.loop-outcome.plan c.advance.new.plan c.loop-outcome.outcome c.advance.result c.advance.ensures.advanced c.in-End.field-0 c.in-End.is
+    c.advance.ensures.going

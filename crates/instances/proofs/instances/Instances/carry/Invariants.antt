@@ -1,0 +1,18 @@
+use Rattle.std.proofs.Common.{◌≡◌, length}
+use Rattle.os_heap.specs.Store.{AreClasses}
+use Rattle.instances_plans.specs.Carrying.{carried}
+use Rattle.instances_plans.specs.Plans.{settled}
+use Rattle.instances_ground.specs.World.{world_of}
+use Rattle.instances.specs.Turns.{IsUnderWay, module_doing}
+use Rattle.instances.proofs.instances.Instances.carry.Given as goal
+
+abbrev pub invariant-loop-outcome : goal.invariant-loop-outcome
+invariant-loop-outcome l = record {
+  carried : carried module_doing (world_of l.map l.areas l.self) (settled l.plan l.outcome)
+      ≡ carried module_doing (world_of l.fn.map l.fn.areas l.fn.self) (settled l.fn.plan l.fn.outcome);
+  going : IsUnderWay (world_of l.map l.areas l.self) l.plan;
+  classes : AreClasses l.map;
+}
+
+abbrev pub decreases-loop-outcome : goal.decreases-loop-outcome
+decreases-loop-outcome l = length (settled l.plan l.outcome).actions

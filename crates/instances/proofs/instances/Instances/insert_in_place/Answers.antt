@@ -1,0 +1,33 @@
+use Rattle.std.proofs.Common.{◌≡◌, [], true, refl, sym, ap, ◌∙◌, arith}
+use Rattle.os_heap.specs.Store.{store_of}
+use Rattle.dynamic_areas.specs.Ground.{Estate}
+use Rattle.rma.specs.NewImages.{may_be_in_place}
+use Rattle.rma.proofs.InPlaceLemmas.{may_be}
+use Rattle.instances_ground.specs.World.{world_of}
+use Rattle.instances_ground.proofs.Worlds.{few_records, world_more}
+use Rattle.instances.specs.Adding.{inserting}
+use Rattle.instances.proofs.instances.Instances.insert_in_place.Goals as goal
+
+pub header_at-requires : goal.header_at-requires
+unfolding store_of
+header_at-requires c =
+    let may : may_be_in_place (store_of c.args.map.now) c.args.at c.args.len ≡ true = sym c.may_be_in_place.ensures ∙ c.if-not-may_be_in_place.false in
+    (may_be (store_of c.args.map.now) c.args.at c.args.len may).mapped
+
+pub record_in_place-requires-clause-room : goal.record_in_place-requires-clause-room
+record_in_place-requires-clause-room c =
+    few_records (world_of c.args.map.now c.args.areas.now c.args.self.now) [] c.requires.sound c.slot_for.ensures.few (omega arith)
+
+pub returns-clause-sound : goal.returns-clause-sound
+returns-clause-sound c =
+    rw c.adding_plan.ensures.pending
+    (world_more (world_of c.args.map.now c.args.areas.now c.args.self.now) (world_of c.record_in_place.new.map c.args.areas.now c.args.self.now)
+    c.args.at c.args.len [] c.requires.sound refl (ap (λ (e : Estate). e.store.others) (c.record_in_place.ensures.placed c.args.areas.now))
+    c.in_ok-header.ensures.some (c.record_in_place.ensures.estate c.args.areas.now c.requires.sound.estate))
+
+pub returns-clause-world : goal.returns-clause-world
+unfolding inserting
+returns-clause-world c =
+    let may : may_be_in_place (store_of c.args.map.now) c.args.at c.args.len ≡ true = sym c.may_be_in_place.ensures ∙ c.if-not-may_be_in_place.false in
+    rw (may, sym c.in_ok-header.ensures.value, sym c.in_ok-slot.ensures.value)
+    ((λ i. record { estate = c.record_in_place.ensures.placed c.args.areas.now i; modules = c.args.self.now }), c.adding_plan.ensures.value)

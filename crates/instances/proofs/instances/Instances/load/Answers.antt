@@ -1,0 +1,15 @@
+use Rattle.std.proofs.Common.{◌≡◌, [], length, refl, arith}
+use Rattle.instances_ground.specs.World.{world_of}
+use Rattle.instances_ground.proofs.Worlds.{few_records}
+use Rattle.instances.proofs.AddingLemmas.{world_with_block}
+use Rattle.instances.proofs.instances.Instances.load.Goals as goal
+
+pub make_image-requires-clause-room : goal.make_image-requires-clause-room
+make_image-requires-clause-room c =
+    few_records (world_of c.args.map.now c.args.areas.now c.args.self.now) [] c.requires.sound c.slot_for.ensures.few (omega arith)
+
+pub returns-clause-sound : goal.returns-clause-sound
+returns-clause-sound c =
+    rw c.adding_plan.ensures.pending
+    (world_with_block (world_of c.args.map.now c.args.areas.now c.args.self.now) (world_of c.make_image.new.map c.make_image.new.areas c.args.self.now)
+    c.in_ok-at.at (length c.args.image.now) c.requires.sound refl c.in_ok-at.ensures.alone c.in_ok-at.ensures.others c.make_image.ensures.estate)

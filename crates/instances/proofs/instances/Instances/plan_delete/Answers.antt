@@ -1,0 +1,9 @@
+use Rattle.profile.specs.declared.error.ErrorNumber.TheVariants.{ModuleNotFound}
+use Rattle.instances.proofs.ReadyLemmas.{delete_ready, slot_held}
+use Rattle.instances.proofs.instances.Instances.plan_delete.Goals as goal
+
+pub returns-clause-ready : goal.returns-clause-ready
+returns-clause-ready c =
+    rw (← c.self.view_is, c.delete.ensures)
+    (delete_ready c.given_only.result c.in_ok-slot.slot c.in_ok-place.place.number c.self.inside.table
+    (slot_held c.self.inside.table c.in_ok-place.place.number c.slot_of.result ModuleNotFound c.in_ok-slot.slot c.in_ok-slot.ensures.value c.slot_of.ensures.held))

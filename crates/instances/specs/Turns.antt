@@ -1,0 +1,28 @@
+-- A call that is under way on the world: its plan finds what its actions ask for, and module code runs only where an action has some (this project's
+-- own).
+use Rattle.std.specs.Prelude.{ℕ, ◌≡◌, ◌≢◌, Bool, true, false, Option, Some, None, List}
+use Rattle.instances_plans.specs.declared.action.Action.{Action}
+use Rattle.instances_plans.specs.declared.action.Action.TheVariants.{Finalise, Initialise, Slide}
+use Rattle.instances_plans.specs.Carrying.{Doing}
+use Rattle.instances_plans.specs.Plans.{Plan, first_of}
+use Rattle.instances_ground.specs.Sound.{IsWorld}
+use Rattle.instances_ground.specs.World.{World}
+use Rattle.instances_actions.specs.Actions.{doing}
+use Rattle.instances_actions.specs.Pending.{pending_of}
+use Rattle.instances_actions.specs.Ready.{IsReady}
+use Rattle.instances_slide.specs.Slid.{world_slid}
+
+-- What actions do to the world, the slide of the module area among them.
+abbrev pub module_doing : Doing World
+module_doing = doing world_slid
+
+-- has an action an entry of a module to call?
+abbrev pub calls_module : Option Action → Bool
+calls_module (Some (Finalise slot fatal)) = true
+calls_module (Some (Initialise slot)) = true
+calls_module _ = false
+
+pub record IsUnderWay (w : World) (p : Plan) : Type 0 where
+  pub world : IsWorld w (pending_of p)
+  pub ready : IsReady w.modules p
+  pub code : p.runs ≡ true → calls_module (first_of p.actions) ≡ true

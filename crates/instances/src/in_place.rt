@@ -1,0 +1,61 @@
+//! The call that adds a module whose image stays where it stands.
+ghost use Rattle.std.specs.Prelude.{◌≡◌, ◌∷◌, [], false, IfOk};
+ghost use Rattle.profile.specs.Outcome.{Gives};
+ghost use Rattle.os_heap.specs.Store.{AreClasses};
+ghost use Rattle.instances_actions.specs.Pending.{pending_of};
+ghost use Rattle.instances_actions.specs.Ready.{IsReady};
+ghost use Rattle.instances_ground.specs.Sound.{IsWorld};
+ghost use Rattle.instances_ground.specs.World.{world_of};
+ghost use Rattle.instances.specs.Adding.{inserting};
+
+use crate::adding::header_at;
+use crate::instances::Instances;
+use address_map::AddressMap;
+use dynamic_areas::Areas;
+use instances_plans::Plan;
+use instances_table::Image;
+use profile::ErrorNumber;
+use rma::Rma;
+
+impl Instances {
+    /// Inserts a module whose image is the `len` bytes from an address on, which are recorded as an image at once. All else is as in `load`, with an
+    /// empty text.
+    ///
+    /// # Errors
+    ///
+    /// The first of these, and nothing is changed then: `BadPointer` where the address is no multiple of 4, or not all of the range is mapped, or it meets
+    /// a recorded range or an anchor; `ModuleBadHeader` where the image has no good header; `InstanceTableFull` where there are 64 instances, and none of a
+    /// module of the title.
+    ///
+    /// RISC OS 3 Programmer's Reference Manual, "OS_Module", reason 10.
+    #[tactic(auto, unfolding(crate::specs::Adding::inserting))]
+    pub fn insert_in_place(
+        &self,
+        map: &mut AddressMap,
+        areas: &Areas,
+        at: u32,
+        len: u32,
+    ) -> Result<Plan, ErrorNumber>
+        requires sound { IsWorld (world_of map.old areas.now self.now) [] }
+        requires classes { AreClasses map.old }
+        ensures world { Gives (world_of map.old areas.now self.now) (inserting (world_of map.old areas.now self.now) at len) result (world_of map.new areas.now self.now) }
+        ensures sound { IfOk result (λ plan. IsWorld (world_of map.new areas.now self.now) (pending_of plan)) }
+        ensures classes { AreClasses map.new }
+        ensures ready { IfOk result (λ plan. IsReady self.now plan) }
+        ensures rests { IfOk result (λ plan. plan.runs ≡ false) }
+    {
+        let rma = Rma::new();
+        if !rma.may_be_in_place(map, at, len) {
+            return Err(ErrorNumber::BadPointer);
+        }
+        let header = header_at(map, at, len)?;
+        let slot = self.slot_for(&header)?;
+        rma.record_in_place(map, at, len);
+        let placed = Image {
+            at,
+            len,
+            in_rma: false,
+        };
+        Ok(self.adding_plan(header, placed, &[], slot))
+    }
+}

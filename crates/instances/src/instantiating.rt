@@ -1,0 +1,50 @@
+//! The plan of the call that adds an instance to a module.
+ghost use Rattle.std.specs.Prelude.{◌≡◌, ◌≤◌, [], false, IfOk, length};
+ghost use Rattle.instances_actions.specs.Pending.{pending_of};
+ghost use Rattle.instances_actions.specs.Ready.{IsReady};
+ghost use Rattle.instances.specs.Adding.{given_instance, instantiation};
+ghost use Rattle.instances.specs.Plans.{given_only, no_header};
+
+use crate::instances::Instances;
+use crate::plans::given_only;
+use instances_plans::{Given, Plan};
+use instances_table::{ModuleInfo, NewInstance};
+use profile::ErrorNumber;
+
+impl Instances {
+    /// A new instance of a module, `Title%Name`, is added and initialised with a text.
+    ///
+    /// # Errors
+    ///
+    /// The first of these: `BadString` where the full name has no `%`, or the name behind it isn't formed like a title; `ModuleNotFound` where there is
+    /// no module of the title; `InstanceExists` where the module has an instance of the name; `InstanceTableFull` where there are 64 instances.
+    ///
+    /// RISC OS 3 Programmer's Reference Manual, "OS_Module", reason 14.
+    #[tactic(auto, unfolding(crate::specs::Adding::instantiation))]
+    pub fn instantiate(&self, full: &[u8], text: &[u8]) -> Result<Plan, ErrorNumber>
+        requires { length text.now ≤ 255 }
+        ensures value { result ≡ instantiation self.now full.now text.now }
+        ensures ready { IfOk result (λ plan. IsReady self.now plan) }
+        ensures rests { IfOk result (λ plan. plan.runs ≡ false) }
+        ensures pending { IfOk result (λ plan. pending_of plan ≡ []) }
+    {
+        let new = self.table.room_for(full)?;
+        let info = self
+            .table
+            .module(new.number)
+            .ok_or(ErrorNumber::ModuleNotFound)?;
+        let slot = new.slot;
+        Ok(Plan::instantiate(given_instance(info, new, text), slot))
+    }
+}
+
+/// What the actions of the call need: the module's title, the new name, and the text.
+fn given_instance(info: ModuleInfo, new: NewInstance, text: &[u8]) -> Given
+    requires { length text.now ≤ 255 }
+    ensures { result ≡ (let g = given_only text.now 0 in record g { header = record no_header { title = info.title }; name = new.name }) }
+{
+    let mut given = given_only(text, 0);
+    given.header.title = info.title;
+    given.name = new.name;
+    given
+}

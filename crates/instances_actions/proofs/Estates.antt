@@ -1,0 +1,47 @@
+-- The estate after a record of an image went, and what calls keep that leave the layout of memory.
+use Rattle.std.proofs.Common.{◌≡◌, ℕ, sym, ap, subst, ◌∙◌}
+use Rattle.std.specs.Prelude.{is_some}
+use Rattle.address_map.specs.declared.map.AddressMap.{AddressMap}
+use Rattle.address_map.specs.Memory.{Layout, Mapping, free_pages, layout, mapping}
+use Rattle.address_map.specs.Records.{without_region}
+use Rattle.address_map.specs.declared.region.Kind.TheVariants as kind
+use Rattle.os_heap.specs.Store.{IsSound, Store, others_in, store_of}
+use Rattle.dynamic_areas.specs.Areas.{Land}
+use Rattle.dynamic_areas.specs.Ground.{IsRecorded, estate_of, system_pages}
+use Rattle.rma.specs.Calls.{with_store}
+use Rattle.rma.specs.Images.{image_dropped, image_freed}
+use Rattle.instances_ground.specs.Sound.{HasSystemPages}
+use Rattle.instances_ground.proofs.Images.{system_less}
+use Rattle.instances_ground.proofs.Removals.{given_back_others}
+
+pub others_same : (m n : AddressMap) → layout n ≡ layout m → (store_of n).others ≡ (store_of m).others
+unfolding store_of
+others_same m n same = ap (λ (q : Layout). others_in q.regions) same
+
+pub pages_stay : (m n : AddressMap) → layout n ≡ layout m → IsSound (store_of n) → HasSystemPages m → HasSystemPages n
+pages_stay m n same sound pages = record {
+  sound = sound;
+  recorded = subst (IsRecorded system_pages) (sym (others_same m n same)) pages.recorded;
+  mapped = λ a low high. ap (λ (q : Layout). is_some (q.place a)) same ∙ pages.mapped a low high;
+}
+
+pub pages_less : (m n : AddressMap) (at : ℕ) → (store_of n).others ≡ without_region (store_of m).others kind.Image at → mapping n ≡ mapping m
+    → IsSound (store_of n) → HasSystemPages m → HasSystemPages n
+pages_less m n at others same sound pages = record {
+  sound = sound;
+  recorded = subst (IsRecorded system_pages) (sym others) (system_less at (store_of m).others pages.recorded);
+  mapped = λ a low high. ap (λ (q : Mapping). is_some (q.place a)) same ∙ pages.mapped a low high;
+}
+
+pub others_dropped : (s t : Store) (at : ℕ) → t ≡ image_dropped s at → t.others ≡ without_region s.others kind.Image at
+unfolding image_dropped
+others_dropped s t at same = ap (λ (x : Store). x.others) same
+
+pub others_freed : (s t : Store) (at : ℕ) → t ≡ image_freed s at → t.others ≡ without_region s.others kind.Image at
+unfolding image_freed image_dropped
+others_freed s t at same = ap (λ (x : Store). x.others) same ∙ given_back_others (image_dropped s at) 0x01800000 at
+
+pub estate_with : (m n : AddressMap) (l : Land) (s : Store) → store_of n ≡ s → mapping n ≡ mapping m → estate_of n l ≡ with_store (estate_of m l) s
+estate_with m n l s store same =
+    let pool : free_pages n ≡ free_pages m = ap (λ (q : Mapping). q.free_pages) same in
+    λ i. record { store = store i; pool = pool i; land = l }

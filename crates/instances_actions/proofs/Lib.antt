@@ -1,0 +1,9 @@
+pub mod CallsReady
+pub mod Estates
+pub mod NewImages
+pub mod Placed
+pub mod Readying
+pub mod Removing
+pub mod Settling
+pub mod Slots
+pub mod Used

@@ -1,0 +1,24 @@
+use Rattle.instances_actions.proofs.acting.act.Goals as goal
+
+pub returns-in-Remove-clause-sound : goal.returns-in-Remove-clause-sound
+returns-in-Remove-clause-sound c = λ l pending none world. c.remove.ensures.sound l pending world
+
+pub returns-in-Insert-clause-world : goal.returns-in-Insert-clause-world
+returns-in-Insert-clause-world c = λ slide l.
+    let e = c.insert.ensures.estate l in
+    let t = c.insert.ensures.modules in
+    rw c.in-Insert.is (λ i. record { estate = e i; modules = t i })
+
+pub returns-in-Instantiate-clause-world : goal.returns-in-Instantiate-clause-world
+returns-in-Instantiate-clause-world c = λ slide l.
+    let e = c.instantiate.ensures.estate l in
+    let t = c.instantiate.ensures.modules in
+    rw c.in-Instantiate.is (λ i. record { estate = e i; modules = t i })
+
+pub returns-in-Instantiate-clause-sound : goal.returns-in-Instantiate-clause-sound
+returns-in-Instantiate-clause-sound c = λ l pending none world. c.instantiate.ensures.sound l pending world
+
+pub returns-in-Initialise-clause-world : goal.returns-in-Initialise-clause-world
+returns-in-Initialise-clause-world c = λ slide l.
+    let e = rw c.as_slice.ensures.value at (c.put_text.ensures.estate l) in
+    rw c.in-Initialise.is (λ i. record { estate = e i; modules = c.args.table.now })

@@ -1,0 +1,16 @@
+//! What each action of a plan does to the world: to the list of modules, to the memory that they stand in, and to the records of their images.
+#![tactic(auto)]
+
+pub mod acting;
+pub mod adding;
+pub mod code;
+pub mod laws;
+pub mod removal;
+
+pub use acting::act;
+pub use adding::{give_up, insert, instantiate};
+pub use code::code_of;
+pub use removal::{free_private, remove};
+
+#[cfg(test)]
+mod tests;

@@ -1,0 +1,5 @@
+pub mod Images
+pub mod Removals
+pub mod Starting
+pub mod Worlds
+pub mod Writes

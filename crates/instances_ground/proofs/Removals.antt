@@ -1,0 +1,191 @@
+-- The images after one went: that of the module whose last instance was removed, or the pending one.
+use Rattle.std.proofs.Common.{◌≡◌, ℕ, Bool, true, false, inl, inr, ◌+◌, ◌==◌, List, [], ◌∷◌, ◌++◌, refl, sym, ap, ◌∙◌, Ok, Err, Some, None}
+use Rattle.std.specs.Prelude.{Option, Result, ok_or, if◌then◌else◌}
+use Rattle.std.specs.List.{list_any}
+use Rattle.std.proofs.lemmas.Bool.{both_ways, cases_Bool, eq-eqb, eqb-true, false_from_ne_true, or_parts}
+use Rattle.profile.specs.Outcome.{bind}
+use Rattle.profile.specs.declared.error.ErrorNumber.{ErrorNumber}
+use Rattle.profile.specs.declared.error.ErrorNumber.TheVariants.{HeapBadDesc, HeapHoldsAnchor, HeapNotABlock}
+use Rattle.address_map.specs.Records.{without_region}
+use Rattle.address_map.specs.declared.item.Item.{Item}
+use Rattle.address_map.specs.declared.region.Kind.TheVariants as kind
+use Rattle.address_map.specs.declared.region.Region.{Region}
+use Rattle.os_heap_lists.specs.Heap.{HeapList}
+use Rattle.os_heap_lists.specs.Lists.{live_total, released}
+use Rattle.os_heap.specs.Calls.{gave_back, holding, holds_anchor, unless_image}
+use Rattle.os_heap.specs.Store.{Store, find_heap, has_image}
+use Rattle.dynamic_areas.specs.Ground.{Estate, IsEstate, IsRecorded, system_pages}
+use Rattle.rma.specs.Calls.{in_area, rma_freed}
+use Rattle.rma.specs.Images.{image_dropped, image_freed, or_kept}
+use Rattle.instances_table.specs.declared.parts.Image.{Image}
+use Rattle.instances_table.specs.Modules.{Instance, Module, has_instance, has_slot}
+use Rattle.instances_table.specs.Changes.{module_without, still, without_first, without_instance}
+use Rattle.instances_ground.specs.Sound.{AreSolid, IsWorld, count_beside, image_places, images_of}
+use Rattle.instances_ground.specs.World.{World, freed, image_gone, image_gone_of, image_gone_with, or_same, private_freed, private_word, removed}
+use Rattle.instances_ground.proofs.Images.{AreDifferent, beside_less, places_less, solid_less, system_less}
+use Rattle.instances_ground.proofs.Worlds.{images_differ, world_less}
+
+-- the addresses of the images after the removal of an instance
+abbrev pub places_of_rest : Module → List Module → List ℕ → List ℕ
+places_of_rest m [] xs = without_first (λ y. y == m.image.at) xs
+places_of_rest m (left ∷ others) xs = xs
+
+abbrev pub places_left : ℕ → List Module → List ℕ → List ℕ
+places_left slot [] xs = xs
+places_left slot (m ∷ ms) xs = if has_instance slot m then places_of_rest m (module_without slot m) xs else places_left slot ms xs
+
+-- the address of another image stays where it is
+other_way : (x y : ℕ) → (x == y) ≡ false → (y == x) ≡ false
+other_way x y differ = false_from_ne_true (y == x) (λ same. both_ways (x == y) differ (eq-eqb x y (sym (eqb-true y x same))))
+
+rest_keeps : (m : Module) (left : List Module) (x : ℕ) (xs : List ℕ) → (m.image.at == x) ≡ false
+    → places_of_rest m left (x ∷ xs) ≡ x ∷ places_of_rest m left xs
+rest_keeps m [] x xs differ = rw (other_way m.image.at x differ) refl
+rest_keeps m (l ∷ ls) x xs differ = refl
+
+keeps_first : (slot x : ℕ) (ms : List Module) (xs : List ℕ) → list_any (λ y. y == x) (images_of ms) ≡ false
+    → places_left slot ms (x ∷ xs) ≡ x ∷ places_left slot ms xs
+keeps_first slot x [] xs others = refl
+keeps_first slot x (m ∷ ms) xs others =
+    let parts = or_parts (m.image.at == x) (list_any (λ y. y == x) (images_of ms)) others in
+    elim (cases_Bool (has_instance slot m)) [
+      | inl own ↦ rw own (rest_keeps m (module_without slot m) x xs parts.0)
+      | inr its ↦ rw its (keeps_first slot x ms xs parts.1)
+    ]
+
+in_front : (test : ℕ → Bool) (xs ys : List ℕ) → list_any test (xs ++ ys) ≡ false → list_any test xs ≡ false
+in_front test [] ys none = refl
+in_front test (x ∷ xs) ys none =
+    let parts = or_parts (test x) (list_any test (xs ++ ys)) none in
+    rw (parts.0, in_front test xs ys parts.1) refl
+
+first_left : (slot : ℕ) (m : Module) (left : List Instance) (ms : List Module) (pending : List ℕ)
+    → places_of_rest m (still slot m left) (m.image.at ∷ (images_of ms ++ pending)) ≡ images_of (still slot m left ++ ms) ++ pending
+first_left slot m [] ms pending = rw (eq-eqb m.image.at m.image.at refl) refl
+first_left slot m (i ∷ others) ms pending = refl
+
+pub places_removed : (slot : ℕ) (modules : List Module) (pending : List ℕ) → AreDifferent (images_of modules ++ pending)
+    → places_left slot modules (images_of modules ++ pending) ≡ images_of (without_instance slot modules) ++ pending
+places_removed slot [] pending different = refl
+places_removed slot (m ∷ ms) pending different =
+    let none : list_any (λ y. y == m.image.at) (images_of ms) ≡ false = in_front (λ y. y == m.image.at) (images_of ms) pending different.0 in
+    elim (cases_Bool (has_instance slot m)) [
+      | inl own ↦ rw own (first_left slot m (without_first (has_slot slot) m.instances) ms pending)
+      | inr its ↦ rw its (keeps_first slot m.image.at ms (images_of ms ++ pending) none
+          ∙ ap (λ (xs : List ℕ). m.image.at ∷ xs) (places_removed slot ms pending different.1))
+    ]
+
+-- the pending image goes
+pub places_given_up : (at : ℕ) (xs : List ℕ) → AreDifferent (xs ++ at ∷ []) → without_first (λ y. y == at) (xs ++ at ∷ []) ≡ xs ++ []
+places_given_up at [] different = rw (eq-eqb at at refl) refl
+places_given_up at (x ∷ xs) different =
+    let differ : (x == at) ≡ false = other_way at x (last_differs x at xs different.0) in
+    rw differ (ap (λ (ys : List ℕ). x ∷ ys) (places_given_up at xs different.1)) where
+      last_differs : (x at : ℕ) (xs : List ℕ) → list_any (λ y. y == x) (xs ++ at ∷ []) ≡ false → (at == x) ≡ false
+      last_differs x at [] none = (or_parts (at == x) false none).0
+      last_differs x at (y ∷ ys) none = last_differs x at ys (or_parts (y == x) (list_any (λ z. z == x) (ys ++ at ∷ [])) none).1
+
+-- A release keeps all records.
+released_others : (s : Store) (h : HeapList) (block : ℕ) (held : Bool) (r : Option (List Item))
+    → (or_kept s (bind (ok_or r HeapNotABlock) (λ items. if held then Err HeapHoldsAnchor else Ok (holding s h items, tt)))).others ≡ s.others
+released_others s h block held None = refl
+released_others s h block true (Some items) = refl
+released_others s h block false (Some items) = refl
+
+pub given_back_others : (s : Store) (heap block : ℕ) → (or_kept s (gave_back s heap block)).others ≡ s.others
+unfolding gave_back
+given_back_others s heap block = go (find_heap heap s.heaps) where
+  go : (found : Option HeapList) → (or_kept s (bind (ok_or found HeapBadDesc) (λ h.
+      bind (ok_or (unless_image (has_image block s.others) (released block (h.start + 16) h.items)) HeapNotABlock) (λ items.
+      if holds_anchor s.anchor block (live_total block (h.start + 16) h.items) then Err HeapHoldsAnchor else
+      Ok (holding s h items, tt))))).others ≡ s.others
+  go None = refl
+  go (Some h) = released_others s h block (holds_anchor s.anchor block (live_total block (h.start + 16) h.items))
+      (unless_image (has_image block s.others) (released block (h.start + 16) h.items))
+
+freed_as_kept : (e : Estate) (r : Result (Store × Unit {0}) ErrorNumber) → (or_same e (in_area e r)).store ≡ or_kept e.store r
+freed_as_kept e (Ok r) = refl
+freed_as_kept e (Err f) = refl
+
+pub freed_others : (e : Estate) (block : ℕ) → (freed e block).store.others ≡ e.store.others
+unfolding rma_freed
+freed_others e block =
+    ap (λ (s : Store). s.others) (freed_as_kept e (gave_back e.store 0x01800000 block)) ∙ given_back_others e.store 0x01800000 block
+
+pub private_freed_others : (e : Estate) (slot : ℕ) → (private_freed e slot).store.others ≡ e.store.others
+unfolding private_freed
+private_freed_others e slot = freed_others e (private_word e slot)
+
+gone_others : (s : Store) (at : ℕ) (in_rma : Bool) → (if in_rma then image_freed s at else image_dropped s at).others ≡ without_region s.others kind.Image at
+unfolding image_freed image_dropped
+gone_others s at true = given_back_others (image_dropped s at) 0x01800000 at
+gone_others s at false = refl
+
+pub image_gone_others : (e : Estate) (image : Image) → (image_gone e image).store.others ≡ without_region e.store.others kind.Image image.at
+unfolding image_gone
+image_gone_others e image = gone_others e.store image.at image.in_rma
+
+-- what is left of the records and of the images
+record AreLeft (slot : ℕ) (modules : List Module) (old new : List Region) : Type 0 where
+  system : IsRecorded system_pages old → IsRecorded system_pages new
+  solid : AreSolid old → AreSolid new
+  beside : count_beside new ≡ count_beside old
+  places : image_places new ≡ places_left slot modules (image_places old)
+
+rest_left : (e : Estate) (m : Module) (left : List Module)
+    → (IsRecorded system_pages e.store.others → IsRecorded system_pages (image_gone_of e m left).store.others)
+    × (AreSolid e.store.others → AreSolid (image_gone_of e m left).store.others)
+    × (count_beside (image_gone_of e m left).store.others ≡ count_beside e.store.others)
+    × (image_places (image_gone_of e m left).store.others ≡ places_of_rest m left (image_places e.store.others))
+rest_left e m [] =
+    let others = image_gone_others e m.image in (
+      λ there. rw others (system_less m.image.at e.store.others there),
+      λ solid. rw others (solid_less m.image.at e.store.others solid),
+      ap count_beside others ∙ beside_less m.image.at e.store.others,
+      ap image_places others ∙ places_less m.image.at e.store.others,
+    )
+rest_left e m (l ∷ ls) = (λ there. there, λ solid. solid, refl, refl)
+
+are_left : (e : Estate) (slot : ℕ) (modules : List Module) → AreLeft slot modules e.store.others (image_gone_with e slot modules).store.others
+are_left e slot [] = record { system = λ there. there; solid = λ solid. solid; beside = refl; places = refl }
+are_left e slot (m ∷ ms) = elim (cases_Bool (has_instance slot m)) [
+  | inl own ↦
+      let rest = rest_left e m (module_without slot m) in
+      record {
+        system = rw own rest.0;
+        solid = rw own rest.1;
+        beside = rw own rest.2;
+        places = rw own rest.3;
+      }
+  | inr its ↦
+      let rest = are_left e slot ms in
+      record {
+        system = rw its rest.system;
+        solid = rw its rest.solid;
+        beside = rw its rest.beside;
+        places = rw its rest.places;
+      }
+]
+
+-- The world stays one where an instance is removed, and where an image is given up.
+pub world_removed : (w : World) (slot : ℕ) (pending : List ℕ) → IsWorld w pending → IsEstate (removed w slot).estate → IsWorld (removed w slot) pending
+unfolding removed
+world_removed w slot pending world estate =
+    let freed : Estate = private_freed w.estate slot in
+    let same : freed.store.others ≡ w.estate.store.others = private_freed_others w.estate slot in
+    let left = are_left freed slot w.modules in
+    let places = ap image_places same ∙ world.images in
+    record {
+      estate = estate;
+      system = left.system (rw same world.system);
+      images = left.places ∙ ap (λ (xs : List ℕ). places_left slot w.modules xs) places
+          ∙ places_removed slot w.modules pending (images_differ w pending world);
+      solid = left.solid (rw same world.solid);
+      few = rw (left.beside, same) world.few;
+    }
+
+pub world_given_up : (w : World) (image : Image) → IsWorld w (image.at ∷ []) → IsEstate (image_gone w.estate image)
+    → IsWorld (record w { estate = image_gone w.estate image }) []
+world_given_up w image world estate =
+    world_less w (record w { estate = image_gone w.estate image }) image.at (image.at ∷ []) [] world (image_gone_others w.estate image)
+    (places_given_up image.at (images_of w.modules) (images_differ w (image.at ∷ []) world)) estate

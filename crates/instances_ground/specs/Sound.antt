@@ -1,0 +1,45 @@
+-- What holds of the world of modules between all module calls, and within one (this project's own): each module's image is recorded, one record to
+-- a module, in the order of the modules.
+use Rattle.std.specs.Prelude.{ℕ, ◌≡◌, ◌≤◌, ◌<◌, true, suc, List, [], ◌∷◌, ◌++◌, map, if◌then◌else◌}
+use Rattle.address_map.specs.declared.map.AddressMap.{AddressMap}
+use Rattle.address_map.specs.declared.region.Region.{Region}
+use Rattle.address_map.specs.Bytes.{AreMapped}
+use Rattle.address_map.specs.Memory.{is_mapped}
+use Rattle.os_heap.specs.Store.{IsSound, is_image, store_of}
+use Rattle.dynamic_areas.specs.Ground.{IsEstate, IsRecorded, system_pages}
+use Rattle.instances_table.specs.Modules.{Module}
+use Rattle.instances_ground.specs.World.{World}
+
+-- the addresses of the recorded images, oldest first, and how many other records there are
+abbrev pub image_places : List Region → List ℕ
+image_places [] = []
+image_places (r ∷ rs) = if is_image r.kind then r.at ∷ image_places rs else image_places rs
+
+abbrev pub count_beside : List Region → ℕ
+count_beside [] = 0
+count_beside (r ∷ rs) = if is_image r.kind then count_beside rs else suc (count_beside rs)
+
+-- no image is empty
+abbrev pub AreSolid : List Region → Type 0
+AreSolid [] = Unit {0}
+AreSolid (r ∷ rs) = (is_image r.kind ≡ true → 0 < r.len) × AreSolid rs
+
+-- the addresses of the images of modules
+abbrev pub images_of : List Module → List ℕ
+images_of modules = map (λ (m : Module). m.image.at) modules
+
+-- The memory is sound, and the system pages are among its records. The images recorded are those of the modules, and behind these the `pending`
+-- ones, which a call under way has recorded and not added to the modules yet. Beside images there are the records of the system pages and of the
+-- flex store at most.
+pub record IsWorld (w : World) (pending : List ℕ) : Type 0 where
+  pub estate : IsEstate w.estate
+  pub system : IsRecorded system_pages w.estate.store.others
+  pub images : image_places w.estate.store.others ≡ images_of w.modules ++ pending
+  pub solid : AreSolid w.estate.store.others
+  pub few : count_beside w.estate.store.others ≤ 2
+
+-- Memory whose system pages are mapped and recorded, so that no heap has a byte there.
+pub record HasSystemPages (m : AddressMap) : Type 0 where
+  pub sound : IsSound (store_of m)
+  pub recorded : IsRecorded system_pages (store_of m).others
+  pub mapped : AreMapped (is_mapped m) 0x01C00000 0x3000

@@ -1,0 +1,87 @@
+-- The records of images after a slide: they are mapped, and follow the images of modules.
+use Rattle.std.proofs.Common.{◌≡◌, ℕ, Bool, true, false, ◌+◌, ◌-◌, ◌<◌, ◌≤◌, ◌∙◌, ◌⊎◌, List, [], ◌∷◌, ◌++◌, map, refl, sym, ap, subst, Some, inl, inr, arith, append-nil}
+use Rattle.std.proofs.lemmas.Bool.{cases_Bool, cases_eq, le-leb, lt-ltb}
+use Rattle.address_map.specs.Bytes.{AreMapped, Bytes, in_range}
+use Rattle.address_map.specs.Items.{size_of}
+use Rattle.address_map.specs.Moves.{moved_place, moved_region, moved_regions, moved_to}
+use Rattle.address_map.specs.declared.follow.Move.{Move}
+use Rattle.address_map.specs.declared.region.Region.{Region}
+use Rattle.os_heap_lists.proofs.LiveBlocks.{LiveBytes, live_bytes}
+use Rattle.os_heap_lists.specs.Heap.{HeapList}
+use Rattle.os_heap.proofs.Stores.{AreOthers, clear_of-found}
+use Rattle.os_heap.specs.Calls.{with_items}
+use Rattle.os_heap.specs.Store.{AreClear, AreHeapsIn, ArePlaced, find_heap, is_image, IsClearOfHeaps, IsImageIn}
+use Rattle.os_heap_slide.proofs.Records.{image_in_moved, image_place, IsSlide, moves_in, out_still, slid_in, still_place}
+use Rattle.dynamic_areas.specs.Ground.{AreRangesMapped, IsRecorded, system_pages}
+use Rattle.instances_table.specs.Modules.{Module}
+use Rattle.instances_ground.specs.Sound.{AreSolid, count_beside, image_places, images_of}
+use Rattle.instances_slide.specs.Slid.{image_moved}
+
+-- the bytes of an image in a heap are mapped
+image_mapped : (b : Bytes) (hs : List HeapList) (r : Region) → AreHeapsIn b hs → IsImageIn hs r → AreMapped b.mapped r.at r.len
+image_mapped b [] r heaps image = absurd image
+image_mapped b (g ∷ hs) r heaps (inr later) = image_mapped b hs r heaps.1.1 later
+image_mapped b (g ∷ hs) r heaps (inl own) = λ a low high.
+    let place : LiveBytes r.at (r.len + 4) (g.start + 16) (g.start + 16 + size_of g.items) =
+    live_bytes r.at (r.len + 4) (g.start + 16) g.items heaps.0.totals own.live in
+    heaps.0.mapped a (omega (arith, low, place.low)) (omega (arith, high, place.high, heaps.0.inside))
+
+one_mapped : (b c : Bytes) (h : HeapList) (hs : List HeapList) (movable : List ℕ) (r : Region) → IsSlide b c h movable → AreHeapsIn b hs → AreOthers h hs
+    → find_heap h.start hs ≡ Some h → AreHeapsIn c (with_items h.start (slid_in h movable) hs) → c.mapped ≡ b.mapped
+    → IsClearOfHeaps r.at r.len hs ⊎ IsImageIn hs r → AreMapped b.mapped r.at r.len
+    → AreMapped b.mapped (moved_place (moves_in h movable) r.kind r.at) r.len
+one_mapped b c h hs movable r s heaps others found now same (inl clear) mapped = elim (cases_eq r.len 0) [
+  | inl none ↦ λ a low high. absurd (omega (arith, none, low, high))
+  | inr some ↦
+      let own : AreClear r.at r.len h.start h.end = clear_of-found r.at r.len h.start hs h clear found in
+      let inside : in_range r.at r.len r.at ≡ true = rw (le-leb r.at r.at (omega arith), lt-ltb r.at (r.at + r.len) (omega (arith, some))) refl in
+      let still : moved_place (moves_in h movable) r.kind r.at ≡ r.at =
+      still_place (moves_in h movable) r.kind r.at (out_still b c h movable r.at s (own r.at inside)) in
+      rw still mapped
+]
+one_mapped b c h hs movable r s heaps others found now same (inr image) mapped =
+    subst (λ (f : ℕ → Bool). AreMapped f (moved_place (moves_in h movable) r.kind r.at) r.len) same
+    (image_mapped c (with_items h.start (slid_in h movable) hs) (moved_region (moves_in h movable) r) now
+    (image_in_moved b c h hs movable r s heaps others image))
+
+pub ranges_mapped : (b c : Bytes) (h : HeapList) (hs : List HeapList) (movable : List ℕ) (rs : List Region) → IsSlide b c h movable → AreHeapsIn b hs → AreOthers h hs
+    → find_heap h.start hs ≡ Some h → AreHeapsIn c (with_items h.start (slid_in h movable) hs) → c.mapped ≡ b.mapped → ArePlaced hs rs
+    → AreRangesMapped b.mapped rs → AreRangesMapped b.mapped (moved_regions (moves_in h movable) rs)
+ranges_mapped b c h hs movable [] s heaps others found now same placed mapped = tt
+ranges_mapped b c h hs movable (r ∷ rs) s heaps others found now same placed mapped = (
+  one_mapped b c h hs movable r s heaps others found now same placed.0 mapped.0,
+  ranges_mapped b c h hs movable rs s heaps others found now same placed.1 mapped.1,
+)
+
+pub system_moved : (moves : List Move) (rs : List Region) → IsRecorded system_pages rs → IsRecorded system_pages (moved_regions moves rs)
+system_moved moves [] there = there
+system_moved moves (r ∷ rs) (inl same) = inl (ap (moved_region moves) same)
+system_moved moves (r ∷ rs) (inr later) = inr (system_moved moves rs later)
+
+places_moved : (moves : List Move) (rs : List Region) → image_places (moved_regions moves rs) ≡ map (moved_to moves) (image_places rs)
+places_moved moves [] = refl
+places_moved moves (r ∷ rs) = elim (cases_Bool (is_image r.kind)) [
+  | inl image ↦ rw (image, image_place moves r.kind r.at image, places_moved moves rs) refl
+  | inr other ↦ rw (other, places_moved moves rs) refl
+]
+
+images_moved : (moves : List Move) (modules : List Module) → images_of (map (image_moved moves) modules) ≡ map (moved_to moves) (images_of modules)
+images_moved moves [] = refl
+images_moved moves (m ∷ ms) = ap (λ (xs : List ℕ). moved_to moves m.image.at ∷ xs) (images_moved moves ms)
+
+pub images_follow : (moves : List Move) (rs : List Region) (modules : List Module) → image_places rs ≡ images_of modules ++ []
+    → image_places (moved_regions moves rs) ≡ images_of (map (image_moved moves) modules) ++ []
+images_follow moves rs modules images =
+    places_moved moves rs ∙ ap (map (moved_to moves)) (images ∙ append-nil (images_of modules)) ∙ sym (images_moved moves modules)
+    ∙ sym (append-nil (images_of (map (image_moved moves) modules)))
+
+pub solid_moved : (moves : List Move) (rs : List Region) → AreSolid rs → AreSolid (moved_regions moves rs)
+solid_moved moves [] solid = tt
+solid_moved moves (r ∷ rs) solid = (solid.0, solid_moved moves rs solid.1)
+
+pub beside_moved : (moves : List Move) (rs : List Region) → count_beside (moved_regions moves rs) ≡ count_beside rs
+beside_moved moves [] = refl
+beside_moved moves (r ∷ rs) = elim (cases_Bool (is_image r.kind)) [
+  | inl image ↦ rw image (beside_moved moves rs)
+  | inr other ↦ rw (other, beside_moved moves rs) refl
+]

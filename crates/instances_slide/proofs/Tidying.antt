@@ -1,0 +1,191 @@
+-- The world after its module area was tidied, and that it is sound.
+use Rattle.std.proofs.Common.{◌≡◌, ℕ, Bool, true, false, not, ◌+◌, ◌-◌, ◌≤◌, ◌∙◌, ◌&&◌, ◌||◌, List, [], length, map, refl, sym, ap, subst, Option, Some, None, inl, inr, arith}
+use Rattle.std.proofs.lemmas.Bool.{and_parts, cases_Bool, false≢true}
+use Rattle.address_map.specs.Bytes.{in_range}
+use Rattle.address_map.specs.Memory.{Mapping, byte_at, free_pages, mapping}
+use Rattle.address_map.specs.Records.{anchor_among}
+use Rattle.address_map.specs.declared.follow.Move.{Move}
+use Rattle.address_map.specs.declared.map.AddressMap.{AddressMap}
+use Rattle.os_heap_lists.specs.Heap.{HeapList, IsHeapIn}
+use Rattle.os_heap_lists.specs.Lists.{live_total}
+use Rattle.os_heap.proofs.Found.{found_heap, found_start}
+use Rattle.os_heap.proofs.Moving.{found_held}
+use Rattle.os_heap.proofs.Stores.{AreOthers, are_others}
+use Rattle.os_heap.specs.Calls.{OfHeap, holds_anchor}
+use Rattle.os_heap.specs.Store.{IsSound, Store, find_heap, store_of}
+use Rattle.os_heap_slide.proofs.Records.{IsSlide, slid_in}
+use Rattle.os_heap_slide.specs.Slide.{AreBlocks, HoldNoAnchor, IsSlid, MaySlide, with_slid}
+use Rattle.dynamic_areas.specs.Areas.{Land, find_area}
+use Rattle.dynamic_areas.specs.Ground.{EndsWithArea, Estate, IsEstate, IsGround, estate_of}
+use Rattle.dynamic_areas.specs.declared.area.Area.{Area}
+use Rattle.rma.specs.Calls.{with_store}
+use Rattle.instances_table.specs.Lookup.{has_image_at}
+use Rattle.instances_table.specs.Modules.{Module, slots_of}
+use Rattle.instances_ground.specs.Sound.{IsWorld}
+use Rattle.instances_ground.specs.World.{World, world_of}
+use Rattle.instances_slide.proofs.Choosing.{IsChosen, are_blocks, chosen, few_blocks}
+use Rattle.instances_slide.proofs.Following.{beside_moved, images_follow, ranges_mapped, solid_moved, system_moved}
+use Rattle.instances_slide.specs.Movable.{can_move, is_named_once, movable_blocks, movable_in}
+use Rattle.instances_slide.specs.Slid.{image_moved, moves_in, private_words, words_at, words_moved, world_moved, world_slid, world_slid_in}
+
+-- a block that can be moved holds no anchor
+not_true : (b : Bool) → not b ≡ true → b ≡ false
+not_true true e = absurd (false≢true e)
+not_true false e = refl
+
+no_anchor : (anchor : ℕ → Bool) (modules : List Module) (words : List ℕ) (return_address at total : ℕ)
+    → can_move anchor modules words return_address at total ≡ true → anchor_among anchor at total ≡ false
+no_anchor anchor modules words return_address at total can =
+    let free : Bool = not (anchor_among anchor at total) in
+    let away : Bool = not (in_range at total return_address) in
+    let tied : Bool = has_image_at (at + 4) modules || is_named_once words (at + 4) in
+    not_true (anchor_among anchor at total) (and_parts free away (and_parts tied (free && away) can).1).0
+
+-- the module area's heap is there
+record HasHeap (s : Store) : Type 0 where
+  heap : HeapList
+  found : find_heap 0x01800000 s.heaps ≡ Some heap
+
+heap_there : (e : Estate) → IsEstate e → HasHeap e.store
+heap_there e good = go (find_heap 0x01800000 e.store.heaps) refl good.heap where
+  go : (o : Option HeapList) → find_heap 0x01800000 e.store.heaps ≡ o → EndsWithArea o (find_area 1 e.land.areas) → HasHeap e.store
+  go None none ends = absurd ends
+  go (Some h) found ends = record { heap = h; found = found }
+
+-- what the slide of the heap asks for
+may_by : (s : Store) (modules : List Module) (words : List ℕ) (return_address : ℕ) (o : Option HeapList)
+    → ((h : HeapList) → o ≡ Some h → IsHeapIn s.bytes h.start h.end h.items) → (o ≡ None → ⊥) → length modules ≤ 64 → length words ≤ 64
+    → OfHeap (λ h. AreBlocks (h.start + 16) h.items (movable_in s modules words return_address o)
+    × ((length (movable_in s modules words return_address o) ≤ 128) × HoldNoAnchor s h (movable_in s modules words return_address o))) o
+may_by s modules words return_address None there none images named = absurd (none refl)
+may_by s modules words return_address (Some h) there none images named =
+    let test : ℕ → ℕ → Bool = can_move s.anchor modules words return_address in
+    let heap : IsHeapIn s.bytes h.start h.end h.items = there h refl in (
+      are_blocks test (h.start + 16) h.items heap.totals,
+      (
+        few_blocks s.anchor modules words return_address (h.start + 16) h.items heap.totals images named,
+        λ b is.
+            let c : IsChosen test (h.start + 16) h.items b = chosen test (h.start + 16) h.items b heap.totals is in
+            rw c.live (no_anchor s.anchor modules words return_address (b - 4) c.total c.passes),
+      ),
+    )
+
+no_heap : (o : Option HeapList) (h : HeapList) → o ≡ Some h → o ≡ None → ⊥
+no_heap o h some none = let no : None ≡ Some h = sym none ∙ some in cc
+
+pub may_slide : (m : AddressMap) (l : Land) (modules : List Module) (words movable : List ℕ) (return_address : ℕ) → IsWorld (world_of m l modules) []
+    → length modules ≤ 64 → length words ≤ 64
+    → movable ≡ movable_in (store_of m) modules words return_address (find_heap 0x01800000 (store_of m).heaps)
+    → MaySlide (store_of m) 0x01800000 movable
+may_slide m l modules words movable return_address world images named e =
+    let a : HasHeap (store_of m) = heap_there (estate_of m l) world.estate in
+    subst (λ (xs : List ℕ). MaySlide (store_of m) 0x01800000 xs) (sym e)
+    (may_by (store_of m) modules words return_address (find_heap 0x01800000 (store_of m).heaps)
+    (λ h found. found_heap (store_of m).bytes 0x01800000 (store_of m).heaps h world.estate.ground.sound.heaps found)
+    (no_heap (find_heap 0x01800000 (store_of m).heaps) a.heap a.found) images named)
+
+-- the heap keeps its kind and its end
+ends_same : (h p : HeapList) (o : Option Area) → p.kind ≡ h.kind → p.end ≡ h.end → EndsWithArea (Some h) o → EndsWithArea (Some p) o
+ends_same h p None kind end ends = ends
+ends_same h p (Some a) kind end ends = (kind ∙ ends.0, end ∙ ends.1)
+
+-- the world after the blocks, their records and the images of modules moved
+abbrev pub after_blocks : World → HeapList → List ℕ → World
+after_blocks w h movable = record {
+  estate = with_store w.estate (with_slid w.estate.store h movable);
+  modules = map (image_moved (moves_in h movable)) w.modules;
+}
+
+pub blocks_sound : (w : World) (h : HeapList) (movable : List ℕ) → IsWorld w [] → find_heap 0x01800000 w.estate.store.heaps ≡ Some h
+    → IsSound (with_slid w.estate.store h movable) → IsWorld (after_blocks w h movable) []
+blocks_sound w h movable world found sound =
+    let s : Store = w.estate.store in
+    let t : Store = with_slid s h movable in
+    let p : HeapList = record { kind = h.kind; start = h.start; end = h.end; items = slid_in h movable } in
+    let g : IsGround s w.estate.pool w.estate.land = world.estate.ground in
+    let start : h.start ≡ 0x01800000 = found_start 0x01800000 s.heaps h found in
+    let own : find_heap h.start s.heaps ≡ Some h = subst (λ (q : ℕ). find_heap q s.heaps ≡ Some h) (sym start) found in
+    let there : find_heap h.start t.heaps ≡ Some p = found_held h.start (slid_in h movable) s.heaps h own in
+    let others : AreOthers h s.heaps = are_others s.bytes h.start s.heaps h g.sound.heaps own in
+    let slide : IsSlide s.bytes t.bytes h movable = record {
+      old = found_heap s.bytes 0x01800000 s.heaps h g.sound.heaps found;
+      new = found_heap t.bytes h.start t.heaps p sound.heaps there;
+    } in
+    let there' : find_heap 0x01800000 t.heaps ≡ Some p = subst (λ (q : ℕ). find_heap q t.heaps ≡ Some p) start there in
+    record {
+      estate = record {
+        ground = record {
+          sizes = g.sizes;
+          table = g.table;
+          land = g.land;
+          pages = g.pages;
+          ranges = ranges_mapped s.bytes t.bytes h s.heaps movable s.others slide g.sound.heaps others own sound.heaps refl g.sound.placed g.ranges;
+          sound = sound;
+        };
+        heap = rw there' (ends_same h p _ refl refl (rw found at world.estate.heap));
+      };
+      system = system_moved (moves_in h movable) s.others world.system;
+      images = images_follow (moves_in h movable) s.others w.modules world.images;
+      solid = solid_moved (moves_in h movable) s.others world.solid;
+      few = rw (beside_moved (moves_in h movable) s.others) world.few;
+    }
+
+-- The same of maps: `k` is memory after the blocks slid, and `new` are the modules whose images followed.
+pub record IsBlocksSlid (m k : AddressMap) (l : Land) (modules new : List Module) (movable : List ℕ) (moves : List Move) : Type 0 where
+  pub heap : HeapList
+  pub found : find_heap 0x01800000 (store_of m).heaps ≡ Some heap
+  pub moved : moves ≡ moves_in heap movable
+  pub estate : estate_of k l ≡ with_store (estate_of m l) (with_slid (store_of m) heap movable)
+  pub images : new ≡ map (image_moved (moves_in heap movable)) modules
+  pub store : store_of k ≡ with_slid (store_of m) heap movable
+
+pub blocks_slid : (m k : AddressMap) (l : Land) (modules new : List Module) (movable : List ℕ) (moves : List Move) → IsWorld (world_of m l modules) []
+    → IsSlid (store_of m) 0x01800000 movable (store_of k) moves → mapping k ≡ mapping m → new ≡ map (image_moved moves) modules
+    → IsBlocksSlid m k l modules new movable moves
+blocks_slid m k l modules new movable moves world slid same images =
+    let a : HasHeap (store_of m) = heap_there (estate_of m l) world.estate in
+    let h : HeapList = a.heap in
+    let both = rw a.found at slid in
+    let store : store_of k ≡ with_slid (store_of m) h movable = both.0 in
+    let moved : moves ≡ moves_in h movable = both.1 in
+    let pool : free_pages k ≡ free_pages m = ap (λ (q : Mapping). q.free_pages) same in
+    record {
+      heap = h;
+      found = a.found;
+      moved = moved;
+      estate = λ i. record { store = store i; pool = pool i; land = l };
+      images = images ∙ ap (λ (x : List Move). map (image_moved x) modules) moved;
+      store = store;
+    }
+
+pub sound_after : (m k : AddressMap) (l : Land) (modules new : List Module) (movable : List ℕ) (moves : List Move) → IsWorld (world_of m l modules) []
+    → IsSound (store_of k) → IsBlocksSlid m k l modules new movable moves → IsWorld (world_of k l new) []
+sound_after m k l modules new movable moves world sound is =
+    let w : World = world_of m l modules in
+    let e : world_of k l new ≡ after_blocks w is.heap movable = λ i. record { estate = is.estate i; modules = is.images i } in
+    subst (λ (x : World). IsWorld x []) (sym e) (blocks_sound w is.heap movable world is.found (subst IsSound is.store sound))
+
+words_are : (m : AddressMap) (l : Land) (modules : List Module) → private_words (world_of m l modules) ≡ words_at (byte_at m) (slots_of modules)
+unfolding store_of
+words_are m l modules = refl
+
+pub world_after : (m k n : AddressMap) (l : Land) (modules new : List Module) (return_address : ℕ) (slots words movable : List ℕ) (moves : List Move)
+    → slots ≡ slots_of modules → words ≡ words_at (byte_at m) slots
+    → movable ≡ movable_in (store_of m) modules words return_address (find_heap 0x01800000 (store_of m).heaps)
+    → IsBlocksSlid m k l modules new movable moves → estate_of n l ≡ words_moved moves slots (estate_of k l)
+    → world_of n l new ≡ world_slid return_address (world_of m l modules)
+unfolding world_slid
+world_after m k n l modules new return_address slots words movable moves is-slots is-words is-movable is is-estate =
+    let w : World = world_of m l modules in
+    let h : HeapList = is.heap in
+    let all : words ≡ private_words w = is-words ∙ ap (words_at (byte_at m)) is-slots ∙ sym (words_are m l modules) in
+    let blocks : movable ≡ movable_blocks (store_of m) modules (private_words w) return_address h =
+    is-movable ∙ ap (λ (o : Option HeapList). movable_in (store_of m) modules words return_address o) is.found
+    ∙ ap (λ (xs : List ℕ). movable_blocks (store_of m) modules xs return_address h) all in
+    let estate : estate_of n l ≡ words_moved (moves_in h movable) (slots_of modules) (with_store (estate_of m l) (with_slid (store_of m) h movable)) =
+    is-estate ∙ ap (λ (x : List Move). words_moved x slots (estate_of k l)) is.moved
+    ∙ ap (λ (xs : List ℕ). words_moved (moves_in h movable) xs (estate_of k l)) is-slots
+    ∙ ap (λ (e : Estate). words_moved (moves_in h movable) (slots_of modules) e) is.estate in
+    let after : world_of n l new ≡ world_moved w h movable = λ i. record { estate = estate i; modules = is.images i } in
+    after ∙ ap (λ (xs : List ℕ). world_moved w h xs) blocks
+    ∙ sym (ap (λ (o : Option HeapList). world_slid_in return_address w o) is.found)

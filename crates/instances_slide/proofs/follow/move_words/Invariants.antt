@@ -1,0 +1,19 @@
+use Rattle.std.proofs.Common.{◌≡◌, ℕ, List, drop}
+use Rattle.os_heap.specs.Store.{AreClasses}
+use Rattle.dynamic_areas.specs.Areas.{Land}
+use Rattle.dynamic_areas.specs.Ground.{estate_of}
+use Rattle.instances_table.specs.Modules.{Module}
+use Rattle.instances_ground.specs.Sound.{HasSystemPages, IsWorld}
+use Rattle.instances_ground.specs.World.{world_of}
+use Rattle.instances_slide.specs.Slid.{words_moved}
+use Rattle.instances_slide.proofs.follow.move_words.Given as goal
+
+-- the words of the slots that are left still have to move
+abbrev pub invariant-loop-slot : goal.invariant-loop-slot
+invariant-loop-slot l = record {
+  system : HasSystemPages l.map;
+  estate : (land : Land) → words_moved l.moves (drop l.slot-index l.slots) (estate_of l.map land) ≡ words_moved l.moves l.slots (estate_of l.fn.map land);
+  sound : (land : Land) (modules : List Module) (pending : List ℕ) → IsWorld (world_of l.fn.map land modules) pending
+      → IsWorld (world_of l.map land modules) pending;
+  classes : AreClasses l.fn.map → AreClasses l.map;
+}

@@ -1,0 +1,18 @@
+//! Laws over the definitions, each the contract of a function that does nothing.
+
+ghost use Rattle.instances_slide.specs.Laws.{TidyJoinsRoom, TidyKeepsBlocks, TidyKeepsNames};
+
+/// Each live block of the module area is live after that was tidied, where it went, and holds there what it held.
+pub fn tidying_keeps_blocks()
+    ensures { TidyKeepsBlocks }
+{}
+
+/// Each private word of an instance names afterwards what it named, where that went.
+pub fn tidying_keeps_names()
+    ensures { TidyKeepsNames }
+{}
+
+/// Where no live block is fixed no free item is left, and the largest block that can be claimed is all that is free, without its length word.
+pub fn tidying_joins_room()
+    ensures { TidyJoinsRoom }
+{}

@@ -1,0 +1,9 @@
+//! The module area is tidied: its movable blocks slide together, and the private words and images that named them follow.
+#![tactic(auto)]
+
+mod follow;
+pub mod laws;
+mod movable;
+pub mod tidy;
+
+pub use tidy::slide;

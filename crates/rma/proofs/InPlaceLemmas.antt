@@ -1,0 +1,95 @@
+-- Images in place: a range that meets nothing is recorded.
+use Rattle.std.proofs.Common.{◌≡◌, ℕ, ◌+◌, ◌%◌, ◌==◌, ◌&&◌, ◌||◌, ◌<◌, ◌≤◌, ◌^◌, Bool, true, false, List, [], ◌∷◌, ◌++◌, length, refl, sym, ap, ◌∙◌, inl, inr, not, arith}
+use Rattle.std.specs.Prelude.{nat_lt}
+use Rattle.std.specs.List.{list_any}
+use Rattle.std.proofs.lemmas.Bool.{and_parts, both_ways, eqb-true, false_from_ne_true, lt-ltb, not-true, or_parts}
+use Rattle.address_map.specs.Bytes.{AreMapped, in_range, meets}
+use Rattle.address_map.specs.Memory.{anchor_of, bytes_of, is_mapped, regions}
+use Rattle.address_map.specs.Records.{IsRegion, anchor_among}
+use Rattle.address_map.specs.declared.map.AddressMap.{AddressMap}
+use Rattle.address_map.specs.declared.region.Kind.TheVariants as kind
+use Rattle.address_map.specs.declared.region.Region.{Region}
+use Rattle.os_heap.proofs.Added.{are_mapped_all, are_mapped_from, clear_of_heaps, range_end, ranges_split, same_tests}
+use Rattle.os_heap.proofs.Apart.{range_parts}
+use Rattle.os_heap.proofs.Recorded.{IsClearOfAll, recorded_sound}
+use Rattle.os_heap.specs.Ranges.{are_mapped}
+use Rattle.os_heap.specs.Ranges as range
+use Rattle.os_heap.specs.Store.{AreClear, IsClearOfHeaps, IsSound, Store, store_of}
+use Rattle.rma.specs.NewImages.{may_be_in_place, meets_store, with_image_in_place}
+use Rattle.rma.proofs.ImageLemmas.{IsRecorded}
+
+-- the test of the map is that of the store
+pub met_in : (m : AddressMap) (at len : ℕ)
+    → (list_any (λ r. meets at len r.at r.len) (regions m) || anchor_among (anchor_of m) at len) ≡ meets_store at len (store_of m)
+unfolding store_of
+met_in m at len = ap (λ (t : Bool). t || anchor_among (anchor_of m) at len) (ranges_split (meets at len) (bytes_of m) (regions m))
+
+-- what is so of a range that may be an image in place
+pub record MayBe (s : Store) (at len : ℕ) : Type 0 where
+  pub aligned : at % 4 ≡ 0
+  pub mapped : AreMapped s.bytes.mapped at len
+  pub heaps : list_any (λ h. meets at len h.start h.end) s.heaps ≡ false
+  pub others : list_any (λ r. meets at len r.at r.len) s.others ≡ false
+
+pub may_be : (s : Store) (at len : ℕ) → may_be_in_place s at len ≡ true → MayBe s at len
+may_be s at len may =
+    let both = and_parts (at % 4 == 0 && are_mapped s.bytes.mapped at len) (not (meets_store at len s)) may in
+    let front = and_parts (at % 4 == 0) (are_mapped s.bytes.mapped at len) both.0 in
+    let clear : meets_store at len s ≡ false = not-true (meets_store at len s) both.1 in
+    let heaps : Bool = list_any (λ h. meets at len h.start h.end) s.heaps in
+    let others : Bool = list_any (λ r. meets at len r.at r.len) s.others in
+    let parts = or_parts (heaps || others) (anchor_among s.anchor at len) clear in
+    let ranges = or_parts heaps others parts.0 in
+    record {
+      aligned = eqb-true (at % 4) 0 front.0;
+      mapped = are_mapped_all s.bytes.mapped at len front.1;
+      heaps = ranges.0;
+      others = ranges.1;
+    }
+
+-- ranges that don't meet, the first of them not empty, share no byte
+clear_of_all : (at len : ℕ) (rs : List Region) → 0 < len → list_any (λ r. meets at len r.at r.len) rs ≡ false
+    → IsClearOfAll (record { kind = kind.Image; at = at; len = len }) rs
+clear_of_all at len [] some none = tt
+clear_of_all at len (r ∷ rs) some none =
+    let parts = or_parts (meets at len r.at r.len) (list_any (λ q. meets at len q.at q.len) rs) none in (
+      λ a there. false_from_ne_true (in_range at len a) (λ here.
+          let mine : (at ≤ a) × (a < at + len) = range_parts at len a here in
+          let its : (r.at ≤ a) × (a < r.at + r.len) = range_parts r.at r.len a there in
+          both_ways (meets at len r.at r.len) parts.0
+          (rw (
+            lt-ltb 0 len some,
+            lt-ltb 0 r.len (omega (arith, its.0, its.1)),
+            lt-ltb at (r.at + r.len) (omega (arith, mine.0, its.1)),
+            lt-ltb r.at (at + len) (omega (arith, mine.1, its.0)),
+          ) refl)),
+      clear_of_all at len rs some parts.1,
+    )
+
+same_meets : (at len other other_len : ℕ) → 0 < len → meets at len other other_len ≡ range.meets at len other other_len
+same_meets at len other other_len some = rw (lt-ltb 0 len some) refl
+
+clear_heaps : (s : Store) (at len : ℕ) → 0 < len → list_any (λ h. meets at len h.start h.end) s.heaps ≡ false → IsClearOfHeaps at len s.heaps
+clear_heaps s at len some none =
+    let same : list_any (λ h. meets at len h.start h.end) s.heaps ≡ list_any (λ h. range.meets at len h.start h.end) s.heaps =
+    λ i. list_any (λ h. same_meets at len h.start h.end some i) s.heaps in
+    clear_of_heaps at len s.heaps (sym same ∙ none)
+
+pub placed : (s : Store) (at len : ℕ) → IsSound s → may_be_in_place s at len ≡ true → 0 < len → length s.others < 68
+    → IsRecorded s (record { kind = kind.Image; at = at; len = len })
+placed s at len sound may some room =
+    let is : MayBe s at len = may_be s at len may in
+    record {
+      sound = recorded_sound s (record { kind = kind.Image; at = at; len = len }) sound (clear_heaps s at len some is.heaps)
+          (clear_of_all at len s.others some is.others) room;
+      mapped = is.mapped;
+      aligned = is.aligned;
+    }
+
+-- it ends in the address space
+pub region_placed : (m : AddressMap) (at len : ℕ) → may_be_in_place (store_of m) at len ≡ true → 0 < len
+    → IsRegion (record { kind = kind.Image; at = at; len = len })
+unfolding store_of
+region_placed m at len may some =
+    let is : MayBe (store_of m) at len = may_be (store_of m) at len may in
+    record { aligned = is.aligned; end = range_end m at len is.mapped some }

@@ -1,0 +1,11 @@
+use Rattle.std.proofs.Common.{◌≡◌, ◌+◌, ap}
+use Rattle.os_heap_lists.specs.Lists.{total_for}
+use Rattle.os_heap.specs.Store.{Store, store_of}
+use Rattle.rma.proofs.NewImageLemmas.{made_others}
+use Rattle.rma.proofs.area.Rma.copy_image.Goals as goal
+
+pub returns-clause-others : goal.returns-clause-others
+returns-clause-others c =
+    made_others (store_of c.args.map.now) (store_of c.claim.new.map) (store_of c.fill_from.new.map) (store_of c.record_image.new.map) c.in_ok-block.block
+    (total_for c.args.len) c.in_ok-block.ensures.live c.claim.ensures.others (ap (λ (s : Store). s.heaps) c.fill_from.ensures.store)
+    (ap (λ (s : Store). s.others) c.fill_from.ensures.store) c.record_image.ensures.store

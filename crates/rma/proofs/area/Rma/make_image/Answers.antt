@@ -1,0 +1,19 @@
+use Rattle.std.proofs.Common.{◌≡◌, ◌+◌, ◌++◌, ◌∷◌, [], length, refl, ap, subst, ◌∙◌, arith}
+use Rattle.address_map.specs.declared.region.Region.{Region}
+use Rattle.os_heap_lists.specs.Lists.{total_for}
+use Rattle.os_heap.specs.Store.{Store, has_image, store_of}
+use Rattle.dynamic_areas.specs.Ground.{estate_of}
+use Rattle.rma.specs.NewImages.{IsLiveBlock, image_made, image_record}
+use Rattle.rma.proofs.NewImageLemmas.{claim_refused, made_others}
+use Rattle.rma.proofs.area.Rma.make_image.Goals as goal
+
+pub returns-then-image-clause-made : goal.returns-then-image-clause-made
+unfolding image_made
+returns-then-image-clause-made c =
+    rw (claim_refused (estate_of c.args.map.now c.args.areas.now) (length c.args.image.now) c.requires.estate (omega arith)) (refl, refl)
+
+pub returns-clause-others : goal.returns-clause-others
+returns-clause-others c =
+    made_others (store_of c.args.map.now) (store_of c.claim.new.map) (store_of c.fill.new.map) (store_of c.record_image.new.map) c.in_ok-block.block
+    (total_for (length c.args.image.now)) c.in_ok-block.ensures.live c.claim.ensures.others (ap (λ (s : Store). s.heaps) c.fill.ensures.store)
+    (ap (λ (s : Store). s.others) c.fill.ensures.store) c.record_image.ensures.store

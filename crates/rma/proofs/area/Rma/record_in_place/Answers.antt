@@ -1,0 +1,49 @@
+use Rattle.std.proofs.Common.{◌≡◌, refl, sym, ap, subst}
+use Rattle.address_map.specs.Memory.{free_pages}
+use Rattle.address_map.specs.declared.region.Kind.TheVariants as kind
+use Rattle.address_map.specs.declared.region.Region.{Region}
+use Rattle.os_heap.specs.Store.{IsSound, Store, store_of}
+use Rattle.os_heap.proofs.Limits.{range_room}
+use Rattle.os_heap.proofs.Frame.{classes_same}
+use Rattle.os_heap.proofs.Recorded.{store_recorded}
+use Rattle.rma.proofs.ImageLemmas.{areas_recorded, same_bytes, same_pool}
+use Rattle.rma.proofs.InPlaceLemmas.{placed, region_placed}
+use Rattle.rma.proofs.area.Rma.record_in_place.Goals as goal
+
+pub own-requires-clause-region : goal.own-requires-clause-region
+own-requires-clause-region c = region_placed c.args.map.now c.args.at c.args.len c.requires.may c.requires.some
+
+pub own-requires-clause-room : goal.own-requires-clause-room
+own-requires-clause-room c = λ record_kind. range_room c.args.map.now c.requires.sound c.requires.room
+
+pub returns-clause-placed : goal.returns-clause-placed
+returns-clause-placed c l =
+    let r : Region = record { kind = kind.Image; at = c.args.at; len = c.args.len } in
+    let store = store_recorded c.args.map.now c.own.new.self r refl c.own.ensures.regions
+    (same_bytes c.args.map.now c.own.new.self c.own.ensures.mapping c.own.ensures.bytes) c.own.ensures.marks in
+    let pool = same_pool c.args.map.now c.own.new.self c.own.ensures.mapping in
+    λ i. record { store = store i; pool = pool i; land = l }
+
+pub returns-clause-sound : goal.returns-clause-sound
+returns-clause-sound c =
+    let r : Region = record { kind = kind.Image; at = c.args.at; len = c.args.len } in
+    let store = store_recorded c.args.map.now c.own.new.self r refl c.own.ensures.regions
+    (same_bytes c.args.map.now c.own.new.self c.own.ensures.mapping c.own.ensures.bytes) c.own.ensures.marks in
+    subst IsSound (sym store) (placed (store_of c.args.map.now) c.args.at c.args.len c.requires.sound c.requires.may c.requires.some c.requires.room).sound
+
+pub returns-clause-estate : goal.returns-clause-estate
+returns-clause-estate c l areas =
+    let s : Store = store_of c.args.map.now in
+    let r : Region = record { kind = kind.Image; at = c.args.at; len = c.args.len } in
+    let store = store_recorded c.args.map.now c.own.new.self r refl c.own.ensures.regions
+    (same_bytes c.args.map.now c.own.new.self c.own.ensures.mapping c.own.ensures.bytes) c.own.ensures.marks in
+    let pool = same_pool c.args.map.now c.own.new.self c.own.ensures.mapping in
+    rw (store, pool) (areas_recorded s (free_pages c.args.map.now) l r areas
+    (placed s c.args.at c.args.len c.requires.sound c.requires.may c.requires.some c.requires.room))
+
+pub returns-clause-classes : goal.returns-clause-classes
+returns-clause-classes c classes =
+    let r : Region = record { kind = kind.Image; at = c.args.at; len = c.args.len } in
+    let store = store_recorded c.args.map.now c.own.new.self r refl c.own.ensures.regions
+    (same_bytes c.args.map.now c.own.new.self c.own.ensures.mapping c.own.ensures.bytes) c.own.ensures.marks in
+    classes_same c.args.map.now c.own.new.self (ap (λ (t : Store). t.heaps) store) c.own.ensures.marks classes

@@ -1,0 +1,36 @@
+use Rattle.std.proofs.Common.{◌≡◌, ◌+◌, length, ap, arith}
+use Rattle.os_heap_lists.specs.Lists.{total_for}
+use Rattle.os_heap.proofs.Frame.{classes_same}
+use Rattle.os_heap.specs.Store.{Store, store_of}
+use Rattle.dynamic_areas.proofs.HeapCalls.{areas_written}
+use Rattle.rma.specs.NewImages.{filled}
+use Rattle.rma.proofs.NewImageLemmas.{IsFilled, is_filled, payload_mapped}
+use Rattle.rma.proofs.new_images.fill.Goals as goal
+
+pub put_bytes-requires : goal.put_bytes-requires
+unfolding store_of
+put_bytes-requires c =
+    payload_mapped (store_of c.args.map.now) c.args.block (total_for (length c.args.bytes.now)) (length c.args.bytes.now) c.requires.sound c.requires.live (omega arith)
+
+pub returns-clause-store : goal.returns-clause-store
+returns-clause-store c =
+    (is_filled c.args.map.now c.put_bytes.new.self c.args.block (total_for (length c.args.bytes.now)) c.args.bytes.now c.put_bytes.ensures.layout
+    c.put_bytes.ensures.marks c.requires.sound c.requires.live (omega arith) c.put_bytes.ensures.bytes).store
+
+pub returns-clause-sound : goal.returns-clause-sound
+returns-clause-sound c =
+    (is_filled c.args.map.now c.put_bytes.new.self c.args.block (total_for (length c.args.bytes.now)) c.args.bytes.now c.put_bytes.ensures.layout
+    c.put_bytes.ensures.marks c.requires.sound c.requires.live (omega arith) c.put_bytes.ensures.bytes).kept.sound
+
+pub returns-clause-estate : goal.returns-clause-estate
+returns-clause-estate c l areas =
+    areas_written c.args.map.now c.put_bytes.new.self l areas
+    (is_filled c.args.map.now c.put_bytes.new.self c.args.block (total_for (length c.args.bytes.now)) c.args.bytes.now c.put_bytes.ensures.layout
+    c.put_bytes.ensures.marks c.requires.sound c.requires.live (omega arith) c.put_bytes.ensures.bytes).kept.sound c.put_bytes.ensures.layout
+
+pub returns-clause-classes : goal.returns-clause-classes
+returns-clause-classes c classes =
+    let is : IsFilled c.args.map.now c.put_bytes.new.self (filled (store_of c.args.map.now) c.args.block c.args.bytes.now) =
+    is_filled c.args.map.now c.put_bytes.new.self c.args.block (total_for (length c.args.bytes.now)) c.args.bytes.now c.put_bytes.ensures.layout
+    c.put_bytes.ensures.marks c.requires.sound c.requires.live (omega arith) c.put_bytes.ensures.bytes in
+    classes_same c.args.map.now c.put_bytes.new.self (ap (λ (s : Store). s.heaps) is.store) (λ a i. c.put_bytes.ensures.marks i a) classes

@@ -1,0 +1,36 @@
+use Rattle.std.proofs.Common.{◌≡◌, ◌+◌, ap, arith}
+use Rattle.os_heap_lists.specs.Lists.{total_for}
+use Rattle.os_heap.proofs.Frame.{classes_same}
+use Rattle.os_heap.specs.Calls.{copied}
+use Rattle.os_heap.specs.Store.{Store, store_of}
+use Rattle.dynamic_areas.proofs.HeapCalls.{areas_written}
+use Rattle.rma.proofs.NewImageLemmas.{IsFilled, is_copied, payload_mapped}
+use Rattle.rma.proofs.new_images.fill_from.Goals as goal
+
+pub move_bytes-requires-clause-target : goal.move_bytes-requires-clause-target
+unfolding store_of
+move_bytes-requires-clause-target c =
+    payload_mapped (store_of c.args.map.now) c.args.block (total_for c.args.len) c.args.len c.requires.sound c.requires.live (omega arith)
+
+pub returns-clause-store : goal.returns-clause-store
+returns-clause-store c =
+    (is_copied c.args.map.now c.move_bytes.new.self c.args.block (total_for c.args.len) c.args.from c.args.len c.move_bytes.ensures.layout
+    c.move_bytes.ensures.marks c.requires.sound c.requires.live (omega arith) c.move_bytes.ensures.bytes).store
+
+pub returns-clause-sound : goal.returns-clause-sound
+returns-clause-sound c =
+    (is_copied c.args.map.now c.move_bytes.new.self c.args.block (total_for c.args.len) c.args.from c.args.len c.move_bytes.ensures.layout
+    c.move_bytes.ensures.marks c.requires.sound c.requires.live (omega arith) c.move_bytes.ensures.bytes).kept.sound
+
+pub returns-clause-estate : goal.returns-clause-estate
+returns-clause-estate c l areas =
+    areas_written c.args.map.now c.move_bytes.new.self l areas
+    (is_copied c.args.map.now c.move_bytes.new.self c.args.block (total_for c.args.len) c.args.from c.args.len c.move_bytes.ensures.layout
+    c.move_bytes.ensures.marks c.requires.sound c.requires.live (omega arith) c.move_bytes.ensures.bytes).kept.sound c.move_bytes.ensures.layout
+
+pub returns-clause-classes : goal.returns-clause-classes
+returns-clause-classes c classes =
+    let is : IsFilled c.args.map.now c.move_bytes.new.self (copied (store_of c.args.map.now) c.args.from c.args.block c.args.len) =
+    is_copied c.args.map.now c.move_bytes.new.self c.args.block (total_for c.args.len) c.args.from c.args.len c.move_bytes.ensures.layout
+    c.move_bytes.ensures.marks c.requires.sound c.requires.live (omega arith) c.move_bytes.ensures.bytes in
+    classes_same c.args.map.now c.move_bytes.new.self (ap (λ (s : Store). s.heaps) is.store) (λ a i. c.move_bytes.ensures.marks i a) classes

@@ -1,0 +1,56 @@
+-- New images in the module area: a block is claimed, the image gets its bytes there, and the block is recorded as an image (RISC OS 3 Programmer's
+-- Reference Manual, "OS_Module", reasons 1 and 11). An image in place keeps its bytes, and is recorded over exactly these (reason 10).
+use Rattle.std.specs.Prelude.{ℕ, ◌≡◌, ◌+◌, ◌-◌, ◌*◌, ◌==◌, ◌%◌, ◌||◌, ◌&&◌, not, Bool, List, length, Some, Result, Ok, [], ◌∷◌, ◌++◌}
+use Rattle.std.specs.List.{list_any}
+use Rattle.profile.specs.Outcome.{bind}
+use Rattle.profile.specs.declared.error.ErrorNumber.{ErrorNumber}
+use Rattle.address_map.specs.declared.region.Kind.TheVariants as kind
+use Rattle.address_map.specs.declared.region.Region.{Region}
+use Rattle.address_map.specs.Bytes.{in_range, meets, with_bytes}
+use Rattle.address_map.specs.Records.{anchor_among}
+use Rattle.os_heap_lists.specs.Lists.{live_total, total_for}
+use Rattle.os_heap.specs.Calls.{OfHeap, copied}
+use Rattle.os_heap.specs.Ranges.{are_mapped}
+use Rattle.os_heap.specs.Store.{Store, find_heap}
+use Rattle.dynamic_areas.specs.Ground.{Estate}
+use Rattle.rma.specs.Calls.{rma_claimed, with_store}
+use Rattle.rma.specs.Images.{image_recorded}
+
+-- the store after the bytes of a list were written from an address on
+abbrev pub filled : Store → ℕ → List ℕ → Store
+filled s at image = record s { bytes = with_bytes s.bytes at image }
+
+-- an image whose bytes are given, and one whose bytes stand in memory
+unfoldable pub image_made : Estate → List ℕ → Result (Estate × ℕ) ErrorNumber
+image_made e image =
+    bind (rma_claimed e (length image)) (λ c.
+    Ok (with_store c.0 (image_recorded (filled c.0.store c.1 image) c.1), c.1))
+
+unfoldable pub image_copied : Estate → ℕ → ℕ → Result (Estate × ℕ) ErrorNumber
+image_copied e from len =
+    bind (rma_claimed e len) (λ c.
+    Ok (with_store c.0 (image_recorded (copied c.0.store from c.1 len) c.1), c.1))
+
+-- the record of an image of `len` bytes in the module area: over all bytes that its block holds
+abbrev pub image_record : ℕ → ℕ → Region
+image_record at len = record { kind = kind.Image; at = at; len = total_for len - 4 }
+
+-- the module area's heap has a live block at an address, of `total` bytes with its length word
+abbrev pub IsLiveBlock : Store → ℕ → ℕ → Type 0
+IsLiveBlock s block total = OfHeap (λ h. live_total block (h.start + 16) h.items ≡ Some total) (find_heap 0x01800000 s.heaps)
+
+-- is a byte in a recorded range that is no heap?
+abbrev pub is_in_record : List Region → ℕ → Bool
+is_in_record others a = list_any (λ r. in_range r.at r.len a) others
+
+-- Where an image may be in place: from a whole word on, all mapped, and clear of all heaps, of all other recorded ranges, and of anchors. An empty
+-- range meets nothing.
+abbrev pub meets_store : ℕ → ℕ → Store → Bool
+meets_store at len s =
+    (list_any (λ h. meets at len h.start h.end) s.heaps || list_any (λ r. meets at len r.at r.len) s.others) || anchor_among s.anchor at len
+
+abbrev pub may_be_in_place : Store → ℕ → ℕ → Bool
+may_be_in_place s at len = (at % 4 == 0 && are_mapped s.bytes.mapped at len) && not (meets_store at len s)
+
+abbrev pub with_image_in_place : Store → ℕ → ℕ → Store
+with_image_in_place s at len = record s { others = s.others ++ record { kind = kind.Image; at = at; len = len } ∷ [] }

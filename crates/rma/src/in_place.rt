@@ -1,0 +1,52 @@
+ghost use Rattle.std.specs.Prelude.{◌≡◌, ◌<◌, true, length};
+ghost use Rattle.address_map.specs.Memory.{mapping};
+ghost use Rattle.os_heap.specs.Ranges.{are_mapped};
+ghost use Rattle.os_heap.specs.Store.{store_of, AreClasses, IsSound};
+ghost use Rattle.dynamic_areas.specs.Areas.{Land};
+ghost use Rattle.dynamic_areas.specs.Ground.{estate_of, IsEstate};
+ghost use Rattle.rma.specs.Calls.{with_store};
+ghost use Rattle.rma.specs.NewImages.{may_be_in_place, meets_store, with_image_in_place};
+
+use crate::area::Rma;
+use address_map::{AddressMap, Kind};
+
+impl Rma {
+    /// Whether the `len` bytes from an address on may be an image in place: they begin at a whole word, all are mapped, and none lies in a recorded
+    /// range or an anchor.
+    ///
+    /// RISC OS 3 Programmer's Reference Manual, "OS_Module", reason 10; that it meets nothing is this project's own.
+    pub fn may_be_in_place(&self, map: &AddressMap, at: u32, len: u32) -> bool
+        ensures { result ≡ may_be_in_place (store_of map.now) at len }
+    {
+        at % 4 == 0 && are_mapped(map, at, len) && !meets_store(map, at, len)
+    }
+
+    /// Records the `len` bytes from an address on as an image in place, over exactly these bytes.
+    pub fn record_in_place(&self, map: &mut AddressMap, at: u32, len: u32)
+        requires sound { IsSound (store_of map.old) }
+        requires may { may_be_in_place (store_of map.old) at len ≡ true }
+        requires some { 0 < len }
+        requires room { length (store_of map.old).others < 68 }
+        ensures placed { (l : Land) → estate_of map.new l ≡ with_store (estate_of map.old l) (with_image_in_place (store_of map.old) at len) }
+        ensures sound { IsSound (store_of map.new) }
+        ensures estate { (l : Land) → IsEstate (estate_of map.old l) → IsEstate (estate_of map.new l) }
+        ensures classes { AreClasses map.old → AreClasses map.new }
+        ensures mapping { mapping map.new ≡ mapping map.old }
+    {
+        map.own(Kind::Image, at, len);
+    }
+}
+
+/// Whether each of the `len` bytes from an address on is mapped.
+fn are_mapped(map: &AddressMap, at: u32, len: u32) -> bool
+    ensures { result ≡ are_mapped (store_of map.now).bytes.mapped at len }
+{
+    map.maps(at, len)
+}
+
+/// Whether a range meets a recorded one, or holds an anchor.
+fn meets_store(map: &AddressMap, at: u32, len: u32) -> bool
+    ensures { result ≡ meets_store at len (store_of map.now) }
+{
+    map.meets_record(at, len) || map.anchor_in(at, len)
+}

@@ -1,0 +1,113 @@
+ghost use Rattle.std.specs.Prelude.{◌≡◌, ◌≤◌, ◌<◌, ◌++◌, ◌∷◌, [], false, length, IfOk, MatchResult};
+ghost use Rattle.profile.specs.Outcome.{Gives};
+ghost use Rattle.address_map.specs.Bytes.{AreMapped};
+ghost use Rattle.address_map.specs.Memory.{is_mapped, layout};
+ghost use Rattle.os_heap_lists.specs.Lists.{total_for};
+ghost use Rattle.os_heap.specs.Calls.{copied};
+ghost use Rattle.os_heap.specs.Store.{store_of, AreClasses, IsSound, has_image};
+ghost use Rattle.dynamic_areas.specs.Areas.{Land};
+ghost use Rattle.dynamic_areas.specs.Ground.{estate_of, IsEstate};
+ghost use Rattle.rma.specs.NewImages.{filled, image_copied, image_made, image_record, is_in_record, IsLiveBlock};
+
+use crate::area::Rma;
+use address_map::AddressMap;
+use dynamic_areas::Areas;
+use profile::ErrorNumber;
+use profile::memory_map::RMA_MAXIMUM;
+
+impl Rma {
+    /// Makes a module image of these bytes: claims a block, as `claim` does, puts the bytes there, and records the block as an image. The answer is
+    /// the address of the first byte.
+    ///
+    /// # Errors
+    ///
+    /// As `claim`. Nothing is changed then.
+    ///
+    /// RISC OS 3 Programmer's Reference Manual, "OS_Module", reason 1.
+    #[tactic(auto, unfolding(crate::specs::NewImages::image_made))]
+    pub fn make_image(
+        &self,
+        map: &mut AddressMap,
+        areas: &mut Areas,
+        image: &[u8],
+    ) -> Result<u32, ErrorNumber>
+        requires estate { IsEstate (estate_of map.old areas.old) }
+        requires classes { AreClasses map.old }
+        requires room { length (store_of map.old).others < 68 }
+        ensures made { Gives (estate_of map.old areas.old) (image_made (estate_of map.old areas.old) image.now) result (estate_of map.new areas.new) }
+        ensures estate { IsEstate (estate_of map.new areas.new) }
+        ensures classes { AreClasses map.new }
+        ensures alone { IfOk result (λ block. is_in_record (store_of map.old).others block ≡ false) }
+        ensures others { IfOk result (λ block. has_image block (store_of map.old).others ≡ false
+            → (store_of map.new).others ≡ (store_of map.old).others ++ image_record block (length image.now) ∷ []) }
+        ensures fits { IfOk result (λ block. length image.now ≤ 4194304) }
+    {
+        if image.len() > RMA_MAXIMUM as usize {
+            return Err(ErrorNumber::RmaNoRoom);
+        }
+        let block = self.claim(map, areas, image.len() as u32)?;
+        fill(map, block, image);
+        self.record_image(map, block);
+        Ok(block)
+    }
+
+    /// Makes a module image of the `len` bytes from an address on, all mapped and none of them in free room of the module area, as `make_image` makes
+    /// one of bytes that are given.
+    ///
+    /// # Errors
+    ///
+    /// As `claim`. Nothing is changed then.
+    ///
+    /// RISC OS 3 Programmer's Reference Manual, "OS_Module", reason 11.
+    #[tactic(auto, unfolding(crate::specs::NewImages::image_copied))]
+    pub fn copy_image(
+        &self,
+        map: &mut AddressMap,
+        areas: &mut Areas,
+        from: u32,
+        len: u32,
+    ) -> Result<u32, ErrorNumber>
+        requires estate { IsEstate (estate_of map.old areas.old) }
+        requires classes { AreClasses map.old }
+        requires room { length (store_of map.old).others < 68 }
+        requires source { AreMapped (is_mapped map.old) from len }
+        ensures made { Gives (estate_of map.old areas.old) (image_copied (estate_of map.old areas.old) from len) result (estate_of map.new areas.new) }
+        ensures estate { IsEstate (estate_of map.new areas.new) }
+        ensures classes { AreClasses map.new }
+        ensures alone { IfOk result (λ block. is_in_record (store_of map.old).others block ≡ false) }
+        ensures others { IfOk result (λ block. has_image block (store_of map.old).others ≡ false
+            → (store_of map.new).others ≡ (store_of map.old).others ++ image_record block len ∷ []) }
+    {
+        let block = self.claim(map, areas, len)?;
+        fill_from(map, block, from, len);
+        self.record_image(map, block);
+        Ok(block)
+    }
+}
+
+/// Puts bytes into a live block.
+fn fill(map: &mut AddressMap, block: u32, bytes: &[u8])
+    requires sound { IsSound (store_of map.old) }
+    requires live { IsLiveBlock (store_of map.old) block (total_for (length bytes.now)) }
+    ensures store { store_of map.new ≡ filled (store_of map.old) block bytes.now }
+    ensures sound { IsSound (store_of map.new) }
+    ensures estate { (l : Land) → IsEstate (estate_of map.old l) → IsEstate (estate_of map.new l) }
+    ensures classes { AreClasses map.old → AreClasses map.new }
+    ensures layout { layout map.new ≡ layout map.old }
+{
+    map.put_bytes(block, bytes);
+}
+
+/// Copies bytes of memory into a live block.
+fn fill_from(map: &mut AddressMap, block: u32, from: u32, len: u32)
+    requires sound { IsSound (store_of map.old) }
+    requires live { IsLiveBlock (store_of map.old) block (total_for len) }
+    requires source { AreMapped (is_mapped map.old) from len }
+    ensures store { store_of map.new ≡ copied (store_of map.old) from block len }
+    ensures sound { IsSound (store_of map.new) }
+    ensures estate { (l : Land) → IsEstate (estate_of map.old l) → IsEstate (estate_of map.new l) }
+    ensures classes { AreClasses map.old → AreClasses map.new }
+    ensures layout { layout map.new ≡ layout map.old }
+{
+    map.move_bytes(from, block, len);
+}

@@ -1,0 +1,28 @@
+-- A string of a name and a text: the name ends before the first space, and the text is what follows all spaces there (RISC OS 3 Programmer's Reference
+-- Manual, "OS_Module", reasons 0, 1, 3 and 14).
+use Rattle.std.specs.Prelude.{ℕ, Bool, not, ◌==◌, List, [], take, drop, Option, Some, None}
+use Rattle.std.specs.List.{position}
+
+abbrev pub is_space : ℕ → Bool
+is_space byte = byte == 32
+
+abbrev pub is_word : ℕ → Bool
+is_word byte = not (is_space byte)
+
+-- what stands before a place, and what stands from it on; where there is no place, all and nothing
+abbrev pub before_place : List ℕ → Option ℕ → List ℕ
+before_place words None = words
+before_place words (Some place) = take place words
+
+abbrev pub from_place : List ℕ → Option ℕ → List ℕ
+from_place words None = []
+from_place words (Some place) = drop place words
+
+abbrev pub without_spaces : List ℕ → List ℕ
+without_spaces words = from_place words (position is_word words)
+
+abbrev pub name_part : List ℕ → List ℕ
+name_part words = before_place words (position is_space words)
+
+abbrev pub text_part : List ℕ → List ℕ
+text_part words = without_spaces (from_place words (position is_space words))

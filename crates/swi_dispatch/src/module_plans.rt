@@ -1,0 +1,87 @@
+//! OS_Module, the reasons that may run module code: what each refuses before anything is done, and the plan that it makes (RISC OS 3 Programmer's
+//! Reference Manual, "OS_Module").
+
+ghost use Rattle.std.specs.Prelude.{◌≡◌};
+
+use crate::machine::Machine;
+use crate::module_words::{name_part, text_part};
+use instances_plans::Plan;
+use profile::ErrorNumber;
+use swi_dispatch_frames::MOST_FRAMES;
+
+impl Machine {
+    ghost use Rattle.swi_dispatch.specs.ModulePlans.{clear_planned, delete_planned, may_begin_alone, may_finalise, reinit_planned, tidy_planned};
+    ghost use Rattle.swi_dispatch.specs.Parts.{state_of};
+
+    /// OS_Module 3: R1 points to a name and a text.
+    pub(crate) fn plan_reinit(&self) -> Result<Plan, ErrorNumber>
+        ensures { result ≡ reinit_planned (state_of self.now) }
+    {
+        let words = self.string_in(1)?;
+        let name = name_part(words.as_slice());
+        let slot = self.instances().slot(name)?;
+        self.may_finalise(&[slot])?;
+        self.instances()
+            .plan_reinit(name, text_part(words.as_slice()))
+    }
+
+    /// OS_Module 4: R1 points to a name.
+    pub(crate) fn plan_delete(&self) -> Result<Plan, ErrorNumber>
+        ensures { result ≡ delete_planned (state_of self.now) }
+    {
+        let name = self.string_in(1)?;
+        let slot = self.instances().slot(name.as_slice())?;
+        self.may_finalise(&[slot])?;
+        self.instances().plan_delete(name.as_slice())
+    }
+
+    /// OS_Module 8: the caller goes on at `next`.
+    pub(crate) fn plan_tidy(&self, next: u32) -> Result<Plan, ErrorNumber>
+        ensures { result ≡ tidy_planned (state_of self.now) next }
+    {
+        self.may_begin_alone()?;
+        Ok(self.instances().plan_tidy(next))
+    }
+
+    /// OS_Module 9.
+    pub(crate) fn plan_clear(&self) -> Result<Plan, ErrorNumber>
+        ensures { result ≡ clear_planned (state_of self.now) }
+    {
+        self.may_begin_alone()?;
+        Ok(self.instances().plan_clear())
+    }
+
+    /// Whether a call that finalises these instances may begin.
+    ///
+    /// # Errors
+    ///
+    /// `ModuleBusy` while an initialisation or a finalisation is under way, or a SWI of one of the instances; else `FrameLimit` where no frame more
+    /// can be opened.
+    #[tactic(auto, unfolding(crate::specs::Parts::state_of, crate::specs::ModulePlans::may_finalise))]
+    pub(crate) fn may_finalise(&self, slots: &[u32]) -> Result<(), ErrorNumber>
+        ensures { result ≡ may_finalise slots.now (state_of self.now).tables.frames }
+    {
+        if self.frames.has_entry() || self.frames.has_swi_of(slots) {
+            return Err(ErrorNumber::ModuleBusy);
+        }
+        if self.frames.len() == MOST_FRAMES {
+            return Err(ErrorNumber::FrameLimit);
+        }
+        Ok(())
+    }
+
+    /// Whether a call may begin that no module code under way allows.
+    ///
+    /// # Errors
+    ///
+    /// `ModuleBusy` while a frame is open.
+    #[tactic(auto, unfolding(crate::specs::ModulePlans::may_begin_alone))]
+    pub(crate) fn may_begin_alone(&self) -> Result<(), ErrorNumber>
+        ensures { result ≡ may_begin_alone (state_of self.now).tables.frames }
+    {
+        if self.frames() > 0 {
+            return Err(ErrorNumber::ModuleBusy);
+        }
+        Ok(())
+    }
+}

@@ -1,0 +1,62 @@
+//! Strings of a name and a text (RISC OS 3 Programmer's Reference Manual, "OS_Module", reasons 0, 1, 3 and 14).
+
+ghost use Rattle.std.specs.Prelude.{◌≡◌, ◌≤◌, length};
+ghost use Rattle.std.specs.List.{position};
+ghost use Rattle.swi_dispatch.specs.ModuleWords.{is_space, is_word, name_part, text_part, without_spaces};
+
+/// The name: what stands before the first space.
+pub(crate) fn name_part(words: &[u8]) -> &[u8]
+    ensures { result.now ≡ name_part words.now }
+{
+    match place_of_space(words) {
+        Some(place) => &words[..place],
+        None => words,
+    }
+}
+
+/// The text: what follows all the spaces behind the name.
+#[tactic(auto, using(instances_table::proofs::NameLemmas::take_rest))]
+pub(crate) fn text_part(words: &[u8]) -> &[u8]
+    ensures value { result.now ≡ text_part words.now }
+    ensures short { length result.now ≤ length words.now }
+{
+    match place_of_space(words) {
+        Some(place) => without_spaces(&words[place..]),
+        None => &[],
+    }
+}
+
+#[tactic(auto, using(instances_table::proofs::NameLemmas::take_rest))]
+fn without_spaces(words: &[u8]) -> &[u8]
+    ensures value { result.now ≡ without_spaces words.now }
+    ensures short { length result.now ≤ length words.now }
+{
+    match place_of_word(words) {
+        Some(place) => &words[place..],
+        None => &[],
+    }
+}
+
+fn place_of_space(words: &[u8]) -> Option<usize>
+    ensures { result ≡ position is_space words.now }
+{
+    words.iter().position(|byte| is_space(*byte))
+}
+
+fn place_of_word(words: &[u8]) -> Option<usize>
+    ensures { result ≡ position is_word words.now }
+{
+    words.iter().position(|byte| is_word(*byte))
+}
+
+fn is_space(byte: u8) -> bool
+    ensures { result ≡ is_space byte }
+{
+    byte == b' '
+}
+
+fn is_word(byte: u8) -> bool
+    ensures { result ≡ is_word byte }
+{
+    byte != b' '
+}
