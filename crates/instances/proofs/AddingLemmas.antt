@@ -1,19 +1,20 @@
--- What a call that adds a module leaves: a world whose new image is pending.
-use Rattle.std.proofs.Common.{◌≡◌, ℕ, ◌+◌, ◌-◌, ◌==◌, ◌&&◌, ◌<◌, ◌≤◌, Bool, true, false, List, [], ◌∷◌, ◌++◌, length, refl, sym, ap, subst, ◌∙◌, Ok, Err, inl, inr, arith}
-use Rattle.std.specs.Prelude.{IfOk, Result, nat_lt}
-use Rattle.std.specs.List.{list_any}
+-- Calls that add a module: what they read is mapped, and what they leave is a world whose new image is pending.
+use Rattle.std.proofs.Common.{◌≡◌, ℕ, ◌+◌, ◌-◌, ◌==◌, ◌&&◌, ◌<◌, ◌≤◌, true, false, List, [], ◌∷◌, ◌++◌, length, refl, Ok, Err, inl, inr, arith}
+use Rattle.std.specs.Prelude.{IfOk, Result, nat_lt, not}
 use Rattle.std.proofs.lemmas.Bool.{and_parts, both_ways, cases_Bool, eqb-true, false_from_ne_true, le-leb, lt-ltb, ltb-false, or_from, or_parts}
-use Rattle.address_map.specs.Bytes.{bytes_between, in_range}
+use Rattle.address_map.specs.Bytes.{AreMapped, bytes_between, in_range}
 use Rattle.address_map.proofs.Viewing.{bytes_counted}
-use Rattle.address_map.specs.declared.region.Kind.TheVariants as kind
 use Rattle.address_map.specs.declared.region.Region.{Region}
 use Rattle.module_header.specs.Header.{header_of}
 use Rattle.module_header.specs.declared.fault.HeaderFault.{HeaderFault}
 use Rattle.module_header.specs.declared.fault.HeaderFault.TheVariants.{Short}
 use Rattle.module_header.specs.declared.header.Header.{Header}
+use Rattle.os_heap.proofs.Added.{are_mapped_all}
+use Rattle.os_heap.specs.Ranges.{are_mapped}
 use Rattle.os_heap.specs.Store.{has_image, is_image}
 use Rattle.os_heap_lists.specs.Lists.{total_for}
-use Rattle.dynamic_areas.specs.Ground.{IsEstate}
+use Rattle.dynamic_areas.specs.Ground.{Estate, IsEstate}
+use Rattle.rma.specs.Copies.{has_bare, may_be_copied}
 use Rattle.rma.specs.NewImages.{image_record, is_in_record}
 use Rattle.instances_ground.specs.Sound.{AreSolid, IsWorld}
 use Rattle.instances_ground.specs.World.{World}
@@ -53,3 +54,8 @@ header_some f at len = go (header_of (bytes_between f at len)) refl where
   go : (r : Result Header HeaderFault) → header_of (bytes_between f at len) ≡ r → IfOk (good_header r) (λ header. 0 < len)
   go (Ok header) is = omega (arith, header_long (bytes_between f at len) header is, bytes_counted f at len)
   go (Err fault) is = tt
+
+-- a range that may be copied is mapped
+pub copied_mapped : (e : Estate) (at len : ℕ) → may_be_copied e at len ≡ true → AreMapped e.store.bytes.mapped at len
+copied_mapped e at len may =
+    are_mapped_all e.store.bytes.mapped at len (and_parts (are_mapped e.store.bytes.mapped at len) (not (has_bare e at len)) may).0

@@ -1,21 +1,20 @@
 -- The plans of calls are ready when they are made: their actions find what they need, and the image of a new module is pending.
-use Rattle.std.proofs.Common.{◌≡◌, ℕ, ◌+◌, ◌<◌, ◌==◌, ◌&&◌, Bool, true, false, List, [], ◌∷◌, ◌++◌, length, map, refl, sym, ap, subst, ◌∙◌, Some, None, Ok, Err, inl, inr, zero, suc, get_or, arith}
+use Rattle.std.proofs.Common.{◌≡◌, ℕ, ◌<◌, Bool, true, false, List, [], ◌∷◌, ◌++◌, map, refl, sym, ap, subst, ◌∙◌, Some, None, Ok, Err, inl, inr, zero, suc, get_or}
 use Rattle.std.specs.Prelude.{IfSome, Option, Result, if◌then◌else◌, ok_or, option_map, slice_get}
 use Rattle.std.specs.List.{list_any, position}
 use Rattle.std.specs.Str.{str_eq_ignore_ascii_case}
-use Rattle.std.proofs.lemmas.Bool.{cases_Bool, false≢true, or_left, or_right}
+use Rattle.std.proofs.lemmas.Bool.{cases_Bool, or_left, or_right}
 use Rattle.std.proofs.lemmas.List.Quantifiers.{position-Some}
 use Rattle.std.proofs.lemmas.Option.{slice_get-get_or}
 use Rattle.profile.specs.Outcome.{bind}
 use Rattle.profile.specs.declared.error.ErrorNumber.{ErrorNumber}
-use Rattle.profile.specs.declared.error.ErrorNumber.TheVariants.{BadString, InstanceExists, InstanceTableFull, ModuleNotFound}
+use Rattle.profile.specs.declared.error.ErrorNumber.TheVariants.{InstanceExists, InstanceTableFull, ModuleNotFound}
 use Rattle.arrayvec.specs.ArrayVec.{ArrayVec}
 use Rattle.instances_plans.specs.declared.action.Action.TheVariants.{Insert, Initialise}
 use Rattle.instances_plans.specs.declared.given.Given.{Given}
 use Rattle.instances_plans.specs.Calls.{clear_plan, delete_plan, instantiate_plan, load_plan, reinit_plan, tidy_plan}
 use Rattle.instances_plans.specs.Doable.{without_all}
 use Rattle.instances_table.specs.declared.parts.NewInstance.{NewInstance}
-use Rattle.instances_table.specs.Additions.{is_named_at}
 use Rattle.instances_table.specs.Changes.{IsRoomFor, free_slot, holds, instance_room, is_held, is_named, titled, titled_otherwise}
 use Rattle.instances_table.specs.declared.parts.ModuleInfo.{ModuleInfo}
 use Rattle.instances_table.specs.Lookup.{number_of_title, told_of_module}

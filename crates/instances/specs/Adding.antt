@@ -1,36 +1,32 @@
 -- Calls that add a module or an instance (RISC OS 3 Programmer's Reference Manual, "OS_Module", reasons 1, 10, 11 and 14): what each refuses, in
 -- order; what it does at once, which is to make the image; and the plan of the rest. The order of the refusals, the slots, and that an image in place
 -- meets nothing else that is recorded, are this project's own.
-use Rattle.std.specs.Prelude.{ℕ, Bool, true, false, not, ◌==◌, ◌&&◌, ◌||◌, ◌%◌, ◌*◌, List, [], length, ok_or, Result, Ok, Err, if◌then◌else◌}
+use Rattle.std.specs.Prelude.{ℕ, true, false, not, List, [], length, ok_or, Result, Ok, Err, if◌then◌else◌}
 use Rattle.profile.specs.Outcome.{bind}
 use Rattle.profile.specs.declared.error.ErrorNumber.{ErrorNumber}
-use Rattle.profile.specs.declared.error.ErrorNumber.TheVariants.{BadPointer, ModuleBadHeader, ModuleNotFound, InstanceTableFull}
+use Rattle.profile.specs.declared.error.ErrorNumber.TheVariants.{BadPointer, ModuleBadHeader, InstanceTableFull}
 use Rattle.address_map.specs.Bytes.{bytes_between}
 use Rattle.module_header.specs.Header.{header_of}
 use Rattle.module_header.specs.declared.fault.HeaderFault.{HeaderFault}
 use Rattle.module_header.specs.declared.header.Header.{Header}
 use Rattle.rma.specs.Calls.{with_store}
+use Rattle.rma.specs.Copies.{may_be_copied}
 use Rattle.rma.specs.NewImages.{image_copied, image_made, may_be_in_place, with_image_in_place}
-use Rattle.instances_plans.specs.declared.given.Given.{Given}
 use Rattle.instances_plans.specs.Calls.{instantiate_plan, load_plan}
 use Rattle.instances_plans.specs.Plans.{Plan}
 use Rattle.instances_table.specs.declared.parts.Image.{Image}
-use Rattle.instances_table.specs.declared.parts.NewInstance.{NewInstance}
 use Rattle.instances_table.specs.Modules.{Module, slots_of}
 use Rattle.instances_table.specs.Changes.{free_slot_for, instance_room, titled}
 use Rattle.instances_table.specs.Lookup.{module_at}
 use Rattle.instances_ground.specs.World.{World}
-use Rattle.instances.specs.Plans.{given_only, no_header}
+use Rattle.instances.specs.Given.{given_instance, given_module}
 
 -- Reason 14: a new instance of a module that is there, with its name, and a text
-abbrev pub given_instance : Module → NewInstance → List ℕ → Given
-given_instance m new text = record (given_only text 0) { header = record no_header { title = m.header.title }; name = new.name }
-
 unfoldable pub instantiation : List Module → List ℕ → List ℕ → Result Plan ErrorNumber
 instantiation modules full text =
     bind (instance_room modules full) (λ new.
     bind (module_at modules new.number) (λ m.
-    Ok (instantiate_plan (given_instance m new text) new.slot)))
+    Ok (instantiate_plan (given_instance m.header.title new text) new.slot)))
 
 -- the header of an image, which has to be a good one
 abbrev pub good_header : Result Header HeaderFault → Result Header ErrorNumber
@@ -40,17 +36,6 @@ good_header (Err fault) = Err ModuleBadHeader
 -- A new module takes the slots of an older one of its title as free ones, since the instances of that go first.
 abbrev pub slot_for : List Module → Header → Result ℕ ErrorNumber
 slot_for modules header = ok_or (free_slot_for header.title.items modules) InstanceTableFull
-
-abbrev pub given_module : Header → Image → List ℕ → Given
-given_module header image text = record {
-  header = header;
-  image = image.at;
-  len = image.len;
-  in_rma = image.in_rma;
-  name = record { items = [] };
-  text = record { items = text };
-  return_address = 0;
-}
 
 abbrev pub adding_plan : List Module → Header → Image → List ℕ → ℕ → Plan
 adding_plan modules header image text slot = load_plan (given_module header image text) (slots_of (titled header.title.items modules)) slot
@@ -72,3 +57,13 @@ inserting w at len =
     bind (slot_for w.modules header) (λ slot.
     let placed : Image = record { at = at; len = len; in_rma = false } in
     Ok (record w { estate = with_store w.estate (with_image_in_place w.estate.store at len) }, adding_plan w.modules header placed [] slot)))
+
+-- Reason 11: of an image that stands in memory the module area gets a copy.
+unfoldable pub copying : World → ℕ → ℕ → Result (World × Plan) ErrorNumber
+copying w at len =
+    if not (may_be_copied w.estate at len) then Err BadPointer else
+    bind (good_header (header_of (bytes_between w.estate.store.bytes.at at len))) (λ header.
+    bind (slot_for w.modules header) (λ slot.
+    bind (image_copied w.estate at len) (λ made.
+    let placed : Image = record { at = made.1; len = len; in_rma = true } in
+    Ok (record w { estate = made.0 }, adding_plan w.modules header placed [] slot))))

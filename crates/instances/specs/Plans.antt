@@ -1,28 +1,12 @@
--- The plans of the calls on instances that are there (RISC OS 3 Programmer's Reference Manual, "OS_Module", reasons 3, 4, 8 and 9). What a call isn't
--- given is 0, or empty.
-use Rattle.std.specs.Prelude.{ℕ, false, List, [], Result, Ok}
+-- The plans of the calls on instances that are there (RISC OS 3 Programmer's Reference Manual, "OS_Module", reasons 3, 4, 8 and 9).
+use Rattle.std.specs.Prelude.{ℕ, List, [], Result, Ok}
 use Rattle.profile.specs.Outcome.{bind}
 use Rattle.profile.specs.declared.error.ErrorNumber.{ErrorNumber}
-use Rattle.module_header.specs.declared.header.Header.{Header}
-use Rattle.instances_plans.specs.declared.given.Given.{Given}
 use Rattle.instances_plans.specs.Calls.{delete_plan, clear_plan, reinit_plan, tidy_plan}
 use Rattle.instances_plans.specs.Plans.{Plan}
 use Rattle.instances_table.specs.Modules.{Module, slots_of}
 use Rattle.instances_table.specs.Lookup.{looked_up, slot_at}
-
-abbrev pub no_header : Header
-no_header = record { title = record { items = [] }; start = 0; initialise = 0; finalise = 0; chunk = 0; handler = 0 }
-
-abbrev pub given_only : List ℕ → ℕ → Given
-given_only text return = record {
-  header = no_header;
-  image = 0;
-  len = 0;
-  in_rma = false;
-  name = record { items = [] };
-  text = record { items = text };
-  return_address = return;
-}
+use Rattle.instances.specs.Given.{given_only}
 
 -- the instance that a name means goes
 unfoldable pub deletion : List Module → List ℕ → Result Plan ErrorNumber

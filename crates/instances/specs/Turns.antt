@@ -1,8 +1,8 @@
 -- A call that is under way on the world: its plan finds what its actions ask for, and module code runs only where an action has some (this project's
 -- own).
-use Rattle.std.specs.Prelude.{ℕ, ◌≡◌, ◌≢◌, Bool, true, false, Option, Some, None, List}
+use Rattle.std.specs.Prelude.{◌≡◌, Bool, true, false, Option, Some, None, []}
 use Rattle.instances_plans.specs.declared.action.Action.{Action}
-use Rattle.instances_plans.specs.declared.action.Action.TheVariants.{Finalise, Initialise, Slide}
+use Rattle.instances_plans.specs.declared.action.Action.TheVariants.{Finalise, Initialise}
 use Rattle.instances_plans.specs.Carrying.{Doing}
 use Rattle.instances_plans.specs.Plans.{Plan, first_of}
 use Rattle.instances_ground.specs.Sound.{IsWorld}
@@ -26,3 +26,8 @@ pub record IsUnderWay (w : World) (p : Plan) : Type 0 where
   pub world : IsWorld w (pending_of p)
   pub ready : IsReady w.modules p
   pub code : p.runs ≡ true → calls_module (first_of p.actions) ≡ true
+
+-- A world between module calls, or one whose call is under way while module code runs.
+abbrev pub MayGoOn : World → Option Plan → Type 0
+MayGoOn w None = IsWorld w []
+MayGoOn w (Some p) = (p.runs ≡ true) × IsUnderWay w p

@@ -10,13 +10,13 @@ ghost use Rattle.instances_actions.specs.Ready.{IsReady};
 ghost use Rattle.instances_table.specs.Changes.{is_held, titled_otherwise};
 ghost use Rattle.instances_ground.specs.Sound.{IsWorld};
 ghost use Rattle.instances_ground.specs.World.{world_of};
-ghost use Rattle.instances.specs.Adding.{adding_plan, given_module, good_header, loading, slot_for};
+ghost use Rattle.instances.specs.Adding.{adding_plan, good_header, loading, slot_for};
 
+use crate::given::given_module;
 use crate::instances::Instances;
 use address_map::AddressMap;
-use arrayvec::ArrayVec;
 use dynamic_areas::Areas;
-use instances_plans::{Given, Plan};
+use instances_plans::Plan;
 use instances_table::Image;
 use module_header::{Header, HeaderFault};
 use profile::ErrorNumber;
@@ -85,24 +85,6 @@ impl Instances {
     {
         let old = self.table.slots_of_title(header.title.as_slice());
         Plan::load(given_module(header, image, text), old.as_slice(), slot)
-    }
-}
-
-/// What the actions of the call need.
-fn given_module(header: Header, image: Image, text: &[u8]) -> Given
-    requires { length text.now ≤ 255 }
-    ensures { result ≡ given_module header image text.now }
-{
-    let mut kept = ArrayVec::new();
-    kept.try_extend_from_slice(text).unwrap();
-    Given {
-        header,
-        image: image.at,
-        len: image.len,
-        in_rma: image.in_rma,
-        name: ArrayVec::new(),
-        text: kept,
-        return_address: 0,
     }
 }
 

@@ -1,10 +1,13 @@
-ghost use Rattle.std.specs.Prelude.{◌≡◌, ◌<◌, [], option_map, slice_get, IfSome};
+ghost use Rattle.std.specs.Prelude.{◌≡◌, ◌<◌, [], Option, option_map, slice_get, IfSome};
 ghost use Rattle.profile.specs.Outcome.{Leaves};
 ghost use Rattle.address_map.specs.Bytes.{AreMapped};
 ghost use Rattle.address_map.specs.Memory.{byte_at, is_mapped};
+ghost use Rattle.dynamic_areas.specs.Ground.{Estate};
+ghost use Rattle.instances_plans.specs.Plans.{Plan};
 ghost use Rattle.instances_table.specs.Lookup.{told_of_module, told_of_place};
 ghost use Rattle.instances_table.specs.Changes.{preferring, renamed};
 ghost use Rattle.instances.specs.Reading.{found, told};
+ghost use Rattle.instances.specs.Turns.{MayGoOn};
 
 use crate::answers::{Found, Told};
 use address_map::AddressMap;
@@ -107,7 +110,7 @@ impl Instances {
         })
     }
 
-    /// Gives an instance, `Title%Name`, another name.
+    /// Gives an instance, `Title%Name`, another name. A call that is under way meanwhile goes on.
     ///
     /// # Errors
     ///
@@ -116,12 +119,14 @@ impl Instances {
     ///
     /// RISC OS 3 Programmer's Reference Manual, "OS_Module", reason 15.
     pub fn rename(&mut self, full: &[u8], new: &[u8]) -> Result<(), ErrorNumber>
-        ensures { Leaves self.old (renamed self.old full.now new.now) result self.new }
+        ensures value { Leaves self.old (renamed self.old full.now new.now) result self.new }
+        ensures going { (e : Estate) (plan : Option Plan) → MayGoOn (record { estate = e; modules = self.old }) plan
+            → MayGoOn (record { estate = e; modules = self.new }) plan }
     {
         self.table.rename(full, new)
     }
 
-    /// Makes an instance, `Title%Name`, the preferred one of its module.
+    /// Makes an instance, `Title%Name`, the preferred one of its module. A call that is under way meanwhile goes on.
     ///
     /// # Errors
     ///
@@ -129,7 +134,9 @@ impl Instances {
     ///
     /// RISC OS 3 Programmer's Reference Manual, "OS_Module", reason 16.
     pub fn prefer(&mut self, full: &[u8]) -> Result<(), ErrorNumber>
-        ensures { Leaves self.old (preferring self.old full.now) result self.new }
+        ensures value { Leaves self.old (preferring self.old full.now) result self.new }
+        ensures going { (e : Estate) (plan : Option Plan) → MayGoOn (record { estate = e; modules = self.old }) plan
+            → MayGoOn (record { estate = e; modules = self.new }) plan }
     {
         self.table.prefer(full)
     }

@@ -2,13 +2,11 @@
 ghost use Rattle.std.specs.Prelude.{◌≡◌, ◌≤◌, [], false, IfOk, length};
 ghost use Rattle.instances_actions.specs.Pending.{pending_of};
 ghost use Rattle.instances_actions.specs.Ready.{IsReady};
-ghost use Rattle.instances.specs.Adding.{given_instance, instantiation};
-ghost use Rattle.instances.specs.Plans.{given_only, no_header};
+ghost use Rattle.instances.specs.Adding.{instantiation};
 
+use crate::given::given_instance;
 use crate::instances::Instances;
-use crate::plans::given_only;
-use instances_plans::{Given, Plan};
-use instances_table::{ModuleInfo, NewInstance};
+use instances_plans::Plan;
 use profile::ErrorNumber;
 
 impl Instances {
@@ -36,15 +34,4 @@ impl Instances {
         let slot = new.slot;
         Ok(Plan::instantiate(given_instance(info, new, text), slot))
     }
-}
-
-/// What the actions of the call need: the module's title, the new name, and the text.
-fn given_instance(info: ModuleInfo, new: NewInstance, text: &[u8]) -> Given
-    requires { length text.now ≤ 255 }
-    ensures { result ≡ (let g = given_only text.now 0 in record g { header = record no_header { title = info.title }; name = new.name }) }
-{
-    let mut given = given_only(text, 0);
-    given.header.title = info.title;
-    given.name = new.name;
-    given
 }

@@ -4,6 +4,8 @@
 pub mod adding;
 pub mod advance;
 pub mod answers;
+pub mod copying;
+mod given;
 pub mod in_place;
 pub mod instances;
 pub mod instantiating;

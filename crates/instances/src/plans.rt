@@ -2,12 +2,11 @@
 ghost use Rattle.std.specs.Prelude.{◌≡◌, ◌≤◌, [], false, length, IfOk};
 ghost use Rattle.instances_actions.specs.Pending.{pending_of};
 ghost use Rattle.instances_actions.specs.Ready.{IsReady};
-ghost use Rattle.instances.specs.Plans.{clearing, deletion, given_only, no_header, reinitialisation, tidying};
+ghost use Rattle.instances.specs.Plans.{clearing, deletion, reinitialisation, tidying};
 
+use crate::given::given_only;
 use crate::instances::Instances;
-use arrayvec::ArrayVec;
-use instances_plans::{Given, Plan};
-use module_header::Header;
+use instances_plans::Plan;
 use profile::ErrorNumber;
 
 impl Instances {
@@ -82,37 +81,5 @@ impl Instances {
     {
         let slots = self.table.slots();
         Plan::tidy(given_only(&[], return_address), slots.as_slice())
-    }
-}
-
-/// What a call is given that names an instance: a text, or a return address.
-pub(crate) fn given_only(text: &[u8], return_address: u32) -> Given
-    requires { length text.now ≤ 255 }
-    ensures { result ≡ given_only text.now return_address }
-{
-    let mut kept = ArrayVec::new();
-    kept.try_extend_from_slice(text).unwrap();
-    Given {
-        header: no_header(),
-        image: 0,
-        len: 0,
-        in_rma: false,
-        name: ArrayVec::new(),
-        text: kept,
-        return_address,
-    }
-}
-
-/// The header of no module.
-fn no_header() -> Header
-    ensures { result ≡ no_header }
-{
-    Header {
-        title: ArrayVec::new(),
-        start: 0,
-        initialise: 0,
-        finalise: 0,
-        chunk: 0,
-        handler: 0,
     }
 }

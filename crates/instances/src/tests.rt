@@ -96,3 +96,23 @@ fn plans_begin_with_a_finalisation(rt: HostRuntime) -> Result<(), Fail> {
     );
     Ok(())
 }
+
+#[test]
+fn an_instance_needs_a_free_slot(rt: HostRuntime) -> Result<(), Fail> {
+    let mut instances = two_instances()?;
+    let plan = instances.instantiate(b"W%C", b"text")?;
+    assert_eq!(rt; plan.next(), Some(Action::Instantiate(2)));
+    for number in 0..62 {
+        let name = [b'W', b'%', b'0' + number / 8, b'0' + number % 8];
+        instances.table.instantiate(&name)?;
+    }
+    assert_eq!(rt;
+        instances.instantiate(b"W%C", b"").err(),
+        Some(ErrorNumber::InstanceTableFull)
+    );
+    assert_eq!(rt;
+        instances.instantiate(b"W%b", b"").err(),
+        Some(ErrorNumber::InstanceExists)
+    );
+    Ok(())
+}

@@ -1,34 +1,17 @@
 -- The world of a machine at its start, which has no module.
-use Rattle.std.proofs.Common.{◌≡◌, ℕ, ◌*◌, ◌++◌, [], ◌∷◌, List, refl, ap, ◌∙◌, arith, inl, Result, Ok, Err}
+use Rattle.std.proofs.Common.{◌≡◌, [], ◌∷◌, refl, ap, arith, inl, Result, Ok, Err}
 use Rattle.std.proofs.lemmas.Bool.{false≢true}
-use Rattle.std.specs.Prelude.{is_some, IfOk}
+use Rattle.std.specs.Prelude.{IfOk}
 use Rattle.profile.specs.Sizes.{Sizes}
 use Rattle.address_map.specs.declared.map.AddressMap.{AddressMap}
-use Rattle.address_map.specs.declared.region.Kind.TheVariants.{Rma}
-use Rattle.address_map.specs.declared.region.Region.{Region}
-use Rattle.address_map.specs.Memory.{byte_at, bytes_of, class_of, mapping, regions, free_pages}
-use Rattle.os_heap.specs.Calls.{begun_with}
-use Rattle.os_heap.specs.Store.{Store, others_in, store_of}
-use Rattle.os_heap.proofs.Recorded.{store_recorded}
+use Rattle.address_map.specs.Memory.{free_pages}
+use Rattle.os_heap.specs.Store.{Store, store_of}
 use Rattle.dynamic_areas.specs.Ground.{IsEstate, system_pages, AreAreas}
 use Rattle.instances_ground.specs.Sound.{IsWorld, HasSystemPages}
 use Rattle.instances_ground.specs.World.{World, world_of}
 use Rattle.dynamic_areas.specs.Areas.{start_land}
 use Rattle.dynamic_areas.specs.Start.{start_store}
 use Rattle.instances_ground.proofs.Writes.{has_system}
-
-no_others : (m : AddressMap) → regions m ≡ [] → (store_of m).others ≡ []
-unfolding store_of
-no_others m none = ap others_in none
-
-pub start_others : (m n o : AddressMap) (s : Sizes) → regions m ≡ [] → store_of n ≡ begun_with Rma (store_of m) 0x01800000 (4096 * s.rma)
-    → regions o ≡ regions n ++ system_pages ∷ [] → mapping o ≡ mapping n → byte_at o ≡ byte_at n → ((x : ℕ) → class_of o x ≡ class_of n x)
-    → (store_of o).others ≡ system_pages ∷ []
-start_others m n o s none begun records map_o bytes marks =
-    let same : bytes_of o ≡ bytes_of n = λ i. record { mapped = λ a. is_some ((map_o i).place a); at = bytes i } in
-    let store = store_recorded n o system_pages refl records same marks in
-    let before : (store_of n).others ≡ [] = ap (λ (t : Store). t.others) begun ∙ no_others m none in
-    ap (λ (t : Store). t.others) store ∙ ap (λ (rs : List Region). rs ++ system_pages ∷ []) before
 
 pub start_world : (w : World) → IsEstate w.estate → w.estate.store.others ≡ system_pages ∷ [] → w.modules ≡ [] → IsWorld w []
 start_world w estate others modules = record {

@@ -1,3 +1,4 @@
+mod CopyLemmas
 mod Estates
 mod ExtendLemmas
 mod GrowthLemmas

@@ -1,4 +1,5 @@
 pub mod Calls
+pub mod Copies
 pub mod Images
 pub mod Laws
 pub mod NewImages

@@ -45,7 +45,7 @@ pub(crate) fn grow_to(map: &mut AddressMap, areas: &mut Areas, end: u64) -> Resu
 }
 
 /// The size of the module area, in bytes.
-fn area_size(areas: &Areas) -> u32
+pub(crate) fn area_size(areas: &Areas) -> u32
     requires { IsAreaTable areas.now.areas }
     ensures { result ≡ 4096 * pages_had (find_area 1 areas.now.areas) }
 {

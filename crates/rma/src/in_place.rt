@@ -38,7 +38,7 @@ impl Rma {
 }
 
 /// Whether each of the `len` bytes from an address on is mapped.
-fn are_mapped(map: &AddressMap, at: u32, len: u32) -> bool
+pub(crate) fn are_mapped(map: &AddressMap, at: u32, len: u32) -> bool
     ensures { result ≡ are_mapped (store_of map.now).bytes.mapped at len }
 {
     map.maps(at, len)

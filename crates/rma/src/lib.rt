@@ -3,6 +3,7 @@
 
 pub mod area;
 pub mod claim;
+pub mod copies;
 mod errors;
 pub mod extend;
 pub mod free;
@@ -13,6 +14,3 @@ pub mod laws;
 pub mod new_images;
 
 pub use area::Rma;
-
-#[cfg(test)]
-mod tests;

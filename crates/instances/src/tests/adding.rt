@@ -1,20 +1,14 @@
 //! Calls that add a module, on a machine at its start with an image at the start of the application space.
-ghost use Rattle.std.specs.Prelude.{[], ◌≡◌, ◌≤◌, ◌+◌, ◌*◌, ℕ, length, IfOk};
-ghost use Rattle.profile.specs.Sizes.{AreGood};
-ghost use Rattle.address_map.specs.Memory.{class_of, free_pages, is_mapped, regions};
-ghost use Rattle.address_map.specs.declared.class.Class.TheVariants.{Plain};
+ghost use Rattle.std.specs.Prelude.{[], ◌≤◌, length, IfOk};
 ghost use Rattle.os_heap.specs.Store.{AreClasses};
-ghost use Rattle.dynamic_areas.specs.Areas.{start_land};
-ghost use Rattle.dynamic_areas.specs.Ground.{is_land};
 ghost use Rattle.instances_ground.specs.Sound.{IsWorld};
 ghost use Rattle.instances_ground.specs.World.{world_of};
 
 use crate::Instances;
 use address_map::{AddressMap, Kind, Region};
-use dynamic_areas::Areas;
+use dynamic_areas::{Areas, start_memory};
 use instances_plans::{Action, Plan};
-use os_heap::Heaps;
-use profile::memory_map::{APPLICATION_START, PAGE_SIZE, RMA_START, SYSTEM_PAGES, SYSTEM_START};
+use profile::memory_map::APPLICATION_START;
 use profile::{Config, ErrorNumber};
 use std::alloc::{AllocError, Global};
 use std::test::Fail;
@@ -24,24 +18,7 @@ const IMAGE: [u8; 30] = [
     0, 0, 0, 0, 0, 0, 0, 0, 0, 0, 0, 0, 0, 0, 0, 0, 28, 0, 0, 0, 0, 0, 0, 0, 0, 0, 0, 0, b'W', 0,
 ];
 
-/// The memory of a machine at its start, without any record, and with bytes in the application space.
-fn mapped(alloc: Global, config: Config, program: &[u8]) -> Result<AddressMap, AllocError>
-    requires { length program.now ≤ 4096 }
-    ensures mapping { IfOk result (λ m. (x : ℕ) → is_mapped m x ≡ is_land (start_land config) x) }
-    ensures regions { IfOk result (λ m. regions m ≡ []) }
-    ensures marks { IfOk result (λ m. (x : ℕ) → class_of m x ≡ Plain) }
-    ensures pool { IfOk result (λ m. free_pages m + (config.app + config.rma + 3) ≡ config.pages) }
-    ensures sizes { AreGood config }
-{
-    let mut map = AddressMap::new(alloc, config.pages())?;
-    map.map_pages(APPLICATION_START, config.app());
-    map.put_bytes(APPLICATION_START, program);
-    map.map_pages(RMA_START, config.rma());
-    map.map_pages(SYSTEM_START, SYSTEM_PAGES);
-    Ok(map)
-}
-
-/// A machine at its start, without a module: its memory, and its areas.
+/// A machine at its start, without a module: its memory, with bytes in the application space, and its areas.
 pub(super) fn start(
     alloc: Global,
     config: Config,
@@ -51,9 +28,8 @@ pub(super) fn start(
     ensures sound { IfOk result (λ r. IsWorld (world_of r.0 r.1 []) []) }
     ensures classes { IfOk result (λ r. AreClasses r.0) }
 {
-    let mut map = mapped(alloc, config, program)?;
-    Heaps::new().init_module_area(&mut map, RMA_START, PAGE_SIZE * config.rma());
-    map.own(Kind::SystemPage, SYSTEM_START, PAGE_SIZE * SYSTEM_PAGES);
+    let mut map = start_memory(alloc, config)?;
+    map.put_bytes(APPLICATION_START, program);
     Ok((map, Areas::new(config)))
 }
 
@@ -111,6 +87,24 @@ fn inserted(
     Ok((told(answer), images(&map)))
 }
 
+/// The same of a copy.
+fn copied(
+    alloc: Global,
+    at: u32,
+    len: u32,
+) -> Result<
+    (
+        Result<(u32, u32, Option<Action>), ErrorNumber>,
+        Option<(u32, u32)>,
+    ),
+    Fail,
+> {
+    let config = Config::new(16, 1, 1).ok_or("sizes")?;
+    let (mut map, mut areas) = start(alloc, config, &IMAGE)?;
+    let answer = Instances::new().insert_copy(&mut map, &mut areas, at, len);
+    Ok((told(answer), images(&map)))
+}
+
 #[test]
 fn an_image_that_is_loaded_gets_a_block(rt: HostRuntime) -> Result<(), Fail> {
     // 30 bytes and a length word are 34, so the block has 40; its 36 bytes, the padding too, count as the image's.
@@ -127,6 +121,13 @@ fn an_image_that_is_loaded_gets_a_block(rt: HostRuntime) -> Result<(), Fail> {
     assert_eq!(rt;
         loaded(rt.alloc(), 16, &[])?,
         (Err(ErrorNumber::ModuleBadHeader), None)
+    );
+    // With five pages none is in the pool, and the module area's one has no room for as many bytes.
+    let mut long = [0; 4096];
+    long[..30].copy_from_slice(&IMAGE);
+    assert_eq!(rt;
+        loaded(rt.alloc(), 5, &long)?,
+        (Err(ErrorNumber::RmaNoRoom), None)
     );
     Ok(())
 }
@@ -154,6 +155,33 @@ fn an_image_stays_in_place(rt: HostRuntime) -> Result<(), Fail> {
     ] {
         assert_eq!(rt;
             inserted(rt.alloc(), at, len)?,
+            (Err(error), None),
+            "{at} {len}"
+        );
+    }
+    Ok(())
+}
+
+#[test]
+fn an_image_is_copied(rt: HostRuntime) -> Result<(), Fail> {
+    let plan = Ok((0x0180_0014, 30, Some(Action::Insert(0))));
+    assert_eq!(rt;
+        copied(rt.alloc(), 0x8000, 30)?,
+        (plan, Some((0x0180_0014, 36)))
+    );
+    for (at, len, error) in [
+        // Partly unmapped, and of the module area the heap's own words and what is past its base: the pointer is refused before the header.
+        (0x8FFC, 30, ErrorNumber::BadPointer),
+        (0x0180_0000, 30, ErrorNumber::BadPointer),
+        (0x0180_0800, 30, ErrorNumber::BadPointer),
+        (0xFFFF_FFFC, 30, ErrorNumber::BadPointer),
+        // Off a word boundary, in a system page, an empty range in the module area.
+        (0x8002, 30, ErrorNumber::ModuleBadHeader),
+        (0x01C0_0000, 30, ErrorNumber::ModuleBadHeader),
+        (0x0180_0800, 0, ErrorNumber::ModuleBadHeader),
+    ] {
+        assert_eq!(rt;
+            copied(rt.alloc(), at, len)?,
             (Err(error), None),
             "{at} {len}"
         );

@@ -1,5 +1,4 @@
-use Rattle.std.proofs.Common.{◌≡◌, Some, None, List, sym, ap, subst, ◌∙◌}
-use Rattle.instances_plans.specs.Plans.{first_of}
+use Rattle.std.proofs.Common.{List, sym, ap, subst, ◌∙◌}
 use Rattle.instances_table.specs.Modules.{AreModules, Module}
 use Rattle.instances_ground.specs.World.{world_of}
 use Rattle.instances_actions.specs.Codes.{code_among}

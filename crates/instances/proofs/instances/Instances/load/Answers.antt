@@ -1,4 +1,4 @@
-use Rattle.std.proofs.Common.{◌≡◌, [], length, refl, arith}
+use Rattle.std.proofs.Common.{[], length, refl, arith}
 use Rattle.instances_ground.specs.World.{world_of}
 use Rattle.instances_ground.proofs.Worlds.{few_records}
 use Rattle.instances.proofs.AddingLemmas.{world_with_block}

@@ -1,0 +1,183 @@
+-- A call goes on over changes of the modules that leave all titles, images and slots, and over changes of memory that leave the records.
+use Rattle.std.proofs.Common.{◌≡◌, ◌==◌, ℕ, Bool, true, false, Some, None, Ok, Err, List, [], ◌∷◌, ◌++◌, map, refl, sym, ap, subst, ◌∙◌, inl, inr, zero, suc}
+use Rattle.std.specs.Prelude.{IfOk, Option, Result, if◌then◌else◌, slice_get}
+use Rattle.std.specs.Str.{str_eq_ignore_ascii_case}
+use Rattle.std.proofs.lemmas.Bool.{cases_Bool, false≢true}
+use Rattle.profile.specs.Outcome.{Leaves, bind}
+use Rattle.profile.specs.declared.error.ErrorNumber.{ErrorNumber}
+use Rattle.profile.specs.declared.error.ErrorNumber.TheVariants.{InstanceExists}
+use Rattle.module_header.specs.declared.header.Header.{Header}
+use Rattle.dynamic_areas.specs.Ground.{Estate, IsEstate}
+use Rattle.instances_plans.specs.declared.action.Action.{Action}
+use Rattle.instances_plans.specs.declared.action.Action.TheVariants.{Finalise, Remove, FreePrivate, Insert, Instantiate, GiveUp, Slide, Initialise}
+use Rattle.instances_plans.specs.declared.given.Given.{Given}
+use Rattle.instances_plans.specs.Doable.{IsDoable}
+use Rattle.instances_plans.specs.Plans.{Plan, first_of}
+use Rattle.instances_table.specs.declared.parts.Image.{Image}
+use Rattle.instances_table.specs.Changes.{is_named, named, preferring, renamed, with_name, with_names, with_preferred}
+use Rattle.instances_table.specs.Lookup.{place_meant, slot_at}
+use Rattle.instances_table.specs.Modules.{Instance, Module, changed_at, slots_of}
+use Rattle.instances_table.specs.Names.{name_given, new_name, parted}
+use Rattle.instances_ground.specs.Sound.{IsWorld, images_of}
+use Rattle.instances_ground.specs.World.{World}
+use Rattle.instances_ground.proofs.Worlds.{world_kept, world_renewed}
+use Rattle.instances_actions.specs.Pending.{IsSettledOnce, pending_of, slots_titled}
+use Rattle.instances_actions.specs.Ready.{CanNameFirst, IsReady, instantiates}
+use Rattle.instances_actions.proofs.Slots.{slots_in}
+use Rattle.instances.specs.Turns.{IsUnderWay, MayGoOn, calls_module}
+
+-- a module with another's title, image and slots
+record IsAlike (m n : Module) : Type 0 where
+  pub header : n.header ≡ m.header
+  pub image : n.image ≡ m.image
+  pub slots : slots_in n.instances ≡ slots_in m.instances
+
+-- so are all of a list, one by one
+pub record KeepsSlots (old new : List Module) : Type 0 where
+  pub images : images_of new ≡ images_of old
+  pub slots : slots_of new ≡ slots_of old
+  pub titled : (title : List ℕ) → slots_titled title new ≡ slots_titled title old
+
+alike_all : (ms : List Module) → KeepsSlots ms ms
+alike_all ms = record { images = refl; slots = refl; titled = λ title. refl }
+
+titled_by : (title : List ℕ) (h : Header) (slots rest : List ℕ) → List ℕ
+titled_by title h slots rest = if str_eq_ignore_ascii_case h.title.items title then slots ++ rest else rest
+
+alike_more : (m n : Module) (ms ns : List Module) → IsAlike m n → KeepsSlots ms ns → KeepsSlots (m ∷ ms) (n ∷ ns)
+unfolding titled_by
+alike_more m n ms ns one rest = record {
+  images = ap (λ (i : Image). i.at ∷ images_of ns) one.image ∙ ap (λ (xs : List ℕ). m.image.at ∷ xs) rest.images;
+  slots = ap (λ (xs : List ℕ). xs ++ slots_of ns) one.slots ∙ ap (λ (xs : List ℕ). slots_in m.instances ++ xs) rest.slots;
+  titled = λ title.
+      ap (λ (h : Header). titled_by title h (slots_in n.instances) (slots_titled title ns)) one.header
+      ∙ ap (λ (xs : List ℕ). titled_by title m.header xs (slots_titled title ns)) one.slots
+      ∙ ap (λ (xs : List ℕ). titled_by title m.header (slots_in m.instances) xs) (rest.titled title);
+}
+
+-- after a change of every module, and of one
+map_alike : (change : Module → Module) (ms : List Module) → ((m : Module) → IsAlike m (change m)) → KeepsSlots ms (map change ms)
+map_alike change [] same = alike_all []
+map_alike change (m ∷ ms) same = alike_more m (change m) ms (map change ms) (same m) (map_alike change ms same)
+
+changed_alike : (number : ℕ) (change : Module → Module) (ms : List Module) → ((m : Module) → IsAlike m (change m)) → KeepsSlots ms (changed_at number change ms)
+changed_alike number change [] same = alike_all []
+changed_alike zero change (m ∷ ms) same = alike_more m (change m) ms ms (same m) (alike_all ms)
+changed_alike (suc number) change (m ∷ ms) same =
+    alike_more m m ms (changed_at number change ms) (record { header = refl; image = refl; slots = refl }) (changed_alike number change ms same)
+
+-- another name, and another preferred instance
+slots_named : (slot : ℕ) (name : List ℕ) (is : List Instance) → slots_in (map (with_name slot name) is) ≡ slots_in is
+slots_named slot name [] = refl
+slots_named slot name (i ∷ is) = elim (cases_Bool (i.slot == slot)) [
+  | inl e ↦ rw e (ap (λ (xs : List ℕ). i.slot ∷ xs) (slots_named slot name is))
+  | inr e ↦ rw e (ap (λ (xs : List ℕ). i.slot ∷ xs) (slots_named slot name is))
+]
+
+named_alike : (slot : ℕ) (name : List ℕ) (ms : List Module) → KeepsSlots ms (named slot name ms)
+named_alike slot name ms =
+    map_alike (with_names slot name) ms (λ m. record { header = refl; image = refl; slots = slots_named slot name m.instances })
+
+preferred_alike : (number slot : ℕ) (ms : List Module) → KeepsSlots ms (changed_at number (with_preferred slot) ms)
+preferred_alike number slot ms = changed_alike number (with_preferred slot) ms (λ m. record { header = refl; image = refl; slots = refl })
+
+-- what a call answers that goes on with what it found
+bound : {A B E : Type 0} (P : B → Type 0) (r : Result A E) (next : A → Result B E) → ((a : A) → IfOk (next a) P) → IfOk (bind r next) P
+bound P (Ok a) next each = each a
+bound P (Err e) next each = tt
+
+unless_taken : {A E : Type 0} (P : A → Type 0) (t : Bool) (e : E) (a : A) → P a → IfOk (let r : Result A E = if t then Err e else Ok a in r) P
+unless_taken P true e a is = tt
+unless_taken P false e a is = is
+
+left_alike : {E : Type 0} (old new : List Module) (r : Result (List Module) E) (u : Result (Unit {0}) E) → IfOk r (KeepsSlots old) → Leaves old r u new
+    → KeepsSlots old new
+left_alike old new (Ok s) (Ok u) keeps left = subst (KeepsSlots old) (sym left) keeps
+left_alike old new (Err f) (Err e) keeps left = subst (KeepsSlots old) (sym left.1) (alike_all old)
+left_alike old new (Ok s) (Err e) keeps left = absurd left
+left_alike old new (Err f) (Ok u) keeps left = absurd left
+
+renamed_alike : (ms : List Module) (full new : List ℕ) → IfOk (renamed ms full new) (KeepsSlots ms)
+unfolding renamed
+renamed_alike ms full new =
+    bound (KeepsSlots ms) (name_given (parted full).name) _ (λ old.
+    bound (KeepsSlots ms) (new_name new) _ (λ name.
+    bound (KeepsSlots ms) (place_meant (parted full) ms) _ (λ place.
+    bound (KeepsSlots ms) (slot_at ms place) _ (λ slot.
+    unless_taken (KeepsSlots ms) (is_named name (slice_get ms place.number)) InstanceExists (named slot name ms) (named_alike slot name ms)))))
+
+preferring_alike : (ms : List Module) (full : List ℕ) → IfOk (preferring ms full) (KeepsSlots ms)
+unfolding preferring
+preferring_alike ms full =
+    bound (KeepsSlots ms) (name_given (parted full).name) _ (λ name.
+    bound (KeepsSlots ms) (place_meant (parted full) ms) _ (λ place.
+    bound (KeepsSlots ms) (slot_at ms place) _ (λ slot.
+    preferred_alike place.number slot ms)))
+
+-- While module code runs the first action has it, so that no instantiation is left whose name the modules must leave free.
+names_none : (a : Action) → calls_module (Some a) ≡ true → instantiates a ≡ false
+names_none (Finalise s f) calls = refl
+names_none (Remove s) calls = refl
+names_none (FreePrivate s) calls = refl
+names_none (Insert s) calls = refl
+names_none (Instantiate s) calls = absurd (false≢true calls)
+names_none GiveUp calls = refl
+names_none Slide calls = refl
+names_none (Initialise s) calls = refl
+
+names_kept : (g : Given) (old new : List Module) (actions : List Action) → calls_module (first_of actions) ≡ true → CanNameFirst g old actions
+    → CanNameFirst g new actions
+names_kept g old new [] calls names = tt
+names_kept g old new (a ∷ others) calls names = (names.0, λ is. absurd (false≢true (sym (names_none a calls) ∙ is)))
+
+ready_kept : (old new : List Module) (p : Plan) → KeepsSlots old new → calls_module (first_of p.actions) ≡ true → IsReady old p → IsReady new p
+ready_kept old new p keeps calls ready = record {
+  doable = subst (λ (xs : List ℕ). IsDoable xs p) (sym keeps.slots) ready.doable;
+  settles = subst (λ (xs : List ℕ). IsSettledOnce xs p) (sym (keeps.titled p.given.header.title.items)) ready.settles;
+  names = names_kept p.given old new p.actions calls ready.names;
+  instead = ready.instead;
+}
+
+world_alike : (v w : World) (pending : List ℕ) → w.estate ≡ v.estate → KeepsSlots v.modules w.modules → IsWorld v pending → IsWorld w pending
+world_alike v w pending same keeps world =
+    world_renewed v w pending pending world (ap (λ (xs : List ℕ). xs ++ pending) keeps.images) (ap (λ (e : Estate). e.store.others) same)
+    (subst IsEstate (sym same) world.estate)
+
+going_alike : (v w : World) (plan : Option Plan) → w.estate ≡ v.estate → KeepsSlots v.modules w.modules → MayGoOn v plan → MayGoOn w plan
+going_alike v w None same keeps world = world_alike v w [] same keeps world
+going_alike v w (Some p) same keeps going = (
+  going.0,
+  record {
+    world = world_alike v w (pending_of p) same keeps going.1.world;
+    ready = ready_kept v.modules w.modules p keeps (going.1.code going.0) going.1.ready;
+    code = going.1.code;
+  },
+)
+
+-- a call on the modules that leaves each title, image and slot
+goes_on_alike : (old new : List Module) → KeepsSlots old new → (e : Estate) (plan : Option Plan) → MayGoOn (record { estate = e; modules = old }) plan
+    → MayGoOn (record { estate = e; modules = new }) plan
+goes_on_alike old new keeps e plan going =
+    going_alike (record { estate = e; modules = old }) (record { estate = e; modules = new }) plan refl keeps going
+
+pub rename_goes_on : (old new : List Module) (full name : List ℕ) (r : Result (Unit {0}) ErrorNumber) → Leaves old (renamed old full name) r new
+    → (e : Estate) (plan : Option Plan) → MayGoOn (record { estate = e; modules = old }) plan → MayGoOn (record { estate = e; modules = new }) plan
+rename_goes_on old new full name r left = goes_on_alike old new (left_alike old new (renamed old full name) r (renamed_alike old full name) left)
+
+pub prefer_goes_on : (old new : List Module) (full : List ℕ) (r : Result (Unit {0}) ErrorNumber) → Leaves old (preferring old full) r new
+    → (e : Estate) (plan : Option Plan) → MayGoOn (record { estate = e; modules = old }) plan → MayGoOn (record { estate = e; modules = new }) plan
+prefer_goes_on old new full r left = goes_on_alike old new (left_alike old new (preferring old full) r (preferring_alike old full) left)
+
+-- a call on memory that leaves the records and the modules
+under_way_kept : (w v : World) (p : Plan) → IsEstate v.estate → v.estate.store.others ≡ w.estate.store.others → v.modules ≡ w.modules → IsUnderWay w p
+    → IsUnderWay v p
+under_way_kept w v p estate others modules going = record {
+  world = world_kept w v (pending_of p) going.world modules others estate;
+  ready = subst (λ (ms : List Module). IsReady ms p) (sym modules) going.ready;
+  code = going.code;
+}
+
+pub may_go_on_kept : (w v : World) (plan : Option Plan) → IsEstate v.estate → v.estate.store.others ≡ w.estate.store.others → v.modules ≡ w.modules
+    → MayGoOn w plan → MayGoOn v plan
+may_go_on_kept w v None estate others modules world = world_kept w v [] world modules others estate
+may_go_on_kept w v (Some p) estate others modules going = (going.0, under_way_kept w v p estate others modules going.1)

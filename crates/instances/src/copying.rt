@@ -1,0 +1,61 @@
+//! The call that adds a module whose image is a copy of bytes in memory.
+ghost use Rattle.std.specs.Prelude.{◌≡◌, [], false, IfOk};
+ghost use Rattle.profile.specs.Outcome.{Gives};
+ghost use Rattle.os_heap.specs.Store.{AreClasses};
+ghost use Rattle.instances_actions.specs.Pending.{pending_of};
+ghost use Rattle.instances_actions.specs.Ready.{IsReady};
+ghost use Rattle.instances_ground.specs.Sound.{IsWorld};
+ghost use Rattle.instances_ground.specs.World.{world_of};
+ghost use Rattle.instances.specs.Adding.{copying};
+
+use crate::adding::header_at;
+use crate::instances::Instances;
+use address_map::AddressMap;
+use dynamic_areas::Areas;
+use instances_plans::Plan;
+use instances_table::Image;
+use profile::ErrorNumber;
+use rma::Rma;
+
+impl Instances {
+    /// Inserts a module whose image is a copy of the `len` bytes from an address on: it gets a block of the module area at once. All else is as in
+    /// `load`, with an empty text.
+    ///
+    /// # Errors
+    ///
+    /// The first of these, and nothing is changed then: `BadPointer` where not all of the range is mapped, or it has a byte of the module area that no
+    /// live block holds; `ModuleBadHeader` where the image has no good header; `InstanceTableFull` where there are 64 instances, and none of a module of
+    /// the title; `RmaNoRoom` where the module area has no room for the image, and can't grow by as much.
+    ///
+    /// RISC OS 3 Programmer's Reference Manual, "OS_Module", reason 11.
+    #[tactic(auto, unfolding(crate::specs::Adding::copying))]
+    pub fn insert_copy(
+        &self,
+        map: &mut AddressMap,
+        areas: &mut Areas,
+        at: u32,
+        len: u32,
+    ) -> Result<Plan, ErrorNumber>
+        requires sound { IsWorld (world_of map.old areas.old self.now) [] }
+        requires classes { AreClasses map.old }
+        ensures world { Gives (world_of map.old areas.old self.now) (copying (world_of map.old areas.old self.now) at len) result (world_of map.new areas.new self.now) }
+        ensures sound { IfOk result (λ plan. IsWorld (world_of map.new areas.new self.now) (pending_of plan)) }
+        ensures classes { AreClasses map.new }
+        ensures ready { IfOk result (λ plan. IsReady self.now plan) }
+        ensures rests { IfOk result (λ plan. plan.runs ≡ false) }
+    {
+        let rma = Rma::new();
+        if !rma.may_be_copied(map, areas, at, len) {
+            return Err(ErrorNumber::BadPointer);
+        }
+        let header = header_at(map, at, len)?;
+        let slot = self.slot_for(&header)?;
+        let copy = rma.copy_image(map, areas, at, len)?;
+        let placed = Image {
+            at: copy,
+            len,
+            in_rma: true,
+        };
+        Ok(self.adding_plan(header, placed, &[], slot))
+    }
+}
