@@ -5,7 +5,8 @@ use Rattle.swi_dispatch.specs.declared.refusal.Refusal.{Refusal}
 use Rattle.swi_dispatch.specs.MachineState.{MachineState, Outcome, quiet}
 use Rattle.swi_dispatch.specs.Answers.{Answer}
 use Rattle.swi_dispatch.specs.Parts.{Answers, IsInStep, Parts, outcome_of, state_of}
-use Rattle.swi_dispatch.specs.Step.{gone_back, error_answered, erred, ended_by, ended}
+use Rattle.swi_dispatch.specs.Step.{ended_by, ended}
+use Rattle.swi_dispatch.specs.Returns.{gone_back, error_answered, erred}
 
 pub ended_done : (s : MachineState) (a : Answer) (x : Bool) (next to : ℕ) (caller : Psr) (o end : Outcome)
     → Answers a next (Ok to) o → caller ≡ s.cpu.psr → end.now ≡ gone_back caller o.now false to → end.printed ≡ o.printed → end ≡ ended s x a

@@ -21,7 +21,8 @@ use Rattle.swi_dispatch.specs.AreaCalls.{area_changed, change_asked, change_left
 use Rattle.swi_dispatch.specs.Calls.{call_answer}
 use Rattle.swi_dispatch.specs.MachineState.{MachineState, Outcome, quiet}
 use Rattle.swi_dispatch.specs.Parts.{Answers, IsWellFormed, Parts, state_of}
-use Rattle.swi_dispatch.specs.Step.{ended, ended_by, halted}
+use Rattle.swi_dispatch.specs.Step.{ended, ended_by}
+use Rattle.swi_dispatch.specs.Returns.{halted}
 use Rattle.swi_dispatch.proofs.ErrorNumbers.{block_read}
 
 -- where no area has the number

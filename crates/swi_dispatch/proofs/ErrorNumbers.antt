@@ -13,7 +13,7 @@ use Rattle.dynamic_areas.proofs.HeapCalls.{system_mapped}
 use Rattle.swi_dispatch.specs.declared.refusal.Refusal.TheVariants as refusal
 use Rattle.swi_dispatch.specs.MachineState.{MachineState}
 use Rattle.swi_dispatch.specs.Errors.{error_at, error_number, error_block, with_error}
-use Rattle.swi_dispatch.specs.Step.{returned, return_word, gone_back}
+use Rattle.swi_dispatch.specs.Returns.{returned, return_word, gone_back}
 use Rattle.swi_dispatch.specs.Parts.{Parts, IsWellFormed, state_of}
 
 -- R0 is the same register in all modes

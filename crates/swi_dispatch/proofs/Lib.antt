@@ -1,6 +1,8 @@
 pub mod Answering
 pub mod AreaAnswers
+pub mod Beginning
 pub mod ErrorNumbers
+pub mod GateLemmas
 pub mod Kept
 pub mod Quiet
 pub mod RunLoop
@@ -8,4 +10,5 @@ pub mod Runs
 pub mod Starting
 pub mod StringLemmas
 pub mod SystemRoom
+pub mod TitleLemmas
 pub mod Turning

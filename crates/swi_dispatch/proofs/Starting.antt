@@ -4,7 +4,10 @@ use Rattle.profile.specs.Sizes.{Sizes}
 use Rattle.address_map.specs.declared.map.AddressMap.{AddressMap}
 use Rattle.address_map.specs.Memory.{free_pages}
 use Rattle.arm_step.specs.State.{start_state}
-use Rattle.os_heap.specs.Store.{store_of}
+use Rattle.instances_ground.specs.Sound.{IsWorld}
+use Rattle.instances_ground.specs.World.{world_of}
+use Rattle.instances_ground.proofs.Starting.{start_world}
+use Rattle.os_heap.specs.Store.{Store, store_of}
 use Rattle.dynamic_areas.specs.Areas.{start_land}
 use Rattle.dynamic_areas.specs.Ground.{AreAreas, IsRecorded, pool_of, system_pages}
 use Rattle.dynamic_areas.proofs.HeapCalls.{pool_is}
@@ -29,3 +32,8 @@ fresh_awake s sizes true (Some h) start e some = let k : s.halt ≡ None = ap (�
 
 pub system_recorded : (m : AddressMap) (s : Sizes) → store_of m ≡ start_store s → IsRecorded system_pages (store_of m).others
 system_recorded m s e = rw e (inl refl)
+
+-- and there are no modules yet
+pub start_modules : (m : AddressMap) (s : Sizes) → store_of m ≡ start_store s → AreAreas (store_of m) (free_pages m) (start_land s)
+    → IsWorld (world_of m (start_land s) []) []
+start_modules m s e areas = start_world (world_of m (start_land s) []) areas (ap (λ (t : Store). t.others) e) refl

@@ -1,3 +1,4 @@
+pub mod Additions
 pub mod Answers
 pub mod AreaCalls
 pub mod Boot
@@ -5,6 +6,8 @@ pub mod Breaks
 pub mod Calls
 pub mod Ending
 pub mod Errors
+pub mod Gates
+pub mod ImagePlans
 pub mod InstanceCalls
 pub mod MachineState
 pub mod ModuleCalls
@@ -12,6 +15,8 @@ pub mod ModulePlans
 pub mod ModuleStart
 pub mod ModuleWords
 pub mod Parts
+pub mod Returns
 pub mod Run
 pub mod Step
 pub mod Strings
+pub mod TitlesInUse

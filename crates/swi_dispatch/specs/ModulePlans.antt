@@ -1,6 +1,6 @@
 -- OS_Module, the reasons that may run module code: what each refuses before anything is done, and the plan that it makes (RISC OS 3 Programmer's
 -- Reference Manual, "OS_Module"; which calls are refused while module code is under way, and the order of the refusals, are this project's own).
-use Rattle.std.specs.Prelude.{ℕ, Bool, true, false, ◌==◌, ◌||◌, nat_lt, List, [], ◌∷◌, length, Result, Ok, Err, if◌then◌else◌}
+use Rattle.std.specs.Prelude.{ℕ, Bool, is_some, ◌==◌, ◌||◌, nat_lt, List, [], ◌∷◌, length, Result, Ok, Err, if◌then◌else◌}
 use Rattle.profile.specs.Outcome.{bind}
 use Rattle.profile.specs.declared.error.ErrorNumber.{ErrorNumber}
 use Rattle.profile.specs.declared.error.ErrorNumber.TheVariants.{FrameLimit, ModuleBusy}
@@ -8,10 +8,9 @@ use Rattle.instances.specs.Plans.{clearing, deletion, reinitialisation, tidying}
 use Rattle.instances.specs.Reading.{slot_meant}
 use Rattle.instances_ground.specs.World.{World}
 use Rattle.instances_plans.specs.Plans.{Plan}
-use Rattle.swi_dispatch_frames.specs.declared.frame.Frame.{Frame}
-use Rattle.swi_dispatch_frames.specs.Busy.{has_entry, has_swi_of}
+use Rattle.swi_dispatch_frames.specs.Busy.{has_swi_of}
 use Rattle.swi_dispatch.specs.InstanceCalls.{string_in, with_modules}
-use Rattle.swi_dispatch.specs.MachineState.{MachineState, machine_estate, with_estate}
+use Rattle.swi_dispatch.specs.MachineState.{MachineState, Tables, machine_estate, with_estate}
 use Rattle.swi_dispatch.specs.ModuleWords.{name_part, text_part}
 
 -- what module calls act on, and the machine after one of their actions
@@ -21,16 +20,20 @@ machine_world s = record { estate = machine_estate s; modules = s.tables.modules
 abbrev pub with_world : MachineState → World → MachineState
 with_world s w = with_modules (with_estate s w.estate) w.modules
 
--- A call that may run module code is refused while an initialisation or a finalisation is under way, or a SWI of an instance that the call finalises;
--- then where no frame more can be opened, whether or not the call would open one.
-unfoldable pub may_finalise : List ℕ → List Frame → Result (Unit {0}) ErrorNumber
-may_finalise slots frames =
-    if has_entry frames || has_swi_of slots frames then Err ModuleBusy else (
-    if length frames == 32 then Err FrameLimit else Ok tt)
+-- A call that may run module code is refused while an initialisation or a finalisation is under way, which is as long as a plan is kept, or where an
+-- instance that it finalises is in use; then where no frame more can be opened, whether or not the call would open one.
+unfoldable pub may_run_code : Bool → Tables → Result (Unit {0}) ErrorNumber
+may_run_code is_in_use t =
+    if is_some t.plan || is_in_use then Err ModuleBusy else (
+    if length t.frames == 32 then Err FrameLimit else Ok tt)
+
+-- An instance is in use while a SWI of it is under way.
+abbrev pub may_finalise : List ℕ → Tables → Result (Unit {0}) ErrorNumber
+may_finalise slots t = may_run_code (has_swi_of slots t.frames) t
 
 -- Some calls are refused while any module code is under way, and so never for the number of frames.
-unfoldable pub may_begin_alone : List Frame → Result (Unit {0}) ErrorNumber
-may_begin_alone frames = if nat_lt 0 (length frames) then Err ModuleBusy else Ok tt
+unfoldable pub may_begin_alone : Tables → Result (Unit {0}) ErrorNumber
+may_begin_alone t = if is_some t.plan || nat_lt 0 (length t.frames) then Err ModuleBusy else Ok tt
 
 -- what a call is to do from here on
 pub record Planned : Type 0 where
@@ -45,7 +48,7 @@ abbrev pub reinit_planned : MachineState → Result Plan ErrorNumber
 reinit_planned s =
     bind (string_in s 1) (λ words.
     bind (slot_meant s.tables.modules (name_part words)) (λ slot.
-    bind (may_finalise (slot ∷ []) s.tables.frames) (λ _.
+    bind (may_finalise (slot ∷ []) s.tables) (λ _.
     reinitialisation s.tables.modules (name_part words) (text_part words))))
 
 -- reason 4, delete: R1 points to a name
@@ -53,12 +56,12 @@ abbrev pub delete_planned : MachineState → Result Plan ErrorNumber
 delete_planned s =
     bind (string_in s 1) (λ name.
     bind (slot_meant s.tables.modules name) (λ slot.
-    bind (may_finalise (slot ∷ []) s.tables.frames) (λ _.
+    bind (may_finalise (slot ∷ []) s.tables) (λ _.
     deletion s.tables.modules name)))
 
 -- reason 8, tidy, and reason 9, clear
 abbrev pub tidy_planned : MachineState → ℕ → Result Plan ErrorNumber
-tidy_planned s next = bind (may_begin_alone s.tables.frames) (λ _. Ok (tidying s.tables.modules next))
+tidy_planned s next = bind (may_begin_alone s.tables) (λ _. Ok (tidying s.tables.modules next))
 
 abbrev pub clear_planned : MachineState → Result Plan ErrorNumber
-clear_planned s = bind (may_begin_alone s.tables.frames) (λ _. Ok (clearing s.tables.modules))
+clear_planned s = bind (may_begin_alone s.tables) (λ _. Ok (clearing s.tables.modules))

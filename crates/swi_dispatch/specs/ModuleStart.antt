@@ -42,5 +42,5 @@ abbrev pub opened_at : MachineState → List ℕ → ℕ → Option ℕ → Mach
 opened_at s text slot None = s
 opened_at s text slot (Some at) = (let t = with_environment s text in record t { cpu = as_user s.cpu at slot })
 
-unfoldable pub module_opened : MachineState → Opening → MachineState
+abbrev pub module_opened : MachineState → Opening → MachineState
 module_opened s o = opened_at s o.text.items o.start.slot o.start.at

@@ -1,6 +1,6 @@
 -- A string of a name and a text: the name ends before the first space, and the text is what follows all spaces there (RISC OS 3 Programmer's Reference
 -- Manual, "OS_Module", reasons 0, 1, 3 and 14).
-use Rattle.std.specs.Prelude.{ℕ, Bool, not, ◌==◌, List, [], take, drop, Option, Some, None}
+use Rattle.std.specs.Prelude.{ℕ, Bool, not, ◌==◌, nat_lt, nat_le, List, [], length, take, drop, Option, Some, None, if◌then◌else◌}
 use Rattle.std.specs.List.{position}
 
 abbrev pub is_space : ℕ → Bool
@@ -26,3 +26,13 @@ name_part words = before_place words (position is_space words)
 
 abbrev pub text_part : List ℕ → List ℕ
 text_part words = without_spaces (from_place words (position is_space words))
+
+-- A string that a host gives ends before its first control byte, and has 255 bytes at most.
+abbrev pub is_control : ℕ → Bool
+is_control byte = nat_lt byte 32
+
+abbrev pub up_to_control : List ℕ → List ℕ
+up_to_control text = before_place text (position is_control text)
+
+abbrev pub host_string : List ℕ → Option (List ℕ)
+host_string text = if nat_le (length (up_to_control text)) 255 then Some (up_to_control text) else None

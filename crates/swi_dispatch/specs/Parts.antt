@@ -1,5 +1,5 @@
 -- The parts of the real machine, and the written machine that they stand for.
-use Rattle.std.specs.Prelude.{◌≡◌, ℕ, Bool, true, false, Option, Some, None, Result, Ok, Err, List, []}
+use Rattle.std.specs.Prelude.{◌≡◌, ◌<◌, length, ℕ, Bool, true, false, Option, Some, None, Result, Ok, Err, List, []}
 use Rattle.profile.specs.Sizes.{Sizes}
 use Rattle.address_map.specs.declared.map.AddressMap.{AddressMap}
 use Rattle.address_map.specs.Memory.{free_pages}
@@ -7,10 +7,15 @@ use Rattle.os_heap.specs.Store.{AreClasses, store_of}
 use Rattle.dynamic_areas.specs.Ground.{AreAreas, IsRecorded, system_pages}
 use Rattle.arm_step.specs.declared.turn.Turn.{Turn}
 use Rattle.arm_step.specs.State.{State}
+use Rattle.instances_plans.specs.Plans.{Plan}
+use Rattle.instances_ground.specs.Sound.{IsWorld}
+use Rattle.instances_ground.specs.World.{World, world_of}
+use Rattle.instances.specs.Turns.{IsUnderWay, MayGoOn}
 use Rattle.swi_dispatch.specs.declared.halt.Halt.{Halt}
 use Rattle.swi_dispatch.specs.declared.refusal.Refusal.{Refusal}
 use Rattle.swi_dispatch.specs.Answers.{Answer}
 use Rattle.swi_dispatch.specs.MachineState.{MachineState, Outcome, Tables, start_of}
+use Rattle.swi_dispatch.specs.ModulePlans.{machine_world}
 use Rattle.swi_dispatch.specs.Step.{Turned, instructed}
 
 pub record Parts : Type 0 where
@@ -34,12 +39,18 @@ abbrev pub Answers : Answer → ℕ → Result ℕ Refusal → Outcome → Type 
 Answers a next (Ok to) o = (o ≡ a.left) × ((to ≡ a.next) × (a.error ≡ None))
 Answers a next (Err e) o = (o ≡ a.left) × ((next ≡ a.next) × (a.error ≡ Some e))
 
+-- what calls on modules act on
+abbrev pub parts_world : Parts → World
+parts_world p = world_of p.map p.tables.land p.tables.modules
+
 -- What holds of every machine, whatever its guest does: the areas stand on its memory, so that memory spells the lists of all heaps; the words that
--- these lists spell are those that are marked; the system pages are recorded; and a machine that can still be booted stands as at the start.
+-- these lists spell are those that are marked; the system pages are recorded; the recorded images are the modules', and the plan that is kept while module
+-- code runs finds all that it asks for; and a machine that can still be booted stands as at the start.
 pub record IsWellFormed (p : Parts) : Type 0 where
   pub areas : AreAreas (store_of p.map) (free_pages p.map) p.tables.land
   pub classes : AreClasses p.map
   pub system : IsRecorded system_pages (store_of p.map).others
+  pub modules : MayGoOn (parts_world p) p.tables.plan
   pub fresh : p.is_fresh ≡ true → state_of p ≡ start_of p.sizes
 
 -- a step is under way, and has printed nothing yet
@@ -61,3 +72,15 @@ pub record OnlyState (old new : Parts) : Type 0 where
 -- the core takes a turn, and the rest of the machine stays
 abbrev pub TakesTurn : MachineState → Turn → MachineState → Type 0
 TakesTurn s t s' = Turned s (instructed s) t s'
+
+-- No call on modules is under way, and a frame more can be opened.
+pub record IsFree (s : MachineState) : Type 0 where
+  pub none : s.tables.plan ≡ None
+  pub room : length s.tables.frames < 32
+  pub world : IsWorld (machine_world s) []
+
+-- A call on modules may begin, and its plan is ready.
+pub record CanBegin (s : MachineState) (p : Plan) : Type 0 where
+  pub going : IsUnderWay (machine_world s) p
+  pub rests : p.runs ≡ false
+  pub free : IsFree s

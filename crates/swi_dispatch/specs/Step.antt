@@ -1,28 +1,24 @@
 -- One step of the machine: an instruction, or a store call. A fault changes nothing but that the machine is halted with it.
-use Rattle.std.specs.Prelude.{◌≡◌, ℕ, Bool, true, false, ◌+◌, ◌-◌, ◌*◌, ◌/◌, ◌%◌, ◌^◌, ◌==◌, Option, Some, None, Result, Ok, Err, List, length, ◌++◌, ◌∷◌, [], if◌then◌else◌}
-use Rattle.profile.specs.declared.fault.Fault.TheVariants.{FetchUnmapped, ErrorStop, StackChanged}
+use Rattle.std.specs.Prelude.{◌≡◌, ℕ, Bool, true, false, ◌+◌, ◌-◌, ◌*◌, ◌/◌, ◌%◌, ◌^◌, ◌==◌, Option, Some, None, ok_or, Result, Ok, Err, List, length, ◌++◌, ◌∷◌, [], if◌then◌else◌}
 use Rattle.profile.specs.declared.error.ErrorNumber.{ErrorNumber}
-use Rattle.profile.specs.declared.error.ErrorNumber.TheVariants.{FrameLimit, SwiUnknown}
+use Rattle.profile.specs.declared.error.ErrorNumber.TheVariants.{BadString, FrameLimit, SwiUnknown}
 use Rattle.profile.specs.declared.swi.SwiName.{SwiName}
 use Rattle.profile.specs.declared.swi.SwiName.TheVariants as swi
 use Rattle.profile.specs.SwiNames.{swi_of}
+use Rattle.profile.specs.Outcome.{bind}
 use Rattle.profile.specs.Word.{bit_of}
 use Rattle.address_map.specs.Bytes.{Bytes}
 use Rattle.arm_step.specs.declared.turn.Turn.{Turn}
 use Rattle.arm_step.specs.declared.turn.Turn.TheVariants as turn
-use Rattle.arm_step.specs.declared.psr.Mode.TheVariants.{Supervisor}
-use Rattle.arm_step.specs.declared.psr.Psr.{Psr}
-use Rattle.arm_step.specs.Psr.{psr_bits}
-use Rattle.arm_step.specs.State.{State, register_in, register_of, with_register_in, with_overflow, with_pc}
+use Rattle.arm_step.specs.State.{State, register_of}
 use Rattle.arm_step.specs.Step.{stepped}
 use Rattle.os_heap.specs.Store.{owned_in}
 use Rattle.image_loader.specs.Entries.{Entry}
-use Rattle.swi_dispatch_frames.specs.declared.frame.Frame.{Frame}
+use Rattle.instances_plans.specs.Plans.{Plan}
 use Rattle.swi_dispatch_frames.specs.declared.call.Call.{Call}
 use Rattle.swi_dispatch_frames.specs.declared.frame.FrameKind.TheVariants.{Swi}
 use Rattle.swi_dispatch_frames.specs.Entering.{swi_entered}
-use Rattle.swi_dispatch_frames.specs.Frames.{closed, frame_of, innermost}
-use Rattle.swi_dispatch_frames.specs.Leaving.{left}
+use Rattle.swi_dispatch_frames.specs.Frames.{frame_of}
 use Rattle.swi_dispatch.specs.declared.halt.Halt.{Halt}
 use Rattle.swi_dispatch.specs.declared.halt.Halt.TheVariants as halt
 use Rattle.instances_table.specs.declared.parts.Handler.{Handler}
@@ -31,13 +27,16 @@ use Rattle.swi_dispatch.specs.declared.refusal.Refusal.{Refusal}
 use Rattle.swi_dispatch.specs.declared.refusal.Refusal.TheVariants as refusal
 use Rattle.swi_dispatch.specs.declared.module_start.Opening.{Opening}
 use Rattle.swi_dispatch.specs.MachineState.{MachineState, Outcome, quiet, with_memory}
+use Rattle.swi_dispatch.specs.ModulePlans.{Planned, clear_planned, delete_planned, plan_alone, reinit_planned, tidy_planned, with_world}
+use Rattle.swi_dispatch.specs.ImagePlans.{instantiation_asked}
 use Rattle.swi_dispatch.specs.ModuleStart.{module_opened, opening_asked}
+use Rattle.swi_dispatch.specs.ModuleWords.{host_string}
+use Rattle.swi_dispatch.specs.declared.module_steps.Next.{Next}
+use Rattle.swi_dispatch.specs.Additions.{copy_planned, insertion_planned, load_planned, named_load_planned}
 use Rattle.swi_dispatch.specs.Answers.{Answer, refused}
 use Rattle.swi_dispatch.specs.Calls.{call_answer}
-use Rattle.swi_dispatch.specs.Errors.{error_number, with_error}
-
-abbrev pub halted : MachineState → Halt → Outcome
-halted s h = quiet (record s { halt = Some h })
+use Rattle.swi_dispatch.specs.Gates.{carried_on, gated, went_to}
+use Rattle.swi_dispatch.specs.Returns.{erred, error_answered, gone_back, halted}
 
 -- An instruction changes memory, and no list.
 abbrev pub moved_on : MachineState → State × Bytes → Outcome
@@ -46,27 +45,6 @@ moved_on s w = quiet (record s { cpu = w.0; store = with_memory s.store w.1 })
 -- The number of a store call without its X bit, which is bit 17 (RISC OS 3 Programmer's Reference Manual, "An introduction to SWIs").
 abbrev pub without_x : ℕ → ℕ
 without_x n = if bit_of n 17 then n - 2 ^ 17 else n
-
--- The return address in the link register of supervisor mode, with the caller's status (the status before the call).
-abbrev pub return_word : Psr → ℕ → ℕ
-return_word caller next = psr_bits caller + next / 4 % 2 ^ 24 * 4
-
--- A call goes back: V says whether it was refused, R14 of supervisor mode is the return address, and the guest goes on there.
-unfoldable pub returned : Psr → State → Bool → ℕ → State
-returned caller cpu overflow next =
-    with_pc (with_register_in Supervisor (with_overflow cpu overflow) 14 (return_word caller next)) next
-
-abbrev pub gone_back : Psr → MachineState → Bool → ℕ → MachineState
-gone_back caller s overflow next = record s { cpu = returned caller s.cpu overflow next }
-
--- what a call leaves that errs, where the error is answered to the guest
-abbrev pub error_answered : Psr → Outcome → ℕ → Refusal → Outcome
-error_answered caller o next e = record o { now = gone_back caller (with_error o.now e) true next }
-
--- With the X bit an error is answered. Without, the step is a fault: nothing of that is done, and the fault has the number that R0 would point to.
-abbrev pub erred : MachineState → Bool → Outcome → Outcome
-erred s true answered = answered
-erred s false answered = halted s (halt.Fault (ErrorStop (error_number answered.now)))
 
 abbrev pub ended_by : MachineState → Bool → Answer → Option Refusal → Outcome
 ended_by s x a None = record a.left { now = gone_back s.cpu.psr a.left.now false a.next }
@@ -87,6 +65,10 @@ handler_entered s call number h = record s {
   tables = record s.tables { frames = s.tables.frames ++ frame_of s.cpu call Swi h.slot ∷ [] };
 }
 
+-- what the end of a call needs to know of its begin; `enters` says whether a module that it loads is entered then
+abbrev pub call_of : MachineState → Bool → ℕ → Bool → Call
+call_of s x next enters = record { is_x = x; caller = s.cpu.psr; next = next; enters = enters }
+
 abbrev pub call_refused : MachineState → Bool → ℕ → ErrorNumber → Outcome
 call_refused s x next e = ended s x (refused s next (refusal.System e))
 
@@ -94,19 +76,42 @@ abbrev pub module_called : MachineState → Bool → ℕ → ℕ → Option Hand
 module_called s x next number None = call_refused s x next SwiUnknown
 module_called s x next number (Some h) =
     if length s.tables.frames == 32 then call_refused s x next FrameLimit else
-    quiet (handler_entered s (record { is_x = x; caller = s.cpu.psr; next = next }) number h)
+    quiet (handler_entered s (call_of s x next false) number h)
 
 -- OS_Module 2: the call goes back, and then the module is entered.
 abbrev pub module_entered : MachineState → Bool → ℕ → Result Opening ErrorNumber → Outcome
 module_entered s x next (Err e) = call_refused s x next e
 module_entered s x next (Ok o) = quiet (module_opened (gone_back s.cpu.psr s false next) o)
 
+-- A call that may run module code begins, if nothing refuses it.
+unfoldable pub begun : MachineState → Bool → ℕ → Bool → Result Planned ErrorNumber → Outcome
+begun s x next enters (Err e) = call_refused s x next e
+begun s x next enters (Ok w) = quiet (carried_on (with_world s w.world) (call_of s x next enters) w.plan)
+
+-- a call that has done something at once, or is refused
+abbrev pub begun_by : MachineState → Call → Result Next ErrorNumber → Outcome
+begun_by s call (Err e) = call_refused s call.is_x call.next e
+begun_by s call (Ok n) = quiet (went_to s call n)
+
+-- with what a call on instances that are there is to do
+abbrev pub begun_alone : MachineState → Bool → ℕ → Result Plan ErrorNumber → Outcome
+begun_alone s x next r = begun s x next false (bind r (λ p. Ok (plan_alone s p)))
+
 -- OS_Module, by its reason in R0
 unfoldable pub os_module_called : List Entry → MachineState → Bool → ℕ → ℕ → Outcome
 os_module_called images s x next number =
     let reason : ℕ = register_of s.cpu 0 in
-    if reason == 2 then module_entered s x next (opening_asked s) else
-    ended s x (call_answer s next number (Some swi.Module))
+    if reason == 0 then begun s x next true (named_load_planned images s true) else (
+    if reason == 1 then begun s x next false (named_load_planned images s false) else (
+    if reason == 2 then module_entered s x next (opening_asked s) else (
+    if reason == 3 then begun_alone s x next (reinit_planned s) else (
+    if reason == 4 then begun_alone s x next (delete_planned s) else (
+    if reason == 8 then begun_alone s x next (tidy_planned s next) else (
+    if reason == 9 then begun_alone s x next (clear_planned s) else (
+    if reason == 10 then begun s x next false (insertion_planned s) else (
+    if reason == 11 then begun s x next false (copy_planned s) else (
+    if reason == 14 then begun_alone s x next (instantiation_asked s) else
+    ended s x (call_answer s next number (Some swi.Module)))))))))))
 
 -- A call without a name is looked for among the modules.
 abbrev pub called_by : List Entry → MachineState → Bool → ℕ → ℕ → Option SwiName → Outcome
@@ -121,28 +126,6 @@ called images s x next number =
 -- a call by an instruction: the guest goes on after it
 abbrev pub swi_called : List Entry → MachineState → ℕ → Outcome
 swi_called images s n = called images s (bit_of n 17) ((s.cpu.pc + 4) % 2 ^ 26) (without_x n)
-
--- The innermost frame is closed: the core is as the module code leaves it to the caller, and the call goes back. V says whether it was refused.
-unfoldable pub frame_closed : MachineState → Frame → MachineState
-frame_closed s f = record s {
-  cpu = returned f.call.caller (left s.cpu f) s.cpu.psr.overflow f.call.next;
-  tables = record s.tables { frames = closed s.tables.frames };
-}
-
--- The error of a refused call is the module's own, which stands where R0 points.
-abbrev pub frame_left : MachineState → Frame → Outcome
-frame_left s f =
-    let answered : Outcome = quiet (frame_closed s f) in
-    if s.cpu.psr.overflow then erred s f.call.is_x answered else answered
-
--- Module code has come back to the gate. It must have left the stack of supervisor mode as it was; where no code was entered, there is nothing at the
--- gate to be fetched.
-abbrev pub gated_by : MachineState → Option Frame → Outcome
-gated_by s None = halted s (halt.Fault FetchUnmapped)
-gated_by s (Some f) = if register_in Supervisor s.cpu 13 == f.stack then frame_left s f else halted s (halt.Fault StackChanged)
-
-abbrev pub gated : MachineState → Outcome
-gated s = gated_by s (innermost s.tables.frames)
 
 -- What a turn of the core asks of the machine.
 abbrev pub turn_end : List Entry → MachineState → Turn → Outcome
@@ -177,3 +160,8 @@ machine_step images s = unless_halted s s.halt (turned images s (instructed s))
 -- X bit are left out.
 unfoldable pub store_called : List Entry → MachineState → ℕ → Outcome
 store_called images s number = unless_halted s s.halt (called images s true s.cpu.pc (without_x (number % 2 ^ 24)))
+
+-- A module that a user loads from outside: as reason 1 of OS_Module with the X bit does, at the present program counter, with these words for the string.
+unfoldable pub module_loaded : List Entry → MachineState → List ℕ → Outcome
+module_loaded images s text = unless_halted s s.halt (begun s true s.cpu.pc false
+    (bind (ok_or (host_string text) BadString) (λ words. load_planned images s words false)))

@@ -21,7 +21,8 @@ impl Machine {
     ghost use Rattle.swi_dispatch.specs.Parts.{state_of, outcome_of, Answers, IsInStep, OnlySteps, OnlyState};
     ghost use Rattle.swi_dispatch.specs.Calls.{call_answer};
     ghost use Rattle.swi_dispatch.specs.AreaCalls.{area_called, area_changed, area_created, area_enumerated, area_named, area_read, area_removed, area_renumbered, area_told, moving_error, wanted_of, with_land};
-    ghost use Rattle.swi_dispatch.specs.Step.{ended, halted};
+    ghost use Rattle.swi_dispatch.specs.Step.{ended};
+    ghost use Rattle.swi_dispatch.specs.Returns.{halted};
     ghost use Rattle.arm_step.specs.State.{register_of};
 
     /// OS_ReadDynamicArea: where the area of the number in R0 lies.

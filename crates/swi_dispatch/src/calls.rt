@@ -1,7 +1,8 @@
 //! Store calls: what each does, and how a guest comes back from one.
 
 ghost use Rattle.std.specs.Prelude.{◌≡◌, ◌<◌, ◌≤◌, ◌^◌, false, [], ◌∷◌, ◌++◌, None, length, OnErr};
-ghost use Rattle.swi_dispatch.specs.Step.{returned, is_exit};
+ghost use Rattle.swi_dispatch.specs.Step.{is_exit};
+ghost use Rattle.swi_dispatch.specs.Returns.{returned};
 
 use crate::halt::Halt;
 use crate::machine::{MOST_PRINTED, Machine};
@@ -19,7 +20,8 @@ impl Machine {
     ghost use Rattle.swi_dispatch.specs.Answers.{with_answer};
     ghost use Rattle.swi_dispatch.specs.AreaCalls.{moving_error};
     ghost use Rattle.swi_dispatch.specs.Calls.{call_answer, wrote_text_after, wrote_text_at, printable_at, in_supervisor};
-    ghost use Rattle.swi_dispatch.specs.Step.{called, ended, gone_back, os_module_called};
+    ghost use Rattle.swi_dispatch.specs.Step.{called, ended, os_module_called};
+    ghost use Rattle.swi_dispatch.specs.Returns.{gone_back};
     ghost use Rattle.arm_step.specs.State.{register_of};
 
     /// A store call by its number without the X bit. `is_x` says whether an error goes back to the
@@ -50,9 +52,32 @@ impl Machine {
         ensures after { outcome_of self.new ≡ os_module_called images.now (state_of self.old) is_x next number }
         ensures others { OnlySteps self.old self.new }
     {
-        let _ = images;
         match self.cpu().register(0) {
+            0 => self.load_named(images, is_x, next, true),
+            1 => self.load_named(images, is_x, next, false),
             2 => self.enter_module(is_x, next),
+            3 => {
+                let planned = self.plan_reinit();
+                self.begin(is_x, next, planned)
+            }
+            4 => {
+                let planned = self.plan_delete();
+                self.begin(is_x, next, planned)
+            }
+            8 => {
+                let planned = self.plan_tidy(next);
+                self.begin(is_x, next, planned)
+            }
+            9 => {
+                let planned = self.plan_clear();
+                self.begin(is_x, next, planned)
+            }
+            10 => self.insert_image(is_x, next),
+            11 => self.copy_image(is_x, next),
+            14 => {
+                let planned = self.instantiation_asked();
+                self.begin(is_x, next, planned)
+            }
             _ => self.call_system(is_x, next, number, Some(SwiName::Module)),
         }
     }
@@ -214,7 +239,7 @@ impl Machine {
 }
 
 // The return address, with the caller's status, goes to the link register of supervisor mode.
-#[tactic(auto, unfolding(crate::specs::Step::returned))]
+#[tactic(auto, unfolding(crate::specs::Returns::returned))]
 pub(crate) fn return_to(cpu: &mut Cpu, caller: Psr, is_refused: bool, next: u32)
     ensures { cpu.new ≡ returned caller cpu.old is_refused next }
 {

@@ -19,7 +19,7 @@ impl Machine {
     ghost use Rattle.swi_dispatch.specs.Parts.{state_of, outcome_of, IsInStep, OnlySteps, OnlyState};
     ghost use Rattle.swi_dispatch.specs.Calls.{generated};
     ghost use Rattle.swi_dispatch.specs.Errors.{error_number, with_error};
-    ghost use Rattle.swi_dispatch.specs.Step.{gone_back, error_answered, erred};
+    ghost use Rattle.swi_dispatch.specs.Returns.{gone_back, error_answered, erred};
     ghost use Rattle.arm_step.specs.State.{register_of};
     ghost use Rattle.arm_step.specs.declared.psr.Psr.{Psr};
 

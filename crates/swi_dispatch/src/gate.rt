@@ -1,17 +1,22 @@
 //! The return gate: module code has come back.
 
-ghost use Rattle.std.specs.Prelude.{◌≡◌};
+ghost use Rattle.std.specs.Prelude.{◌≡◌, ◌<◌, false, length, IfSome};
+ghost use Rattle.swi_dispatch.specs.Gates.{outcome_left};
 
 use crate::calls::return_to;
 use crate::errors::error_at;
 use crate::halt::Halt;
 use crate::machine::Machine;
+use crate::module_steps::{Next, next_of};
+use arm_step::Cpu;
+use instances_plans::Outcome;
 use profile::Fault;
-use swi_dispatch_frames::Frame;
+use swi_dispatch_frames::{Call, Frame, FrameKind};
 
 impl Machine {
-    ghost use Rattle.swi_dispatch.specs.Parts.{state_of, outcome_of, IsInStep, OnlySteps};
-    ghost use Rattle.swi_dispatch.specs.Step.{frame_left, gated};
+    ghost use Rattle.swi_dispatch.specs.Gates.{Resumes, fault_kept, frame_left, gated, plan_left, swi_left};
+    ghost use Rattle.swi_dispatch.specs.ModulePlans.{machine_world};
+    ghost use Rattle.swi_dispatch.specs.Parts.{state_of, outcome_of, IsInStep, OnlySteps, OnlyState};
 
     /// What a step does at the gate. Where no frame is open, there is nothing to be fetched.
     #[tactic(auto, unfolding(crate::specs::Parts::state_of))]
@@ -32,11 +37,22 @@ impl Machine {
         }
     }
 
-    // The innermost frame is closed, and its call goes back. Where the call was refused and its caller takes no error, nothing is changed.
-    #[tactic(auto, unfolding(crate::specs::Parts::state_of, crate::specs::Step::frame_closed, os_heap::specs::Store::store_of))]
     fn leave_frame(&mut self, frame: Frame)
         requires step { IsInStep self.old }
-        ensures after { outcome_of self.new ≡ frame_left (state_of self.old) frame }
+        ensures after { outcome_of self.new ≡ frame_left (state_of self.old) frame frame.kind (state_of self.old).tables.plan }
+        ensures others { OnlySteps self.old self.new }
+    {
+        match frame.kind {
+            FrameKind::Swi => self.leave_swi(frame),
+            FrameKind::Entry(_) => self.leave_entry(frame),
+        }
+    }
+
+    // The innermost frame is closed, and its call goes back. Where the call was refused and its caller takes no error, nothing is changed.
+    #[tactic(auto, unfolding(crate::specs::Parts::state_of, crate::specs::Gates::frame_closed, os_heap::specs::Store::store_of))]
+    fn leave_swi(&mut self, frame: Frame)
+        requires step { IsInStep self.old }
+        ensures after { outcome_of self.new ≡ swi_left (state_of self.old) frame }
         ensures others { OnlySteps self.old self.new }
     {
         let mut cpu = self.cpu;
@@ -49,5 +65,66 @@ impl Machine {
         }
         self.cpu = cpu;
         self.frames.close();
+    }
+
+    // The call whose entry it was is carried on, if a plan is kept. Where its caller takes no error, and there is one, nothing is changed.
+    #[tactic(auto, using(crate::proofs::GateLemmas::entry_went_on))]
+    fn leave_entry(&mut self, frame: Frame)
+        requires step { IsInStep self.old }
+        ensures after { outcome_of self.new ≡ plan_left (state_of self.old) frame (state_of self.old).tables.plan }
+        ensures others { OnlySteps self.old self.new }
+    {
+        let outcome = outcome_left(self.cpu());
+        if let Some(number) = self.fault_ahead(frame.call, outcome) {
+            return self.halt_with(Halt::Fault(Fault::ErrorStop(number)));
+        }
+        match self.resume(frame, outcome) {
+            Some(next) => self.go_to(frame.call, next),
+            None => self.halt_with(Halt::Fault(Fault::FetchUnmapped)),
+        }
+    }
+
+    // The core is the caller's again, the frame is closed, and the plan that is kept is carried on. Where none is, nothing is done.
+    #[tactic(auto, unfolding(crate::specs::Parts::state_of, crate::specs::Gates::come_back))]
+    fn resume(&mut self, frame: Frame, outcome: Outcome) -> Option<Next>
+        requires stepped { self.old.is_fresh ≡ false }
+        ensures state { Resumes (state_of self.old) frame outcome (state_of self.old).tables.plan result (state_of self.new) }
+        ensures room { IfSome result (λ _. length (state_of self.new).tables.frames < 32) }
+        ensures others { OnlyState self.old self.new }
+    {
+        let mut plan = self.plan.take()?;
+        frame.leave(&mut self.cpu);
+        self.frames.close();
+        let code = self
+            .instances
+            .carry(&mut self.memory, &self.areas, &mut plan, outcome);
+        let (kept, next) = next_of(plan, code);
+        self.plan = kept;
+        Some(next)
+    }
+
+    // The number of the error that a call ends with whose entry comes back with this outcome, if it ends with one that its caller doesn't take.
+    #[tactic(auto, unfolding(crate::specs::Parts::state_of))]
+    fn fault_ahead(&mut self, call: Call, outcome: Outcome) -> Option<u32>
+        ensures value { result ≡ fault_kept call (machine_world (state_of self.old)) outcome (state_of self.old).tables.plan }
+        ensures same { self.new ≡ self.old }
+    {
+        if call.is_x {
+            return None;
+        }
+        let plan = self.plan.as_ref()?;
+        self.spare
+            .error_after(&self.memory, &self.areas, &self.instances, plan, outcome)
+    }
+}
+
+// What an entry of a module has left.
+fn outcome_left(cpu: &Cpu) -> Outcome
+    ensures { result ≡ outcome_left cpu.now }
+{
+    if cpu.psr().overflow {
+        Outcome::Refused(cpu.register(0))
+    } else {
+        Outcome::Well
     }
 }

@@ -1,6 +1,7 @@
 //! The machine: the core over its memory, the store calls, one step at a time or many.
 #![tactic(auto)]
 
+pub mod additions;
 pub mod area_calls;
 pub mod boot_error;
 pub mod breaks;
@@ -9,17 +10,21 @@ pub mod errors;
 pub mod gate;
 pub mod halt;
 pub mod heap_calls;
+pub mod image_plans;
 pub mod instance_calls;
 pub mod laws;
 pub mod machine;
 pub mod module_calls;
 pub mod module_plans;
 pub mod module_start;
+pub mod module_steps;
 pub mod module_swis;
 pub mod module_words;
 pub mod refusal;
 pub mod running;
+pub mod spare;
 pub mod strings;
+pub mod titles_in_use;
 
 pub use boot_error::BootError;
 pub use breaks::{BreakError, Breaks};
@@ -28,6 +33,3 @@ pub use machine::Machine;
 pub use refusal::Refusal;
 pub use running::Ran;
 pub use strings::TextEnd;
-
-#[cfg(test)]
-mod tests;

@@ -8,6 +8,8 @@ ghost use Rattle.swi_dispatch.specs.Step.{without_x};
 
 use crate::boot_error::BootError;
 use crate::halt::Halt;
+use crate::module_words::host_string;
+use crate::spare::Spare;
 use address_map::AddressMap;
 use arm_step::{Cpu, Turn, step};
 use arrayvec::ArrayVec;
@@ -18,7 +20,7 @@ use instances_plans::Plan;
 use os_heap::Heaps;
 use profile::memory_map::{ADDRESS_LIMIT, APPLICATION_START, PAGE_SIZE};
 use profile::word::is_bit_set;
-use profile::{Config, Fault, Stop};
+use profile::{Config, ErrorNumber, Fault, Stop};
 use std::alloc::{AllocError, Global};
 use std::marker::Model;
 use swi_dispatch_frames::Frames;
@@ -39,6 +41,8 @@ pub struct Machine {
     pub(crate) instances: Instances,
     pub(crate) frames: Frames,
     pub(crate) plan: Option<Plan>,
+    /// What a call is tried on whose caller takes no error.
+    pub(crate) spare: Spare,
     pub(crate) halt: Option<Halt>,
     config: Config,
     is_fresh: bool,
@@ -60,7 +64,8 @@ impl Machine {
     ghost use Rattle.swi_dispatch.specs.Parts.{state_of, outcome_of, IsInStep, OnlySteps, OnlyState, TakesTurn, IsWellFormed};
     ghost use Rattle.swi_dispatch.specs.MachineState.{start_of, stop_of, quiet};
     ghost use Rattle.swi_dispatch.specs.Boot.{booted, registered, poked};
-    ghost use Rattle.swi_dispatch.specs.Step.{machine_step, store_called, swi_called, halted, turn_end};
+    ghost use Rattle.swi_dispatch.specs.Step.{machine_step, module_loaded, store_called, swi_called, turn_end};
+    ghost use Rattle.swi_dispatch.specs.Returns.{halted};
 
     /// A machine of these sizes at its start: user mode at &8000, each register 0 but the stack
     /// pointer of supervisor mode, all mapped memory 0 but the descriptor of the module area's heap.
@@ -80,6 +85,7 @@ impl Machine {
             instances: Instances::new(),
             frames: Frames::new(),
             plan: None,
+            spare: Spare::new(alloc, config)?,
             halt: None,
             config,
             is_fresh: true,
@@ -149,6 +155,28 @@ impl Machine {
         }
         let next = self.cpu().pc();
         self.call(images, true, next, without_x_bit(number % (1 << 24)));
+        self.stop()
+    }
+
+    /// Loads a module as OS_Module 1 does with the X bit, with these words in place of the string that R1 points to: the name of an image and a text.
+    /// The guest goes on at the present program counter. A halted machine stays as it is.
+    #[tactic(auto, unfolding(crate::specs::Step::module_loaded, crate::specs::Step::begun))]
+    pub fn load_module(&mut self, images: &Images, text: &[u8]) -> Option<Stop>
+        ensures after { outcome_of self.new ≡ module_loaded images.now (state_of self.old) text.now }
+        ensures stop { result ≡ option_map stop_of (state_of self.new).halt }
+        ensures fresh { self.new.is_fresh ≡ false }
+        ensures sizes { self.new.sizes ≡ self.old.sizes }
+        ensures well_formed { IsWellFormed self.new }
+    {
+        self.begin_step();
+        if let Some(stop) = self.stop() {
+            return Some(stop);
+        }
+        let next = self.cpu().pc();
+        match host_string(text) {
+            Some(words) => self.load_words(images, true, next, false, words),
+            None => self.refuse_call(true, next, ErrorNumber::BadString),
+        }
         self.stop()
     }
 

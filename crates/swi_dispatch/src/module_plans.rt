@@ -1,7 +1,7 @@
 //! OS_Module, the reasons that may run module code: what each refuses before anything is done, and the plan that it makes (RISC OS 3 Programmer's
 //! Reference Manual, "OS_Module").
 
-ghost use Rattle.std.specs.Prelude.{◌≡◌};
+ghost use Rattle.std.specs.Prelude.{◌≡◌, IfOk};
 
 use crate::machine::Machine;
 use crate::module_words::{name_part, text_part};
@@ -10,12 +10,14 @@ use profile::ErrorNumber;
 use swi_dispatch_frames::MOST_FRAMES;
 
 impl Machine {
-    ghost use Rattle.swi_dispatch.specs.ModulePlans.{clear_planned, delete_planned, may_begin_alone, may_finalise, reinit_planned, tidy_planned};
-    ghost use Rattle.swi_dispatch.specs.Parts.{state_of};
+    ghost use Rattle.swi_dispatch.specs.ModulePlans.{clear_planned, delete_planned, may_begin_alone, may_finalise, may_run_code, reinit_planned, tidy_planned};
+    ghost use Rattle.swi_dispatch.specs.Parts.{CanBegin, IsFree, state_of};
 
     /// OS_Module 3: R1 points to a name and a text.
+    #[tactic(auto, using(crate::proofs::GateLemmas::can_begin))]
     pub(crate) fn plan_reinit(&self) -> Result<Plan, ErrorNumber>
-        ensures { result ≡ reinit_planned (state_of self.now) }
+        ensures value { result ≡ reinit_planned (state_of self.now) }
+        ensures begins { IfOk result (λ plan. CanBegin (state_of self.now) plan) }
     {
         let words = self.string_in(1)?;
         let name = name_part(words.as_slice());
@@ -26,8 +28,10 @@ impl Machine {
     }
 
     /// OS_Module 4: R1 points to a name.
+    #[tactic(auto, using(crate::proofs::GateLemmas::can_begin))]
     pub(crate) fn plan_delete(&self) -> Result<Plan, ErrorNumber>
-        ensures { result ≡ delete_planned (state_of self.now) }
+        ensures value { result ≡ delete_planned (state_of self.now) }
+        ensures begins { IfOk result (λ plan. CanBegin (state_of self.now) plan) }
     {
         let name = self.string_in(1)?;
         let slot = self.instances().slot(name.as_slice())?;
@@ -36,16 +40,20 @@ impl Machine {
     }
 
     /// OS_Module 8: the caller goes on at `next`.
+    #[tactic(auto, using(crate::proofs::GateLemmas::can_begin))]
     pub(crate) fn plan_tidy(&self, next: u32) -> Result<Plan, ErrorNumber>
-        ensures { result ≡ tidy_planned (state_of self.now) next }
+        ensures value { result ≡ tidy_planned (state_of self.now) next }
+        ensures begins { IfOk result (λ plan. CanBegin (state_of self.now) plan) }
     {
         self.may_begin_alone()?;
         Ok(self.instances().plan_tidy(next))
     }
 
     /// OS_Module 9.
+    #[tactic(auto, using(crate::proofs::GateLemmas::can_begin))]
     pub(crate) fn plan_clear(&self) -> Result<Plan, ErrorNumber>
-        ensures { result ≡ clear_planned (state_of self.now) }
+        ensures value { result ≡ clear_planned (state_of self.now) }
+        ensures begins { IfOk result (λ plan. CanBegin (state_of self.now) plan) }
     {
         self.may_begin_alone()?;
         Ok(self.instances().plan_clear())
@@ -57,11 +65,26 @@ impl Machine {
     ///
     /// `ModuleBusy` while an initialisation or a finalisation is under way, or a SWI of one of the instances; else `FrameLimit` where no frame more
     /// can be opened.
-    #[tactic(auto, unfolding(crate::specs::Parts::state_of, crate::specs::ModulePlans::may_finalise))]
+    #[tactic(auto, unfolding(crate::specs::Parts::state_of))]
     pub(crate) fn may_finalise(&self, slots: &[u32]) -> Result<(), ErrorNumber>
-        ensures { result ≡ may_finalise slots.now (state_of self.now).tables.frames }
+        ensures value { result ≡ may_finalise slots.now (state_of self.now).tables }
+        ensures free { IfOk result (λ _. IsFree (state_of self.now)) }
     {
-        if self.frames.has_entry() || self.frames.has_swi_of(slots) {
+        self.may_run_code(self.frames.has_swi_of(slots))
+    }
+
+    /// Whether a call may begin that may run module code, and finalises instances that are in use or not.
+    ///
+    /// # Errors
+    ///
+    /// `ModuleBusy` while an initialisation or a finalisation is under way, or where the instances are in use; else `FrameLimit` where no frame more
+    /// can be opened.
+    #[tactic(auto, using(crate::proofs::GateLemmas::is_free), unfolding(crate::specs::Parts::state_of, crate::specs::ModulePlans::may_run_code))]
+    pub(crate) fn may_run_code(&self, is_in_use: bool) -> Result<(), ErrorNumber>
+        ensures value { result ≡ may_run_code is_in_use (state_of self.now).tables }
+        ensures free { IfOk result (λ _. IsFree (state_of self.now)) }
+    {
+        if self.plan.is_some() || is_in_use {
             return Err(ErrorNumber::ModuleBusy);
         }
         if self.frames.len() == MOST_FRAMES {
@@ -74,12 +97,13 @@ impl Machine {
     ///
     /// # Errors
     ///
-    /// `ModuleBusy` while a frame is open.
-    #[tactic(auto, unfolding(crate::specs::ModulePlans::may_begin_alone))]
+    /// `ModuleBusy` while an initialisation or a finalisation is under way, or a frame is open.
+    #[tactic(auto, using(crate::proofs::GateLemmas::is_free), unfolding(crate::specs::Parts::state_of, crate::specs::ModulePlans::may_begin_alone))]
     pub(crate) fn may_begin_alone(&self) -> Result<(), ErrorNumber>
-        ensures { result ≡ may_begin_alone (state_of self.now).tables.frames }
+        ensures value { result ≡ may_begin_alone (state_of self.now).tables }
+        ensures free { IfOk result (λ _. IsFree (state_of self.now)) }
     {
-        if self.frames() > 0 {
+        if self.plan.is_some() || self.frames.len() > 0 {
             return Err(ErrorNumber::ModuleBusy);
         }
         Ok(())

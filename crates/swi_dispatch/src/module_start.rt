@@ -35,7 +35,8 @@ impl Machine {
     ghost use Rattle.swi_dispatch.specs.MachineState.{quiet};
     ghost use Rattle.swi_dispatch.specs.ModuleStart.{module_opened, opened_at, opening_asked, with_environment};
     ghost use Rattle.swi_dispatch.specs.Parts.{state_of, outcome_of, IsInStep, OnlySteps, OnlyState};
-    ghost use Rattle.swi_dispatch.specs.Step.{gone_back, module_entered};
+    ghost use Rattle.swi_dispatch.specs.Step.{module_entered};
+    ghost use Rattle.swi_dispatch.specs.Returns.{gone_back};
 
     /// OS_Module 2: R1 points to the name of an instance, R2 to a text.
     pub(crate) fn enter_module(&mut self, is_x: bool, next: u32)
@@ -73,20 +74,20 @@ impl Machine {
     {
         let caller = self.cpu().psr();
         self.go_back(caller, false, next);
-        self.open_module(opening);
+        self.open_module(opening.start, opening.text.as_slice());
     }
 
-    /// A module is entered, if it has a start.
-    #[tactic(auto, unfolding(crate::specs::ModuleStart::module_opened))]
-    pub(crate) fn open_module(&mut self, opening: &Opening)
+    /// A module is entered with a text, if it has a start.
+    pub(crate) fn open_module(&mut self, start: Start, text: &[u8])
         requires stepped { self.old.is_fresh ≡ false }
-        requires slot { opening.now.start.slot < 64 }
-        ensures state { state_of self.new ≡ module_opened (state_of self.old) opening.now }
+        requires slot { start.slot < 64 }
+        requires short { length text.now ≤ 255 }
+        ensures state { state_of self.new ≡ opened_at (state_of self.old) text.now start.slot start.at }
         ensures others { OnlyState self.old self.new }
     {
-        if let Some(at) = opening.start.at {
-            self.put_environment(opening.text.as_slice());
-            self.go_as_user(at, opening.start.slot);
+        if let Some(at) = start.at {
+            self.put_environment(text);
+            self.go_as_user(at, start.slot);
         }
     }
 

@@ -29,7 +29,13 @@ impl Machine {
             return self.refuse_call(is_x, next, ErrorNumber::FrameLimit);
         }
         let caller = self.cpu().psr();
-        self.enter_handler(Call { is_x, caller, next }, number, handler);
+        let call = Call {
+            is_x,
+            caller,
+            next,
+            enters: false,
+        };
+        self.enter_handler(call, number, handler);
     }
 
     // A call that is refused before it did anything.

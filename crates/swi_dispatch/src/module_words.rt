@@ -1,8 +1,10 @@
 //! Strings of a name and a text (RISC OS 3 Programmer's Reference Manual, "OS_Module", reasons 0, 1, 3 and 14).
 
-ghost use Rattle.std.specs.Prelude.{◌≡◌, ◌≤◌, length};
+ghost use Rattle.std.specs.Prelude.{◌≡◌, ◌≤◌, length, option_map, IfSome};
 ghost use Rattle.std.specs.List.{position};
-ghost use Rattle.swi_dispatch.specs.ModuleWords.{is_space, is_word, name_part, text_part, without_spaces};
+ghost use Rattle.swi_dispatch.specs.ModuleWords.{host_string, is_control, is_space, is_word, name_part, text_part, up_to_control, without_spaces};
+
+use crate::strings::MOST_TEXT;
 
 /// The name: what stands before the first space.
 pub(crate) fn name_part(words: &[u8]) -> &[u8]
@@ -59,4 +61,38 @@ fn is_word(byte: u8) -> bool
     ensures { result ≡ is_word byte }
 {
     byte != b' '
+}
+
+/// A string that a host gives: it ends before its first control byte. There is none where that is longer than 255 bytes.
+pub(crate) fn host_string(text: &[u8]) -> Option<&[u8]>
+    ensures value { option_map (λ s. s.now) result ≡ host_string text.now }
+    ensures short { IfSome result (λ s. length s.now ≤ 255) }
+{
+    let words = up_to_control(text);
+    if words.len() <= MOST_TEXT {
+        Some(words)
+    } else {
+        None
+    }
+}
+
+fn up_to_control(text: &[u8]) -> &[u8]
+    ensures { result.now ≡ up_to_control text.now }
+{
+    match place_of_control(text) {
+        Some(place) => &text[..place],
+        None => text,
+    }
+}
+
+fn place_of_control(text: &[u8]) -> Option<usize>
+    ensures { result ≡ position is_control text.now }
+{
+    text.iter().position(|byte| is_control(*byte))
+}
+
+fn is_control(byte: u8) -> bool
+    ensures { result ≡ is_control byte }
+{
+    byte < 32
 }

@@ -1,5 +1,5 @@
 -- Which frames keep a call on modules from what it would do (this project's own).
-use Rattle.std.specs.Prelude.{ℕ, Bool, true, false, not, ◌==◌, ◌&&◌, List}
+use Rattle.std.specs.Prelude.{ℕ, Bool, true, false, ◌==◌, ◌&&◌, List}
 use Rattle.std.specs.List.{list_any}
 use Rattle.swi_dispatch_frames.specs.declared.frame.Frame.{Frame}
 use Rattle.swi_dispatch_frames.specs.declared.frame.FrameKind.{FrameKind}
@@ -8,10 +8,6 @@ use Rattle.swi_dispatch_frames.specs.declared.frame.FrameKind.TheVariants.{Swi, 
 abbrev pub is_swi : FrameKind → Bool
 is_swi Swi = true
 is_swi (Entry kind) = false
-
--- an initialisation or a finalisation is under way
-abbrev pub has_entry : List Frame → Bool
-has_entry frames = list_any (λ (f : Frame). not (is_swi f.kind)) frames
 
 -- a SWI of an instance in one of these slots is under way
 abbrev pub has_swi_of : List ℕ → List Frame → Bool

@@ -2,31 +2,18 @@
 
 ghost use Rattle.std.specs.Prelude.{◌≡◌, ◌==◌, ◌&&◌};
 ghost use Rattle.std.specs.List.{list_any};
-ghost use Rattle.swi_dispatch_frames.specs.Busy.{is_swi, has_entry, has_swi_of};
+ghost use Rattle.swi_dispatch_frames.specs.Busy.{is_swi, has_swi_of};
 
 use crate::frame::{Frame, FrameKind};
 use crate::frames::Frames;
 
 impl Frames {
-    /// Whether an initialisation or a finalisation is under way.
-    pub fn has_entry(&self) -> bool
-        ensures { result ≡ has_entry self.now }
-    {
-        has_entry(self.as_slice())
-    }
-
     /// Whether a SWI of an instance in one of these slots is under way.
     pub fn has_swi_of(&self, slots: &[u32]) -> bool
         ensures { result ≡ has_swi_of slots.now self.now }
     {
         has_swi_of(self.as_slice(), slots)
     }
-}
-
-fn has_entry(frames: &[Frame]) -> bool
-    ensures { result ≡ has_entry frames.now }
-{
-    frames.iter().any(|frame| !is_swi(frame.kind))
 }
 
 fn has_swi_of(frames: &[Frame], slots: &[u32]) -> bool

@@ -9,6 +9,8 @@ pub struct Call {
     pub caller: Psr,
     /// Where the caller goes on.
     pub next: u32,
+    /// Whether the module that the call loads is entered once it has ended well.
+    pub enters: bool,
 }
 
 impl Default for Call {
@@ -25,6 +27,7 @@ impl Default for Call {
                 mode: Mode::User,
             },
             next: 0,
+            enters: false,
         }
     }
 }

@@ -15,12 +15,14 @@ pub struct Frames {
 }
 
 impl Model for Frames {
-    ghost use Rattle.std.specs.Prelude.{List};
+    ghost use Rattle.std.specs.Prelude.{List, ◌≤◌, length};
     ghost use Rattle.swi_dispatch_frames.specs.declared.frame.Frame.{Frame};
 
     ghost Value = { List Frame };
 
     ghost view = { λ f. f.table.items };
+
+    ghost invariant = { λ f. length f.table.items ≤ 32 };
 }
 
 impl Frames {
@@ -64,7 +66,8 @@ impl Frames {
 
     /// Closes the innermost frame, if one is open.
     pub fn close(&mut self)
-        ensures { self.new ≡ closed self.old }
+        ensures value { self.new ≡ closed self.old }
+        ensures room { length self.new < 32 }
     {
         self.table.pop();
     }

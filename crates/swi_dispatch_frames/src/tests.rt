@@ -29,6 +29,7 @@ const CALL: Call = Call {
     is_x: true,
     caller: CALLER,
     next: 0x8004,
+    enters: false,
 };
 
 const CODE: Code = Code {

@@ -1,4 +1,4 @@
-use Rattle.std.proofs.Common.{ap, ◌∙◌}
+use Rattle.std.proofs.Common.{refl, ap, ◌∙◌}
 use Rattle.os_heap.proofs.Frame.{layout-others}
 use Rattle.swi_dispatch.specs.Parts.{Parts}
 use Rattle.swi_dispatch.proofs.Kept.{well_called}
@@ -9,11 +9,11 @@ invariant_of-self c =
     let well = c.self.invariant in
     let freed = c.free.ensures in
     well_called _ _ well (freed.estate c.self.inside.areas well.areas) freed.classes (layout-others _ _ freed.layout)
-    (ap (λ (p : Parts). p.is_fresh) c.self.view_is ∙ c.requires.stepped)
+    refl refl (ap (λ (p : Parts). p.is_fresh) c.self.view_is ∙ c.requires.stepped)
 
 pub invariant_of-self-2 : goal.invariant_of-self-2
 invariant_of-self-2 c =
     let well = c.self.invariant in
     let freed = c.free.ensures in
     well_called _ _ well (freed.estate c.self.inside.areas well.areas) freed.classes (layout-others _ _ freed.layout)
-    (ap (λ (p : Parts). p.is_fresh) c.self.view_is ∙ c.requires.stepped)
+    refl refl (ap (λ (p : Parts). p.is_fresh) c.self.view_is ∙ c.requires.stepped)

@@ -1,5 +1,5 @@
 use Rattle.swi_dispatch.specs.Parts.{state_of}
-use Rattle.swi_dispatch.proofs.Starting.{starts, system_recorded}
+use Rattle.swi_dispatch.proofs.Starting.{start_modules, starts, system_recorded}
 use Rattle.swi_dispatch.proofs.machine.Machine.new.Goals as goal
 
 pub invariant_of-result : goal.invariant_of-result
@@ -10,6 +10,7 @@ invariant_of-result c =
       areas = rw c.new-3.ensures.land memory.areas;
       classes = memory.classes;
       system = system_recorded _ c.args.config memory.store;
+      modules = rw (c.new-3.ensures.land, c.new-4.ensures) (start_modules _ c.args.config memory.store memory.areas);
       fresh = λ _. rw (c.new.ensures, c.new-3.ensures.land, c.new-4.ensures, c.new-5.ensures) (starts _ _ memory.store memory.areas);
     }
 
@@ -27,5 +28,6 @@ returns-clause-well_formed c =
       areas = rw c.new-3.ensures.land memory.areas;
       classes = memory.classes;
       system = system_recorded _ c.args.config memory.store;
+      modules = rw (c.new-3.ensures.land, c.new-4.ensures) (start_modules _ c.args.config memory.store memory.areas);
       fresh = λ _. rw (c.new.ensures, c.new-3.ensures.land, c.new-4.ensures, c.new-5.ensures) (starts _ _ memory.store memory.areas);
     }

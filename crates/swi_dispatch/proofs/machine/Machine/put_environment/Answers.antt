@@ -1,4 +1,4 @@
-use Rattle.std.proofs.Common.{ap, ◌∙◌}
+use Rattle.std.proofs.Common.{refl, ap, ◌∙◌}
 use Rattle.os_heap.specs.Store.{store_of}
 use Rattle.os_heap.proofs.Frame.{layout-others}
 use Rattle.dynamic_areas.specs.Ground.{Estate}
@@ -13,7 +13,7 @@ invariant_of-self c =
     let well = c.self.invariant in
     let put = c.put_text.ensures in
     well_called _ _ well (put.areas c.self.inside.areas well.areas) (put.classes well.classes) (layout-others _ _ put.layout)
-    (ap (λ (p : Parts). p.is_fresh) c.self.view_is ∙ c.requires.stepped)
+    refl refl (ap (λ (p : Parts). p.is_fresh) c.self.view_is ∙ c.requires.stepped)
 
 pub returns-clause-state : goal.returns-clause-state
 unfolding state_of store_of

@@ -1,0 +1,15 @@
+use Rattle.std.proofs.Common.{◌≡◌, true, sym, ap, ◌∙◌}
+use Rattle.dynamic_areas.specs.Ground.{estate_of}
+use Rattle.rma.specs.Copies.{may_be_copied}
+use Rattle.instances.proofs.AddingLemmas.{copied_mapped}
+use Rattle.swi_dispatch.specs.Parts.{Parts, state_of}
+use Rattle.swi_dispatch.proofs.machine.Machine.copy_asked.Goals as goal
+
+pub may_add-requires : goal.may_add-requires
+unfolding state_of
+may_add-requires c =
+    let range = c.range_asked-range.result in
+    let may : may_be_copied (estate_of c.args.self.now.map c.args.self.now.tables.land) range.at range.len ≡ true =
+    ap (λ (p : Parts). may_be_copied (estate_of p.map p.tables.land) range.at range.len) (sym c.self.view_is) ∙ sym c.may_be_copied.ensures
+    ∙ c.if-not-may_be_copied.false in
+    copied_mapped (estate_of c.args.self.now.map c.args.self.now.tables.land) range.at range.len may

@@ -1,0 +1,23 @@
+use Rattle.std.proofs.Common.{refl, ap, ◌∙◌}
+use Rattle.swi_dispatch.specs.MachineState.{MachineState}
+use Rattle.swi_dispatch.specs.Parts.{Parts, state_of}
+use Rattle.swi_dispatch.proofs.Kept.{over}
+use Rattle.swi_dispatch.proofs.GateLemmas.{carried_well, first_carried, next_carried, starts_by, state_carried}
+use Rattle.swi_dispatch.proofs.machine.Machine.record_image.Goals as goal
+
+pub invariant_of-self-2 : goal.invariant_of-self-2
+invariant_of-self-2 c =
+    let carries = c.carry-code.ensures in
+    carried_well _ _ _ _ _ _ c.next_of-kept.ensures refl carries.carried carries.ended carries.going carries.classes
+    (ap (λ (p : Parts). p.is_fresh) c.self.view_is ∙ c.requires.stepped)
+
+pub returns-clause-state : goal.returns-clause-state
+unfolding state_of
+returns-clause-state c =
+    let before : MachineState = over c.self.inside.memory c.self.inside.cpu
+    (record { land = c.self.inside.areas; modules = c.self.inside.instances; frames = c.self.inside.frames; plan = c.self.inside.plan })
+    c.self.inside.halt in
+    let given = c.in_ok-plan.ensures in
+    let carries = first_carried _ _ _ given.rests c.carry-code.ensures.carried in
+    rw (← c.self.view_is) (starts_by before _ _ _ _ _ _ given.world (state_carried before _ _ _ _ _ c.next_of-kept.ensures carries)
+    (next_carried _ _ _ _ _ c.next_of-kept.ensures carries))

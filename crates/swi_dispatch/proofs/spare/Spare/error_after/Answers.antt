@@ -1,0 +1,42 @@
+use Rattle.std.proofs.Common.{sym, subst, ◌∙◌}
+use Rattle.os_heap.specs.Store.{store_of}
+use Rattle.instances_ground.specs.World.{World}
+use Rattle.instances.specs.Turns.{IsUnderWay}
+use Rattle.swi_dispatch.proofs.GateLemmas.{copied_classes, copied_world, error_at_end, error_in_code, no_error_at_end, tried}
+use Rattle.swi_dispatch.proofs.spare.Spare.error_after.Goals as goal
+
+pub carry-code-requires-clause-going : goal.carry-code-requires-clause-going
+carry-code-requires-clause-going c =
+    let copy = c.copy_from.ensures in
+    let world = copied_world c.args.memory.now c.copy_from.new.self c.args.areas.now c.args.instances.now c.copy_from-2.new.self copy.bytes copy.layout copy.marks
+    c.requires.going.world.estate.ground.sound c.copy_from-2.ensures in
+    rw c.copied-plan.ensures (subst (λ (w : World). IsUnderWay w c.args.plan.now) (sym world) c.requires.going)
+
+pub carry-code-requires-clause-classes : goal.carry-code-requires-clause-classes
+carry-code-requires-clause-classes c =
+    let copy = c.copy_from.ensures in
+    copied_classes c.args.memory.now c.copy_from.new.self copy.bytes copy.layout copy.marks c.requires.going.world.estate.ground.sound c.requires.classes
+
+pub returns-then-is_some : goal.returns-then-is_some
+returns-then-is_some c =
+    let copy = c.copy_from.ensures in
+    let world = copied_world c.args.memory.now c.copy_from.new.self c.args.areas.now c.args.instances.now c.copy_from-2.new.self copy.bytes copy.layout copy.marks
+    c.requires.going.world.estate.ground.sound c.copy_from-2.ensures in
+    error_in_code _ _ _ _ _ (tried _ _ _ _ _ _ world c.copied-plan.ensures c.carry-code.ensures.carried) (sym c.is_some.ensures ∙ c.if-is_some.true)
+
+pub returns-in-Own : goal.returns-in-Own
+unfolding store_of
+returns-in-Own c =
+    let copy = c.copy_from.ensures in
+    let world = copied_world c.args.memory.now c.copy_from.new.self c.args.areas.now c.args.instances.now c.copy_from-2.new.self copy.bytes copy.layout copy.marks
+    c.requires.going.world.estate.ground.sound c.copy_from-2.ensures in
+    error_at_end _ _ _ _ _ _ _ (tried _ _ _ _ _ _ world c.copied-plan.ensures c.carry-code.ensures.carried) (sym c.is_some.ensures ∙ c.if-is_some.false)
+    (sym c.end.ensures ∙ c.in-Own.is) c.error_at.ensures
+
+pub returns-in-Well : goal.returns-in-Well
+returns-in-Well c =
+    let copy = c.copy_from.ensures in
+    let world = copied_world c.args.memory.now c.copy_from.new.self c.args.areas.now c.args.instances.now c.copy_from-2.new.self copy.bytes copy.layout copy.marks
+    c.requires.going.world.estate.ground.sound c.copy_from-2.ensures in
+    no_error_at_end _ _ _ _ _ _ (tried _ _ _ _ _ _ world c.copied-plan.ensures c.carry-code.ensures.carried) (sym c.is_some.ensures ∙ c.if-is_some.false)
+    c.end.ensures c.in-Well.is

@@ -1,0 +1,158 @@
+-- Calls on modules whose code runs in between: how such a call begins, is carried on from one entry of module code to the next, and ends; and the
+-- return gate, where module code comes back (RISC OS 3 Programmer's Reference Manual, "Modules" and "OS_Module"; frames, the gate, and that a call that
+-- gives its caller no error does nothing where there is one, are this project's own).
+use Rattle.std.specs.Prelude.{◌≡◌, ℕ, Bool, true, false, ◌==◌, ◌++◌, ◌∷◌, [], List, Option, Some, None, option_map, Result, Ok, Err, if◌then◌else◌}
+use Rattle.profile.specs.declared.error.ErrorNumber.{ErrorNumber}
+use Rattle.profile.specs.declared.fault.Fault.TheVariants.{FetchUnmapped, ErrorStop, StackChanged}
+use Rattle.arm_step.specs.declared.psr.Mode.TheVariants.{Supervisor}
+use Rattle.arm_step.specs.State.{State, register_in, register_of}
+use Rattle.instances_plans.specs.declared.code.Code.{Code}
+use Rattle.instances_plans.specs.declared.code.Outcome.{Outcome as CodeOutcome}
+use Rattle.instances_plans.specs.declared.code.Outcome.TheVariants.{Well, Refused}
+use Rattle.instances_plans.specs.declared.given.Given.{Given}
+use Rattle.instances_plans.specs.Carrying.{Carried, carried}
+use Rattle.instances_plans.specs.Plans.{Plan, settled}
+use Rattle.instances_ground.specs.World.{World}
+use Rattle.instances.specs.declared.answers.Start.{Start}
+use Rattle.instances.specs.Reading.{start_found}
+use Rattle.instances.specs.Turns.{module_doing}
+use Rattle.swi_dispatch_frames.specs.declared.call.Call.{Call}
+use Rattle.swi_dispatch_frames.specs.declared.frame.Frame.{Frame}
+use Rattle.swi_dispatch_frames.specs.declared.frame.FrameKind.{FrameKind}
+use Rattle.swi_dispatch_frames.specs.declared.frame.FrameKind.TheVariants.{Swi, Entry}
+use Rattle.swi_dispatch_frames.specs.Entering.{code_entered}
+use Rattle.swi_dispatch_frames.specs.Frames.{closed, frame_of, innermost}
+use Rattle.swi_dispatch_frames.specs.Leaving.{left}
+use Rattle.swi_dispatch.specs.declared.halt.Halt.TheVariants as halt
+use Rattle.swi_dispatch.specs.declared.module_steps.Next.{Next}
+use Rattle.swi_dispatch.specs.declared.module_steps.Next.TheVariants as next
+use Rattle.swi_dispatch.specs.Answers.{with_answer}
+use Rattle.swi_dispatch.specs.Errors.{error_at}
+use Rattle.swi_dispatch.specs.MachineState.{MachineState, Outcome, quiet}
+use Rattle.swi_dispatch.specs.ModulePlans.{machine_world, with_world}
+use Rattle.swi_dispatch.specs.ModuleStart.{opened_at}
+use Rattle.swi_dispatch.specs.Returns.{erred, gone_back, halted, returned}
+
+abbrev pub with_plan : MachineState → Option Plan → MachineState
+with_plan s p = record s { tables = record s.tables { plan = p } }
+
+-- An entry of a module is called in a frame of the call.
+unfoldable pub entry_opened : MachineState → Call → Code → MachineState
+entry_opened s call code = record s {
+  cpu = code_entered s.cpu code;
+  tables = record s.tables { frames = s.tables.frames ++ frame_of s.cpu call (Entry code.kind) code.slot ∷ [] };
+}
+
+-- A module that was loaded to be run is entered with the text of the call, as OS_Module 2 does.
+abbrev pub entered_with : MachineState → List ℕ → Result Start ErrorNumber → MachineState
+entered_with s text (Ok start) = opened_at s text start.slot start.at
+entered_with s text (Err e) = s
+
+unfoldable pub loaded_entered : MachineState → Given → MachineState
+loaded_entered s g = entered_with s g.text.items (start_found s.tables.modules g.header.title.items)
+
+-- Where nothing of a call is left it goes back. The error of a module stands in R0 as the module gave it.
+abbrev pub entered_if : Bool → MachineState → Given → MachineState
+entered_if true s g = loaded_entered s g
+entered_if false s g = s
+
+abbrev pub call_ended_by : MachineState → Call → Given → Option ℕ → MachineState
+call_ended_by s call g (Some r0) = gone_back call.caller (with_answer s 0 r0) true call.next
+call_ended_by s call g None = entered_if call.enters (gone_back call.caller s false call.next) g
+
+abbrev pub call_ended : MachineState → Call → Plan → MachineState
+call_ended s call p = call_ended_by s call p.given p.first
+
+-- What is next for a call that was carried on: its code, and the plan is kept while that runs; or its end.
+abbrev pub next_by : Plan → Option Code → Next
+next_by p (Some code) = next.Code code
+next_by p None = next.End p
+
+abbrev pub kept_by : Plan → Option Code → Option Plan
+kept_by p (Some code) = Some p
+kept_by p None = None
+
+abbrev pub next_of : Carried World → Next
+next_of c = next_by c.rest c.code
+
+abbrev pub with_carried : MachineState → Carried World → MachineState
+with_carried s c = with_plan (with_world s c.world) (kept_by c.rest c.code)
+
+abbrev pub went_to : MachineState → Call → Next → MachineState
+went_to s call (next.Code code) = entry_opened s call code
+went_to s call (next.End p) = call_ended s call p
+
+abbrev pub world_carried : World → Plan → Carried World
+world_carried w p = carried module_doing w p
+
+-- A call is carried on with what its plan has left to do.
+unfoldable pub carried_on : MachineState → Call → Plan → MachineState
+carried_on s call p = (let c = world_carried (machine_world s) p in went_to (with_carried s c) call (next_of c))
+
+-- Module code has come back: the core is the caller's again, but for what a SWI leaves, and the frame is closed.
+unfoldable pub come_back : MachineState → Frame → MachineState
+come_back s f = record s { cpu = left s.cpu f; tables = record s.tables { frames = closed s.tables.frames } }
+
+-- A SWI of a module goes back. Where V is set it was refused: the error is the module's own, which stands where R0 points.
+unfoldable pub frame_closed : MachineState → Frame → MachineState
+frame_closed s f = record s {
+  cpu = returned f.call.caller (left s.cpu f) s.cpu.psr.overflow f.call.next;
+  tables = record s.tables { frames = closed s.tables.frames };
+}
+
+abbrev pub swi_left : MachineState → Frame → Outcome
+swi_left s f =
+    let answered : Outcome = quiet (frame_closed s f) in
+    if s.cpu.psr.overflow then erred s f.call.is_x answered else answered
+
+-- An initialisation or a finalisation with V set has refused, and its error is the R0 that it left.
+abbrev pub outcome_left : State → CodeOutcome
+outcome_left cpu = if cpu.psr.overflow then Refused (register_of cpu 0) else Well
+
+-- The number of the error that a call ends with, if it is carried on to its end: the word where R0 points to then.
+abbrev pub error_left : Carried World → Option Code → Option ℕ
+error_left c (Some code) = None
+error_left c None = option_map (error_at c.world.estate.store.bytes) c.rest.first
+
+unfoldable pub error_ahead : World → Plan → Option ℕ
+error_ahead w p = error_left (world_carried w p) (world_carried w p).code
+
+-- The call whose entry it was is carried on. Where its caller takes no error, and there is one, the step is a fault, and nothing of it is done.
+abbrev pub fault_ahead : Call → World → Plan → Option ℕ
+fault_ahead call w p = if call.is_x then None else error_ahead w p
+
+abbrev pub unless_fault : MachineState → Option ℕ → MachineState → Outcome
+unless_fault s None t = quiet t
+unless_fault s (Some number) t = halted s (halt.Fault (ErrorStop number))
+
+abbrev pub entry_left : MachineState → Frame → Plan → Outcome
+entry_left s f p = unless_fault s (fault_ahead f.call (machine_world s) p) (carried_on (come_back s f) f.call p)
+
+-- A plan is kept while the code of an entry runs; where no code was entered there is nothing at the gate to be fetched.
+abbrev pub plan_left : MachineState → Frame → Option Plan → Outcome
+plan_left s f None = halted s (halt.Fault FetchUnmapped)
+plan_left s f (Some p) = entry_left s f (settled p (outcome_left s.cpu))
+
+abbrev pub frame_left : MachineState → Frame → FrameKind → Option Plan → Outcome
+frame_left s f Swi kept = swi_left s f
+frame_left s f (Entry kind) kept = plan_left s f kept
+
+-- Module code must have left the stack of supervisor mode as it was.
+abbrev pub gated_by : MachineState → Option Frame → Outcome
+gated_by s None = halted s (halt.Fault FetchUnmapped)
+gated_by s (Some f) =
+    if register_in Supervisor s.cpu 13 == f.stack then frame_left s f f.kind s.tables.plan else halted s (halt.Fault StackChanged)
+
+abbrev pub gated : MachineState → Outcome
+gated s = gated_by s (innermost s.tables.frames)
+
+-- what a call has come to once its entry came back with an outcome, before it goes on; without a plan nothing is done
+abbrev pub Resumes : MachineState → Frame → CodeOutcome → Option Plan → Option Next → MachineState → Type 0
+Resumes s f o (Some p) (Some n) t =
+    (let c = world_carried (machine_world s) (settled p o) in (t ≡ with_carried (come_back s f) c) × (n ≡ next_of c))
+Resumes s f o None None t = t ≡ s
+Resumes s f o p n t = ⊥
+
+abbrev pub fault_kept : Call → World → CodeOutcome → Option Plan → Option ℕ
+fault_kept call w o None = None
+fault_kept call w o (Some p) = fault_ahead call w (settled p o)

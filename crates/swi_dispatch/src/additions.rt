@@ -1,0 +1,200 @@
+//! OS_Module, the reasons that add a module: its image is recorded at once, and the call begins (RISC OS 3 Programmer's Reference Manual, "OS_Module",
+//! reasons 0, 1, 10 and 11).
+
+ghost use Rattle.std.specs.Prelude.{◌≡◌, ◌<◌, ◌≤◌, ◌^◌, false, length, IfOk};
+
+use crate::machine::Machine;
+use crate::module_steps::{Next, next_of};
+use image_loader::Images;
+use instances_plans::Outcome;
+use profile::ErrorNumber;
+use swi_dispatch_frames::Call;
+
+impl Machine {
+    ghost use Rattle.swi_dispatch.specs.Additions.{Starts, copied_range_planned, copy_planned, image_planned, insertion_planned, load_planned, named_load_planned, range_planned};
+    ghost use Rattle.swi_dispatch.specs.Parts.{state_of, outcome_of, IsFree, IsInStep, OnlySteps, OnlyState};
+    ghost use Rattle.swi_dispatch.specs.Step.{begun, begun_by, call_of};
+
+    /// OS_Module 0 and 1: R1 points to the name of an image and a text. `enters` says whether the module is entered at the end.
+    #[tactic(auto, unfolding(crate::specs::Step::begun))]
+    pub(crate) fn load_named(&mut self, images: &Images, is_x: bool, next: u32, enters: bool)
+        requires step { IsInStep self.old }
+        requires next { next < 2 ^ 26 }
+        ensures after { outcome_of self.new ≡ begun (state_of self.old) is_x next enters (named_load_planned images.now (state_of self.old) enters) }
+        ensures others { OnlySteps self.old self.new }
+    {
+        match self.string_in(1) {
+            Ok(words) => self.load_words(images, is_x, next, enters, words.as_slice()),
+            Err(error) => self.refuse_call(is_x, next, error),
+        }
+    }
+
+    /// The same with the words of the string.
+    #[tactic(auto, using(crate::proofs::Beginning::begins))]
+    pub(crate) fn load_words(
+        &mut self,
+        images: &Images,
+        is_x: bool,
+        next: u32,
+        enters: bool,
+        words: &[u8],
+    )
+        requires step { IsInStep self.old }
+        requires short { length words.now ≤ 255 }
+        ensures after { outcome_of self.new ≡ begun (state_of self.old) is_x next enters (load_planned images.now (state_of self.old) words.now enters) }
+        ensures others { OnlySteps self.old self.new }
+    {
+        let call = self.call_of(is_x, next, enters);
+        let started = self.start_load(images, words, enters);
+        self.go_on(call, started);
+    }
+
+    /// OS_Module 10: R1 has the address of an image, R2 its length.
+    #[tactic(auto, using(crate::proofs::Beginning::begins))]
+    pub(crate) fn insert_image(&mut self, is_x: bool, next: u32)
+        requires step { IsInStep self.old }
+        ensures after { outcome_of self.new ≡ begun (state_of self.old) is_x next false (insertion_planned (state_of self.old)) }
+        ensures others { OnlySteps self.old self.new }
+    {
+        let call = self.call_of(is_x, next, false);
+        let started = self.start_insertion();
+        self.go_on(call, started);
+    }
+
+    /// OS_Module 11: R1 has the address of an image, R2 its length.
+    #[tactic(auto, using(crate::proofs::Beginning::begins))]
+    pub(crate) fn copy_image(&mut self, is_x: bool, next: u32)
+        requires step { IsInStep self.old }
+        ensures after { outcome_of self.new ≡ begun (state_of self.old) is_x next false (copy_planned (state_of self.old)) }
+        ensures others { OnlySteps self.old self.new }
+    {
+        let call = self.call_of(is_x, next, false);
+        let started = self.start_copy();
+        self.go_on(call, started);
+    }
+
+    // What the end of a call needs to know of its begin.
+    fn call_of(&self, is_x: bool, next: u32, enters: bool) -> Call
+        ensures { result ≡ call_of (state_of self.now) is_x next enters }
+    {
+        Call {
+            is_x,
+            caller: self.cpu().psr(),
+            next,
+            enters,
+        }
+    }
+
+    // A call goes on that has begun, or is refused.
+    fn go_on(&mut self, call: Call, started: Result<Next, ErrorNumber>)
+        requires step { IsInStep self.old }
+        requires room { IfOk started (λ _. length (state_of self.old).tables.frames < 32) }
+        ensures after { outcome_of self.new ≡ begun_by (state_of self.old) call started }
+        ensures others { OnlySteps self.old self.new }
+    {
+        match started {
+            Ok(next) => self.go_to(call, next),
+            Err(error) => self.refuse_call(call.is_x, call.next, error),
+        }
+    }
+
+    #[tactic(auto, unfolding(crate::specs::Additions::load_planned))]
+    fn start_load(
+        &mut self,
+        images: &Images,
+        words: &[u8],
+        enters: bool,
+    ) -> Result<Next, ErrorNumber>
+        requires stepped { self.old.is_fresh ≡ false }
+        requires short { length words.now ≤ 255 }
+        ensures state { Starts (state_of self.old) (load_planned images.now (state_of self.old) words.now enters) result (state_of self.new) }
+        ensures room { IfOk result (λ _. length (state_of self.new).tables.frames < 32) }
+        ensures others { OnlyState self.old self.new }
+    {
+        let load = self.load_asked(images, words, enters)?;
+        self.place_image(load.image, load.text)
+    }
+
+    #[tactic(auto, unfolding(crate::specs::Additions::insertion_planned))]
+    fn start_insertion(&mut self) -> Result<Next, ErrorNumber>
+        requires stepped { self.old.is_fresh ≡ false }
+        ensures state { Starts (state_of self.old) (insertion_planned (state_of self.old)) result (state_of self.new) }
+        ensures room { IfOk result (λ _. length (state_of self.new).tables.frames < 32) }
+        ensures others { OnlyState self.old self.new }
+    {
+        let range = self.insertion_asked()?;
+        self.record_image(range.at, range.len)
+    }
+
+    #[tactic(auto, unfolding(crate::specs::Additions::copy_planned))]
+    fn start_copy(&mut self) -> Result<Next, ErrorNumber>
+        requires stepped { self.old.is_fresh ≡ false }
+        ensures state { Starts (state_of self.old) (copy_planned (state_of self.old)) result (state_of self.new) }
+        ensures room { IfOk result (λ _. length (state_of self.new).tables.frames < 32) }
+        ensures others { OnlyState self.old self.new }
+    {
+        let range = self.copy_asked()?;
+        self.place_copy(range.at, range.len)
+    }
+
+    // An image gets a block of the module area, and the plan of its call is begun.
+    #[tactic(auto, unfolding(crate::specs::Parts::state_of))]
+    fn place_image(&mut self, image: &[u8], text: &[u8]) -> Result<Next, ErrorNumber>
+        requires stepped { self.old.is_fresh ≡ false }
+        requires short { length text.now ≤ 255 }
+        requires free { IsFree (state_of self.old) }
+        ensures state { Starts (state_of self.old) (image_planned (state_of self.old) image.now text.now) result (state_of self.new) }
+        ensures room { length (state_of self.new).tables.frames < 32 }
+        ensures others { OnlyState self.old self.new }
+    {
+        let mut plan = self
+            .instances
+            .load(&mut self.memory, &mut self.areas, image, text)?;
+        let code = self
+            .instances
+            .carry(&mut self.memory, &self.areas, &mut plan, Outcome::Well);
+        let (kept, next) = next_of(plan, code);
+        self.plan = kept;
+        Ok(next)
+    }
+
+    // An image is recorded where it stands, and the plan of its call is begun.
+    #[tactic(auto, unfolding(crate::specs::Parts::state_of))]
+    fn record_image(&mut self, at: u32, len: u32) -> Result<Next, ErrorNumber>
+        requires stepped { self.old.is_fresh ≡ false }
+        requires free { IsFree (state_of self.old) }
+        ensures state { Starts (state_of self.old) (range_planned (state_of self.old) at len) result (state_of self.new) }
+        ensures room { length (state_of self.new).tables.frames < 32 }
+        ensures others { OnlyState self.old self.new }
+    {
+        let mut plan = self
+            .instances
+            .insert_in_place(&mut self.memory, &self.areas, at, len)?;
+        let code = self
+            .instances
+            .carry(&mut self.memory, &self.areas, &mut plan, Outcome::Well);
+        let (kept, next) = next_of(plan, code);
+        self.plan = kept;
+        Ok(next)
+    }
+
+    // A copy of an image that stands in memory gets a block of the module area, and the plan of its call is begun.
+    #[tactic(auto, unfolding(crate::specs::Parts::state_of))]
+    fn place_copy(&mut self, at: u32, len: u32) -> Result<Next, ErrorNumber>
+        requires stepped { self.old.is_fresh ≡ false }
+        requires free { IsFree (state_of self.old) }
+        ensures state { Starts (state_of self.old) (copied_range_planned (state_of self.old) at len) result (state_of self.new) }
+        ensures room { length (state_of self.new).tables.frames < 32 }
+        ensures others { OnlyState self.old self.new }
+    {
+        let mut plan = self
+            .instances
+            .insert_copy(&mut self.memory, &mut self.areas, at, len)?;
+        let code = self
+            .instances
+            .carry(&mut self.memory, &self.areas, &mut plan, Outcome::Well);
+        let (kept, next) = next_of(plan, code);
+        self.plan = kept;
+        Ok(next)
+    }
+}

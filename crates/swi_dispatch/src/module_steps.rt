@@ -1,0 +1,145 @@
+//! Calls on modules that may run module code, step by step: how such a call begins, goes on and ends (RISC OS 3 Programmer's Reference Manual,
+//! "Modules" and "OS_Module").
+
+ghost use Rattle.std.specs.Prelude.{◌≡◌, ◌<◌, false, length, IfOk};
+ghost use Rattle.swi_dispatch.specs.Gates.{kept_by, next_by};
+
+use crate::machine::Machine;
+use instances_plans::{Code, Ended, Given, Outcome, Plan};
+use profile::ErrorNumber;
+use swi_dispatch_frames::{Call, Frame, FrameKind, enter_code};
+
+/// What is next for a call that was carried on.
+#[derive(Drop)]
+pub enum Next {
+    /// Its code is entered, and the machine keeps its plan.
+    Code(Code),
+    /// It ends, with what its plan has met.
+    End(Plan),
+}
+
+impl Machine {
+    ghost use Rattle.swi_dispatch.specs.Gates.{call_ended, carried_on, entry_opened, loaded_entered, next_of, went_to, with_carried, world_carried};
+    ghost use Rattle.swi_dispatch.specs.MachineState.{quiet};
+    ghost use Rattle.swi_dispatch.specs.ModulePlans.{machine_world};
+    ghost use Rattle.swi_dispatch.specs.Parts.{state_of, outcome_of, CanBegin, IsInStep, OnlySteps, OnlyState};
+    ghost use Rattle.swi_dispatch.specs.Step.{begun_alone, call_of};
+
+    /// A call begins whose plan is made, or is refused.
+    #[tactic(auto, unfolding(crate::specs::Step::begun))]
+    pub(crate) fn begin(&mut self, is_x: bool, next: u32, planned: Result<Plan, ErrorNumber>)
+        requires step { IsInStep self.old }
+        requires begins { IfOk planned (λ plan. CanBegin (state_of self.old) plan) }
+        ensures after { outcome_of self.new ≡ begun_alone (state_of self.old) is_x next planned }
+        ensures others { OnlySteps self.old self.new }
+    {
+        match planned {
+            Ok(plan) => self.begin_plan(is_x, next, plan),
+            Err(error) => self.refuse_call(is_x, next, error),
+        }
+    }
+
+    #[tactic(auto, unfolding(crate::specs::Gates::carried_on))]
+    fn begin_plan(&mut self, is_x: bool, next: u32, plan: Plan)
+        requires step { IsInStep self.old }
+        requires begins { CanBegin (state_of self.old) plan }
+        ensures after { outcome_of self.new ≡ quiet (carried_on (state_of self.old) (call_of (state_of self.old) is_x next false) plan) }
+        ensures others { OnlySteps self.old self.new }
+    {
+        let caller = self.cpu().psr();
+        let call = Call {
+            is_x,
+            caller,
+            next,
+            enters: false,
+        };
+        let next = self.carry_first(plan);
+        self.go_to(call, next);
+    }
+
+    /// A call goes on where it has come to.
+    pub(crate) fn go_to(&mut self, call: Call, next: Next)
+        requires stepped { self.old.is_fresh ≡ false }
+        requires room { length (state_of self.old).tables.frames < 32 }
+        ensures state { state_of self.new ≡ went_to (state_of self.old) call next }
+        ensures others { OnlyState self.old self.new }
+    {
+        match next {
+            Next::Code(code) => self.open_entry(call, code),
+            Next::End(plan) => self.end_call(call, &plan),
+        }
+    }
+
+    // What the plan of a new call does first.
+    #[tactic(auto, unfolding(crate::specs::Parts::state_of))]
+    fn carry_first(&mut self, plan: Plan) -> Next
+        requires stepped { self.old.is_fresh ≡ false }
+        requires begins { CanBegin (state_of self.old) plan }
+        ensures state { state_of self.new ≡ with_carried (state_of self.old) (world_carried (machine_world (state_of self.old)) plan) }
+        ensures next { result ≡ next_of (world_carried (machine_world (state_of self.old)) plan) }
+        ensures others { OnlyState self.old self.new }
+    {
+        let mut plan = plan;
+        let code = self
+            .instances
+            .carry(&mut self.memory, &self.areas, &mut plan, Outcome::Well);
+        let (kept, next) = next_of(plan, code);
+        self.plan = kept;
+        next
+    }
+
+    // An entry of a module is called.
+    #[tactic(auto, unfolding(crate::specs::Parts::state_of, crate::specs::Gates::entry_opened))]
+    fn open_entry(&mut self, call: Call, code: Code)
+        requires stepped { self.old.is_fresh ≡ false }
+        requires room { length (state_of self.old).tables.frames < 32 }
+        ensures state { state_of self.new ≡ entry_opened (state_of self.old) call code }
+        ensures others { OnlyState self.old self.new }
+    {
+        self.frames.open(Frame::of(&self.cpu, call, FrameKind::Entry(code.kind), code.slot));
+        enter_code(&mut self.cpu, code);
+    }
+
+    // Nothing of a call is left: it goes back.
+    fn end_call(&mut self, call: Call, plan: &Plan)
+        requires stepped { self.old.is_fresh ≡ false }
+        ensures state { state_of self.new ≡ call_ended (state_of self.old) call plan.now }
+        ensures others { OnlyState self.old self.new }
+    {
+        match plan.end() {
+            Ended::Own(r0) => {
+                self.answer(0, r0);
+                self.go_back(call.caller, true, call.next);
+            }
+            _ => {
+                self.go_back(call.caller, false, call.next);
+                if call.enters {
+                    self.enter_loaded(plan.given());
+                }
+            }
+        }
+    }
+
+    // A module that was loaded to be run is entered, if it is there and has a start.
+    #[tactic(auto, unfolding(crate::specs::Gates::loaded_entered))]
+    fn enter_loaded(&mut self, given: &Given)
+        requires stepped { self.old.is_fresh ≡ false }
+        ensures state { state_of self.new ≡ loaded_entered (state_of self.old) given.now }
+        ensures others { OnlyState self.old self.new }
+    {
+        let title = given.header.title.as_slice();
+        if let Ok(start) = self.instances().start(title) {
+            self.open_module(start, given.text.as_slice());
+        }
+    }
+}
+
+// The plan that is kept while code runs, and what is next.
+pub(crate) fn next_of(plan: Plan, code: Option<Code>) -> (Option<Plan>, Next)
+    ensures { result ≡ (kept_by plan code, next_by plan code) }
+{
+    match code {
+        Some(code) => (Some(plan), Next::Code(code)),
+        None => (None, Next::End(plan)),
+    }
+}

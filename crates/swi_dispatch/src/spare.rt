@@ -1,0 +1,60 @@
+//! A second memory and list of modules, on which a call is tried before it is carried on, where its caller takes no error.
+
+ghost use Rattle.std.specs.Prelude.{◌≡◌};
+ghost use Rattle.os_heap.specs.Store.{AreClasses};
+ghost use Rattle.instances_plans.specs.Plans.{settled};
+ghost use Rattle.instances_ground.specs.World.{world_of};
+ghost use Rattle.instances.specs.Turns.{IsUnderWay};
+ghost use Rattle.swi_dispatch.specs.Gates.{error_ahead};
+
+use crate::errors::error_at;
+use address_map::AddressMap;
+use dynamic_areas::Areas;
+use instances::Instances;
+use instances_plans::{Ended, Outcome, Plan};
+use profile::Config;
+use std::alloc::{AllocError, Global};
+
+/// What a call is tried on.
+#[derive(Drop)]
+pub(crate) struct Spare {
+    memory: AddressMap,
+    instances: Instances,
+}
+
+impl Spare {
+    pub(crate) fn new(alloc: Global, config: Config) -> Result<Spare, AllocError> {
+        Ok(Spare {
+            memory: AddressMap::new(alloc, config.pages())?,
+            instances: Instances::new(),
+        })
+    }
+
+    /// The number of the error that a call ends with whose entry comes back with an outcome, if it ends so before more module code runs.
+    pub(crate) fn error_after(
+        &mut self,
+        memory: &AddressMap,
+        areas: &Areas,
+        instances: &Instances,
+        plan: &Plan,
+        outcome: Outcome,
+    ) -> Option<u32>
+        requires going { IsUnderWay (world_of memory.now areas.now instances.now) plan.now }
+        requires classes { AreClasses memory.now }
+        ensures { result ≡ error_ahead (world_of memory.now areas.now instances.now) (settled plan.now outcome) }
+    {
+        self.memory.copy_from(memory);
+        self.instances.copy_from(instances);
+        let mut plan = plan.copied();
+        let code = self
+            .instances
+            .carry(&mut self.memory, areas, &mut plan, outcome);
+        if code.is_some() {
+            return None;
+        }
+        match plan.end() {
+            Ended::Own(r0) => Some(error_at(&self.memory, r0)),
+            Ended::Well | Ended::System(_) => None,
+        }
+    }
+}
