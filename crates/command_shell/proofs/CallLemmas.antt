@@ -11,8 +11,8 @@ use Rattle.swi_dispatch.specs.declared.halt.Halt.{Halt}
 use Rattle.swi_dispatch.specs.declared.halt.Halt.TheVariants as halt
 use Rattle.swi_dispatch.specs.MachineState.{Outcome, stop_of}
 use Rattle.swi_dispatch.specs.Run.{count_after, is_among}
-use Rattle.swi_dispatch.specs.Step.{machine_step, store_called}
-use Rattle.command_shell.specs.Calls.{call_done, call_end, call_end_by, call_told, call_unless, end_told, finished, finished_by, step_made, step_then, stop_before_step, stop_before_step_by, stop_told}
+use Rattle.swi_dispatch.specs.Step.{machine_step}
+use Rattle.command_shell.specs.Calls.{call_done, call_end, call_end_by, call_made, call_unless, end_told, finished, finished_by, step_made, step_then, stop_before_step, stop_before_step_by, stop_told}
 use Rattle.command_shell.specs.State.{ScriptState, Answered, IsAnswered}
 use Rattle.command_shell.specs.declared.calls.CallEnd.{CallEnd}
 use Rattle.command_shell.specs.declared.calls.CallEnd.TheVariants as end
@@ -21,15 +21,15 @@ pub can_step : (o : Option Halt) (left : ℕ) → stop_before_step_by o left ≡
 can_step (Some halt) left none = absurd (cc)
 can_step None left none = grind (arith, nat_tests, none)
 
--- a CALL that can't take its step
-pub call_refused : (w : ScriptState) (number : ℕ) (stop : Stop) → stop_before_step w ≡ Some stop → call_told w number ≡ stop_told w stop
-unfolding call_told
-call_refused w number stop e = ap (call_unless w (store_called w.images w.machine number)) e
+-- a call that can't take its first step
+pub call_refused : (w : ScriptState) (first : Outcome) (stop : Stop) → stop_before_step w ≡ Some stop → call_made w first ≡ stop_told w stop
+unfolding call_made
+call_refused w first stop e = ap (call_unless w first) e
 
 -- and one that can
-pub call_allowed : (w : ScriptState) (number : ℕ) → stop_before_step w ≡ None → call_told w number ≡ call_done w (store_called w.images w.machine number)
-unfolding call_told
-call_allowed w number e = ap (call_unless w (store_called w.images w.machine number)) e
+pub call_allowed : (w : ScriptState) (first : Outcome) → stop_before_step w ≡ None → call_made w first ≡ call_done w first
+unfolding call_made
+call_allowed w first e = ap (call_unless w first) e
 
 -- the step that a call takes next
 abbrev pub next_step : ScriptState → Outcome

@@ -1,16 +1,20 @@
--- The line CALL: a store call made from outside, and then the steps of the module code that it enters, until that code has come back.
+-- The lines CALL and LOAD: a store call or the loading of a module, made from outside, and then the steps of the module code that it enters, until
+-- that code has come back.
 use Rattle.std.specs.Prelude.{ℕ, zero, suc, false, ◌-◌, ◌==◌, List, length, Option, Some, None, if◌then◌else◌}
+use Rattle.image_loader.specs.Entries.{Entry}
 use Rattle.profile.specs.declared.stop.Stop.{Stop}
 use Rattle.profile.specs.declared.stop.Stop.TheVariants as stop
 use Rattle.swi_dispatch.specs.declared.halt.Halt.{Halt}
 use Rattle.swi_dispatch.specs.Errors.{error_number}
 use Rattle.swi_dispatch.specs.MachineState.{MachineState, Outcome, stop_of}
 use Rattle.swi_dispatch.specs.Run.{count_after, is_among}
-use Rattle.swi_dispatch.specs.Step.{machine_step, store_called}
+use Rattle.swi_dispatch.specs.Step.{machine_step, module_loaded, store_called}
 use Rattle.command_shell.specs.Answers.{ok_text, call_error_text, stop_text}
 use Rattle.command_shell.specs.State.{ScriptState, Answered, answer, then_answered}
 use Rattle.command_shell.specs.declared.calls.CallEnd.{CallEnd}
 use Rattle.command_shell.specs.declared.calls.CallEnd.TheVariants as end
+use Rattle.command_shell.specs.declared.calls.OutsideCall.{OutsideCall}
+use Rattle.command_shell.specs.declared.calls.OutsideCall.TheVariants as outside
 
 -- Why no step can be taken, by what halts the machine and what is left of the budget.
 abbrev pub stop_before_step_by : Option Halt → ℕ → Option Stop
@@ -70,6 +74,21 @@ abbrev pub call_unless : ScriptState → Outcome → Option Stop → Answered
 call_unless s a (Some stop) = stop_told s stop
 call_unless s a None = call_done s a
 
--- CALL makes a store call, unless no step can be taken.
-unfoldable pub call_told : ScriptState → ℕ → Answered
-call_told s number = call_unless s (store_called s.images s.machine number) (stop_before_step s)
+-- a call whose first step leaves this, unless no step can be taken
+unfoldable pub call_made : ScriptState → Outcome → Answered
+call_made s a = call_unless s a (stop_before_step s)
+
+-- CALL makes a store call; LOAD loads a module.
+abbrev pub call_told : ScriptState → ℕ → Answered
+call_told s number = call_made s (store_called s.images s.machine number)
+
+abbrev pub load_told : ScriptState → List ℕ → Answered
+load_told s text = call_made s (module_loaded s.images s.machine text)
+
+abbrev pub outside_called : List Entry → MachineState → OutsideCall → Outcome
+outside_called images s (outside.Swi number) = store_called images s number
+outside_called images s (outside.Load text) = module_loaded images s text.now
+
+-- the first step of either
+abbrev pub first_step : ScriptState → OutsideCall → Outcome
+first_step s call = outside_called s.images s.machine call

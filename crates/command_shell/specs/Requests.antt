@@ -1,5 +1,5 @@
 -- What a line of a script asks for, by its words. Words are parted by single spaces; a command word may be in upper or lower case.
-use Rattle.std.specs.Prelude.{ℕ, Bool, true, false, ◌==◌, List, [], ◌∷◌, length, map, codes, Option, Some, None, if◌then◌else◌}
+use Rattle.std.specs.Prelude.{ℕ, Bool, true, false, ◌==◌, ◌&&◌, nat_lt, List, [], ◌∷◌, length, map, take, drop, codes, Option, Some, None, if◌then◌else◌}
 use Rattle.std.specs.Char.{to_ascii_lowercase}
 use Rattle.std.specs.List.{slice_split}
 use Rattle.std.specs.Str.{bytes_eq}
@@ -19,6 +19,7 @@ pub data Request : Type 0 where
   Set : ℕ → ℕ → Request
   Poke : ℕ → ℕ → Request
   Call : ℕ → Request
+  Load : List ℕ → Request
   Step : ℕ → Request
   Break : ℕ → Request
   Unbreak : ℕ → Request
@@ -101,8 +102,12 @@ request_of_words (word ∷ other ∷ []) = request_of_two word other
 request_of_words (word ∷ first ∷ second ∷ []) = request_of_three word first second
 request_of_words (word ∷ first ∷ second ∷ third ∷ others) = Unknown
 
+-- LOAD has a text of a byte at least: all that follows its space, other spaces too.
+unfoldable pub is_load : List ℕ → Bool
+is_load line = nat_lt 5 (length line) && is_word (take 5 line) (codes "LOAD ")
+
 unfoldable pub request_of : List ℕ → Request
-request_of line = request_of_words (words line)
+request_of line = if is_load line then Load (drop 5 line) else request_of_words (words line)
 
 -- the line that ends a block
 unfoldable pub is_end : List ℕ → Bool
@@ -119,6 +124,7 @@ request_of_command command.Regs = Regs
 request_of_command (command.Set register value) = Set register value
 request_of_command (command.Poke address value) = Poke address value
 request_of_command (command.Call number) = Call number
+request_of_command (command.Load text) = Load text.now
 request_of_command (command.Step count) = Step count
 request_of_command (command.Break address) = Break address
 request_of_command (command.Unbreak address) = Unbreak address

@@ -4,10 +4,10 @@ use Rattle.std.specs.Str.Lines.{lines}
 use Rattle.profile.specs.Sizes.{Sizes}
 use Rattle.image_loader.specs.Entries.{Entry}
 use Rattle.command_shell.specs.Answers.{unknown_text}
-use Rattle.command_shell.specs.Calls.{call_told}
+use Rattle.command_shell.specs.Calls.{call_told, load_told}
 use Rattle.command_shell.specs.Images.{hex_told, asm_told, boot_told}
 use Rattle.command_shell.specs.Memory.{set_told, poke_told}
-use Rattle.command_shell.specs.Requests.{Request, Nothing, Hex, Asm, Boot, Run, Regs, Set, Poke, Call, Step, Break, Unbreak, Mem, Code, Heap, Areas, Modules, Unknown, opens_block, request_of, is_end}
+use Rattle.command_shell.specs.Requests.{Request, Nothing, Hex, Asm, Boot, Run, Regs, Set, Poke, Call, Load, Step, Break, Unbreak, Mem, Code, Heap, Areas, Modules, Unknown, opens_block, request_of, is_end}
 use Rattle.command_shell.specs.State.{ScriptState, Answered, answer, then_answered, start_state}
 use Rattle.command_shell.specs.Stepping.{run_told, step_told, break_told, unbreak_told}
 use Rattle.command_shell.specs.Views.{regs_told, mem_told, code_told, heap_told, areas_told, modules_told}
@@ -23,6 +23,7 @@ request_told s number Regs block = regs_told s
 request_told s number (Set register value) block = set_told s register value
 request_told s number (Poke address value) block = poke_told s address value
 request_told s number (Call called) block = call_told s called
+request_told s number (Load text) block = load_told s text
 request_told s number (Step count) block = step_told s count
 request_told s number (Break address) block = break_told s address
 request_told s number (Unbreak address) block = unbreak_told s address

@@ -1,6 +1,7 @@
-//! The line CALL: a store call, and the steps of the module code that it enters.
+//! The lines CALL and LOAD: a store call or the loading of a module, and the steps of the module
+//! code that it enters.
 
-ghost use Rattle.std.specs.Prelude.{◌≡◌, ◌≤◌, ◌<◌, ◌+◌, true, List, Option, OnOk, OnErr};
+ghost use Rattle.std.specs.Prelude.{◌≡◌, ◌≤◌, ◌<◌, ◌+◌, true, false, List, Option, OnOk, OnErr};
 ghost use Rattle.std.specs.Option.{option_map};
 ghost use Rattle.std.specs.Io.KnownBytes.{Appends};
 ghost use Rattle.profile.specs.Output.{Writes};
@@ -12,8 +13,36 @@ use crate::answers::{tell_error, tell_ok, tell_stop};
 use crate::session::Session;
 use image_loader::Images;
 use profile::{Sink, Stop, WriteFault, push_all};
+use swi_dispatch::Machine;
 
-/// Why a call made by a script goes no further.
+/// A call that a script makes from outside the machine.
+#[derive(Clone, Copy, Debug)]
+pub(crate) enum OutsideCall<'a> {
+    /// CALL: a SWI by its number.
+    Swi(u32),
+    /// LOAD: a module is loaded, by the name of an image and a text.
+    Load(&'a [u8]),
+}
+
+impl OutsideCall<'_> {
+    ghost use Rattle.swi_dispatch.specs.Parts.{outcome_of, state_of};
+    ghost use Rattle.command_shell.specs.Calls.{outside_called};
+
+    // Takes the first step.
+    fn begin(self, machine: &mut Machine, images: &Images) -> Option<Stop>
+        ensures after { outcome_of machine.new ≡ outside_called images.now (state_of machine.old) self.entry }
+        ensures stop { result ≡ option_map stop_of (state_of machine.new).halt }
+        ensures fresh { machine.new.is_fresh ≡ false }
+        ensures sizes { machine.new.sizes ≡ machine.old.sizes }
+    {
+        match self {
+            OutsideCall::Swi(number) => machine.store_call(images, number),
+            OutsideCall::Load(text) => machine.load_module(images, text),
+        }
+    }
+}
+
+/// Why such a call goes no further.
 #[derive(Clone, Copy, Debug, PartialEq, Eq)]
 pub(crate) enum CallEnd {
     /// As many frames are open as before it.
@@ -25,29 +54,30 @@ pub(crate) enum CallEnd {
 impl Session {
     ghost use Rattle.image_loader.specs.Entries.{Entry};
     ghost use Rattle.swi_dispatch.specs.Parts.{state_of};
-    ghost use Rattle.swi_dispatch.specs.Step.{machine_step, store_called};
-    ghost use Rattle.command_shell.specs.Calls.{call_told, call_done, call_end, call_text, end_told, finished, step_made, stop_told, stop_before_step};
+    ghost use Rattle.swi_dispatch.specs.Step.{machine_step};
+    ghost use Rattle.command_shell.specs.Calls.{call_made, call_done, call_end, call_text, end_told, finished, first_step, step_made, stop_told, stop_before_step};
     ghost use Rattle.command_shell.specs.Session.{script_state};
     ghost use Rattle.command_shell.specs.State.{IsAnswered};
 
-    /// Makes a store call, takes the steps of the module code that it enters, until that has come
-    /// back, and tells how the call ended.
-    #[tactic(auto, unfolding(crate::specs::Calls::call_told))]
+    /// Makes a call, takes the steps of the module code that it enters, until that has come back,
+    /// and tells how the call ended.
+    #[tactic(auto, unfolding(crate::specs::Calls::call_made))]
     pub(crate) fn call<W: Sink>(
         &mut self,
         images: &Images,
         sink: &mut W,
-        number: u32,
+        call: OutsideCall,
     ) -> Result<(), WriteFault>
         ensures told { OnOk result (IsAnswered (W.contents sink.old) (W.contents sink.new)
             (script_state self.new images.now)
-            (call_told (script_state self.old images.now) number)) }
+            (call_made (script_state self.old images.now)
+            (first_step (script_state self.old images.now) call.entry))) }
         ensures flag { OnErr result (W.has_failed sink.new ≡ true) }
         ensures same_flag { OnOk result (W.has_failed sink.new ≡ W.has_failed sink.old) }
     {
         match self.stop_before_step() {
             Some(stop) => self.stopped(sink, stop),
-            None => self.store_call(images, sink, number),
+            None => self.complete(images, sink, call),
         }
     }
 
@@ -75,44 +105,44 @@ impl Session {
         tell_stop(sink, stop, self.machine.cpu().pc())
     }
 
-    // A store call where a step can be taken.
-    fn store_call<W: Sink>(
+    // A call where a step can be taken.
+    fn complete<W: Sink>(
         &mut self,
         images: &Images,
         sink: &mut W,
-        number: u32,
+        call: OutsideCall,
     ) -> Result<(), WriteFault>
         requires { 0 < self.old.left }
         ensures told { OnOk result (IsAnswered (W.contents sink.old) (W.contents sink.new)
             (script_state self.new images.now)
             (call_done (script_state self.old images.now)
-            (store_called images.now (script_state self.old images.now).machine number))) }
+            (first_step (script_state self.old images.now) call.entry))) }
         ensures flag { OnErr result (W.has_failed sink.new ≡ true) }
         ensures same_flag { OnOk result (W.has_failed sink.new ≡ W.has_failed sink.old) }
     {
         let frames = self.machine.frames();
-        self.make_call(images, sink, number)?;
+        self.begin_call(images, sink, call)?;
         self.finish(images, sink, frames)
     }
 
-    // The step that makes the call.
+    // The first step of a call.
     #[tactic(auto, unfolding(crate::specs::Session::script_state))]
-    fn make_call<W: Sink>(
+    fn begin_call<W: Sink>(
         &mut self,
         images: &Images,
         sink: &mut W,
-        number: u32,
+        call: OutsideCall,
     ) -> Result<(), WriteFault>
         requires { 0 < self.old.left }
         ensures state { OnOk result (script_state self.new images.now
             ≡ step_made (script_state self.old images.now)
-            (store_called images.now (script_state self.old images.now).machine number)) }
+            (first_step (script_state self.old images.now) call.entry)) }
         ensures text { OnOk result (Appends (W.contents sink.old) (W.contents sink.new)
-            (store_called images.now (script_state self.old images.now).machine number).printed) }
+            (first_step (script_state self.old images.now) call.entry).printed) }
         ensures flag { OnErr result (W.has_failed sink.new ≡ true) }
         ensures same_flag { OnOk result (W.has_failed sink.new ≡ W.has_failed sink.old) }
     {
-        let halt = self.machine.store_call(images, number);
+        let halt = call.begin(&mut self.machine, images);
         self.count_step(sink, halt)
     }
 

@@ -20,6 +20,3 @@ mod views;
 
 pub use error::RunError;
 pub use script::{Summary, run_script};
-
-#[cfg(test)]
-mod tests;

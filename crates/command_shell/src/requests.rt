@@ -1,7 +1,7 @@
-ghost use Rattle.std.specs.Prelude.{◌≡◌, [], ◌∷◌};
+ghost use Rattle.std.specs.Prelude.{◌≡◌, ◌<◌, true, [], ◌∷◌, length};
 ghost use Rattle.command_shell.specs.Numbers.{number_of};
 ghost use Rattle.command_shell.specs.Operands.{register_named, word_address, origin_of, count_up_to};
-ghost use Rattle.command_shell.specs.Requests.{Hex, Boot, Set, Poke, Call, Step, Break, Unbreak, Mem, Code, Heap, is_word, is_end, words, named, named_at, numbered, both_numbered, request_of, request_of_word, request_of_two, request_of_three, request_of_words, request_of_command};
+ghost use Rattle.command_shell.specs.Requests.{Hex, Boot, Set, Poke, Call, Step, Break, Unbreak, Mem, Code, Heap, is_word, is_end, is_load, words, named, named_at, numbered, both_numbered, request_of, request_of_word, request_of_two, request_of_three, request_of_words, request_of_command};
 ghost use Rattle.image_loader.specs.Entries.{is_name};
 
 use crate::numbers::number_of;
@@ -14,6 +14,9 @@ const MAX_BYTES_SHOWN: u32 = 4096;
 
 /// The most words that a line shows as instructions.
 const MAX_WORDS_SHOWN: u32 = 1024;
+
+/// What a line begins with that loads a module.
+const LOAD: &[u8] = b"LOAD ";
 
 /// What a line of a script asks for.
 #[derive(Clone, Copy, Debug)]
@@ -36,6 +39,8 @@ pub enum Command<'a> {
     Poke(WordAddress, u32),
     /// `CALL n`.
     Call(u32),
+    /// `LOAD text`, with a text of a byte at least.
+    Load(&'a [u8]),
     /// `STEP n`.
     Step(u32),
     /// `BREAK a`.
@@ -56,10 +61,30 @@ pub enum Command<'a> {
     Unknown,
 }
 
-/// Reads a line. Words are parted by single spaces, and a command may be in upper or lower case.
+/// Reads a line. Words are parted by single spaces, but the text of LOAD is all that follows; a command may be in upper or lower case.
 #[tactic(auto, unfolding(crate::specs::Requests::request_of))]
 pub fn command_of(line: &[u8]) -> Command<'_>
     ensures { request_of_command result ≡ request_of line.now }
+{
+    if is_load(line) {
+        Command::Load(&line[LOAD.len()..])
+    } else {
+        command_of_line(line)
+    }
+}
+
+// Whether the line is LOAD with a text.
+#[tactic(auto, unfolding(crate::specs::Requests::is_load))]
+fn is_load(line: &[u8]) -> bool
+    ensures value { result ≡ is_load line.now }
+    ensures long { result ≡ true → 5 < length line.now }
+{
+    line.len() > LOAD.len() && has_letters(&line[..LOAD.len()], LOAD)
+}
+
+// A line of words.
+fn command_of_line(line: &[u8]) -> Command<'_>
+    ensures { request_of_command result ≡ request_of_words (words line.now) }
 {
     let (word, rest) = cut(line, b' ');
     match rest {

@@ -3,6 +3,7 @@ ghost use Rattle.command_shell.specs.Blocks.{block_lines, lines_after, lines_tak
 ghost use Rattle.command_shell.specs.Error.{IsLineError};
 
 use crate::answers::tell_unknown;
+use crate::calls::OutsideCall;
 use crate::error::RunError;
 use crate::requests::Command;
 use image_loader::Images;
@@ -90,7 +91,8 @@ impl Session {
                 Ok(())
             }
             Command::Poke(address, value) => Ok(self.poke(sink, address, value)?),
-            Command::Call(number) => Ok(self.call(images, sink, number)?),
+            Command::Call(number) => Ok(self.call(images, sink, OutsideCall::Swi(number))?),
+            Command::Load(text) => Ok(self.call(images, sink, OutsideCall::Load(text))?),
             Command::Step(count) => Ok(self.step(images, sink, count)?),
             Command::Break(address) => Ok(self.add_break(sink, address)?),
             Command::Unbreak(address) => Ok(self.remove_break(sink, address)?),
