@@ -21,6 +21,3 @@ pub use item::Item;
 pub use map::AddressMap;
 pub use region::{Kind, Region, do_meet};
 pub use view::View;
-
-#[cfg(test)]
-mod tests;

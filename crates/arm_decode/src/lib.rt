@@ -32,6 +32,3 @@ pub use operand::Operand;
 pub use operation::Operation;
 pub use register::{Register, RegisterList};
 pub use shift::{Shift, ShiftedRegister};
-
-#[cfg(test)]
-mod tests;

@@ -21,6 +21,3 @@ pub use cpu::Cpu;
 pub use execute::step;
 pub use psr::{Mode, Psr};
 pub use turn::Turn;
-
-#[cfg(test)]
-mod tests;

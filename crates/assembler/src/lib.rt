@@ -18,6 +18,3 @@ pub use assembler_text::disassemble;
 pub use assembling::{assemble, assemble_lines};
 pub use error::AsmError;
 pub use program::Program;
-
-#[cfg(test)]
-mod tests;

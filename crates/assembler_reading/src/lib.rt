@@ -9,6 +9,3 @@ pub mod operating;
 pub mod register_lists;
 
 pub use instructions::instruction;
-
-#[cfg(test)]
-mod tests;

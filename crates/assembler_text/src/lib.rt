@@ -8,6 +8,3 @@ pub mod printing;
 pub mod transfers;
 
 pub use printing::disassemble;
-
-#[cfg(test)]
-mod tests;

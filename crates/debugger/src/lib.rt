@@ -14,6 +14,3 @@ pub use heap::show_blocks;
 pub use memory::show_memory;
 pub use modules::show_modules;
 pub use registers::show_regs;
-
-#[cfg(test)]
-mod tests;

@@ -16,6 +16,3 @@ pub use area::{Area, Changed, Created, Extent, MOST_NAME_BYTES, Wanted};
 pub use areas::Areas;
 pub use start::start_memory;
 pub use table::MODULE_AREA;
-
-#[cfg(test)]
-mod tests;

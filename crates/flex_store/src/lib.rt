@@ -12,6 +12,3 @@ mod walk;
 
 pub use blocks::{FlexBlock, FlexBlocks};
 pub use flex::Flex;
-
-#[cfg(test)]
-mod tests;

@@ -30,6 +30,3 @@ pub use counted::Counted;
 pub use heaps::Heaps;
 pub use payload::Payload;
 pub use sums::{changed_by, round_up_8};
-
-#[cfg(test)]
-mod tests;

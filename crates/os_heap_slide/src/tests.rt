@@ -23,8 +23,15 @@ use std::test::Fail;
 /// The heap of these tests: its items meet the end of a page, and the next page lies elsewhere in the store.
 const HEAP: u32 = 0x9FD0;
 
-/// The addresses and the totals of its four blocks.
-static BLOCKS: [(u32, u32); 4] = [(0x9FE0, 8), (0x9FE8, 32), (0xA008, 16), (0xA018, 24)];
+/// The addresses and the totals of its six blocks.
+static BLOCKS: [(u32, u32); 6] = [
+    (0x9FE0, 8),
+    (0x9FE8, 32),
+    (0xA008, 16),
+    (0xA018, 24),
+    (0xA030, 8),
+    (0xA038, 40),
+];
 
 /// What a block is before a slide.
 #[derive(Clone, Copy, Debug, PartialEq, Eq)]
@@ -34,13 +41,15 @@ enum Role {
     GivenBack,
 }
 
-/// The roles of the four blocks, by the digits of a number in base 3.
-fn roles(pattern: u32) -> [Role; 4] {
+/// The roles of the six blocks, by the digits of a number in base 3.
+fn roles(pattern: u32) -> [Role; 6] {
     [
         role_of(pattern),
         role_of(pattern / 3),
         role_of(pattern / 9),
         role_of(pattern / 27),
+        role_of(pattern / 81),
+        role_of(pattern / 243),
     ]
 }
 
@@ -68,6 +77,9 @@ fn with_roles(rt: &HostRuntime, pattern: u32) -> Result<AddressMap, Fail>
     let _ = map.store_word(0xA014, 3);
     let _ = map.store_word(0xA01C, 4);
     let _ = map.store_word(0xA02C, 4);
+    let _ = map.store_word(0xA034, 5);
+    let _ = map.store_word(0xA03C, 6);
+    let _ = map.store_word(0xA05C, 6);
     let heaps = Heaps::new();
     let _ = heaps.init(&mut map, HEAP, 256);
     for (_, total) in BLOCKS {
@@ -153,7 +165,7 @@ fn past_free(map: &AddressMap, heap: u32, cursor: &Cursor) -> Cursor
 }
 
 /// The addresses of the blocks that can be moved.
-fn movable_blocks(pattern: u32) -> ArrayVec<u32, 4> {
+fn movable_blocks(pattern: u32) -> ArrayVec<u32, 6> {
     let mut movable = ArrayVec::new();
     for ((at, _), role) in BLOCKS.into_iter().zip(roles(pattern)) {
         if role == Role::Movable {
@@ -164,7 +176,7 @@ fn movable_blocks(pattern: u32) -> ArrayVec<u32, 4> {
 }
 
 /// The items of a heap, and whether each is free.
-fn found_items(map: &AddressMap, heap: u32) -> ArrayVec<(u32, bool), 8>
+fn found_items(map: &AddressMap, heap: u32) -> ArrayVec<(u32, bool), 12>
     requires { IsSound (store_of map.now) }
 {
     let mut items = ArrayVec::new();
@@ -181,7 +193,7 @@ fn found_items(map: &AddressMap, heap: u32) -> ArrayVec<(u32, bool), 8>
 fn expect_slid(rt: &impl Abort, map: &AddressMap, pattern: u32, moves: &Moves)
     requires { IsSound (store_of map.now) }
 {
-    let mut expected = ArrayVec::<(u32, bool), 8>::new();
+    let mut expected = ArrayVec::<(u32, bool), 12>::new();
     let mut top = HEAP + HEAP_DESCRIPTOR;
     let mut number = 0_u32;
     for ((at, total), role) in BLOCKS.into_iter().zip(roles(pattern)) {
@@ -226,10 +238,10 @@ fn expect_slid(rt: &impl Abort, map: &AddressMap, pattern: u32, moves: &Moves)
     );
 }
 
-// Each pattern of fixed blocks, movable ones and free room, of four items.
+// Each pattern of fixed blocks, movable ones and free room, of six items.
 #[test]
 fn slides_every_pattern(rt: HostRuntime) -> Result<(), Fail> {
-    for pattern in 0..81 {
+    for pattern in 0..729 {
         let mut map = with_roles(&rt, pattern)?;
         let movable = movable_blocks(pattern);
         assert!(rt; may_slide(&map, HEAP, movable.as_slice()), "{pattern}");

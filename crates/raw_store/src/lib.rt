@@ -6,6 +6,3 @@ mod lanes;
 pub mod store;
 
 pub use store::RawStore;
-
-#[cfg(test)]
-mod tests;

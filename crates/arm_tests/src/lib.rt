@@ -1,0 +1,9 @@
+//! Tests of the core: words decoded and encoded, and single steps, each worked out by hand.
+//!
+//! They stand apart from the crates that they test, since a crate with tests is proved once more with them.
+#![tactic(auto)]
+
+#[cfg(test)]
+mod steps;
+#[cfg(test)]
+mod words;

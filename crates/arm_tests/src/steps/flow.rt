@@ -1,0 +1,230 @@
+//! Conditions, branches, software interrupts, fetches and refused words.
+
+use super::Line::{At, Ends, Has, Holds, Lowest, New, Pc, Run, Set, Steps};
+use super::{Line, play, takes};
+use arm_step::Turn;
+use profile::Fault;
+use std::test::Fail;
+
+static CONDITIONS: [(u32, u32); 16] = [
+    (0, 0xF0F0), // EQ
+    (1, 0x0F0F),
+    (2, 0xCCCC), // CS
+    (3, 0x3333),
+    (4, 0xFF00), // MI
+    (5, 0x00FF),
+    (6, 0xAAAA), // VS
+    (7, 0x5555),
+    (8, 0x0C0C), // HI
+    (9, 0xF3F3),
+    (10, 0xAA55), // GE
+    (11, 0x55AA),
+    (12, 0x0A05), // GT
+    (13, 0xF5FA),
+    (14, 0xFFFF),
+    (15, 0x0000),
+];
+
+#[test]
+fn meets_conditions_by_the_flags(rt: HostRuntime) -> Result<(), Fail> {
+    // MOVcc R0,#1: for each condition the sixteen settings of N, Z, C, V where it holds, as bits.
+    for &(code, holds) in &CONDITIONS {
+        for flags in 0..16u32 {
+            let word = (code % 16 << 28) + 0x03A0_0001;
+            let done = (holds >> flags) & 1;
+            let is_taken = takes(rt.alloc(), flags, (0, 0, 0, 0), word, done, flags)?;
+            assert!(rt; is_taken, "{word:08X}");
+        }
+    }
+    Ok(())
+}
+
+static LINES: [Line; 176] = [
+    // where the condition fails, nothing else of the word counts
+    New(0),
+    Set(0, 3),
+    Run(0xF600_0010),
+    Has(0, 3),
+    Has(15, 0x8004),
+    New(0),
+    Set(0, 3),
+    Run(0xF100_0090),
+    Has(0, 3),
+    Has(15, 0x8004),
+    New(0),
+    Set(0, 3),
+    Run(0x0E00_0000),
+    Has(0, 3),
+    Has(15, 0x8004),
+    New(0),
+    Set(0, 3),
+    Run(0x0F00_0011),
+    Has(0, 3),
+    Has(15, 0x8004),
+    New(0),
+    Set(0, 3),
+    Run(0xF8E0_0002),
+    Has(0, 3),
+    Has(15, 0x8004),
+    // branches both ways
+    New(0),
+    Pc(0x8000),
+    Run(0xEA00_0000),
+    At(0x8008),
+    Has(14, 0),
+    New(0),
+    Pc(0x8000),
+    Run(0xEAFF_FFFE),
+    At(0x8000),
+    Has(14, 0),
+    New(0),
+    Pc(0x8000),
+    Run(0xEA00_03FE),
+    At(0x9000),
+    Has(14, 0),
+    New(0),
+    Pc(0x8004),
+    Run(0xEAFF_FFFD),
+    At(0x8000),
+    Has(14, 0),
+    New(0),
+    Pc(0x03FF_FFF8),
+    Run(0xEA00_0000),
+    At(0),
+    Has(14, 0),
+    New(0),
+    Pc(0x8000),
+    Run(0xEAFF_DFFD),
+    At(0x03FF_FFFC),
+    Has(14, 0),
+    New(0),
+    Pc(0x8000),
+    Run(0xEA80_0000),
+    At(0x0200_8008),
+    Has(14, 0),
+    // MOV R0,PC at the last word: two words ahead is 4. BL there: the link is 0
+    New(0),
+    Pc(0x03FF_FFFC),
+    Run(0xE1A0_000F),
+    Has(0, 4),
+    At(0),
+    Steps(Turn::Fault(Fault::FetchUnmapped)),
+    Pc(0x03FF_FFFC),
+    Run(0xEB00_0000),
+    Has(14, 0),
+    At(4),
+    // turns that change nothing
+    New(0x5000_0000),
+    Set(0, 3),
+    Set(14, 5),
+    Ends(0xEF00_0011, Turn::Swi(0x11)),
+    Has(0, 3),
+    Has(14, 5),
+    Has(15, 0x5000_8000),
+    Holds(0x8000, 0xEF00_0011),
+    New(0x5000_0000),
+    Set(0, 3),
+    Set(14, 5),
+    Ends(0xEFFF_FFFF, Turn::Swi(0xFF_FFFF)),
+    Has(0, 3),
+    Has(14, 5),
+    Has(15, 0x5000_8000),
+    Holds(0x8000, 0xEFFF_FFFF),
+    New(0x5000_0000),
+    Set(0, 3),
+    Set(14, 5),
+    Ends(0xE600_0010, Turn::Fault(Fault::UndefinedInstruction)),
+    Has(0, 3),
+    Has(14, 5),
+    Has(15, 0x5000_8000),
+    Holds(0x8000, 0xE600_0010),
+    New(0x5000_0000),
+    Set(0, 3),
+    Set(14, 5),
+    Ends(0xEC00_0000, Turn::Fault(Fault::UndefinedInstruction)),
+    Has(0, 3),
+    Has(14, 5),
+    Has(15, 0x5000_8000),
+    Holds(0x8000, 0xEC00_0000),
+    New(0x5000_0000),
+    Set(0, 3),
+    Set(14, 5),
+    Ends(0xE100_0090, Turn::Fault(Fault::Unallocated)),
+    Has(0, 3),
+    Has(14, 5),
+    Has(15, 0x5000_8000),
+    Holds(0x8000, 0xE100_0090),
+    New(0x5000_0000),
+    Set(0, 3),
+    Set(14, 5),
+    Ends(0xE081_0F12, Turn::Fault(Fault::PcOperand)),
+    Has(0, 3),
+    Has(14, 5),
+    Has(15, 0x5000_8000),
+    Holds(0x8000, 0xE081_0F12),
+    New(0x5000_0000),
+    Set(0, 3),
+    Set(14, 5),
+    Ends(0xE001_0291, Turn::Fault(Fault::MultiplySame)),
+    Has(0, 3),
+    Has(14, 5),
+    Has(15, 0x5000_8000),
+    Holds(0x8000, 0xE001_0291),
+    New(0x5000_0000),
+    Set(0, 3),
+    Set(14, 5),
+    Ends(0xE890_0000, Turn::Fault(Fault::EmptyList)),
+    Has(0, 3),
+    Has(14, 5),
+    Has(15, 0x5000_8000),
+    Holds(0x8000, 0xE890_0000),
+    New(0x5000_0000),
+    Set(0, 3),
+    Set(14, 5),
+    Ends(0xE8E0_0002, Turn::Fault(Fault::UserBankWriteback)),
+    Has(0, 3),
+    Has(14, 5),
+    Has(15, 0x5000_8000),
+    Holds(0x8000, 0xE8E0_0002),
+    // MOV PC,#&3800000, then the gate; other unmapped words are FetchUnmapped
+    New(0),
+    Run(0xE3A0_F50E),
+    Has(15, 0x0380_0000),
+    Steps(Turn::Gate),
+    Has(15, 0x0380_0000),
+    Pc(0),
+    Steps(Turn::Fault(Fault::FetchUnmapped)),
+    At(0),
+    Pc(0x7FFC),
+    Steps(Turn::Fault(Fault::FetchUnmapped)),
+    At(0x7FFC),
+    Pc(0xA000),
+    Steps(Turn::Fault(Fault::FetchUnmapped)),
+    At(0xA000),
+    Pc(0x0380_0004),
+    Steps(Turn::Fault(Fault::FetchUnmapped)),
+    At(0x0380_0004),
+    Pc(0x03FF_EFFC),
+    Steps(Turn::Fault(Fault::FetchUnmapped)),
+    At(0x03FF_EFFC),
+    // an instruction whose condition never holds changes the program counter alone
+    New(0),
+    Run(0xF600_0010),
+    Lowest(0, 0, 0, 0, 0),
+    Has(5, 0),
+    Has(6, 0),
+    Has(7, 0),
+    Has(8, 0),
+    Has(9, 0),
+    Has(10, 0),
+    Has(11, 0),
+    Has(12, 0),
+    Has(13, 0),
+    Has(14, 0),
+    Has(15, 0x8004),
+];
+
+#[test]
+fn goes_where_the_words_say(rt: HostRuntime) -> Result<(), Fail> {
+    play(&rt, rt.alloc(), &LINES)
+}

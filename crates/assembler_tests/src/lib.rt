@@ -1,0 +1,11 @@
+//! Tests of assembler text: words printed, instructions read, and whole sources.
+//!
+//! They stand apart from the crates that they test, since a crate with tests is proved once more with them.
+#![tactic(auto)]
+
+#[cfg(test)]
+mod printing;
+#[cfg(test)]
+mod reading;
+#[cfg(test)]
+mod sources;

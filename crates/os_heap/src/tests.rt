@@ -1,5 +1,0 @@
-mod blocks;
-mod changes;
-mod classes;
-mod heaps;
-mod resizes;

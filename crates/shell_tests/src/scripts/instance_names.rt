@@ -1,0 +1,189 @@
+//! Scripts of calls that tell of instances and name them.
+
+use crate::scripts::run_all;
+use std::test::Fail;
+
+/// Scripts, and what each answers. `W%B` stands at &9000.
+static SCRIPTS: [(&str, &str); 3] = [
+    // Instances are looked up, preferred, told of and named.
+    (
+        "ASM w 0
+ DCD 0,0,0,0,title,0,0
+title DCB \"W\",0
+END
+LOAD w
+POKE &9000 &422557
+POKE &9010 &77
+POKE &9020 &65736162
+POKE &9024 &0
+SET R0 14
+SET R1 &9000
+CALL &1E
+SET R0 18
+SET R1 &9010
+CALL &1E
+REGS
+SET R0 16
+SET R1 &9000
+CALL &1E
+SET R0 18
+SET R1 &9010
+CALL &1E
+REGS
+SET R0 12
+SET R1 0
+SET R2 0
+CALL &1E
+REGS
+SET R0 12
+SET R1 0
+SET R2 1
+CALL &1E
+REGS
+SET R0 12
+SET R1 1
+SET R2 0
+CALL &1E
+SET R0 15
+SET R1 &9000
+SET R2 &9020
+CALL &1E
+MODULES
+",
+        "asm w: 30 bytes
+ok
+ok
+ok
+R0  00000012 R1  00000000 R2  00000000 R3  01800014
+R4  00000000 R5  00000000 R6  00000000 R7  00000000
+R8  00000000 R9  00000000 R10 00000000 R11 00000000
+R12 00000000 R13 00000000 R14 00000000 R15 00008000
+PSR nzcvif USR
+ok
+ok
+R0  00000012 R1  00000000 R2  00000001 R3  01800014
+R4  00000000 R5  00000000 R6  00000000 R7  00000000
+R8  00000000 R9  00000000 R10 00000000 R11 00000000
+R12 00000000 R13 00000000 R14 00000000 R15 00008000
+PSR nzcvif USR
+ok
+R0  0000000C R1  00000000 R2  00000001 R3  01800014
+R4  00000000 R5  00000000 R6  00000000 R7  00000000
+R8  00000000 R9  00000000 R10 00000000 R11 00000000
+R12 00000000 R13 00000000 R14 00000000 R15 00008000
+PSR nzcvif USR
+ok
+R0  0000000C R1  00000001 R2  00000000 R3  01800014
+R4  00000000 R5  00000000 R6  00000000 R7  00000000
+R8  00000000 R9  00000000 R10 00000000 R11 00000000
+R12 00000000 R13 00000000 R14 00000000 R15 00008000
+PSR nzcvif USR
+error 50
+error 52
+module W at 01800014 length 30
+  Base word 01C02000 00000000
+  B word 01C02004 00000000 preferred
+",
+    ),
+    // The private word is told. After the last instance there is none, and registers stay as they
+    // were.
+    (
+        "ASM w 0
+ DCD 0,0,0,0,title,0,0
+title DCB \"W\",0
+END
+LOAD w
+POKE &9000 &422557
+SET R0 14
+SET R1 &9000
+CALL &1E
+POKE &1C02004 &12345678
+SET R0 12
+SET R1 0
+SET R2 1
+CALL &1E
+REGS
+SET R0 12
+SET R1 1
+SET R2 0
+SET R3 7
+CALL &1E
+REGS
+",
+        "asm w: 30 bytes
+ok
+ok
+ok
+R0  0000000C R1  00000001 R2  00000000 R3  01800014
+R4  12345678 R5  00000000 R6  00000000 R7  00000000
+R8  00000000 R9  00000000 R10 00000000 R11 00000000
+R12 00000000 R13 00000000 R14 00000000 R15 00008000
+PSR nzcvif USR
+error 50
+R0  01C02100 R1  00000001 R2  00000000 R3  00000007
+R4  12345678 R5  00000000 R6  00000000 R7  00000000
+R8  00000000 R9  00000000 R10 00000000 R11 00000000
+R12 00000000 R13 00000000 R14 00000000 R15 10008000
+PSR nzcVif USR
+",
+    ),
+    // The name is there, whatever the case of its letters; a space is no end of a name, here `W x`;
+    // a title alone is no full name; a string that can't be read comes before all else. Then `W%B`
+    // becomes `W%C`.
+    (
+        "ASM w 0
+ DCD 0,0,0,0,title,0,0
+title DCB \"W\",0
+END
+LOAD w
+POKE &9000 &422557
+POKE &9010 &77
+POKE &9020 &65736162
+POKE &9030 &782057
+SET R0 14
+SET R1 &9000
+CALL &1E
+SET R0 15
+SET R1 &9000
+SET R2 &9020
+CALL &1E
+SET R0 18
+SET R1 &9030
+CALL &1E
+SET R0 16
+SET R1 &9010
+CALL &1E
+SET R0 15
+SET R1 &9030
+SET R2 &3000000
+CALL &1E
+POKE &9020 &43
+SET R0 15
+SET R1 &9000
+SET R2 &9020
+CALL &1E
+SET R0 18
+SET R1 &9000
+CALL &1E
+MODULES
+",
+        "asm w: 30 bytes
+ok
+ok
+error 52
+error 50
+error 81
+error 81
+ok
+error 50
+module W at 01800014 length 30
+  Base word 01C02000 00000000 preferred
+  C word 01C02004 00000000
+",
+    ),
+];
+
+#[test]
+fn instances_are_named_and_told_of(rt: HostRuntime) -> Result<(), Fail> {
+    run_all(&rt, rt.alloc(), &SCRIPTS)
+}
