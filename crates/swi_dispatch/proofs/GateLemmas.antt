@@ -1,6 +1,6 @@
 -- Calls on modules that are carried on: what they keep, and that the steps of the code are those of the definitions.
-use Rattle.std.proofs.Common.{inl, inr, ◌≡◌, ◌<◌, length, ℕ, Bool, true, false, Some, None, Ok, Err, List, [], ◌∷◌, refl, sym, ap, subst, ◌∙◌}
-use Rattle.std.specs.Prelude.{◌⊎◌, Option, Result, is_some, option_map, if◌then◌else◌}
+use Rattle.std.proofs.Common.{inl, inr, ◌≡◌, ◌<◌, length, ℕ, true, false, Some, None, Ok, Err, List, [], ◌∷◌, refl, sym, ap, subst, ◌∙◌}
+use Rattle.std.specs.Prelude.{◌⊎◌, Option, Result, is_some, option_map}
 use Rattle.std.proofs.lemmas.Bool.{false≢true, true≢false}
 use Rattle.address_map.specs.declared.map.AddressMap.{AddressMap}
 use Rattle.address_map.specs.Memory.{byte_at, bytes_of, class_of, layout}
@@ -23,7 +23,6 @@ use Rattle.instances_ground.specs.World.{World, world_of}
 use Rattle.instances.specs.Turns.{IsUnderWay, MayGoOn, module_doing}
 use Rattle.instances_actions.specs.Pending.{pending_of}
 use Rattle.instances_actions.specs.Ready.{IsReady}
-use Rattle.swi_dispatch_frames.specs.declared.call.Call.{Call}
 use Rattle.swi_dispatch_frames.specs.declared.frame.Frame.{Frame}
 use Rattle.profile.specs.declared.fault.Fault.TheVariants.{ErrorStop, FetchUnmapped}
 use Rattle.swi_dispatch.specs.declared.halt.Halt.TheVariants as halt
@@ -33,9 +32,11 @@ use Rattle.swi_dispatch.specs.Gates.{Resumes, carried_on, come_back, error_ahead
 use Rattle.swi_dispatch.specs.MachineState.{MachineState, Outcome, quiet}
 use Rattle.swi_dispatch.specs.Additions.{Starts, planned}
 use Rattle.swi_dispatch.specs.ModulePlans.{machine_world, with_world}
+use Rattle.swi_dispatch.specs.OpenFrames.{AreFrames}
 use Rattle.swi_dispatch.specs.Parts.{CanBegin, IsFree, IsWellFormed, Parts, parts_world, state_of}
 use Rattle.swi_dispatch.specs.Returns.{halted}
 use Rattle.swi_dispatch.proofs.Kept.{kept_all, kept_classes, same_kept, same_pool}
+use Rattle.swi_dispatch.proofs.OpenFrames.{frames_kept}
 
 -- where code is entered, it runs
 runs_by : (d : Doing World) (w : World) (p : Plan) (a : Action) (others : List Action) (o : Option Code) (code : Code) (on : World → Plan → Carried World)
@@ -63,12 +64,13 @@ may_go_on w v p q (Some code) is ended going = (code_runs w p (record { world = 
 
 -- the parts of a machine after a call was carried on
 pub well_carried : (new : Parts) (pending : List ℕ) → IsWorld (parts_world new) pending → MayGoOn (parts_world new) new.tables.plan → AreClasses new.map
-    → new.is_fresh ≡ false → IsWellFormed new
-well_carried new pending world modules classes stepped = record {
+    → AreFrames new.tables → new.is_fresh ≡ false → IsWellFormed new
+well_carried new pending world modules classes frames stepped = record {
   areas = world.estate;
   classes = classes;
   system = world.system;
   modules = modules;
+  frames = frames;
   fresh = λ e. absurd (true≢false (sym e ∙ stepped));
 }
 
@@ -165,11 +167,12 @@ tried w v p q o c world plan is =
 -- a leaf of the machine that carries a call on: its invariant, its state, and what is next
 pub carried_well : (new : Parts) (w : World) (p q : Plan) (code : Option Code) (kept : Option Plan × Next) → kept ≡ (kept_by q code, next_by q code)
     → new.tables.plan ≡ kept.0 → carried module_doing w p ≡ record { world = parts_world new; rest = q; code = code }
-    → (code ≡ None → IsWorld (parts_world new) []) → IsUnderWay (parts_world new) q → AreClasses new.map → new.is_fresh ≡ false → IsWellFormed new
-carried_well new w p q code kept is plan carries ended going classes stepped =
+    → (code ≡ None → IsWorld (parts_world new) []) → IsUnderWay (parts_world new) q → AreClasses new.map → AreFrames new.tables
+    → new.is_fresh ≡ false → IsWellFormed new
+carried_well new w p q code kept is plan carries ended going classes frames stepped =
     well_carried new (pending_of q) going.world
     (subst (MayGoOn (parts_world new)) (sym (plan ∙ ap (λ (r : Option Plan × Next). r.0) is)) (may_go_on w (parts_world new) p q code carries ended going))
-    classes stepped
+    classes frames stepped
 
 pub state_carried : (s : MachineState) (w : World) (q : Plan) (code : Option Code) (kept : Option Plan × Next) (c : Carried World)
     → kept ≡ (kept_by q code, next_by q code) → record { world = w; rest = q; code = code } ≡ c → with_plan (with_world s w) kept.0 ≡ with_carried s c
@@ -185,13 +188,14 @@ pub refused_world : {W P E : Type 0} (w v : W) (r : Result (W × P) E) (e : E) �
 refused_world w v (Ok r) e gives = absurd gives
 refused_world w v (Err f) e gives = gives.1
 
-pub refused_well : (old new : Parts) → IsWellFormed old → parts_world new ≡ parts_world old → new.tables.plan ≡ old.tables.plan → AreClasses new.map
-    → new.is_fresh ≡ false → IsWellFormed new
-refused_well old new well world plan classes stepped = record {
+pub refused_well : (old new : Parts) → IsWellFormed old → parts_world new ≡ parts_world old → new.tables.plan ≡ old.tables.plan
+    → new.tables.frames ≡ old.tables.frames → AreClasses new.map → new.is_fresh ≡ false → IsWellFormed new
+refused_well old new well world plan frames classes stepped = record {
   areas = subst (λ (w : World). IsEstate w.estate) (sym world) well.areas;
   classes = classes;
   system = subst (λ (w : World). IsRecorded system_pages w.estate.store.others) (sym world) well.system;
   modules = rw plan (subst (λ (w : World). MayGoOn w old.tables.plan) (sym world) well.modules);
+  frames = frames_kept old.tables new.tables well.frames frames plan;
   fresh = λ e. absurd (true≢false (sym e ∙ stepped));
 }
 
@@ -209,6 +213,7 @@ unfolding state_of
 is_free p well none room = record {
   none = none;
   room = room;
+  idle = well.frames.kept none;
   world = subst (MayGoOn (parts_world p)) none well.modules;
 }
 

@@ -30,7 +30,9 @@ use Rattle.swi_dispatch.specs.Errors.{error_block}
 use Rattle.swi_dispatch.specs.Boot.{booted, poked}
 use Rattle.instances.specs.Turns.{MayGoOn}
 use Rattle.instances.proofs.GoingOn.{may_go_on_kept}
+use Rattle.swi_dispatch.specs.OpenFrames.{AreFrames}
 use Rattle.swi_dispatch.specs.Parts.{Parts, IsWellFormed, parts_world, state_of}
+use Rattle.swi_dispatch.proofs.OpenFrames.{frames_kept}
 
 pub by_words : (s : Store) → IsByWords (owned_in s)
 by_words s a k aligned below = owned_word s a k aligned below
@@ -168,33 +170,50 @@ error_kept m n number text same marks sound others short e =
 pub kept_classes : (m n : AddressMap) → IsKept m n → class_of n ≡ class_of m → AreClasses m → AreClasses n
 kept_classes m n kept marks same = classes_same m n (ap (λ (s : Store). s.heaps) kept.store) (λ a i. marks i a) same
 
--- the parts of a machine after a call that kept the other records, the modules and the plan
+-- the parts of a machine after a call that kept the other records, the modules, the plan and the frames
 pub well_by : (old new : Parts) → IsWellFormed old → AreAreas (store_of new.map) (free_pages new.map) new.tables.land → AreClasses new.map
     → (store_of new.map).others ≡ (store_of old.map).others → new.tables.modules ≡ old.tables.modules → new.tables.plan ≡ old.tables.plan
+    → new.tables.frames ≡ old.tables.frames
     → (new.is_fresh ≡ true → state_of new ≡ start_of new.sizes) → IsWellFormed new
-well_by old new well areas classes others modules plan fresh = record {
+well_by old new well areas classes others modules plan frames fresh = record {
   areas = areas;
   classes = classes;
   system = rw others well.system;
   modules = rw plan (may_go_on_kept (parts_world old) (parts_world new) old.tables.plan areas others modules well.modules);
+  frames = frames_kept old.tables new.tables well.frames frames plan;
   fresh = fresh;
 }
 
 -- the same of a machine that isn't as it was made
 pub well_called : (old new : Parts) → IsWellFormed old → AreAreas (store_of new.map) (free_pages new.map) new.tables.land → AreClasses new.map
     → (store_of new.map).others ≡ (store_of old.map).others → new.tables.modules ≡ old.tables.modules → new.tables.plan ≡ old.tables.plan
+    → new.tables.frames ≡ old.tables.frames
     → new.is_fresh ≡ false → IsWellFormed new
-well_called old new well areas classes others modules plan stepped =
-    well_by old new well areas classes others modules plan (λ e. absurd (true≢false (sym e ∙ stepped)))
+well_called old new well areas classes others modules plan frames stepped =
+    well_by old new well areas classes others modules plan frames (λ e. absurd (true≢false (sym e ∙ stepped)))
 
 -- the same after a call that changed the modules alone
 pub well_named : (old new : Parts) → IsWellFormed old → new.map ≡ old.map → new.tables.land ≡ old.tables.land
-    → MayGoOn (parts_world new) new.tables.plan → new.is_fresh ≡ false → IsWellFormed new
-well_named old new well map land modules stepped = record {
+    → MayGoOn (parts_world new) new.tables.plan → new.tables.plan ≡ old.tables.plan → new.tables.frames ≡ old.tables.frames → new.is_fresh ≡ false
+    → IsWellFormed new
+well_named old new well map land modules plan frames stepped = record {
   areas = rw (map, land) well.areas;
   classes = rw map well.classes;
   system = rw map well.system;
   modules = modules;
+  frames = frames_kept old.tables new.tables well.frames frames plan;
+  fresh = λ e. absurd (true≢false (sym e ∙ stepped));
+}
+
+-- the same after a call that changed the frames alone
+pub well_framed : (old new : Parts) → IsWellFormed old → new.map ≡ old.map → new.tables.land ≡ old.tables.land → new.tables.modules ≡ old.tables.modules
+    → new.tables.plan ≡ old.tables.plan → AreFrames new.tables → new.is_fresh ≡ false → IsWellFormed new
+well_framed old new well map land modules plan frames stepped = record {
+  areas = rw (map, land) well.areas;
+  classes = rw map well.classes;
+  system = rw map well.system;
+  modules = rw (map, land, modules, plan) well.modules;
+  frames = frames;
   fresh = λ e. absurd (true≢false (sym e ∙ stepped));
 }
 
@@ -209,7 +228,8 @@ pub well_kept : (old new : Parts) → IsWellFormed old → IsKept old.map new.ma
     → new.tables ≡ old.tables → new.is_fresh ≡ false → IsWellFormed new
 well_kept old new well kept same marks tables stepped =
     well_called old new well (kept_areas old new well kept same tables) (kept_classes old.map new.map kept marks well.classes)
-    (ap (λ (s : Store). s.others) kept.store) (ap (λ (t : Tables). t.modules) tables) (ap (λ (t : Tables). t.plan) tables) stepped
+    (ap (λ (s : Store). s.others) kept.store) (ap (λ (t : Tables). t.modules) tables) (ap (λ (t : Tables). t.plan) tables)
+    (ap (λ (t : Tables). t.frames) tables) stepped
 
 -- the application space holds the program of the written machine
 pub boots : (m n : AddressMap) (cpu : State) (tables : Tables) (halt : Option Halt) (s : Sizes) (is_fresh : Bool) (program : List ℕ) → is_fresh ≡ true
@@ -254,6 +274,7 @@ pub well_same : (old new : Parts) → IsWellFormed old → IsKept old.map new.ma
 well_same old new well kept same marks state tables fresh sizes =
     well_by old new well (kept_areas old new well kept same tables) (kept_classes old.map new.map kept marks well.classes)
     (ap (λ (s : Store). s.others) kept.store) (ap (λ (t : Tables). t.modules) tables) (ap (λ (t : Tables). t.plan) tables)
+    (ap (λ (t : Tables). t.frames) tables)
     (λ e. state ∙ well.fresh (sym fresh ∙ e) ∙ ap start_of (sym sizes))
 
 pub refused_same : {S E : Type 0} (old new : S) (r : Result S E) (e : E) → Leaves {U = Unit {0}} old r (Err e) new → new ≡ old

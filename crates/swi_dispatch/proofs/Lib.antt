@@ -4,6 +4,7 @@ pub mod Beginning
 pub mod ErrorNumbers
 pub mod GateLemmas
 pub mod Kept
+pub mod OpenFrames
 pub mod Quiet
 pub mod RunLoop
 pub mod Runs

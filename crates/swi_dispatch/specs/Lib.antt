@@ -14,6 +14,7 @@ pub mod ModuleCalls
 pub mod ModulePlans
 pub mod ModuleStart
 pub mod ModuleWords
+pub mod OpenFrames
 pub mod Parts
 pub mod Returns
 pub mod Run

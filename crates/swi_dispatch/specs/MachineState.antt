@@ -1,6 +1,6 @@
 -- The written machine: its core, its store (memory as a function from addresses to bytes, the lists of all heaps, and the other recorded
 -- ranges), how many pages are in the pool, what stands beside core and memory, and the halt that keeps it from further steps.
-use Rattle.std.specs.Prelude.{ℕ, ◌*◌, false, Option, None, List, [], ◌∷◌}
+use Rattle.std.specs.Prelude.{ℕ, Option, None, List, []}
 use Rattle.profile.specs.declared.stop.Stop.{Stop}
 use Rattle.profile.specs.declared.stop.Stop.TheVariants as stop
 use Rattle.profile.specs.Sizes.{Sizes}

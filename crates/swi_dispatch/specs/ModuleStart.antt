@@ -1,6 +1,6 @@
 -- OS_Module 2, enter: a module is started as a program (RISC OS 3 Programmer's Reference Manual, "OS_Module", reason 2; that R10 has the address of the
 -- text is this project's own).
-use Rattle.std.specs.Prelude.{ℕ, nat_lt, Bool, List, length, Option, Some, None, Result, Ok, Err, if◌then◌else◌}
+use Rattle.std.specs.Prelude.{ℕ, nat_lt, List, length, Option, Some, None, Result, Ok, Err, if◌then◌else◌}
 use Rattle.profile.specs.Outcome.{bind}
 use Rattle.profile.specs.declared.error.ErrorNumber.{ErrorNumber}
 use Rattle.profile.specs.declared.error.ErrorNumber.TheVariants.{ModuleBusy}

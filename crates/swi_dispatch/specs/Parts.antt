@@ -16,6 +16,7 @@ use Rattle.swi_dispatch.specs.declared.refusal.Refusal.{Refusal}
 use Rattle.swi_dispatch.specs.Answers.{Answer}
 use Rattle.swi_dispatch.specs.MachineState.{MachineState, Outcome, Tables, start_of}
 use Rattle.swi_dispatch.specs.ModulePlans.{machine_world}
+use Rattle.swi_dispatch.specs.OpenFrames.{AreFrames, entries}
 use Rattle.swi_dispatch.specs.Step.{Turned, instructed}
 
 pub record Parts : Type 0 where
@@ -45,12 +46,14 @@ parts_world p = world_of p.map p.tables.land p.tables.modules
 
 -- What holds of every machine, whatever its guest does: the areas stand on its memory, so that memory spells the lists of all heaps; the words that
 -- these lists spell are those that are marked; the system pages are recorded; the recorded images are the modules', and the plan that is kept while module
--- code runs finds all that it asks for; and a machine that can still be booted stands as at the start.
+-- code runs finds all that it asks for; at most one initialisation or finalisation is under way, and none where no plan is kept; and a machine that can still
+-- be booted stands as at the start.
 pub record IsWellFormed (p : Parts) : Type 0 where
   pub areas : AreAreas (store_of p.map) (free_pages p.map) p.tables.land
   pub classes : AreClasses p.map
   pub system : IsRecorded system_pages (store_of p.map).others
   pub modules : MayGoOn (parts_world p) p.tables.plan
+  pub frames : AreFrames p.tables
   pub fresh : p.is_fresh ≡ true → state_of p ≡ start_of p.sizes
 
 -- a step is under way, and has printed nothing yet
@@ -73,10 +76,11 @@ pub record OnlyState (old new : Parts) : Type 0 where
 abbrev pub TakesTurn : MachineState → Turn → MachineState → Type 0
 TakesTurn s t s' = Turned s (instructed s) t s'
 
--- No call on modules is under way, and a frame more can be opened.
+-- No call on modules is under way, and no entry of a module, and a frame more can be opened.
 pub record IsFree (s : MachineState) : Type 0 where
   pub none : s.tables.plan ≡ None
   pub room : length s.tables.frames < 32
+  pub idle : entries s.tables.frames ≡ 0
   pub world : IsWorld (machine_world s) []
 
 -- A call on modules may begin, and its plan is ready.

@@ -1,5 +1,5 @@
 -- One step of the machine: an instruction, or a store call. A fault changes nothing but that the machine is halted with it.
-use Rattle.std.specs.Prelude.{◌≡◌, ℕ, Bool, true, false, ◌+◌, ◌-◌, ◌*◌, ◌/◌, ◌%◌, ◌^◌, ◌==◌, Option, Some, None, ok_or, Result, Ok, Err, List, length, ◌++◌, ◌∷◌, [], if◌then◌else◌}
+use Rattle.std.specs.Prelude.{◌≡◌, ℕ, Bool, true, false, ◌+◌, ◌-◌, ◌%◌, ◌^◌, ◌==◌, Option, Some, None, ok_or, Result, Ok, Err, List, length, ◌++◌, ◌∷◌, [], if◌then◌else◌}
 use Rattle.profile.specs.declared.error.ErrorNumber.{ErrorNumber}
 use Rattle.profile.specs.declared.error.ErrorNumber.TheVariants.{BadString, FrameLimit, SwiUnknown}
 use Rattle.profile.specs.declared.swi.SwiName.{SwiName}

@@ -12,6 +12,7 @@ use swi_dispatch_frames::Call;
 
 impl Machine {
     ghost use Rattle.swi_dispatch.specs.Additions.{Starts, copied_range_planned, copy_planned, image_planned, insertion_planned, load_planned, named_load_planned, range_planned};
+    ghost use Rattle.swi_dispatch.specs.OpenFrames.{GoesTo};
     ghost use Rattle.swi_dispatch.specs.Parts.{state_of, outcome_of, IsFree, IsInStep, OnlySteps, OnlyState};
     ghost use Rattle.swi_dispatch.specs.Step.{begun, begun_by, call_of};
 
@@ -88,7 +89,7 @@ impl Machine {
     // A call goes on that has begun, or is refused.
     fn go_on(&mut self, call: Call, started: Result<Next, ErrorNumber>)
         requires step { IsInStep self.old }
-        requires room { IfOk started (λ _. length (state_of self.old).tables.frames < 32) }
+        requires goes { IfOk started (λ next. GoesTo next (state_of self.old).tables) }
         ensures after { outcome_of self.new ≡ begun_by (state_of self.old) call started }
         ensures others { OnlySteps self.old self.new }
     {
@@ -98,7 +99,7 @@ impl Machine {
         }
     }
 
-    #[tactic(auto, unfolding(crate::specs::Additions::load_planned))]
+    #[tactic(auto, using(crate::proofs::OpenFrames::starts_on), unfolding(crate::specs::Additions::load_planned))]
     fn start_load(
         &mut self,
         images: &Images,
@@ -108,29 +109,29 @@ impl Machine {
         requires stepped { self.old.is_fresh ≡ false }
         requires short { length words.now ≤ 255 }
         ensures state { Starts (state_of self.old) (load_planned images.now (state_of self.old) words.now enters) result (state_of self.new) }
-        ensures room { IfOk result (λ _. length (state_of self.new).tables.frames < 32) }
+        ensures goes { IfOk result (λ next. GoesTo next (state_of self.new).tables) }
         ensures others { OnlyState self.old self.new }
     {
         let load = self.load_asked(images, words, enters)?;
         self.place_image(load.image, load.text)
     }
 
-    #[tactic(auto, unfolding(crate::specs::Additions::insertion_planned))]
+    #[tactic(auto, using(crate::proofs::OpenFrames::starts_on), unfolding(crate::specs::Additions::insertion_planned))]
     fn start_insertion(&mut self) -> Result<Next, ErrorNumber>
         requires stepped { self.old.is_fresh ≡ false }
         ensures state { Starts (state_of self.old) (insertion_planned (state_of self.old)) result (state_of self.new) }
-        ensures room { IfOk result (λ _. length (state_of self.new).tables.frames < 32) }
+        ensures goes { IfOk result (λ next. GoesTo next (state_of self.new).tables) }
         ensures others { OnlyState self.old self.new }
     {
         let range = self.insertion_asked()?;
         self.record_image(range.at, range.len)
     }
 
-    #[tactic(auto, unfolding(crate::specs::Additions::copy_planned))]
+    #[tactic(auto, using(crate::proofs::OpenFrames::starts_on), unfolding(crate::specs::Additions::copy_planned))]
     fn start_copy(&mut self) -> Result<Next, ErrorNumber>
         requires stepped { self.old.is_fresh ≡ false }
         ensures state { Starts (state_of self.old) (copy_planned (state_of self.old)) result (state_of self.new) }
-        ensures room { IfOk result (λ _. length (state_of self.new).tables.frames < 32) }
+        ensures goes { IfOk result (λ next. GoesTo next (state_of self.new).tables) }
         ensures others { OnlyState self.old self.new }
     {
         let range = self.copy_asked()?;

@@ -1,6 +1,8 @@
 //! The return gate: module code has come back.
 
-ghost use Rattle.std.specs.Prelude.{◌≡◌, ◌<◌, false, length, IfSome};
+ghost use Rattle.std.specs.Prelude.{◌≡◌, false, Some, IfSome};
+ghost use Rattle.swi_dispatch_frames.specs.Busy.{is_swi};
+ghost use Rattle.swi_dispatch_frames.specs.Frames.{innermost};
 ghost use Rattle.swi_dispatch.specs.Gates.{outcome_left};
 
 use crate::calls::return_to;
@@ -16,6 +18,7 @@ use swi_dispatch_frames::{Call, Frame, FrameKind};
 impl Machine {
     ghost use Rattle.swi_dispatch.specs.Gates.{Resumes, fault_kept, frame_left, gated, plan_left, swi_left};
     ghost use Rattle.swi_dispatch.specs.ModulePlans.{machine_world};
+    ghost use Rattle.swi_dispatch.specs.OpenFrames.{GoesTo};
     ghost use Rattle.swi_dispatch.specs.Parts.{state_of, outcome_of, IsInStep, OnlySteps, OnlyState};
 
     /// What a step does at the gate. Where no frame is open, there is nothing to be fetched.
@@ -39,6 +42,7 @@ impl Machine {
 
     fn leave_frame(&mut self, frame: Frame)
         requires step { IsInStep self.old }
+        requires last { innermost (state_of self.old).tables.frames ≡ Some frame }
         ensures after { outcome_of self.new ≡ frame_left (state_of self.old) frame frame.kind (state_of self.old).tables.plan }
         ensures others { OnlySteps self.old self.new }
     {
@@ -71,6 +75,8 @@ impl Machine {
     #[tactic(auto, using(crate::proofs::GateLemmas::entry_went_on))]
     fn leave_entry(&mut self, frame: Frame)
         requires step { IsInStep self.old }
+        requires last { innermost (state_of self.old).tables.frames ≡ Some frame }
+        requires entry { is_swi frame.kind ≡ false }
         ensures after { outcome_of self.new ≡ plan_left (state_of self.old) frame (state_of self.old).tables.plan }
         ensures others { OnlySteps self.old self.new }
     {
@@ -88,8 +94,10 @@ impl Machine {
     #[tactic(auto, unfolding(crate::specs::Parts::state_of, crate::specs::Gates::come_back))]
     fn resume(&mut self, frame: Frame, outcome: Outcome) -> Option<Next>
         requires stepped { self.old.is_fresh ≡ false }
+        requires last { innermost (state_of self.old).tables.frames ≡ Some frame }
+        requires entry { is_swi frame.kind ≡ false }
         ensures state { Resumes (state_of self.old) frame outcome (state_of self.old).tables.plan result (state_of self.new) }
-        ensures room { IfSome result (λ _. length (state_of self.new).tables.frames < 32) }
+        ensures goes { IfSome result (λ next. GoesTo next (state_of self.new).tables) }
         ensures others { OnlyState self.old self.new }
     {
         let mut plan = self.plan.take()?;

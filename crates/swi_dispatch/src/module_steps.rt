@@ -1,7 +1,7 @@
 //! Calls on modules that may run module code, step by step: how such a call begins, goes on and ends (RISC OS 3 Programmer's Reference Manual,
 //! "Modules" and "OS_Module").
 
-ghost use Rattle.std.specs.Prelude.{◌≡◌, ◌<◌, false, length, IfOk};
+ghost use Rattle.std.specs.Prelude.{◌≡◌, ◌<◌, false, length, IfOk, IsSome};
 ghost use Rattle.swi_dispatch.specs.Gates.{kept_by, next_by};
 
 use crate::machine::Machine;
@@ -22,6 +22,7 @@ impl Machine {
     ghost use Rattle.swi_dispatch.specs.Gates.{call_ended, carried_on, entry_opened, loaded_entered, next_of, went_to, with_carried, world_carried};
     ghost use Rattle.swi_dispatch.specs.MachineState.{quiet};
     ghost use Rattle.swi_dispatch.specs.ModulePlans.{machine_world};
+    ghost use Rattle.swi_dispatch.specs.OpenFrames.{GoesTo, entries};
     ghost use Rattle.swi_dispatch.specs.Parts.{state_of, outcome_of, CanBegin, IsInStep, OnlySteps, OnlyState};
     ghost use Rattle.swi_dispatch.specs.Step.{begun_alone, call_of};
 
@@ -39,7 +40,7 @@ impl Machine {
         }
     }
 
-    #[tactic(auto, unfolding(crate::specs::Gates::carried_on))]
+    #[tactic(auto, using(crate::proofs::OpenFrames::goes_on), unfolding(crate::specs::Gates::carried_on))]
     fn begin_plan(&mut self, is_x: bool, next: u32, plan: Plan)
         requires step { IsInStep self.old }
         requires begins { CanBegin (state_of self.old) plan }
@@ -60,7 +61,7 @@ impl Machine {
     /// A call goes on where it has come to.
     pub(crate) fn go_to(&mut self, call: Call, next: Next)
         requires stepped { self.old.is_fresh ≡ false }
-        requires room { length (state_of self.old).tables.frames < 32 }
+        requires goes { GoesTo next (state_of self.old).tables }
         ensures state { state_of self.new ≡ went_to (state_of self.old) call next }
         ensures others { OnlyState self.old self.new }
     {
@@ -93,6 +94,8 @@ impl Machine {
     fn open_entry(&mut self, call: Call, code: Code)
         requires stepped { self.old.is_fresh ≡ false }
         requires room { length (state_of self.old).tables.frames < 32 }
+        requires idle { entries (state_of self.old).tables.frames ≡ 0 }
+        requires kept { IsSome (state_of self.old).tables.plan }
         ensures state { state_of self.new ≡ entry_opened (state_of self.old) call code }
         ensures others { OnlyState self.old self.new }
     {

@@ -1,14 +1,18 @@
 use Rattle.std.proofs.Common.{refl, ap, ◌∙◌}
 use Rattle.swi_dispatch.specs.MachineState.{MachineState}
+use Rattle.swi_dispatch.specs.OpenFrames.{entries}
 use Rattle.swi_dispatch.specs.Parts.{Parts, state_of}
 use Rattle.swi_dispatch.proofs.Kept.{over}
 use Rattle.swi_dispatch.proofs.GateLemmas.{carried_well, first_carried, next_carried, state_carried}
+use Rattle.swi_dispatch.proofs.OpenFrames.{frames_idle}
 use Rattle.swi_dispatch.proofs.machine.Machine.carry_first.Goals as goal
 
 pub invariant_of-self : goal.invariant_of-self
+unfolding state_of
 invariant_of-self c =
     let carries = c.carry-code.ensures in
     carried_well _ _ _ _ _ _ c.next_of-kept.ensures refl carries.carried carries.ended carries.going carries.classes
+    (frames_idle _ (ap (λ (p : Parts). entries p.tables.frames) c.self.view_is ∙ c.requires.begins.free.idle))
     (ap (λ (p : Parts). p.is_fresh) c.self.view_is ∙ c.requires.stepped)
 
 pub returns-clause-state : goal.returns-clause-state

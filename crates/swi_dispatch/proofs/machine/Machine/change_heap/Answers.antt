@@ -9,4 +9,4 @@ invariant_of-self c =
     let well = c.self.invariant in
     let changed = c.change_size-changed.ensures in
     well_called _ _ well (areas_changed _ _ _ well.areas changed.sound changed.others changed.mapping _ _ _ changed.store) changed.classes changed.others
-    refl refl (ap (λ (p : Parts). p.is_fresh) c.self.view_is ∙ c.requires.stepped)
+    refl refl refl (ap (λ (p : Parts). p.is_fresh) c.self.view_is ∙ c.requires.stepped)

@@ -9,4 +9,4 @@ invariant_of-self c =
     let well = c.self.invariant in
     let made = c.init-made.ensures in
     well_called _ _ well (areas_begun _ _ _ well.areas made.sound made.others made.mapping _ _ _ made.store) made.classes made.others
-    refl refl (ap (λ (p : Parts). p.is_fresh) c.self.view_is ∙ c.requires.stepped)
+    refl refl refl (ap (λ (p : Parts). p.is_fresh) c.self.view_is ∙ c.requires.stepped)

@@ -1,4 +1,7 @@
+use Rattle.std.proofs.Common.{ap}
+use Rattle.swi_dispatch.specs.OpenFrames.{entries}
 use Rattle.swi_dispatch.specs.Parts.{state_of}
+use Rattle.swi_dispatch.proofs.OpenFrames.{frames_idle}
 use Rattle.swi_dispatch.proofs.Starting.{start_modules, starts, system_recorded}
 use Rattle.swi_dispatch.proofs.machine.Machine.new.Goals as goal
 
@@ -11,6 +14,7 @@ invariant_of-result c =
       classes = memory.classes;
       system = system_recorded _ c.args.config memory.store;
       modules = rw (c.new-3.ensures.land, c.new-4.ensures) (start_modules _ c.args.config memory.store memory.areas);
+      frames = frames_idle _ (ap entries c.new-5.ensures);
       fresh = λ _. rw (c.new.ensures, c.new-3.ensures.land, c.new-4.ensures, c.new-5.ensures) (starts _ _ memory.store memory.areas);
     }
 
@@ -29,5 +33,6 @@ returns-clause-well_formed c =
       classes = memory.classes;
       system = system_recorded _ c.args.config memory.store;
       modules = rw (c.new-3.ensures.land, c.new-4.ensures) (start_modules _ c.args.config memory.store memory.areas);
+      frames = frames_idle _ (ap entries c.new-5.ensures);
       fresh = λ _. rw (c.new.ensures, c.new-3.ensures.land, c.new-4.ensures, c.new-5.ensures) (starts _ _ memory.store memory.areas);
     }

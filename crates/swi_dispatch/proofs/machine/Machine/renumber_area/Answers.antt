@@ -6,4 +6,4 @@ use Rattle.swi_dispatch.proofs.machine.Machine.renumber_area.Goals as goal
 pub invariant_of-self-2 : goal.invariant_of-self-2
 invariant_of-self-2 c =
     let well = c.self.invariant in
-    well_called _ _ well (c.renumber.ensures.ground _ _ well.areas) well.classes refl refl refl (ap (λ (p : Parts). p.is_fresh) c.self.view_is ∙ c.requires.stepped)
+    well_called _ _ well (c.renumber.ensures.ground _ _ well.areas) well.classes refl refl refl refl (ap (λ (p : Parts). p.is_fresh) c.self.view_is ∙ c.requires.stepped)

@@ -10,11 +10,11 @@ invariant_of-self c =
     let well = c.self.invariant in
     let resized = c.resize-resized.ensures in
     well_called _ _ well (areas_written _ _ _ well.areas resized.sound resized.layout) resized.classes (layout-others _ _ resized.layout)
-    refl refl (ap (λ (p : Parts). p.is_fresh) c.self.view_is ∙ c.requires.stepped)
+    refl refl refl (ap (λ (p : Parts). p.is_fresh) c.self.view_is ∙ c.requires.stepped)
 
 pub invariant_of-self-2 : goal.invariant_of-self-2
 invariant_of-self-2 c =
     let well = c.self.invariant in
     let resized = c.resize-resized.ensures in
     well_called _ _ well (areas_written _ _ _ well.areas resized.sound resized.layout) resized.classes (layout-others _ _ resized.layout)
-    refl refl (ap (λ (p : Parts). p.is_fresh) c.self.view_is ∙ c.requires.stepped)
+    refl refl refl (ap (λ (p : Parts). p.is_fresh) c.self.view_is ∙ c.requires.stepped)

@@ -1,0 +1,13 @@
+use Rattle.std.proofs.Common.{refl, ap, ◌∙◌}
+use Rattle.swi_dispatch_frames.specs.Busy.{is_swi}
+use Rattle.swi_dispatch_frames.specs.declared.frame.Frame.{Frame}
+use Rattle.swi_dispatch.specs.Parts.{Parts}
+use Rattle.swi_dispatch.proofs.Kept.{well_framed}
+use Rattle.swi_dispatch.proofs.OpenFrames.{swi_opened}
+use Rattle.swi_dispatch.proofs.machine.Machine.enter_handler.Goals as goal
+
+pub invariant_of-self : goal.invariant_of-self
+invariant_of-self c =
+    let well = c.self.invariant in
+    let opened = swi_opened _ _ _ well.frames refl c.open.ensures (ap (λ (f : Frame). is_swi f.kind) c.of.ensures) in
+    well_framed _ _ well refl refl refl refl opened (ap (λ (p : Parts). p.is_fresh) c.self.view_is ∙ c.requires.stepped)
