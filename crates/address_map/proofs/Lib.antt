@@ -12,7 +12,6 @@ pub mod Words
 pub mod Moving
 pub mod PageTable
 pub mod Removing
-pub mod Spelling
 pub mod Spans
 pub mod Stores
 pub mod Viewing

@@ -1,6 +1,5 @@
 pub mod Bytes
 pub mod Classes
-pub mod Flex
 pub mod Items
 pub mod Lent
 pub mod Marks

@@ -4,7 +4,6 @@
 pub mod class;
 pub mod follow;
 pub mod item;
-pub mod laws;
 pub mod lent;
 pub mod map;
 pub mod marks;
