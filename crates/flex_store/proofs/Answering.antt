@@ -42,7 +42,7 @@ got_state m n e f bs g = λ i. record {
 abbrev pub AreAllowed : AddressMap → Extent → List Block → Type 0
 AreAllowed m e bs = (a : ℕ) → has_anchor bs a ≡ true → (has_anchor (blocks_of m e) a ≡ true) ⊎ (is_anchor_place (store_of m) a ≡ true)
 
-has_with : (anchor : ℕ) (new : Block) (bs : List Block) (a : ℕ) → new.anchor ≡ anchor → has_anchor (with_block anchor new bs) a ≡ true → has_anchor bs a ≡ true
+pub has_with : (anchor : ℕ) (new : Block) (bs : List Block) (a : ℕ) → new.anchor ≡ anchor → has_anchor (with_block anchor new bs) a ≡ true → has_anchor bs a ≡ true
 has_with anchor new [] a same has = has
 has_with anchor new (b ∷ bs) a same has = elim (cases_Bool (nat_eq b.anchor anchor)) [
   | inl here ↦

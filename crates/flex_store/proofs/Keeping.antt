@@ -1,22 +1,22 @@
 -- Calls on the flex store keep all heaps, and what holds of them.
-use Rattle.std.proofs.Common.{◌≡◌, ℕ, ◌+◌, ◌-◌, ◌%◌, ◌/◌, ◌≤◌, ◌<◌, ◌&&◌, ◌||◌, ◌==◌, not, Bool, true, false, List, [], ◌∷◌, Option, Some, None, refl, sym, ap, subst, ◌∙◌, arith, inl, inr}
+use Rattle.std.proofs.Common.{◌≡◌, ◌⊎◌, ℕ, ◌+◌, ◌-◌, ◌%◌, ◌≤◌, ◌<◌, ◌&&◌, ◌==◌, not, true, false, List, [], ◌∷◌, Some, refl, sym, ap, ◌∙◌, arith, inl, inr}
 use Rattle.std.specs.List.{list_any}
-use Rattle.std.proofs.lemmas.Bool.{and_parts, cases_Bool, eqb-true, false≢true, le-leb, lt-ltb, not-true, or_left, or_right, true≢false}
+use Rattle.std.proofs.lemmas.Bool.{and_parts, cases_Bool, eqb-true, false≢true, le-leb, lt-ltb, not-true, or_left, or_right}
 use Rattle.address_map.proofs.Bytes.{is_mapped-page}
 use Rattle.address_map.specs.Bytes.{Bytes, in_range, meets, word_start}
 use Rattle.address_map.specs.Classes.{is_anchor, is_flex_header, is_heap_class}
-use Rattle.address_map.specs.Memory.{byte_at, bytes_of, class_of, is_mapped, layout, regions}
+use Rattle.address_map.specs.Memory.{class_of, is_mapped}
 use Rattle.address_map.specs.declared.map.AddressMap.{AddressMap}
 use Rattle.address_map.specs.declared.region.Region.{Region}
-use Rattle.os_heap.proofs.FlexSound.{flex_unspelled, IsFlexed, IsSoundFlexed, place_unspelled, sound_flexed}
+use Rattle.os_heap.proofs.FlexSound.{flex_unspelled, IsSoundFlexed, place_unspelled, sound_flexed}
 use Rattle.os_heap.proofs.Frame.{layout-others, store_bytes}
 use Rattle.os_heap.proofs.PayloadLemmas.{anchor_placed}
 use Rattle.os_heap.specs.Payloads.{is_other, payload_of}
-use Rattle.os_heap.specs.Store.{AreClasses, AreHeapsIn, IsAnchorPlace, is_flex_store, is_in_flex_store, IsSound, others_in, Store, store_of}
+use Rattle.os_heap.specs.Store.{AreClasses, IsAnchorPlace, is_flex_store, is_in_flex_store, IsSound, Store, store_of}
 use Rattle.flex_store.specs.declared.flex.Extent.{Extent}
-use Rattle.flex_store.specs.Blocks.{Block, has_anchor, is_header, used}
+use Rattle.flex_store.specs.Blocks.{used}
 use Rattle.flex_store.specs.Calls.{is_anchor_place}
-use Rattle.flex_store.specs.State.{blocks_of, HasNoHead, IsFlexAt, IsRecordedStore, is_recorded, is_store_record, Keeps, KeepsHeads}
+use Rattle.flex_store.specs.State.{blocks_of, HasNoHead, IsRecordedStore, is_recorded, is_store_record, Keeps, KeepsHeads}
 use Rattle.flex_store.proofs.Headers.{IsWithin, header_within}
 
 -- what holds of a word that may be an anchor
@@ -75,7 +75,7 @@ no_head : (m : AddressMap) (e : Extent) → IsSound (store_of m) → AreClasses 
 no_head m e sound classes is =
     λ a low high. classes a ∙ flex_unspelled (store_of m).bytes (store_of m).heaps (store_of m).others a sound.heaps sound.placed (in_extent m e a is low high)
 
-store_anchor : (m : AddressMap) (a : ℕ) → (store_of m).anchor a ≡ is_anchor (class_of m a)
+pub store_anchor : (m : AddressMap) (a : ℕ) → (store_of m).anchor a ≡ is_anchor (class_of m a)
 unfolding store_of
 store_anchor m a = refl
 
@@ -129,4 +129,13 @@ kept_flex m n e f is k = record {
   recorded = rw (layout-others m n k.same, k.start, k.end) is.recorded;
 }
 
-pub ruleset keeping = (kept_sound, kept_classes, kept_heaps, kept_flex)
+-- Each anchor was one, or its word may be one.
+pub kept_anchors : (m n : AddressMap) (e f : Extent) → IsRecordedStore m e → Keeps m e n f → (a : ℕ) → (store_of n).anchor a ≡ true
+    → ((store_of m).anchor a ≡ true) ⊎ (is_anchor_place (store_of m) (word_start a) ≡ true)
+kept_anchors m n e f is k a anchor =
+    elim (k.anchors (word_start a) (sym (k.store.store.anchors a) ∙ (sym (store_anchor n a) ∙ anchor))) [
+      | inl was ↦ inl (store_anchor m a ∙ (is.held.store.anchors a ∙ was))
+      | inr new ↦ inr new
+    ]
+
+pub ruleset keeping = (kept_sound, kept_classes, kept_heaps, kept_flex, kept_anchors)

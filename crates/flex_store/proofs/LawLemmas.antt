@@ -1,18 +1,18 @@
 -- The calls without addresses: what becomes of each anchor's contents.
-use Rattle.std.proofs.Common.{◌≡◌, ℕ, Bool, ◌+◌, ◌-◌, ◌*◌, ◌/◌, ◌%◌, ◌≤◌, ◌<◌, ◌==◌, ◌&&◌, ◌||◌, not, true, false, nat_eq, List, [], ◌∷◌, ◌++◌, length, take, drop, replicate, Option, Some, None, Result, Ok, Err, option_map, arith, refl, sym, ◌∙◌, ap, subst, inl, inr}
+use Rattle.std.proofs.Common.{◌≡◌, ℕ, Bool, ◌+◌, ◌-◌, ◌==◌, ◌&&◌, not, true, false, nat_eq, List, [], ◌∷◌, ◌++◌, length, take, replicate, Option, Some, None, Result, Ok, Err, option_map, arith, refl, sym, ◌∙◌, ap, subst, inl, inr}
 use Rattle.std.specs.Prelude.{nat_le, nat_lt, if◌then◌else◌}
-use Rattle.std.proofs.lemmas.Bool.{cases_Bool, eqb-true, eqb-false, eq-eqb, ne_eqb, or_parts, true≢false, false≢true}
+use Rattle.std.proofs.lemmas.Bool.{cases_Bool, eqb-true, eqb-false, ne_eqb, or_parts, false≢true}
 use Rattle.std.proofs.lemmas.List.{length-take-le, take-append-drop, take-replicate}
 use Rattle.std.proofs.Math.Seq.{take-append_seam, take-length}
 use Rattle.profile.specs.Outcome.{bind}
 use Rattle.profile.specs.declared.error.ErrorNumber.{ErrorNumber}
-use Rattle.profile.specs.declared.error.ErrorNumber.TheVariants.{FlexBadAnchor, FlexBadRange}
+use Rattle.profile.specs.declared.error.ErrorNumber.TheVariants.{FlexBadRange}
 use Rattle.address_map.specs.Bytes.{Bytes}
 use Rattle.os_heap.specs.Store.{Store}
-use Rattle.flex_store.specs.Blocks.{Block, contents, cut_of, filled, find_block, FlexStore, has_anchor, holding, more_of, new_block, resized, spliced, used, whole_words, with_block, without_block}
+use Rattle.flex_store.specs.Blocks.{Block, contents, cut_of, find_block, FlexStore, has_anchor, holding, more_of, new_block, resized, spliced, used, whole_words, with_block, without_block}
 use Rattle.flex_store.specs.Calls.{allocated, extended, fitted, FlexState, is_anchor_place, is_in_store, live, mid_extended, released, with_blocks, without_anchor}
-use Rattle.flex_store.specs.Laws.{AllocAddsZeros, AreDistinct, contents_in, ExtendCutsOrAppends, HasBlocks, MidExtendSplices, ReleaseRemoves}
-use Rattle.flex_store.specs.State.{AreWhole}
+use Rattle.flex_store.specs.Laws.{AllocAddsZeros, AreDistinct, contents_in, ExtendCutsOrAppends, MidExtendSplices, ReleaseRemoves}
+use Rattle.flex_store.proofs.Filled.{AreFilled, HasFilled, store_filled}
 use Rattle.flex_store.proofs.Lists.{none_found}
 
 -- the block of an anchor in lists that differ by one block
@@ -84,7 +84,7 @@ bytes_held : (b : Block) (c : List ℕ) → contents (holding b c) ≡ c
 bytes_held b c = take-append_seam c (replicate (whole_words (length c) - length c) 0)
 
 -- what was answered, and the store after it
-abbrev fit_if : FlexState → FlexStore → List Block → Bool → FlexState × Bool
+abbrev pub fit_if : FlexState → FlexStore → List Block → Bool → FlexState × Bool
 fit_if t s bs fits = if fits then (with_blocks t s bs, true) else (t, false)
 
 left_by : (t : FlexState) (s : FlexStore) (bs : List Block) (fits : Bool) (p : FlexState × Bool) → fit_if t s bs fits ≡ p → p.1 ≡ true
@@ -92,14 +92,14 @@ left_by : (t : FlexState) (s : FlexStore) (bs : List Block) (fits : Bool) (p : F
 left_by t s bs true p is done = sym (ap (λ (q : FlexState × Bool). q.0.flex) is)
 left_by t s bs false p is done = absurd (false≢true (ap (λ (q : FlexState × Bool). q.1) is ∙ done))
 
-abbrev Answered : {A : Type 0} → A → A → Type 0
-Answered {A} x y = let p : Result A ErrorNumber = Ok x in let q : Result A ErrorNumber = Ok y in p ≡ q
+abbrev pub Answers : {A : Type 0} → A → A → Type 0
+Answers {A} x y = let p : Result A ErrorNumber = Ok x in let q : Result A ErrorNumber = Ok y in p ≡ q
 
 answer_of : {A : Type 0} → A → Result A ErrorNumber → A
 answer_of other (Ok a) = a
 answer_of other (Err e) = other
 
-same_answer : {A : Type 0} (x y : A) → Answered x y → x ≡ y
+pub same_answer : {A : Type 0} (x y : A) → Answers x y → x ≡ y
 unfolding answer_of
 same_answer x y is = ap (answer_of x) is
 
@@ -112,7 +112,7 @@ mapped_if : (own : Bool) (b : Block) (o : Option Block) → option_map contents 
 mapped_if true b o = refl
 mapped_if false b o = refl
 
-alloc_law : (places : Store) (b : Bytes) (o : Option FlexStore) (new : FlexState) (anchor size a : ℕ)
+pub alloc_law : (places : Store) (b : Bytes) (o : Option FlexStore) (new : FlexState) (anchor size a : ℕ)
     → allocated places (record { bytes = b; flex = o }) anchor size ≡ Ok (new, true)
     → contents_in new.flex a ≡ (if anchor == a then Some (replicate size 0) else contents_in o a)
 unfolding allocated
@@ -126,7 +126,7 @@ alloc_law places b (Some s) new anchor size a is =
         | inl has ↦ let is' = rw (may, has) at is in cc
         | inr none ↦
             let given : FlexState × Bool = (new, true) in
-            let done : Answered (fitted t s bs) given = rw (may, none) at is in
+            let done : Answers (fitted t s bs) given = rw (may, none) at is in
             let left : new.flex ≡ Some (record { start = s.start; end = s.end; blocks = bs }) =
             left_by t s bs (nat_le (s.start + used bs) s.end) given (same_answer (fitted t s bs) given done) refl in
             held_in_blocks new.flex s.start s.end bs a left
@@ -148,7 +148,7 @@ release_by b s new anchor a (Some x) found distinct is =
     let t : FlexState = record { bytes = b; flex = Some s } in
     let after : FlexState × Unit {0} = (with_blocks (without_anchor t anchor) s (without_block anchor s.blocks), tt) in
     let given : FlexState × Unit {0} = (new, tt) in
-    let is' : Answered after given = rw found at is in
+    let is' : Answers after given = rw found at is in
     let done : after ≡ given = same_answer after given is' in
     let left : new.flex ≡ Some (record { start = s.start; end = s.end; blocks = without_block anchor s.blocks }) =
     sym (ap (λ (p : FlexState × Unit {0}). p.0.flex) done) in
@@ -158,14 +158,14 @@ release_by b s new anchor a (Some x) found distinct is =
       none_if true o = refl
       none_if false o = refl
 
-release_law : (b : Bytes) (o : Option FlexStore) (new : FlexState) (anchor a : ℕ) → HasBlocks o → released (record { bytes = b; flex = o }) anchor ≡ Ok (new, tt)
+pub release_law : (b : Bytes) (o : Option FlexStore) (new : FlexState) (anchor a : ℕ) → HasFilled o → released (record { bytes = b; flex = o }) anchor ≡ Ok (new, tt)
     → contents_in new.flex a ≡ (if anchor == a then None else contents_in o a)
 unfolding released
 release_law b None new anchor a has is = cc
 release_law b (Some s) new anchor a has is = release_by b s new anchor a (find_block anchor s.blocks) refl has.1 is
 
 pub release_removes : ReleaseRemoves
-release_removes t new anchor a has is = release_law t.bytes t.flex new anchor a has is
+release_removes t new anchor a has is = release_law t.bytes t.flex new anchor a (store_filled t.flex has) is
 
 -- a block that got other contents
 changed_law : (t new : FlexState) (s : FlexStore) (b : Block) (anchor a : ℕ) (c : List ℕ) → find_block anchor s.blocks ≡ Some b → b.anchor ≡ anchor
@@ -180,7 +180,7 @@ changed_law t new s b anchor a c found same is =
     ∙ ap (λ (x : List ℕ). if anchor == a then Some x else option_map contents (find_block a s.blocks)) (bytes_held b c)))
 
 -- the block that was found
-found_anchor : (anchor : ℕ) (bs : List Block) (b : Block) → find_block anchor bs ≡ Some b → b.anchor ≡ anchor
+pub found_anchor : (anchor : ℕ) (bs : List Block) (b : Block) → find_block anchor bs ≡ Some b → b.anchor ≡ anchor
 found_anchor anchor [] b found = absurd (let none : None ≡ Some b = found in cc)
 found_anchor anchor (x ∷ bs) b found = elim (cases_Bool (nat_eq x.anchor anchor)) [
   | inl here ↦
@@ -190,14 +190,14 @@ found_anchor anchor (x ∷ bs) b found = elim (cases_Bool (nat_eq x.anchor ancho
   | inr other ↦ found_anchor anchor bs b (rw other at found)
 ]
 
-found_whole : (anchor : ℕ) (bs : List Block) (b : Block) → AreWhole bs → find_block anchor bs ≡ Some b → length b.bytes ≡ whole_words b.size
-found_whole anchor [] b whole found = absurd (let none : None ≡ Some b = found in cc)
-found_whole anchor (x ∷ bs) b whole found = elim (cases_Bool (nat_eq x.anchor anchor)) [
+pub found_filled : (anchor : ℕ) (bs : List Block) (b : Block) → AreFilled bs → find_block anchor bs ≡ Some b → length b.bytes ≡ whole_words b.size
+found_filled anchor [] b whole found = absurd (let none : None ≡ Some b = found in cc)
+found_filled anchor (x ∷ bs) b whole found = elim (cases_Bool (nat_eq x.anchor anchor)) [
   | inl here ↦
       let found' = rw here at found in
       let same : x ≡ b = cc in
-      subst (λ (y : Block). length y.bytes ≡ whole_words y.size) same whole.0.0
-  | inr other ↦ found_whole anchor bs b whole.1 (rw other at found)
+      subst (λ (y : Block). length y.bytes ≡ whole_words y.size) same whole.0
+  | inr other ↦ found_filled anchor bs b whole.1 (rw other at found)
 ]
 
 -- at its own anchor, and at another
@@ -227,16 +227,16 @@ append_nil : (xs : List ℕ) → xs ++ [] ≡ xs
 append_nil [] = refl
 append_nil (x ∷ xs) = ap (λ (l : List ℕ). x ∷ l) (append_nil xs)
 
-resized_same : (c : List ℕ) (size : ℕ) → length c ≡ size → resized c size ≡ c
+pub resized_same : (c : List ℕ) (size : ℕ) → length c ≡ size → resized c size ≡ c
 resized_same c size len =
     let none : size - length c ≡ 0 = omega arith in
     let all : take size c ≡ c = ap (λ (n : ℕ). take n c) (sym len) ∙ take-length c in
     rw (none, all) (append_nil c)
 
-contents_size : (b : Block) → length b.bytes ≡ whole_words b.size → length (contents b) ≡ b.size
+pub contents_size : (b : Block) → length b.bytes ≡ whole_words b.size → length (contents b) ≡ b.size
 contents_size b whole = length-take-le b.size b.bytes (omega (arith, whole))
 
-extend_by : (b : Bytes) (s : FlexStore) (new : FlexState) (anchor size a : ℕ) (found : Option Block) → find_block anchor s.blocks ≡ found → AreWhole s.blocks
+extend_by : (b : Bytes) (s : FlexStore) (new : FlexState) (anchor size a : ℕ) (found : Option Block) → find_block anchor s.blocks ≡ found → AreFilled s.blocks
     → extended (record { bytes = b; flex = Some s }) anchor size ≡ Ok (new, true)
     → contents_in new.flex a
     ≡ (if anchor == a then option_map (λ c. resized c size) (contents_in (Some s) a) else contents_in (Some s) a)
@@ -249,20 +249,20 @@ extend_by b s new anchor size a (Some x) found whole is =
       | inl stays ↦
           let was : FlexState × Bool = (t, true) in
           let given : FlexState × Bool = (new, true) in
-          let is' : Answered was given = rw (found, stays) at is in
+          let is' : Answers was given = rw (found, stays) at is in
           let kept : new.flex ≡ Some s = sym (ap (λ (p : FlexState × Bool). p.0.flex) (same_answer was given is')) in
-          let len : length (contents x) ≡ size = contents_size x (found_whole anchor s.blocks x whole found) ∙ sym (eqb-true size x.size stays) in
+          let len : length (contents x) ≡ size = contents_size x (found_filled anchor s.blocks x whole found) ∙ sym (eqb-true size x.size stays) in
           ap (λ (o : Option FlexStore). contents_in o a) kept
           ∙ unchanged anchor a s.blocks x (λ c. resized c size) found (resized_same (contents x) size len)
       | inr other ↦
           let c : List ℕ = resized (contents x) size in
           let given : FlexState × Bool = (new, true) in
-          let is' : Answered (fitted t s (with_block anchor (holding x c) s.blocks)) given = rw (found, other) at is in
+          let is' : Answers (fitted t s (with_block anchor (holding x c) s.blocks)) given = rw (found, other) at is in
           changed_law t new s x anchor a c found same (same_answer (fitted t s (with_block anchor (holding x c) s.blocks)) given is')
           ∙ at_anchor anchor a s.blocks x (λ l. resized l size) found
     ]
 
-extend_law : (b : Bytes) (o : Option FlexStore) (new : FlexState) (anchor size a : ℕ) → HasBlocks o
+pub extend_law : (b : Bytes) (o : Option FlexStore) (new : FlexState) (anchor size a : ℕ) → HasFilled o
     → extended (record { bytes = b; flex = o }) anchor size ≡ Ok (new, true)
     → contents_in new.flex a ≡ (if anchor == a then option_map (λ c. resized c size) (contents_in o a) else contents_in o a)
 unfolding extended
@@ -270,10 +270,10 @@ extend_law b None new anchor size a has is = cc
 extend_law b (Some s) new anchor size a has is = extend_by b s new anchor size a (find_block anchor s.blocks) refl has.0 is
 
 pub extend_cuts_or_appends : ExtendCutsOrAppends
-extend_cuts_or_appends t new anchor size a has is = extend_law t.bytes t.flex new anchor size a has is
+extend_cuts_or_appends t new anchor size a has is = extend_law t.bytes t.flex new anchor size a (store_filled t.flex has) is
 
 -- a middle extend by 0 leaves all as it is
-spliced_none : (c : List ℕ) (at by : ℕ) → by ≡ 0 → spliced c at (cut_of by) (more_of by) ≡ c
+pub spliced_none : (c : List ℕ) (at by : ℕ) → by ≡ 0 → spliced c at (cut_of by) (more_of by) ≡ c
 spliced_none c at by none =
     let cut : cut_of by ≡ 0 = ap cut_of none in
     let more : more_of by ≡ 0 = ap more_of none in
@@ -307,20 +307,20 @@ mid_by b s new anchor at by a found found_is is =
               | inl none ↦
                   let was : FlexState × Bool = (t, true) in
                   let given : FlexState × Bool = (new, true) in
-                  let is' : Answered was given = rw (found, within, none) at is in
+                  let is' : Answers was given = rw (found, within, none) at is in
                   let kept : new.flex ≡ Some s = sym (ap (λ (p : FlexState × Bool). p.0.flex) (same_answer was given is')) in
                   ap (λ (o : Option FlexStore). contents_in o a) kept
                   ∙ unchanged anchor a s.blocks x (λ c. spliced c at (cut_of by) (more_of by)) found (spliced_none (contents x) at by (eqb-true by 0 none))
               | inr some ↦
                   let c : List ℕ = spliced (contents x) at (cut_of by) (more_of by) in
                   let given : FlexState × Bool = (new, true) in
-                  let is' : Answered (fitted t s (with_block anchor (holding x c) s.blocks)) given = rw (found, within, some) at is in
+                  let is' : Answers (fitted t s (with_block anchor (holding x c) s.blocks)) given = rw (found, within, some) at is in
                   changed_law t new s x anchor a c found same (same_answer (fitted t s (with_block anchor (holding x c) s.blocks)) given is')
                   ∙ at_anchor anchor a s.blocks x (λ l. spliced l at (cut_of by) (more_of by)) found
             ]
           ]
 
-mid_law : (b : Bytes) (o : Option FlexStore) (new : FlexState) (anchor at by a : ℕ) → mid_extended (record { bytes = b; flex = o }) anchor at by ≡ Ok (new, true)
+pub mid_law : (b : Bytes) (o : Option FlexStore) (new : FlexState) (anchor at by a : ℕ) → mid_extended (record { bytes = b; flex = o }) anchor at by ≡ Ok (new, true)
     → contents_in new.flex a
     ≡ (if anchor == a then option_map (λ c. spliced c at (cut_of by) (more_of by)) (contents_in o a) else contents_in o a)
 unfolding mid_extended

@@ -2,6 +2,7 @@ pub mod Allocating
 pub mod Anchoring
 pub mod Answering
 pub mod Changing
+pub mod Filled
 pub mod Finding
 pub mod Headers
 pub mod Held
@@ -14,9 +15,11 @@ pub mod Lists
 pub mod Reading
 pub mod Recording
 pub mod Releasing
+pub mod Runs
 pub mod Sliding
 pub mod Splicing
 pub mod Starting
+pub mod Staying
 pub mod Stores
 pub mod Storing
 pub mod TestedBlocks

@@ -211,7 +211,7 @@ unfolding released
 release_gives m m2 n e f anchor header before p c g =
     rw p.split.found (release_state m m2 n e f anchor (without_block anchor (blocks_of m e)) c g, refl)
 
-has_without : (anchor : ℕ) (bs : List Block) (a : ℕ) → has_anchor (without_block anchor bs) a ≡ true → has_anchor bs a ≡ true
+pub has_without : (anchor : ℕ) (bs : List Block) (a : ℕ) → has_anchor (without_block anchor bs) a ≡ true → has_anchor bs a ≡ true
 has_without anchor [] a has = has
 has_without anchor (b ∷ bs) a has = elim (cases_Bool (nat_eq b.anchor anchor)) [
   | inl here ↦ or_right (nat_eq a b.anchor) (has_anchor bs a) (rw here at has)

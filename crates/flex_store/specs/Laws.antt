@@ -1,9 +1,12 @@
 -- What the calls mean without addresses: each anchor has its contents, and a call changes those of its own anchor alone.
-use Rattle.std.specs.Prelude.{ℕ, ◌≡◌, ◌+◌, ◌-◌, ◌==◌, Bool, true, false, List, [], ◌∷◌, ◌++◌, take, replicate, length, Option, Some, None, Result, Ok, if◌then◌else◌}
+use Rattle.std.specs.Prelude.{ℕ, ◌≡◌, ◌==◌, true, false, List, [], ◌∷◌, replicate, Option, Some, None, Ok, if◌then◌else◌}
 use Rattle.std.specs.Option.{option_map}
+use Rattle.address_map.specs.declared.map.AddressMap.{AddressMap}
 use Rattle.os_heap.specs.Store.{Store}
+use Rattle.flex_store.specs.declared.flex.Flex.{Flex}
 use Rattle.flex_store.specs.Blocks.{Block, FlexStore, contents, cut_of, find_block, has_anchor, more_of, resized, spliced}
-use Rattle.flex_store.specs.State.{AreWhole}
+use Rattle.flex_store.specs.State.{AreWhole, IsFlex}
+use Rattle.flex_store.specs.Staying.{StaysFlex}
 use Rattle.flex_store.specs.Calls.{FlexState, allocated, extended, mid_extended, released}
 
 -- the contents of an anchor's block, if it has one
@@ -40,3 +43,7 @@ ExtendCutsOrAppends = (t new : FlexState) (anchor size a : ℕ) → HasBlocks t.
 abbrev pub MidExtendSplices : Type 0
 MidExtendSplices = (t new : FlexState) (anchor at by a : ℕ) → mid_extended t anchor at by ≡ Ok (new, true)
     → contents_in new.flex a ≡ (if anchor == a then option_map (λ c. spliced c at (cut_of by) (more_of by)) (contents_in t.flex a) else contents_in t.flex a)
+
+-- Calls of other stores, and a guest's own stores, keep the flex store where they keep its words, their marks, and the record of its range.
+abbrev pub FlexStays : Type 0
+FlexStays = (m n : AddressMap) (f : Flex) → IsFlex m f → StaysFlex m n f → IsFlex n f

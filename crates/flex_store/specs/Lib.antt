@@ -7,6 +7,8 @@ pub mod Marks
 pub mod Memory
 pub mod Places
 pub mod Relaid
+pub mod Runs
 pub mod Splices
+pub mod Staying
 pub mod Tested
 pub mod State

@@ -1,8 +1,9 @@
-ghost use Rattle.std.specs.Prelude.{◌≡◌, ◌<◌, ◌++◌, ◌∷◌, [], true, false, Some, None, MatchOption, MatchResult, length};
+ghost use Rattle.std.specs.Prelude.{ℕ, ◌≡◌, ◌⊎◌, ◌<◌, ◌++◌, ◌∷◌, [], true, false, Some, None, MatchOption, MatchResult, length};
 ghost use Rattle.profile.specs.Outcome.{Gives};
 ghost use Rattle.os_heap.specs.Store.{AreClasses, IsSound, store_of};
+ghost use Rattle.address_map.specs.Bytes.{word_start};
 ghost use Rattle.address_map.specs.Memory.{bytes_of, class_of, is_mapped, layout, mapping, regions};
-ghost use Rattle.flex_store.specs.Calls.{allocated, begun, extended, flex_record, is_flex_range, mid_extended, released, sized};
+ghost use Rattle.flex_store.specs.Calls.{allocated, begun, extended, flex_record, is_anchor_place, is_flex_range, mid_extended, released, sized};
 ghost use Rattle.flex_store.specs.State.{held_in, state_of, IsFlex, IsNoFlex, IsRecordedStore};
 
 use crate::block::{alloc_block, block_size, extend_block, mid_extend_block, release_block};
@@ -123,6 +124,8 @@ impl Flex {
             (allocated (store_of map.old) (state_of map.old self.old) anchor size) result (state_of map.new self.new) }
         ensures flex { IsFlex map.new self.new }
         ensures layout { layout map.new ≡ layout map.old }
+        ensures anchors { (a : ℕ) → (store_of map.new).anchor a ≡ true
+            → ((store_of map.old).anchor a ≡ true) ⊎ (is_anchor_place (store_of map.old) (word_start a) ≡ true) }
         ensures heaps { (store_of map.new).heaps ≡ (store_of map.old).heaps }
         ensures sound { IsSound (store_of map.new) }
         ensures classes { AreClasses map.new }
@@ -150,6 +153,8 @@ impl Flex {
         ensures state { Gives (state_of map.old self.old) (released (state_of map.old self.old) anchor) result (state_of map.new self.new) }
         ensures flex { IsFlex map.new self.new }
         ensures layout { layout map.new ≡ layout map.old }
+        ensures anchors { (a : ℕ) → (store_of map.new).anchor a ≡ true
+            → ((store_of map.old).anchor a ≡ true) ⊎ (is_anchor_place (store_of map.old) (word_start a) ≡ true) }
         ensures heaps { (store_of map.new).heaps ≡ (store_of map.old).heaps }
         ensures sound { IsSound (store_of map.new) }
         ensures classes { AreClasses map.new }
@@ -183,6 +188,8 @@ impl Flex {
         ensures state { Gives (state_of map.old self.old) (extended (state_of map.old self.old) anchor size) result (state_of map.new self.new) }
         ensures flex { IsFlex map.new self.new }
         ensures layout { layout map.new ≡ layout map.old }
+        ensures anchors { (a : ℕ) → (store_of map.new).anchor a ≡ true
+            → ((store_of map.old).anchor a ≡ true) ⊎ (is_anchor_place (store_of map.old) (word_start a) ≡ true) }
         ensures heaps { (store_of map.new).heaps ≡ (store_of map.old).heaps }
         ensures sound { IsSound (store_of map.new) }
         ensures classes { AreClasses map.new }
@@ -218,6 +225,8 @@ impl Flex {
         ensures state { Gives (state_of map.old self.old) (mid_extended (state_of map.old self.old) anchor at by) result (state_of map.new self.new) }
         ensures flex { IsFlex map.new self.new }
         ensures layout { layout map.new ≡ layout map.old }
+        ensures anchors { (a : ℕ) → (store_of map.new).anchor a ≡ true
+            → ((store_of map.old).anchor a ≡ true) ⊎ (is_anchor_place (store_of map.old) (word_start a) ≡ true) }
         ensures heaps { (store_of map.new).heaps ≡ (store_of map.old).heaps }
         ensures sound { IsSound (store_of map.new) }
         ensures classes { AreClasses map.new }

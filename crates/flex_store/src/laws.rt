@@ -1,7 +1,8 @@
 //! What the calls mean without addresses: each anchor has its contents, and a call changes those of its own anchor alone. Each law is the contract of
 //! a function that does nothing.
 
-ghost use Rattle.flex_store.specs.Laws.{AllocAddsZeros, ExtendCutsOrAppends, MidExtendSplices, ReleaseRemoves};
+ghost use Rattle.flex_store.specs.Laws.{AllocAddsZeros, ExtendCutsOrAppends, FlexStays, MidExtendSplices, ReleaseRemoves};
+ghost use Rattle.flex_store.specs.Runs.{AnswersAreRoom, CallsMoveContentsByRules};
 
 /// An alloc that is done gives its anchor as many zeros as were asked for.
 #[tactic(auto, using(crate::proofs::LawLemmas::alloc_adds_zeros))]
@@ -25,4 +26,19 @@ pub fn extend_cuts_or_appends()
 #[tactic(auto, using(crate::proofs::LawLemmas::mid_extend_splices))]
 pub fn mid_extend_splices()
     ensures { MidExtendSplices }
+{}
+
+/// What keeps the words of the flex store, and its record, keeps the store, whatever it does to other bytes.
+pub fn flex_stays()
+    ensures { FlexStays }
+{}
+
+/// Whatever is called, in whatever order, an anchor's contents are what these four laws make of them, call by call.
+pub fn calls_move_contents_by_rules()
+    ensures { CallsMoveContentsByRules }
+{}
+
+/// A call answers that there was room just where the blocks that it is to leave fit into the store's range.
+pub fn answers_are_room()
+    ensures { AnswersAreRoom }
 {}
