@@ -1,0 +1,4 @@
+//! The flex store, over calls that are none of its own: they keep its bytes, its anchors and its range.
+#![tactic(auto)]
+
+pub mod laws;
