@@ -1,21 +1,20 @@
 -- Images in place: a range that meets nothing is recorded.
-use Rattle.std.proofs.Common.{◌≡◌, ℕ, ◌+◌, ◌%◌, ◌==◌, ◌&&◌, ◌||◌, ◌<◌, ◌≤◌, ◌^◌, Bool, true, false, List, [], ◌∷◌, ◌++◌, length, refl, sym, ap, ◌∙◌, inl, inr, not, arith}
-use Rattle.std.specs.Prelude.{nat_lt}
+use Rattle.std.proofs.Common.{◌≡◌, ℕ, ◌+◌, ◌%◌, ◌==◌, ◌&&◌, ◌||◌, ◌<◌, ◌≤◌, Bool, true, false, List, [], ◌∷◌, length, refl, sym, ap, ◌∙◌, not, arith}
 use Rattle.std.specs.List.{list_any}
 use Rattle.std.proofs.lemmas.Bool.{and_parts, both_ways, eqb-true, false_from_ne_true, lt-ltb, not-true, or_parts}
 use Rattle.address_map.specs.Bytes.{AreMapped, in_range, meets}
-use Rattle.address_map.specs.Memory.{anchor_of, bytes_of, is_mapped, regions}
+use Rattle.address_map.specs.Memory.{anchor_of, bytes_of, regions}
 use Rattle.address_map.specs.Records.{IsRegion, anchor_among}
 use Rattle.address_map.specs.declared.map.AddressMap.{AddressMap}
 use Rattle.address_map.specs.declared.region.Kind.TheVariants as kind
 use Rattle.address_map.specs.declared.region.Region.{Region}
-use Rattle.os_heap.proofs.Added.{are_mapped_all, are_mapped_from, clear_of_heaps, range_end, ranges_split, same_tests}
+use Rattle.os_heap.proofs.Added.{are_mapped_all, clear_of_heaps, range_end, ranges_split}
 use Rattle.os_heap.proofs.Apart.{range_parts}
 use Rattle.os_heap.proofs.Recorded.{IsClearOfAll, recorded_sound}
 use Rattle.os_heap.specs.Ranges.{are_mapped}
 use Rattle.os_heap.specs.Ranges as range
-use Rattle.os_heap.specs.Store.{AreClear, IsClearOfHeaps, IsSound, Store, store_of}
-use Rattle.rma.specs.NewImages.{may_be_in_place, meets_store, with_image_in_place}
+use Rattle.os_heap.specs.Store.{IsClearOfHeaps, IsSound, Store, store_of}
+use Rattle.rma.specs.NewImages.{may_be_in_place, meets_store}
 use Rattle.rma.proofs.ImageLemmas.{IsRecorded}
 
 -- the test of the map is that of the store
@@ -30,6 +29,7 @@ pub record MayBe (s : Store) (at len : ℕ) : Type 0 where
   pub mapped : AreMapped s.bytes.mapped at len
   pub heaps : list_any (λ h. meets at len h.start h.end) s.heaps ≡ false
   pub others : list_any (λ r. meets at len r.at r.len) s.others ≡ false
+  pub anchors : anchor_among s.anchor at len ≡ false
 
 pub may_be : (s : Store) (at len : ℕ) → may_be_in_place s at len ≡ true → MayBe s at len
 may_be s at len may =
@@ -45,6 +45,7 @@ may_be s at len may =
       mapped = are_mapped_all s.bytes.mapped at len front.1;
       heaps = ranges.0;
       others = ranges.1;
+      anchors = parts.1;
     }
 
 -- ranges that don't meet, the first of them not empty, share no byte

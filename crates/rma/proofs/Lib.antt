@@ -1,6 +1,7 @@
 mod CopyLemmas
 mod Estates
 mod ExtendLemmas
+mod FlexLemmas
 mod GrowthLemmas
 pub mod ImageLemmas
 pub mod InPlaceLemmas

@@ -1,14 +1,14 @@
 -- New images: the block that is claimed for one, the bytes written there, and the record.
-use Rattle.std.proofs.Common.{◌≡◌, ℕ, ◌+◌, ◌-◌, ◌*◌, ◌<◌, ◌≤◌, true, false, List, [], ◌∷◌, ◌++◌, length, refl, sym, ap, subst, ◌∙◌, Some, None, Ok, Err, inl, inr, arith}
+use Rattle.std.proofs.Common.{◌≡◌, ℕ, ◌+◌, ◌-◌, ◌<◌, ◌≤◌, true, false, List, [], ◌∷◌, ◌++◌, length, refl, sym, ap, subst, ◌∙◌, Some, None, Ok, Err, arith}
 use Rattle.std.specs.Prelude.{Option, Result}
 use Rattle.std.proofs.lemmas.Bool.{both_ways, false_from_ne_true, le-leb, lt-ltb}
-use Rattle.profile.specs.Outcome.{Gives, bind}
+use Rattle.profile.specs.Outcome.{Gives}
 use Rattle.profile.specs.declared.error.ErrorNumber.{ErrorNumber}
-use Rattle.profile.specs.declared.error.ErrorNumber.TheVariants.{HeapNoRoom, RmaNoRoom}
+use Rattle.profile.specs.declared.error.ErrorNumber.TheVariants.{RmaNoRoom}
 use Rattle.address_map.proofs.Equations.{stored_bytes, stored_moved}
 use Rattle.address_map.specs.Bytes.{AreMapped, Bytes, in_range, with_bytes, with_bytes_at, with_moved, with_moved_at}
 use Rattle.address_map.specs.Items.{is_total, size_of}
-use Rattle.address_map.specs.Memory.{byte_at, bytes_of, class_of, is_mapped, layout}
+use Rattle.address_map.specs.Memory.{byte_at, bytes_of, class_of, layout}
 use Rattle.address_map.specs.declared.map.AddressMap.{AddressMap}
 use Rattle.address_map.specs.declared.region.Kind.TheVariants as kind
 use Rattle.address_map.specs.declared.region.Region.{Region}
@@ -24,9 +24,8 @@ use Rattle.os_heap.proofs.KeptPayloads.{IsClaim, is_claim}
 use Rattle.os_heap.proofs.PayloadWrites.{payload_kept}
 use Rattle.os_heap.specs.Calls.{OfHeap, block_sized, copied, got}
 use Rattle.os_heap.specs.Store.{IsSound, Store, find_heap, has_image, store_of}
-use Rattle.dynamic_areas.specs.Areas.{Land}
 use Rattle.dynamic_areas.specs.Ground.{Estate, IsEstate}
-use Rattle.rma.specs.Calls.{grown_to, in_grown_area, rma_base, rma_claimed, with_store}
+use Rattle.rma.specs.Calls.{grown_to, rma_base, rma_claimed}
 use Rattle.rma.specs.Images.{image_recorded}
 use Rattle.rma.specs.NewImages.{IsLiveBlock, filled}
 use Rattle.rma.proofs.GrowthLemmas.{HasArea, area_there, far_refused}
@@ -53,7 +52,7 @@ payload_mapped s block total len sound is fits a low high =
     heap.mapped a (omega (arith, low, place.low)) (omega (arith, high, fits, place.high, heap.inside))
 
 -- what a write to them leaves
-shorter : (block len more a : ℕ) → len ≤ more → in_range block more a ≡ false → in_range block len a ≡ false
+pub shorter : (block len more a : ℕ) → len ≤ more → in_range block more a ≡ false → in_range block len a ≡ false
 shorter block len more a fits out = false_from_ne_true (in_range block len a) (λ is.
     let parts : (block ≤ a) × (a < block + len) = range_parts block len a is in
     both_ways (in_range block more a) out (rw (le-leb block a parts.0, lt-ltb a (block + more) (omega (arith, parts.1, fits))) refl))
@@ -66,10 +65,10 @@ block_kept m n block total len same marks sound is fits kept =
     subst (λ (p : ℕ). find_heap p (store_of m).heaps ≡ Some l.heap) (sym (found_start 0x01800000 (store_of m).heaps l.heap l.found)) l.found in
     payload_kept m n l.heap block total same marks sound own l.live (λ a out. kept a (shorter block len (total - 4) a (omega (arith, fits)) out))
 
-outside : (f : ℕ → ℕ) (block a : ℕ) (bytes : List ℕ) → in_range block (length bytes) a ≡ false → with_bytes_at f block bytes a ≡ f a
+pub outside : (f : ℕ → ℕ) (block a : ℕ) (bytes : List ℕ) → in_range block (length bytes) a ≡ false → with_bytes_at f block bytes a ≡ f a
 outside f block a bytes out = rw out refl
 
-unmoved : (f : ℕ → ℕ) (from block len a : ℕ) → in_range block len a ≡ false → with_moved_at f from block len a ≡ f a
+pub unmoved : (f : ℕ → ℕ) (from block len a : ℕ) → in_range block len a ≡ false → with_moved_at f from block len a ≡ f a
 unmoved f from block len a out = rw out refl
 
 with_same : (s : Store) (b c : Bytes) → b ≡ c → (let x : Store = record s { bytes = b } in let y : Store = record s { bytes = c } in x ≡ y)

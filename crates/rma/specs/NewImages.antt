@@ -1,12 +1,12 @@
 -- New images in the module area: a block is claimed, the image gets its bytes there, and the block is recorded as an image (RISC OS 3 Programmer's
 -- Reference Manual, "OS_Module", reasons 1 and 11). An image in place keeps its bytes, and is recorded over exactly these (reason 10).
-use Rattle.std.specs.Prelude.{ℕ, ◌≡◌, ◌+◌, ◌-◌, ◌*◌, ◌==◌, ◌%◌, ◌||◌, ◌&&◌, not, Bool, List, length, Some, Result, Ok, [], ◌∷◌, ◌++◌}
+use Rattle.std.specs.Prelude.{ℕ, ◌≡◌, ◌+◌, ◌-◌, ◌==◌, ◌%◌, ◌||◌, ◌&&◌, not, Bool, List, length, Some, Result, Ok, [], ◌∷◌, ◌++◌}
 use Rattle.std.specs.List.{list_any}
 use Rattle.profile.specs.Outcome.{bind}
 use Rattle.profile.specs.declared.error.ErrorNumber.{ErrorNumber}
 use Rattle.address_map.specs.declared.region.Kind.TheVariants as kind
 use Rattle.address_map.specs.declared.region.Region.{Region}
-use Rattle.address_map.specs.Bytes.{in_range, meets, with_bytes}
+use Rattle.address_map.specs.Bytes.{meets, with_bytes}
 use Rattle.address_map.specs.Records.{anchor_among}
 use Rattle.os_heap_lists.specs.Lists.{live_total, total_for}
 use Rattle.os_heap.specs.Calls.{OfHeap, copied}
@@ -38,10 +38,6 @@ image_record at len = record { kind = kind.Image; at = at; len = total_for len -
 -- the module area's heap has a live block at an address, of `total` bytes with its length word
 abbrev pub IsLiveBlock : Store → ℕ → ℕ → Type 0
 IsLiveBlock s block total = OfHeap (λ h. live_total block (h.start + 16) h.items ≡ Some total) (find_heap 0x01800000 s.heaps)
-
--- is a byte in a recorded range that is no heap?
-abbrev pub is_in_record : List Region → ℕ → Bool
-is_in_record others a = list_any (λ r. in_range r.at r.len a) others
 
 -- Where an image may be in place: from a whole word on, all mapped, and clear of all heaps, of all other recorded ranges, and of anchors. An empty
 -- range meets nothing.

@@ -1,12 +1,13 @@
-ghost use Rattle.std.specs.Prelude.{◌≡◌, ◌+◌, false, IfOk};
+ghost use Rattle.std.specs.Prelude.{◌≡◌, ◌+◌, ◌-◌, false, IfOk};
 ghost use Rattle.profile.specs.Outcome.{Gives};
 ghost use Rattle.address_map.specs.Memory.{StaysInPlace};
 ghost use Rattle.os_heap_lists.specs.Lists.{total_for};
 ghost use Rattle.os_heap.specs.Calls.{got};
 ghost use Rattle.os_heap.specs.Store.{store_of, AreClasses};
 ghost use Rattle.dynamic_areas.specs.Ground.{estate_of, IsEstate};
+ghost use Rattle.flex_kept.specs.Keeping.{is_in_record, IsUnanchored, KeepsFlex};
 ghost use Rattle.rma.specs.Calls.{in_grown_area, rma_base, rma_claimed};
-ghost use Rattle.rma.specs.NewImages.{is_in_record, IsLiveBlock};
+ghost use Rattle.rma.specs.NewImages.{IsLiveBlock};
 ghost use Rattle.rma.specs.Places.{KeepsPlaces};
 
 use crate::area::Rma;
@@ -43,6 +44,8 @@ impl Rma {
         ensures places { KeepsPlaces map.old map.new }
         ensures live { IfOk result (λ block. IsLiveBlock (store_of map.new) block (total_for size)) }
         ensures alone { IfOk result (λ block. is_in_record (store_of map.old).others block ≡ false) }
+        ensures flex { KeepsFlex (store_of map.old) (store_of map.new) }
+        ensures unanchored { IfOk result (λ block. IsUnanchored (store_of map.new) block (total_for size - 4)) }
     {
         match Heaps::new().get(map, RMA_START, size).answer {
             Ok(block) => Ok(block),
@@ -63,6 +66,8 @@ fn claim_grown(map: &mut AddressMap, areas: &mut Areas, size: u32) -> Result<u32
     ensures places { KeepsPlaces map.old map.new }
     ensures live { IfOk result (λ block. IsLiveBlock (store_of map.new) block (total_for size)) }
     ensures alone { IfOk result (λ block. is_in_record (store_of map.old).others block ≡ false) }
+    ensures flex { KeepsFlex (store_of map.old) (store_of map.new) }
+    ensures unanchored { IfOk result (λ block. IsUnanchored (store_of map.new) block (total_for size - 4)) }
 {
     let heaps = Heaps::new();
     let end = u64::from(heaps.base(map, RMA_START)) + total_for(size);

@@ -4,6 +4,7 @@ ghost use Rattle.address_map.specs.Memory.{StaysInPlace};
 ghost use Rattle.os_heap.specs.Calls.{block_sized, resized};
 ghost use Rattle.os_heap.specs.Store.{store_of, AreClasses, IsSound};
 ghost use Rattle.dynamic_areas.specs.Ground.{estate_of, IsEstate};
+ghost use Rattle.flex_kept.specs.Keeping.{KeepsFlex};
 ghost use Rattle.rma.specs.Calls.{end_if_moved, end_in_place, grown_in_place, in_grown_area, is_full, rma_base, rma_extended, total_changed};
 ghost use Rattle.rma.specs.Places.{KeepsPlaces};
 
@@ -42,6 +43,7 @@ impl Rma {
         ensures classes { AreClasses map.new }
         ensures others { (store_of map.new).others ≡ (store_of map.old).others }
         ensures stays { StaysInPlace map.old map.new }
+        ensures flex { KeepsFlex (store_of map.old) (store_of map.new) }
     {
         grow_in_place(map, areas, block, change);
         match Heaps::new().resize(map, RMA_START, block, change).answer {
@@ -61,6 +63,7 @@ fn grow_in_place(map: &mut AddressMap, areas: &mut Areas, block: u32, change: u3
     ensures classes { AreClasses map.new }
     ensures others { (store_of map.new).others ≡ (store_of map.old).others }
     ensures places { KeepsPlaces map.old map.new }
+    ensures flex { KeepsFlex (store_of map.old) (store_of map.new) }
 {
     let end = end_in_place(map, block, change);
     let _ = grow_to(map, areas, end);
@@ -81,6 +84,7 @@ fn move_grown(
     ensures classes { AreClasses map.new }
     ensures others { (store_of map.new).others ≡ (store_of map.old).others }
     ensures places { KeepsPlaces map.old map.new }
+    ensures flex { KeepsFlex (store_of map.old) (store_of map.new) }
 {
     let end = end_if_moved(map, block, change);
     grow_to(map, areas, end)?;

@@ -5,6 +5,7 @@ ghost use Rattle.os_heap.specs.Store.{AreClasses};
 ghost use Rattle.dynamic_areas.specs.Areas.{Land};
 ghost use Rattle.dynamic_areas.specs.Ground.{estate_of, IsEstate};
 ghost use Rattle.os_heap.specs.Store.{store_of, IsSound};
+ghost use Rattle.flex_kept.specs.Keeping.{KeepsFlex};
 ghost use Rattle.rma.specs.Calls.{rma_freed};
 
 use crate::area::Rma;
@@ -31,6 +32,7 @@ impl Rma {
         ensures estate { (l : Land) → IsEstate (estate_of map.old l) → IsEstate (estate_of map.new l) }
         ensures classes { AreClasses map.new }
         ensures layout { layout map.new ≡ layout map.old }
+        ensures flex { KeepsFlex (store_of map.old) (store_of map.new) }
     {
         match Heaps::new().free(map, RMA_START, block).answer {
             Ok(()) => Ok(()),

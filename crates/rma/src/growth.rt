@@ -5,6 +5,7 @@ ghost use Rattle.dynamic_areas.specs.Areas.{find_area};
 ghost use Rattle.dynamic_areas.specs.Changing.{pages_had};
 ghost use Rattle.dynamic_areas.specs.Ground.{estate_of, IsEstate};
 ghost use Rattle.dynamic_areas.specs.Rooms.{IsAreaTable};
+ghost use Rattle.flex_kept.specs.Keeping.{KeepsFlex};
 ghost use Rattle.rma.specs.Calls.{grown_to};
 ghost use Rattle.rma.specs.Places.{KeepsPlaces};
 
@@ -27,6 +28,7 @@ pub(crate) fn grow_to(map: &mut AddressMap, areas: &mut Areas, end: u64) -> Resu
     ensures classes { AreClasses map.new }
     ensures others { (store_of map.new).others ≡ (store_of map.old).others }
     ensures places { KeepsPlaces map.old map.new }
+    ensures flex { KeepsFlex (store_of map.old) (store_of map.new) }
 {
     let size = area_size(areas);
     if end <= u64::from(size) {

@@ -1,8 +1,10 @@
-ghost use Rattle.std.specs.Prelude.{◌≡◌};
+ghost use Rattle.std.specs.Prelude.{◌≡◌, IfOk};
 ghost use Rattle.address_map.specs.Memory.{mapping};
+ghost use Rattle.os_heap.specs.Calls.{block_sized};
 ghost use Rattle.os_heap.specs.Store.{store_of, AreClasses, IsSound};
 ghost use Rattle.dynamic_areas.specs.Areas.{Land};
 ghost use Rattle.dynamic_areas.specs.Ground.{estate_of, IsEstate};
+ghost use Rattle.flex_kept.specs.Keeping.{IsUnanchored, KeepsFlex};
 ghost use Rattle.rma.specs.Images.{image_dropped, image_freed, image_recorded, CanRecord};
 
 use crate::area::Rma;
@@ -21,6 +23,8 @@ impl Rma {
         ensures estate { (l : Land) → IsEstate (estate_of map.old l) → IsEstate (estate_of map.new l) }
         ensures classes { AreClasses map.old → AreClasses map.new }
         ensures mapping { mapping map.new ≡ mapping map.old }
+        ensures flex { IfOk (block_sized (store_of map.old) 0x01800000 at) (λ len. IsUnanchored (store_of map.old) at len)
+            → KeepsFlex (store_of map.old) (store_of map.new) }
     {
         match Heaps::new().block_size(map, RMA_START, at).answer {
             Ok(len) => map.own(Kind::Image, at, len),
@@ -36,6 +40,7 @@ impl Rma {
         ensures estate { (l : Land) → IsEstate (estate_of map.old l) → IsEstate (estate_of map.new l) }
         ensures classes { AreClasses map.old → AreClasses map.new }
         ensures mapping { mapping map.new ≡ mapping map.old }
+        ensures flex { KeepsFlex (store_of map.old) (store_of map.new) }
     {
         map.disown(Kind::Image, at);
     }
@@ -50,6 +55,7 @@ impl Rma {
         ensures estate { (l : Land) → IsEstate (estate_of map.old l) → IsEstate (estate_of map.new l) }
         ensures classes { AreClasses map.new }
         ensures mapping { mapping map.new ≡ mapping map.old }
+        ensures flex { KeepsFlex (store_of map.old) (store_of map.new) }
     {
         self.drop_image(map, at);
         let _ = Heaps::new().free(map, RMA_START, at).answer;

@@ -4,6 +4,7 @@ ghost use Rattle.os_heap.specs.Ranges.{are_mapped};
 ghost use Rattle.os_heap.specs.Store.{store_of, AreClasses, IsSound};
 ghost use Rattle.dynamic_areas.specs.Areas.{Land};
 ghost use Rattle.dynamic_areas.specs.Ground.{estate_of, IsEstate};
+ghost use Rattle.flex_kept.specs.Keeping.{KeepsFlex};
 ghost use Rattle.rma.specs.Calls.{with_store};
 ghost use Rattle.rma.specs.NewImages.{may_be_in_place, meets_store, with_image_in_place};
 
@@ -32,6 +33,7 @@ impl Rma {
         ensures estate { (l : Land) → IsEstate (estate_of map.old l) → IsEstate (estate_of map.new l) }
         ensures classes { AreClasses map.old → AreClasses map.new }
         ensures mapping { mapping map.new ≡ mapping map.old }
+        ensures flex { KeepsFlex (store_of map.old) (store_of map.new) }
     {
         map.own(Kind::Image, at, len);
     }

@@ -1,4 +1,4 @@
-ghost use Rattle.std.specs.Prelude.{◌≡◌, ◌≤◌, ◌<◌, ◌++◌, ◌∷◌, [], false, length, IfOk, MatchResult};
+ghost use Rattle.std.specs.Prelude.{◌≡◌, ◌-◌, ◌≤◌, ◌<◌, ◌++◌, ◌∷◌, [], false, length, IfOk, MatchResult};
 ghost use Rattle.profile.specs.Outcome.{Gives};
 ghost use Rattle.address_map.specs.Bytes.{AreMapped};
 ghost use Rattle.address_map.specs.Memory.{is_mapped, layout};
@@ -7,7 +7,8 @@ ghost use Rattle.os_heap.specs.Calls.{copied};
 ghost use Rattle.os_heap.specs.Store.{store_of, AreClasses, IsSound, has_image};
 ghost use Rattle.dynamic_areas.specs.Areas.{Land};
 ghost use Rattle.dynamic_areas.specs.Ground.{estate_of, IsEstate};
-ghost use Rattle.rma.specs.NewImages.{filled, image_copied, image_made, image_record, is_in_record, IsLiveBlock};
+ghost use Rattle.flex_kept.specs.Keeping.{is_in_record, IsUnanchored, KeepsFlex};
+ghost use Rattle.rma.specs.NewImages.{filled, image_copied, image_made, image_record, IsLiveBlock};
 
 use crate::area::Rma;
 use address_map::AddressMap;
@@ -37,6 +38,7 @@ impl Rma {
         ensures made { Gives (estate_of map.old areas.old) (image_made (estate_of map.old areas.old) image.now) result (estate_of map.new areas.new) }
         ensures estate { IsEstate (estate_of map.new areas.new) }
         ensures classes { AreClasses map.new }
+        ensures flex { KeepsFlex (store_of map.old) (store_of map.new) }
         ensures alone { IfOk result (λ block. is_in_record (store_of map.old).others block ≡ false) }
         ensures others { IfOk result (λ block. has_image block (store_of map.old).others ≡ false
             → (store_of map.new).others ≡ (store_of map.old).others ++ image_record block (length image.now) ∷ []) }
@@ -74,6 +76,7 @@ impl Rma {
         ensures made { Gives (estate_of map.old areas.old) (image_copied (estate_of map.old areas.old) from len) result (estate_of map.new areas.new) }
         ensures estate { IsEstate (estate_of map.new areas.new) }
         ensures classes { AreClasses map.new }
+        ensures flex { KeepsFlex (store_of map.old) (store_of map.new) }
         ensures alone { IfOk result (λ block. is_in_record (store_of map.old).others block ≡ false) }
         ensures others { IfOk result (λ block. has_image block (store_of map.old).others ≡ false
             → (store_of map.new).others ≡ (store_of map.old).others ++ image_record block len ∷ []) }
@@ -89,11 +92,14 @@ impl Rma {
 fn fill(map: &mut AddressMap, block: u32, bytes: &[u8])
     requires sound { IsSound (store_of map.old) }
     requires live { IsLiveBlock (store_of map.old) block (total_for (length bytes.now)) }
+    requires unanchored { IsUnanchored (store_of map.old) block (total_for (length bytes.now) - 4) }
     ensures store { store_of map.new ≡ filled (store_of map.old) block bytes.now }
     ensures sound { IsSound (store_of map.new) }
     ensures estate { (l : Land) → IsEstate (estate_of map.old l) → IsEstate (estate_of map.new l) }
     ensures classes { AreClasses map.old → AreClasses map.new }
     ensures layout { layout map.new ≡ layout map.old }
+    ensures flex { KeepsFlex (store_of map.old) (store_of map.new) }
+    ensures unanchored { IsUnanchored (store_of map.new) block (total_for (length bytes.now) - 4) }
 {
     map.put_bytes(block, bytes);
 }
@@ -102,12 +108,15 @@ fn fill(map: &mut AddressMap, block: u32, bytes: &[u8])
 fn fill_from(map: &mut AddressMap, block: u32, from: u32, len: u32)
     requires sound { IsSound (store_of map.old) }
     requires live { IsLiveBlock (store_of map.old) block (total_for len) }
+    requires unanchored { IsUnanchored (store_of map.old) block (total_for len - 4) }
     requires source { AreMapped (is_mapped map.old) from len }
     ensures store { store_of map.new ≡ copied (store_of map.old) from block len }
     ensures sound { IsSound (store_of map.new) }
     ensures estate { (l : Land) → IsEstate (estate_of map.old l) → IsEstate (estate_of map.new l) }
     ensures classes { AreClasses map.old → AreClasses map.new }
     ensures layout { layout map.new ≡ layout map.old }
+    ensures flex { KeepsFlex (store_of map.old) (store_of map.new) }
+    ensures unanchored { IsUnanchored (store_of map.new) block (total_for len - 4) }
 {
     map.move_bytes(from, block, len);
 }

@@ -4,6 +4,8 @@ use Rattle.os_heap.specs.Store.{store_of}
 use Rattle.os_heap.proofs.Frame.{layout-others}
 use Rattle.dynamic_areas.specs.Ground.{Estate, estate_of}
 use Rattle.dynamic_areas.proofs.HeapCalls.{areas_written}
+use Rattle.flex_kept.proofs.Heaps.{got_keeps, got_unanchored}
+use Rattle.flex_kept.proofs.Keeping.{keeps_then}
 use Rattle.rma.specs.Calls.{grown_to}
 use Rattle.rma.proofs.Estates.{is_done}
 use Rattle.rma.proofs.ExtendLemmas.{claim_done}
@@ -42,3 +44,20 @@ returns-in-Ok-clause-alone c =
     rw (← c.grow_to.ensures.others)
     (block_made (store_of c.grow_to.new.map) (store_of c.get.new.map) c.args.size c.in-Ok.block c.get.result.answer c.grow_to.ensures.estate.ground.sound c.in-Ok.is
     c.get.ensures.store).alone
+
+pub returns-in-Ok-clause-flex : goal.returns-in-Ok-clause-flex
+returns-in-Ok-clause-flex c =
+    keeps_then (store_of c.args.map.now) (store_of c.grow_to.new.map) (store_of c.get.new.map) c.grow_to.ensures.flex
+    (got_keeps (store_of c.grow_to.new.map) (store_of c.get.new.map) 0x01800000 c.args.size c.get.result.answer c.grow_to.ensures.estate.ground.sound
+    c.get.ensures.sound c.get.ensures.store)
+
+pub returns-in-Err-clause-flex : goal.returns-in-Err-clause-flex
+returns-in-Err-clause-flex c =
+    keeps_then (store_of c.args.map.now) (store_of c.grow_to.new.map) (store_of c.get.new.map) c.grow_to.ensures.flex
+    (got_keeps (store_of c.grow_to.new.map) (store_of c.get.new.map) 0x01800000 c.args.size c.get.result.answer c.grow_to.ensures.estate.ground.sound
+    c.get.ensures.sound c.get.ensures.store)
+
+pub returns-in-Ok-clause-unanchored : goal.returns-in-Ok-clause-unanchored
+returns-in-Ok-clause-unanchored c =
+    let given = rw c.in-Ok.is at c.get.ensures.store in
+    got_unanchored (store_of c.grow_to.new.map) (store_of c.get.new.map) 0x01800000 c.args.size (Ok c.in-Ok.block) c.grow_to.ensures.estate.ground.sound given

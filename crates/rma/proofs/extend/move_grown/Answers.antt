@@ -4,6 +4,8 @@ use Rattle.os_heap.specs.Store.{store_of}
 use Rattle.os_heap.proofs.Frame.{layout-others}
 use Rattle.dynamic_areas.specs.Ground.{Estate, estate_of}
 use Rattle.dynamic_areas.proofs.HeapCalls.{areas_written}
+use Rattle.flex_kept.proofs.Heaps.{resized_keeps}
+use Rattle.flex_kept.proofs.Keeping.{keeps_then}
 use Rattle.rma.specs.Calls.{end_if_moved, grown_to, rma_base}
 use Rattle.rma.proofs.Estates.{is_done}
 use Rattle.rma.proofs.ExtendLemmas.{move_done}
@@ -30,3 +32,15 @@ returns-in-Ok-clause-others c = layout-others c.grow_to.new.map c.resize.new.map
 
 pub returns-in-Err-clause-others : goal.returns-in-Err-clause-others
 returns-in-Err-clause-others c = layout-others c.grow_to.new.map c.resize.new.map c.resize.ensures.layout ∙ c.grow_to.ensures.others
+
+pub returns-in-Ok-clause-flex : goal.returns-in-Ok-clause-flex
+returns-in-Ok-clause-flex c =
+    keeps_then (store_of c.args.map.now) (store_of c.grow_to.new.map) (store_of c.resize.new.map) c.grow_to.ensures.flex
+    (resized_keeps (store_of c.grow_to.new.map) (store_of c.resize.new.map) 0x01800000 c.args.block c.args.change c.resize.result.answer
+    c.grow_to.ensures.estate.ground.sound c.resize.ensures.sound c.resize.ensures.store)
+
+pub returns-in-Err-clause-flex : goal.returns-in-Err-clause-flex
+returns-in-Err-clause-flex c =
+    keeps_then (store_of c.args.map.now) (store_of c.grow_to.new.map) (store_of c.resize.new.map) c.grow_to.ensures.flex
+    (resized_keeps (store_of c.grow_to.new.map) (store_of c.resize.new.map) 0x01800000 c.args.block c.args.change c.resize.result.answer
+    c.grow_to.ensures.estate.ground.sound c.resize.ensures.sound c.resize.ensures.store)

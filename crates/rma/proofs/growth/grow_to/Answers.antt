@@ -1,4 +1,4 @@
-use Rattle.std.proofs.Common.{◌≡◌, ◌≤◌, ◌<◌, ◌-◌, ◌*◌, true, false, refl, sym, ap, ◌∙◌, arith}
+use Rattle.std.proofs.Common.{◌≡◌, ◌<◌, ◌-◌, ◌*◌, true, refl, sym, ap, ◌∙◌, arith}
 use Rattle.std.specs.Prelude.{is_some}
 use Rattle.std.proofs.lemmas.Bool.{lt-ltb}
 use Rattle.address_map.specs.Memory.{free_pages, is_mapped}
@@ -7,7 +7,9 @@ use Rattle.dynamic_areas.specs.declared.area.Changed.{Changed}
 use Rattle.dynamic_areas.specs.Changing.{is_growth, growth_room}
 use Rattle.dynamic_areas.specs.Creating.{pages_for}
 use Rattle.dynamic_areas.specs.Ground.{Estate, estate_of}
+use Rattle.flex_kept.proofs.Keeping.{keeps_same}
 use Rattle.rma.specs.Calls.{area_pages}
+use Rattle.rma.proofs.FlexLemmas.{growth_keeps}
 use Rattle.rma.proofs.GrowthLemmas.{HasArea, area_there, error_there, far_refused, growth_done, growth_refused, grown_not, has_more, mapped_more, measured, others_more}
 use Rattle.rma.proofs.growth.grow_to.Goals as goal
 
@@ -67,3 +69,17 @@ returns-clause-others c =
     c.requires.estate c.change.ensures.areas (omega (arith, c.if-end-from-2.false, c.from-2.ensures)) c.measure-measured.ensures
     (sym c.is_some.ensures ∙ c.if-is_some.false) c.change.ensures.answer c.change.ensures.land c.change.ensures.store in
     ap (λ (x : Estate). x.store.others) more.same ∙ others_more e h (pages_for amount)
+
+pub returns-then-end-from-clause-flex : goal.returns-then-end-from-clause-flex
+returns-then-end-from-clause-flex c = keeps_same (store_of c.args.map.now)
+
+pub returns-then-end-from-2-clause-flex : goal.returns-then-end-from-2-clause-flex
+returns-then-end-from-2-clause-flex c = keeps_same (store_of c.args.map.now)
+
+pub returns-then-is_some-clause-flex : goal.returns-then-is_some-clause-flex
+returns-then-is_some-clause-flex c = keeps_same (store_of c.args.map.now)
+
+pub returns-clause-flex : goal.returns-clause-flex
+returns-clause-flex c =
+    growth_keeps c.args.map.now c.change.new.map c.args.areas.now c.change.new.self (c.args.end - c.area_size-size.result) c.change.result c.requires.estate
+    c.change.ensures.areas c.change.ensures.answer c.change.ensures.store

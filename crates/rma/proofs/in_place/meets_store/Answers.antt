@@ -1,4 +1,4 @@
-use Rattle.std.proofs.Common.{◌≡◌, ◌||◌, sym, ◌∙◌, ap, refl, Bool, true}
+use Rattle.std.proofs.Common.{◌||◌, sym, ◌∙◌, ap, Bool}
 use Rattle.address_map.specs.Memory.{anchor_of}
 use Rattle.address_map.specs.Records.{anchor_among}
 use Rattle.rma.proofs.InPlaceLemmas.{met_in}

@@ -1,9 +1,13 @@
-use Rattle.std.proofs.Common.{◌≡◌, ◌+◌, ap, arith}
+use Rattle.std.proofs.Common.{◌-◌, sym, ap, subst, arith}
 use Rattle.os_heap_lists.specs.Lists.{total_for}
 use Rattle.os_heap.proofs.Frame.{classes_same}
 use Rattle.os_heap.specs.Calls.{copied}
 use Rattle.os_heap.specs.Store.{Store, store_of}
 use Rattle.dynamic_areas.proofs.HeapCalls.{areas_written}
+use Rattle.flex_kept.specs.Keeping.{IsUnanchored, KeepsFlex}
+use Rattle.flex_kept.proofs.Writes.{unanchored_written}
+use Rattle.address_map.specs.Bytes.{with_moved}
+use Rattle.rma.proofs.FlexLemmas.{copied_keeps}
 use Rattle.rma.proofs.NewImageLemmas.{IsFilled, is_copied, payload_mapped}
 use Rattle.rma.proofs.new_images.fill_from.Goals as goal
 
@@ -34,3 +38,19 @@ returns-clause-classes c classes =
     is_copied c.args.map.now c.move_bytes.new.self c.args.block (total_for c.args.len) c.args.from c.args.len c.move_bytes.ensures.layout
     c.move_bytes.ensures.marks c.requires.sound c.requires.live (omega arith) c.move_bytes.ensures.bytes in
     classes_same c.args.map.now c.move_bytes.new.self (ap (λ (s : Store). s.heaps) is.store) (λ a i. c.move_bytes.ensures.marks i a) classes
+
+pub returns-clause-flex : goal.returns-clause-flex
+returns-clause-flex c =
+    let store = (is_copied c.args.map.now c.move_bytes.new.self c.args.block (total_for c.args.len) c.args.from c.args.len c.move_bytes.ensures.layout
+    c.move_bytes.ensures.marks c.requires.sound c.requires.live (omega arith) c.move_bytes.ensures.bytes).store in
+    subst (λ (t : Store). KeepsFlex (store_of c.args.map.now) t) (sym store)
+    (copied_keeps (store_of c.args.map.now) c.args.block (total_for c.args.len) c.args.from c.args.len c.requires.sound c.requires.live
+    c.requires.unanchored (omega arith))
+
+pub returns-clause-unanchored : goal.returns-clause-unanchored
+returns-clause-unanchored c =
+    let store = (is_copied c.args.map.now c.move_bytes.new.self c.args.block (total_for c.args.len) c.args.from c.args.len c.move_bytes.ensures.layout
+    c.move_bytes.ensures.marks c.requires.sound c.requires.live (omega arith) c.move_bytes.ensures.bytes).store in
+    subst (λ (t : Store). IsUnanchored t c.args.block (total_for c.args.len - 4)) (sym store)
+    (unanchored_written (store_of c.args.map.now) (with_moved (store_of c.args.map.now).bytes c.args.from c.args.block c.args.len) c.args.block
+    (total_for c.args.len - 4) c.requires.unanchored)

@@ -1,4 +1,4 @@
-use Rattle.std.proofs.Common.{◌≡◌, ◌+◌, sym, ap, subst, ◌∙◌}
+use Rattle.std.proofs.Common.{◌≡◌, ◌+◌, Ok, sym, ap, subst, ◌∙◌}
 use Rattle.profile.specs.Outcome.{Gives}
 use Rattle.os_heap_lists.specs.Lists.{total_for}
 use Rattle.os_heap.specs.Calls.{got}
@@ -6,6 +6,8 @@ use Rattle.os_heap.specs.Store.{Store, store_of}
 use Rattle.os_heap.proofs.Frame.{layout-others}
 use Rattle.dynamic_areas.specs.Ground.{Estate, estate_of}
 use Rattle.dynamic_areas.proofs.HeapCalls.{areas_written}
+use Rattle.flex_kept.proofs.Heaps.{got_keeps, got_unanchored}
+use Rattle.flex_kept.proofs.Keeping.{keeps_then}
 use Rattle.rma.specs.Calls.{in_grown_area, is_no_room, rma_base, rma_claimed}
 use Rattle.rma.proofs.Estates.{estate_same, full_where, or_done, or_refused, store_kept}
 use Rattle.rma.proofs.NewImageLemmas.{block_made}
@@ -63,3 +65,22 @@ pub returns-in-Ok-clause-alone : goal.returns-in-Ok-clause-alone
 returns-in-Ok-clause-alone c =
     (block_made (store_of c.args.map.now) (store_of c.get.new.map) c.args.size c.in-Ok.block c.get.result.answer c.requires.estate.ground.sound c.in-Ok.is
     c.get.ensures.store).alone
+
+pub returns-in-Ok-clause-flex : goal.returns-in-Ok-clause-flex
+returns-in-Ok-clause-flex c =
+    got_keeps (store_of c.args.map.now) (store_of c.get.new.map) 0x01800000 c.args.size c.get.result.answer c.requires.estate.ground.sound c.get.ensures.sound c.get.ensures.store
+
+pub returns-in-Err-clause-flex : goal.returns-in-Err-clause-flex
+returns-in-Err-clause-flex c =
+    keeps_then (store_of c.args.map.now) (store_of c.get.new.map) (store_of c.claim_grown.new.map)
+    (got_keeps (store_of c.args.map.now) (store_of c.get.new.map) 0x01800000 c.args.size c.get.result.answer c.requires.estate.ground.sound
+    c.get.ensures.sound c.get.ensures.store) c.claim_grown.ensures.flex
+
+pub returns-in-Err-2-clause-flex : goal.returns-in-Err-2-clause-flex
+returns-in-Err-2-clause-flex c =
+    got_keeps (store_of c.args.map.now) (store_of c.get.new.map) 0x01800000 c.args.size c.get.result.answer c.requires.estate.ground.sound c.get.ensures.sound c.get.ensures.store
+
+pub returns-in-Ok-clause-unanchored : goal.returns-in-Ok-clause-unanchored
+returns-in-Ok-clause-unanchored c =
+    let given = rw c.in-Ok.is at c.get.ensures.store in
+    got_unanchored (store_of c.args.map.now) (store_of c.get.new.map) 0x01800000 c.args.size (Ok c.in-Ok.block) c.requires.estate.ground.sound given

@@ -2,6 +2,8 @@ use Rattle.std.proofs.Common.{sym, ap, subst}
 use Rattle.address_map.specs.Memory.{free_pages}
 use Rattle.os_heap.specs.Store.{IsSound, Store, store_of}
 use Rattle.os_heap.proofs.Frame.{classes_same}
+use Rattle.flex_kept.specs.Keeping.{KeepsFlex}
+use Rattle.flex_kept.proofs.Writes.{dropped_keeps}
 use Rattle.rma.specs.Images.{image_dropped}
 use Rattle.rma.proofs.ImageLemmas.{areas_less, same_bytes, same_pool, sound_less, store_less}
 use Rattle.rma.proofs.area.Rma.drop_image.Goals as goal
@@ -30,3 +32,10 @@ returns-clause-classes c classes =
     let store = store_less c.args.map.now c.disown.new.self c.args.at c.disown.ensures.regions
     (same_bytes c.args.map.now c.disown.new.self c.disown.ensures.mapping c.disown.ensures.bytes) c.disown.ensures.marks in
     classes_same c.args.map.now c.disown.new.self (ap (λ (t : Store). t.heaps) store) c.disown.ensures.marks classes
+
+pub returns-clause-flex : goal.returns-clause-flex
+returns-clause-flex c =
+    let s : Store = store_of c.args.map.now in
+    let store = store_less c.args.map.now c.disown.new.self c.args.at c.disown.ensures.regions
+    (same_bytes c.args.map.now c.disown.new.self c.disown.ensures.mapping c.disown.ensures.bytes) c.disown.ensures.marks in
+    subst (λ (t : Store). KeepsFlex s t) (sym store) (dropped_keeps s c.args.at)

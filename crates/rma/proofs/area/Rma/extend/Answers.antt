@@ -6,6 +6,8 @@ use Rattle.os_heap.specs.Store.{Store, store_of}
 use Rattle.os_heap.proofs.Frame.{layout-others}
 use Rattle.dynamic_areas.specs.Ground.{Estate, estate_of}
 use Rattle.dynamic_areas.proofs.HeapCalls.{areas_written}
+use Rattle.flex_kept.proofs.Heaps.{resized_keeps}
+use Rattle.flex_kept.proofs.Keeping.{keeps_then}
 use Rattle.rma.specs.Calls.{end_if_moved, grown_in_place, in_grown_area, is_full, is_no_room, resized_or_grown, rma_base, rma_extended}
 use Rattle.rma.proofs.Estates.{done_from, estate_same, full_where, given_from, is_done, not_full, or_done, or_refused, store_kept}
 use Rattle.rma.proofs.ExtendLemmas.{in_place_done}
@@ -85,3 +87,23 @@ returns-in-Err-clause-others c =
 pub returns-in-Err-2-clause-others : goal.returns-in-Err-2-clause-others
 returns-in-Err-2-clause-others c =
     layout-others c.grow_in_place.new.map c.resize.new.map c.resize.ensures.layout ∙ c.grow_in_place.ensures.others
+
+pub returns-in-Ok-clause-flex : goal.returns-in-Ok-clause-flex
+returns-in-Ok-clause-flex c =
+    keeps_then (store_of c.args.map.now) (store_of c.grow_in_place.new.map) (store_of c.resize.new.map) c.grow_in_place.ensures.flex
+    (resized_keeps (store_of c.grow_in_place.new.map) (store_of c.resize.new.map) 0x01800000 c.args.block c.args.change c.resize.result.answer
+    c.grow_in_place.ensures.estate.ground.sound c.resize.ensures.sound c.resize.ensures.store)
+
+pub returns-in-Err-clause-flex : goal.returns-in-Err-clause-flex
+returns-in-Err-clause-flex c =
+    let s : Store = store_of c.grow_in_place.new.map in
+    let t : Store = store_of c.resize.new.map in
+    keeps_then (store_of c.args.map.now) s (store_of c.move_grown.new.map) c.grow_in_place.ensures.flex
+    (keeps_then s t (store_of c.move_grown.new.map) (resized_keeps s t 0x01800000 c.args.block c.args.change c.resize.result.answer
+    c.grow_in_place.ensures.estate.ground.sound c.resize.ensures.sound c.resize.ensures.store) c.move_grown.ensures.flex)
+
+pub returns-in-Err-2-clause-flex : goal.returns-in-Err-2-clause-flex
+returns-in-Err-2-clause-flex c =
+    keeps_then (store_of c.args.map.now) (store_of c.grow_in_place.new.map) (store_of c.resize.new.map) c.grow_in_place.ensures.flex
+    (resized_keeps (store_of c.grow_in_place.new.map) (store_of c.resize.new.map) 0x01800000 c.args.block c.args.change c.resize.result.answer
+    c.grow_in_place.ensures.estate.ground.sound c.resize.ensures.sound c.resize.ensures.store)

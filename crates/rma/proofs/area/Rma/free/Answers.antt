@@ -1,6 +1,7 @@
 use Rattle.os_heap.specs.Calls.{gave_back}
 use Rattle.os_heap.specs.Store.{store_of}
 use Rattle.dynamic_areas.proofs.HeapCalls.{areas_written}
+use Rattle.flex_kept.proofs.Heaps.{freed_keeps}
 use Rattle.rma.specs.Calls.{rma_freed}
 use Rattle.rma.proofs.Estates.{area_done, area_refused}
 use Rattle.rma.proofs.area.Rma.free.Goals as goal
@@ -20,3 +21,13 @@ returns-in-Err-clause-freed c l =
     rw c.rma_error.ensures
     (area_refused c.args.map.now c.free.new.map l (gave_back (store_of c.args.map.now) 0x01800000 c.args.block) c.in-Err.error c.free.ensures.layout
     (let given = rw c.in-Err.is at c.free.ensures.store in given))
+
+pub returns-in-Ok-clause-flex : goal.returns-in-Ok-clause-flex
+returns-in-Ok-clause-flex c =
+    freed_keeps (store_of c.args.map.now) (store_of c.free.new.map) 0x01800000 c.args.block c.free.result.answer c.requires.sound c.free.ensures.sound
+    c.free.ensures.store
+
+pub returns-in-Err-clause-flex : goal.returns-in-Err-clause-flex
+returns-in-Err-clause-flex c =
+    freed_keeps (store_of c.args.map.now) (store_of c.free.new.map) 0x01800000 c.args.block c.free.result.answer c.requires.sound c.free.ensures.sound
+    c.free.ensures.store

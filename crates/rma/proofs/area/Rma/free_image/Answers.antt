@@ -2,6 +2,8 @@ use Rattle.std.proofs.Common.{◌≡◌, subst}
 use Rattle.os_heap.specs.Calls.{gave_back}
 use Rattle.os_heap.specs.Store.{Store, store_of}
 use Rattle.dynamic_areas.proofs.HeapCalls.{areas_written}
+use Rattle.flex_kept.proofs.Heaps.{freed_keeps}
+use Rattle.flex_kept.proofs.Keeping.{keeps_then}
 use Rattle.rma.specs.Images.{image_freed, or_kept}
 use Rattle.rma.proofs.Estates.{kept_by}
 use Rattle.rma.proofs.area.Rma.free_image.Goals as goal
@@ -17,3 +19,9 @@ returns-clause-store c =
 pub returns-clause-estate : goal.returns-clause-estate
 returns-clause-estate c l areas =
     areas_written c.drop_image.new.map c.free.new.map l (c.drop_image.ensures.estate l areas) c.free.ensures.sound c.free.ensures.layout
+
+pub returns-clause-flex : goal.returns-clause-flex
+returns-clause-flex c =
+    let s : Store = store_of c.drop_image.new.map in
+    keeps_then (store_of c.args.map.now) s (store_of c.free.new.map) c.drop_image.ensures.flex
+    (freed_keeps s (store_of c.free.new.map) 0x01800000 c.args.at c.free.result.answer c.drop_image.ensures.sound c.free.ensures.sound c.free.ensures.store)

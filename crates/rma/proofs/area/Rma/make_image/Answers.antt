@@ -1,9 +1,10 @@
-use Rattle.std.proofs.Common.{◌≡◌, ◌+◌, ◌++◌, ◌∷◌, [], length, refl, ap, subst, ◌∙◌, arith}
-use Rattle.address_map.specs.declared.region.Region.{Region}
+use Rattle.std.proofs.Common.{length, refl, ap, arith}
 use Rattle.os_heap_lists.specs.Lists.{total_for}
-use Rattle.os_heap.specs.Store.{Store, has_image, store_of}
+use Rattle.os_heap.specs.Store.{Store, store_of}
 use Rattle.dynamic_areas.specs.Ground.{estate_of}
-use Rattle.rma.specs.NewImages.{IsLiveBlock, image_made, image_record}
+use Rattle.rma.specs.NewImages.{image_made}
+use Rattle.flex_kept.proofs.Keeping.{keeps_same}
+use Rattle.rma.proofs.FlexLemmas.{made_keeps}
 use Rattle.rma.proofs.NewImageLemmas.{claim_refused, made_others}
 use Rattle.rma.proofs.area.Rma.make_image.Goals as goal
 
@@ -17,3 +18,12 @@ returns-clause-others c =
     made_others (store_of c.args.map.now) (store_of c.claim.new.map) (store_of c.fill.new.map) (store_of c.record_image.new.map) c.in_ok-block.block
     (total_for (length c.args.image.now)) c.in_ok-block.ensures.live c.claim.ensures.others (ap (λ (s : Store). s.heaps) c.fill.ensures.store)
     (ap (λ (s : Store). s.others) c.fill.ensures.store) c.record_image.ensures.store
+
+pub returns-clause-flex : goal.returns-clause-flex
+returns-clause-flex c =
+    made_keeps (store_of c.args.map.now) (store_of c.claim.new.map) (store_of c.fill.new.map) (store_of c.record_image.new.map) c.in_ok-block.block
+    (total_for (length c.args.image.now)) c.in_ok-block.ensures.live (ap (λ (s : Store). s.heaps) c.fill.ensures.store) c.fill.ensures.unanchored
+    c.claim.ensures.flex c.fill.ensures.flex c.record_image.ensures.flex
+
+pub returns-then-image-clause-flex : goal.returns-then-image-clause-flex
+returns-then-image-clause-flex c = keeps_same (store_of c.args.map.now)

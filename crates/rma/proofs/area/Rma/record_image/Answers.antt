@@ -7,6 +7,9 @@ use Rattle.os_heap.specs.Store.{IsSound, Store, store_of}
 use Rattle.os_heap.proofs.Limits.{range_room}
 use Rattle.os_heap.proofs.Frame.{classes_same}
 use Rattle.os_heap.proofs.Recorded.{store_recorded}
+use Rattle.flex_kept.specs.Keeping.{KeepsFlex}
+use Rattle.flex_kept.proofs.Keeping.{keeps_same}
+use Rattle.flex_kept.proofs.Writes.{recorded_keeps}
 use Rattle.rma.specs.Images.{image_recorded}
 use Rattle.rma.proofs.ExtendLemmas.{lies_below}
 use Rattle.rma.proofs.ImageLemmas.{areas_recorded, is_recorded, same_bytes, same_pool}
@@ -61,3 +64,16 @@ returns-in-Ok-clause-classes c classes =
 pub returns-in-Err-clause-store : goal.returns-in-Err-clause-store
 unfolding image_recorded
 returns-in-Err-clause-store c = rw (sym c.block_size.ensures.answer ∙ c.in-Err.is) refl
+
+pub returns-in-Ok-clause-flex : goal.returns-in-Ok-clause-flex
+returns-in-Ok-clause-flex c = λ unanchored.
+    let s : Store = store_of c.args.map.now in
+    let sized : block_sized s 0x01800000 c.args.at ≡ Ok c.in-Ok.len = sym c.block_size.ensures.answer ∙ c.in-Ok.is in
+    let r : Region = record { kind = kind.Image; at = c.args.at; len = c.in-Ok.len } in
+    let store = store_recorded c.args.map.now c.own.new.self r refl c.own.ensures.regions
+    (same_bytes c.args.map.now c.own.new.self c.own.ensures.mapping c.own.ensures.bytes) c.own.ensures.marks in
+    let free = rw sized at unanchored in
+    subst (λ (t : Store). KeepsFlex s t) (sym store) (recorded_keeps s c.args.at c.in-Ok.len free)
+
+pub returns-in-Err-clause-flex : goal.returns-in-Err-clause-flex
+returns-in-Err-clause-flex c = λ unanchored. keeps_same (store_of c.args.map.now)

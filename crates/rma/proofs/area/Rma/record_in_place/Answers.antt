@@ -1,4 +1,4 @@
-use Rattle.std.proofs.Common.{◌≡◌, refl, sym, ap, subst}
+use Rattle.std.proofs.Common.{refl, sym, ap, subst}
 use Rattle.address_map.specs.Memory.{free_pages}
 use Rattle.address_map.specs.declared.region.Kind.TheVariants as kind
 use Rattle.address_map.specs.declared.region.Region.{Region}
@@ -6,8 +6,10 @@ use Rattle.os_heap.specs.Store.{IsSound, Store, store_of}
 use Rattle.os_heap.proofs.Limits.{range_room}
 use Rattle.os_heap.proofs.Frame.{classes_same}
 use Rattle.os_heap.proofs.Recorded.{store_recorded}
+use Rattle.flex_kept.specs.Keeping.{KeepsFlex}
+use Rattle.flex_kept.proofs.Writes.{recorded_keeps, unanchored_by}
 use Rattle.rma.proofs.ImageLemmas.{areas_recorded, same_bytes, same_pool}
-use Rattle.rma.proofs.InPlaceLemmas.{placed, region_placed}
+use Rattle.rma.proofs.InPlaceLemmas.{may_be, placed, region_placed}
 use Rattle.rma.proofs.area.Rma.record_in_place.Goals as goal
 
 pub own-requires-clause-region : goal.own-requires-clause-region
@@ -47,3 +49,12 @@ returns-clause-classes c classes =
     let store = store_recorded c.args.map.now c.own.new.self r refl c.own.ensures.regions
     (same_bytes c.args.map.now c.own.new.self c.own.ensures.mapping c.own.ensures.bytes) c.own.ensures.marks in
     classes_same c.args.map.now c.own.new.self (ap (λ (t : Store). t.heaps) store) c.own.ensures.marks classes
+
+pub returns-clause-flex : goal.returns-clause-flex
+returns-clause-flex c =
+    let s : Store = store_of c.args.map.now in
+    let r : Region = record { kind = kind.Image; at = c.args.at; len = c.args.len } in
+    let store = store_recorded c.args.map.now c.own.new.self r refl c.own.ensures.regions
+    (same_bytes c.args.map.now c.own.new.self c.own.ensures.mapping c.own.ensures.bytes) c.own.ensures.marks in
+    subst (λ (t : Store). KeepsFlex s t) (sym store)
+    (recorded_keeps s c.args.at c.args.len (unanchored_by s c.args.at c.args.len (may_be s c.args.at c.args.len c.requires.may).anchors))
