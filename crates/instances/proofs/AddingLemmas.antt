@@ -15,7 +15,8 @@ use Rattle.os_heap.specs.Store.{has_image, is_image}
 use Rattle.os_heap_lists.specs.Lists.{total_for}
 use Rattle.dynamic_areas.specs.Ground.{Estate, IsEstate}
 use Rattle.rma.specs.Copies.{has_bare, may_be_copied}
-use Rattle.rma.specs.NewImages.{image_record, is_in_record}
+use Rattle.flex_kept.specs.Keeping.{is_in_record}
+use Rattle.rma.specs.NewImages.{image_record}
 use Rattle.instances_ground.specs.Sound.{AreSolid, IsWorld}
 use Rattle.instances_ground.specs.World.{World}
 use Rattle.instances_ground.proofs.Worlds.{world_more}

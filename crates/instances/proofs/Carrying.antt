@@ -96,5 +96,3 @@ module _ (w v : World) (p q : Plan) (o : Outcome) (step : Advance) (turn : advan
   world_at_end e is going =
       let none : pending_of q ≡ [] = ap (λ (actions : List Action). pending_by (is_pending actions) q.given []) (none_left w v p q o e (stepped (advance.End e) is)) in
       subst (IsWorld v) none going.world
-
-pub ruleset carrying = (next_fewer, next_carried, code_carried, end_carried, world_at_end)

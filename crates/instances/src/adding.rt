@@ -4,6 +4,7 @@ ghost use Rattle.profile.specs.Outcome.{Gives};
 ghost use Rattle.address_map.specs.Bytes.{bytes_between, AreMapped};
 ghost use Rattle.address_map.specs.Memory.{is_mapped};
 ghost use Rattle.os_heap.specs.Store.{store_of, AreClasses};
+ghost use Rattle.flex_kept.specs.Keeping.{KeepsFlex};
 ghost use Rattle.module_header.specs.Header.{header_of};
 ghost use Rattle.instances_actions.specs.Pending.{pending_of};
 ghost use Rattle.instances_actions.specs.Ready.{IsReady};
@@ -32,7 +33,7 @@ impl Instances {
     /// instances, and none of a module of the title; `RmaNoRoom` where the module area has no room for the image, and can't grow by as much.
     ///
     /// RISC OS 3 Programmer's Reference Manual, "OS_Module", reason 1.
-    #[tactic(auto, unfolding(crate::specs::Adding::loading))]
+    #[tactic(auto, unfolding(crate::specs::Adding::loading), using(flex_kept::proofs::Keeping::keeps_same))]
     pub fn load(
         &self,
         map: &mut AddressMap,
@@ -46,6 +47,7 @@ impl Instances {
         ensures world { Gives (world_of map.old areas.old self.now) (loading (world_of map.old areas.old self.now) image.now text.now) result (world_of map.new areas.new self.now) }
         ensures sound { IfOk result (λ plan. IsWorld (world_of map.new areas.new self.now) (pending_of plan)) }
         ensures classes { AreClasses map.new }
+        ensures flex { KeepsFlex (store_of map.old) (store_of map.new) }
         ensures ready { IfOk result (λ plan. IsReady self.now plan) }
         ensures rests { IfOk result (λ plan. plan.runs ≡ false) }
     {

@@ -1,6 +1,7 @@
 //! What is left of a call is done, action by action, up to the next entry of module code.
 ghost use Rattle.std.specs.Prelude.{◌≡◌, [], None, Some};
-ghost use Rattle.os_heap.specs.Store.{AreClasses};
+ghost use Rattle.os_heap.specs.Store.{AreClasses, store_of};
+ghost use Rattle.flex_kept.specs.Keeping.{KeepsFlex};
 ghost use Rattle.instances_plans.specs.Carrying.{advanced, carried};
 ghost use Rattle.instances_plans.specs.Plans.{finished, first_of, settled};
 ghost use Rattle.instances_ground.specs.Sound.{IsWorld};
@@ -22,7 +23,7 @@ impl Instances {
     /// is to be entered, which is the answer, or to the end of the call, where there is none.
     ///
     /// RISC OS 3 Programmer's Reference Manual, "Modules"; the order of actions is that of "OS_Module".
-    #[tactic(auto, using(crate::proofs::Carrying::carrying))]
+    #[tactic(auto, using(flex_kept::proofs::Keeping::keeps_same))]
     pub fn carry(
         &mut self,
         map: &mut AddressMap,
@@ -37,6 +38,7 @@ impl Instances {
         ensures ended { result ≡ None → IsWorld (world_of map.new areas.now self.new) [] }
         ensures going { IsUnderWay (world_of map.new areas.now self.new) plan.new }
         ensures classes { AreClasses map.new }
+        ensures flex { KeepsFlex (store_of map.old) (store_of map.new) }
     {
         let mut outcome = outcome;
         loop {
@@ -50,6 +52,7 @@ impl Instances {
 
     /// One turn of a call: the code that was under way, if any was, has come back; then one action is done, or its own part is, and its code is to be
     /// entered.
+    #[tactic(auto, using(flex_kept::proofs::Keeping::keeps_same))]
     pub fn advance(
         &mut self,
         map: &mut AddressMap,
@@ -63,6 +66,7 @@ impl Instances {
             ≡ record { world = world_of map.new areas.now self.new; rest = plan.new; step = result } }
         ensures going { IsUnderWay (world_of map.new areas.now self.new) plan.new }
         ensures classes { AreClasses map.new }
+        ensures flex { KeepsFlex (store_of map.old) (store_of map.new) }
     {
         self.table.known();
         plan.settle(outcome);
@@ -91,6 +95,7 @@ impl Instances {
         ensures world { world_of map.new areas.now self.new ≡ acted world_slid plan.now.given (world_of map.old areas.now self.old) action }
         ensures sound { IsWorld (world_of map.new areas.now self.new) (pending_of (finished plan.now action)) }
         ensures classes { AreClasses map.new }
+        ensures flex { KeepsFlex (store_of map.old) (store_of map.new) }
     {
         self.table.known();
         let given = plan.given();

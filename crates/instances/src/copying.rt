@@ -1,7 +1,8 @@
 //! The call that adds a module whose image is a copy of bytes in memory.
 ghost use Rattle.std.specs.Prelude.{◌≡◌, [], false, IfOk};
 ghost use Rattle.profile.specs.Outcome.{Gives};
-ghost use Rattle.os_heap.specs.Store.{AreClasses};
+ghost use Rattle.os_heap.specs.Store.{AreClasses, store_of};
+ghost use Rattle.flex_kept.specs.Keeping.{KeepsFlex};
 ghost use Rattle.instances_actions.specs.Pending.{pending_of};
 ghost use Rattle.instances_actions.specs.Ready.{IsReady};
 ghost use Rattle.instances_ground.specs.Sound.{IsWorld};
@@ -28,7 +29,7 @@ impl Instances {
     /// the title; `RmaNoRoom` where the module area has no room for the image, and can't grow by as much.
     ///
     /// RISC OS 3 Programmer's Reference Manual, "OS_Module", reason 11.
-    #[tactic(auto, unfolding(crate::specs::Adding::copying))]
+    #[tactic(auto, unfolding(crate::specs::Adding::copying), using(flex_kept::proofs::Keeping::keeps_same))]
     pub fn insert_copy(
         &self,
         map: &mut AddressMap,
@@ -41,6 +42,7 @@ impl Instances {
         ensures world { Gives (world_of map.old areas.old self.now) (copying (world_of map.old areas.old self.now) at len) result (world_of map.new areas.new self.now) }
         ensures sound { IfOk result (λ plan. IsWorld (world_of map.new areas.new self.now) (pending_of plan)) }
         ensures classes { AreClasses map.new }
+        ensures flex { KeepsFlex (store_of map.old) (store_of map.new) }
         ensures ready { IfOk result (λ plan. IsReady self.now plan) }
         ensures rests { IfOk result (λ plan. plan.runs ≡ false) }
     {

@@ -1,6 +1,6 @@
 -- Plans that stay ready, action by action.
-use Rattle.std.proofs.Common.{◌≡◌, ◌≢◌, ℕ, ◌+◌, ◌<◌, ◌≤◌, ◌==◌, ◌||◌, Bool, true, false, Some, None, List, [], ◌∷◌, ◌++◌, length, map, refl, sym, ap, subst, ◌∙◌, zero, suc, inl, inr, arith, length-append}
-use Rattle.std.specs.Prelude.{Option, nat_lt}
+use Rattle.std.proofs.Common.{◌≡◌, ◌≢◌, ℕ, ◌<◌, ◌≤◌, ◌==◌, ◌||◌, Bool, true, false, Some, None, List, [], ◌∷◌, ◌++◌, length, map, refl, sym, ap, subst, ◌∙◌, zero, suc, inl, inr, arith, length-append}
+use Rattle.std.specs.Prelude.{Option}
 use Rattle.std.specs.List.{list_any, position}
 use Rattle.std.proofs.lemmas.Bool.{cases_Bool, false≢true, or_parts, lt-ltb}
 use Rattle.std.proofs.lemmas.List.{length-map}
@@ -9,8 +9,8 @@ use Rattle.std.proofs.lemmas.List.Quantifiers.{position-Some}
 use Rattle.instances_plans.specs.declared.action.Action.{Action}
 use Rattle.instances_plans.specs.declared.action.Action.TheVariants.{Finalise, Remove, FreePrivate, Insert, Instantiate, GiveUp, Slide, Initialise}
 use Rattle.instances_plans.specs.declared.given.Given.{Given}
-use Rattle.instances_plans.specs.Doable.{CanDo, IsDoable, is_used, used_after, without}
-use Rattle.instances_plans.specs.Plans.{Plan, all_but_first, finished, first_of, owed, refused}
+use Rattle.instances_plans.specs.Doable.{CanDo, is_used, used_after, without}
+use Rattle.instances_plans.specs.Plans.{Plan, all_but_first, first_of, owed, refused}
 use Rattle.instances_plans.proofs.Doable.{stays_doable, stays_doable_refused}
 use Rattle.instances_table.specs.Additions.{added_to}
 use Rattle.instances_table.specs.Lookup.{number_of_title}
@@ -19,11 +19,11 @@ use Rattle.instances_table.specs.Changes.{is_held, is_new, new_module, with_inst
 use Rattle.instances_table.proofs.PlaceLemmas.{nowhere}
 use Rattle.instances_table.proofs.RoomLemmas.{at_most_one, held_slot}
 use Rattle.instances_actions.specs.Actions.{image_given, with_another, with_new}
-use Rattle.instances_actions.specs.Asked.{CanAct, is_taken}
+use Rattle.instances_actions.specs.Asked.{CanAct}
 use Rattle.instances_actions.specs.Pending.{AreTitledAfter, SettlesOnce, slots_titled}
-use Rattle.instances_actions.specs.Ready.{AreAfter, CanName, CanNameFirst, IsReady, IsSlid, ReadyActs, StaysReady, StaysReadyRefused, instantiates, outline}
+use Rattle.instances_actions.specs.Ready.{AreAfter, CanNameFirst, ReadyActs, StaysReady, StaysReadyRefused, instantiates, outline}
 use Rattle.instances_actions.proofs.Settling.{stays_settled, stays_settled_refused}
-use Rattle.instances_actions.proofs.Slots.{any_header, of_title, slots_all, slots_append, slots_by, slots_in, slots_less, slots_of_title, used_slots}
+use Rattle.instances_actions.proofs.Slots.{any_header, of_title, slots_all, slots_append, slots_in, slots_less, slots_of_title, used_slots}
 use Rattle.instances_actions.proofs.Used.{SameUsed, can_same}
 
 -- where no instance of a title's module has a slot no module has the title

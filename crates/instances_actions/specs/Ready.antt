@@ -2,12 +2,11 @@
 use Rattle.std.specs.Prelude.{◌≡◌, ◌≢◌, ℕ, Bool, true, false, Some, List, [], ◌∷◌, map}
 use Rattle.std.specs.List.{list_any}
 use Rattle.instances_plans.specs.declared.action.Action.{Action}
-use Rattle.instances_plans.specs.declared.action.Action.TheVariants.{Finalise, Remove, FreePrivate, Insert, Instantiate, GiveUp, Slide, Initialise}
+use Rattle.instances_plans.specs.declared.action.Action.TheVariants.{Remove, Insert, Instantiate, Slide}
 use Rattle.instances_plans.specs.declared.given.Given.{Given}
 use Rattle.instances_plans.specs.Calls.{clear_plan, instantiate_plan, load_plan, reinit_plan, tidy_plan}
 use Rattle.instances_plans.specs.Doable.{IsDoable, without_all}
-use Rattle.instances_plans.specs.Plans.{Plan, all_but_first, finished, first_of, refused}
-use Rattle.instances_table.specs.declared.parts.Image.{Image}
+use Rattle.instances_plans.specs.Plans.{Plan, finished, first_of, refused}
 use Rattle.instances_table.specs.Modules.{AreModules, Module, has_title, slots_of}
 use Rattle.instances_table.specs.Changes.{without_instance}
 use Rattle.instances_actions.specs.Actions.{with_another, with_new}

@@ -1,8 +1,9 @@
 //! One action of a plan.
 
 ghost use Rattle.std.specs.Prelude.{ℕ, List, ◌≡◌, [], ◌∷◌, true, false};
-ghost use Rattle.os_heap.specs.Store.{AreClasses};
+ghost use Rattle.os_heap.specs.Store.{AreClasses, store_of};
 ghost use Rattle.dynamic_areas.specs.Areas.{Land};
+ghost use Rattle.flex_kept.specs.Keeping.{KeepsFlex};
 ghost use Rattle.instances_ground.specs.Sound.{HasSystemPages, IsWorld};
 ghost use Rattle.instances_ground.specs.World.{World, world_of};
 ghost use Rattle.instances_actions.specs.Actions.{acted};
@@ -18,6 +19,7 @@ use instances_table::InstanceTable;
 
 /// Does an action's own part, before its code runs; a slide is done elsewhere. The image of a new module is pending until an insertion adds it, or
 /// it is given up.
+#[tactic(auto, using(flex_kept::proofs::Keeping::keeps_same))]
 pub fn act(map: &mut AddressMap, table: &mut InstanceTable, given: &Given, action: Action)
     requires can { CanAct given.now table.old action }
     requires system { HasSystemPages map.old }
@@ -29,6 +31,7 @@ pub fn act(map: &mut AddressMap, table: &mut InstanceTable, given: &Given, actio
         → IsWorld (world_of map.new l table.new) [] }
     ensures pages { HasSystemPages map.new }
     ensures classes { AreClasses map.new }
+    ensures flex { KeepsFlex (store_of map.old) (store_of map.new) }
 {
     match action {
         Action::Finalise(..) | Action::Slide => {}

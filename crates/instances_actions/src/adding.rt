@@ -1,9 +1,10 @@
 //! What adds a module or an instance, or gives a new module's image up.
 
 ghost use Rattle.std.specs.Prelude.{ℕ, List, ◌≡◌, [], ◌∷◌, true};
-ghost use Rattle.os_heap.specs.Store.{AreClasses};
+ghost use Rattle.os_heap.specs.Store.{AreClasses, store_of};
 ghost use Rattle.dynamic_areas.specs.Areas.{Land};
 ghost use Rattle.dynamic_areas.specs.Ground.{estate_of};
+ghost use Rattle.flex_kept.specs.Keeping.{KeepsFlex};
 ghost use Rattle.instances_table.specs.Changes.{is_new};
 ghost use Rattle.instances_table.specs.Modules.{Module};
 ghost use Rattle.instances_ground.specs.Sound.{HasSystemPages, IsWorld};
@@ -31,6 +32,7 @@ pub fn insert(map: &mut AddressMap, table: &mut InstanceTable, given: &Given, sl
         → IsWorld (world_of map.new l table.new) [] }
     ensures pages { HasSystemPages map.new }
     ensures classes { AreClasses map.old → AreClasses map.new }
+    ensures flex { KeepsFlex (store_of map.old) (store_of map.new) }
 {
     put_private(map, slot, 0);
     table.insert(copied(&given.header), image_given(given), slot);
@@ -48,6 +50,7 @@ pub fn instantiate(map: &mut AddressMap, table: &mut InstanceTable, given: &Give
         → IsWorld (world_of map.new l table.new) pending }
     ensures pages { HasSystemPages map.new }
     ensures classes { AreClasses map.old → AreClasses map.new }
+    ensures flex { KeepsFlex (store_of map.old) (store_of map.new) }
 {
     put_private(map, slot, 0);
     table.add_to(given.header.title.as_slice(), given.name.as_slice(), slot);
@@ -64,6 +67,7 @@ pub fn give_up(map: &mut AddressMap, given: &Given)
         → IsWorld (world_of map.new l modules) [] }
     ensures pages { HasSystemPages map.new }
     ensures classes { AreClasses map.new }
+    ensures flex { KeepsFlex (store_of map.old) (store_of map.new) }
 {
     drop_image(map, image_given(given));
 }

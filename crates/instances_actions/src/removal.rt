@@ -2,9 +2,10 @@
 
 ghost use Rattle.std.specs.Prelude.{ℕ, List, ◌≡◌, ◌<◌};
 ghost use Rattle.address_map.specs.Memory.{layout};
-ghost use Rattle.os_heap.specs.Store.{AreClasses};
+ghost use Rattle.os_heap.specs.Store.{AreClasses, store_of};
 ghost use Rattle.dynamic_areas.specs.Areas.{Land};
 ghost use Rattle.dynamic_areas.specs.Ground.{IsEstate, estate_of};
+ghost use Rattle.flex_kept.specs.Keeping.{KeepsFlex};
 ghost use Rattle.instances_table.specs.Modules.{Module};
 ghost use Rattle.instances_ground.specs.Sound.{HasSystemPages, IsWorld};
 ghost use Rattle.instances_ground.specs.World.{image_gone, private_freed, removed, world_of};
@@ -27,6 +28,7 @@ pub fn remove(map: &mut AddressMap, table: &mut InstanceTable, slot: u32)
         → IsWorld (world_of map.new l table.new) pending }
     ensures pages { HasSystemPages map.new }
     ensures classes { AreClasses map.new }
+    ensures flex { KeepsFlex (store_of map.old) (store_of map.new) }
 {
     free_private(map, slot);
     let image = table.last_image(slot);
@@ -50,6 +52,7 @@ pub fn free_private(map: &mut AddressMap, slot: u32)
     ensures pages { HasSystemPages map.new }
     ensures classes { AreClasses map.new }
     ensures layout { layout map.new ≡ layout map.old }
+    ensures flex { KeepsFlex (store_of map.old) (store_of map.new) }
 {
     let block = private_value(map, slot);
     // What can't be given back isn't the instance's, and the removal goes on.
@@ -65,6 +68,7 @@ pub(crate) fn drop_image(map: &mut AddressMap, image: Image)
     ensures kept { (l : Land) → IsEstate (estate_of map.old l) → IsEstate (estate_of map.new l) }
     ensures pages { HasSystemPages map.new }
     ensures classes { AreClasses map.new }
+    ensures flex { KeepsFlex (store_of map.old) (store_of map.new) }
 {
     if image.in_rma {
         Rma::new().free_image(map, image.at);

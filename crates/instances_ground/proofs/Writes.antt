@@ -13,6 +13,8 @@ use Rattle.dynamic_areas.specs.Ground.{IsEstate, IsRecorded, estate_of, system_p
 use Rattle.dynamic_areas.proofs.HeapCalls.{areas_written, system_mapped}
 use Rattle.dynamic_areas.proofs.Remapped.{here}
 use Rattle.dynamic_areas.proofs.SystemWrites.{system_kept, two_writes}
+use Rattle.flex_kept.specs.Keeping.{KeepsFlex}
+use Rattle.flex_kept.proofs.Writes.{system_keeps}
 use Rattle.instances_plans.specs.Code.{private_of}
 use Rattle.instances_table.specs.Modules.{Module}
 use Rattle.instances_ground.specs.Sound.{HasSystemPages, IsWorld}
@@ -52,6 +54,13 @@ pages_kept m n kept same pages = record {
   mapped = λ a low high. ap (λ (q : Layout). is_some (q.place a)) same ∙ pages.mapped a low high;
 }
 
+-- A write to the system pages keeps the flex store.
+pages_keep : (m n : AddressMap) → IsKept m n → HasSystemPages m → ((a : ℕ) → in_range 0x01C00000 0x3000 a ≡ false → byte_at n a ≡ byte_at m a)
+    → KeepsFlex (store_of m) (store_of n)
+unfolding store_of
+pages_keep m n kept system outside =
+    subst (KeepsFlex (store_of m)) (sym kept.store) (system_keeps (store_of m) (bytes_of n) system.sound system.recorded outside)
+
 -- a private word
 pub private_loaded : (m : AddressMap) (slot at : ℕ) → at ≡ private_of slot → slot < 64 → AreMapped (is_mapped m) 0x01C02000 256
     → word_loaded (bytes_of m) at ≡ Ok (word_at (byte_at m) (private_of slot))
@@ -69,11 +78,16 @@ module _ (m n : AddressMap) (slot at value : ℕ) (is : at ≡ private_of slot) 
   word_put : (a : ℕ) → byte_at n a ≡ with_word_at (byte_at m) (private_of slot) value a
   word_put a = put a ∙ ap (λ (p : ℕ). with_word_at (byte_at m) p value a) is
 
+  word_outside : slot < 64 → (a : ℕ) → in_range 0x01C00000 0x3000 a ≡ false → byte_at n a ≡ byte_at m a
+  word_outside below a out = word_put a ∙ outside (byte_at m) a out where
+    outside : (old : ℕ → ℕ) (a : ℕ) → in_range 0x01C00000 0x3000 a ≡ false → with_word_at old (private_of slot) value a ≡ old a
+    outside old a out = grind (arith, nat_tests, below)
+
   pub private_kept : HasSystemPages m → slot < 64 → class_of n ≡ class_of m → IsKept m n
-  private_kept system below marks =
-      system_kept m n same marks system.sound system.recorded (λ a out. word_put a ∙ outside (byte_at m) a out) where
-        outside : (old : ℕ → ℕ) (a : ℕ) → in_range 0x01C00000 0x3000 a ≡ false → with_word_at old (private_of slot) value a ≡ old a
-        outside old a out = grind (arith, nat_tests, below)
+  private_kept system below marks = system_kept m n same marks system.sound system.recorded (word_outside below)
+
+  pub private_keeps : HasSystemPages m → slot < 64 → class_of n ≡ class_of m → KeepsFlex (store_of m) (store_of n)
+  private_keeps system below marks = pages_keep m n (private_kept system below marks) system (word_outside below)
 
   pub private_written : IsKept m n → (l : Land) → estate_of n l ≡ with_private (estate_of m l) slot value
   unfolding store_of
@@ -88,14 +102,19 @@ module _ (m k n : AddressMap) (text : List ℕ) (first : layout k ≡ layout m) 
       let bytes : byte_at k ≡ with_bytes_at (byte_at m) 0x01C02200 text = λ i b. put b i in
       end a ∙ ap (λ (f : ℕ → ℕ). with_bytes_at f (0x01C02200 + length text) (0 ∷ []) a) bytes ∙ two_writes (byte_at m) 0x01C02200 text 0 a
 
-  pub text_kept : HasSystemPages m → length text ≤ 255 → class_of n ≡ class_of m → IsKept m n
-  text_kept system short marks =
-      system_kept m n (second ∙ first) marks system.sound system.recorded (λ a out. text_put a ∙ outside (byte_at m) (text ++ 0 ∷ []) a whole out) where
-        whole : length (text ++ 0 ∷ []) ≤ 256
-        whole = omega (arith, length-append {A = ℕ}, short)
+  text_outside : length text ≤ 255 → (a : ℕ) → in_range 0x01C00000 0x3000 a ≡ false → byte_at n a ≡ byte_at m a
+  text_outside short a out = text_put a ∙ outside (byte_at m) (text ++ 0 ∷ []) a whole out where
+    whole : length (text ++ 0 ∷ []) ≤ 256
+    whole = omega (arith, length-append {A = ℕ}, short)
 
-        outside : (old : ℕ → ℕ) (bytes : List ℕ) (a : ℕ) → length bytes ≤ 256 → in_range 0x01C00000 0x3000 a ≡ false → with_bytes_at old 0x01C02200 bytes a ≡ old a
-        outside old bytes a few out = grind (arith, nat_tests)
+    outside : (old : ℕ → ℕ) (bytes : List ℕ) (a : ℕ) → length bytes ≤ 256 → in_range 0x01C00000 0x3000 a ≡ false → with_bytes_at old 0x01C02200 bytes a ≡ old a
+    outside old bytes a few out = grind (arith, nat_tests)
+
+  pub text_kept : HasSystemPages m → length text ≤ 255 → class_of n ≡ class_of m → IsKept m n
+  text_kept system short marks = system_kept m n (second ∙ first) marks system.sound system.recorded (text_outside short)
+
+  pub text_keeps : HasSystemPages m → length text ≤ 255 → class_of n ≡ class_of m → KeepsFlex (store_of m) (store_of n)
+  text_keeps system short marks = pages_keep m n (text_kept system short marks) system (text_outside short)
 
   pub text_written : IsKept m n → (l : Land) → estate_of n l ≡ with_text (estate_of m l) text
   unfolding store_of

@@ -3,9 +3,10 @@
 ghost use Rattle.std.specs.Prelude.{ℕ, List, ◌≡◌, ◌≤◌, ◌<◌, length};
 ghost use Rattle.address_map.specs.Bytes.{AreMapped, word_at};
 ghost use Rattle.address_map.specs.Memory.{byte_at, is_mapped, layout};
-ghost use Rattle.os_heap.specs.Store.{AreClasses};
+ghost use Rattle.os_heap.specs.Store.{AreClasses, store_of};
 ghost use Rattle.dynamic_areas.specs.Areas.{Land};
 ghost use Rattle.dynamic_areas.specs.Ground.{IsEstate, estate_of};
+ghost use Rattle.flex_kept.specs.Keeping.{KeepsFlex};
 ghost use Rattle.instances_plans.specs.Code.{private_of};
 ghost use Rattle.instances_table.specs.Modules.{Module};
 ghost use Rattle.instances_ground.specs.Sound.{HasSystemPages, IsWorld};
@@ -35,6 +36,7 @@ pub fn put_private(map: &mut AddressMap, slot: u32, value: u32)
     ensures pages { HasSystemPages map.new }
     ensures classes { AreClasses map.old → AreClasses map.new }
     ensures layout { layout map.new ≡ layout map.old }
+    ensures flex { KeepsFlex (store_of map.old) (store_of map.new) }
 {
     map.put_word(private_word(slot), value);
 }
@@ -50,6 +52,7 @@ pub fn put_text(map: &mut AddressMap, text: &[u8])
     ensures pages { HasSystemPages map.new }
     ensures classes { AreClasses map.old → AreClasses map.new }
     ensures layout { layout map.new ≡ layout map.old }
+    ensures flex { KeepsFlex (store_of map.old) (store_of map.new) }
 {
     map.put_bytes(ENVIRONMENT_TEXT, text);
     map.put_bytes(ENVIRONMENT_TEXT + text.len() as u32, &[0]);

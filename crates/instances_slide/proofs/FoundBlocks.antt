@@ -1,5 +1,5 @@
 -- The items that were found in the module area, and those of them that can be moved.
-use Rattle.std.proofs.Common.{◌≡◌, ◌≤◌, ◌+◌, ◌-◌, ◌^◌, ◌∙◌, ℕ, List, [], length, ap, subst, sym, refl, Option, Some, None, arith}
+use Rattle.std.proofs.Common.{◌≡◌, ◌≤◌, ◌+◌, ◌-◌, ◌^◌, ◌∙◌, ℕ, List, [], length, ap, subst, refl, Option, Some, None, arith}
 use Rattle.std.specs.Option.{option_map}
 use Rattle.address_map.proofs.Spans.{mapped_below}
 use Rattle.address_map.specs.Items.{size_of}

@@ -1,17 +1,16 @@
 -- The world after its module area was tidied, and that it is sound.
-use Rattle.std.proofs.Common.{◌≡◌, ℕ, Bool, true, false, not, ◌+◌, ◌-◌, ◌≤◌, ◌∙◌, ◌&&◌, ◌||◌, List, [], length, map, refl, sym, ap, subst, Option, Some, None, inl, inr, arith}
-use Rattle.std.proofs.lemmas.Bool.{and_parts, cases_Bool, false≢true}
+use Rattle.std.proofs.Common.{◌≡◌, ℕ, Bool, true, false, not, ◌+◌, ◌-◌, ◌≤◌, ◌∙◌, ◌&&◌, ◌||◌, List, [], length, map, refl, sym, ap, subst, Option, Some, None}
+use Rattle.std.proofs.lemmas.Bool.{and_parts, false≢true}
 use Rattle.address_map.specs.Bytes.{in_range}
 use Rattle.address_map.specs.Memory.{Mapping, byte_at, free_pages, mapping}
 use Rattle.address_map.specs.Records.{anchor_among}
 use Rattle.address_map.specs.declared.follow.Move.{Move}
 use Rattle.address_map.specs.declared.map.AddressMap.{AddressMap}
 use Rattle.os_heap_lists.specs.Heap.{HeapList, IsHeapIn}
-use Rattle.os_heap_lists.specs.Lists.{live_total}
 use Rattle.os_heap.proofs.Found.{found_heap, found_start}
 use Rattle.os_heap.proofs.Moving.{found_held}
 use Rattle.os_heap.proofs.Stores.{AreOthers, are_others}
-use Rattle.os_heap.specs.Calls.{OfHeap, holds_anchor}
+use Rattle.os_heap.specs.Calls.{OfHeap}
 use Rattle.os_heap.specs.Store.{IsSound, Store, find_heap, store_of}
 use Rattle.os_heap_slide.proofs.Records.{IsSlide, slid_in}
 use Rattle.os_heap_slide.specs.Slide.{AreBlocks, HoldNoAnchor, IsSlid, MaySlide, with_slid}

@@ -2,9 +2,10 @@
 ghost use Rattle.std.specs.Prelude.{◌≡◌, ◌≤◌, ◌<◌, ℕ, List, length, map, slice_index, EachIndex};
 ghost use Rattle.address_map.specs.Bytes.{AreMapped};
 ghost use Rattle.address_map.specs.Memory.{byte_at, is_mapped};
-ghost use Rattle.os_heap.specs.Store.{AreClasses};
+ghost use Rattle.os_heap.specs.Store.{AreClasses, store_of};
 ghost use Rattle.dynamic_areas.specs.Areas.{Land};
 ghost use Rattle.dynamic_areas.specs.Ground.{estate_of};
+ghost use Rattle.flex_kept.specs.Keeping.{KeepsFlex};
 ghost use Rattle.instances_table.specs.Modules.{Module};
 ghost use Rattle.instances_ground.specs.Sound.{HasSystemPages, IsWorld};
 ghost use Rattle.instances_ground.specs.World.{world_of};
@@ -35,6 +36,7 @@ pub(crate) fn private_words(map: &AddressMap, slots: &[u32]) -> ArrayVec<u32, MO
 }
 
 /// Gives each private word of some slots that names a block that moved the address where it went.
+#[tactic(auto, using(flex_kept::proofs::Keeping::keeps_same))]
 pub(crate) fn move_words(map: &mut AddressMap, slots: &[u32], moves: &[Move])
     requires below { EachIndex slots.now (λ k. slice_index slots.now k < 64) }
     requires system { HasSystemPages map.old }
@@ -42,6 +44,7 @@ pub(crate) fn move_words(map: &mut AddressMap, slots: &[u32], moves: &[Move])
     ensures sound { (l : Land) (modules : List Module) (pending : List ℕ) → IsWorld (world_of map.old l modules) pending
         → IsWorld (world_of map.new l modules) pending }
     ensures classes { AreClasses map.old → AreClasses map.new }
+    ensures flex { KeepsFlex (store_of map.old) (store_of map.new) }
 {
     for slot in slots {
         let word = private_value(map, *slot);

@@ -1,6 +1,7 @@
 //! The slide of the module area.
 ghost use Rattle.std.specs.Prelude.{◌≡◌, [], ◌≤◌, length};
-ghost use Rattle.os_heap.specs.Store.{AreClasses};
+ghost use Rattle.os_heap.specs.Store.{AreClasses, store_of};
+ghost use Rattle.flex_kept.specs.Keeping.{KeepsFlex};
 ghost use Rattle.instances_ground.specs.Sound.{IsWorld};
 ghost use Rattle.instances_ground.specs.World.{world_of};
 ghost use Rattle.instances_slide.specs.Slid.{world_slid};
@@ -23,6 +24,7 @@ pub fn slide(map: &mut AddressMap, areas: &Areas, table: &mut InstanceTable, ret
     ensures world { world_of map.new areas.now table.new ≡ world_slid return_address (world_of map.old areas.now table.old) }
     ensures sound { IsWorld (world_of map.new areas.now table.new) [] }
     ensures classes { AreClasses map.new }
+    ensures flex { KeepsFlex (store_of map.old) (store_of map.new) }
 {
     let slots = table.slots();
     let words = private_words(map, slots.as_slice());

@@ -1,5 +1,6 @@
 use Rattle.std.proofs.Common.{◌≡◌, ap, ◌∙◌, refl, arith}
 use Rattle.dynamic_areas.specs.Ground.{Estate, estate_of}
+use Rattle.flex_kept.proofs.Keeping.{keeps_then}
 use Rattle.rma.specs.Calls.{rma_freed}
 use Rattle.instances_ground.specs.World.{or_same, private_freed, with_private, world_of}
 use Rattle.instances_ground.proofs.Worlds.{world_kept}
@@ -27,3 +28,6 @@ returns-clause-sound c = λ l modules pending world.
     c.put_private.ensures.sound l modules pending
     (world_kept (world_of c.args.map.now l modules) (world_of c.free.new.map l modules) pending world refl
     (others_same c.args.map.now c.free.new.map c.free.ensures.layout) (c.free.ensures.estate l world.estate))
+
+pub returns-clause-flex : goal.returns-clause-flex
+returns-clause-flex c = keeps_then _ _ _ c.free.ensures.flex c.put_private.ensures.flex

@@ -1,5 +1,6 @@
 use Rattle.std.proofs.Common.{◌≡◌, sym, subst, ◌∙◌, refl, Some, None}
 use Rattle.dynamic_areas.specs.Ground.{IsEstate, estate_of}
+use Rattle.flex_kept.proofs.Keeping.{keeps_then}
 use Rattle.instances_ground.specs.Sound.{IsWorld}
 use Rattle.instances_ground.specs.World.{World, removed, world_of}
 use Rattle.instances_ground.proofs.Removals.{world_removed}
@@ -36,3 +37,6 @@ returns-in_default-clause-sound c = λ l pending world.
     let freed = c.free_private.ensures.sound l c.args.table.now pending world in
     subst (λ (w : World). IsWorld w pending) (sym all)
     (world_removed (world_of c.args.map.now l c.args.table.now) c.args.slot pending world (subst (λ (w : World). IsEstate w.estate) all freed.estate))
+
+pub returns-in-Some-clause-flex : goal.returns-in-Some-clause-flex
+returns-in-Some-clause-flex c = keeps_then _ _ _ c.free_private.ensures.flex c.drop_image.ensures.flex

@@ -1,5 +1,5 @@
 use Rattle.dynamic_areas.proofs.SystemWrites.{kept_classes}
-use Rattle.instances_ground.proofs.Writes.{pages_kept, private_kept, private_written, world_written}
+use Rattle.instances_ground.proofs.Writes.{pages_kept, private_keeps, private_kept, private_written, world_written}
 use Rattle.instances_ground.proofs.system_pages.put_private.Goals as goal
 
 pub returns-clause-estate : goal.returns-clause-estate
@@ -25,3 +25,8 @@ returns-clause-pages c =
     let e = c.put_word.ensures in
     pages_kept _ _
     (private_kept _ _ c.args.slot _ _ c.private_word.ensures e.layout e.bytes c.requires.system c.requires.below e.marks) e.layout c.requires.system
+
+pub returns-clause-flex : goal.returns-clause-flex
+returns-clause-flex c =
+    let e = c.put_word.ensures in
+    private_keeps _ _ c.args.slot _ _ c.private_word.ensures e.layout e.bytes c.requires.system c.requires.below e.marks

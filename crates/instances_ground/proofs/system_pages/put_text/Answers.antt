@@ -1,7 +1,7 @@
 use Rattle.std.proofs.Common.{◌∙◌}
 use Rattle.dynamic_areas.proofs.HeapCalls.{areas_written}
 use Rattle.dynamic_areas.proofs.SystemWrites.{kept_classes}
-use Rattle.instances_ground.proofs.Writes.{pages_kept, text_kept, text_written, world_written}
+use Rattle.instances_ground.proofs.Writes.{pages_kept, text_keeps, text_kept, text_written, world_written}
 use Rattle.instances_ground.proofs.system_pages.put_text.Goals as goal
 
 pub returns-clause-estate : goal.returns-clause-estate
@@ -41,3 +41,9 @@ returns-clause-pages c =
     pages_kept _ _
     (text_kept _ _ _ c.args.text.now one.layout two.layout one.bytes two.bytes c.requires.system c.requires.short (two.marks ∙ one.marks))
     (two.layout ∙ one.layout) c.requires.system
+
+pub returns-clause-flex : goal.returns-clause-flex
+returns-clause-flex c =
+    let one = c.put_bytes.ensures in
+    let two = c.put_bytes-2.ensures in
+    text_keeps _ _ _ c.args.text.now one.layout two.layout one.bytes two.bytes c.requires.system c.requires.short (two.marks ∙ one.marks)

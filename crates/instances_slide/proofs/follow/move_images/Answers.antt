@@ -1,4 +1,4 @@
-use Rattle.std.proofs.Common.{◌≤◌, ◌∙◌, length, sym, arith}
+use Rattle.std.proofs.Common.{◌≤◌, ◌∙◌, length, arith}
 use Rattle.instances_slide.proofs.Looping.{images_next, images_same, partly_all}
 use Rattle.instances_slide.specs.Slid.{image_moved}
 use Rattle.instances_slide.proofs.follow.move_images.Goals as goal

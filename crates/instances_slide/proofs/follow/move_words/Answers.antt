@@ -2,6 +2,7 @@ use Rattle.std.proofs.Common.{◌≡◌, ◌<◌, ◌+◌, ◌∙◌, ℕ, List,
 use Rattle.address_map.specs.Moves.{moved_to}
 use Rattle.address_map.specs.declared.follow.Move.{Move}
 use Rattle.dynamic_areas.specs.Ground.{Estate, estate_of}
+use Rattle.flex_kept.proofs.Keeping.{keeps_then}
 use Rattle.instances_ground.specs.World.{private_word, with_private}
 use Rattle.instances_slide.proofs.Looping.{words_next}
 use Rattle.instances_slide.specs.Slid.{words_moved}
@@ -25,4 +26,5 @@ loop-slot-preserved c =
           ap (words_moved moves (drop (i + 1) slots)) after ∙ sym (words_next moves slots i e within) ∙ c.loop-slot.invariant.estate land;
       sound = λ land modules pending world. c.put_private.ensures.sound land modules pending (c.loop-slot.invariant.sound land modules pending world);
       classes = λ same. c.put_private.ensures.classes (c.loop-slot.invariant.classes same);
+      flex = keeps_then _ _ _ c.loop-slot.invariant.flex c.put_private.ensures.flex;
     }

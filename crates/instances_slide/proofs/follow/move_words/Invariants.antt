@@ -1,7 +1,8 @@
 use Rattle.std.proofs.Common.{◌≡◌, ℕ, List, drop}
-use Rattle.os_heap.specs.Store.{AreClasses}
+use Rattle.os_heap.specs.Store.{AreClasses, store_of}
 use Rattle.dynamic_areas.specs.Areas.{Land}
 use Rattle.dynamic_areas.specs.Ground.{estate_of}
+use Rattle.flex_kept.specs.Keeping.{KeepsFlex}
 use Rattle.instances_table.specs.Modules.{Module}
 use Rattle.instances_ground.specs.Sound.{HasSystemPages, IsWorld}
 use Rattle.instances_ground.specs.World.{world_of}
@@ -16,4 +17,5 @@ invariant-loop-slot l = record {
   sound : (land : Land) (modules : List Module) (pending : List ℕ) → IsWorld (world_of l.fn.map land modules) pending
       → IsWorld (world_of l.map land modules) pending;
   classes : AreClasses l.fn.map → AreClasses l.map;
+  flex : KeepsFlex (store_of l.fn.map) (store_of l.map);
 }

@@ -1,7 +1,5 @@
-use Rattle.std.proofs.Common.{◌≡◌, ◌∙◌, Some, None, sym}
-use Rattle.os_heap.specs.Calls.{items_of}
-use Rattle.os_heap.specs.Store.{store_of}
-use Rattle.instances_slide.proofs.FoundBlocks.{AreFound, are_found, found_few, found_movable, none_movable}
+use Rattle.std.proofs.Common.{◌∙◌, sym}
+use Rattle.instances_slide.proofs.FoundBlocks.{are_found, found_few, found_movable, none_movable}
 use Rattle.instances_slide.proofs.movable.movable_blocks.Goals as goal
 
 pub choose-requires-clause-below : goal.choose-requires-clause-below

@@ -1,7 +1,11 @@
-use Rattle.std.proofs.Common.{◌≡◌, ◌≤◌, ◌∙◌, ℕ, List, [], ap, length, map, arith}
+use Rattle.std.proofs.Common.{◌≡◌, ◌∙◌, ℕ, List, [], ap, length, map, arith}
 use Rattle.address_map.specs.Memory.{byte_at}
 use Rattle.address_map.specs.declared.follow.Move.{Move}
+use Rattle.os_heap.specs.Store.{store_of}
+use Rattle.os_heap_slide.specs.Slide.{MaySlide}
 use Rattle.dynamic_areas.specs.Ground.{estate_of}
+use Rattle.flex_kept.proofs.Keeping.{keeps_then}
+use Rattle.flex_kept.proofs.Slides.{slides_keep}
 use Rattle.instances_ground.proofs.Writes.{has_system}
 use Rattle.instances_slide.proofs.Tidying.{IsBlocksSlid, blocks_slid, may_slide, sound_after, world_after}
 use Rattle.instances_slide.specs.Slid.{image_moved, words_at, words_moved}
@@ -56,3 +60,14 @@ returns-clause-sound c =
     c.move_words.ensures.sound c.args.areas.now c.move_images.new.table []
     (sound_after c.args.map.now c.slide-moves.new.map c.args.areas.now c.args.table.now c.move_images.new.table c.as_slice-3.result.now moves
     c.requires.sound c.slide-moves.ensures.sound blocks)
+
+pub returns-clause-flex : goal.returns-clause-flex
+returns-clause-flex c =
+    let slots : length c.as_slice.result.now ≡ length c.slots-slots.result.items = ap (length {A = ℕ}) c.as_slice.ensures.value in
+    let may : MaySlide (store_of c.args.map.now) 0x01800000 c.as_slice-3.result.now =
+    may_slide c.args.map.now c.args.areas.now c.args.table.now c.as_slice-2.result.now c.as_slice-3.result.now c.args.return_address c.requires.sound
+    (omega (arith, slots)) (omega arith) (c.as_slice-3.ensures.value ∙ c.movable_blocks-movable.ensures) in
+    keeps_then _ _ _
+    (slides_keep (store_of c.args.map.now) (store_of c.slide-moves.new.map) c.as_slice-3.result.now c.slide-moves.result.items
+    c.requires.sound.estate.ground.sound c.slide-moves.ensures.sound may c.slide-moves.ensures.slid)
+    c.move_words.ensures.flex

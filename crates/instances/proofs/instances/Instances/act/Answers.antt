@@ -50,4 +50,5 @@ returns-in_default c = record {
       (subst (λ (ms : List Module). IsWorld (world_of c.args.map.now c.args.areas.now ms) pending) (sym c.self.view_is) world))
       (λ does world. c.act.ensures.settled c.args.areas.now does (rw (c.given-given.ensures, c.self.view_is) world));
   classes = c.act.ensures.classes;
+  flex = c.act.ensures.flex;
 }

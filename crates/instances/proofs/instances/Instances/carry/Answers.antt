@@ -1,11 +1,22 @@
+use Rattle.flex_kept.proofs.Keeping.{keeps_then}
 use Rattle.instances_ground.specs.World.{world_of}
-use Rattle.instances.proofs.Carrying.{code_carried, end_carried, next_fewer, world_at_end}
+use Rattle.instances.proofs.Carrying.{code_carried, end_carried, next_carried, next_fewer, world_at_end}
 use Rattle.instances.proofs.instances.Instances.carry.Goals as goal
 
 pub loop-outcome-smaller : goal.loop-outcome-smaller
 loop-outcome-smaller c =
     next_fewer (world_of c.loop-outcome.map c.args.areas.now c.loop-outcome.self) (world_of c.advance.new.map c.args.areas.now c.advance.new.self)
     c.loop-outcome.plan c.advance.new.plan c.loop-outcome.outcome c.advance.result c.advance.ensures.advanced c.in-Next.is
+
+pub loop-outcome-preserved : goal.loop-outcome-preserved
+loop-outcome-preserved c = record {
+  carried = next_carried (world_of c.loop-outcome.map c.args.areas.now c.loop-outcome.self) (world_of c.advance.new.map c.args.areas.now c.advance.new.self)
+      c.loop-outcome.plan c.advance.new.plan c.loop-outcome.outcome c.advance.result c.advance.ensures.advanced _ c.in-Next.is
+      c.loop-outcome.invariant.carried;
+  going = c.advance.ensures.going;
+  classes = c.advance.ensures.classes;
+  flex = keeps_then _ _ _ c.loop-outcome.invariant.flex c.advance.ensures.flex;
+}
 
 pub returns-in-Code-clause-carried : goal.returns-in-Code-clause-carried
 returns-in-Code-clause-carried c =
@@ -24,3 +35,9 @@ returns-in-End-clause-ended c = λ none.
     world_at_end (world_of c.loop-outcome.map c.args.areas.now c.loop-outcome.self) (world_of c.advance.new.map c.args.areas.now c.advance.new.self)
     c.loop-outcome.plan c.advance.new.plan c.loop-outcome.outcome c.advance.result c.advance.ensures.advanced c.in-End.field-0 c.in-End.is
     c.advance.ensures.going
+
+pub returns-in-Code-clause-flex : goal.returns-in-Code-clause-flex
+returns-in-Code-clause-flex c = keeps_then _ _ _ c.loop-outcome.invariant.flex c.advance.ensures.flex
+
+pub returns-in-End-clause-flex : goal.returns-in-End-clause-flex
+returns-in-End-clause-flex c = keeps_then _ _ _ c.loop-outcome.invariant.flex c.advance.ensures.flex

@@ -1,5 +1,6 @@
 use Rattle.std.proofs.Common.{◌≡◌, length}
-use Rattle.os_heap.specs.Store.{AreClasses}
+use Rattle.os_heap.specs.Store.{AreClasses, store_of}
+use Rattle.flex_kept.specs.Keeping.{KeepsFlex}
 use Rattle.instances_plans.specs.Carrying.{carried}
 use Rattle.instances_plans.specs.Plans.{settled}
 use Rattle.instances_ground.specs.World.{world_of}
@@ -12,6 +13,7 @@ invariant-loop-outcome l = record {
       ≡ carried module_doing (world_of l.fn.map l.fn.areas l.fn.self) (settled l.fn.plan l.fn.outcome);
   going : IsUnderWay (world_of l.map l.areas l.self) l.plan;
   classes : AreClasses l.map;
+  flex : KeepsFlex (store_of l.fn.map) (store_of l.map);
 }
 
 abbrev pub decreases-loop-outcome : goal.decreases-loop-outcome
