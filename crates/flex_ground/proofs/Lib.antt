@@ -1,0 +1,4 @@
+pub mod Calls
+pub mod Kept
+pub mod Starts
+pub mod Worlds

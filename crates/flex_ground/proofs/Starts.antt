@@ -1,0 +1,157 @@
+-- What the making of the flex store leaves: a record more, and an empty store.
+use Rattle.std.proofs.lemmas.Bool.{both_ways, cases_Bool}
+use Rattle.os_heap.specs.Store.{is_image}
+use Rattle.dynamic_areas.specs.Ground.{IsEstate}
+use Rattle.std.specs.Prelude.{is_some}
+use Rattle.std.proofs.Common.{ℕ, ◌≡◌, ◌-◌, ◌%◌, is_some, ◌==◌, ◌&&◌, Bool, true, false, not, List, [], ◌∷◌, ◌++◌, suc, Option, Some, None, Ok, Err, refl, sym, ap, subst, ◌∙◌, inl, inr, arith}
+use Rattle.std.specs.Prelude.{nat_lt, if◌then◌else◌}
+use Rattle.std.proofs.lemmas.Bool.{cases_Bool, false≢true, true≢false}
+use Rattle.profile.specs.declared.error.ErrorNumber.TheVariants.{FlexBadRange}
+use Rattle.address_map.specs.Bytes.{AreMapped, meets}
+use Rattle.address_map.specs.Classes.{is_anchor}
+use Rattle.address_map.specs.Memory.{Mapping, bytes_of, class_of, free_pages, is_mapped, mapping, regions}
+use Rattle.address_map.specs.declared.map.AddressMap.{AddressMap}
+use Rattle.address_map.specs.declared.region.Region.{Region}
+use Rattle.os_heap.proofs.Added.{ranges_split}
+use Rattle.address_map.specs.Records.{is_heap_kind}
+use Rattle.os_heap.specs.Ranges.{are_mapped}
+use Rattle.os_heap.specs.Store.{IsSound, others_in, store_of}
+use Rattle.dynamic_areas.specs.Areas.{Land}
+use Rattle.dynamic_areas.specs.Ground.{AreAreas, AreRangesMapped, IsRecorded, system_pages}
+use Rattle.flex_kept.specs.Keeping.{AreAnchorsFree}
+use Rattle.flex_store.specs.Calls.{FlexState, begun, begun_by, flex_record, is_flex_range, with_flex}
+use Rattle.flex_store.specs.State.{IsFlex, IsFlexAt, flex_in, state_of}
+use Rattle.flex_store.specs.declared.flex.Extent.{Extent}
+use Rattle.flex_store.specs.declared.flex.Flex.{Flex}
+use Rattle.flex_store.proofs.Starting.{good_range}
+use Rattle.instances_ground.specs.Sound.{AreSolid, IsWorld, count_beside, image_places}
+use Rattle.instances_ground.specs.World.{World}
+use Rattle.flex_ground.proofs.Worlds.{beside_begun}
+use Rattle.flex_ground.proofs.Calls.{flex_is, flex_stays_by, state_is, store_spelled}
+use Rattle.flex_ground.specs.Ground.{HasFlex, began_by, flex_began, flex_of, flex_state, is_flex_room, records_with, store_flexed, with_flex_record}
+
+-- the test of the range, over heaps and other records
+room_is : (m : AddressMap) (start end : ℕ) → is_flex_range (is_mapped m) (regions m) start end ≡ is_flex_room (store_of m) start end
+unfolding store_of is_flex_range is_flex_room
+room_is m start end =
+    ap (λ (t : Bool). (start % 4 == 0 && end % 4 == 0) && (nat_lt start end && (are_mapped (is_mapped m) start (end - start) && not t)))
+    (ranges_split (meets start (end - start)) (bytes_of m) (regions m))
+
+began_from : (m : AddressMap) (t : FlexState) (o : Option _) (start end : ℕ) → t.bytes.mapped ≡ is_mapped m
+    → begun_by (regions m) t start end o ≡ began_by (store_of m) t start end o
+began_from m t None start end mapped =
+    let test : is_flex_range t.bytes.mapped (regions m) start end ≡ is_flex_room (store_of m) start end =
+    ap (λ (f : ℕ → Bool). is_flex_range f (regions m) start end) mapped ∙ room_is m start end in
+    ap (λ (b : Bool). if b then Ok (with_flex t start end, tt) else Err FlexBadRange) test
+began_from m t (Some s) start end mapped = refl
+
+pub began_is : (m : AddressMap) (f : Flex) (start end : ℕ)
+    → begun (regions m) (state_of m f) start end ≡ flex_began (store_of m) (flex_state (store_of m) f) start end
+unfolding begun flex_began state_of
+began_is m f start end =
+    began_from m (state_of m f) (flex_in m f.extent) start end refl
+    ∙ ap (λ (t : FlexState). began_by (store_of m) t start end t.flex) (state_is m f)
+
+-- what the call leaves, where it was done, and where it was refused
+pub record IsFlexMade (m n : AddressMap) (g : Flex) : Type 0 where
+  pub flex : IsFlex n g
+  pub mapping : mapping n ≡ mapping m
+  pub marks : class_of n ≡ class_of m
+  pub heaps : (store_of n).heaps ≡ (store_of m).heaps
+  pub sound : IsSound (store_of n)
+
+pub flex_made : (m n : AddressMap) (g : Flex) → IsFlex n g → mapping n ≡ mapping m → class_of n ≡ class_of m → (store_of n).heaps ≡ (store_of m).heaps
+    → IsSound (store_of n) → IsFlexMade m n g
+flex_made m n g flex mapping marks heaps sound = record { flex = flex; mapping = mapping; marks = marks; heaps = heaps; sound = sound }
+
+others_more : (rs : List Region) (r : Region) → is_heap_kind r.kind ≡ false → others_in (rs ++ r ∷ []) ≡ others_in rs ++ r ∷ []
+others_more [] r other = rw other refl
+others_more (q ∷ rs) r other = elim (cases_Bool (is_heap_kind q.kind)) [
+  | inl heap ↦ rw heap (others_more rs r other)
+  | inr other_kind ↦ rw other_kind (ap (λ (xs : List Region). q ∷ xs) (others_more rs r other))
+]
+
+pub others_made : (m n : AddressMap) (start end : ℕ) → regions n ≡ regions m ++ flex_record start end ∷ []
+    → (store_of n).others ≡ (store_of m).others ++ flex_record start end ∷ []
+unfolding store_of
+others_made m n start end records = ap others_in records ∙ others_more (regions m) (flex_record start end) refl
+
+others_same : (m n : AddressMap) → regions n ≡ regions m → (store_of n).others ≡ (store_of m).others
+unfolding store_of
+others_same m n records = ap others_in records
+
+-- the store and its place, where the call was done
+pub made_left : (m n : AddressMap) (g : Flex) (t : FlexState) (start end : ℕ) → IsFlexMade m n g → regions n ≡ regions m ++ flex_record start end ∷ []
+    → state_of n g ≡ t → (store_of n ≡ store_flexed (with_flex_record (store_of m) start end) t) × (g ≡ flex_of t.flex)
+unfolding state_of
+made_left m n g t start end made records state = (
+  store_spelled m n g ((store_of m).others ++ flex_record start end ∷ []) made.flex (others_made m n start end records) made.heaps
+      ∙ ap (store_flexed (with_flex_record (store_of m) start end)) state,
+  flex_is n g made.flex ∙ ap (λ (x : FlexState). flex_of x.flex) state,
+)
+
+-- and where it was refused
+pub unmade_left : (m n : AddressMap) (f g : Flex) → IsFlex m f → IsFlexMade m n g → regions n ≡ regions m → state_of n g ≡ state_of m f
+    → (store_of n ≡ store_of m) × (g ≡ f)
+unmade_left m n f g is made records state = flex_stays_by m n f g is made.flex (others_same m n records) made.heaps state
+
+-- the areas stand on memory with a record more, whose range is mapped
+mapped_more : (mapped : ℕ → Bool) (rs : List Region) (r : Region) → AreRangesMapped mapped rs → AreMapped mapped r.at r.len
+    → AreRangesMapped mapped (rs ++ r ∷ [])
+mapped_more mapped [] r ranges here = (here, tt)
+mapped_more mapped (q ∷ rs) r ranges here = (ranges.0, mapped_more mapped rs r ranges.1 here)
+
+pub made_areas : (m n : AddressMap) (g : Flex) (l : Land) (start end : ℕ) → IsFlexMade m n g → regions n ≡ regions m ++ flex_record start end ∷ []
+    → AreMapped (is_mapped m) start (end - start) → AreAreas (store_of m) (free_pages m) l → AreAreas (store_of n) (free_pages n) l
+unfolding store_of
+made_areas m n g l start end made records there areas =
+    let free : free_pages n ≡ free_pages m = ap (λ (p : Mapping). p.free_pages) made.mapping in
+    let mapped : is_mapped n ≡ is_mapped m = ap (λ (p : Mapping). λ (a : ℕ). is_some (p.place a)) made.mapping in
+    let others = others_made m n start end records in
+    let ground = areas.ground in
+    record {
+      ground = record {
+        sizes = ground.sizes;
+        table = ground.table;
+        land = λ x. ap (λ (f : ℕ → Bool). f x) mapped ∙ ground.land x;
+        pages = rw free ground.pages;
+        ranges = rw (mapped, others) (mapped_more (is_mapped m) (others_in (regions m)) (flex_record start end) ground.ranges there);
+        sound = made.sound;
+      };
+      heap = rw made.heaps areas.heap;
+    }
+
+pub unmade_areas : (m n : AddressMap) (g : Flex) (l : Land) → IsFlexMade m n g → store_of n ≡ store_of m → AreAreas (store_of m) (free_pages m) l
+    → AreAreas (store_of n) (free_pages n) l
+unmade_areas m n g l made store areas =
+    let free : free_pages n ≡ free_pages m = ap (λ (p : Mapping). p.free_pages) made.mapping in
+    rw (free, store) areas
+
+-- the range that the call was done with is mapped
+pub room_there : (m : AddressMap) (start end : ℕ) → is_flex_range (is_mapped m) (regions m) start end ≡ true → AreMapped (is_mapped m) start (end - start)
+room_there m start end room = (good_range (is_mapped m) (regions m) start end room).there
+
+-- what holds of the store then: it has no anchor, and its range is the second record beside images
+no_extent : (o : Option Extent) → is_some o ≡ false → o ≡ None
+no_extent None is = refl
+no_extent (Some e) is = absurd (true≢false is)
+
+anchorless : (m n : AddressMap) (f : Flex) → IsFlex m f → f.extent ≡ None → class_of n ≡ class_of m → (a : ℕ) → (store_of n).anchor a ≡ false
+unfolding store_of
+anchorless m n f is none marks a =
+    let no = subst (IsFlexAt m) none is in
+    ap (λ (c : ℕ → _). is_anchor (c a)) marks ∙ no.anchors a
+
+pub has_made : (m n : AddressMap) (f g : Flex) (start end : ℕ) → HasFlex m f → f.extent ≡ None → is_some g.extent ≡ true → IsFlexMade m n g
+    → regions n ≡ regions m ++ flex_record start end ∷ [] → HasFlex n g
+unfolding AreAnchorsFree
+has_made m n f g start end has none some made records = record {
+  is = made.flex;
+  free = λ a is. absurd (both_ways ((store_of n).anchor a) (anchorless m n f has.is none made.marks a) is);
+  beside =
+      ap count_beside (others_made m n start end records) ∙ beside_begun start end (store_of m).others ∙ ap suc (has.beside ∙ ap records_with none)
+      ∙ sym (records_some g.extent some);
+} where
+  records_some : (o : Option Extent) → is_some o ≡ true → records_with o ≡ 2
+  records_some None is = absurd (false≢true is)
+  records_some (Some e) is = refl

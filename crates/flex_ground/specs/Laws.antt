@@ -1,0 +1,30 @@
+-- The flex store over calls that are none of its own, over what guests store, and at the start of a machine.
+use Rattle.std.specs.Prelude.{ℕ, ◌≡◌, true, None}
+use Rattle.profile.specs.Sizes.{Sizes}
+use Rattle.address_map.specs.Memory.{byte_at, class_of, layout}
+use Rattle.address_map.specs.declared.map.AddressMap.{AddressMap}
+use Rattle.os_heap.specs.Store.{IsSound, owned_in, store_of}
+use Rattle.dynamic_areas.specs.Areas.{Land}
+use Rattle.dynamic_areas.specs.Ground.{AreAreas}
+use Rattle.dynamic_areas.specs.Start.{start_store}
+use Rattle.flex_kept.specs.Keeping.{KeepsFlex}
+use Rattle.flex_store.specs.declared.flex.Flex.{Flex}
+use Rattle.flex_ground.specs.Ground.{HasFlex}
+
+-- a call that keeps the store's bytes and words
+abbrev pub FlexKept : Type 0
+FlexKept = (m n : AddressMap) (f : Flex) (free : ℕ) (l : Land) → HasFlex m f → IsSound (store_of m) → KeepsFlex (store_of m) (store_of n)
+    → AreAreas (store_of n) free l → HasFlex n f
+
+-- a guest's stores, which leave each byte that the store calls own
+abbrev pub FlexStored : Type 0
+FlexStored = (m n : AddressMap) (f : Flex) → HasFlex m f → IsSound (store_of n) → layout n ≡ layout m → class_of n ≡ class_of m
+    → ((a : ℕ) → owned_in (store_of m) a ≡ true → byte_at n a ≡ byte_at m a) → HasFlex n f
+
+-- before the store has begun
+abbrev pub FlexUnmade : Type 0
+FlexUnmade = (m n : AddressMap) (f : Flex) → HasFlex m f → f.extent ≡ None → class_of n ≡ class_of m → (store_of n).others ≡ (store_of m).others → HasFlex n f
+
+-- the memory of a machine at its start
+abbrev pub FlexStarted : Type 0
+FlexStarted = (m : AddressMap) (s : Sizes) (f : Flex) → store_of m ≡ start_store s → f.extent ≡ None → HasFlex m f

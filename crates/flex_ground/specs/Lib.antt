@@ -1,0 +1,4 @@
+pub mod CallLaws
+pub mod Ground
+pub mod Laws
+pub mod WorldLaws

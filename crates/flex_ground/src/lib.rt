@@ -1,0 +1,5 @@
+//! What the flex store is on a machine's memory, and that all calls keep it.
+#![tactic(auto)]
+
+pub mod laws;
+pub mod world_laws;
