@@ -35,7 +35,9 @@ use Rattle.swi_dispatch.specs.ModulePlans.{machine_world, with_world}
 use Rattle.swi_dispatch.specs.OpenFrames.{AreFrames}
 use Rattle.swi_dispatch.specs.Parts.{CanBegin, IsFree, IsWellFormed, Parts, parts_world, state_of}
 use Rattle.swi_dispatch.specs.Returns.{halted}
-use Rattle.swi_dispatch.proofs.Kept.{kept_all, kept_classes, same_kept, same_pool}
+use Rattle.flex_ground.specs.Ground.{HasFlex}
+use Rattle.flex_kept.specs.Keeping.{KeepsFlex}
+use Rattle.swi_dispatch.proofs.Kept.{flex_by, kept_all, kept_classes, same_kept, same_pool}
 use Rattle.swi_dispatch.proofs.OpenFrames.{frames_kept}
 
 -- where code is entered, it runs
@@ -64,13 +66,14 @@ may_go_on w v p q (Some code) is ended going = (code_runs w p (record { world = 
 
 -- the parts of a machine after a call was carried on
 pub well_carried : (new : Parts) (pending : List ℕ) → IsWorld (parts_world new) pending → MayGoOn (parts_world new) new.tables.plan → AreClasses new.map
-    → AreFrames new.tables → new.is_fresh ≡ false → IsWellFormed new
-well_carried new pending world modules classes frames stepped = record {
+    → AreFrames new.tables → HasFlex new.map new.tables.flex → new.is_fresh ≡ false → IsWellFormed new
+well_carried new pending world modules classes frames flex stepped = record {
   areas = world.estate;
   classes = classes;
   system = world.system;
   modules = modules;
   frames = frames;
+  flex = flex;
   fresh = λ e. absurd (true≢false (sym e ∙ stepped));
 }
 
@@ -165,14 +168,15 @@ tried w v p q o c world plan is =
     ap (λ (x : World). carried module_doing x (settled p o)) (sym world) ∙ ap (λ (x : Plan). carried module_doing v (settled x o)) (sym plan) ∙ is
 
 -- a leaf of the machine that carries a call on: its invariant, its state, and what is next
-pub carried_well : (new : Parts) (w : World) (p q : Plan) (code : Option Code) (kept : Option Plan × Next) → kept ≡ (kept_by q code, next_by q code)
+pub carried_well : (old new : Parts) (w : World) (p q : Plan) (code : Option Code) (kept : Option Plan × Next) → kept ≡ (kept_by q code, next_by q code)
     → new.tables.plan ≡ kept.0 → carried module_doing w p ≡ record { world = parts_world new; rest = q; code = code }
     → (code ≡ None → IsWorld (parts_world new) []) → IsUnderWay (parts_world new) q → AreClasses new.map → AreFrames new.tables
+    → IsWellFormed old → KeepsFlex (store_of old.map) (store_of new.map) → new.tables.flex ≡ old.tables.flex
     → new.is_fresh ≡ false → IsWellFormed new
-carried_well new w p q code kept is plan carries ended going classes frames stepped =
+carried_well old new w p q code kept is plan carries ended going classes frames well keeps flex stepped =
     well_carried new (pending_of q) going.world
     (subst (MayGoOn (parts_world new)) (sym (plan ∙ ap (λ (r : Option Plan × Next). r.0) is)) (may_go_on w (parts_world new) p q code carries ended going))
-    classes frames stepped
+    classes frames (flex_by old new well going.world.estate keeps flex) stepped
 
 pub state_carried : (s : MachineState) (w : World) (q : Plan) (code : Option Code) (kept : Option Plan × Next) (c : Carried World)
     → kept ≡ (kept_by q code, next_by q code) → record { world = w; rest = q; code = code } ≡ c → with_plan (with_world s w) kept.0 ≡ with_carried s c
@@ -189,13 +193,15 @@ refused_world w v (Ok r) e gives = absurd gives
 refused_world w v (Err f) e gives = gives.1
 
 pub refused_well : (old new : Parts) → IsWellFormed old → parts_world new ≡ parts_world old → new.tables.plan ≡ old.tables.plan
-    → new.tables.frames ≡ old.tables.frames → AreClasses new.map → new.is_fresh ≡ false → IsWellFormed new
-refused_well old new well world plan frames classes stepped = record {
+    → new.tables.frames ≡ old.tables.frames → AreClasses new.map → KeepsFlex (store_of old.map) (store_of new.map) → new.tables.flex ≡ old.tables.flex
+    → new.is_fresh ≡ false → IsWellFormed new
+refused_well old new well world plan frames classes keeps flex stepped = record {
   areas = subst (λ (w : World). IsEstate w.estate) (sym world) well.areas;
   classes = classes;
   system = subst (λ (w : World). IsRecorded system_pages w.estate.store.others) (sym world) well.system;
   modules = rw plan (subst (λ (w : World). MayGoOn w old.tables.plan) (sym world) well.modules);
   frames = frames_kept old.tables new.tables well.frames frames plan;
+  flex = flex_by old new well (subst (λ (w : World). IsEstate w.estate) (sym world) well.areas) keeps flex;
   fresh = λ e. absurd (true≢false (sym e ∙ stepped));
 }
 

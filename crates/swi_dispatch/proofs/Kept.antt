@@ -28,6 +28,12 @@ use Rattle.swi_dispatch.specs.declared.halt.Halt.{Halt}
 use Rattle.swi_dispatch.specs.MachineState.{MachineState, Tables, with_memory, start_of}
 use Rattle.swi_dispatch.specs.Errors.{error_block}
 use Rattle.swi_dispatch.specs.Boot.{booted, poked}
+use Rattle.flex_ground.proofs.Kept.{flex_kept, flex_stored}
+use Rattle.flex_ground.specs.Ground.{HasFlex}
+use Rattle.flex_store.specs.declared.flex.Flex.{Flex}
+use Rattle.dynamic_areas.specs.Areas.{Land}
+use Rattle.flex_kept.proofs.Writes.{system_keeps}
+use Rattle.flex_kept.specs.Keeping.{KeepsFlex}
 use Rattle.instances.specs.Turns.{MayGoOn}
 use Rattle.instances.proofs.GoingOn.{may_go_on_kept}
 use Rattle.swi_dispatch.specs.OpenFrames.{AreFrames}
@@ -53,6 +59,23 @@ pub keeps_kept : (m n : AddressMap) (b : Bytes) → layout n ≡ layout m → cl
     → Keeps (owned_in (store_of m)) (bytes_of m) b → IsKept m n
 keeps_kept m n b same marks sound e keeps =
     heads_kept m n same marks sound (λ a is. ap (λ (c : Bytes). c.at a) e ∙ keeps.bytes a (spelled_owned (store_of m) a is))
+
+-- what an instruction or a word that is put leaves: the lists, and every byte of the words that only store calls may write
+pub record IsStored (m n : AddressMap) : Type 0 where
+  pub kept : IsKept m n
+  pub owned : (a : ℕ) → owned_in (store_of m) a ≡ true → byte_at n a ≡ byte_at m a
+
+pub same_stored : (m n : AddressMap) → layout n ≡ layout m → class_of n ≡ class_of m → IsSound (store_of m) → bytes_of n ≡ bytes_of m → IsStored m n
+same_stored m n same marks sound e = record { kept = same_kept m n same marks sound e; owned = λ a _. ap (λ (b : Bytes). b.at a) e }
+
+pub keeps_stored : (m n : AddressMap) (b : Bytes) → layout n ≡ layout m → class_of n ≡ class_of m → IsSound (store_of m) → bytes_of n ≡ b
+    → Keeps (owned_in (store_of m)) (bytes_of m) b → IsStored m n
+keeps_stored m n b same marks sound e keeps =
+    record { kept = keeps_kept m n b same marks sound e keeps; owned = λ a is. ap (λ (c : Bytes). c.at a) e ∙ keeps.bytes a is }
+
+-- and so of the flex store
+pub flex_after : (m n : AddressMap) (f : Flex) → HasFlex m f → layout n ≡ layout m → class_of n ≡ class_of m → IsStored m n → HasFlex n f
+flex_after m n f has same marks stored = flex_stored m n f has stored.kept.sound same marks stored.owned
 
 -- writes to the system pages
 system_clear : (hs : List HeapList) (rs : List Region) → ArePlaced hs rs → IsRecorded system_pages rs → IsClearOfHeaps 0x01C00000 0x3000 hs
@@ -118,25 +141,25 @@ poked_by : (m n : AddressMap) (cpu : State) (tables : Tables) (halt : Option Hal
     → layout n ≡ layout m → class_of n ≡ class_of m → IsSound (store_of m)
     → (f ≡ None → owned_in (store_of m) (a - a % 4) ≡ false)
     → Leaves (bytes_of m) (unless f (with_word (bytes_of m) (a - a % 4) w)) result (bytes_of n)
-    → IsKept m n × Leaves (over m cpu tables halt) (bind (unless f (with_word (bytes_of m) (a - a % 4) w))
+    → IsStored m n × Leaves (over m cpu tables halt) (bind (unless f (with_word (bytes_of m) (a - a % 4) w))
     (λ b. Ok (with_core cpu (free_pages m) tables halt (with_memory (store_of m) b)))) result (over n cpu tables halt)
 poked_by m n cpu tables halt a w (Ok u) None same marks sound free left =
-    let kept : IsKept m n = keeps_kept m n _ same marks sound left (word_kept (owned_in (store_of m)) (bytes_of m) (a - a % 4) w (by_words (store_of m)) (omega arith) (free refl)) in
-    let store = kept_memory m n _ kept left in
+    let kept : IsStored m n = keeps_stored m n _ same marks sound left (word_kept (owned_in (store_of m)) (bytes_of m) (a - a % 4) w (by_words (store_of m)) (omega arith) (free refl)) in
+    let store = kept_memory m n _ kept.kept left in
     let pool = same_pool m n same in
     (kept, λ i. with_core cpu (pool i) tables halt (store i))
 poked_by m n cpu tables halt a w (Err e) None same marks sound free left = absurd left
 poked_by m n cpu tables halt a w (Ok u) (Some f) same marks sound free left = absurd left
 poked_by m n cpu tables halt a w (Err e) (Some f) same marks sound free left =
-    let kept : IsKept m n = same_kept m n same marks sound left.1 in
-    let store = kept_all m n kept left.1 in
+    let kept : IsStored m n = same_stored m n same marks sound left.1 in
+    let store = kept_all m n kept.kept left.1 in
     let pool = same_pool m n same in
     (kept, (left.0, λ i. with_core cpu (pool i) tables halt (store i)))
 
 pub pokes : (m n : AddressMap) (cpu : State) (tables : Tables) (halt : Option Halt) (a w : ℕ) (result : Result Unit Fault)
     → layout n ≡ layout m → class_of n ≡ class_of m → IsSound (store_of m) → AreClasses m
     → Leaves (bytes_of m) (word_stored (is_owned m) (bytes_of m) a w) result (bytes_of n)
-    → IsKept m n × Leaves (over m cpu tables halt) (poked (over m cpu tables halt) a w) result (over n cpu tables halt)
+    → IsStored m n × Leaves (over m cpu tables halt) (poked (over m cpu tables halt) a w) result (over n cpu tables halt)
 unfolding poked word_stored store_of
 pokes m n cpu tables halt a w result same marks sound classes left =
     poked_by m n cpu tables halt a w result (store_fault (owned_in (store_of m)) (bytes_of m) (a - a % 4)) same marks sound
@@ -170,52 +193,72 @@ error_kept m n number text same marks sound others short e =
 pub kept_classes : (m n : AddressMap) → IsKept m n → class_of n ≡ class_of m → AreClasses m → AreClasses n
 kept_classes m n kept marks same = classes_same m n (ap (λ (s : Store). s.heaps) kept.store) (λ a i. marks i a) same
 
+-- the flex store after a call that is none of its own
+pub flex_by : (old new : Parts) → IsWellFormed old → AreAreas (store_of new.map) (free_pages new.map) new.tables.land
+    → KeepsFlex (store_of old.map) (store_of new.map) → new.tables.flex ≡ old.tables.flex → HasFlex new.map new.tables.flex
+flex_by old new well areas keeps flex =
+    rw flex (flex_kept old.map new.map old.tables.flex (free_pages new.map) new.tables.land well.flex well.areas.ground.sound keeps areas)
+
 -- the parts of a machine after a call that kept the other records, the modules, the plan and the frames
 pub well_by : (old new : Parts) → IsWellFormed old → AreAreas (store_of new.map) (free_pages new.map) new.tables.land → AreClasses new.map
     → (store_of new.map).others ≡ (store_of old.map).others → new.tables.modules ≡ old.tables.modules → new.tables.plan ≡ old.tables.plan
-    → new.tables.frames ≡ old.tables.frames
+    → new.tables.frames ≡ old.tables.frames → HasFlex new.map new.tables.flex
     → (new.is_fresh ≡ true → state_of new ≡ start_of new.sizes) → IsWellFormed new
-well_by old new well areas classes others modules plan frames fresh = record {
+well_by old new well areas classes others modules plan frames flex fresh = record {
   areas = areas;
   classes = classes;
   system = rw others well.system;
   modules = rw plan (may_go_on_kept (parts_world old) (parts_world new) old.tables.plan areas others modules well.modules);
   frames = frames_kept old.tables new.tables well.frames frames plan;
+  flex = flex;
   fresh = fresh;
 }
 
 -- the same of a machine that isn't as it was made
 pub well_called : (old new : Parts) → IsWellFormed old → AreAreas (store_of new.map) (free_pages new.map) new.tables.land → AreClasses new.map
     → (store_of new.map).others ≡ (store_of old.map).others → new.tables.modules ≡ old.tables.modules → new.tables.plan ≡ old.tables.plan
-    → new.tables.frames ≡ old.tables.frames
+    → new.tables.frames ≡ old.tables.frames → KeepsFlex (store_of old.map) (store_of new.map) → new.tables.flex ≡ old.tables.flex
     → new.is_fresh ≡ false → IsWellFormed new
-well_called old new well areas classes others modules plan frames stepped =
-    well_by old new well areas classes others modules plan frames (λ e. absurd (true≢false (sym e ∙ stepped)))
+well_called old new well areas classes others modules plan frames keeps flex stepped =
+    well_by old new well areas classes others modules plan frames (flex_by old new well areas keeps flex) (λ e. absurd (true≢false (sym e ∙ stepped)))
 
 -- the same after a call that changed the modules alone
 pub well_named : (old new : Parts) → IsWellFormed old → new.map ≡ old.map → new.tables.land ≡ old.tables.land
-    → MayGoOn (parts_world new) new.tables.plan → new.tables.plan ≡ old.tables.plan → new.tables.frames ≡ old.tables.frames → new.is_fresh ≡ false
-    → IsWellFormed new
-well_named old new well map land modules plan frames stepped = record {
+    → MayGoOn (parts_world new) new.tables.plan → new.tables.plan ≡ old.tables.plan → new.tables.frames ≡ old.tables.frames
+    → new.tables.flex ≡ old.tables.flex → new.is_fresh ≡ false → IsWellFormed new
+well_named old new well map land modules plan frames flex stepped = record {
   areas = rw (map, land) well.areas;
   classes = rw map well.classes;
   system = rw map well.system;
   modules = modules;
   frames = frames_kept old.tables new.tables well.frames frames plan;
+  flex = rw (map, flex) well.flex;
   fresh = λ e. absurd (true≢false (sym e ∙ stepped));
 }
 
 -- the same after a call that changed the frames alone
 pub well_framed : (old new : Parts) → IsWellFormed old → new.map ≡ old.map → new.tables.land ≡ old.tables.land → new.tables.modules ≡ old.tables.modules
-    → new.tables.plan ≡ old.tables.plan → AreFrames new.tables → new.is_fresh ≡ false → IsWellFormed new
-well_framed old new well map land modules plan frames stepped = record {
+    → new.tables.plan ≡ old.tables.plan → AreFrames new.tables → new.tables.flex ≡ old.tables.flex → new.is_fresh ≡ false → IsWellFormed new
+well_framed old new well map land modules plan frames flex stepped = record {
   areas = rw (map, land) well.areas;
   classes = rw map well.classes;
   system = rw map well.system;
   modules = rw (map, land, modules, plan) well.modules;
   frames = frames;
+  flex = rw (map, flex) well.flex;
   fresh = λ e. absurd (true≢false (sym e ∙ stepped));
 }
+
+-- the flex store lies in no system page
+pub flex_error : (m n : AddressMap) (f : Flex) (l : Land) (number : ℕ) (text : List ℕ) → HasFlex m f → AreAreas (store_of m) (free_pages m) l
+    → IsRecorded system_pages (store_of m).others → length text ≤ 128 → IsKept m n → layout n ≡ layout m
+    → bytes_of n ≡ with_bytes (with_word (bytes_of m) 0x01C02100 number) 0x01C02104 text → HasFlex n f
+unfolding store_of
+flex_error m n f l number text has areas system short kept same e =
+    let keeps : KeepsFlex (store_of m) (store_of n) =
+    subst (KeepsFlex (store_of m)) (sym kept.store) (system_keeps (store_of m) (bytes_of n) areas.ground.sound system (λ a out. ap (λ (b : Bytes). b.at a) e
+    ∙ outside_bytes (with_word_at (byte_at m) 0x01C02100 number) a text short out ∙ outside_word (byte_at m) a number out)) in
+    flex_kept m n f (free_pages n) l has areas.ground.sound keeps (areas_written m n l areas kept.sound same)
 
 -- the areas, after a call that kept every list
 kept_areas : (old new : Parts) → IsWellFormed old → IsKept old.map new.map → layout new.map ≡ layout old.map → new.tables ≡ old.tables
@@ -225,11 +268,11 @@ kept_areas old new well kept same tables =
 
 -- the same after a call that kept every list, of a machine that isn't as it was made
 pub well_kept : (old new : Parts) → IsWellFormed old → IsKept old.map new.map → layout new.map ≡ layout old.map → class_of new.map ≡ class_of old.map
-    → new.tables ≡ old.tables → new.is_fresh ≡ false → IsWellFormed new
-well_kept old new well kept same marks tables stepped =
-    well_called old new well (kept_areas old new well kept same tables) (kept_classes old.map new.map kept marks well.classes)
+    → new.tables ≡ old.tables → HasFlex new.map old.tables.flex → new.is_fresh ≡ false → IsWellFormed new
+well_kept old new well kept same marks tables flex stepped =
+    well_by old new well (kept_areas old new well kept same tables) (kept_classes old.map new.map kept marks well.classes)
     (ap (λ (s : Store). s.others) kept.store) (ap (λ (t : Tables). t.modules) tables) (ap (λ (t : Tables). t.plan) tables)
-    (ap (λ (t : Tables). t.frames) tables) stepped
+    (ap (λ (t : Tables). t.frames) tables) (rw tables flex) (λ e. absurd (true≢false (sym e ∙ stepped)))
 
 -- the application space holds the program of the written machine
 pub boots : (m n : AddressMap) (cpu : State) (tables : Tables) (halt : Option Halt) (s : Sizes) (is_fresh : Bool) (program : List ℕ) → is_fresh ≡ true
@@ -270,11 +313,12 @@ short_name e = search rules
 
 -- the same of a machine that may be as it was made, where nothing changed
 pub well_same : (old new : Parts) → IsWellFormed old → IsKept old.map new.map → layout new.map ≡ layout old.map → class_of new.map ≡ class_of old.map
-    → state_of new ≡ state_of old → new.tables ≡ old.tables → new.is_fresh ≡ old.is_fresh → new.sizes ≡ old.sizes → IsWellFormed new
-well_same old new well kept same marks state tables fresh sizes =
+    → state_of new ≡ state_of old → new.tables ≡ old.tables → HasFlex new.map old.tables.flex → new.is_fresh ≡ old.is_fresh → new.sizes ≡ old.sizes
+    → IsWellFormed new
+well_same old new well kept same marks state tables flex fresh sizes =
     well_by old new well (kept_areas old new well kept same tables) (kept_classes old.map new.map kept marks well.classes)
     (ap (λ (s : Store). s.others) kept.store) (ap (λ (t : Tables). t.modules) tables) (ap (λ (t : Tables). t.plan) tables)
-    (ap (λ (t : Tables). t.frames) tables)
+    (ap (λ (t : Tables). t.frames) tables) (rw tables flex)
     (λ e. state ∙ well.fresh (sym fresh ∙ e) ∙ ap start_of (sym sizes))
 
 pub refused_same : {S E : Type 0} (old new : S) (r : Result S E) (e : E) → Leaves {U = Unit {0}} old r (Err e) new → new ≡ old

@@ -1,5 +1,9 @@
+pub mod FlexAnswers
+pub mod FlexBegun
+pub mod FlexWorlds
 pub mod Answering
 pub mod AreaAnswers
+pub mod AreasKept
 pub mod Beginning
 pub mod ErrorNumbers
 pub mod GateLemmas

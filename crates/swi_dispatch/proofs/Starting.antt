@@ -17,11 +17,11 @@ use Rattle.swi_dispatch.proofs.Kept.{over, with_core}
 use Rattle.dynamic_areas.specs.Start.{start_store}
 
 pub starts : (m : AddressMap) (s : Sizes) → store_of m ≡ start_store s → AreAreas (store_of m) (free_pages m) (start_land s)
-    → over m start_state (record { land = start_land s; modules = []; frames = []; plan = None }) None ≡ start_of s
+    → over m start_state (record { land = start_land s; modules = []; frames = []; plan = None; flex = record { extent = None } }) None ≡ start_of s
 unfolding start_of
 starts m s e areas =
     let pool : free_pages m ≡ pool_of (start_land s) = pool_is _ _ _ areas in
-    λ i. with_core start_state (pool i) (record { land = start_land s; modules = []; frames = []; plan = None }) None (e i)
+    λ i. with_core start_state (pool i) (record { land = start_land s; modules = []; frames = []; plan = None; flex = record { extent = None } }) None (e i)
 
 -- a machine that stands as it was made isn't halted
 pub fresh_awake : (s : MachineState) (sizes : Sizes) (b : Bool) (o : Option Halt) → (b ≡ true → s ≡ start_of sizes) → s.halt ≡ o → IsSome o → b ≡ false

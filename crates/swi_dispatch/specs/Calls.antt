@@ -15,6 +15,7 @@ use Rattle.swi_dispatch.specs.declared.refusal.Refusal.TheVariants as refusal
 use Rattle.swi_dispatch.specs.declared.strings.TextEnd.TheVariants as end
 use Rattle.swi_dispatch.specs.Answers.{Answer, done, refused, went_on, system_error, or_error, with_answer}
 use Rattle.swi_dispatch.specs.AreaCalls.{area_called, area_changed, area_read}
+use Rattle.swi_dispatch.specs.FlexCalls.{flex_called}
 use Rattle.swi_dispatch.specs.ModuleCalls.{module_reason_called}
 use Rattle.swi_dispatch.specs.MachineState.{MachineState}
 use Rattle.swi_dispatch.specs.Strings.{ends, text_at, next_word}
@@ -77,7 +78,7 @@ heap_called s =
     if reason == 6 then heap_sized s else
     system_error HeapBadReason))))))
 
--- A call by its name and its number without the X bit; `next` is where the guest goes on. Calls that are not here are unknown.
+-- A call by its name and its number without the X bit; `next` is where the guest goes on. What is none of the others is a flex call, or unknown.
 unfoldable pub call_answer : MachineState → ℕ → ℕ → Option SwiName → Answer
 call_answer s next number (Some swi.WriteC) = done s (register_of s.cpu 0 % 256 ∷ []) next
 call_answer s next number (Some swi.WriteS) = wrote_text_after s next (printable_at s.store.bytes next)
@@ -91,4 +92,4 @@ call_answer s next number (Some swi.ReadDynamicArea) = went_on s next (area_read
 call_answer s next number (Some swi.DynamicArea) = went_on s next (area_called s)
 call_answer s next number (Some swi.GenerateError) = refused s next (generated s (register_of s.cpu 0))
 call_answer s next number (Some swi.WriteI) = done s (number % 256 ∷ []) next
-call_answer s next number _ = refused s next (refusal.System SwiUnknown)
+call_answer s next number name = went_on s next (flex_called s name)

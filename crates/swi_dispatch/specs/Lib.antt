@@ -6,6 +6,7 @@ pub mod Breaks
 pub mod Calls
 pub mod Ending
 pub mod Errors
+pub mod FlexCalls
 pub mod Gates
 pub mod ImagePlans
 pub mod InstanceCalls

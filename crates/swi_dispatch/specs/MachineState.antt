@@ -10,19 +10,21 @@ use Rattle.os_heap.specs.Store.{Store}
 use Rattle.dynamic_areas.specs.Areas.{Land, start_land}
 use Rattle.dynamic_areas.specs.Ground.{Estate, pool_of}
 use Rattle.dynamic_areas.specs.Start.{start_store}
+use Rattle.flex_store.specs.declared.flex.Flex.{Flex}
 use Rattle.instances_plans.specs.Plans.{Plan}
 use Rattle.instances_table.specs.Modules.{Module}
 use Rattle.swi_dispatch_frames.specs.declared.frame.Frame.{Frame}
 use Rattle.swi_dispatch.specs.declared.halt.Halt.{Halt}
 use Rattle.swi_dispatch.specs.declared.halt.Halt.TheVariants as halt
 
--- what stands beside the core and the memory: the areas, the modules, the frames of module code that is under way, and what is left to do of a call on
--- modules whose code is under way
+-- what stands beside the core and the memory: the areas, the modules, the frames of module code that is under way, what is left to do of a call on
+-- modules whose code is under way, and where the flex store is, if there is one
 pub record Tables : Type 0 where
   pub land : Land
   pub modules : List Module
   pub frames : List Frame
   pub plan : Option Plan
+  pub flex : Flex
 
 pub record MachineState : Type 0 where
   pub cpu : State
@@ -60,6 +62,6 @@ start_of s = record {
   cpu = start_state;
   store = start_store s;
   pool = pool_of (start_land s);
-  tables = record { land = start_land s; modules = []; frames = []; plan = None };
+  tables = record { land = start_land s; modules = []; frames = []; plan = None; flex = record { extent = None } };
   halt = None;
 }

@@ -5,6 +5,7 @@ use Rattle.address_map.specs.declared.map.AddressMap.{AddressMap}
 use Rattle.address_map.specs.Memory.{free_pages}
 use Rattle.os_heap.specs.Store.{AreClasses, store_of}
 use Rattle.dynamic_areas.specs.Ground.{AreAreas, IsRecorded, system_pages}
+use Rattle.flex_ground.specs.Ground.{HasFlex}
 use Rattle.arm_step.specs.declared.turn.Turn.{Turn}
 use Rattle.arm_step.specs.State.{State}
 use Rattle.instances_plans.specs.Plans.{Plan}
@@ -46,7 +47,7 @@ parts_world p = world_of p.map p.tables.land p.tables.modules
 
 -- What holds of every machine, whatever its guest does: the areas stand on its memory, so that memory spells the lists of all heaps; the words that
 -- these lists spell are those that are marked; the system pages are recorded; the recorded images are the modules', and the plan that is kept while module
--- code runs finds all that it asks for; at most one initialisation or finalisation is under way, and none where no plan is kept; and a machine that can still
+-- code runs finds all that it asks for; at most one initialisation or finalisation is under way, and none where no plan is kept; memory spells the flex store, if there is one; and a machine that can still
 -- be booted stands as at the start.
 pub record IsWellFormed (p : Parts) : Type 0 where
   pub areas : AreAreas (store_of p.map) (free_pages p.map) p.tables.land
@@ -54,6 +55,7 @@ pub record IsWellFormed (p : Parts) : Type 0 where
   pub system : IsRecorded system_pages (store_of p.map).others
   pub modules : MayGoOn (parts_world p) p.tables.plan
   pub frames : AreFrames p.tables
+  pub flex : HasFlex p.map p.tables.flex
   pub fresh : p.is_fresh ≡ true → state_of p ≡ start_of p.sizes
 
 -- a step is under way, and has printed nothing yet

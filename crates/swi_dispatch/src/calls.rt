@@ -149,7 +149,10 @@ impl Machine {
                 self.print((number % 256) as u8);
                 Ok(next)
             }
-            _ => Err(Refusal::System(ErrorNumber::SwiUnknown)),
+            _ => {
+                self.call_flex(name)?;
+                Ok(next)
+            }
         }
     }
 

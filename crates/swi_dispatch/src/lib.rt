@@ -7,6 +7,7 @@ pub mod boot_error;
 pub mod breaks;
 pub mod calls;
 pub mod errors;
+pub mod flex_calls;
 pub mod gate;
 pub mod halt;
 pub mod heap_calls;

@@ -4,6 +4,7 @@ ghost use Rattle.profile.specs.Outcome.{Leaves};
 ghost use Rattle.address_map.specs.Memory.{free_pages};
 ghost use Rattle.os_heap.specs.Store.{store_of, IsSound};
 ghost use Rattle.dynamic_areas.specs.Rooms.{IsAreaTable};
+ghost use Rattle.flex_store.specs.State.{IsFlex};
 ghost use Rattle.swi_dispatch.specs.Step.{without_x};
 
 use crate::boot_error::BootError;
@@ -14,6 +15,7 @@ use address_map::AddressMap;
 use arm_step::{Cpu, Turn, step};
 use arrayvec::ArrayVec;
 use dynamic_areas::{Areas, start_memory};
+use flex_store::Flex;
 use image_loader::Images;
 use instances::Instances;
 use instances_plans::Plan;
@@ -41,6 +43,7 @@ pub struct Machine {
     pub(crate) instances: Instances,
     pub(crate) frames: Frames,
     pub(crate) plan: Option<Plan>,
+    pub(crate) flex: Flex,
     /// What a call is tried on whose caller takes no error.
     pub(crate) spare: Spare,
     pub(crate) halt: Option<Halt>,
@@ -54,9 +57,9 @@ impl Model for Machine {
 
     ghost Value = { Parts };
 
-    ghost view = { λ m. record { cpu = m.cpu; map = m.memory; tables = record { land = m.areas; modules = m.instances; frames = m.frames; plan = m.plan }; halt = m.halt; sizes = m.config; is_fresh = m.is_fresh; printed = m.printed.items } };
+    ghost view = { λ m. record { cpu = m.cpu; map = m.memory; tables = record { land = m.areas; modules = m.instances; frames = m.frames; plan = m.plan; flex = m.flex }; halt = m.halt; sizes = m.config; is_fresh = m.is_fresh; printed = m.printed.items } };
 
-    ghost invariant = { λ m. IsWellFormed (record { cpu = m.cpu; map = m.memory; tables = record { land = m.areas; modules = m.instances; frames = m.frames; plan = m.plan }; halt = m.halt; sizes = m.config; is_fresh = m.is_fresh; printed = m.printed.items }) };
+    ghost invariant = { λ m. IsWellFormed (record { cpu = m.cpu; map = m.memory; tables = record { land = m.areas; modules = m.instances; frames = m.frames; plan = m.plan; flex = m.flex }; halt = m.halt; sizes = m.config; is_fresh = m.is_fresh; printed = m.printed.items }) };
 }
 
 impl Machine {
@@ -85,6 +88,7 @@ impl Machine {
             instances: Instances::new(),
             frames: Frames::new(),
             plan: None,
+            flex: Flex::new(),
             spare: Spare::new(alloc, config)?,
             halt: None,
             config,
@@ -236,6 +240,7 @@ impl Machine {
     #[tactic(auto, unfolding(crate::specs::Parts::state_of, os_heap::specs::Store::store_of))]
     pub fn memory(&self) -> &AddressMap
         ensures store { store_of result.now ≡ (state_of self.now).store }
+        ensures flex { IsFlex result.now (state_of self.now).tables.flex }
         ensures pool { free_pages result.now ≡ (state_of self.now).pool }
         ensures bytes { bytes_of result.now ≡ (state_of self.now).store.bytes }
         ensures sound { IsSound (store_of result.now) }
@@ -265,6 +270,15 @@ impl Machine {
         ensures { result.now ≡ (state_of self.now).tables.modules }
     {
         &self.instances
+    }
+
+    /// Where the flex store is, if there is one; its blocks stand in the memory.
+    #[tactic(auto, unfolding(crate::specs::Parts::state_of))]
+    pub fn flex(&self) -> &Flex
+        ensures value { result.now ≡ (state_of self.now).tables.flex }
+        ensures well_formed { IsWellFormed self.now }
+    {
+        &self.flex
     }
 
     /// How many frames of module code are open.

@@ -1,6 +1,7 @@
 use Rattle.std.proofs.Common.{◌≤◌, ◌*◌, ◌∙◌, length, ap, refl, arith}
-use Rattle.os_heap.specs.Store.{store_of}
+use Rattle.os_heap.specs.Store.{Store, store_of}
 use Rattle.dynamic_areas.proofs.Remapped.{here}
+use Rattle.flex_ground.proofs.Kept.{flex_unmade}
 use Rattle.swi_dispatch.specs.MachineState.{MachineState, start_of}
 use Rattle.swi_dispatch.specs.Parts.{state_of}
 use Rattle.swi_dispatch.proofs.Kept.{well_kept, program_kept, boots}
@@ -14,7 +15,9 @@ invariant_of-self c =
     let heaps = ap (λ (s : MachineState). s.store.heaps) (well.fresh fresh) in
     let fits : length c.args.program.now ≤ 4096 * c.self.inside.config.app = omega (arith, c.if-program-app.false, c.app.ensures.value) in
     let kept = program_kept _ _ _ _ c.put_bytes.ensures.layout c.put_bytes.ensures.marks well.areas.ground.sound c.app.ensures.sizes heaps fits c.put_bytes.ensures.bytes in
-    well_kept _ _ well kept c.put_bytes.ensures.layout c.put_bytes.ensures.marks refl refl
+    let none = ap (λ (s : MachineState). s.tables.flex.extent) (well.fresh fresh) in
+    let flex = flex_unmade _ _ _ well.flex none c.put_bytes.ensures.marks (ap (λ (s : Store). s.others) kept.store) in
+    well_kept _ _ well kept c.put_bytes.ensures.layout c.put_bytes.ensures.marks refl flex refl
 
 pub returns-clause-state : goal.returns-clause-state
 unfolding state_of start_of
@@ -34,7 +37,9 @@ returns-clause-well_formed c =
     let heaps = ap (λ (s : MachineState). s.store.heaps) (well.fresh fresh) in
     let fits : length c.args.program.now ≤ 4096 * c.self.inside.config.app = omega (arith, c.if-program-app.false, c.app.ensures.value) in
     let kept = program_kept _ _ _ _ c.put_bytes.ensures.layout c.put_bytes.ensures.marks well.areas.ground.sound c.app.ensures.sizes heaps fits c.put_bytes.ensures.bytes in
-    well_kept _ _ well kept c.put_bytes.ensures.layout c.put_bytes.ensures.marks refl refl
+    let none = ap (λ (s : MachineState). s.tables.flex.extent) (well.fresh fresh) in
+    let flex = flex_unmade _ _ _ well.flex none c.put_bytes.ensures.marks (ap (λ (s : Store). s.others) kept.store) in
+    well_kept _ _ well kept c.put_bytes.ensures.layout c.put_bytes.ensures.marks refl flex refl
 
 pub put_bytes-requires : goal.put_bytes-requires
 unfolding state_of start_of store_of

@@ -10,4 +10,4 @@ pub invariant_of-self : goal.invariant_of-self
 invariant_of-self c =
     let well = c.self.invariant in
     let opened = swi_opened _ _ _ well.frames refl c.open.ensures (ap (λ (f : Frame). is_swi f.kind) c.of.ensures) in
-    well_framed _ _ well refl refl refl refl opened (ap (λ (p : Parts). p.is_fresh) c.self.view_is ∙ c.requires.stepped)
+    well_framed _ _ well refl refl refl refl opened refl (ap (λ (p : Parts). p.is_fresh) c.self.view_is ∙ c.requires.stepped)

@@ -9,11 +9,11 @@ invariant_of-self c =
     let well = c.self.invariant in
     let freed = c.free.ensures in
     well_called _ _ well (freed.estate c.self.inside.areas well.areas) freed.classes (layout-others _ _ freed.layout)
-    refl refl refl (ap (λ (p : Parts). p.is_fresh) c.self.view_is ∙ c.requires.stepped)
+    refl refl refl freed.flex refl (ap (λ (p : Parts). p.is_fresh) c.self.view_is ∙ c.requires.stepped)
 
 pub invariant_of-self-2 : goal.invariant_of-self-2
 invariant_of-self-2 c =
     let well = c.self.invariant in
     let freed = c.free.ensures in
     well_called _ _ well (freed.estate c.self.inside.areas well.areas) freed.classes (layout-others _ _ freed.layout)
-    refl refl refl (ap (λ (p : Parts). p.is_fresh) c.self.view_is ∙ c.requires.stepped)
+    refl refl refl freed.flex refl (ap (λ (p : Parts). p.is_fresh) c.self.view_is ∙ c.requires.stepped)

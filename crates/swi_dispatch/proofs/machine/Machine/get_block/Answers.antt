@@ -1,6 +1,7 @@
 use Rattle.std.proofs.Common.{refl, ap, ◌∙◌}
 use Rattle.os_heap.proofs.Frame.{layout-others}
 use Rattle.dynamic_areas.proofs.HeapCalls.{areas_written}
+use Rattle.flex_kept.proofs.Heaps.{got_keeps}
 use Rattle.swi_dispatch.specs.Parts.{Parts}
 use Rattle.swi_dispatch.proofs.Kept.{well_called}
 use Rattle.swi_dispatch.proofs.machine.Machine.get_block.Goals as goal
@@ -10,11 +11,11 @@ invariant_of-self c =
     let well = c.self.invariant in
     let got = c.get.ensures in
     well_called _ _ well (areas_written _ _ _ well.areas got.sound got.layout) got.classes (layout-others _ _ got.layout)
-    refl refl refl (ap (λ (p : Parts). p.is_fresh) c.self.view_is ∙ c.requires.stepped)
+    refl refl refl (got_keeps _ _ _ _ _ well.areas.ground.sound got.sound got.store) refl (ap (λ (p : Parts). p.is_fresh) c.self.view_is ∙ c.requires.stepped)
 
 pub invariant_of-self-2 : goal.invariant_of-self-2
 invariant_of-self-2 c =
     let well = c.self.invariant in
     let got = c.get.ensures in
     well_called _ _ well (areas_written _ _ _ well.areas got.sound got.layout) got.classes (layout-others _ _ got.layout)
-    refl refl refl (ap (λ (p : Parts). p.is_fresh) c.self.view_is ∙ c.requires.stepped)
+    refl refl refl (got_keeps _ _ _ _ _ well.areas.ground.sound got.sound got.store) refl (ap (λ (p : Parts). p.is_fresh) c.self.view_is ∙ c.requires.stepped)

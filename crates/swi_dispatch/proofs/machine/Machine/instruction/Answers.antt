@@ -1,14 +1,14 @@
 use Rattle.std.proofs.Common.{refl, ap, ◌∙◌}
 use Rattle.swi_dispatch.specs.Parts.{Parts, state_of}
-use Rattle.swi_dispatch.proofs.Kept.{well_kept}
+use Rattle.swi_dispatch.proofs.Kept.{flex_after, well_kept}
 use Rattle.swi_dispatch.proofs.Turning.{takes_turn}
 use Rattle.swi_dispatch.proofs.machine.Machine.instruction.Goals as goal
 
 pub invariant_of-self : goal.invariant_of-self
 invariant_of-self c =
     let well = c.self.invariant in
-    let turn = takes_turn _ _ _ _ (record { land = c.self.inside.areas; modules = c.self.inside.instances; frames = c.self.inside.frames; plan = c.self.inside.plan }) c.self.inside.halt _ c.step.ensures.layout c.step.ensures.marks well.areas.ground.sound well.classes c.step.ensures.turn in
-    well_kept _ _ well turn.0 c.step.ensures.layout c.step.ensures.marks refl (ap (λ (p : Parts). p.is_fresh) c.self.view_is ∙ c.requires)
+    let turn = takes_turn _ _ _ _ (record { land = c.self.inside.areas; modules = c.self.inside.instances; frames = c.self.inside.frames; plan = c.self.inside.plan; flex = c.self.inside.flex }) c.self.inside.halt _ c.step.ensures.layout c.step.ensures.marks well.areas.ground.sound well.classes c.step.ensures.turn in
+    well_kept _ _ well turn.0.kept c.step.ensures.layout c.step.ensures.marks refl (flex_after _ _ _ well.flex c.step.ensures.layout c.step.ensures.marks turn.0) (ap (λ (p : Parts). p.is_fresh) c.self.view_is ∙ c.requires)
 
 pub returns-clause-turn : goal.returns-clause-turn
 unfolding state_of
@@ -19,5 +19,5 @@ returns-clause-turn c =
 pub returns-clause-well_formed : goal.returns-clause-well_formed
 returns-clause-well_formed c =
     let well = c.self.invariant in
-    let turn = takes_turn _ _ _ _ (record { land = c.self.inside.areas; modules = c.self.inside.instances; frames = c.self.inside.frames; plan = c.self.inside.plan }) c.self.inside.halt _ c.step.ensures.layout c.step.ensures.marks well.areas.ground.sound well.classes c.step.ensures.turn in
-    well_kept _ _ well turn.0 c.step.ensures.layout c.step.ensures.marks refl (ap (λ (p : Parts). p.is_fresh) c.self.view_is ∙ c.requires)
+    let turn = takes_turn _ _ _ _ (record { land = c.self.inside.areas; modules = c.self.inside.instances; frames = c.self.inside.frames; plan = c.self.inside.plan; flex = c.self.inside.flex }) c.self.inside.halt _ c.step.ensures.layout c.step.ensures.marks well.areas.ground.sound well.classes c.step.ensures.turn in
+    well_kept _ _ well turn.0.kept c.step.ensures.layout c.step.ensures.marks refl (flex_after _ _ _ well.flex c.step.ensures.layout c.step.ensures.marks turn.0) (ap (λ (p : Parts). p.is_fresh) c.self.view_is ∙ c.requires)

@@ -1,4 +1,5 @@
 use Rattle.std.proofs.Common.{ap}
+use Rattle.flex_ground.proofs.Kept.{flex_started}
 use Rattle.swi_dispatch.specs.OpenFrames.{entries}
 use Rattle.swi_dispatch.specs.Parts.{state_of}
 use Rattle.swi_dispatch.proofs.OpenFrames.{frames_idle}
@@ -15,14 +16,15 @@ invariant_of-result c =
       system = system_recorded _ c.args.config memory.store;
       modules = rw (c.new-3.ensures.land, c.new-4.ensures) (start_modules _ c.args.config memory.store memory.areas);
       frames = frames_idle _ (ap entries c.new-5.ensures);
-      fresh = λ _. rw (c.new.ensures, c.new-3.ensures.land, c.new-4.ensures, c.new-5.ensures) (starts _ _ memory.store memory.areas);
+      flex = flex_started _ c.args.config _ memory.store c.new-6.ensures;
+      fresh = λ _. rw (c.new.ensures, c.new-3.ensures.land, c.new-4.ensures, c.new-5.ensures, c.new-6.ensures) (starts _ _ memory.store memory.areas);
     }
 
 pub returns-clause-start : goal.returns-clause-start
 unfolding state_of
 returns-clause-start c =
     let memory = c.in_ok-memory.ensures in
-    rw (c.new.ensures, c.new-3.ensures.land, c.new-4.ensures, c.new-5.ensures) (starts _ _ memory.store memory.areas)
+    rw (c.new.ensures, c.new-3.ensures.land, c.new-4.ensures, c.new-5.ensures, c.new-6.ensures) (starts _ _ memory.store memory.areas)
 
 pub returns-clause-well_formed : goal.returns-clause-well_formed
 unfolding state_of
@@ -34,5 +36,6 @@ returns-clause-well_formed c =
       system = system_recorded _ c.args.config memory.store;
       modules = rw (c.new-3.ensures.land, c.new-4.ensures) (start_modules _ c.args.config memory.store memory.areas);
       frames = frames_idle _ (ap entries c.new-5.ensures);
-      fresh = λ _. rw (c.new.ensures, c.new-3.ensures.land, c.new-4.ensures, c.new-5.ensures) (starts _ _ memory.store memory.areas);
+      flex = flex_started _ c.args.config _ memory.store c.new-6.ensures;
+      fresh = λ _. rw (c.new.ensures, c.new-3.ensures.land, c.new-4.ensures, c.new-5.ensures, c.new-6.ensures) (starts _ _ memory.store memory.areas);
     }

@@ -14,4 +14,4 @@ invariant_of-self c =
     let idle = ap (λ (p : Parts). entries p.tables.frames) c.self.view_is ∙ c.requires.idle in
     let kept = subst (λ (p : Parts). IsSome p.tables.plan) (sym c.self.view_is) c.requires.kept in
     let opened = entry_opens _ _ _ idle c.open.ensures (ap (λ (f : Frame). is_swi f.kind) c.of.ensures) kept in
-    well_framed _ _ well refl refl refl refl opened (ap (λ (p : Parts). p.is_fresh) c.self.view_is ∙ c.requires.stepped)
+    well_framed _ _ well refl refl refl refl opened refl (ap (λ (p : Parts). p.is_fresh) c.self.view_is ∙ c.requires.stepped)

@@ -1,25 +1,32 @@
 use Rattle.std.proofs.Common.{refl, ap, ◌∙◌}
+use Rattle.flex_kept.proofs.Keeping.{keeps_then}
 use Rattle.swi_dispatch.specs.MachineState.{MachineState}
 use Rattle.swi_dispatch.specs.OpenFrames.{entries}
 use Rattle.swi_dispatch.specs.Parts.{Parts, state_of}
 use Rattle.swi_dispatch.proofs.Kept.{over}
-use Rattle.swi_dispatch.proofs.GateLemmas.{carried_well, first_carried, next_carried, starts_by, state_carried}
+use Rattle.swi_dispatch.proofs.GateLemmas.{carried_well, first_carried, next_carried, refused_well, refused_world, starts_by, state_carried}
 use Rattle.swi_dispatch.proofs.OpenFrames.{frames_idle}
 use Rattle.swi_dispatch.proofs.machine.Machine.place_image.Goals as goal
+
+pub invariant_of-self : goal.invariant_of-self
+invariant_of-self c =
+    let given = c.in_err-plan.ensures in
+    refused_well _ _ c.self.invariant (refused_world _ _ _ _ given.world) refl refl given.classes given.flex refl
+    (ap (λ (p : Parts). p.is_fresh) c.self.view_is ∙ c.requires.stepped)
 
 pub invariant_of-self-2 : goal.invariant_of-self-2
 unfolding state_of
 invariant_of-self-2 c =
     let carries = c.carry-code.ensures in
-    carried_well _ _ _ _ _ _ c.next_of-kept.ensures refl carries.carried carries.ended carries.going carries.classes
+    carried_well _ _ _ _ _ _ _ c.next_of-kept.ensures refl carries.carried carries.ended carries.going carries.classes
     (frames_idle _ (ap (λ (p : Parts). entries p.tables.frames) c.self.view_is ∙ c.requires.free.idle))
-    (ap (λ (p : Parts). p.is_fresh) c.self.view_is ∙ c.requires.stepped)
+    c.self.invariant (keeps_then _ _ _ c.in_ok-plan.ensures.flex carries.flex) refl (ap (λ (p : Parts). p.is_fresh) c.self.view_is ∙ c.requires.stepped)
 
 pub returns-clause-state : goal.returns-clause-state
 unfolding state_of
 returns-clause-state c =
     let before : MachineState = over c.self.inside.memory c.self.inside.cpu
-    (record { land = c.self.inside.areas; modules = c.self.inside.instances; frames = c.self.inside.frames; plan = c.self.inside.plan })
+    (record { land = c.self.inside.areas; modules = c.self.inside.instances; frames = c.self.inside.frames; plan = c.self.inside.plan; flex = c.self.inside.flex })
     c.self.inside.halt in
     let given = c.in_ok-plan.ensures in
     let carries = first_carried _ _ _ given.rests c.carry-code.ensures.carried in

@@ -13,12 +13,12 @@ invariant_of-self c =
     let well = c.self.invariant in
     let put = c.put_text.ensures in
     well_called _ _ well (put.areas c.self.inside.areas well.areas) (put.classes well.classes) (layout-others _ _ put.layout)
-    refl refl refl (ap (λ (p : Parts). p.is_fresh) c.self.view_is ∙ c.requires.stepped)
+    refl refl refl put.flex refl (ap (λ (p : Parts). p.is_fresh) c.self.view_is ∙ c.requires.stepped)
 
 pub returns-clause-state : goal.returns-clause-state
 unfolding state_of store_of
 returns-clause-state c =
-    let tables : Tables = record { land = c.self.inside.areas; modules = c.self.inside.instances; frames = c.self.inside.frames; plan = c.self.inside.plan } in
+    let tables : Tables = record { land = c.self.inside.areas; modules = c.self.inside.instances; frames = c.self.inside.frames; plan = c.self.inside.plan; flex = c.self.inside.flex } in
     rw (← c.self.view_is) (ap (λ (e : Estate). with_estate (over c.self.inside.memory c.self.inside.cpu tables c.self.inside.halt) e) (c.put_text.ensures.estate c.self.inside.areas))
 
 pub put_text-requires-clause-system : goal.put_text-requires-clause-system

@@ -12,8 +12,8 @@ invariant_of-self-2 c =
     let carries = c.carry-code.ensures in
     let last = ap (λ (p : Parts). innermost p.tables.frames) c.self.view_is ∙ c.requires.last in
     let idle = ap entries c.close.ensures.value ∙ entry_closes c.self.inside.frames c.args.frame c.self.invariant.frames.one last c.requires.entry in
-    carried_well _ _ _ _ _ _ c.next_of-kept.ensures refl carries.carried carries.ended carries.going carries.classes (frames_idle _ idle)
-    (ap (λ (p : Parts). p.is_fresh) c.self.view_is ∙ c.requires.stepped)
+    carried_well _ _ _ _ _ _ _ c.next_of-kept.ensures refl carries.carried carries.ended carries.going carries.classes (frames_idle _ idle)
+    c.self.invariant carries.flex refl (ap (λ (p : Parts). p.is_fresh) c.self.view_is ∙ c.requires.stepped)
 
 pub returns-clause-goes : goal.returns-clause-goes
 unfolding state_of

@@ -1,0 +1,19 @@
+use Rattle.std.proofs.Common.{refl, ap, ◌∙◌}
+use Rattle.swi_dispatch.proofs.AreasKept.{removed_kept}
+use Rattle.swi_dispatch.specs.Parts.{Parts}
+use Rattle.swi_dispatch.proofs.Kept.{well_called}
+use Rattle.swi_dispatch.proofs.machine.Machine.remove_area.Goals as goal
+
+pub invariant_of-self : goal.invariant_of-self
+invariant_of-self c =
+    let well = c.self.invariant in
+    let did = c.remove.ensures in
+    let kept = removed_kept _ _ _ _ _ _ well.areas did.areas did.land did.store in
+    well_called _ _ well did.areas did.classes kept.others refl refl refl kept.flex refl (ap (λ (p : Parts). p.is_fresh) c.self.view_is ∙ c.requires.stepped)
+
+pub invariant_of-self-2 : goal.invariant_of-self-2
+invariant_of-self-2 c =
+    let well = c.self.invariant in
+    let did = c.remove.ensures in
+    let kept = removed_kept _ _ _ _ _ _ well.areas did.areas did.land did.store in
+    well_called _ _ well did.areas did.classes kept.others refl refl refl kept.flex refl (ap (λ (p : Parts). p.is_fresh) c.self.view_is ∙ c.requires.stepped)
