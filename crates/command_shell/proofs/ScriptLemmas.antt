@@ -4,7 +4,7 @@ use Rattle.std.proofs.lemmas.List.{append-nil}
 use Rattle.std.specs.Prelude.{if◌then◌else◌}
 use Rattle.profile.proofs.OutputLemmas.{Completes-start, Completes-more, Completes-same, Appends-from_completes, AppendsFront-from_completes, AppendsFront-start}
 use Rattle.command_shell.specs.Blocks.{block_lines, after_block, block_size, lines_after, lines_taken}
-use Rattle.command_shell.specs.Requests.{Request, Nothing, Hex, Asm, Boot, Run, Regs, Set, Poke, Call, Load, Step, Break, Unbreak, Mem, Code, Heap, Areas, Modules, Unknown, opens_block, request_of, is_end}
+use Rattle.command_shell.specs.Requests.{Request, Nothing, Hex, Asm, Boot, Run, Regs, Set, Poke, Call, Load, Step, Break, Unbreak, Mem, Code, Heap, Areas, Modules, Flex, Unknown, opens_block, request_of, is_end}
 use Rattle.image_loader.specs.Entries.{Entry}
 use Rattle.command_shell.specs.declared.session.Session.{Session}
 use Rattle.command_shell.specs.Session.{script_state}
@@ -72,6 +72,7 @@ at_once number w (Code address count) block e = refl
 at_once number w (Heap address) block e = refl
 at_once number w Areas block e = refl
 at_once number w Modules block e = refl
+at_once number w Flex block e = refl
 at_once number w Unknown block e = refl
 
 told_by_opened : (number : ℕ) (w : ScriptState) (rest : List (List ℕ)) (r : Request) (b : Bool) → opens_block r ≡ b

@@ -1,35 +1,52 @@
--- What HEAP answers, by whether a heap starts at the address.
-use Rattle.std.proofs.Common.{◌≡◌, ℕ, true, false, List, [], Option, Some, None}
+-- What HEAP and FLEX answer, by whether there is a heap at the address, or a flex store.
+use Rattle.std.proofs.Common.{◌≡◌, ℕ, true, false, List, [], Option, Some, None, refl}
 use Rattle.std.specs.Prelude.{codes, is_some, unwrap_or}
+use Rattle.debugger.specs.Flex.{flex_text}
 use Rattle.debugger.specs.Heap.{blocks_text}
 use Rattle.command_shell.specs.Answers.{refused_text}
 use Rattle.command_shell.specs.State.{ScriptState, answer}
-use Rattle.command_shell.specs.Views.{heap_shown, heap_told}
+use Rattle.command_shell.specs.Views.{flex_told, heap_told, shown_or}
 
-there : (s : ScriptState) (o : Option (List ℕ)) → is_some o ≡ true → heap_shown s o ≡ answer s (unwrap_or o [])
-there s None e = absurd (cc)
-there s (Some text) e = cc
+there : (s : ScriptState) (refusal : List ℕ) (o : Option (List ℕ)) → is_some o ≡ true → shown_or s refusal o ≡ answer s (unwrap_or o [])
+there s refusal None e = absurd (cc)
+there s refusal (Some text) e = cc
 
-missing : (s : ScriptState) (o : Option (List ℕ)) → is_some o ≡ false → heap_shown s o ≡ answer s (refused_text (codes "NoHeap"))
-missing s None e = cc
-missing s (Some text) e = absurd (cc)
+missing : (s : ScriptState) (refusal : List ℕ) (o : Option (List ℕ)) → is_some o ≡ false → shown_or s refusal o ≡ answer s (refused_text refusal)
+missing s refusal None e = cc
+missing s refusal (Some text) e = absurd (cc)
 
-nothing : (o : Option (List ℕ)) → is_some o ≡ false → unwrap_or o [] ≡ []
+pub nothing : (o : Option (List ℕ)) → is_some o ≡ false → unwrap_or o [] ≡ []
 nothing None e = cc
 nothing (Some text) e = absurd (cc)
 
 pub heap_there : (s : ScriptState) (address : ℕ) → is_some (blocks_text s.machine.store address) ≡ true
     → heap_told s address ≡ answer s (unwrap_or (blocks_text s.machine.store address) [])
 unfolding heap_told
-heap_there s address e = there s (blocks_text s.machine.store address) e
+heap_there s address e = there s (codes "NoHeap") (blocks_text s.machine.store address) e
 
 pub heap_missing : (s : ScriptState) (address : ℕ) → is_some (blocks_text s.machine.store address) ≡ false
     → heap_told s address ≡ answer s (refused_text (codes "NoHeap"))
 unfolding heap_told
-heap_missing s address e = missing s (blocks_text s.machine.store address) e
+heap_missing s address e = missing s (codes "NoHeap") (blocks_text s.machine.store address) e
 
 pub nothing_shown : (s : ScriptState) (address : ℕ) → is_some (blocks_text s.machine.store address) ≡ false
     → unwrap_or (blocks_text s.machine.store address) [] ≡ []
 nothing_shown s address e = nothing (blocks_text s.machine.store address) e
 
+pub flex_there : (s : ScriptState) → is_some (flex_text s.machine.store.bytes s.machine.tables.flex) ≡ true
+    → flex_told s ≡ answer s (unwrap_or (flex_text s.machine.store.bytes s.machine.tables.flex) [])
+unfolding flex_told
+flex_there s e = there s (codes "NoFlex") (flex_text s.machine.store.bytes s.machine.tables.flex) e
+
+pub flex_missing : (s : ScriptState) → is_some (flex_text s.machine.store.bytes s.machine.tables.flex) ≡ false
+    → flex_told s ≡ answer s (refused_text (codes "NoFlex"))
+unfolding flex_told
+flex_missing s e = missing s (codes "NoFlex") (flex_text s.machine.store.bytes s.machine.tables.flex) e
+
+-- the same text, from what stands for the same memory and the same store
+pub same_text : {B F : Type 0} (text : B → F → Option (List ℕ)) (b c : B) (f h : F) → b ≡ c → f ≡ h → text b f ≡ text c h
+same_text text b c f h same alike = rw (same, alike) refl
+
 pub ruleset heap_steps = (heap_there, heap_missing, nothing_shown)
+
+pub ruleset flex_steps = (flex_there, flex_missing, nothing)

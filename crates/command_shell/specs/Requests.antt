@@ -28,6 +28,7 @@ pub data Request : Type 0 where
   Heap : ℕ → Request
   Areas : Request
   Modules : Request
+  Flex : Request
   Unknown : Request
 
 -- whether the lines that follow are a block of the request's own
@@ -50,8 +51,9 @@ request_of_word word =
     if is_word word (codes "RUN") then Run else (
     if is_word word (codes "REGS") then Regs else (
     if is_word word (codes "AREAS") then Areas else (
-    if is_word word (codes "MODULES") then Modules else
-    Unknown))))
+    if is_word word (codes "MODULES") then Modules else (
+    if is_word word (codes "FLEX") then Flex else
+    Unknown)))))
 
 -- a line of a word and a name that an image can have
 abbrev pub named : Bool → Request → Request
@@ -133,4 +135,5 @@ request_of_command (command.Code address count) = Code address count
 request_of_command (command.Heap address) = Heap address
 request_of_command command.Areas = Areas
 request_of_command command.Modules = Modules
+request_of_command command.Flex = Flex
 request_of_command command.Unknown = Unknown

@@ -7,10 +7,10 @@ use Rattle.command_shell.specs.Answers.{unknown_text}
 use Rattle.command_shell.specs.Calls.{call_told, load_told}
 use Rattle.command_shell.specs.Images.{hex_told, asm_told, boot_told}
 use Rattle.command_shell.specs.Memory.{set_told, poke_told}
-use Rattle.command_shell.specs.Requests.{Request, Nothing, Hex, Asm, Boot, Run, Regs, Set, Poke, Call, Load, Step, Break, Unbreak, Mem, Code, Heap, Areas, Modules, Unknown, opens_block, request_of, is_end}
+use Rattle.command_shell.specs.Requests.{Request, Nothing, Hex, Asm, Boot, Run, Regs, Set, Poke, Call, Load, Step, Break, Unbreak, Mem, Code, Heap, Areas, Modules, Flex, Unknown, opens_block, request_of, is_end}
 use Rattle.command_shell.specs.State.{ScriptState, Answered, answer, then_answered, start_state}
 use Rattle.command_shell.specs.Stepping.{run_told, step_told, break_told, unbreak_told}
-use Rattle.command_shell.specs.Views.{regs_told, mem_told, code_told, heap_told, areas_told, modules_told}
+use Rattle.command_shell.specs.Views.{regs_told, mem_told, code_told, heap_told, areas_told, modules_told, flex_told}
 
 -- A request at the line of that number; of a HEX or an ASM line, with the lines of its block.
 abbrev pub request_told : ScriptState → ℕ → Request → List (List ℕ) → Answered
@@ -32,6 +32,7 @@ request_told s number (Code address count) block = code_told s address count
 request_told s number (Heap address) block = heap_told s address
 request_told s number Areas block = areas_told s
 request_told s number Modules block = modules_told s
+request_told s number Flex block = flex_told s
 request_told s number Unknown block = answer s (unknown_text number)
 
 -- a block whose end has not come yet: the request that opened it, the number of its line, and the block's lines so far

@@ -1,7 +1,8 @@
--- The lines that look at the machine and change nothing: REGS, MEM, CODE, HEAP, AREAS and MODULES.
+-- The lines that look at the machine and change nothing: REGS, MEM, CODE, HEAP, AREAS, MODULES and FLEX.
 use Rattle.std.specs.Prelude.{ℕ, List, codes, Option, Some, None}
 use Rattle.debugger.specs.Areas.{areas_text}
 use Rattle.debugger.specs.Code.{code_text}
+use Rattle.debugger.specs.Flex.{flex_text}
 use Rattle.debugger.specs.Heap.{blocks_text}
 use Rattle.debugger.specs.Memory.{memory_text}
 use Rattle.debugger.specs.Modules.{modules_text}
@@ -18,16 +19,21 @@ mem_told s address count = answer s (memory_text s.machine.store.bytes address c
 abbrev pub code_told : ScriptState → ℕ → ℕ → Answered
 code_told s address count = answer s (code_text s.machine.store.bytes address count)
 
--- `refused NoHeap` where no heap starts there
-abbrev pub heap_shown : ScriptState → Option (List ℕ) → Answered
-heap_shown s None = answer s (refused_text (codes "NoHeap"))
-heap_shown s (Some text) = answer s text
+-- a text, or `refused` and a word where there is none
+abbrev pub shown_or : ScriptState → List ℕ → Option (List ℕ) → Answered
+shown_or s refusal None = answer s (refused_text refusal)
+shown_or s refusal (Some text) = answer s text
 
+-- `refused NoHeap` where no heap starts there
 unfoldable pub heap_told : ScriptState → ℕ → Answered
-heap_told s address = heap_shown s (blocks_text s.machine.store address)
+heap_told s address = shown_or s (codes "NoHeap") (blocks_text s.machine.store address)
 
 abbrev pub areas_told : ScriptState → Answered
 areas_told s = answer s (areas_text s.machine.tables.land.areas s.machine.pool)
 
 abbrev pub modules_told : ScriptState → Answered
 modules_told s = answer s (modules_text s.machine.store.bytes s.machine.tables.modules)
+
+-- `refused NoFlex` where there is no flex store
+unfoldable pub flex_told : ScriptState → Answered
+flex_told s = shown_or s (codes "NoFlex") (flex_text s.machine.store.bytes s.machine.tables.flex)

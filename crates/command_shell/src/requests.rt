@@ -57,6 +57,8 @@ pub enum Command<'a> {
     Areas,
     /// `MODULES`.
     Modules,
+    /// `FLEX`.
+    Flex,
     /// Any other line.
     Unknown,
 }
@@ -114,6 +116,8 @@ fn command_of_word(word: &[u8]) -> Command<'static>
         Command::Areas
     } else if has_letters(word, b"MODULES") {
         Command::Modules
+    } else if has_letters(word, b"FLEX") {
+        Command::Flex
     } else {
         Command::Unknown
     }

@@ -101,6 +101,7 @@ impl Session {
             Command::Heap(address) => Ok(self.heap(sink, address)?),
             Command::Areas => Ok(self.areas(sink)?),
             Command::Modules => Ok(self.modules(sink)?),
+            Command::Flex => Ok(self.flex(sink)?),
             Command::Unknown => Ok(tell_unknown(sink, script.number())?),
         }
     }

@@ -1,18 +1,20 @@
-//! The lines that look at the machine and change nothing: REGS, MEM, CODE, HEAP, AREAS and MODULES.
+//! The lines that look at the machine and change nothing: REGS, MEM, CODE, HEAP, AREAS, MODULES and FLEX.
 
 ghost use Rattle.std.specs.Prelude.{◌≡◌, true, List, OnOk, OnErr};
 
 use crate::answers::tell_refused;
 use crate::operands::WordAddress;
 use crate::session::Session;
-use debugger::{show_areas, show_blocks, show_code, show_memory, show_modules, show_regs};
+use debugger::{
+    show_areas, show_blocks, show_code, show_flex, show_memory, show_modules, show_regs,
+};
 use profile::{Sink, WriteFault};
 
 impl Session {
     ghost use Rattle.image_loader.specs.Entries.{Entry};
     ghost use Rattle.command_shell.specs.Session.{script_state};
     ghost use Rattle.command_shell.specs.State.{IsAnswered};
-    ghost use Rattle.command_shell.specs.Views.{regs_told, mem_told, code_told, heap_told, areas_told, modules_told};
+    ghost use Rattle.command_shell.specs.Views.{regs_told, mem_told, code_told, heap_told, areas_told, modules_told, flex_told};
 
     /// Shows the registers of the present mode and the status.
     #[tactic(auto, unfolding(crate::specs::Session::script_state))]
@@ -97,5 +99,20 @@ impl Session {
         ensures same_flag { OnOk result (W.has_failed sink.new ≡ W.has_failed sink.old) }
     {
         show_modules(self.machine.instances(), self.machine.memory(), sink)
+    }
+
+    /// Shows the flex store and its blocks, if there is one.
+    #[tactic(auto, using(crate::proofs::ViewLemmas::flex_steps), unfolding(crate::specs::Session::script_state))]
+    pub(crate) fn flex<W: Sink>(&self, sink: &mut W) -> Result<(), WriteFault>
+        ensures told { (images : List Entry) → OnOk result (IsAnswered (W.contents sink.old) (W.contents sink.new)
+            (script_state self.now images)
+            (flex_told (script_state self.now images))) }
+        ensures flag { OnErr result (W.has_failed sink.new ≡ true) }
+        ensures same_flag { OnOk result (W.has_failed sink.new ≡ W.has_failed sink.old) }
+    {
+        if show_flex(self.machine.flex(), self.machine.memory(), sink)? {
+            return Ok(());
+        }
+        tell_refused(sink, b"NoFlex")
     }
 }

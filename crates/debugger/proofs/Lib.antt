@@ -1,4 +1,5 @@
 pub mod CodeLines
+pub mod FlexLemmas
 pub mod HeapLemmas
 pub mod MemoryLemmas
 pub mod ModuleLemmas

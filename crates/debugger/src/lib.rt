@@ -3,6 +3,7 @@
 
 mod areas;
 mod code;
+mod flex;
 mod heap;
 mod memory;
 mod modules;
@@ -10,6 +11,7 @@ mod registers;
 
 pub use areas::show_areas;
 pub use code::show_code;
+pub use flex::show_flex;
 pub use heap::show_blocks;
 pub use memory::show_memory;
 pub use modules::show_modules;
