@@ -1,10 +1,10 @@
 -- The flex store of a machine over calls that are none of its own, over what guests store, and at the start.
-use Rattle.std.proofs.Common.{◌≡◌, ℕ, ◌-◌, ◌&&◌, ◌||◌, ◌==◌, Bool, true, false, List, [], ◌∷◌, Option, Some, None, length, suc, inl, inr, is_some, refl, sym, ap, subst, ◌∙◌, arith}
+use Rattle.std.proofs.Common.{◌≡◌, ◌≤◌, ◌<◌, ℕ, ◌+◌, ◌-◌, ◌&&◌, ◌||◌, ◌==◌, Bool, true, false, List, [], ◌∷◌, Option, Some, None, length, suc, inl, inr, is_some, refl, sym, ap, subst, ◌∙◌, arith}
 use Rattle.std.proofs.lemmas.Bool.{and_parts, cases_Bool, eqb-true, false≢true, or_left, or_right}
 use Rattle.profile.specs.Sizes.{Sizes}
-use Rattle.address_map.specs.Bytes.{AreMapped, word_start}
+use Rattle.address_map.specs.Bytes.{AreMapped, Bytes, word_start}
 use Rattle.address_map.specs.Classes.{is_anchor, is_flex_header}
-use Rattle.address_map.specs.Memory.{Layout, class_of, is_mapped, layout}
+use Rattle.address_map.specs.Memory.{Layout, byte_at, bytes_of, class_of, is_mapped, layout}
 use Rattle.address_map.specs.declared.class.Class.{Class}
 use Rattle.address_map.specs.declared.map.AddressMap.{AddressMap}
 use Rattle.address_map.specs.declared.region.Kind.{Kind}
@@ -18,12 +18,16 @@ use Rattle.dynamic_areas.specs.Start.{start_store}
 use Rattle.flex_kept.specs.Keeping.{AreAnchorsFree, IsFlexKept, KeepsFlex, beside_images, is_flex_byte, is_in_record}
 use Rattle.flex_store.proofs.Staying.{flex_stays}
 use Rattle.flex_store.specs.Staying.{IsExtentThere, StaysFlex}
-use Rattle.flex_store.specs.State.{IsFlex, IsFlexAt, IsNoFlex, is_recorded, is_store_record}
+use Rattle.flex_store.specs.State.{IsFlex, IsFlexAt, IsNoFlex, IsRecordedStore, blocks_of, flex_in, is_recorded, is_store_record}
 use Rattle.flex_store.specs.declared.flex.Extent.{Extent}
 use Rattle.flex_store.specs.declared.flex.Flex.{Flex}
 use Rattle.instances_ground.specs.Sound.{count_beside}
 use Rattle.flex_ground.specs.Ground.{records_with}
-use Rattle.flex_ground.specs.Laws.{FlexKept, FlexStarted, FlexStored, FlexUnmade}
+use Rattle.flex_store.proofs.Keeping.{in_extent}
+use Rattle.flex_store.proofs.Listing.{store_text}
+use Rattle.flex_store.proofs.Texts.{text_kept, text_read}
+use Rattle.flex_store.specs.Blocks.{Block, used}
+use Rattle.flex_ground.specs.Laws.{BlocksKept, FlexKept, FlexStarted, FlexStored, FlexUnmade}
 
 -- The records beside module images: how many there are, and the store's is one of these.
 count_is : (rs : List Region) → count_beside rs ≡ length (beside_images rs)
@@ -103,6 +107,27 @@ flex_kept m n f free l has sound keeps areas =
       free = k.1;
       beside = count_is (store_of n).others ∙ (ap length k.0.beside ∙ (sym (count_is (store_of m).others) ∙ has.beside));
     }
+
+-- The store's bytes spell the same blocks then.
+blocks_same : (m n : AddressMap) (e : Extent) → IsRecordedStore m e → ((a : ℕ) → e.start ≤ a → a < e.end → byte_at n a ≡ byte_at m a)
+    → blocks_of n e ≡ blocks_of m e
+blocks_same m n e is same =
+    let fits : e.start + used (blocks_of m e) ≤ e.end = is.held.store.fits in
+    let used_is : used (blocks_of m e) ≡ e.used = is.held.used_is in
+    let spelled : Bytes = record { mapped = is_mapped m; at = byte_at n } in
+    text_read spelled e.start (e.start + e.used) (blocks_of m e)
+    (text_kept (bytes_of m) spelled e.start (e.start + e.used) (blocks_of m e) refl (λ a low high. same a low (omega (arith, fits, used_is, high))) (store_text m e is))
+
+store_same : (m n : AddressMap) (o : Option Extent) → IsFlexAt m o → IsFlexKept (store_of m) (store_of n) → flex_in n o ≡ flex_in m o
+unfolding store_of
+store_same m n None is k = refl
+store_same m n (Some e) is k =
+    ap (λ (bs : List Block). Some (record { start = e.start; end = e.end; blocks = bs }))
+    (blocks_same m n e is (λ a low high. k.bytes a (or_left (is_in_flex_store (store_of m).others a) ((store_of m).anchor a) (in_extent m e a is low high))))
+
+pub blocks_kept : BlocksKept
+unfolding KeepsFlex
+blocks_kept m n f has keeps = store_same m n f.extent has.is (keeps has.free).0
 
 -- A guest's store: a byte of one of the store's words is marked as the whole word is.
 whole_word : (a : ℕ) → word_start (word_start a) ≡ word_start a

@@ -1,9 +1,7 @@
 -- What the making of the flex store leaves: a record more, and an empty store.
 use Rattle.std.proofs.lemmas.Bool.{both_ways, cases_Bool}
-use Rattle.os_heap.specs.Store.{is_image}
-use Rattle.dynamic_areas.specs.Ground.{IsEstate}
 use Rattle.std.specs.Prelude.{is_some}
-use Rattle.std.proofs.Common.{ℕ, ◌≡◌, ◌-◌, ◌%◌, is_some, ◌==◌, ◌&&◌, Bool, true, false, not, List, [], ◌∷◌, ◌++◌, suc, Option, Some, None, Ok, Err, refl, sym, ap, subst, ◌∙◌, inl, inr, arith}
+use Rattle.std.proofs.Common.{ℕ, ◌≡◌, ◌-◌, ◌%◌, is_some, ◌==◌, ◌&&◌, Bool, true, false, not, List, [], ◌∷◌, ◌++◌, suc, Option, Some, None, Ok, Err, refl, sym, ap, subst, ◌∙◌, inl, inr}
 use Rattle.std.specs.Prelude.{nat_lt, if◌then◌else◌}
 use Rattle.std.proofs.lemmas.Bool.{cases_Bool, false≢true, true≢false}
 use Rattle.profile.specs.declared.error.ErrorNumber.TheVariants.{FlexBadRange}
@@ -17,15 +15,14 @@ use Rattle.address_map.specs.Records.{is_heap_kind}
 use Rattle.os_heap.specs.Ranges.{are_mapped}
 use Rattle.os_heap.specs.Store.{IsSound, others_in, store_of}
 use Rattle.dynamic_areas.specs.Areas.{Land}
-use Rattle.dynamic_areas.specs.Ground.{AreAreas, AreRangesMapped, IsRecorded, system_pages}
+use Rattle.dynamic_areas.specs.Ground.{AreAreas, AreRangesMapped}
 use Rattle.flex_kept.specs.Keeping.{AreAnchorsFree}
 use Rattle.flex_store.specs.Calls.{FlexState, begun, begun_by, flex_record, is_flex_range, with_flex}
 use Rattle.flex_store.specs.State.{IsFlex, IsFlexAt, flex_in, state_of}
 use Rattle.flex_store.specs.declared.flex.Extent.{Extent}
 use Rattle.flex_store.specs.declared.flex.Flex.{Flex}
 use Rattle.flex_store.proofs.Starting.{good_range}
-use Rattle.instances_ground.specs.Sound.{AreSolid, IsWorld, count_beside, image_places}
-use Rattle.instances_ground.specs.World.{World}
+use Rattle.instances_ground.specs.Sound.{count_beside}
 use Rattle.flex_ground.proofs.Worlds.{beside_begun}
 use Rattle.flex_ground.proofs.Calls.{flex_is, flex_stays_by, state_is, store_spelled}
 use Rattle.flex_ground.specs.Ground.{HasFlex, began_by, flex_began, flex_of, flex_state, is_flex_room, records_with, store_flexed, with_flex_record}

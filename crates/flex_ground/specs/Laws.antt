@@ -8,6 +8,7 @@ use Rattle.dynamic_areas.specs.Areas.{Land}
 use Rattle.dynamic_areas.specs.Ground.{AreAreas}
 use Rattle.dynamic_areas.specs.Start.{start_store}
 use Rattle.flex_kept.specs.Keeping.{KeepsFlex}
+use Rattle.flex_store.specs.State.{flex_in}
 use Rattle.flex_store.specs.declared.flex.Flex.{Flex}
 use Rattle.flex_ground.specs.Ground.{HasFlex}
 
@@ -15,6 +16,10 @@ use Rattle.flex_ground.specs.Ground.{HasFlex}
 abbrev pub FlexKept : Type 0
 FlexKept = (m n : AddressMap) (f : Flex) (free : ℕ) (l : Land) → HasFlex m f → IsSound (store_of m) → KeepsFlex (store_of m) (store_of n)
     → AreAreas (store_of n) free l → HasFlex n f
+
+-- which is then the same store, each block with its anchor, its size and its bytes
+abbrev pub BlocksKept : Type 0
+BlocksKept = (m n : AddressMap) (f : Flex) → HasFlex m f → KeepsFlex (store_of m) (store_of n) → flex_in n f.extent ≡ flex_in m f.extent
 
 -- a guest's stores, which leave each byte that the store calls own
 abbrev pub FlexStored : Type 0

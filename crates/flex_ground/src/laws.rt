@@ -1,13 +1,20 @@
 //! What keeps the flex store of a machine. Each law is the contract of a function that does nothing.
 
-ghost use Rattle.flex_ground.specs.Laws.{FlexKept, FlexStarted, FlexStored, FlexUnmade};
+ghost use Rattle.flex_ground.specs.Laws.{BlocksKept, FlexKept, FlexStarted, FlexStored, FlexUnmade};
 
 /// A call on heaps, areas or modules keeps the flex store.
 pub fn calls_keep_flex()
     ensures { FlexKept }
 {}
 
-/// So does what a guest stores: it may write into blocks, and the store is the same with other contents.
+/// It leaves each block of the store as it is, with its anchor, its size and its bytes. So over any list of calls the contents of blocks change by
+/// flex calls and by what guests store alone, wherever blocks of the module area slide.
+#[tactic(auto, using(crate::proofs::Kept::blocks_kept))]
+pub fn calls_keep_blocks()
+    ensures { BlocksKept }
+{}
+
+/// The flex store is kept by what a guest stores: it may write into blocks, and the store is the same with other contents.
 pub fn stores_keep_flex()
     ensures { FlexStored }
 {}
