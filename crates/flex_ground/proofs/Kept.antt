@@ -1,6 +1,6 @@
 -- The flex store of a machine over calls that are none of its own, over what guests store, and at the start.
 use Rattle.std.proofs.Common.{◌≡◌, ◌≤◌, ◌<◌, ℕ, ◌+◌, ◌-◌, ◌&&◌, ◌||◌, ◌==◌, Bool, true, false, List, [], ◌∷◌, Option, Some, None, length, suc, inl, inr, is_some, refl, sym, ap, subst, ◌∙◌, arith}
-use Rattle.std.proofs.lemmas.Bool.{and_parts, cases_Bool, eqb-true, false≢true, or_left, or_right}
+use Rattle.std.proofs.lemmas.Bool.{and_parts, both_ways, cases_Bool, false_from_ne_true, eqb-true, false≢true, or_left, or_right}
 use Rattle.profile.specs.Sizes.{Sizes}
 use Rattle.address_map.specs.Bytes.{AreMapped, Bytes, word_start}
 use Rattle.address_map.specs.Classes.{is_anchor, is_flex_header}
@@ -27,7 +27,12 @@ use Rattle.flex_store.proofs.Keeping.{in_extent}
 use Rattle.flex_store.proofs.Listing.{store_text}
 use Rattle.flex_store.proofs.Texts.{text_kept, text_read}
 use Rattle.flex_store.specs.Blocks.{Block, used}
-use Rattle.flex_ground.specs.Laws.{BlocksKept, FlexKept, FlexStarted, FlexStored, FlexUnmade}
+use Rattle.address_map.specs.Bytes.{in_range}
+use Rattle.os_heap.proofs.Anchored.{header_outside}
+use Rattle.os_heap.proofs.Apart.{block_inside}
+use Rattle.os_heap.proofs.Found.{found_heap}
+use Rattle.os_heap_lists.specs.Heap.{IsHeapIn}
+use Rattle.flex_ground.specs.Laws.{BlocksKept, StoreIsApart, FlexKept, FlexStarted, FlexStored, FlexUnmade}
 
 -- The records beside module images: how many there are, and the store's is one of these.
 count_is : (rs : List Region) → count_beside rs ≡ length (beside_images rs)
@@ -128,6 +133,18 @@ store_same m n (Some e) is k =
 pub blocks_kept : BlocksKept
 unfolding KeepsFlex
 blocks_kept m n f has keeps = store_same m n f.extent has.is (keeps has.free).0
+
+-- and it lies outside all heaps
+extent_byte : (m : AddressMap) (o : Option Extent) (e : Extent) (a : ℕ) → IsFlexAt m o → o ≡ Some e → e.start ≤ a → a < e.end
+    → is_in_flex_store (store_of m).others a ≡ true
+extent_byte m o e a is there low high = in_extent m e a (subst (IsFlexAt m) there is) low high
+
+pub store_apart : StoreIsApart
+store_apart m f e h block total a has there sound found live low high =
+    let outside : in_range h.start h.end a ≡ false =
+    header_outside h.start (store_of m).heaps (store_of m).others h a sound.placed found (extent_byte m f.extent e a has.is there low high) in
+    let heap : IsHeapIn (store_of m).bytes h.start h.end h.items = found_heap (store_of m).bytes h.start (store_of m).heaps h sound.heaps found in
+    false_from_ne_true _ (λ inside. both_ways (in_range h.start h.end a) outside (block_inside (store_of m).bytes h block total a heap live inside))
 
 -- A guest's store: a byte of one of the store's words is marked as the whole word is.
 whole_word : (a : ℕ) → word_start (word_start a) ≡ word_start a

@@ -1,15 +1,19 @@
 -- The flex store over calls that are none of its own, over what guests store, and at the start of a machine.
-use Rattle.std.specs.Prelude.{ℕ, ◌≡◌, true, None}
+use Rattle.std.specs.Prelude.{ℕ, ◌≡◌, ◌≤◌, ◌<◌, ◌+◌, ◌-◌, true, false, Some, None}
 use Rattle.profile.specs.Sizes.{Sizes}
 use Rattle.address_map.specs.Memory.{byte_at, class_of, layout}
 use Rattle.address_map.specs.declared.map.AddressMap.{AddressMap}
-use Rattle.os_heap.specs.Store.{IsSound, owned_in, store_of}
+use Rattle.os_heap.specs.Store.{IsSound, find_heap, owned_in, store_of}
 use Rattle.dynamic_areas.specs.Areas.{Land}
 use Rattle.dynamic_areas.specs.Ground.{AreAreas}
 use Rattle.dynamic_areas.specs.Start.{start_store}
 use Rattle.flex_kept.specs.Keeping.{KeepsFlex}
 use Rattle.flex_store.specs.State.{flex_in}
+use Rattle.flex_store.specs.declared.flex.Extent.{Extent}
 use Rattle.flex_store.specs.declared.flex.Flex.{Flex}
+use Rattle.address_map.specs.Bytes.{in_range}
+use Rattle.os_heap_lists.specs.Heap.{HeapList}
+use Rattle.os_heap_lists.specs.Lists.{live_total}
 use Rattle.flex_ground.specs.Ground.{HasFlex}
 
 -- a call that keeps the store's bytes and words
@@ -20,6 +24,12 @@ FlexKept = (m n : AddressMap) (f : Flex) (free : ℕ) (l : Land) → HasFlex m f
 -- which is then the same store, each block with its anchor, its size and its bytes
 abbrev pub BlocksKept : Type 0
 BlocksKept = (m n : AddressMap) (f : Flex) → HasFlex m f → KeepsFlex (store_of m) (store_of n) → flex_in n f.extent ≡ flex_in m f.extent
+
+-- The store shares no byte with a live block of a heap, the length word of that counted with it.
+abbrev pub StoreIsApart : Type 0
+StoreIsApart = (m : AddressMap) (f : Flex) (e : Extent) (h : HeapList) (block total a : ℕ) → HasFlex m f → f.extent ≡ Some e → IsSound (store_of m)
+    → find_heap h.start (store_of m).heaps ≡ Some h → live_total block (h.start + 16) h.items ≡ Some total → e.start ≤ a → a < e.end
+    → in_range (block - 4) total a ≡ false
 
 -- a guest's stores, which leave each byte that the store calls own
 abbrev pub FlexStored : Type 0

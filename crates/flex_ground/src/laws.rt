@@ -1,6 +1,6 @@
 //! What keeps the flex store of a machine. Each law is the contract of a function that does nothing.
 
-ghost use Rattle.flex_ground.specs.Laws.{BlocksKept, FlexKept, FlexStarted, FlexStored, FlexUnmade};
+ghost use Rattle.flex_ground.specs.Laws.{BlocksKept, FlexKept, FlexStarted, FlexStored, FlexUnmade, StoreIsApart};
 
 /// A call on heaps, areas or modules keeps the flex store.
 pub fn calls_keep_flex()
@@ -12,6 +12,12 @@ pub fn calls_keep_flex()
 #[tactic(auto, using(crate::proofs::Kept::blocks_kept))]
 pub fn calls_keep_blocks()
     ensures { BlocksKept }
+{}
+
+/// No byte of the store is one of a live block of a heap.
+#[tactic(auto, using(crate::proofs::Kept::store_apart))]
+pub fn the_store_shares_no_byte_with_heaps()
+    ensures { StoreIsApart }
 {}
 
 /// The flex store is kept by what a guest stores: it may write into blocks, and the store is the same with other contents.

@@ -11,7 +11,7 @@ use crate::movable::movable_blocks;
 use address_map::AddressMap;
 use dynamic_areas::Areas;
 use instances_table::InstanceTable;
-use profile::memory_map::RMA_START;
+use rma::Rma;
 
 /// Tidies the module area: slides its movable blocks together, so that the free room between them becomes one. Movable are the images of modules, and
 /// each block that exactly one private word of an instance names, if they hold neither an anchor of the flex store nor the return address of the call;
@@ -29,7 +29,7 @@ pub fn slide(map: &mut AddressMap, areas: &Areas, table: &mut InstanceTable, ret
     let slots = table.slots();
     let words = private_words(map, slots.as_slice());
     let movable = movable_blocks(map, table, words.as_slice(), return_address);
-    let moves = os_heap_slide::slide(map, RMA_START, movable.as_slice());
+    let moves = Rma::new().slide(map, movable.as_slice());
     move_images(table, moves.as_slice());
     move_words(map, slots.as_slice(), moves.as_slice());
 }

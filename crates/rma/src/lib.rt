@@ -12,5 +12,7 @@ pub mod images;
 pub mod in_place;
 pub mod laws;
 pub mod new_images;
+pub mod slide;
 
 pub use area::Rma;
+pub use os_heap_slide::{Move, Moves};

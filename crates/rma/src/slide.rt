@@ -1,0 +1,33 @@
+ghost use Rattle.std.specs.Prelude.{◌≡◌};
+ghost use Rattle.address_map.specs.Memory.{mapping};
+ghost use Rattle.os_heap.specs.Store.{store_of, AreClasses, IsSound};
+ghost use Rattle.os_heap_slide.specs.Slide.{MaySlide, IsSlid};
+ghost use Rattle.flex_kept.specs.Keeping.{KeepsFlex};
+
+use crate::area::Rma;
+use address_map::AddressMap;
+use os_heap_slide::{Moves, slide};
+use profile::memory_map::RMA_START;
+
+impl Rma {
+    /// Slides blocks of the module area towards its start. `movable` has the addresses of those that can be moved, in order, at most 128, none of which
+    /// holds an anchor of the flex store. Each of these goes to the end of the block before it, or to the place of the first item, where there is none;
+    /// all others stay. The blocks keep their bytes, and the records of module images follow them.
+    ///
+    /// The answer has the old and the new address of each block that moved.
+    ///
+    /// RISC OS 3 Programmer's Reference Manual, "OS_Module", reason 8; which blocks can be moved is this project's own.
+    #[tactic(auto, using(flex_kept::proofs::Slides::slides_keep))]
+    pub fn slide(&self, map: &mut AddressMap, movable: &[u32]) -> Moves
+        requires sound { IsSound (store_of map.old) }
+        requires classes { AreClasses map.old }
+        requires movable { MaySlide (store_of map.old) 0x01800000 movable.now }
+        ensures slid { IsSlid (store_of map.old) 0x01800000 movable.now (store_of map.new) result.items }
+        ensures sound { IsSound (store_of map.new) }
+        ensures classes { AreClasses map.new }
+        ensures mapping { mapping map.new ≡ mapping map.old }
+        ensures flex { KeepsFlex (store_of map.old) (store_of map.new) }
+    {
+        slide(map, RMA_START, movable)
+    }
+}
