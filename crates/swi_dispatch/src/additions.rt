@@ -14,7 +14,7 @@ impl Machine {
     ghost use Rattle.swi_dispatch.specs.Additions.{Starts, copied_range_planned, copy_planned, image_planned, insertion_planned, load_planned, named_load_planned, range_planned};
     ghost use Rattle.swi_dispatch.specs.OpenFrames.{GoesTo};
     ghost use Rattle.swi_dispatch.specs.Parts.{state_of, outcome_of, IsFree, IsInStep, OnlySteps, OnlyState};
-    ghost use Rattle.swi_dispatch.specs.Step.{begun, begun_by, call_of};
+    ghost use Rattle.swi_dispatch.specs.Step.{begun, begun_by};
 
     /// OS_Module 0 and 1: R1 points to the name of an image and a text. `enters` says whether the module is entered at the end.
     #[tactic(auto, unfolding(crate::specs::Step::begun))]
@@ -72,18 +72,6 @@ impl Machine {
         let call = self.call_of(is_x, next, false);
         let started = self.start_copy();
         self.go_on(call, started);
-    }
-
-    // What the end of a call needs to know of its begin.
-    fn call_of(&self, is_x: bool, next: u32, enters: bool) -> Call
-        ensures { result ≡ call_of (state_of self.now) is_x next enters }
-    {
-        Call {
-            is_x,
-            caller: self.cpu().psr(),
-            next,
-            enters,
-        }
     }
 
     // A call goes on that has begun, or is refused.

@@ -47,15 +47,21 @@ impl Machine {
         ensures after { outcome_of self.new ≡ quiet (carried_on (state_of self.old) (call_of (state_of self.old) is_x next false) plan) }
         ensures others { OnlySteps self.old self.new }
     {
-        let caller = self.cpu().psr();
-        let call = Call {
-            is_x,
-            caller,
-            next,
-            enters: false,
-        };
+        let call = self.call_of(is_x, next, false);
         let next = self.carry_first(plan);
         self.go_to(call, next);
+    }
+
+    /// What the end of a call needs to know of its begin; `enters` says whether a module that it loads is entered then.
+    pub(crate) fn call_of(&self, is_x: bool, next: u32, enters: bool) -> Call
+        ensures { result ≡ call_of (state_of self.now) is_x next enters }
+    {
+        Call {
+            is_x,
+            caller: self.cpu().psr(),
+            next,
+            enters,
+        }
     }
 
     /// A call goes on where it has come to.

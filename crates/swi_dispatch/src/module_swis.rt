@@ -28,13 +28,7 @@ impl Machine {
         if self.frames() == MOST_FRAMES {
             return self.refuse_call(is_x, next, ErrorNumber::FrameLimit);
         }
-        let caller = self.cpu().psr();
-        let call = Call {
-            is_x,
-            caller,
-            next,
-            enters: false,
-        };
+        let call = self.call_of(is_x, next, false);
         self.enter_handler(call, number, handler);
     }
 
