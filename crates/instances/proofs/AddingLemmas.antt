@@ -17,6 +17,7 @@ use Rattle.dynamic_areas.specs.Ground.{Estate, IsEstate}
 use Rattle.rma.specs.Copies.{has_bare, may_be_copied}
 use Rattle.flex_kept.specs.Keeping.{is_in_record}
 use Rattle.rma.specs.NewImages.{image_record}
+use Rattle.instances_table.specs.declared.parts.Image.{Image}
 use Rattle.instances_ground.specs.Sound.{AreSolid, IsWorld}
 use Rattle.instances_ground.specs.World.{World}
 use Rattle.instances_ground.proofs.Worlds.{world_more}
@@ -35,12 +36,16 @@ no_image at (r ∷ rs) solid none =
     both_ways (in_range r.at r.len at) parts.0 (rw (le-leb r.at at (omega (arith, here)), lt-ltb at (r.at + r.len) (omega (arith, here, some))) refl)))
     (no_image at rs solid.1 parts.1)
 
+-- an image that got a block of the module area
+abbrev pub placed_at : ℕ → ℕ → Image
+placed_at block len = record { at = block; len = len; in_rma = true }
+
 -- the image of a block that was claimed is pending
 pub world_with_block : (v w : World) (block len : ℕ) → IsWorld v [] → w.modules ≡ v.modules → is_in_record v.estate.store.others block ≡ false
     → (has_image block v.estate.store.others ≡ false → w.estate.store.others ≡ v.estate.store.others ++ image_record block len ∷ [])
-    → IsEstate w.estate → IsWorld w (block ∷ [])
+    → IsEstate w.estate → IsWorld w (placed_at block len ∷ [])
 world_with_block v w block len world modules alone others estate =
-    world_more v w block (total_for len - 4) [] world modules (others (no_image block v.estate.store.others world.solid alone)) (omega arith) estate
+    world_more v w (placed_at block len) [] world modules (others (no_image block v.estate.store.others world.solid alone)) (omega arith) estate
 
 -- an image with a good header isn't empty
 pub header_long : (image : List ℕ) (header : Header) → header_of image ≡ Ok header → 28 ≤ length image

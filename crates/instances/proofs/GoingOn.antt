@@ -47,7 +47,7 @@ titled_by title h slots rest = if str_eq_ignore_ascii_case h.title.items title t
 alike_more : (m n : Module) (ms ns : List Module) → IsAlike m n → KeepsSlots ms ns → KeepsSlots (m ∷ ms) (n ∷ ns)
 unfolding titled_by
 alike_more m n ms ns one rest = record {
-  images = ap (λ (i : Image). i.at ∷ images_of ns) one.image ∙ ap (λ (xs : List ℕ). m.image.at ∷ xs) rest.images;
+  images = ap (λ (i : Image). i ∷ images_of ns) one.image ∙ ap (λ (xs : List Image). m.image ∷ xs) rest.images;
   slots = ap (λ (xs : List ℕ). xs ++ slots_of ns) one.slots ∙ ap (λ (xs : List ℕ). slots_in m.instances ++ xs) rest.slots;
   titled = λ title.
       ap (λ (h : Header). titled_by title h (slots_in n.instances) (slots_titled title ns)) one.header
@@ -138,9 +138,9 @@ ready_kept old new p keeps calls ready = record {
   instead = ready.instead;
 }
 
-world_alike : (v w : World) (pending : List ℕ) → w.estate ≡ v.estate → KeepsSlots v.modules w.modules → IsWorld v pending → IsWorld w pending
+world_alike : (v w : World) (pending : List Image) → w.estate ≡ v.estate → KeepsSlots v.modules w.modules → IsWorld v pending → IsWorld w pending
 world_alike v w pending same keeps world =
-    world_renewed v w pending pending world (ap (λ (xs : List ℕ). xs ++ pending) keeps.images) (ap (λ (e : Estate). e.store.others) same)
+    world_renewed v w pending pending world (ap (λ (xs : List Image). xs ++ pending) keeps.images) (ap (λ (e : Estate). e.store.others) same)
     (subst IsEstate (sym same) world.estate)
 
 going_alike : (v w : World) (plan : Option Plan) → w.estate ≡ v.estate → KeepsSlots v.modules w.modules → MayGoOn v plan → MayGoOn w plan

@@ -21,6 +21,7 @@ use Rattle.instances_table.specs.Lookup.{number_of_title, told_of_module}
 use Rattle.instances_table.specs.Modules.{AreModules, Instance, Module, has_title, slots_of}
 use Rattle.instances_table.specs.Names.{name_given, new_name, parted}
 use Rattle.instances_table.proofs.Counting.{same_test}
+use Rattle.instances_actions.specs.Actions.{image_given}
 use Rattle.instances_actions.specs.Pending.{pending_of, slots_titled}
 use Rattle.instances_actions.specs.Ready.{CanName, IsReady}
 use Rattle.instances_actions.proofs.CallsReady.{all_go, clear_is_ready, instantiate_is_ready, load_is_ready, reinit_is_ready, tidy_is_ready}
@@ -44,7 +45,7 @@ load_ready given title slot ms same are below free =
     ∙ ap (without_all (slots_of (titled title ms))) (sym (same_slots title ms)) ∙ all_go (slots_of (titled title ms)) in
     load_is_ready given ms (slots_of (titled title ms)) slot (load_doable given title slot ms are below free) none
 
-pub load_pending : (given : Given) (old : List ℕ) (slot : ℕ) → pending_of (load_plan given old slot) ≡ given.image ∷ []
+pub load_pending : (given : Given) (old : List ℕ) (slot : ℕ) → pending_of (load_plan given old slot) ≡ image_given given ∷ []
 load_pending given old slot = rw (clear_then old (Insert slot ∷ Initialise slot ∷ [])) refl
 
 -- the plans of calls on instances that are there

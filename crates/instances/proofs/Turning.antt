@@ -14,10 +14,11 @@ use Rattle.instances_plans.specs.declared.code.Outcome.TheVariants.{Refused, Wel
 use Rattle.instances_plans.specs.declared.given.Given.{Given}
 use Rattle.instances_plans.specs.Carrying.{Advanced, Doing, advanced, advanced_by, advanced_from}
 use Rattle.instances_plans.specs.Plans.{Plan, end_by, finished, first_of, refused, settled, settled_by, started}
+use Rattle.instances_table.specs.declared.parts.Image.{Image}
 use Rattle.instances_table.specs.Modules.{AreModules, Module}
 use Rattle.instances_ground.specs.Sound.{IsWorld}
 use Rattle.instances_ground.specs.World.{World, removed}
-use Rattle.instances_actions.specs.Actions.{acted}
+use Rattle.instances_actions.specs.Actions.{acted, image_given}
 use Rattle.instances_actions.specs.Codes.{code_among}
 use Rattle.instances_actions.specs.Pending.{pending_of, settles}
 use Rattle.instances_actions.specs.Ready.{AreAfter, IsReady, IsSlid, outline}
@@ -155,8 +156,8 @@ goes_into_code w v p a code first going acts world is =
 
 -- What an action leaves pending.
 pub world_acted : (w v : World) (p : Plan) (a : Action) → first_of p.actions ≡ Some a → IsUnderWay w p
-    → ((pending : List ℕ) → settles a ≡ false → IsWorld w pending → IsWorld v pending)
-    → (settles a ≡ true → IsWorld w (p.given.image ∷ []) → IsWorld v [])
+    → ((pending : List Image) → settles a ≡ false → IsWorld w pending → IsWorld v pending)
+    → (settles a ≡ true → IsWorld w (image_given p.given ∷ []) → IsWorld v [])
     → IsWorld v (pending_of (finished p a))
 world_acted w v p a first going keeps ends = elim (cases_Bool (settles a)) [
   | inl does ↦

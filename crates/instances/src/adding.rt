@@ -83,7 +83,7 @@ impl Instances {
         ensures value { result ≡ adding_plan self.now header image text.now slot }
         ensures ready { IsReady self.now result }
         ensures rests { result.runs ≡ false }
-        ensures pending { pending_of result ≡ image.at ∷ [] }
+        ensures pending { pending_of result ≡ image ∷ [] }
     {
         let old = self.table.slots_of_title(header.title.as_slice());
         Plan::load(given_module(header, image, text), old.as_slice(), slot)

@@ -11,7 +11,7 @@ use Rattle.instances_ground.proofs.Worlds.{images_added, images_changed}
 use Rattle.instances_actions.specs.Actions.{image_given, with_another, with_new}
 
 pub images_new : (g : Given) (slot : ℕ) (old new : List Module) → is_new g.header.title.items slot old ≡ true → new ≡ with_new g slot old
-    → images_of new ++ [] ≡ images_of old ++ g.image ∷ []
+    → images_of new ++ [] ≡ images_of old ++ image_given g ∷ []
 unfolding with_module
 images_new g slot old new is added =
     let all : new ≡ old ++ new_module g.header (image_given g) slot ∷ [] = added ∙ rw is refl in

@@ -7,6 +7,7 @@ use Rattle.instances_plans.specs.declared.given.Given.{Given}
 use Rattle.instances_plans.specs.Calls.{clear_actions, finalise_all, initialise_all}
 use Rattle.instances_plans.specs.Doable.{without, without_all}
 use Rattle.instances_plans.specs.Plans.{Plan, all_but_first, first_of, owed, refused}
+use Rattle.instances_actions.specs.Actions.{image_given}
 use Rattle.instances_actions.specs.Laws.{ClearSettles, InstantiateSettles, LoadSettles, NoneSlides, PendingIsSettled, PendingOutlastsRefusal, PendingStays, ReinitSettles, StaysSettled, StaysSettledRefused, TidySettles}
 use Rattle.instances_actions.specs.Pending.{AreTitledAfter, GivesUpOnce, IsSettledOnce, SettlesOnce, is_pending, pending_by, pending_of, settles}
 
@@ -185,7 +186,7 @@ settled_by titled instead (Initialise s) others does once = absurd (false≢true
 
 settled_from : (titled : List ℕ) (given : Given) (instead actions : List Action) (a : Action) → first_of actions ≡ Some a → SettlesOnce titled instead actions
     → settles a ≡ true
-    → (pending_by (is_pending actions) given [] ≡ given.image ∷ []) × (pending_by (is_pending (all_but_first actions)) given [] ≡ [])
+    → (pending_by (is_pending actions) given [] ≡ image_given given ∷ []) × (pending_by (is_pending (all_but_first actions)) given [] ≡ [])
 settled_from titled given instead [] a first once does = cc
 settled_from titled given instead (b ∷ others) a first once does =
     let is : settles b ≡ true = ap settles (some_head a b first) ∙ does in

@@ -6,6 +6,7 @@ use Rattle.instances_plans.specs.declared.given.Given.{Given}
 use Rattle.instances_plans.specs.Calls.{clear_plan, instantiate_plan, load_plan, reinit_plan, tidy_plan}
 use Rattle.instances_plans.specs.Doable.{without_all}
 use Rattle.instances_plans.specs.Plans.{Plan, finished, first_of, refused}
+use Rattle.instances_actions.specs.Actions.{image_given}
 use Rattle.instances_actions.specs.Pending.{AreTitledAfter, IsSettledOnce, pending_of, settles}
 
 -- Each call's plan settles the image once, when it is made; a load's, where the older instances that go are all those of the title.
@@ -39,7 +40,7 @@ PendingStays = (p : Plan) (a : Action) → first_of p.actions ≡ Some a → set
 
 abbrev pub PendingIsSettled : Type 0
 PendingIsSettled = (titled : List ℕ) (p : Plan) (a : Action) → first_of p.actions ≡ Some a → IsSettledOnce titled p → settles a ≡ true
-    → (pending_of p ≡ p.given.image ∷ []) × (pending_of (finished p a) ≡ [])
+    → (pending_of p ≡ image_given p.given ∷ []) × (pending_of (finished p a) ≡ [])
 
 -- A slide finds none pending, and leaves none.
 abbrev pub NoneSlides : Type 0

@@ -7,7 +7,9 @@ use Rattle.instances_plans.specs.declared.action.Action.TheVariants.{Finalise, R
 use Rattle.instances_plans.specs.declared.given.Given.{Given}
 use Rattle.instances_plans.specs.Doable.{without}
 use Rattle.instances_plans.specs.Plans.{Plan, owed}
+use Rattle.instances_table.specs.declared.parts.Image.{Image}
 use Rattle.instances_table.specs.Modules.{Instance, Module, has_title}
+use Rattle.instances_actions.specs.Actions.{image_given}
 
 -- does an action settle it?
 abbrev pub settles : Action → Bool
@@ -18,12 +20,12 @@ settles _ = false
 abbrev pub is_pending : List Action → Bool
 is_pending actions = list_any settles actions
 
-abbrev pub pending_by : Bool → Given → List ℕ → List ℕ
-pending_by true g others = g.image ∷ others
+abbrev pub pending_by : Bool → Given → List Image → List Image
+pending_by true g others = image_given g ∷ others
 pending_by false g others = others
 
--- the addresses of the images that a plan has still to settle: one, or none
-abbrev pub pending_of : Plan → List ℕ
+-- the images that a plan has still to settle: one, or none
+abbrev pub pending_of : Plan → List Image
 pending_of p = pending_by (is_pending p.actions) p.given []
 
 -- What is done instead of a plan initialises instances, and gives the image up at most once.

@@ -4,9 +4,10 @@ ghost use Rattle.std.specs.Prelude.{ℕ, List, ◌≡◌, [], ◌∷◌, true, f
 ghost use Rattle.os_heap.specs.Store.{AreClasses, store_of};
 ghost use Rattle.dynamic_areas.specs.Areas.{Land};
 ghost use Rattle.flex_kept.specs.Keeping.{KeepsFlex};
+ghost use Rattle.instances_table.specs.declared.parts.Image.{Image};
 ghost use Rattle.instances_ground.specs.Sound.{HasSystemPages, IsWorld};
 ghost use Rattle.instances_ground.specs.World.{World, world_of};
-ghost use Rattle.instances_actions.specs.Actions.{acted};
+ghost use Rattle.instances_actions.specs.Actions.{acted, image_given};
 ghost use Rattle.instances_actions.specs.Asked.{CanAct};
 ghost use Rattle.instances_actions.specs.Pending.{settles};
 
@@ -25,9 +26,9 @@ pub fn act(map: &mut AddressMap, table: &mut InstanceTable, given: &Given, actio
     requires system { HasSystemPages map.old }
     requires classes { AreClasses map.old }
     ensures world { (slide : ℕ → World → World) (l : Land) → world_of map.new l table.new ≡ acted slide given.now (world_of map.old l table.old) action }
-    ensures sound { (l : Land) (pending : List ℕ) → settles action ≡ false → IsWorld (world_of map.old l table.old) pending
+    ensures sound { (l : Land) (pending : List Image) → settles action ≡ false → IsWorld (world_of map.old l table.old) pending
         → IsWorld (world_of map.new l table.new) pending }
-    ensures settled { (l : Land) → settles action ≡ true → IsWorld (world_of map.old l table.old) (given.now.image ∷ [])
+    ensures settled { (l : Land) → settles action ≡ true → IsWorld (world_of map.old l table.old) (image_given given.now ∷ [])
         → IsWorld (world_of map.new l table.new) [] }
     ensures pages { HasSystemPages map.new }
     ensures classes { AreClasses map.new }

@@ -28,7 +28,7 @@ pub fn insert(map: &mut AddressMap, table: &mut InstanceTable, given: &Given, sl
     requires system { HasSystemPages map.old }
     ensures estate { (l : Land) → estate_of map.new l ≡ with_private (estate_of map.old l) slot 0 }
     ensures modules { table.new ≡ with_new given.now slot table.old }
-    ensures sound { (l : Land) → IsWorld (world_of map.old l table.old) (given.now.image ∷ [])
+    ensures sound { (l : Land) → IsWorld (world_of map.old l table.old) (image_given given.now ∷ [])
         → IsWorld (world_of map.new l table.new) [] }
     ensures pages { HasSystemPages map.new }
     ensures classes { AreClasses map.old → AreClasses map.new }
@@ -46,7 +46,7 @@ pub fn instantiate(map: &mut AddressMap, table: &mut InstanceTable, given: &Give
     requires system { HasSystemPages map.old }
     ensures estate { (l : Land) → estate_of map.new l ≡ with_private (estate_of map.old l) slot 0 }
     ensures modules { table.new ≡ with_another given.now slot table.old }
-    ensures sound { (l : Land) (pending : List ℕ) → IsWorld (world_of map.old l table.old) pending
+    ensures sound { (l : Land) (pending : List Image) → IsWorld (world_of map.old l table.old) pending
         → IsWorld (world_of map.new l table.new) pending }
     ensures pages { HasSystemPages map.new }
     ensures classes { AreClasses map.old → AreClasses map.new }
@@ -63,7 +63,7 @@ pub fn give_up(map: &mut AddressMap, given: &Given)
     requires system { HasSystemPages map.old }
     requires classes { AreClasses map.old }
     ensures estate { (l : Land) → estate_of map.new l ≡ image_gone (estate_of map.old l) (image_given given.now) }
-    ensures sound { (l : Land) (modules : List Module) → IsWorld (world_of map.old l modules) (given.now.image ∷ [])
+    ensures sound { (l : Land) (modules : List Module) → IsWorld (world_of map.old l modules) (image_given given.now ∷ [])
         → IsWorld (world_of map.new l modules) [] }
     ensures pages { HasSystemPages map.new }
     ensures classes { AreClasses map.new }

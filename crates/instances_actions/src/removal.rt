@@ -6,6 +6,7 @@ ghost use Rattle.os_heap.specs.Store.{AreClasses, store_of};
 ghost use Rattle.dynamic_areas.specs.Areas.{Land};
 ghost use Rattle.dynamic_areas.specs.Ground.{IsEstate, estate_of};
 ghost use Rattle.flex_kept.specs.Keeping.{KeepsFlex};
+ghost use Rattle.instances_table.specs.declared.parts.Image.{Image};
 ghost use Rattle.instances_table.specs.Modules.{Module};
 ghost use Rattle.instances_ground.specs.Sound.{HasSystemPages, IsWorld};
 ghost use Rattle.instances_ground.specs.World.{image_gone, private_freed, removed, world_of};
@@ -24,7 +25,7 @@ pub fn remove(map: &mut AddressMap, table: &mut InstanceTable, slot: u32)
     requires system { HasSystemPages map.old }
     requires classes { AreClasses map.old }
     ensures world { (l : Land) → world_of map.new l table.new ≡ removed (world_of map.old l table.old) slot }
-    ensures sound { (l : Land) (pending : List ℕ) → IsWorld (world_of map.old l table.old) pending
+    ensures sound { (l : Land) (pending : List Image) → IsWorld (world_of map.old l table.old) pending
         → IsWorld (world_of map.new l table.new) pending }
     ensures pages { HasSystemPages map.new }
     ensures classes { AreClasses map.new }
@@ -47,7 +48,7 @@ pub fn free_private(map: &mut AddressMap, slot: u32)
     requires system { HasSystemPages map.old }
     requires classes { AreClasses map.old }
     ensures estate { (l : Land) → estate_of map.new l ≡ private_freed (estate_of map.old l) slot }
-    ensures sound { (l : Land) (modules : List Module) (pending : List ℕ) → IsWorld (world_of map.old l modules) pending
+    ensures sound { (l : Land) (modules : List Module) (pending : List Image) → IsWorld (world_of map.old l modules) pending
         → IsWorld (world_of map.new l modules) pending }
     ensures pages { HasSystemPages map.new }
     ensures classes { AreClasses map.new }

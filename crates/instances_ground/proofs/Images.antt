@@ -1,5 +1,5 @@
--- The addresses of recorded images: how many there are, that all differ, and those after a record more or less.
-use Rattle.std.proofs.Common.{◌≡◌, ℕ, true, false, inl, inr, suc, ◌+◌, ◌<◌, ◌==◌, List, [], ◌∷◌, ◌++◌, length, refl, ap, arith}
+-- The records of images: how many there are, that all start at different addresses, and those after a record more or less.
+use Rattle.std.proofs.Common.{◌≡◌, ℕ, Bool, true, false, inl, inr, suc, ◌+◌, ◌<◌, ◌==◌, List, [], ◌∷◌, ◌++◌, length, refl, ap, arith}
 use Rattle.std.specs.List.{list_any}
 use Rattle.std.proofs.lemmas.Bool.{cases_Bool, eqb-true, false_from_ne_true, both_ways}
 use Rattle.address_map.specs.Bytes.{in_range}
@@ -10,14 +10,18 @@ use Rattle.os_heap.specs.Store.{AreRangesApart, IsClearOfRanges, is_image}
 use Rattle.dynamic_areas.specs.Ground.{IsRecorded, system_pages}
 use Rattle.dynamic_areas.proofs.Remapped.{here}
 use Rattle.instances_table.specs.Changes.{without_first}
-use Rattle.instances_ground.specs.Sound.{AreSolid, count_beside, image_places}
+use Rattle.instances_ground.specs.Sound.{AreSolid, count_beside, image_ranges}
 
--- each address of a list differs from all behind it
-abbrev pub AreDifferent : List ℕ → Type 0
+-- does a range start at an address?
+abbrev pub starts_at : ℕ → Region → Bool
+starts_at at r = r.at == at
+
+-- each range of a list starts at another address than all behind it
+abbrev pub AreDifferent : List Region → Type 0
 AreDifferent [] = Unit {0}
-AreDifferent (x ∷ xs) = (list_any (λ y. y == x) xs ≡ false) × AreDifferent xs
+AreDifferent (r ∷ rs) = (list_any (starts_at r.at) rs ≡ false) × AreDifferent rs
 
-pub count_all : (rs : List Region) → length rs ≡ length (image_places rs) + count_beside rs
+pub count_all : (rs : List Region) → length rs ≡ length (image_ranges rs) + count_beside rs
 count_all [] = refl
 count_all (r ∷ rs) = elim (cases_Bool (is_image r.kind)) [
   | inl image ↦ rw image (omega (arith, count_all rs))
@@ -32,29 +36,29 @@ starts_differ r q mine its clear = false_from_ne_true (q.at == r.at) (λ same.
     (clear r.at (here r.at r.len r.at (omega arith) (omega (arith, mine))))
     (here q.at q.len r.at (omega (arith, at)) (omega (arith, at, its))))
 
-no_later : (r : Region) (rs : List Region) → 0 < r.len → AreSolid rs → IsClearOfRanges r rs → list_any (λ y. y == r.at) (image_places rs) ≡ false
+no_later : (r : Region) (rs : List Region) → 0 < r.len → AreSolid rs → IsClearOfRanges r rs → list_any (starts_at r.at) (image_ranges rs) ≡ false
 no_later r [] long solid clear = refl
 no_later r (q ∷ rs) long solid clear = elim (cases_Bool (is_image q.kind)) [
   | inl image ↦ rw image (rw (starts_differ r q long (solid.0 image) clear.0) (no_later r rs long solid.1 clear.1))
   | inr other ↦ rw other (no_later r rs long solid.1 clear.1)
 ]
 
-pub places_differ : (rs : List Region) → AreSolid rs → AreRangesApart rs → AreDifferent (image_places rs)
-places_differ [] solid apart = tt
-places_differ (r ∷ rs) solid apart = elim (cases_Bool (is_image r.kind)) [
-  | inl image ↦ rw image (no_later r rs (solid.0 image) solid.1 apart.0, places_differ rs solid.1 apart.1)
-  | inr other ↦ rw other (places_differ rs solid.1 apart.1)
+pub ranges_differ : (rs : List Region) → AreSolid rs → AreRangesApart rs → AreDifferent (image_ranges rs)
+ranges_differ [] solid apart = tt
+ranges_differ (r ∷ rs) solid apart = elim (cases_Bool (is_image r.kind)) [
+  | inl image ↦ rw image (no_later r rs (solid.0 image) solid.1 apart.0, ranges_differ rs solid.1 apart.1)
+  | inr other ↦ rw other (ranges_differ rs solid.1 apart.1)
 ]
 
 -- one record less
-pub places_less : (at : ℕ) (rs : List Region) → image_places (without_region rs kind.Image at) ≡ without_first (λ y. y == at) (image_places rs)
-places_less at [] = refl
-places_less at (r ∷ rs) = elim (cases_Bool (is_image r.kind)) [
+pub ranges_less : (at : ℕ) (rs : List Region) → image_ranges (without_region rs kind.Image at) ≡ without_first (starts_at at) (image_ranges rs)
+ranges_less at [] = refl
+ranges_less at (r ∷ rs) = elim (cases_Bool (is_image r.kind)) [
   | inl image ↦ elim (cases_Bool (r.at == at)) [
     | inl first ↦ rw (image, first) refl
-    | inr later ↦ rw (image, later, image) (ap (λ (xs : List ℕ). r.at ∷ xs) (places_less at rs))
+    | inr later ↦ rw (image, later, image) (ap (λ (xs : List Region). r ∷ xs) (ranges_less at rs))
   ]
-  | inr other ↦ rw (other, other) (places_less at rs)
+  | inr other ↦ rw (other, other) (ranges_less at rs)
 ]
 
 pub beside_less : (at : ℕ) (rs : List Region) → count_beside (without_region rs kind.Image at) ≡ count_beside rs
@@ -85,11 +89,12 @@ system_less at (r ∷ rs) there = elim there [
 ]
 
 -- one image more, at the end
-pub places_more : (at len : ℕ) (rs : List Region) → image_places (rs ++ record { kind = kind.Image; at = at; len = len } ∷ []) ≡ image_places rs ++ at ∷ []
-places_more at len [] = refl
-places_more at len (r ∷ rs) = elim (cases_Bool (is_image r.kind)) [
-  | inl image ↦ rw image (ap (λ (xs : List ℕ). r.at ∷ xs) (places_more at len rs))
-  | inr other ↦ rw other (places_more at len rs)
+pub ranges_more : (at len : ℕ) (rs : List Region)
+    → image_ranges (rs ++ record { kind = kind.Image; at = at; len = len } ∷ []) ≡ image_ranges rs ++ record { kind = kind.Image; at = at; len = len } ∷ []
+ranges_more at len [] = refl
+ranges_more at len (r ∷ rs) = elim (cases_Bool (is_image r.kind)) [
+  | inl image ↦ rw image (ap (λ (xs : List Region). r ∷ xs) (ranges_more at len rs))
+  | inr other ↦ rw other (ranges_more at len rs)
 ]
 
 pub beside_more : (at len : ℕ) (rs : List Region) → count_beside (rs ++ record { kind = kind.Image; at = at; len = len } ∷ []) ≡ count_beside rs

@@ -1,4 +1,5 @@
 pub mod Images
+pub mod LawLemmas
 pub mod Removals
 pub mod Starting
 pub mod Worlds

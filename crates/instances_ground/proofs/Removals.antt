@@ -1,5 +1,5 @@
 -- The images after one went: that of the module whose last instance was removed, or the pending one.
-use Rattle.std.proofs.Common.{◌≡◌, ℕ, Bool, true, false, inl, inr, ◌+◌, ◌==◌, List, [], ◌∷◌, ◌++◌, refl, sym, ap, ◌∙◌, Ok, Err, Some, None}
+use Rattle.std.proofs.Common.{◌≡◌, ℕ, Bool, true, false, inl, inr, ◌+◌, ◌==◌, List, [], ◌∷◌, ◌++◌, map, refl, sym, ap, ◌∙◌, Ok, Err, Some, None}
 use Rattle.std.specs.Prelude.{Option, Result, ok_or, if◌then◌else◌}
 use Rattle.std.specs.List.{list_any}
 use Rattle.std.proofs.lemmas.Bool.{both_ways, cases_Bool, eq-eqb, eqb-true, false_from_ne_true, or_parts}
@@ -20,70 +20,72 @@ use Rattle.rma.specs.Images.{image_dropped, image_freed, or_kept}
 use Rattle.instances_table.specs.declared.parts.Image.{Image}
 use Rattle.instances_table.specs.Modules.{Instance, Module, has_instance, has_slot}
 use Rattle.instances_table.specs.Changes.{module_without, still, without_first, without_instance}
-use Rattle.instances_ground.specs.Sound.{AreSolid, IsWorld, count_beside, image_places, images_of}
+use Rattle.instances_ground.specs.Sound.{AreSolid, IsWorld, count_beside, image_ranges, images_of, range_of}
 use Rattle.instances_ground.specs.World.{World, freed, image_gone, image_gone_of, image_gone_with, or_same, private_freed, private_word, removed}
-use Rattle.instances_ground.proofs.Images.{AreDifferent, beside_less, places_less, solid_less, system_less}
+use Rattle.instances_ground.proofs.Images.{AreDifferent, beside_less, ranges_less, solid_less, starts_at, system_less}
 use Rattle.instances_ground.proofs.Worlds.{images_differ, world_less}
 
--- the addresses of the images after the removal of an instance
-abbrev pub places_of_rest : Module → List Module → List ℕ → List ℕ
-places_of_rest m [] xs = without_first (λ y. y == m.image.at) xs
-places_of_rest m (left ∷ others) xs = xs
+-- the ranges of the images after the removal of an instance
+abbrev pub ranges_of_rest : Module → List Module → List Region → List Region
+ranges_of_rest m [] rs = without_first (starts_at m.image.at) rs
+ranges_of_rest m (left ∷ others) rs = rs
 
-abbrev pub places_left : ℕ → List Module → List ℕ → List ℕ
-places_left slot [] xs = xs
-places_left slot (m ∷ ms) xs = if has_instance slot m then places_of_rest m (module_without slot m) xs else places_left slot ms xs
+abbrev pub ranges_left : ℕ → List Module → List Region → List Region
+ranges_left slot [] rs = rs
+ranges_left slot (m ∷ ms) rs = if has_instance slot m then ranges_of_rest m (module_without slot m) rs else ranges_left slot ms rs
 
--- the address of another image stays where it is
+-- the range of another image stays where it is
 other_way : (x y : ℕ) → (x == y) ≡ false → (y == x) ≡ false
 other_way x y differ = false_from_ne_true (y == x) (λ same. both_ways (x == y) differ (eq-eqb x y (sym (eqb-true y x same))))
 
-rest_keeps : (m : Module) (left : List Module) (x : ℕ) (xs : List ℕ) → (m.image.at == x) ≡ false
-    → places_of_rest m left (x ∷ xs) ≡ x ∷ places_of_rest m left xs
-rest_keeps m [] x xs differ = rw (other_way m.image.at x differ) refl
-rest_keeps m (l ∷ ls) x xs differ = refl
+rest_keeps : (m : Module) (left : List Module) (r : Region) (rs : List Region) → (m.image.at == r.at) ≡ false
+    → ranges_of_rest m left (r ∷ rs) ≡ r ∷ ranges_of_rest m left rs
+rest_keeps m [] r rs differ = rw (other_way m.image.at r.at differ) refl
+rest_keeps m (l ∷ ls) r rs differ = refl
 
-keeps_first : (slot x : ℕ) (ms : List Module) (xs : List ℕ) → list_any (λ y. y == x) (images_of ms) ≡ false
-    → places_left slot ms (x ∷ xs) ≡ x ∷ places_left slot ms xs
-keeps_first slot x [] xs others = refl
-keeps_first slot x (m ∷ ms) xs others =
-    let parts = or_parts (m.image.at == x) (list_any (λ y. y == x) (images_of ms)) others in
+keeps_first : (slot : ℕ) (r : Region) (ms : List Module) (rs : List Region) → list_any (starts_at r.at) (map range_of (images_of ms)) ≡ false
+    → ranges_left slot ms (r ∷ rs) ≡ r ∷ ranges_left slot ms rs
+keeps_first slot r [] rs others = refl
+keeps_first slot r (m ∷ ms) rs others =
+    let parts = or_parts (m.image.at == r.at) (list_any (starts_at r.at) (map range_of (images_of ms))) others in
     elim (cases_Bool (has_instance slot m)) [
-      | inl own ↦ rw own (rest_keeps m (module_without slot m) x xs parts.0)
-      | inr its ↦ rw its (keeps_first slot x ms xs parts.1)
+      | inl own ↦ rw own (rest_keeps m (module_without slot m) r rs parts.0)
+      | inr its ↦ rw its (keeps_first slot r ms rs parts.1)
     ]
 
-in_front : (test : ℕ → Bool) (xs ys : List ℕ) → list_any test (xs ++ ys) ≡ false → list_any test xs ≡ false
+in_front : (test : Region → Bool) (xs ys : List Image) → list_any test (map range_of (xs ++ ys)) ≡ false → list_any test (map range_of xs) ≡ false
 in_front test [] ys none = refl
 in_front test (x ∷ xs) ys none =
-    let parts = or_parts (test x) (list_any test (xs ++ ys)) none in
+    let parts = or_parts (test (range_of x)) (list_any test (map range_of (xs ++ ys))) none in
     rw (parts.0, in_front test xs ys parts.1) refl
 
-first_left : (slot : ℕ) (m : Module) (left : List Instance) (ms : List Module) (pending : List ℕ)
-    → places_of_rest m (still slot m left) (m.image.at ∷ (images_of ms ++ pending)) ≡ images_of (still slot m left ++ ms) ++ pending
+first_left : (slot : ℕ) (m : Module) (left : List Instance) (ms : List Module) (pending : List Image)
+    → ranges_of_rest m (still slot m left) (map range_of (m.image ∷ (images_of ms ++ pending)))
+    ≡ map range_of (images_of (still slot m left ++ ms) ++ pending)
 first_left slot m [] ms pending = rw (eq-eqb m.image.at m.image.at refl) refl
 first_left slot m (i ∷ others) ms pending = refl
 
-pub places_removed : (slot : ℕ) (modules : List Module) (pending : List ℕ) → AreDifferent (images_of modules ++ pending)
-    → places_left slot modules (images_of modules ++ pending) ≡ images_of (without_instance slot modules) ++ pending
-places_removed slot [] pending different = refl
-places_removed slot (m ∷ ms) pending different =
-    let none : list_any (λ y. y == m.image.at) (images_of ms) ≡ false = in_front (λ y. y == m.image.at) (images_of ms) pending different.0 in
+pub ranges_removed : (slot : ℕ) (modules : List Module) (pending : List Image) → AreDifferent (map range_of (images_of modules ++ pending))
+    → ranges_left slot modules (map range_of (images_of modules ++ pending)) ≡ map range_of (images_of (without_instance slot modules) ++ pending)
+ranges_removed slot [] pending different = refl
+ranges_removed slot (m ∷ ms) pending different =
+    let none : list_any (starts_at m.image.at) (map range_of (images_of ms)) ≡ false = in_front (starts_at m.image.at) (images_of ms) pending different.0 in
     elim (cases_Bool (has_instance slot m)) [
       | inl own ↦ rw own (first_left slot m (without_first (has_slot slot) m.instances) ms pending)
-      | inr its ↦ rw its (keeps_first slot m.image.at ms (images_of ms ++ pending) none
-          ∙ ap (λ (xs : List ℕ). m.image.at ∷ xs) (places_removed slot ms pending different.1))
+      | inr its ↦ rw its (keeps_first slot (range_of m.image) ms (map range_of (images_of ms ++ pending)) none
+          ∙ ap (λ (rs : List Region). range_of m.image ∷ rs) (ranges_removed slot ms pending different.1))
     ]
 
 -- the pending image goes
-pub places_given_up : (at : ℕ) (xs : List ℕ) → AreDifferent (xs ++ at ∷ []) → without_first (λ y. y == at) (xs ++ at ∷ []) ≡ xs ++ []
-places_given_up at [] different = rw (eq-eqb at at refl) refl
-places_given_up at (x ∷ xs) different =
-    let differ : (x == at) ≡ false = other_way at x (last_differs x at xs different.0) in
-    rw differ (ap (λ (ys : List ℕ). x ∷ ys) (places_given_up at xs different.1)) where
-      last_differs : (x at : ℕ) (xs : List ℕ) → list_any (λ y. y == x) (xs ++ at ∷ []) ≡ false → (at == x) ≡ false
-      last_differs x at [] none = (or_parts (at == x) false none).0
-      last_differs x at (y ∷ ys) none = last_differs x at ys (or_parts (y == x) (list_any (λ z. z == x) (ys ++ at ∷ [])) none).1
+pub ranges_given_up : (image : Image) (xs : List Image) → AreDifferent (map range_of (xs ++ image ∷ []))
+    → without_first (starts_at image.at) (map range_of (xs ++ image ∷ [])) ≡ map range_of (xs ++ [])
+ranges_given_up image [] different = rw (eq-eqb image.at image.at refl) refl
+ranges_given_up image (x ∷ xs) different =
+    let differ : (x.at == image.at) ≡ false = other_way image.at x.at (last_differs x.at xs different.0) in
+    rw differ (ap (λ (rs : List Region). range_of x ∷ rs) (ranges_given_up image xs different.1)) where
+      last_differs : (at : ℕ) (xs : List Image) → list_any (starts_at at) (map range_of (xs ++ image ∷ [])) ≡ false → (image.at == at) ≡ false
+      last_differs at [] none = (or_parts (image.at == at) false none).0
+      last_differs at (y ∷ ys) none = last_differs at ys (or_parts (y.at == at) (list_any (starts_at at) (map range_of (ys ++ image ∷ []))) none).1
 
 -- A release keeps all records.
 released_others : (s : Store) (h : HeapList) (block : ℕ) (held : Bool) (r : Option (List Item))
@@ -130,24 +132,24 @@ record AreLeft (slot : ℕ) (modules : List Module) (old new : List Region) : Ty
   system : IsRecorded system_pages old → IsRecorded system_pages new
   solid : AreSolid old → AreSolid new
   beside : count_beside new ≡ count_beside old
-  places : image_places new ≡ places_left slot modules (image_places old)
+  ranges : image_ranges new ≡ ranges_left slot modules (image_ranges old)
 
 rest_left : (e : Estate) (m : Module) (left : List Module)
     → (IsRecorded system_pages e.store.others → IsRecorded system_pages (image_gone_of e m left).store.others)
     × (AreSolid e.store.others → AreSolid (image_gone_of e m left).store.others)
     × (count_beside (image_gone_of e m left).store.others ≡ count_beside e.store.others)
-    × (image_places (image_gone_of e m left).store.others ≡ places_of_rest m left (image_places e.store.others))
+    × (image_ranges (image_gone_of e m left).store.others ≡ ranges_of_rest m left (image_ranges e.store.others))
 rest_left e m [] =
     let others = image_gone_others e m.image in (
       λ there. rw others (system_less m.image.at e.store.others there),
       λ solid. rw others (solid_less m.image.at e.store.others solid),
       ap count_beside others ∙ beside_less m.image.at e.store.others,
-      ap image_places others ∙ places_less m.image.at e.store.others,
+      ap image_ranges others ∙ ranges_less m.image.at e.store.others,
     )
 rest_left e m (l ∷ ls) = (λ there. there, λ solid. solid, refl, refl)
 
 are_left : (e : Estate) (slot : ℕ) (modules : List Module) → AreLeft slot modules e.store.others (image_gone_with e slot modules).store.others
-are_left e slot [] = record { system = λ there. there; solid = λ solid. solid; beside = refl; places = refl }
+are_left e slot [] = record { system = λ there. there; solid = λ solid. solid; beside = refl; ranges = refl }
 are_left e slot (m ∷ ms) = elim (cases_Bool (has_instance slot m)) [
   | inl own ↦
       let rest = rest_left e m (module_without slot m) in
@@ -155,7 +157,7 @@ are_left e slot (m ∷ ms) = elim (cases_Bool (has_instance slot m)) [
         system = rw own rest.0;
         solid = rw own rest.1;
         beside = rw own rest.2;
-        places = rw own rest.3;
+        ranges = rw own rest.3;
       }
   | inr its ↦
       let rest = are_left e slot ms in
@@ -163,29 +165,29 @@ are_left e slot (m ∷ ms) = elim (cases_Bool (has_instance slot m)) [
         system = rw its rest.system;
         solid = rw its rest.solid;
         beside = rw its rest.beside;
-        places = rw its rest.places;
+        ranges = rw its rest.ranges;
       }
 ]
 
 -- The world stays one where an instance is removed, and where an image is given up.
-pub world_removed : (w : World) (slot : ℕ) (pending : List ℕ) → IsWorld w pending → IsEstate (removed w slot).estate → IsWorld (removed w slot) pending
+pub world_removed : (w : World) (slot : ℕ) (pending : List Image) → IsWorld w pending → IsEstate (removed w slot).estate → IsWorld (removed w slot) pending
 unfolding removed
 world_removed w slot pending world estate =
     let freed : Estate = private_freed w.estate slot in
     let same : freed.store.others ≡ w.estate.store.others = private_freed_others w.estate slot in
     let left = are_left freed slot w.modules in
-    let places = ap image_places same ∙ world.images in
+    let ranges = ap image_ranges same ∙ world.images in
     record {
       estate = estate;
       system = left.system (rw same world.system);
-      images = left.places ∙ ap (λ (xs : List ℕ). places_left slot w.modules xs) places
-          ∙ places_removed slot w.modules pending (images_differ w pending world);
+      images = left.ranges ∙ ap (λ (rs : List Region). ranges_left slot w.modules rs) ranges
+          ∙ ranges_removed slot w.modules pending (images_differ w pending world);
       solid = left.solid (rw same world.solid);
       few = rw (left.beside, same) world.few;
     }
 
-pub world_given_up : (w : World) (image : Image) → IsWorld w (image.at ∷ []) → IsEstate (image_gone w.estate image)
+pub world_given_up : (w : World) (image : Image) → IsWorld w (image ∷ []) → IsEstate (image_gone w.estate image)
     → IsWorld (record w { estate = image_gone w.estate image }) []
 world_given_up w image world estate =
-    world_less w (record w { estate = image_gone w.estate image }) image.at (image.at ∷ []) [] world (image_gone_others w.estate image)
-    (places_given_up image.at (images_of w.modules) (images_differ w (image.at ∷ []) world)) estate
+    world_less w (record w { estate = image_gone w.estate image }) image.at (image ∷ []) [] world (image_gone_others w.estate image)
+    (ranges_given_up image (images_of w.modules) (images_differ w (image ∷ []) world)) estate

@@ -16,6 +16,7 @@ use Rattle.dynamic_areas.proofs.SystemWrites.{system_kept, two_writes}
 use Rattle.flex_kept.specs.Keeping.{KeepsFlex}
 use Rattle.flex_kept.proofs.Writes.{system_keeps}
 use Rattle.instances_plans.specs.Code.{private_of}
+use Rattle.instances_table.specs.declared.parts.Image.{Image}
 use Rattle.instances_table.specs.Modules.{Module}
 use Rattle.instances_ground.specs.Sound.{HasSystemPages, IsWorld}
 use Rattle.instances_ground.specs.World.{private_word, with_bytes, with_private, with_text, world_of}
@@ -25,7 +26,7 @@ mapped_in : (m : AddressMap) (l : Land) → IsEstate (estate_of m l) → AreMapp
 unfolding store_of
 mapped_in m l estate a low high = system_mapped (store_of m) (free_pages m) l estate a (here 0x01C00000 0x3000 a low high)
 
-pub has_system : (m : AddressMap) (l : Land) (modules : List Module) (pending : List ℕ) → IsWorld (world_of m l modules) pending → HasSystemPages m
+pub has_system : (m : AddressMap) (l : Land) (modules : List Module) (pending : List Image) → IsWorld (world_of m l modules) pending → HasSystemPages m
 has_system m l modules pending world = record {
   sound = world.estate.ground.sound;
   recorded = world.system;
@@ -41,7 +42,7 @@ estate_written m n l bytes kept same written =
     let pool : free_pages n ≡ free_pages m = ap (λ (q : Layout). q.free_pages) same in
     λ i. record { store = store i; pool = pool i; land = l }
 
-pub world_written : (m n : AddressMap) (l : Land) (modules : List Module) (pending : List ℕ) → IsKept m n → layout n ≡ layout m
+pub world_written : (m n : AddressMap) (l : Land) (modules : List Module) (pending : List Image) → IsKept m n → layout n ≡ layout m
     → IsWorld (world_of m l modules) pending → IsWorld (world_of n l modules) pending
 world_written m n l modules pending kept same world =
     world_kept (world_of m l modules) (world_of n l modules) pending world refl (ap (λ (s : Store). s.others) kept.store)

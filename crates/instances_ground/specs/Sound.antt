@@ -1,19 +1,22 @@
--- What holds of the world of modules between all module calls, and within one (this project's own): each module's image is recorded, one record to
--- a module, in the order of the modules.
-use Rattle.std.specs.Prelude.{ℕ, ◌≡◌, ◌≤◌, ◌<◌, true, suc, List, [], ◌∷◌, ◌++◌, map, if◌then◌else◌}
+-- What holds of the world of modules between all module calls, and within one (this project's own): each module's image is recorded, with its whole
+-- length, one record to a module, in the order of the modules.
+use Rattle.std.specs.Prelude.{ℕ, ◌≡◌, ◌≤◌, ◌<◌, ◌-◌, true, suc, List, [], ◌∷◌, ◌++◌, map, if◌then◌else◌}
 use Rattle.address_map.specs.declared.map.AddressMap.{AddressMap}
+use Rattle.address_map.specs.declared.region.Kind.TheVariants as kind
 use Rattle.address_map.specs.declared.region.Region.{Region}
 use Rattle.address_map.specs.Bytes.{AreMapped}
 use Rattle.address_map.specs.Memory.{is_mapped}
+use Rattle.os_heap_lists.specs.Lists.{total_for}
 use Rattle.os_heap.specs.Store.{IsSound, is_image, store_of}
 use Rattle.dynamic_areas.specs.Ground.{IsEstate, IsRecorded, system_pages}
+use Rattle.instances_table.specs.declared.parts.Image.{Image}
 use Rattle.instances_table.specs.Modules.{Module}
 use Rattle.instances_ground.specs.World.{World}
 
--- the addresses of the recorded images, oldest first, and how many other records there are
-abbrev pub image_places : List Region → List ℕ
-image_places [] = []
-image_places (r ∷ rs) = if is_image r.kind then r.at ∷ image_places rs else image_places rs
+-- the records of images, oldest first, and how many other records there are
+abbrev pub image_ranges : List Region → List Region
+image_ranges [] = []
+image_ranges (r ∷ rs) = if is_image r.kind then r ∷ image_ranges rs else image_ranges rs
 
 abbrev pub count_beside : List Region → ℕ
 count_beside [] = 0
@@ -24,17 +27,23 @@ abbrev pub AreSolid : List Region → Type 0
 AreSolid [] = Unit {0}
 AreSolid (r ∷ rs) = (is_image r.kind ≡ true → 0 < r.len) × AreSolid rs
 
--- the addresses of the images of modules
-abbrev pub images_of : List Module → List ℕ
-images_of modules = map (λ (m : Module). m.image.at) modules
+-- How many bytes are recorded for an image: all that a block holds which is claimed for it, or just its own, where it stands in place.
+abbrev pub recorded_len : Image → ℕ
+recorded_len image = if image.in_rma then total_for image.len - 4 else image.len
+
+abbrev pub range_of : Image → Region
+range_of image = record { kind = kind.Image; at = image.at; len = recorded_len image }
+
+abbrev pub images_of : List Module → List Image
+images_of modules = map (λ (m : Module). m.image) modules
 
 -- The memory is sound, and the system pages are among its records. The images recorded are those of the modules, and behind these the `pending`
 -- ones, which a call under way has recorded and not added to the modules yet. Beside images there are the records of the system pages and of the
 -- flex store at most.
-pub record IsWorld (w : World) (pending : List ℕ) : Type 0 where
+pub record IsWorld (w : World) (pending : List Image) : Type 0 where
   pub estate : IsEstate w.estate
   pub system : IsRecorded system_pages w.estate.store.others
-  pub images : image_places w.estate.store.others ≡ images_of w.modules ++ pending
+  pub images : image_ranges w.estate.store.others ≡ map range_of (images_of w.modules ++ pending)
   pub solid : AreSolid w.estate.store.others
   pub few : count_beside w.estate.store.others ≤ 2
 

@@ -8,6 +8,7 @@ ghost use Rattle.dynamic_areas.specs.Areas.{Land};
 ghost use Rattle.dynamic_areas.specs.Ground.{IsEstate, estate_of};
 ghost use Rattle.flex_kept.specs.Keeping.{KeepsFlex};
 ghost use Rattle.instances_plans.specs.Code.{private_of};
+ghost use Rattle.instances_table.specs.declared.parts.Image.{Image};
 ghost use Rattle.instances_table.specs.Modules.{Module};
 ghost use Rattle.instances_ground.specs.Sound.{HasSystemPages, IsWorld};
 ghost use Rattle.instances_ground.specs.World.{private_word, with_private, with_text, world_of};
@@ -31,7 +32,7 @@ pub fn put_private(map: &mut AddressMap, slot: u32, value: u32)
     requires below { slot < 64 }
     requires system { HasSystemPages map.old }
     ensures estate { (l : Land) → estate_of map.new l ≡ with_private (estate_of map.old l) slot value }
-    ensures sound { (l : Land) (modules : List Module) (pending : List ℕ) → IsWorld (world_of map.old l modules) pending
+    ensures sound { (l : Land) (modules : List Module) (pending : List Image) → IsWorld (world_of map.old l modules) pending
         → IsWorld (world_of map.new l modules) pending }
     ensures pages { HasSystemPages map.new }
     ensures classes { AreClasses map.old → AreClasses map.new }
@@ -47,7 +48,7 @@ pub fn put_text(map: &mut AddressMap, text: &[u8])
     requires system { HasSystemPages map.old }
     ensures estate { (l : Land) → estate_of map.new l ≡ with_text (estate_of map.old l) text.now }
     ensures areas { (l : Land) → IsEstate (estate_of map.old l) → IsEstate (estate_of map.new l) }
-    ensures sound { (l : Land) (modules : List Module) (pending : List ℕ) → IsWorld (world_of map.old l modules) pending
+    ensures sound { (l : Land) (modules : List Module) (pending : List Image) → IsWorld (world_of map.old l modules) pending
         → IsWorld (world_of map.new l modules) pending }
     ensures pages { HasSystemPages map.new }
     ensures classes { AreClasses map.old → AreClasses map.new }

@@ -1,9 +1,9 @@
 -- The records of images after a slide: they are mapped, and follow the images of modules.
-use Rattle.std.proofs.Common.{◌≡◌, ℕ, Bool, true, ◌+◌, ◌∙◌, ◌⊎◌, List, [], ◌∷◌, ◌++◌, map, refl, sym, ap, subst, Some, inl, inr, arith, append-nil}
+use Rattle.std.proofs.Common.{◌≡◌, ℕ, Bool, true, ◌+◌, ◌∙◌, ◌⊎◌, List, [], ◌∷◌, ◌++◌, map, refl, sym, ap, subst, Some, inl, inr, arith}
 use Rattle.std.proofs.lemmas.Bool.{cases_Bool, cases_eq, le-leb, lt-ltb}
 use Rattle.address_map.specs.Bytes.{AreMapped, Bytes, in_range}
 use Rattle.address_map.specs.Items.{size_of}
-use Rattle.address_map.specs.Moves.{moved_place, moved_region, moved_regions, moved_to}
+use Rattle.address_map.specs.Moves.{moved_place, moved_region, moved_regions}
 use Rattle.address_map.specs.declared.follow.Move.{Move}
 use Rattle.address_map.specs.declared.region.Region.{Region}
 use Rattle.os_heap_lists.proofs.LiveBlocks.{LiveBytes, live_bytes}
@@ -11,10 +11,10 @@ use Rattle.os_heap_lists.specs.Heap.{HeapList}
 use Rattle.os_heap.proofs.Stores.{AreOthers, clear_of-found}
 use Rattle.os_heap.specs.Calls.{with_items}
 use Rattle.os_heap.specs.Store.{AreClear, AreHeapsIn, ArePlaced, find_heap, is_image, IsClearOfHeaps, IsImageIn}
-use Rattle.os_heap_slide.proofs.Records.{image_in_moved, image_place, IsSlide, moves_in, out_still, slid_in, still_place}
+use Rattle.os_heap_slide.proofs.Records.{image_in_moved, IsSlide, moves_in, out_still, slid_in, still_place}
 use Rattle.dynamic_areas.specs.Ground.{AreRangesMapped, IsRecorded, system_pages}
 use Rattle.instances_table.specs.Modules.{Module}
-use Rattle.instances_ground.specs.Sound.{AreSolid, count_beside, image_places, images_of}
+use Rattle.instances_ground.specs.Sound.{AreSolid, count_beside, image_ranges, images_of, range_of}
 use Rattle.instances_slide.specs.Slid.{image_moved}
 
 -- the bytes of an image in a heap are mapped
@@ -58,22 +58,21 @@ system_moved moves [] there = there
 system_moved moves (r ∷ rs) (inl same) = inl (ap (moved_region moves) same)
 system_moved moves (r ∷ rs) (inr later) = inr (system_moved moves rs later)
 
-places_moved : (moves : List Move) (rs : List Region) → image_places (moved_regions moves rs) ≡ map (moved_to moves) (image_places rs)
-places_moved moves [] = refl
-places_moved moves (r ∷ rs) = elim (cases_Bool (is_image r.kind)) [
-  | inl image ↦ rw (image, image_place moves r.kind r.at image, places_moved moves rs) refl
-  | inr other ↦ rw (other, places_moved moves rs) refl
+ranges_moved : (moves : List Move) (rs : List Region) → image_ranges (moved_regions moves rs) ≡ moved_regions moves (image_ranges rs)
+ranges_moved moves [] = refl
+ranges_moved moves (r ∷ rs) = elim (cases_Bool (is_image r.kind)) [
+  | inl image ↦ rw image (ap (λ (xs : List Region). moved_region moves r ∷ xs) (ranges_moved moves rs))
+  | inr other ↦ rw other (ranges_moved moves rs)
 ]
 
-images_moved : (moves : List Move) (modules : List Module) → images_of (map (image_moved moves) modules) ≡ map (moved_to moves) (images_of modules)
+images_moved : (moves : List Move) (modules : List Module)
+    → map range_of (images_of (map (image_moved moves) modules) ++ []) ≡ moved_regions moves (map range_of (images_of modules ++ []))
 images_moved moves [] = refl
-images_moved moves (m ∷ ms) = ap (λ (xs : List ℕ). moved_to moves m.image.at ∷ xs) (images_moved moves ms)
+images_moved moves (m ∷ ms) = ap (λ (xs : List Region). moved_region moves (range_of m.image) ∷ xs) (images_moved moves ms)
 
-pub images_follow : (moves : List Move) (rs : List Region) (modules : List Module) → image_places rs ≡ images_of modules ++ []
-    → image_places (moved_regions moves rs) ≡ images_of (map (image_moved moves) modules) ++ []
-images_follow moves rs modules images =
-    places_moved moves rs ∙ ap (map (moved_to moves)) (images ∙ append-nil (images_of modules)) ∙ sym (images_moved moves modules)
-    ∙ sym (append-nil (images_of (map (image_moved moves) modules)))
+pub images_follow : (moves : List Move) (rs : List Region) (modules : List Module) → image_ranges rs ≡ map range_of (images_of modules ++ [])
+    → image_ranges (moved_regions moves rs) ≡ map range_of (images_of (map (image_moved moves) modules) ++ [])
+images_follow moves rs modules images = ranges_moved moves rs ∙ ap (moved_regions moves) images ∙ sym (images_moved moves modules)
 
 pub solid_moved : (moves : List Move) (rs : List Region) → AreSolid rs → AreSolid (moved_regions moves rs)
 solid_moved moves [] solid = tt

@@ -6,6 +6,7 @@ ghost use Rattle.os_heap.specs.Store.{AreClasses, store_of};
 ghost use Rattle.dynamic_areas.specs.Areas.{Land};
 ghost use Rattle.dynamic_areas.specs.Ground.{estate_of};
 ghost use Rattle.flex_kept.specs.Keeping.{KeepsFlex};
+ghost use Rattle.instances_table.specs.declared.parts.Image.{Image};
 ghost use Rattle.instances_table.specs.Modules.{Module};
 ghost use Rattle.instances_ground.specs.Sound.{HasSystemPages, IsWorld};
 ghost use Rattle.instances_ground.specs.World.{world_of};
@@ -41,7 +42,7 @@ pub(crate) fn move_words(map: &mut AddressMap, slots: &[u32], moves: &[Move])
     requires below { EachIndex slots.now (λ k. slice_index slots.now k < 64) }
     requires system { HasSystemPages map.old }
     ensures estate { (l : Land) → estate_of map.new l ≡ words_moved moves.now slots.now (estate_of map.old l) }
-    ensures sound { (l : Land) (modules : List Module) (pending : List ℕ) → IsWorld (world_of map.old l modules) pending
+    ensures sound { (l : Land) (modules : List Module) (pending : List Image) → IsWorld (world_of map.old l modules) pending
         → IsWorld (world_of map.new l modules) pending }
     ensures classes { AreClasses map.old → AreClasses map.new }
     ensures flex { KeepsFlex (store_of map.old) (store_of map.new) }

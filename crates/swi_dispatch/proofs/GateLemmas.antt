@@ -6,6 +6,7 @@ use Rattle.address_map.specs.declared.map.AddressMap.{AddressMap}
 use Rattle.address_map.specs.Memory.{byte_at, bytes_of, class_of, layout}
 use Rattle.dynamic_areas.specs.Areas.{Land}
 use Rattle.dynamic_areas.specs.Ground.{IsEstate, IsRecorded, system_pages}
+use Rattle.instances_table.specs.declared.parts.Image.{Image}
 use Rattle.instances_table.specs.Modules.{Module}
 use Rattle.os_heap.specs.Store.{AreClasses, IsSound, store_of}
 use Rattle.profile.specs.Outcome.{Gives}
@@ -65,7 +66,7 @@ may_go_on w v p q None is ended going = ended refl
 may_go_on w v p q (Some code) is ended going = (code_runs w p (record { world = v; rest = q; code = Some code }) code is refl, going)
 
 -- the parts of a machine after a call was carried on
-pub well_carried : (new : Parts) (pending : List ℕ) → IsWorld (parts_world new) pending → MayGoOn (parts_world new) new.tables.plan → AreClasses new.map
+pub well_carried : (new : Parts) (pending : List Image) → IsWorld (parts_world new) pending → MayGoOn (parts_world new) new.tables.plan → AreClasses new.map
     → AreFrames new.tables → HasFlex new.map new.tables.flex → new.is_fresh ≡ false → IsWellFormed new
 well_carried new pending world modules classes frames flex stepped = record {
   areas = world.estate;

@@ -22,3 +22,6 @@ pub returns-in-Initialise-clause-world : goal.returns-in-Initialise-clause-world
 returns-in-Initialise-clause-world c = λ slide l.
     let e = rw c.as_slice.ensures.value at (c.put_text.ensures.estate l) in
     rw c.in-Initialise.is (λ i. record { estate = e i; modules = c.args.table.now })
+
+pub returns-in-GiveUp-clause-settled : goal.returns-in-GiveUp-clause-settled
+returns-in-GiveUp-clause-settled c = λ l does world. c.give_up.ensures.sound l c.args.table.now world

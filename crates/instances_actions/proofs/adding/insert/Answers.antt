@@ -2,6 +2,7 @@ use Rattle.std.proofs.Common.{refl, [], ◌∷◌}
 use Rattle.instances_table.proofs.ModuleLemmas.{new_parts}
 use Rattle.instances_ground.specs.World.{world_of}
 use Rattle.instances_ground.proofs.Worlds.{world_renewed}
+use Rattle.instances_actions.specs.Actions.{image_given}
 use Rattle.instances_actions.proofs.NewImages.{images_new}
 use Rattle.instances_actions.proofs.adding.insert.Goals as goal
 
@@ -14,7 +15,7 @@ returns-clause-modules c = rw (c.copied.ensures, c.image_given.ensures) at c.ins
 
 pub returns-clause-sound : goal.returns-clause-sound
 returns-clause-sound c = λ l world.
-    let put = c.put_private.ensures.sound l c.args.table.now (c.args.given.now.image ∷ []) world in
+    let put = c.put_private.ensures.sound l c.args.table.now (image_given c.args.given.now ∷ []) world in
     let added = rw (c.copied.ensures, c.image_given.ensures) at c.insert.ensures.table in
     world_renewed (world_of c.put_private.new.map l c.args.table.now) (world_of c.put_private.new.map l c.insert.new.self)
-    (c.args.given.now.image ∷ []) [] put (images_new c.args.given.now c.args.slot c.args.table.now c.insert.new.self c.requires.new added) refl put.estate
+    (image_given c.args.given.now ∷ []) [] put (images_new c.args.given.now c.args.slot c.args.table.now c.insert.new.self c.requires.new added) refl put.estate

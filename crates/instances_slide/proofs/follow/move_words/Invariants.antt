@@ -1,8 +1,9 @@
-use Rattle.std.proofs.Common.{◌≡◌, ℕ, List, drop}
+use Rattle.std.proofs.Common.{◌≡◌, List, drop}
 use Rattle.os_heap.specs.Store.{AreClasses, store_of}
 use Rattle.dynamic_areas.specs.Areas.{Land}
 use Rattle.dynamic_areas.specs.Ground.{estate_of}
 use Rattle.flex_kept.specs.Keeping.{KeepsFlex}
+use Rattle.instances_table.specs.declared.parts.Image.{Image}
 use Rattle.instances_table.specs.Modules.{Module}
 use Rattle.instances_ground.specs.Sound.{HasSystemPages, IsWorld}
 use Rattle.instances_ground.specs.World.{world_of}
@@ -14,7 +15,7 @@ abbrev pub invariant-loop-slot : goal.invariant-loop-slot
 invariant-loop-slot l = record {
   system : HasSystemPages l.map;
   estate : (land : Land) → words_moved l.moves (drop l.slot-index l.slots) (estate_of l.map land) ≡ words_moved l.moves l.slots (estate_of l.fn.map land);
-  sound : (land : Land) (modules : List Module) (pending : List ℕ) → IsWorld (world_of l.fn.map land modules) pending
+  sound : (land : Land) (modules : List Module) (pending : List Image) → IsWorld (world_of l.fn.map land modules) pending
       → IsWorld (world_of l.map land modules) pending;
   classes : AreClasses l.fn.map → AreClasses l.map;
   flex : KeepsFlex (store_of l.fn.map) (store_of l.map);

@@ -1,4 +1,4 @@
-use Rattle.std.proofs.Common.{◌≡◌, [], true, refl, sym, ap, ◌∙◌, arith}
+use Rattle.std.proofs.Common.{◌≡◌, [], true, false, refl, sym, ap, ◌∙◌, arith}
 use Rattle.os_heap.specs.Store.{store_of}
 use Rattle.dynamic_areas.specs.Ground.{Estate}
 use Rattle.rma.specs.NewImages.{may_be_in_place}
@@ -22,7 +22,7 @@ pub returns-clause-sound : goal.returns-clause-sound
 returns-clause-sound c =
     rw c.adding_plan.ensures.pending
     (world_more (world_of c.args.map.now c.args.areas.now c.args.self.now) (world_of c.record_in_place.new.map c.args.areas.now c.args.self.now)
-    c.args.at c.args.len [] c.requires.sound refl (ap (λ (e : Estate). e.store.others) (c.record_in_place.ensures.placed c.args.areas.now))
+    (record { at = c.args.at; len = c.args.len; in_rma = false }) [] c.requires.sound refl (ap (λ (e : Estate). e.store.others) (c.record_in_place.ensures.placed c.args.areas.now))
     c.in_ok-header.ensures.some (c.record_in_place.ensures.estate c.args.areas.now c.requires.sound.estate))
 
 pub returns-clause-world : goal.returns-clause-world

@@ -1,0 +1,59 @@
+-- The images of a world are held whole, and share no byte.
+use Rattle.std.proofs.Common.{◌≤◌, ◌⊎◌, List, [], ◌∷◌, ◌++◌, map, refl, subst, inl, inr, arith}
+use Rattle.std.specs.List.{AllByRecursion}
+use Rattle.std.proofs.lemmas.Bool.{cases_Bool}
+use Rattle.address_map.specs.declared.region.Region.{Region}
+use Rattle.os_heap_lists.specs.Heap.{HeapList}
+use Rattle.os_heap.specs.Store.{AreRangesApart, ArePlaced, IsClearOfHeaps, IsClearOfRanges, IsImageIn, is_image}
+use Rattle.dynamic_areas.specs.Ground.{IsRecorded}
+use Rattle.instances_table.specs.declared.parts.Image.{Image}
+use Rattle.instances_ground.specs.Laws.{ImagesAreApart, ImagesAreHeld, IsHeld}
+use Rattle.instances_ground.specs.Sound.{image_ranges, images_of, range_of, recorded_len}
+
+-- what is so of each record is so of those of images
+each_image : (P : Region → Type 0) (hs : List HeapList) (rs : List Region)
+    → ((r : Region) → IsRecorded r rs → IsClearOfHeaps r.at r.len hs ⊎ IsImageIn hs r → P r) → ArePlaced hs rs → AllByRecursion P (image_ranges rs)
+each_image P hs [] is placed = tt
+each_image P hs (r ∷ rs) is placed =
+    let rest : AllByRecursion P (image_ranges rs) = each_image P hs rs (λ q there place. is q (inr there) place) placed.1 in
+    elim (cases_Bool (is_image r.kind)) [
+      | inl image ↦ rw image (is r (inl refl) placed.0, rest)
+      | inr other ↦ rw other rest
+    ]
+
+each_of : (P : Region → Type 0) (Q : Image → Type 0) (xs : List Image) → ((x : Image) → P (range_of x) → Q x) → AllByRecursion P (map range_of xs)
+    → AllByRecursion Q xs
+each_of P Q [] leads all = tt
+each_of P Q (x ∷ xs) leads all = (leads x all.0, each_of P Q xs leads all.1)
+
+-- a block has room for what it was claimed for
+whole_len : (image : Image) → image.len ≤ recorded_len image
+whole_len image = elim (cases_Bool image.in_rma) [
+  | inl area ↦ rw area (omega arith)
+  | inr place ↦ rw place (omega arith)
+]
+
+pub images_are_held : ImagesAreHeld
+images_are_held w pending world =
+    let hs : List HeapList = w.estate.store.heaps in
+    let rs : List Region = w.estate.store.others in
+    let P : Region → Type 0 = λ r. IsRecorded r rs × (IsClearOfHeaps r.at r.len hs ⊎ IsImageIn hs r) in
+    each_of P (IsHeld w) (images_of w.modules ++ pending) (λ image held. record { recorded = held.0; whole = whole_len image; place = held.1 })
+    (subst (AllByRecursion P) world.images (each_image P hs rs (λ r there place. (there, place)) world.estate.ground.sound.placed))
+
+clear_of_images : (r : Region) (rs : List Region) → IsClearOfRanges r rs → IsClearOfRanges r (image_ranges rs)
+clear_of_images r [] clear = tt
+clear_of_images r (q ∷ rs) clear = elim (cases_Bool (is_image q.kind)) [
+  | inl image ↦ rw image (clear.0, clear_of_images r rs clear.1)
+  | inr other ↦ rw other (clear_of_images r rs clear.1)
+]
+
+images_apart : (rs : List Region) → AreRangesApart rs → AreRangesApart (image_ranges rs)
+images_apart [] apart = tt
+images_apart (r ∷ rs) apart = elim (cases_Bool (is_image r.kind)) [
+  | inl image ↦ rw image (clear_of_images r rs apart.0, images_apart rs apart.1)
+  | inr other ↦ rw other (images_apart rs apart.1)
+]
+
+pub images_are_apart : ImagesAreApart
+images_are_apart w pending world = subst AreRangesApart world.images (images_apart w.estate.store.others world.estate.ground.sound.apart)

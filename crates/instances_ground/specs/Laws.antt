@@ -1,0 +1,21 @@
+-- What a world says of the images of modules, and of those that are pending.
+use Rattle.std.specs.Prelude.{◌≤◌, ◌⊎◌, List, ◌++◌, map}
+use Rattle.std.specs.List.{AllByRecursion}
+use Rattle.os_heap.specs.Store.{AreRangesApart, IsClearOfHeaps, IsImageIn}
+use Rattle.dynamic_areas.specs.Ground.{IsRecorded}
+use Rattle.instances_table.specs.declared.parts.Image.{Image}
+use Rattle.instances_ground.specs.Sound.{IsWorld, images_of, range_of, recorded_len}
+use Rattle.instances_ground.specs.World.{World}
+
+-- An image is recorded with its whole length: over all that a live block of the module area holds, or over bytes that are no heap's.
+pub record IsHeld (w : World) (image : Image) : Type 0 where
+  pub recorded : IsRecorded (range_of image) w.estate.store.others
+  pub whole : image.len ≤ recorded_len image
+  pub place : IsClearOfHeaps image.at (recorded_len image) w.estate.store.heaps ⊎ IsImageIn w.estate.store.heaps (range_of image)
+
+abbrev pub ImagesAreHeld : Type 0
+ImagesAreHeld = (w : World) (pending : List Image) → IsWorld w pending → AllByRecursion (IsHeld w) (images_of w.modules ++ pending)
+
+-- no two of them share a byte
+abbrev pub ImagesAreApart : Type 0
+ImagesAreApart = (w : World) (pending : List Image) → IsWorld w pending → AreRangesApart (map range_of (images_of w.modules ++ pending))
