@@ -1,5 +1,5 @@
 -- Calls that add a module: what they read is mapped, and what they leave is a world whose new image is pending.
-use Rattle.std.proofs.Common.{◌≡◌, ℕ, ◌+◌, ◌-◌, ◌==◌, ◌&&◌, ◌<◌, ◌≤◌, true, false, List, [], ◌∷◌, ◌++◌, length, refl, Ok, Err, inl, inr, arith}
+use Rattle.std.proofs.Common.{◌≡◌, ℕ, ◌+◌, ◌==◌, ◌&&◌, ◌<◌, ◌≤◌, true, false, List, [], ◌∷◌, ◌++◌, length, refl, Ok, Err, inl, inr, arith}
 use Rattle.std.specs.Prelude.{IfOk, Result, nat_lt, not}
 use Rattle.std.proofs.lemmas.Bool.{and_parts, both_ways, cases_Bool, eqb-true, false_from_ne_true, le-leb, lt-ltb, ltb-false, or_from, or_parts}
 use Rattle.address_map.specs.Bytes.{AreMapped, bytes_between, in_range}
@@ -12,7 +12,6 @@ use Rattle.module_header.specs.declared.header.Header.{Header}
 use Rattle.os_heap.proofs.Added.{are_mapped_all}
 use Rattle.os_heap.specs.Ranges.{are_mapped}
 use Rattle.os_heap.specs.Store.{has_image, is_image}
-use Rattle.os_heap_lists.specs.Lists.{total_for}
 use Rattle.dynamic_areas.specs.Ground.{Estate, IsEstate}
 use Rattle.rma.specs.Copies.{has_bare, may_be_copied}
 use Rattle.flex_kept.specs.Keeping.{is_in_record}
