@@ -1,8 +1,6 @@
 -- The record of a flex store: it shares no byte with a heap or a range that is recorded already, and keeps all heaps.
-use Rattle.std.proofs.Common.{◌≡◌, ℕ, ◌+◌, ◌-◌, ◌<◌, ◌≤◌, ◌&&◌, ◌||◌, ◌==◌, ◌++◌, not, Bool, true, false, List, [], ◌∷◌, length, refl, sym, ap, subst, ◌∙◌, arith, inl, inr, ◌%◌}
-use Rattle.std.specs.List.{list_any}
-use Rattle.std.specs.Prelude.{nat_lt}
-use Rattle.std.proofs.lemmas.Bool.{and_parts, cases_Bool, leb-true, ltb-true, lt-ltb, eq-eqb, not-true, or_left, or_parts, or_right, true≢false}
+use Rattle.std.proofs.Common.{◌≡◌, ℕ, ◌+◌, ◌-◌, ◌<◌, ◌≤◌, ◌++◌, true, false, List, [], ◌∷◌, length, refl, sym, ap, subst, ◌∙◌, arith, inl, inr}
+use Rattle.std.proofs.lemmas.Bool.{and_parts, cases_Bool, leb-true, ltb-true, lt-ltb, eq-eqb, or_parts, or_right, true≢false}
 use Rattle.address_map.specs.Bytes.{Bytes, in_range, meets}
 use Rattle.address_map.specs.Memory.{byte_at, bytes_of, class_of, is_mapped, mapping, regions}
 use Rattle.address_map.specs.Records.{is_heap_kind, meets_record}
@@ -12,7 +10,6 @@ use Rattle.address_map.specs.declared.region.Region.{Region}
 use Rattle.os_heap.proofs.Frame.{classes_same}
 use Rattle.os_heap.proofs.Recorded.{IsClearOfAll, recorded_sound, store_recorded}
 use Rattle.os_heap.specs.Store.{AreClasses, AreClear, heaps_in, IsClearOfHeaps, IsSound, others_in, Store, store_of}
-use Rattle.os_heap_lists.specs.Heap.{HeapList}
 use Rattle.flex_store.specs.Calls.{flex_record, is_flex_range}
 use Rattle.flex_store.specs.State.{is_recorded, is_store_record}
 use Rattle.flex_store.proofs.Starting.{mapped_same, range_apart}

@@ -1,5 +1,5 @@
 -- The store as it begins.
-use Rattle.std.proofs.Common.{◌≡◌, ℕ, Bool, ◌+◌, ◌-◌, ◌%◌, ◌^◌, ◌<◌, ◌≤◌, ◌==◌, ◌&&◌, not, true, false, nat_eq, nat_lt, List, [], ◌∷◌, length, Option, Some, is_some, arith, refl, sym, ◌∙◌, ap, subst, ◌↔◌}
+use Rattle.std.proofs.Common.{◌≡◌, ℕ, Bool, ◌+◌, ◌-◌, ◌%◌, ◌^◌, ◌<◌, ◌≤◌, ◌==◌, ◌&&◌, not, true, false, nat_eq, nat_lt, List, [], Some, is_some, arith, refl, sym, ◌∙◌, ap, subst, ◌↔◌}
 use Rattle.std.proofs.lemmas.Bool.{and_parts, eqb-true, eq-eqb, ltb-true, lt-ltb, not-true}
 use Rattle.os_heap.proofs.Added.{are_mapped_all, are_mapped_from, ranges_split}
 use Rattle.os_heap.specs.Ranges.{are_mapped}
@@ -15,7 +15,7 @@ use Rattle.flex_store.specs.declared.flex.Extent.{Extent}
 use Rattle.flex_store.specs.Blocks.{Block, used}
 use Rattle.flex_store.specs.Calls.{is_flex_range}
 use Rattle.flex_store.specs.Memory.{blocks_in}
-use Rattle.flex_store.specs.State.{IsFlexRange, IsFlexStore, IsNoFlex, IsStoreAt, blocks_of, held_in}
+use Rattle.flex_store.specs.State.{IsFlexStore, IsNoFlex, IsStoreAt, blocks_of, held_in}
 
 pub record IsGoodRange (mapped : ℕ → Bool) (start end : ℕ) : Type 0 where
   pub start_aligned : start % 4 ≡ 0

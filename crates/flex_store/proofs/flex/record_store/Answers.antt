@@ -1,5 +1,4 @@
 use Rattle.std.proofs.Common.{arith}
-use Rattle.address_map.specs.Memory.{is_mapped, regions}
 use Rattle.flex_store.proofs.Starting.{begins_state, good_range, range_low, starts_empty}
 use Rattle.os_heap.proofs.Limits.{range_room}
 use Rattle.flex_store.proofs.Recording.{begun_store}
