@@ -1,53 +1,26 @@
 -- What the making of the flex store leaves: a record more, and an empty store.
-use Rattle.std.proofs.lemmas.Bool.{both_ways, cases_Bool}
-use Rattle.std.specs.Prelude.{is_some}
-use Rattle.std.proofs.Common.{ℕ, ◌≡◌, ◌-◌, ◌%◌, is_some, ◌==◌, ◌&&◌, Bool, true, false, not, List, [], ◌∷◌, ◌++◌, suc, Option, Some, None, Ok, Err, refl, sym, ap, subst, ◌∙◌, inl, inr}
-use Rattle.std.specs.Prelude.{nat_lt, if◌then◌else◌}
-use Rattle.std.proofs.lemmas.Bool.{cases_Bool, false≢true, true≢false}
-use Rattle.profile.specs.declared.error.ErrorNumber.TheVariants.{FlexBadRange}
-use Rattle.address_map.specs.Bytes.{AreMapped, meets}
+use Rattle.std.proofs.Common.{ℕ, ◌≡◌, ◌-◌, is_some, Bool, true, false, List, [], ◌∷◌, ◌++◌, suc, Option, Some, None, refl, sym, ap, subst, ◌∙◌, inl, inr}
+use Rattle.std.proofs.lemmas.Bool.{both_ways, cases_Bool, false≢true, true≢false}
+use Rattle.address_map.specs.Bytes.{AreMapped}
 use Rattle.address_map.specs.Classes.{is_anchor}
-use Rattle.address_map.specs.Memory.{Mapping, bytes_of, class_of, free_pages, is_mapped, mapping, regions}
+use Rattle.address_map.specs.Memory.{Mapping, class_of, free_pages, is_mapped, mapping, regions}
 use Rattle.address_map.specs.declared.map.AddressMap.{AddressMap}
 use Rattle.address_map.specs.declared.region.Region.{Region}
-use Rattle.os_heap.proofs.Added.{ranges_split}
 use Rattle.address_map.specs.Records.{is_heap_kind}
-use Rattle.os_heap.specs.Ranges.{are_mapped}
 use Rattle.os_heap.specs.Store.{IsSound, others_in, store_of}
 use Rattle.dynamic_areas.specs.Areas.{Land}
-use Rattle.dynamic_areas.specs.Ground.{AreAreas, AreRangesMapped}
+use Rattle.dynamic_areas.specs.Ground.{AreAreas}
 use Rattle.flex_kept.specs.Keeping.{AreAnchorsFree}
-use Rattle.flex_store.specs.Calls.{FlexState, begun, begun_by, flex_record, is_flex_range, with_flex}
+use Rattle.rma.proofs.ImageLemmas.{mapped_more}
+use Rattle.flex_store.specs.Calls.{FlexState, flex_record, is_flex_range}
 use Rattle.flex_store.specs.State.{IsFlex, IsFlexAt, flex_in, state_of}
 use Rattle.flex_store.specs.declared.flex.Extent.{Extent}
 use Rattle.flex_store.specs.declared.flex.Flex.{Flex}
 use Rattle.flex_store.proofs.Starting.{good_range}
 use Rattle.instances_ground.specs.Sound.{count_beside}
 use Rattle.flex_ground.proofs.Worlds.{beside_begun}
-use Rattle.flex_ground.proofs.Calls.{flex_is, flex_stays_by, state_is, store_spelled}
-use Rattle.flex_ground.specs.Ground.{HasFlex, began_by, flex_began, flex_of, flex_state, is_flex_room, records_with, store_flexed, with_flex_record}
-
--- the test of the range, over heaps and other records
-room_is : (m : AddressMap) (start end : ℕ) → is_flex_range (is_mapped m) (regions m) start end ≡ is_flex_room (store_of m) start end
-unfolding store_of is_flex_range is_flex_room
-room_is m start end =
-    ap (λ (t : Bool). (start % 4 == 0 && end % 4 == 0) && (nat_lt start end && (are_mapped (is_mapped m) start (end - start) && not t)))
-    (ranges_split (meets start (end - start)) (bytes_of m) (regions m))
-
-began_from : (m : AddressMap) (t : FlexState) (o : Option _) (start end : ℕ) → t.bytes.mapped ≡ is_mapped m
-    → begun_by (regions m) t start end o ≡ began_by (store_of m) t start end o
-began_from m t None start end mapped =
-    let test : is_flex_range t.bytes.mapped (regions m) start end ≡ is_flex_room (store_of m) start end =
-    ap (λ (f : ℕ → Bool). is_flex_range f (regions m) start end) mapped ∙ room_is m start end in
-    ap (λ (b : Bool). if b then Ok (with_flex t start end, tt) else Err FlexBadRange) test
-began_from m t (Some s) start end mapped = refl
-
-pub began_is : (m : AddressMap) (f : Flex) (start end : ℕ)
-    → begun (regions m) (state_of m f) start end ≡ flex_began (store_of m) (flex_state (store_of m) f) start end
-unfolding begun flex_began state_of
-began_is m f start end =
-    began_from m (state_of m f) (flex_in m f.extent) start end refl
-    ∙ ap (λ (t : FlexState). began_by (store_of m) t start end t.flex) (state_is m f)
+use Rattle.flex_ground.proofs.Calls.{flex_is, flex_stays_by, store_spelled}
+use Rattle.flex_ground.specs.Ground.{HasFlex, flex_of, records_with, store_flexed, with_flex_record}
 
 -- what the call leaves, where it was done, and where it was refused
 pub record IsFlexMade (m n : AddressMap) (g : Flex) : Type 0 where
@@ -93,11 +66,6 @@ pub unmade_left : (m n : AddressMap) (f g : Flex) → IsFlex m f → IsFlexMade 
 unmade_left m n f g is made records state = flex_stays_by m n f g is made.flex (others_same m n records) made.heaps state
 
 -- the areas stand on memory with a record more, whose range is mapped
-mapped_more : (mapped : ℕ → Bool) (rs : List Region) (r : Region) → AreRangesMapped mapped rs → AreMapped mapped r.at r.len
-    → AreRangesMapped mapped (rs ++ r ∷ [])
-mapped_more mapped [] r ranges here = (here, tt)
-mapped_more mapped (q ∷ rs) r ranges here = (ranges.0, mapped_more mapped rs r ranges.1 here)
-
 pub made_areas : (m n : AddressMap) (g : Flex) (l : Land) (start end : ℕ) → IsFlexMade m n g → regions n ≡ regions m ++ flex_record start end ∷ []
     → AreMapped (is_mapped m) start (end - start) → AreAreas (store_of m) (free_pages m) l → AreAreas (store_of n) (free_pages n) l
 unfolding store_of
@@ -125,8 +93,8 @@ unmade_areas m n g l made store areas =
     rw (free, store) areas
 
 -- the range that the call was done with is mapped
-pub room_there : (m : AddressMap) (start end : ℕ) → is_flex_range (is_mapped m) (regions m) start end ≡ true → AreMapped (is_mapped m) start (end - start)
-room_there m start end room = (good_range (is_mapped m) (regions m) start end room).there
+pub room_there : (m : AddressMap) (start end : ℕ) → is_flex_range (store_of m) start end ≡ true → AreMapped (is_mapped m) start (end - start)
+room_there m start end room = (good_range m start end room).there
 
 -- what holds of the store then: it has no anchor, and its range is the second record beside images
 no_extent : (o : Option Extent) → is_some o ≡ false → o ≡ None

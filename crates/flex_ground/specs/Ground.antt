@@ -1,18 +1,14 @@
 -- The flex store of a machine: memory spells it, its anchors lie in no recorded range; and beside module images there are recorded the system pages, and
 -- the range of the store, if there is one (Acorn C manual, "flex"; the layout is this project's own).
-use Rattle.std.specs.Prelude.{ℕ, ◌≡◌, Bool, false, not, ◌+◌, ◌-◌, ◌%◌, ◌==◌, ◌&&◌, ◌||◌, nat_lt, Option, Some, None, Result, Ok, Err, [], ◌∷◌, ◌++◌, if◌then◌else◌}
-use Rattle.std.specs.List.{list_any}
-use Rattle.profile.specs.declared.error.ErrorNumber.{ErrorNumber}
-use Rattle.profile.specs.declared.error.ErrorNumber.TheVariants.{FlexAlready, FlexBadRange}
-use Rattle.address_map.specs.Bytes.{meets, word_start}
+use Rattle.std.specs.Prelude.{ℕ, ◌≡◌, Bool, false, ◌+◌, Option, Some, None, [], ◌∷◌, ◌++◌}
+use Rattle.address_map.specs.Bytes.{word_start}
 use Rattle.address_map.specs.declared.map.AddressMap.{AddressMap}
-use Rattle.os_heap.specs.Ranges.{are_mapped}
 use Rattle.os_heap.specs.Store.{Store, store_of}
 use Rattle.flex_kept.specs.Keeping.{AreAnchorsFree}
 use Rattle.flex_store.specs.declared.flex.Extent.{Extent}
 use Rattle.flex_store.specs.declared.flex.Flex.{Flex}
 use Rattle.flex_store.specs.Blocks.{FlexStore, has_anchor, is_header, used}
-use Rattle.flex_store.specs.Calls.{FlexState, flex_record, with_flex}
+use Rattle.flex_store.specs.Calls.{FlexState, flex_record}
 use Rattle.flex_store.specs.Memory.{blocks_in}
 use Rattle.flex_store.specs.State.{IsFlex}
 use Rattle.instances_ground.specs.Sound.{count_beside}
@@ -51,20 +47,6 @@ headers_in (Some s) a = is_header s.start s.blocks (word_start a)
 abbrev pub store_flexed : Store → FlexState → Store
 store_flexed s t = record s { bytes = t.bytes; anchor = anchors_in t.flex; header = headers_in t.flex }
 
--- Init: the range meets no heap and no other recorded range, and is recorded then.
-abbrev pub meets_ranges : Store → ℕ → ℕ → Bool
-meets_ranges s at len = list_any (λ h. meets at len h.start h.end) s.heaps || list_any (λ r. meets at len r.at r.len) s.others
-
-unfoldable pub is_flex_room : Store → ℕ → ℕ → Bool
-is_flex_room s start end =
-    (start % 4 == 0 && end % 4 == 0) && (nat_lt start end && (are_mapped s.bytes.mapped start (end - start) && not (meets_ranges s start (end - start))))
-
-abbrev pub began_by : Store → FlexState → ℕ → ℕ → Option FlexStore → Result (FlexState × Unit {0}) ErrorNumber
-began_by s t start end (Some f) = Err FlexAlready
-began_by s t start end None = if is_flex_room s start end then Ok (with_flex t start end, tt) else Err FlexBadRange
-
-unfoldable pub flex_began : Store → FlexState → ℕ → ℕ → Result (FlexState × Unit {0}) ErrorNumber
-flex_began s t start end = began_by s t start end t.flex
-
+-- Where the store has begun its range is recorded.
 abbrev pub with_flex_record : Store → ℕ → ℕ → Store
 with_flex_record s start end = record s { others = s.others ++ flex_record start end ∷ [] }

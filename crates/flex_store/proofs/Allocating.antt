@@ -1,31 +1,30 @@
 -- A block that comes, whose anchor is marked first.
-use Rattle.std.proofs.Common.{◌≡◌, ℕ, Bool, ◌+◌, ◌-◌, ◌*◌, ◌/◌, ◌%◌, ◌^◌, ◌<◌, ◌≤◌, ◌||◌, ◌&&◌, not, true, false, nat_eq, nat_lt, cond, Option, Result, Ok, Err, List, [], ◌∷◌, ◌++◌, length, arith, refl, sym, ◌∙◌, ap, inl, inr, ◌⊎◌, ◌↔◌, subst}
+use Rattle.std.proofs.Common.{◌≡◌, ℕ, Bool, ◌+◌, ◌-◌, ◌%◌, ◌^◌, ◌<◌, ◌≤◌, ◌||◌, ◌&&◌, not, true, false, nat_eq, nat_lt, cond, Ok, Err, List, [], ◌∷◌, ◌++◌, arith, refl, sym, ◌∙◌, ap, inl, inr, ◌⊎◌, ◌↔◌, subst}
 use Rattle.std.specs.List.{list_any}
 use Rattle.std.proofs.lemmas.Bool.{and_parts, cases_Bool, cases_lt, eqb-true, eqb-false, eq-eqb, lt-ltb, ne_eqb, not-true, or_from, or_parts, true≢false, false≢true}
 use Rattle.address_map.proofs.Bytes.{is_mapped-layout}
 use Rattle.address_map.proofs.Words.{class_of-word}
 use Rattle.address_map.proofs.Spans.{mapped_below}
 use Rattle.profile.specs.Outcome.{Gives}
-use Rattle.profile.specs.declared.error.ErrorNumber.{ErrorNumber}
 use Rattle.profile.specs.declared.error.ErrorNumber.TheVariants.{FlexAnchorInUse, FlexBadAnchor}
 use Rattle.os_heap.specs.Store.{Store, others_in, store_of}
 use Rattle.address_map.specs.declared.region.Region.{Region}
 use Rattle.os_heap.proofs.Frame.{store_bytes}
 use Rattle.address_map.specs.Bytes.{AreMapped, Bytes, meets, word_start}
 use Rattle.address_map.specs.Classes.{is_anchor, is_flex_header, is_heap_class}
-use Rattle.address_map.specs.Memory.{byte_at, bytes_of, class_of, is_mapped, layout, regions}
+use Rattle.address_map.specs.Memory.{byte_at, class_of, is_mapped, layout, regions}
 use Rattle.address_map.specs.Records.{is_heap_kind, with_class}
 use Rattle.address_map.specs.declared.class.Class.{Class}
 use Rattle.address_map.specs.declared.class.Class.TheVariants as class
 use Rattle.address_map.specs.declared.map.AddressMap.{AddressMap}
 use Rattle.flex_store.specs.declared.flex.Extent.{Extent}
-use Rattle.flex_store.specs.Blocks.{Block, has_anchor, is_header, new_block, taken, used, whole_words}
+use Rattle.flex_store.specs.Blocks.{Block, has_anchor, is_header, new_block, taken, used}
 use Rattle.flex_store.specs.Calls.{allocated, is_anchor_place, is_in_store}
 use Rattle.os_heap.specs.Payloads.{is_other, payload_of}
 use Rattle.flex_store.specs.Changes.{Fits, GotBlocks}
 use Rattle.flex_store.specs.Memory.{AreAnchored, Holds, laid_out, text_of}
 use Rattle.flex_store.specs.Relaid.{MayLie, Relaid}
-use Rattle.flex_store.specs.State.{AreAnchorWords, AreWhole, HasNoHead, IsAnchorWord, IsFlexRange, IsFlexStore, IsStoreAt, KeepsHeads, blocks_of, held_in, store_in}
+use Rattle.flex_store.specs.State.{AreAnchorWords, IsAnchorWord, IsFlexRange, IsStoreAt, KeepsHeads, blocks_of, held_in, store_in}
 use Rattle.flex_store.proofs.Answering.{AreAllowed, fits_state}
 use Rattle.flex_store.proofs.Changing.{got}
 use Rattle.flex_store.proofs.Finding.{has_by, store_low}

@@ -1,13 +1,11 @@
 -- Anchors that were written: each holds its block's address, and no other word changed.
-use Rattle.std.proofs.Common.{◌≡◌, ◌≢◌, ℕ, ◌+◌, ◌-◌, ◌%◌, ◌^◌, ◌<◌, ◌≤◌, Bool, true, false, ◌||◌, List, [], ◌∷◌, ◌++◌, arith, refl, sym, ◌∙◌, ap, inl, inr, ◌⊎◌, subst, cond, nat_eq}
+use Rattle.std.proofs.Common.{◌≡◌, ℕ, ◌+◌, ◌%◌, ◌<◌, ◌≤◌, Bool, false, List, [], ◌∷◌, ◌++◌, arith, refl, ◌∙◌, ap, inl, inr, ◌⊎◌, nat_eq}
 use Rattle.std.proofs.lemmas.Bool.{cases_lt, or_parts, eqb-false}
-use Rattle.std.proofs.lemmas.Bool.Decides.{nat_tests}
 use Rattle.raw_store.specs.Region.{word_bytes}
 use Rattle.address_map.specs.Bytes.{word_start, with_word_at}
-use Rattle.address_map.specs.declared.map.AddressMap.{AddressMap}
 use Rattle.flex_store.specs.Blocks.{Block, used, taken, has_anchor}
-use Rattle.flex_store.specs.Memory.{Holds, AreAnchored, with_anchors}
-use Rattle.flex_store.specs.State.{AreAnchorWords, IsAnchorWord}
+use Rattle.flex_store.specs.Memory.{AreAnchored, with_anchors}
+use Rattle.flex_store.specs.State.{AreAnchorWords}
 use Rattle.flex_store.proofs.Holding.{holds_kept, holds_word, word_again, word_beside}
 
 -- a byte of another word

@@ -1,23 +1,20 @@
 -- What calls on one block answer, and what they leave.
-use Rattle.std.proofs.Common.{◌≡◌, ℕ, Bool, ◌+◌, ◌-◌, ◌*◌, ◌/◌, ◌%◌, ◌^◌, ◌<◌, ◌≤◌, ◌||◌, true, false, nat_eq, nat_lt, nat_le, List, [], ◌∷◌, ◌++◌, length, take, drop, replicate, Option, Some, None, Result, Ok, Err, arith, refl, sym, ◌∙◌, ap, inl, inr, ◌⊎◌, subst, zero, suc}
+use Rattle.std.proofs.Common.{◌≡◌, ℕ, Bool, ◌+◌, ◌-◌, ◌<◌, ◌≤◌, ◌||◌, true, false, nat_eq, List, [], ◌∷◌, ◌++◌, length, take, drop, replicate, Some, None, Ok, Err, arith, refl, sym, ◌∙◌, ap, inl, inr, ◌⊎◌, subst, zero, suc}
 use Rattle.std.proofs.lemmas.Bool.{cases_Bool, cases_lt, eqb-true, or_left, or_right, le-leb, lt-leb, lt-ltb, le-ltb, eq-eqb, ne_eqb}
 use Rattle.std.proofs.Math.Seq.{take-length, drop-length}
 use Rattle.profile.specs.Outcome.{Gives}
 use Rattle.profile.specs.declared.error.ErrorNumber.{ErrorNumber}
 use Rattle.profile.specs.declared.error.ErrorNumber.TheVariants.{FlexBadAnchor, FlexBadRange}
 use Rattle.address_map.proofs.Bytes.{is_mapped-layout}
-use Rattle.address_map.specs.Classes.{is_heap_class}
-use Rattle.address_map.specs.Memory.{byte_at, bytes_of, class_of, is_mapped, layout}
 use Rattle.address_map.specs.declared.map.AddressMap.{AddressMap}
 use Rattle.flex_store.specs.declared.flex.Extent.{Extent}
 use Rattle.flex_store.specs.declared.splice.Splice.{Splice}
-use Rattle.flex_store.specs.Blocks.{Block, FlexStore, contents, cut_of, find_block, has_anchor, holding, more_of, resized, spliced, used, with_block}
-use Rattle.flex_store.specs.Calls.{FlexState, extended, fitted, is_anchor_place, mid_extended, sized, with_blocks}
+use Rattle.flex_store.specs.Blocks.{Block, contents, cut_of, find_block, has_anchor, holding, more_of, resized, spliced, used, with_block}
+use Rattle.flex_store.specs.Calls.{extended, fitted, is_anchor_place, mid_extended, sized, with_blocks}
 use Rattle.os_heap.specs.Store.{store_of}
-use Rattle.flex_store.specs.Changes.{Fits, GotBlocks, IsChanged, IsChangedBlock}
-use Rattle.flex_store.specs.Places.{IsHeaderOf}
+use Rattle.flex_store.specs.Changes.{Fits, GotBlocks, IsChanged}
 use Rattle.flex_store.specs.Relaid.{first_at}
-use Rattle.flex_store.specs.State.{HasNoHead, IsStoreAt, Keeps, KeepsHeads, blocks_of, held_in, store_in}
+use Rattle.flex_store.specs.State.{IsStoreAt, Keeps, blocks_of, held_in, store_in}
 use Rattle.flex_store.proofs.Finding.{IsHeaderWord}
 use Rattle.flex_store.proofs.Sliding.{contents_length}
 

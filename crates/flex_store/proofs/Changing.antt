@@ -1,30 +1,30 @@
 -- The store after the blocks from a place on were laid out anew, as calls tell it.
-use Rattle.std.proofs.Common.{◌≡◌, ℕ, Bool, ◌+◌, ◌-◌, ◌*◌, ◌/◌, ◌%◌, ◌^◌, ◌<◌, ◌≤◌, ◌||◌, true, false, nat_eq, List, [], ◌∷◌, ◌++◌, length, Some, None, arith, refl, sym, ◌∙◌, ap, inl, inr, ◌⊎◌, subst}
-use Rattle.std.proofs.lemmas.Bool.{cases_Bool, cases_lt, or_parts, false_from_ne_true, true≢false, false≢true}
+use Rattle.std.proofs.Common.{◌≡◌, ℕ, Bool, ◌+◌, ◌-◌, ◌^◌, ◌<◌, ◌≤◌, ◌||◌, true, false, nat_eq, List, [], ◌∷◌, ◌++◌, length, Some, arith, refl, sym, ◌∙◌, ap, inl, inr, ◌⊎◌, subst}
+use Rattle.std.proofs.lemmas.Bool.{cases_lt, true≢false, false≢true}
 use Rattle.address_map.specs.Bytes.{with_bytes_at, word_start}
 use Rattle.address_map.specs.Classes.{is_anchor, is_heap_class}
-use Rattle.address_map.specs.Memory.{byte_at, bytes_of, class_of, is_mapped, layout}
+use Rattle.address_map.specs.Memory.{byte_at, class_of, is_mapped}
 use Rattle.address_map.specs.declared.class.Class.{Class}
 use Rattle.address_map.specs.declared.class.Class.TheVariants as class
 use Rattle.address_map.specs.declared.map.AddressMap.{AddressMap}
 use Rattle.flex_store.specs.declared.flex.Extent.{Extent}
-use Rattle.flex_store.specs.Blocks.{Block, contents, has_anchor, holding, is_header, spliced, taken, used, whole_words, with_block, find_block}
-use Rattle.flex_store.specs.Changes.{Fits, GotBlocks, IsChanged, IsChangedBlock}
+use Rattle.flex_store.specs.Blocks.{Block, contents, has_anchor, holding, is_header, spliced, taken, used, with_block}
+use Rattle.flex_store.specs.Changes.{GotBlocks, IsChanged}
 use Rattle.flex_store.specs.Marks.{marked, with_headers}
-use Rattle.flex_store.specs.Memory.{Holds, blocks_in, laid_out, text_of}
+use Rattle.flex_store.specs.Memory.{Holds, laid_out, text_of}
 use Rattle.flex_store.specs.Relaid.{behind, first_at, MayLie, Relaid}
 use Rattle.flex_store.specs.Splices.{size_after}
 use Rattle.flex_store.specs.declared.splice.Splice.{Splice}
-use Rattle.flex_store.specs.State.{AreAnchorWords, AreWhole, HasNoHead, IsFlexStore, IsStoreAt, KeepsHeads, blocks_of}
+use Rattle.flex_store.specs.State.{AreAnchorWords, AreWhole, HasNoHead, KeepsHeads, blocks_of}
 use Rattle.flex_store.proofs.Anchoring.{anchors_beside}
 use Rattle.flex_store.proofs.Finding.{IsPlaced}
 use Rattle.flex_store.proofs.Headers.{IsWithin, header_within, headers_marked}
 use Rattle.flex_store.proofs.Holding.{bytes_beside, holds_left}
 use Rattle.flex_store.proofs.Lists.{anchor-append, anchored_left, header-append, text-append, text_used, used-append, whole-append, whole_left}
 use Rattle.flex_store.proofs.Reading.{reads}
-use Rattle.flex_store.proofs.Sliding.{AreNumbers, numbers, new_length}
+use Rattle.flex_store.proofs.Sliding.{new_length}
 use Rattle.flex_store.proofs.Splicing.{filled_length}
-use Rattle.flex_store.proofs.Storing.{IsBefore, IsRelaid, none_inside, relaid, words_right}
+use Rattle.flex_store.proofs.Storing.{IsBefore, IsRelaid, relaid, words_right}
 use Rattle.flex_store.proofs.Texts.{words_within}
 
 -- bytes beside the text and the anchors

@@ -1,12 +1,10 @@
 -- Which words the headers of a list take up, and what marks of them do to the classes of memory.
-use Rattle.std.proofs.Common.{◌≡◌, ℕ, ◌+◌, ◌-◌, ◌*◌, ◌/◌, ◌<◌, ◌≤◌, Bool, true, false, ◌||◌, cond, List, [], ◌∷◌, arith, refl, nat_eq, inl, inr, ◌∙◌, sym}
-use Rattle.std.proofs.lemmas.Bool.{or_cases, eqb-true, cases_Bool, true≢false}
-use Rattle.std.proofs.lemmas.Bool.Decides.{nat_tests}
+use Rattle.std.proofs.Common.{◌≡◌, ℕ, ◌+◌, ◌≤◌, Bool, true, false, ◌||◌, cond, List, [], ◌∷◌, arith, refl, nat_eq, inl, inr, ◌∙◌, sym}
+use Rattle.std.proofs.lemmas.Bool.{or_cases, eqb-true, true≢false}
 use Rattle.address_map.specs.declared.class.Class.{Class}
-use Rattle.address_map.specs.declared.class.Class.TheVariants as class
 use Rattle.address_map.specs.Bytes.{word_start}
 use Rattle.address_map.specs.Records.{with_class}
-use Rattle.flex_store.specs.Blocks.{Block, used, taken, whole_words, is_header}
+use Rattle.flex_store.specs.Blocks.{Block, used, taken, is_header}
 use Rattle.flex_store.specs.Marks.{marked, with_headers}
 
 pub record IsWithin (at len a : ℕ) : Type 0 where

@@ -1,6 +1,6 @@
 -- A flex store stays one where the words of its headers and its anchors keep their bytes and their marks, and all of it stays mapped and recorded.
 -- The bytes of its blocks are then those that stand there: a guest may have written them.
-use Rattle.std.proofs.Common.{◌≡◌, ◌⊎◌, ℕ, Bool, ◌+◌, ◌-◌, ◌*◌, ◌/◌, ◌%◌, ◌^◌, ◌<◌, ◌≤◌, ◌||◌, true, false, nat_eq, List, [], ◌∷◌, ◌++◌, length, refl, sym, ap, subst, ◌∙◌, arith, inl, inr, cond}
+use Rattle.std.proofs.Common.{◌≡◌, ℕ, Bool, ◌+◌, ◌-◌, ◌%◌, ◌<◌, ◌≤◌, ◌||◌, true, nat_eq, List, [], ◌∷◌, ◌++◌, length, refl, sym, ap, subst, ◌∙◌, arith}
 use Rattle.std.proofs.lemmas.Bool.{eq-eqb, or_left, or_right}
 use Rattle.raw_store.specs.Region.{word_bytes}
 use Rattle.address_map.specs.Bytes.{AreMapped, bytes_between, word_start}
@@ -11,7 +11,7 @@ use Rattle.address_map.specs.declared.map.AddressMap.{AddressMap}
 use Rattle.flex_store.specs.declared.flex.Extent.{Extent}
 use Rattle.flex_store.specs.Blocks.{Block, has_anchor, is_header, taken, used, whole_words}
 use Rattle.flex_store.specs.Memory.{AreAnchored, Holds, blocks_in, text_of}
-use Rattle.flex_store.specs.State.{AreAnchorWords, AreWhole, blocks_of, IsAnchorWord, IsFlexRange, IsFlexStore, IsRecordedStore, is_recorded, IsStoreAt}
+use Rattle.flex_store.specs.State.{AreAnchorWords, AreWhole, blocks_of, IsAnchorWord, IsFlexStore, IsRecordedStore, is_recorded}
 use Rattle.flex_store.proofs.Holding.{holds_append, holds_kept}
 use Rattle.flex_store.proofs.Reading.{IsSpelled, reads, spelled}
 use Rattle.flex_store.proofs.Splicing.{between_held, between_length}

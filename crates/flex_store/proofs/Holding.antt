@@ -1,11 +1,11 @@
 -- Bytes that memory holds: of lists end to end, of words, after a copy, and after a write.
-use Rattle.std.proofs.Common.{◌≡◌, ℕ, ◌+◌, ◌-◌, ◌/◌, ◌%◌, ◌^◌, ◌<◌, ◌≤◌, true, false, List, [], ◌∷◌, ◌++◌, length, get_or, replicate, arith, refl, sym, ◌∙◌, ap, zero, suc, inl, inr, ◌⊎◌, subst}
-use Rattle.std.proofs.lemmas.Bool.{cases_lt, cases_Bool}
+use Rattle.std.proofs.Common.{◌≡◌, ℕ, ◌+◌, ◌-◌, ◌/◌, ◌%◌, ◌^◌, ◌<◌, ◌≤◌, List, ◌++◌, length, replicate, arith, refl, sym, ◌∙◌, ap, zero, suc, inl, inr, ◌⊎◌}
+use Rattle.std.proofs.lemmas.Bool.{cases_lt}
 use Rattle.std.proofs.lemmas.Bool.Decides.{nat_tests}
 use Rattle.std.proofs.lemmas.List.{get_or_append_left, get_or-append-add, get_or-append_right, get_or-replicate, length-replicate}
 use Rattle.std.proofs.Math.ListN.{length-append}
 use Rattle.raw_store.specs.Region.{word_bytes}
-use Rattle.address_map.specs.Bytes.{in_range, word_at, with_word_at, with_bytes_at}
+use Rattle.address_map.specs.Bytes.{word_at, with_word_at, with_bytes_at}
 use Rattle.flex_store.specs.Memory.{Holds}
 
 pub holds_kept : (f g : ℕ → ℕ) (at : ℕ) (xs : List ℕ) → ((a : ℕ) → at ≤ a → a < at + length xs → g a ≡ f a) → Holds f at xs → Holds g at xs

@@ -1,13 +1,12 @@
 -- Texts that were laid out: the bytes of one block that were changed, with those behind it; a block that went; a block that came.
-use Rattle.std.proofs.Common.{◌≡◌, ℕ, Bool, ◌+◌, ◌-◌, ◌*◌, ◌/◌, ◌%◌, ◌^◌, ◌<◌, ◌≤◌, true, false, List, [], ◌∷◌, ◌++◌, length, map, take, replicate, arith, refl, sym, ◌∙◌, ap, inl, inr, ◌⊎◌, subst}
+use Rattle.std.proofs.Common.{◌≡◌, ℕ, ◌+◌, ◌-◌, ◌≤◌, List, [], ◌++◌, length, take, replicate, arith, sym, ◌∙◌, ap, inl, inr}
 use Rattle.std.proofs.lemmas.List.{length-replicate}
 use Rattle.std.proofs.lemmas.List.FromFn.{take-map-range_with_len}
 use Rattle.std.proofs.Math.ListN.{length-append}
-use Rattle.std.specs.List.{range_with_len}
 use Rattle.raw_store.specs.Region.{word_bytes}
-use Rattle.address_map.specs.Bytes.{AreMapped, Bytes, bytes_between, with_bytes_at, with_moved_at, with_word_at, with_zeros_at}
-use Rattle.flex_store.specs.Blocks.{Block, contents, filled, holding, new_block, spliced, taken, used, whole_words}
-use Rattle.flex_store.specs.Memory.{Holds, text_of}
+use Rattle.address_map.specs.Bytes.{bytes_between, with_bytes_at, with_moved_at, with_word_at, with_zeros_at}
+use Rattle.flex_store.specs.Blocks.{Block, filled, spliced, whole_words}
+use Rattle.flex_store.specs.Memory.{Holds}
 use Rattle.flex_store.proofs.Holding.{bytes_beside, bytes_held, bytes_written, holds_append, holds_kept, holds_moved, holds_word, holds_zeros, word_beside}
 use Rattle.flex_store.proofs.Reading.{bytes_read}
 use Rattle.flex_store.proofs.Splicing.{between_held, between_length, filled_length, moved_in, moved_out, spliced_length, zeros_in, zeros_out}

@@ -1,14 +1,12 @@
 -- A walk over the blocks as a caller sees them.
-use Rattle.std.proofs.Common.{◌≡◌, ℕ, ◌+◌, ◌-◌, ◌%◌, ◌^◌, ◌<◌, ◌≤◌, List, [], ◌∷◌, Option, Some, None, arith, refl, sym, ◌∙◌, ap, subst}
-use Rattle.std.proofs.lemmas.Bool.{le-leb}
-use Rattle.address_map.specs.Bytes.{Bytes, word_at}
+use Rattle.std.proofs.Common.{◌≡◌, ℕ, ◌+◌, ◌-◌, ◌<◌, ◌≤◌, List, [], ◌∷◌, arith, refl, sym, ◌∙◌, ap, subst}
+use Rattle.address_map.specs.Bytes.{word_at}
 use Rattle.address_map.specs.Memory.{byte_at, bytes_of, is_mapped}
 use Rattle.address_map.specs.declared.map.AddressMap.{AddressMap}
-use Rattle.flex_store.specs.declared.blocks.FlexBlock.{FlexBlock}
 use Rattle.flex_store.specs.declared.flex.Extent.{Extent}
 use Rattle.flex_store.specs.Blocks.{Block, taken, used}
 use Rattle.flex_store.specs.Listed.{listed}
-use Rattle.flex_store.specs.Memory.{blocks_in, Holds, text_of}
+use Rattle.flex_store.specs.Memory.{blocks_in}
 use Rattle.flex_store.specs.State.{blocks_of, IsFlexStore, IsRecordedStore, IsText}
 use Rattle.flex_store.proofs.Texts.{IsFirst, text_first, text_next, text_read, words_within}
 

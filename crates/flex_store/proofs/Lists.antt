@@ -1,14 +1,13 @@
 -- Lists of blocks end to end: what they use, their text, their anchors.
-use Rattle.std.proofs.Common.{◌≡◌, ℕ, ◌+◌, ◌-◌, ◌*◌, ◌/◌, ◌^◌, ◌<◌, ◌≤◌, Bool, true, false, ◌||◌, ◌&&◌, not, nat_eq, cond, List, [], ◌∷◌, ◌++◌, length, arith, refl, sym, ◌∙◌, ap, append_assoc, inl, inr, ◌⊎◌, Some, None, Option}
-use Rattle.std.proofs.lemmas.Bool.{cases_Bool, eqb-true, or_parts, or_from, true≢false, false≢true}
+use Rattle.std.proofs.Common.{◌≡◌, ℕ, ◌+◌, Bool, true, false, ◌||◌, nat_eq, List, [], ◌∷◌, ◌++◌, length, arith, refl, sym, ◌∙◌, ap, append_assoc, inl, inr, Some, None}
+use Rattle.std.proofs.lemmas.Bool.{cases_Bool, eqb-true, or_parts, true≢false}
 use Rattle.std.proofs.lemmas.Bool.Decides.{nat_tests}
 use Rattle.std.proofs.Math.ListN.{length-append}
 use Rattle.raw_store.specs.Region.{word_bytes}
-use Rattle.address_map.specs.declared.map.AddressMap.{AddressMap}
-use Rattle.flex_store.specs.Blocks.{Block, used, taken, whole_words, has_anchor, with_block, without_block, find_block, is_header}
-use Rattle.flex_store.specs.Memory.{text_of, AreAnchored, Holds}
-use Rattle.flex_store.specs.Places.{IsSplit, Split}
-use Rattle.flex_store.specs.State.{AreWhole, AreAnchorWords, IsAnchorWord}
+use Rattle.flex_store.specs.Blocks.{Block, used, taken, has_anchor, without_block, find_block, is_header}
+use Rattle.flex_store.specs.Memory.{text_of, AreAnchored}
+use Rattle.flex_store.specs.Places.{Split}
+use Rattle.flex_store.specs.State.{AreWhole}
 
 pub used-append : (xs ys : List Block) → used (xs ++ ys) ≡ used xs + used ys
 used-append [] ys = omega arith

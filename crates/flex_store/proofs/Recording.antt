@@ -1,8 +1,6 @@
 -- The record of a flex store: it shares no byte with a heap or a range that is recorded already, and keeps all heaps.
-use Rattle.std.proofs.Common.{◌≡◌, ℕ, ◌+◌, ◌-◌, ◌<◌, ◌≤◌, ◌&&◌, ◌||◌, ◌==◌, ◌++◌, not, Bool, true, false, List, [], ◌∷◌, length, refl, sym, ap, subst, ◌∙◌, arith, inl, inr, ◌%◌}
-use Rattle.std.specs.List.{list_any}
-use Rattle.std.specs.Prelude.{nat_lt}
-use Rattle.std.proofs.lemmas.Bool.{and_parts, cases_Bool, leb-true, ltb-true, lt-ltb, eq-eqb, not-true, or_left, or_parts, or_right, true≢false}
+use Rattle.std.proofs.Common.{◌≡◌, ℕ, ◌+◌, ◌-◌, ◌<◌, ◌≤◌, ◌++◌, true, false, List, [], ◌∷◌, length, refl, sym, ap, subst, ◌∙◌, arith, inl, inr}
+use Rattle.std.proofs.lemmas.Bool.{and_parts, cases_Bool, leb-true, ltb-true, lt-ltb, eq-eqb, or_parts, or_right, true≢false}
 use Rattle.address_map.specs.Bytes.{Bytes, in_range, meets}
 use Rattle.address_map.specs.Memory.{byte_at, bytes_of, class_of, is_mapped, mapping, regions}
 use Rattle.address_map.specs.Records.{is_heap_kind, meets_record}
@@ -11,12 +9,10 @@ use Rattle.address_map.specs.declared.map.AddressMap.{AddressMap}
 use Rattle.address_map.specs.declared.region.Region.{Region}
 use Rattle.os_heap.proofs.Frame.{classes_same}
 use Rattle.os_heap.proofs.Recorded.{IsClearOfAll, recorded_sound, store_recorded}
-use Rattle.os_heap.specs.Ranges.{are_mapped}
 use Rattle.os_heap.specs.Store.{AreClasses, AreClear, heaps_in, IsClearOfHeaps, IsSound, others_in, Store, store_of}
-use Rattle.os_heap_lists.specs.Heap.{HeapList}
 use Rattle.flex_store.specs.Calls.{flex_record, is_flex_range}
 use Rattle.flex_store.specs.State.{is_recorded, is_store_record}
-use Rattle.flex_store.proofs.Starting.{mapped_same}
+use Rattle.flex_store.proofs.Starting.{mapped_same, range_apart}
 
 range_clear : (at len other other_len : ℕ) → meets at len other other_len ≡ false → AreClear at len other other_len
 range_clear at len other other_len apart a inside = elim (cases_Bool (in_range other other_len a)) [
@@ -57,14 +53,6 @@ ranges_clear (q ∷ rs) r apart =
       | inr other ↦ rw other (range_clear_back r.at r.len q.at q.len parts.0, ranges_clear rs r parts.1)
     ]
 
-range_apart : (mapped : ℕ → Bool) (rs : List Region) (start end : ℕ) → is_flex_range mapped rs start end ≡ true → meets_record rs start (end - start) ≡ false
-unfolding is_flex_range
-range_apart mapped rs start end is =
-    let apart : Bool = not (meets_record rs start (end - start)) in
-    let one = and_parts ((start % 4) == 0 && (end % 4) == 0) (nat_lt start end && (are_mapped mapped start (end - start) && apart)) is in
-    let two = and_parts (nat_lt start end) (are_mapped mapped start (end - start) && apart) one.1 in
-    not-true (meets_record rs start (end - start)) (and_parts (are_mapped mapped start (end - start)) apart two.1).1
-
 -- the range at the end of the record is there
 last_recorded : (rs : List Region) (start end : ℕ) → is_recorded (rs ++ flex_record start end ∷ []) start end ≡ true
 last_recorded [] start end = rw (eq-eqb start start refl, eq-eqb (end - start) (end - start) refl) refl
@@ -83,7 +71,7 @@ unfolding store_of
 clear_store m start end apart = (heaps_clear (bytes_of m) (regions m) start (end - start) apart, ranges_clear (regions m) (flex_record start end) apart)
 
 pub begun_store : (m n : AddressMap) (start end : ℕ) → IsSound (store_of m) → AreClasses m → length (store_of m).others < 68
-    → is_flex_range (is_mapped m) (regions m) start end ≡ true → regions n ≡ regions m ++ flex_record start end ∷ [] → mapping n ≡ mapping m
+    → is_flex_range (store_of m) start end ≡ true → regions n ≡ regions m ++ flex_record start end ∷ [] → mapping n ≡ mapping m
     → byte_at n ≡ byte_at m → class_of n ≡ class_of m → IsBegun m n start end
 begun_store m n start end sound classes few range records same bytes marks =
     let mapped : is_mapped n ≡ is_mapped m = mapped_same m n same in
@@ -92,7 +80,7 @@ begun_store m n start end sound classes few range records same bytes marks =
     let store : store_of n ≡ record (store_of m) { others = (store_of m).others ++ flex_record start end ∷ [] } =
     store_recorded m n (flex_record start end) refl records memory words in
     let heaps : (store_of n).heaps ≡ (store_of m).heaps = ap (λ (s : Store). s.heaps) store in
-    let clear = clear_store m start end (range_apart (is_mapped m) (regions m) start end range) in
+    let clear = clear_store m start end (range_apart m start end range) in
     record {
       heaps = heaps;
       sound = subst IsSound (sym store) (recorded_sound (store_of m) (flex_record start end) sound clear.0 clear.1 few);

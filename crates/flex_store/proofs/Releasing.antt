@@ -1,11 +1,11 @@
 -- A block that goes, whose anchor is 0 then; a block that comes, whose anchor is marked first.
-use Rattle.std.proofs.Common.{◌≡◌, ℕ, Bool, ◌+◌, ◌-◌, ◌*◌, ◌/◌, ◌%◌, ◌^◌, ◌<◌, ◌≤◌, ◌||◌, true, false, nat_eq, cond, List, [], ◌∷◌, ◌++◌, length, Option, Some, None, Result, Ok, Err, arith, refl, sym, ◌∙◌, ap, inl, inr, ◌⊎◌, subst}
-use Rattle.std.proofs.lemmas.Bool.{cases_Bool, eqb-true, eqb-false, eq-eqb, ne_eqb, le-leb, lt-leb, or_from, or_left, or_parts, or_right, true≢false, false≢true}
+use Rattle.std.proofs.Common.{◌≡◌, ℕ, Bool, ◌+◌, ◌-◌, ◌%◌, ◌^◌, ◌<◌, ◌≤◌, ◌||◌, true, false, nat_eq, cond, List, [], ◌∷◌, ◌++◌, length, Some, Ok, arith, refl, sym, ◌∙◌, ap, inl, inr, ◌⊎◌, subst}
+use Rattle.std.proofs.lemmas.Bool.{cases_Bool, eqb-true, eqb-false, eq-eqb, ne_eqb, or_from, or_left, or_parts, or_right, true≢false, false≢true}
 use Rattle.profile.specs.Outcome.{Gives}
 use Rattle.profile.specs.declared.error.ErrorNumber.{ErrorNumber}
 use Rattle.raw_store.specs.Region.{word_bytes}
 use Rattle.address_map.proofs.Bytes.{is_mapped-layout}
-use Rattle.address_map.specs.Bytes.{with_word, with_word_at, word_start}
+use Rattle.address_map.specs.Bytes.{with_word_at, word_start}
 use Rattle.address_map.specs.Classes.{is_anchor, is_flex_header, is_heap_class}
 use Rattle.address_map.specs.Memory.{byte_at, bytes_of, class_of, is_mapped, layout}
 use Rattle.address_map.specs.Records.{with_class}
@@ -13,20 +13,18 @@ use Rattle.address_map.specs.declared.class.Class.{Class}
 use Rattle.address_map.specs.declared.class.Class.TheVariants as class
 use Rattle.address_map.specs.declared.map.AddressMap.{AddressMap}
 use Rattle.flex_store.specs.declared.flex.Extent.{Extent}
-use Rattle.flex_store.specs.Blocks.{Block, FlexStore, find_block, has_anchor, is_header, new_block, taken, used, whole_words, without_block}
-use Rattle.flex_store.specs.Calls.{FlexState, fitted, released, with_blocks, without_anchor}
+use Rattle.flex_store.specs.Blocks.{Block, has_anchor, is_header, taken, used, without_block}
+use Rattle.flex_store.specs.Calls.{released, with_blocks, without_anchor}
 use Rattle.flex_store.specs.Changes.{GotBlocks}
 use Rattle.flex_store.specs.Memory.{AreAnchored, Holds, blocks_in, laid_out, text_of}
-use Rattle.flex_store.specs.Places.{IsHeaderOf, IsSplit}
-use Rattle.flex_store.specs.Relaid.{behind, first_at, MayLie, Relaid}
-use Rattle.flex_store.specs.State.{AreAnchorWords, AreWhole, HasNoHead, IsAnchorWord, IsFlexRange, IsFlexStore, IsStoreAt, IsText, Keeps, KeepsHeads, blocks_of, held_in, store_in}
+use Rattle.flex_store.specs.Relaid.{behind, first_at, Relaid}
+use Rattle.flex_store.specs.State.{AreAnchorWords, AreWhole, IsAnchorWord, IsFlexRange, IsText, Keeps, KeepsHeads, blocks_of, held_in, store_in}
 use Rattle.flex_store.proofs.Anchoring.{other_word}
-use Rattle.flex_store.proofs.Answering.{got_keeps, got_state}
 use Rattle.flex_store.proofs.Changing.{got}
-use Rattle.flex_store.proofs.Finding.{IsPlaced, placed}
+use Rattle.flex_store.proofs.Finding.{IsPlaced}
 use Rattle.flex_store.proofs.Headers.{IsWithin, header_within}
 use Rattle.flex_store.proofs.Holding.{holds_kept, holds_left, word_beside}
-use Rattle.flex_store.proofs.Lists.{anchor-append, anchored_left, header-append, text-append, text_used, used-append, whole-append, whole_left, whole_right}
+use Rattle.flex_store.proofs.Lists.{anchor-append, anchored_left, header-append, text-append, text_used, used-append, whole-append, whole_left}
 use Rattle.flex_store.proofs.Reading.{block_read}
 use Rattle.flex_store.proofs.Storing.{IsBefore, words_left}
 use Rattle.flex_store.proofs.Texts.{IsFirst, text_first, text_kept, text_next, text_read}

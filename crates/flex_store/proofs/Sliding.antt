@@ -1,5 +1,5 @@
 -- Texts in memory that are laid out anew: what the walk that settles them needs, and what it leaves.
-use Rattle.std.proofs.Common.{◌≡◌, ℕ, Bool, ◌+◌, ◌-◌, ◌*◌, ◌/◌, ◌%◌, ◌^◌, ◌<◌, ◌≤◌, true, false, List, [], ◌∷◌, ◌++◌, length, take, replicate, arith, refl, sym, ◌∙◌, ap, subst}
+use Rattle.std.proofs.Common.{◌≡◌, ℕ, Bool, ◌+◌, ◌-◌, ◌%◌, ◌^◌, ◌<◌, ◌≤◌, true, List, [], ◌∷◌, ◌++◌, length, arith, sym, ◌∙◌, ap, subst}
 use Rattle.std.proofs.lemmas.List.{length-replicate}
 use Rattle.address_map.proofs.Bytes.{is_mapped-layout}
 use Rattle.address_map.proofs.Spans.{mapped_below}
@@ -19,7 +19,7 @@ use Rattle.flex_store.proofs.Laying.{appended, closed, contents_between, replace
 use Rattle.flex_store.proofs.Lists.{text_used}
 use Rattle.flex_store.proofs.Reading.{bytes_read}
 use Rattle.flex_store.proofs.Splicing.{between_length, filled_length, spliced_length}
-use Rattle.flex_store.proofs.Texts.{IsFirst, text_first, text_next, text_read, words_within}
+use Rattle.flex_store.proofs.Texts.{IsFirst, text_first, text_read, words_within}
 
 -- what lies there lies below 2^26
 pub lie_low : (m : AddressMap) (h : ℕ) (bs : List Block) → MayLie m h bs → 0 < used bs → h + used bs ≤ 2 ^ 26

@@ -1,10 +1,9 @@
 -- A block's bytes after some of them went, or zeros came: what a copy of its tail and two rows of zeros leave.
-use Rattle.std.proofs.Common.{◌≡◌, ℕ, ◌+◌, ◌-◌, ◌*◌, ◌/◌, ◌<◌, ◌≤◌, List, [], ◌∷◌, ◌++◌, length, map, take, drop, replicate, get_or, arith, refl, sym, ◌∙◌, ap, inl, inr, ◌⊎◌, length-drop}
+use Rattle.std.proofs.Common.{◌≡◌, ℕ, ◌+◌, ◌-◌, ◌<◌, ◌≤◌, List, ◌++◌, length, take, drop, replicate, arith, refl, sym, ◌∙◌, ap, inl, inr, ◌⊎◌, length-drop}
 use Rattle.std.proofs.lemmas.Bool.Decides.{nat_tests}
 use Rattle.std.proofs.lemmas.List.{length-replicate, get_or-take, get_or-drop, length-take}
 use Rattle.std.proofs.lemmas.List.FromFn.{get_or-map-range_with_len, length-map-range_with_len}
 use Rattle.std.proofs.Math.ListN.{length-append}
-use Rattle.std.specs.List.{range_with_len}
 use Rattle.address_map.specs.Bytes.{bytes_between, with_bytes_at, with_moved_at, with_zeros_at}
 use Rattle.flex_store.specs.Blocks.{filled, spliced, whole_words}
 use Rattle.flex_store.specs.Memory.{Holds}

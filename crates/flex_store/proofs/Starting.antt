@@ -1,21 +1,21 @@
 -- The store as it begins.
-use Rattle.std.proofs.Common.{◌≡◌, ℕ, Bool, ◌+◌, ◌-◌, ◌%◌, ◌^◌, ◌<◌, ◌≤◌, ◌&&◌, not, true, false, nat_eq, nat_lt, List, [], ◌∷◌, length, Option, Some, is_some, arith, refl, sym, ◌∙◌, ap, subst, ◌↔◌}
-use Rattle.std.proofs.lemmas.Bool.{and_parts, eqb-true, eq-eqb, ltb-true, lt-ltb}
-use Rattle.os_heap.proofs.Added.{are_mapped_all, are_mapped_from}
+use Rattle.std.proofs.Common.{◌≡◌, ℕ, Bool, ◌+◌, ◌-◌, ◌%◌, ◌^◌, ◌<◌, ◌≤◌, ◌==◌, ◌&&◌, not, true, false, nat_eq, nat_lt, List, [], Some, is_some, arith, refl, sym, ◌∙◌, ap, subst, ◌↔◌}
+use Rattle.std.proofs.lemmas.Bool.{and_parts, eqb-true, eq-eqb, ltb-true, lt-ltb, not-true}
+use Rattle.os_heap.proofs.Added.{are_mapped_all, are_mapped_from, ranges_split}
 use Rattle.os_heap.specs.Ranges.{are_mapped}
+use Rattle.os_heap.specs.Store.{store_of}
 use Rattle.address_map.proofs.Spans.{mapped_below}
-use Rattle.address_map.specs.Bytes.{AreMapped}
+use Rattle.address_map.specs.Bytes.{AreMapped, meets}
 use Rattle.address_map.specs.Memory.{byte_at, bytes_of, class_of, is_mapped, mapping, Mapping, regions}
 use Rattle.address_map.specs.Classes.{is_anchor, is_flex_header}
 use Rattle.address_map.specs.Records.{meets_record}
 use Rattle.address_map.specs.declared.class.Class.{Class}
 use Rattle.address_map.specs.declared.map.AddressMap.{AddressMap}
-use Rattle.address_map.specs.declared.region.Region.{Region}
 use Rattle.flex_store.specs.declared.flex.Extent.{Extent}
 use Rattle.flex_store.specs.Blocks.{Block, used}
 use Rattle.flex_store.specs.Calls.{is_flex_range}
 use Rattle.flex_store.specs.Memory.{blocks_in}
-use Rattle.flex_store.specs.State.{IsFlexRange, IsFlexStore, IsNoFlex, IsStoreAt, blocks_of, held_in}
+use Rattle.flex_store.specs.State.{IsFlexStore, IsNoFlex, IsStoreAt, blocks_of, held_in}
 
 pub record IsGoodRange (mapped : ℕ → Bool) (start end : ℕ) : Type 0 where
   pub start_aligned : start % 4 ≡ 0
@@ -23,10 +23,19 @@ pub record IsGoodRange (mapped : ℕ → Bool) (start end : ℕ) : Type 0 where
   pub some : start < end
   pub there : AreMapped mapped start (end - start)
 
-pub good_range : (mapped : ℕ → Bool) (rs : List Region) (start end : ℕ) → is_flex_range mapped rs start end ≡ true → IsGoodRange mapped start end
-unfolding is_flex_range
-good_range mapped rs start end is =
-    let clear : Bool = not (meets_record rs start (end - start)) in
+-- The test of the range, over the list of all that is recorded.
+range_is : (m : AddressMap) (start end : ℕ) → is_flex_range (store_of m) start end
+    ≡ ((start % 4 == 0 && end % 4 == 0) && (nat_lt start end && (are_mapped (is_mapped m) start (end - start) && not (meets_record (regions m) start (end - start)))))
+unfolding store_of is_flex_range
+range_is m start end =
+    ap (λ (t : Bool). (start % 4 == 0 && end % 4 == 0) && (nat_lt start end && (are_mapped (is_mapped m) start (end - start) && not t)))
+    (sym (ranges_split (meets start (end - start)) (bytes_of m) (regions m)))
+
+pub good_range : (m : AddressMap) (start end : ℕ) → is_flex_range (store_of m) start end ≡ true → IsGoodRange (is_mapped m) start end
+good_range m start end range =
+    let mapped : ℕ → Bool = is_mapped m in
+    let is = sym (range_is m start end) ∙ range in
+    let clear : Bool = not (meets_record (regions m) start (end - start)) in
     let one = and_parts (nat_eq (start % 4) 0 && nat_eq (end % 4) 0) (nat_lt start end && (are_mapped mapped start (end - start) && clear)) is in
     let two = and_parts (nat_eq (start % 4) 0) (nat_eq (end % 4) 0) one.0 in
     let three = and_parts (nat_lt start end) (are_mapped mapped start (end - start) && clear) one.1 in
@@ -55,10 +64,10 @@ no_blocks f start =
 pub mapped_same : (m n : AddressMap) → mapping n ≡ mapping m → is_mapped n ≡ is_mapped m
 mapped_same m n same = ap (λ (p : Mapping). λ (a : ℕ). is_some (p.place a)) same
 
-pub starts_empty : (m n : AddressMap) (rs : List Region) (start end : ℕ) → IsNoFlex m → is_flex_range (is_mapped m) rs start end ≡ true
+pub starts_empty : (m n : AddressMap) (start end : ℕ) → IsNoFlex m → is_flex_range (store_of m) start end ≡ true
     → mapping n ≡ mapping m → class_of n ≡ class_of m → IsStoreAt n (empty_extent start end)
-starts_empty m n rs start end none is same marks =
-    let g : IsGoodRange (is_mapped m) start end = good_range (is_mapped m) rs start end is in
+starts_empty m n start end none is same marks =
+    let g : IsGoodRange (is_mapped m) start end = good_range m start end is in
     let mapped : is_mapped n ≡ is_mapped m = mapped_same m n same in
     let some : start < end = g.some in
     let empty : blocks_of n (empty_extent start end) ≡ [] = no_blocks (byte_at n) start in
@@ -91,10 +100,19 @@ same_tests true u f g = sym (f refl)
 same_tests false true f g = g refl
 same_tests false false f g = refl
 
-pub range_tested : (mapped : ℕ → Bool) (rs : List Region) (start end : ℕ) (all met : Bool) → start % 4 ≡ 0 → end % 4 ≡ 0 → start < end
-    → ((all ≡ true) ↔ AreMapped mapped start (end - start)) → met ≡ meets_record rs start (end - start) → (all && not met) ≡ is_flex_range mapped rs start end
-unfolding is_flex_range
-range_tested mapped rs start end all met aligned whole some tested met_is =
-    rw (eq-eqb (start % 4) 0 aligned, eq-eqb (end % 4) 0 whole, lt-ltb start end some, ← met_is)
+pub range_tested : (m : AddressMap) (start end : ℕ) (all met : Bool) → start % 4 ≡ 0 → end % 4 ≡ 0 → start < end
+    → ((all ≡ true) ↔ AreMapped (is_mapped m) start (end - start)) → met ≡ meets_record (regions m) start (end - start)
+    → (all && not met) ≡ is_flex_range (store_of m) start end
+range_tested m start end all met aligned whole some tested met_is =
+    let mapped : ℕ → Bool = is_mapped m in
+    rw (range_is m start end, eq-eqb (start % 4) 0 aligned, eq-eqb (end % 4) 0 whole, lt-ltb start end some, ← met_is)
     (ap (λ (t : Bool). t && not met) (same_tests all (are_mapped mapped start (end - start))
     (λ e. are_mapped_from mapped start (end - start) (tested.0 e)) (λ e. tested.1 (are_mapped_all mapped start (end - start) e))))
+
+pub range_apart : (m : AddressMap) (start end : ℕ) → is_flex_range (store_of m) start end ≡ true → meets_record (regions m) start (end - start) ≡ false
+range_apart m start end range =
+    let apart : Bool = not (meets_record (regions m) start (end - start)) in
+    let mapped : Bool = are_mapped (is_mapped m) start (end - start) in
+    let one = and_parts ((start % 4) == 0 && (end % 4) == 0) (nat_lt start end && (mapped && apart)) (sym (range_is m start end) ∙ range) in
+    let two = and_parts (nat_lt start end) (mapped && apart) one.1 in
+    not-true (meets_record (regions m) start (end - start)) (and_parts mapped apart two.1).1

@@ -1,5 +1,5 @@
 -- A guest's stores, which leave all words alone that the store calls keep, keep the flex store.
-use Rattle.std.proofs.Common.{◌≡◌, ℕ, Bool, true, false, not, Option, Some, None, Result, Ok, Err, refl, sym, ap, subst, ◌∙◌, cond, inl, inr, arith}
+use Rattle.std.proofs.Common.{◌≡◌, ℕ, Bool, true, false, not, Option, Some, None, Result, Ok, Err, refl, sym, ap, ◌∙◌, cond, inl, inr, arith}
 use Rattle.std.proofs.lemmas.Bool.{cases_Bool, eqb-true, false≢true, true≢false}
 use Rattle.std.specs.Prelude.{nat_eq, nat_le, ◌^◌}
 use Rattle.profile.specs.Outcome.{Leaves}
@@ -14,13 +14,13 @@ use Rattle.address_map.specs.declared.class.Class.TheVariants as class
 use Rattle.address_map.specs.declared.map.AddressMap.{AddressMap}
 use Rattle.os_heap.proofs.Frame.{heads_kept, IsKept, layout-others, spelled_owned}
 use Rattle.os_heap.proofs.Owned.{owned_marks}
-use Rattle.os_heap.specs.Store.{AreClasses, IsSound, owned_in, Store, store_of}
+use Rattle.os_heap.specs.Store.{owned_in, Store, store_of}
 use Rattle.os_heap.proofs.Frame.{classes_same}
 use Rattle.flex_store.specs.declared.flex.Extent.{Extent}
 use Rattle.flex_store.specs.declared.flex.Flex.{Flex}
-use Rattle.flex_store.specs.State.{blocks_of, IsFlex, IsFlexAt, IsNoFlex, IsRecordedStore}
+use Rattle.flex_store.specs.State.{blocks_of, IsFlexAt, IsRecordedStore}
 use Rattle.flex_store.specs.Tested.{IsBench}
-use Rattle.flex_store.proofs.Held.{flex_left, LeavesFlex}
+use Rattle.flex_store.proofs.Held.{flex_left}
 use Rattle.flex_store.proofs.Storing.{word_of}
 
 -- bytes that the store calls keep stay

@@ -1,24 +1,24 @@
 -- The store after the blocks behind a place were laid out anew.
-use Rattle.std.proofs.Common.{◌≡◌, ℕ, Bool, ◌+◌, ◌-◌, ◌*◌, ◌/◌, ◌%◌, ◌^◌, ◌<◌, ◌≤◌, true, false, ◌||◌, nat_eq, List, [], ◌∷◌, ◌++◌, length, arith, refl, sym, ◌∙◌, ap, inl, inr, ◌⊎◌, subst, cond}
-use Rattle.std.proofs.lemmas.Bool.{cases_Bool, cases_lt, eqb-true, eqb-false, false_from_ne_true, or_cases, or_parts, true≢false, false≢true}
+use Rattle.std.proofs.Common.{◌≡◌, ℕ, Bool, ◌+◌, ◌%◌, ◌<◌, ◌≤◌, true, false, ◌||◌, nat_eq, List, [], ◌∷◌, ◌++◌, length, arith, refl, sym, ◌∙◌, ap, inl, inr, ◌⊎◌, subst}
+use Rattle.std.proofs.lemmas.Bool.{eqb-true, false_from_ne_true, or_cases, or_parts, true≢false, false≢true}
 use Rattle.std.proofs.Math.ListN.{length-append}
 use Rattle.raw_store.specs.Region.{word_bytes}
 use Rattle.address_map.proofs.Bytes.{is_mapped-layout}
-use Rattle.address_map.specs.Bytes.{AreMapped, Bytes, with_bytes_at, word_start}
+use Rattle.address_map.specs.Bytes.{with_bytes_at, word_start}
 use Rattle.address_map.specs.Classes.{is_anchor, is_flex_header}
 use Rattle.address_map.specs.Memory.{byte_at, bytes_of, class_of, is_mapped, layout}
 use Rattle.address_map.specs.declared.class.Class.{Class}
 use Rattle.address_map.specs.declared.class.Class.TheVariants as class
 use Rattle.address_map.specs.declared.map.AddressMap.{AddressMap}
-use Rattle.flex_store.specs.Blocks.{Block, has_anchor, is_header, taken, used, whole_words}
+use Rattle.flex_store.specs.Blocks.{Block, has_anchor, is_header, taken, used}
 use Rattle.flex_store.specs.Marks.{marked, with_headers}
 use Rattle.flex_store.specs.Memory.{AreAnchored, Holds, laid_out, text_of, with_anchors}
-use Rattle.flex_store.specs.Relaid.{MayLie, Relaid}
+use Rattle.flex_store.specs.Relaid.{Relaid}
 use Rattle.flex_store.specs.State.{AreAnchorWords, AreWhole, IsAnchorWord, IsFlexRange, IsFlexStore, IsText}
 use Rattle.flex_store.proofs.Anchoring.{anchors-append, anchors_again, anchors_beside, anchors_hold}
 use Rattle.flex_store.proofs.Headers.{IsWithin, header_within, headers_marked}
-use Rattle.flex_store.proofs.Holding.{bytes_beside, bytes_held, bytes_written, holds_append, holds_kept, holds_left, holds_right}
-use Rattle.flex_store.proofs.Lists.{anchor-append, header-append, text-append, text_used, used-append, whole-append, whole_left, whole_right}
+use Rattle.flex_store.proofs.Holding.{bytes_beside, bytes_held, bytes_written, holds_append, holds_kept, holds_right}
+use Rattle.flex_store.proofs.Lists.{anchor-append, header-append, text-append, text_used, used-append, whole_left, whole_right}
 use Rattle.flex_store.proofs.Texts.{words_within}
 
 pub used_aligned : (bs : List Block) → used bs % 4 ≡ 0

@@ -1,5 +1,5 @@
 -- Memory that the tests of this crate go on from.
-use Rattle.std.proofs.Common.{◌≡◌, ℕ, ◌<◌, ◌≤◌, ◌++◌, ◌∷◌, Bool, true, false, List, [], Option, Some, None, Result, Ok, Err, length, refl, sym, ◌∙◌, ap, subst, arith, inl, inr}
+use Rattle.std.proofs.Common.{◌≡◌, ℕ, ◌<◌, ◌≤◌, ◌++◌, ◌∷◌, Bool, true, false, List, [], Option, None, Result, Ok, Err, length, refl, sym, ◌∙◌, ap, subst, arith, inl, inr}
 use Rattle.profile.specs.Outcome.{bind, Gives}
 use Rattle.profile.specs.declared.error.ErrorNumber.{ErrorNumber}
 use Rattle.std.proofs.lemmas.Bool.{cases_Bool}
@@ -7,7 +7,6 @@ use Rattle.std.specs.Prelude.{MatchResult}
 use Rattle.address_map.specs.Records.{is_heap_kind}
 use Rattle.flex_store.specs.Calls.{flex_record}
 use Rattle.address_map.specs.Classes.{is_anchor, is_flex_header}
-use Rattle.address_map.specs.declared.class.Class.{Class}
 use Rattle.address_map.specs.declared.map.AddressMap.{AddressMap}
 use Rattle.address_map.specs.declared.region.Kind.TheVariants as kind
 use Rattle.address_map.specs.declared.region.Region.{Region}
@@ -24,7 +23,7 @@ use Rattle.os_heap.specs.Store.{AreClasses, guest_count, IsSound, others_in, Sto
 use Rattle.flex_store.specs.declared.flex.Extent.{Extent}
 use Rattle.flex_store.specs.declared.flex.Flex.{Flex}
 use Rattle.flex_store.specs.State.{IsFlex, IsFlexAt, IsNoFlex}
-use Rattle.flex_store.specs.Tested.{IsBare, IsBench, IsStart}
+use Rattle.flex_store.specs.Tested.{IsBare, IsStart}
 use Rattle.flex_store.proofs.Starting.{mapped_same}
 
 no_flex_at : (m : AddressMap) (f : Flex) → f.extent ≡ None → IsNoFlex m → IsFlex m f

@@ -1,10 +1,9 @@
 -- A text of blocks in memory: its first block, what is behind that, and what of it stays.
-use Rattle.std.proofs.Common.{◌≡◌, ℕ, Bool, ◌+◌, ◌-◌, ◌*◌, ◌/◌, ◌%◌, ◌^◌, ◌<◌, ◌≤◌, true, false, List, [], ◌∷◌, length, arith, refl, sym, ◌∙◌, ap, inl, inr, ◌⊎◌, subst}
-use Rattle.raw_store.specs.Region.{word_bytes}
+use Rattle.std.proofs.Common.{◌≡◌, ℕ, Bool, ◌+◌, ◌%◌, ◌^◌, ◌<◌, ◌≤◌, true, List, [], ◌∷◌, length, arith, sym, inl, inr, subst}
 use Rattle.address_map.specs.Bytes.{AreMapped, Bytes, word_at}
-use Rattle.flex_store.specs.Blocks.{Block, used, taken, whole_words, has_anchor}
-use Rattle.flex_store.specs.Memory.{Holds, text_of, blocks_in}
-use Rattle.flex_store.specs.State.{AreAnchorWords, AreWhole, IsAnchorWord, IsText}
+use Rattle.flex_store.specs.Blocks.{Block, used, taken, whole_words}
+use Rattle.flex_store.specs.Memory.{text_of, blocks_in}
+use Rattle.flex_store.specs.State.{AreAnchorWords, IsAnchorWord, IsText}
 use Rattle.flex_store.proofs.Holding.{holds_kept, word_read}
 use Rattle.flex_store.proofs.Lists.{text_used}
 use Rattle.flex_store.proofs.Reading.{IsSpelled, spelled, reads}

@@ -1,5 +1,5 @@
 -- A walk over the blocks of a text, which marks their headers, and one that rewrites their anchors too.
-use Rattle.std.proofs.Common.{◌≡◌, ℕ, ◌+◌, ◌-◌, ◌*◌, ◌/◌, ◌%◌, ◌^◌, ◌<◌, ◌≤◌, true, List, [], ◌∷◌, arith, refl, sym, ◌∙◌, ap, inl, inr, ◌⊎◌, Option}
+use Rattle.std.proofs.Common.{◌≡◌, ℕ, ◌+◌, ◌-◌, ◌%◌, ◌^◌, ◌<◌, ◌≤◌, true, List, [], ◌∷◌, arith, refl, sym, ◌∙◌, ap, inl, inr}
 use Rattle.address_map.proofs.Bytes.{is_mapped-layout}
 use Rattle.address_map.proofs.Spans.{mapped_below}
 use Rattle.address_map.specs.Bytes.{Bytes, word_at, with_word_at}
@@ -10,7 +10,7 @@ use Rattle.address_map.specs.declared.map.AddressMap.{AddressMap}
 use Rattle.address_map.specs.declared.region.Kind.{Kind}
 use Rattle.address_map.specs.declared.region.Region.{Region}
 use Rattle.address_map.specs.Memory.{byte_at, bytes_of, class_of, is_mapped, layout}
-use Rattle.flex_store.specs.Blocks.{Block, taken, used, whole_words}
+use Rattle.flex_store.specs.Blocks.{Block, taken, used}
 use Rattle.flex_store.specs.Marks.{with_headers}
 use Rattle.flex_store.specs.Memory.{with_anchors, blocks_in}
 use Rattle.flex_store.specs.State.{IsText}

@@ -1,14 +1,13 @@
 -- The flex calls, over memory and the flex store, if there is one. Refusals come in the order of their numbers (Acorn C
 -- manual, "flex"; the numbers, this order, and one store in a range that the guest names are this project's own).
-use Rattle.std.specs.Prelude.{ℕ, ◌≡◌, Bool, true, false, not, ◌+◌, ◌-◌, ◌%◌, ◌==◌, ◌&&◌, ◌||◌, nat_le, nat_lt, Option, Some, None, ok_or, Result, Ok, Err, List, [], ◌∷◌, ◌++◌, if◌then◌else◌}
+use Rattle.std.specs.Prelude.{ℕ, Bool, true, false, not, ◌+◌, ◌-◌, ◌%◌, ◌==◌, ◌&&◌, ◌||◌, nat_le, nat_lt, Option, Some, None, ok_or, Result, Ok, Err, List, [], ◌∷◌, ◌++◌, if◌then◌else◌}
 use Rattle.std.specs.List.{list_any}
 use Rattle.profile.specs.Outcome.{bind}
 use Rattle.profile.specs.declared.error.ErrorNumber.{ErrorNumber}
 use Rattle.profile.specs.declared.error.ErrorNumber.TheVariants.{FlexNotReady, FlexAlready, FlexBadRange, FlexBadAnchor, FlexAnchorInUse}
 use Rattle.address_map.specs.declared.region.Kind.TheVariants as kind
 use Rattle.address_map.specs.declared.region.Region.{Region}
-use Rattle.address_map.specs.Bytes.{Bytes, in_range, meets, with_word}
-use Rattle.address_map.specs.Records.{meets_record}
+use Rattle.address_map.specs.Bytes.{Bytes, meets, with_word}
 use Rattle.os_heap.specs.Payloads.{is_other, payload_of}
 use Rattle.os_heap.specs.Store.{Store}
 use Rattle.os_heap.specs.Ranges.{are_mapped}
@@ -30,10 +29,14 @@ is_anchor_place s a = (a % 4 == 0 && s.bytes.mapped a)
 abbrev pub is_in_store : FlexStore → ℕ → Bool
 is_in_store s a = meets a 4 s.start (s.end - s.start)
 
--- May a range become the flex store? It has whole words, which are mapped, and it meets no recorded range.
-unfoldable pub is_flex_range : (ℕ → Bool) → List Region → ℕ → ℕ → Bool
-is_flex_range mapped regions start end =
-    (start % 4 == 0 && end % 4 == 0) && (nat_lt start end && (are_mapped mapped start (end - start) && not (meets_record regions start (end - start))))
+-- does a range share a byte with a heap, or with another recorded range?
+abbrev pub meets_ranges : Store → ℕ → ℕ → Bool
+meets_ranges s at len = list_any (λ h. meets at len h.start h.end) s.heaps || list_any (λ r. meets at len r.at r.len) s.others
+
+-- May a range become the flex store? It has whole words, which are mapped, and it meets no heap and no other recorded range.
+unfoldable pub is_flex_range : Store → ℕ → ℕ → Bool
+is_flex_range s start end =
+    (start % 4 == 0 && end % 4 == 0) && (nat_lt start end && (are_mapped s.bytes.mapped start (end - start) && not (meets_ranges s start (end - start))))
 
 -- the store and the block of a call
 abbrev pub ready : FlexState → Result FlexStore ErrorNumber
@@ -53,19 +56,19 @@ with_blocks t s blocks = record {
 abbrev pub fitted : FlexState → FlexStore → List Block → FlexState × Bool
 fitted t s blocks = if nat_le (s.start + used blocks) s.end then (with_blocks t s blocks, true) else (t, false)
 
--- Init: an empty store in a range.
+-- Init: an empty store in a range, which the heaps and the recorded ranges leave free.
 abbrev pub flex_record : ℕ → ℕ → Region
 flex_record start end = record { kind = kind.FlexStore; at = start; len = end - start }
 
 abbrev pub with_flex : FlexState → ℕ → ℕ → FlexState
 with_flex t start end = record { bytes = t.bytes; flex = Some (record { start = start; end = end; blocks = [] }) }
 
-abbrev pub begun_by : List Region → FlexState → ℕ → ℕ → Option FlexStore → Result (FlexState × Unit {0}) ErrorNumber
-begun_by regions t start end (Some s) = Err FlexAlready
-begun_by regions t start end None = if is_flex_range t.bytes.mapped regions start end then Ok (with_flex t start end, tt) else Err FlexBadRange
+abbrev pub begun_by : Store → FlexState → ℕ → ℕ → Option FlexStore → Result (FlexState × Unit {0}) ErrorNumber
+begun_by places t start end (Some s) = Err FlexAlready
+begun_by places t start end None = if is_flex_range places start end then Ok (with_flex t start end, tt) else Err FlexBadRange
 
-unfoldable pub begun : List Region → FlexState → ℕ → ℕ → Result (FlexState × Unit {0}) ErrorNumber
-begun regions t start end = begun_by regions t start end t.flex
+unfoldable pub begun : Store → FlexState → ℕ → ℕ → Result (FlexState × Unit {0}) ErrorNumber
+begun places t start end = begun_by places t start end t.flex
 
 -- Alloc: a block more, behind all others. The heaps and the recorded ranges say where an anchor may stand.
 unfoldable pub allocated : Store → FlexState → ℕ → ℕ → Result (FlexState × Bool) ErrorNumber

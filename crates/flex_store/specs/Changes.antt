@@ -1,5 +1,5 @@
 -- What a change of one block leaves.
-use Rattle.std.specs.Prelude.{ℕ, ◌≡◌, ◌≤◌, ◌<◌, ◌+◌, Bool, true, false, nat_le, List, Option, Some, None, if◌then◌else◌}
+use Rattle.std.specs.Prelude.{ℕ, ◌≡◌, ◌≤◌, ◌<◌, ◌+◌, Bool, true, false, List, Option, Some, None}
 use Rattle.address_map.specs.Memory.{byte_at, layout}
 use Rattle.address_map.specs.declared.map.AddressMap.{AddressMap}
 use Rattle.flex_store.specs.declared.flex.Extent.{Extent}

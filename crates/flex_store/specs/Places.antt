@@ -1,5 +1,5 @@
 -- Where the block of an anchor lies.
-use Rattle.std.specs.Prelude.{ℕ, ◌≡◌, ◌+◌, List, ◌∷◌, ◌++◌, Option, Some}
+use Rattle.std.specs.Prelude.{ℕ, ◌≡◌, ◌+◌, List, ◌∷◌, ◌++◌, Some}
 use Rattle.flex_store.specs.Blocks.{Block, used, find_block, with_block, without_block}
 
 -- a list is split at the block of an anchor

@@ -1,13 +1,13 @@
 -- What is left of memory where the blocks behind a place were laid out anew.
-use Rattle.std.specs.Prelude.{ℕ, ◌≡◌, ◌≤◌, ◌+◌, ◌-◌, ◌^◌, List, [], ◌∷◌}
-use Rattle.address_map.specs.Bytes.{AreMapped, word_at}
-use Rattle.address_map.specs.Memory.{byte_at, bytes_of, class_of, is_mapped, layout}
+use Rattle.std.specs.Prelude.{ℕ, ◌≡◌, ◌+◌, List}
+use Rattle.address_map.specs.Bytes.{AreMapped}
+use Rattle.address_map.specs.Memory.{byte_at, class_of, is_mapped, layout}
 use Rattle.address_map.specs.declared.class.Class.TheVariants as class
 use Rattle.address_map.specs.declared.map.AddressMap.{AddressMap}
-use Rattle.flex_store.specs.Blocks.{Block, taken, used, whole_words}
+use Rattle.flex_store.specs.Blocks.{Block, taken, used}
 use Rattle.flex_store.specs.Marks.{with_headers}
 use Rattle.flex_store.specs.Memory.{block_at, blocks_in, laid_out}
-use Rattle.flex_store.specs.State.{AreAnchorWords, IsText}
+use Rattle.flex_store.specs.State.{AreAnchorWords}
 
 -- the block whose header is at `at`, and those behind it
 abbrev pub first_at : AddressMap → ℕ → Block

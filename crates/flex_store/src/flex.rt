@@ -74,7 +74,7 @@ impl Flex {
         requires classes { AreClasses map.old }
         requires few { length (store_of map.old).others < 68 }
         ensures state { Gives (state_of map.old self.old)
-            (begun (regions map.old) (state_of map.old self.old) start end) result (state_of map.new self.new) }
+            (begun (store_of map.old) (state_of map.old self.old) start end) result (state_of map.new self.new) }
         ensures flex { IsFlex map.new self.new }
         ensures regions { MatchResult result
             (λ _. regions map.new ≡ regions map.old ++ flex_record start end ∷ [])
@@ -240,10 +240,10 @@ impl Flex {
     }
 }
 
-/// Whether the flex store may be made of a range: of whole words, mapped, and meeting no recorded range.
+/// Whether the flex store may be made of a range: of whole words, mapped, and meeting no heap and no other recorded range.
 #[tactic(auto, unfolding(crate::specs::Calls::is_flex_range))]
 fn is_flex_range(map: &AddressMap, start: u32, end: u32) -> bool
-    ensures { result ≡ is_flex_range (is_mapped map.now) (regions map.now) start end }
+    ensures { result ≡ is_flex_range (store_of map.now) start end }
 {
     if start % 4 != 0 || end % 4 != 0 || start >= end {
         return false;
@@ -258,7 +258,7 @@ fn is_flex_range(map: &AddressMap, start: u32, end: u32) -> bool
 /// Records the range of the store.
 fn record_store(map: &mut AddressMap, start: u32, end: u32)
     requires flex { IsNoFlex map.old }
-    requires range { is_flex_range (is_mapped map.old) (regions map.old) start end ≡ true }
+    requires range { is_flex_range (store_of map.old) start end ≡ true }
     requires sound { IsSound (store_of map.old) }
     requires classes { AreClasses map.old }
     requires few { length (store_of map.old).others < 68 }

@@ -94,7 +94,7 @@ placed_more : (hs : List HeapList) (rs : List Region) (r : Region) → ArePlaced
 placed_more hs [] r placed last = (inr last, tt)
 placed_more hs (q ∷ rs) r placed last = (placed.0, placed_more hs rs r placed.1 last)
 
-mapped_more : (f : ℕ → Bool) (rs : List Region) (r : Region) → AreRangesMapped f rs → AreMapped f r.at r.len → AreRangesMapped f (rs ++ r ∷ [])
+pub mapped_more : (f : ℕ → Bool) (rs : List Region) (r : Region) → AreRangesMapped f rs → AreMapped f r.at r.len → AreRangesMapped f (rs ++ r ∷ [])
 mapped_more f [] r mapped last = (last, tt)
 mapped_more f (q ∷ rs) r mapped last = (mapped.0, mapped_more f rs r mapped.1 last)
 

@@ -11,13 +11,12 @@ use Rattle.os_heap.proofs.Frame.{layout-others}
 use Rattle.os_heap.specs.Store.{AreClasses, IsSound, Store, store_of}
 use Rattle.dynamic_areas.proofs.HeapCalls.{areas_written}
 use Rattle.dynamic_areas.specs.Ground.{AreAreas}
-use Rattle.flex_store.specs.Calls.{FlexState, allocated, begun, extended, flex_record, mid_extended, released, sized}
+use Rattle.flex_store.specs.Calls.{FlexState}
 use Rattle.flex_store.specs.State.{IsFlex, state_of as flex_state_of}
 use Rattle.flex_store.specs.declared.flex.Flex.{Flex}
 use Rattle.flex_ground.proofs.Calls.{flex_left, flex_stays_so, state_is}
-use Rattle.flex_ground.proofs.Starts.{began_is, IsFlexMade, has_made, made_areas, made_left, unmade_areas, unmade_left}
 use Rattle.flex_ground.specs.CallLaws.{AreAnchorsAllowed, IsFlexCall, IsLeft}
-use Rattle.flex_ground.specs.Ground.{HasFlex, flex_began, flex_of, flex_state, store_flexed, with_flex_record}
+use Rattle.flex_ground.specs.Ground.{HasFlex, flex_of, flex_state, store_flexed}
 use Rattle.swi_dispatch.specs.declared.halt.Halt.{Halt}
 use Rattle.swi_dispatch.specs.declared.refusal.Refusal.{Refusal}
 use Rattle.swi_dispatch.specs.declared.refusal.Refusal.TheVariants as refusal

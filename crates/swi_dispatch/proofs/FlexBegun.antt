@@ -6,7 +6,6 @@ use Rattle.profile.specs.Outcome.{Gives}
 use Rattle.profile.specs.declared.error.ErrorNumber.{ErrorNumber}
 use Rattle.address_map.specs.Memory.{class_of, free_pages, is_mapped, mapping, regions}
 use Rattle.address_map.specs.declared.map.AddressMap.{AddressMap}
-use Rattle.address_map.specs.declared.region.Region.{Region}
 use Rattle.arm_step.specs.State.{State}
 use Rattle.os_heap.specs.Store.{AreClasses, IsSound, Store, store_of}
 use Rattle.dynamic_areas.specs.Ground.{AreAreas}
@@ -15,8 +14,9 @@ use Rattle.flex_store.specs.Calls.{FlexState, begun, begun_by, flex_record, is_f
 use Rattle.flex_store.specs.State.{IsFlex, flex_in, state_of as flex_state_of}
 use Rattle.flex_store.specs.declared.flex.Extent.{Extent}
 use Rattle.flex_store.specs.declared.flex.Flex.{Flex}
-use Rattle.flex_ground.proofs.Starts.{began_is, IsFlexMade, has_made, made_areas, made_left, others_made, room_there, unmade_areas, unmade_left}
-use Rattle.flex_ground.specs.Ground.{HasFlex, flex_began, flex_state, records_with, with_flex_record}
+use Rattle.flex_ground.proofs.Calls.{state_is}
+use Rattle.flex_ground.proofs.Starts.{IsFlexMade, has_made, made_areas, made_left, others_made, room_there, unmade_areas, unmade_left}
+use Rattle.flex_ground.specs.Ground.{HasFlex, flex_state, records_with, with_flex_record}
 use Rattle.flex_ground.specs.WorldLaws.{HasBegun}
 use Rattle.instances_ground.proofs.Images.{system_more}
 use Rattle.instances_ground.proofs.Worlds.{few_records}
@@ -45,26 +45,26 @@ few_ranges w None going few = few_records w [] going few (lit≤ tt)
 few_ranges w (Some p) going few = few_records w (pending_of p) going.1.world few (pending_one (is_pending p.actions) p.given)
 
 -- what is so where the call was done
-record IsBegun (rs : List Region) (t : FlexState) (start end : ℕ) (r : FlexState × Unit {0}) : Type 0 where
+record IsBegun (places : Store) (t : FlexState) (start end : ℕ) (r : FlexState × Unit {0}) : Type 0 where
   none : t.flex ≡ None
-  room : is_flex_range t.bytes.mapped rs start end ≡ true
+  room : is_flex_range places start end ≡ true
   left : with_store t start end ≡ r.0
 
 ok_is : (A : Type 0) (x y : A) → (let one : Result A ErrorNumber = Ok x in let two : Result A ErrorNumber = Ok y in one ≡ two) → x ≡ y
 ok_is A x y e = cc
 
-begun_from : (rs : List Region) (t : FlexState) (start end : ℕ) (o : Option FlexStore) (r : FlexState × Unit {0}) → begun_by rs t start end o ≡ Ok r
-    → (o ≡ None) × ((is_flex_range t.bytes.mapped rs start end ≡ true) × (with_store t start end ≡ r.0))
-begun_from rs t start end (Some s) r is = absurd (let no : Err _ ≡ Ok r = is in cc)
-begun_from rs t start end None r is = elim (cases_Bool (is_flex_range t.bytes.mapped rs start end)) [
+begun_from : (places : Store) (t : FlexState) (start end : ℕ) (o : Option FlexStore) (r : FlexState × Unit {0}) → begun_by places t start end o ≡ Ok r
+    → (o ≡ None) × ((is_flex_range places start end ≡ true) × (with_store t start end ≡ r.0))
+begun_from places t start end (Some s) r is = absurd (let no : Err _ ≡ Ok r = is in cc)
+begun_from places t start end None r is = elim (cases_Bool (is_flex_range places start end)) [
   | inl room ↦ let done = rw room at is in (refl, (room, ap (λ (x : FlexState × Unit {0}). x.0) (ok_is (FlexState × Unit {0}) _ r done)))
   | inr bad ↦ let done = rw bad at is in absurd (let no : Err _ ≡ Ok r = done in cc)
 ]
 
-is_begun : (rs : List Region) (t : FlexState) (start end : ℕ) (r : FlexState × Unit {0}) → begun rs t start end ≡ Ok r → IsBegun rs t start end r
+is_begun : (places : Store) (t : FlexState) (start end : ℕ) (r : FlexState × Unit {0}) → begun places t start end ≡ Ok r → IsBegun places t start end r
 unfolding begun
-is_begun rs t start end r is =
-    let parts = begun_from rs t start end t.flex r is in record { none = parts.0; room = parts.1.0; left = parts.1.1 }
+is_begun places t start end r is =
+    let parts = begun_from places t start end t.flex r is in record { none = parts.0; room = parts.1.0; left = parts.1.1 }
 
 no_extent : (m : AddressMap) (o : Option Extent) → flex_in m o ≡ None → o ≡ None
 no_extent m None is = refl
@@ -76,13 +76,13 @@ an_extent m (Some e) s is = refl
 
 -- the parts of the machine where it was done
 begun_well : (old new : Parts) (start end : ℕ) (r : FlexState × Unit {0}) → IsWellFormed old
-    → begun (regions old.map) (flex_state_of old.map old.tables.flex) start end ≡ Ok r → flex_state_of new.map new.tables.flex ≡ r.0
+    → begun (store_of old.map) (flex_state_of old.map old.tables.flex) start end ≡ Ok r → flex_state_of new.map new.tables.flex ≡ r.0
     → IsFlexMade old.map new.map new.tables.flex → regions new.map ≡ regions old.map ++ flex_record start end ∷ [] → AreClasses new.map
     → new.tables ≡ record old.tables { flex = new.tables.flex } → new.is_fresh ≡ false → IsWellFormed new
 unfolding flex_state_of
 begun_well old new start end r well is state made records classes tables stepped =
-    let begun : IsBegun (regions old.map) (flex_state_of old.map old.tables.flex) start end r =
-    is_begun (regions old.map) (flex_state_of old.map old.tables.flex) start end r is in
+    let begun : IsBegun (store_of old.map) (flex_state_of old.map old.tables.flex) start end r =
+    is_begun (store_of old.map) (flex_state_of old.map old.tables.flex) start end r is in
     let none : old.tables.flex.extent ≡ None = no_extent old.map old.tables.flex.extent begun.none in
     let some : is_some new.tables.flex.extent ≡ true =
     an_extent new.map new.tables.flex.extent _ (ap (λ (t : FlexState). t.flex) (state ∙ sym begun.left)) in
@@ -117,7 +117,7 @@ unbegun_well old new well state made records classes tables stepped =
     (λ e. absurd (true≢false (sym e ∙ stepped)))
 
 pub made_well : (old new : Parts) (start end : ℕ) (r : Result (FlexState × Unit {0}) ErrorNumber) (x : Result (Unit {0}) ErrorNumber) → IsWellFormed old
-    → begun (regions old.map) (flex_state_of old.map old.tables.flex) start end ≡ r
+    → begun (store_of old.map) (flex_state_of old.map old.tables.flex) start end ≡ r
     → Gives {U = Unit {0}} (flex_state_of old.map old.tables.flex) r x (flex_state_of new.map new.tables.flex)
     → IsFlexMade old.map new.map new.tables.flex
     → MatchResult x (λ _. regions new.map ≡ regions old.map ++ flex_record start end ∷ []) (λ _. regions new.map ≡ regions old.map) → AreClasses new.map
@@ -148,10 +148,10 @@ begun_over m n cpu tables halt g start end (Ok r) (Err e) is gives made records 
 begun_over m n cpu tables halt g start end (Err f) (Ok u) is gives made records = absurd gives
 
 pub made_over : (m n : AddressMap) (cpu : State) (tables : Tables) (halt : Option Halt) (g : Flex) (start end : ℕ) (x : Result (Unit {0}) ErrorNumber)
-    → IsFlex m tables.flex → Gives {U = Unit {0}} (flex_state_of m tables.flex) (begun (regions m) (flex_state_of m tables.flex) start end) x (flex_state_of n g)
+    → IsFlex m tables.flex → Gives {U = Unit {0}} (flex_state_of m tables.flex) (begun (store_of m) (flex_state_of m tables.flex) start end) x (flex_state_of n g)
     → IsFlexMade m n g → MatchResult x (λ _. regions n ≡ regions m ++ flex_record start end ∷ []) (λ _. regions n ≡ regions m)
     → Gives {U = Unit {0}} (over m cpu tables halt) (flex_in_range (over m cpu tables halt) start end) x (over n cpu (with_flex tables g) halt)
 made_over m n cpu tables halt g start end x is gives made records =
-    begun_over m n cpu tables halt g start end (flex_began (store_of m) (flex_state (store_of m) tables.flex) start end) x is
-    (subst (λ (r : Result (FlexState × Unit {0}) ErrorNumber). Gives {U = Unit {0}} (flex_state_of m tables.flex) r x (flex_state_of n g))
-    (began_is m tables.flex start end) gives) made records
+    begun_over m n cpu tables halt g start end (begun (store_of m) (flex_state (store_of m) tables.flex) start end) x is
+    (subst (λ (t : FlexState). Gives {U = Unit {0}} (flex_state_of m tables.flex) (begun (store_of m) t start end) x (flex_state_of n g))
+    (state_is m tables.flex) gives) made records

@@ -8,8 +8,8 @@ use Rattle.profile.specs.declared.swi.SwiName.{SwiName}
 use Rattle.profile.specs.declared.swi.SwiName.TheVariants as swi
 use Rattle.arm_step.specs.State.{register_of}
 use Rattle.os_heap.specs.Store.{Store}
-use Rattle.flex_store.specs.Calls.{FlexState, allocated, extended, mid_extended, released, sized}
-use Rattle.flex_ground.specs.Ground.{flex_began, flex_of, flex_state, store_flexed, with_flex_record}
+use Rattle.flex_store.specs.Calls.{FlexState, allocated, begun, extended, mid_extended, released, sized}
+use Rattle.flex_ground.specs.Ground.{flex_of, flex_state, store_flexed, with_flex_record}
 use Rattle.swi_dispatch.specs.declared.refusal.Refusal.{Refusal}
 use Rattle.swi_dispatch.specs.Answers.{or_error, system_error, with_answer}
 use Rattle.swi_dispatch.specs.MachineState.{MachineState}
@@ -28,7 +28,7 @@ left_by s store r = bind r (λ q. Ok (with_flexed s store q.0, q.1))
 
 -- Flex_Init: the store's range is from R0 up to R1.
 abbrev pub flex_in_range : MachineState → ℕ → ℕ → Result (MachineState × Unit {0}) ErrorNumber
-flex_in_range s start end = left_by s (with_flex_record s.store start end) (flex_began s.store (machine_flex s) start end)
+flex_in_range s start end = left_by s (with_flex_record s.store start end) (begun s.store (machine_flex s) start end)
 
 abbrev pub flex_made : MachineState → Result MachineState Refusal
 flex_made s = bind (or_error (flex_in_range s (register_of s.cpu 0) (register_of s.cpu 1))) (λ r. Ok r.0)

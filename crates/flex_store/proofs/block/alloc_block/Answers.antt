@@ -1,4 +1,4 @@
-use Rattle.std.proofs.Common.{not, ℕ, ◌≡◌, ◌≤◌, ◌+◌, ◌++◌, ◌∷◌, [], arith, sym, ◌∙◌}
+use Rattle.std.proofs.Common.{not, ◌≤◌, ◌+◌, ◌++◌, ◌∷◌, [], arith, sym, ◌∙◌}
 use Rattle.os_heap.specs.Store.{store_of}
 use Rattle.flex_store.specs.Blocks.{new_block, used}
 use Rattle.flex_store.specs.State.{blocks_of, store_in}

@@ -1,4 +1,4 @@
-use Rattle.std.proofs.Common.{ℕ, ◌≡◌, ◌+◌, ◌*◌, ◌-◌, ◌%◌, Bool, ◌&&◌, not, List, arith, ap, refl, ◌∙◌, sym}
+use Rattle.std.proofs.Common.{ℕ, Bool, ◌&&◌, not, List, arith, ap, refl, ◌∙◌, sym}
 use Rattle.std.specs.List.{list_any}
 use Rattle.address_map.specs.Bytes.{meets}
 use Rattle.address_map.specs.Memory.{regions}

@@ -1,4 +1,4 @@
-use Rattle.std.proofs.Common.{◌≡◌, ◌≤◌, ◌+◌, ◌^◌, ℕ, length, ap, sym, ◌∙◌, arith}
+use Rattle.std.proofs.Common.{◌≡◌, ◌+◌, ℕ, length, ap, sym, ◌∙◌, arith}
 use Rattle.address_map.specs.Bytes.{word_at}
 use Rattle.address_map.specs.Memory.{byte_at}
 use Rattle.flex_store.specs.Blocks.{taken}

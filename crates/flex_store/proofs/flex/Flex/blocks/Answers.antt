@@ -1,4 +1,4 @@
-use Rattle.std.proofs.Common.{◌≡◌, ◌≤◌, ◌+◌, Option, ap, subst, sym, ◌∙◌, arith}
+use Rattle.std.proofs.Common.{Option, ap, subst, sym, ◌∙◌, arith}
 use Rattle.address_map.specs.Memory.{byte_at}
 use Rattle.flex_store.specs.declared.flex.Extent.{Extent}
 use Rattle.flex_store.specs.Listed.{all_listed}
