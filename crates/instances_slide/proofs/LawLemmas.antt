@@ -60,7 +60,7 @@ is_whole : (e : Estate) (h : HeapList) → IsEstate e → find_heap 0x01800000 e
 is_whole e h good found = (has_pages e h good found).whole
 
 -- private words are beyond all heaps
-words_heaps : (moves : List Move) (slots : List ℕ) (e : Estate) → (words_moved moves slots e).store.heaps ≡ e.store.heaps
+pub words_heaps : (moves : List Move) (slots : List ℕ) (e : Estate) → (words_moved moves slots e).store.heaps ≡ e.store.heaps
 words_heaps moves [] e = refl
 words_heaps moves (slot ∷ slots) e = words_heaps moves slots (with_private e slot (moved_to moves (private_word e slot)))
 
@@ -74,13 +74,13 @@ words_beyond moves (slot ∷ slots) e a low =
     words_beyond moves slots (with_private e slot value) a low ∙ word_beyond e.store.bytes.at slot value a low
 
 -- what was tidied, where the heap is known
-slid_where : (return_address : ℕ) (w : World) (h : HeapList) → find_heap 0x01800000 w.estate.store.heaps ≡ Some h
+pub slid_where : (return_address : ℕ) (w : World) (h : HeapList) → find_heap 0x01800000 w.estate.store.heaps ≡ Some h
     → world_slid return_address w ≡ world_moved w h (movable_blocks w.estate.store w.modules (private_words w) return_address h)
 unfolding world_slid
 slid_where return_address w h found = ap (λ (o : Option HeapList). world_slid_in return_address w o) found
 
 -- the heap afterwards
-heap_after : (w : World) (h : HeapList) (movable : List ℕ) → find_heap 0x01800000 w.estate.store.heaps ≡ Some h
+pub heap_after : (w : World) (h : HeapList) (movable : List ℕ) → find_heap 0x01800000 w.estate.store.heaps ≡ Some h
     → (let p : HeapList = record { kind = h.kind; start = h.start; end = h.end; items = slid_in h movable } in
     find_heap 0x01800000 (world_moved w h movable).estate.store.heaps ≡ Some p)
 heap_after w h movable found =
@@ -94,7 +94,7 @@ heap_after w h movable found =
     ap (λ (hs : List HeapList). find_heap 0x01800000 hs)
     (words_heaps (moves_in h movable) (slots_of w.modules) (with_store w.estate (with_slid s h movable))) ∙ there'
 
-keeps_moved : (w : World) (h : HeapList) (movable : List ℕ) → IsWorld w [] → find_heap 0x01800000 w.estate.store.heaps ≡ Some h
+pub keeps_moved : (w : World) (h : HeapList) (movable : List ℕ) → IsWorld w [] → find_heap 0x01800000 w.estate.store.heaps ≡ Some h
     → (block total : ℕ) → live_total block (h.start + 16) h.items ≡ Some total
     → IsLive (world_moved w h movable).estate.store (moved_to (moves_in h movable) block) total
     × ((k : ℕ) → k + 4 < total → (world_moved w h movable).estate.store.bytes.at (moved_to (moves_in h movable) block + k) ≡ w.estate.store.bytes.at (block + k))

@@ -1,5 +1,5 @@
 -- Private words name afterwards what they named.
-use Rattle.std.proofs.Common.{◌≡◌, ◌≢◌, ℕ, ◌+◌, ◌-◌, ◌%◌, ◌^◌, ◌==◌, ◌<◌, ◌≤◌, ◌∙◌, Bool, true, List, [], ◌∷◌, refl, ap, subst, Option, Some, None, inl, inr, arith}
+use Rattle.std.proofs.Common.{◌≡◌, ◌≢◌, ℕ, ◌+◌, ◌-◌, ◌%◌, ◌^◌, ◌==◌, ◌<◌, ◌≤◌, ◌⊎◌, ◌∙◌, Bool, true, List, [], ◌∷◌, refl, ap, subst, Option, Some, None, inl, inr, arith}
 use Rattle.std.proofs.lemmas.Bool.{both_ways, cases_Bool, cases_lt, eq-eqb, eqb-true, false_from_ne_true}
 use Rattle.address_map.specs.Bytes.{in_range, with_moved_at, with_word_at, word_at, word_start}
 use Rattle.address_map.specs.Items.{is_heap_word, size_of}
@@ -15,7 +15,7 @@ use Rattle.os_heap.proofs.Apart.{range_parts}
 use Rattle.os_heap.proofs.Found.{found_heap, found_start}
 use Rattle.os_heap.specs.Store.{Store, find_heap}
 use Rattle.os_heap_slide.proofs.LawLemmas.{slid_totals, slide_fits}
-use Rattle.os_heap_slide.proofs.Places.{bytes_past, moves_down}
+use Rattle.os_heap_slide.proofs.Places.{bytes_low, bytes_past, moves_down}
 use Rattle.os_heap_slide.proofs.Records.{slid_in}
 use Rattle.os_heap_slide.specs.Slide.{is_listed, place_of, slid_bytes, with_slid}
 use Rattle.dynamic_areas.specs.Ground.{Estate}
@@ -136,10 +136,10 @@ module _ (moves : List Move) (down : AreDown moves) where
         ∙ ap (moved_to moves) (slot_other e s slot (went e s) apart (went_fits e s small))
   ]
 
--- no byte beyond the heap changes
-slid_beyond : (s : Store) (h : HeapList) (movable : List ℕ) (a : ℕ) → h.start % 4 ≡ 0 → AreTotals h.items → 16 + size_of h.items ≤ h.end
-    → h.start + h.end ≤ a → (with_slid s h movable).bytes.at a ≡ s.bytes.at a
-slid_beyond s h movable a aligned totals inside high =
+-- no byte out of the heap changes
+pub slid_outside : (s : Store) (h : HeapList) (movable : List ℕ) (a : ℕ) → h.start % 4 ≡ 0 → AreTotals h.items → 16 + size_of h.items ≤ h.end
+    → (a < h.start) ⊎ (h.start + h.end ≤ a) → (with_slid s h movable).bytes.at a ≡ s.bytes.at a
+slid_outside s h movable a aligned totals inside out =
     let mv : ℕ → Bool = is_listed movable in
     let first : ℕ = h.start + 16 in
     let zero : (first - first) % 8 ≡ 0 = (let none : first - first ≡ 0 = omega arith in rw none refl) in
@@ -148,8 +148,11 @@ slid_beyond s h movable a aligned totals inside high =
     heap_beside (slid_bytes mv first first h.items s.bytes.at) h.start h.end (slid_in h movable) a aligned totals'
     (false_from_ne_true (is_heap_word h.start (slid_in h movable) (word_start a)) (λ is.
     let there = range_parts h.start h.end a (spelled_inside h.start h.end (slid_in h movable) a aligned totals' (omega (arith, fits, inside)) is) in
-    omega (arith, there.1, high)))
-    ∙ bytes_past mv first first h.items s.bytes.at a (omega arith) (omega (arith, high, inside))
+    elim out [ inl low ↦ omega (arith, there.0, low) | inr high ↦ omega (arith, there.1, high) ]))
+    ∙ elim out [
+      | inl low ↦ bytes_low mv first first h.items s.bytes.at a (omega arith) (omega (arith, low))
+      | inr high ↦ bytes_past mv first first h.items s.bytes.at a (omega arith) (omega (arith, high, inside))
+    ]
 
 word_same : (f g : ℕ → ℕ) (a : ℕ) → ((k : ℕ) → a ≤ k → g k ≡ f k) → word_at g a ≡ word_at f a
 word_same f g a same =
@@ -159,7 +162,7 @@ word_same f g a same =
     let b3 = same (a + 3) (omega arith) in
     rw (b0, b1, b2, b3) refl
 
-names_moved : (w : World) (h : HeapList) (movable : List ℕ) (slot : ℕ) → IsWorld w [] → AreModules w.modules → AreBytes w.estate.store.bytes.at
+pub names_moved : (w : World) (h : HeapList) (movable : List ℕ) (slot : ℕ) → IsWorld w [] → AreModules w.modules → AreBytes w.estate.store.bytes.at
     → find_heap 0x01800000 w.estate.store.heaps ≡ Some h → is_held slot w.modules ≡ true
     → private_word (world_moved w h movable).estate slot ≡ moved_to (moves_in h movable) (private_word w.estate slot)
 names_moved w h movable slot world modules small found held =
@@ -175,7 +178,7 @@ names_moved w h movable slot world modules small found held =
     let small' : AreBytes e.store.bytes.at =
     heap_small (slid_bytes mv first first h.items s.bytes.at) h.start h.end (slid_in h movable) (slid_small mv first first h.items s.bytes.at small) in
     let byte : (k : ℕ) → 0x01C02000 ≤ k → (with_slid s h movable).bytes.at k ≡ s.bytes.at k = λ k high.
-    slid_beyond s h movable k heap.aligned heap.totals heap.inside (omega (arith, high, start, low)) in
+    slid_outside s h movable k heap.aligned heap.totals heap.inside (inr (omega (arith, high, start, low))) in
     let word : private_word e slot ≡ private_word w.estate slot =
     word_same s.bytes.at (with_slid s h movable).bytes.at (private_of slot) (λ k high. byte k (omega (arith, high))) in
     words_after (moves_in h movable) down (slots_of w.modules) e slot small' (slots_once w.modules modules slot held)

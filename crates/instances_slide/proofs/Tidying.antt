@@ -32,7 +32,7 @@ not_true : (b : Bool) → not b ≡ true → b ≡ false
 not_true true e = absurd (false≢true e)
 not_true false e = refl
 
-no_anchor : (anchor : ℕ → Bool) (modules : List Module) (words : List ℕ) (return_address at total : ℕ)
+pub no_anchor : (anchor : ℕ → Bool) (modules : List Module) (words : List ℕ) (return_address at total : ℕ)
     → can_move anchor modules words return_address at total ≡ true → anchor_among anchor at total ≡ false
 no_anchor anchor modules words return_address at total can =
     let free : Bool = not (anchor_among anchor at total) in
@@ -41,11 +41,11 @@ no_anchor anchor modules words return_address at total can =
     not_true (anchor_among anchor at total) (and_parts free away (and_parts tied (free && away) can).1).0
 
 -- the module area's heap is there
-record HasHeap (s : Store) : Type 0 where
-  heap : HeapList
-  found : find_heap 0x01800000 s.heaps ≡ Some heap
+pub record HasHeap (s : Store) : Type 0 where
+  pub heap : HeapList
+  pub found : find_heap 0x01800000 s.heaps ≡ Some heap
 
-heap_there : (e : Estate) → IsEstate e → HasHeap e.store
+pub heap_there : (e : Estate) → IsEstate e → HasHeap e.store
 heap_there e good = go (find_heap 0x01800000 e.store.heaps) refl good.heap where
   go : (o : Option HeapList) → find_heap 0x01800000 e.store.heaps ≡ o → EndsWithArea o (find_area 1 e.land.areas) → HasHeap e.store
   go None none ends = absurd ends

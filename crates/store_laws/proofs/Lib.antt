@@ -1,0 +1,4 @@
+pub mod Ranges
+pub mod SlidLists
+pub mod SlidWorlds
+pub mod Turns

@@ -1,0 +1,35 @@
+-- What a flex call and a slide of the module area do to the meaning of a machine's stores: rules in which no address of a block stands (Acorn C manual,
+-- "flex"; RISC OS 3 Programmer's Reference Manual, "OS_Module", reason 8).
+use Rattle.std.specs.Prelude.{ℕ, ◌≡◌, List, [], ◌∷◌, Option, Some, None}
+use Rattle.flex_store.specs.Runs.{Answered, contents_left}
+use Rattle.store_laws.specs.Meaning.{Meaning}
+
+-- a flex call that was not refused, with its answer, or a slide
+pub data Turn : Type 0 where
+  Call : Answered → Turn
+  Slide : Turn
+
+-- A flex call changes the contents of its own anchor alone, by the call's rule. Nothing is said here of what it leaves of the module area.
+pub record IsCalled (d : Answered) (p q : Meaning) : Type 0 where
+  pub flex : (a : ℕ) → q.flex a ≡ contents_left d p.flex a
+
+-- a private word that named a block still names that one
+abbrev pub IsStillNamed : Option ℕ → Option ℕ → Type 0
+IsStillNamed None new = Unit {0}
+IsStillNamed (Some place) new = new ≡ Some place
+
+-- A slide keeps all that there is. A private word that named no block keeps its value, so by chance it may name one afterwards.
+pub record IsSlid (p q : Meaning) : Type 0 where
+  pub flex : (a : ℕ) → q.flex a ≡ p.flex a
+  pub blocks : q.blocks ≡ p.blocks
+  pub images : q.images ≡ p.images
+  pub names : (slot : ℕ) → IsStillNamed (p.names slot) (q.names slot)
+
+abbrev pub IsTurned : Turn → Meaning → Meaning → Type 0
+IsTurned (Call d) p q = IsCalled d p q
+IsTurned Slide p q = IsSlid p q
+
+-- turns one after another, each by its rule
+abbrev pub Follows : Meaning → List Turn → Meaning → Type 0
+Follows p [] q = q ≡ p
+Follows p (turn ∷ turns) q = (r : Meaning) × (IsTurned turn p r × Follows r turns q)
