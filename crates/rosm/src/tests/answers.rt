@@ -1,4 +1,5 @@
 use crate::image_files::add_image;
+use crate::refusal::stop_status;
 use crate::{Refusal, answer_script, run, settings};
 use command_shell::RunError;
 use image_loader::Images;
@@ -28,6 +29,36 @@ fn a_script_runs_an_image_within_the_budget(rt: HostRuntime) -> Result<(), Fail>
         assert_eq!(rt; last, Some(stop));
         let answers = format!(in alloc; "boot six\nstop {told}\n")?;
         assert_eq!(rt; writer.written(), answers.as_bytes());
+    }
+    Ok(())
+}
+
+// The words of a command line, a script, what it is answered with, and the exit status.
+static RUNS: [(&[&str], &[u8], &str, u8); 2] = [
+    (
+        &["rosm", "--pages", "11", "--app", "6", "--rma", "2"],
+        b"REGS\n",
+        "R0  00000000 R1  00000000 R2  00000000 R3  00000000
+R4  00000000 R5  00000000 R6  00000000 R7  00000000
+R8  00000000 R9  00000000 R10 00000000 R11 00000000
+R12 00000000 R13 00000000 R14 00000000 R15 00008000
+PSR nzcvif USR
+",
+        3,
+    ),
+    (&["rosm", "--budget", "13"], b"RUN\n", "stop Budget\n", 3),
+];
+
+#[test]
+fn words_and_a_script_have_answers_and_a_status(rt: HostRuntime) -> Result<(), Fail> {
+    let alloc = rt.alloc();
+    for (words, script, answers, status) in RUNS {
+        let settings = settings(alloc, words)?;
+        let mut reader = MemorySource::new(script, 4096, u64::MAX);
+        let mut bytes = Vec::new(alloc);
+        let last = run(&rt, &settings, &mut reader, &mut Device::new(&mut bytes))?;
+        assert_eq!(rt; bytes.as_slice(), answers.as_bytes());
+        assert_eq!(rt; stop_status(last), status);
     }
     Ok(())
 }

@@ -55,7 +55,7 @@ fn other_words_are_files_in_order(rt: HostRuntime) {
 }
 
 // The words after the program's name, and why they are refused.
-static REFUSED: [(&[&str], SettingsError); 8] = [
+static REFUSED: [(&[&str], SettingsError); 9] = [
     (
         &["rosm", "--pages", "10", "--app", "6", "--rma", "2"],
         SettingsError::Sizes,
@@ -68,6 +68,7 @@ static REFUSED: [(&[&str], SettingsError); 8] = [
     ),
     (&["rosm", "--pages="], SettingsError::Line),
     (&["rosm", "--pages=-0"], SettingsError::Line),
+    (&["rosm", "--pages", "-5"], SettingsError::Line),
     (&["rosm", "--rma", "4294967296"], SettingsError::Line),
     (&["rosm", "--version"], SettingsError::Line),
 ];

@@ -23,8 +23,10 @@ fn an_image_has_the_last_part_of_its_path_as_its_name(rt: HostRuntime) -> Result
     assert_eq!(rt; images.get(b"a"), Some([1, 2, 3].as_slice()));
     let again = add_image(rt.alloc(), "else/a", bytes.as_slice(), &mut images);
     assert_eq!(rt; again, Err(FileError::Image(ImageError::NameTaken)));
-    let nameless = add_image(rt.alloc(), "some/..", bytes.as_slice(), &mut images);
-    assert_eq!(rt; nameless, Err(FileError::Nameless));
+    for path in ["some/..", "/"] {
+        let nameless = add_image(rt.alloc(), path, bytes.as_slice(), &mut images);
+        assert_eq!(rt; nameless, Err(FileError::Nameless));
+    }
     Ok(())
 }
 

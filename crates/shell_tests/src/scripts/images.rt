@@ -234,9 +234,9 @@ fn sixty_five_images_are_too_many(rt: HostRuntime) -> Result<(), Fail> {
         &rt,
         rt.alloc(),
         &mut images,
-        "HEX one\nEND\n",
+        "HEX one\nEND\nASM one 0\nEND\n",
         0,
-        "hex one: TableFull\n",
+        "hex one: TableFull\nasm one: TableFull\n",
     )?;
     Ok(())
 }
