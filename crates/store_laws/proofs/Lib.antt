@@ -1,3 +1,5 @@
+pub mod Called
+pub mod CalledBytes
 pub mod Ranges
 pub mod SlidLists
 pub mod SlidWorlds

@@ -9,9 +9,30 @@ pub data Turn : Type 0 where
   Call : Answered → Turn
   Slide : Turn
 
--- A flex call changes the contents of its own anchor alone, by the call's rule. Nothing is said here of what it leaves of the module area.
+-- A byte of a block that is seen before a flex call and after it stays. An anchor's word may come to lie in a block, or be one no longer.
+abbrev pub IsByteLeft : Option ℕ → Option ℕ → Type 0
+IsByteLeft None new = Unit {0}
+IsByteLeft (Some byte) None = Unit {0}
+IsByteLeft (Some byte) (Some new) = new ≡ byte
+
+-- the same of each byte of a block, and of each of as many blocks
+abbrev pub AreBytesLeft : List (Option ℕ) → List (Option ℕ) → Type 0
+AreBytesLeft [] news = news ≡ []
+AreBytesLeft (old ∷ olds) [] = ⊥
+AreBytesLeft (old ∷ olds) (new ∷ news) = IsByteLeft old new × AreBytesLeft olds news
+
+abbrev pub AreBlocksLeft : List (List (Option ℕ)) → List (List (Option ℕ)) → Type 0
+AreBlocksLeft [] news = news ≡ []
+AreBlocksLeft (old ∷ olds) [] = ⊥
+AreBlocksLeft (old ∷ olds) (new ∷ news) = AreBytesLeft old new × AreBlocksLeft olds news
+
+-- A flex call changes the contents of its own anchor alone, by the call's rule. The blocks of the module area are as many as before, each with as many
+-- bytes, and but for words of anchors it holds what it held. Images are what they were, and a private word names the block that it named.
 pub record IsCalled (d : Answered) (p q : Meaning) : Type 0 where
   pub flex : (a : ℕ) → q.flex a ≡ contents_left d p.flex a
+  pub blocks : AreBlocksLeft p.blocks q.blocks
+  pub images : q.images ≡ p.images
+  pub names : (slot : ℕ) → q.names slot ≡ p.names slot
 
 -- a private word that named a block still names that one
 abbrev pub IsStillNamed : Option ℕ → Option ℕ → Type 0
