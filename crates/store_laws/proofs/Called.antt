@@ -23,6 +23,7 @@ use Rattle.instances_plans.specs.Code.{private_of}
 use Rattle.instances_table.proofs.RoomLemmas.{slots_once}
 use Rattle.instances_table.specs.Changes.{is_held}
 use Rattle.store_laws.proofs.CalledBytes.{byte_stays}
+use Rattle.store_laws.proofs.CalledSeen.{byte_seen}
 use Rattle.store_laws.proofs.Ranges.{outside_store}
 use Rattle.store_laws.proofs.SlidLists.{map_same}
 use Rattle.store_laws.proofs.SlidWorlds.{slots_below}
@@ -31,31 +32,23 @@ use Rattle.store_laws.specs.Meaning.{AreStores, Stores, area_blocks, area_images
 use Rattle.store_laws.specs.Rules.{AreBlocksLeft, AreBytesLeft, IsByteLeft}
 
 -- blocks whose bytes are left
-bytes_left : (f g : ℕ → Option ℕ) (at n : ℕ) → ((a : ℕ) → at ≤ a → a < at + n → IsByteLeft (f a) (g a))
-    → AreBytesLeft (map f (range_with_len at n)) (map g (range_with_len at n))
-bytes_left f g at zero left = refl
-bytes_left f g at (suc n) left =
-    (left at (omega arith) (omega arith), bytes_left f g (at + 1) n (λ a low high. left a (omega (arith, low)) (omega (arith, high))))
+bytes_left : (d : Answered) (f g : ℕ → Option ℕ) (at n : ℕ) → ((a : ℕ) → at ≤ a → a < at + n → IsByteLeft d.answer d.call (f a) (g a))
+    → AreBytesLeft d (map f (range_with_len at n)) (map g (range_with_len at n))
+bytes_left d f g at zero left = refl
+bytes_left d f g at (suc n) left =
+    (left at (omega arith) (omega arith), bytes_left d f g (at + 1) n (λ a low high. left a (omega (arith, low)) (omega (arith, high))))
 
-payloads_left : (f g : ℕ → Option ℕ) (at : ℕ) (xs : List Item) → AreTotals xs → ((a : ℕ) → at ≤ a → a < at + size_of xs → IsByteLeft (f a) (g a))
-    → AreBlocksLeft (payloads f at xs) (payloads g at xs)
-payloads_left f g at [] totals left = refl
-payloads_left f g at (Free t ∷ xs) totals left =
-    payloads_left f g (at + t) xs totals.1 (λ a low high. left a (omega (arith, low)) (omega (arith, high)))
-payloads_left f g at (Live t ∷ xs) totals left =
-    let least = total_facts t totals.0 in (
-      bytes_left f g (at + 4) (t - 4) (λ a low high. left a (omega (arith, low)) (omega (arith, high, least.0))),
-      payloads_left f g (at + t) xs totals.1 (λ a low high. left a (omega (arith, low)) (omega (arith, high))),
+payloads_left : (d : Answered) (f g : ℕ → Option ℕ) (at : ℕ) (xs : List Item) → AreTotals xs
+    → ((a : ℕ) → at ≤ a → a < at + size_of xs → IsByteLeft d.answer d.call (f a) (g a)) → AreBlocksLeft d (payloads f at xs) (payloads g at xs)
+payloads_left d f g at [] totals left = refl
+payloads_left d f g at (Free t ∷ xs) totals left =
+    payloads_left d f g (at + t) xs totals.1 (λ a low high. left a (omega (arith, low)) (omega (arith, high)))
+payloads_left d f g at (Live t ∷ xs) totals left =
+    let least = total_facts t totals.0 in
+    (
+      bytes_left d f g (at + 4) (t - 4) (λ a low high. left a (omega (arith, low)) (omega (arith, high, least.0))),
+      payloads_left d f g (at + t) xs totals.1 (λ a low high. left a (omega (arith, low)) (omega (arith, high))),
     )
-
-seen_left : (old new : ℕ → Bool) (f g : ℕ → ℕ) (a : ℕ) → (old a ≡ false → new a ≡ false → g a ≡ f a) → IsByteLeft (seen old f a) (seen new g a)
-seen_left old new f g a same = elim (cases_Bool (old a)) [
-  | inl was ↦ rw was tt
-  | inr none ↦ elim (cases_Bool (new a)) [
-    | inl is ↦ rw (none, is) tt
-    | inr still ↦ rw (none, still) (same none still)
-  ]
-]
 
 -- images whose bytes are what they were
 images_same : (f g : ℕ → ℕ) (rs : List Region) → ((r : Region) → IsRecorded r rs → is_image r.kind ≡ true → bytes_between g r.at r.len ≡ bytes_between f r.at r.len)
@@ -138,20 +131,21 @@ module _ (d : Answered) (x y : Stores) (was : AreStores x) (is : AreStores y) (d
   ]
 
   heap_left : (o : Option HeapList) → find_heap 0x01800000 (store_of x.memory).heaps ≡ o
-      → AreBlocksLeft (blocks_in (store_of x.memory) o) (blocks_in (store_of y.memory) o)
+      → AreBlocksLeft d (blocks_in (store_of x.memory) o) (blocks_in (store_of y.memory) o)
   heap_left None found = refl
   heap_left (Some h) found =
       let sound : IsSound (store_of x.memory) = was.world.estate.ground.sound in
       let heap : IsHeapIn (store_of x.memory).bytes h.start h.end h.items = found_heap (store_of x.memory).bytes 0x01800000 (store_of x.memory).heaps h sound.heaps found in
-      payloads_left (seen (store_of x.memory).anchor (store_of x.memory).bytes.at) (seen (store_of y.memory).anchor (store_of y.memory).bytes.at)
+      payloads_left d (seen (store_of x.memory).anchor (store_of x.memory).bytes.at) (seen (store_of y.memory).anchor (store_of y.memory).bytes.at)
       (h.start + 16) h.items heap.totals (λ a low high.
-      seen_left (store_of x.memory).anchor (store_of y.memory).anchor (store_of x.memory).bytes.at (store_of y.memory).bytes.at a
-      (byte_left a (false_from_ne_true (is_in_flex_store (store_of x.memory).others a) (λ store.
+      let outside : is_in_flex_store (store_of x.memory).others a ≡ false = false_from_ne_true (is_in_flex_store (store_of x.memory).others a) (λ store.
       both_ways (in_range h.start h.end a) (header_outside 0x01800000 (store_of x.memory).heaps (store_of x.memory).others h a sound.placed found store)
-      (rw (le-leb h.start a (omega (arith, low)), lt-ltb a (h.start + h.end) (omega (arith, high, heap.inside))) refl)))))
+      (rw (le-leb h.start a (omega (arith, low)), lt-ltb a (h.start + h.end) (omega (arith, high, heap.inside))) refl)) in
+      byte_seen x.memory y.memory x.flex y.flex d.call d.answer a was.flex.is is.flex.is done.done outside
+      (ap (λ (rs : List Region). is_in_flex_store rs a) others ∙ outside))
 
-  pub blocks_left : AreBlocksLeft (area_blocks (world_in x)) (area_blocks (world_in y))
+  pub blocks_left : AreBlocksLeft d (area_blocks (world_in x)) (area_blocks (world_in y))
   blocks_left =
       let where_is : find_heap 0x01800000 (store_of y.memory).heaps ≡ find_heap 0x01800000 (store_of x.memory).heaps = ap (find_heap 0x01800000) done.heaps in
-      subst (λ (o : Option HeapList). AreBlocksLeft (area_blocks (world_in x)) (blocks_in (store_of y.memory) o)) (sym where_is)
+      subst (λ (o : Option HeapList). AreBlocksLeft d (area_blocks (world_in x)) (blocks_in (store_of y.memory) o)) (sym where_is)
       (heap_left (find_heap 0x01800000 (store_of x.memory).heaps) refl)

@@ -21,19 +21,19 @@ use Rattle.flex_store.specs.declared.flex.Extent.{Extent}
 use Rattle.flex_store.specs.declared.flex.Flex.{Flex}
 
 -- a byte outside a store, and of none of its anchors
-record IsBesideStore (s : FlexStore) (a : ℕ) : Type 0 where
-  mapped : ℕ → Bool
-  whole : AreWhole s.blocks
-  words : AreAnchorWords mapped s.start s.end s.blocks
-  fits : s.start + used s.blocks ≤ s.end
-  out : (a < s.start) ⊎ (s.end ≤ a)
-  none : has_anchor s.blocks (word_start a) ≡ false
+pub record IsBesideStore (s : FlexStore) (a : ℕ) : Type 0 where
+  pub mapped : ℕ → Bool
+  pub whole : AreWhole s.blocks
+  pub words : AreAnchorWords mapped s.start s.end s.blocks
+  pub fits : s.start + used s.blocks ≤ s.end
+  pub out : (a < s.start) ⊎ (s.end ≤ a)
+  pub none : has_anchor s.blocks (word_start a) ≡ false
 
-abbrev IsBeside : Option FlexStore → ℕ → Type 0
+abbrev pub IsBeside : Option FlexStore → ℕ → Type 0
 IsBeside None a = Unit {0}
 IsBeside (Some s) a = IsBesideStore s a
 
-laid_beside : (s : FlexStore) (f : ℕ → ℕ) (a : ℕ) → IsBesideStore s a → laid_out s.start s.blocks f a ≡ f a
+pub laid_beside : (s : FlexStore) (f : ℕ → ℕ) (a : ℕ) → IsBesideStore s a → laid_out s.start s.blocks f a ≡ f a
 unfolding laid_out
 laid_beside s f a b =
     let size : length (text_of s.blocks) ≡ used s.blocks = text_used s.blocks b.whole in
@@ -155,7 +155,7 @@ module _ (a : ℕ) where
   done_stays t v (MidExtend anchor at by) answer is was = mid_stays t.bytes t.flex v anchor at by answer is
 
   -- the same of memory
-  beside_in : (m : AddressMap) (o : Option Extent) → IsFlexAt m o → is_in_flex_store (store_of m).others a ≡ false → (store_of m).anchor a ≡ false
+  pub beside_in : (m : AddressMap) (o : Option Extent) → IsFlexAt m o → is_in_flex_store (store_of m).others a ≡ false → (store_of m).anchor a ≡ false
       → IsBeside (flex_in m o) a
   unfolding store_of
   beside_in m None is out none = tt
