@@ -1,5 +1,5 @@
 -- A flex call leaves the module area, the images and the private words: no byte of these is the store's, and anchors lie in blocks alone.
-use Rattle.std.proofs.Common.{ℕ, Bool, true, false, zero, suc, ◌+◌, ◌-◌, ◌≡◌, ◌≤◌, ◌<◌, ◌∙◌, List, [], ◌∷◌, map, Option, Some, None, refl, sym, ap, subst, inl, inr, arith}
+use Rattle.std.proofs.Common.{ℕ, true, false, zero, suc, ◌+◌, ◌-◌, ◌≡◌, ◌≤◌, ◌<◌, ◌∙◌, List, [], ◌∷◌, map, Option, Some, None, refl, sym, ap, subst, inl, inr, arith}
 use Rattle.std.specs.List.{range_with_len}
 use Rattle.std.proofs.lemmas.Bool.{both_ways, cases_Bool, false_from_ne_true, false≢true, le-leb, lt-ltb, or_left, or_right}
 use Rattle.address_map.specs.Bytes.{bytes_between, in_range, word_at}
@@ -44,8 +44,7 @@ payloads_left d f g at [] totals left = refl
 payloads_left d f g at (Free t ∷ xs) totals left =
     payloads_left d f g (at + t) xs totals.1 (λ a low high. left a (omega (arith, low)) (omega (arith, high)))
 payloads_left d f g at (Live t ∷ xs) totals left =
-    let least = total_facts t totals.0 in
-    (
+    let least = total_facts t totals.0 in (
       bytes_left d f g (at + 4) (t - 4) (λ a low high. left a (omega (arith, low)) (omega (arith, high, least.0))),
       payloads_left d f g (at + t) xs totals.1 (λ a low high. left a (omega (arith, low)) (omega (arith, high))),
     )

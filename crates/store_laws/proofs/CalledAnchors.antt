@@ -1,5 +1,5 @@
 -- Anchors over a flex call: an alloc adds one, a release takes one away and leaves its word 0, and the other calls leave all.
-use Rattle.std.proofs.Common.{ℕ, Bool, true, false, not, nat_eq, ◌+◌, ◌%◌, ◌-◌, ◌&&◌, ◌||◌, ◌≡◌, ◌≤◌, ◌∙◌, List, [], ◌∷◌, ◌++◌, Option, Some, None, Ok, refl, sym, ap, subst, inl, inr, arith}
+use Rattle.std.proofs.Common.{ℕ, Bool, true, false, not, nat_eq, ◌+◌, ◌&&◌, ◌||◌, ◌≡◌, ◌≤◌, ◌∙◌, List, [], ◌∷◌, ◌++◌, Option, Some, None, Ok, refl, sym, ap, subst, inl, inr, arith}
 use Rattle.std.specs.Prelude.{nat_le, nat_lt, if◌then◌else◌}
 use Rattle.std.proofs.lemmas.Bool.{cases_Bool, eqb-true, false≢true, or_left, or_parts, true≢false}
 use Rattle.std.proofs.lemmas.Bool.Decides.{nat_tests}
@@ -101,7 +101,7 @@ module _ (a : ℕ) where
 
   shrunk : (s : FlexStore) (f : ℕ → ℕ) (anchor : ℕ)
       → IsShrunk (Some s) (Some (record { start = s.start; end = s.end; blocks = without_block anchor s.blocks }))
-          (laid_out s.start (without_block anchor s.blocks) (with_word_at f anchor 0) a)
+      (laid_out s.start (without_block anchor s.blocks) (with_word_at f anchor 0) a)
   shrunk s f anchor = record {
     less = without_less anchor s.blocks (word_start a);
     zero = λ old beside.

@@ -11,7 +11,7 @@ use Rattle.flex_store.specs.State.{IsFlexAt, flex_in, state_of}
 use Rattle.flex_store.specs.declared.flex.Extent.{Extent}
 use Rattle.flex_store.specs.declared.flex.Flex.{Flex}
 use Rattle.store_laws.proofs.CalledAnchors.{Grows, IsShrunk, alloc_anchors, extend_anchors, mid_anchors, release_anchors}
-use Rattle.store_laws.proofs.CalledBytes.{IsBeside, IsLeftAlone, beside_in, byte_stays}
+use Rattle.store_laws.proofs.CalledBytes.{IsBeside, beside_in, byte_stays}
 use Rattle.store_laws.specs.Meaning.{seen}
 use Rattle.store_laws.specs.Rules.{IsByteLeft}
 
