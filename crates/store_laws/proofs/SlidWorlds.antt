@@ -59,7 +59,7 @@ words_outside moves (slot ∷ slots) e a below out =
     words_outside moves slots (with_private e slot value) a (λ s some. below s (omega (arith, some))) out
     ∙ word_outside e.store.bytes.at slot value a few out
 
-slots_below : (modules : List Module) → AreModules modules → (s : ℕ) → 1 ≤ number_of (λ x. x == s) (slots_of modules) → s < 64
+pub slots_below : (modules : List Module) → AreModules modules → (s : ℕ) → 1 ≤ number_of (λ x. x == s) (slots_of modules) → s < 64
 slots_below modules are s some = below_64 s (slot_count s modules) (omega (arith, some, slots_counted s modules)) (are.slots s)
 
 -- each recorded range is in a heap or beside all, and no image is empty

@@ -13,6 +13,7 @@ use Rattle.flex_store.specs.declared.flex.Flex.{Flex}
 use Rattle.flex_ground.proofs.Kept.{blocks_kept}
 use Rattle.instances_ground.specs.World.{World}
 use Rattle.instances_slide.specs.Laws.{AreBytes}
+use Rattle.store_laws.proofs.Called.{blocks_left, images_left, names_left}
 use Rattle.store_laws.proofs.SlidWorlds.{IsAreaKept, area_kept}
 use Rattle.store_laws.specs.Laws.{IsCallDone, IsSlideDone, IsTurnDone, TurnsFollowRules}
 use Rattle.store_laws.specs.Meaning.{AreStores, Stores, meaning_of, world_in}
@@ -33,9 +34,14 @@ unfolding state_of
 contents_called d m n f g is done a =
     calls_move_contents (state_of m f) (state_of n g) (d ∷ []) a (has_blocks m f.extent is) (state_of n g, (done, refl))
 
-called : (d : Answered) (x y : Stores) → AreStores x → IsCallDone d x y → IsCalled d (meaning_of x) (meaning_of y)
+called : (d : Answered) (x y : Stores) → AreStores x → AreStores y → IsCallDone d x y → IsCalled d (meaning_of x) (meaning_of y)
 unfolding meaning_of
-called d x y are done = record { flex = contents_called d x.memory y.memory x.flex y.flex are.flex.is done.done }
+called d x y are after done = record {
+  flex = contents_called d x.memory y.memory x.flex y.flex are.flex.is done.done;
+  blocks = blocks_left d x y are after done;
+  images = images_left d x y are after done;
+  names = names_left d x y are after done;
+}
 
 -- memory holds bytes
 are_bytes : (m : AddressMap) → AreBytes (store_of m).bytes.at
@@ -56,12 +62,12 @@ slid x y are done =
     (area_kept done.return_address (world_in x) are.world are.modules (are_bytes x.memory)) in
     record { flex = contents_slid x y are done; blocks = kept.blocks; images = kept.images; names = kept.names }
 
-turned : (turn : Turn) (x y : Stores) → AreStores x → IsTurnDone turn x y → IsTurned turn (meaning_of x) (meaning_of y)
-turned (Call d) x y are done = called d x y are done
-turned Slide x y are done = slid x y are done
+turned : (turn : Turn) (x y : Stores) → AreStores x → AreStores y → IsTurnDone turn x y → IsTurned turn (meaning_of x) (meaning_of y)
+turned (Call d) x y are after done = called d x y are after done
+turned Slide x y are after done = slid x y are done
 
 pub turns_follow : TurnsFollowRules
 turns_follow x y [] are done = ap meaning_of done
 turns_follow x y (turn ∷ turns) are done =
     let z : Stores = done.0 in
-    (meaning_of z, (turned turn x z are done.1.0, turns_follow z y turns done.1.1.0 done.1.1.1))
+    (meaning_of z, (turned turn x z are done.1.1.0 done.1.0, turns_follow z y turns done.1.1.0 done.1.1.1))
