@@ -82,7 +82,7 @@ preferred_alike : (number slot : ℕ) (ms : List Module) → KeepsSlots ms (chan
 preferred_alike number slot ms = changed_alike number (with_preferred slot) ms (λ m. record { header = refl; image = refl; slots = refl })
 
 -- what a call answers that goes on with what it found
-bound : {A B E : Type 0} (P : B → Type 0) (r : Result A E) (next : A → Result B E) → ((a : A) → IfOk (next a) P) → IfOk (bind r next) P
+pub bound : {A B E : Type 0} (P : B → Type 0) (r : Result A E) (next : A → Result B E) → ((a : A) → IfOk (next a) P) → IfOk (bind r next) P
 bound P (Ok a) next each = each a
 bound P (Err e) next each = tt
 
@@ -167,6 +167,15 @@ rename_goes_on old new full name r left = goes_on_alike old new (left_alike old 
 pub prefer_goes_on : (old new : List Module) (full : List ℕ) (r : Result (Unit {0}) ErrorNumber) → Leaves old (preferring old full) r new
     → (e : Estate) (plan : Option Plan) → MayGoOn (record { estate = e; modules = old }) plan → MayGoOn (record { estate = e; modules = new }) plan
 prefer_goes_on old new full r left = goes_on_alike old new (left_alike old new (preferring old full) r (preferring_alike old full) left)
+
+-- and keeps the slots
+pub rename_keeps_slots : (old new : List Module) (full name : List ℕ) (r : Result (Unit {0}) ErrorNumber) → Leaves old (renamed old full name) r new
+    → slots_of new ≡ slots_of old
+rename_keeps_slots old new full name r left = (left_alike old new (renamed old full name) r (renamed_alike old full name) left).slots
+
+pub prefer_keeps_slots : (old new : List Module) (full : List ℕ) (r : Result (Unit {0}) ErrorNumber) → Leaves old (preferring old full) r new
+    → slots_of new ≡ slots_of old
+prefer_keeps_slots old new full r left = (left_alike old new (preferring old full) r (preferring_alike old full) left).slots
 
 -- a call on memory that leaves the records and the modules
 under_way_kept : (w v : World) (p : Plan) → IsEstate v.estate → v.estate.store.others ≡ w.estate.store.others → v.modules ≡ w.modules → IsUnderWay w p

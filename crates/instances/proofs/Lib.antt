@@ -2,5 +2,8 @@ pub mod AddingLemmas
 pub mod Carrying
 pub mod DoableLemmas
 pub mod GoingOn
+pub mod Handling
+pub mod NamedByCalls
+pub mod Naming
 pub mod ReadyLemmas
 pub mod Turning

@@ -82,7 +82,7 @@ outline_slid : (to : ℕ) (w : World) (found : Option HeapList) → IsSlid w.mod
 outline_slid to w None = refl
 outline_slid to w (Some h) = outline_moved _ w.modules
 
-after_slide : (to : ℕ) (w : World) → IsSlid w.modules (world_slid to w).modules
+pub after_slide : (to : ℕ) (w : World) → IsSlid w.modules (world_slid to w).modules
 unfolding world_slid
 after_slide to w = outline_slid to w (find_heap 0x01800000 w.estate.store.heaps)
 

@@ -1,5 +1,6 @@
 pub mod Adding
 pub mod Given
+pub mod Naming
 pub mod Plans
 pub mod Reading
 pub mod Turns

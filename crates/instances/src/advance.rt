@@ -9,6 +9,7 @@ ghost use Rattle.instances_ground.specs.World.{world_of};
 ghost use Rattle.instances_actions.specs.Actions.{acted};
 ghost use Rattle.instances_actions.specs.Pending.{pending_of};
 ghost use Rattle.instances_slide.specs.Slid.{world_slid};
+ghost use Rattle.instances.specs.Naming.{KeepsOthers};
 ghost use Rattle.instances.specs.Turns.{IsUnderWay, module_doing};
 
 use crate::instances::Instances;
@@ -37,6 +38,7 @@ impl Instances {
             ≡ record { world = world_of map.new areas.now self.new; rest = plan.new; code = result } }
         ensures ended { result ≡ None → IsWorld (world_of map.new areas.now self.new) [] }
         ensures going { IsUnderWay (world_of map.new areas.now self.new) plan.new }
+        ensures others { KeepsOthers self.old self.new plan.old plan.new result }
         ensures classes { AreClasses map.new }
         ensures flex { KeepsFlex (store_of map.old) (store_of map.new) }
     {

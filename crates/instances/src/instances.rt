@@ -6,6 +6,7 @@ ghost use Rattle.dynamic_areas.specs.Ground.{Estate};
 ghost use Rattle.instances_plans.specs.Plans.{Plan};
 ghost use Rattle.instances_table.specs.Lookup.{told_of_module, told_of_place};
 ghost use Rattle.instances_table.specs.Changes.{preferring, renamed};
+ghost use Rattle.instances_table.specs.Modules.{slots_of};
 ghost use Rattle.instances.specs.Reading.{found, told};
 ghost use Rattle.instances.specs.Turns.{MayGoOn};
 
@@ -122,6 +123,7 @@ impl Instances {
         ensures value { Leaves self.old (renamed self.old full.now new.now) result self.new }
         ensures going { (e : Estate) (plan : Option Plan) → MayGoOn (record { estate = e; modules = self.old }) plan
             → MayGoOn (record { estate = e; modules = self.new }) plan }
+        ensures slots { slots_of self.new ≡ slots_of self.old }
     {
         self.table.rename(full, new)
     }
@@ -137,6 +139,7 @@ impl Instances {
         ensures value { Leaves self.old (preferring self.old full.now) result self.new }
         ensures going { (e : Estate) (plan : Option Plan) → MayGoOn (record { estate = e; modules = self.old }) plan
             → MayGoOn (record { estate = e; modules = self.new }) plan }
+        ensures slots { slots_of self.new ≡ slots_of self.old }
     {
         self.table.prefer(full)
     }

@@ -1,12 +1,16 @@
 //! What is read of the list of modules alone, and a list made of a table.
 
-ghost use Rattle.std.specs.Prelude.{◌≡◌, ◌<◌, ◌≤◌, ◌+◌, ◌%◌, ◌^◌, ◌==◌, if◌then◌else◌, length, slice_get, IfOk, IfSome, Some, None};
+ghost use Rattle.std.specs.Prelude.{◌≡◌, ◌<◌, ◌≤◌, ◌+◌, ◌%◌, ◌^◌, ◌==◌, if◌then◌else◌, length, slice_get, IfOk, IfSome, Some, None, true};
+ghost use Rattle.instances_plans.specs.Doable.{is_used};
+ghost use Rattle.instances_table.specs.Changes.{titled};
 ghost use Rattle.instances_table.specs.Lookup.{handler_of, instance_count};
+ghost use Rattle.instances_table.specs.Modules.{slots_of};
 ghost use Rattle.instances.specs.Reading.{slot_meant, start_found};
 
 use crate::answers::Start;
 use crate::instances::Instances;
-use instances_table::{Handler, InstanceTable, ModuleInfo};
+use arrayvec::ArrayVec;
+use instances_table::{Handler, InstanceTable, MOST_INSTANCES, ModuleInfo};
 use profile::ErrorNumber;
 
 impl Instances {
@@ -39,8 +43,17 @@ impl Instances {
     pub fn handler_of(&self, call: u32) -> Option<Handler>
         ensures value { result ≡ handler_of call self.now }
         ensures below { IfSome result (λ h. h.slot < 64) }
+        ensures held { IfSome result (λ h. is_used h.slot (slots_of self.now) ≡ true) }
     {
+        self.table.known();
         self.table.handler_of(call)
+    }
+
+    /// The slots of the instances of the module of a title, oldest first; none where there is no such module.
+    pub fn slots_of_title(&self, title: &[u8]) -> ArrayVec<u32, MOST_INSTANCES>
+        ensures { result.items ≡ slots_of (titled title.now self.now) }
+    {
+        self.table.slots_of_title(title)
     }
 
     /// The slot of the instance that a name means, as `lookup` takes it.

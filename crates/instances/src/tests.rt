@@ -52,6 +52,11 @@ fn instances_are_found_and_told(rt: HostRuntime) -> Result<(), Fail> {
         word: 0,
     };
     assert_eq!(rt; instances.lookup(&map, b"w"), Ok(base));
+    assert_eq!(rt;
+        instances.slots_of_title(b"w").as_slice(),
+        [0, 1].as_slice()
+    );
+    assert_eq!(rt; instances.slots_of_title(b"V").is_empty(), true);
     instances.prefer(b"W%B")?;
     let found = instances.lookup(&map, b"W")?;
     assert_eq!(rt; found.place, place(0, 1));

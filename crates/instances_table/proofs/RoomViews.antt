@@ -1,16 +1,14 @@
 -- What a table tells of the modules of a title, and of those of other titles, is what the list tells.
-use Rattle.std.proofs.Common.{◌≡◌, ℕ, ◌+◌, ◌<◌, ◌≤◌, ◌&&◌, ◌==◌, Bool, true, false, List, [], ◌∷◌, ◌++◌, append-nil, length, map, drop, get_or, refl, sym, ap, ◌∙◌, not, inl, inr, cond, arith}
-use Rattle.std.specs.Prelude.{filter}
+use Rattle.std.proofs.Common.{◌≡◌, ℕ, ◌+◌, ◌<◌, ◌≤◌, ◌&&◌, ◌==◌, true, false, List, [], ◌∷◌, append-nil, length, map, drop, get_or, refl, ap, ◌∙◌, not, inl, inr, arith}
 use Rattle.std.specs.List.{list_any}
 use Rattle.std.specs.Str.{str_eq_ignore_ascii_case}
 use Rattle.std.proofs.lemmas.Bool.{cases_Bool}
-use Rattle.std.proofs.lemmas.List.{drop_more, drop_all}
+use Rattle.std.proofs.lemmas.List.{drop_more}
 use Rattle.arrayvec.specs.ArrayVec.{ArrayVec}
 use Rattle.instances_table.specs.declared.loaded.Loaded.{Loaded}
-use Rattle.instances_table.specs.Modules.{Instance, Module, has_slot, has_title, number_of, slots_of, AreModules}
+use Rattle.instances_table.specs.Modules.{Instance, Module, has_slot, has_title, number_of, slots_of}
 use Rattle.instances_table.specs.Changes.{is_held, titled, titled_otherwise}
-use Rattle.instances_table.specs.Table.{instance_of, module_of, modules_of, titled_slots}
-use Rattle.instances_table.proofs.Counting.{none_counted}
+use Rattle.instances_table.specs.Table.{instance_of, modules_of, titled_slots}
 use Rattle.instances_table.proofs.ViewLemmas.{list_any-map}
 
 pub beside_view : (names : List (ArrayVec ℕ)) (title : List ℕ) (slot : ℕ) (ls : List Loaded)

@@ -1,6 +1,6 @@
 -- Calls on areas keep the flex store, and all ranges that are recorded.
-use Rattle.std.proofs.Common.{◌≡◌, ℕ, ◌*◌, ◌==◌, Bool, true, false, Option, Some, None, Result, Ok, Err, List, refl, sym, ap, subst, ◌∙◌, inl, inr}
-use Rattle.std.specs.Prelude.{MatchResult, if◌then◌else◌}
+use Rattle.std.proofs.Common.{◌≡◌, ℕ, ◌*◌, ◌==◌, Option, Some, None, Result, Ok, Err, List, refl, sym, ap, ◌∙◌, inl, inr}
+use Rattle.std.specs.Prelude.{MatchResult}
 use Rattle.std.proofs.lemmas.Bool.{cases_Bool}
 use Rattle.profile.specs.Outcome.{Gives, Leaves}
 use Rattle.profile.specs.declared.error.ErrorNumber.{ErrorNumber}

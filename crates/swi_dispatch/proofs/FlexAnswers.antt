@@ -1,14 +1,13 @@
 -- The flex calls of the machine: what each keeps, and that it leaves what its definition says.
-use Rattle.std.proofs.Common.{◌≡◌, ◌≢◌, ℕ, ◌≤◌, ◌<◌, ◌+◌, ◌-◌, Bool, true, false, Option, Some, None, Result, Ok, Err, List, [], ◌∷◌, ◌++◌, length, refl, sym, ap, subst, ◌∙◌}
-use Rattle.std.specs.Prelude.{is_some, MatchResult}
+use Rattle.std.proofs.Common.{◌≡◌, ◌≢◌, ◌-◌, true, false, Option, Result, Ok, Err, sym, ap, subst, ◌∙◌}
 use Rattle.std.proofs.lemmas.Bool.{true≢false}
-use Rattle.profile.specs.Outcome.{Gives, Leaves, bind}
+use Rattle.profile.specs.Outcome.{Gives}
 use Rattle.profile.specs.declared.error.ErrorNumber.{ErrorNumber}
-use Rattle.address_map.specs.Memory.{free_pages, layout, regions}
+use Rattle.address_map.specs.Memory.{free_pages, layout}
 use Rattle.address_map.specs.declared.map.AddressMap.{AddressMap}
-use Rattle.arm_step.specs.State.{State, with_register}
+use Rattle.arm_step.specs.State.{State}
 use Rattle.os_heap.proofs.Frame.{layout-others}
-use Rattle.os_heap.specs.Store.{AreClasses, IsSound, Store, store_of}
+use Rattle.os_heap.specs.Store.{AreClasses, IsSound, store_of}
 use Rattle.dynamic_areas.proofs.HeapCalls.{areas_written}
 use Rattle.dynamic_areas.specs.Ground.{AreAreas}
 use Rattle.flex_store.specs.Calls.{FlexState}
@@ -16,14 +15,12 @@ use Rattle.flex_store.specs.State.{IsFlex, state_of as flex_state_of}
 use Rattle.flex_store.specs.declared.flex.Flex.{Flex}
 use Rattle.flex_ground.proofs.Calls.{flex_left, flex_stays_so, state_is}
 use Rattle.flex_ground.specs.CallLaws.{AreAnchorsAllowed, IsFlexCall, IsLeft}
-use Rattle.flex_ground.specs.Ground.{HasFlex, flex_of, flex_state, store_flexed}
+use Rattle.flex_ground.specs.Ground.{HasFlex, flex_state}
 use Rattle.swi_dispatch.specs.declared.halt.Halt.{Halt}
-use Rattle.swi_dispatch.specs.declared.refusal.Refusal.{Refusal}
 use Rattle.swi_dispatch.specs.declared.refusal.Refusal.TheVariants as refusal
-use Rattle.swi_dispatch.specs.Answers.{or_error, with_answer}
 use Rattle.swi_dispatch.specs.FlexCalls.{left_by, machine_flex, with_flexed}
-use Rattle.swi_dispatch.specs.MachineState.{MachineState, Tables}
-use Rattle.swi_dispatch.specs.Parts.{IsWellFormed, Parts, state_of}
+use Rattle.swi_dispatch.specs.MachineState.{Tables}
+use Rattle.swi_dispatch.specs.Parts.{IsWellFormed, Parts}
 use Rattle.swi_dispatch.proofs.Kept.{over, same_pool, well_by, with_core}
 
 -- what the contracts of these calls say of memory

@@ -1,13 +1,13 @@
 -- The making of the flex store: what the machine keeps, and what it is then.
-use Rattle.std.proofs.Common.{◌≡◌, ℕ, ◌-◌, ◌<◌, Bool, true, false, Option, Some, None, Result, Ok, Err, List, [], ◌∷◌, ◌++◌, ◌≤◌, length, lit≤, inl, inr, refl, sym, ap, subst, ◌∙◌}
-use Rattle.std.specs.Prelude.{MatchResult, if◌then◌else◌, is_some}
+use Rattle.std.proofs.Common.{◌≡◌, ℕ, ◌-◌, ◌<◌, Bool, true, false, Option, Some, None, Result, Ok, Err, [], ◌∷◌, ◌++◌, ◌≤◌, length, lit≤, inl, inr, refl, sym, ap, subst, ◌∙◌}
+use Rattle.std.specs.Prelude.{MatchResult, is_some}
 use Rattle.std.proofs.lemmas.Bool.{cases_Bool, true≢false}
 use Rattle.profile.specs.Outcome.{Gives}
 use Rattle.profile.specs.declared.error.ErrorNumber.{ErrorNumber}
-use Rattle.address_map.specs.Memory.{class_of, free_pages, is_mapped, mapping, regions}
+use Rattle.address_map.specs.Memory.{free_pages, mapping, regions}
 use Rattle.address_map.specs.declared.map.AddressMap.{AddressMap}
 use Rattle.arm_step.specs.State.{State}
-use Rattle.os_heap.specs.Store.{AreClasses, IsSound, Store, store_of}
+use Rattle.os_heap.specs.Store.{AreClasses, Store, store_of}
 use Rattle.dynamic_areas.specs.Ground.{AreAreas}
 use Rattle.flex_store.specs.Blocks.{FlexStore}
 use Rattle.flex_store.specs.Calls.{FlexState, begun, begun_by, flex_record, is_flex_range, with_flex as with_store}
@@ -16,8 +16,7 @@ use Rattle.flex_store.specs.declared.flex.Extent.{Extent}
 use Rattle.flex_store.specs.declared.flex.Flex.{Flex}
 use Rattle.flex_ground.proofs.Calls.{state_is}
 use Rattle.flex_ground.proofs.Starts.{IsFlexMade, has_made, made_areas, made_left, others_made, room_there, unmade_areas, unmade_left}
-use Rattle.flex_ground.specs.Ground.{HasFlex, flex_state, records_with, with_flex_record}
-use Rattle.flex_ground.specs.WorldLaws.{HasBegun}
+use Rattle.flex_ground.specs.Ground.{flex_state, records_with, with_flex_record}
 use Rattle.instances_ground.proofs.Images.{system_more}
 use Rattle.instances_ground.proofs.Worlds.{few_records}
 use Rattle.instances_ground.specs.World.{World}
@@ -25,10 +24,11 @@ use Rattle.instances_plans.specs.Plans.{Plan}
 use Rattle.instances_plans.specs.declared.given.Given.{Given}
 use Rattle.instances_actions.specs.Pending.{is_pending, pending_by, pending_of}
 use Rattle.instances_ground.specs.Sound.{count_beside}
+use Rattle.instances_table.specs.Modules.{slots_of}
 use Rattle.instances.specs.Turns.{MayGoOn}
 use Rattle.swi_dispatch.specs.declared.halt.Halt.{Halt}
-use Rattle.swi_dispatch.specs.FlexCalls.{flex_in_range, left_by, machine_flex}
-use Rattle.swi_dispatch.specs.MachineState.{MachineState, Tables}
+use Rattle.swi_dispatch.specs.FlexCalls.{flex_in_range, left_by}
+use Rattle.swi_dispatch.specs.MachineState.{Tables}
 use Rattle.swi_dispatch.specs.Parts.{IsWellFormed, Parts, parts_world}
 use Rattle.swi_dispatch.proofs.FlexAnswers.{with_flex}
 use Rattle.swi_dispatch.proofs.FlexWorlds.{begun_goes_on}
@@ -98,7 +98,7 @@ begun_well old new start end r well is state made records classes tables stepped
       system = rw others (system_more (flex_record start end) (store_of old.map).others well.system);
       modules = rw plan (begun_goes_on (parts_world old) (parts_world new) old.tables.plan start end
           (record { estate = areas; others = others; modules = modules; first = well.flex.beside ∙ ap records_with none }) well.modules);
-      frames = frames_kept old.tables new.tables well.frames (ap (λ (t : Tables). t.frames) tables) plan;
+      frames = frames_kept old.tables new.tables well.frames (ap (λ (t : Tables). t.frames) tables) plan (ap slots_of modules);
       flex = has_made old.map new.map old.tables.flex new.tables.flex start end well.flex none some made records;
       fresh = λ e. absurd (true≢false (sym e ∙ stepped));
     }

@@ -1,13 +1,13 @@
 -- Calls on modules that are carried on: what they keep, and that the steps of the code are those of the definitions.
 use Rattle.std.proofs.Common.{inl, inr, ◌≡◌, ◌<◌, length, ℕ, true, false, Some, None, Ok, Err, List, [], ◌∷◌, refl, sym, ap, subst, ◌∙◌}
-use Rattle.std.specs.Prelude.{◌⊎◌, Option, Result, is_some, option_map}
+use Rattle.std.specs.Prelude.{◌⊎◌, IfOk, Option, Result, is_some, option_map}
 use Rattle.std.proofs.lemmas.Bool.{false≢true, true≢false}
 use Rattle.address_map.specs.declared.map.AddressMap.{AddressMap}
 use Rattle.address_map.specs.Memory.{byte_at, bytes_of, class_of, layout}
 use Rattle.dynamic_areas.specs.Areas.{Land}
 use Rattle.dynamic_areas.specs.Ground.{IsEstate, IsRecorded, system_pages}
 use Rattle.instances_table.specs.declared.parts.Image.{Image}
-use Rattle.instances_table.specs.Modules.{Module}
+use Rattle.instances_table.specs.Modules.{Module, slots_of}
 use Rattle.os_heap.specs.Store.{AreClasses, IsSound, store_of}
 use Rattle.profile.specs.Outcome.{Gives}
 use Rattle.profile.specs.declared.error.ErrorNumber.{ErrorNumber}
@@ -21,10 +21,13 @@ use Rattle.instances_plans.specs.Carrying.{Carried, Doing, carried, carried_by, 
 use Rattle.instances_plans.specs.Plans.{Plan, end_by, settled}
 use Rattle.instances_ground.specs.Sound.{IsWorld}
 use Rattle.instances_ground.specs.World.{World, world_of}
+use Rattle.instances.specs.Naming.{NamesOnly, slots_of_plan}
 use Rattle.instances.specs.Turns.{IsUnderWay, MayGoOn, module_doing}
+use Rattle.instances.proofs.NamedByCalls.{NamesNone, NamesOne}
 use Rattle.instances_actions.specs.Pending.{pending_of}
 use Rattle.instances_actions.specs.Ready.{IsReady}
 use Rattle.swi_dispatch_frames.specs.declared.frame.Frame.{Frame}
+use Rattle.swi_dispatch_frames.specs.Busy.{has_swi_of}
 use Rattle.profile.specs.declared.fault.Fault.TheVariants.{ErrorStop, FetchUnmapped}
 use Rattle.swi_dispatch.specs.declared.halt.Halt.TheVariants as halt
 use Rattle.swi_dispatch.specs.declared.module_steps.Next.{Next}
@@ -39,7 +42,7 @@ use Rattle.swi_dispatch.specs.Returns.{halted}
 use Rattle.flex_ground.specs.Ground.{HasFlex}
 use Rattle.flex_kept.specs.Keeping.{KeepsFlex}
 use Rattle.swi_dispatch.proofs.Kept.{flex_by, kept_all, kept_classes, same_kept, same_pool}
-use Rattle.swi_dispatch.proofs.OpenFrames.{frames_kept}
+use Rattle.swi_dispatch.proofs.OpenFrames.{frames_kept, none_of, none_of_none}
 
 -- where code is entered, it runs
 runs_by : (d : Doing World) (w : World) (p : Plan) (a : Action) (others : List Action) (o : Option Code) (code : Code) (on : World → Plan → Carried World)
@@ -201,7 +204,7 @@ refused_well old new well world plan frames classes keeps flex stepped = record 
   classes = classes;
   system = subst (λ (w : World). IsRecorded system_pages w.estate.store.others) (sym world) well.system;
   modules = rw plan (subst (λ (w : World). MayGoOn w old.tables.plan) (sym world) well.modules);
-  frames = frames_kept old.tables new.tables well.frames frames plan;
+  frames = frames_kept old.tables new.tables well.frames frames plan (ap (λ (w : World). slots_of w.modules) world);
   flex = flex_by old new well (subst (λ (w : World). IsEstate w.estate) (sym world) well.areas) keeps flex;
   fresh = λ e. absurd (true≢false (sym e ∙ stepped));
 }
@@ -221,11 +224,13 @@ is_free p well none room = record {
   none = none;
   room = room;
   idle = well.frames.kept none;
+  held = well.frames.held;
   world = subst (MayGoOn (parts_world p)) none well.modules;
 }
 
-pub can_begin : (s : MachineState) (p : Plan) → IsFree s → IsReady s.tables.modules p → p.runs ≡ false → pending_of p ≡ [] → CanBegin s p
-can_begin s p free ready rests pending = record {
+pub can_begin : (s : MachineState) (p : Plan) → IsFree s → IsReady s.tables.modules p → p.runs ≡ false → pending_of p ≡ []
+    → has_swi_of (slots_of_plan p) s.tables.frames ≡ false → CanBegin s p
+can_begin s p free ready rests pending spared = record {
   going = record {
     world = subst (IsWorld (machine_world s)) (sym pending) free.world;
     ready = ready;
@@ -233,4 +238,29 @@ can_begin s p free ready rests pending = record {
   };
   rests = rests;
   free = free;
+  spared = spared;
 }
+
+-- a call whose plan names only instances that were tested for
+named_begins : (s : MachineState) (p : Plan) (slots : List ℕ) → IsFree s → IsReady s.tables.modules p → p.runs ≡ false → pending_of p ≡ []
+    → has_swi_of slots s.tables.frames ≡ false → NamesOnly slots s.tables.modules p → CanBegin s p
+named_begins s p slots free ready rests pending none names =
+    can_begin s p free ready rests pending (none_of (slots_of s.tables.modules) slots (slots_of_plan p) s.tables.frames free.held names none)
+
+-- one on the instance that a name means
+pub meant_begins : (s : MachineState) (meant : Result ℕ ErrorNumber) (r x : Result Plan ErrorNumber) (slot : ℕ) → Ok slot ≡ meant → x ≡ r
+    → IfOk meant (NamesOne s.tables.modules r) → has_swi_of (slot ∷ []) s.tables.frames ≡ false → IsFree s → IfOk x (IsReady s.tables.modules)
+    → IfOk x (λ p. p.runs ≡ false) → IfOk x (λ p. pending_of p ≡ []) → IfOk x (CanBegin s)
+meant_begins s meant r (Err e) slot means makes names none free ready rests pending = tt
+meant_begins s meant r (Ok p) slot means makes names none free ready rests pending =
+    let one : NamesOne s.tables.modules r slot = subst (λ (m : Result ℕ ErrorNumber). IfOk m (NamesOne s.tables.modules r)) (sym means) names in
+    named_begins s p (slot ∷ []) free ready rests pending none
+    (subst (λ (q : Result Plan ErrorNumber). IfOk q (NamesOnly (slot ∷ []) s.tables.modules)) (sym makes) one)
+
+-- and one that adds an instance
+pub new_begins : (s : MachineState) (r x : Result Plan ErrorNumber) → x ≡ r → IfOk r (NamesNone s.tables.modules) → IsFree s
+    → IfOk x (IsReady s.tables.modules) → IfOk x (λ p. p.runs ≡ false) → IfOk x (λ p. pending_of p ≡ []) → IfOk x (CanBegin s)
+new_begins s r (Err e) makes names free ready rests pending = tt
+new_begins s r (Ok p) makes names free ready rests pending =
+    named_begins s p [] free ready rests pending (none_of_none s.tables.frames)
+    (subst (λ (q : Result Plan ErrorNumber). IfOk q (NamesNone s.tables.modules)) (sym makes) names ready)

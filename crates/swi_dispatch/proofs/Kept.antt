@@ -34,6 +34,7 @@ use Rattle.flex_store.specs.declared.flex.Flex.{Flex}
 use Rattle.dynamic_areas.specs.Areas.{Land}
 use Rattle.flex_kept.proofs.Writes.{system_keeps}
 use Rattle.flex_kept.specs.Keeping.{KeepsFlex}
+use Rattle.instances_table.specs.Modules.{slots_of}
 use Rattle.instances.specs.Turns.{MayGoOn}
 use Rattle.instances.proofs.GoingOn.{may_go_on_kept}
 use Rattle.swi_dispatch.specs.OpenFrames.{AreFrames}
@@ -209,7 +210,7 @@ well_by old new well areas classes others modules plan frames flex fresh = recor
   classes = classes;
   system = rw others well.system;
   modules = rw plan (may_go_on_kept (parts_world old) (parts_world new) old.tables.plan areas others modules well.modules);
-  frames = frames_kept old.tables new.tables well.frames frames plan;
+  frames = frames_kept old.tables new.tables well.frames frames plan (ap slots_of modules);
   flex = flex;
   fresh = fresh;
 }
@@ -224,14 +225,14 @@ well_called old new well areas classes others modules plan frames keeps flex ste
 
 -- the same after a call that changed the modules alone
 pub well_named : (old new : Parts) → IsWellFormed old → new.map ≡ old.map → new.tables.land ≡ old.tables.land
-    → MayGoOn (parts_world new) new.tables.plan → new.tables.plan ≡ old.tables.plan → new.tables.frames ≡ old.tables.frames
-    → new.tables.flex ≡ old.tables.flex → new.is_fresh ≡ false → IsWellFormed new
-well_named old new well map land modules plan frames flex stepped = record {
+    → MayGoOn (parts_world new) new.tables.plan → slots_of new.tables.modules ≡ slots_of old.tables.modules → new.tables.plan ≡ old.tables.plan
+    → new.tables.frames ≡ old.tables.frames → new.tables.flex ≡ old.tables.flex → new.is_fresh ≡ false → IsWellFormed new
+well_named old new well map land modules slots plan frames flex stepped = record {
   areas = rw (map, land) well.areas;
   classes = rw map well.classes;
   system = rw map well.system;
   modules = modules;
-  frames = frames_kept old.tables new.tables well.frames frames plan;
+  frames = frames_kept old.tables new.tables well.frames frames plan slots;
   flex = rw (map, flex) well.flex;
   fresh = λ e. absurd (true≢false (sym e ∙ stepped));
 }

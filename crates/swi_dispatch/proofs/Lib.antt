@@ -5,6 +5,7 @@ pub mod Answering
 pub mod AreaAnswers
 pub mod AreasKept
 pub mod Beginning
+pub mod CarriedFrames
 pub mod ErrorNumbers
 pub mod GateLemmas
 pub mod Kept
@@ -15,5 +16,4 @@ pub mod Runs
 pub mod Starting
 pub mod StringLemmas
 pub mod SystemRoom
-pub mod TitleLemmas
 pub mod Turning

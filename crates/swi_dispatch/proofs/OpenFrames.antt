@@ -1,37 +1,31 @@
 -- What holds of the frames of module code that is under way: that it is kept.
-use Rattle.std.proofs.Common.{◌≡◌, ◌<◌, ◌≤◌, ◌+◌, ◌-◌, length, take, ℕ, zero, suc, Bool, true, false, Option, Some, None, IsSome, Ok, Err, IfOk, List, [], ◌∷◌, ◌++◌, refl, sym, ◌∙◌, ap, arith}
-use Rattle.std.specs.Prelude.{Result, slice_get, if◌then◌else◌}
-use Rattle.std.proofs.lemmas.Bool.{false≢true}
-use Rattle.profile.specs.declared.error.ErrorNumber.{ErrorNumber}
+use Rattle.std.proofs.Common.{◌≡◌, ◌≤◌, ◌+◌, ◌-◌, ◌==◌, ◌||◌, ◌&&◌, length, take, drop, ℕ, zero, suc, Bool, true, false, Some, List, [], ◌∷◌, ◌++◌, refl, sym, ◌∙◌, ap, inl, inr, append_assoc, length-append, arith}
+use Rattle.std.specs.Prelude.{◌⊎◌, slice_get, if◌then◌else◌}
+use Rattle.std.specs.List.{All, list_any}
+use Rattle.std.proofs.lemmas.Bool.{false≢true, or_parts}
+use Rattle.std.proofs.lemmas.List.{take-append-drop}
+use Rattle.std.proofs.lemmas.List.Elements.{All-cons, All-head, All-nil, All-push, All-tail, All-take}
+use Rattle.instances.specs.Naming.{slots_of_kept}
 use Rattle.instances_plans.specs.declared.code.Code.{Code}
-use Rattle.instances_plans.specs.Carrying.{Carried}
-use Rattle.instances_plans.specs.Plans.{Plan}
-use Rattle.instances_ground.specs.World.{World}
+use Rattle.instances_plans.specs.Doable.{is_used}
+use Rattle.instances_table.specs.Modules.{Module, slots_of}
 use Rattle.swi_dispatch_frames.specs.declared.frame.Frame.{Frame}
-use Rattle.swi_dispatch_frames.specs.Busy.{is_swi}
+use Rattle.swi_dispatch_frames.specs.Busy.{has_swi_of, is_swi}
 use Rattle.swi_dispatch_frames.specs.Frames.{closed, innermost}
-use Rattle.swi_dispatch.specs.declared.module_steps.Next.{Next}
-use Rattle.swi_dispatch.specs.Additions.{Starts}
-use Rattle.swi_dispatch.specs.Gates.{kept_by, next_by, next_of, with_carried}
-use Rattle.swi_dispatch.specs.MachineState.{MachineState, Tables}
-use Rattle.swi_dispatch.specs.ModulePlans.{Planned}
-use Rattle.swi_dispatch.specs.OpenFrames.{AreFrames, GoesTo, IsPlanKept, entries}
+use Rattle.swi_dispatch.specs.MachineState.{Tables}
+use Rattle.swi_dispatch.specs.OpenFrames.{AreFrames, AreHeld, AreSpared, MayEnter, entries}
 
--- the same frames and the same plan
-pub frames_kept : (old new : Tables) → AreFrames old → new.frames ≡ old.frames → new.plan ≡ old.plan → AreFrames new
-frames_kept old new are frames plan = record {
+-- the same frames and the same plan, of modules with the same slots
+pub frames_kept : (old new : Tables) → AreFrames old → new.frames ≡ old.frames → new.plan ≡ old.plan → slots_of new.modules ≡ slots_of old.modules
+    → AreFrames new
+frames_kept old new are frames plan slots = record {
   one = rw frames are.one;
   kept = λ none. rw frames (are.kept (sym plan ∙ none));
+  held = rw (frames, slots) are.held;
+  spared = rw (frames, plan) are.spared;
 }
 
--- no entry, whatever plan is kept
-pub frames_idle : (t : Tables) → entries t.frames ≡ 0 → AreFrames t
-frames_idle t none = record {
-  one = omega (arith, none);
-  kept = λ _. none;
-}
-
--- where one frame less is counted, or one more
+-- how many entries there are
 less : (swi : Bool) (m n : ℕ) → m ≤ n → (if swi then m else 1 + m) ≤ (if swi then n else 1 + n)
 less true m n le = le
 less false m n le = omega (arith, le)
@@ -50,75 +44,178 @@ entries-take zero (x ∷ xs) = omega arith
 entries-take (suc n) [] = omega arith
 entries-take (suc n) (x ∷ xs) = less (is_swi x.kind) _ _ (entries-take n xs)
 
-entries-last : (n : ℕ) (xs : List Frame) (f : Frame) → slice_get xs n ≡ Some f → n + 1 ≡ length xs → entries xs ≡ entries (take n xs) + entries (f ∷ [])
-entries-last n [] f there len = absurd (omega (arith, len))
-entries-last zero (x ∷ []) f there len =
-    let same : x ≡ f = cc in
-    ap (λ (g : Frame). entries (g ∷ [])) same ∙ omega arith
-entries-last zero (x ∷ y ∷ ys) f there len = absurd (omega (arith, len))
-entries-last (suc n) (x ∷ xs) f there len = more (is_swi x.kind) _ _ _ (entries-last n xs f there (omega (arith, len)))
+-- where there is none, a list has no entry in it
+idle_parts : (swi : Bool) (n : ℕ) → (if swi then n else 1 + n) ≡ 0 → (swi ≡ true) × (n ≡ 0)
+idle_parts true n none = (refl, none)
+idle_parts false n none = absurd (omega (arith, none))
+
+no_entry : (below above : List Frame) (f : Frame) → entries (below ++ f ∷ above) ≡ 0 → is_swi f.kind ≡ false → ⊥
+no_entry below above f idle entry =
+    let counted : entries (f ∷ above) ≡ 1 + entries above = rw entry refl in
+    omega (arith, entries-append below (f ∷ above), counted, idle)
+
+pub idle_spared : (slots : List ℕ) (fs : List Frame) → entries fs ≡ 0 → AreSpared slots fs
+idle_spared slots fs idle below above f is entry = absurd (no_entry below above f (ap entries (sym is) ∙ idle) entry)
+
+-- no entry, whatever plan is kept
+pub frames_idle : (t : Tables) → entries t.frames ≡ 0 → AreHeld t.modules t.frames → AreFrames t
+frames_idle t none held = record {
+  one = omega (arith, none);
+  kept = λ _. none;
+  held = held;
+  spared = idle_spared (slots_of_kept t.plan) t.frames none;
+}
+
+-- no frame at all
+pub frames_none : (t : Tables) → t.frames ≡ [] → AreFrames t
+frames_none t none = frames_idle t (ap entries none) (rw none (All-nil (λ (f : Frame). is_used f.slot (slots_of t.modules) ≡ true)))
+
+-- Frames that no SWI of some slots is among have none of others either, if of the instances that are there these are no more.
+unlike : (swi a b : Bool) → (a ≡ false → b ≡ false) → (swi && a) ≡ false → (swi && b) ≡ false
+unlike true a b fewer none = fewer none
+unlike false a b fewer none = refl
+
+among : (s : ℕ) (slots : List ℕ) → list_any (λ (slot : ℕ). slot == s) slots ≡ is_used s slots
+among s [] = refl
+among s (slot ∷ others) = ap (λ (b : Bool). slot == s || b) (among s others)
+
+pub none_of : (used slots more : List ℕ) (fs : List Frame) → All (λ (f : Frame). is_used f.slot used ≡ true) fs
+    → ((s : ℕ) → is_used s used ≡ true → is_used s slots ≡ false → is_used s more ≡ false) → has_swi_of slots fs ≡ false → has_swi_of more fs ≡ false
+none_of used slots more [] held fewer none = refl
+none_of used slots more (f ∷ fs) held fewer none =
+    let parts = or_parts (is_swi f.kind && list_any (λ (slot : ℕ). slot == f.slot) slots) (has_swi_of slots fs) none in
+    let there : is_used f.slot used ≡ true = All-head (λ (g : Frame). is_used g.slot used ≡ true) f fs held in
+    let here = unlike (is_swi f.kind) (list_any (λ (slot : ℕ). slot == f.slot) slots) (list_any (λ (slot : ℕ). slot == f.slot) more)
+    (λ unnamed. among f.slot more ∙ fewer f.slot there (sym (among f.slot slots) ∙ unnamed)) parts.0 in
+    let rest = none_of used slots more fs (All-tail (λ (g : Frame). is_used g.slot used ≡ true) f fs held) fewer parts.1 in
+    rw (here, rest) refl
+
+none_here : (swi : Bool) → (swi && false) ≡ false
+none_here true = refl
+none_here false = refl
+
+pub none_of_none : (fs : List Frame) → has_swi_of [] fs ≡ false
+none_of_none [] = refl
+none_of_none (f ∷ fs) = rw (none_here (is_swi f.kind), none_of_none fs) refl
+
+pub none_of_empty : (slots : List ℕ) (fs : List Frame) → fs ≡ [] → has_swi_of slots fs ≡ false
+none_of_empty slots fs none = ap (has_swi_of slots) none
+
+-- where slots change that no SWI under way is of, the frames' instances are there still
+stays_held : (old new slots : List ℕ) (f : Frame) → is_swi f.kind ≡ true → (is_swi f.kind && list_any (λ (slot : ℕ). slot == f.slot) slots) ≡ false
+    → ((s : ℕ) → is_used s slots ≡ false → is_used s new ≡ is_used s old) → is_used f.slot old ≡ true → is_used f.slot new ≡ true
+stays_held old new slots f swi none same there =
+    let unnamed : list_any (λ (slot : ℕ). slot == f.slot) slots ≡ false = rw swi at none in
+    same f.slot (sym (among f.slot slots) ∙ unnamed) ∙ there
+
+pub held_still : (old new slots : List ℕ) (fs : List Frame) → entries fs ≡ 0 → has_swi_of slots fs ≡ false
+    → ((s : ℕ) → is_used s slots ≡ false → is_used s new ≡ is_used s old) → All (λ (f : Frame). is_used f.slot old ≡ true) fs
+    → All (λ (f : Frame). is_used f.slot new ≡ true) fs
+held_still old new slots [] idle none same held = All-nil (λ (f : Frame). is_used f.slot new ≡ true)
+held_still old new slots (f ∷ fs) idle none same held =
+    let swi = idle_parts (is_swi f.kind) (entries fs) idle in
+    let parts = or_parts (is_swi f.kind && list_any (λ (slot : ℕ). slot == f.slot) slots) (has_swi_of slots fs) none in
+    All-cons (λ (g : Frame). is_used g.slot new ≡ true) f fs
+    (stays_held old new slots f swi.0 parts.0 same (All-head (λ (g : Frame). is_used g.slot old ≡ true) f fs held))
+    (held_still old new slots fs swi.1 parts.1 same (All-tail (λ (g : Frame). is_used g.slot old ≡ true) f fs held))
+
+-- A list with one frame more, parted at a frame: that is the last, or stands before it.
+head_of : (f : Frame) (fs : List Frame) → Frame
+head_of f [] = f
+head_of f (g ∷ gs) = g
+
+tail_of : (fs : List Frame) → List Frame
+tail_of [] = []
+tail_of (g ∷ gs) = gs
+
+parted : (fs below above : List Frame) (f g : Frame) → fs ++ f ∷ [] ≡ below ++ g ∷ above
+    → ((fs ≡ below) × (f ≡ g)) ⊎ ((before : List Frame) × (fs ≡ below ++ g ∷ before))
+unfolding head_of tail_of
+parted [] [] above f g is = inl (refl, ap (head_of f) is)
+parted [] (b ∷ bs) above f g is =
+    absurd (omega (arith, ap length (ap tail_of is), length-append bs (g ∷ above)))
+parted (x ∷ xs) [] above f g is = inr (xs, ap (λ (y : Frame). y ∷ xs) (ap (head_of f) is))
+parted (x ∷ xs) (b ∷ bs) above f g is =
+    let head : x ≡ b = ap (head_of f) is in
+    elim (parted xs bs above f g (ap tail_of is)) [
+      | inl last ↦ inl ((λ i. head i ∷ last.0 i), last.1)
+      | inr before ↦ inr (before.0, λ i. head i ∷ before.1 i)
+    ]
 
 -- a frame of a SWI is opened
-pub swi_opened : (old new : Tables) (f : Frame) → AreFrames old → new.plan ≡ old.plan → new.frames ≡ old.frames ++ f ∷ [] → is_swi f.kind ≡ true
-    → AreFrames new
-swi_opened old new f are plan opened swi =
+swi_spared : (slots : List ℕ) (fs : List Frame) (f : Frame) → is_swi f.kind ≡ true → AreSpared slots fs → AreSpared slots (fs ++ f ∷ [])
+swi_spared slots fs f swi spared below above g is entry = elim (parted fs below above f g is) [
+  | inl last ↦ absurd (false≢true (sym entry ∙ ap (λ (x : Frame). is_swi x.kind) (sym last.1) ∙ swi))
+  | inr before ↦ spared below before.0 g before.1 entry
+]
+
+pub swi_opened : (old new : Tables) (f : Frame) → AreFrames old → new.plan ≡ old.plan → new.modules ≡ old.modules → new.frames ≡ old.frames ++ f ∷ []
+    → is_swi f.kind ≡ true → is_used f.slot (slots_of old.modules) ≡ true → AreFrames new
+swi_opened old new f are plan modules opened swi there =
     let same : entries new.frames ≡ entries old.frames = ap entries opened ∙ entries-append old.frames (f ∷ []) ∙ rw swi (omega arith) in
     record {
       one = rw same are.one;
       kept = λ none. rw same (are.kept (sym plan ∙ none));
+      held = rw (modules, opened) (All-push (λ (g : Frame). is_used g.slot (slots_of old.modules) ≡ true) old.frames f are.held there);
+      spared = rw (plan, opened) (swi_spared (slots_of_kept old.plan) old.frames f swi are.spared);
     }
 
--- a frame of an entry is opened where there is none yet, and the plan of its call is kept
-pub entry_opens : (fs : List Frame) (new : Tables) (f : Frame) → entries fs ≡ 0 → new.frames ≡ fs ++ f ∷ [] → is_swi f.kind ≡ false → IsSome new.plan
-    → AreFrames new
-entry_opens fs new f idle opened entry plan =
-    let same : entries new.frames ≡ entries fs + 1 = ap entries opened ∙ entries-append fs (f ∷ []) ∙ rw entry (omega arith) in
+-- a frame of an entry is opened where there is none yet, and its code may be entered
+entry_spared : (slots : List ℕ) (fs : List Frame) (f : Frame) → entries fs ≡ 0 → has_swi_of (f.slot ∷ slots) fs ≡ false → AreSpared slots (fs ++ f ∷ [])
+entry_spared slots fs f idle none below above g is entry = elim (parted fs below above f g is) [
+  | inl last ↦ (λ i. has_swi_of ((sym last.1 i).slot ∷ slots) (sym last.0 i)) ∙ none
+  | inr before ↦ absurd (no_entry below before.0 g (ap entries (sym before.1) ∙ idle) entry)
+]
+
+pub entry_opens : (old new : Tables) (f : Frame) (code : Code) → AreFrames old → entries old.frames ≡ 0 → MayEnter code old → f.slot ≡ code.slot
+    → is_swi f.kind ≡ false → new.plan ≡ old.plan → new.modules ≡ old.modules → new.frames ≡ old.frames ++ f ∷ [] → AreFrames new
+entry_opens old new f code are idle may slot entry plan modules opened =
+    let same : entries new.frames ≡ entries old.frames + 1 = ap entries opened ∙ entries-append old.frames (f ∷ []) ∙ rw entry (omega arith) in
     record {
       one = omega (arith, same, idle);
-      kept = λ none. absurd (false≢true (rw none at plan));
+      kept = λ none. absurd (false≢true (rw (sym plan ∙ none) at may.kept));
+      held = rw (modules, opened) (All-push (λ (g : Frame). is_used g.slot (slots_of old.modules) ≡ true) old.frames f are.held (rw slot may.held));
+      spared = rw (plan, opened) (entry_spared (slots_of_kept old.plan) old.frames f idle (rw slot may.spared));
     }
 
 -- a frame is closed
-pub frame_closes : (old new : Tables) → AreFrames old → new.plan ≡ old.plan → new.frames ≡ closed old.frames → AreFrames new
-frame_closes old new are plan closes =
+closed_spared : (slots : List ℕ) (n : ℕ) (fs : List Frame) → AreSpared slots fs → AreSpared slots (take n fs)
+closed_spared slots n fs spared below above f is entry =
+    let whole : fs ≡ below ++ f ∷ (above ++ drop n fs) =
+    sym (take-append-drop n fs) ∙ ap (λ (xs : List Frame). xs ++ drop n fs) is ∙ append_assoc below (f ∷ above) (drop n fs) in
+    spared below (above ++ drop n fs) f whole entry
+
+pub frame_closes : (old new : Tables) → AreFrames old → new.plan ≡ old.plan → new.modules ≡ old.modules → new.frames ≡ closed old.frames → AreFrames new
+frame_closes old new are plan modules closes =
     let fewer : entries new.frames ≤ entries old.frames = rw closes (entries-take (length old.frames - 1) old.frames) in
     record {
       one = omega (arith, fewer, are.one);
       kept = λ none. omega (arith, fewer, are.kept (sym plan ∙ none));
+      held = rw (modules, closes) (All-take (λ (f : Frame). is_used f.slot (slots_of old.modules) ≡ true) (length old.frames - 1) old.frames are.held);
+      spared = rw (plan, closes) (closed_spared (slots_of_kept old.plan) (length old.frames - 1) old.frames are.spared);
     }
 
--- an entry's frame is closed: none is left
+-- An entry's frame is closed: none is left, and no SWI under way is of an instance that its plan names.
+last_of : (n : ℕ) (xs : List Frame) (f : Frame) → slice_get xs n ≡ Some f → n + 1 ≡ length xs → xs ≡ take n xs ++ f ∷ []
+last_of n [] f there len = absurd (omega (arith, len))
+last_of zero (x ∷ []) f there len = let same : x ≡ f = cc in ap (λ (g : Frame). g ∷ []) same
+last_of zero (x ∷ y ∷ ys) f there len = absurd (omega (arith, len))
+last_of (suc n) (x ∷ xs) f there len = ap (λ (ys : List Frame). x ∷ ys) (last_of n xs f there (omega (arith, len)))
+
+innermost_last : (xs : List Frame) (f : Frame) → innermost xs ≡ Some f → xs ≡ closed xs ++ f ∷ []
+innermost_last [] f there = cc
+innermost_last (x ∷ xs) f there = last_of (length (x ∷ xs) - 1) (x ∷ xs) f there (omega arith)
+
 pub entry_closes : (xs : List Frame) (f : Frame) → entries xs ≤ 1 → innermost xs ≡ Some f → is_swi f.kind ≡ false → entries (closed xs) ≡ 0
-entry_closes [] f one there entry = refl
-entry_closes (x ∷ xs) f one there entry =
+entry_closes xs f one there entry =
     let counted : entries (f ∷ []) ≡ 1 = rw entry refl in
-    let last = entries-last (length (x ∷ xs) - 1) (x ∷ xs) f there (omega arith) in
-    omega (arith, last, counted, one)
+    omega (arith, ap entries (innermost_last xs f there), entries-append (closed xs) (f ∷ []), counted, one)
 
--- A call goes on, as its plan says: where its code is next, the plan is kept.
-plan_kept : (p : Plan) (code : Option Code) → IsPlanKept (next_by p code) (kept_by p code)
-plan_kept p None = tt
-plan_kept p (Some code) = refl
+pub closed_held : (ms : List Module) (xs : List Frame) → AreHeld ms xs → AreHeld ms (closed xs)
+closed_held ms xs held = All-take (λ (f : Frame). is_used f.slot (slots_of ms) ≡ true) (length xs - 1) xs held
 
-pub carries_on : (t : Tables) (p : Plan) (code : Option Code) (kept : Option Plan × Next) → kept ≡ (kept_by p code, next_by p code)
-    → t.plan ≡ kept.0 → length t.frames < 32 → entries t.frames ≡ 0 → GoesTo kept.1 t
-carries_on t p code kept is plan room idle = record {
-  room = room;
-  idle = idle;
-  kept = rw plan (rw is (plan_kept p code));
-}
-
-pub goes_on : (s t : MachineState) (c : Carried World) (n : Next) → t ≡ with_carried s c → n ≡ next_of c → length s.tables.frames < 32
-    → entries s.tables.frames ≡ 0 → GoesTo n t.tables
-goes_on s t c n state next room idle = rw (state, next) (record {
-  room = room;
-  idle = idle;
-  kept = plan_kept c.rest c.code;
-})
-
-pub starts_on : (s t : MachineState) (r : Result Planned ErrorNumber) (n : Result Next ErrorNumber) → Starts s r n t → length s.tables.frames < 32
-    → entries s.tables.frames ≡ 0 → IfOk n (λ m. GoesTo m t.tables)
-starts_on s t (Ok w) (Ok n) starts room idle = goes_on s t _ n starts.0 starts.1 room idle
-starts_on s t (Err e) (Err f) starts room idle = tt
-starts_on s t (Ok w) (Err f) starts room idle = absurd starts
-starts_on s t (Err e) (Ok n) starts room idle = absurd starts
+pub entry_spares : (used slots : List ℕ) (xs : List Frame) (f : Frame) → All (λ (g : Frame). is_used g.slot used ≡ true) (closed xs)
+    → AreSpared slots xs → innermost xs ≡ Some f → is_swi f.kind ≡ false → has_swi_of slots (closed xs) ≡ false
+entry_spares used slots xs f held spared there entry =
+    none_of used (f.slot ∷ slots) slots (closed xs) held (λ s used none. (or_parts (f.slot == s) (is_used s slots) none).1)
+    (spared (closed xs) [] f (innermost_last xs f there) entry)

@@ -2,7 +2,7 @@
 -- chapters on character output, program environment, generating and handling errors, memory management, and "OS_Heap").
 use Rattle.std.specs.Prelude.{ℕ, ◌+◌, ◌%◌, ◌==◌, ◌&&◌, Option, Some, None, Result, Ok, List, [], ◌∷◌, length, if◌then◌else◌}
 use Rattle.profile.specs.Outcome.{bind}
-use Rattle.profile.specs.declared.error.ErrorNumber.TheVariants.{SwiUnknown, BadString, BadPointer, HeapBadReason}
+use Rattle.profile.specs.declared.error.ErrorNumber.TheVariants.{BadString, BadPointer, HeapBadReason}
 use Rattle.profile.specs.declared.swi.SwiName.{SwiName}
 use Rattle.profile.specs.declared.swi.SwiName.TheVariants as swi
 use Rattle.address_map.specs.Bytes.{Bytes}

@@ -1,29 +1,32 @@
 -- OS_Module, the reasons that add a module or an instance: what is refused before anything is done (RISC OS 3 Programmer's Reference Manual,
 -- "OS_Module", reasons 0, 1, 10, 11 and 14; which calls are refused while module code is under way, and the order of the refusals, are this
 -- project's own). What each does then, and what it refuses at that, stands in `instances`.
-use Rattle.std.specs.Prelude.{ℕ, Bool, false, not, List, ok_or, Result, Ok, Err, if◌then◌else◌}
+use Rattle.std.specs.Prelude.{ℕ, Bool, not, List, [], ok_or, Result, Ok, Err, if◌then◌else◌}
 use Rattle.profile.specs.Outcome.{bind}
 use Rattle.profile.specs.declared.error.ErrorNumber.{ErrorNumber}
 use Rattle.profile.specs.declared.error.ErrorNumber.TheVariants.{BadPointer, BadString, ImageUnknown, ModuleNotFound}
 use Rattle.address_map.specs.Bytes.{bytes_between}
 use Rattle.arm_step.specs.State.{register_of}
 use Rattle.image_loader.specs.Entries.{Entry, bytes_of}
+use Rattle.module_header.specs.declared.fault.HeaderFault.{HeaderFault}
+use Rattle.module_header.specs.declared.header.Header.{Header}
 use Rattle.module_header.specs.Header.{header_of}
 use Rattle.rma.specs.Copies.{may_be_copied}
 use Rattle.rma.specs.NewImages.{may_be_in_place}
 use Rattle.instances.specs.Adding.{good_header, instantiation}
 use Rattle.instances_plans.specs.Plans.{Plan}
+use Rattle.instances_table.specs.Changes.{titled}
+use Rattle.instances_table.specs.Modules.{slots_of}
 use Rattle.swi_dispatch.specs.declared.image_plans.ImageRange.{ImageRange}
 use Rattle.swi_dispatch.specs.declared.image_plans.Load.{Load}
 use Rattle.swi_dispatch.specs.InstanceCalls.{string_in}
 use Rattle.swi_dispatch.specs.MachineState.{MachineState, Tables, machine_estate}
-use Rattle.swi_dispatch.specs.ModulePlans.{may_begin_alone, may_run_code}
+use Rattle.swi_dispatch.specs.ModulePlans.{may_begin_alone, may_finalise}
 use Rattle.swi_dispatch.specs.ModuleWords.{name_part, text_part}
-use Rattle.swi_dispatch.specs.TitlesInUse.{is_title_in_use}
 
 -- A module that is added takes the place of an older one of its title, whose instances are finalised.
 abbrev pub may_replace : List ℕ → Tables → Result (Unit {0}) ErrorNumber
-may_replace title t = may_run_code (is_title_in_use title t) t
+may_replace title t = may_finalise (slots_of (titled title t.modules)) t
 
 -- A load that is to enter its module then may begin only while no module code is under way.
 abbrev pub may_load : Bool → List ℕ → Tables → Result (Unit {0}) ErrorNumber
@@ -50,10 +53,14 @@ load_asked images s words must_be_alone =
 abbrev pub range_asked : MachineState → ImageRange
 range_asked s = record { at = register_of s.cpu 1; len = register_of s.cpu 2 }
 
--- the image that stands in a range may be added
+-- the header of the image that stands in a range
+abbrev pub header_in : MachineState → ℕ → ℕ → Result Header HeaderFault
+header_in s at len = header_of (bytes_between s.store.bytes.at at len)
+
+-- that image may be added
 unfoldable pub may_add : MachineState → ImageRange → Result (Unit {0}) ErrorNumber
 may_add s range =
-    bind (good_header (header_of (bytes_between s.store.bytes.at range.at range.len))) (λ header.
+    bind (good_header (header_in s range.at range.len)) (λ header.
     may_replace header.title.items s.tables)
 
 -- reason 10, insert: the image stays in place, and has to be one that may
@@ -82,4 +89,4 @@ instantiation_asked s =
     bind (string_in s 1) (λ words.
     let planned = instantiation s.tables.modules (name_part words) (text_part words) in
     bind (well_named planned) (λ _.
-    bind (may_run_code false s.tables) (λ _. planned)))
+    bind (may_finalise [] s.tables) (λ _. planned)))

@@ -21,4 +21,3 @@ pub mod Returns
 pub mod Run
 pub mod Step
 pub mod Strings
-pub mod TitlesInUse

@@ -1,6 +1,6 @@
 -- OS_Module, the reasons that may run module code: what each refuses before anything is done, and the plan that it makes (RISC OS 3 Programmer's
 -- Reference Manual, "OS_Module"; which calls are refused while module code is under way, and the order of the refusals, are this project's own).
-use Rattle.std.specs.Prelude.{ℕ, Bool, is_some, ◌==◌, ◌||◌, nat_lt, List, [], ◌∷◌, length, Result, Ok, Err, if◌then◌else◌}
+use Rattle.std.specs.Prelude.{ℕ, is_some, ◌==◌, ◌||◌, nat_lt, List, [], ◌∷◌, length, Result, Ok, Err, if◌then◌else◌}
 use Rattle.profile.specs.Outcome.{bind}
 use Rattle.profile.specs.declared.error.ErrorNumber.{ErrorNumber}
 use Rattle.profile.specs.declared.error.ErrorNumber.TheVariants.{FrameLimit, ModuleBusy}
@@ -20,16 +20,12 @@ machine_world s = record { estate = machine_estate s; modules = s.tables.modules
 abbrev pub with_world : MachineState → World → MachineState
 with_world s w = with_modules (with_estate s w.estate) w.modules
 
--- A call that may run module code is refused while an initialisation or a finalisation is under way, which is as long as a plan is kept, or where an
--- instance that it finalises is in use; then where no frame more can be opened, whether or not the call would open one.
-unfoldable pub may_run_code : Bool → Tables → Result (Unit {0}) ErrorNumber
-may_run_code is_in_use t =
-    if is_some t.plan || is_in_use then Err ModuleBusy else (
+-- A call that may run module code is refused while an initialisation or a finalisation is under way, which is as long as a plan is kept, or a SWI of an
+-- instance that it finalises; then where no frame more can be opened, whether or not the call would open one.
+unfoldable pub may_finalise : List ℕ → Tables → Result (Unit {0}) ErrorNumber
+may_finalise slots t =
+    if is_some t.plan || has_swi_of slots t.frames then Err ModuleBusy else (
     if length t.frames == 32 then Err FrameLimit else Ok tt)
-
--- An instance is in use while a SWI of it is under way.
-abbrev pub may_finalise : List ℕ → Tables → Result (Unit {0}) ErrorNumber
-may_finalise slots t = may_run_code (has_swi_of slots t.frames) t
 
 -- Some calls are refused while any module code is under way, and so never for the number of frames.
 unfoldable pub may_begin_alone : Tables → Result (Unit {0}) ErrorNumber

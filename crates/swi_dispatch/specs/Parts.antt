@@ -11,13 +11,15 @@ use Rattle.arm_step.specs.State.{State}
 use Rattle.instances_plans.specs.Plans.{Plan}
 use Rattle.instances_ground.specs.Sound.{IsWorld}
 use Rattle.instances_ground.specs.World.{World, world_of}
+use Rattle.instances.specs.Naming.{slots_of_plan}
 use Rattle.instances.specs.Turns.{IsUnderWay, MayGoOn}
+use Rattle.swi_dispatch_frames.specs.Busy.{has_swi_of}
 use Rattle.swi_dispatch.specs.declared.halt.Halt.{Halt}
 use Rattle.swi_dispatch.specs.declared.refusal.Refusal.{Refusal}
 use Rattle.swi_dispatch.specs.Answers.{Answer}
 use Rattle.swi_dispatch.specs.MachineState.{MachineState, Outcome, Tables, start_of}
 use Rattle.swi_dispatch.specs.ModulePlans.{machine_world}
-use Rattle.swi_dispatch.specs.OpenFrames.{AreFrames, entries}
+use Rattle.swi_dispatch.specs.OpenFrames.{AreFrames, AreHeld, entries}
 use Rattle.swi_dispatch.specs.Step.{Turned, instructed}
 
 pub record Parts : Type 0 where
@@ -47,8 +49,9 @@ parts_world p = world_of p.map p.tables.land p.tables.modules
 
 -- What holds of every machine, whatever its guest does: the areas stand on its memory, so that memory spells the lists of all heaps; the words that
 -- these lists spell are those that are marked; the system pages are recorded; the recorded images are the modules', and the plan that is kept while module
--- code runs finds all that it asks for; at most one initialisation or finalisation is under way, and none where no plan is kept; memory spells the flex store, if there is one; and a machine that can still
--- be booted stands as at the start.
+-- code runs finds all that it asks for; at most one initialisation or finalisation is under way, and none where no plan is kept; each frame is of an
+-- instance that is there, and no SWI that waits for an initialisation or a finalisation is of its instance, nor of one that the plan names; memory spells
+-- the flex store, if there is one; and a machine that can still be booted stands as at the start.
 pub record IsWellFormed (p : Parts) : Type 0 where
   pub areas : AreAreas (store_of p.map) (free_pages p.map) p.tables.land
   pub classes : AreClasses p.map
@@ -83,10 +86,12 @@ pub record IsFree (s : MachineState) : Type 0 where
   pub none : s.tables.plan ≡ None
   pub room : length s.tables.frames < 32
   pub idle : entries s.tables.frames ≡ 0
+  pub held : AreHeld s.tables.modules s.tables.frames
   pub world : IsWorld (machine_world s) []
 
--- A call on modules may begin, and its plan is ready.
+-- A call on modules may begin: its plan is ready, and no SWI is under way of an instance that it names.
 pub record CanBegin (s : MachineState) (p : Plan) : Type 0 where
   pub going : IsUnderWay (machine_world s) p
   pub rests : p.runs ≡ false
   pub free : IsFree s
+  pub spared : has_swi_of (slots_of_plan p) s.tables.frames ≡ false

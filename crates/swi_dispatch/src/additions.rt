@@ -2,6 +2,7 @@
 //! reasons 0, 1, 10 and 11).
 
 ghost use Rattle.std.specs.Prelude.{◌≡◌, ◌<◌, ◌≤◌, ◌^◌, false, length, IfOk};
+ghost use Rattle.module_header.specs.Header.{header_of};
 
 use crate::machine::Machine;
 use crate::module_steps::{Next, next_of};
@@ -12,7 +13,8 @@ use swi_dispatch_frames::Call;
 
 impl Machine {
     ghost use Rattle.swi_dispatch.specs.Additions.{Starts, copied_range_planned, copy_planned, image_planned, insertion_planned, load_planned, named_load_planned, range_planned};
-    ghost use Rattle.swi_dispatch.specs.OpenFrames.{GoesTo};
+    ghost use Rattle.swi_dispatch.specs.ImagePlans.{header_in};
+    ghost use Rattle.swi_dispatch.specs.OpenFrames.{GoesTo, SparesTitle};
     ghost use Rattle.swi_dispatch.specs.Parts.{state_of, outcome_of, IsFree, IsInStep, OnlySteps, OnlyState};
     ghost use Rattle.swi_dispatch.specs.Step.{begun, begun_by};
 
@@ -87,7 +89,7 @@ impl Machine {
         }
     }
 
-    #[tactic(auto, using(crate::proofs::OpenFrames::starts_on), unfolding(crate::specs::Additions::load_planned))]
+    #[tactic(auto, unfolding(crate::specs::Additions::load_planned))]
     fn start_load(
         &mut self,
         images: &Images,
@@ -104,7 +106,7 @@ impl Machine {
         self.place_image(load.image, load.text)
     }
 
-    #[tactic(auto, using(crate::proofs::OpenFrames::starts_on), unfolding(crate::specs::Additions::insertion_planned))]
+    #[tactic(auto, unfolding(crate::specs::Additions::insertion_planned))]
     fn start_insertion(&mut self) -> Result<Next, ErrorNumber>
         requires stepped { self.old.is_fresh ≡ false }
         ensures state { Starts (state_of self.old) (insertion_planned (state_of self.old)) result (state_of self.new) }
@@ -115,7 +117,7 @@ impl Machine {
         self.record_image(range.at, range.len)
     }
 
-    #[tactic(auto, using(crate::proofs::OpenFrames::starts_on), unfolding(crate::specs::Additions::copy_planned))]
+    #[tactic(auto, unfolding(crate::specs::Additions::copy_planned))]
     fn start_copy(&mut self) -> Result<Next, ErrorNumber>
         requires stepped { self.old.is_fresh ≡ false }
         ensures state { Starts (state_of self.old) (copy_planned (state_of self.old)) result (state_of self.new) }
@@ -132,8 +134,9 @@ impl Machine {
         requires stepped { self.old.is_fresh ≡ false }
         requires short { length text.now ≤ 255 }
         requires free { IsFree (state_of self.old) }
+        requires spared { SparesTitle (state_of self.old).tables (header_of image.now) }
         ensures state { Starts (state_of self.old) (image_planned (state_of self.old) image.now text.now) result (state_of self.new) }
-        ensures room { length (state_of self.new).tables.frames < 32 }
+        ensures goes { IfOk result (λ next. GoesTo next (state_of self.new).tables) }
         ensures others { OnlyState self.old self.new }
     {
         let mut plan = self
@@ -152,8 +155,9 @@ impl Machine {
     fn record_image(&mut self, at: u32, len: u32) -> Result<Next, ErrorNumber>
         requires stepped { self.old.is_fresh ≡ false }
         requires free { IsFree (state_of self.old) }
+        requires spared { SparesTitle (state_of self.old).tables (header_in (state_of self.old) at len) }
         ensures state { Starts (state_of self.old) (range_planned (state_of self.old) at len) result (state_of self.new) }
-        ensures room { length (state_of self.new).tables.frames < 32 }
+        ensures goes { IfOk result (λ next. GoesTo next (state_of self.new).tables) }
         ensures others { OnlyState self.old self.new }
     {
         let mut plan = self
@@ -172,8 +176,9 @@ impl Machine {
     fn place_copy(&mut self, at: u32, len: u32) -> Result<Next, ErrorNumber>
         requires stepped { self.old.is_fresh ≡ false }
         requires free { IsFree (state_of self.old) }
+        requires spared { SparesTitle (state_of self.old).tables (header_in (state_of self.old) at len) }
         ensures state { Starts (state_of self.old) (copied_range_planned (state_of self.old) at len) result (state_of self.new) }
-        ensures room { length (state_of self.new).tables.frames < 32 }
+        ensures goes { IfOk result (λ next. GoesTo next (state_of self.new).tables) }
         ensures others { OnlyState self.old self.new }
     {
         let mut plan = self

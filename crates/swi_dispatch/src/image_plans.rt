@@ -1,8 +1,12 @@
 //! OS_Module, the reasons that add a module or an instance: what is refused before anything is done (RISC OS 3 Programmer's Reference Manual,
 //! "OS_Module", reasons 0, 1, 10, 11 and 14).
 
-ghost use Rattle.std.specs.Prelude.{◌≡◌, ◌≤◌, length, IfOk};
+ghost use Rattle.std.specs.Prelude.{◌≡◌, ◌≤◌, false, length, IfOk};
 ghost use Rattle.address_map.specs.Bytes.{AreMapped};
+ghost use Rattle.instances_table.specs.Changes.{titled};
+ghost use Rattle.instances_table.specs.Modules.{slots_of};
+ghost use Rattle.module_header.specs.Header.{header_of};
+ghost use Rattle.swi_dispatch_frames.specs.Busy.{has_swi_of};
 ghost use Rattle.swi_dispatch.specs.ImagePlans.{well_named};
 
 use crate::machine::Machine;
@@ -30,7 +34,8 @@ pub struct ImageRange {
 }
 
 impl Machine {
-    ghost use Rattle.swi_dispatch.specs.ImagePlans.{copy_asked, insertion_asked, instantiation_asked, load_asked, loading_of, may_add, may_load, may_replace, range_asked};
+    ghost use Rattle.swi_dispatch.specs.ImagePlans.{copy_asked, header_in, insertion_asked, instantiation_asked, load_asked, loading_of, may_add, may_load, may_replace, range_asked};
+    ghost use Rattle.swi_dispatch.specs.OpenFrames.{SparesTitle};
     ghost use Rattle.swi_dispatch.specs.Parts.{CanBegin, IsFree, state_of};
 
     /// OS_Module 0 and 1: the words are the name of an image and a text. A load that must be alone begins only while no module code is under way.
@@ -48,6 +53,7 @@ impl Machine {
     ) -> Result<Load<'a>, ErrorNumber>
         ensures value { loading_of result ≡ load_asked images.now (state_of self.now) words.now must_be_alone }
         ensures free { IfOk result (λ _. IsFree (state_of self.now)) }
+        ensures spared { IfOk result (λ load. SparesTitle (state_of self.now).tables (header_of load.image.now)) }
         ensures short { IfOk result (λ load. length load.text.now ≤ length words.now) }
     {
         let image = images
@@ -73,6 +79,7 @@ impl Machine {
     pub(crate) fn insertion_asked(&self) -> Result<ImageRange, ErrorNumber>
         ensures value { result ≡ insertion_asked (state_of self.now) }
         ensures free { IfOk result (λ _. IsFree (state_of self.now)) }
+        ensures spared { IfOk result (λ range. SparesTitle (state_of self.now).tables (header_in (state_of self.now) range.at range.len)) }
     {
         let range = self.range_asked();
         if !Rma::new().may_be_in_place(&self.memory, range.at, range.len) {
@@ -91,6 +98,7 @@ impl Machine {
     pub(crate) fn copy_asked(&self) -> Result<ImageRange, ErrorNumber>
         ensures value { result ≡ copy_asked (state_of self.now) }
         ensures free { IfOk result (λ _. IsFree (state_of self.now)) }
+        ensures spared { IfOk result (λ range. SparesTitle (state_of self.now).tables (header_in (state_of self.now) range.at range.len)) }
     {
         let range = self.range_asked();
         if !Rma::new().may_be_copied(&self.memory, &self.areas, range.at, range.len) {
@@ -107,7 +115,7 @@ impl Machine {
     /// The first of these: `BadString` where the string can't be read, or has no good full name; `ModuleNotFound` where there is no module of the
     /// title; `ModuleBusy` while an initialisation or a finalisation is under way; `FrameLimit` where no frame more can be opened; `InstanceExists` where
     /// the module has an instance of the name; `InstanceTableFull` where there are 64 instances.
-    #[tactic(auto, using(crate::proofs::GateLemmas::can_begin), unfolding(crate::specs::ImagePlans::instantiation_asked))]
+    #[tactic(auto, unfolding(crate::specs::ImagePlans::instantiation_asked))]
     pub(crate) fn instantiation_asked(&self) -> Result<Plan, ErrorNumber>
         ensures value { result ≡ instantiation_asked (state_of self.now) }
         ensures begins { IfOk result (λ plan. CanBegin (state_of self.now) plan) }
@@ -117,7 +125,7 @@ impl Machine {
             .instances()
             .instantiate(name_part(words.as_slice()), text_part(words.as_slice()));
         well_named(&planned)?;
-        self.may_run_code(false)?;
+        self.may_finalise(&[])?;
         planned
     }
 
@@ -136,6 +144,7 @@ impl Machine {
         requires { AreMapped (state_of self.now).store.bytes.mapped range.at range.len }
         ensures value { result ≡ may_add (state_of self.now) range }
         ensures free { IfOk result (λ _. IsFree (state_of self.now)) }
+        ensures spared { IfOk result (λ _. SparesTitle (state_of self.now).tables (header_in (state_of self.now) range.at range.len)) }
     {
         let Ok(header) = Header::read_from(&self.memory.view(range.at, range.len)) else {
             return Err(ErrorNumber::ModuleBadHeader);
@@ -144,9 +153,11 @@ impl Machine {
     }
 
     // Whether a load of a module of a title may begin.
+    #[tactic(auto, using(crate::proofs::OpenFrames::none_of_empty))]
     fn may_load(&self, must_be_alone: bool, title: &[u8]) -> Result<(), ErrorNumber>
         ensures value { result ≡ may_load must_be_alone title.now (state_of self.now).tables }
         ensures free { IfOk result (λ _. IsFree (state_of self.now)) }
+        ensures spared { IfOk result (λ _. has_swi_of (slots_of (titled title.now (state_of self.now).tables.modules)) (state_of self.now).tables.frames ≡ false) }
     {
         if must_be_alone {
             return self.may_begin_alone();
@@ -155,11 +166,14 @@ impl Machine {
     }
 
     // Whether a call may begin that takes an older module of a title away.
+    #[tactic(auto, unfolding(crate::specs::Parts::state_of))]
     fn may_replace(&self, title: &[u8]) -> Result<(), ErrorNumber>
         ensures value { result ≡ may_replace title.now (state_of self.now).tables }
         ensures free { IfOk result (λ _. IsFree (state_of self.now)) }
+        ensures spared { IfOk result (λ _. has_swi_of (slots_of (titled title.now (state_of self.now).tables.modules)) (state_of self.now).tables.frames ≡ false) }
     {
-        self.may_run_code(self.is_title_in_use(title))
+        let older = self.instances.slots_of_title(title);
+        self.may_finalise(older.as_slice())
     }
 }
 

@@ -25,7 +25,6 @@ pub mod refusal;
 pub mod running;
 pub mod spare;
 pub mod strings;
-pub mod titles_in_use;
 
 pub use boot_error::BootError;
 pub use breaks::{BreakError, Breaks};

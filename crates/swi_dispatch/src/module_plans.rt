@@ -1,7 +1,8 @@
 //! OS_Module, the reasons that may run module code: what each refuses before anything is done, and the plan that it makes (RISC OS 3 Programmer's
 //! Reference Manual, "OS_Module").
 
-ghost use Rattle.std.specs.Prelude.{◌≡◌, IfOk};
+ghost use Rattle.std.specs.Prelude.{◌≡◌, [], false, IfOk};
+ghost use Rattle.swi_dispatch_frames.specs.Busy.{has_swi_of};
 
 use crate::machine::Machine;
 use crate::module_words::{name_part, text_part};
@@ -10,11 +11,10 @@ use profile::ErrorNumber;
 use swi_dispatch_frames::MOST_FRAMES;
 
 impl Machine {
-    ghost use Rattle.swi_dispatch.specs.ModulePlans.{clear_planned, delete_planned, may_begin_alone, may_finalise, may_run_code, reinit_planned, tidy_planned};
+    ghost use Rattle.swi_dispatch.specs.ModulePlans.{clear_planned, delete_planned, may_begin_alone, may_finalise, reinit_planned, tidy_planned};
     ghost use Rattle.swi_dispatch.specs.Parts.{CanBegin, IsFree, state_of};
 
     /// OS_Module 3: R1 points to a name and a text.
-    #[tactic(auto, using(crate::proofs::GateLemmas::can_begin))]
     pub(crate) fn plan_reinit(&self) -> Result<Plan, ErrorNumber>
         ensures value { result ≡ reinit_planned (state_of self.now) }
         ensures begins { IfOk result (λ plan. CanBegin (state_of self.now) plan) }
@@ -28,7 +28,6 @@ impl Machine {
     }
 
     /// OS_Module 4: R1 points to a name.
-    #[tactic(auto, using(crate::proofs::GateLemmas::can_begin))]
     pub(crate) fn plan_delete(&self) -> Result<Plan, ErrorNumber>
         ensures value { result ≡ delete_planned (state_of self.now) }
         ensures begins { IfOk result (λ plan. CanBegin (state_of self.now) plan) }
@@ -40,7 +39,7 @@ impl Machine {
     }
 
     /// OS_Module 8: the caller goes on at `next`.
-    #[tactic(auto, using(crate::proofs::GateLemmas::can_begin))]
+    #[tactic(auto, using(crate::proofs::GateLemmas::can_begin, crate::proofs::OpenFrames::none_of_empty))]
     pub(crate) fn plan_tidy(&self, next: u32) -> Result<Plan, ErrorNumber>
         ensures value { result ≡ tidy_planned (state_of self.now) next }
         ensures begins { IfOk result (λ plan. CanBegin (state_of self.now) plan) }
@@ -50,7 +49,7 @@ impl Machine {
     }
 
     /// OS_Module 9.
-    #[tactic(auto, using(crate::proofs::GateLemmas::can_begin))]
+    #[tactic(auto, using(crate::proofs::GateLemmas::can_begin, crate::proofs::OpenFrames::none_of_empty))]
     pub(crate) fn plan_clear(&self) -> Result<Plan, ErrorNumber>
         ensures value { result ≡ clear_planned (state_of self.now) }
         ensures begins { IfOk result (λ plan. CanBegin (state_of self.now) plan) }
@@ -65,26 +64,13 @@ impl Machine {
     ///
     /// `ModuleBusy` while an initialisation or a finalisation is under way, or a SWI of one of the instances; else `FrameLimit` where no frame more
     /// can be opened.
-    #[tactic(auto, unfolding(crate::specs::Parts::state_of))]
+    #[tactic(auto, using(crate::proofs::GateLemmas::is_free), unfolding(crate::specs::Parts::state_of, crate::specs::ModulePlans::may_finalise))]
     pub(crate) fn may_finalise(&self, slots: &[u32]) -> Result<(), ErrorNumber>
         ensures value { result ≡ may_finalise slots.now (state_of self.now).tables }
         ensures free { IfOk result (λ _. IsFree (state_of self.now)) }
+        ensures spared { IfOk result (λ _. has_swi_of slots.now (state_of self.now).tables.frames ≡ false) }
     {
-        self.may_run_code(self.frames.has_swi_of(slots))
-    }
-
-    /// Whether a call may begin that may run module code, and finalises instances that are in use or not.
-    ///
-    /// # Errors
-    ///
-    /// `ModuleBusy` while an initialisation or a finalisation is under way, or where the instances are in use; else `FrameLimit` where no frame more
-    /// can be opened.
-    #[tactic(auto, using(crate::proofs::GateLemmas::is_free), unfolding(crate::specs::Parts::state_of, crate::specs::ModulePlans::may_run_code))]
-    pub(crate) fn may_run_code(&self, is_in_use: bool) -> Result<(), ErrorNumber>
-        ensures value { result ≡ may_run_code is_in_use (state_of self.now).tables }
-        ensures free { IfOk result (λ _. IsFree (state_of self.now)) }
-    {
-        if self.plan.is_some() || is_in_use {
+        if self.plan.is_some() || self.frames.has_swi_of(slots) {
             return Err(ErrorNumber::ModuleBusy);
         }
         if self.frames.len() == MOST_FRAMES {
@@ -102,6 +88,7 @@ impl Machine {
     pub(crate) fn may_begin_alone(&self) -> Result<(), ErrorNumber>
         ensures value { result ≡ may_begin_alone (state_of self.now).tables }
         ensures free { IfOk result (λ _. IsFree (state_of self.now)) }
+        ensures alone { IfOk result (λ _. (state_of self.now).tables.frames ≡ []) }
     {
         if self.plan.is_some() || self.frames.len() > 0 {
             return Err(ErrorNumber::ModuleBusy);

@@ -1,7 +1,7 @@
 //! Calls on modules that may run module code, step by step: how such a call begins, goes on and ends (RISC OS 3 Programmer's Reference Manual,
 //! "Modules" and "OS_Module").
 
-ghost use Rattle.std.specs.Prelude.{◌≡◌, ◌<◌, false, length, IfOk, IsSome};
+ghost use Rattle.std.specs.Prelude.{◌≡◌, ◌<◌, false, length, IfOk};
 ghost use Rattle.swi_dispatch.specs.Gates.{kept_by, next_by};
 
 use crate::machine::Machine;
@@ -22,7 +22,7 @@ impl Machine {
     ghost use Rattle.swi_dispatch.specs.Gates.{call_ended, carried_on, entry_opened, loaded_entered, next_of, went_to, with_carried, world_carried};
     ghost use Rattle.swi_dispatch.specs.MachineState.{quiet};
     ghost use Rattle.swi_dispatch.specs.ModulePlans.{machine_world};
-    ghost use Rattle.swi_dispatch.specs.OpenFrames.{GoesTo, entries};
+    ghost use Rattle.swi_dispatch.specs.OpenFrames.{GoesTo, MayEnter, entries};
     ghost use Rattle.swi_dispatch.specs.Parts.{state_of, outcome_of, CanBegin, IsInStep, OnlySteps, OnlyState};
     ghost use Rattle.swi_dispatch.specs.Step.{begun_alone, call_of};
 
@@ -40,7 +40,7 @@ impl Machine {
         }
     }
 
-    #[tactic(auto, using(crate::proofs::OpenFrames::goes_on), unfolding(crate::specs::Gates::carried_on))]
+    #[tactic(auto, unfolding(crate::specs::Gates::carried_on))]
     fn begin_plan(&mut self, is_x: bool, next: u32, plan: Plan)
         requires step { IsInStep self.old }
         requires begins { CanBegin (state_of self.old) plan }
@@ -84,6 +84,7 @@ impl Machine {
         requires begins { CanBegin (state_of self.old) plan }
         ensures state { state_of self.new ≡ with_carried (state_of self.old) (world_carried (machine_world (state_of self.old)) plan) }
         ensures next { result ≡ next_of (world_carried (machine_world (state_of self.old)) plan) }
+        ensures goes { GoesTo result (state_of self.new).tables }
         ensures others { OnlyState self.old self.new }
     {
         let mut plan = plan;
@@ -101,7 +102,7 @@ impl Machine {
         requires stepped { self.old.is_fresh ≡ false }
         requires room { length (state_of self.old).tables.frames < 32 }
         requires idle { entries (state_of self.old).tables.frames ≡ 0 }
-        requires kept { IsSome (state_of self.old).tables.plan }
+        requires may { MayEnter code (state_of self.old).tables }
         ensures state { state_of self.new ≡ entry_opened (state_of self.old) call code }
         ensures others { OnlyState self.old self.new }
     {

@@ -1,6 +1,7 @@
 //! SWIs of modules: the module whose chunk has the number handles it, in a frame.
 
-ghost use Rattle.std.specs.Prelude.{◌≡◌, ◌<◌, ◌^◌, false, length};
+ghost use Rattle.std.specs.Prelude.{◌≡◌, ◌<◌, ◌^◌, false, true, length};
+ghost use Rattle.instances_plans.specs.Doable.{is_used};
 
 use crate::machine::Machine;
 use crate::refusal::Refusal;
@@ -10,6 +11,7 @@ use swi_dispatch_frames::{Call, Frame, FrameKind, MOST_FRAMES, enter_swi};
 
 impl Machine {
     ghost use Rattle.instances_table.specs.Lookup.{handler_of};
+    ghost use Rattle.instances_table.specs.Modules.{slots_of};
     ghost use Rattle.swi_dispatch.specs.Parts.{state_of, outcome_of, IsInStep, OnlySteps, OnlyState};
     ghost use Rattle.swi_dispatch.specs.Step.{call_refused, handler_entered, module_called};
 
@@ -49,6 +51,7 @@ impl Machine {
         requires stepped { self.old.is_fresh ≡ false }
         requires room { length (state_of self.old).tables.frames < 32 }
         requires slot { handler.slot < 64 }
+        requires held { is_used handler.slot (slots_of (state_of self.old).tables.modules) ≡ true }
         ensures state { state_of self.new ≡ handler_entered (state_of self.old) call number handler }
         ensures others { OnlyState self.old self.new }
     {

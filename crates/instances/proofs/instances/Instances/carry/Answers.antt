@@ -1,6 +1,8 @@
+use Rattle.std.proofs.Common.{None, Some}
 use Rattle.flex_kept.proofs.Keeping.{keeps_then}
 use Rattle.instances_ground.specs.World.{world_of}
 use Rattle.instances.proofs.Carrying.{code_carried, end_carried, next_carried, next_fewer, world_at_end}
+use Rattle.instances.proofs.Naming.{keeps_others}
 use Rattle.instances.proofs.instances.Instances.carry.Goals as goal
 
 pub loop-outcome-smaller : goal.loop-outcome-smaller
@@ -41,3 +43,13 @@ returns-in-Code-clause-flex c = keeps_then _ _ _ c.loop-outcome.invariant.flex c
 
 pub returns-in-End-clause-flex : goal.returns-in-End-clause-flex
 returns-in-End-clause-flex c = keeps_then _ _ _ c.loop-outcome.invariant.flex c.advance.ensures.flex
+
+pub returns-in-Code-clause-others : goal.returns-in-Code-clause-others
+returns-in-Code-clause-others c =
+    keeps_others _ (world_of c.advance.new.map c.args.areas.now c.advance.new.self) _ c.advance.new.plan _ (Some c.in-Code.code)
+    (returns-in-Code-clause-carried c) c.advance.ensures.going
+
+pub returns-in-End-clause-others : goal.returns-in-End-clause-others
+returns-in-End-clause-others c =
+    keeps_others _ (world_of c.advance.new.map c.args.areas.now c.advance.new.self) _ c.advance.new.plan _ None
+    (returns-in-End-clause-carried c) c.advance.ensures.going

@@ -1,4 +1,4 @@
-use Rattle.std.proofs.Common.{◌≡◌, arith, ap, ◌≤◌, ◌<◌, ℕ, List, get_or, length, subst, sym, ◌∙◌}
+use Rattle.std.proofs.Common.{◌≡◌, arith, ap, ◌<◌, ℕ, List, get_or, length, subst, sym, ◌∙◌}
 use Rattle.instances_table.proofs.RoomLemmas.{modules_le, most_slots, slots_low}
 use Rattle.instances_table.proofs.ViewLemmas.{slots_view}
 use Rattle.instances_table.specs.Modules.{slots_of}

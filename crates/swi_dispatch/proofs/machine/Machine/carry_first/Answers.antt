@@ -1,18 +1,18 @@
-use Rattle.std.proofs.Common.{refl, ap, ◌∙◌}
+use Rattle.std.proofs.Common.{refl, ap, subst, sym, ◌∙◌}
 use Rattle.swi_dispatch.specs.MachineState.{MachineState}
-use Rattle.swi_dispatch.specs.OpenFrames.{entries}
-use Rattle.swi_dispatch.specs.Parts.{Parts, state_of}
+use Rattle.swi_dispatch.specs.Parts.{CanBegin, Parts, state_of}
 use Rattle.swi_dispatch.proofs.Kept.{over}
 use Rattle.swi_dispatch.proofs.GateLemmas.{carried_well, first_carried, next_carried, state_carried}
-use Rattle.swi_dispatch.proofs.OpenFrames.{frames_idle}
+use Rattle.swi_dispatch.proofs.CarriedFrames.{begun_beneath, carried_frames, carries_on}
 use Rattle.swi_dispatch.proofs.machine.Machine.carry_first.Goals as goal
 
 pub invariant_of-self : goal.invariant_of-self
 unfolding state_of
 invariant_of-self c =
     let carries = c.carry-code.ensures in
+    let begins = subst (λ (p : Parts). CanBegin (state_of p) c.args.plan) (sym c.self.view_is) c.requires.begins in
     carried_well _ _ _ _ _ _ _ c.next_of-kept.ensures refl carries.carried carries.ended carries.going carries.classes
-    (frames_idle _ (ap (λ (p : Parts). entries p.tables.frames) c.self.view_is ∙ c.requires.begins.free.idle))
+    (carried_frames _ _ _ _ _ _ _ (begun_beneath _ _ begins) carries.others refl refl)
     c.self.invariant carries.flex refl (ap (λ (p : Parts). p.is_fresh) c.self.view_is ∙ c.requires.stepped)
 
 pub returns-clause-state : goal.returns-clause-state
@@ -28,3 +28,9 @@ pub returns-clause-next : goal.returns-clause-next
 unfolding state_of
 returns-clause-next c =
     rw (← c.self.view_is) (next_carried _ _ _ _ _ c.next_of-kept.ensures (first_carried _ _ _ c.requires.begins.rests c.carry-code.ensures.carried))
+
+pub returns-clause-goes : goal.returns-clause-goes
+unfolding state_of
+returns-clause-goes c =
+    let begins = subst (λ (p : Parts). CanBegin (state_of p) c.args.plan) (sym c.self.view_is) c.requires.begins in
+    carries_on _ _ _ _ _ _ _ _ c.next_of-kept.ensures refl refl refl begins.free.room (begun_beneath _ _ begins) c.carry-code.ensures.others

@@ -1,8 +1,6 @@
-use Rattle.std.proofs.Common.{ap}
 use Rattle.flex_ground.proofs.Kept.{flex_started}
-use Rattle.swi_dispatch.specs.OpenFrames.{entries}
 use Rattle.swi_dispatch.specs.Parts.{state_of}
-use Rattle.swi_dispatch.proofs.OpenFrames.{frames_idle}
+use Rattle.swi_dispatch.proofs.OpenFrames.{frames_none}
 use Rattle.swi_dispatch.proofs.Starting.{start_modules, starts, system_recorded}
 use Rattle.swi_dispatch.proofs.machine.Machine.new.Goals as goal
 
@@ -15,7 +13,7 @@ invariant_of-result c =
       classes = memory.classes;
       system = system_recorded _ c.args.config memory.store;
       modules = rw (c.new-3.ensures.land, c.new-4.ensures) (start_modules _ c.args.config memory.store memory.areas);
-      frames = frames_idle _ (ap entries c.new-5.ensures);
+      frames = frames_none _ c.new-5.ensures;
       flex = flex_started _ c.args.config _ memory.store c.new-6.ensures;
       fresh = λ _. rw (c.new.ensures, c.new-3.ensures.land, c.new-4.ensures, c.new-5.ensures, c.new-6.ensures) (starts _ _ memory.store memory.areas);
     }
@@ -35,7 +33,7 @@ returns-clause-well_formed c =
       classes = memory.classes;
       system = system_recorded _ c.args.config memory.store;
       modules = rw (c.new-3.ensures.land, c.new-4.ensures) (start_modules _ c.args.config memory.store memory.areas);
-      frames = frames_idle _ (ap entries c.new-5.ensures);
+      frames = frames_none _ c.new-5.ensures;
       flex = flex_started _ c.args.config _ memory.store c.new-6.ensures;
       fresh = λ _. rw (c.new.ensures, c.new-3.ensures.land, c.new-4.ensures, c.new-5.ensures, c.new-6.ensures) (starts _ _ memory.store memory.areas);
     }

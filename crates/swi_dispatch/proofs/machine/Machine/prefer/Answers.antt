@@ -6,4 +6,4 @@ use Rattle.swi_dispatch.proofs.machine.Machine.prefer.Goals as goal
 pub invariant_of-self : goal.invariant_of-self
 invariant_of-self c =
     let well = c.self.invariant in
-    well_named _ _ well refl refl (c.prefer.ensures.going _ _ well.modules) refl refl refl (ap (λ (p : Parts). p.is_fresh) c.self.view_is ∙ c.requires.stepped)
+    well_named _ _ well refl refl (c.prefer.ensures.going _ _ well.modules) c.prefer.ensures.slots refl refl refl (ap (λ (p : Parts). p.is_fresh) c.self.view_is ∙ c.requires.stepped)
