@@ -1,6 +1,7 @@
 //! Scripts that hand in images and boot them, and lines outside the language.
 
-use crate::scripts::{SIX_WORDS, SIX_WORDS_ANSWER, run_all, run_with};
+use crate::running::{run_all, run_with};
+use crate::scripts::{SIX_WORDS, SIX_WORDS_ANSWER};
 use image_loader::Images;
 use profile::Stop;
 use std::test::Fail;
