@@ -1,3 +1,4 @@
+pub mod AreaLemmas
 pub mod Images
 pub mod LawLemmas
 pub mod Removals

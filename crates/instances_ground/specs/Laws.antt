@@ -1,17 +1,24 @@
 -- What a world says of the images of modules, and of those that are pending.
-use Rattle.std.specs.Prelude.{◌≤◌, ◌⊎◌, List, ◌++◌, map}
+use Rattle.std.specs.Prelude.{◌≡◌, ◌≤◌, ℕ, Bool, true, false, List, ◌++◌, map}
 use Rattle.std.specs.List.{AllByRecursion}
+use Rattle.profile.specs.MemoryMap.{module_area_maximum, module_area_start}
+use Rattle.address_map.specs.Bytes.{in_range}
 use Rattle.os_heap.specs.Store.{AreRangesApart, IsClearOfHeaps, IsImageIn}
 use Rattle.dynamic_areas.specs.Ground.{IsRecorded}
 use Rattle.instances_table.specs.declared.parts.Image.{Image}
 use Rattle.instances_ground.specs.Sound.{IsWorld, images_of, range_of, recorded_len}
 use Rattle.instances_ground.specs.World.{World}
 
--- An image is recorded with its whole length: over all that a live block of the module area holds, or over bytes that are no heap's.
+-- is an address one of the module area, which is area 1?
+abbrev pub is_in_module_area : ℕ → Bool
+is_in_module_area at = in_range module_area_start module_area_maximum at
+
+-- An image is recorded with its whole length. In the module area the record covers just what a live block holds, and elsewhere bytes that are no heap's.
 pub record IsHeld (w : World) (image : Image) : Type 0 where
   pub recorded : IsRecorded (range_of image) w.estate.store.others
   pub whole : image.len ≤ recorded_len image
-  pub place : IsClearOfHeaps image.at (recorded_len image) w.estate.store.heaps ⊎ IsImageIn w.estate.store.heaps (range_of image)
+  pub block : is_in_module_area image.at ≡ true → IsImageIn w.estate.store.heaps (range_of image)
+  pub clear : is_in_module_area image.at ≡ false → IsClearOfHeaps image.at (recorded_len image) w.estate.store.heaps
 
 abbrev pub ImagesAreHeld : Type 0
 ImagesAreHeld = (w : World) (pending : List Image) → IsWorld w pending → AllByRecursion (IsHeld w) (images_of w.modules ++ pending)

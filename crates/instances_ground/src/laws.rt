@@ -2,7 +2,8 @@
 
 ghost use Rattle.instances_ground.specs.Laws.{ImagesAreApart, ImagesAreHeld};
 
-/// Each image is recorded with its whole length, and is a live block of the module area, or bytes that are no heap's.
+/// Each image is recorded with its whole length. Where it stands in the module area the record is all that a live block there holds; elsewhere it has no
+/// byte of a heap.
 pub fn images_are_held()
     ensures { ImagesAreHeld }
 {}

@@ -1,11 +1,10 @@
--- Recorded ranges: two different ones share no byte, and a module image in a heap is a block of the module area.
-use Rattle.std.proofs.Common.{ℕ, true, false, ◌+◌, ◌==◌, ◌&&◌, ◌≡◌, List, [], ◌∷◌, Some, refl, sym, ap, subst, ◌∙◌, inl, inr, arith}
-use Rattle.std.proofs.lemmas.Bool.{and_parts, both_ways, cases_Bool, eq-eqb, eqb-true, false_from_ne_true, false≢true, le-leb, lt-ltb, or_cases}
-use Rattle.address_map.specs.Bytes.{Bytes, in_range}
+-- Recorded ranges: two different ones share no byte, and one that is not the flex store's has no byte of that.
+use Rattle.std.proofs.Common.{ℕ, true, false, ◌&&◌, ◌≡◌, List, [], ◌∷◌, refl, sym, ap, subst, ◌∙◌, inl, inr}
+use Rattle.std.proofs.lemmas.Bool.{and_parts, both_ways, false_from_ne_true, false≢true, or_cases}
+use Rattle.address_map.specs.Bytes.{in_range}
 use Rattle.address_map.specs.declared.region.Region.{Region}
-use Rattle.os_heap_lists.specs.Heap.{HeapList, IsHeapIn}
 use Rattle.os_heap.proofs.Stores.{clear_both_ways}
-use Rattle.os_heap.specs.Store.{AreClear, AreHeapsIn, AreRangesApart, find_heap, is_flex_store, is_in_flex_store, IsClearOfHeaps, IsClearOfRanges, IsImageBlock, IsImageIn, StandAreas}
+use Rattle.os_heap.specs.Store.{AreClear, AreRangesApart, is_flex_store, is_in_flex_store, IsClearOfRanges}
 use Rattle.dynamic_areas.specs.Ground.{IsRecorded}
 
 clear_of_recorded : (q r : Region) (rs : List Region) → IsClearOfRanges q rs → IsRecorded r rs → AreClear q.at q.len r.at r.len
@@ -53,34 +52,3 @@ outside_store r rs a other apart recorded inside = false_from_ne_true (is_in_fle
     let x : IsStoreRecord rs a = store_record rs a is in
     let differ : r ≡ x.range → ⊥ = λ same. both_ways (is_flex_store r.kind) other (ap (λ (q : Region). is_flex_store q.kind) same ∙ x.kind) in
     both_ways (in_range x.range.at x.range.len a) (recorded_apart r x.range rs differ apart recorded x.recorded a inside) x.inside)
-
--- a heap has its first byte
-has_first : (b : Bytes) (start : ℕ) (g : HeapList) → IsHeapIn b g.start g.end g.items → g.start ≡ start → in_range g.start g.end start ≡ true
-has_first b start g heap same = rw (le-leb g.start start (omega (arith, same)), lt-ltb start (g.start + g.end) (omega (arith, same, heap.inside))) refl
-
--- no heap behind that of the module area is one too
-no_image_behind : (b : Bytes) (hs : List HeapList) (start end : ℕ) (r : Region) → AreHeapsIn b hs → StandAreas hs → IsClearOfHeaps start end hs
-    → in_range start end 0x01800000 ≡ true → IsImageIn hs r → ⊥
-no_image_behind b [] start end r heaps stand clear first image = image
-no_image_behind b (g ∷ hs) start end r heaps stand clear first image = elim image [
-  | inl own ↦ both_ways (in_range g.start g.end 0x01800000) (clear.0 0x01800000 first) (has_first b 0x01800000 g heaps.0 (stand.0 own.area))
-  | inr later ↦ no_image_behind b hs start end r heaps.1.1 stand.1 clear.1 first later
-]
-
-pub image_found : (b : Bytes) (hs : List HeapList) (h : HeapList) (r : Region) → AreHeapsIn b hs → StandAreas hs → find_heap 0x01800000 hs ≡ Some h
-    → IsImageIn hs r → IsImageBlock h r
-image_found b [] h r heaps stand found image = absurd image
-image_found b (g ∷ hs) h r heaps stand found image = elim (cases_Bool (g.start == 0x01800000)) [
-  | inl here ↦
-      let found' = rw here at found in
-      let same : g ≡ h = cc in
-      elim image [
-        | inl own ↦ subst (λ (x : HeapList). IsImageBlock x r) same own
-        | inr later ↦ absurd (no_image_behind b hs g.start g.end r heaps.1.1 stand.1 heaps.1.0
-            (has_first b 0x01800000 g heaps.0 (eqb-true g.start 0x01800000 here)) later)
-      ]
-  | inr other ↦ elim image [
-    | inl own ↦ absurd (both_ways (g.start == 0x01800000) other (eq-eqb g.start 0x01800000 (stand.0 own.area)))
-    | inr later ↦ image_found b hs h r heaps.1.1 stand.1 (rw other at found) later
-  ]
-]

@@ -26,6 +26,7 @@ use Rattle.instances_table.specs.Changes.{is_held}
 use Rattle.instances_table.specs.Modules.{AreModules, Module, has_instance, number_of, slot_count, slots_of}
 use Rattle.instances_ground.specs.Sound.{AreSolid, IsWorld}
 use Rattle.instances_ground.specs.World.{World, private_word, with_private}
+use Rattle.instances_ground.proofs.AreaLemmas.{image_found}
 use Rattle.instances_slide.proofs.Choosing.{IsChosen, chosen}
 use Rattle.instances_slide.proofs.LawLemmas.{heap_after, keeps_moved, slid_where}
 use Rattle.instances_slide.proofs.NameLemmas.{names_moved, slid_outside}
@@ -33,7 +34,7 @@ use Rattle.instances_slide.proofs.Tidying.{HasHeap, heap_there, no_anchor}
 use Rattle.instances_slide.specs.Laws.{AreBytes}
 use Rattle.instances_slide.specs.Movable.{can_move, movable_blocks}
 use Rattle.instances_slide.specs.Slid.{image_moved, private_words, words_moved, world_moved, world_slid}
-use Rattle.store_laws.proofs.Ranges.{image_found, recorded_apart}
+use Rattle.store_laws.proofs.Ranges.{recorded_apart}
 use Rattle.store_laws.proofs.SlidLists.{CanSlide, map_same, number_slid, payloads_slid}
 use Rattle.store_laws.specs.Meaning.{area_blocks, area_images, area_names, block_number, images_in}
 use Rattle.store_laws.specs.Rules.{IsStillNamed}
