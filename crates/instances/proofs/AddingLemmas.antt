@@ -1,5 +1,5 @@
 -- Calls that add a module: what they read is mapped, and what they leave is a world whose new image is pending.
-use Rattle.std.proofs.Common.{◌≡◌, ℕ, ◌+◌, ◌==◌, ◌&&◌, ◌<◌, ◌≤◌, true, false, List, [], ◌∷◌, ◌++◌, length, refl, Ok, Err, inl, inr, arith}
+use Rattle.std.proofs.Common.{◌≡◌, ◌%◌, ℕ, ◌+◌, ◌==◌, ◌&&◌, ◌<◌, ◌≤◌, true, false, List, [], ◌∷◌, ◌++◌, length, refl, Ok, Err, inl, inr, arith}
 use Rattle.std.specs.Prelude.{IfOk, Result, nat_lt, not}
 use Rattle.std.proofs.lemmas.Bool.{and_parts, both_ways, cases_Bool, eqb-true, false_from_ne_true, le-leb, lt-ltb, ltb-false, or_from, or_parts}
 use Rattle.address_map.specs.Bytes.{AreMapped, bytes_between, in_range}
@@ -31,7 +31,7 @@ no_image at (r ∷ rs) solid none =
     (false_from_ne_true (is_image r.kind && r.at == at) (λ is.
     let both = and_parts (is_image r.kind) (r.at == at) is in
     let here : r.at ≡ at = eqb-true r.at at both.1 in
-    let some : 0 < r.len = solid.0 both.0 in
+    let some : 0 < r.len = (solid.0 both.0).some in
     both_ways (in_range r.at r.len at) parts.0 (rw (le-leb r.at at (omega (arith, here)), lt-ltb at (r.at + r.len) (omega (arith, here, some))) refl)))
     (no_image at rs solid.1 parts.1)
 
@@ -40,11 +40,11 @@ abbrev pub placed_at : ℕ → ℕ → Image
 placed_at block len = record { at = block; len = len; in_rma = true }
 
 -- the image of a block that was claimed is pending
-pub world_with_block : (v w : World) (block len : ℕ) → IsWorld v [] → w.modules ≡ v.modules → is_in_record v.estate.store.others block ≡ false
+pub world_with_block : (v w : World) (block len : ℕ) → IsWorld v [] → w.modules ≡ v.modules → block % 4 ≡ 0 → is_in_record v.estate.store.others block ≡ false
     → (has_image block v.estate.store.others ≡ false → w.estate.store.others ≡ v.estate.store.others ++ image_record block len ∷ [])
     → IsEstate w.estate → IsWorld w (placed_at block len ∷ [])
-world_with_block v w block len world modules alone others estate =
-    world_more v w (placed_at block len) [] world modules (others (no_image block v.estate.store.others world.solid alone)) (omega arith) estate
+world_with_block v w block len world modules whole alone others estate =
+    world_more v w (placed_at block len) [] world modules (others (no_image block v.estate.store.others world.solid alone)) (omega arith) whole estate
 
 -- an image with a good header isn't empty
 pub header_long : (image : List ℕ) (header : Header) → header_of image ≡ Ok header → 28 ≤ length image

@@ -1,5 +1,5 @@
 -- The records of images: how many there are, that all start at different addresses, and those after a record more or less.
-use Rattle.std.proofs.Common.{◌≡◌, ℕ, Bool, true, false, inl, inr, suc, ◌+◌, ◌<◌, ◌==◌, List, [], ◌∷◌, ◌++◌, length, refl, ap, arith}
+use Rattle.std.proofs.Common.{◌≡◌, ℕ, Bool, true, false, inl, inr, suc, ◌+◌, ◌%◌, ◌<◌, ◌==◌, List, [], ◌∷◌, ◌++◌, length, refl, ap, arith}
 use Rattle.std.specs.List.{list_any}
 use Rattle.std.proofs.lemmas.Bool.{cases_Bool, eqb-true, false_from_ne_true, both_ways}
 use Rattle.address_map.specs.Bytes.{in_range}
@@ -39,14 +39,14 @@ starts_differ r q mine its clear = false_from_ne_true (q.at == r.at) (λ same.
 no_later : (r : Region) (rs : List Region) → 0 < r.len → AreSolid rs → IsClearOfRanges r rs → list_any (starts_at r.at) (image_ranges rs) ≡ false
 no_later r [] long solid clear = refl
 no_later r (q ∷ rs) long solid clear = elim (cases_Bool (is_image q.kind)) [
-  | inl image ↦ rw image (rw (starts_differ r q long (solid.0 image) clear.0) (no_later r rs long solid.1 clear.1))
+  | inl image ↦ rw image (rw (starts_differ r q long (solid.0 image).some clear.0) (no_later r rs long solid.1 clear.1))
   | inr other ↦ rw other (no_later r rs long solid.1 clear.1)
 ]
 
 pub ranges_differ : (rs : List Region) → AreSolid rs → AreRangesApart rs → AreDifferent (image_ranges rs)
 ranges_differ [] solid apart = tt
 ranges_differ (r ∷ rs) solid apart = elim (cases_Bool (is_image r.kind)) [
-  | inl image ↦ rw image (no_later r rs (solid.0 image) solid.1 apart.0, ranges_differ rs solid.1 apart.1)
+  | inl image ↦ rw image (no_later r rs (solid.0 image).some solid.1 apart.0, ranges_differ rs solid.1 apart.1)
   | inr other ↦ rw other (ranges_differ rs solid.1 apart.1)
 ]
 
@@ -104,9 +104,9 @@ beside_more at len (r ∷ rs) = elim (cases_Bool (is_image r.kind)) [
   | inr other ↦ rw other (ap suc (beside_more at len rs))
 ]
 
-pub solid_more : (at len : ℕ) (rs : List Region) → 0 < len → AreSolid rs → AreSolid (rs ++ record { kind = kind.Image; at = at; len = len } ∷ [])
-solid_more at len [] long solid = ((λ image. long), tt)
-solid_more at len (r ∷ rs) long solid = (solid.0, solid_more at len rs long solid.1)
+pub solid_more : (at len : ℕ) (rs : List Region) → 0 < len → at % 4 ≡ 0 → AreSolid rs → AreSolid (rs ++ record { kind = kind.Image; at = at; len = len } ∷ [])
+solid_more at len [] long whole solid = ((λ image. record { some = long; whole = whole }), tt)
+solid_more at len (r ∷ rs) long whole solid = (solid.0, solid_more at len rs long whole solid.1)
 
 pub system_more : (r : Region) (rs : List Region) → IsRecorded system_pages rs → IsRecorded system_pages (rs ++ r ∷ [])
 system_more r [] there = absurd there

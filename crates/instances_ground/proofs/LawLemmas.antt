@@ -1,5 +1,5 @@
 -- The images of a world are held whole, and share no byte.
-use Rattle.std.proofs.Common.{◌≤◌, ◌<◌, ◌⊎◌, ℕ, Bool, List, [], ◌∷◌, ◌++◌, map, refl, subst, inl, inr, arith}
+use Rattle.std.proofs.Common.{◌≡◌, ◌≤◌, ◌%◌, ◌⊎◌, ℕ, Bool, List, [], ◌∷◌, ◌++◌, map, refl, subst, inl, inr, arith}
 use Rattle.std.specs.List.{AllByRecursion}
 use Rattle.std.proofs.lemmas.Bool.{cases_Bool}
 use Rattle.address_map.specs.Bytes.{AreMapped}
@@ -9,17 +9,17 @@ use Rattle.os_heap.specs.Store.{AreRangesApart, ArePlaced, IsClearOfHeaps, IsCle
 use Rattle.dynamic_areas.specs.Ground.{AreRangesMapped, Estate, IsGround, IsRecorded}
 use Rattle.instances_table.specs.declared.parts.Image.{Image}
 use Rattle.instances_ground.specs.Laws.{ImagesAreApart, ImagesAreHeld, IsHeld}
-use Rattle.instances_ground.specs.Sound.{AreSolid, image_ranges, images_of, range_of, recorded_len}
+use Rattle.instances_ground.specs.Sound.{AreSolid, IsSolid, image_ranges, images_of, range_of, recorded_len}
 use Rattle.instances_ground.proofs.AreaLemmas.{IsInPlace, in_place}
 
 -- what is so of each record is so of those of images
 each_image : (P : Region → Type 0) (mapped : ℕ → Bool) (hs : List HeapList) (rs : List Region)
-    → ((r : Region) → IsRecorded r rs → 0 < r.len → AreMapped mapped r.at r.len → IsClearOfHeaps r.at r.len hs ⊎ IsImageIn hs r → P r) → AreSolid rs
+    → ((r : Region) → IsRecorded r rs → IsSolid r → AreMapped mapped r.at r.len → IsClearOfHeaps r.at r.len hs ⊎ IsImageIn hs r → P r) → AreSolid rs
     → AreRangesMapped mapped rs → ArePlaced hs rs → AllByRecursion P (image_ranges rs)
 each_image P mapped hs [] is solid ranges placed = tt
 each_image P mapped hs (r ∷ rs) is solid ranges placed =
     let rest : AllByRecursion P (image_ranges rs) =
-    each_image P mapped hs rs (λ q there some covered place. is q (inr there) some covered place) solid.1 ranges.1 placed.1 in
+    each_image P mapped hs rs (λ q there firm covered place. is q (inr there) firm covered place) solid.1 ranges.1 placed.1 in
     elim (cases_Bool (is_image r.kind)) [
       | inl image ↦ rw image (is r (inl refl) (solid.0 image) ranges.0 placed.0, rest)
       | inr other ↦ rw other rest
@@ -41,11 +41,17 @@ pub images_are_held : ImagesAreHeld
 images_are_held w pending world =
     let e : Estate = w.estate in
     let ground : IsGround e.store e.pool e.land = world.estate.ground in
-    let P : Region → Type 0 = λ r. IsRecorded r e.store.others × IsInPlace e r in
+    let P : Region → Type 0 = λ r. IsRecorded r e.store.others × ((r.at % 4 ≡ 0) × IsInPlace e r) in
     each_of P (IsHeld w) (images_of w.modules ++ pending)
-    (λ image held. record { recorded = held.0; whole = whole_len image; block = held.1.block; clear = held.1.clear })
+    (λ image held. record {
+      recorded = held.0;
+      whole = whole_len image;
+      aligned = held.1.0;
+      block = held.1.1.block;
+      clear = held.1.1.clear;
+    })
     (subst (AllByRecursion P) world.images (each_image P e.store.bytes.mapped e.store.heaps e.store.others
-    (λ r there some mapped place. (there, in_place e r world.estate some mapped place)) world.solid ground.ranges ground.sound.placed))
+    (λ r there firm mapped place. (there, (firm.whole, in_place e r world.estate firm.some mapped place))) world.solid ground.ranges ground.sound.placed))
 
 clear_of_images : (r : Region) (rs : List Region) → IsClearOfRanges r rs → IsClearOfRanges r (image_ranges rs)
 clear_of_images r [] clear = tt

@@ -1,5 +1,5 @@
 -- What calls keep of the world: its estate and its records, with the images in the order of the modules.
-use Rattle.std.proofs.Common.{◌≡◌, ℕ, ◌+◌, ◌≤◌, ◌<◌, List, [], ◌∷◌, ◌++◌, length, map, zero, suc, refl, sym, ap, ◌∙◌, arith, length-append, append-nil, append_assoc}
+use Rattle.std.proofs.Common.{◌≡◌, ℕ, ◌+◌, ◌%◌, ◌≤◌, ◌<◌, List, [], ◌∷◌, ◌++◌, length, map, zero, suc, refl, sym, ap, ◌∙◌, arith, length-append, append-nil, append_assoc}
 use Rattle.std.proofs.lemmas.List.{length-map, map-append}
 use Rattle.address_map.specs.Records.{without_region}
 use Rattle.address_map.specs.declared.region.Kind.TheVariants as kind
@@ -49,20 +49,21 @@ images_added m modules = append-nil (images_of (modules ++ m ∷ [])) ∙ map-ap
 
 -- an image that is recorded becomes the pending one
 pub world_more : (v w : World) (image : Image) (pending : List Image) → IsWorld v pending → w.modules ≡ v.modules
-    → w.estate.store.others ≡ v.estate.store.others ++ range_of image ∷ [] → 0 < recorded_len image → IsEstate w.estate → IsWorld w (pending ++ image ∷ [])
-world_more v w image pending world modules others long estate =
+    → w.estate.store.others ≡ v.estate.store.others ++ range_of image ∷ [] → 0 < recorded_len image → image.at % 4 ≡ 0 → IsEstate w.estate
+    → IsWorld w (pending ++ image ∷ [])
+world_more v w image pending world modules others long whole estate =
     let rs : List Region = v.estate.store.others in
     let len : ℕ = recorded_len image in
     let old : List Image = images_of v.modules in
     let ranges : image_ranges w.estate.store.others ≡ image_ranges rs ++ range_of image ∷ [] = ap image_ranges others ∙ ranges_more image.at len rs in
-    let whole : image_ranges rs ++ range_of image ∷ [] ≡ map range_of (old ++ (pending ++ image ∷ [])) =
+    let all : image_ranges rs ++ range_of image ∷ [] ≡ map range_of (old ++ (pending ++ image ∷ [])) =
     ap (λ (xs : List Region). xs ++ range_of image ∷ []) world.images ∙ sym (map-append range_of (old ++ pending) (image ∷ []))
     ∙ ap (map range_of) (append_assoc old pending (image ∷ [])) in
     record {
       estate = estate;
       system = rw others (system_more _ rs world.system);
-      images = ranges ∙ whole ∙ ap (λ (ms : List Module). map range_of (images_of ms ++ (pending ++ image ∷ []))) (sym modules);
-      solid = rw others (solid_more image.at len rs long world.solid);
+      images = ranges ∙ all ∙ ap (λ (ms : List Module). map range_of (images_of ms ++ (pending ++ image ∷ []))) (sym modules);
+      solid = rw others (solid_more image.at len rs long whole world.solid);
       few = rw (others, beside_more image.at len rs) world.few;
     }
 

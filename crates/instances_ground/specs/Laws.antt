@@ -1,5 +1,5 @@
 -- What a world says of the images of modules, and of those that are pending.
-use Rattle.std.specs.Prelude.{◌≡◌, ◌≤◌, ℕ, Bool, true, false, List, ◌++◌, map}
+use Rattle.std.specs.Prelude.{◌≡◌, ◌≤◌, ◌%◌, ℕ, Bool, true, false, List, ◌++◌, map}
 use Rattle.std.specs.List.{AllByRecursion}
 use Rattle.profile.specs.MemoryMap.{module_area_maximum, module_area_start}
 use Rattle.address_map.specs.Bytes.{in_range}
@@ -13,10 +13,11 @@ use Rattle.instances_ground.specs.World.{World}
 abbrev pub is_in_module_area : ℕ → Bool
 is_in_module_area at = in_range module_area_start module_area_maximum at
 
--- An image is recorded with its whole length. In the module area the record covers just what a live block holds, and elsewhere bytes that are no heap's.
+-- An image begins at a multiple of 4, and is recorded with its whole length. In the module area the record covers just what a live block holds, and elsewhere bytes that are no heap's.
 pub record IsHeld (w : World) (image : Image) : Type 0 where
   pub recorded : IsRecorded (range_of image) w.estate.store.others
   pub whole : image.len ≤ recorded_len image
+  pub aligned : image.at % 4 ≡ 0
   pub block : is_in_module_area image.at ≡ true → IsImageIn w.estate.store.heaps (range_of image)
   pub clear : is_in_module_area image.at ≡ false → IsClearOfHeaps image.at (recorded_len image) w.estate.store.heaps
 

@@ -1,6 +1,6 @@
 -- What holds of the world of modules between all module calls, and within one (this project's own): each module's image is recorded, with its whole
 -- length, one record to a module, in the order of the modules.
-use Rattle.std.specs.Prelude.{ℕ, ◌≡◌, ◌≤◌, ◌<◌, ◌-◌, true, suc, List, [], ◌∷◌, ◌++◌, map, if◌then◌else◌}
+use Rattle.std.specs.Prelude.{ℕ, ◌≡◌, ◌≤◌, ◌<◌, ◌-◌, ◌%◌, true, suc, List, [], ◌∷◌, ◌++◌, map, if◌then◌else◌}
 use Rattle.address_map.specs.declared.map.AddressMap.{AddressMap}
 use Rattle.address_map.specs.declared.region.Kind.TheVariants as kind
 use Rattle.address_map.specs.declared.region.Region.{Region}
@@ -22,10 +22,14 @@ abbrev pub count_beside : List Region → ℕ
 count_beside [] = 0
 count_beside (r ∷ rs) = if is_image r.kind then count_beside rs else suc (count_beside rs)
 
--- no image is empty
+-- no image is empty, and each begins at a multiple of 4
+pub record IsSolid (r : Region) : Type 0 where
+  pub some : 0 < r.len
+  pub whole : r.at % 4 ≡ 0
+
 abbrev pub AreSolid : List Region → Type 0
 AreSolid [] = Unit {0}
-AreSolid (r ∷ rs) = (is_image r.kind ≡ true → 0 < r.len) × AreSolid rs
+AreSolid (r ∷ rs) = (is_image r.kind ≡ true → IsSolid r) × AreSolid rs
 
 -- How many bytes are recorded for an image: all that a block holds which is claimed for it, or just its own, where it stands in place.
 abbrev pub recorded_len : Image → ℕ

@@ -1,5 +1,5 @@
 -- The records of images after a slide: they are mapped, and follow the images of modules.
-use Rattle.std.proofs.Common.{◌≡◌, ℕ, Bool, true, ◌+◌, ◌∙◌, ◌⊎◌, List, [], ◌∷◌, ◌++◌, map, refl, sym, ap, subst, Some, inl, inr, arith}
+use Rattle.std.proofs.Common.{◌≡◌, ◌<◌, ℕ, Bool, true, ◌+◌, ◌%◌, ◌∙◌, ◌⊎◌, List, [], ◌∷◌, ◌++◌, map, refl, sym, ap, subst, Some, inl, inr, arith}
 use Rattle.std.proofs.lemmas.Bool.{cases_Bool, cases_eq, le-leb, lt-ltb}
 use Rattle.address_map.specs.Bytes.{AreMapped, Bytes, in_range}
 use Rattle.address_map.specs.Items.{size_of}
@@ -14,7 +14,7 @@ use Rattle.os_heap.specs.Store.{AreClear, AreHeapsIn, ArePlaced, find_heap, is_i
 use Rattle.os_heap_slide.proofs.Records.{image_in_moved, IsSlide, moves_in, out_still, slid_in, still_place}
 use Rattle.dynamic_areas.specs.Ground.{AreRangesMapped, IsRecorded, system_pages}
 use Rattle.instances_table.specs.Modules.{Module}
-use Rattle.instances_ground.specs.Sound.{AreSolid, count_beside, image_ranges, images_of, range_of}
+use Rattle.instances_ground.specs.Sound.{AreSolid, IsSolid, count_beside, image_ranges, images_of, range_of}
 use Rattle.instances_slide.specs.Slid.{image_moved}
 
 -- the bytes of an image in a heap are mapped
@@ -26,18 +26,21 @@ image_mapped b (g ∷ hs) r heaps (inl own) = λ a low high.
     live_bytes r.at (r.len + 4) (g.start + 16) g.items heaps.0.totals own.live in
     heaps.0.mapped a (omega (arith, low, place.low)) (omega (arith, high, place.high, heaps.0.inside))
 
+-- a record that is clear of all heaps stays where it is
+place_kept : (b c : Bytes) (h : HeapList) (hs : List HeapList) (movable : List ℕ) (r : Region) → IsSlide b c h movable → find_heap h.start hs ≡ Some h
+    → IsClearOfHeaps r.at r.len hs → 0 < r.len → moved_place (moves_in h movable) r.kind r.at ≡ r.at
+place_kept b c h hs movable r s found clear some =
+    let own : AreClear r.at r.len h.start h.end = clear_of-found r.at r.len h.start hs h clear found in
+    let inside : in_range r.at r.len r.at ≡ true = rw (le-leb r.at r.at (omega arith), lt-ltb r.at (r.at + r.len) (omega (arith, some))) refl in
+    still_place (moves_in h movable) r.kind r.at (out_still b c h movable r.at s (own r.at inside))
+
 one_mapped : (b c : Bytes) (h : HeapList) (hs : List HeapList) (movable : List ℕ) (r : Region) → IsSlide b c h movable → AreHeapsIn b hs → AreOthers h hs
     → find_heap h.start hs ≡ Some h → AreHeapsIn c (with_items h.start (slid_in h movable) hs) → c.mapped ≡ b.mapped
     → IsClearOfHeaps r.at r.len hs ⊎ IsImageIn hs r → AreMapped b.mapped r.at r.len
     → AreMapped b.mapped (moved_place (moves_in h movable) r.kind r.at) r.len
 one_mapped b c h hs movable r s heaps others found now same (inl clear) mapped = elim (cases_eq r.len 0) [
   | inl none ↦ λ a low high. absurd (omega (arith, none, low, high))
-  | inr some ↦
-      let own : AreClear r.at r.len h.start h.end = clear_of-found r.at r.len h.start hs h clear found in
-      let inside : in_range r.at r.len r.at ≡ true = rw (le-leb r.at r.at (omega arith), lt-ltb r.at (r.at + r.len) (omega (arith, some))) refl in
-      let still : moved_place (moves_in h movable) r.kind r.at ≡ r.at =
-      still_place (moves_in h movable) r.kind r.at (out_still b c h movable r.at s (own r.at inside)) in
-      rw still mapped
+  | inr some ↦ rw (place_kept b c h hs movable r s found clear (omega (arith, some))) mapped
 ]
 one_mapped b c h hs movable r s heaps others found now same (inr image) mapped =
     subst (λ (f : ℕ → Bool). AreMapped f (moved_place (moves_in h movable) r.kind r.at) r.len) same
@@ -74,9 +77,30 @@ pub images_follow : (moves : List Move) (rs : List Region) (modules : List Modul
     → image_ranges (moved_regions moves rs) ≡ map range_of (images_of (map (image_moved moves) modules) ++ [])
 images_follow moves rs modules images = ranges_moved moves rs ∙ ap (moved_regions moves) images ∙ sym (images_moved moves modules)
 
-pub solid_moved : (moves : List Move) (rs : List Region) → AreSolid rs → AreSolid (moved_regions moves rs)
-solid_moved moves [] solid = tt
-solid_moved moves (r ∷ rs) solid = (solid.0, solid_moved moves rs solid.1)
+-- they still begin at multiples of 4
+image_whole : (b : Bytes) (hs : List HeapList) (r : Region) → AreHeapsIn b hs → IsImageIn hs r → r.at % 4 ≡ 0
+image_whole b [] r heaps image = absurd image
+image_whole b (g ∷ hs) r heaps (inr later) = image_whole b hs r heaps.1.1 later
+image_whole b (g ∷ hs) r heaps (inl own) =
+    (live_bytes r.at (r.len + 4) (g.start + 16) g.items heaps.0.totals own.live).whole (omega (arith, heaps.0.aligned))
+
+one_whole : (b c : Bytes) (h : HeapList) (hs : List HeapList) (movable : List ℕ) (r : Region) → IsSlide b c h movable → AreHeapsIn b hs → AreOthers h hs
+    → find_heap h.start hs ≡ Some h → AreHeapsIn c (with_items h.start (slid_in h movable) hs) → IsClearOfHeaps r.at r.len hs ⊎ IsImageIn hs r → IsSolid r
+    → moved_place (moves_in h movable) r.kind r.at % 4 ≡ 0
+one_whole b c h hs movable r s heaps others found now (inl clear) solid =
+    rw (place_kept b c h hs movable r s found clear solid.some) solid.whole
+one_whole b c h hs movable r s heaps others found now (inr image) solid =
+    image_whole c (with_items h.start (slid_in h movable) hs) (moved_region (moves_in h movable) r) now
+    (image_in_moved b c h hs movable r s heaps others image)
+
+pub solid_moved : (b c : Bytes) (h : HeapList) (hs : List HeapList) (movable : List ℕ) (rs : List Region) → IsSlide b c h movable → AreHeapsIn b hs
+    → AreOthers h hs → find_heap h.start hs ≡ Some h → AreHeapsIn c (with_items h.start (slid_in h movable) hs) → ArePlaced hs rs → AreSolid rs
+    → AreSolid (moved_regions (moves_in h movable) rs)
+solid_moved b c h hs movable [] s heaps others found now placed solid = tt
+solid_moved b c h hs movable (r ∷ rs) s heaps others found now placed solid = (
+  λ image. record { some = (solid.0 image).some; whole = one_whole b c h hs movable r s heaps others found now placed.0 (solid.0 image) },
+  solid_moved b c h hs movable rs s heaps others found now placed.1 solid.1,
+)
 
 pub beside_moved : (moves : List Move) (rs : List Region) → count_beside (moved_regions moves rs) ≡ count_beside rs
 beside_moved moves [] = refl

@@ -125,7 +125,7 @@ blocks_sound w h movable world found sound =
       };
       system = system_moved (moves_in h movable) s.others world.system;
       images = images_follow (moves_in h movable) s.others w.modules world.images;
-      solid = solid_moved (moves_in h movable) s.others world.solid;
+      solid = solid_moved s.bytes t.bytes h s.heaps movable s.others slide g.sound.heaps others own sound.heaps g.sound.placed world.solid;
       few = rw (beside_moved (moves_in h movable) s.others) world.few;
     }
 

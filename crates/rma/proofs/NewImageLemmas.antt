@@ -1,5 +1,5 @@
 -- New images: the block that is claimed for one, the bytes written there, and the record.
-use Rattle.std.proofs.Common.{◌≡◌, ℕ, ◌+◌, ◌-◌, ◌<◌, ◌≤◌, true, false, List, [], ◌∷◌, ◌++◌, length, refl, sym, ap, subst, ◌∙◌, Some, None, Ok, Err, arith}
+use Rattle.std.proofs.Common.{◌≡◌, ℕ, ◌+◌, ◌%◌, ◌-◌, ◌<◌, ◌≤◌, true, false, List, [], ◌∷◌, ◌++◌, length, refl, sym, ap, subst, ◌∙◌, Some, None, Ok, Err, arith}
 use Rattle.std.specs.Prelude.{Option, Result}
 use Rattle.std.proofs.lemmas.Bool.{both_ways, false_from_ne_true, le-leb, lt-ltb}
 use Rattle.profile.specs.Outcome.{Gives}
@@ -41,6 +41,13 @@ live_in s block total is = go (find_heap 0x01800000 s.heaps) refl is where
   go : (o : Option HeapList) → find_heap 0x01800000 s.heaps ≡ o → OfHeap (λ h. live_total block (h.start + 16) h.items ≡ Some total) o → IsLiveIn s block total
   go None none live = absurd live
   go (Some h) found live = record { heap = h; found = found; live = live }
+
+-- it begins at a multiple of 4
+pub live_whole : (s : Store) (block total : ℕ) → IsSound s → IsLiveBlock s block total → block % 4 ≡ 0
+live_whole s block total sound is =
+    let l : IsLiveIn s block total = live_in s block total is in
+    let heap : IsHeapIn s.bytes l.heap.start l.heap.end l.heap.items = found_heap s.bytes 0x01800000 s.heaps l.heap sound.heaps l.found in
+    (live_bytes block total (l.heap.start + 16) l.heap.items heap.totals l.live).whole (omega (arith, heap.aligned))
 
 -- the bytes that it holds are mapped
 pub payload_mapped : (s : Store) (block total len : ℕ) → IsSound s → IsLiveBlock s block total → len + 4 ≤ total → AreMapped s.bytes.mapped block len

@@ -1,4 +1,4 @@
-ghost use Rattle.std.specs.Prelude.{◌≡◌, ◌-◌, ◌≤◌, ◌<◌, ◌++◌, ◌∷◌, [], false, length, IfOk, MatchResult};
+ghost use Rattle.std.specs.Prelude.{◌≡◌, ◌-◌, ◌%◌, ◌≤◌, ◌<◌, ◌++◌, ◌∷◌, [], false, length, IfOk, MatchResult};
 ghost use Rattle.profile.specs.Outcome.{Gives};
 ghost use Rattle.address_map.specs.Bytes.{AreMapped};
 ghost use Rattle.address_map.specs.Memory.{is_mapped, layout};
@@ -39,6 +39,7 @@ impl Rma {
         ensures estate { IsEstate (estate_of map.new areas.new) }
         ensures classes { AreClasses map.new }
         ensures flex { KeepsFlex (store_of map.old) (store_of map.new) }
+        ensures whole { IfOk result (λ block. block % 4 ≡ 0) }
         ensures alone { IfOk result (λ block. is_in_record (store_of map.old).others block ≡ false) }
         ensures others { IfOk result (λ block. has_image block (store_of map.old).others ≡ false
             → (store_of map.new).others ≡ (store_of map.old).others ++ image_record block (length image.now) ∷ []) }
@@ -77,6 +78,7 @@ impl Rma {
         ensures estate { IsEstate (estate_of map.new areas.new) }
         ensures classes { AreClasses map.new }
         ensures flex { KeepsFlex (store_of map.old) (store_of map.new) }
+        ensures whole { IfOk result (λ block. block % 4 ≡ 0) }
         ensures alone { IfOk result (λ block. is_in_record (store_of map.old).others block ≡ false) }
         ensures others { IfOk result (λ block. has_image block (store_of map.old).others ≡ false
             → (store_of map.new).others ≡ (store_of map.old).others ++ image_record block len ∷ []) }

@@ -24,7 +24,7 @@ use Rattle.instances_plans.specs.Code.{private_of}
 use Rattle.instances_table.proofs.RoomLemmas.{below_64, slots_counted}
 use Rattle.instances_table.specs.Changes.{is_held}
 use Rattle.instances_table.specs.Modules.{AreModules, Module, has_instance, number_of, slot_count, slots_of}
-use Rattle.instances_ground.specs.Sound.{AreSolid, IsWorld}
+use Rattle.instances_ground.specs.Sound.{AreSolid, IsSolid, IsWorld}
 use Rattle.instances_ground.specs.World.{World, private_word, with_private}
 use Rattle.instances_ground.proofs.AreaLemmas.{image_found}
 use Rattle.instances_slide.proofs.Choosing.{IsChosen, chosen}
@@ -71,10 +71,10 @@ placed_of hs (q ∷ rs) r placed recorded = elim recorded [
   | inr later ↦ placed_of hs rs r placed.1 later
 ]
 
-solid_of : (rs : List Region) (r : Region) → AreSolid rs → IsRecorded r rs → is_image r.kind ≡ true → 0 < r.len
+solid_of : (rs : List Region) (r : Region) → AreSolid rs → IsRecorded r rs → is_image r.kind ≡ true → IsSolid r
 solid_of [] r solid recorded = absurd recorded
 solid_of (q ∷ rs) r solid recorded = elim recorded [
-  | inl same ↦ subst (λ (x : Region). is_image x.kind ≡ true → 0 < x.len) same solid.0
+  | inl same ↦ subst (λ (x : Region). is_image x.kind ≡ true → IsSolid x) same solid.0
   | inr later ↦ solid_of rs r solid.1 later
 ]
 
@@ -203,7 +203,7 @@ module _ (w : World) (h : HeapList) (movable : List ℕ) (d : IsTidied w h movab
   image_same r recorded image =
       let sound = d.world.estate.ground.sound in
       elim (placed_of s.heaps s.others r sound.placed recorded) [
-        | inl clear ↦ clear_image r recorded image clear (solid_of s.others r d.world.solid recorded image)
+        | inl clear ↦ clear_image r recorded image clear (solid_of s.others r d.world.solid recorded image).some
         | inr there ↦ held_image r image (image_found s.bytes s.heaps h r sound.heaps sound.limits.place d.found there)
       ]
 

@@ -20,10 +20,11 @@ record_in_place-requires-clause-room c =
 
 pub returns-clause-sound : goal.returns-clause-sound
 returns-clause-sound c =
+    let may : may_be_in_place (store_of c.args.map.now) c.args.at c.args.len ≡ true = sym c.may_be_in_place.ensures ∙ c.if-not-may_be_in_place.false in
     rw c.adding_plan.ensures.pending
     (world_more (world_of c.args.map.now c.args.areas.now c.args.self.now) (world_of c.record_in_place.new.map c.args.areas.now c.args.self.now)
     (record { at = c.args.at; len = c.args.len; in_rma = false }) [] c.requires.sound refl (ap (λ (e : Estate). e.store.others) (c.record_in_place.ensures.placed c.args.areas.now))
-    c.in_ok-header.ensures.some (c.record_in_place.ensures.estate c.args.areas.now c.requires.sound.estate))
+    c.in_ok-header.ensures.some (may_be (store_of c.args.map.now) c.args.at c.args.len may).aligned (c.record_in_place.ensures.estate c.args.areas.now c.requires.sound.estate))
 
 pub returns-clause-world : goal.returns-clause-world
 unfolding inserting

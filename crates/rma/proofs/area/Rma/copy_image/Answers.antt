@@ -2,7 +2,7 @@ use Rattle.std.proofs.Common.{ap}
 use Rattle.os_heap_lists.specs.Lists.{total_for}
 use Rattle.os_heap.specs.Store.{Store, store_of}
 use Rattle.rma.proofs.FlexLemmas.{made_keeps}
-use Rattle.rma.proofs.NewImageLemmas.{made_others}
+use Rattle.rma.proofs.NewImageLemmas.{live_whole, made_others}
 use Rattle.rma.proofs.area.Rma.copy_image.Goals as goal
 
 pub returns-clause-others : goal.returns-clause-others
@@ -16,3 +16,7 @@ returns-clause-flex c =
     made_keeps (store_of c.args.map.now) (store_of c.claim.new.map) (store_of c.fill_from.new.map) (store_of c.record_image.new.map) c.in_ok-block.block
     (total_for c.args.len) c.in_ok-block.ensures.live (ap (λ (s : Store). s.heaps) c.fill_from.ensures.store) c.fill_from.ensures.unanchored
     c.claim.ensures.flex c.fill_from.ensures.flex c.record_image.ensures.flex
+
+pub returns-clause-whole : goal.returns-clause-whole
+returns-clause-whole c =
+    live_whole (store_of c.claim.new.map) c.in_ok-block.block (total_for c.args.len) c.claim.ensures.estate.ground.sound c.in_ok-block.ensures.live
