@@ -3,9 +3,5 @@
 //! They stand apart from the crates that they test, since a crate with tests is proved once more with them.
 #![tactic(auto)]
 
-mod running;
-
-pub use running::{run_all, run_with, usual_sizes};
-
 #[cfg(test)]
 mod scripts;

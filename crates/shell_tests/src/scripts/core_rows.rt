@@ -1,6 +1,6 @@
 //! Scripts of one instruction each: words that are refused, what each operation leaves, and where blocks of registers are stored.
 
-use crate::running::{run_all, run_with};
+use crate::scripts::{run_all, run_with};
 use image_loader::Images;
 use profile::Stop;
 use std::test::Fail;

@@ -1,6 +1,6 @@
 //! The scripts of the folder `examples/` that no other test has, and what each answers.
 
-use crate::running::run_all;
+use crate::scripts::run_all;
 use std::test::Fail;
 
 static SCRIPTS: [(&str, &str); 5] = [

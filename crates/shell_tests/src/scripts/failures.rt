@@ -1,5 +1,4 @@
-use crate::running::usual_sizes;
-use crate::scripts::{SIX_WORDS, SIX_WORDS_ANSWER};
+use crate::scripts::{SIX_WORDS, SIX_WORDS_ANSWER, usual_sizes};
 use command_shell::{RunError, run_script};
 use image_loader::Images;
 use profile::{MemorySink, MemorySource};

@@ -1,7 +1,6 @@
 //! Scripts that hand in images and boot them, and lines outside the language.
 
-use crate::running::{run_all, run_with};
-use crate::scripts::{SIX_WORDS, SIX_WORDS_ANSWER};
+use crate::scripts::{SIX_WORDS, SIX_WORDS_ANSWER, run_all, run_with};
 use image_loader::Images;
 use profile::Stop;
 use std::test::Fail;

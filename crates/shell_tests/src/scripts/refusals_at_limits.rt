@@ -1,6 +1,6 @@
 //! Scripts of calls on modules that more than one refusal meets, with as many frames or instances as there can be.
 
-use crate::running::run_all;
+use crate::scripts::run_all;
 use std::test::Fail;
 
 /// Scripts, and what each answers. The order is 49, 81, 82, 50, 51, 48, 54, 55, 52, 53, and then

@@ -1,6 +1,6 @@
 //! Short scripts, each of one thing that was settled.
 
-use crate::running::run_all;
+use crate::scripts::run_all;
 use std::test::Fail;
 
 /// Scripts, and what each answers.

@@ -1,6 +1,6 @@
 //! Scripts that take steps and make store calls, with breaks and without.
 
-use crate::running::{run_all, run_with};
+use crate::scripts::{run_all, run_with};
 use image_loader::Images;
 use profile::{Fault, Stop};
 use std::test::Fail;

@@ -1,6 +1,6 @@
 //! Scripts of flex calls that are refused, and of stores to the words of the flex store.
 
-use shell_tests::run_all;
+use crate::scripts::run_all;
 use std::test::Fail;
 
 /// Scripts, and what each answers.

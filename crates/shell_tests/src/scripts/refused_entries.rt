@@ -1,6 +1,6 @@
 //! Scripts with initialisations and finalisations that refuse.
 
-use shell_tests::run_all;
+use crate::scripts::run_all;
 use std::test::Fail;
 
 /// Scripts with an initialisation that refuses: its instance is removed.

@@ -1,6 +1,6 @@
 //! Scripts of the flex store, and of the blocks in it.
 
-use shell_tests::run_all;
+use crate::scripts::run_all;
 use std::test::Fail;
 
 /// Scripts, and what each answers. The store has 1024 bytes; a block of n bytes takes 8 of header, and n

@@ -1,6 +1,6 @@
 //! Scripts that load modules by LOAD.
 
-use shell_tests::run_all;
+use crate::scripts::run_all;
 use std::test::Fail;
 
 /// Scripts, and what each answers. The image of `w`, of 30 bytes, stands at &01800014 as the first

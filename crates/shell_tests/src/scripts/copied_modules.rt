@@ -1,6 +1,6 @@
 //! Scripts that load modules from memory, where their image is copied from.
 
-use shell_tests::run_all;
+use crate::scripts::run_all;
 use std::test::Fail;
 
 /// Scripts, and what each answers. OS_Module 11 takes the address of an image and its length.

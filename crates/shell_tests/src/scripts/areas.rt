@@ -1,6 +1,6 @@
 //! Scripts of calls on dynamic areas, and of the views of what they leave.
 
-use shell_tests::run_all;
+use crate::scripts::run_all;
 use std::test::Fail;
 
 /// Scripts, and what each answers. A machine has 256 pages of 4096 bytes: 64 are the application

@@ -1,6 +1,6 @@
 //! Scripts that look at modules and take them away.
 
-use shell_tests::run_all;
+use crate::scripts::run_all;
 use std::test::Fail;
 
 /// Scripts, and what each answers.

@@ -1,6 +1,6 @@
 //! A script that makes as many heaps as there may be.
 
-use shell_tests::run_all;
+use crate::scripts::run_all;
 use std::test::Fail;
 
 /// Scripts, and what each answers.

@@ -1,6 +1,6 @@
 //! Scripts that tidy the module area.
 
-use shell_tests::run_all;
+use crate::scripts::run_all;
 use std::test::Fail;
 
 /// Scripts, and what each answers. Images, and blocks that one private word names, move down to the

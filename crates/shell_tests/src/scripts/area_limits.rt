@@ -1,6 +1,6 @@
 //! Scripts at the limits of dynamic areas, and the lines that show them.
 
-use shell_tests::run_all;
+use crate::scripts::run_all;
 use std::test::Fail;
 
 /// Scripts, and what each answers.

@@ -1,6 +1,6 @@
 //! Scripts that set registers and words, and look at them.
 
-use shell_tests::run_all;
+use crate::scripts::run_all;
 use std::test::Fail;
 
 /// Scripts, and what each answers.

@@ -1,6 +1,6 @@
 //! Scripts of modules that stay where a program has put them.
 
-use shell_tests::run_all;
+use crate::scripts::run_all;
 use std::test::Fail;
 
 /// Scripts, and what each answers. OS_Module 10 takes the address of an image and its length.

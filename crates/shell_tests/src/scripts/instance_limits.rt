@@ -1,6 +1,6 @@
 //! Scripts that make as many instances as a machine can have.
 
-use shell_tests::run_all;
+use crate::scripts::run_all;
 use std::test::Fail;
 
 /// Scripts, and what each answers. There are 64 words for instances.

@@ -1,6 +1,6 @@
 //! Scripts that come to the limit of 32 frames of module code.
 
-use shell_tests::run_all;
+use crate::scripts::run_all;
 use std::test::Fail;
 
 /// Scripts, and what each answers.

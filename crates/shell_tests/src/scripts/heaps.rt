@@ -1,6 +1,6 @@
 //! Scripts of heap calls and of the views of what they leave.
 
-use shell_tests::run_all;
+use crate::scripts::run_all;
 use std::test::Fail;
 
 /// Scripts, and what each answers. A block of n bytes takes n and the 4 of its length, rounded up to

@@ -1,6 +1,6 @@
 //! Scripts of anchors of flex blocks: where they may lie, and what keeps its place for one.
 
-use shell_tests::run_all;
+use crate::scripts::run_all;
 use std::test::Fail;
 
 /// Scripts, and what each answers.

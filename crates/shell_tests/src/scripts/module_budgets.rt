@@ -1,8 +1,8 @@
 //! Scripts of modules on a budget.
 
+use crate::scripts::run_with;
 use image_loader::Images;
 use profile::{Fault, Stop};
-use shell_tests::run_with;
 use std::test::Fail;
 
 /// Budgets, scripts on them, what each answers and the last stop: each load, each call and each

@@ -1,6 +1,6 @@
 //! Scripts that start modules as programs.
 
-use shell_tests::run_all;
+use crate::scripts::run_all;
 use std::test::Fail;
 
 /// Scripts, and what each answers.

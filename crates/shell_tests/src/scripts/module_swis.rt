@@ -1,6 +1,6 @@
 //! Scripts that call SWIs of modules.
 
-use shell_tests::run_all;
+use crate::scripts::run_all;
 use std::test::Fail;
 
 /// Scripts, and what each answers. The handler of the SWIs from &40000 on stands behind a header of

@@ -1,6 +1,6 @@
 //! Scripts that watch module code as its instance comes and goes.
 
-use shell_tests::run_all;
+use crate::scripts::run_all;
 use std::test::Fail;
 
 /// Scripts, and what each answers. The image stands at &01800014.

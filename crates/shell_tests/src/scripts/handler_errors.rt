@@ -1,6 +1,6 @@
 //! Scripts with handlers of modules that end in an error.
 
-use shell_tests::run_all;
+use crate::scripts::run_all;
 use std::test::Fail;
 
 /// Scripts, and what each answers. The handler sets V.

@@ -1,6 +1,6 @@
 //! Scripts of the flex store as its callers see it.
 
-use shell_tests::run_all;
+use crate::scripts::run_all;
 use std::test::Fail;
 
 /// Scripts, and what each answers.

@@ -1,6 +1,6 @@
 //! Scripts of calls that tell of instances and name them.
 
-use shell_tests::run_all;
+use crate::scripts::run_all;
 use std::test::Fail;
 
 /// Scripts, and what each answers. `W%B` stands at &9000.
