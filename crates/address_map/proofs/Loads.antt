@@ -2,7 +2,7 @@
 use Rattle.std.proofs.Common.{◌≡◌, ℕ, ◌+◌, ◌-◌, ◌/◌, ◌%◌, ◌^◌, ◌<◌, ◌≤◌, true, false, get_or, length, Option, Some, None, is_some, Ok, Err, arith, refl, sym, ap, ◌∙◌, slice_index}
 use Rattle.std.proofs.lemmas.Bool.{false≢true}
 use Rattle.std.proofs.lemmas.List.{get_or_past, get_or_default}
-use Rattle.profile.specs.declared.fault.Fault.{Fault}
+use Rattle.raw_store.specs.profile.specs.declared.fault.Fault.{Fault}
 use Rattle.raw_store.specs.Region.{word_in}
 use Rattle.address_map.specs.declared.map.AddressMap.{AddressMap}
 use Rattle.address_map.specs.Bytes.{Bytes, load_fault, word_start, word_at, byte_loaded, word_loaded}

@@ -1,3 +1,4 @@
+pub use Rattle.raw_store
 pub mod Bytes
 pub mod Classes
 pub mod Items

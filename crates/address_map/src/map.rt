@@ -1,5 +1,5 @@
 ghost use Rattle.std.specs.Prelude.{ℕ, [], ◌≡◌, ◌≤◌, ◌<◌, ◌+◌, ◌*◌, ◌%◌, ◌↔◌, false, IsTrue, IfOk, MatchResult, MatchOption, Some, None, length, All};
-ghost use Rattle.profile.specs.Outcome.{Leaves};
+ghost use Rattle.raw_store.specs.profile.specs.Outcome.{Leaves};
 ghost use Rattle.address_map.specs.declared.class.Class.{Class};
 ghost use Rattle.address_map.specs.Bytes.{AreMapped, byte_loaded, word_loaded, byte_stored, word_stored, with_word_at, with_bytes_at, with_zeros_at, load_fault, store_fault};
 ghost use Rattle.address_map.specs.Pages.{IsPageTable, frame_count};
@@ -9,8 +9,8 @@ use crate::marks::Marks;
 use crate::pages::{MARKS_IN_PAGE, all_frames, most_frames, page_count};
 use crate::region::Region;
 use arrayvec::ArrayVec;
-use profile::Fault;
-use profile::memory_map::{ADDRESS_LIMIT, MOST_PAGES};
+use raw_store::profile::Fault;
+use raw_store::profile::memory_map::{ADDRESS_LIMIT, MOST_PAGES};
 use raw_store::RawStore;
 use std::alloc::{AllocError, Global};
 

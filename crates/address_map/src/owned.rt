@@ -4,7 +4,7 @@ ghost use Rattle.address_map.specs.Records.{anchor_among};
 
 use crate::class::Class;
 use crate::map::AddressMap;
-use profile::memory_map::ADDRESS_LIMIT;
+use raw_store::profile::memory_map::ADDRESS_LIMIT;
 
 impl AddressMap {
     ghost use Rattle.address_map.specs.Memory.{anchor_of, class_of, is_owned};

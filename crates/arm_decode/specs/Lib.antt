@@ -1,3 +1,4 @@
+pub use Rattle.profile
 pub mod Decoded
 pub mod Diagrams
 pub mod Fields

@@ -20,6 +20,7 @@ pub mod refusals;
 pub mod register;
 pub mod shift;
 
+pub use profile;
 pub use action::{Action, BlockTransfer, Multiply, Operate, Transfer};
 pub use address::{Address, BlockMode, Direction, Indexing, Offset};
 pub use bits::Bits;

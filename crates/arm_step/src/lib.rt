@@ -17,6 +17,7 @@ pub mod transfer;
 pub mod turn;
 pub mod words;
 
+pub use profile;
 pub use cpu::Cpu;
 pub use execute::step;
 pub use psr::{Mode, Psr};

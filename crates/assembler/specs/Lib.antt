@@ -1,3 +1,4 @@
+pub use Rattle.text_lines
 pub mod Directives
 pub mod ErrorNames
 pub mod Laws

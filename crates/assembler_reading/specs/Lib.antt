@@ -1,3 +1,4 @@
+pub use Rattle.assembler_text
 pub mod Addresses
 pub mod Instructions
 pub mod Laws

@@ -8,4 +8,5 @@ pub mod operands;
 pub mod operating;
 pub mod register_lists;
 
+pub use assembler_text;
 pub use instructions::instruction;

@@ -1,3 +1,5 @@
+pub use Rattle.arm_decode.specs.profile
+pub use Rattle.arm_decode
 pub mod Names
 pub mod Numbers
 pub mod Operands

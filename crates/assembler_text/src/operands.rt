@@ -8,7 +8,7 @@ use crate::names::{RegisterName, shift_text};
 use crate::numbers::push_immediate;
 use arm_decode::{Operand, Register, Shift, ShiftedRegister};
 use itoa::Buffer;
-use profile::{Sink, WriteFault, push_all, push_parts};
+use arm_decode::profile::{Sink, WriteFault, push_all, push_parts};
 
 /// Writes the second operand of data processing.
 #[tactic(auto, unfolding(crate::specs::Operands::operand_text))]

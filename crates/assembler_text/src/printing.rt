@@ -8,7 +8,7 @@ use crate::names::{RegisterName, choose_text, condition_text, operation_text, te
 use crate::operands::push_operand;
 use crate::transfers::{push_block, push_transfer};
 use arm_decode::{Action, Condition, Multiply, Operate, Operation, decode};
-use profile::{HexText, Sink, WriteFault, push_parts};
+use arm_decode::profile::{HexText, Sink, WriteFault, push_parts};
 
 /// Writes the text of a word at its address: its instruction, or where it is none `DCD &` and
 /// eight digits.

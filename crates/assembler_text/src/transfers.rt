@@ -2,7 +2,7 @@
 
 ghost use Rattle.std.specs.Prelude.{◌≡◌, ◌≤◌, ◌<◌, ◌&&◌, true, not, IfOk, OnOk, OnErr};
 ghost use Rattle.std.specs.Io.KnownBytes.{Appends};
-ghost use Rattle.profile.specs.Word.{bit_of};
+ghost use Rattle.arm_decode.specs.profile.specs.Word.{bit_of};
 ghost use Rattle.assembler_text.specs.Transfers.{address_text, after_text, base_text, before_text, block_head, block_text, braces_text, close_text, is_nothing, listed_piece, listed_text, offset_text, sign_text, transfer_head, transfer_text, is_user};
 
 use crate::names::{RegisterName, block_mode_text, choose_text, condition_text, text_if};
@@ -11,7 +11,7 @@ use arm_decode::{
     Address, BlockTransfer, Condition, Direction, Indexing, Offset, Register, RegisterList,
     Transfer,
 };
-use profile::{HexText, Sink, WriteFault, push_all, push_parts};
+use arm_decode::profile::{HexText, Sink, WriteFault, push_all, push_parts};
 
 /// Writes LDR or STR.
 #[tactic(auto, using(crate::proofs::Pieces::pieces))]

@@ -7,11 +7,11 @@ use Rattle.profile.specs.declared.stop.Stop.{Stop}
 use Rattle.profile.specs.declared.stop.Stop.TheVariants as stop
 use Rattle.profile.specs.Output.{Completes}
 use Rattle.profile.proofs.OutputLemmas.{Completes-start, Completes-more}
-use Rattle.swi_dispatch.specs.declared.halt.Halt.{Halt}
-use Rattle.swi_dispatch.specs.declared.halt.Halt.TheVariants as halt
-use Rattle.swi_dispatch.specs.MachineState.{Outcome, stop_of}
-use Rattle.swi_dispatch.specs.Run.{count_after, is_among}
-use Rattle.swi_dispatch.specs.Step.{machine_step}
+use Rattle.debugger.specs.swi_dispatch.specs.declared.halt.Halt.{Halt}
+use Rattle.debugger.specs.swi_dispatch.specs.declared.halt.Halt.TheVariants as halt
+use Rattle.debugger.specs.swi_dispatch.specs.MachineState.{Outcome, stop_of}
+use Rattle.debugger.specs.swi_dispatch.specs.Run.{count_after, is_among}
+use Rattle.debugger.specs.swi_dispatch.specs.Step.{machine_step}
 use Rattle.command_shell.specs.Calls.{call_done, call_end, call_end_by, call_made, call_unless, end_told, finished, finished_by, step_made, step_then, stop_before_step, stop_before_step_by, stop_told}
 use Rattle.command_shell.specs.State.{ScriptState, Answered, IsAnswered}
 use Rattle.command_shell.specs.declared.calls.CallEnd.{CallEnd}

@@ -1,7 +1,7 @@
 -- The state of a script, as the code holds it: the session and the images.
 use Rattle.std.specs.Prelude.{List}
 use Rattle.image_loader.specs.Entries.{Entry}
-use Rattle.swi_dispatch.specs.Parts.{state_of}
+use Rattle.debugger.specs.swi_dispatch.specs.Parts.{state_of}
 use Rattle.command_shell.specs.declared.session.Session.{Session}
 use Rattle.command_shell.specs.State.{ScriptState}
 

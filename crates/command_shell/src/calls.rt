@@ -5,15 +5,15 @@ ghost use Rattle.std.specs.Prelude.{◌≡◌, ◌≤◌, ◌<◌, ◌+◌, true
 ghost use Rattle.std.specs.Option.{option_map};
 ghost use Rattle.std.specs.Io.KnownBytes.{Appends};
 ghost use Rattle.profile.specs.Output.{Writes};
-ghost use Rattle.swi_dispatch.specs.declared.halt.Halt.{Halt};
-ghost use Rattle.swi_dispatch.specs.MachineState.{stop_of};
-ghost use Rattle.swi_dispatch.specs.Run.{count_after};
+ghost use Rattle.debugger.specs.swi_dispatch.specs.declared.halt.Halt.{Halt};
+ghost use Rattle.debugger.specs.swi_dispatch.specs.MachineState.{stop_of};
+ghost use Rattle.debugger.specs.swi_dispatch.specs.Run.{count_after};
 
 use crate::answers::{tell_error, tell_ok, tell_stop};
 use crate::session::Session;
 use image_loader::Images;
 use profile::{Sink, Stop, WriteFault, push_all};
-use swi_dispatch::Machine;
+use debugger::swi_dispatch::Machine;
 
 /// A call that a script makes from outside the machine.
 #[derive(Clone, Copy, Debug)]
@@ -25,7 +25,7 @@ pub(crate) enum OutsideCall<'a> {
 }
 
 impl OutsideCall<'_> {
-    ghost use Rattle.swi_dispatch.specs.Parts.{outcome_of, state_of};
+    ghost use Rattle.debugger.specs.swi_dispatch.specs.Parts.{outcome_of, state_of};
     ghost use Rattle.command_shell.specs.Calls.{outside_called};
 
     // Takes the first step.
@@ -53,8 +53,8 @@ pub(crate) enum CallEnd {
 
 impl Session {
     ghost use Rattle.image_loader.specs.Entries.{Entry};
-    ghost use Rattle.swi_dispatch.specs.Parts.{state_of};
-    ghost use Rattle.swi_dispatch.specs.Step.{machine_step};
+    ghost use Rattle.debugger.specs.swi_dispatch.specs.Parts.{state_of};
+    ghost use Rattle.debugger.specs.swi_dispatch.specs.Step.{machine_step};
     ghost use Rattle.command_shell.specs.Calls.{call_made, call_done, call_end, call_text, end_told, finished, first_step, step_made, stop_told, stop_before_step};
     ghost use Rattle.command_shell.specs.Session.{script_state};
     ghost use Rattle.command_shell.specs.State.{IsAnswered};

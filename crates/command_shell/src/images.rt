@@ -12,8 +12,8 @@ use crate::session::Session;
 use assembler::{AsmError, Program, Reason, assemble_lines};
 use image_loader::{ImageError, Images};
 use profile::{Sink, WriteFault};
-use swi_dispatch::BootError;
-use text_lines::Lines;
+use debugger::swi_dispatch::BootError;
+use assembler::text_lines::Lines;
 
 impl Session {
     ghost use Rattle.command_shell.specs.Images.{asm_told, asm_block, hex_told, hex_block, image_sized, boot_told};

@@ -14,7 +14,7 @@ use crate::session::Session;
 use image_loader::Images;
 use profile::{Config, Sink, Source, Stop};
 use std::alloc::Global;
-use text_lines::Lines;
+use assembler::text_lines::Lines;
 
 /// What a script came to.
 #[derive(Clone, Copy, Debug, PartialEq, Eq)]

@@ -7,7 +7,7 @@ use crate::answers::{tell_break, tell_refused, tell_stepped, tell_stop, tell_unb
 use crate::session::Session;
 use image_loader::Images;
 use profile::{Sink, WriteFault};
-use swi_dispatch::BreakError;
+use debugger::swi_dispatch::BreakError;
 
 impl Session {
     ghost use Rattle.image_loader.specs.Entries.{Entry};

@@ -4,7 +4,7 @@ use Rattle.std.specs.Prelude.{ℕ, ◌*◌, ◌++◌, List, codes}
 use Rattle.std.specs.Fmt.{decimal}
 use Rattle.std.specs.List.{flat_map}
 use Rattle.profile.specs.Digits.{hex_word}
-use Rattle.dynamic_areas.specs.declared.area.Area.{Area}
+use Rattle.swi_dispatch.specs.dynamic_areas.specs.declared.area.Area.{Area}
 
 -- ` size 65536 max 4194304`
 unfoldable pub extent_text : Area → List ℕ

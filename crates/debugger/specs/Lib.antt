@@ -1,3 +1,6 @@
+pub use Rattle.address_map
+pub use Rattle.swi_dispatch.specs.flex_store
+pub use Rattle.swi_dispatch
 pub mod Areas
 pub mod Code
 pub mod Flex

@@ -3,7 +3,7 @@ ghost use Rattle.profile.specs.Output.{Writes};
 ghost use Rattle.swi_dispatch.specs.Parts.{state_of};
 ghost use Rattle.debugger.specs.Areas.{area_text, areas_text, extent_text, pool_text};
 
-use dynamic_areas::Area;
+use swi_dispatch::dynamic_areas::Area;
 use itoa::Buffer;
 use profile::memory_map::PAGE_SIZE;
 use profile::{HexText, Sink, WriteFault, push_parts};

@@ -1,12 +1,12 @@
 ghost use Rattle.std.specs.Prelude.{◌≡◌, [], IfOk, is_some, unwrap_or};
 ghost use Rattle.std.specs.List.{flat_map};
 ghost use Rattle.address_map.specs.Memory.{bytes_of};
-ghost use Rattle.flex_store.specs.State.{IsFlex};
+ghost use Rattle.swi_dispatch.specs.flex_store.specs.State.{IsFlex};
 ghost use Rattle.profile.specs.Output.{Writes};
 ghost use Rattle.debugger.specs.Flex.{block_text, flex_text, range_text};
 
 use address_map::AddressMap;
-use flex_store::{Flex, FlexBlock, FlexBlocks};
+use swi_dispatch::flex_store::{Flex, FlexBlock, FlexBlocks};
 use itoa::Buffer;
 use profile::{HexText, Sink, WriteFault, push_parts};
 

@@ -2,14 +2,14 @@ ghost use Rattle.std.specs.Prelude.{◌≡◌, ◌≤◌, ◌+◌, ◌^◌, true
 ghost use Rattle.std.specs.Io.KnownBytes.{Appends};
 ghost use Rattle.profile.specs.Output.{Writes};
 ghost use Rattle.address_map.specs.Items.{size_of};
-ghost use Rattle.os_heap.specs.Calls.{items_of};
-ghost use Rattle.os_heap.specs.Store.{store_of, find_heap, IsSound};
+ghost use Rattle.swi_dispatch.specs.os_heap.specs.Calls.{items_of};
+ghost use Rattle.swi_dispatch.specs.os_heap.specs.Store.{store_of, find_heap, IsSound};
 ghost use Rattle.swi_dispatch.specs.Parts.{state_of};
 ghost use Rattle.debugger.specs.Heap.{use_text, limits_text, item_text, items_text, heap_text, blocks_text};
 
 use address_map::{AddressMap, Item};
 use itoa::Buffer;
-use os_heap::Blocks;
+use swi_dispatch::os_heap::Blocks;
 use profile::memory_map::HEAP_DESCRIPTOR;
 use profile::{HexText, Sink, WriteFault, push_parts};
 use swi_dispatch::Machine;

@@ -9,6 +9,11 @@ mod memory;
 mod modules;
 mod registers;
 
+pub use swi_dispatch::arm_step;
+pub use swi_dispatch::module_header;
+pub use swi_dispatch::instances_table;
+pub use swi_dispatch::instances;
+pub use swi_dispatch;
 pub use areas::show_areas;
 pub use code::show_code;
 pub use flex::show_flex;

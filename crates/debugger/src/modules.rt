@@ -1,11 +1,11 @@
 ghost use Rattle.std.specs.Prelude.{◌≡◌, ◌<◌, slice_get};
 ghost use Rattle.address_map.specs.Memory.{bytes_of};
 ghost use Rattle.profile.specs.Output.{Writes};
-ghost use Rattle.instances_table.specs.Lookup.{told_of_place};
+ghost use Rattle.swi_dispatch.specs.instances_table.specs.Lookup.{told_of_place};
 ghost use Rattle.debugger.specs.Modules.{instance_line, instances_text, module_line, module_text, modules_text, one_text, preferred_text};
 
 use address_map::AddressMap;
-use instances::{InstanceInfo, Instances, ModuleInfo};
+use swi_dispatch::instances::{InstanceInfo, Instances, ModuleInfo};
 use itoa::Buffer;
 use profile::memory_map::PRIVATE_WORDS;
 use profile::{HexText, Sink, WriteFault, push_parts};

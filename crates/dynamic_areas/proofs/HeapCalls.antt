@@ -12,8 +12,8 @@ use Rattle.address_map.specs.declared.map.AddressMap.{AddressMap}
 use Rattle.address_map.specs.declared.region.Kind.TheVariants.{Heap}
 use Rattle.address_map.specs.declared.region.Region.{Region}
 use Rattle.address_map.specs.Items.{size_of}
-use Rattle.os_heap_lists.specs.Heap.{HeapList}
-use Rattle.os_heap_lists.specs.Lists.{changed_by}
+use Rattle.os_heap.specs.os_heap_lists.specs.Heap.{HeapList}
+use Rattle.os_heap.specs.os_heap_lists.specs.Lists.{changed_by}
 use Rattle.os_heap.specs.Store.{Store, store_of, heap_in, heaps_in, others_in, IsSound, find_heap, guest_count}
 use Rattle.os_heap.specs.Ranges.{is_heap_region, meets_any}
 use Rattle.os_heap.specs.Calls.{with_end, begun, changed, has_own_size, own_size, end_changed}

@@ -4,9 +4,9 @@ use Rattle.std.proofs.lemmas.Bool.{both_ways, eq-eqb, ne_eqb, false_from_ne_true
 use Rattle.address_map.specs.declared.region.Region.{Region}
 use Rattle.address_map.specs.Bytes.{Bytes, in_range}
 use Rattle.address_map.specs.Items.{size_of}
-use Rattle.os_heap_lists.specs.Heap.{HeapList, IsHeapIn}
-use Rattle.os_heap_lists.specs.Lists.{live_total}
-use Rattle.os_heap_lists.proofs.LiveBlocks.{LiveBytes, live_bytes}
+use Rattle.os_heap.specs.os_heap_lists.specs.Heap.{HeapList, IsHeapIn}
+use Rattle.os_heap.specs.os_heap_lists.specs.Lists.{live_total}
+use Rattle.os_heap.specs.os_heap_lists.proofs.LiveBlocks.{LiveBytes, live_bytes}
 use Rattle.os_heap.specs.Store.{Store, IsSound, IsClearOfHeaps, AreClear, ArePlaced, IsImageIn, StandAreas, find_heap}
 use Rattle.address_map.proofs.Anchors.{among_none}
 use Rattle.address_map.specs.Records.{anchor_among}

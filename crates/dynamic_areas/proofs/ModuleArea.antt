@@ -9,7 +9,7 @@ use Rattle.address_map.proofs.Anchors.{among_none}
 use Rattle.address_map.specs.Records.{anchor_among}
 use Rattle.address_map.specs.Bytes.{Bytes, in_range, AreMapped, AreUnmapped}
 use Rattle.address_map.specs.Items.{size_of}
-use Rattle.os_heap_lists.specs.Heap.{HeapList, IsHeapIn}
+use Rattle.os_heap.specs.os_heap_lists.specs.Heap.{HeapList, IsHeapIn}
 use Rattle.os_heap.specs.Store.{Store, IsSound, IsClearOfHeaps, AreClear, find_heap}
 use Rattle.os_heap.specs.Ranges.{is_heap_region, meets_any, MayEnd, meets as meets_range}
 use Rattle.os_heap.specs.Calls.{ending, with_end, MayEndArea, IsAreaEnded}

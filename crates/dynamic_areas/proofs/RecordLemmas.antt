@@ -9,7 +9,7 @@ use Rattle.address_map.specs.Records.{is_heap_kind, meets_record}
 use Rattle.os_heap.specs.Store.{AreClear, IsClearOfHeaps, heaps_in, others_in}
 use Rattle.os_heap.specs.Ranges.{meets as meets_range}
 use Rattle.os_heap.proofs.Added.{clear_unless}
-use Rattle.os_heap_lists.specs.Heap.{HeapList}
+use Rattle.os_heap.specs.os_heap_lists.specs.Heap.{HeapList}
 use Rattle.dynamic_areas.specs.Changing.{AreRangesClear}
 use Rattle.dynamic_areas.proofs.Remapped.{here, range_low, range_high}
 

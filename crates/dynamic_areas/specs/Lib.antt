@@ -1,3 +1,4 @@
+pub use Rattle.profile
 pub mod Areas
 pub mod Changing
 pub mod Creating

@@ -3,19 +3,19 @@ use Rattle.std.proofs.Common.{ℕ, ◌≡◌, ◌+◌, ◌%◌, ◌≤◌, ◌<�
 use Rattle.std.specs.Prelude.{nat_le, if◌then◌else◌}
 use Rattle.std.specs.List.{list_any}
 use Rattle.std.proofs.lemmas.Bool.{and_parts, both_ways, cases_Bool, false_from_ne_true, lt-ltb, not-true, or_parts, or_from, false≢true, true≢false}
-use Rattle.profile.specs.Outcome.{Gives, bind}
-use Rattle.profile.specs.declared.error.ErrorNumber.{ErrorNumber}
-use Rattle.profile.specs.declared.error.ErrorNumber.TheVariants.{FlexAnchorInUse, FlexBadAnchor}
+use Rattle.instances_ground.specs.profile.specs.Outcome.{Gives, bind}
+use Rattle.instances_ground.specs.profile.specs.declared.error.ErrorNumber.{ErrorNumber}
+use Rattle.instances_ground.specs.profile.specs.declared.error.ErrorNumber.TheVariants.{FlexAnchorInUse, FlexBadAnchor}
 use Rattle.address_map.specs.Bytes.{in_range, meets, word_start}
 use Rattle.address_map.specs.Classes.{is_anchor, is_flex_header}
 use Rattle.address_map.specs.Memory.{byte_at, bytes_of, class_of}
 use Rattle.address_map.specs.declared.map.AddressMap.{AddressMap}
 use Rattle.address_map.specs.declared.region.Region.{Region}
-use Rattle.os_heap.proofs.Apart.{range_parts}
-use Rattle.os_heap.proofs.Frame.{layout-others}
-use Rattle.os_heap.specs.Payloads.{is_other, payload_of}
-use Rattle.os_heap.specs.Store.{Store, store_of}
-use Rattle.flex_kept.specs.Keeping.{AreAnchorsFree, is_in_record}
+use Rattle.instances_ground.specs.os_heap.proofs.Apart.{range_parts}
+use Rattle.instances_ground.specs.os_heap.proofs.Frame.{layout-others}
+use Rattle.instances_ground.specs.os_heap.specs.Payloads.{is_other, payload_of}
+use Rattle.instances_ground.specs.os_heap.specs.Store.{Store, store_of}
+use Rattle.instances_ground.specs.flex_kept.specs.Keeping.{AreAnchorsFree, is_in_record}
 use Rattle.flex_store.specs.Blocks.{Block, FlexStore, find_block, has_anchor, new_block, used}
 use Rattle.flex_store.specs.Calls.{FlexState, allocated, extended, fitted, is_anchor_place, is_in_store, mid_extended, released}
 use Rattle.flex_store.specs.State.{IsFlex, IsFlexAt, flex_in, state_of}

@@ -1,7 +1,7 @@
 -- The flex store of a machine over calls that are none of its own, over what guests store, and at the start.
 use Rattle.std.proofs.Common.{◌≡◌, ◌≤◌, ◌<◌, ℕ, ◌+◌, ◌-◌, ◌&&◌, ◌||◌, ◌==◌, Bool, true, false, List, [], ◌∷◌, Option, Some, None, length, suc, inl, inr, is_some, refl, sym, ap, subst, ◌∙◌, arith}
 use Rattle.std.proofs.lemmas.Bool.{and_parts, both_ways, cases_Bool, false_from_ne_true, eqb-true, false≢true, or_left, or_right}
-use Rattle.profile.specs.Sizes.{Sizes}
+use Rattle.instances_ground.specs.profile.specs.Sizes.{Sizes}
 use Rattle.address_map.specs.Bytes.{AreMapped, Bytes, word_start}
 use Rattle.address_map.specs.Classes.{is_anchor, is_flex_header}
 use Rattle.address_map.specs.Memory.{Layout, byte_at, bytes_of, class_of, is_mapped, layout}
@@ -10,12 +10,12 @@ use Rattle.address_map.specs.declared.map.AddressMap.{AddressMap}
 use Rattle.address_map.specs.declared.region.Kind.{Kind}
 use Rattle.address_map.specs.declared.region.Kind.TheVariants as kind
 use Rattle.address_map.specs.declared.region.Region.{Region}
-use Rattle.os_heap.proofs.Frame.{layout-others}
-use Rattle.os_heap.specs.Store.{IsSound, Store, is_flex_store, is_flex_word, is_image, is_in_flex_store, owned_in, store_of}
-use Rattle.dynamic_areas.specs.Areas.{Land}
-use Rattle.dynamic_areas.specs.Ground.{AreAreas, AreRangesMapped}
-use Rattle.dynamic_areas.specs.Start.{start_store}
-use Rattle.flex_kept.specs.Keeping.{AreAnchorsFree, IsFlexKept, KeepsFlex, beside_images, is_flex_byte, is_in_record}
+use Rattle.instances_ground.specs.os_heap.proofs.Frame.{layout-others}
+use Rattle.instances_ground.specs.os_heap.specs.Store.{IsSound, Store, is_flex_store, is_flex_word, is_image, is_in_flex_store, owned_in, store_of}
+use Rattle.instances_ground.specs.dynamic_areas.specs.Areas.{Land}
+use Rattle.instances_ground.specs.dynamic_areas.specs.Ground.{AreAreas, AreRangesMapped}
+use Rattle.instances_ground.specs.dynamic_areas.specs.Start.{start_store}
+use Rattle.instances_ground.specs.flex_kept.specs.Keeping.{AreAnchorsFree, IsFlexKept, KeepsFlex, beside_images, is_flex_byte, is_in_record}
 use Rattle.flex_store.proofs.Staying.{flex_stays}
 use Rattle.flex_store.specs.Staying.{IsExtentThere, StaysFlex}
 use Rattle.flex_store.specs.State.{IsFlex, IsFlexAt, IsNoFlex, IsRecordedStore, blocks_of, flex_in, is_recorded, is_store_record}
@@ -28,10 +28,10 @@ use Rattle.flex_store.proofs.Listing.{store_text}
 use Rattle.flex_store.proofs.Texts.{text_kept, text_read}
 use Rattle.flex_store.specs.Blocks.{Block, used}
 use Rattle.address_map.specs.Bytes.{in_range}
-use Rattle.os_heap.proofs.Anchored.{header_outside}
-use Rattle.os_heap.proofs.Apart.{block_inside}
-use Rattle.os_heap.proofs.Found.{found_heap}
-use Rattle.os_heap_lists.specs.Heap.{IsHeapIn}
+use Rattle.instances_ground.specs.os_heap.proofs.Anchored.{header_outside}
+use Rattle.instances_ground.specs.os_heap.proofs.Apart.{block_inside}
+use Rattle.instances_ground.specs.os_heap.proofs.Found.{found_heap}
+use Rattle.flex_store.specs.os_heap_lists.specs.Heap.{IsHeapIn}
 use Rattle.flex_ground.specs.Laws.{BlocksKept, StoreIsApart, FlexKept, FlexStarted, FlexStored, FlexUnmade}
 
 -- The records beside module images: how many there are, and the store's is one of these.

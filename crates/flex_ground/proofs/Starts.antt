@@ -7,11 +7,11 @@ use Rattle.address_map.specs.Memory.{Mapping, class_of, free_pages, is_mapped, m
 use Rattle.address_map.specs.declared.map.AddressMap.{AddressMap}
 use Rattle.address_map.specs.declared.region.Region.{Region}
 use Rattle.address_map.specs.Records.{is_heap_kind}
-use Rattle.os_heap.specs.Store.{IsSound, others_in, store_of}
-use Rattle.dynamic_areas.specs.Areas.{Land}
-use Rattle.dynamic_areas.specs.Ground.{AreAreas}
-use Rattle.flex_kept.specs.Keeping.{AreAnchorsFree}
-use Rattle.rma.proofs.ImageLemmas.{mapped_more}
+use Rattle.instances_ground.specs.os_heap.specs.Store.{IsSound, others_in, store_of}
+use Rattle.instances_ground.specs.dynamic_areas.specs.Areas.{Land}
+use Rattle.instances_ground.specs.dynamic_areas.specs.Ground.{AreAreas}
+use Rattle.instances_ground.specs.flex_kept.specs.Keeping.{AreAnchorsFree}
+use Rattle.instances_ground.specs.rma.proofs.ImageLemmas.{mapped_more}
 use Rattle.flex_store.specs.Calls.{FlexState, flex_record, is_flex_range}
 use Rattle.flex_store.specs.State.{IsFlex, IsFlexAt, flex_in, state_of}
 use Rattle.flex_store.specs.declared.flex.Extent.{Extent}

@@ -2,9 +2,9 @@
 use Rattle.std.proofs.Common.{◌≡◌, ℕ, ◌+◌, List, [], ◌∷◌, ◌++◌, map, suc, inl, inr, refl, ap, sym, ◌∙◌, arith}
 use Rattle.std.proofs.lemmas.Bool.{cases_Bool, false≢true}
 use Rattle.address_map.specs.declared.region.Region.{Region}
-use Rattle.os_heap.specs.Store.{is_image}
+use Rattle.instances_ground.specs.os_heap.specs.Store.{is_image}
 use Rattle.flex_store.specs.Calls.{flex_record}
-use Rattle.instances_table.specs.Modules.{Module}
+use Rattle.instances_ground.specs.instances_table.specs.Modules.{Module}
 use Rattle.instances_ground.specs.Sound.{AreSolid, count_beside, image_ranges, images_of, range_of}
 use Rattle.instances_ground.proofs.Images.{system_more}
 use Rattle.flex_ground.specs.WorldLaws.{BegunWorld}

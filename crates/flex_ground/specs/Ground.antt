@@ -3,8 +3,8 @@
 use Rattle.std.specs.Prelude.{ℕ, ◌≡◌, Bool, false, ◌+◌, Option, Some, None, [], ◌∷◌, ◌++◌}
 use Rattle.address_map.specs.Bytes.{word_start}
 use Rattle.address_map.specs.declared.map.AddressMap.{AddressMap}
-use Rattle.os_heap.specs.Store.{Store, store_of}
-use Rattle.flex_kept.specs.Keeping.{AreAnchorsFree}
+use Rattle.instances_ground.specs.os_heap.specs.Store.{Store, store_of}
+use Rattle.instances_ground.specs.flex_kept.specs.Keeping.{AreAnchorsFree}
 use Rattle.flex_store.specs.declared.flex.Extent.{Extent}
 use Rattle.flex_store.specs.declared.flex.Flex.{Flex}
 use Rattle.flex_store.specs.Blocks.{FlexStore, has_anchor, is_header, used}

@@ -1,19 +1,19 @@
 -- The flex store over calls that are none of its own, over what guests store, and at the start of a machine.
 use Rattle.std.specs.Prelude.{ℕ, ◌≡◌, ◌≤◌, ◌<◌, ◌+◌, ◌-◌, true, false, Some, None}
-use Rattle.profile.specs.Sizes.{Sizes}
+use Rattle.instances_ground.specs.profile.specs.Sizes.{Sizes}
 use Rattle.address_map.specs.Memory.{byte_at, class_of, layout}
 use Rattle.address_map.specs.declared.map.AddressMap.{AddressMap}
-use Rattle.os_heap.specs.Store.{IsSound, find_heap, owned_in, store_of}
-use Rattle.dynamic_areas.specs.Areas.{Land}
-use Rattle.dynamic_areas.specs.Ground.{AreAreas}
-use Rattle.dynamic_areas.specs.Start.{start_store}
-use Rattle.flex_kept.specs.Keeping.{KeepsFlex}
+use Rattle.instances_ground.specs.os_heap.specs.Store.{IsSound, find_heap, owned_in, store_of}
+use Rattle.instances_ground.specs.dynamic_areas.specs.Areas.{Land}
+use Rattle.instances_ground.specs.dynamic_areas.specs.Ground.{AreAreas}
+use Rattle.instances_ground.specs.dynamic_areas.specs.Start.{start_store}
+use Rattle.instances_ground.specs.flex_kept.specs.Keeping.{KeepsFlex}
 use Rattle.flex_store.specs.State.{flex_in}
 use Rattle.flex_store.specs.declared.flex.Extent.{Extent}
 use Rattle.flex_store.specs.declared.flex.Flex.{Flex}
 use Rattle.address_map.specs.Bytes.{in_range}
-use Rattle.os_heap_lists.specs.Heap.{HeapList}
-use Rattle.os_heap_lists.specs.Lists.{live_total}
+use Rattle.flex_store.specs.os_heap_lists.specs.Heap.{HeapList}
+use Rattle.flex_store.specs.os_heap_lists.specs.Lists.{live_total}
 use Rattle.flex_ground.specs.Ground.{HasFlex}
 
 -- a call that keeps the store's bytes and words

@@ -1,3 +1,7 @@
+pub use Rattle.instances_ground.specs.flex_kept
+pub use Rattle.instances_ground.specs.rma
+pub use Rattle.flex_store
+pub use Rattle.instances_ground
 pub mod CallLaws
 pub mod Ground
 pub mod Laws

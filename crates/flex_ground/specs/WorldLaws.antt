@@ -1,8 +1,8 @@
 -- The world of modules once the flex store has begun.
 use Rattle.std.specs.Prelude.{ℕ, ◌≡◌, List, [], ◌∷◌, ◌++◌}
-use Rattle.dynamic_areas.specs.Ground.{IsEstate}
+use Rattle.instances_ground.specs.dynamic_areas.specs.Ground.{IsEstate}
 use Rattle.flex_store.specs.Calls.{flex_record}
-use Rattle.instances_table.specs.declared.parts.Image.{Image}
+use Rattle.instances_ground.specs.instances_table.specs.declared.parts.Image.{Image}
 use Rattle.instances_ground.specs.Sound.{IsWorld, count_beside}
 use Rattle.instances_ground.specs.World.{World}
 

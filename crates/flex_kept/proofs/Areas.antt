@@ -3,15 +3,15 @@ use Rattle.std.proofs.Common.{if◌then◌else◌, ℕ, ◌≡◌, ◌≢◌, �
 use Rattle.std.proofs.Math.Nat.{min-le_right}
 use Rattle.std.proofs.lemmas.Bool.{and_parts, both_ways, cases_Bool, eqb-false, eqb-true, false_from_ne_true, false≢true, ltb-false, or_cases, or_parts}
 use Rattle.std.specs.Prelude.{min, nat_lt, ok_or}
-use Rattle.profile.specs.Outcome.{bind}
-use Rattle.profile.specs.declared.error.ErrorNumber.TheVariants.{AreaInUse, AreaUnknown}
-use Rattle.address_map.proofs.Anchors.{none_among}
-use Rattle.address_map.specs.Bytes.{in_range}
-use Rattle.address_map.specs.declared.region.Region.{Region}
-use Rattle.os_heap_lists.specs.Heap.{HeapList}
-use Rattle.os_heap.proofs.Apart.{range_parts}
-use Rattle.os_heap.specs.Calls.{ending}
-use Rattle.os_heap.specs.Store.{IsSound, Store, find_heap, is_flex_store, is_in_flex_store}
+use Rattle.dynamic_areas.specs.profile.specs.Outcome.{bind}
+use Rattle.dynamic_areas.specs.profile.specs.declared.error.ErrorNumber.TheVariants.{AreaInUse, AreaUnknown}
+use Rattle.os_heap_slide.specs.address_map.proofs.Anchors.{none_among}
+use Rattle.os_heap_slide.specs.address_map.specs.Bytes.{in_range}
+use Rattle.os_heap_slide.specs.address_map.specs.declared.region.Region.{Region}
+use Rattle.os_heap_slide.specs.os_heap_lists.specs.Heap.{HeapList}
+use Rattle.os_heap_slide.specs.os_heap.proofs.Apart.{range_parts}
+use Rattle.os_heap_slide.specs.os_heap.specs.Calls.{ending}
+use Rattle.os_heap_slide.specs.os_heap.specs.Store.{IsSound, Store, find_heap, is_flex_store, is_in_flex_store}
 use Rattle.dynamic_areas.proofs.LooseLemmas.{loose_created}
 use Rattle.dynamic_areas.proofs.Loosened.{loose_ended}
 use Rattle.dynamic_areas.proofs.ModuleArea.{IsModuleArea, module_area_known}

@@ -3,32 +3,32 @@
 use Rattle.std.proofs.Common.{if◌then◌else◌, Bool, List, ℕ, [], ◌∷◌, ◌++◌, ◌≡◌, ◌≢◌, ◌⊎◌, ◌==◌, ◌&&◌, ◌+◌, ◌-◌, ◌%◌, ◌≤◌, ◌<◌, Option, Some, None, ok_or, is_some, Result, Ok, Err, not, true, false, refl, sym, ap, subst, ◌∙◌, inl, inr, arith}
 use Rattle.std.proofs.lemmas.Bool.{cases_Bool, both_ways, not-false, false_from_ne_true, false≢true, le-leb, lt-ltb, leb-false, or_cases, or_parts}
 use Rattle.std.specs.Prelude.{IfOk, nat_le, nat_lt}
-use Rattle.profile.specs.Outcome.{Gives, bind}
-use Rattle.profile.specs.declared.error.ErrorNumber.{ErrorNumber}
-use Rattle.profile.specs.declared.error.ErrorNumber.TheVariants.{HeapHoldsAnchor, HeapBadDesc, HeapBadRegion, HeapOverlaps, HeapTableFull, HeapNotABlock, HeapNoRoom, HeapBadShrink}
-use Rattle.address_map.specs.Records.{anchor_among}
-use Rattle.address_map.specs.Bytes.{Bytes, in_range, word_start}
-use Rattle.address_map.specs.Items.{is_heap_word, is_total, size_of}
-use Rattle.address_map.specs.declared.item.Item.{Item}
-use Rattle.address_map.specs.declared.region.Kind.{Kind}
-use Rattle.address_map.specs.declared.region.Kind.TheVariants as kind
-use Rattle.os_heap_lists.proofs.LiveBlocks.{LiveBytes, live_bytes, live_apart}
-use Rattle.os_heap_lists.proofs.Payloads.{heap_beside, payload_unspelled, spelled_inside}
-use Rattle.os_heap_lists.proofs.Spelling.{total_of-numbers}
-use Rattle.os_heap_lists.specs.Heap.{AreTotals, HeapList, IsHeapIn, with_heap}
-use Rattle.os_heap_lists.specs.Lists.{Claim, changed_by, claimed, live_total, released, resized_in_place, round_up_8, total_for}
-use Rattle.os_heap_lists.specs.Marks.{spells_any}
-use Rattle.os_heap.proofs.Added.{can_hold}
-use Rattle.os_heap.proofs.Anchored.{IsPlacedBy, header_outside, place_in}
-use Rattle.os_heap.proofs.Apart.{range_parts}
-use Rattle.os_heap.proofs.FlexSound.{flex_unspelled, place_unspelled}
-use Rattle.os_heap.proofs.Found.{found_heap, found_start}
-use Rattle.os_heap.proofs.KeptPayloads.{IsClaim, is_claim}
-use Rattle.os_heap.proofs.Moving.{found_held}
-use Rattle.os_heap.proofs.Resizing.{larger_where_none}
-use Rattle.os_heap.specs.Calls.{begun, begun_with, changed, copied, end_changed, ending, gave_back, got, has_own_size, holding, holds_anchor, moved, own_size, resized, resized_or_moved, unless_image}
-use Rattle.os_heap.specs.Ranges.{is_heap_region, meets_any}
-use Rattle.os_heap.specs.Store.{IsInBlock, IsSound, Store, find_heap, guest_count, has_image, is_in_flex_store}
+use Rattle.dynamic_areas.specs.profile.specs.Outcome.{Gives, bind}
+use Rattle.dynamic_areas.specs.profile.specs.declared.error.ErrorNumber.{ErrorNumber}
+use Rattle.dynamic_areas.specs.profile.specs.declared.error.ErrorNumber.TheVariants.{HeapHoldsAnchor, HeapBadDesc, HeapBadRegion, HeapOverlaps, HeapTableFull, HeapNotABlock, HeapNoRoom, HeapBadShrink}
+use Rattle.os_heap_slide.specs.address_map.specs.Records.{anchor_among}
+use Rattle.os_heap_slide.specs.address_map.specs.Bytes.{Bytes, in_range, word_start}
+use Rattle.os_heap_slide.specs.address_map.specs.Items.{is_heap_word, is_total, size_of}
+use Rattle.os_heap_slide.specs.address_map.specs.declared.item.Item.{Item}
+use Rattle.os_heap_slide.specs.address_map.specs.declared.region.Kind.{Kind}
+use Rattle.os_heap_slide.specs.address_map.specs.declared.region.Kind.TheVariants as kind
+use Rattle.os_heap_slide.specs.os_heap_lists.proofs.LiveBlocks.{LiveBytes, live_bytes, live_apart}
+use Rattle.os_heap_slide.specs.os_heap_lists.proofs.Payloads.{heap_beside, payload_unspelled, spelled_inside}
+use Rattle.os_heap_slide.specs.os_heap_lists.proofs.Spelling.{total_of-numbers}
+use Rattle.os_heap_slide.specs.os_heap_lists.specs.Heap.{AreTotals, HeapList, IsHeapIn, with_heap}
+use Rattle.os_heap_slide.specs.os_heap_lists.specs.Lists.{Claim, changed_by, claimed, live_total, released, resized_in_place, round_up_8, total_for}
+use Rattle.os_heap_slide.specs.os_heap_lists.specs.Marks.{spells_any}
+use Rattle.os_heap_slide.specs.os_heap.proofs.Added.{can_hold}
+use Rattle.os_heap_slide.specs.os_heap.proofs.Anchored.{IsPlacedBy, header_outside, place_in}
+use Rattle.os_heap_slide.specs.os_heap.proofs.Apart.{range_parts}
+use Rattle.os_heap_slide.specs.os_heap.proofs.FlexSound.{flex_unspelled, place_unspelled}
+use Rattle.os_heap_slide.specs.os_heap.proofs.Found.{found_heap, found_start}
+use Rattle.os_heap_slide.specs.os_heap.proofs.KeptPayloads.{IsClaim, is_claim}
+use Rattle.os_heap_slide.specs.os_heap.proofs.Moving.{found_held}
+use Rattle.os_heap_slide.specs.os_heap.proofs.Resizing.{larger_where_none}
+use Rattle.os_heap_slide.specs.os_heap.specs.Calls.{begun, begun_with, changed, copied, end_changed, ending, gave_back, got, has_own_size, holding, holds_anchor, moved, own_size, resized, resized_or_moved, unless_image}
+use Rattle.os_heap_slide.specs.os_heap.specs.Ranges.{is_heap_region, meets_any}
+use Rattle.os_heap_slide.specs.os_heap.specs.Store.{IsInBlock, IsSound, Store, find_heap, guest_count, has_image, is_in_flex_store}
 use Rattle.flex_kept.proofs.Keeping.{keeps_equal}
 use Rattle.flex_kept.specs.Keeping.{AreAnchorsFree, IsUnanchored, KeepsFlex, is_flex_byte}
 use Rattle.flex_kept.specs.Laws.{HeapCallsKeepFlex}

@@ -1,10 +1,10 @@
 -- Calls one after another keep the flex store as each does.
 use Rattle.std.proofs.Common.{ℕ, ◌≡◌, ◌&&◌, ◌||◌, ◌∙◌, Bool, false, List, [], ◌∷◌, refl, sym, ap, subst, inl, inr}
 use Rattle.std.proofs.lemmas.Bool.{cases_Bool, false_from_ne_true}
-use Rattle.address_map.specs.Bytes.{in_range}
-use Rattle.address_map.specs.declared.region.Region.{Region}
-use Rattle.os_heap.proofs.Anchored.{not_flex}
-use Rattle.os_heap.specs.Store.{Store, is_flex_store, is_image, is_in_flex_store}
+use Rattle.os_heap_slide.specs.address_map.specs.Bytes.{in_range}
+use Rattle.os_heap_slide.specs.address_map.specs.declared.region.Region.{Region}
+use Rattle.os_heap_slide.specs.os_heap.proofs.Anchored.{not_flex}
+use Rattle.os_heap_slide.specs.os_heap.specs.Store.{Store, is_flex_store, is_image, is_in_flex_store}
 use Rattle.flex_kept.specs.Keeping.{IsFlexKept, KeepsFlex, beside_images, is_flex_byte}
 
 -- the flex store's range is one beside the module images

@@ -1,27 +1,27 @@
 -- The slide of the module area keeps the flex store: a block with an anchor stays, and what moves goes where no anchor lies.
 use Rattle.std.proofs.Common.{ℕ, Bool, List, [], ◌∷◌, ◌≡◌, ◌≤◌, ◌<◌, ◌⊎◌, ◌+◌, ◌-◌, ◌∙◌, true, false, refl, sym, ap, subst, inl, inr, Option, Some, None, length, arith}
 use Rattle.std.proofs.lemmas.Bool.{both_ways, cases_Bool, cases_eq, false_from_ne_true, false≢true, le-leb, lt-ltb, or_cases, or_from, or_parts}
-use Rattle.address_map.proofs.Anchors.{none_among}
-use Rattle.address_map.proofs.Stores.{in_range-cases}
-use Rattle.address_map.specs.Bytes.{Bytes, in_range, word_start}
-use Rattle.address_map.specs.Items.{is_heap_word, size_of}
-use Rattle.address_map.specs.Moves.{moved_place, moved_regions, moved_to}
-use Rattle.address_map.specs.Records.{anchor_among}
-use Rattle.address_map.specs.declared.follow.Move.{Move}
-use Rattle.address_map.specs.declared.region.Kind.{Kind}
-use Rattle.address_map.specs.declared.region.Kind.TheVariants as kind
-use Rattle.address_map.specs.declared.region.Region.{Region}
-use Rattle.os_heap_lists.proofs.LiveBlocks.{LiveBytes, live_bytes}
-use Rattle.os_heap_lists.proofs.Payloads.{heap_beside, spelled_inside}
-use Rattle.os_heap_lists.specs.Heap.{HeapList, IsHeapIn}
-use Rattle.os_heap_lists.specs.Lists.{live_total}
-use Rattle.os_heap.proofs.Anchored.{header_outside, place_in}
-use Rattle.os_heap.proofs.Apart.{block_inside, one_block, range_parts}
-use Rattle.os_heap.proofs.Found.{found_heap, found_start}
-use Rattle.os_heap.proofs.Moving.{found_held}
-use Rattle.os_heap.proofs.Stores.{AreOthers, are_others, clear_of-found}
-use Rattle.os_heap.specs.Calls.{OfHeap, holds_anchor}
-use Rattle.os_heap.specs.Store.{AreHeapsIn, ArePlaced, find_heap, is_image, is_in_flex_store, IsClearOfHeaps, IsImageBlock, IsImageIn, IsInBlock, IsSound, Store}
+use Rattle.os_heap_slide.specs.address_map.proofs.Anchors.{none_among}
+use Rattle.os_heap_slide.specs.address_map.proofs.Stores.{in_range-cases}
+use Rattle.os_heap_slide.specs.address_map.specs.Bytes.{Bytes, in_range, word_start}
+use Rattle.os_heap_slide.specs.address_map.specs.Items.{is_heap_word, size_of}
+use Rattle.os_heap_slide.specs.address_map.specs.Moves.{moved_place, moved_regions, moved_to}
+use Rattle.os_heap_slide.specs.address_map.specs.Records.{anchor_among}
+use Rattle.os_heap_slide.specs.address_map.specs.declared.follow.Move.{Move}
+use Rattle.os_heap_slide.specs.address_map.specs.declared.region.Kind.{Kind}
+use Rattle.os_heap_slide.specs.address_map.specs.declared.region.Kind.TheVariants as kind
+use Rattle.os_heap_slide.specs.address_map.specs.declared.region.Region.{Region}
+use Rattle.os_heap_slide.specs.os_heap_lists.proofs.LiveBlocks.{LiveBytes, live_bytes}
+use Rattle.os_heap_slide.specs.os_heap_lists.proofs.Payloads.{heap_beside, spelled_inside}
+use Rattle.os_heap_slide.specs.os_heap_lists.specs.Heap.{HeapList, IsHeapIn}
+use Rattle.os_heap_slide.specs.os_heap_lists.specs.Lists.{live_total}
+use Rattle.os_heap_slide.specs.os_heap.proofs.Anchored.{header_outside, place_in}
+use Rattle.os_heap_slide.specs.os_heap.proofs.Apart.{block_inside, one_block, range_parts}
+use Rattle.os_heap_slide.specs.os_heap.proofs.Found.{found_heap, found_start}
+use Rattle.os_heap_slide.specs.os_heap.proofs.Moving.{found_held}
+use Rattle.os_heap_slide.specs.os_heap.proofs.Stores.{AreOthers, are_others, clear_of-found}
+use Rattle.os_heap_slide.specs.os_heap.specs.Calls.{OfHeap, holds_anchor}
+use Rattle.os_heap_slide.specs.os_heap.specs.Store.{AreHeapsIn, ArePlaced, find_heap, is_image, is_in_flex_store, IsClearOfHeaps, IsImageBlock, IsImageIn, IsInBlock, IsSound, Store}
 use Rattle.os_heap_slide.proofs.KeptBlocks.{slide_keeps_blocks}
 use Rattle.os_heap_slide.proofs.Places.{bytes_low, bytes_past, moved_live, moved_stays, stay_distinct}
 use Rattle.os_heap_slide.proofs.Records.{IsSlide, image_place, moves_in, out_still, slid_in, still_place}

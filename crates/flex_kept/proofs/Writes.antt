@@ -1,21 +1,21 @@
 -- Writes to the system pages and to a live block of the module area, and records of module images, keep the flex store.
 use Rattle.std.proofs.Common.{ℕ, ◌≡◌, ◌≤◌, ◌<◌, ◌+◌, ◌-◌, ◌==◌, ◌&&◌, true, false, Option, Some, None, List, [], ◌∷◌, ◌++◌, refl, ap, subst, ◌∙◌, inl, inr, arith}
 use Rattle.std.proofs.lemmas.Bool.{and_parts, both_ways, cases_Bool, false_from_ne_true, false≢true, le-leb, lt-ltb, or_cases, or_from, or_parts}
-use Rattle.address_map.proofs.Anchors.{none_among}
-use Rattle.address_map.specs.Bytes.{Bytes, in_range}
-use Rattle.address_map.specs.Items.{size_of}
-use Rattle.address_map.specs.Records.{anchor_among, are_same, is_record, without_region}
-use Rattle.address_map.specs.declared.region.Kind.{Kind}
-use Rattle.address_map.specs.declared.region.Kind.TheVariants as kind
-use Rattle.address_map.specs.declared.region.Region.{Region}
-use Rattle.os_heap_lists.proofs.LiveBlocks.{LiveBytes, live_bytes}
-use Rattle.os_heap_lists.specs.Heap.{HeapList, IsHeapIn}
-use Rattle.os_heap_lists.specs.Lists.{live_total}
-use Rattle.os_heap.proofs.Anchored.{header_outside}
-use Rattle.os_heap.proofs.Apart.{range_parts}
-use Rattle.os_heap.proofs.Found.{found_heap}
-use Rattle.os_heap.specs.Calls.{OfHeap}
-use Rattle.os_heap.specs.Store.{AreClear, AreRangesApart, IsClearOfRanges, IsSound, Store, find_heap, is_flex_store, is_image, is_in_flex_store}
+use Rattle.os_heap_slide.specs.address_map.proofs.Anchors.{none_among}
+use Rattle.os_heap_slide.specs.address_map.specs.Bytes.{Bytes, in_range}
+use Rattle.os_heap_slide.specs.address_map.specs.Items.{size_of}
+use Rattle.os_heap_slide.specs.address_map.specs.Records.{anchor_among, are_same, is_record, without_region}
+use Rattle.os_heap_slide.specs.address_map.specs.declared.region.Kind.{Kind}
+use Rattle.os_heap_slide.specs.address_map.specs.declared.region.Kind.TheVariants as kind
+use Rattle.os_heap_slide.specs.address_map.specs.declared.region.Region.{Region}
+use Rattle.os_heap_slide.specs.os_heap_lists.proofs.LiveBlocks.{LiveBytes, live_bytes}
+use Rattle.os_heap_slide.specs.os_heap_lists.specs.Heap.{HeapList, IsHeapIn}
+use Rattle.os_heap_slide.specs.os_heap_lists.specs.Lists.{live_total}
+use Rattle.os_heap_slide.specs.os_heap.proofs.Anchored.{header_outside}
+use Rattle.os_heap_slide.specs.os_heap.proofs.Apart.{range_parts}
+use Rattle.os_heap_slide.specs.os_heap.proofs.Found.{found_heap}
+use Rattle.os_heap_slide.specs.os_heap.specs.Calls.{OfHeap}
+use Rattle.os_heap_slide.specs.os_heap.specs.Store.{AreClear, AreRangesApart, IsClearOfRanges, IsSound, Store, find_heap, is_flex_store, is_image, is_in_flex_store}
 use Rattle.dynamic_areas.specs.Ground.{IsRecorded, system_pages}
 use Rattle.flex_kept.proofs.Heaps.{writes_keep}
 use Rattle.flex_kept.specs.Keeping.{AreAnchorsFree, IsUnanchored, KeepsFlex, beside_images, is_flex_byte, is_in_record}

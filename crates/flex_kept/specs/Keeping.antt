@@ -2,9 +2,9 @@
 -- flex call changes them; what a flex store is of this machine's is this project's own).
 use Rattle.std.specs.Prelude.{ℕ, ◌≡◌, ◌||◌, Bool, true, false, List, [], ◌∷◌, if◌then◌else◌}
 use Rattle.std.specs.List.{list_any}
-use Rattle.address_map.specs.Bytes.{in_range}
-use Rattle.address_map.specs.declared.region.Region.{Region}
-use Rattle.os_heap.specs.Store.{Store, is_image, is_in_flex_store}
+use Rattle.os_heap_slide.specs.address_map.specs.Bytes.{in_range}
+use Rattle.os_heap_slide.specs.address_map.specs.declared.region.Region.{Region}
+use Rattle.os_heap_slide.specs.os_heap.specs.Store.{Store, is_image, is_in_flex_store}
 
 -- is a byte in a recorded range that is no heap?
 abbrev pub is_in_record : List Region → ℕ → Bool

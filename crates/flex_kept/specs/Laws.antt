@@ -1,14 +1,14 @@
 -- The calls on heaps, on areas and on module images keep the flex store, and so do writes beside it: each of them, in every sound store.
 use Rattle.std.specs.Prelude.{ℕ, ◌≡◌, ◌+◌, ◌-◌, ◌*◌, false, Some, Result, Ok, List, [], ◌∷◌, ◌++◌}
-use Rattle.profile.specs.Outcome.{Gives}
-use Rattle.profile.specs.declared.error.ErrorNumber.{ErrorNumber}
-use Rattle.address_map.specs.Bytes.{Bytes, in_range}
-use Rattle.address_map.specs.Records.{anchor_among, without_region}
-use Rattle.address_map.specs.declared.follow.Move.{Move}
-use Rattle.address_map.specs.declared.region.Kind.TheVariants as kind
-use Rattle.os_heap_lists.specs.Lists.{live_total}
-use Rattle.os_heap.specs.Calls.{OfHeap, begun, changed, gave_back, got, resized}
-use Rattle.os_heap.specs.Store.{Store, IsSound, find_heap}
+use Rattle.dynamic_areas.specs.profile.specs.Outcome.{Gives}
+use Rattle.dynamic_areas.specs.profile.specs.declared.error.ErrorNumber.{ErrorNumber}
+use Rattle.os_heap_slide.specs.address_map.specs.Bytes.{Bytes, in_range}
+use Rattle.os_heap_slide.specs.address_map.specs.Records.{anchor_among, without_region}
+use Rattle.os_heap_slide.specs.address_map.specs.declared.follow.Move.{Move}
+use Rattle.os_heap_slide.specs.address_map.specs.declared.region.Kind.TheVariants as kind
+use Rattle.os_heap_slide.specs.os_heap_lists.specs.Lists.{live_total}
+use Rattle.os_heap_slide.specs.os_heap.specs.Calls.{OfHeap, begun, changed, gave_back, got, resized}
+use Rattle.os_heap_slide.specs.os_heap.specs.Store.{Store, IsSound, find_heap}
 use Rattle.os_heap_slide.specs.Slide.{IsSlid, MaySlide}
 use Rattle.dynamic_areas.specs.declared.area.Created.{Created}
 use Rattle.dynamic_areas.specs.declared.area.Wanted.{Wanted}

@@ -1,2 +1,4 @@
+pub use Rattle.os_heap_slide
+pub use Rattle.dynamic_areas
 pub mod Keeping
 pub mod Laws

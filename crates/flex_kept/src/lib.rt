@@ -2,3 +2,6 @@
 #![tactic(auto)]
 
 pub mod laws;
+
+pub use os_heap_slide;
+pub use dynamic_areas;

@@ -3,7 +3,7 @@ use Rattle.std.proofs.Common.{◌≡◌, ℕ, ◌+◌, Bool, true, false, ◌||�
 use Rattle.std.proofs.lemmas.Bool.{cases_Bool, eqb-true, or_parts, true≢false}
 use Rattle.std.proofs.lemmas.Bool.Decides.{nat_tests}
 use Rattle.std.proofs.Math.ListN.{length-append}
-use Rattle.raw_store.specs.Region.{word_bytes}
+use Rattle.address_map.specs.raw_store.specs.Region.{word_bytes}
 use Rattle.flex_store.specs.Blocks.{Block, used, taken, has_anchor, without_block, find_block, is_header}
 use Rattle.flex_store.specs.Memory.{text_of, AreAnchored}
 use Rattle.flex_store.specs.Places.{Split}

@@ -3,7 +3,7 @@ use Rattle.std.proofs.Common.{◌≡◌, ℕ, Bool, ◌+◌, ◌-◌, ◌%◌, �
 use Rattle.std.proofs.lemmas.Bool.{cases_Bool, eqb-true, eqb-false, eq-eqb, ne_eqb, or_from, or_left, or_parts, or_right, true≢false, false≢true}
 use Rattle.profile.specs.Outcome.{Gives}
 use Rattle.profile.specs.declared.error.ErrorNumber.{ErrorNumber}
-use Rattle.raw_store.specs.Region.{word_bytes}
+use Rattle.address_map.specs.raw_store.specs.Region.{word_bytes}
 use Rattle.address_map.proofs.Bytes.{is_mapped-layout}
 use Rattle.address_map.specs.Bytes.{with_word_at, word_start}
 use Rattle.address_map.specs.Classes.{is_anchor, is_flex_header, is_heap_class}

@@ -2,7 +2,7 @@
 use Rattle.std.proofs.Common.{◌≡◌, ℕ, Bool, ◌+◌, ◌%◌, ◌<◌, ◌≤◌, true, false, ◌||◌, nat_eq, List, [], ◌∷◌, ◌++◌, length, arith, refl, sym, ◌∙◌, ap, inl, inr, ◌⊎◌, subst}
 use Rattle.std.proofs.lemmas.Bool.{eqb-true, false_from_ne_true, or_cases, or_parts, true≢false, false≢true}
 use Rattle.std.proofs.Math.ListN.{length-append}
-use Rattle.raw_store.specs.Region.{word_bytes}
+use Rattle.address_map.specs.raw_store.specs.Region.{word_bytes}
 use Rattle.address_map.proofs.Bytes.{is_mapped-layout}
 use Rattle.address_map.specs.Bytes.{with_bytes_at, word_start}
 use Rattle.address_map.specs.Classes.{is_anchor, is_flex_header}

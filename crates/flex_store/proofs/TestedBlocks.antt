@@ -16,7 +16,7 @@ use Rattle.os_heap.proofs.Frame.{classes_empty, classes_same, layout-others}
 use Rattle.os_heap.proofs.Recorded.{recorded_sound, store_recorded}
 use Rattle.os_heap.specs.Calls.{begun, begun_with, got, heap_at, holding}
 use Rattle.os_heap.specs.Ranges.{is_heap_region, meets_any}
-use Rattle.os_heap_lists.specs.Lists.{claimed, total_for}
+use Rattle.os_heap.specs.os_heap_lists.specs.Lists.{claimed, total_for}
 use Rattle.std.specs.Prelude.{if◌then◌else◌, nat_le, not, ok_or, ◌+◌, ◌-◌}
 use Rattle.profile.specs.declared.error.ErrorNumber.TheVariants.{HeapBadRegion, HeapOverlaps, HeapNoRoom, HeapTableFull}
 use Rattle.os_heap.specs.Store.{AreClasses, guest_count, IsSound, others_in, Store, store_of}

@@ -1,3 +1,4 @@
+pub use Rattle.os_heap.specs.os_heap_lists
 pub mod Blocks
 pub mod Calls
 pub mod Changes

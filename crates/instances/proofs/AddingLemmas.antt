@@ -9,17 +9,17 @@ use Rattle.module_header.specs.Header.{header_of}
 use Rattle.module_header.specs.declared.fault.HeaderFault.{HeaderFault}
 use Rattle.module_header.specs.declared.fault.HeaderFault.TheVariants.{Short}
 use Rattle.module_header.specs.declared.header.Header.{Header}
-use Rattle.os_heap.proofs.Added.{are_mapped_all}
-use Rattle.os_heap.specs.Ranges.{are_mapped}
-use Rattle.os_heap.specs.Store.{has_image, is_image}
-use Rattle.dynamic_areas.specs.Ground.{Estate, IsEstate}
-use Rattle.rma.specs.Copies.{has_bare, may_be_copied}
-use Rattle.flex_kept.specs.Keeping.{is_in_record}
-use Rattle.rma.specs.NewImages.{image_record}
+use Rattle.instances_slide.specs.os_heap.proofs.Added.{are_mapped_all}
+use Rattle.instances_slide.specs.os_heap.specs.Ranges.{are_mapped}
+use Rattle.instances_slide.specs.os_heap.specs.Store.{has_image, is_image}
+use Rattle.instances_slide.specs.dynamic_areas.specs.Ground.{Estate, IsEstate}
+use Rattle.instances_slide.specs.rma.specs.Copies.{has_bare, may_be_copied}
+use Rattle.instances_slide.specs.flex_kept.specs.Keeping.{is_in_record}
+use Rattle.instances_slide.specs.rma.specs.NewImages.{image_record}
 use Rattle.instances_table.specs.declared.parts.Image.{Image}
-use Rattle.instances_ground.specs.Sound.{AreSolid, IsWorld}
-use Rattle.instances_ground.specs.World.{World}
-use Rattle.instances_ground.proofs.Worlds.{world_more}
+use Rattle.instances_slide.specs.instances_ground.specs.Sound.{AreSolid, IsWorld}
+use Rattle.instances_slide.specs.instances_ground.specs.World.{World}
+use Rattle.instances_slide.specs.instances_ground.proofs.Worlds.{world_more}
 use Rattle.instances.specs.Adding.{good_header}
 
 -- where no record lies no image begins, since none is empty

@@ -11,8 +11,8 @@ use Rattle.instances_plans.specs.declared.code.Outcome.TheVariants.{Well}
 use Rattle.instances_plans.specs.Carrying.{Advanced, Carried, Doing, advanced, advanced_by, advanced_from, carried, carried_after}
 use Rattle.instances_plans.specs.Plans.{Plan, all_but_first, finished, settled}
 use Rattle.instances_plans.proofs.Carrying.{carries_by_turns}
-use Rattle.instances_ground.specs.Sound.{IsWorld}
-use Rattle.instances_ground.specs.World.{World}
+use Rattle.instances_slide.specs.instances_ground.specs.Sound.{IsWorld}
+use Rattle.instances_slide.specs.instances_ground.specs.World.{World}
 use Rattle.instances_actions.specs.Pending.{is_pending, pending_by, pending_of}
 use Rattle.instances.specs.Turns.{IsUnderWay, module_doing}
 

@@ -7,7 +7,7 @@ use Rattle.profile.specs.Outcome.{Leaves, bind}
 use Rattle.profile.specs.declared.error.ErrorNumber.{ErrorNumber}
 use Rattle.profile.specs.declared.error.ErrorNumber.TheVariants.{InstanceExists}
 use Rattle.module_header.specs.declared.header.Header.{Header}
-use Rattle.dynamic_areas.specs.Ground.{Estate, IsEstate}
+use Rattle.instances_slide.specs.dynamic_areas.specs.Ground.{Estate, IsEstate}
 use Rattle.instances_plans.specs.declared.action.Action.{Action}
 use Rattle.instances_plans.specs.declared.action.Action.TheVariants.{Finalise, Remove, FreePrivate, Insert, Instantiate, GiveUp, Slide, Initialise}
 use Rattle.instances_plans.specs.declared.given.Given.{Given}
@@ -18,9 +18,9 @@ use Rattle.instances_table.specs.Changes.{is_named, named, preferring, renamed, 
 use Rattle.instances_table.specs.Lookup.{place_meant, slot_at}
 use Rattle.instances_table.specs.Modules.{Instance, Module, changed_at, slots_of}
 use Rattle.instances_table.specs.Names.{name_given, new_name, parted}
-use Rattle.instances_ground.specs.Sound.{IsWorld, images_of}
-use Rattle.instances_ground.specs.World.{World}
-use Rattle.instances_ground.proofs.Worlds.{world_kept, world_renewed}
+use Rattle.instances_slide.specs.instances_ground.specs.Sound.{IsWorld, images_of}
+use Rattle.instances_slide.specs.instances_ground.specs.World.{World}
+use Rattle.instances_slide.specs.instances_ground.proofs.Worlds.{world_kept, world_renewed}
 use Rattle.instances_actions.specs.Pending.{IsSettledOnce, pending_of, slots_titled}
 use Rattle.instances_actions.specs.Ready.{CanNameFirst, IsReady, instantiates}
 use Rattle.instances_actions.proofs.Slots.{slots_in}

@@ -9,9 +9,9 @@ use Rattle.address_map.specs.Bytes.{bytes_between}
 use Rattle.module_header.specs.declared.fault.HeaderFault.{HeaderFault}
 use Rattle.module_header.specs.declared.header.Header.{Header}
 use Rattle.module_header.specs.Header.{header_of}
-use Rattle.rma.specs.Calls.{with_store}
-use Rattle.rma.specs.Copies.{may_be_copied}
-use Rattle.rma.specs.NewImages.{image_copied, image_made, may_be_in_place, with_image_in_place}
+use Rattle.instances_slide.specs.rma.specs.Calls.{with_store}
+use Rattle.instances_slide.specs.rma.specs.Copies.{may_be_copied}
+use Rattle.instances_slide.specs.rma.specs.NewImages.{image_copied, image_made, may_be_in_place, with_image_in_place}
 use Rattle.instances_plans.specs.declared.action.Action.{Action}
 use Rattle.instances_plans.specs.declared.action.Action.TheVariants.{GiveUp, Initialise, Insert}
 use Rattle.instances_plans.specs.Calls.{clear_actions, delete_plan, reinit_plan}
@@ -22,7 +22,7 @@ use Rattle.instances_table.specs.declared.parts.Place.{Place}
 use Rattle.instances_table.specs.Changes.{instance_room, titled}
 use Rattle.instances_table.specs.Lookup.{looked_up, module_at, slot_at}
 use Rattle.instances_table.specs.Modules.{Module, slots_of}
-use Rattle.instances_ground.specs.World.{World}
+use Rattle.instances_slide.specs.instances_ground.specs.World.{World}
 use Rattle.instances_actions.specs.Ready.{IsReady}
 use Rattle.instances_actions.proofs.Used.{others_stay}
 use Rattle.instances.specs.Adding.{adding_plan, copying, good_header, inserting, instantiation, loading, slot_for}

@@ -21,7 +21,7 @@ use Rattle.instances_table.specs.Additions.{added_to}
 use Rattle.instances_table.specs.Changes.{is_held, is_new, new_module, still, with_instance, with_module, without_first, without_instance}
 use Rattle.instances_table.specs.Lookup.{number_of_title, place_of_slot}
 use Rattle.instances_table.specs.Modules.{Instance, Module, changed_at, has_instance, has_slot, slots_of}
-use Rattle.instances_ground.specs.World.{World, removed}
+use Rattle.instances_slide.specs.instances_ground.specs.World.{World, removed}
 use Rattle.instances_actions.specs.Actions.{acted, image_given, with_another, with_new}
 use Rattle.instances_actions.specs.Codes.{code_among, code_at, entered, entered_at, entered_in, entry_of, fatal_word}
 use Rattle.instances_actions.specs.Ready.{IsSlid, outline}

@@ -3,8 +3,8 @@ use Rattle.std.proofs.Common.{◌≡◌, ℕ, Bool, true, false, Some, None, inl
 use Rattle.std.specs.Prelude.{Option, if◌then◌else◌}
 use Rattle.std.proofs.lemmas.Bool.{cases_Bool, false≢true}
 use Rattle.address_map.specs.declared.follow.Move.{Move}
-use Rattle.os_heap_lists.specs.Heap.{HeapList}
-use Rattle.os_heap.specs.Store.{find_heap}
+use Rattle.instances_slide.specs.os_heap_lists.specs.Heap.{HeapList}
+use Rattle.instances_slide.specs.os_heap.specs.Store.{find_heap}
 use Rattle.instances_plans.specs.declared.action.Action.{Action}
 use Rattle.instances_plans.specs.declared.action.Action.TheVariants.{Finalise, Remove, FreePrivate, Insert, Instantiate, GiveUp, Slide, Initialise}
 use Rattle.instances_plans.specs.declared.code.Advance.TheVariants as advance
@@ -16,8 +16,8 @@ use Rattle.instances_plans.specs.Carrying.{Advanced, Doing, advanced, advanced_b
 use Rattle.instances_plans.specs.Plans.{Plan, end_by, finished, first_of, refused, settled, settled_by, started}
 use Rattle.instances_table.specs.declared.parts.Image.{Image}
 use Rattle.instances_table.specs.Modules.{AreModules, Module}
-use Rattle.instances_ground.specs.Sound.{IsWorld}
-use Rattle.instances_ground.specs.World.{World, removed}
+use Rattle.instances_slide.specs.instances_ground.specs.Sound.{IsWorld}
+use Rattle.instances_slide.specs.instances_ground.specs.World.{World, removed}
 use Rattle.instances_actions.specs.Actions.{acted, image_given}
 use Rattle.instances_actions.specs.Codes.{code_among}
 use Rattle.instances_actions.specs.Pending.{pending_of, settles}

@@ -9,16 +9,16 @@ use Rattle.address_map.specs.Bytes.{bytes_between}
 use Rattle.module_header.specs.Header.{header_of}
 use Rattle.module_header.specs.declared.fault.HeaderFault.{HeaderFault}
 use Rattle.module_header.specs.declared.header.Header.{Header}
-use Rattle.rma.specs.Calls.{with_store}
-use Rattle.rma.specs.Copies.{may_be_copied}
-use Rattle.rma.specs.NewImages.{image_copied, image_made, may_be_in_place, with_image_in_place}
+use Rattle.instances_slide.specs.rma.specs.Calls.{with_store}
+use Rattle.instances_slide.specs.rma.specs.Copies.{may_be_copied}
+use Rattle.instances_slide.specs.rma.specs.NewImages.{image_copied, image_made, may_be_in_place, with_image_in_place}
 use Rattle.instances_plans.specs.Calls.{instantiate_plan, load_plan}
 use Rattle.instances_plans.specs.Plans.{Plan}
 use Rattle.instances_table.specs.declared.parts.Image.{Image}
 use Rattle.instances_table.specs.Modules.{Module, slots_of}
 use Rattle.instances_table.specs.Changes.{free_slot_for, instance_room, titled}
 use Rattle.instances_table.specs.Lookup.{module_at}
-use Rattle.instances_ground.specs.World.{World}
+use Rattle.instances_slide.specs.instances_ground.specs.World.{World}
 use Rattle.instances.specs.Given.{given_instance, given_module}
 
 -- Reason 14: a new instance of a module that is there, with its name, and a text

@@ -1,3 +1,4 @@
+pub use Rattle.instances_actions
 pub mod Adding
 pub mod Given
 pub mod Naming

@@ -5,8 +5,8 @@ use Rattle.instances_plans.specs.declared.action.Action.{Action}
 use Rattle.instances_plans.specs.declared.action.Action.TheVariants.{Finalise, Initialise}
 use Rattle.instances_plans.specs.Carrying.{Doing}
 use Rattle.instances_plans.specs.Plans.{Plan, first_of}
-use Rattle.instances_ground.specs.Sound.{IsWorld}
-use Rattle.instances_ground.specs.World.{World}
+use Rattle.instances_slide.specs.instances_ground.specs.Sound.{IsWorld}
+use Rattle.instances_slide.specs.instances_ground.specs.World.{World}
 use Rattle.instances_actions.specs.Actions.{doing}
 use Rattle.instances_actions.specs.Pending.{pending_of}
 use Rattle.instances_actions.specs.Ready.{IsReady}

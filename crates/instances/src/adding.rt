@@ -3,25 +3,25 @@ ghost use Rattle.std.specs.Prelude.{◌≡◌, ◌≤◌, ◌<◌, ◌∷◌, []
 ghost use Rattle.profile.specs.Outcome.{Gives};
 ghost use Rattle.address_map.specs.Bytes.{bytes_between, AreMapped};
 ghost use Rattle.address_map.specs.Memory.{is_mapped};
-ghost use Rattle.os_heap.specs.Store.{store_of, AreClasses};
-ghost use Rattle.flex_kept.specs.Keeping.{KeepsFlex};
+ghost use Rattle.instances_slide.specs.os_heap.specs.Store.{store_of, AreClasses};
+ghost use Rattle.instances_slide.specs.flex_kept.specs.Keeping.{KeepsFlex};
 ghost use Rattle.module_header.specs.Header.{header_of};
 ghost use Rattle.instances_actions.specs.Pending.{pending_of};
 ghost use Rattle.instances_actions.specs.Ready.{IsReady};
 ghost use Rattle.instances_table.specs.Changes.{is_held, titled_otherwise};
-ghost use Rattle.instances_ground.specs.Sound.{IsWorld};
-ghost use Rattle.instances_ground.specs.World.{world_of};
+ghost use Rattle.instances_slide.specs.instances_ground.specs.Sound.{IsWorld};
+ghost use Rattle.instances_slide.specs.instances_ground.specs.World.{world_of};
 ghost use Rattle.instances.specs.Adding.{adding_plan, good_header, loading, slot_for};
 
 use crate::given::given_module;
 use crate::instances::Instances;
 use address_map::AddressMap;
-use dynamic_areas::Areas;
+use instances_slide::dynamic_areas::Areas;
 use instances_plans::Plan;
 use instances_table::Image;
 use module_header::{Header, HeaderFault};
 use profile::ErrorNumber;
-use rma::Rma;
+use instances_slide::rma::Rma;
 
 impl Instances {
     /// Loads a module: its image gets a block of the module area at once. Then the instances of an older module of its title are finalised and removed,
@@ -33,7 +33,7 @@ impl Instances {
     /// instances, and none of a module of the title; `RmaNoRoom` where the module area has no room for the image, and can't grow by as much.
     ///
     /// RISC OS 3 Programmer's Reference Manual, "OS_Module", reason 1.
-    #[tactic(auto, unfolding(crate::specs::Adding::loading), using(flex_kept::proofs::Keeping::keeps_same))]
+    #[tactic(auto, unfolding(crate::specs::Adding::loading), using(instances_slide::specs::flex_kept::proofs::Keeping::keeps_same))]
     pub fn load(
         &self,
         map: &mut AddressMap,
@@ -91,7 +91,7 @@ impl Instances {
 }
 
 /// The header of an image that stands in memory.
-#[tactic(auto, unfolding(os_heap::specs::Store::store_of))]
+#[tactic(auto, unfolding(instances_slide::specs::os_heap::specs::Store::store_of))]
 pub(crate) fn header_at(map: &AddressMap, at: u32, len: u32) -> Result<Header, ErrorNumber>
     requires { AreMapped (is_mapped map.now) at len }
     ensures value { result ≡ good_header (header_of (bytes_between (store_of map.now).bytes.at at len)) }

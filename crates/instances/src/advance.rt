@@ -1,11 +1,11 @@
 //! What is left of a call is done, action by action, up to the next entry of module code.
 ghost use Rattle.std.specs.Prelude.{◌≡◌, [], None, Some};
-ghost use Rattle.os_heap.specs.Store.{AreClasses, store_of};
-ghost use Rattle.flex_kept.specs.Keeping.{KeepsFlex};
+ghost use Rattle.instances_slide.specs.os_heap.specs.Store.{AreClasses, store_of};
+ghost use Rattle.instances_slide.specs.flex_kept.specs.Keeping.{KeepsFlex};
 ghost use Rattle.instances_plans.specs.Carrying.{advanced, carried};
 ghost use Rattle.instances_plans.specs.Plans.{finished, first_of, settled};
-ghost use Rattle.instances_ground.specs.Sound.{IsWorld};
-ghost use Rattle.instances_ground.specs.World.{world_of};
+ghost use Rattle.instances_slide.specs.instances_ground.specs.Sound.{IsWorld};
+ghost use Rattle.instances_slide.specs.instances_ground.specs.World.{world_of};
 ghost use Rattle.instances_actions.specs.Actions.{acted};
 ghost use Rattle.instances_actions.specs.Pending.{pending_of};
 ghost use Rattle.instances_slide.specs.Slid.{world_slid};
@@ -14,7 +14,7 @@ ghost use Rattle.instances.specs.Turns.{IsUnderWay, module_doing};
 
 use crate::instances::Instances;
 use address_map::AddressMap;
-use dynamic_areas::Areas;
+use instances_slide::dynamic_areas::Areas;
 use instances_actions::{act, code_of};
 use instances_plans::{Action, Advance, Code, Outcome, Plan};
 use instances_slide::slide;
@@ -24,7 +24,7 @@ impl Instances {
     /// is to be entered, which is the answer, or to the end of the call, where there is none.
     ///
     /// RISC OS 3 Programmer's Reference Manual, "Modules"; the order of actions is that of "OS_Module".
-    #[tactic(auto, using(flex_kept::proofs::Keeping::keeps_same))]
+    #[tactic(auto, using(instances_slide::specs::flex_kept::proofs::Keeping::keeps_same))]
     pub fn carry(
         &mut self,
         map: &mut AddressMap,
@@ -54,7 +54,7 @@ impl Instances {
 
     /// One turn of a call: the code that was under way, if any was, has come back; then one action is done, or its own part is, and its code is to be
     /// entered.
-    #[tactic(auto, using(flex_kept::proofs::Keeping::keeps_same))]
+    #[tactic(auto, using(instances_slide::specs::flex_kept::proofs::Keeping::keeps_same))]
     pub fn advance(
         &mut self,
         map: &mut AddressMap,

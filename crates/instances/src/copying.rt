@@ -1,22 +1,22 @@
 //! The call that adds a module whose image is a copy of bytes in memory.
 ghost use Rattle.std.specs.Prelude.{◌≡◌, [], false, IfOk};
 ghost use Rattle.profile.specs.Outcome.{Gives};
-ghost use Rattle.os_heap.specs.Store.{AreClasses, store_of};
-ghost use Rattle.flex_kept.specs.Keeping.{KeepsFlex};
+ghost use Rattle.instances_slide.specs.os_heap.specs.Store.{AreClasses, store_of};
+ghost use Rattle.instances_slide.specs.flex_kept.specs.Keeping.{KeepsFlex};
 ghost use Rattle.instances_actions.specs.Pending.{pending_of};
 ghost use Rattle.instances_actions.specs.Ready.{IsReady};
-ghost use Rattle.instances_ground.specs.Sound.{IsWorld};
-ghost use Rattle.instances_ground.specs.World.{world_of};
+ghost use Rattle.instances_slide.specs.instances_ground.specs.Sound.{IsWorld};
+ghost use Rattle.instances_slide.specs.instances_ground.specs.World.{world_of};
 ghost use Rattle.instances.specs.Adding.{copying};
 
 use crate::adding::header_at;
 use crate::instances::Instances;
 use address_map::AddressMap;
-use dynamic_areas::Areas;
+use instances_slide::dynamic_areas::Areas;
 use instances_plans::Plan;
 use instances_table::Image;
 use profile::ErrorNumber;
-use rma::Rma;
+use instances_slide::rma::Rma;
 
 impl Instances {
     /// Inserts a module whose image is a copy of the `len` bytes from an address on: it gets a block of the module area at once. All else is as in
@@ -29,7 +29,7 @@ impl Instances {
     /// the title; `RmaNoRoom` where the module area has no room for the image, and can't grow by as much.
     ///
     /// RISC OS 3 Programmer's Reference Manual, "OS_Module", reason 11.
-    #[tactic(auto, unfolding(crate::specs::Adding::copying), using(flex_kept::proofs::Keeping::keeps_same))]
+    #[tactic(auto, unfolding(crate::specs::Adding::copying), using(instances_slide::specs::flex_kept::proofs::Keeping::keeps_same))]
     pub fn insert_copy(
         &self,
         map: &mut AddressMap,

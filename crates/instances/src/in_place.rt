@@ -1,22 +1,22 @@
 //! The call that adds a module whose image stays where it stands.
 ghost use Rattle.std.specs.Prelude.{◌≡◌, ◌∷◌, [], false, IfOk};
 ghost use Rattle.profile.specs.Outcome.{Gives};
-ghost use Rattle.os_heap.specs.Store.{AreClasses, store_of};
-ghost use Rattle.flex_kept.specs.Keeping.{KeepsFlex};
+ghost use Rattle.instances_slide.specs.os_heap.specs.Store.{AreClasses, store_of};
+ghost use Rattle.instances_slide.specs.flex_kept.specs.Keeping.{KeepsFlex};
 ghost use Rattle.instances_actions.specs.Pending.{pending_of};
 ghost use Rattle.instances_actions.specs.Ready.{IsReady};
-ghost use Rattle.instances_ground.specs.Sound.{IsWorld};
-ghost use Rattle.instances_ground.specs.World.{world_of};
+ghost use Rattle.instances_slide.specs.instances_ground.specs.Sound.{IsWorld};
+ghost use Rattle.instances_slide.specs.instances_ground.specs.World.{world_of};
 ghost use Rattle.instances.specs.Adding.{inserting};
 
 use crate::adding::header_at;
 use crate::instances::Instances;
 use address_map::AddressMap;
-use dynamic_areas::Areas;
+use instances_slide::dynamic_areas::Areas;
 use instances_plans::Plan;
 use instances_table::Image;
 use profile::ErrorNumber;
-use rma::Rma;
+use instances_slide::rma::Rma;
 
 impl Instances {
     /// Inserts a module whose image is the `len` bytes from an address on, which are recorded as an image at once. All else is as in `load`, with an
@@ -29,7 +29,7 @@ impl Instances {
     /// module of the title.
     ///
     /// RISC OS 3 Programmer's Reference Manual, "OS_Module", reason 10.
-    #[tactic(auto, unfolding(crate::specs::Adding::inserting), using(flex_kept::proofs::Keeping::keeps_same))]
+    #[tactic(auto, unfolding(crate::specs::Adding::inserting), using(instances_slide::specs::flex_kept::proofs::Keeping::keeps_same))]
     pub fn insert_in_place(
         &self,
         map: &mut AddressMap,

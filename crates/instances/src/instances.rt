@@ -2,7 +2,7 @@ ghost use Rattle.std.specs.Prelude.{◌≡◌, ◌<◌, [], Option, option_map, 
 ghost use Rattle.profile.specs.Outcome.{Leaves};
 ghost use Rattle.address_map.specs.Bytes.{AreMapped};
 ghost use Rattle.address_map.specs.Memory.{byte_at, is_mapped};
-ghost use Rattle.dynamic_areas.specs.Ground.{Estate};
+ghost use Rattle.instances_slide.specs.dynamic_areas.specs.Ground.{Estate};
 ghost use Rattle.instances_plans.specs.Plans.{Plan};
 ghost use Rattle.instances_table.specs.Lookup.{told_of_module, told_of_place};
 ghost use Rattle.instances_table.specs.Changes.{preferring, renamed};
@@ -12,7 +12,7 @@ ghost use Rattle.instances.specs.Turns.{MayGoOn};
 
 use crate::answers::{Found, Told};
 use address_map::AddressMap;
-use instances_ground::private_value;
+use instances_slide::instances_ground::private_value;
 use instances_table::{InstanceInfo, InstanceTable, ModuleInfo, Place};
 use profile::ErrorNumber;
 use std::marker::Model;

@@ -1,15 +1,15 @@
 -- The estate after a record of an image went, and what calls keep that leave the layout of memory.
 use Rattle.std.proofs.Common.{◌≡◌, ℕ, sym, ap, subst, ◌∙◌}
 use Rattle.std.specs.Prelude.{is_some}
-use Rattle.address_map.specs.declared.map.AddressMap.{AddressMap}
-use Rattle.address_map.specs.Memory.{Layout, Mapping, free_pages, layout, mapping}
-use Rattle.address_map.specs.Records.{without_region}
-use Rattle.address_map.specs.declared.region.Kind.TheVariants as kind
-use Rattle.os_heap.specs.Store.{IsSound, Store, others_in, store_of}
-use Rattle.dynamic_areas.specs.Areas.{Land}
-use Rattle.dynamic_areas.specs.Ground.{IsRecorded, estate_of, system_pages}
-use Rattle.rma.specs.Calls.{with_store}
-use Rattle.rma.specs.Images.{image_dropped, image_freed}
+use Rattle.instances_ground.specs.address_map.specs.declared.map.AddressMap.{AddressMap}
+use Rattle.instances_ground.specs.address_map.specs.Memory.{Layout, Mapping, free_pages, layout, mapping}
+use Rattle.instances_ground.specs.address_map.specs.Records.{without_region}
+use Rattle.instances_ground.specs.address_map.specs.declared.region.Kind.TheVariants as kind
+use Rattle.instances_ground.specs.os_heap.specs.Store.{IsSound, Store, others_in, store_of}
+use Rattle.instances_ground.specs.dynamic_areas.specs.Areas.{Land}
+use Rattle.instances_ground.specs.dynamic_areas.specs.Ground.{IsRecorded, estate_of, system_pages}
+use Rattle.instances_ground.specs.rma.specs.Calls.{with_store}
+use Rattle.instances_ground.specs.rma.specs.Images.{image_dropped, image_freed}
 use Rattle.instances_ground.specs.Sound.{HasSystemPages}
 use Rattle.instances_ground.proofs.Images.{system_less}
 use Rattle.instances_ground.proofs.Removals.{given_back_others}

@@ -2,9 +2,9 @@
 use Rattle.std.proofs.Common.{◌≡◌, ℕ, List, [], ◌∷◌, refl, sym, ap, ◌∙◌, Some, None, Ok, Err, inl, inr}
 use Rattle.std.specs.Prelude.{Option, Result}
 use Rattle.std.proofs.lemmas.Bool.{cases_Bool}
-use Rattle.profile.specs.Outcome.{Gives}
-use Rattle.profile.specs.declared.error.ErrorNumber.{ErrorNumber}
-use Rattle.dynamic_areas.specs.Ground.{Estate}
+use Rattle.instances_ground.specs.profile.specs.Outcome.{Gives}
+use Rattle.instances_ground.specs.profile.specs.declared.error.ErrorNumber.{ErrorNumber}
+use Rattle.instances_ground.specs.dynamic_areas.specs.Ground.{Estate}
 use Rattle.instances_table.specs.declared.parts.Image.{Image}
 use Rattle.instances_table.specs.Modules.{Module, has_instance}
 use Rattle.instances_table.specs.Changes.{module_without, without_instance}

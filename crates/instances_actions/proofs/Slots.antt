@@ -4,7 +4,7 @@ use Rattle.std.specs.Prelude.{if◌then◌else◌}
 use Rattle.std.specs.List.{list_any}
 use Rattle.std.specs.Str.{str_eq_ignore_ascii_case}
 use Rattle.std.proofs.lemmas.Bool.{cases_Bool, or_parts}
-use Rattle.module_header.specs.declared.header.Header.{Header}
+use Rattle.instances_plans.specs.module_header.specs.declared.header.Header.{Header}
 use Rattle.instances_plans.specs.Doable.{is_used, without}
 use Rattle.instances_table.specs.Modules.{Instance, Module, has_instance, has_slot, number_of, slot_count, slots_of}
 use Rattle.instances_table.specs.Changes.{is_held, still, without_first, without_instance}

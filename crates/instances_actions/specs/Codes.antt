@@ -1,7 +1,7 @@
 -- The code that an action of a plan runs (RISC OS 3 Programmer's Reference Manual, "Modules", "Initialisation entry point", "Finalisation entry
 -- point"). An action of a slot that no instance has runs none.
 use Rattle.std.specs.Prelude.{ℕ, Bool, true, false, ◌+◌, ◌%◌, ◌^◌, ◌==◌, List, Option, Some, None, slice_get, if◌then◌else◌}
-use Rattle.module_header.specs.declared.header.Header.{Header}
+use Rattle.instances_plans.specs.module_header.specs.declared.header.Header.{Header}
 use Rattle.instances_plans.specs.declared.action.Action.{Action}
 use Rattle.instances_plans.specs.declared.action.Action.TheVariants as act
 use Rattle.instances_plans.specs.declared.code.Code.{Code}

@@ -1,9 +1,9 @@
 //! One action of a plan.
 
 ghost use Rattle.std.specs.Prelude.{ℕ, List, ◌≡◌, [], ◌∷◌, true, false};
-ghost use Rattle.os_heap.specs.Store.{AreClasses, store_of};
-ghost use Rattle.dynamic_areas.specs.Areas.{Land};
-ghost use Rattle.flex_kept.specs.Keeping.{KeepsFlex};
+ghost use Rattle.instances_ground.specs.os_heap.specs.Store.{AreClasses, store_of};
+ghost use Rattle.instances_ground.specs.dynamic_areas.specs.Areas.{Land};
+ghost use Rattle.instances_ground.specs.flex_kept.specs.Keeping.{KeepsFlex};
 ghost use Rattle.instances_table.specs.declared.parts.Image.{Image};
 ghost use Rattle.instances_ground.specs.Sound.{HasSystemPages, IsWorld};
 ghost use Rattle.instances_ground.specs.World.{World, world_of};
@@ -13,14 +13,14 @@ ghost use Rattle.instances_actions.specs.Pending.{settles};
 
 use crate::adding::{give_up, insert, instantiate};
 use crate::removal::{free_private, remove};
-use address_map::AddressMap;
+use instances_ground::address_map::AddressMap;
 use instances_ground::put_text;
 use instances_plans::{Action, Given};
 use instances_table::InstanceTable;
 
 /// Does an action's own part, before its code runs; a slide is done elsewhere. The image of a new module is pending until an insertion adds it, or
 /// it is given up.
-#[tactic(auto, using(flex_kept::proofs::Keeping::keeps_same))]
+#[tactic(auto, using(instances_ground::specs::flex_kept::proofs::Keeping::keeps_same))]
 pub fn act(map: &mut AddressMap, table: &mut InstanceTable, given: &Given, action: Action)
     requires can { CanAct given.now table.old action }
     requires system { HasSystemPages map.old }

@@ -1,10 +1,10 @@
 //! What adds a module or an instance, or gives a new module's image up.
 
 ghost use Rattle.std.specs.Prelude.{ℕ, List, ◌≡◌, [], ◌∷◌, true};
-ghost use Rattle.os_heap.specs.Store.{AreClasses, store_of};
-ghost use Rattle.dynamic_areas.specs.Areas.{Land};
-ghost use Rattle.dynamic_areas.specs.Ground.{estate_of};
-ghost use Rattle.flex_kept.specs.Keeping.{KeepsFlex};
+ghost use Rattle.instances_ground.specs.os_heap.specs.Store.{AreClasses, store_of};
+ghost use Rattle.instances_ground.specs.dynamic_areas.specs.Areas.{Land};
+ghost use Rattle.instances_ground.specs.dynamic_areas.specs.Ground.{estate_of};
+ghost use Rattle.instances_ground.specs.flex_kept.specs.Keeping.{KeepsFlex};
 ghost use Rattle.instances_table.specs.Changes.{is_new};
 ghost use Rattle.instances_table.specs.Modules.{Module};
 ghost use Rattle.instances_ground.specs.Sound.{HasSystemPages, IsWorld};
@@ -13,12 +13,12 @@ ghost use Rattle.instances_actions.specs.Actions.{image_given, with_another, wit
 ghost use Rattle.instances_actions.specs.Asked.{CanInstantiate};
 
 use crate::removal::drop_image;
-use address_map::AddressMap;
+use instances_ground::address_map::AddressMap;
 use arrayvec::ArrayVec;
 use instances_ground::put_private;
 use instances_plans::Given;
 use instances_table::{Image, InstanceTable};
-use module_header::Header;
+use instances_plans::module_header::Header;
 
 /// Adds the new module, the youngest, with its first instance in a slot, whose private word is 0.
 ///

@@ -1,20 +1,20 @@
 //! What takes instances away, and what they held.
 
 ghost use Rattle.std.specs.Prelude.{ℕ, List, ◌≡◌, ◌<◌};
-ghost use Rattle.address_map.specs.Memory.{layout};
-ghost use Rattle.os_heap.specs.Store.{AreClasses, store_of};
-ghost use Rattle.dynamic_areas.specs.Areas.{Land};
-ghost use Rattle.dynamic_areas.specs.Ground.{IsEstate, estate_of};
-ghost use Rattle.flex_kept.specs.Keeping.{KeepsFlex};
+ghost use Rattle.instances_ground.specs.address_map.specs.Memory.{layout};
+ghost use Rattle.instances_ground.specs.os_heap.specs.Store.{AreClasses, store_of};
+ghost use Rattle.instances_ground.specs.dynamic_areas.specs.Areas.{Land};
+ghost use Rattle.instances_ground.specs.dynamic_areas.specs.Ground.{IsEstate, estate_of};
+ghost use Rattle.instances_ground.specs.flex_kept.specs.Keeping.{KeepsFlex};
 ghost use Rattle.instances_table.specs.declared.parts.Image.{Image};
 ghost use Rattle.instances_table.specs.Modules.{Module};
 ghost use Rattle.instances_ground.specs.Sound.{HasSystemPages, IsWorld};
 ghost use Rattle.instances_ground.specs.World.{image_gone, private_freed, removed, world_of};
 
-use address_map::AddressMap;
+use instances_ground::address_map::AddressMap;
 use instances_ground::{private_value, put_private};
 use instances_table::{Image, InstanceTable};
-use rma::Rma;
+use instances_ground::rma::Rma;
 
 /// Removes the instance of a slot: the block that its private word names is given back, the word is 0 then, and the instance is gone; with the last
 /// one of a module its image goes.

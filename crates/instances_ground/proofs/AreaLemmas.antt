@@ -3,20 +3,20 @@ use Rattle.std.proofs.Common.{◌≡◌, ◌⊎◌, ◌<◌, ◌≤◌, ◌+◌,
 use Rattle.std.specs.Prelude.{Option, is_some}
 use Rattle.std.proofs.lemmas.Bool.{both_ways, cases_Bool, false≢true, ltb-false, ltb-true}
 use Rattle.std.proofs.Math.Dec.{ltb}
-use Rattle.address_map.specs.Bytes.{AreMapped, Bytes, in_range}
-use Rattle.address_map.specs.declared.region.Region.{Region}
-use Rattle.os_heap_lists.specs.Heap.{HeapList}
-use Rattle.os_heap.specs.Store.{AreHeapsIn, IsClearOfHeaps, IsImageBlock, IsImageIn, StandAreas, find_heap}
-use Rattle.os_heap.proofs.Apart.{block_inside}
-use Rattle.os_heap.proofs.Found.{found_start}
-use Rattle.os_heap.proofs.Stores.{AreOthers, are_others, clear_of-found}
-use Rattle.dynamic_areas.specs.Areas.{find_area}
-use Rattle.dynamic_areas.specs.Ground.{Estate, IsEstate}
-use Rattle.dynamic_areas.specs.declared.area.Area.{Area}
-use Rattle.dynamic_areas.proofs.GroundLemmas.{unmapped_above}
-use Rattle.dynamic_areas.proofs.ModuleArea.{IsModuleArea, module_area_known}
-use Rattle.dynamic_areas.proofs.Remapped.{here, range_high, range_low}
-use Rattle.dynamic_areas.proofs.RoomLemmas.{found_room}
+use Rattle.rma.specs.address_map.specs.Bytes.{AreMapped, Bytes, in_range}
+use Rattle.rma.specs.address_map.specs.declared.region.Region.{Region}
+use Rattle.rma.specs.os_heap_lists.specs.Heap.{HeapList}
+use Rattle.rma.specs.os_heap.specs.Store.{AreHeapsIn, IsClearOfHeaps, IsImageBlock, IsImageIn, StandAreas, find_heap}
+use Rattle.rma.specs.os_heap.proofs.Apart.{block_inside}
+use Rattle.rma.specs.os_heap.proofs.Found.{found_start}
+use Rattle.rma.specs.os_heap.proofs.Stores.{AreOthers, are_others, clear_of-found}
+use Rattle.rma.specs.dynamic_areas.specs.Areas.{find_area}
+use Rattle.rma.specs.dynamic_areas.specs.Ground.{Estate, IsEstate}
+use Rattle.rma.specs.dynamic_areas.specs.declared.area.Area.{Area}
+use Rattle.rma.specs.dynamic_areas.proofs.GroundLemmas.{unmapped_above}
+use Rattle.rma.specs.dynamic_areas.proofs.ModuleArea.{IsModuleArea, module_area_known}
+use Rattle.rma.specs.dynamic_areas.proofs.Remapped.{here, range_high, range_low}
+use Rattle.rma.specs.dynamic_areas.proofs.RoomLemmas.{found_room}
 use Rattle.instances_ground.specs.Laws.{is_in_module_area}
 
 -- an image in a heap is a block of the module area's

@@ -2,11 +2,11 @@
 use Rattle.std.proofs.Common.{◌≡◌, ◌≤◌, ◌%◌, ◌⊎◌, ℕ, Bool, List, [], ◌∷◌, ◌++◌, map, refl, subst, inl, inr, arith}
 use Rattle.std.specs.List.{AllByRecursion}
 use Rattle.std.proofs.lemmas.Bool.{cases_Bool}
-use Rattle.address_map.specs.Bytes.{AreMapped}
-use Rattle.address_map.specs.declared.region.Region.{Region}
-use Rattle.os_heap_lists.specs.Heap.{HeapList}
-use Rattle.os_heap.specs.Store.{AreRangesApart, ArePlaced, IsClearOfHeaps, IsClearOfRanges, IsImageIn, is_image}
-use Rattle.dynamic_areas.specs.Ground.{AreRangesMapped, Estate, IsGround, IsRecorded}
+use Rattle.rma.specs.address_map.specs.Bytes.{AreMapped}
+use Rattle.rma.specs.address_map.specs.declared.region.Region.{Region}
+use Rattle.rma.specs.os_heap_lists.specs.Heap.{HeapList}
+use Rattle.rma.specs.os_heap.specs.Store.{AreRangesApart, ArePlaced, IsClearOfHeaps, IsClearOfRanges, IsImageIn, is_image}
+use Rattle.rma.specs.dynamic_areas.specs.Ground.{AreRangesMapped, Estate, IsGround, IsRecorded}
 use Rattle.instances_table.specs.declared.parts.Image.{Image}
 use Rattle.instances_ground.specs.Laws.{ImagesAreApart, ImagesAreHeld, IsHeld}
 use Rattle.instances_ground.specs.Sound.{AreSolid, IsSolid, image_ranges, images_of, range_of, recorded_len}

@@ -3,18 +3,18 @@ use Rattle.std.proofs.Common.{◌≡◌, ℕ, Bool, true, false, inl, inr, ◌+�
 use Rattle.std.specs.Prelude.{Option, Result, ok_or, if◌then◌else◌}
 use Rattle.std.specs.List.{list_any}
 use Rattle.std.proofs.lemmas.Bool.{both_ways, cases_Bool, eq-eqb, eqb-true, false_from_ne_true, or_parts}
-use Rattle.profile.specs.Outcome.{bind}
-use Rattle.profile.specs.declared.error.ErrorNumber.{ErrorNumber}
-use Rattle.profile.specs.declared.error.ErrorNumber.TheVariants.{HeapBadDesc, HeapHoldsAnchor, HeapNotABlock}
-use Rattle.address_map.specs.Records.{without_region}
-use Rattle.address_map.specs.declared.item.Item.{Item}
-use Rattle.address_map.specs.declared.region.Kind.TheVariants as kind
-use Rattle.address_map.specs.declared.region.Region.{Region}
-use Rattle.os_heap_lists.specs.Heap.{HeapList}
-use Rattle.os_heap_lists.specs.Lists.{live_total, released}
-use Rattle.os_heap.specs.Calls.{gave_back, holding, holds_anchor, unless_image}
-use Rattle.os_heap.specs.Store.{Store, find_heap, has_image}
-use Rattle.dynamic_areas.specs.Ground.{Estate, IsEstate, IsRecorded, system_pages}
+use Rattle.rma.specs.profile.specs.Outcome.{bind}
+use Rattle.rma.specs.profile.specs.declared.error.ErrorNumber.{ErrorNumber}
+use Rattle.rma.specs.profile.specs.declared.error.ErrorNumber.TheVariants.{HeapBadDesc, HeapHoldsAnchor, HeapNotABlock}
+use Rattle.rma.specs.address_map.specs.Records.{without_region}
+use Rattle.rma.specs.address_map.specs.declared.item.Item.{Item}
+use Rattle.rma.specs.address_map.specs.declared.region.Kind.TheVariants as kind
+use Rattle.rma.specs.address_map.specs.declared.region.Region.{Region}
+use Rattle.rma.specs.os_heap_lists.specs.Heap.{HeapList}
+use Rattle.rma.specs.os_heap_lists.specs.Lists.{live_total, released}
+use Rattle.rma.specs.os_heap.specs.Calls.{gave_back, holding, holds_anchor, unless_image}
+use Rattle.rma.specs.os_heap.specs.Store.{Store, find_heap, has_image}
+use Rattle.rma.specs.dynamic_areas.specs.Ground.{Estate, IsEstate, IsRecorded, system_pages}
 use Rattle.rma.specs.Calls.{in_area, rma_freed}
 use Rattle.rma.specs.Images.{image_dropped, image_freed, or_kept}
 use Rattle.instances_table.specs.declared.parts.Image.{Image}

@@ -2,15 +2,15 @@
 use Rattle.std.proofs.Common.{◌≡◌, [], ◌∷◌, refl, ap, arith, inl, Result, Ok, Err}
 use Rattle.std.proofs.lemmas.Bool.{false≢true}
 use Rattle.std.specs.Prelude.{IfOk}
-use Rattle.profile.specs.Sizes.{Sizes}
-use Rattle.address_map.specs.declared.map.AddressMap.{AddressMap}
-use Rattle.address_map.specs.Memory.{free_pages}
-use Rattle.os_heap.specs.Store.{Store, store_of}
-use Rattle.dynamic_areas.specs.Ground.{IsEstate, system_pages, AreAreas}
+use Rattle.rma.specs.profile.specs.Sizes.{Sizes}
+use Rattle.rma.specs.address_map.specs.declared.map.AddressMap.{AddressMap}
+use Rattle.rma.specs.address_map.specs.Memory.{free_pages}
+use Rattle.rma.specs.os_heap.specs.Store.{Store, store_of}
+use Rattle.rma.specs.dynamic_areas.specs.Ground.{IsEstate, system_pages, AreAreas}
 use Rattle.instances_ground.specs.Sound.{IsWorld, HasSystemPages}
 use Rattle.instances_ground.specs.World.{World, world_of}
-use Rattle.dynamic_areas.specs.Areas.{start_land}
-use Rattle.dynamic_areas.specs.Start.{start_store}
+use Rattle.rma.specs.dynamic_areas.specs.Areas.{start_land}
+use Rattle.rma.specs.dynamic_areas.specs.Start.{start_store}
 use Rattle.instances_ground.proofs.Writes.{has_system}
 
 pub start_world : (w : World) → IsEstate w.estate → w.estate.store.others ≡ system_pages ∷ [] → w.modules ≡ [] → IsWorld w []

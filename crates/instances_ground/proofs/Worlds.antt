@@ -1,10 +1,10 @@
 -- What calls keep of the world: its estate and its records, with the images in the order of the modules.
 use Rattle.std.proofs.Common.{◌≡◌, ℕ, ◌+◌, ◌%◌, ◌≤◌, ◌<◌, List, [], ◌∷◌, ◌++◌, length, map, zero, suc, refl, sym, ap, ◌∙◌, arith, length-append, append-nil, append_assoc}
 use Rattle.std.proofs.lemmas.List.{length-map, map-append}
-use Rattle.address_map.specs.Records.{without_region}
-use Rattle.address_map.specs.declared.region.Kind.TheVariants as kind
-use Rattle.address_map.specs.declared.region.Region.{Region}
-use Rattle.dynamic_areas.specs.Ground.{IsEstate}
+use Rattle.rma.specs.address_map.specs.Records.{without_region}
+use Rattle.rma.specs.address_map.specs.declared.region.Kind.TheVariants as kind
+use Rattle.rma.specs.address_map.specs.declared.region.Region.{Region}
+use Rattle.rma.specs.dynamic_areas.specs.Ground.{IsEstate}
 use Rattle.rma.specs.Images.{CanRecord}
 use Rattle.rma.proofs.ImageLemmas.{area_kind}
 use Rattle.instances_table.specs.declared.parts.Image.{Image}

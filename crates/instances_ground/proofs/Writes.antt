@@ -1,20 +1,20 @@
 -- What writes to the system pages leave of the world.
 use Rattle.std.proofs.Common.{◌≡◌, ℕ, ◌+◌, ◌%◌, ◌≤◌, ◌<◌, Ok, true, false, List, [], ◌∷◌, ◌++◌, length, is_some, refl, subst, sym, ap, ◌∙◌, arith, length-append}
 use Rattle.std.proofs.lemmas.Bool.Decides.{nat_tests}
-use Rattle.address_map.specs.declared.map.AddressMap.{AddressMap}
-use Rattle.address_map.specs.Bytes.{Bytes, AreMapped, in_range, with_bytes_at, with_word_at, word_at, word_loaded}
-use Rattle.address_map.specs.Memory.{Layout, byte_at, bytes_of, class_of, free_pages, is_mapped, layout}
-use Rattle.address_map.proofs.Equations.{same_bytes}
-use Rattle.os_heap.specs.Store.{Store, store_of}
-use Rattle.os_heap.proofs.Frame.{IsKept}
-use Rattle.os_heap.proofs.Writing.{word_mapped}
-use Rattle.dynamic_areas.specs.Areas.{Land}
-use Rattle.dynamic_areas.specs.Ground.{IsEstate, IsRecorded, estate_of, system_pages}
-use Rattle.dynamic_areas.proofs.HeapCalls.{areas_written, system_mapped}
-use Rattle.dynamic_areas.proofs.Remapped.{here}
-use Rattle.dynamic_areas.proofs.SystemWrites.{system_kept, two_writes}
-use Rattle.flex_kept.specs.Keeping.{KeepsFlex}
-use Rattle.flex_kept.proofs.Writes.{system_keeps}
+use Rattle.rma.specs.address_map.specs.declared.map.AddressMap.{AddressMap}
+use Rattle.rma.specs.address_map.specs.Bytes.{Bytes, AreMapped, in_range, with_bytes_at, with_word_at, word_at, word_loaded}
+use Rattle.rma.specs.address_map.specs.Memory.{Layout, byte_at, bytes_of, class_of, free_pages, is_mapped, layout}
+use Rattle.rma.specs.address_map.proofs.Equations.{same_bytes}
+use Rattle.rma.specs.os_heap.specs.Store.{Store, store_of}
+use Rattle.rma.specs.os_heap.proofs.Frame.{IsKept}
+use Rattle.rma.specs.os_heap.proofs.Writing.{word_mapped}
+use Rattle.rma.specs.dynamic_areas.specs.Areas.{Land}
+use Rattle.rma.specs.dynamic_areas.specs.Ground.{IsEstate, IsRecorded, estate_of, system_pages}
+use Rattle.rma.specs.dynamic_areas.proofs.HeapCalls.{areas_written, system_mapped}
+use Rattle.rma.specs.dynamic_areas.proofs.Remapped.{here}
+use Rattle.rma.specs.dynamic_areas.proofs.SystemWrites.{system_kept, two_writes}
+use Rattle.rma.specs.flex_kept.specs.Keeping.{KeepsFlex}
+use Rattle.rma.specs.flex_kept.proofs.Writes.{system_keeps}
 use Rattle.instances_plans.specs.Code.{private_of}
 use Rattle.instances_table.specs.declared.parts.Image.{Image}
 use Rattle.instances_table.specs.Modules.{Module}

@@ -1,10 +1,10 @@
 -- What a world says of the images of modules, and of those that are pending.
 use Rattle.std.specs.Prelude.{◌≡◌, ◌≤◌, ◌%◌, ℕ, Bool, true, false, List, ◌++◌, map}
 use Rattle.std.specs.List.{AllByRecursion}
-use Rattle.profile.specs.MemoryMap.{module_area_maximum, module_area_start}
-use Rattle.address_map.specs.Bytes.{in_range}
-use Rattle.os_heap.specs.Store.{AreRangesApart, IsClearOfHeaps, IsImageIn}
-use Rattle.dynamic_areas.specs.Ground.{IsRecorded}
+use Rattle.rma.specs.profile.specs.MemoryMap.{module_area_maximum, module_area_start}
+use Rattle.rma.specs.address_map.specs.Bytes.{in_range}
+use Rattle.rma.specs.os_heap.specs.Store.{AreRangesApart, IsClearOfHeaps, IsImageIn}
+use Rattle.rma.specs.dynamic_areas.specs.Ground.{IsRecorded}
 use Rattle.instances_table.specs.declared.parts.Image.{Image}
 use Rattle.instances_ground.specs.Sound.{IsWorld, images_of, range_of, recorded_len}
 use Rattle.instances_ground.specs.World.{World}

@@ -1,3 +1,12 @@
+pub use Rattle.rma.specs.profile
+pub use Rattle.rma.specs.address_map
+pub use Rattle.rma.specs.os_heap
+pub use Rattle.rma.specs.os_heap_slide
+pub use Rattle.rma.specs.dynamic_areas
+pub use Rattle.rma.specs.flex_kept
+pub use Rattle.rma
+pub use Rattle.instances_table
+pub use Rattle.instances_plans
 pub mod Laws
 pub mod Sound
 pub mod World

@@ -1,14 +1,14 @@
 -- What holds of the world of modules between all module calls, and within one (this project's own): each module's image is recorded, with its whole
 -- length, one record to a module, in the order of the modules.
 use Rattle.std.specs.Prelude.{ℕ, ◌≡◌, ◌≤◌, ◌<◌, ◌-◌, ◌%◌, true, suc, List, [], ◌∷◌, ◌++◌, map, if◌then◌else◌}
-use Rattle.address_map.specs.declared.map.AddressMap.{AddressMap}
-use Rattle.address_map.specs.declared.region.Kind.TheVariants as kind
-use Rattle.address_map.specs.declared.region.Region.{Region}
-use Rattle.address_map.specs.Bytes.{AreMapped}
-use Rattle.address_map.specs.Memory.{is_mapped}
-use Rattle.os_heap_lists.specs.Lists.{total_for}
-use Rattle.os_heap.specs.Store.{IsSound, is_image, store_of}
-use Rattle.dynamic_areas.specs.Ground.{IsEstate, IsRecorded, system_pages}
+use Rattle.rma.specs.address_map.specs.declared.map.AddressMap.{AddressMap}
+use Rattle.rma.specs.address_map.specs.declared.region.Kind.TheVariants as kind
+use Rattle.rma.specs.address_map.specs.declared.region.Region.{Region}
+use Rattle.rma.specs.address_map.specs.Bytes.{AreMapped}
+use Rattle.rma.specs.address_map.specs.Memory.{is_mapped}
+use Rattle.rma.specs.os_heap_lists.specs.Lists.{total_for}
+use Rattle.rma.specs.os_heap.specs.Store.{IsSound, is_image, store_of}
+use Rattle.rma.specs.dynamic_areas.specs.Ground.{IsEstate, IsRecorded, system_pages}
 use Rattle.instances_table.specs.declared.parts.Image.{Image}
 use Rattle.instances_table.specs.Modules.{Module}
 use Rattle.instances_ground.specs.World.{World}

@@ -1,11 +1,11 @@
 -- What module calls act on: memory with its heaps and areas, and the list of modules (RISC OS 3 Programmer's Reference Manual, "Modules", "OS_Module").
 -- The places of the private words and of the environment text are this project's own.
 use Rattle.std.specs.Prelude.{ℕ, List, [], ◌∷◌, ◌++◌, Result, Ok, Err, if◌then◌else◌}
-use Rattle.profile.specs.declared.error.ErrorNumber.{ErrorNumber}
-use Rattle.address_map.specs.declared.map.AddressMap.{AddressMap}
-use Rattle.address_map.specs.Bytes.{word_at, with_word_at, with_bytes_at}
-use Rattle.dynamic_areas.specs.Areas.{Land}
-use Rattle.dynamic_areas.specs.Ground.{Estate, estate_of}
+use Rattle.rma.specs.profile.specs.declared.error.ErrorNumber.{ErrorNumber}
+use Rattle.rma.specs.address_map.specs.declared.map.AddressMap.{AddressMap}
+use Rattle.rma.specs.address_map.specs.Bytes.{word_at, with_word_at, with_bytes_at}
+use Rattle.rma.specs.dynamic_areas.specs.Areas.{Land}
+use Rattle.rma.specs.dynamic_areas.specs.Ground.{Estate, estate_of}
 use Rattle.rma.specs.Calls.{rma_freed, with_store}
 use Rattle.rma.specs.Images.{image_dropped, image_freed}
 use Rattle.instances_plans.specs.Code.{private_of}

@@ -1,21 +1,21 @@
 //! What instances have in the system pages: their private words, and the environment text.
 
 ghost use Rattle.std.specs.Prelude.{ℕ, List, ◌≡◌, ◌≤◌, ◌<◌, length};
-ghost use Rattle.address_map.specs.Bytes.{AreMapped, word_at};
-ghost use Rattle.address_map.specs.Memory.{byte_at, is_mapped, layout};
-ghost use Rattle.os_heap.specs.Store.{AreClasses, store_of};
-ghost use Rattle.dynamic_areas.specs.Areas.{Land};
-ghost use Rattle.dynamic_areas.specs.Ground.{IsEstate, estate_of};
-ghost use Rattle.flex_kept.specs.Keeping.{KeepsFlex};
+ghost use Rattle.rma.specs.address_map.specs.Bytes.{AreMapped, word_at};
+ghost use Rattle.rma.specs.address_map.specs.Memory.{byte_at, is_mapped, layout};
+ghost use Rattle.rma.specs.os_heap.specs.Store.{AreClasses, store_of};
+ghost use Rattle.rma.specs.dynamic_areas.specs.Areas.{Land};
+ghost use Rattle.rma.specs.dynamic_areas.specs.Ground.{IsEstate, estate_of};
+ghost use Rattle.rma.specs.flex_kept.specs.Keeping.{KeepsFlex};
 ghost use Rattle.instances_plans.specs.Code.{private_of};
 ghost use Rattle.instances_table.specs.declared.parts.Image.{Image};
 ghost use Rattle.instances_table.specs.Modules.{Module};
 ghost use Rattle.instances_ground.specs.Sound.{HasSystemPages, IsWorld};
 ghost use Rattle.instances_ground.specs.World.{private_word, with_private, with_text, world_of};
 
-use address_map::AddressMap;
+use rma::address_map::AddressMap;
 use instances_plans::private_word;
-use profile::memory_map::ENVIRONMENT_TEXT;
+use rma::profile::memory_map::ENVIRONMENT_TEXT;
 
 /// The value of the private word of a slot.
 pub fn private_value(map: &AddressMap, slot: u32) -> u32

@@ -2,10 +2,10 @@ ghost use Rattle.std.specs.Prelude.{IfOk};
 ghost use Rattle.instances_ground.specs.Sound.{HasSystemPages};
 
 use crate::{put_private, put_text};
-use address_map::AddressMap;
-use dynamic_areas::start_memory;
-use profile::Config;
-use profile::memory_map::ENVIRONMENT_TEXT;
+use rma::address_map::AddressMap;
+use rma::dynamic_areas::start_memory;
+use rma::profile::Config;
+use rma::profile::memory_map::ENVIRONMENT_TEXT;
 use std::alloc::{AllocError, Global};
 use std::test::Fail;
 

@@ -1,3 +1,4 @@
+pub use Rattle.module_header
 pub mod Calls
 pub mod Carrying
 pub mod Code

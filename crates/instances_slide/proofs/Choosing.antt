@@ -10,7 +10,7 @@ use Rattle.address_map.specs.declared.item.Item.TheVariants.{Free, Live}
 use Rattle.os_heap_lists.proofs.Reading.{total_facts}
 use Rattle.os_heap_lists.specs.Heap.{AreTotals}
 use Rattle.os_heap_lists.specs.Lists.{live_total}
-use Rattle.os_heap_slide.specs.Slide.{AreBlocks, is_listed, without_first}
+use Rattle.instances_ground.specs.os_heap_slide.specs.Slide.{AreBlocks, is_listed, without_first}
 use Rattle.instances_table.specs.Lookup.{has_image_at}
 use Rattle.instances_table.specs.Modules.{Module, number_of}
 use Rattle.instances_slide.specs.Movable.{blocks_that, can_move, is_named_once}

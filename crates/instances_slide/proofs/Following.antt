@@ -8,11 +8,11 @@ use Rattle.address_map.specs.declared.follow.Move.{Move}
 use Rattle.address_map.specs.declared.region.Region.{Region}
 use Rattle.os_heap_lists.proofs.LiveBlocks.{LiveBytes, live_bytes}
 use Rattle.os_heap_lists.specs.Heap.{HeapList}
-use Rattle.os_heap.proofs.Stores.{AreOthers, clear_of-found}
-use Rattle.os_heap.specs.Calls.{with_items}
-use Rattle.os_heap.specs.Store.{AreClear, AreHeapsIn, ArePlaced, find_heap, is_image, IsClearOfHeaps, IsImageIn}
-use Rattle.os_heap_slide.proofs.Records.{image_in_moved, IsSlide, moves_in, out_still, slid_in, still_place}
-use Rattle.dynamic_areas.specs.Ground.{AreRangesMapped, IsRecorded, system_pages}
+use Rattle.instances_ground.specs.os_heap.proofs.Stores.{AreOthers, clear_of-found}
+use Rattle.instances_ground.specs.os_heap.specs.Calls.{with_items}
+use Rattle.instances_ground.specs.os_heap.specs.Store.{AreClear, AreHeapsIn, ArePlaced, find_heap, is_image, IsClearOfHeaps, IsImageIn}
+use Rattle.instances_ground.specs.os_heap_slide.proofs.Records.{image_in_moved, IsSlide, moves_in, out_still, slid_in, still_place}
+use Rattle.instances_ground.specs.dynamic_areas.specs.Ground.{AreRangesMapped, IsRecorded, system_pages}
 use Rattle.instances_table.specs.Modules.{Module}
 use Rattle.instances_ground.specs.Sound.{AreSolid, IsSolid, count_beside, image_ranges, images_of, range_of}
 use Rattle.instances_slide.specs.Slid.{image_moved}

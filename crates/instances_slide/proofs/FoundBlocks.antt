@@ -7,9 +7,9 @@ use Rattle.address_map.specs.Memory.{anchor_of, bytes_of}
 use Rattle.address_map.specs.declared.item.Item.{Item}
 use Rattle.address_map.specs.declared.map.AddressMap.{AddressMap}
 use Rattle.os_heap_lists.specs.Heap.{AreTotals, HeapList, IsHeapIn}
-use Rattle.os_heap.proofs.Found.{found_heap, found_start}
-use Rattle.os_heap.specs.Calls.{items_of}
-use Rattle.os_heap.specs.Store.{find_heap, IsSound, store_of}
+use Rattle.instances_ground.specs.os_heap.proofs.Found.{found_heap, found_start}
+use Rattle.instances_ground.specs.os_heap.specs.Calls.{items_of}
+use Rattle.instances_ground.specs.os_heap.specs.Store.{find_heap, IsSound, store_of}
 use Rattle.instances_table.specs.Modules.{Module}
 use Rattle.instances_slide.proofs.Choosing.{few_blocks}
 use Rattle.instances_slide.specs.Movable.{blocks_that, can_move, movable_in}

@@ -10,23 +10,23 @@ use Rattle.os_heap_lists.proofs.LiveBlocks.{LiveBytes, live_bytes}
 use Rattle.os_heap_lists.specs.Counts.{free_count}
 use Rattle.os_heap_lists.specs.Heap.{AreTotals, HeapList, IsHeapIn}
 use Rattle.os_heap_lists.specs.Lists.{live_total}
-use Rattle.os_heap.proofs.Found.{found_heap, found_start}
-use Rattle.os_heap.proofs.Moving.{found_held}
-use Rattle.os_heap.specs.Calls.{OfHeap, described}
-use Rattle.os_heap.specs.Store.{Store, find_heap}
-use Rattle.os_heap_slide.proofs.KeptBlocks.{slide_keeps_blocks}
-use Rattle.os_heap_slide.proofs.LawLemmas.{slid_totals, slide_clears, slide_describes, slide_fits}
-use Rattle.os_heap_slide.proofs.Records.{slid_in}
-use Rattle.os_heap_slide.specs.Laws.{AreMovable}
-use Rattle.os_heap_slide.specs.Slide.{is_listed, with_slid}
-use Rattle.dynamic_areas.proofs.ModuleArea.{IsModuleArea, module_area_known}
-use Rattle.dynamic_areas.proofs.RoomLemmas.{found_room}
-use Rattle.dynamic_areas.specs.Areas.{find_area}
-use Rattle.dynamic_areas.specs.Ground.{Estate, IsEstate}
-use Rattle.dynamic_areas.specs.Rooms.{IsRoom}
-use Rattle.dynamic_areas.specs.declared.area.Area.{Area}
-use Rattle.rma.specs.Calls.{or_nothing, rma_described, with_store}
-use Rattle.instances_plans.specs.Code.{private_of}
+use Rattle.instances_ground.specs.os_heap.proofs.Found.{found_heap, found_start}
+use Rattle.instances_ground.specs.os_heap.proofs.Moving.{found_held}
+use Rattle.instances_ground.specs.os_heap.specs.Calls.{OfHeap, described}
+use Rattle.instances_ground.specs.os_heap.specs.Store.{Store, find_heap}
+use Rattle.instances_ground.specs.os_heap_slide.proofs.KeptBlocks.{slide_keeps_blocks}
+use Rattle.instances_ground.specs.os_heap_slide.proofs.LawLemmas.{slid_totals, slide_clears, slide_describes, slide_fits}
+use Rattle.instances_ground.specs.os_heap_slide.proofs.Records.{slid_in}
+use Rattle.instances_ground.specs.os_heap_slide.specs.Laws.{AreMovable}
+use Rattle.instances_ground.specs.os_heap_slide.specs.Slide.{is_listed, with_slid}
+use Rattle.instances_ground.specs.dynamic_areas.proofs.ModuleArea.{IsModuleArea, module_area_known}
+use Rattle.instances_ground.specs.dynamic_areas.proofs.RoomLemmas.{found_room}
+use Rattle.instances_ground.specs.dynamic_areas.specs.Areas.{find_area}
+use Rattle.instances_ground.specs.dynamic_areas.specs.Ground.{Estate, IsEstate}
+use Rattle.instances_ground.specs.dynamic_areas.specs.Rooms.{IsRoom}
+use Rattle.instances_ground.specs.dynamic_areas.specs.declared.area.Area.{Area}
+use Rattle.instances_ground.specs.rma.specs.Calls.{or_nothing, rma_described, with_store}
+use Rattle.instances_ground.specs.instances_plans.specs.Code.{private_of}
 use Rattle.instances_table.specs.Modules.{slots_of}
 use Rattle.instances_ground.specs.Sound.{IsWorld}
 use Rattle.instances_ground.specs.World.{World, private_word, with_private}

@@ -11,16 +11,16 @@ use Rattle.os_heap_lists.proofs.Payloads.{heap_beside, spelled_inside}
 use Rattle.os_heap_lists.proofs.Words.{written}
 use Rattle.os_heap_lists.specs.Heap.{AreTotals, HeapList, IsHeapIn, next_free, with_heads, with_heap}
 use Rattle.os_heap_lists.specs.Words.{IsWritten}
-use Rattle.os_heap.proofs.Apart.{range_parts}
-use Rattle.os_heap.proofs.Found.{found_heap, found_start}
-use Rattle.os_heap.specs.Store.{Store, find_heap}
-use Rattle.os_heap_slide.proofs.LawLemmas.{slid_totals, slide_fits}
-use Rattle.os_heap_slide.proofs.Places.{bytes_low, bytes_past, moves_down}
-use Rattle.os_heap_slide.proofs.Records.{slid_in}
-use Rattle.os_heap_slide.specs.Slide.{is_listed, place_of, slid_bytes, with_slid}
-use Rattle.dynamic_areas.specs.Ground.{Estate}
-use Rattle.rma.specs.Calls.{with_store}
-use Rattle.instances_plans.specs.Code.{private_of}
+use Rattle.instances_ground.specs.os_heap.proofs.Apart.{range_parts}
+use Rattle.instances_ground.specs.os_heap.proofs.Found.{found_heap, found_start}
+use Rattle.instances_ground.specs.os_heap.specs.Store.{Store, find_heap}
+use Rattle.instances_ground.specs.os_heap_slide.proofs.LawLemmas.{slid_totals, slide_fits}
+use Rattle.instances_ground.specs.os_heap_slide.proofs.Places.{bytes_low, bytes_past, moves_down}
+use Rattle.instances_ground.specs.os_heap_slide.proofs.Records.{slid_in}
+use Rattle.instances_ground.specs.os_heap_slide.specs.Slide.{is_listed, place_of, slid_bytes, with_slid}
+use Rattle.instances_ground.specs.dynamic_areas.specs.Ground.{Estate}
+use Rattle.instances_ground.specs.rma.specs.Calls.{with_store}
+use Rattle.instances_ground.specs.instances_plans.specs.Code.{private_of}
 use Rattle.instances_table.proofs.RoomLemmas.{slots_once}
 use Rattle.instances_table.specs.Changes.{is_held}
 use Rattle.instances_table.specs.Modules.{AreModules, number_of, slots_of}

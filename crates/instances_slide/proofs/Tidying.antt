@@ -7,17 +7,17 @@ use Rattle.address_map.specs.Records.{anchor_among}
 use Rattle.address_map.specs.declared.follow.Move.{Move}
 use Rattle.address_map.specs.declared.map.AddressMap.{AddressMap}
 use Rattle.os_heap_lists.specs.Heap.{HeapList, IsHeapIn}
-use Rattle.os_heap.proofs.Found.{found_heap, found_start}
-use Rattle.os_heap.proofs.Moving.{found_held}
-use Rattle.os_heap.proofs.Stores.{AreOthers, are_others}
-use Rattle.os_heap.specs.Calls.{OfHeap}
-use Rattle.os_heap.specs.Store.{IsSound, Store, find_heap, store_of}
-use Rattle.os_heap_slide.proofs.Records.{IsSlide, slid_in}
-use Rattle.os_heap_slide.specs.Slide.{AreBlocks, HoldNoAnchor, IsSlid, MaySlide, with_slid}
-use Rattle.dynamic_areas.specs.Areas.{Land, find_area}
-use Rattle.dynamic_areas.specs.Ground.{EndsWithArea, Estate, IsEstate, IsGround, estate_of}
-use Rattle.dynamic_areas.specs.declared.area.Area.{Area}
-use Rattle.rma.specs.Calls.{with_store}
+use Rattle.instances_ground.specs.os_heap.proofs.Found.{found_heap, found_start}
+use Rattle.instances_ground.specs.os_heap.proofs.Moving.{found_held}
+use Rattle.instances_ground.specs.os_heap.proofs.Stores.{AreOthers, are_others}
+use Rattle.instances_ground.specs.os_heap.specs.Calls.{OfHeap}
+use Rattle.instances_ground.specs.os_heap.specs.Store.{IsSound, Store, find_heap, store_of}
+use Rattle.instances_ground.specs.os_heap_slide.proofs.Records.{IsSlide, slid_in}
+use Rattle.instances_ground.specs.os_heap_slide.specs.Slide.{AreBlocks, HoldNoAnchor, IsSlid, MaySlide, with_slid}
+use Rattle.instances_ground.specs.dynamic_areas.specs.Areas.{Land, find_area}
+use Rattle.instances_ground.specs.dynamic_areas.specs.Ground.{EndsWithArea, Estate, IsEstate, IsGround, estate_of}
+use Rattle.instances_ground.specs.dynamic_areas.specs.declared.area.Area.{Area}
+use Rattle.instances_ground.specs.rma.specs.Calls.{with_store}
 use Rattle.instances_table.specs.Lookup.{has_image_at}
 use Rattle.instances_table.specs.Modules.{Module, slots_of}
 use Rattle.instances_ground.specs.Sound.{IsWorld}

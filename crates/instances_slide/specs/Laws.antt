@@ -6,11 +6,11 @@ use Rattle.address_map.specs.declared.follow.Move.{Move}
 use Rattle.os_heap_lists.specs.Counts.{free_count}
 use Rattle.os_heap_lists.specs.Heap.{HeapList}
 use Rattle.os_heap_lists.specs.Lists.{live_total}
-use Rattle.os_heap.specs.Calls.{OfHeap}
-use Rattle.os_heap.specs.Store.{Store, find_heap}
-use Rattle.os_heap_slide.specs.Laws.{AreMovable}
-use Rattle.os_heap_slide.specs.Slide.{is_listed}
-use Rattle.rma.specs.Calls.{rma_described}
+use Rattle.instances_ground.specs.os_heap.specs.Calls.{OfHeap}
+use Rattle.instances_ground.specs.os_heap.specs.Store.{Store, find_heap}
+use Rattle.instances_ground.specs.os_heap_slide.specs.Laws.{AreMovable}
+use Rattle.instances_ground.specs.os_heap_slide.specs.Slide.{is_listed}
+use Rattle.instances_ground.specs.rma.specs.Calls.{rma_described}
 use Rattle.instances_table.specs.Changes.{is_held}
 use Rattle.instances_table.specs.Modules.{AreModules}
 use Rattle.instances_ground.specs.Sound.{IsWorld}

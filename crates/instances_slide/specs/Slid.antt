@@ -5,11 +5,11 @@ use Rattle.address_map.specs.Bytes.{word_at}
 use Rattle.address_map.specs.Moves.{moved_to}
 use Rattle.address_map.specs.declared.follow.Move.{Move}
 use Rattle.os_heap_lists.specs.Heap.{HeapList}
-use Rattle.os_heap.specs.Store.{find_heap}
-use Rattle.os_heap_slide.specs.Slide.{is_listed, moves_of, with_slid}
-use Rattle.dynamic_areas.specs.Ground.{Estate}
-use Rattle.rma.specs.Calls.{with_store}
-use Rattle.instances_plans.specs.Code.{private_of}
+use Rattle.instances_ground.specs.os_heap.specs.Store.{find_heap}
+use Rattle.instances_ground.specs.os_heap_slide.specs.Slide.{is_listed, moves_of, with_slid}
+use Rattle.instances_ground.specs.dynamic_areas.specs.Ground.{Estate}
+use Rattle.instances_ground.specs.rma.specs.Calls.{with_store}
+use Rattle.instances_ground.specs.instances_plans.specs.Code.{private_of}
 use Rattle.instances_table.specs.Changes.{with_image_at}
 use Rattle.instances_table.specs.Modules.{Module, slots_of}
 use Rattle.instances_ground.specs.World.{World, private_word, with_private}

@@ -2,10 +2,10 @@
 ghost use Rattle.std.specs.Prelude.{◌≡◌, ◌≤◌, ◌<◌, ℕ, List, length, map, slice_index, EachIndex};
 ghost use Rattle.address_map.specs.Bytes.{AreMapped};
 ghost use Rattle.address_map.specs.Memory.{byte_at, is_mapped};
-ghost use Rattle.os_heap.specs.Store.{AreClasses, store_of};
-ghost use Rattle.dynamic_areas.specs.Areas.{Land};
-ghost use Rattle.dynamic_areas.specs.Ground.{estate_of};
-ghost use Rattle.flex_kept.specs.Keeping.{KeepsFlex};
+ghost use Rattle.instances_ground.specs.os_heap.specs.Store.{AreClasses, store_of};
+ghost use Rattle.instances_ground.specs.dynamic_areas.specs.Areas.{Land};
+ghost use Rattle.instances_ground.specs.dynamic_areas.specs.Ground.{estate_of};
+ghost use Rattle.instances_ground.specs.flex_kept.specs.Keeping.{KeepsFlex};
 ghost use Rattle.instances_table.specs.declared.parts.Image.{Image};
 ghost use Rattle.instances_table.specs.Modules.{Module};
 ghost use Rattle.instances_ground.specs.Sound.{HasSystemPages, IsWorld};
@@ -16,7 +16,7 @@ use address_map::{AddressMap, Move};
 use arrayvec::ArrayVec;
 use instances_ground::{private_value, put_private};
 use instances_table::InstanceTable;
-use os_heap_slide::moved_to;
+use instances_ground::os_heap_slide::moved_to;
 
 /// The most private words that instances have.
 pub(crate) const MOST_WORDS: usize = 64;
@@ -37,7 +37,7 @@ pub(crate) fn private_words(map: &AddressMap, slots: &[u32]) -> ArrayVec<u32, MO
 }
 
 /// Gives each private word of some slots that names a block that moved the address where it went.
-#[tactic(auto, using(flex_kept::proofs::Keeping::keeps_same))]
+#[tactic(auto, using(instances_ground::specs::flex_kept::proofs::Keeping::keeps_same))]
 pub(crate) fn move_words(map: &mut AddressMap, slots: &[u32], moves: &[Move])
     requires below { EachIndex slots.now (λ k. slice_index slots.now k < 64) }
     requires system { HasSystemPages map.old }

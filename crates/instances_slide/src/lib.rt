@@ -6,4 +6,7 @@ pub mod laws;
 mod movable;
 pub mod tidy;
 
+pub use instances_ground::dynamic_areas;
+pub use instances_ground::rma;
+pub use instances_ground;
 pub use tidy::slide;

@@ -2,15 +2,15 @@
 ghost use Rattle.std.specs.Prelude.{◌≡◌, ◌≤◌, ◌<◌, ◌+◌, ◌^◌, [], length, Option, Some, None};
 ghost use Rattle.address_map.specs.Items.{size_of};
 ghost use Rattle.address_map.specs.Memory.{anchor_of};
-ghost use Rattle.os_heap.specs.Store.{find_heap, store_of, IsSound};
+ghost use Rattle.instances_ground.specs.os_heap.specs.Store.{find_heap, store_of, IsSound};
 ghost use Rattle.instances_slide.specs.Movable.{blocks_that, can_move, is_named_once, movable_in};
 
 use address_map::{AddressMap, Item};
 use arrayvec::ArrayVec;
 use instances_table::InstanceTable;
-use os_heap::{Blocks, Heaps};
-use os_heap_slide::moves::MOST_MOVES;
-use profile::memory_map::{HEAP_DESCRIPTOR, RMA_START};
+use instances_ground::os_heap::{Blocks, Heaps};
+use instances_ground::os_heap_slide::moves::MOST_MOVES;
+use instances_ground::profile::memory_map::{HEAP_DESCRIPTOR, RMA_START};
 
 /// The addresses of blocks that can be moved, in order.
 pub(crate) type Movable = ArrayVec<u32, MOST_MOVES>;

@@ -1,7 +1,7 @@
 //! The slide of the module area.
 ghost use Rattle.std.specs.Prelude.{◌≡◌, [], ◌≤◌, length};
-ghost use Rattle.os_heap.specs.Store.{AreClasses, store_of};
-ghost use Rattle.flex_kept.specs.Keeping.{KeepsFlex};
+ghost use Rattle.instances_ground.specs.os_heap.specs.Store.{AreClasses, store_of};
+ghost use Rattle.instances_ground.specs.flex_kept.specs.Keeping.{KeepsFlex};
 ghost use Rattle.instances_ground.specs.Sound.{IsWorld};
 ghost use Rattle.instances_ground.specs.World.{world_of};
 ghost use Rattle.instances_slide.specs.Slid.{world_slid};
@@ -9,9 +9,9 @@ ghost use Rattle.instances_slide.specs.Slid.{world_slid};
 use crate::follow::{move_images, move_words, private_words};
 use crate::movable::movable_blocks;
 use address_map::AddressMap;
-use dynamic_areas::Areas;
+use instances_ground::dynamic_areas::Areas;
 use instances_table::InstanceTable;
-use rma::Rma;
+use instances_ground::rma::Rma;
 
 /// Tidies the module area: slides its movable blocks together, so that the free room between them becomes one. Movable are the images of modules, and
 /// each block that exactly one private word of an instance names, if they hold neither an anchor of the flex store nor the return address of the call;

@@ -2,8 +2,8 @@
 -- instantiation"). That an instance's name is formed like a title is this project's own.
 use Rattle.std.specs.Prelude.{ℕ, Bool, ◌+◌, ◌==◌, ◌&&◌, nat_le, List, length, take, drop, Option, Some, None, Result, Ok, Err, if◌then◌else◌}
 use Rattle.std.specs.List.{position, list_all}
-use Rattle.profile.specs.declared.error.ErrorNumber.{ErrorNumber}
-use Rattle.profile.specs.declared.error.ErrorNumber.TheVariants.{BadString}
+use Rattle.module_header.specs.profile.specs.declared.error.ErrorNumber.{ErrorNumber}
+use Rattle.module_header.specs.profile.specs.declared.error.ErrorNumber.TheVariants.{BadString}
 use Rattle.module_header.specs.Title.{is_title_byte}
 
 -- no name stands behind a title alone

@@ -1,7 +1,7 @@
 //! What changes the table.
 ghost use Rattle.std.specs.Prelude.{◌≡◌, ◌<◌, ◌≤◌, [], ◌∷◌, ◌++◌, true, false, length, slice_get, IfSome};
 ghost use Rattle.std.specs.List.{list_any};
-ghost use Rattle.profile.specs.Outcome.{Gives, Leaves};
+ghost use Rattle.module_header.specs.profile.specs.Outcome.{Gives, Leaves};
 ghost use Rattle.instances_table.specs.Modules.{has_title, changed_at};
 ghost use Rattle.instances_table.specs.Changes.{is_held, free_slot, holds, is_named, is_new, with_module, new_module, with_instance, instantiated, named, renamed, with_preferred, preferring, without_instance, with_image_at};
 
@@ -11,7 +11,7 @@ use crate::names::{FullName, is_instance_name, name_of};
 use crate::parts::Image;
 use crate::table::InstanceTable;
 use module_header::Header;
-use profile::ErrorNumber;
+use module_header::profile::ErrorNumber;
 
 impl InstanceTable {
     /// Whether an instance has a slot.

@@ -13,7 +13,7 @@ use crate::names::{FullName, name_of};
 use crate::parts::{Handler, Information, InstanceInfo, ModuleInfo, Name, Place};
 use arrayvec::ArrayVec;
 use module_header::Header;
-use profile::ErrorNumber;
+use module_header::profile::ErrorNumber;
 use std::array;
 use std::marker::Model;
 

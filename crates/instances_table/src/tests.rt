@@ -3,7 +3,7 @@ ghost use Rattle.std.specs.Prelude.{◌≤◌, length};
 use crate::{Image, InstanceTable, Place};
 use arrayvec::ArrayVec;
 use module_header::Header;
-use profile::ErrorNumber;
+use module_header::profile::ErrorNumber;
 use std::test::Fail;
 
 // A header with that title and nothing else.

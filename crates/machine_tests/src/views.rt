@@ -1,13 +1,13 @@
 use debugger::{show_areas, show_blocks, show_code, show_memory, show_modules, show_regs};
 use image_loader::Images;
-use instances::Instances;
-use instances_table::{Image, InstanceTable};
-use module_header::Header;
+use debugger::instances::Instances;
+use debugger::instances_table::{Image, InstanceTable};
+use debugger::module_header::Header;
 use profile::{Config, MemorySink};
 use std::alloc::Global;
 use std::process::Abort;
 use std::test::Fail;
-use swi_dispatch::Machine;
+use debugger::swi_dispatch::Machine;
 
 /// A machine at its start.
 const START: &[u8] = b"R0  00000000 R1  00000000 R2  00000000 R3  00000000

@@ -1,3 +1,4 @@
+pub use Rattle.profile
 pub mod Header
 pub mod Swis
 pub mod Title

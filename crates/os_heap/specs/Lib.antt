@@ -1,3 +1,4 @@
+pub use Rattle.os_heap_lists
 pub mod Calls
 pub mod Laws
 pub mod Outcomes

@@ -23,6 +23,7 @@ mod sums;
 mod walk;
 pub mod words;
 
+pub use profile;
 pub use address_map::Item;
 pub use blocks::Blocks;
 pub use claim::total_for;

@@ -16,7 +16,7 @@ use address_map::{AddressMap, Class, Item, moved_to};
 use arrayvec::ArrayVec;
 use os_heap::Heaps;
 use os_heap::words::{BASE, follow, word};
-use profile::memory_map::HEAP_DESCRIPTOR;
+use os_heap::profile::memory_map::HEAP_DESCRIPTOR;
 use std::process::Abort;
 use std::test::Fail;
 

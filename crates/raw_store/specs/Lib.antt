@@ -1,3 +1,4 @@
+pub use Rattle.profile
 pub mod Lends
 pub mod Ownership
 pub mod Region

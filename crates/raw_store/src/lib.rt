@@ -5,4 +5,5 @@ pub mod block;
 mod lanes;
 pub mod store;
 
+pub use profile;
 pub use store::RawStore;

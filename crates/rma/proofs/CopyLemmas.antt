@@ -6,18 +6,18 @@ use Rattle.std.proofs.lemmas.Bool.{cases_Bool, cases_lt, le-leb, le-ltb, lt-leb,
 use Rattle.address_map.specs.Bytes.{Bytes, in_range}
 use Rattle.address_map.specs.declared.item.Item.{Item}
 use Rattle.address_map.specs.declared.item.Item.TheVariants.{Live, Free}
-use Rattle.os_heap_lists.specs.Heap.{AreTotals, HeapList}
-use Rattle.os_heap_lists.proofs.Reading.{total_facts}
+use Rattle.os_heap.specs.os_heap_lists.specs.Heap.{AreTotals, HeapList}
+use Rattle.os_heap.specs.os_heap_lists.proofs.Reading.{total_facts}
 use Rattle.os_heap.specs.Payloads.{is_other, payload_from, payload_in, payload_of, payload_or}
 use Rattle.os_heap.specs.Store.{AreHeapsIn, IsClearOfHeaps, find_heap}
 use Rattle.os_heap.specs.declared.payload.Payload.TheVariants.{Outside, Inside, Other}
 use Rattle.os_heap.proofs.Apart.{range_parts}
 use Rattle.os_heap.proofs.PayloadLemmas.{payload_last}
 use Rattle.os_heap.proofs.Stores.{clear_both_ways, clear_of-found}
-use Rattle.dynamic_areas.specs.Changing.{pages_had}
-use Rattle.dynamic_areas.specs.Ground.{Estate, IsEstate}
-use Rattle.dynamic_areas.specs.declared.area.Area.{Area}
-use Rattle.dynamic_areas.proofs.Remapped.{here}
+use Rattle.flex_kept.specs.dynamic_areas.specs.Changing.{pages_had}
+use Rattle.flex_kept.specs.dynamic_areas.specs.Ground.{Estate, IsEstate}
+use Rattle.flex_kept.specs.dynamic_areas.specs.declared.area.Area.{Area}
+use Rattle.flex_kept.specs.dynamic_areas.proofs.Remapped.{here}
 use Rattle.rma.specs.Calls.{area_pages}
 use Rattle.rma.specs.Copies.{has_bare, is_bare}
 use Rattle.rma.proofs.GrowthLemmas.{HasArea, area_there}

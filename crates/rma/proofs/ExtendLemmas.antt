@@ -7,16 +7,16 @@ use Rattle.profile.specs.declared.error.ErrorNumber.TheVariants.{HeapBadDesc, He
 use Rattle.address_map.specs.Items.{size_of}
 use Rattle.address_map.specs.Memory.{bytes_of}
 use Rattle.address_map.specs.declared.map.AddressMap.{AddressMap}
-use Rattle.os_heap_lists.specs.Heap.{HeapList, AreTotals, IsHeapIn}
-use Rattle.os_heap_lists.specs.Lists.{changed_by, live_total, resized_in_place, round_up_8, total_for}
-use Rattle.os_heap_lists.proofs.LiveBlocks.{LiveBytes, live_bytes}
+use Rattle.os_heap.specs.os_heap_lists.specs.Heap.{HeapList, AreTotals, IsHeapIn}
+use Rattle.os_heap.specs.os_heap_lists.specs.Lists.{changed_by, live_total, resized_in_place, round_up_8, total_for}
+use Rattle.os_heap.specs.os_heap_lists.proofs.LiveBlocks.{LiveBytes, live_bytes}
 use Rattle.os_heap.specs.Calls.{block_sized, bytes_held, got, guests_total, holds_anchor, resized, unless_image}
 use Rattle.os_heap.specs.Room.{base_offset}
 use Rattle.os_heap.specs.Store.{Store, IsSound, find_heap, has_image, store_of}
 use Rattle.os_heap.proofs.Found.{found_heap, found_start}
 use Rattle.os_heap.proofs.Replace.{heap_below}
-use Rattle.dynamic_areas.specs.Changing.{pages_had}
-use Rattle.dynamic_areas.specs.Ground.{Estate, IsEstate}
+use Rattle.flex_kept.specs.dynamic_areas.specs.Changing.{pages_had}
+use Rattle.flex_kept.specs.dynamic_areas.specs.Ground.{Estate, IsEstate}
 use Rattle.rma.specs.Calls.{area_pages, end_if_moved, end_in_place, grown_in_place, grown_to, is_full, or_as_before, rma_base, total_changed}
 use Rattle.rma.proofs.GrowthLemmas.{HasArea, IsGrown, area_there, grown_not, is_grown}
 use Rattle.rma.proofs.ResizeLemmas.{IsGuests, full_free, got_fits, last_fits, resized_fits}

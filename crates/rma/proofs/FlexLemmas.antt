@@ -5,14 +5,14 @@ use Rattle.std.proofs.lemmas.Bool.{cases_Bool}
 use Rattle.address_map.specs.Bytes.{with_bytes, with_moved}
 use Rattle.address_map.specs.Memory.{free_pages}
 use Rattle.address_map.specs.declared.map.AddressMap.{AddressMap}
-use Rattle.os_heap_lists.specs.Heap.{HeapList}
-use Rattle.os_heap_lists.specs.Lists.{live_total}
+use Rattle.os_heap.specs.os_heap_lists.specs.Heap.{HeapList}
+use Rattle.os_heap.specs.os_heap_lists.specs.Lists.{live_total}
 use Rattle.os_heap.specs.Calls.{OfHeap, block_sized, copied}
 use Rattle.os_heap.specs.Store.{IsSound, Store, find_heap, has_image, store_of}
-use Rattle.dynamic_areas.specs.declared.area.Changed.{Changed}
-use Rattle.dynamic_areas.specs.Areas.{Land}
-use Rattle.dynamic_areas.specs.Changing.{change_answer, store_changed}
-use Rattle.dynamic_areas.specs.Ground.{IsEstate, estate_of}
+use Rattle.flex_kept.specs.dynamic_areas.specs.declared.area.Changed.{Changed}
+use Rattle.flex_kept.specs.dynamic_areas.specs.Areas.{Land}
+use Rattle.flex_kept.specs.dynamic_areas.specs.Changing.{change_answer, store_changed}
+use Rattle.flex_kept.specs.dynamic_areas.specs.Ground.{IsEstate, estate_of}
 use Rattle.flex_kept.specs.Keeping.{IsUnanchored, KeepsFlex}
 use Rattle.flex_kept.proofs.Areas.{area_changed_keeps}
 use Rattle.flex_kept.proofs.Keeping.{keeps_then}

@@ -12,17 +12,17 @@ use Rattle.address_map.specs.declared.map.AddressMap.{AddressMap}
 use Rattle.address_map.specs.declared.region.Kind.{Kind}
 use Rattle.address_map.specs.declared.region.Kind.TheVariants as kind
 use Rattle.address_map.specs.declared.region.Region.{Region}
-use Rattle.os_heap_lists.specs.Heap.{HeapList, IsHeapIn}
-use Rattle.os_heap_lists.specs.Lists.{live_total}
-use Rattle.os_heap_lists.proofs.LiveBlocks.{LiveBytes, live_bytes}
+use Rattle.os_heap.specs.os_heap_lists.specs.Heap.{HeapList, IsHeapIn}
+use Rattle.os_heap.specs.os_heap_lists.specs.Lists.{live_total}
+use Rattle.os_heap.specs.os_heap_lists.proofs.LiveBlocks.{LiveBytes, live_bytes}
 use Rattle.os_heap.specs.Calls.{OfHeap, block_sized}
 use Rattle.os_heap.specs.Store.{AreClear, AreHeapsIn, ArePlaced, AreRangesApart, IsClearOfHeaps, IsClearOfRanges, IsImageBlock, IsImageIn, IsSound, Store, find_heap, has_image, heaps_in, is_area, is_flex_store, is_image, is_in_flex_store, others_in, store_of}
 use Rattle.os_heap.proofs.Apart.{block_inside, one_block, range_parts}
 use Rattle.os_heap.proofs.Found.{found_heap, found_start}
 use Rattle.os_heap.proofs.Recorded.{IsClearOfAll, apart_other}
 use Rattle.os_heap.proofs.Stores.{AreOthers, are_others, clear_of-found}
-use Rattle.dynamic_areas.specs.Areas.{Land}
-use Rattle.dynamic_areas.specs.Ground.{AreAreas, AreRangesMapped, Estate, IsEstate}
+use Rattle.flex_kept.specs.dynamic_areas.specs.Areas.{Land}
+use Rattle.flex_kept.specs.dynamic_areas.specs.Ground.{AreAreas, AreRangesMapped, Estate, IsEstate}
 use Rattle.rma.specs.Images.{CanRecord}
 use Rattle.rma.proofs.ExtendLemmas.{IsSized, sized_by}
 use Rattle.rma.proofs.GrowthLemmas.{HasArea, area_there}

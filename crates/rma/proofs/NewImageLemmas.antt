@@ -12,10 +12,10 @@ use Rattle.address_map.specs.Memory.{byte_at, bytes_of, class_of, layout}
 use Rattle.address_map.specs.declared.map.AddressMap.{AddressMap}
 use Rattle.address_map.specs.declared.region.Kind.TheVariants as kind
 use Rattle.address_map.specs.declared.region.Region.{Region}
-use Rattle.os_heap_lists.proofs.LiveBlocks.{LiveBytes, live_bytes}
-use Rattle.os_heap_lists.proofs.Spelling.{total_of-numbers}
-use Rattle.os_heap_lists.specs.Heap.{HeapList, IsHeapIn}
-use Rattle.os_heap_lists.specs.Lists.{Claim, claimed, live_total, total_for}
+use Rattle.os_heap.specs.os_heap_lists.proofs.LiveBlocks.{LiveBytes, live_bytes}
+use Rattle.os_heap.specs.os_heap_lists.proofs.Spelling.{total_of-numbers}
+use Rattle.os_heap.specs.os_heap_lists.specs.Heap.{HeapList, IsHeapIn}
+use Rattle.os_heap.specs.os_heap_lists.specs.Lists.{Claim, claimed, live_total, total_for}
 use Rattle.os_heap.proofs.Apart.{range_parts}
 use Rattle.os_heap.proofs.ClaimedBlocks.{IsNewBlock, is_new_block}
 use Rattle.os_heap.proofs.Found.{found_heap, found_start}
@@ -24,7 +24,7 @@ use Rattle.os_heap.proofs.KeptPayloads.{IsClaim, is_claim}
 use Rattle.os_heap.proofs.PayloadWrites.{payload_kept}
 use Rattle.os_heap.specs.Calls.{OfHeap, block_sized, copied, got}
 use Rattle.os_heap.specs.Store.{IsSound, Store, find_heap, has_image, store_of}
-use Rattle.dynamic_areas.specs.Ground.{Estate, IsEstate}
+use Rattle.flex_kept.specs.dynamic_areas.specs.Ground.{Estate, IsEstate}
 use Rattle.rma.specs.Calls.{grown_to, rma_base, rma_claimed}
 use Rattle.rma.specs.Images.{image_recorded}
 use Rattle.rma.specs.NewImages.{IsLiveBlock, filled}

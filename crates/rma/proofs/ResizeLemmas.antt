@@ -10,11 +10,11 @@ use Rattle.address_map.specs.Items.{size_of}
 use Rattle.address_map.specs.Records.{anchor_among}
 use Rattle.address_map.specs.declared.item.Item.{Item}
 use Rattle.address_map.specs.declared.item.Item.TheVariants.{Live, Free}
-use Rattle.os_heap_lists.specs.Heap.{HeapList, AreTotals}
-use Rattle.os_heap_lists.specs.Lists.{Claim, changed_by, claimed, first_fit, live_total, or_at_base, refitted, released, resized_in_place, round_up_8, total_for}
-use Rattle.os_heap_lists.proofs.LiveBlocks.{IsStill, LiveBytes, claim_still, live_bytes}
-use Rattle.os_heap_lists.proofs.Reading.{total_facts}
-use Rattle.os_heap_lists.proofs.Resizes.{last_some, unreleased}
+use Rattle.os_heap.specs.os_heap_lists.specs.Heap.{HeapList, AreTotals}
+use Rattle.os_heap.specs.os_heap_lists.specs.Lists.{Claim, changed_by, claimed, first_fit, live_total, or_at_base, refitted, released, resized_in_place, round_up_8, total_for}
+use Rattle.os_heap.specs.os_heap_lists.proofs.LiveBlocks.{IsStill, LiveBytes, claim_still, live_bytes}
+use Rattle.os_heap.specs.os_heap_lists.proofs.Reading.{total_facts}
+use Rattle.os_heap.specs.os_heap_lists.proofs.Resizes.{last_some, unreleased}
 use Rattle.os_heap.specs.Calls.{copied, gave_back, got, handed_over, holding, holds_anchor, moved, resized, resized_or_moved}
 use Rattle.os_heap.specs.Store.{Store, find_heap, has_image}
 use Rattle.os_heap.proofs.Moving.{found_held}

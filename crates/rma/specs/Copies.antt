@@ -5,7 +5,7 @@ use Rattle.std.specs.List.{list_any, range_with_len}
 use Rattle.address_map.specs.Bytes.{in_range}
 use Rattle.os_heap.specs.Payloads.{is_other, payload_of}
 use Rattle.os_heap.specs.Ranges.{are_mapped}
-use Rattle.dynamic_areas.specs.Ground.{Estate}
+use Rattle.flex_kept.specs.dynamic_areas.specs.Ground.{Estate}
 use Rattle.rma.specs.Calls.{area_pages}
 
 -- is a byte one of the module area's that no live block holds: of the heap's own words, of free room, or past the base?

@@ -3,7 +3,7 @@ use Rattle.std.specs.Prelude.{ℕ, ◌≡◌, false, Result, Ok, Err}
 use Rattle.profile.specs.declared.error.ErrorNumber.{ErrorNumber}
 use Rattle.os_heap.specs.Calls.{got, items_of}
 use Rattle.os_heap.specs.Store.{has_image}
-use Rattle.dynamic_areas.specs.Ground.{Estate, IsEstate}
+use Rattle.flex_kept.specs.dynamic_areas.specs.Ground.{Estate, IsEstate}
 use Rattle.rma.specs.Calls.{is_full, rma_claimed, rma_freed}
 
 -- the blocks and the free room are those of an estate, and the area has its size

@@ -1,3 +1,10 @@
+pub use Rattle.profile
+pub use Rattle.address_map
+pub use Rattle.os_heap.specs.os_heap_lists
+pub use Rattle.os_heap
+pub use Rattle.flex_kept.specs.os_heap_slide
+pub use Rattle.flex_kept.specs.dynamic_areas
+pub use Rattle.flex_kept
 pub mod Calls
 pub mod Copies
 pub mod Images

@@ -8,11 +8,11 @@ use Rattle.address_map.specs.declared.region.Kind.TheVariants as kind
 use Rattle.address_map.specs.declared.region.Region.{Region}
 use Rattle.address_map.specs.Bytes.{meets, with_bytes}
 use Rattle.address_map.specs.Records.{anchor_among}
-use Rattle.os_heap_lists.specs.Lists.{live_total, total_for}
+use Rattle.os_heap.specs.os_heap_lists.specs.Lists.{live_total, total_for}
 use Rattle.os_heap.specs.Calls.{OfHeap, copied}
 use Rattle.os_heap.specs.Ranges.{are_mapped}
 use Rattle.os_heap.specs.Store.{Store, find_heap}
-use Rattle.dynamic_areas.specs.Ground.{Estate}
+use Rattle.flex_kept.specs.dynamic_areas.specs.Ground.{Estate}
 use Rattle.rma.specs.Calls.{rma_claimed, with_store}
 use Rattle.rma.specs.Images.{image_recorded}
 

@@ -2,17 +2,17 @@ ghost use Rattle.std.specs.Prelude.{◌≡◌, ◌-◌, ◌%◌, ◌≤◌, ◌<
 ghost use Rattle.profile.specs.Outcome.{Gives};
 ghost use Rattle.address_map.specs.Bytes.{AreMapped};
 ghost use Rattle.address_map.specs.Memory.{is_mapped, layout};
-ghost use Rattle.os_heap_lists.specs.Lists.{total_for};
+ghost use Rattle.os_heap.specs.os_heap_lists.specs.Lists.{total_for};
 ghost use Rattle.os_heap.specs.Calls.{copied};
 ghost use Rattle.os_heap.specs.Store.{store_of, AreClasses, IsSound, has_image};
-ghost use Rattle.dynamic_areas.specs.Areas.{Land};
-ghost use Rattle.dynamic_areas.specs.Ground.{estate_of, IsEstate};
+ghost use Rattle.flex_kept.specs.dynamic_areas.specs.Areas.{Land};
+ghost use Rattle.flex_kept.specs.dynamic_areas.specs.Ground.{estate_of, IsEstate};
 ghost use Rattle.flex_kept.specs.Keeping.{is_in_record, IsUnanchored, KeepsFlex};
 ghost use Rattle.rma.specs.NewImages.{filled, image_copied, image_made, image_record, IsLiveBlock};
 
 use crate::area::Rma;
 use address_map::AddressMap;
-use dynamic_areas::Areas;
+use flex_kept::dynamic_areas::Areas;
 use profile::ErrorNumber;
 use profile::memory_map::RMA_MAXIMUM;
 

@@ -1,12 +1,12 @@
 ghost use Rattle.std.specs.Prelude.{◌≡◌};
 ghost use Rattle.address_map.specs.Memory.{mapping};
 ghost use Rattle.os_heap.specs.Store.{store_of, AreClasses, IsSound};
-ghost use Rattle.os_heap_slide.specs.Slide.{MaySlide, IsSlid};
+ghost use Rattle.flex_kept.specs.os_heap_slide.specs.Slide.{MaySlide, IsSlid};
 ghost use Rattle.flex_kept.specs.Keeping.{KeepsFlex};
 
 use crate::area::Rma;
 use address_map::AddressMap;
-use os_heap_slide::{Moves, slide};
+use flex_kept::os_heap_slide::{Moves, slide};
 use profile::memory_map::RMA_START;
 
 impl Rma {

@@ -6,7 +6,7 @@ use Rattle.profile.specs.Outcome.{Gives, Leaves}
 use Rattle.profile.specs.declared.error.ErrorNumber.{ErrorNumber}
 use Rattle.address_map.specs.Memory.{free_pages}
 use Rattle.address_map.specs.declared.map.AddressMap.{AddressMap}
-use Rattle.os_heap_lists.specs.Heap.{HeapList}
+use Rattle.os_heap.specs.os_heap_lists.specs.Heap.{HeapList}
 use Rattle.os_heap.specs.Store.{Store, find_heap, store_of}
 use Rattle.dynamic_areas.specs.declared.area.Area.{Area}
 use Rattle.dynamic_areas.specs.declared.area.Changed.{Changed}
@@ -17,9 +17,9 @@ use Rattle.dynamic_areas.specs.Changing.{change_answer, ended_by, is_growth, rem
 use Rattle.dynamic_areas.specs.Creating.{created, pages_for}
 use Rattle.dynamic_areas.specs.Ground.{AreAreas, estate_of}
 use Rattle.dynamic_areas.specs.Remapped.{with_pages_at}
-use Rattle.flex_kept.proofs.Areas.{area_changed_keeps, created_keeps, removed_keeps}
-use Rattle.flex_kept.proofs.Keeping.{keeps_equal}
-use Rattle.flex_kept.specs.Keeping.{KeepsFlex}
+use Rattle.flex_ground.specs.flex_kept.proofs.Areas.{area_changed_keeps, created_keeps, removed_keeps}
+use Rattle.flex_ground.specs.flex_kept.proofs.Keeping.{keeps_equal}
+use Rattle.flex_ground.specs.flex_kept.specs.Keeping.{KeepsFlex}
 
 pub record AreKept (s t : Store) : Type 0 where
   pub flex : KeepsFlex s t

@@ -10,9 +10,9 @@ use Rattle.os_heap.proofs.Frame.{layout-others}
 use Rattle.os_heap.specs.Store.{AreClasses, IsSound, store_of}
 use Rattle.dynamic_areas.proofs.HeapCalls.{areas_written}
 use Rattle.dynamic_areas.specs.Ground.{AreAreas}
-use Rattle.flex_store.specs.Calls.{FlexState}
-use Rattle.flex_store.specs.State.{IsFlex, state_of as flex_state_of}
-use Rattle.flex_store.specs.declared.flex.Flex.{Flex}
+use Rattle.flex_ground.specs.flex_store.specs.Calls.{FlexState}
+use Rattle.flex_ground.specs.flex_store.specs.State.{IsFlex, state_of as flex_state_of}
+use Rattle.flex_ground.specs.flex_store.specs.declared.flex.Flex.{Flex}
 use Rattle.flex_ground.proofs.Calls.{flex_left, flex_stays_so, state_is}
 use Rattle.flex_ground.specs.CallLaws.{AreAnchorsAllowed, IsFlexCall, IsLeft}
 use Rattle.flex_ground.specs.Ground.{HasFlex, flex_state}

@@ -9,21 +9,21 @@ use Rattle.address_map.specs.declared.map.AddressMap.{AddressMap}
 use Rattle.arm_step.specs.State.{State}
 use Rattle.os_heap.specs.Store.{AreClasses, Store, store_of}
 use Rattle.dynamic_areas.specs.Ground.{AreAreas}
-use Rattle.flex_store.specs.Blocks.{FlexStore}
-use Rattle.flex_store.specs.Calls.{FlexState, begun, begun_by, flex_record, is_flex_range, with_flex as with_store}
-use Rattle.flex_store.specs.State.{IsFlex, flex_in, state_of as flex_state_of}
-use Rattle.flex_store.specs.declared.flex.Extent.{Extent}
-use Rattle.flex_store.specs.declared.flex.Flex.{Flex}
+use Rattle.flex_ground.specs.flex_store.specs.Blocks.{FlexStore}
+use Rattle.flex_ground.specs.flex_store.specs.Calls.{FlexState, begun, begun_by, flex_record, is_flex_range, with_flex as with_store}
+use Rattle.flex_ground.specs.flex_store.specs.State.{IsFlex, flex_in, state_of as flex_state_of}
+use Rattle.flex_ground.specs.flex_store.specs.declared.flex.Extent.{Extent}
+use Rattle.flex_ground.specs.flex_store.specs.declared.flex.Flex.{Flex}
 use Rattle.flex_ground.proofs.Calls.{state_is}
 use Rattle.flex_ground.proofs.Starts.{IsFlexMade, has_made, made_areas, made_left, others_made, room_there, unmade_areas, unmade_left}
 use Rattle.flex_ground.specs.Ground.{flex_state, records_with, with_flex_record}
-use Rattle.instances_ground.proofs.Images.{system_more}
-use Rattle.instances_ground.proofs.Worlds.{few_records}
-use Rattle.instances_ground.specs.World.{World}
+use Rattle.flex_ground.specs.instances_ground.proofs.Images.{system_more}
+use Rattle.flex_ground.specs.instances_ground.proofs.Worlds.{few_records}
+use Rattle.flex_ground.specs.instances_ground.specs.World.{World}
 use Rattle.instances_plans.specs.Plans.{Plan}
 use Rattle.instances_plans.specs.declared.given.Given.{Given}
-use Rattle.instances_actions.specs.Pending.{is_pending, pending_by, pending_of}
-use Rattle.instances_ground.specs.Sound.{count_beside}
+use Rattle.instances.specs.instances_actions.specs.Pending.{is_pending, pending_by, pending_of}
+use Rattle.flex_ground.specs.instances_ground.specs.Sound.{count_beside}
 use Rattle.instances_table.specs.Modules.{slots_of}
 use Rattle.instances.specs.Turns.{MayGoOn}
 use Rattle.swi_dispatch.specs.declared.halt.Halt.{Halt}

@@ -19,13 +19,13 @@ use Rattle.instances_plans.specs.declared.code.Outcome.{Outcome as CodeOutcome}
 use Rattle.instances_plans.specs.declared.code.Outcome.TheVariants.{Well}
 use Rattle.instances_plans.specs.Carrying.{Carried, Doing, carried, carried_by, carried_from}
 use Rattle.instances_plans.specs.Plans.{Plan, end_by, settled}
-use Rattle.instances_ground.specs.Sound.{IsWorld}
-use Rattle.instances_ground.specs.World.{World, world_of}
+use Rattle.flex_ground.specs.instances_ground.specs.Sound.{IsWorld}
+use Rattle.flex_ground.specs.instances_ground.specs.World.{World, world_of}
 use Rattle.instances.specs.Naming.{NamesOnly, slots_of_plan}
 use Rattle.instances.specs.Turns.{IsUnderWay, MayGoOn, module_doing}
 use Rattle.instances.proofs.NamedByCalls.{NamesNone, NamesOne}
-use Rattle.instances_actions.specs.Pending.{pending_of}
-use Rattle.instances_actions.specs.Ready.{IsReady}
+use Rattle.instances.specs.instances_actions.specs.Pending.{pending_of}
+use Rattle.instances.specs.instances_actions.specs.Ready.{IsReady}
 use Rattle.swi_dispatch_frames.specs.declared.frame.Frame.{Frame}
 use Rattle.swi_dispatch_frames.specs.Busy.{has_swi_of}
 use Rattle.profile.specs.declared.fault.Fault.TheVariants.{ErrorStop, FetchUnmapped}
@@ -40,7 +40,7 @@ use Rattle.swi_dispatch.specs.OpenFrames.{AreFrames}
 use Rattle.swi_dispatch.specs.Parts.{CanBegin, IsFree, IsWellFormed, Parts, parts_world, state_of}
 use Rattle.swi_dispatch.specs.Returns.{halted}
 use Rattle.flex_ground.specs.Ground.{HasFlex}
-use Rattle.flex_kept.specs.Keeping.{KeepsFlex}
+use Rattle.flex_ground.specs.flex_kept.specs.Keeping.{KeepsFlex}
 use Rattle.swi_dispatch.proofs.Kept.{flex_by, kept_all, kept_classes, same_kept, same_pool}
 use Rattle.swi_dispatch.proofs.OpenFrames.{frames_kept, none_of, none_of_none}
 

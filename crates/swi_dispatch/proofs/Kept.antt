@@ -17,7 +17,7 @@ use Rattle.arm_step.specs.State.{State}
 use Rattle.arm_step.specs.OwnedBytes.{IsByWords, Keeps}
 use Rattle.address_map.specs.declared.region.Kind.TheVariants.{Rma}
 use Rattle.address_map.specs.declared.region.Region.{Region}
-use Rattle.os_heap_lists.specs.Heap.{HeapList}
+use Rattle.os_heap.specs.os_heap_lists.specs.Heap.{HeapList}
 use Rattle.os_heap.specs.Store.{Store, store_of, owned_in, AreClasses, ArePlaced, IsClearOfHeaps, IsSound}
 use Rattle.os_heap.proofs.Frame.{IsKept, classes_same, clear_kept, heads_kept, owned_word, spelled_owned}
 use Rattle.os_heap.proofs.Stores.{image_kind}
@@ -30,10 +30,10 @@ use Rattle.swi_dispatch.specs.Errors.{error_block}
 use Rattle.swi_dispatch.specs.Boot.{booted, poked}
 use Rattle.flex_ground.proofs.Kept.{flex_kept, flex_stored}
 use Rattle.flex_ground.specs.Ground.{HasFlex}
-use Rattle.flex_store.specs.declared.flex.Flex.{Flex}
+use Rattle.flex_ground.specs.flex_store.specs.declared.flex.Flex.{Flex}
 use Rattle.dynamic_areas.specs.Areas.{Land}
-use Rattle.flex_kept.proofs.Writes.{system_keeps}
-use Rattle.flex_kept.specs.Keeping.{KeepsFlex}
+use Rattle.flex_ground.specs.flex_kept.proofs.Writes.{system_keeps}
+use Rattle.flex_ground.specs.flex_kept.specs.Keeping.{KeepsFlex}
 use Rattle.instances_table.specs.Modules.{slots_of}
 use Rattle.instances.specs.Turns.{MayGoOn}
 use Rattle.instances.proofs.GoingOn.{may_go_on_kept}

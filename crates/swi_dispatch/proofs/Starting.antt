@@ -4,9 +4,9 @@ use Rattle.profile.specs.Sizes.{Sizes}
 use Rattle.address_map.specs.declared.map.AddressMap.{AddressMap}
 use Rattle.address_map.specs.Memory.{free_pages}
 use Rattle.arm_step.specs.State.{start_state}
-use Rattle.instances_ground.specs.Sound.{IsWorld}
-use Rattle.instances_ground.specs.World.{world_of}
-use Rattle.instances_ground.proofs.Starting.{start_world}
+use Rattle.flex_ground.specs.instances_ground.specs.Sound.{IsWorld}
+use Rattle.flex_ground.specs.instances_ground.specs.World.{world_of}
+use Rattle.flex_ground.specs.instances_ground.proofs.Starting.{start_world}
 use Rattle.os_heap.specs.Store.{Store, store_of}
 use Rattle.dynamic_areas.specs.Areas.{start_land}
 use Rattle.dynamic_areas.specs.Ground.{AreAreas, IsRecorded, pool_of, system_pages}

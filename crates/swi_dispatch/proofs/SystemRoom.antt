@@ -8,7 +8,7 @@ use Rattle.dynamic_areas.specs.Areas.{Land}
 use Rattle.dynamic_areas.specs.Ground.{AreAreas, IsRecorded, system_pages}
 use Rattle.dynamic_areas.proofs.HeapCalls.{system_mapped}
 use Rattle.dynamic_areas.proofs.Remapped.{here}
-use Rattle.instances_ground.specs.Sound.{HasSystemPages}
+use Rattle.flex_ground.specs.instances_ground.specs.Sound.{HasSystemPages}
 
 pub private_room : (s : Store) (free : ℕ) (l : Land) → AreAreas s free l → AreMapped s.bytes.mapped 0x01C02000 256
 private_room s free l areas a low high = system_mapped s free l areas a (here 0x01C00000 0x3000 a (omega arith) (omega arith))

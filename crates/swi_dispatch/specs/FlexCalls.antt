@@ -8,7 +8,7 @@ use Rattle.profile.specs.declared.swi.SwiName.{SwiName}
 use Rattle.profile.specs.declared.swi.SwiName.TheVariants as swi
 use Rattle.arm_step.specs.State.{register_of}
 use Rattle.os_heap.specs.Store.{Store}
-use Rattle.flex_store.specs.Calls.{FlexState, allocated, begun, extended, mid_extended, released, sized}
+use Rattle.flex_ground.specs.flex_store.specs.Calls.{FlexState, allocated, begun, extended, mid_extended, released, sized}
 use Rattle.flex_ground.specs.Ground.{flex_of, flex_state, store_flexed, with_flex_record}
 use Rattle.swi_dispatch.specs.declared.refusal.Refusal.{Refusal}
 use Rattle.swi_dispatch.specs.Answers.{or_error, system_error, with_answer}

@@ -12,7 +12,7 @@ use Rattle.instances_plans.specs.declared.code.Outcome.TheVariants.{Well, Refuse
 use Rattle.instances_plans.specs.declared.given.Given.{Given}
 use Rattle.instances_plans.specs.Carrying.{Carried, carried}
 use Rattle.instances_plans.specs.Plans.{Plan, settled}
-use Rattle.instances_ground.specs.World.{World}
+use Rattle.flex_ground.specs.instances_ground.specs.World.{World}
 use Rattle.instances.specs.declared.answers.Start.{Start}
 use Rattle.instances.specs.Reading.{start_found}
 use Rattle.instances.specs.Turns.{module_doing}

@@ -11,8 +11,8 @@ use Rattle.image_loader.specs.Entries.{Entry, bytes_of}
 use Rattle.module_header.specs.declared.fault.HeaderFault.{HeaderFault}
 use Rattle.module_header.specs.declared.header.Header.{Header}
 use Rattle.module_header.specs.Header.{header_of}
-use Rattle.rma.specs.Copies.{may_be_copied}
-use Rattle.rma.specs.NewImages.{may_be_in_place}
+use Rattle.flex_ground.specs.rma.specs.Copies.{may_be_copied}
+use Rattle.flex_ground.specs.rma.specs.NewImages.{may_be_in_place}
 use Rattle.instances.specs.Adding.{good_header, instantiation}
 use Rattle.instances_plans.specs.Plans.{Plan}
 use Rattle.instances_table.specs.Changes.{titled}

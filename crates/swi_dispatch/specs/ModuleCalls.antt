@@ -4,7 +4,7 @@ use Rattle.std.specs.Prelude.{ℕ, ◌==◌, Result, Ok, if◌then◌else◌}
 use Rattle.profile.specs.Outcome.{bind}
 use Rattle.profile.specs.declared.error.ErrorNumber.TheVariants.{ModuleBadReason}
 use Rattle.arm_step.specs.State.{register_of}
-use Rattle.rma.specs.Calls.{rma_described, rma_claimed, rma_freed, rma_extended}
+use Rattle.flex_ground.specs.rma.specs.Calls.{rma_described, rma_claimed, rma_freed, rma_extended}
 use Rattle.swi_dispatch.specs.declared.refusal.Refusal.{Refusal}
 use Rattle.swi_dispatch.specs.Answers.{system_error, or_error, with_answer}
 use Rattle.swi_dispatch.specs.InstanceCalls.{instance_told, instance_renamed, instance_preferred, instance_found}

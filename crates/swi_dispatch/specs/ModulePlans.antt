@@ -6,7 +6,7 @@ use Rattle.profile.specs.declared.error.ErrorNumber.{ErrorNumber}
 use Rattle.profile.specs.declared.error.ErrorNumber.TheVariants.{FrameLimit, ModuleBusy}
 use Rattle.instances.specs.Plans.{clearing, deletion, reinitialisation, tidying}
 use Rattle.instances.specs.Reading.{slot_meant}
-use Rattle.instances_ground.specs.World.{World}
+use Rattle.flex_ground.specs.instances_ground.specs.World.{World}
 use Rattle.instances_plans.specs.Plans.{Plan}
 use Rattle.swi_dispatch_frames.specs.Busy.{has_swi_of}
 use Rattle.swi_dispatch.specs.InstanceCalls.{string_in, with_modules}

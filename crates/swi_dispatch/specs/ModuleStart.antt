@@ -8,7 +8,7 @@ use Rattle.arm_step.specs.declared.psr.Mode.TheVariants.{User}
 use Rattle.arm_step.specs.State.{State, start_psr, with_pc, with_psr, with_register_in}
 use Rattle.instances.specs.declared.answers.Start.{Start}
 use Rattle.instances.specs.Reading.{start_found}
-use Rattle.instances_ground.specs.World.{with_text}
+use Rattle.flex_ground.specs.instances_ground.specs.World.{with_text}
 use Rattle.instances_plans.specs.Code.{private_of}
 use Rattle.swi_dispatch.specs.declared.module_start.Opening.{Opening}
 use Rattle.swi_dispatch.specs.InstanceCalls.{string_in}

@@ -9,8 +9,8 @@ use Rattle.flex_ground.specs.Ground.{HasFlex}
 use Rattle.arm_step.specs.declared.turn.Turn.{Turn}
 use Rattle.arm_step.specs.State.{State}
 use Rattle.instances_plans.specs.Plans.{Plan}
-use Rattle.instances_ground.specs.Sound.{IsWorld}
-use Rattle.instances_ground.specs.World.{World, world_of}
+use Rattle.flex_ground.specs.instances_ground.specs.Sound.{IsWorld}
+use Rattle.flex_ground.specs.instances_ground.specs.World.{World, world_of}
 use Rattle.instances.specs.Naming.{slots_of_plan}
 use Rattle.instances.specs.Turns.{IsUnderWay, MayGoOn}
 use Rattle.swi_dispatch_frames.specs.Busy.{has_swi_of}

@@ -10,7 +10,7 @@ use profile::{ErrorNumber, SwiName};
 
 impl Machine {
     ghost use Rattle.swi_dispatch.specs.Parts.{state_of, OnlyState};
-    ghost use Rattle.flex_store.specs.Calls.{allocated, extended, mid_extended, released, sized};
+    ghost use Rattle.flex_ground.specs.flex_store.specs.Calls.{allocated, extended, mid_extended, released, sized};
     ghost use Rattle.swi_dispatch.specs.FlexCalls.{flex_allocated, flex_called, flex_extended, flex_in_range, flex_made, flex_mid_extended, flex_released, flex_sized, left_by, machine_flex};
 
     /// A flex call by its name; any other is unknown.

@@ -15,7 +15,7 @@ use image_loader::Images;
 use instances_plans::Plan;
 use module_header::Header;
 use profile::ErrorNumber;
-use rma::Rma;
+use flex_ground::rma::Rma;
 
 /// What a load is given.
 #[derive(Clone, Copy)]

@@ -26,6 +26,13 @@ pub mod running;
 pub mod spare;
 pub mod strings;
 
+pub use arm_step;
+pub use os_heap;
+pub use dynamic_areas;
+pub use flex_ground::flex_store;
+pub use module_header;
+pub use instances_table;
+pub use instances;
 pub use boot_error::BootError;
 pub use breaks::{BreakError, Breaks};
 pub use halt::Halt;

@@ -4,7 +4,7 @@ ghost use Rattle.profile.specs.Outcome.{Leaves};
 ghost use Rattle.address_map.specs.Memory.{free_pages};
 ghost use Rattle.os_heap.specs.Store.{store_of, IsSound};
 ghost use Rattle.dynamic_areas.specs.Rooms.{IsAreaTable};
-ghost use Rattle.flex_store.specs.State.{IsFlex};
+ghost use Rattle.flex_ground.specs.flex_store.specs.State.{IsFlex};
 ghost use Rattle.swi_dispatch.specs.Step.{without_x};
 
 use crate::boot_error::BootError;
@@ -15,7 +15,7 @@ use address_map::AddressMap;
 use arm_step::{Cpu, Turn, step};
 use arrayvec::ArrayVec;
 use dynamic_areas::{Areas, start_memory};
-use flex_store::Flex;
+use flex_ground::flex_store::Flex;
 use image_loader::Images;
 use instances::Instances;
 use instances_plans::Plan;

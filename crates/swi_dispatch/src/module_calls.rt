@@ -7,7 +7,7 @@ ghost use Rattle.profile.specs.Outcome.{Leaves};
 use crate::machine::Machine;
 use crate::refusal::Refusal;
 use profile::ErrorNumber;
-use rma::Rma;
+use flex_ground::rma::Rma;
 
 impl Machine {
     ghost use Rattle.swi_dispatch.specs.Parts.{state_of, OnlyState};

@@ -8,7 +8,7 @@ use crate::strings::MOST_TEXT;
 use arm_step::{Cpu, Mode, Psr};
 use arrayvec::ArrayVec;
 use instances::Start;
-use instances_ground::put_text;
+use flex_ground::instances_ground::put_text;
 use instances_plans::private_word;
 use profile::ErrorNumber;
 use profile::memory_map::ENVIRONMENT_TEXT;

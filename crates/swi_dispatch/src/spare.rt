@@ -3,7 +3,7 @@
 ghost use Rattle.std.specs.Prelude.{◌≡◌};
 ghost use Rattle.os_heap.specs.Store.{AreClasses};
 ghost use Rattle.instances_plans.specs.Plans.{settled};
-ghost use Rattle.instances_ground.specs.World.{world_of};
+ghost use Rattle.flex_ground.specs.instances_ground.specs.World.{world_of};
 ghost use Rattle.instances.specs.Turns.{IsUnderWay};
 ghost use Rattle.swi_dispatch.specs.Gates.{error_ahead};
 

@@ -1,12 +1,12 @@
 //! Calls that add a module, on a machine at its start with an image at the start of the application space.
 ghost use Rattle.std.specs.Prelude.{[], ◌≤◌, length, IfOk};
-ghost use Rattle.os_heap.specs.Store.{AreClasses};
-ghost use Rattle.instances_ground.specs.Sound.{IsWorld};
-ghost use Rattle.instances_ground.specs.World.{world_of};
+ghost use Rattle.instances_slide.specs.os_heap.specs.Store.{AreClasses};
+ghost use Rattle.instances_slide.specs.instances_ground.specs.Sound.{IsWorld};
+ghost use Rattle.instances_slide.specs.instances_ground.specs.World.{world_of};
 
 use crate::Instances;
 use address_map::{AddressMap, Kind, Region};
-use dynamic_areas::{Areas, start_memory};
+use instances_slide::dynamic_areas::{Areas, start_memory};
 use instances_plans::{Action, Plan};
 use profile::memory_map::APPLICATION_START;
 use profile::{Config, ErrorNumber};

@@ -5,7 +5,7 @@ use crate::machine::{set_registers, usual_machine};
 use image_loader::Images;
 use profile::memory_map::ERROR_BLOCK;
 use std::test::Fail;
-use swi_dispatch::{BreakError, Breaks, Machine};
+use debugger::swi_dispatch::{BreakError, Breaks, Machine};
 
 /// Number, R0, R1, R2, R3; the error's number, or 0 where the call succeeds.
 static CALLS: [(u32, u32, u32, u32, u32, u32); 78] = [

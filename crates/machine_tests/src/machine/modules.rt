@@ -5,7 +5,7 @@ use crate::machine::{Line, play, set_registers, usual_machine};
 use image_loader::Images;
 use profile::{ErrorNumber, Stop};
 use std::test::Fail;
-use swi_dispatch::Machine;
+use debugger::swi_dispatch::Machine;
 
 static LINES: [Line; 37] = [
     // a claim for which the area grows, and one that finds no room

@@ -5,10 +5,10 @@ use crate::machine::Line::{
     Set, Step, Text,
 };
 use crate::machine::{Line, play};
-use arm_step::Mode;
+use debugger::arm_step::Mode;
 use profile::{Fault, Stop};
 use std::test::Fail;
-use swi_dispatch::BootError;
+use debugger::swi_dispatch::BootError;
 
 static LINES: [Line; 139] = [
     // the six words: a loop of three turns, and OS_Exit; nothing is written, and a halted machine stays as it is

@@ -3,8 +3,8 @@ use Rattle.std.specs.Prelude.{is_some, unwrap_or}
 use Rattle.std.specs.Io.KnownBytes.{Appends}
 use Rattle.profile.proofs.OutputLemmas.{Appends-join, Appends-nothing}
 use Rattle.address_map.specs.Items.{size_of}
-use Rattle.os_heap.specs.Store.{Store, store_of}
-use Rattle.os_heap.specs.Calls.{items_of}
+use Rattle.swi_dispatch.specs.os_heap.specs.Store.{Store, store_of}
+use Rattle.swi_dispatch.specs.os_heap.specs.Calls.{items_of}
 use Rattle.swi_dispatch.specs.Parts.{state_of}
 use Rattle.debugger.specs.Heap.{limits_text, items_text, blocks_text}
 use Rattle.debugger.proofs.HeapLemmas.{IsShown, shown, not_shown}

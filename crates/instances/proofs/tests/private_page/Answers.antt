@@ -1,5 +1,5 @@
 use Rattle.std.proofs.Common.{◌∙◌, refl, arith}
-use Rattle.dynamic_areas.proofs.Remapped.{here}
+use Rattle.instances_slide.specs.dynamic_areas.proofs.Remapped.{here}
 use Rattle.instances.proofs.tests.private_page.Goals as goal
 
 pub returns : goal.returns

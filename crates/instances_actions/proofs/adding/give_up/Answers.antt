@@ -1,5 +1,5 @@
 use Rattle.std.proofs.Common.{◌≡◌, sym, subst, []}
-use Rattle.dynamic_areas.specs.Ground.{Estate, IsEstate, estate_of}
+use Rattle.instances_ground.specs.dynamic_areas.specs.Ground.{Estate, IsEstate, estate_of}
 use Rattle.instances_ground.specs.Sound.{IsWorld}
 use Rattle.instances_ground.specs.World.{image_gone, world_of}
 use Rattle.instances_ground.proofs.Removals.{world_given_up}

@@ -1,5 +1,5 @@
-use Rattle.os_heap.specs.Store.{store_of}
-use Rattle.rma.specs.Images.{image_dropped, image_freed}
+use Rattle.instances_ground.specs.os_heap.specs.Store.{store_of}
+use Rattle.instances_ground.specs.rma.specs.Images.{image_dropped, image_freed}
 use Rattle.instances_ground.specs.World.{image_gone}
 use Rattle.instances_actions.proofs.Estates.{estate_with, others_dropped, others_freed, pages_less}
 use Rattle.instances_actions.proofs.removal.drop_image.Goals as goal

@@ -1,7 +1,7 @@
 use Rattle.std.proofs.Common.{◌≡◌, ap, ◌∙◌, refl, arith}
-use Rattle.dynamic_areas.specs.Ground.{Estate, estate_of}
-use Rattle.flex_kept.proofs.Keeping.{keeps_then}
-use Rattle.rma.specs.Calls.{rma_freed}
+use Rattle.instances_ground.specs.dynamic_areas.specs.Ground.{Estate, estate_of}
+use Rattle.instances_ground.specs.flex_kept.proofs.Keeping.{keeps_then}
+use Rattle.instances_ground.specs.rma.specs.Calls.{rma_freed}
 use Rattle.instances_ground.specs.World.{or_same, private_freed, with_private, world_of}
 use Rattle.instances_ground.proofs.Worlds.{world_kept}
 use Rattle.instances_actions.proofs.Estates.{others_same, pages_stay}

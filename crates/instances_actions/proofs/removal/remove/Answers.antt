@@ -1,6 +1,6 @@
 use Rattle.std.proofs.Common.{◌≡◌, sym, subst, ◌∙◌, refl, Some, None}
-use Rattle.dynamic_areas.specs.Ground.{IsEstate, estate_of}
-use Rattle.flex_kept.proofs.Keeping.{keeps_then}
+use Rattle.instances_ground.specs.dynamic_areas.specs.Ground.{IsEstate, estate_of}
+use Rattle.instances_ground.specs.flex_kept.proofs.Keeping.{keeps_then}
 use Rattle.instances_ground.specs.Sound.{IsWorld}
 use Rattle.instances_ground.specs.World.{World, removed, world_of}
 use Rattle.instances_ground.proofs.Removals.{world_removed}

@@ -1,6 +1,6 @@
 use Rattle.std.proofs.Common.{[], ap, refl}
-use Rattle.os_heap.specs.Store.{Store}
-use Rattle.dynamic_areas.specs.Areas.{start_land}
+use Rattle.instances_ground.specs.os_heap.specs.Store.{Store}
+use Rattle.instances_ground.specs.dynamic_areas.specs.Areas.{start_land}
 use Rattle.instances_ground.specs.World.{world_of}
 use Rattle.instances_ground.proofs.Starting.{start_world}
 use Rattle.instances_actions.proofs.tests.start.Goals as goal

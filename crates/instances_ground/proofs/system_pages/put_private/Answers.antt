@@ -1,4 +1,4 @@
-use Rattle.dynamic_areas.proofs.SystemWrites.{kept_classes}
+use Rattle.rma.specs.dynamic_areas.proofs.SystemWrites.{kept_classes}
 use Rattle.instances_ground.proofs.Writes.{pages_kept, private_keeps, private_kept, private_written, world_written}
 use Rattle.instances_ground.proofs.system_pages.put_private.Goals as goal
 

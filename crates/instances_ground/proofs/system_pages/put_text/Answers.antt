@@ -1,6 +1,6 @@
 use Rattle.std.proofs.Common.{◌∙◌}
-use Rattle.dynamic_areas.proofs.HeapCalls.{areas_written}
-use Rattle.dynamic_areas.proofs.SystemWrites.{kept_classes}
+use Rattle.rma.specs.dynamic_areas.proofs.HeapCalls.{areas_written}
+use Rattle.rma.specs.dynamic_areas.proofs.SystemWrites.{kept_classes}
 use Rattle.instances_ground.proofs.Writes.{pages_kept, text_keeps, text_kept, text_written, world_written}
 use Rattle.instances_ground.proofs.system_pages.put_text.Goals as goal
 

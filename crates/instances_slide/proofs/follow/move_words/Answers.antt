@@ -1,8 +1,8 @@
 use Rattle.std.proofs.Common.{◌≡◌, ◌<◌, ◌+◌, ◌∙◌, ℕ, List, ap, drop, get_or, length, sym, arith}
 use Rattle.address_map.specs.Moves.{moved_to}
 use Rattle.address_map.specs.declared.follow.Move.{Move}
-use Rattle.dynamic_areas.specs.Ground.{Estate, estate_of}
-use Rattle.flex_kept.proofs.Keeping.{keeps_then}
+use Rattle.instances_ground.specs.dynamic_areas.specs.Ground.{Estate, estate_of}
+use Rattle.instances_ground.specs.flex_kept.proofs.Keeping.{keeps_then}
 use Rattle.instances_ground.specs.World.{private_word, with_private}
 use Rattle.instances_slide.proofs.Looping.{words_next}
 use Rattle.instances_slide.specs.Slid.{words_moved}

@@ -1,8 +1,8 @@
 use Rattle.std.proofs.Common.{◌≡◌, List, drop}
-use Rattle.os_heap.specs.Store.{AreClasses, store_of}
-use Rattle.dynamic_areas.specs.Areas.{Land}
-use Rattle.dynamic_areas.specs.Ground.{estate_of}
-use Rattle.flex_kept.specs.Keeping.{KeepsFlex}
+use Rattle.instances_ground.specs.os_heap.specs.Store.{AreClasses, store_of}
+use Rattle.instances_ground.specs.dynamic_areas.specs.Areas.{Land}
+use Rattle.instances_ground.specs.dynamic_areas.specs.Ground.{estate_of}
+use Rattle.instances_ground.specs.flex_kept.specs.Keeping.{KeepsFlex}
 use Rattle.instances_table.specs.declared.parts.Image.{Image}
 use Rattle.instances_table.specs.Modules.{Module}
 use Rattle.instances_ground.specs.Sound.{HasSystemPages, IsWorld}

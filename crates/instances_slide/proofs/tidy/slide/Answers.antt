@@ -1,11 +1,11 @@
 use Rattle.std.proofs.Common.{◌≡◌, ◌∙◌, ℕ, List, [], ap, length, map, arith}
 use Rattle.address_map.specs.Memory.{byte_at}
 use Rattle.address_map.specs.declared.follow.Move.{Move}
-use Rattle.os_heap.specs.Store.{store_of}
-use Rattle.os_heap_slide.specs.Slide.{MaySlide}
-use Rattle.dynamic_areas.specs.Ground.{estate_of}
-use Rattle.flex_kept.proofs.Keeping.{keeps_then}
-use Rattle.flex_kept.proofs.Slides.{slides_keep}
+use Rattle.instances_ground.specs.os_heap.specs.Store.{store_of}
+use Rattle.instances_ground.specs.os_heap_slide.specs.Slide.{MaySlide}
+use Rattle.instances_ground.specs.dynamic_areas.specs.Ground.{estate_of}
+use Rattle.instances_ground.specs.flex_kept.proofs.Keeping.{keeps_then}
+use Rattle.instances_ground.specs.flex_kept.proofs.Slides.{slides_keep}
 use Rattle.instances_ground.proofs.Writes.{has_system}
 use Rattle.instances_slide.proofs.Tidying.{IsBlocksSlid, blocks_slid, may_slide, sound_after, world_after}
 use Rattle.instances_slide.specs.Slid.{image_moved, words_at, words_moved}

@@ -2,8 +2,8 @@ use Rattle.std.proofs.Common.{◌∙◌, ◌≡◌, ◌+◌, Ok, arith}
 use Rattle.os_heap.specs.Calls.{got}
 use Rattle.os_heap.specs.Store.{store_of}
 use Rattle.os_heap.proofs.Frame.{layout-others}
-use Rattle.dynamic_areas.specs.Ground.{Estate, estate_of}
-use Rattle.dynamic_areas.proofs.HeapCalls.{areas_written}
+use Rattle.flex_kept.specs.dynamic_areas.specs.Ground.{Estate, estate_of}
+use Rattle.flex_kept.specs.dynamic_areas.proofs.HeapCalls.{areas_written}
 use Rattle.flex_kept.proofs.Heaps.{got_keeps, got_unanchored}
 use Rattle.flex_kept.proofs.Keeping.{keeps_then}
 use Rattle.rma.specs.Calls.{grown_to}

@@ -3,10 +3,10 @@ use Rattle.std.specs.Prelude.{is_some}
 use Rattle.std.proofs.lemmas.Bool.{lt-ltb}
 use Rattle.address_map.specs.Memory.{free_pages, is_mapped}
 use Rattle.os_heap.specs.Store.{store_of}
-use Rattle.dynamic_areas.specs.declared.area.Changed.{Changed}
-use Rattle.dynamic_areas.specs.Changing.{is_growth, growth_room}
-use Rattle.dynamic_areas.specs.Creating.{pages_for}
-use Rattle.dynamic_areas.specs.Ground.{Estate, estate_of}
+use Rattle.flex_kept.specs.dynamic_areas.specs.declared.area.Changed.{Changed}
+use Rattle.flex_kept.specs.dynamic_areas.specs.Changing.{is_growth, growth_room}
+use Rattle.flex_kept.specs.dynamic_areas.specs.Creating.{pages_for}
+use Rattle.flex_kept.specs.dynamic_areas.specs.Ground.{Estate, estate_of}
 use Rattle.flex_kept.proofs.Keeping.{keeps_same}
 use Rattle.rma.specs.Calls.{area_pages}
 use Rattle.rma.proofs.FlexLemmas.{growth_keeps}

@@ -1,9 +1,9 @@
 use Rattle.std.proofs.Common.{◌-◌, sym, ap, subst, arith}
-use Rattle.os_heap_lists.specs.Lists.{total_for}
+use Rattle.os_heap.specs.os_heap_lists.specs.Lists.{total_for}
 use Rattle.os_heap.proofs.Frame.{classes_same}
 use Rattle.os_heap.specs.Calls.{copied}
 use Rattle.os_heap.specs.Store.{Store, store_of}
-use Rattle.dynamic_areas.proofs.HeapCalls.{areas_written}
+use Rattle.flex_kept.specs.dynamic_areas.proofs.HeapCalls.{areas_written}
 use Rattle.flex_kept.specs.Keeping.{IsUnanchored, KeepsFlex}
 use Rattle.flex_kept.proofs.Writes.{unanchored_written}
 use Rattle.address_map.specs.Bytes.{with_moved}

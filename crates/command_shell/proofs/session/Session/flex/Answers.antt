@@ -1,9 +1,9 @@
 use Rattle.std.proofs.Common.{◌≡◌, ℕ, false, List, [], sym, ap, ◌∙◌, refl, subst}
 use Rattle.std.specs.Prelude.{codes, is_some, unwrap_or}
 use Rattle.std.specs.Io.KnownBytes.{Appends}
-use Rattle.address_map.specs.Memory.{bytes_of}
-use Rattle.flex_store.specs.State.{IsFlex}
-use Rattle.flex_store.specs.declared.flex.Flex.{Flex}
+use Rattle.debugger.specs.address_map.specs.Memory.{bytes_of}
+use Rattle.debugger.specs.flex_store.specs.State.{IsFlex}
+use Rattle.debugger.specs.flex_store.specs.declared.flex.Flex.{Flex}
 use Rattle.debugger.specs.Flex.{flex_text}
 use Rattle.command_shell.specs.Answers.{refused_text}
 use Rattle.command_shell.specs.Session.{script_state}

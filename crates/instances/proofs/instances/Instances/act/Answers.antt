@@ -3,9 +3,9 @@ use Rattle.instances_plans.specs.declared.action.Action.{Action}
 use Rattle.instances_plans.specs.declared.given.Given.{Given}
 use Rattle.instances_plans.specs.Plans.{finished}
 use Rattle.instances_table.specs.Modules.{AreModules, Module}
-use Rattle.instances_ground.specs.Sound.{IsWorld}
-use Rattle.instances_ground.specs.World.{world_of}
-use Rattle.instances_ground.proofs.Writes.{has_system}
+use Rattle.instances_slide.specs.instances_ground.specs.Sound.{IsWorld}
+use Rattle.instances_slide.specs.instances_ground.specs.World.{world_of}
+use Rattle.instances_slide.specs.instances_ground.proofs.Writes.{has_system}
 use Rattle.instances_actions.specs.Actions.{acted}
 use Rattle.instances_actions.specs.Pending.{pending_of}
 use Rattle.instances_actions.proofs.Readying.{ready_acts}

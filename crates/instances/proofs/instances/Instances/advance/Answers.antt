@@ -1,6 +1,6 @@
 use Rattle.std.proofs.Common.{List, sym, ap, subst, ◌∙◌}
 use Rattle.instances_table.specs.Modules.{AreModules, Module}
-use Rattle.instances_ground.specs.World.{world_of}
+use Rattle.instances_slide.specs.instances_ground.specs.World.{world_of}
 use Rattle.instances_actions.specs.Codes.{code_among}
 use Rattle.instances.proofs.Turning.{goes_into_code, goes_on, going_back, turn_ends, turn_enters, turn_goes_on}
 use Rattle.instances.proofs.instances.Instances.advance.Goals as goal

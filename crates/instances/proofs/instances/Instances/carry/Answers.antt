@@ -1,6 +1,6 @@
 use Rattle.std.proofs.Common.{None, Some}
-use Rattle.flex_kept.proofs.Keeping.{keeps_then}
-use Rattle.instances_ground.specs.World.{world_of}
+use Rattle.instances_slide.specs.flex_kept.proofs.Keeping.{keeps_then}
+use Rattle.instances_slide.specs.instances_ground.specs.World.{world_of}
 use Rattle.instances.proofs.Carrying.{code_carried, end_carried, next_carried, next_fewer, world_at_end}
 use Rattle.instances.proofs.Naming.{keeps_others}
 use Rattle.instances.proofs.instances.Instances.carry.Goals as goal

@@ -1,9 +1,9 @@
 use Rattle.std.proofs.Common.{◌≡◌, length}
-use Rattle.os_heap.specs.Store.{AreClasses, store_of}
-use Rattle.flex_kept.specs.Keeping.{KeepsFlex}
+use Rattle.instances_slide.specs.os_heap.specs.Store.{AreClasses, store_of}
+use Rattle.instances_slide.specs.flex_kept.specs.Keeping.{KeepsFlex}
 use Rattle.instances_plans.specs.Carrying.{carried}
 use Rattle.instances_plans.specs.Plans.{settled}
-use Rattle.instances_ground.specs.World.{world_of}
+use Rattle.instances_slide.specs.instances_ground.specs.World.{world_of}
 use Rattle.instances.specs.Turns.{IsUnderWay, module_doing}
 use Rattle.instances.proofs.instances.Instances.carry.Given as goal
 

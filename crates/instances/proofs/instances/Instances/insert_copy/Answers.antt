@@ -1,8 +1,8 @@
 use Rattle.std.proofs.Common.{[], refl, sym, ◌∙◌, arith}
-use Rattle.os_heap.specs.Store.{store_of}
-use Rattle.dynamic_areas.specs.Ground.{estate_of}
-use Rattle.instances_ground.specs.World.{world_of}
-use Rattle.instances_ground.proofs.Worlds.{few_records}
+use Rattle.instances_slide.specs.os_heap.specs.Store.{store_of}
+use Rattle.instances_slide.specs.dynamic_areas.specs.Ground.{estate_of}
+use Rattle.instances_slide.specs.instances_ground.specs.World.{world_of}
+use Rattle.instances_slide.specs.instances_ground.proofs.Worlds.{few_records}
 use Rattle.instances.proofs.AddingLemmas.{copied_mapped, world_with_block}
 use Rattle.instances.proofs.instances.Instances.insert_copy.Goals as goal
 

@@ -1,10 +1,10 @@
 use Rattle.std.proofs.Common.{◌≡◌, [], true, false, refl, sym, ap, ◌∙◌, arith}
-use Rattle.os_heap.specs.Store.{store_of}
-use Rattle.dynamic_areas.specs.Ground.{Estate}
-use Rattle.rma.specs.NewImages.{may_be_in_place}
-use Rattle.rma.proofs.InPlaceLemmas.{may_be}
-use Rattle.instances_ground.specs.World.{world_of}
-use Rattle.instances_ground.proofs.Worlds.{few_records, world_more}
+use Rattle.instances_slide.specs.os_heap.specs.Store.{store_of}
+use Rattle.instances_slide.specs.dynamic_areas.specs.Ground.{Estate}
+use Rattle.instances_slide.specs.rma.specs.NewImages.{may_be_in_place}
+use Rattle.instances_slide.specs.rma.proofs.InPlaceLemmas.{may_be}
+use Rattle.instances_slide.specs.instances_ground.specs.World.{world_of}
+use Rattle.instances_slide.specs.instances_ground.proofs.Worlds.{few_records, world_more}
 use Rattle.instances.specs.Adding.{inserting}
 use Rattle.instances.proofs.instances.Instances.insert_in_place.Goals as goal
 

@@ -1,6 +1,6 @@
 use Rattle.std.proofs.Common.{[], length, refl, arith}
-use Rattle.instances_ground.specs.World.{world_of}
-use Rattle.instances_ground.proofs.Worlds.{few_records}
+use Rattle.instances_slide.specs.instances_ground.specs.World.{world_of}
+use Rattle.instances_slide.specs.instances_ground.proofs.Worlds.{few_records}
 use Rattle.instances.proofs.AddingLemmas.{world_with_block}
 use Rattle.instances.proofs.instances.Instances.load.Goals as goal
 

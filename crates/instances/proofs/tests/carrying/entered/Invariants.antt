@@ -1,6 +1,6 @@
 use Rattle.std.proofs.Common.{◌-◌, length}
-use Rattle.os_heap.specs.Store.{AreClasses}
-use Rattle.instances_ground.specs.World.{world_of}
+use Rattle.instances_slide.specs.os_heap.specs.Store.{AreClasses}
+use Rattle.instances_slide.specs.instances_ground.specs.World.{world_of}
 use Rattle.instances.specs.Turns.{IsUnderWay}
 use Rattle.instances.proofs.tests.carrying.entered.Given as goal
 

@@ -1,5 +1,5 @@
 use Rattle.std.proofs.Common.{ap}
-use Rattle.os_heap_lists.specs.Lists.{total_for}
+use Rattle.os_heap.specs.os_heap_lists.specs.Lists.{total_for}
 use Rattle.os_heap.specs.Store.{Store, store_of}
 use Rattle.rma.proofs.FlexLemmas.{made_keeps}
 use Rattle.rma.proofs.NewImageLemmas.{live_whole, made_others}

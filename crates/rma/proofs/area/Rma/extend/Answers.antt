@@ -4,8 +4,8 @@ use Rattle.profile.specs.Outcome.{Gives}
 use Rattle.os_heap.specs.Calls.{block_sized, resized}
 use Rattle.os_heap.specs.Store.{Store, store_of}
 use Rattle.os_heap.proofs.Frame.{layout-others}
-use Rattle.dynamic_areas.specs.Ground.{Estate, estate_of}
-use Rattle.dynamic_areas.proofs.HeapCalls.{areas_written}
+use Rattle.flex_kept.specs.dynamic_areas.specs.Ground.{Estate, estate_of}
+use Rattle.flex_kept.specs.dynamic_areas.proofs.HeapCalls.{areas_written}
 use Rattle.flex_kept.proofs.Heaps.{resized_keeps}
 use Rattle.flex_kept.proofs.Keeping.{keeps_then}
 use Rattle.rma.specs.Calls.{end_if_moved, grown_in_place, in_grown_area, is_full, is_no_room, resized_or_grown, rma_base, rma_extended}

@@ -1,6 +1,6 @@
 use Rattle.os_heap.specs.Calls.{gave_back}
 use Rattle.os_heap.specs.Store.{store_of}
-use Rattle.dynamic_areas.proofs.HeapCalls.{areas_written}
+use Rattle.flex_kept.specs.dynamic_areas.proofs.HeapCalls.{areas_written}
 use Rattle.flex_kept.proofs.Heaps.{freed_keeps}
 use Rattle.rma.specs.Calls.{rma_freed}
 use Rattle.rma.proofs.Estates.{area_done, area_refused}

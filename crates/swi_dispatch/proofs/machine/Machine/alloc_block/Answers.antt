@@ -1,7 +1,7 @@
 use Rattle.std.proofs.Common.{Bool, refl, ap, ◌∙◌}
 use Rattle.flex_ground.proofs.Calls.{has_allocated}
 use Rattle.os_heap.specs.Store.{store_of}
-use Rattle.flex_store.specs.Calls.{allocated}
+use Rattle.flex_ground.specs.flex_store.specs.Calls.{allocated}
 use Rattle.swi_dispatch.specs.MachineState.{Tables}
 use Rattle.swi_dispatch.specs.Parts.{Parts, state_of}
 use Rattle.swi_dispatch.proofs.FlexAnswers.{call_left, flex_call, well_flexed}

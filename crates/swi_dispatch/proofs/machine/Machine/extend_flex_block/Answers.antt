@@ -1,6 +1,6 @@
 use Rattle.std.proofs.Common.{Bool, refl, ap, ◌∙◌}
 use Rattle.flex_ground.proofs.Calls.{has_extended}
-use Rattle.flex_store.specs.Calls.{extended}
+use Rattle.flex_ground.specs.flex_store.specs.Calls.{extended}
 use Rattle.swi_dispatch.specs.MachineState.{Tables}
 use Rattle.swi_dispatch.specs.Parts.{Parts, state_of}
 use Rattle.swi_dispatch.proofs.FlexAnswers.{call_left, flex_call, well_flexed}

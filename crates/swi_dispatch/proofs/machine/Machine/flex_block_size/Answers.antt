@@ -1,6 +1,6 @@
 use Rattle.std.proofs.Common.{ap, ◌∙◌}
 use Rattle.flex_ground.proofs.Calls.{state_is}
-use Rattle.flex_store.specs.Calls.{FlexState, sized}
+use Rattle.flex_ground.specs.flex_store.specs.Calls.{FlexState, sized}
 use Rattle.swi_dispatch.specs.Parts.{state_of}
 use Rattle.swi_dispatch.proofs.machine.Machine.flex_block_size.Goals as goal
 

@@ -1,6 +1,6 @@
 use Rattle.std.proofs.Common.{refl, ap, ◌∙◌}
 use Rattle.dynamic_areas.proofs.HeapCalls.{areas_begun}
-use Rattle.flex_kept.proofs.Heaps.{begun_keeps}
+use Rattle.flex_ground.specs.flex_kept.proofs.Heaps.{begun_keeps}
 use Rattle.swi_dispatch.specs.Parts.{Parts}
 use Rattle.swi_dispatch.proofs.Kept.{well_called}
 use Rattle.swi_dispatch.proofs.machine.Machine.init_heap.Goals as goal

@@ -1,7 +1,7 @@
 use Rattle.std.proofs.Common.{◌≡◌, true, sym, ap, ◌∙◌}
 use Rattle.os_heap.specs.Store.{store_of}
-use Rattle.rma.specs.NewImages.{may_be_in_place}
-use Rattle.rma.proofs.InPlaceLemmas.{may_be}
+use Rattle.flex_ground.specs.rma.specs.NewImages.{may_be_in_place}
+use Rattle.flex_ground.specs.rma.proofs.InPlaceLemmas.{may_be}
 use Rattle.swi_dispatch.specs.Parts.{Parts, state_of}
 use Rattle.swi_dispatch.proofs.machine.Machine.insertion_asked.Goals as goal
 

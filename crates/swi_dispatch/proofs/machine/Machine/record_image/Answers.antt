@@ -1,5 +1,5 @@
 use Rattle.std.proofs.Common.{refl, ap, subst, sym, ◌∙◌}
-use Rattle.flex_kept.proofs.Keeping.{keeps_then}
+use Rattle.flex_ground.specs.flex_kept.proofs.Keeping.{keeps_then}
 use Rattle.instances.proofs.NamedByCalls.{inserting_names, named_given}
 use Rattle.swi_dispatch.specs.MachineState.{MachineState}
 use Rattle.swi_dispatch.specs.ImagePlans.{header_in}

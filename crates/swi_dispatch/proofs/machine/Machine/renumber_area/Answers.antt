@@ -1,5 +1,5 @@
 use Rattle.std.proofs.Common.{refl, ap, ◌∙◌}
-use Rattle.flex_kept.proofs.Keeping.{keeps_same}
+use Rattle.flex_ground.specs.flex_kept.proofs.Keeping.{keeps_same}
 use Rattle.swi_dispatch.specs.Parts.{Parts}
 use Rattle.swi_dispatch.proofs.Kept.{well_called}
 use Rattle.swi_dispatch.proofs.machine.Machine.renumber_area.Goals as goal

@@ -1,7 +1,7 @@
 use Rattle.std.proofs.Common.{refl, ap, ◌∙◌}
 use Rattle.os_heap.proofs.Frame.{layout-others}
 use Rattle.dynamic_areas.proofs.HeapCalls.{areas_written}
-use Rattle.flex_kept.proofs.Heaps.{resized_keeps}
+use Rattle.flex_ground.specs.flex_kept.proofs.Heaps.{resized_keeps}
 use Rattle.swi_dispatch.specs.Parts.{Parts}
 use Rattle.swi_dispatch.proofs.Kept.{well_called}
 use Rattle.swi_dispatch.proofs.machine.Machine.resize_block.Goals as goal
