@@ -3,6 +3,7 @@ pub mod Carrying
 pub mod DoableLemmas
 pub mod GoingOn
 pub mod Handling
+pub mod Keeping
 pub mod NamedByCalls
 pub mod Naming
 pub mod ReadyLemmas

@@ -1,6 +1,7 @@
 pub use Rattle.instances_actions
 pub mod Adding
 pub mod Given
+pub mod Memory
 pub mod Naming
 pub mod Plans
 pub mod Reading

@@ -33,7 +33,7 @@ impl Instances {
     /// instances, and none of a module of the title; `RmaNoRoom` where the module area has no room for the image, and can't grow by as much.
     ///
     /// RISC OS 3 Programmer's Reference Manual, "OS_Module", reason 1.
-    #[tactic(auto, unfolding(crate::specs::Adding::loading), using(instances_slide::specs::flex_kept::proofs::Keeping::keeps_same))]
+    #[tactic(auto, unfolding(crate::specs::Adding::loading), using(crate::proofs::Keeping::keeps_same))]
     pub fn load(
         &self,
         map: &mut AddressMap,
@@ -91,7 +91,7 @@ impl Instances {
 }
 
 /// The header of an image that stands in memory.
-#[tactic(auto, unfolding(instances_slide::specs::os_heap::specs::Store::store_of))]
+#[tactic(auto, unfolding(crate::specs::Memory::store_of))]
 pub(crate) fn header_at(map: &AddressMap, at: u32, len: u32) -> Result<Header, ErrorNumber>
     requires { AreMapped (is_mapped map.now) at len }
     ensures value { result ≡ good_header (header_of (bytes_between (store_of map.now).bytes.at at len)) }

@@ -24,7 +24,7 @@ impl Instances {
     /// is to be entered, which is the answer, or to the end of the call, where there is none.
     ///
     /// RISC OS 3 Programmer's Reference Manual, "Modules"; the order of actions is that of "OS_Module".
-    #[tactic(auto, using(instances_slide::specs::flex_kept::proofs::Keeping::keeps_same))]
+    #[tactic(auto, using(crate::proofs::Keeping::keeps_same))]
     pub fn carry(
         &mut self,
         map: &mut AddressMap,
@@ -54,7 +54,7 @@ impl Instances {
 
     /// One turn of a call: the code that was under way, if any was, has come back; then one action is done, or its own part is, and its code is to be
     /// entered.
-    #[tactic(auto, using(instances_slide::specs::flex_kept::proofs::Keeping::keeps_same))]
+    #[tactic(auto, using(crate::proofs::Keeping::keeps_same))]
     pub fn advance(
         &mut self,
         map: &mut AddressMap,

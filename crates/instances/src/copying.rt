@@ -29,7 +29,7 @@ impl Instances {
     /// the title; `RmaNoRoom` where the module area has no room for the image, and can't grow by as much.
     ///
     /// RISC OS 3 Programmer's Reference Manual, "OS_Module", reason 11.
-    #[tactic(auto, unfolding(crate::specs::Adding::copying), using(instances_slide::specs::flex_kept::proofs::Keeping::keeps_same))]
+    #[tactic(auto, unfolding(crate::specs::Adding::copying), using(crate::proofs::Keeping::keeps_same))]
     pub fn insert_copy(
         &self,
         map: &mut AddressMap,

@@ -29,7 +29,7 @@ impl Instances {
     /// module of the title.
     ///
     /// RISC OS 3 Programmer's Reference Manual, "OS_Module", reason 10.
-    #[tactic(auto, unfolding(crate::specs::Adding::inserting), using(instances_slide::specs::flex_kept::proofs::Keeping::keeps_same))]
+    #[tactic(auto, unfolding(crate::specs::Adding::inserting), using(crate::proofs::Keeping::keeps_same))]
     pub fn insert_in_place(
         &self,
         map: &mut AddressMap,

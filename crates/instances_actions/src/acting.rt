@@ -20,7 +20,7 @@ use instances_table::InstanceTable;
 
 /// Does an action's own part, before its code runs; a slide is done elsewhere. The image of a new module is pending until an insertion adds it, or
 /// it is given up.
-#[tactic(auto, using(instances_ground::specs::flex_kept::proofs::Keeping::keeps_same))]
+#[tactic(auto, using(instances_ground::proofs::Keeping::keeps_same))]
 pub fn act(map: &mut AddressMap, table: &mut InstanceTable, given: &Given, action: Action)
     requires can { CanAct given.now table.old action }
     requires system { HasSystemPages map.old }

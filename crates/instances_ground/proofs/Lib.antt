@@ -1,5 +1,6 @@
 pub mod AreaLemmas
 pub mod Images
+pub mod Keeping
 pub mod LawLemmas
 pub mod Removals
 pub mod Starting

@@ -37,7 +37,7 @@ pub(crate) fn private_words(map: &AddressMap, slots: &[u32]) -> ArrayVec<u32, MO
 }
 
 /// Gives each private word of some slots that names a block that moved the address where it went.
-#[tactic(auto, using(instances_ground::specs::flex_kept::proofs::Keeping::keeps_same))]
+#[tactic(auto, using(instances_ground::proofs::Keeping::keeps_same))]
 pub(crate) fn move_words(map: &mut AddressMap, slots: &[u32], moves: &[Move])
     requires below { EachIndex slots.now (λ k. slice_index slots.now k < 64) }
     requires system { HasSystemPages map.old }

@@ -1,0 +1,2 @@
+-- The store that memory spells, for the functions that read it.
+unfoldable pub use Rattle.instances_slide.specs.os_heap.specs.Store.{store_of}
