@@ -1,20 +1,20 @@
 ghost use Rattle.std.specs.Prelude.{[], IfOk};
-ghost use Rattle.os_heap.specs.Store.{AreClasses};
+ghost use Rattle.instances_ground.specs.os_heap.specs.Store.{AreClasses};
 ghost use Rattle.instances_ground.specs.Sound.{HasSystemPages, IsWorld};
 ghost use Rattle.instances_ground.specs.World.{world_of};
 
 use crate::start::start;
 use address_map::AddressMap;
 use arrayvec::ArrayVec;
-use dynamic_areas::Areas;
 use instances_actions::{act, code_of};
+use instances_ground::dynamic_areas::Areas;
 use instances_ground::put_private;
+use instances_ground::rma::Rma;
 use instances_plans::{Action, Code, CodeKind, Given};
 use instances_table::InstanceTable;
 use module_header::Header;
 use profile::memory_map::ENVIRONMENT_TEXT;
 use profile::{Config, ErrorNumber};
-use rma::Rma;
 use std::alloc::Global;
 use std::test::Fail;
 

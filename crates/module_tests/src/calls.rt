@@ -5,15 +5,15 @@ mod carrying;
 ghost use Rattle.std.specs.Prelude.{[], ◌≤◌, IfOk};
 ghost use Rattle.address_map.specs.Bytes.{AreMapped};
 ghost use Rattle.address_map.specs.Memory.{is_mapped};
-ghost use Rattle.os_heap.specs.Store.{AreClasses};
+ghost use Rattle.instances_ground.specs.os_heap.specs.Store.{AreClasses};
 ghost use Rattle.instances_ground.specs.Sound.{IsWorld};
 ghost use Rattle.instances_ground.specs.World.{world_of};
 
 use crate::start::start;
 use address_map::AddressMap;
 use carrying::entered;
-use dynamic_areas::Areas;
 use instances::{Found, Instances, Place, Told};
+use instances_ground::dynamic_areas::Areas;
 use instances_plans::Action;
 use profile::{Config, ErrorNumber};
 use std::alloc::Global;

@@ -2,7 +2,7 @@ ghost use Rattle.std.specs.Prelude.{IfOk};
 ghost use Rattle.instances_ground.specs.Sound.{HasSystemPages};
 
 use address_map::AddressMap;
-use dynamic_areas::start_memory;
+use instances_ground::dynamic_areas::start_memory;
 use instances_ground::{put_private, put_text};
 use profile::Config;
 use profile::memory_map::ENVIRONMENT_TEXT;

@@ -1,11 +1,11 @@
 //! The machine at its start.
 ghost use Rattle.std.specs.Prelude.{[], ◌≤◌, length, IfOk};
-ghost use Rattle.os_heap.specs.Store.{AreClasses};
+ghost use Rattle.instances_ground.specs.os_heap.specs.Store.{AreClasses};
 ghost use Rattle.instances_ground.specs.Sound.{IsWorld};
 ghost use Rattle.instances_ground.specs.World.{world_of};
 
 use address_map::AddressMap;
-use dynamic_areas::{Areas, start_memory};
+use instances_ground::dynamic_areas::{Areas, start_memory};
 use profile::Config;
 use profile::memory_map::APPLICATION_START;
 use std::alloc::{AllocError, Global};

@@ -1,9 +1,8 @@
-use command_shell::RunError;
 use image_loader::Images;
 use profile::{Device, MemorySink, MemorySource, Stop};
 use rosm_settings::image_files::add_image;
 use rosm_settings::refusal::stop_status;
-use rosm_settings::{Refusal, answer_script, run, settings};
+use rosm_settings::{Refusal, RunError, answer_script, run, settings};
 use std::io;
 use std::io::{BufWriter, ErrorKind, Write};
 use std::test::Fail;

@@ -1,10 +1,9 @@
-use command_shell::RunError;
 use image_loader::ImageError;
 use profile::{Fault, Stop};
 use rosm_settings::image_files::FileError;
 use rosm_settings::line_reason::line_reason;
 use rosm_settings::refusal::stop_status;
-use rosm_settings::{Refusal, SettingsError};
+use rosm_settings::{Refusal, RunError, SettingsError};
 use std::test::Fail;
 
 #[test]

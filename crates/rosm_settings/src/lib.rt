@@ -13,6 +13,7 @@ pub mod refusal;
 
 pub use answering::{answer_script, run};
 pub use command_line::settings;
+pub use command_shell::RunError;
 pub use files::Files;
 pub use options::{Settings, SettingsError};
 pub use process::{exit_code, read_settings, run_on_standard_streams};

@@ -1,6 +1,6 @@
 //! Calls that are carried on by hand, on a machine at its start.
 ghost use Rattle.std.specs.Prelude.{[], IfSome};
-ghost use Rattle.os_heap.specs.Store.{AreClasses};
+ghost use Rattle.instances_ground.specs.os_heap.specs.Store.{AreClasses};
 ghost use Rattle.instances_ground.specs.Sound.{IsWorld};
 ghost use Rattle.instances_ground.specs.World.{world_of};
 ghost use Rattle.instances.specs.Turns.{IsUnderWay};
@@ -8,11 +8,11 @@ ghost use Rattle.instances.specs.Turns.{IsUnderWay};
 use crate::start::start;
 use address_map::AddressMap;
 use arrayvec::ArrayVec;
-use dynamic_areas::Areas;
 use instances::Instances;
+use instances_ground::dynamic_areas::Areas;
+use instances_ground::rma::Rma;
 use instances_plans::{Code, CodeKind, Ended, Outcome, Plan};
 use profile::Config;
-use rma::Rma;
 use std::test::Fail;
 
 /// The module `W`, which is initialised at &20 and finalised at &24.

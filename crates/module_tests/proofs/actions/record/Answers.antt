@@ -2,10 +2,10 @@ use Rattle.std.proofs.Common.{◌≡◌, ℕ, [], Ok, Err, ap, subst, sym, ◌�
 use Rattle.std.specs.Prelude.{Result, is_some}
 use Rattle.profile.specs.declared.error.ErrorNumber.{ErrorNumber}
 use Rattle.address_map.specs.Memory.{Mapping}
-use Rattle.os_heap.specs.Calls.{block_sized}
-use Rattle.os_heap.specs.Store.{Store, store_of}
-use Rattle.dynamic_areas.specs.Ground.{IsRecorded, system_pages}
-use Rattle.rma.specs.Images.{image_recorded, with_image}
+use Rattle.instances_ground.specs.os_heap.specs.Calls.{block_sized}
+use Rattle.instances_ground.specs.os_heap.specs.Store.{Store, store_of}
+use Rattle.instances_ground.specs.dynamic_areas.specs.Ground.{IsRecorded, system_pages}
+use Rattle.instances_ground.specs.rma.specs.Images.{image_recorded, with_image}
 use Rattle.instances_ground.specs.Sound.{HasSystemPages}
 use Rattle.instances_ground.specs.World.{world_of}
 use Rattle.instances_ground.proofs.Images.{system_more}

@@ -1,4 +1,4 @@
-use Rattle.os_heap.specs.Store.{AreClasses}
+use Rattle.instances_ground.specs.os_heap.specs.Store.{AreClasses}
 use Rattle.instances_ground.specs.Sound.{IsWorld}
 use Rattle.instances_ground.specs.World.{world_of}
 use Rattle.std.proofs.Common.{[]}

@@ -4,12 +4,12 @@ use Rattle.profile.specs.Sizes.{AreGood, Sizes}
 use Rattle.address_map.specs.declared.map.AddressMap.{AddressMap}
 use Rattle.address_map.specs.Bytes.{in_range, with_bytes_at}
 use Rattle.address_map.specs.Memory.{byte_at, class_of, layout}
-use Rattle.os_heap.specs.Store.{IsSound, Store, store_of}
-use Rattle.os_heap.proofs.Frame.{IsKept, clear_kept}
-use Rattle.dynamic_areas.specs.Areas.{start_land}
-use Rattle.dynamic_areas.specs.Start.{start_store}
-use Rattle.dynamic_areas.proofs.Remapped.{here}
-use Rattle.dynamic_areas.proofs.SystemWrites.{kept_classes}
+use Rattle.instances_ground.specs.os_heap.specs.Store.{IsSound, Store, store_of}
+use Rattle.instances_ground.specs.os_heap.proofs.Frame.{IsKept, clear_kept}
+use Rattle.instances_ground.specs.dynamic_areas.specs.Areas.{start_land}
+use Rattle.instances_ground.specs.dynamic_areas.specs.Start.{start_store}
+use Rattle.instances_ground.specs.dynamic_areas.proofs.Remapped.{here}
+use Rattle.instances_ground.specs.dynamic_areas.proofs.SystemWrites.{kept_classes}
 use Rattle.instances_ground.specs.World.{world_of}
 use Rattle.instances_ground.proofs.Starting.{start_world}
 use Rattle.instances_ground.proofs.Writes.{world_written}

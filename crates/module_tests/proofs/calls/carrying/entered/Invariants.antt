@@ -1,5 +1,5 @@
 use Rattle.std.proofs.Common.{◌-◌, length}
-use Rattle.os_heap.specs.Store.{AreClasses}
+use Rattle.instances_ground.specs.os_heap.specs.Store.{AreClasses}
 use Rattle.instances_ground.specs.World.{world_of}
 use Rattle.instances.specs.Turns.{IsUnderWay}
 use Rattle.module_tests.proofs.calls.carrying.entered.Given as goal
