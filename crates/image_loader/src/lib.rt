@@ -7,6 +7,3 @@ pub mod images;
 
 pub use error::ImageError;
 pub use images::{Images, is_image_name};
-
-#[cfg(test)]
-mod tests;

@@ -16,12 +16,12 @@ ghost use Rattle.instances.specs.Adding.{adding_plan, good_header, loading, slot
 use crate::given::given_module;
 use crate::instances::Instances;
 use address_map::AddressMap;
-use instances_slide::dynamic_areas::Areas;
 use instances_plans::Plan;
+use instances_slide::dynamic_areas::Areas;
+use instances_slide::rma::Rma;
 use instances_table::Image;
 use module_header::{Header, HeaderFault};
 use profile::ErrorNumber;
-use instances_slide::rma::Rma;
 
 impl Instances {
     /// Loads a module: its image gets a block of the module area at once. Then the instances of an older module of its title are finalised and removed,

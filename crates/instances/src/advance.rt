@@ -14,9 +14,9 @@ ghost use Rattle.instances.specs.Turns.{IsUnderWay, module_doing};
 
 use crate::instances::Instances;
 use address_map::AddressMap;
-use instances_slide::dynamic_areas::Areas;
 use instances_actions::{act, code_of};
 use instances_plans::{Action, Advance, Code, Outcome, Plan};
+use instances_slide::dynamic_areas::Areas;
 use instances_slide::slide;
 
 impl Instances {

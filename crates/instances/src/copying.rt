@@ -12,11 +12,11 @@ ghost use Rattle.instances.specs.Adding.{copying};
 use crate::adding::header_at;
 use crate::instances::Instances;
 use address_map::AddressMap;
-use instances_slide::dynamic_areas::Areas;
 use instances_plans::Plan;
+use instances_slide::dynamic_areas::Areas;
+use instances_slide::rma::Rma;
 use instances_table::Image;
 use profile::ErrorNumber;
-use instances_slide::rma::Rma;
 
 impl Instances {
     /// Inserts a module whose image is a copy of the `len` bytes from an address on: it gets a block of the module area at once. All else is as in

@@ -16,6 +16,3 @@ pub use answers::{Found, Start, Told};
 pub use instances::Instances;
 pub use instances_plans::{Advance, Code, CodeKind, Ended, Outcome, Plan};
 pub use instances_table::{Handler, InstanceInfo, InstanceTable, ModuleInfo, Place};
-
-#[cfg(test)]
-mod tests;

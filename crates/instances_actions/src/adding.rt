@@ -13,12 +13,12 @@ ghost use Rattle.instances_actions.specs.Actions.{image_given, with_another, wit
 ghost use Rattle.instances_actions.specs.Asked.{CanInstantiate};
 
 use crate::removal::drop_image;
-use instances_ground::address_map::AddressMap;
 use arrayvec::ArrayVec;
+use instances_ground::address_map::AddressMap;
 use instances_ground::put_private;
 use instances_plans::Given;
-use instances_table::{Image, InstanceTable};
 use instances_plans::module_header::Header;
+use instances_table::{Image, InstanceTable};
 
 /// Adds the new module, the youngest, with its first instance in a slot, whose private word is 0.
 ///

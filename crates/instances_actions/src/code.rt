@@ -3,10 +3,10 @@
 ghost use Rattle.std.specs.Prelude.{◌≡◌};
 ghost use Rattle.instances_actions.specs.Codes.{code_among, entered, entry_of};
 
+use instances_ground::profile::memory_map::ENVIRONMENT_TEXT;
+use instances_plans::module_header::Header;
 use instances_plans::{Action, Code, CodeKind, private_word};
 use instances_table::InstanceTable;
-use instances_plans::module_header::Header;
-use instances_ground::profile::memory_map::ENVIRONMENT_TEXT;
 
 /// The code that an action runs, if the module of its instance has that entry.
 ///

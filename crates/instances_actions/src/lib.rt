@@ -11,6 +11,3 @@ pub use acting::act;
 pub use adding::{give_up, insert, instantiate};
 pub use code::code_of;
 pub use removal::{free_private, remove};
-
-#[cfg(test)]
-mod tests;

@@ -12,9 +12,9 @@ ghost use Rattle.instances_ground.specs.Sound.{HasSystemPages, IsWorld};
 ghost use Rattle.instances_ground.specs.World.{image_gone, private_freed, removed, world_of};
 
 use instances_ground::address_map::AddressMap;
+use instances_ground::rma::Rma;
 use instances_ground::{private_value, put_private};
 use instances_table::{Image, InstanceTable};
-use instances_ground::rma::Rma;
 
 /// Removes the instance of a slot: the block that its private word names is given back, the word is 0 then, and the instance is gone; with the last
 /// one of a module its image goes.

@@ -13,8 +13,8 @@ ghost use Rattle.instances_table.specs.Modules.{Module};
 ghost use Rattle.instances_ground.specs.Sound.{HasSystemPages, IsWorld};
 ghost use Rattle.instances_ground.specs.World.{private_word, with_private, with_text, world_of};
 
-use rma::address_map::AddressMap;
 use instances_plans::private_word;
+use rma::address_map::AddressMap;
 use rma::profile::memory_map::ENVIRONMENT_TEXT;
 
 /// The value of the private word of a slot.

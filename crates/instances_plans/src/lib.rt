@@ -9,11 +9,8 @@ pub mod given;
 pub mod laws;
 pub mod plan;
 
-pub use module_header;
 pub use action::Action;
 pub use code::{Advance, Code, CodeKind, Ended, Outcome, private_word};
 pub use given::Given;
+pub use module_header;
 pub use plan::Plan;
-
-#[cfg(test)]
-mod tests;

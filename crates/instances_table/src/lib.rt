@@ -16,6 +16,3 @@ pub mod table;
 pub use loaded::MOST_INSTANCES;
 pub use parts::{Handler, Image, Information, InstanceInfo, ModuleInfo, Name, NewInstance, Place};
 pub use table::InstanceTable;
-
-#[cfg(test)]
-mod tests;

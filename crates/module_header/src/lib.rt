@@ -6,10 +6,7 @@ pub mod header;
 mod title;
 mod words;
 
-pub use profile;
 pub use fault::HeaderFault;
 pub use header::Header;
+pub use profile;
 pub use title::is_title_byte;
-
-#[cfg(test)]
-mod tests;

@@ -8,4 +8,3 @@ pub mod Places
 pub mod Records
 pub mod Setting
 pub mod Sliding
-pub mod TestedBlocks

@@ -8,6 +8,3 @@ mod steps;
 
 pub use address_map::{Move, moved_to};
 pub use moves::{Moves, slide};
-
-#[cfg(test)]
-mod tests;

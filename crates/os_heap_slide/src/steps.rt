@@ -8,8 +8,8 @@ ghost use Rattle.os_heap_slide.specs.Steps.{IsAllSlid, IsSliding};
 use crate::items::{Cursor, lay, pass_free};
 use crate::moves::Moves;
 use address_map::{AddressMap, Move};
-use os_heap::words::{BASE, follow, put, put_link, word};
 use os_heap::profile::memory_map::HEAP_DESCRIPTOR;
+use os_heap::words::{BASE, follow, put, put_link, word};
 
 /// Slides the items of a heap, one after another upwards. The records of images stay as they are.
 pub(crate) fn slide_items(map: &mut AddressMap, heap: u32, movable: &[u32]) -> Moves

@@ -26,6 +26,3 @@ pub use sink::{MemorySink, Sink, WriteFault, push_all, push_parts};
 pub use source::{MemorySource, ReadFault, Source};
 pub use stop::Stop;
 pub use swi::SwiName;
-
-#[cfg(test)]
-mod tests;

@@ -3,32 +3,8 @@
 //! `rosm [--pages N] [--app N] [--rma N] [--budget N] [FILE...] <SCRIPT`
 #![tactic(auto)]
 
-pub mod answering;
-pub mod command_line;
-pub mod files;
-pub mod image_files;
-pub mod line_reason;
-pub mod options;
-pub mod refusal;
-
-ghost use Rattle.std.specs.Prelude.{◌≡◌, ◌≢◌, IfErr, IfOk, Ok, map, string_bytes};
-ghost use Rattle.std.specs.Process.{exit_status};
-ghost use Rattle.rosm.specs.CommandLine.{IsRefusalOf, settings_for};
-ghost use Rattle.rosm.specs.Status.{status_of};
-
-use crate::line_reason::line_reason;
-use crate::refusal::stop_status;
-pub use answering::{answer_script, run};
-pub use command_line::settings;
-pub use files::Files;
-pub use options::{Settings, SettingsError};
-use profile::{Device, Stop};
-pub use refusal::Refusal;
-use std::alloc::{AllocError, Global};
-use std::env::Env;
-use std::io::{BufWriter, ErrorKind};
+use rosm_settings::{exit_code, read_settings, run_on_standard_streams};
 use std::process::ExitCode;
-use std::{env, fs, io};
 
 fn main(rt: HostRuntime) -> ExitCode {
     match read_settings(&rt) {
@@ -36,81 +12,3 @@ fn main(rt: HostRuntime) -> ExitCode {
         Err(refusal) => exit_code(&rt, Err(refusal)),
     }
 }
-
-// What the words of this process ask for.
-fn read_settings<R: Env + AllocGlobal>(rt: &R) -> Result<Settings, Refusal<'static>> {
-    let alloc = rt.alloc();
-    let args = match env::args(rt) {
-        Ok(args) => args,
-        Err(error) => return Err(words_refusal(alloc, error.kind())),
-    };
-    let words: Vec<String> = args.collect(alloc)?;
-    settings_of(alloc, words.as_slice())
-}
-
-fn words_refusal(alloc: Global, kind: ErrorKind) -> Refusal<'static>
-    ensures memory { kind ≡ ErrorKind.OutOfMemory → result ≡ Refusal.Memory }
-{
-    if kind == ErrorKind::OutOfMemory {
-        return Refusal::Memory;
-    }
-    match String::from_str(alloc, "a word is not text in UTF-8") {
-        Ok(reason) => Refusal::Line(reason),
-        Err(_) => Refusal::Memory,
-    }
-}
-
-// What these words ask for, or what is wrong with them.
-fn settings_of(alloc: Global, words: &[String]) -> Result<Settings, Refusal<'static>>
-    ensures ok { IfOk result (λ s. settings_for (map string_bytes words.now) ≡ Ok s) }
-    ensures refused { IfErr result (IsRefusalOf (settings_for (map string_bytes words.now))) }
-{
-    let texts = texts_of(alloc, words)?;
-    match settings(alloc, texts.as_slice()) {
-        Ok(settings) => Ok(settings),
-        Err(SettingsError::Memory) => Err(Refusal::Memory),
-        Err(SettingsError::Line) => Err(Refusal::Line(line_reason(alloc, texts.as_slice())?)),
-        Err(SettingsError::Sizes) => Err(Refusal::Sizes),
-    }
-}
-
-fn texts_of<'a>(alloc: Global, words: &'a [String]) -> Result<Vec<&'a str>, AllocError>
-    ensures { IfOk result (λ texts. map (λ t. t.now) texts.items ≡ map string_bytes words.entry.now) }
-{
-    let mut texts = Vec::new(alloc);
-    for word in words {
-        texts.push(word.as_str())?;
-    }
-    Ok(texts)
-}
-
-// The output is written in large pieces.
-fn run_on_standard_streams<'a, R>(
-    rt: &R,
-    settings: &'a Settings,
-) -> Result<Option<Stop>, Refusal<'a>>
-where
-    R: AllocGlobal + fs::Files + Input + Print,
-{
-    let Ok(buffered) = BufWriter::new(rt.alloc(), io::writer(rt)) else {
-        return Err(Refusal::Memory);
-    };
-    let mut writer = Device::new(buffered);
-    run(rt, settings, &mut Device::new(rt.reader()), &mut writer)
-}
-
-// The exit status, with one line on standard error where the program is refused.
-fn exit_code<R: Eprint>(rt: &R, ending: Result<Option<Stop>, Refusal<'_>>) -> ExitCode
-    ensures { exit_status result ≡ status_of ending.entry }
-{
-    match ending {
-        Ok(last) => ExitCode::from(stop_status(last)),
-        Err(refusal) => {
-            let _ = eprintln!(rt; "rosm: {refusal}");
-            ExitCode::from(refusal.status())
-        }
-    }
-}
-
-#[cfg(test)]
-mod tests;

@@ -1,4 +1,4 @@
-//! Tests of memory and of what lies in it: the store, the map, heaps, flex blocks, areas and the module area.
+//! Tests of memory and of what lies in it: the store, the map, heaps and their slides, flex blocks, areas and the module area.
 //!
 //! They stand apart from the crates that they test, since a crate with tests is proved once more with them.
 #![tactic(auto)]
@@ -15,3 +15,5 @@ mod map;
 mod module_area;
 #[cfg(test)]
 mod raw;
+#[cfg(test)]
+mod slides;

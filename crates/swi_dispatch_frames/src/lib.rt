@@ -12,6 +12,3 @@ pub use call::Call;
 pub use enter::{enter_code, enter_swi};
 pub use frame::{Frame, FrameKind};
 pub use frames::{Frames, MOST_FRAMES};
-
-#[cfg(test)]
-mod tests;

@@ -1,0 +1,15 @@
+//! Tests of what all else stands on: names, sizes, devices, images by name, and the headers of modules.
+//!
+//! They stand apart from the crates that they test, since a crate with tests is proved once more with them.
+#![tactic(auto)]
+
+#[cfg(test)]
+mod devices;
+#[cfg(test)]
+mod headers;
+#[cfg(test)]
+mod images;
+#[cfg(test)]
+mod names;
+#[cfg(test)]
+mod sizes;

@@ -1,0 +1,114 @@
+use image_loader::ImageError;
+use profile::{Fault, Stop};
+use rosm_settings::image_files::FileError;
+use rosm_settings::line_reason::line_reason;
+use rosm_settings::refusal::stop_status;
+use rosm_settings::{Refusal, RunError, SettingsError};
+use std::test::Fail;
+
+#[test]
+fn the_status_tells_how_it_ended(rt: HostRuntime) -> Result<(), Fail> {
+    assert_eq!(rt; stop_status(Some(Stop::Exit)), 0);
+    assert_eq!(rt; stop_status(Some(Stop::Fault(Fault::ErrorStop(80)))), 1);
+    assert_eq!(rt; stop_status(Some(Stop::Budget)), 3);
+    assert_eq!(rt; stop_status(Some(Stop::Break(0x8000))), 3);
+    assert_eq!(rt; stop_status(None), 3);
+    let line = Refusal::Line(String::from_str(rt.alloc(), "a word")?);
+    assert_eq!(rt; line.status(), 2);
+    assert_eq!(rt; Refusal::Sizes.status(), 2);
+    assert_eq!(rt; Refusal::Memory.status(), 4);
+    assert_eq!(rt; Refusal::File("a", FileError::Missing).status(), 4);
+    assert_eq!(rt; Refusal::Script(RunError::ScriptTooLong).status(), 4);
+    Ok(())
+}
+
+// What clap or a number's option has against these words.
+static REASONS: [(&[&str], &str); 7] = [
+    (
+        &["rosm", "--size", "3"],
+        "unexpected argument '--size' found",
+    ),
+    (&["rosm", "-x\ny"], "unexpected argument '-x' found"),
+    (
+        &["rosm", "--pages"],
+        "a value is required for '--pages <pages>' but none was supplied",
+    ),
+    (
+        &["rosm", "--budget", "5", "--budget", "5"],
+        "the argument '--budget <budget>' cannot be used multiple times",
+    ),
+    (
+        &["rosm", "--pages", "x\ny"],
+        "--pages takes a number of at most 4294967295, not \"x\\ny\"",
+    ),
+    (
+        &["rosm", "--budget", "18446744073709551616"],
+        "--budget takes a number of at most 18446744073709551615, not \"18446744073709551616\"",
+    ),
+    (
+        &["rosm", "--help"],
+        "the script is standard input, and each FILE is an image for it",
+    ),
+];
+
+#[test]
+fn a_refused_line_names_what_was_typed(rt: HostRuntime) -> Result<(), Fail> {
+    for (words, expected) in REASONS {
+        let reason = line_reason(rt.alloc(), words)?;
+        assert_eq!(rt; reason.as_str(), expected);
+    }
+    Ok(())
+}
+
+#[test]
+fn a_refusal_is_one_line(rt: HostRuntime) -> Result<(), Fail> {
+    let alloc = rt.alloc();
+    let usage = "usage: rosm [--pages N] [--app N] [--rma N] [--budget N] [FILE...] <SCRIPT";
+    assert_eq!(rt;
+        format!(in alloc; "{}", SettingsError::Line)?.as_str(),
+        usage
+    );
+    let line = Refusal::Line(String::from_str(alloc, "a word")?);
+    assert_eq!(rt;
+        format!(in alloc; "{line}")?.as_str(),
+        format!(in alloc; "a word; {usage}")?.as_str()
+    );
+    let sizes =
+        "sizes: --app and --rma at least 1, --pages at most 1024 and at least app + rma + 3";
+    assert_eq!(rt; format!(in alloc; "{}", Refusal::Sizes)?.as_str(), sizes);
+    assert_eq!(rt;
+        format!(in alloc; "{}", Refusal::Memory)?.as_str(),
+        "out of memory"
+    );
+    let script = Refusal::Script(RunError::WriteFault);
+    assert_eq!(rt;
+        format!(in alloc; "{script}")?.as_str(),
+        "the answers can't be written"
+    );
+    Ok(())
+}
+
+static FILE_ERRORS: [(FileError, &str); 6] = [
+    (FileError::Missing, "\"a\\nb\": no such file"),
+    (
+        FileError::NotPermitted,
+        "\"a\\nb\": no permission to read it",
+    ),
+    (FileError::Directory, "\"a\\nb\": a directory"),
+    (FileError::Unreadable, "\"a\\nb\": can't be read"),
+    (FileError::Nameless, "\"a\\nb\": no name in this path"),
+    (
+        FileError::Image(ImageError::NameTaken),
+        "\"a\\nb\": refused NameTaken",
+    ),
+];
+
+#[test]
+fn a_refused_file_is_named_with_its_reason(rt: HostRuntime) -> Result<(), Fail> {
+    let alloc = rt.alloc();
+    for (error, text) in FILE_ERRORS {
+        let refused = Refusal::File("a\nb", error);
+        assert_eq!(rt; format!(in alloc; "{refused}")?.as_str(), text);
+    }
+    Ok(())
+}

@@ -1,4 +1,0 @@
-mod answers;
-mod command_line;
-mod files;
-mod refusals;

@@ -1,0 +1,21 @@
+-- The whole run of the program: files as images, and then the script.
+use Rattle.std.specs.Prelude.{◌≡◌, ℕ, List, Option, IfSome}
+use Rattle.std.specs.Io.KnownBytes.{Appends}
+use Rattle.profile.specs.declared.stop.Stop.{Stop}
+use Rattle.image_loader.specs.Entries.{Entry}
+use Rattle.command_shell.specs.Script.{script_told}
+use Rattle.command_shell.specs.State.{Answered}
+use Rattle.rosm_settings.specs.ImageFiles.{names_for, names_of}
+use Rattle.rosm_settings.specs.declared.options.Settings.{Settings}
+
+-- what a script is answered with on a machine of the settings' sizes, within their budget
+abbrev pub answers_to : Settings → List Entry → List ℕ → Answered
+answers_to settings images script = script_told settings.config images settings.budget script
+
+-- With the files' images there from the start, the answers to the script are appended to what was written before, all of them,
+-- and the last stop is the script's.
+pub record AnswersScript (settings : Settings) (script before after : Option (List ℕ)) (last : Option Stop) : Type 0 where
+  pub images : List Entry
+  pub named : names_of images ≡ names_for settings.files
+  pub text : IfSome script (λ bytes. Appends before after (answers_to settings images bytes).text)
+  pub stop : IfSome script (λ bytes. last ≡ (answers_to settings images bytes).state.last)

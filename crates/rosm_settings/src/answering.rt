@@ -1,0 +1,92 @@
+ghost use Rattle.std.specs.Prelude.{◌≡◌, ◌<◌, false, true, length, Err, IfOk, IfSome, IsErr, OnOk};
+ghost use Rattle.std.specs.Io.KnownBytes.{Appends};
+ghost use Rattle.profile.specs.Devices.{device_failed, device_inner};
+ghost use Rattle.profile.specs.Output.{AppendsFront};
+ghost use Rattle.rosm_settings.specs.Answering.{AnswersScript, answers_to};
+
+use crate::image_files::add_files;
+use crate::options::Settings;
+use crate::refusal::Refusal;
+use command_shell::{RunError, run_script};
+use image_loader::Images;
+use profile::{Device, Sink, Source, Stop};
+use std::alloc::Global;
+use std::fs;
+use std::io::Write;
+
+/// Takes in the settings' files, runs the script of `reader`, writes all of its answers, and gives
+/// the last stop. What the writer holds back is handed on before that.
+///
+/// # Errors
+///
+/// The first file that gives no image; else as [`answer_script`], and `WriteFault` too where the
+/// last of the answers can't be handed on.
+pub fn run<'a, F, R, W>(
+    files: &F,
+    settings: &'a Settings,
+    reader: &mut R,
+    writer: &mut Device<W>,
+) -> Result<Option<Stop>, Refusal<'a>>
+where
+    F: AllocGlobal + fs::Files,
+    R: Source,
+    W: Write,
+    ensures answers { IfOk result (AnswersScript settings.entry.now (R.remaining reader.old)
+        (W.contents (device_inner writer.old)) (W.contents (device_inner writer.new))) }
+    ensures well { OnOk result (device_failed writer.new ≡ false) }
+{
+    let mut images = Images::new();
+    add_files(files, &settings.files, &mut images)?;
+    let last = answer_script(files.alloc(), settings, &mut images, reader, writer)?;
+    match writer.flush() {
+        Ok(()) => Ok(last),
+        Err(_) => Err(Refusal::Script(RunError::WriteFault)),
+    }
+}
+
+/// Runs the script of `reader` on a fresh machine of the settings' sizes and budget, writes its
+/// answers, and gives the last stop.
+///
+/// # Errors
+///
+/// As [`run_script`].
+pub fn answer_script<R: Source, W: Sink>(
+    alloc: Global,
+    settings: &Settings,
+    images: &mut Images,
+    reader: &mut R,
+    writer: &mut W,
+) -> Result<Option<Stop>, RunError>
+    ensures text { OnOk result (IfSome (R.remaining reader.old) (λ script.
+        Appends (W.contents writer.old) (W.contents writer.new)
+        (answers_to settings.now images.old script).text)) }
+    ensures last { IfOk result (λ last. IfSome (R.remaining reader.old) (λ script.
+        last ≡ (answers_to settings.now images.old script).state.last)) }
+    ensures images { OnOk result (IfSome (R.remaining reader.old) (λ script.
+        images.new ≡ (answers_to settings.now images.old script).state.images)) }
+    ensures memory { result ≡ Err RunError.Memory → IfSome (R.remaining reader.old) (λ script.
+        AppendsFront (W.contents writer.old) (W.contents writer.new)
+        (answers_to settings.now images.old script).text) }
+    ensures told { R.has_failed reader.new ≡ true → result ≡ Err RunError.ReadFault }
+    ensures read_fault { result ≡ Err RunError.ReadFault
+        → (R.has_failed reader.new ≡ true) × (writer.new ≡ writer.old) × (images.new ≡ images.old) }
+    ensures write_told { W.has_failed writer.old ≡ false → W.has_failed writer.new ≡ true
+        → result ≡ Err RunError.WriteFault }
+    ensures write_fault { result ≡ Err RunError.WriteFault → W.has_failed writer.new ≡ true }
+    ensures too_long { result ≡ Err RunError.ScriptTooLong
+        → (writer.new ≡ writer.old) × (images.new ≡ images.old)
+        × IfSome (R.remaining reader.old) (λ script. 1048576 < length script) }
+    ensures never_long { IfSome (R.remaining reader.old) (λ script.
+        1048576 < length script → IsErr result) }
+    ensures same_flag { OnOk result (W.has_failed writer.new ≡ W.has_failed writer.old) }
+{
+    let summary = run_script(
+        alloc,
+        reader,
+        images,
+        writer,
+        settings.config,
+        settings.budget,
+    )?;
+    Ok(summary.last)
+}

@@ -1,0 +1,139 @@
+ghost use Rattle.std.specs.Prelude.{◌≡◌, [], ◌∷◌, ◌++◌, false, None, IfErr, IfOk, IfSome, OnErr, OnOk};
+ghost use Rattle.std.specs.Path.{path_file_name};
+ghost use Rattle.rosm_settings.specs.ImageFiles.{file_error as error_of};
+ghost use Rattle.rosm_settings.specs.ImageFiles.{AddsImage, RefusesImage, StopsAtFile, front_of, is_host_error, names_for, names_of};
+
+use crate::files::Files;
+use crate::refusal::Refusal;
+use image_loader::{ImageError, Images};
+use profile::memory_map::MOST_BYTES;
+use std::alloc::Global;
+use std::fs::File;
+use std::io::{ErrorKind, Read};
+use std::path::Path;
+use std::{fs, io};
+use thiserror::Error;
+
+/// Why a file gives no image.
+#[derive(Clone, Copy, Debug, PartialEq, Eq, Error)]
+pub enum FileError {
+    /// There is no such file.
+    #[error("no such file")]
+    Missing,
+    /// The file may not be read by this user.
+    #[error("no permission to read it")]
+    NotPermitted,
+    /// It is a directory.
+    #[error("a directory")]
+    Directory,
+    /// It can't be opened or read to its end, for another reason.
+    #[error("can't be read")]
+    Unreadable,
+    /// Its path has no last part.
+    #[error("no name in this path")]
+    Nameless,
+    /// The table of images refuses it.
+    #[error("refused {0}")]
+    Image(ImageError),
+}
+
+impl From<ImageError> for FileError {
+    ghost use Rattle.rosm_settings.specs.declared.image_files.FileError.TheVariants.{Image};
+
+    ghost from_gives = { λ e f. f ≡ Image e };
+
+    fn from(error: ImageError) -> FileError {
+        FileError::Image(error)
+    }
+}
+
+impl From<io::Error> for FileError {
+    ghost use Rattle.std.specs.IoError.{error_kind};
+    ghost use Rattle.rosm_settings.specs.ImageFiles.{file_error};
+
+    ghost from_gives = { λ e f. f ≡ file_error (error_kind e) };
+
+    fn from(error: io::Error) -> FileError {
+        file_error(error.kind())
+    }
+}
+
+fn file_error(kind: ErrorKind) -> FileError
+    ensures { result ≡ error_of kind }
+{
+    match kind {
+        ErrorKind::NotFound => FileError::Missing,
+        ErrorKind::PermissionDenied => FileError::NotPermitted,
+        ErrorKind::IsADirectory => FileError::Directory,
+        ErrorKind::OutOfMemory => FileError::Image(ImageError::Memory),
+        _ => FileError::Unreadable,
+    }
+}
+
+/// Adds an image for each file in turn, named by the last part of its path.
+///
+/// # Errors
+///
+/// `Refusal::File` of the first file that gives no image; those before it are added.
+pub fn add_files<'a, R>(rt: &R, files: &'a Files, images: &mut Images) -> Result<(), Refusal<'a>>
+where
+    R: AllocGlobal + fs::Files,
+    ensures added { OnOk result (names_of images.new ≡ names_of images.old ++ names_for files.entry.now) }
+    ensures refused { IfErr result (StopsAtFile images.old images.new files.entry.now) }
+{
+    for n in 0..files.len() {
+        let path = files.get(n);
+        if let Err(error) = add_file(rt, path, images) {
+            return Err(Refusal::File(path, error));
+        }
+    }
+    Ok(())
+}
+
+fn add_file<R>(rt: &R, path: &str, images: &mut Images) -> Result<(), FileError>
+where
+    R: AllocGlobal + fs::Files,
+    ensures named { OnOk result (names_of images.new ≡ names_of images.old ++ path_file_name path.now ∷ []) }
+    ensures refused { IfErr result (λ e. is_host_error e ≡ false
+        → RefusesImage images.old path.now None e) }
+    ensures err { OnErr result (images.new ≡ images.old) }
+{
+    let file = File::open(rt, path)?;
+    add_image(rt.alloc(), path, file, images)
+}
+
+/// Adds the bytes of a reader under the last part of a path.
+///
+/// # Errors
+///
+/// The first of these, and nothing is changed then: `Nameless` where the path has no last part; the
+/// host's error where the reader fails; `Image` as the table of images refuses them.
+pub fn add_image<R: Read + Drop>(
+    alloc: Global,
+    path: &str,
+    reader: R,
+    images: &mut Images,
+) -> Result<(), FileError>
+    ensures ok { OnOk result (IfSome (R.remaining reader)
+        (AddsImage images.old path.now images.new)) }
+    ensures refused { IfErr result (λ e. is_host_error e ≡ false
+        → RefusesImage images.old path.now (R.remaining reader) e) }
+    ensures named { OnOk result (names_of images.new ≡ names_of images.old ++ path_file_name path.now ∷ []) }
+    ensures err { OnErr result (images.new ≡ images.old) }
+{
+    let name = Path::new(path).file_name().ok_or(FileError::Nameless)?;
+    // One byte more than an image can have is enough to refuse it.
+    let bytes = read_front(alloc, reader, MOST_BYTES as u64 + 1)?;
+    images.add(alloc, name.as_bytes(), bytes.as_slice())?;
+    Ok(())
+}
+
+// The bytes of a reader, or only so many of them.
+#[tactic(auto, unfolding(crate::specs::ImageFiles::front_of))]
+fn read_front<R: Read + Drop>(alloc: Global, reader: R, most: u64) -> io::Result<Vec<u8>>
+    ensures { IfOk result (λ bytes. IfSome (R.remaining reader) (λ all. bytes.items ≡ front_of most all)) }
+{
+    let mut bytes = Vec::new(alloc);
+    reader.take(most).read_to_end(&mut bytes)?;
+    Ok(bytes)
+}

@@ -1,0 +1,75 @@
+ghost use Rattle.std.specs.Prelude.{◌≡◌};
+ghost use Rattle.rosm_settings.specs.Status.{status_after};
+
+use crate::image_files::FileError;
+use crate::options::{SettingsError, USAGE};
+use command_shell::RunError;
+use profile::Stop;
+use std::alloc::AllocError;
+use thiserror::Error;
+
+/// Why the program ends without having run its script whole. The text is one line.
+#[derive(Debug, PartialEq, Eq, Drop, Error)]
+pub enum Refusal<'a> {
+    /// Memory ran out while the command line was read.
+    #[error("{}", SettingsError::Memory)]
+    Memory,
+    /// The words are no command line; the text says what is wrong with them.
+    #[error("{0}; {usage}", usage = USAGE)]
+    Line(String),
+    /// No machine can have the sizes of the command line.
+    #[error("{}", SettingsError::Sizes)]
+    Sizes,
+    /// The file of this path is no image, for this reason.
+    #[error("{0:?}: {1}")]
+    File(&'a str, FileError),
+    /// The script can't be run whole, for this reason.
+    #[error("{0}")]
+    Script(RunError),
+}
+
+impl Refusal<'_> {
+    ghost use Rattle.rosm_settings.specs.Status.{refusal_status};
+
+    /// The exit status: 2 for a command line that can't be, else 4.
+    pub fn status(&self) -> u8
+        ensures { result ≡ refusal_status self.now }
+    {
+        match self {
+            Refusal::Line(_) | Refusal::Sizes => 2,
+            Refusal::Memory | Refusal::File(_, _) | Refusal::Script(_) => 4,
+        }
+    }
+}
+
+impl<'a> From<AllocError> for Refusal<'a> {
+    ghost use Rattle.rosm_settings.specs.declared.refusal.Refusal.TheVariants.{Memory};
+
+    ghost from_gives = { λ _ refused. refused ≡ Memory };
+
+    fn from(_error: AllocError) -> Refusal<'a> {
+        Refusal::Memory
+    }
+}
+
+impl<'a> From<RunError> for Refusal<'a> {
+    ghost use Rattle.rosm_settings.specs.declared.refusal.Refusal.TheVariants.{Script};
+
+    ghost from_gives = { λ error refused. refused ≡ Script error };
+
+    fn from(error: RunError) -> Refusal<'a> {
+        Refusal::Script(error)
+    }
+}
+
+/// The exit status after a script: 0 where the last stop was OS_Exit, 1 where it was a fault, and
+/// 3 where steps or breaks ended it, or nothing ran.
+pub fn stop_status(last: Option<Stop>) -> u8
+    ensures { result ≡ status_after last }
+{
+    match last {
+        Some(Stop::Exit) => 0,
+        Some(Stop::Fault(_)) => 1,
+        Some(Stop::Budget) | Some(Stop::Break(_)) | None => 3,
+    }
+}
