@@ -1,11 +1,17 @@
-ghost use Rattle.std.specs.Prelude.{◌≡◌, Some, None};
+ghost use Rattle.std.specs.Prelude.{◌≡◌, IfOk};
+ghost use Rattle.command_shell.specs.Script.{script_told};
+ghost use Rattle.worked_scripts.specs.Status.{status_after};
 
 use crate::difference::Difference;
 use crate::error::TranscriptError;
 use crate::transcript::Transcript;
-use command_shell::run_script;
-use profile::{Device, Stop};
+use command_shell::{RunError, run_script};
+use image_loader::Images;
+use profile::{Config, Device, MemorySink, Stop};
 use std::alloc::{AllocError, Global};
+
+/// The most bytes that the answers of a transcript may have.
+const MOST_ANSWER_BYTES: usize = 65536;
 
 /// What came of a script.
 #[derive(Drop)]
@@ -58,25 +64,37 @@ fn run(alloc: Global, transcript: &mut Transcript) -> Result<Outcome, Transcript
         Ok(config) => config,
         Err(error) => return Err(TranscriptError::at(1, error)),
     };
-    let mut answer = Vec::new(alloc);
-    let summary = run_script(
-        alloc,
-        &mut Device::new(transcript.script.as_slice()),
-        &mut settings.images,
-        &mut Device::new(&mut answer),
-        config,
-        settings.budget,
-    )?;
+    let script = transcript.script.as_slice();
+    let outcome = outcome_of(alloc, script, &mut settings.images, config, settings.budget)?;
+    Ok(outcome)
+}
+
+// Runs a script on a fresh machine.
+fn outcome_of(
+    alloc: Global,
+    script: &[u8],
+    images: &mut Images,
+    config: Config,
+    budget: u64,
+) -> Result<Outcome, RunError>
+    ensures answer { IfOk result (λ outcome. outcome.answer.items
+        ≡ (script_told config images.old budget script.now).text) }
+    ensures status { IfOk result (λ outcome. outcome.status
+        ≡ status_after (script_told config images.old budget script.now).state.last) }
+{
+    let mut reader = Device::new(script);
+    let mut room = vec![in alloc; 0u8; MOST_ANSWER_BYTES]?;
+    let mut writer = MemorySink::new(&mut room, MOST_ANSWER_BYTES, u64::MAX);
+    let summary = run_script(alloc, &mut reader, images, &mut writer, config, budget)?;
     Ok(Outcome {
-        answer,
+        answer: Vec::from_slice(alloc, writer.written())?,
         status: stop_status(summary.last),
     })
 }
 
 // The exit status of the program `rosm`.
 fn stop_status(last: Option<Stop>) -> u8
-    ensures exit { last ≡ Some Stop.Exit → result ≡ 0 }
-    ensures none { last ≡ None → result ≡ 3 }
+    ensures { result ≡ status_after last }
 {
     match last {
         Some(Stop::Exit) => 0,
