@@ -9,9 +9,9 @@ use crate::marks::Marks;
 use crate::pages::{MARKS_IN_PAGE, all_frames, most_frames, page_count};
 use crate::region::Region;
 use arrayvec::ArrayVec;
+use raw_store::RawStore;
 use raw_store::profile::Fault;
 use raw_store::profile::memory_map::{ADDRESS_LIMIT, MOST_PAGES};
-use raw_store::RawStore;
 use std::alloc::{AllocError, Global};
 
 /// The most frames of 4096 bytes that the memory has.

@@ -20,7 +20,6 @@ pub mod refusals;
 pub mod register;
 pub mod shift;
 
-pub use profile;
 pub use action::{Action, BlockTransfer, Multiply, Operate, Transfer};
 pub use address::{Address, BlockMode, Direction, Indexing, Offset};
 pub use bits::Bits;
@@ -31,5 +30,6 @@ pub use form::{Form, row_of};
 pub use instr::Instr;
 pub use operand::Operand;
 pub use operation::Operation;
+pub use profile;
 pub use register::{Register, RegisterList};
 pub use shift::{Shift, ShiftedRegister};

@@ -17,8 +17,8 @@ pub mod transfer;
 pub mod turn;
 pub mod words;
 
-pub use profile;
 pub use cpu::Cpu;
 pub use execute::step;
+pub use profile;
 pub use psr::{Mode, Psr};
 pub use turn::Turn;

@@ -13,9 +13,9 @@ mod output;
 pub mod program;
 mod statements;
 
-pub use text_lines;
 pub use assembler_names::Reason;
 pub use assembler_reading::assembler_text::disassemble;
 pub use assembling::{assemble, assemble_lines};
 pub use error::AsmError;
 pub use program::Program;
+pub use text_lines;

@@ -4,9 +4,9 @@ ghost use Rattle.std.specs.Prelude.{◌≡◌, ◌≤◌, ◌<◌, true, IfSome,
 ghost use Rattle.std.specs.Io.KnownBytes.{Appends};
 ghost use Rattle.assembler_text.specs.Numbers.{gives, immediate_text, is_field, least_rotation, rotated_back};
 
-use itoa::Buffer;
 use arm_decode::profile::shift::rotate_right;
 use arm_decode::profile::{HexText, Sink, WriteFault, push_parts};
+use itoa::Buffer;
 
 /// Writes `#v` where the rotation field is the least that gives v, else `#b,r`.
 #[tactic(auto, unfolding(crate::specs::Numbers::immediate_text))]

@@ -6,9 +6,9 @@ ghost use Rattle.assembler_text.specs.Operands.{amount_text, by_register_text, o
 
 use crate::names::{RegisterName, shift_text};
 use crate::numbers::push_immediate;
+use arm_decode::profile::{Sink, WriteFault, push_all, push_parts};
 use arm_decode::{Operand, Register, Shift, ShiftedRegister};
 use itoa::Buffer;
-use arm_decode::profile::{Sink, WriteFault, push_all, push_parts};
 
 /// Writes the second operand of data processing.
 #[tactic(auto, unfolding(crate::specs::Operands::operand_text))]

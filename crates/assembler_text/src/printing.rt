@@ -7,8 +7,8 @@ ghost use Rattle.assembler_text.specs.Printing.{action_text, branch_target, bran
 use crate::names::{RegisterName, choose_text, condition_text, operation_text, text_if};
 use crate::operands::push_operand;
 use crate::transfers::{push_block, push_transfer};
-use arm_decode::{Action, Condition, Multiply, Operate, Operation, decode};
 use arm_decode::profile::{HexText, Sink, WriteFault, push_parts};
+use arm_decode::{Action, Condition, Multiply, Operate, Operation, decode};
 
 /// Writes the text of a word at its address: its instruction, or where it is none `DCD &` and
 /// eight digits.

@@ -7,11 +7,11 @@ ghost use Rattle.assembler_text.specs.Transfers.{address_text, after_text, base_
 
 use crate::names::{RegisterName, block_mode_text, choose_text, condition_text, text_if};
 use crate::operands::push_shifted;
+use arm_decode::profile::{HexText, Sink, WriteFault, push_all, push_parts};
 use arm_decode::{
     Address, BlockTransfer, Condition, Direction, Indexing, Offset, Register, RegisterList,
     Transfer,
 };
-use arm_decode::profile::{HexText, Sink, WriteFault, push_all, push_parts};
 
 /// Writes LDR or STR.
 #[tactic(auto, using(crate::proofs::Pieces::pieces))]

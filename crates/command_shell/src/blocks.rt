@@ -3,8 +3,8 @@ ghost use Rattle.command_shell.specs.Blocks.{block_lines, after_block, block_siz
 
 use crate::hex_pairs::append_spelled;
 use crate::requests::is_block_end;
-use std::alloc::{AllocError, Global};
 use assembler::text_lines::Lines;
+use std::alloc::{AllocError, Global};
 
 /// What the lines of a HEX block spell.
 #[derive(Debug, Drop)]

@@ -11,9 +11,9 @@ ghost use Rattle.debugger.specs.swi_dispatch.specs.Run.{count_after};
 
 use crate::answers::{tell_error, tell_ok, tell_stop};
 use crate::session::Session;
+use debugger::swi_dispatch::Machine;
 use image_loader::Images;
 use profile::{Sink, Stop, WriteFault, push_all};
-use debugger::swi_dispatch::Machine;
 
 /// A call that a script makes from outside the machine.
 #[derive(Clone, Copy, Debug)]

@@ -9,11 +9,11 @@ use crate::blocks::{Block, read_block, skip_block};
 use crate::error::RunError;
 use crate::operands::Origin;
 use crate::session::Session;
+use assembler::text_lines::Lines;
 use assembler::{AsmError, Program, Reason, assemble_lines};
+use debugger::swi_dispatch::BootError;
 use image_loader::{ImageError, Images};
 use profile::{Sink, WriteFault};
-use debugger::swi_dispatch::BootError;
-use assembler::text_lines::Lines;
 
 impl Session {
     ghost use Rattle.command_shell.specs.Images.{asm_told, asm_block, hex_told, hex_block, image_sized, boot_told};

@@ -6,8 +6,8 @@ ghost use Rattle.image_loader.specs.Entries.{is_name};
 
 use crate::numbers::number_of;
 use crate::operands::{Origin, Register, WordAddress, count_up_to};
-use image_loader::is_image_name;
 use assembler::text_lines::cut;
+use image_loader::is_image_name;
 
 /// The most bytes of memory that a line shows.
 const MAX_BYTES_SHOWN: u32 = 4096;

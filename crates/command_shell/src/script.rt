@@ -11,10 +11,10 @@ use crate::error::RunError;
 use crate::reading::read_script;
 use crate::requests::command_of;
 use crate::session::Session;
+use assembler::text_lines::Lines;
 use image_loader::Images;
 use profile::{Config, Sink, Source, Stop};
 use std::alloc::Global;
-use assembler::text_lines::Lines;
 
 /// What a script came to.
 #[derive(Clone, Copy, Debug, PartialEq, Eq)]

@@ -6,11 +6,11 @@ use crate::answers::tell_unknown;
 use crate::calls::OutsideCall;
 use crate::error::RunError;
 use crate::requests::Command;
+use assembler::text_lines::Lines;
+use debugger::swi_dispatch::{Breaks, Machine};
 use image_loader::Images;
 use profile::{Config, Sink, Stop};
 use std::alloc::{AllocError, Global};
-use debugger::swi_dispatch::{Breaks, Machine};
-use assembler::text_lines::Lines;
 
 /// What the lines of a script work on beside the images: a machine, its breaks, what is left of the
 /// budget, and the last stop that a line was answered with.

@@ -5,9 +5,9 @@ ghost use Rattle.command_shell.specs.Stepping.{break_error_name};
 
 use crate::answers::{tell_break, tell_refused, tell_stepped, tell_stop, tell_unbreak};
 use crate::session::Session;
+use debugger::swi_dispatch::BreakError;
 use image_loader::Images;
 use profile::{Sink, WriteFault};
-use debugger::swi_dispatch::BreakError;
 
 impl Session {
     ghost use Rattle.image_loader.specs.Entries.{Entry};

@@ -3,11 +3,11 @@ ghost use Rattle.profile.specs.Output.{Writes};
 ghost use Rattle.swi_dispatch.specs.Parts.{state_of};
 ghost use Rattle.debugger.specs.Areas.{area_text, areas_text, extent_text, pool_text};
 
-use swi_dispatch::dynamic_areas::Area;
 use itoa::Buffer;
 use profile::memory_map::PAGE_SIZE;
 use profile::{HexText, Sink, WriteFault, push_parts};
 use swi_dispatch::Machine;
+use swi_dispatch::dynamic_areas::Area;
 
 /// Writes a line for each area by number, `area 1 base 01800000 size 65536 max 4194304 RMA`, with its
 /// size and its maximum in bytes, and then how many pages are in the pool, `pool 173 pages`.

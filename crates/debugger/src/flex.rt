@@ -6,9 +6,9 @@ ghost use Rattle.profile.specs.Output.{Writes};
 ghost use Rattle.debugger.specs.Flex.{block_text, flex_text, range_text};
 
 use address_map::AddressMap;
-use swi_dispatch::flex_store::{Flex, FlexBlock, FlexBlocks};
 use itoa::Buffer;
 use profile::{HexText, Sink, WriteFault, push_parts};
+use swi_dispatch::flex_store::{Flex, FlexBlock, FlexBlocks};
 
 /// Writes the flex store, `flex 0000A000 0000A400 used 48`, and its blocks by address, as `block anchor
 /// 00009000 at 0000A008 size 10`. Answers whether there is a store; nothing is written where there is none.

@@ -9,10 +9,10 @@ ghost use Rattle.debugger.specs.Heap.{use_text, limits_text, item_text, items_te
 
 use address_map::{AddressMap, Item};
 use itoa::Buffer;
-use swi_dispatch::os_heap::Blocks;
 use profile::memory_map::HEAP_DESCRIPTOR;
 use profile::{HexText, Sink, WriteFault, push_parts};
 use swi_dispatch::Machine;
+use swi_dispatch::os_heap::Blocks;
 
 /// Where the words of a heap's descriptor stand that tell its base and its end.
 const BASE: u32 = 8;

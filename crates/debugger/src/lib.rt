@@ -9,11 +9,6 @@ mod memory;
 mod modules;
 mod registers;
 
-pub use swi_dispatch::arm_step;
-pub use swi_dispatch::module_header;
-pub use swi_dispatch::instances_table;
-pub use swi_dispatch::instances;
-pub use swi_dispatch;
 pub use areas::show_areas;
 pub use code::show_code;
 pub use flex::show_flex;
@@ -21,3 +16,5 @@ pub use heap::show_blocks;
 pub use memory::show_memory;
 pub use modules::show_modules;
 pub use registers::show_regs;
+pub use swi_dispatch;
+pub use swi_dispatch::{arm_step, instances, instances_table, module_header};

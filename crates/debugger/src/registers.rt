@@ -3,9 +3,9 @@ ghost use Rattle.profile.specs.Output.{Writes};
 ghost use Rattle.swi_dispatch.specs.Parts.{state_of};
 ghost use Rattle.debugger.specs.Registers.{register_label, row_text, status_text, registers_text, flag_letter, flag_letters, mode_text};
 
-use swi_dispatch::arm_step::{Cpu, Mode, Psr};
 use profile::{HexText, Sink, WriteFault, push_parts};
 use swi_dispatch::Machine;
+use swi_dispatch::arm_step::{Cpu, Mode, Psr};
 
 /// Writes the registers of the present mode, four on a line, and a line of the status, in which a
 /// set flag stands in capitals.

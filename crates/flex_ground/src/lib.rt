@@ -4,6 +4,6 @@
 pub mod laws;
 pub mod world_laws;
 
-pub use instances_ground::rma;
 pub use flex_store;
 pub use instances_ground;
+pub use instances_ground::rma;

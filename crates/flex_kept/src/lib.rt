@@ -3,5 +3,5 @@
 
 pub mod laws;
 
-pub use os_heap_slide;
 pub use dynamic_areas;
+pub use os_heap_slide;

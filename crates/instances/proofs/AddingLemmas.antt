@@ -5,10 +5,10 @@ use Rattle.std.proofs.lemmas.Bool.{and_parts, both_ways, cases_Bool, eqb-true, f
 use Rattle.address_map.specs.Bytes.{AreMapped, bytes_between, in_range}
 use Rattle.address_map.proofs.Viewing.{bytes_counted}
 use Rattle.address_map.specs.declared.region.Region.{Region}
-use Rattle.module_header.specs.Header.{header_of}
-use Rattle.module_header.specs.declared.fault.HeaderFault.{HeaderFault}
-use Rattle.module_header.specs.declared.fault.HeaderFault.TheVariants.{Short}
-use Rattle.module_header.specs.declared.header.Header.{Header}
+use Rattle.instances_plans.specs.module_header.specs.Header.{header_of}
+use Rattle.instances_plans.specs.module_header.specs.declared.fault.HeaderFault.{HeaderFault}
+use Rattle.instances_plans.specs.module_header.specs.declared.fault.HeaderFault.TheVariants.{Short}
+use Rattle.instances_plans.specs.module_header.specs.declared.header.Header.{Header}
 use Rattle.instances_slide.specs.os_heap.proofs.Added.{are_mapped_all}
 use Rattle.instances_slide.specs.os_heap.specs.Ranges.{are_mapped}
 use Rattle.instances_slide.specs.os_heap.specs.Store.{has_image, is_image}

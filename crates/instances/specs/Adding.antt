@@ -6,9 +6,9 @@ use Rattle.profile.specs.Outcome.{bind}
 use Rattle.profile.specs.declared.error.ErrorNumber.{ErrorNumber}
 use Rattle.profile.specs.declared.error.ErrorNumber.TheVariants.{BadPointer, ModuleBadHeader, InstanceTableFull}
 use Rattle.address_map.specs.Bytes.{bytes_between}
-use Rattle.module_header.specs.Header.{header_of}
-use Rattle.module_header.specs.declared.fault.HeaderFault.{HeaderFault}
-use Rattle.module_header.specs.declared.header.Header.{Header}
+use Rattle.instances_plans.specs.module_header.specs.Header.{header_of}
+use Rattle.instances_plans.specs.module_header.specs.declared.fault.HeaderFault.{HeaderFault}
+use Rattle.instances_plans.specs.module_header.specs.declared.header.Header.{Header}
 use Rattle.instances_slide.specs.rma.specs.Calls.{with_store}
 use Rattle.instances_slide.specs.rma.specs.Copies.{may_be_copied}
 use Rattle.instances_slide.specs.rma.specs.NewImages.{image_copied, image_made, may_be_in_place, with_image_in_place}

@@ -1,7 +1,7 @@
 -- What a call on modules is given that its actions need. What it isn't given is 0, or empty (this project's own).
 use Rattle.std.specs.Prelude.{ℕ, false, List, []}
 use Rattle.arrayvec.specs.ArrayVec.{ArrayVec}
-use Rattle.module_header.specs.declared.header.Header.{Header}
+use Rattle.instances_plans.specs.module_header.specs.declared.header.Header.{Header}
 use Rattle.instances_plans.specs.declared.given.Given.{Given}
 use Rattle.instances_table.specs.declared.parts.Image.{Image}
 use Rattle.instances_table.specs.declared.parts.NewInstance.{NewInstance}

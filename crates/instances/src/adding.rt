@@ -5,7 +5,7 @@ ghost use Rattle.address_map.specs.Bytes.{bytes_between, AreMapped};
 ghost use Rattle.address_map.specs.Memory.{is_mapped};
 ghost use Rattle.instances_slide.specs.os_heap.specs.Store.{store_of, AreClasses};
 ghost use Rattle.instances_slide.specs.flex_kept.specs.Keeping.{KeepsFlex};
-ghost use Rattle.module_header.specs.Header.{header_of};
+ghost use Rattle.instances_plans.specs.module_header.specs.Header.{header_of};
 ghost use Rattle.instances_actions.specs.Pending.{pending_of};
 ghost use Rattle.instances_actions.specs.Ready.{IsReady};
 ghost use Rattle.instances_table.specs.Changes.{is_held, titled_otherwise};
@@ -17,10 +17,10 @@ use crate::given::given_module;
 use crate::instances::Instances;
 use address_map::AddressMap;
 use instances_plans::Plan;
+use instances_plans::module_header::{Header, HeaderFault};
 use instances_slide::dynamic_areas::Areas;
 use instances_slide::rma::Rma;
 use instances_table::Image;
-use module_header::{Header, HeaderFault};
 use profile::ErrorNumber;
 
 impl Instances {

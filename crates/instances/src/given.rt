@@ -4,8 +4,8 @@ ghost use Rattle.instances.specs.Given.{given_instance, given_module, given_only
 
 use arrayvec::ArrayVec;
 use instances_plans::Given;
+use instances_plans::module_header::Header;
 use instances_table::{Image, ModuleInfo, NewInstance};
-use module_header::Header;
 
 /// What a call is given that names an instance: a text, or a return address.
 pub(crate) fn given_only(text: &[u8], return_address: u32) -> Given

@@ -14,9 +14,9 @@ ghost use Rattle.instances_slide.specs.Slid.{image_moved, words_at, words_moved}
 
 use address_map::{AddressMap, Move};
 use arrayvec::ArrayVec;
+use instances_ground::os_heap_slide::moved_to;
 use instances_ground::{private_value, put_private};
 use instances_table::InstanceTable;
-use instances_ground::os_heap_slide::moved_to;
 
 /// The most private words that instances have.
 pub(crate) const MOST_WORDS: usize = 64;

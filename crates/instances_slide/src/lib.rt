@@ -6,7 +6,6 @@ pub mod laws;
 mod movable;
 pub mod tidy;
 
-pub use instances_ground::dynamic_areas;
-pub use instances_ground::rma;
 pub use instances_ground;
+pub use instances_ground::{dynamic_areas, rma};
 pub use tidy::slide;

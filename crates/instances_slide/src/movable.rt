@@ -7,10 +7,10 @@ ghost use Rattle.instances_slide.specs.Movable.{blocks_that, can_move, is_named_
 
 use address_map::{AddressMap, Item};
 use arrayvec::ArrayVec;
-use instances_table::InstanceTable;
 use instances_ground::os_heap::{Blocks, Heaps};
 use instances_ground::os_heap_slide::moves::MOST_MOVES;
 use instances_ground::profile::memory_map::{HEAP_DESCRIPTOR, RMA_START};
+use instances_table::InstanceTable;
 
 /// The addresses of blocks that can be moved, in order.
 pub(crate) type Movable = ArrayVec<u32, MOST_MOVES>;

@@ -10,8 +10,8 @@ use crate::follow::{move_images, move_words, private_words};
 use crate::movable::movable_blocks;
 use address_map::AddressMap;
 use instances_ground::dynamic_areas::Areas;
-use instances_table::InstanceTable;
 use instances_ground::rma::Rma;
+use instances_table::InstanceTable;
 
 /// Tidies the module area: slides its movable blocks together, so that the free room between them becomes one. Movable are the images of modules, and
 /// each block that exactly one private word of an instance names, if they hold neither an anchor of the flex store nor the return address of the call;

@@ -23,11 +23,11 @@ mod sums;
 mod walk;
 pub mod words;
 
-pub use profile;
 pub use address_map::Item;
 pub use blocks::Blocks;
 pub use claim::total_for;
 pub use counted::Counted;
 pub use heaps::Heaps;
 pub use payload::Payload;
+pub use profile;
 pub use sums::{changed_by, round_up_8};

@@ -14,10 +14,9 @@ pub mod laws;
 pub mod new_images;
 pub mod slide;
 
-pub use profile;
 pub use address_map;
-pub use os_heap;
-pub use flex_kept::os_heap_slide;
-pub use flex_kept::dynamic_areas;
 pub use area::Rma;
 pub use flex_kept::os_heap_slide::{Move, Moves};
+pub use flex_kept::{dynamic_areas, os_heap_slide};
+pub use os_heap;
+pub use profile;

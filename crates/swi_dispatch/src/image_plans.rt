@@ -11,11 +11,11 @@ ghost use Rattle.swi_dispatch.specs.ImagePlans.{well_named};
 
 use crate::machine::Machine;
 use crate::module_words::{name_part, text_part};
+use flex_ground::rma::Rma;
 use image_loader::Images;
 use instances_plans::Plan;
 use module_header::Header;
 use profile::ErrorNumber;
-use flex_ground::rma::Rma;
 
 /// What a load is given.
 #[derive(Clone, Copy)]

@@ -6,8 +6,8 @@ ghost use Rattle.profile.specs.Outcome.{Leaves};
 
 use crate::machine::Machine;
 use crate::refusal::Refusal;
-use profile::ErrorNumber;
 use flex_ground::rma::Rma;
+use profile::ErrorNumber;
 
 impl Machine {
     ghost use Rattle.swi_dispatch.specs.Parts.{state_of, OnlyState};

@@ -1,0 +1,155 @@
+//! Scripts that can't be read, or whose answers can't be written.
+
+use command_shell::{RunError, run_script};
+use image_loader::Images;
+use profile::{Config, MemorySink, MemorySource};
+use std::process::Abort;
+use std::test::Fail;
+
+/// Six words: a loop that adds 3, 2 and 1, and OS_Exit.
+const SIX_WORDS: &str = "HEX a
+03 00 A0 E3 00 10 81 E0 01 00 40 E2
+00 00 50 E3 FB FF FF 1A 11 00 00 EF
+END
+BOOT a
+RUN
+REGS
+";
+
+const SIX_WORDS_ANSWER: &str = "hex a: 24 bytes
+boot a
+stop Exit
+R0  00000000 R1  00000006 R2  00000000 R3  00000000
+R4  00000000 R5  00000000 R6  00000000 R7  00000000
+R8  00000000 R9  00000000 R10 00000000 R11 00000000
+R12 00000000 R13 00000000 R14 00000000 R15 60008014
+PSR nZCvif USR
+";
+
+fn usual_sizes(rt: &impl Abort) -> Config {
+    Config::new(256, 64, 16).expect(rt, "sizes that a machine can have")
+}
+
+#[test]
+fn each_pull_can_fail(rt: HostRuntime) {
+    let pulls = SIX_WORDS.len() as u64 + 1;
+    for n in 1..pulls + 2 {
+        let mut reader = MemorySource::new(SIX_WORDS.as_bytes(), 1, n);
+        let mut room = [0u8; 1024];
+        let mut writer = MemorySink::new(&mut room, 1024, u64::MAX);
+        let mut images = Images::new();
+        let result = run_script(
+            rt.alloc(),
+            &mut reader,
+            &mut images,
+            &mut writer,
+            usual_sizes(&rt),
+            20,
+        );
+        if n <= pulls {
+            assert!(rt; result == Err(RunError::ReadFault), "pull {n}");
+            assert!(rt; writer.written().is_empty());
+        } else {
+            assert!(rt; result.is_ok());
+            assert!(rt; writer.written() == SIX_WORDS_ANSWER.as_bytes());
+        }
+    }
+}
+
+#[test]
+fn each_push_can_fail(rt: HostRuntime) {
+    let mut last_failing = 0;
+    for n in 1..200u64 {
+        let mut reader = MemorySource::new(SIX_WORDS.as_bytes(), 4096, u64::MAX);
+        let mut room = [0u8; 1024];
+        let mut writer = MemorySink::new(&mut room, 5, n);
+        let mut images = Images::new();
+        let result = run_script(
+            rt.alloc(),
+            &mut reader,
+            &mut images,
+            &mut writer,
+            usual_sizes(&rt),
+            20,
+        );
+        assert!(rt; SIX_WORDS_ANSWER.as_bytes().starts_with(writer.written()));
+        if writer.written().len() < SIX_WORDS_ANSWER.len() {
+            assert!(rt; result == Err(RunError::WriteFault), "push {n}");
+            last_failing = n;
+        } else {
+            assert!(rt; result.is_ok());
+        }
+    }
+    assert!(rt; 55 < last_failing && last_failing < 150);
+}
+
+/// Passes with each allocation refused, too: what stands written is then a part of the answers.
+#[test]
+fn want_of_memory_ends_the_run(rt: HostRuntime) {
+    let mut reader = MemorySource::new(SIX_WORDS.as_bytes(), 40, u64::MAX);
+    let mut room = [0u8; 1024];
+    let mut writer = MemorySink::new(&mut room, 1024, u64::MAX);
+    let mut images = Images::new();
+    let result = run_script(
+        rt.alloc(),
+        &mut reader,
+        &mut images,
+        &mut writer,
+        usual_sizes(&rt),
+        20,
+    );
+    if result.is_ok() {
+        assert!(rt; writer.written() == SIX_WORDS_ANSWER.as_bytes());
+    } else {
+        assert!(rt; result == Err(RunError::Memory));
+        assert!(rt; writer.written().is_empty());
+    }
+}
+
+/// The longest script, and one byte more.
+#[test]
+fn scripts_have_a_limit(rt: HostRuntime) -> Result<(), Fail> {
+    for (len, most) in [
+        (1_048_576, 1),
+        (1_048_576, 4096),
+        (1_048_577, 1),
+        (1_048_577, 4096),
+    ] {
+        let script = vec![in rt.alloc(); b'\n'; len]?;
+        let mut reader = MemorySource::new(script.as_slice(), most, u64::MAX);
+        let mut room = [0u8; 16];
+        let mut writer = MemorySink::new(&mut room, 16, u64::MAX);
+        let mut images = Images::new();
+        let result = run_script(
+            rt.alloc(),
+            &mut reader,
+            &mut images,
+            &mut writer,
+            usual_sizes(&rt),
+            20,
+        );
+        if len <= 1_048_576 {
+            assert!(rt; result.is_ok());
+        } else {
+            assert!(rt; result == Err(RunError::ScriptTooLong));
+        }
+        assert!(rt; writer.written().is_empty());
+    }
+    Ok(())
+}
+
+#[test]
+fn errors_have_texts(rt: HostRuntime) -> Result<(), Fail> {
+    let text = format!(in rt.alloc();
+        "{}; {}; {}; {}",
+        RunError::Memory,
+        RunError::ReadFault,
+        RunError::WriteFault,
+        RunError::ScriptTooLong
+    )?;
+    assert!(rt;
+        text.as_str()
+            == "no memory for the script, the machine or an image; the script can't be read; the answers can't be written; the script has more than 1,048,576 bytes"
+    );
+    Ok(())
+}

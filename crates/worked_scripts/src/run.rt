@@ -1,0 +1,140 @@
+ghost use Rattle.std.specs.Prelude.{◌≡◌, IfOk};
+ghost use Rattle.command_shell.specs.Script.{script_told};
+ghost use Rattle.worked_scripts.specs.Status.{status_after};
+
+use crate::difference::Difference;
+use crate::error::TranscriptError;
+use crate::transcript::Transcript;
+use command_shell::{RunError, run_script};
+use image_loader::Images;
+use profile::{Config, Device, MemorySink, Stop};
+use std::alloc::{AllocError, Global};
+
+/// The most bytes that the answers of a transcript may have.
+const MOST_ANSWER_BYTES: usize = 65536;
+
+/// What came of a script.
+#[derive(Drop)]
+struct Outcome {
+    answer: Vec<u8>,
+    status: u8,
+}
+
+/// What is wrong with a transcript, or `None` where all is as it says. One that is wrong on purpose
+/// says what is to be told of it.
+///
+/// # Errors
+///
+/// Its script can't be run.
+pub fn complaint_of(
+    alloc: Global,
+    mut transcript: Transcript,
+) -> Result<Option<String>, TranscriptError> {
+    let outcome = run(alloc, &mut transcript)?;
+    let told = match difference(alloc, &transcript, &outcome)? {
+        Some(difference) => Some(format!(in alloc; "{difference}")?),
+        None => None,
+    };
+    match &transcript.wrong {
+        None => Ok(told),
+        Some(wrong) => Ok(unless_told(alloc, told, wrong.as_str())?),
+    }
+}
+
+// Nothing where just this was told.
+fn unless_told(
+    alloc: Global,
+    told: Option<String>,
+    wrong: &str,
+) -> Result<Option<String>, AllocError> {
+    let Some(told) = told else {
+        let text = format!(in alloc; " as it says, and to be told was {wrong}")?;
+        return Ok(Some(text));
+    };
+    if told.as_str() == wrong {
+        return Ok(None);
+    }
+    let text = format!(in alloc; "{told}; and to be told was {wrong}")?;
+    Ok(Some(text))
+}
+
+fn run(alloc: Global, transcript: &mut Transcript) -> Result<Outcome, TranscriptError> {
+    let settings = &mut transcript.settings;
+    let config = match settings.config() {
+        Ok(config) => config,
+        Err(error) => return Err(TranscriptError::at(1, error)),
+    };
+    let script = transcript.script.as_slice();
+    let outcome = outcome_of(alloc, script, &mut settings.images, config, settings.budget)?;
+    Ok(outcome)
+}
+
+// Runs a script on a fresh machine.
+fn outcome_of(
+    alloc: Global,
+    script: &[u8],
+    images: &mut Images,
+    config: Config,
+    budget: u64,
+) -> Result<Outcome, RunError>
+    ensures answer { IfOk result (λ outcome. outcome.answer.items
+        ≡ (script_told config images.old budget script.now).text) }
+    ensures status { IfOk result (λ outcome. outcome.status
+        ≡ status_after (script_told config images.old budget script.now).state.last) }
+{
+    let mut reader = Device::new(script);
+    let mut room = vec![in alloc; 0u8; MOST_ANSWER_BYTES]?;
+    let mut writer = MemorySink::new(&mut room, MOST_ANSWER_BYTES, u64::MAX);
+    let summary = run_script(alloc, &mut reader, images, &mut writer, config, budget)?;
+    Ok(Outcome {
+        answer: Vec::from_slice(alloc, writer.written())?,
+        status: stop_status(summary.last),
+    })
+}
+
+// The exit status of the program `rosm`.
+fn stop_status(last: Option<Stop>) -> u8
+    ensures { result ≡ status_after last }
+{
+    match last {
+        Some(Stop::Exit) => 0,
+        Some(Stop::Fault(_)) => 1,
+        Some(Stop::Budget | Stop::Break(_)) | None => 3,
+    }
+}
+
+// The first line that differs. Texts that are equal are not looked at line by line.
+fn difference(
+    alloc: Global,
+    transcript: &Transcript,
+    outcome: &Outcome,
+) -> Result<Option<Difference>, AllocError> {
+    if outcome.answer != transcript.answer {
+        return Ok(Some(differing_line(alloc, transcript, outcome.answer.as_slice())?));
+    }
+    if outcome.status != transcript.status {
+        let line = transcript.status_line;
+        let (wanted, found) = (transcript.status, outcome.status);
+        return Ok(Some(Difference::of_status(alloc, line, wanted, found)?));
+    }
+    Ok(None)
+}
+
+fn differing_line(
+    alloc: Global,
+    transcript: &Transcript,
+    found: &[u8],
+) -> Result<Difference, AllocError> {
+    let mut wanted_lines = transcript
+        .answer
+        .as_slice()
+        .split_inclusive(|byte| *byte == b'\n');
+    let mut found_lines = found.split_inclusive(|byte| *byte == b'\n');
+    for line in transcript.answer_lines.as_slice() {
+        let (wanted, found) = (wanted_lines.next(), found_lines.next());
+        if wanted != found {
+            return Difference::of_lines(alloc, *line, wanted, found);
+        }
+    }
+    Difference::of_lines(alloc, transcript.status_line, None, found_lines.next())
+}
