@@ -9,10 +9,10 @@ use Rattle.address_map.specs.Records.{anchor_among}
 use Rattle.address_map.specs.declared.item.Item.{Item}
 use Rattle.address_map.specs.declared.item.Item.TheVariants.{Free, Live}
 use Rattle.address_map.specs.declared.map.AddressMap.{AddressMap}
-use Rattle.os_heap_lists.proofs.Spelling.{size_of-append, totals-back}
-use Rattle.os_heap_lists.proofs.LiveBlocks.{LiveBytes, live_bytes}
-use Rattle.os_heap_lists.specs.Heap.{AreTotals, HeapList, IsHeapIn, next_free}
-use Rattle.os_heap_lists.specs.Lists.{live_total}
+use Rattle.os_heap_slide.specs.os_heap_lists.proofs.Spelling.{size_of-append, totals-back}
+use Rattle.os_heap_slide.specs.os_heap_lists.proofs.LiveBlocks.{LiveBytes, live_bytes}
+use Rattle.os_heap_slide.specs.os_heap_lists.specs.Heap.{AreTotals, HeapList, IsHeapIn, next_free}
+use Rattle.os_heap_slide.specs.os_heap_lists.specs.Lists.{live_total}
 use Rattle.os_heap.proofs.Found.{found_heap, found_start}
 use Rattle.os_heap.specs.Calls.{holds_anchor, items_of, OfHeap}
 use Rattle.os_heap.specs.Outcomes.{end_at, HasHeapAt, items_at}

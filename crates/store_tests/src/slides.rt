@@ -1,4 +1,4 @@
-ghost use Rattle.std.specs.Prelude.{◌≡◌, ◌+◌, true, false, is_some, MatchResult};
+ghost use Rattle.std.specs.Prelude.{◌≡◌, ◌<◌, ◌+◌, ◌^◌, true, false, is_some, MatchResult};
 ghost use Rattle.address_map.specs.Bytes.{word_at};
 ghost use Rattle.address_map.specs.Items.{linked};
 ghost use Rattle.address_map.specs.Memory.{anchor_of, byte_at};
@@ -138,8 +138,9 @@ fn are_blocks(map: &AddressMap, heap: u32, movable: &[u32]) -> bool
     ensures { result ≡ true → AreBlocks (heap + 16) (items_at map.now heap) movable.now }
 {
     let base = heap + word(map, heap + BASE);
+    let first = heap + HEAP_DESCRIPTOR;
     let mut cursor = Cursor {
-        at: heap + HEAP_DESCRIPTOR,
+        at: first,
         free: follow(map, heap, heap),
     };
     let mut left = movable;
@@ -148,7 +149,7 @@ fn are_blocks(map: &AddressMap, heap: u32, movable: &[u32]) -> bool
             cursor = past_free(map, heap, &cursor);
         } else {
             let total = word(map, cursor.at);
-            left = without_block(cursor.at + 4, left);
+            left = without_block(&cursor, left);
             cursor.at += total;
         }
     }
@@ -169,11 +170,12 @@ fn past_free(map: &AddressMap, heap: u32, cursor: &Cursor) -> Cursor
 }
 
 /// The addresses that are left behind a block, which is the first of them where it can be moved.
-fn without_block(block: u32, left: &[u32]) -> &[u32]
-    ensures { result.now ≡ without_first block left.now }
+fn without_block<'a>(cursor: &Cursor, left: &'a [u32]) -> &'a [u32]
+    requires { cursor.now.at + 4 < 2 ^ 32 }
+    ensures { result.now ≡ without_first (cursor.now.at + 4) left.now }
 {
     match left.split_first() {
-        Some((first, rest)) if *first == block => rest,
+        Some((first, rest)) if *first == cursor.at + 4 => rest,
         _ => left,
     }
 }

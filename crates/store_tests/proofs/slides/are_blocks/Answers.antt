@@ -55,6 +55,11 @@ word-total-requires-clause-mapped c =
     let here = live_at _ _ _ _ _ c.loop-cursor.invariant.placed c.requires (omega (arith, c.loop-cursor-test.true, c.word.ensures)) c.if-cursor.false in
     c.requires.mapped _ (omega (arith, here.facts.low)) (omega (arith, here.facts.high, here.facts.size))
 
+pub without_block-left-requires : goal.without_block-left-requires
+without_block-left-requires c =
+    let here = live_at _ _ _ _ _ c.loop-cursor.invariant.placed c.requires (omega (arith, c.loop-cursor-test.true, c.word.ensures)) c.if-cursor.false in
+    omega (arith, here.facts.high, here.facts.size, here.facts.top)
+
 pub overflow_add-cursor : goal.overflow_add-cursor
 overflow_add-cursor c =
     let here = live_at _ _ _ _ _ c.loop-cursor.invariant.placed c.requires (omega (arith, c.loop-cursor-test.true, c.word.ensures)) c.if-cursor.false in
