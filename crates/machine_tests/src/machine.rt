@@ -9,13 +9,13 @@ mod steps;
 ghost use Rattle.std.specs.Prelude.{◌≤◌};
 
 use debugger::arm_step::Mode;
+use debugger::swi_dispatch::strings::text_at;
+use debugger::swi_dispatch::{BootError, Breaks, Machine, TextEnd};
 use image_loader::Images;
 use profile::{Config, ErrorNumber, Fault, MemorySink, Stop};
 use std::alloc::{AllocError, Global};
 use std::process::Abort;
 use std::test::Fail;
-use debugger::swi_dispatch::strings::text_at;
-use debugger::swi_dispatch::{BootError, Breaks, Machine, TextEnd};
 
 // MOV R0,#3; ADD R1,R1,R0; SUB R0,R0,#1; CMP R0,#0; BNE to the second; SWI OS_Exit
 const SIX_WORDS: [u8; 24] = [

@@ -1,13 +1,13 @@
-use debugger::{show_blocks, show_memory, show_modules, show_regs};
-use image_loader::Images;
 use debugger::instances::Instances;
 use debugger::instances_table::{Image, InstanceTable};
 use debugger::module_header::Header;
+use debugger::swi_dispatch::Machine;
+use debugger::{show_blocks, show_memory, show_modules, show_regs};
+use image_loader::Images;
 use profile::{Config, MemorySink};
 use std::alloc::Global;
 use std::process::Abort;
 use std::test::Fail;
-use debugger::swi_dispatch::Machine;
 
 /// A heap of 256 bytes with a block of 20 bytes and one of none. A block takes its bytes and its
 /// length word, rounded up to a multiple of 8.

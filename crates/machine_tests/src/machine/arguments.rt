@@ -2,10 +2,10 @@
 //! address space, a word that a heap owns (the module area's link), and one of a system page.
 
 use crate::machine::{set_registers, usual_machine};
+use debugger::swi_dispatch::{BreakError, Breaks, Machine};
 use image_loader::Images;
 use profile::memory_map::ERROR_BLOCK;
 use std::test::Fail;
-use debugger::swi_dispatch::{BreakError, Breaks, Machine};
 
 /// Number, R0, R1, R2, R3; the error's number, or 0 where the call succeeds.
 static CALLS: [(u32, u32, u32, u32, u32, u32); 78] = [

@@ -2,10 +2,10 @@
 
 use crate::machine::Line::{Call, Errs, Has, Holds, Lacks, New, Registers};
 use crate::machine::{Line, play, set_registers, usual_machine};
+use debugger::swi_dispatch::Machine;
 use image_loader::Images;
 use profile::{ErrorNumber, Stop};
 use std::test::Fail;
-use debugger::swi_dispatch::Machine;
 
 static LINES: [Line; 37] = [
     // a claim for which the area grows, and one that finds no room

@@ -6,9 +6,9 @@ use crate::machine::Line::{
 };
 use crate::machine::{Line, play};
 use debugger::arm_step::Mode;
+use debugger::swi_dispatch::BootError;
 use profile::{Fault, Stop};
 use std::test::Fail;
-use debugger::swi_dispatch::BootError;
 
 static LINES: [Line; 139] = [
     // the six words: a loop of three turns, and OS_Exit; nothing is written, and a halted machine stays as it is
