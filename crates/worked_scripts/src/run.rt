@@ -1,4 +1,4 @@
-ghost use Rattle.std.specs.Prelude.{◌≡◌, IfOk};
+ghost use Rattle.std.specs.Prelude.{◌≡◌, IfOk, None};
 ghost use Rattle.command_shell.specs.Script.{script_told};
 ghost use Rattle.worked_scripts.specs.Status.{status_after};
 
@@ -108,7 +108,12 @@ fn difference(
     alloc: Global,
     transcript: &Transcript,
     outcome: &Outcome,
-) -> Result<Option<Difference>, AllocError> {
+) -> Result<Option<Difference>, AllocError>
+    ensures answer { IfOk result (λ found. found ≡ None
+        → outcome.now.answer.items ≡ transcript.now.answer.items) }
+    ensures status { IfOk result (λ found. found ≡ None
+        → outcome.now.status ≡ transcript.now.status) }
+{
     if outcome.answer != transcript.answer {
         return Ok(Some(differing_line(alloc, transcript, outcome.answer.as_slice())?));
     }
