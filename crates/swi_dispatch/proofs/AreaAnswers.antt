@@ -15,39 +15,22 @@ use Rattle.dynamic_areas.specs.Ground.{AreAreas}
 use Rattle.dynamic_areas.proofs.HeapCalls.{system_mapped}
 use Rattle.dynamic_areas.proofs.SystemPages.{change_keeps_system}
 use Rattle.swi_dispatch.specs.declared.halt.Halt.TheVariants as halt
-use Rattle.swi_dispatch.specs.declared.refusal.Refusal.{Refusal}
-use Rattle.swi_dispatch.specs.declared.refusal.Refusal.TheVariants as refusal
-use Rattle.swi_dispatch.specs.AreaCalls.{area_changed, change_asked, change_left, moving_error}
-use Rattle.swi_dispatch.specs.Calls.{call_answer}
-use Rattle.swi_dispatch.specs.MachineState.{MachineState, Outcome, quiet}
+use Rattle.swi_dispatch_answers.specs.declared.refusal.Refusal.{Refusal}
+use Rattle.swi_dispatch_answers.specs.declared.refusal.Refusal.TheVariants as refusal
+use Rattle.swi_dispatch_store.specs.Areas.{change_asked, change_left}
+use Rattle.swi_dispatch.specs.Calls.{area_changing, call_answer, moving_error, with_guest}
+use Rattle.swi_dispatch.specs.MachineState.{MachineState, Outcome, machine_estate, quiet}
 use Rattle.swi_dispatch.specs.Parts.{Answers, IsWellFormed, Parts, state_of}
 use Rattle.swi_dispatch.specs.Step.{ended, ended_by}
 use Rattle.swi_dispatch.specs.Returns.{halted}
 use Rattle.swi_dispatch.proofs.ErrorNumbers.{block_read}
 
--- where no area has the number
-unknown_found : (s : MachineState) (next : ℕ) (e : ErrorNumber) (r : Result ℕ Refusal) (printed : List ℕ) (found : Option Area)
-    → find_area (register_of s.cpu 0) s.tables.land.areas ≡ found → area_in s.tables.land.areas (register_of s.cpu 0) ≡ Err e
-    → r ≡ Err (refusal.System e) → printed ≡ [] → Answers (area_changed s next) next r (record { now = s; printed = printed })
-unfolding area_changed change_answer
-unknown_found s next e r printed (Some a) there unknown is none = absurd (let f = rw there at unknown in cc)
-unknown_found s next e r printed None there unknown is none =
-    let f = rw there at unknown in
-    rw (is, there, none) (refl, (refl, cc))
-
-pub unknown_answer : (s : MachineState) (next : ℕ) (e : ErrorNumber) (r : Result ℕ Refusal) (printed : List ℕ)
-    → area_in s.tables.land.areas (register_of s.cpu 0) ≡ Err e → r ≡ Err (refusal.System e) → printed ≡ []
-    → Answers (area_changed s next) next r (record { now = s; printed = printed })
-unknown_answer s next e r printed unknown is none =
-    unknown_found s next e r printed (find_area (register_of s.cpu 0) s.tables.land.areas) refl unknown is none
-
 -- where it errs something may have moved
 pub errs_moving : (s : MachineState) (next : ℕ) (name : Option SwiName) (r : Result ℕ Refusal) (o : Outcome) → name ≡ Some swi.ChangeDynamicArea
-    → Answers (area_changed s next) next r o → OnErr r (moving_error s name ≡ None → o ≡ quiet s)
-unfolding area_changed
+    → Answers (area_changing s next) next r o → OnErr r (moving_error s name ≡ None → o ≡ quiet s)
 errs_moving s next name (Ok to) o is done = tt
 errs_moving s next name (Err e) o is done = λ still.
-    let none : (change_asked s).error ≡ None = sym (ap (moving_error s) is) ∙ still in
+    let none : (change_asked s.cpu (machine_estate s)).error ≡ None = sym (ap (moving_error s) is) ∙ still in
     let some : None ≡ Some e = sym (ap (option_map refusal.System) none) ∙ done.1.1 in
     absurd (let never = some in cc)
 
@@ -55,29 +38,31 @@ size_set : (s : State) (n v : ℕ) → length (with_register s n v).file ≡ len
 unfolding with_register with_register_in
 size_set s n v = length-set s.file (slot_of s.psr.mode n) v
 
+abbrev after_change : MachineState → Option Area → MachineState
+after_change s found = with_guest s (change_left s.cpu (machine_estate s) found (change_asked s.cpu (machine_estate s)).bytes)
+
 left_mapped : (s : MachineState) (found : Option Area) → AreAreas s.store s.pool s.tables.land → find_area (register_of s.cpu 0) s.tables.land.areas ≡ found
-    → (change_left s found (change_asked s).bytes).store.bytes.mapped 0x01C02100 ≡ true
+    → (after_change s found).store.bytes.mapped 0x01C02100 ≡ true
 left_mapped s None areas e = system_mapped s.store s.pool s.tables.land areas 0x01C02100 refl
 left_mapped s (Some a) areas e =
     change_keeps_system s.store s.pool s.tables.land (register_of s.cpu 0) (register_of s.cpu 1) a 0x01C02100 areas e refl
 
-left_size : (s : MachineState) (found : Option Area) (bytes : ℕ) → length s.cpu.file ≡ 26 → length (change_left s found bytes).cpu.file ≡ 26
-left_size s None bytes size = size
-left_size s (Some a) bytes size = size_set s.cpu 1 bytes ∙ size
+left_size : (s : MachineState) (found : Option Area) → length s.cpu.file ≡ 26 → length (after_change s found).cpu.file ≡ 26
+left_size s None size = size
+left_size s (Some a) size = size_set s.cpu 1 (change_asked s.cpu (machine_estate s)).bytes ∙ size
 
 pub change_stop : (s : MachineState) (next : ℕ) (e : ErrorNumber) → AreAreas s.store s.pool s.tables.land → length s.cpu.file ≡ 26
-    → (change_asked s).error ≡ Some e → ended s false (area_changed s next) ≡ halted s (halt.Fault (ErrorStop (error_code e)))
-unfolding area_changed
+    → (change_asked s.cpu (machine_estate s)).error ≡ Some e
+    → ended s false (area_changing s next) ≡ halted s (halt.Fault (ErrorStop (error_code e)))
 change_stop s next e areas size err =
-    let found : Option Area = find_area (register_of s.cpu 0) s.tables.land.areas in
-    let left : MachineState = change_left s (find_area (register_of s.cpu 0) s.tables.land.areas) (change_asked s).bytes in
-    ap (λ (o : Option ErrorNumber). ended_by s false (area_changed s next) (option_map refusal.System o)) err
+    let left : MachineState = after_change s (find_area (register_of s.cpu 0) s.tables.land.areas) in
+    ap (λ (o : Option ErrorNumber). ended_by s false (area_changing s next) (option_map refusal.System o)) err
     ∙ ap (λ (n : ℕ). halted s (halt.Fault (ErrorStop n))) (block_read left s.cpu.psr next e
     (left_mapped s (find_area (register_of s.cpu 0) s.tables.land.areas) areas refl)
-    (left_size s (find_area (register_of s.cpu 0) s.tables.land.areas) (change_asked s).bytes size))
+    (left_size s (find_area (register_of s.cpu 0) s.tables.land.areas) size))
 
 pub moving_stop : (p : Parts) (next number : ℕ) (name : Option SwiName) (e : ErrorNumber) → IsWellFormed p → length p.cpu.file ≡ 26
-    → name ≡ Some swi.ChangeDynamicArea → (change_asked (state_of p)).error ≡ Some e
+    → name ≡ Some swi.ChangeDynamicArea → (change_asked (state_of p).cpu (machine_estate (state_of p))).error ≡ Some e
     → ended (state_of p) false (call_answer (state_of p) next number name) ≡ halted (state_of p) (halt.Fault (ErrorStop (error_code e)))
 unfolding call_answer state_of
 moving_stop p next number name e well size is err = rw is (change_stop (state_of p) next e well.areas size err)

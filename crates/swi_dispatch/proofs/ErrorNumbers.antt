@@ -10,10 +10,12 @@ use Rattle.arm_step.specs.declared.psr.Psr.{Psr}
 use Rattle.arm_step.specs.State.{State, slot_of, register_in, register_of, with_register, with_register_in, with_pc}
 use Rattle.os_heap.specs.Store.{store_of}
 use Rattle.dynamic_areas.proofs.HeapCalls.{system_mapped}
-use Rattle.swi_dispatch.specs.declared.refusal.Refusal.TheVariants as refusal
+use Rattle.swi_dispatch_answers.specs.declared.refusal.Refusal.TheVariants as refusal
 use Rattle.swi_dispatch.specs.MachineState.{MachineState}
-use Rattle.swi_dispatch.specs.Errors.{error_at, error_number, error_block, with_error}
-use Rattle.swi_dispatch.specs.Returns.{returned, return_word, gone_back}
+use Rattle.swi_dispatch.specs.Errors.{error_number, with_error}
+use Rattle.swi_dispatch_answers.specs.Errors.{error_at, error_block}
+use Rattle.swi_dispatch.specs.Returns.{gone_back}
+use Rattle.swi_dispatch_answers.specs.Returns.{returned, return_word}
 use Rattle.swi_dispatch.specs.Parts.{Parts, IsWellFormed, state_of}
 
 -- R0 is the same register in all modes

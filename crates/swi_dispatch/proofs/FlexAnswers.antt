@@ -17,7 +17,7 @@ use Rattle.flex_ground.proofs.Calls.{flex_left, flex_stays_so, state_is}
 use Rattle.flex_ground.specs.CallLaws.{AreAnchorsAllowed, IsFlexCall, IsLeft}
 use Rattle.flex_ground.specs.Ground.{HasFlex, flex_state}
 use Rattle.swi_dispatch.specs.declared.halt.Halt.{Halt}
-use Rattle.swi_dispatch.specs.declared.refusal.Refusal.TheVariants as refusal
+use Rattle.swi_dispatch_answers.specs.declared.refusal.Refusal.TheVariants as refusal
 use Rattle.swi_dispatch.specs.FlexCalls.{left_by, machine_flex, with_flexed}
 use Rattle.swi_dispatch.specs.MachineState.{Tables}
 use Rattle.swi_dispatch.specs.Parts.{IsWellFormed, Parts}

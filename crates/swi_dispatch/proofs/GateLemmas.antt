@@ -31,7 +31,7 @@ use Rattle.swi_dispatch_frames.specs.Busy.{has_swi_of}
 use Rattle.profile.specs.declared.fault.Fault.TheVariants.{ErrorStop, FetchUnmapped}
 use Rattle.swi_dispatch.specs.declared.halt.Halt.TheVariants as halt
 use Rattle.swi_dispatch.specs.declared.module_steps.Next.{Next}
-use Rattle.swi_dispatch.specs.Errors.{error_at}
+use Rattle.swi_dispatch_answers.specs.Errors.{error_at}
 use Rattle.swi_dispatch.specs.Gates.{Resumes, carried_on, come_back, error_ahead, error_left, fault_kept, kept_by, next_by, next_of, outcome_left, plan_left, went_to, with_carried, with_plan, world_carried}
 use Rattle.swi_dispatch.specs.MachineState.{MachineState, Outcome, quiet}
 use Rattle.swi_dispatch.specs.Additions.{Starts, planned}

@@ -26,7 +26,7 @@ use Rattle.dynamic_areas.specs.Ground.{AreAreas, IsRecorded, system_pages}
 use Rattle.dynamic_areas.proofs.HeapCalls.{areas_written}
 use Rattle.swi_dispatch.specs.declared.halt.Halt.{Halt}
 use Rattle.swi_dispatch.specs.MachineState.{MachineState, Tables, with_memory, start_of}
-use Rattle.swi_dispatch.specs.Errors.{error_block}
+use Rattle.swi_dispatch_answers.specs.Errors.{error_block}
 use Rattle.swi_dispatch.specs.Boot.{booted, poked}
 use Rattle.flex_ground.proofs.Kept.{flex_kept, flex_stored}
 use Rattle.flex_ground.specs.Ground.{HasFlex}
@@ -286,27 +286,6 @@ boots m n cpu tables halt s is_fresh program fresh fits same kept bytes =
     let store = kept_memory m n _ kept (stored_bytes m n 0x8000 program same bytes) in
     let pool = same_pool m n same in
     rw (fresh, room) (λ i. with_core cpu (pool i) tables halt (store i))
-
--- two writes side by side are one
-pub two_writes : (old : ℕ → ℕ) (at : ℕ) (xs : List ℕ) (y a : ℕ)
-    → with_bytes_at (with_bytes_at old at xs) (at + length xs) (y ∷ []) a ≡ with_bytes_at old at (xs ++ y ∷ []) a
-two_writes old at xs y a = grind (arith, nat_tests, places, length-append)
-
-pub error_written : (m n1 n2 n : AddressMap) (number code : ℕ) (text name : List ℕ) → number ≡ code → text ≡ name
-    → layout n1 ≡ layout m → ((a : ℕ) → byte_at n1 a ≡ with_word_at (byte_at m) 0x01C02100 number a)
-    → layout n2 ≡ layout n1 → ((a : ℕ) → byte_at n2 a ≡ with_bytes_at (byte_at n1) 0x01C02104 text a)
-    → layout n ≡ layout n2 → ((a : ℕ) → byte_at n a ≡ with_bytes_at (byte_at n2) (0x01C02104 + length text) (0 ∷ []) a)
-    → bytes_of n ≡ error_block (bytes_of m) code name
-error_written m n1 n2 n number code text name is_code is_name same1 put1 same2 put2 same put =
-    let one : bytes_of n1 ≡ with_word (bytes_of m) 0x01C02100 code = stored_word m n1 0x01C02100 number same1 put1 ∙ ap (λ (k : ℕ). with_word (bytes_of m) 0x01C02100 k) is_code in
-    let two : bytes_of n2 ≡ with_bytes (with_word (bytes_of m) 0x01C02100 code) 0x01C02104 text =
-    stored_bytes n1 n2 0x01C02104 text same2 put2 ∙ ap (λ (b : Bytes). with_bytes b 0x01C02104 text) one in
-    let three : bytes_of n ≡ with_bytes (with_bytes (with_word (bytes_of m) 0x01C02100 code) 0x01C02104 text) (0x01C02104 + length text) (0 ∷ []) =
-    stored_bytes n2 n (0x01C02104 + length text) (0 ∷ []) same put ∙ ap (λ (b : Bytes). with_bytes b (0x01C02104 + length text) (0 ∷ [])) two in
-    let whole : with_bytes (with_bytes (with_word (bytes_of m) 0x01C02100 code) 0x01C02104 text) (0x01C02104 + length text) (0 ∷ [])
-    ≡ with_bytes (with_word (bytes_of m) 0x01C02100 code) 0x01C02104 (text ++ 0 ∷ []) =
-    λ i. record { mapped = is_mapped m; at = λ a. two_writes (with_word_at (byte_at m) 0x01C02100 code) 0x01C02104 text 0 a i } in
-    three ∙ whole ∙ ap (λ (xs : List ℕ). with_bytes (with_word (bytes_of m) 0x01C02100 code) 0x01C02104 (xs ++ 0 ∷ [])) is_name
 
 -- the names of errors are short
 pub short_name : (e : ErrorNumber) → length (error_name e ++ 0 ∷ []) ≤ 128

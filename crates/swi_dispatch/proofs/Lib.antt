@@ -3,7 +3,6 @@ pub mod FlexBegun
 pub mod FlexWorlds
 pub mod Answering
 pub mod AreaAnswers
-pub mod AreasKept
 pub mod Beginning
 pub mod CarriedFrames
 pub mod ErrorNumbers
@@ -14,6 +13,6 @@ pub mod Quiet
 pub mod RunLoop
 pub mod Runs
 pub mod Starting
-pub mod StringLemmas
+pub mod StoreCalls
 pub mod SystemRoom
 pub mod Turning

@@ -10,7 +10,7 @@ use Rattle.instances.specs.Adding.{copying, inserting, loading}
 use Rattle.swi_dispatch.specs.declared.module_steps.Next.{Next}
 use Rattle.swi_dispatch.specs.Gates.{next_of, with_carried, world_carried}
 use Rattle.swi_dispatch.specs.ImagePlans.{copy_asked, insertion_asked, load_asked}
-use Rattle.swi_dispatch.specs.InstanceCalls.{string_in}
+use Rattle.swi_dispatch_answers.specs.Strings.{string_in}
 use Rattle.swi_dispatch.specs.MachineState.{MachineState}
 use Rattle.swi_dispatch.specs.ModulePlans.{Planned, machine_world}
 
@@ -26,7 +26,7 @@ load_planned images s words enters = bind (load_asked images s words enters) (λ
 
 -- reasons 0 and 1, run and load: R1 points to the name of an image and a text
 abbrev pub named_load_planned : List Entry → MachineState → Bool → Result Planned ErrorNumber
-named_load_planned images s enters = bind (string_in s 1) (λ words. load_planned images s words enters)
+named_load_planned images s enters = bind (string_in s.store.bytes s.cpu 1) (λ words. load_planned images s words enters)
 
 -- reason 10, insert
 abbrev pub range_planned : MachineState → ℕ → ℕ → Result Planned ErrorNumber

@@ -1,9 +1,7 @@
 -- What store calls answer, in words that all of them share.
 use Rattle.std.specs.Prelude.{ℕ, Option, Some, None, Result, Ok, Err, List, []}
-use Rattle.profile.specs.declared.error.ErrorNumber.{ErrorNumber}
 use Rattle.arm_step.specs.State.{with_register}
-use Rattle.swi_dispatch.specs.declared.refusal.Refusal.{Refusal}
-use Rattle.swi_dispatch.specs.declared.refusal.Refusal.TheVariants as refusal
+use Rattle.swi_dispatch_answers.specs.declared.refusal.Refusal.{Refusal}
 use Rattle.swi_dispatch.specs.MachineState.{MachineState, Outcome, quiet}
 
 -- What a call answers: what it leaves, the machine but for what every call does to the core and the bytes printed, where the guest goes on, and the
@@ -23,14 +21,6 @@ refused s next e = record { left = quiet s; next = next; error = Some e }
 abbrev pub went_on : MachineState → ℕ → Result MachineState Refusal → Answer
 went_on s next (Ok t) = done t [] next
 went_on s next (Err e) = refused s next e
-
-abbrev pub system_error : {A : Type 0} → ErrorNumber → Result A Refusal
-system_error e = Err (refusal.System e)
-
--- an error of the system, or a store or what is answered
-abbrev pub or_error : {A : Type 0} → Result A ErrorNumber → Result A Refusal
-or_error (Ok a) = Ok a
-or_error (Err e) = system_error e
 
 abbrev pub with_answer : MachineState → ℕ → ℕ → MachineState
 with_answer s n v = record s { cpu = with_register s.cpu n v }

@@ -1,27 +1,28 @@
 -- The store calls: what each answers, by the registers of the caller's mode, and what it leaves (RISC OS 3 Programmer's Reference Manual, the
 -- chapters on character output, program environment, generating and handling errors, memory management, and "OS_Heap").
-use Rattle.std.specs.Prelude.{ℕ, ◌+◌, ◌%◌, ◌==◌, ◌&&◌, Option, Some, None, Result, Ok, List, [], ◌∷◌, length, if◌then◌else◌}
+use Rattle.std.specs.Prelude.{ℕ, ◌+◌, ◌%◌, ◌==◌, ◌&&◌, Option, Some, None, option_map, Result, Ok, List, [], ◌∷◌, length, if◌then◌else◌}
 use Rattle.profile.specs.Outcome.{bind}
-use Rattle.profile.specs.declared.error.ErrorNumber.TheVariants.{BadString, BadPointer, HeapBadReason}
+use Rattle.profile.specs.declared.error.ErrorNumber.{ErrorNumber}
+use Rattle.profile.specs.declared.error.ErrorNumber.TheVariants.{BadString, BadPointer}
 use Rattle.profile.specs.declared.swi.SwiName.{SwiName}
 use Rattle.profile.specs.declared.swi.SwiName.TheVariants as swi
 use Rattle.address_map.specs.Bytes.{Bytes}
 use Rattle.arm_step.specs.declared.psr.Mode.TheVariants.{Supervisor}
-use Rattle.arm_step.specs.State.{register_of, with_mode}
-use Rattle.os_heap.specs.Calls.{resized, changed, block_sized, got, gave_back, described, begun}
+use Rattle.arm_step.specs.State.{State, register_of, with_mode}
 use Rattle.os_heap.specs.Store.{Store}
-use Rattle.swi_dispatch.specs.declared.refusal.Refusal.{Refusal}
-use Rattle.swi_dispatch.specs.declared.refusal.Refusal.TheVariants as refusal
-use Rattle.swi_dispatch.specs.declared.strings.TextEnd.TheVariants as end
-use Rattle.swi_dispatch.specs.Answers.{Answer, done, refused, went_on, system_error, or_error, with_answer}
-use Rattle.swi_dispatch.specs.AreaCalls.{area_called, area_changed, area_read}
+use Rattle.dynamic_areas.specs.Ground.{Estate}
+use Rattle.flex_ground.specs.instances_ground.specs.World.{World}
+use Rattle.swi_dispatch_answers.specs.declared.refusal.Refusal.{Refusal}
+use Rattle.swi_dispatch_answers.specs.declared.refusal.Refusal.TheVariants as refusal
+use Rattle.swi_dispatch_answers.specs.declared.strings.TextEnd.TheVariants as end
+use Rattle.swi_dispatch_answers.specs.Strings.{ends, text_at, next_word}
+use Rattle.swi_dispatch_store.specs.Areas.{area_called, area_changed, area_read, change_asked}
+use Rattle.swi_dispatch_store.specs.Heaps.{heap_called}
+use Rattle.swi_dispatch_modules.specs.Calls.{module_called}
+use Rattle.swi_dispatch.specs.Answers.{Answer, done, refused, went_on, with_answer}
 use Rattle.swi_dispatch.specs.FlexCalls.{flex_called}
-use Rattle.swi_dispatch.specs.ModuleCalls.{module_reason_called}
-use Rattle.swi_dispatch.specs.MachineState.{MachineState}
-use Rattle.swi_dispatch.specs.Strings.{ends, text_at, next_word}
-
-abbrev pub with_store : MachineState → Store → MachineState
-with_store s t = record s { store = t }
+use Rattle.swi_dispatch.specs.MachineState.{MachineState, machine_estate, quiet, with_estate}
+use Rattle.swi_dispatch.specs.ModulePlans.{machine_world, with_world}
 
 abbrev pub in_supervisor : MachineState → MachineState
 in_supervisor s = record s { cpu = with_mode s.cpu Supervisor }
@@ -44,39 +45,31 @@ wrote_text_at s next at (Some text) = done (with_answer s 0 (at + length text + 
 abbrev pub generated : MachineState → ℕ → Refusal
 generated s at = if at % 4 == 0 && s.store.bytes.mapped at then refusal.Own else refusal.System BadPointer
 
--- OS_Heap, by its reason in R0: the heap is in R1, a block in R2, a size or a change of one in R3; what is answered goes to R2 and R3.
-abbrev pub heap_began : MachineState → Result MachineState Refusal
-heap_began s = bind (or_error (begun s.store (register_of s.cpu 1) (register_of s.cpu 3))) (λ r. Ok (with_store s r.0))
+-- The machine with what a family of calls leaves of the parts that it acts on: the core, and the store, the estate or the world.
+abbrev pub on_store : MachineState → Result (State × Store) Refusal → Result MachineState Refusal
+on_store s r = bind r (λ q. Ok (record s { cpu = q.0; store = q.1 }))
 
-abbrev pub heap_described : MachineState → Result MachineState Refusal
-heap_described s = bind (or_error (described s.store (register_of s.cpu 1))) (λ r. Ok (with_answer (with_answer s 2 r.0) 3 r.1))
+abbrev pub with_guest : MachineState → State × Estate → MachineState
+with_guest s q = with_estate (record s { cpu = q.0 }) q.1
 
-abbrev pub heap_got : MachineState → Result MachineState Refusal
-heap_got s = bind (or_error (got s.store (register_of s.cpu 1) (register_of s.cpu 3))) (λ r. Ok (with_answer (with_store s r.0) 2 r.1))
+abbrev pub on_estate : MachineState → Result (State × Estate) Refusal → Result MachineState Refusal
+on_estate s r = bind r (λ q. Ok (with_guest s q))
 
-abbrev pub heap_freed : MachineState → Result MachineState Refusal
-heap_freed s = bind (or_error (gave_back s.store (register_of s.cpu 1) (register_of s.cpu 2))) (λ r. Ok (with_store s r.0))
+abbrev pub on_world : MachineState → Result (State × World) Refusal → Result MachineState Refusal
+on_world s r = bind r (λ q. Ok (with_world (record s { cpu = q.0 }) q.1))
 
-abbrev pub heap_resized : MachineState → Result MachineState Refusal
-heap_resized s = bind (or_error (resized s.store (register_of s.cpu 1) (register_of s.cpu 2) (register_of s.cpu 3))) (λ r. Ok (with_answer (with_store s r.0) 2 r.1))
+-- OS_ChangeDynamicArea may change something and err.
+abbrev pub area_changing : MachineState → ℕ → Answer
+area_changing s next = record {
+  left = quiet (with_guest s (area_changed s.cpu (machine_estate s)));
+  next = next;
+  error = option_map refusal.System (change_asked s.cpu (machine_estate s)).error;
+}
 
-abbrev pub heap_changed : MachineState → Result MachineState Refusal
-heap_changed s = bind (or_error (changed s.store (register_of s.cpu 1) (register_of s.cpu 3))) (λ r. Ok (with_store s r.0))
-
-abbrev pub heap_sized : MachineState → Result MachineState Refusal
-heap_sized s = bind (or_error (block_sized s.store (register_of s.cpu 1) (register_of s.cpu 2))) (λ n. Ok (with_answer s 3 n))
-
-unfoldable pub heap_called : MachineState → Result MachineState Refusal
-heap_called s =
-    let reason : ℕ = register_of s.cpu 0 in
-    if reason == 0 then heap_began s else (
-    if reason == 1 then heap_described s else (
-    if reason == 2 then heap_got s else (
-    if reason == 3 then heap_freed s else (
-    if reason == 4 then heap_resized s else (
-    if reason == 5 then heap_changed s else (
-    if reason == 6 then heap_sized s else
-    system_error HeapBadReason))))))
+-- the error with which a call ends after it changed something
+abbrev pub moving_error : MachineState → Option SwiName → Option ErrorNumber
+moving_error s (Some swi.ChangeDynamicArea) = (change_asked s.cpu (machine_estate s)).error
+moving_error s name = None
 
 -- A call by its name and its number without the X bit; `next` is where the guest goes on. What is none of the others is a flex call, or unknown.
 unfoldable pub call_answer : MachineState → ℕ → ℕ → Option SwiName → Answer
@@ -85,11 +78,11 @@ call_answer s next number (Some swi.WriteS) = wrote_text_after s next (printable
 call_answer s next number (Some swi.Write0) = wrote_text_at s next (register_of s.cpu 0) (printable_at s.store.bytes (register_of s.cpu 0))
 call_answer s next number (Some swi.NewLine) = done s (10 ∷ 13 ∷ []) next
 call_answer s next number (Some swi.EnterOs) = done (in_supervisor s) [] next
-call_answer s next number (Some swi.Heap) = went_on s next (heap_called s)
-call_answer s next number (Some swi.Module) = went_on s next (module_reason_called s)
-call_answer s next number (Some swi.ChangeDynamicArea) = area_changed s next
-call_answer s next number (Some swi.ReadDynamicArea) = went_on s next (area_read s)
-call_answer s next number (Some swi.DynamicArea) = went_on s next (area_called s)
+call_answer s next number (Some swi.Heap) = went_on s next (on_store s (heap_called s.cpu s.store))
+call_answer s next number (Some swi.Module) = went_on s next (on_world s (module_called s.cpu (machine_world s)))
+call_answer s next number (Some swi.ChangeDynamicArea) = area_changing s next
+call_answer s next number (Some swi.ReadDynamicArea) = went_on s next (on_estate s (area_read s.cpu (machine_estate s)))
+call_answer s next number (Some swi.DynamicArea) = went_on s next (on_estate s (area_called s.cpu (machine_estate s)))
 call_answer s next number (Some swi.GenerateError) = refused s next (generated s (register_of s.cpu 0))
 call_answer s next number (Some swi.WriteI) = done s (number % 256 ∷ []) next
 call_answer s next number name = went_on s next (flex_called s name)

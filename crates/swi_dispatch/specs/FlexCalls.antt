@@ -10,8 +10,9 @@ use Rattle.arm_step.specs.State.{register_of}
 use Rattle.os_heap.specs.Store.{Store}
 use Rattle.flex_ground.specs.flex_store.specs.Calls.{FlexState, allocated, begun, extended, mid_extended, released, sized}
 use Rattle.flex_ground.specs.Ground.{flex_of, flex_state, store_flexed, with_flex_record}
-use Rattle.swi_dispatch.specs.declared.refusal.Refusal.{Refusal}
-use Rattle.swi_dispatch.specs.Answers.{or_error, system_error, with_answer}
+use Rattle.swi_dispatch_answers.specs.declared.refusal.Refusal.{Refusal}
+use Rattle.swi_dispatch.specs.Answers.{with_answer}
+use Rattle.swi_dispatch_answers.specs.Refusals.{or_error, system_error}
 use Rattle.swi_dispatch.specs.MachineState.{MachineState}
 
 -- memory and the flex store, as these calls have them

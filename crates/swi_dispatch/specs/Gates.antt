@@ -27,11 +27,12 @@ use Rattle.swi_dispatch.specs.declared.halt.Halt.TheVariants as halt
 use Rattle.swi_dispatch.specs.declared.module_steps.Next.{Next}
 use Rattle.swi_dispatch.specs.declared.module_steps.Next.TheVariants as next
 use Rattle.swi_dispatch.specs.Answers.{with_answer}
-use Rattle.swi_dispatch.specs.Errors.{error_at}
+use Rattle.swi_dispatch_answers.specs.Errors.{error_at}
 use Rattle.swi_dispatch.specs.MachineState.{MachineState, Outcome, quiet}
 use Rattle.swi_dispatch.specs.ModulePlans.{machine_world, with_world}
 use Rattle.swi_dispatch.specs.ModuleStart.{opened_at}
-use Rattle.swi_dispatch.specs.Returns.{erred, gone_back, halted, returned}
+use Rattle.swi_dispatch.specs.Returns.{erred, gone_back, halted}
+use Rattle.swi_dispatch_answers.specs.Returns.{returned}
 
 abbrev pub with_plan : MachineState → Option Plan → MachineState
 with_plan s p = record s { tables = record s.tables { plan = p } }

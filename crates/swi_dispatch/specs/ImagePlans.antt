@@ -19,10 +19,10 @@ use Rattle.instances_table.specs.Changes.{titled}
 use Rattle.instances_table.specs.Modules.{slots_of}
 use Rattle.swi_dispatch.specs.declared.image_plans.ImageRange.{ImageRange}
 use Rattle.swi_dispatch.specs.declared.image_plans.Load.{Load}
-use Rattle.swi_dispatch.specs.InstanceCalls.{string_in}
+use Rattle.swi_dispatch_answers.specs.Strings.{string_in}
 use Rattle.swi_dispatch.specs.MachineState.{MachineState, Tables, machine_estate}
 use Rattle.swi_dispatch.specs.ModulePlans.{may_begin_alone, may_finalise}
-use Rattle.swi_dispatch.specs.ModuleWords.{name_part, text_part}
+use Rattle.swi_dispatch_answers.specs.Words.{name_part, text_part}
 
 -- A module that is added takes the place of an older one of its title, whose instances are finalised.
 abbrev pub may_replace : List ℕ → Tables → Result (Unit {0}) ErrorNumber
@@ -86,7 +86,7 @@ well_named _ = Ok tt
 
 unfoldable pub instantiation_asked : MachineState → Result Plan ErrorNumber
 instantiation_asked s =
-    bind (string_in s 1) (λ words.
+    bind (string_in s.store.bytes s.cpu 1) (λ words.
     let planned = instantiation s.tables.modules (name_part words) (text_part words) in
     bind (well_named planned) (λ _.
     bind (may_finalise [] s.tables) (λ _. planned)))

@@ -1,3 +1,6 @@
+pub use Rattle.swi_dispatch_answers
+pub use Rattle.swi_dispatch_store
+pub use Rattle.swi_dispatch_modules
 pub use Rattle.arm_step
 pub use Rattle.os_heap.specs.os_heap_lists
 pub use Rattle.os_heap
@@ -6,7 +9,6 @@ pub use Rattle.flex_ground.specs.flex_store
 pub use Rattle.instances_table
 pub mod Additions
 pub mod Answers
-pub mod AreaCalls
 pub mod Boot
 pub mod Breaks
 pub mod Calls
@@ -15,15 +17,11 @@ pub mod Errors
 pub mod FlexCalls
 pub mod Gates
 pub mod ImagePlans
-pub mod InstanceCalls
 pub mod MachineState
-pub mod ModuleCalls
 pub mod ModulePlans
 pub mod ModuleStart
-pub mod ModuleWords
 pub mod OpenFrames
 pub mod Parts
 pub mod Returns
 pub mod Run
 pub mod Step
-pub mod Strings

@@ -56,6 +56,9 @@ machine_estate s = record { store = s.store; pool = s.pool; land = s.tables.land
 abbrev pub with_estate : MachineState → Estate → MachineState
 with_estate s e = record s { store = e.store; pool = e.pool; tables = record s.tables { land = e.land } }
 
+abbrev pub with_modules : MachineState → List Module → MachineState
+with_modules s modules = record s { tables = record s.tables { modules = modules } }
+
 -- the start: all pages but those mapped then are in the pool
 unfoldable pub start_of : Sizes → MachineState
 start_of s = record {

@@ -9,9 +9,10 @@ use Rattle.instances.specs.Reading.{slot_meant}
 use Rattle.flex_ground.specs.instances_ground.specs.World.{World}
 use Rattle.instances_plans.specs.Plans.{Plan}
 use Rattle.swi_dispatch_frames.specs.Busy.{has_swi_of}
-use Rattle.swi_dispatch.specs.InstanceCalls.{string_in, with_modules}
+use Rattle.swi_dispatch.specs.MachineState.{with_modules}
+use Rattle.swi_dispatch_answers.specs.Strings.{string_in}
 use Rattle.swi_dispatch.specs.MachineState.{MachineState, Tables, machine_estate, with_estate}
-use Rattle.swi_dispatch.specs.ModuleWords.{name_part, text_part}
+use Rattle.swi_dispatch_answers.specs.Words.{name_part, text_part}
 
 -- what module calls act on, and the machine after one of their actions
 abbrev pub machine_world : MachineState → World
@@ -42,7 +43,7 @@ plan_alone s p = record { world = machine_world s; plan = p }
 -- reason 3, reinitialise: R1 points to a name and a text
 abbrev pub reinit_planned : MachineState → Result Plan ErrorNumber
 reinit_planned s =
-    bind (string_in s 1) (λ words.
+    bind (string_in s.store.bytes s.cpu 1) (λ words.
     bind (slot_meant s.tables.modules (name_part words)) (λ slot.
     bind (may_finalise (slot ∷ []) s.tables) (λ _.
     reinitialisation s.tables.modules (name_part words) (text_part words))))
@@ -50,7 +51,7 @@ reinit_planned s =
 -- reason 4, delete: R1 points to a name
 abbrev pub delete_planned : MachineState → Result Plan ErrorNumber
 delete_planned s =
-    bind (string_in s 1) (λ name.
+    bind (string_in s.store.bytes s.cpu 1) (λ name.
     bind (slot_meant s.tables.modules name) (λ slot.
     bind (may_finalise (slot ∷ []) s.tables) (λ _.
     deletion s.tables.modules name)))

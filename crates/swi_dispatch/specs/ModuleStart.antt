@@ -11,7 +11,7 @@ use Rattle.instances.specs.Reading.{start_found}
 use Rattle.flex_ground.specs.instances_ground.specs.World.{with_text}
 use Rattle.instances_plans.specs.Code.{private_of}
 use Rattle.swi_dispatch.specs.declared.module_start.Opening.{Opening}
-use Rattle.swi_dispatch.specs.InstanceCalls.{string_in}
+use Rattle.swi_dispatch_answers.specs.Strings.{string_in}
 use Rattle.swi_dispatch.specs.MachineState.{MachineState, machine_estate, with_estate}
 
 -- R1 points to the name of an instance, R2 to a text; no module code may be under way
@@ -23,8 +23,8 @@ opening_of start text = record { start = start; text = record { items = text } }
 
 unfoldable pub opening_asked : MachineState → Result Opening ErrorNumber
 opening_asked s =
-    bind (string_in s 1) (λ name.
-    bind (string_in s 2) (λ text.
+    bind (string_in s.store.bytes s.cpu 1) (λ name.
+    bind (string_in s.store.bytes s.cpu 2) (λ text.
     bind (start_found s.tables.modules name) (λ start.
     unless_open s (opening_of start text))))
 

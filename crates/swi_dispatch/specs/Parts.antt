@@ -15,7 +15,7 @@ use Rattle.instances.specs.Naming.{slots_of_plan}
 use Rattle.instances.specs.Turns.{IsUnderWay, MayGoOn}
 use Rattle.swi_dispatch_frames.specs.Busy.{has_swi_of}
 use Rattle.swi_dispatch.specs.declared.halt.Halt.{Halt}
-use Rattle.swi_dispatch.specs.declared.refusal.Refusal.{Refusal}
+use Rattle.swi_dispatch_answers.specs.declared.refusal.Refusal.{Refusal}
 use Rattle.swi_dispatch.specs.Answers.{Answer}
 use Rattle.swi_dispatch.specs.MachineState.{MachineState, Outcome, Tables, start_of}
 use Rattle.swi_dispatch.specs.ModulePlans.{machine_world}

@@ -1,28 +1,17 @@
 -- How a call goes back to its caller, and what an error is to a caller that takes none (RISC OS 3 Programmer's Reference Manual, "An introduction to
 -- SWIs" and "Generating and handling errors"; that nothing is done then is this project's own).
-use Rattle.std.specs.Prelude.{ℕ, Bool, true, false, ◌+◌, ◌*◌, ◌/◌, ◌%◌, ◌^◌, Some}
+use Rattle.std.specs.Prelude.{ℕ, Bool, true, false, Some}
 use Rattle.profile.specs.declared.fault.Fault.TheVariants.{ErrorStop}
-use Rattle.arm_step.specs.declared.psr.Mode.TheVariants.{Supervisor}
 use Rattle.arm_step.specs.declared.psr.Psr.{Psr}
-use Rattle.arm_step.specs.Psr.{psr_bits}
-use Rattle.arm_step.specs.State.{State, with_register_in, with_overflow, with_pc}
 use Rattle.swi_dispatch.specs.declared.halt.Halt.{Halt}
 use Rattle.swi_dispatch.specs.declared.halt.Halt.TheVariants as halt
-use Rattle.swi_dispatch.specs.declared.refusal.Refusal.{Refusal}
+use Rattle.swi_dispatch_answers.specs.declared.refusal.Refusal.{Refusal}
+use Rattle.swi_dispatch_answers.specs.Returns.{returned}
 use Rattle.swi_dispatch.specs.MachineState.{MachineState, Outcome, quiet}
 use Rattle.swi_dispatch.specs.Errors.{error_number, with_error}
 
 abbrev pub halted : MachineState → Halt → Outcome
 halted s h = quiet (record s { halt = Some h })
-
--- The return address in the link register of supervisor mode, with the caller's status (the status before the call).
-abbrev pub return_word : Psr → ℕ → ℕ
-return_word caller next = psr_bits caller + next / 4 % 2 ^ 24 * 4
-
--- A call goes back: V says whether it was refused, R14 of supervisor mode is the return address, and the guest goes on there.
-unfoldable pub returned : Psr → State → Bool → ℕ → State
-returned caller cpu overflow next =
-    with_pc (with_register_in Supervisor (with_overflow cpu overflow) 14 (return_word caller next)) next
 
 abbrev pub gone_back : Psr → MachineState → Bool → ℕ → MachineState
 gone_back caller s overflow next = record s { cpu = returned caller s.cpu overflow next }

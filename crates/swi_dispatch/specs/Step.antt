@@ -5,6 +5,9 @@ use Rattle.profile.specs.declared.error.ErrorNumber.TheVariants.{BadString, Fram
 use Rattle.profile.specs.declared.swi.SwiName.{SwiName}
 use Rattle.profile.specs.declared.swi.SwiName.TheVariants as swi
 use Rattle.profile.specs.SwiNames.{swi_of}
+use Rattle.profile.specs.Reasons.{module_reason}
+use Rattle.profile.specs.declared.reason.ModuleReason.{ModuleReason}
+use Rattle.profile.specs.declared.reason.ModuleReason.TheVariants as reason
 use Rattle.profile.specs.Outcome.{bind}
 use Rattle.profile.specs.Word.{bit_of}
 use Rattle.address_map.specs.Bytes.{Bytes}
@@ -23,14 +26,14 @@ use Rattle.swi_dispatch.specs.declared.halt.Halt.{Halt}
 use Rattle.swi_dispatch.specs.declared.halt.Halt.TheVariants as halt
 use Rattle.instances_table.specs.declared.parts.Handler.{Handler}
 use Rattle.instances_table.specs.Lookup.{handler_of}
-use Rattle.swi_dispatch.specs.declared.refusal.Refusal.{Refusal}
-use Rattle.swi_dispatch.specs.declared.refusal.Refusal.TheVariants as refusal
+use Rattle.swi_dispatch_answers.specs.declared.refusal.Refusal.{Refusal}
+use Rattle.swi_dispatch_answers.specs.declared.refusal.Refusal.TheVariants as refusal
 use Rattle.swi_dispatch.specs.declared.module_start.Opening.{Opening}
 use Rattle.swi_dispatch.specs.MachineState.{MachineState, Outcome, quiet, with_memory}
 use Rattle.swi_dispatch.specs.ModulePlans.{Planned, clear_planned, delete_planned, plan_alone, reinit_planned, tidy_planned, with_world}
 use Rattle.swi_dispatch.specs.ImagePlans.{instantiation_asked}
 use Rattle.swi_dispatch.specs.ModuleStart.{module_opened, opening_asked}
-use Rattle.swi_dispatch.specs.ModuleWords.{host_string}
+use Rattle.swi_dispatch_answers.specs.Words.{host_string}
 use Rattle.swi_dispatch.specs.declared.module_steps.Next.{Next}
 use Rattle.swi_dispatch.specs.Additions.{copy_planned, insertion_planned, load_planned, named_load_planned}
 use Rattle.swi_dispatch.specs.Answers.{Answer, refused}
@@ -97,21 +100,22 @@ begun_by s call (Ok n) = quiet (went_to s call n)
 abbrev pub begun_alone : MachineState → Bool → ℕ → Result Plan ErrorNumber → Outcome
 begun_alone s x next r = begun s x next false (bind r (λ p. Ok (plan_alone s p)))
 
--- OS_Module, by its reason in R0
+-- OS_Module, by its reason in R0: where no module code is to run, and where there is no such reason, it is a call as any other.
+abbrev pub os_module_called_for : List Entry → MachineState → Bool → ℕ → ℕ → Option ModuleReason → Outcome
+os_module_called_for images s x next number (Some reason.Run) = begun s x next true (named_load_planned images s true)
+os_module_called_for images s x next number (Some reason.Load) = begun s x next false (named_load_planned images s false)
+os_module_called_for images s x next number (Some reason.Enter) = module_entered s x next (opening_asked s)
+os_module_called_for images s x next number (Some reason.Reinit) = begun_alone s x next (reinit_planned s)
+os_module_called_for images s x next number (Some reason.Delete) = begun_alone s x next (delete_planned s)
+os_module_called_for images s x next number (Some reason.Tidy) = begun_alone s x next (tidy_planned s next)
+os_module_called_for images s x next number (Some reason.Clear) = begun_alone s x next (clear_planned s)
+os_module_called_for images s x next number (Some reason.Insert) = begun s x next false (insertion_planned s)
+os_module_called_for images s x next number (Some reason.InsertCopy) = begun s x next false (copy_planned s)
+os_module_called_for images s x next number (Some reason.Instantiate) = begun_alone s x next (instantiation_asked s)
+os_module_called_for images s x next number other = ended s x (call_answer s next number (Some swi.Module))
+
 unfoldable pub os_module_called : List Entry → MachineState → Bool → ℕ → ℕ → Outcome
-os_module_called images s x next number =
-    let reason : ℕ = register_of s.cpu 0 in
-    if reason == 0 then begun s x next true (named_load_planned images s true) else (
-    if reason == 1 then begun s x next false (named_load_planned images s false) else (
-    if reason == 2 then module_entered s x next (opening_asked s) else (
-    if reason == 3 then begun_alone s x next (reinit_planned s) else (
-    if reason == 4 then begun_alone s x next (delete_planned s) else (
-    if reason == 8 then begun_alone s x next (tidy_planned s next) else (
-    if reason == 9 then begun_alone s x next (clear_planned s) else (
-    if reason == 10 then begun s x next false (insertion_planned s) else (
-    if reason == 11 then begun s x next false (copy_planned s) else (
-    if reason == 14 then begun_alone s x next (instantiation_asked s) else
-    ended s x (call_answer s next number (Some swi.Module)))))))))))
+os_module_called images s x next number = os_module_called_for images s x next number (module_reason (register_of s.cpu 0))
 
 -- A call without a name is looked for among the modules.
 abbrev pub called_by : List Entry → MachineState → Bool → ℕ → ℕ → Option SwiName → Outcome

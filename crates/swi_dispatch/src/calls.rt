@@ -2,24 +2,22 @@
 
 ghost use Rattle.std.specs.Prelude.{◌≡◌, ◌<◌, ◌≤◌, ◌^◌, false, [], ◌∷◌, ◌++◌, None, length, OnErr};
 ghost use Rattle.swi_dispatch.specs.Step.{is_exit};
-ghost use Rattle.swi_dispatch.specs.Returns.{returned};
 
 use crate::halt::Halt;
 use crate::machine::{MOST_PRINTED, Machine};
-use crate::refusal::Refusal;
-use crate::strings::{TextEnd, next_word, text_at};
-use arm_step::{Cpu, Mode, Psr};
+use arm_step::{Mode, Psr};
 use arrayvec::ArrayVec;
 use image_loader::Images;
-use profile::memory_map::ADDRESS_LIMIT;
-use profile::{ErrorNumber, Fault, SwiName};
+use profile::{ErrorNumber, Fault, ModuleReason, SwiName};
+use swi_dispatch_answers::returns::return_to;
+use swi_dispatch_answers::strings::{next_word, text_at};
+use swi_dispatch_answers::{Refusal, TextEnd};
 
 impl Machine {
     ghost use Rattle.swi_dispatch.specs.MachineState.{quiet};
     ghost use Rattle.swi_dispatch.specs.Parts.{state_of, outcome_of, IsInStep, OnlySteps, OnlyState, Answers};
     ghost use Rattle.swi_dispatch.specs.Answers.{with_answer};
-    ghost use Rattle.swi_dispatch.specs.AreaCalls.{moving_error};
-    ghost use Rattle.swi_dispatch.specs.Calls.{call_answer, wrote_text_after, wrote_text_at, printable_at, in_supervisor};
+    ghost use Rattle.swi_dispatch.specs.Calls.{call_answer, moving_error, wrote_text_after, wrote_text_at, printable_at, in_supervisor};
     ghost use Rattle.swi_dispatch.specs.Step.{called, ended, os_module_called};
     ghost use Rattle.swi_dispatch.specs.Returns.{gone_back};
     ghost use Rattle.arm_step.specs.State.{register_of};
@@ -52,29 +50,29 @@ impl Machine {
         ensures after { outcome_of self.new ≡ os_module_called images.now (state_of self.old) is_x next number }
         ensures others { OnlySteps self.old self.new }
     {
-        match self.cpu().register(0) {
-            0 => self.load_named(images, is_x, next, true),
-            1 => self.load_named(images, is_x, next, false),
-            2 => self.enter_module(is_x, next),
-            3 => {
+        match ModuleReason::of(self.cpu().register(0)) {
+            Some(ModuleReason::Run) => self.load_named(images, is_x, next, true),
+            Some(ModuleReason::Load) => self.load_named(images, is_x, next, false),
+            Some(ModuleReason::Enter) => self.enter_module(is_x, next),
+            Some(ModuleReason::Reinit) => {
                 let planned = self.plan_reinit();
                 self.begin(is_x, next, planned)
             }
-            4 => {
+            Some(ModuleReason::Delete) => {
                 let planned = self.plan_delete();
                 self.begin(is_x, next, planned)
             }
-            8 => {
+            Some(ModuleReason::Tidy) => {
                 let planned = self.plan_tidy(next);
                 self.begin(is_x, next, planned)
             }
-            9 => {
+            Some(ModuleReason::Clear) => {
                 let planned = self.plan_clear();
                 self.begin(is_x, next, planned)
             }
-            10 => self.insert_image(is_x, next),
-            11 => self.copy_image(is_x, next),
-            14 => {
+            Some(ModuleReason::Insert) => self.insert_image(is_x, next),
+            Some(ModuleReason::InsertCopy) => self.copy_image(is_x, next),
+            Some(ModuleReason::Instantiate) => {
                 let planned = self.instantiation_asked();
                 self.begin(is_x, next, planned)
             }
@@ -239,17 +237,6 @@ impl Machine {
     {
         return_to(&mut self.cpu, caller, is_refused, next);
     }
-}
-
-// The return address, with the caller's status, goes to the link register of supervisor mode.
-#[tactic(auto, unfolding(crate::specs::Returns::returned))]
-pub(crate) fn return_to(cpu: &mut Cpu, caller: Psr, is_refused: bool, next: u32)
-    ensures { cpu.new ≡ returned caller cpu.old is_refused next }
-{
-    let address = next % ADDRESS_LIMIT / 4 * 4;
-    cpu.set_overflow(is_refused);
-    cpu.set_register_in(Mode::Supervisor, 14, caller.bits() + address);
-    cpu.set_pc(next);
 }
 
 fn is_exit(name: Option<SwiName>) -> bool

@@ -2,18 +2,14 @@
 //! handling errors").
 
 ghost use Rattle.std.specs.Prelude.{ℕ, ◌≡◌, false, true};
-ghost use Rattle.profile.specs.ErrorNames.{error_code, error_name};
-ghost use Rattle.address_map.specs.Bytes.{AreMapped};
-ghost use Rattle.address_map.specs.Memory.{bytes_of, is_mapped, layout, class_of};
-ghost use Rattle.swi_dispatch.specs.Errors.{error_at, error_block};
 
 use crate::halt::Halt;
 use crate::machine::Machine;
-use crate::refusal::Refusal;
-use address_map::AddressMap;
 use arm_step::Psr;
 use profile::memory_map::ERROR_BLOCK;
-use profile::{ErrorNumber, Fault, error_text};
+use profile::{ErrorNumber, Fault};
+use swi_dispatch_answers::Refusal;
+use swi_dispatch_answers::errors::{error_at, write_error};
 
 impl Machine {
     ghost use Rattle.swi_dispatch.specs.Parts.{state_of, outcome_of, IsInStep, OnlySteps, OnlyState};
@@ -106,29 +102,4 @@ impl Machine {
         self.cpu.set_register(0, ERROR_BLOCK);
         write_error(&mut self.memory, error);
     }
-}
-
-/// The number of the error whose block stands at an address, or that of `BadPointer` where none can stand there.
-#[tactic(auto, unfolding(crate::specs::Errors::error_at))]
-pub(crate) fn error_at(memory: &AddressMap, at: u32) -> u32
-    ensures { result ≡ error_at (bytes_of memory.now) at }
-{
-    let no_block = ErrorNumber::BadPointer.number();
-    if at % 4 != 0 {
-        return no_block;
-    }
-    memory.load_word(at).unwrap_or(no_block)
-}
-
-// The number and the text of an error, with a zero byte after it, go to the error block.
-fn write_error(memory: &mut AddressMap, error: ErrorNumber)
-    requires { AreMapped (is_mapped memory.old) 0x01C02100 256 }
-    ensures bytes { bytes_of memory.new ≡ error_block (bytes_of memory.old) (error_code error) (error_name error) }
-    ensures layout { layout memory.new ≡ layout memory.old }
-    ensures marks { class_of memory.new ≡ class_of memory.old }
-{
-    let text = error_text(error).as_bytes();
-    memory.put_word(ERROR_BLOCK, error.number());
-    memory.put_bytes(ERROR_BLOCK + 4, text);
-    memory.put_bytes(ERROR_BLOCK + 4 + text.len() as u32, &[0]);
 }

@@ -5,8 +5,8 @@ ghost use Rattle.profile.specs.Outcome.{Gives, Leaves};
 ghost use Rattle.swi_dispatch.specs.FlexCalls.{word_of};
 
 use crate::machine::Machine;
-use crate::refusal::Refusal;
 use profile::{ErrorNumber, SwiName};
+use swi_dispatch_answers::Refusal;
 
 impl Machine {
     ghost use Rattle.swi_dispatch.specs.Parts.{state_of, OnlyState};

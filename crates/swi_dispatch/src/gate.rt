@@ -5,14 +5,14 @@ ghost use Rattle.swi_dispatch_frames.specs.Busy.{is_swi};
 ghost use Rattle.swi_dispatch_frames.specs.Frames.{innermost};
 ghost use Rattle.swi_dispatch.specs.Gates.{outcome_left};
 
-use crate::calls::return_to;
-use crate::errors::error_at;
 use crate::halt::Halt;
 use crate::machine::Machine;
 use crate::module_steps::{Next, next_of};
 use arm_step::Cpu;
 use instances_plans::Outcome;
 use profile::Fault;
+use swi_dispatch_answers::errors::error_at;
+use swi_dispatch_answers::returns::return_to;
 use swi_dispatch_frames::{Call, Frame, FrameKind};
 
 impl Machine {

@@ -10,12 +10,12 @@ ghost use Rattle.swi_dispatch_frames.specs.Busy.{has_swi_of};
 ghost use Rattle.swi_dispatch.specs.ImagePlans.{well_named};
 
 use crate::machine::Machine;
-use crate::module_words::{name_part, text_part};
 use flex_ground::rma::Rma;
 use image_loader::Images;
 use instances_plans::Plan;
 use module_header::Header;
 use profile::ErrorNumber;
+use swi_dispatch_answers::words::{name_part, text_part};
 
 /// What a load is given.
 #[derive(Clone, Copy)]

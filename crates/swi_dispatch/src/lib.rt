@@ -2,7 +2,6 @@
 #![tactic(auto)]
 
 pub mod additions;
-pub mod area_calls;
 pub mod boot_error;
 pub mod breaks;
 pub mod calls;
@@ -10,21 +9,16 @@ pub mod errors;
 pub mod flex_calls;
 pub mod gate;
 pub mod halt;
-pub mod heap_calls;
 pub mod image_plans;
-pub mod instance_calls;
 pub mod laws;
 pub mod machine;
-pub mod module_calls;
 pub mod module_plans;
 pub mod module_start;
 pub mod module_steps;
 pub mod module_swis;
-pub mod module_words;
-pub mod refusal;
 pub mod running;
 pub mod spare;
-pub mod strings;
+pub mod store_calls;
 
 pub use arm_step;
 pub use boot_error::BootError;
@@ -37,6 +31,6 @@ pub use instances_table;
 pub use machine::Machine;
 pub use module_header;
 pub use os_heap;
-pub use refusal::Refusal;
 pub use running::Ran;
-pub use strings::TextEnd;
+pub use swi_dispatch_answers;
+pub use swi_dispatch_answers::{Refusal, TextEnd};

@@ -9,7 +9,6 @@ ghost use Rattle.swi_dispatch.specs.Step.{without_x};
 
 use crate::boot_error::BootError;
 use crate::halt::Halt;
-use crate::module_words::host_string;
 use crate::spare::Spare;
 use address_map::AddressMap;
 use arm_step::{Cpu, Turn, step};
@@ -25,6 +24,7 @@ use profile::word::is_bit_set;
 use profile::{Config, ErrorNumber, Fault, Stop};
 use std::alloc::{AllocError, Global};
 use std::marker::Model;
+use swi_dispatch_answers::words::host_string;
 use swi_dispatch_frames::Frames;
 
 /// The most bytes that a step can print.

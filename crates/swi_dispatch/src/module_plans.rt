@@ -5,9 +5,9 @@ ghost use Rattle.std.specs.Prelude.{◌≡◌, [], false, IfOk};
 ghost use Rattle.swi_dispatch_frames.specs.Busy.{has_swi_of};
 
 use crate::machine::Machine;
-use crate::module_words::{name_part, text_part};
 use instances_plans::Plan;
 use profile::ErrorNumber;
+use swi_dispatch_answers::words::{name_part, text_part};
 use swi_dispatch_frames::MOST_FRAMES;
 
 impl Machine {

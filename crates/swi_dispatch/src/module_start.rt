@@ -4,7 +4,6 @@ ghost use Rattle.std.specs.Prelude.{◌≡◌, ◌<◌, ◌≤◌, ◌^◌, fals
 ghost use Rattle.swi_dispatch.specs.ModuleStart.{as_user};
 
 use crate::machine::Machine;
-use crate::strings::MOST_TEXT;
 use arm_step::{Cpu, Mode, Psr};
 use arrayvec::ArrayVec;
 use flex_ground::instances_ground::put_text;
@@ -12,6 +11,7 @@ use instances::Start;
 use instances_plans::private_word;
 use profile::ErrorNumber;
 use profile::memory_map::ENVIRONMENT_TEXT;
+use swi_dispatch_answers::MAX_TEXT;
 
 /// A user's program finds all flags clear.
 const USER: Psr = Psr {
@@ -28,7 +28,7 @@ const USER: Psr = Psr {
 #[derive(Drop)]
 pub struct Opening {
     pub start: Start,
-    pub text: ArrayVec<u8, MOST_TEXT>,
+    pub text: ArrayVec<u8, MAX_TEXT>,
 }
 
 impl Machine {

@@ -4,9 +4,9 @@ ghost use Rattle.std.specs.Prelude.{◌≡◌, ◌<◌, ◌^◌, false, true, le
 ghost use Rattle.instances_plans.specs.Doable.{is_used};
 
 use crate::machine::Machine;
-use crate::refusal::Refusal;
 use instances::Handler;
 use profile::ErrorNumber;
+use swi_dispatch_answers::Refusal;
 use swi_dispatch_frames::{Call, Frame, FrameKind, MOST_FRAMES, enter_swi};
 
 impl Machine {

@@ -7,13 +7,13 @@ ghost use Rattle.flex_ground.specs.instances_ground.specs.World.{world_of};
 ghost use Rattle.instances.specs.Turns.{IsUnderWay};
 ghost use Rattle.swi_dispatch.specs.Gates.{error_ahead};
 
-use crate::errors::error_at;
 use address_map::AddressMap;
 use dynamic_areas::Areas;
 use instances::Instances;
 use instances_plans::{Ended, Outcome, Plan};
 use profile::Config;
 use std::alloc::{AllocError, Global};
+use swi_dispatch_answers::errors::error_at;
 
 /// What a call is tried on.
 #[derive(Drop)]

@@ -1,12 +1,20 @@
 use Rattle.std.proofs.Common.{refl, ap, ◌∙◌}
-use Rattle.swi_dispatch.proofs.AreasKept.{changed_kept}
-use Rattle.swi_dispatch.specs.Parts.{Parts}
-use Rattle.swi_dispatch.proofs.Kept.{well_called}
+use Rattle.swi_dispatch.specs.MachineState.{MachineState}
+use Rattle.swi_dispatch.specs.Parts.{Parts, state_of}
+use Rattle.swi_dispatch.proofs.Kept.{over}
+use Rattle.swi_dispatch.specs.Calls.{with_guest}
+use Rattle.swi_dispatch.proofs.StoreCalls.{well_left}
 use Rattle.swi_dispatch.proofs.machine.Machine.resize_area.Goals as goal
 
 pub invariant_of-self : goal.invariant_of-self
-invariant_of-self c =
-    let well = c.self.invariant in
-    let did = c.change.ensures in
-    let kept = changed_kept _ _ _ _ _ _ _ well.areas did.areas did.answer did.store in
-    well_called _ _ well did.areas did.classes kept.others refl refl refl kept.flex refl (ap (λ (p : Parts). p.is_fresh) c.self.view_is ∙ c.requires.stepped)
+invariant_of-self c = well_left _ _ c.self.invariant c.change_area.ensures.leaves refl (ap (λ (p : Parts). p.is_fresh) c.self.view_is ∙ c.requires.stepped)
+
+pub returns-clause-error : goal.returns-clause-error
+unfolding state_of
+returns-clause-error c = rw (← c.self.view_is) c.change_area.ensures.error
+
+pub returns-clause-state : goal.returns-clause-state
+unfolding state_of
+returns-clause-state c =
+    let s : MachineState = over c.self.inside.memory c.self.inside.cpu (record { land = c.self.inside.areas; modules = c.self.inside.instances; frames = c.self.inside.frames; plan = c.self.inside.plan; flex = c.self.inside.flex }) c.self.inside.halt in
+    rw (← c.self.view_is) (ap (with_guest s) c.change_area.ensures.state)

@@ -1,0 +1,18 @@
+use Rattle.std.proofs.Common.{refl, ap, ◌∙◌}
+use Rattle.swi_dispatch.specs.Parts.{Parts, state_of}
+use Rattle.swi_dispatch.proofs.StoreCalls.{same_pages, store_left, well_left}
+use Rattle.swi_dispatch.proofs.machine.Machine.call_heap.Goals as goal
+
+pub call_heap-requires-clause-sound : goal.call_heap-requires-clause-sound
+call_heap-requires-clause-sound c = c.self.invariant.areas.ground.sound
+
+pub invariant_of-self : goal.invariant_of-self
+invariant_of-self c =
+    well_left _ _ c.self.invariant (c.call_heap.ensures.leaves _ c.self.invariant.areas) refl (ap (λ (p : Parts). p.is_fresh) c.self.view_is ∙ c.requires.stepped)
+
+pub returns-clause-state : goal.returns-clause-state
+unfolding state_of
+returns-clause-state c =
+    let left = c.call_heap.ensures.leaves _ c.self.invariant.areas in
+    rw (← c.self.view_is) (store_left _ _ _ _ (record { land = c.self.inside.areas; modules = c.self.inside.instances; frames = c.self.inside.frames; plan = c.self.inside.plan; flex = c.self.inside.flex }) c.self.inside.halt _ _
+    (same_pages _ _ _ c.self.invariant.areas left.estate) c.call_heap.ensures.state)

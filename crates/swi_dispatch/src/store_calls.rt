@@ -1,0 +1,120 @@
+//! The calls on heaps, areas and modules, on the machine's core, memory, areas and modules.
+
+ghost use Rattle.std.specs.Prelude.{ℕ, ◌≡◌, ◌≤◌, [], Some, false};
+ghost use Rattle.profile.specs.Outcome.{Leaves};
+ghost use Rattle.profile.specs.ErrorNames.{error_code};
+ghost use Rattle.profile.specs.declared.error.ErrorNumber.{ErrorNumber};
+ghost use Rattle.profile.specs.declared.fault.Fault.TheVariants.{ErrorStop};
+ghost use Rattle.swi_dispatch_store.specs.Areas.{area_called, area_changed, area_read, change_asked};
+ghost use Rattle.swi_dispatch_store.specs.Heaps.{heap_called};
+ghost use Rattle.swi_dispatch_modules.specs.Calls.{module_called};
+
+use crate::halt::Halt;
+use crate::machine::Machine;
+use arrayvec::ArrayVec;
+use profile::{ErrorNumber, SwiName};
+use swi_dispatch_answers::strings::string_in;
+use swi_dispatch_answers::{MAX_TEXT, Refusal};
+use swi_dispatch_modules::call_module;
+use swi_dispatch_store::{call_area, call_heap, change_area, change_error, read_area};
+
+impl Machine {
+    ghost use Rattle.swi_dispatch_answers.specs.Strings.{bytes_read, string_in};
+    ghost use Rattle.swi_dispatch.specs.Calls.{area_changing, call_answer, moving_error, on_estate, on_store, on_world, with_guest};
+    ghost use Rattle.swi_dispatch.specs.MachineState.{machine_estate};
+    ghost use Rattle.swi_dispatch.specs.ModulePlans.{machine_world};
+    ghost use Rattle.swi_dispatch.specs.Parts.{state_of, outcome_of, Answers, IsInStep, OnlySteps, OnlyState};
+    ghost use Rattle.swi_dispatch.specs.Step.{ended};
+    ghost use Rattle.swi_dispatch.specs.Returns.{halted};
+
+    /// The string that a register points to, whole.
+    pub(crate) fn string_in(&self, number: u32) -> Result<ArrayVec<u8, MAX_TEXT>, ErrorNumber>
+        requires { number ≤ 14 }
+        ensures { let s = state_of self.now in bytes_read result ≡ string_in s.store.bytes s.cpu number }
+    {
+        string_in(self.cpu(), self.memory(), number)
+    }
+
+    /// OS_Heap.
+    pub(crate) fn call_heap(&mut self) -> Result<(), Refusal>
+        requires stepped { self.old.is_fresh ≡ false }
+        ensures state { let s = state_of self.old in
+            Leaves s (on_store s (heap_called s.cpu s.store)) result (state_of self.new) }
+        ensures others { OnlyState self.old self.new }
+    {
+        call_heap(&mut self.cpu, &mut self.memory)
+    }
+
+    /// OS_ReadDynamicArea.
+    pub(crate) fn read_area(&mut self) -> Result<(), Refusal>
+        requires stepped { self.old.is_fresh ≡ false }
+        ensures state { let s = state_of self.old in
+            Leaves s (on_estate s (area_read s.cpu (machine_estate s))) result (state_of self.new) }
+        ensures others { OnlyState self.old self.new }
+    {
+        read_area(&mut self.cpu, &self.memory, &self.areas)
+    }
+
+    /// OS_DynamicArea.
+    pub(crate) fn call_area(&mut self) -> Result<(), Refusal>
+        requires stepped { self.old.is_fresh ≡ false }
+        ensures state { let s = state_of self.old in
+            Leaves s (on_estate s (area_called s.cpu (machine_estate s))) result (state_of self.new) }
+        ensures others { OnlyState self.old self.new }
+    {
+        call_area(&mut self.cpu, &mut self.memory, &mut self.areas)
+    }
+
+    /// OS_Module, the reasons that run no module code.
+    pub(crate) fn call_module_reason(&mut self) -> Result<(), Refusal>
+        requires stepped { self.old.is_fresh ≡ false }
+        ensures state { let s = state_of self.old in
+            Leaves s (on_world s (module_called s.cpu (machine_world s))) result (state_of self.new) }
+        ensures others { OnlyState self.old self.new }
+    {
+        call_module(
+            &mut self.cpu,
+            &mut self.memory,
+            &mut self.areas,
+            &mut self.instances,
+        )
+    }
+
+    /// OS_ChangeDynamicArea. Pages move even where not all can.
+    pub(crate) fn change_area(&mut self, next: u32) -> Result<u32, Refusal>
+        requires step { IsInStep self.old }
+        ensures done { Answers (area_changing (state_of self.old) next) next result (outcome_of self.new) }
+        ensures silent { self.new.printed ≡ [] }
+        ensures others { OnlySteps self.old self.new }
+    {
+        match self.resize_area() {
+            None => Ok(next),
+            Some(error) => Err(Refusal::System(error)),
+        }
+    }
+
+    fn resize_area(&mut self) -> Option<ErrorNumber>
+        requires stepped { self.old.is_fresh ≡ false }
+        ensures error { let s = state_of self.old in result ≡ (change_asked s.cpu (machine_estate s)).error }
+        ensures state { let s = state_of self.old in
+            state_of self.new ≡ with_guest s (area_changed s.cpu (machine_estate s)) }
+        ensures others { OnlyState self.old self.new }
+    {
+        change_area(&mut self.cpu, &mut self.memory, &mut self.areas)
+    }
+
+    /// The error with which a call would end after it changed something. Without the X bit it is a fault instead, and nothing is changed.
+    #[tactic(auto, using(crate::proofs::AreaAnswers::moving_stop), unfolding(crate::specs::Parts::state_of))]
+    pub(crate) fn moving_error(&self, name: Option<SwiName>) -> Option<ErrorNumber>
+        ensures value { result ≡ moving_error (state_of self.now) name }
+        ensures stop { (e : ErrorNumber) → result ≡ Some e → (next number : ℕ)
+            → ended (state_of self.now) false (call_answer (state_of self.now) next number name)
+            ≡ halted (state_of self.now) (Halt.Fault (ErrorStop (error_code e))) }
+    {
+        self.cpu.has_all_registers();
+        match name {
+            Some(SwiName::ChangeDynamicArea) => change_error(&self.cpu, &self.memory, &self.areas),
+            _ => None,
+        }
+    }
+}

@@ -1,0 +1,3 @@
+mod ErrorBlock
+mod StringLemmas
+pub mod WordLemmas

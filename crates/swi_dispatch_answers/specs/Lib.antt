@@ -1,0 +1,7 @@
+pub use Rattle.arm_step
+pub use Rattle.address_map
+pub mod Errors
+pub mod Refusals
+pub mod Returns
+pub mod Strings
+pub mod Words

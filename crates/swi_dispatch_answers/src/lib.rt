@@ -1,0 +1,14 @@
+//! What all store calls share: the strings that guests give, how a call is refused, and the block that an error stands in.
+//!
+//! Its calls read strings (`text_at`, `string_in`) and the words in them (`name_part`, `text_part`), read and write error blocks
+//! (`error_at`, `write_error`), and bring a guest back from a call (`return_to`). None keeps anything between calls.
+#![tactic(auto)]
+
+pub mod errors;
+pub mod refusal;
+pub mod returns;
+pub mod strings;
+pub mod words;
+
+pub use refusal::Refusal;
+pub use strings::{MAX_TEXT, TextEnd};

@@ -1,0 +1,22 @@
+ghost use Rattle.std.specs.Prelude.{◌≡◌};
+
+use profile::ErrorNumber;
+
+/// Why a store call was refused.
+#[derive(Clone, Copy, Debug, PartialEq, Eq)]
+pub enum Refusal {
+    /// An error of the system, which goes to the error block with its text.
+    System(ErrorNumber),
+    /// The guest's own error: R0 points to its block already.
+    Own,
+}
+
+impl From<ErrorNumber> for Refusal {
+    ghost use Rattle.swi_dispatch_answers.specs.declared.refusal.Refusal.TheVariants.{System};
+
+    ghost from_gives = { λ error refusal. refusal ≡ System error };
+
+    fn from(error: ErrorNumber) -> Refusal {
+        Refusal::System(error)
+    }
+}

@@ -1,0 +1,50 @@
+ghost use Rattle.std.specs.Prelude.{◌≡◌};
+ghost use Rattle.profile.specs.Outcome.{Leaves};
+ghost use Rattle.rma.specs.os_heap.specs.Store.{AreClasses};
+ghost use Rattle.rma.specs.dynamic_areas.specs.Ground.{IsEstate, estate_of};
+ghost use Rattle.instances_ground.specs.World.{world_of};
+ghost use Rattle.swi_dispatch_modules.specs.Calls.{module_called};
+ghost use Rattle.swi_dispatch_modules.specs.Leaving.{LeavesWorld};
+
+use crate::area::{claim_block, describe_area, extend_block, free_block};
+use crate::naming::{find_instance, prefer_instance, rename_instance, tell_instance};
+use address_map::AddressMap;
+use arm_step::Cpu;
+use instances::Instances;
+use profile::{ErrorNumber, ModuleReason};
+use rma::dynamic_areas::Areas;
+use swi_dispatch_store::swi_dispatch_answers::Refusal;
+
+/// OS_Module, by its reason in R0, where no module code is to run. A block is in R2, a size or a change of one in R3; names are strings
+/// (RISC OS 3 Programmer's Reference Manual, "OS_Module").
+///
+/// # Errors
+///
+/// `ModuleBadReason` where it is none of these reasons, `BadString` where a string can't be read, else as the call of `rma` or of `instances`
+/// refuses it; nothing is changed then.
+#[tactic(auto, unfolding(crate::specs::Calls::module_called))]
+pub fn call_module(
+    cpu: &mut Cpu,
+    memory: &mut AddressMap,
+    areas: &mut Areas,
+    instances: &mut Instances,
+) -> Result<(), Refusal>
+    requires estate { IsEstate (estate_of memory.old areas.old) }
+    requires classes { AreClasses memory.old }
+    ensures state { Leaves (cpu.old, world_of memory.old areas.old instances.old)
+        (module_called cpu.old (world_of memory.old areas.old instances.old)) result
+        (cpu.new, world_of memory.new areas.new instances.new) }
+    ensures leaves { LeavesWorld memory.old memory.new areas.old areas.new instances.old instances.new }
+{
+    match ModuleReason::of(cpu.register(0)) {
+        Some(ModuleReason::DescribeArea) => describe_area(cpu, memory),
+        Some(ModuleReason::Claim) => claim_block(cpu, memory, areas),
+        Some(ModuleReason::Free) => free_block(cpu, memory, areas),
+        Some(ModuleReason::Info) => tell_instance(cpu, memory, instances),
+        Some(ModuleReason::Extend) => extend_block(cpu, memory, areas),
+        Some(ModuleReason::Rename) => rename_instance(cpu, memory, instances),
+        Some(ModuleReason::Prefer) => prefer_instance(cpu, memory, instances),
+        Some(ModuleReason::Lookup) => find_instance(cpu, memory, instances),
+        _ => Err(Refusal::System(ErrorNumber::ModuleBadReason)),
+    }
+}

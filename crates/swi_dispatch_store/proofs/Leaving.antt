@@ -1,0 +1,54 @@
+-- What calls on heaps leave, by what `os_heap` says of them.
+use Rattle.std.proofs.Common.{◌≡◌, ℕ, Result, refl}
+use Rattle.profile.specs.Outcome.{Gives}
+use Rattle.profile.specs.declared.error.ErrorNumber.{ErrorNumber}
+use Rattle.address_map.specs.declared.map.AddressMap.{AddressMap}
+use Rattle.address_map.specs.Memory.{layout, mapping}
+use Rattle.os_heap.specs.Calls.{begun, changed}
+use Rattle.os_heap.specs.Store.{AreClasses, IsSound, store_of}
+use Rattle.os_heap.proofs.Frame.{layout-others}
+use Rattle.dynamic_areas.proofs.HeapCalls.{areas_begun, areas_changed, areas_written}
+use Rattle.flex_kept.proofs.Heaps.{begun_keeps, changed_keeps}
+use Rattle.flex_kept.proofs.Keeping.{keeps_same}
+use Rattle.flex_kept.specs.Keeping.{KeepsFlex}
+use Rattle.dynamic_areas.specs.Areas.{Land}
+use Rattle.dynamic_areas.specs.Ground.{IsEstate, estate_of}
+use Rattle.swi_dispatch_store.specs.Leaving.{LeavesAreas, LeavesSound}
+
+-- what moves no page and changes no record
+pub leaves_written : (m n : AddressMap) → IsSound (store_of n) → AreClasses n → layout n ≡ layout m → KeepsFlex (store_of m) (store_of n)
+    → LeavesAreas m n
+leaves_written m n sound classes same flex = λ l estate. record {
+  estate = areas_written m n l estate sound same;
+  classes = classes;
+  others = layout-others m n same;
+  flex = flex;
+}
+
+-- what changes nothing, or nothing but the areas' list
+pub leaves_memory : (m : AddressMap) (l : Land) → IsEstate (estate_of m l) → AreClasses m → LeavesSound m m l
+leaves_memory m l estate classes = record { estate = estate; classes = classes; others = refl; flex = keeps_same (store_of m) }
+
+pub leaves_all : (m : AddressMap) → AreClasses m → LeavesAreas m m
+leaves_all m classes = λ l estate. leaves_memory m l estate classes
+
+-- what makes a heap, and what gives one another end
+pub leaves_begun : (m n : AddressMap) (heap size : ℕ) (r : Result (Unit {0}) ErrorNumber) → IsSound (store_of m) → IsSound (store_of n)
+    → AreClasses n → (store_of n).others ≡ (store_of m).others → mapping n ≡ mapping m
+    → Gives (store_of m) (begun (store_of m) heap size) r (store_of n) → LeavesAreas m n
+leaves_begun m n heap size r sound sound' classes others same gives = λ l estate. record {
+  estate = areas_begun m n l estate sound' others same heap size r gives;
+  classes = classes;
+  others = others;
+  flex = begun_keeps (store_of m) (store_of n) heap size r sound sound' gives;
+}
+
+pub leaves_changed : (m n : AddressMap) (heap change : ℕ) (r : Result (Unit {0}) ErrorNumber) → IsSound (store_of m) → IsSound (store_of n)
+    → AreClasses n → (store_of n).others ≡ (store_of m).others → mapping n ≡ mapping m
+    → Gives (store_of m) (changed (store_of m) heap change) r (store_of n) → LeavesAreas m n
+leaves_changed m n heap change r sound sound' classes others same gives = λ l estate. record {
+  estate = areas_changed m n l estate sound' others same heap change r gives;
+  classes = classes;
+  others = others;
+  flex = changed_keeps (store_of m) (store_of n) heap change r sound sound' gives;
+}

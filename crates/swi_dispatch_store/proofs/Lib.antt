@@ -1,0 +1,3 @@
+mod AreaAnswers
+mod AreasKept
+mod Leaving
