@@ -9,7 +9,7 @@ mod steps;
 ghost use Rattle.std.specs.Prelude.{◌≤◌};
 
 use debugger::arm_step::Mode;
-use debugger::swi_dispatch::strings::text_at;
+use debugger::swi_dispatch::swi_dispatch_answers::strings::text_at;
 use debugger::swi_dispatch::{BootError, Breaks, Machine, TextEnd};
 use image_loader::Images;
 use profile::{Config, ErrorNumber, Fault, MemorySink, Stop};
