@@ -22,10 +22,10 @@ use Rattle.flex_ground.specs.instances_ground.proofs.Worlds.{few_records}
 use Rattle.flex_ground.specs.instances_ground.specs.World.{World}
 use Rattle.instances_plans.specs.Plans.{Plan}
 use Rattle.instances_plans.specs.declared.given.Given.{Given}
-use Rattle.instances.specs.instances_actions.specs.Pending.{is_pending, pending_by, pending_of}
+use Rattle.swi_dispatch_modules.specs.instances.specs.instances_actions.specs.Pending.{is_pending, pending_by, pending_of}
 use Rattle.flex_ground.specs.instances_ground.specs.Sound.{count_beside}
 use Rattle.instances_table.specs.Modules.{slots_of}
-use Rattle.instances.specs.Turns.{MayGoOn}
+use Rattle.swi_dispatch_modules.specs.instances.specs.Turns.{MayGoOn}
 use Rattle.swi_dispatch.specs.declared.halt.Halt.{Halt}
 use Rattle.swi_dispatch.specs.FlexCalls.{flex_in_range, left_by}
 use Rattle.swi_dispatch.specs.MachineState.{Tables}

@@ -2,9 +2,9 @@
 use Rattle.std.proofs.Common.{ℕ, List, Option, Some, None, [], sym, subst}
 use Rattle.flex_ground.specs.WorldLaws.{HasBegun}
 use Rattle.flex_ground.proofs.Worlds.{begun_world}
-use Rattle.instances.specs.Turns.{IsUnderWay, MayGoOn}
-use Rattle.instances.specs.instances_actions.specs.Pending.{pending_of}
-use Rattle.instances.specs.instances_actions.specs.Ready.{IsReady}
+use Rattle.swi_dispatch_modules.specs.instances.specs.Turns.{IsUnderWay, MayGoOn}
+use Rattle.swi_dispatch_modules.specs.instances.specs.instances_actions.specs.Pending.{pending_of}
+use Rattle.swi_dispatch_modules.specs.instances.specs.instances_actions.specs.Ready.{IsReady}
 use Rattle.flex_ground.specs.instances_ground.specs.World.{World}
 use Rattle.instances_plans.specs.Plans.{Plan}
 use Rattle.instances_table.specs.Modules.{Module}

@@ -21,11 +21,11 @@ use Rattle.instances_plans.specs.Carrying.{Carried, Doing, carried, carried_by, 
 use Rattle.instances_plans.specs.Plans.{Plan, end_by, settled}
 use Rattle.flex_ground.specs.instances_ground.specs.Sound.{IsWorld}
 use Rattle.flex_ground.specs.instances_ground.specs.World.{World, world_of}
-use Rattle.instances.specs.Naming.{NamesOnly, slots_of_plan}
-use Rattle.instances.specs.Turns.{IsUnderWay, MayGoOn, module_doing}
-use Rattle.instances.proofs.NamedByCalls.{NamesNone, NamesOne}
-use Rattle.instances.specs.instances_actions.specs.Pending.{pending_of}
-use Rattle.instances.specs.instances_actions.specs.Ready.{IsReady}
+use Rattle.swi_dispatch_modules.specs.instances.specs.Naming.{NamesOnly, slots_of_plan}
+use Rattle.swi_dispatch_modules.specs.instances.specs.Turns.{IsUnderWay, MayGoOn, module_doing}
+use Rattle.swi_dispatch_modules.specs.instances.proofs.NamedByCalls.{NamesNone, NamesOne}
+use Rattle.swi_dispatch_modules.specs.instances.specs.instances_actions.specs.Pending.{pending_of}
+use Rattle.swi_dispatch_modules.specs.instances.specs.instances_actions.specs.Ready.{IsReady}
 use Rattle.swi_dispatch_frames.specs.declared.frame.Frame.{Frame}
 use Rattle.swi_dispatch_frames.specs.Busy.{has_swi_of}
 use Rattle.profile.specs.declared.fault.Fault.TheVariants.{ErrorStop, FetchUnmapped}

@@ -13,9 +13,9 @@ use Rattle.instances_plans.specs.declared.given.Given.{Given}
 use Rattle.instances_plans.specs.Carrying.{Carried, carried}
 use Rattle.instances_plans.specs.Plans.{Plan, settled}
 use Rattle.flex_ground.specs.instances_ground.specs.World.{World}
-use Rattle.instances.specs.declared.answers.Start.{Start}
-use Rattle.instances.specs.Reading.{start_found}
-use Rattle.instances.specs.Turns.{module_doing}
+use Rattle.swi_dispatch_modules.specs.instances.specs.declared.answers.Start.{Start}
+use Rattle.swi_dispatch_modules.specs.instances.specs.Reading.{start_found}
+use Rattle.swi_dispatch_modules.specs.instances.specs.Turns.{module_doing}
 use Rattle.swi_dispatch_frames.specs.declared.call.Call.{Call}
 use Rattle.swi_dispatch_frames.specs.declared.frame.Frame.{Frame}
 use Rattle.swi_dispatch_frames.specs.declared.frame.FrameKind.{FrameKind}

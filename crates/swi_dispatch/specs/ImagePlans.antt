@@ -13,7 +13,7 @@ use Rattle.module_header.specs.declared.header.Header.{Header}
 use Rattle.module_header.specs.Header.{header_of}
 use Rattle.flex_ground.specs.rma.specs.Copies.{may_be_copied}
 use Rattle.flex_ground.specs.rma.specs.NewImages.{may_be_in_place}
-use Rattle.instances.specs.Adding.{good_header, instantiation}
+use Rattle.swi_dispatch_modules.specs.instances.specs.Adding.{good_header, instantiation}
 use Rattle.instances_plans.specs.Plans.{Plan}
 use Rattle.instances_table.specs.Changes.{titled}
 use Rattle.instances_table.specs.Modules.{slots_of}

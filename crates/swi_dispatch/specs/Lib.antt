@@ -1,5 +1,5 @@
 pub use Rattle.swi_dispatch_answers
-pub use Rattle.swi_dispatch_store
+pub use Rattle.swi_dispatch_modules.specs.swi_dispatch_store
 pub use Rattle.swi_dispatch_modules
 pub use Rattle.arm_step
 pub use Rattle.os_heap.specs.os_heap_lists

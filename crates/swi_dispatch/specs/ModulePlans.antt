@@ -4,8 +4,8 @@ use Rattle.std.specs.Prelude.{ℕ, is_some, ◌==◌, ◌||◌, nat_lt, List, []
 use Rattle.profile.specs.Outcome.{bind}
 use Rattle.profile.specs.declared.error.ErrorNumber.{ErrorNumber}
 use Rattle.profile.specs.declared.error.ErrorNumber.TheVariants.{FrameLimit, ModuleBusy}
-use Rattle.instances.specs.Plans.{clearing, deletion, reinitialisation, tidying}
-use Rattle.instances.specs.Reading.{slot_meant}
+use Rattle.swi_dispatch_modules.specs.instances.specs.Plans.{clearing, deletion, reinitialisation, tidying}
+use Rattle.swi_dispatch_modules.specs.instances.specs.Reading.{slot_meant}
 use Rattle.flex_ground.specs.instances_ground.specs.World.{World}
 use Rattle.instances_plans.specs.Plans.{Plan}
 use Rattle.swi_dispatch_frames.specs.Busy.{has_swi_of}

@@ -6,8 +6,8 @@ use Rattle.profile.specs.declared.error.ErrorNumber.{ErrorNumber}
 use Rattle.profile.specs.declared.error.ErrorNumber.TheVariants.{ModuleBusy}
 use Rattle.arm_step.specs.declared.psr.Mode.TheVariants.{User}
 use Rattle.arm_step.specs.State.{State, start_psr, with_pc, with_psr, with_register_in}
-use Rattle.instances.specs.declared.answers.Start.{Start}
-use Rattle.instances.specs.Reading.{start_found}
+use Rattle.swi_dispatch_modules.specs.instances.specs.declared.answers.Start.{Start}
+use Rattle.swi_dispatch_modules.specs.instances.specs.Reading.{start_found}
 use Rattle.flex_ground.specs.instances_ground.specs.World.{with_text}
 use Rattle.instances_plans.specs.Code.{private_of}
 use Rattle.swi_dispatch.specs.declared.module_start.Opening.{Opening}

@@ -5,7 +5,7 @@ use Rattle.module_header.specs.declared.fault.HeaderFault.{HeaderFault}
 use Rattle.module_header.specs.declared.header.Header.{Header}
 use Rattle.swi_dispatch_frames.specs.Busy.{has_swi_of, is_swi}
 use Rattle.swi_dispatch_frames.specs.declared.frame.Frame.{Frame}
-use Rattle.instances.specs.Naming.{slots_of_kept}
+use Rattle.swi_dispatch_modules.specs.instances.specs.Naming.{slots_of_kept}
 use Rattle.instances_plans.specs.declared.code.Code.{Code}
 use Rattle.instances_plans.specs.Doable.{is_used}
 use Rattle.instances_table.specs.Changes.{titled}

@@ -11,8 +11,8 @@ use Rattle.arm_step.specs.State.{State}
 use Rattle.instances_plans.specs.Plans.{Plan}
 use Rattle.flex_ground.specs.instances_ground.specs.Sound.{IsWorld}
 use Rattle.flex_ground.specs.instances_ground.specs.World.{World, world_of}
-use Rattle.instances.specs.Naming.{slots_of_plan}
-use Rattle.instances.specs.Turns.{IsUnderWay, MayGoOn}
+use Rattle.swi_dispatch_modules.specs.instances.specs.Naming.{slots_of_plan}
+use Rattle.swi_dispatch_modules.specs.instances.specs.Turns.{IsUnderWay, MayGoOn}
 use Rattle.swi_dispatch_frames.specs.Busy.{has_swi_of}
 use Rattle.swi_dispatch.specs.declared.halt.Halt.{Halt}
 use Rattle.swi_dispatch_answers.specs.declared.refusal.Refusal.{Refusal}

@@ -16,7 +16,6 @@ use arrayvec::ArrayVec;
 use dynamic_areas::{Areas, start_memory};
 use flex_ground::flex_store::Flex;
 use image_loader::Images;
-use instances::Instances;
 use instances_plans::Plan;
 use os_heap::Heaps;
 use profile::memory_map::{ADDRESS_LIMIT, APPLICATION_START, PAGE_SIZE};
@@ -26,6 +25,7 @@ use std::alloc::{AllocError, Global};
 use std::marker::Model;
 use swi_dispatch_answers::words::host_string;
 use swi_dispatch_frames::Frames;
+use swi_dispatch_modules::instances::Instances;
 
 /// The most bytes that a step can print.
 pub(crate) const MOST_PRINTED: usize = 4096;

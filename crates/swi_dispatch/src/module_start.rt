@@ -7,11 +7,11 @@ use crate::machine::Machine;
 use arm_step::{Cpu, Mode, Psr};
 use arrayvec::ArrayVec;
 use flex_ground::instances_ground::put_text;
-use instances::Start;
 use instances_plans::private_word;
 use profile::ErrorNumber;
 use profile::memory_map::ENVIRONMENT_TEXT;
 use swi_dispatch_answers::MAX_TEXT;
+use swi_dispatch_modules::instances::Start;
 
 /// A user's program finds all flags clear.
 const USER: Psr = Psr {

@@ -4,10 +4,10 @@ ghost use Rattle.std.specs.Prelude.{◌≡◌, ◌<◌, ◌^◌, false, true, le
 ghost use Rattle.instances_plans.specs.Doable.{is_used};
 
 use crate::machine::Machine;
-use instances::Handler;
 use profile::ErrorNumber;
 use swi_dispatch_answers::Refusal;
 use swi_dispatch_frames::{Call, Frame, FrameKind, MOST_FRAMES, enter_swi};
+use swi_dispatch_modules::instances::Handler;
 
 impl Machine {
     ghost use Rattle.instances_table.specs.Lookup.{handler_of};

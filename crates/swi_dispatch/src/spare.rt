@@ -4,16 +4,16 @@ ghost use Rattle.std.specs.Prelude.{◌≡◌};
 ghost use Rattle.os_heap.specs.Store.{AreClasses};
 ghost use Rattle.instances_plans.specs.Plans.{settled};
 ghost use Rattle.flex_ground.specs.instances_ground.specs.World.{world_of};
-ghost use Rattle.instances.specs.Turns.{IsUnderWay};
+ghost use Rattle.swi_dispatch_modules.specs.instances.specs.Turns.{IsUnderWay};
 ghost use Rattle.swi_dispatch.specs.Gates.{error_ahead};
 
 use address_map::AddressMap;
 use dynamic_areas::Areas;
-use instances::Instances;
 use instances_plans::{Ended, Outcome, Plan};
 use profile::Config;
 use std::alloc::{AllocError, Global};
 use swi_dispatch_answers::errors::error_at;
+use swi_dispatch_modules::instances::Instances;
 
 /// What a call is tried on.
 #[derive(Drop)]

@@ -5,8 +5,8 @@ ghost use Rattle.profile.specs.Outcome.{Leaves};
 ghost use Rattle.profile.specs.ErrorNames.{error_code};
 ghost use Rattle.profile.specs.declared.error.ErrorNumber.{ErrorNumber};
 ghost use Rattle.profile.specs.declared.fault.Fault.TheVariants.{ErrorStop};
-ghost use Rattle.swi_dispatch_store.specs.Areas.{area_called, area_changed, area_read, change_asked};
-ghost use Rattle.swi_dispatch_store.specs.Heaps.{heap_called};
+ghost use Rattle.swi_dispatch_modules.specs.swi_dispatch_store.specs.Areas.{area_called, area_changed, area_read, change_asked};
+ghost use Rattle.swi_dispatch_modules.specs.swi_dispatch_store.specs.Heaps.{heap_called};
 ghost use Rattle.swi_dispatch_modules.specs.Calls.{module_called};
 
 use crate::halt::Halt;
@@ -16,7 +16,9 @@ use profile::{ErrorNumber, SwiName};
 use swi_dispatch_answers::strings::string_in;
 use swi_dispatch_answers::{MAX_TEXT, Refusal};
 use swi_dispatch_modules::call_module;
-use swi_dispatch_store::{call_area, call_heap, change_area, change_error, read_area};
+use swi_dispatch_modules::swi_dispatch_store::{
+    call_area, call_heap, change_area, change_error, read_area,
+};
 
 impl Machine {
     ghost use Rattle.swi_dispatch_answers.specs.Strings.{bytes_read, string_in};

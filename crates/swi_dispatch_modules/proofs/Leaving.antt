@@ -2,12 +2,12 @@
 use Rattle.std.proofs.Common.{◌≡◌, ℕ, List, Option, refl, arith}
 use Rattle.address_map.specs.declared.map.AddressMap.{AddressMap}
 use Rattle.address_map.specs.Bytes.{AreMapped}
-use Rattle.rma.specs.os_heap.specs.Store.{AreClasses, Store, store_of}
-use Rattle.rma.specs.dynamic_areas.specs.Areas.{Land}
-use Rattle.rma.specs.dynamic_areas.specs.Ground.{AreAreas, IsEstate, estate_of}
-use Rattle.rma.specs.dynamic_areas.proofs.HeapCalls.{system_mapped}
-use Rattle.rma.specs.dynamic_areas.proofs.Remapped.{here}
-use Rattle.rma.specs.flex_kept.proofs.Keeping.{keeps_same}
+use Rattle.instances_ground.specs.rma.specs.os_heap.specs.Store.{AreClasses, Store, store_of}
+use Rattle.instances_ground.specs.rma.specs.dynamic_areas.specs.Areas.{Land}
+use Rattle.instances_ground.specs.rma.specs.dynamic_areas.specs.Ground.{AreAreas, IsEstate, estate_of}
+use Rattle.instances_ground.specs.rma.specs.dynamic_areas.proofs.HeapCalls.{system_mapped}
+use Rattle.instances_ground.specs.rma.specs.dynamic_areas.proofs.Remapped.{here}
+use Rattle.instances_ground.specs.rma.specs.flex_kept.proofs.Keeping.{keeps_same}
 use Rattle.instances_plans.specs.Plans.{Plan}
 use Rattle.instances_table.specs.Modules.{Module, slots_of}
 use Rattle.instances.proofs.GoingOn.{may_go_on_kept}

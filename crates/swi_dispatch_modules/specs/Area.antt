@@ -4,7 +4,7 @@ use Rattle.profile.specs.Outcome.{bind}
 use Rattle.swi_dispatch_store.specs.swi_dispatch_answers.specs.arm_step.specs.State.{State, register_of, with_register}
 use Rattle.swi_dispatch_store.specs.swi_dispatch_answers.specs.declared.refusal.Refusal.{Refusal}
 use Rattle.swi_dispatch_store.specs.swi_dispatch_answers.specs.Refusals.{or_error}
-use Rattle.rma.specs.Calls.{rma_described, rma_claimed, rma_freed, rma_extended}
+use Rattle.instances_ground.specs.rma.specs.Calls.{rma_described, rma_claimed, rma_freed, rma_extended}
 use Rattle.instances_ground.specs.World.{World}
 
 -- reason 5, describe: the largest block and all that is free go to R2 and R3

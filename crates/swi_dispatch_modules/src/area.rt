@@ -2,18 +2,18 @@
 
 ghost use Rattle.std.specs.Prelude.{◌≡◌, List};
 ghost use Rattle.profile.specs.Outcome.{Leaves};
-ghost use Rattle.rma.specs.os_heap.specs.Store.{AreClasses, IsSound, store_of};
-ghost use Rattle.rma.specs.dynamic_areas.specs.Areas.{Land};
-ghost use Rattle.rma.specs.dynamic_areas.specs.Ground.{IsEstate, estate_of};
+ghost use Rattle.instances_ground.specs.rma.specs.os_heap.specs.Store.{AreClasses, IsSound, store_of};
+ghost use Rattle.instances_ground.specs.rma.specs.dynamic_areas.specs.Areas.{Land};
+ghost use Rattle.instances_ground.specs.rma.specs.dynamic_areas.specs.Ground.{IsEstate, estate_of};
 ghost use Rattle.instances_table.specs.Modules.{Module};
 ghost use Rattle.instances_ground.specs.World.{world_of};
 ghost use Rattle.swi_dispatch_store.specs.Leaving.{LeavesSound};
 ghost use Rattle.swi_dispatch_modules.specs.Area.{area_described, block_claimed, block_extended, block_freed};
 
 use arm_step::Cpu;
-use rma::Rma;
-use rma::address_map::AddressMap;
-use rma::dynamic_areas::Areas;
+use instances_ground::rma::Rma;
+use instances_ground::rma::address_map::AddressMap;
+use instances_ground::rma::dynamic_areas::Areas;
 use swi_dispatch_store::swi_dispatch_answers::Refusal;
 
 /// Reason 5: the largest free block and all that is free go to R2 and R3.

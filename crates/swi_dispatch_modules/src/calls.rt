@@ -1,7 +1,7 @@
 ghost use Rattle.std.specs.Prelude.{◌≡◌};
 ghost use Rattle.profile.specs.Outcome.{Leaves};
-ghost use Rattle.rma.specs.os_heap.specs.Store.{AreClasses};
-ghost use Rattle.rma.specs.dynamic_areas.specs.Ground.{IsEstate, estate_of};
+ghost use Rattle.instances_ground.specs.rma.specs.os_heap.specs.Store.{AreClasses};
+ghost use Rattle.instances_ground.specs.rma.specs.dynamic_areas.specs.Ground.{IsEstate, estate_of};
 ghost use Rattle.instances_ground.specs.World.{world_of};
 ghost use Rattle.swi_dispatch_modules.specs.Calls.{module_called};
 ghost use Rattle.swi_dispatch_modules.specs.Leaving.{LeavesWorld};
@@ -11,8 +11,8 @@ use crate::naming::{find_instance, prefer_instance, rename_instance, tell_instan
 use address_map::AddressMap;
 use arm_step::Cpu;
 use instances::Instances;
+use instances_ground::rma::dynamic_areas::Areas;
 use profile::{ErrorNumber, ModuleReason};
-use rma::dynamic_areas::Areas;
 use swi_dispatch_store::swi_dispatch_answers::Refusal;
 
 /// OS_Module, by its reason in R0, where no module code is to run. A block is in R2, a size or a change of one in R3; names are strings

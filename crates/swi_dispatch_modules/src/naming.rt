@@ -5,7 +5,7 @@ ghost use Rattle.std.specs.Prelude.{◌≡◌, Option};
 ghost use Rattle.profile.specs.Outcome.{Leaves};
 ghost use Rattle.address_map.specs.Bytes.{AreMapped};
 ghost use Rattle.address_map.specs.Memory.{is_mapped};
-ghost use Rattle.rma.specs.dynamic_areas.specs.Areas.{Land};
+ghost use Rattle.instances_ground.specs.rma.specs.dynamic_areas.specs.Areas.{Land};
 ghost use Rattle.instances_plans.specs.Plans.{Plan};
 ghost use Rattle.instances_table.specs.Modules.{slots_of};
 ghost use Rattle.instances.specs.Turns.{MayGoOn};

@@ -8,15 +8,15 @@ use Rattle.address_map.specs.Memory.{free_pages}
 use Rattle.address_map.specs.declared.map.AddressMap.{AddressMap}
 use Rattle.os_heap.specs.os_heap_lists.specs.Heap.{HeapList}
 use Rattle.os_heap.specs.Store.{Store, find_heap, store_of}
-use Rattle.dynamic_areas.specs.declared.area.Area.{Area}
-use Rattle.dynamic_areas.specs.declared.area.Changed.{Changed}
-use Rattle.dynamic_areas.specs.declared.area.Created.{Created}
-use Rattle.dynamic_areas.specs.declared.area.Wanted.{Wanted}
-use Rattle.dynamic_areas.specs.Areas.{Land, find_area}
-use Rattle.dynamic_areas.specs.Changing.{change_answer, ended_by, is_growth, removed, store_changed, store_emptied, store_extended, store_less, store_more, store_reduced, with_heap_end}
-use Rattle.dynamic_areas.specs.Creating.{created, pages_for}
-use Rattle.dynamic_areas.specs.Ground.{AreAreas, estate_of}
-use Rattle.dynamic_areas.specs.Remapped.{with_pages_at}
+use Rattle.flex_kept.specs.dynamic_areas.specs.declared.area.Area.{Area}
+use Rattle.flex_kept.specs.dynamic_areas.specs.declared.area.Changed.{Changed}
+use Rattle.flex_kept.specs.dynamic_areas.specs.declared.area.Created.{Created}
+use Rattle.flex_kept.specs.dynamic_areas.specs.declared.area.Wanted.{Wanted}
+use Rattle.flex_kept.specs.dynamic_areas.specs.Areas.{Land, find_area}
+use Rattle.flex_kept.specs.dynamic_areas.specs.Changing.{change_answer, ended_by, is_growth, removed, store_changed, store_emptied, store_extended, store_less, store_more, store_reduced, with_heap_end}
+use Rattle.flex_kept.specs.dynamic_areas.specs.Creating.{created, pages_for}
+use Rattle.flex_kept.specs.dynamic_areas.specs.Ground.{AreAreas, estate_of}
+use Rattle.flex_kept.specs.dynamic_areas.specs.Remapped.{with_pages_at}
 use Rattle.flex_kept.proofs.Areas.{area_changed_keeps, created_keeps, removed_keeps}
 use Rattle.flex_kept.proofs.Keeping.{keeps_equal}
 use Rattle.flex_kept.specs.Keeping.{KeepsFlex}

@@ -7,12 +7,12 @@ use Rattle.address_map.specs.Memory.{layout, mapping}
 use Rattle.os_heap.specs.Calls.{begun, changed}
 use Rattle.os_heap.specs.Store.{AreClasses, IsSound, store_of}
 use Rattle.os_heap.proofs.Frame.{layout-others}
-use Rattle.dynamic_areas.proofs.HeapCalls.{areas_begun, areas_changed, areas_written}
+use Rattle.flex_kept.specs.dynamic_areas.proofs.HeapCalls.{areas_begun, areas_changed, areas_written}
 use Rattle.flex_kept.proofs.Heaps.{begun_keeps, changed_keeps}
 use Rattle.flex_kept.proofs.Keeping.{keeps_same}
 use Rattle.flex_kept.specs.Keeping.{KeepsFlex}
-use Rattle.dynamic_areas.specs.Areas.{Land}
-use Rattle.dynamic_areas.specs.Ground.{IsEstate, estate_of}
+use Rattle.flex_kept.specs.dynamic_areas.specs.Areas.{Land}
+use Rattle.flex_kept.specs.dynamic_areas.specs.Ground.{IsEstate, estate_of}
 use Rattle.swi_dispatch_store.specs.Leaving.{LeavesAreas, LeavesSound}
 
 -- what moves no page and changes no record

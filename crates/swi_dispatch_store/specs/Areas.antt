@@ -8,16 +8,16 @@ use Rattle.profile.specs.declared.reason.AreaReason.{AreaReason}
 use Rattle.profile.specs.declared.reason.AreaReason.TheVariants as reason
 use Rattle.swi_dispatch_answers.specs.arm_step.specs.State.{State, register_of, with_register}
 use Rattle.os_heap.specs.Store.{Store}
-use Rattle.dynamic_areas.specs.declared.area.Area.{Area}
-use Rattle.dynamic_areas.specs.declared.area.Changed.{Changed}
-use Rattle.dynamic_areas.specs.declared.area.Created.{Created}
-use Rattle.dynamic_areas.specs.declared.area.Extent.{Extent}
-use Rattle.dynamic_areas.specs.declared.area.Wanted.{Wanted}
-use Rattle.dynamic_areas.specs.Areas.{Land, area_in, extent_asked, find_area, next_number, renumbered, with_areas}
-use Rattle.dynamic_areas.specs.Changing.{change_answer, land_changed, removed, store_changed, store_emptied}
-use Rattle.dynamic_areas.specs.Creating.{area_wanted, created, pages_for}
-use Rattle.dynamic_areas.specs.Ground.{Estate, pool_of}
-use Rattle.dynamic_areas.specs.Remapped.{with_pages_at}
+use Rattle.flex_kept.specs.dynamic_areas.specs.declared.area.Area.{Area}
+use Rattle.flex_kept.specs.dynamic_areas.specs.declared.area.Changed.{Changed}
+use Rattle.flex_kept.specs.dynamic_areas.specs.declared.area.Created.{Created}
+use Rattle.flex_kept.specs.dynamic_areas.specs.declared.area.Extent.{Extent}
+use Rattle.flex_kept.specs.dynamic_areas.specs.declared.area.Wanted.{Wanted}
+use Rattle.flex_kept.specs.dynamic_areas.specs.Areas.{Land, area_in, extent_asked, find_area, next_number, renumbered, with_areas}
+use Rattle.flex_kept.specs.dynamic_areas.specs.Changing.{change_answer, land_changed, removed, store_changed, store_emptied}
+use Rattle.flex_kept.specs.dynamic_areas.specs.Creating.{area_wanted, created, pages_for}
+use Rattle.flex_kept.specs.dynamic_areas.specs.Ground.{Estate, pool_of}
+use Rattle.flex_kept.specs.dynamic_areas.specs.Remapped.{with_pages_at}
 use Rattle.swi_dispatch_answers.specs.declared.refusal.Refusal.{Refusal}
 use Rattle.swi_dispatch_answers.specs.Refusals.{or_error, system_error}
 use Rattle.swi_dispatch_answers.specs.Strings.{name_at}

@@ -1,6 +1,6 @@
 pub use Rattle.swi_dispatch_answers
 pub use Rattle.flex_kept
-pub use Rattle.dynamic_areas
+pub use Rattle.flex_kept.specs.dynamic_areas
 pub mod Areas
 pub mod Heaps
 pub mod Leaving

@@ -4,15 +4,15 @@
 ghost use Rattle.std.specs.Prelude.{◌≡◌, Some, None, Err};
 ghost use Rattle.profile.specs.Outcome.{Leaves};
 ghost use Rattle.os_heap.specs.Store.{AreClasses};
-ghost use Rattle.dynamic_areas.specs.Changing.{change_answer, land_changed, store_changed};
-ghost use Rattle.dynamic_areas.specs.Ground.{IsEstate, estate_of};
-ghost use Rattle.dynamic_areas.specs.Rooms.{IsAreaTable};
+ghost use Rattle.flex_kept.specs.dynamic_areas.specs.Changing.{change_answer, land_changed, store_changed};
+ghost use Rattle.flex_kept.specs.dynamic_areas.specs.Ground.{IsEstate, estate_of};
+ghost use Rattle.flex_kept.specs.dynamic_areas.specs.Rooms.{IsAreaTable};
 ghost use Rattle.swi_dispatch_store.specs.Areas.{area_called, area_changed, area_created, area_enumerated, area_named, area_read, area_removed, area_renumbered, area_told, change_asked, wanted_of, with_land};
 ghost use Rattle.swi_dispatch_store.specs.Leaving.{LeavesSound};
 
 use address_map::AddressMap;
 use arm_step::Cpu;
-use dynamic_areas::{Areas, Changed, Wanted};
+use flex_kept::dynamic_areas::{Areas, Changed, Wanted};
 use profile::memory_map::PAGE_SIZE;
 use profile::{AreaReason, ErrorNumber};
 use swi_dispatch_answers::strings::text_at;

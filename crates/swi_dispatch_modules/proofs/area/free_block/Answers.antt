@@ -1,4 +1,4 @@
-use Rattle.rma.specs.os_heap.proofs.Frame.{layout-others}
+use Rattle.instances_ground.specs.rma.specs.os_heap.proofs.Frame.{layout-others}
 use Rattle.swi_dispatch_modules.proofs.area.free_block.Goals as goal
 
 pub returns-in_err-free-clause-leaves : goal.returns-in_err-free-clause-leaves

@@ -1,7 +1,7 @@
 use Rattle.std.proofs.Common.{◌≡◌, true, sym, ap, ◌∙◌}
 use Rattle.dynamic_areas.specs.Ground.{estate_of}
 use Rattle.flex_ground.specs.rma.specs.Copies.{may_be_copied}
-use Rattle.instances.proofs.AddingLemmas.{copied_mapped}
+use Rattle.swi_dispatch_modules.specs.instances.proofs.AddingLemmas.{copied_mapped}
 use Rattle.swi_dispatch.specs.Parts.{Parts, state_of}
 use Rattle.swi_dispatch.proofs.machine.Machine.copy_asked.Goals as goal
 

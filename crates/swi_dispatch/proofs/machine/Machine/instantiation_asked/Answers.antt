@@ -1,7 +1,7 @@
 use Rattle.std.proofs.Common.{◌≡◌, IfOk, List, ap, subst, ◌∙◌}
-use Rattle.instances.specs.Adding.{instantiation}
-use Rattle.instances.proofs.NamedByCalls.{instantiation_names}
-use Rattle.instances.specs.instances_actions.specs.Ready.{IsReady}
+use Rattle.swi_dispatch_modules.specs.instances.specs.Adding.{instantiation}
+use Rattle.swi_dispatch_modules.specs.instances.proofs.NamedByCalls.{instantiation_names}
+use Rattle.swi_dispatch_modules.specs.instances.specs.instances_actions.specs.Ready.{IsReady}
 use Rattle.instances_table.specs.Modules.{Module}
 use Rattle.swi_dispatch.specs.Parts.{state_of}
 use Rattle.swi_dispatch.proofs.GateLemmas.{new_begins}

@@ -1,8 +1,8 @@
 use Rattle.std.proofs.Common.{◌≡◌, IfOk, List, Ok, ap, subst, ◌∙◌}
-use Rattle.instances.specs.Plans.{reinitialisation}
-use Rattle.instances.specs.Reading.{slot_meant}
-use Rattle.instances.proofs.NamedByCalls.{reinitialisation_names}
-use Rattle.instances.specs.instances_actions.specs.Ready.{IsReady}
+use Rattle.swi_dispatch_modules.specs.instances.specs.Plans.{reinitialisation}
+use Rattle.swi_dispatch_modules.specs.instances.specs.Reading.{slot_meant}
+use Rattle.swi_dispatch_modules.specs.instances.proofs.NamedByCalls.{reinitialisation_names}
+use Rattle.swi_dispatch_modules.specs.instances.specs.instances_actions.specs.Ready.{IsReady}
 use Rattle.instances_table.specs.Modules.{Module}
 use Rattle.swi_dispatch.specs.Parts.{state_of}
 use Rattle.swi_dispatch.proofs.GateLemmas.{meant_begins}
