@@ -1,4 +1,4 @@
-//! Tests of memory and of heaps in it: the store, the map, slides, and what of a heap's calls no script shows.
+//! Tests of memory and of heaps in it: the store, the map, and what of a heap's calls no script shows.
 //!
 //! They stand apart from the crates that they test, since a crate with tests is proved once more with them.
 #![tactic(auto)]
@@ -9,5 +9,3 @@ mod heaps;
 mod map;
 #[cfg(test)]
 mod raw;
-#[cfg(test)]
-mod slides;
