@@ -1,4 +1,4 @@
-//! Tests of modules: their table, plans and actions, the calls on them, and the frames of their code.
+//! Tests of what no script shows of modules: their table by slots, the entries of actions without code, and the status that a frame leaves.
 //!
 //! They stand apart from the crates that they test, since a crate with tests is proved once more with them.
 #![tactic(auto)]
@@ -6,14 +6,6 @@
 #[cfg(test)]
 mod actions;
 #[cfg(test)]
-mod calls;
-#[cfg(test)]
 mod frames;
-#[cfg(test)]
-mod plans;
-#[cfg(test)]
-mod private_words;
-#[cfg(test)]
-mod start;
 #[cfg(test)]
 mod tables;

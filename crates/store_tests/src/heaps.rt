@@ -1,131 +1,215 @@
-//! Heaps in a page at &9000, with the words of each list worked out by hand.
-
-mod blocks;
-mod changes;
-mod classes;
-mod heaps;
-mod resizes;
+//! What no script shows of heaps: how many items a call looks at, the block around an address, and the class of a word.
 
 ghost use Rattle.std.specs.Prelude.{IfOk};
 ghost use Rattle.os_heap.specs.Store.{store_of, AreClasses, IsSound};
 
 use address_map::{AddressMap, Class};
-use os_heap::Heaps;
-use profile::ErrorNumber;
+use os_heap::{Heaps, Payload};
 use std::alloc::{AllocError, Global};
-use std::process::Abort;
 use std::test::Fail;
 
-/// What a test does to a page, or finds there. An address comes before what it holds, and what is asked for before the answer.
-#[derive(Clone, Copy)]
-pub(crate) enum Line {
-    /// A new page.
-    New,
-    /// A heap at an address, of a size.
-    Init(u32, u32, Result<(), ErrorNumber>),
-    /// A block of a heap, of a size.
-    Get(u32, u32, Result<u32, ErrorNumber>),
-    /// A heap's block is given back.
-    Free(u32, u32, Result<(), ErrorNumber>),
-    /// A change of the size of a heap's block.
-    Resize(u32, u32, u32, Result<u32, ErrorNumber>),
-    /// A change of the size of a heap.
-    Change(u32, u32, Result<(), ErrorNumber>),
-    /// The largest free block of a heap, and all that is free.
-    Describe(u32, Result<(u32, u32), ErrorNumber>),
-    /// The size of a heap's block.
-    Size(u32, u32, Result<u32, ErrorNumber>),
-    /// How many items the call before looked at.
-    Probes(u32),
-    /// A word of memory has this value.
-    Word(u32, u32),
-    /// A byte of memory has this class.
-    Is(u32, Class),
-}
+const HEAP: u32 = 0x9000;
 
-/// A page at &9000, with words of the guest's that calls leave or move.
+/// A heap of 256 bytes at &9000, in a page of its own.
 #[tactic(auto, using(os_heap::proofs::Added::sound_empty, os_heap::proofs::Frame::classes_empty))]
-pub(crate) fn begin(alloc: Global) -> Result<AddressMap, AllocError>
+fn begin(alloc: Global) -> Result<AddressMap, AllocError>
     ensures sound { IfOk result (λ map. IsSound (store_of map)) }
     ensures classes { IfOk result AreClasses }
 {
     let mut map = AddressMap::new(alloc, 1)?;
-    map.map_pages(0x9000, 1);
-    let _ = map.store_word(0x9014, 0x1111_1111);
-    let _ = map.store_word(0x9024, 0x5555_5555);
-    let _ = map.store_word(0x9028, 0x1234_5678);
-    let _ = map.store_word(0x9048, 5);
-    let _ = map.store_word(0x9058, 0x1234_5678);
+    map.map_pages(HEAP, 1);
+    let _ = Heaps::new().init(&mut map, HEAP, 256);
     Ok(map)
 }
 
-/// Does what the lines say, in turn, from a new page on.
-pub(crate) fn play(rt: &impl Abort, alloc: Global, lines: &[Line]) -> Result<(), Fail> {
+/// That heap with blocks of 20 bytes at &9014, &9044 and &905C, and free room of 24 at &9028.
+fn with_blocks(alloc: Global) -> Result<AddressMap, AllocError>
+    ensures sound { IfOk result (λ map. IsSound (store_of map)) }
+    ensures classes { IfOk result AreClasses }
+{
+    let heaps = Heaps::new();
     let mut map = begin(alloc)?;
-    let mut probes = 0;
-    for (index, line) in lines.iter().enumerate() {
-        match *line {
-            Line::New => map = begin(alloc)?,
-            Line::Probes(count) => assert!(rt; probes == count, "line {index}"),
-            _ => {
-                let (is_so, counted) = acts(&mut map, line);
-                assert!(rt; is_so, "line {index}");
-                probes = counted;
-            }
-        }
-    }
+    let _ = heaps.get(&mut map, HEAP, 20);
+    let _ = heaps.get(&mut map, HEAP, 20);
+    let _ = heaps.get(&mut map, HEAP, 20);
+    let _ = heaps.get(&mut map, HEAP, 20);
+    let _ = heaps.free(&mut map, HEAP, 0x902C);
+    Ok(map)
+}
+
+/// How many items are looked at as a heap of that address is to be made, in a page with one at &9000.
+fn probes_of_init(alloc: Global, heap: u32, size: u32) -> Result<u32, AllocError> {
+    let mut map = begin(alloc)?;
+    Ok(Heaps::new().init(&mut map, heap, size).probes)
+}
+
+/// How many as a block is claimed of a heap that has no free room but at its end.
+fn probes_of_get(alloc: Global, size: u32) -> Result<u32, AllocError> {
+    let mut map = begin(alloc)?;
+    Ok(Heaps::new().get(&mut map, HEAP, size).probes)
+}
+
+/// How many as a block of the four changes its size.
+fn probes_of_resize(alloc: Global, heap: u32, block: u32, change: u32) -> Result<u32, AllocError> {
+    let mut map = with_blocks(alloc)?;
+    Ok(Heaps::new().resize(&mut map, heap, block, change).probes)
+}
+
+#[test]
+fn making_a_heap_looks_at_no_item(rt: HostRuntime) -> Result<(), Fail> {
+    assert!(rt; probes_of_init(rt.alloc(), 0x9100, 12)? == 0);
+    assert!(rt; probes_of_init(rt.alloc(), 0x9102, 16)? == 0);
+    assert!(rt; probes_of_init(rt.alloc(), 0x9100, 16_777_220)? == 0);
+    assert!(rt; probes_of_init(rt.alloc(), 0x9100, 0xF04)? == 0);
+    assert!(rt; probes_of_init(rt.alloc(), 0x9000, 256)? == 0);
+    assert!(rt; probes_of_init(rt.alloc(), 0x90FC, 16)? == 0);
     Ok(())
 }
 
-/// Does what a line says: whether it ends as the line has it, and how many items it looked at.
-fn acts(map: &mut AddressMap, line: &Line) -> (bool, u32)
-    requires sound { IsSound (store_of map.old) }
-    requires classes { AreClasses map.old }
-    ensures sound { IsSound (store_of map.new) }
-    ensures classes { AreClasses map.new }
-{
-    let heaps = Heaps::new();
-    match *line {
-        Line::Init(heap, size, answer) => {
-            let made = heaps.init(map, heap, size);
-            (made.answer == answer, made.probes)
-        }
-        Line::Get(heap, size, answer) => {
-            let got = heaps.get(map, heap, size);
-            (got.answer == answer, got.probes)
-        }
-        Line::Free(heap, block, answer) => {
-            let freed = heaps.free(map, heap, block);
-            (freed.answer == answer, freed.probes)
-        }
-        Line::Resize(heap, block, change, answer) => {
-            let resized = heaps.resize(map, heap, block, change);
-            (resized.answer == answer, resized.probes)
-        }
-        Line::Change(heap, change, answer) => {
-            let changed = heaps.change_size(map, heap, change);
-            (changed.answer == answer, changed.probes)
-        }
-        _ => finds(map, line),
-    }
+#[test]
+fn room_at_the_base_is_found_without_a_look(rt: HostRuntime) -> Result<(), Fail> {
+    assert!(rt; probes_of_get(rt.alloc(), 237)? == 0);
+    assert!(rt; probes_of_get(rt.alloc(), 0xFFFF_FFF8)? == 0);
+    assert!(rt; probes_of_get(rt.alloc(), u32::MAX)? == 0);
+    let map = begin(rt.alloc())?;
+    assert!(rt; Heaps::new().describe(&map, HEAP).probes == 0);
+    Ok(())
 }
 
-/// Whether what a line asks for is there, and how many items the call looked at.
-fn finds(map: &AddressMap, line: &Line) -> (bool, u32)
-    requires { IsSound (store_of map.now) }
-{
+// A heap of 256 bytes with a block of 20, and one of 64 bytes at &9200; the first one grows, is refused six times, and shrinks to its block.
+#[test]
+fn changing_a_heap_looks_at_no_item(rt: HostRuntime) -> Result<(), Fail> {
     let heaps = Heaps::new();
-    match *line {
-        Line::Describe(heap, answer) => {
-            let described = heaps.describe(map, heap);
-            (described.answer == answer, described.probes)
-        }
-        Line::Size(heap, block, answer) => {
-            let size = heaps.block_size(map, heap, block);
-            (size.answer == answer, size.probes)
-        }
-        Line::Word(address, word) => (map.load_word(address) == Ok(word), 0),
-        Line::Is(address, class) => (map.class(address) == class, 0),
-        _ => (true, 0),
-    }
+    let mut map = begin(rt.alloc())?;
+    let _ = heaps.get(&mut map, HEAP, 20);
+    let _ = heaps.init(&mut map, 0x9200, 64);
+    assert!(rt; heaps.change_size(&mut map, HEAP, 64).probes == 0);
+    assert!(rt; heaps.change_size(&mut map, 0x9010, 64).probes == 0);
+    assert!(rt; heaps.change_size(&mut map, HEAP, 2).probes == 0);
+    assert!(rt; heaps.change_size(&mut map, HEAP, 260).probes == 0);
+    assert!(rt; heaps.change_size(&mut map, HEAP, 0xF04).probes == 0);
+    assert!(rt;
+        heaps
+            .change_size(&mut map, HEAP, 308u32.wrapping_neg())
+            .probes
+            == 0
+    );
+    assert!(rt;
+        heaps
+            .change_size(&mut map, HEAP, 284u32.wrapping_neg())
+            .probes
+            == 0
+    );
+    assert!(rt;
+        heaps
+            .change_size(&mut map, HEAP, 280u32.wrapping_neg())
+            .probes
+            == 0
+    );
+    Ok(())
+}
+
+#[test]
+fn a_walk_ends_at_the_block(rt: HostRuntime) -> Result<(), Fail> {
+    let heaps = Heaps::new();
+    let map = with_blocks(rt.alloc())?;
+    assert!(rt; heaps.block_size(&map, HEAP, 0x9014).probes == 1);
+    assert!(rt; heaps.block_size(&map, HEAP, 0x9044).probes == 3);
+    assert!(rt; heaps.block_size(&map, HEAP, 0x902C).probes == 2);
+    assert!(rt; heaps.block_size(&map, HEAP, 0x9012).probes == 0);
+    assert!(rt; heaps.describe(&map, HEAP).probes == 1);
+    Ok(())
+}
+
+// The first and the third of four blocks are freed, and two are claimed: one past the free room, and one that is the first of it.
+#[test]
+fn links_are_followed_to_the_first_that_fits(rt: HostRuntime) -> Result<(), Fail> {
+    let heaps = Heaps::new();
+    let mut map = with_blocks(rt.alloc())?;
+    let _ = heaps.get(&mut map, HEAP, 20);
+    assert!(rt; heaps.free(&mut map, HEAP, 0x9014).probes == 1);
+    assert!(rt; heaps.free(&mut map, HEAP, 0x9044).probes == 3);
+    assert!(rt; heaps.get(&mut map, HEAP, 28).probes == 2);
+    assert!(rt; heaps.get(&mut map, HEAP, 20).probes == 1);
+    Ok(())
+}
+
+#[test]
+fn a_first_block_is_found_at_once(rt: HostRuntime) -> Result<(), Fail> {
+    assert!(rt; probes_of_resize(rt.alloc(), HEAP, 0x9014, 20u32.wrapping_neg())? == 1);
+    assert!(rt; probes_of_resize(rt.alloc(), HEAP, 0x9014, 0x8000_0000)? == 1);
+    assert!(rt; probes_of_resize(rt.alloc(), HEAP, 0x9014, 19u32.wrapping_neg())? == 1);
+    assert!(rt; probes_of_resize(rt.alloc(), HEAP, 0x9014, 0)? == 1);
+    assert!(rt; probes_of_resize(rt.alloc(), HEAP, 0x9014, 7u32.wrapping_neg())? == 1);
+    assert!(rt; probes_of_resize(rt.alloc(), HEAP, 0x9014, 1)? == 1);
+    assert!(rt; probes_of_resize(rt.alloc(), HEAP, 0x9014, 8)? == 1);
+    assert!(rt; probes_of_resize(rt.alloc(), HEAP, 0x9014, 24)? == 1);
+    Ok(())
+}
+
+// Free room is looked through for a block that has to move.
+#[test]
+fn a_move_looks_at_free_room_too(rt: HostRuntime) -> Result<(), Fail> {
+    assert!(rt; probes_of_resize(rt.alloc(), HEAP, 0x9014, 25)? == 2);
+    assert!(rt; probes_of_resize(rt.alloc(), HEAP, 0x9014, 0x7FFF_FFFF)? == 2);
+    assert!(rt; probes_of_resize(rt.alloc(), HEAP, 0x9044, 8)? == 5);
+    assert!(rt; probes_of_resize(rt.alloc(), HEAP, 0x9044, 8u32.wrapping_neg())? == 3);
+    assert!(rt; probes_of_resize(rt.alloc(), HEAP, 0x905C, 145)? == 5);
+    Ok(())
+}
+
+#[test]
+fn a_last_block_is_behind_all_others(rt: HostRuntime) -> Result<(), Fail> {
+    assert!(rt; probes_of_resize(rt.alloc(), HEAP, 0x905C, 8)? == 4);
+    assert!(rt; probes_of_resize(rt.alloc(), HEAP, 0x905C, 144)? == 4);
+    assert!(rt; probes_of_resize(rt.alloc(), HEAP, 0x905C, 8u32.wrapping_neg())? == 4);
+    assert!(rt; probes_of_resize(rt.alloc(), HEAP, 0x905C, 19u32.wrapping_neg())? == 4);
+    assert!(rt; probes_of_resize(rt.alloc(), HEAP, 0x905C, 20u32.wrapping_neg())? == 4);
+    Ok(())
+}
+
+#[test]
+fn what_is_no_block_is_looked_for_up_to_there(rt: HostRuntime) -> Result<(), Fail> {
+    assert!(rt; probes_of_resize(rt.alloc(), 0x9100, 0x9014, 8)? == 0);
+    assert!(rt; probes_of_resize(rt.alloc(), HEAP, 0x902C, 8)? == 2);
+    assert!(rt; probes_of_resize(rt.alloc(), HEAP, 0x9018, 0)? == 1);
+    assert!(rt; probes_of_resize(rt.alloc(), HEAP, 0x9016, 0)? == 1);
+    Ok(())
+}
+
+#[test]
+fn a_block_is_told_by_any_of_its_bytes(rt: HostRuntime) -> Result<(), Fail> {
+    let heaps = Heaps::new();
+    let mut map = begin(rt.alloc())?;
+    let _ = heaps.get(&mut map, HEAP, 20);
+    let held = Payload::Inside {
+        at: 0x9014,
+        len: 20,
+    };
+    assert!(rt; heaps.live_payload(&map, 0x9013) == Payload::Other);
+    assert!(rt; heaps.live_payload(&map, 0x9014) == held);
+    assert!(rt; heaps.live_payload(&map, 0x9027) == held);
+    assert!(rt; heaps.live_payload(&map, 0x9028) == Payload::Other);
+    assert!(rt; heaps.live_payload(&map, 0x90FF) == Payload::Other);
+    assert!(rt; heaps.live_payload(&map, 0x9100) == Payload::Outside);
+    Ok(())
+}
+
+#[test]
+fn owned_words_are_a_heaps(rt: HostRuntime) -> Result<(), Fail> {
+    let heaps = Heaps::new();
+    let mut map = with_blocks(rt.alloc())?;
+    assert!(rt; map.class(0x9000) == Class::Heap);
+    assert!(rt; map.class(0x900F) == Class::Heap);
+    assert!(rt; map.class(0x9010) == Class::Heap);
+    assert!(rt; map.class(0x9014) == Class::Plain);
+    assert!(rt; map.class(0x9028) == Class::Heap);
+    assert!(rt; map.class(0x902C) == Class::Heap);
+    assert!(rt; map.class(0x9030) == Class::Plain);
+    let _ = heaps.resize(&mut map, HEAP, 0x9014, 8);
+    assert!(rt; map.class(0x9028) == Class::Plain);
+    assert!(rt; map.class(0x902C) == Class::Plain);
+    assert!(rt; map.class(0x9030) == Class::Heap);
+    assert!(rt; map.class(0x9034) == Class::Heap);
+    Ok(())
 }

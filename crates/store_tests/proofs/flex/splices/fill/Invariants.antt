@@ -1,5 +1,0 @@
-use Rattle.flex_store.specs.Tested.{IsBench}
-use Rattle.store_tests.proofs.flex.splices.fill.Given as goal
-
-abbrev pub invariant-loop-index : goal.invariant-loop-index
-invariant-loop-index l = IsBench l.map l.flex

@@ -1,7 +1,0 @@
-use Rattle.std.proofs.Common.{arith}
-use Rattle.os_heap.proofs.Replace.{heap_below}
-use Rattle.os_heap.specs.Outcomes.{end_at}
-use Rattle.store_tests.proofs.slides.is_unanchored.Goals as goal
-
-pub overflow_add-heap : goal.overflow_add-heap
-overflow_add-heap c = omega (arith, heap_below c.args.map.now c.args.heap (end_at c.args.map.now c.args.heap) _ c.requires, c.requires.inside)

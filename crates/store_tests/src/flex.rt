@@ -1,4 +1,0 @@
-mod anchors;
-mod bench;
-mod blocks;
-mod splices;
