@@ -1,7 +1,7 @@
 use Rattle.std.proofs.Common.{◌∙◌, ap}
-use Rattle.rosm_settings.specs.CommandLine.{refusal_of}
-use Rattle.rosm_settings.proofs.CommandLineLemmas.{line_refused, line_taken, rows_taken}
-use Rattle.rosm_settings.proofs.command_line.matches_for.Goals as goal
+use Rattle.command_line.specs.Settings.{refusal_of}
+use Rattle.command_line.proofs.SettingsLemmas.{line_refused, line_taken, rows_taken}
+use Rattle.command_line.proofs.reading.matches_for.Goals as goal
 
 pub returns-in-Ok-clause-line : goal.returns-in-Ok-clause-line
 returns-in-Ok-clause-line c = line_taken _ _ c.in_ok-command.ensures c.in-Ok.ensures.kinds

@@ -1,6 +1,6 @@
 //! What is wrong with words that are no command line, for the person who typed them.
 
-use crate::command_line::{command, size};
+use crate::reading::{command, size};
 use clap::ArgMatches;
 use clap::error::{Error, ErrorKind};
 use std::alloc::{AllocError, Global};

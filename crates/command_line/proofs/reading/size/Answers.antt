@@ -1,7 +1,7 @@
 use Rattle.std.proofs.Common.{◌∙◌}
 use Rattle.clap.specs.Words.{found_of}
-use Rattle.rosm_settings.proofs.CommandLineLemmas.{option_number-none, option_number-read}
-use Rattle.rosm_settings.proofs.command_line.size.Goals as goal
+use Rattle.command_line.proofs.SettingsLemmas.{option_number-none, option_number-read}
+use Rattle.command_line.proofs.reading.size.Goals as goal
 
 pub returns-in_err-get_str : goal.returns-in_err-get_str
 returns-in_err-get_str c = c.from_residual.ensures ∙ option_number-none _ (found_of c.args.matches.now) _ c.in_err-get_str.ensures

@@ -1,7 +1,7 @@
 ghost use Rattle.std.specs.Prelude.{◌≡◌, ◌≢◌, IfOk, IfErr, OnOk, Err, map, true, false, List, codes};
 ghost use Rattle.clap.specs.Words.{app_of, found_of, rows_of, rule_of, with_rule};
-ghost use Rattle.rosm_settings.specs.CommandLine.{file_rule, files_in, is_line, option_number, option_rule, refusal_of, rosm, rows_for, settings_for};
-ghost use Rattle.rosm_settings.specs.CommandLine.{settings_in as settings_from};
+ghost use Rattle.command_line.specs.Settings.{file_rule, files_in, is_line, option_number, option_rule, refusal_of, rosm, rows_for, settings_for};
+ghost use Rattle.command_line.specs.Settings.{settings_in as settings_from};
 
 use crate::files::Files;
 use crate::options::{Settings, SettingsError};
@@ -19,14 +19,14 @@ use std::alloc::{AllocError, Global};
 ///
 /// `Line` where the words are no command line, ask for help, or have a number that is none or too
 /// large; then `Sizes`, as [`Config::new`] refuses them; `Memory` where memory ran out.
-#[tactic(auto, unfolding(crate::specs::CommandLine::settings_for))]
+#[tactic(auto, unfolding(crate::specs::Settings::settings_for))]
 pub fn settings(alloc: Global, words: &[&str]) -> Result<Settings, SettingsError>
     ensures { result ≢ Err SettingsError.Memory → result ≡ settings_for (map (λ w. w.now) words.now) }
 {
     settings_in(alloc, &matches_for(alloc, words)?)
 }
 
-#[tactic(auto, unfolding(crate::specs::CommandLine::settings_in))]
+#[tactic(auto, unfolding(crate::specs::Settings::settings_in))]
 fn settings_in(alloc: Global, matches: &ArgMatches<'_>) -> Result<Settings, SettingsError>
     ensures { result ≢ Err SettingsError.Memory → result ≡ settings_from (rows_of (found_of matches.now)) }
 {
@@ -56,7 +56,7 @@ fn steps(matches: &ArgMatches<'_>, name: &str) -> Option<u64>
     matches.get_str(name)?.parse::<u64>().ok()
 }
 
-#[tactic(auto, using(crate::proofs::CommandLineLemmas::file_steps), unfolding(crate::specs::CommandLine::files_in))]
+#[tactic(auto, using(crate::proofs::SettingsLemmas::file_steps), unfolding(crate::specs::Settings::files_in))]
 fn file_words(alloc: Global, matches: &ArgMatches<'_>) -> Result<Files, AllocError>
     ensures { IfOk result (λ f. f ≡ files_in (rows_of (found_of matches.now))) }
 {

@@ -1,7 +1,8 @@
-use profile::Config;
-use rosm_settings::{Files, Settings, SettingsError, settings};
+use command_line::{Files, Settings, SettingsError, line_reason, settings, stop_status};
+use profile::{Config, Fault, Stop};
 use std::alloc::Global;
 use std::process::Abort;
+use std::test::Fail;
 
 // The settings of these words, which are to be taken.
 fn taken(rt: &impl Abort, alloc: Global, words: &[&str]) -> Settings {
@@ -79,4 +80,51 @@ fn words_are_refused_and_then_sizes(rt: HostRuntime) {
         let refusal = settings(rt.alloc(), words).expect_err(&rt, "a refusal");
         assert_eq!(rt; refusal, error);
     }
+}
+
+// What clap or a number's option has against these words.
+static REASONS: [(&[&str], &str); 7] = [
+    (
+        &["rosm", "--size", "3"],
+        "unexpected argument '--size' found",
+    ),
+    (&["rosm", "-x\ny"], "unexpected argument '-x' found"),
+    (
+        &["rosm", "--pages"],
+        "a value is required for '--pages <pages>' but none was supplied",
+    ),
+    (
+        &["rosm", "--budget", "5", "--budget", "5"],
+        "the argument '--budget <budget>' cannot be used multiple times",
+    ),
+    (
+        &["rosm", "--pages", "x\ny"],
+        "--pages takes a number of at most 4294967295, not \"x\\ny\"",
+    ),
+    (
+        &["rosm", "--budget", "18446744073709551616"],
+        "--budget takes a number of at most 18446744073709551615, not \"18446744073709551616\"",
+    ),
+    (
+        &["rosm", "--help"],
+        "the script is standard input, and each FILE is an image for it",
+    ),
+];
+
+#[test]
+fn a_refused_line_names_what_was_typed(rt: HostRuntime) -> Result<(), Fail> {
+    for (words, expected) in REASONS {
+        let reason = line_reason(rt.alloc(), words)?;
+        assert_eq!(rt; reason.as_str(), expected);
+    }
+    Ok(())
+}
+
+#[test]
+fn the_status_tells_how_a_script_ended(rt: HostRuntime) {
+    assert_eq!(rt; stop_status(Some(Stop::Exit)), 0);
+    assert_eq!(rt; stop_status(Some(Stop::Fault(Fault::ErrorStop(80)))), 1);
+    assert_eq!(rt; stop_status(Some(Stop::Budget)), 3);
+    assert_eq!(rt; stop_status(Some(Stop::Break(0x8000))), 3);
+    assert_eq!(rt; stop_status(None), 3);
 }

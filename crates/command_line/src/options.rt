@@ -1,5 +1,5 @@
 ghost use Rattle.std.specs.Prelude.{◌≡◌};
-ghost use Rattle.rosm_settings.specs.declared.options.SettingsError.TheVariants.{Memory};
+ghost use Rattle.command_line.specs.declared.options.SettingsError.TheVariants.{Memory};
 
 use crate::files::Files;
 use profile::Config;

@@ -1,6 +1,6 @@
 -- The program's command line: `rosm [--pages N] [--app N] [--rma N] [--budget N] [FILE...]`, and what it asks for.
 -- Which words go to which option, and which are files, is clap's definition of the matches of a command.
-use Rattle.std.specs.Prelude.{◌≡◌, ℕ, ◌^◌, ◌&&◌, Bool, true, false, List, [], ◌∷◌, length, nat_lt, Option, Some, None, Result, Ok, Err}
+use Rattle.std.specs.Prelude.{ℕ, ◌^◌, ◌&&◌, Bool, true, false, List, [], ◌∷◌, length, nat_lt, Option, Some, None, Result, Ok, Err}
 use Rattle.std.specs.Prelude.{if◌then◌else◌, codes, unwrap_or, option_and_then}
 use Rattle.std.specs.List.{list_all}
 use Rattle.std.specs.Option.{ok_or}
@@ -12,11 +12,9 @@ use Rattle.clap.specs.Words.{App, Kinds, Row, Rule, all_of, fault_of, first_of, 
 use Rattle.clap.specs.declared.builder.action.ArgAction.TheVariants.{Append}
 use Rattle.clap.specs.declared.error.kind.ErrorKind.{ErrorKind}
 use Rattle.clap.specs.declared.error.kind.ErrorKind.TheVariants.{OutOfMemory}
-use Rattle.rosm_settings.specs.declared.options.Settings.{Settings}
-use Rattle.rosm_settings.specs.declared.options.SettingsError.{SettingsError}
-use Rattle.rosm_settings.specs.declared.refusal.Refusal.{Refusal}
-use Rattle.rosm_settings.specs.declared.refusal.Refusal.TheVariants as refusal
-use Rattle.rosm_settings.specs.declared.options.SettingsError.TheVariants as refused
+use Rattle.command_line.specs.declared.options.Settings.{Settings}
+use Rattle.command_line.specs.declared.options.SettingsError.{SettingsError}
+use Rattle.command_line.specs.declared.options.SettingsError.TheVariants as refused
 
 -- `--name N`, once at most, with a default
 abbrev pub option_rule : List ℕ → List ℕ → Rule
@@ -86,10 +84,3 @@ settings_in rows =
 -- what the words ask for, or why they are refused
 unfoldable pub settings_for : List (List ℕ) → Result Settings SettingsError
 settings_for words = if is_line words then settings_in (rows_for words) else Err refused.Line
-
--- The refusal is that of the words; want of memory may come at any words.
-abbrev pub IsRefusalOf : Result Settings SettingsError → Refusal → Type 0
-IsRefusalOf answer refusal.Memory = Unit {0}
-IsRefusalOf answer (refusal.Line reason) = answer ≡ Err refused.Line
-IsRefusalOf answer refusal.Sizes = answer ≡ Err refused.Sizes
-IsRefusalOf answer _ = ⊥

@@ -13,8 +13,8 @@ use Rattle.clap.specs.declared.parser.matches.ArgMatches.{ArgMatches}
 use Rattle.clap.specs.declared.parser.matches.Found.{Found}
 use Rattle.clap.proofs.OnLiterals.{clap_on_literals}
 use Rattle.clap.proofs.WalkLemmas.{first_value-rows, raw_values-rows}
-use Rattle.rosm_settings.specs.declared.options.SettingsError.TheVariants.{Memory, Line}
-use Rattle.rosm_settings.specs.CommandLine.{is_empty, is_line, is_memory, is_numeral, number_of, option_number, refusal_of, rosm, rows_for}
+use Rattle.command_line.specs.declared.options.SettingsError.TheVariants.{Memory, Line}
+use Rattle.command_line.specs.Settings.{is_empty, is_line, is_memory, is_numeral, number_of, option_number, refusal_of, rosm, rows_for}
 
 -- ---- numbers
 

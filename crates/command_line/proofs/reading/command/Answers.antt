@@ -1,8 +1,8 @@
 use Rattle.std.proofs.Common.{◌∙◌, ap₂}
 use Rattle.std.proofs.lemmas.Result.{IfOk-weaker}
 use Rattle.clap.specs.Words.{with_rule}
-use Rattle.rosm_settings.specs.CommandLine.{rosm}
-use Rattle.rosm_settings.proofs.command_line.command.Goals as goal
+use Rattle.command_line.specs.Settings.{rosm}
+use Rattle.command_line.proofs.reading.command.Goals as goal
 
 pub returns : goal.returns
 unfolding rosm
