@@ -1,4 +1,4 @@
-//! Tests of what all else stands on: names, sizes, devices, images by name, and the headers of modules.
+//! Tests of what stands low: names, sizes, devices, images by name, headers of modules, and the command line.
 //!
 //! They stand apart from the crates that they test, since a crate with tests is proved once more with them.
 #![tactic(auto)]
@@ -13,3 +13,5 @@ mod images;
 mod names;
 #[cfg(test)]
 mod sizes;
+#[cfg(test)]
+mod words;

@@ -1,8 +1,7 @@
 use image_loader::Images;
 use profile::{Device, MemorySink, MemorySource, Stop};
 use rosm_settings::image_files::add_image;
-use rosm_settings::refusal::stop_status;
-use rosm_settings::{Refusal, RunError, answer_script, run, settings};
+use rosm_settings::{Refusal, RunError, answer_script, run, settings, stop_status};
 use std::io;
 use std::io::{BufWriter, ErrorKind, Write};
 use std::test::Fail;

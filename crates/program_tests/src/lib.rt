@@ -1,12 +1,10 @@
-//! Tests of the program's command line, its files, its answers and its endings.
+//! Tests of the program's files, its answers and its endings.
 //!
 //! They stand apart from the crate that they test, since a crate with tests is proved once more with them.
 #![tactic(auto)]
 
 #[cfg(test)]
 mod answers;
-#[cfg(test)]
-mod command_line;
 #[cfg(test)]
 mod files;
 #[cfg(test)]

@@ -1,62 +1,16 @@
 use image_loader::ImageError;
-use profile::{Fault, Stop};
 use rosm_settings::image_files::FileError;
-use rosm_settings::line_reason::line_reason;
-use rosm_settings::refusal::stop_status;
 use rosm_settings::{Refusal, RunError, SettingsError};
 use std::test::Fail;
 
 #[test]
-fn the_status_tells_how_it_ended(rt: HostRuntime) -> Result<(), Fail> {
-    assert_eq!(rt; stop_status(Some(Stop::Exit)), 0);
-    assert_eq!(rt; stop_status(Some(Stop::Fault(Fault::ErrorStop(80)))), 1);
-    assert_eq!(rt; stop_status(Some(Stop::Budget)), 3);
-    assert_eq!(rt; stop_status(Some(Stop::Break(0x8000))), 3);
-    assert_eq!(rt; stop_status(None), 3);
+fn the_status_tells_what_was_refused(rt: HostRuntime) -> Result<(), Fail> {
     let line = Refusal::Line(String::from_str(rt.alloc(), "a word")?);
     assert_eq!(rt; line.status(), 2);
     assert_eq!(rt; Refusal::Sizes.status(), 2);
     assert_eq!(rt; Refusal::Memory.status(), 4);
     assert_eq!(rt; Refusal::File("a", FileError::Missing).status(), 4);
     assert_eq!(rt; Refusal::Script(RunError::ScriptTooLong).status(), 4);
-    Ok(())
-}
-
-// What clap or a number's option has against these words.
-static REASONS: [(&[&str], &str); 7] = [
-    (
-        &["rosm", "--size", "3"],
-        "unexpected argument '--size' found",
-    ),
-    (&["rosm", "-x\ny"], "unexpected argument '-x' found"),
-    (
-        &["rosm", "--pages"],
-        "a value is required for '--pages <pages>' but none was supplied",
-    ),
-    (
-        &["rosm", "--budget", "5", "--budget", "5"],
-        "the argument '--budget <budget>' cannot be used multiple times",
-    ),
-    (
-        &["rosm", "--pages", "x\ny"],
-        "--pages takes a number of at most 4294967295, not \"x\\ny\"",
-    ),
-    (
-        &["rosm", "--budget", "18446744073709551616"],
-        "--budget takes a number of at most 18446744073709551615, not \"18446744073709551616\"",
-    ),
-    (
-        &["rosm", "--help"],
-        "the script is standard input, and each FILE is an image for it",
-    ),
-];
-
-#[test]
-fn a_refused_line_names_what_was_typed(rt: HostRuntime) -> Result<(), Fail> {
-    for (words, expected) in REASONS {
-        let reason = line_reason(rt.alloc(), words)?;
-        assert_eq!(rt; reason.as_str(), expected);
-    }
     Ok(())
 }
 

@@ -5,8 +5,8 @@ use Rattle.profile.specs.declared.stop.Stop.{Stop}
 use Rattle.image_loader.specs.Entries.{Entry}
 use Rattle.command_shell.specs.Script.{script_told}
 use Rattle.command_shell.specs.State.{Answered}
+use Rattle.command_line.specs.declared.options.Settings.{Settings}
 use Rattle.rosm_settings.specs.ImageFiles.{names_for, names_of}
-use Rattle.rosm_settings.specs.declared.options.Settings.{Settings}
 
 -- what a script is answered with on a machine of the settings' sizes, within their budget
 abbrev pub answers_to : Settings → List Entry → List ℕ → Answered

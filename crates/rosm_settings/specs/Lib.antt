@@ -1,4 +1,4 @@
+pub use Rattle.command_line
 pub mod Answering
-pub mod CommandLine
+pub mod Endings
 pub mod ImageFiles
-pub mod Status

@@ -5,8 +5,8 @@ ghost use Rattle.profile.specs.Output.{AppendsFront};
 ghost use Rattle.rosm_settings.specs.Answering.{AnswersScript, answers_to};
 
 use crate::image_files::add_files;
-use crate::options::Settings;
 use crate::refusal::Refusal;
+use command_line::Settings;
 use command_shell::{RunError, run_script};
 use image_loader::Images;
 use profile::{Device, Sink, Source, Stop};

@@ -3,8 +3,8 @@ ghost use Rattle.std.specs.Path.{path_file_name};
 ghost use Rattle.rosm_settings.specs.ImageFiles.{file_error as error_of};
 ghost use Rattle.rosm_settings.specs.ImageFiles.{AddsImage, RefusesImage, StopsAtFile, front_of, is_host_error, names_for, names_of};
 
-use crate::files::Files;
 use crate::refusal::Refusal;
+use command_line::Files;
 use image_loader::{ImageError, Images};
 use profile::memory_map::MOST_BYTES;
 use std::alloc::Global;

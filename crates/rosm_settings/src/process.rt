@@ -1,14 +1,12 @@
 //! The program's process: its words, its standard streams and its exit status.
 ghost use Rattle.std.specs.Prelude.{◌≡◌, ◌≢◌, IfErr, IfOk, Ok, map, string_bytes};
 ghost use Rattle.std.specs.Process.{exit_status};
-ghost use Rattle.rosm_settings.specs.CommandLine.{IsRefusalOf, settings_for};
-ghost use Rattle.rosm_settings.specs.Status.{status_of};
+ghost use Rattle.command_line.specs.Settings.{settings_for};
+ghost use Rattle.rosm_settings.specs.Endings.{IsRefusalOf, status_of};
 
 use crate::answering::run;
-use crate::command_line::settings;
-use crate::line_reason::line_reason;
-use crate::options::{Settings, SettingsError};
-use crate::refusal::{Refusal, stop_status};
+use crate::refusal::Refusal;
+use command_line::{Settings, SettingsError, line_reason, settings, stop_status};
 use profile::{Device, Stop};
 use std::alloc::{AllocError, Global};
 use std::env::Env;

@@ -1,10 +1,8 @@
 ghost use Rattle.std.specs.Prelude.{◌≡◌};
-ghost use Rattle.rosm_settings.specs.Status.{status_after};
 
 use crate::image_files::FileError;
-use crate::options::{SettingsError, USAGE};
+use command_line::{SettingsError, USAGE};
 use command_shell::RunError;
-use profile::Stop;
 use std::alloc::AllocError;
 use thiserror::Error;
 
@@ -29,7 +27,7 @@ pub enum Refusal<'a> {
 }
 
 impl Refusal<'_> {
-    ghost use Rattle.rosm_settings.specs.Status.{refusal_status};
+    ghost use Rattle.rosm_settings.specs.Endings.{refusal_status};
 
     /// The exit status: 2 for a command line that can't be, else 4.
     pub fn status(&self) -> u8
@@ -59,17 +57,5 @@ impl<'a> From<RunError> for Refusal<'a> {
 
     fn from(error: RunError) -> Refusal<'a> {
         Refusal::Script(error)
-    }
-}
-
-/// The exit status after a script: 0 where the last stop was OS_Exit, 1 where it was a fault, and
-/// 3 where steps or breaks ended it, or nothing ran.
-pub fn stop_status(last: Option<Stop>) -> u8
-    ensures { result ≡ status_after last }
-{
-    match last {
-        Some(Stop::Exit) => 0,
-        Some(Stop::Fault(_)) => 1,
-        Some(Stop::Budget) | Some(Stop::Break(_)) | None => 3,
     }
 }

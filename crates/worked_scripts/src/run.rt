@@ -1,13 +1,14 @@
 ghost use Rattle.std.specs.Prelude.{◌≡◌, IfOk, None};
+ghost use Rattle.command_line.specs.Status.{status_after};
 ghost use Rattle.command_shell.specs.Script.{script_told};
-ghost use Rattle.worked_scripts.specs.Status.{status_after};
 
 use crate::difference::Difference;
 use crate::error::TranscriptError;
 use crate::transcript::Transcript;
+use command_line::stop_status;
 use command_shell::{RunError, run_script};
 use image_loader::Images;
-use profile::{Config, Device, MemorySink, Stop};
+use profile::{Config, Device, MemorySink};
 use std::alloc::{AllocError, Global};
 
 /// The most bytes that the answers of a transcript may have.
@@ -90,17 +91,6 @@ fn outcome_of(
         answer: Vec::from_slice(alloc, writer.written())?,
         status: stop_status(summary.last),
     })
-}
-
-// The exit status of the program `rosm`.
-fn stop_status(last: Option<Stop>) -> u8
-    ensures { result ≡ status_after last }
-{
-    match last {
-        Some(Stop::Exit) => 0,
-        Some(Stop::Fault(_)) => 1,
-        Some(Stop::Budget | Stop::Break(_)) | None => 3,
-    }
 }
 
 // The first line that differs. Texts that are equal are not looked at line by line.

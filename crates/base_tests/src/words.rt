@@ -1,0 +1,130 @@
+use command_line::{Files, Settings, SettingsError, line_reason, settings, stop_status};
+use profile::{Config, Fault, Stop};
+use std::alloc::Global;
+use std::process::Abort;
+use std::test::Fail;
+
+// The settings of these words, which are to be taken.
+fn taken(rt: &impl Abort, alloc: Global, words: &[&str]) -> Settings {
+    settings(alloc, words).expect(rt, "settings")
+}
+
+fn has_sizes(config: Config, pages: u32, app: u32, rma: u32) -> bool {
+    config.pages() == pages && config.app() == app && config.rma() == rma
+}
+
+fn name_at<'a>(rt: &impl Abort, files: &'a Files, n: usize) -> &'a str {
+    assert!(rt; n < files.len());
+    files.get(n)
+}
+
+#[test]
+fn the_name_alone_gives_the_defaults(rt: HostRuntime) {
+    let settings = taken(&rt, rt.alloc(), &["rosm"]);
+    assert!(rt; has_sizes(settings.config, 256, 64, 16));
+    assert_eq!(rt; settings.budget, 1_000_000);
+    assert_eq!(rt; settings.files.len(), 0);
+}
+
+#[test]
+fn options_stand_with_a_space_or_an_equals_sign(rt: HostRuntime) {
+    let words = [
+        "rosm",
+        "--pages=11",
+        "--app",
+        "6",
+        "--rma=+2",
+        "--budget",
+        "18446744073709551615",
+    ];
+    let settings = taken(&rt, rt.alloc(), &words);
+    assert!(rt; has_sizes(settings.config, 11, 6, 2));
+    assert_eq!(rt; settings.budget, u64::MAX);
+}
+
+#[test]
+fn other_words_are_files_in_order(rt: HostRuntime) {
+    let words = ["rosm", "b", "--budget", "5", "-", "--", "--pages", "b"];
+    let settings = taken(&rt, rt.alloc(), &words);
+    assert!(rt; has_sizes(settings.config, 256, 64, 16));
+    assert_eq!(rt; settings.budget, 5);
+    assert_eq!(rt; settings.files.len(), 4);
+    assert_eq!(rt; name_at(&rt, &settings.files, 0), "b");
+    assert_eq!(rt; name_at(&rt, &settings.files, 1), "-");
+    assert_eq!(rt; name_at(&rt, &settings.files, 2), "--pages");
+    assert_eq!(rt; name_at(&rt, &settings.files, 3), "b");
+}
+
+// The words after the program's name, and why they are refused.
+static REFUSED: [(&[&str], SettingsError); 9] = [
+    (
+        &["rosm", "--pages", "10", "--app", "6", "--rma", "2"],
+        SettingsError::Sizes,
+    ),
+    (&["rosm", "--pages", "1025"], SettingsError::Sizes),
+    (&["rosm", "--app", "0"], SettingsError::Sizes),
+    (
+        &["rosm", "--app", "0", "--budget", "x"],
+        SettingsError::Line,
+    ),
+    (&["rosm", "--pages="], SettingsError::Line),
+    (&["rosm", "--pages=-0"], SettingsError::Line),
+    (&["rosm", "--pages", "-5"], SettingsError::Line),
+    (&["rosm", "--rma", "4294967296"], SettingsError::Line),
+    (&["rosm", "--version"], SettingsError::Line),
+];
+
+#[test]
+fn words_are_refused_and_then_sizes(rt: HostRuntime) {
+    for (words, error) in REFUSED {
+        let refusal = settings(rt.alloc(), words).expect_err(&rt, "a refusal");
+        assert_eq!(rt; refusal, error);
+    }
+}
+
+// What clap or a number's option has against these words.
+static REASONS: [(&[&str], &str); 7] = [
+    (
+        &["rosm", "--size", "3"],
+        "unexpected argument '--size' found",
+    ),
+    (&["rosm", "-x\ny"], "unexpected argument '-x' found"),
+    (
+        &["rosm", "--pages"],
+        "a value is required for '--pages <pages>' but none was supplied",
+    ),
+    (
+        &["rosm", "--budget", "5", "--budget", "5"],
+        "the argument '--budget <budget>' cannot be used multiple times",
+    ),
+    (
+        &["rosm", "--pages", "x\ny"],
+        "--pages takes a number of at most 4294967295, not \"x\\ny\"",
+    ),
+    (
+        &["rosm", "--budget", "18446744073709551616"],
+        "--budget takes a number of at most 18446744073709551615, not \"18446744073709551616\"",
+    ),
+    (
+        &["rosm", "--help"],
+        "the script is standard input, and each FILE is an image for it",
+    ),
+];
+
+#[test]
+fn a_refused_line_names_what_was_typed(rt: HostRuntime) -> Result<(), Fail> {
+    for (words, expected) in REASONS {
+        let reason = line_reason(rt.alloc(), words)?;
+        assert_eq!(rt; reason.as_str(), expected);
+    }
+    Ok(())
+}
+
+#[test]
+fn the_status_tells_how_a_script_ended(rt: HostRuntime) {
+    assert_eq!(rt; stop_status(Some(Stop::Exit)), 0);
+    assert_eq!(rt; stop_status(Some(Stop::Fault(Fault::ErrorStop(80)))), 1);
+    assert_eq!(rt; stop_status(Some(Stop::Budget)), 3);
+    assert_eq!(rt; stop_status(Some(Stop::Break(0x8000))), 3);
+    assert_eq!(rt; stop_status(None), 3);
+}
