@@ -64,5 +64,5 @@ change_stop s next e areas size err =
 pub moving_stop : (p : Parts) (next number : ℕ) (name : Option SwiName) (e : ErrorNumber) → IsWellFormed p → length p.cpu.file ≡ 26
     → name ≡ Some swi.ChangeDynamicArea → (change_asked (state_of p).cpu (machine_estate (state_of p))).error ≡ Some e
     → ended (state_of p) false (call_answer (state_of p) next number name) ≡ halted (state_of p) (halt.Fault (ErrorStop (error_code e)))
-unfolding call_answer state_of
+unfolding call_answer
 moving_stop p next number name e well size is err = rw is (change_stop (state_of p) next e well.areas size err)

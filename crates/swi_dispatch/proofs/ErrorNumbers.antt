@@ -64,6 +64,5 @@ block_read s caller next e mapped size =
 
 pub system_number : (p : Parts) (caller : Psr) (next : ℕ) (e : ErrorNumber) → IsWellFormed p → length p.cpu.file ≡ 26
     → error_number (gone_back caller (with_error (state_of p) (refusal.System e)) true next) ≡ error_code e
-unfolding state_of
 system_number p caller next e well size =
     block_read (state_of p) caller next e (system_mapped (store_of p.map) (free_pages p.map) p.tables.land well.areas 0x01C02100 refl) size

@@ -219,7 +219,6 @@ starts_by s t old w (Ok r) p n gives state next = (
 
 -- a machine on which no call on modules is under way
 pub is_free : (p : Parts) → IsWellFormed p → (state_of p).tables.plan ≡ None → length (state_of p).tables.frames < 32 → IsFree (state_of p)
-unfolding state_of
 is_free p well none room = record {
   none = none;
   room = room;

@@ -31,7 +31,7 @@ pub record Parts : Type 0 where
   pub is_fresh : Bool
   pub printed : List ℕ
 
-unfoldable pub state_of : Parts → MachineState
+abbrev pub state_of : Parts → MachineState
 state_of p = record { cpu = p.cpu; store = store_of p.map; pool = free_pages p.map; tables = p.tables; halt = p.halt }
 
 -- the written machine, and what the last step printed

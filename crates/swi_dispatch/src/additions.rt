@@ -129,7 +129,6 @@ impl Machine {
     }
 
     // An image gets a block of the module area, and the plan of its call is begun.
-    #[tactic(auto, unfolding(crate::specs::Parts::state_of))]
     fn place_image(&mut self, image: &[u8], text: &[u8]) -> Result<Next, ErrorNumber>
         requires stepped { self.old.is_fresh ≡ false }
         requires short { length text.now ≤ 255 }
@@ -151,7 +150,6 @@ impl Machine {
     }
 
     // An image is recorded where it stands, and the plan of its call is begun.
-    #[tactic(auto, unfolding(crate::specs::Parts::state_of))]
     fn record_image(&mut self, at: u32, len: u32) -> Result<Next, ErrorNumber>
         requires stepped { self.old.is_fresh ≡ false }
         requires free { IsFree (state_of self.old) }
@@ -172,7 +170,6 @@ impl Machine {
     }
 
     // A copy of an image that stands in memory gets a block of the module area, and the plan of its call is begun.
-    #[tactic(auto, unfolding(crate::specs::Parts::state_of))]
     fn place_copy(&mut self, at: u32, len: u32) -> Result<Next, ErrorNumber>
         requires stepped { self.old.is_fresh ≡ false }
         requires free { IsFree (state_of self.old) }

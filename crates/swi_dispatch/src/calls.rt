@@ -154,7 +154,6 @@ impl Machine {
         }
     }
 
-    #[tactic(auto, unfolding(crate::specs::Parts::state_of))]
     fn print(&mut self, byte: u8)
         requires room { length self.old.printed < 4096 }
         requires stepped { self.old.is_fresh ≡ false }
@@ -164,7 +163,6 @@ impl Machine {
         self.printed.push(byte);
     }
 
-    #[tactic(auto, unfolding(crate::specs::Parts::state_of))]
     fn print_text(&mut self, text: ArrayVec<u8, MOST_PRINTED>)
         requires stepped { self.old.is_fresh ≡ false }
         ensures after { outcome_of self.new ≡ record { now = state_of self.old; printed = text.items } }
@@ -174,7 +172,6 @@ impl Machine {
     }
 
     // Sets a register of the caller's mode to an answer.
-    #[tactic(auto, unfolding(crate::specs::Parts::state_of))]
     pub(crate) fn answer(&mut self, number: u32, value: u32)
         requires number { number ≤ 14 }
         requires stepped { self.old.is_fresh ≡ false }
@@ -184,7 +181,6 @@ impl Machine {
         self.cpu.set_register(number, value);
     }
 
-    #[tactic(auto, unfolding(crate::specs::Parts::state_of))]
     fn enter_supervisor(&mut self)
         requires stepped { self.old.is_fresh ≡ false }
         ensures state { state_of self.new ≡ in_supervisor (state_of self.old) }
@@ -229,7 +225,6 @@ impl Machine {
     }
 
     // The guest goes on, with the return address in the link register of supervisor mode.
-    #[tactic(auto, unfolding(crate::specs::Parts::state_of))]
     pub(crate) fn go_back(&mut self, caller: Psr, is_refused: bool, next: u32)
         requires stepped { self.old.is_fresh ≡ false }
         ensures state { state_of self.new ≡ gone_back caller (state_of self.old) is_refused next }

@@ -69,7 +69,7 @@ impl Machine {
     }
 
     /// OS_GenerateError: the error of the block that R0 points to.
-    #[tactic(auto, unfolding(crate::specs::Parts::state_of, os_heap::specs::Store::store_of))]
+    #[tactic(auto, unfolding(os_heap::specs::Store::store_of))]
     pub(crate) fn own_error(&self) -> Refusal
         ensures { result ≡ generated (state_of self.now) (register_of (state_of self.now).cpu 0) }
     {
@@ -93,7 +93,6 @@ impl Machine {
         }
     }
 
-    #[tactic(auto, unfolding(crate::specs::Parts::state_of))]
     fn put_error(&mut self, error: ErrorNumber)
         requires stepped { self.old.is_fresh ≡ false }
         ensures state { state_of self.new ≡ with_error (state_of self.old) (Refusal.System error) }

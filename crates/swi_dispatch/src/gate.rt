@@ -22,7 +22,6 @@ impl Machine {
     ghost use Rattle.swi_dispatch.specs.Parts.{state_of, outcome_of, IsInStep, OnlySteps, OnlyState};
 
     /// What a step does at the gate. Where no frame is open, there is nothing to be fetched.
-    #[tactic(auto, unfolding(crate::specs::Parts::state_of))]
     pub(crate) fn pass_gate(&mut self)
         requires step { IsInStep self.old }
         ensures after { outcome_of self.new ≡ gated (state_of self.old) }
@@ -53,7 +52,7 @@ impl Machine {
     }
 
     // The innermost frame is closed, and its call goes back. Where the call was refused and its caller takes no error, nothing is changed.
-    #[tactic(auto, unfolding(crate::specs::Parts::state_of, crate::specs::Gates::frame_closed, os_heap::specs::Store::store_of))]
+    #[tactic(auto, unfolding(crate::specs::Gates::frame_closed, os_heap::specs::Store::store_of))]
     fn leave_swi(&mut self, frame: Frame)
         requires step { IsInStep self.old }
         ensures after { outcome_of self.new ≡ swi_left (state_of self.old) frame }
@@ -91,7 +90,7 @@ impl Machine {
     }
 
     // The core is the caller's again, the frame is closed, and the plan that is kept is carried on. Where none is, nothing is done.
-    #[tactic(auto, unfolding(crate::specs::Parts::state_of, crate::specs::Gates::come_back))]
+    #[tactic(auto, unfolding(crate::specs::Gates::come_back))]
     fn resume(&mut self, frame: Frame, outcome: Outcome) -> Option<Next>
         requires stepped { self.old.is_fresh ≡ false }
         requires last { innermost (state_of self.old).tables.frames ≡ Some frame }
@@ -112,7 +111,6 @@ impl Machine {
     }
 
     // The number of the error that a call ends with whose entry comes back with this outcome, if it ends with one that its caller doesn't take.
-    #[tactic(auto, unfolding(crate::specs::Parts::state_of))]
     fn fault_ahead(&mut self, call: Call, outcome: Outcome) -> Option<u32>
         ensures value { result ≡ fault_kept call (machine_world (state_of self.old)) outcome (state_of self.old).tables.plan }
         ensures same { self.new ≡ self.old }

@@ -75,7 +75,7 @@ impl Machine {
     ///
     /// The first of these: `BadPointer` where no image may be in place there; `ModuleBadHeader` where the image has no good header; `ModuleBusy` while
     /// an initialisation or a finalisation is under way, or a SWI of a module of the title; `FrameLimit` where no frame more can be opened.
-    #[tactic(auto, unfolding(crate::specs::ImagePlans::insertion_asked, crate::specs::Parts::state_of))]
+    #[tactic(auto, unfolding(crate::specs::ImagePlans::insertion_asked))]
     pub(crate) fn insertion_asked(&self) -> Result<ImageRange, ErrorNumber>
         ensures value { result ≡ insertion_asked (state_of self.now) }
         ensures free { IfOk result (λ _. IsFree (state_of self.now)) }
@@ -94,7 +94,7 @@ impl Machine {
     /// # Errors
     ///
     /// The first of these: `BadPointer` where an image can't be a copy of these bytes; all others as in `insertion_asked`.
-    #[tactic(auto, unfolding(crate::specs::ImagePlans::copy_asked, crate::specs::Parts::state_of))]
+    #[tactic(auto, unfolding(crate::specs::ImagePlans::copy_asked))]
     pub(crate) fn copy_asked(&self) -> Result<ImageRange, ErrorNumber>
         ensures value { result ≡ copy_asked (state_of self.now) }
         ensures free { IfOk result (λ _. IsFree (state_of self.now)) }
@@ -139,7 +139,7 @@ impl Machine {
     }
 
     // Whether the image that stands in a range may be added.
-    #[tactic(auto, unfolding(crate::specs::ImagePlans::may_add, crate::specs::Parts::state_of, os_heap::specs::Store::store_of))]
+    #[tactic(auto, unfolding(crate::specs::ImagePlans::may_add, os_heap::specs::Store::store_of))]
     fn may_add(&self, range: ImageRange) -> Result<(), ErrorNumber>
         requires { AreMapped (state_of self.now).store.bytes.mapped range.at range.len }
         ensures value { result ≡ may_add (state_of self.now) range }
@@ -166,7 +166,6 @@ impl Machine {
     }
 
     // Whether a call may begin that takes an older module of a title away.
-    #[tactic(auto, unfolding(crate::specs::Parts::state_of))]
     fn may_replace(&self, title: &[u8]) -> Result<(), ErrorNumber>
         ensures value { result ≡ may_replace title.now (state_of self.now).tables }
         ensures free { IfOk result (λ _. IsFree (state_of self.now)) }

@@ -104,7 +104,7 @@ impl Machine {
     ///
     /// `Booted` where the machine was stepped or written to before, else `TooLarge` where the
     /// program is longer than the application space.
-    #[tactic(auto, unfolding(crate::specs::Parts::state_of, crate::specs::Boot::booted))]
+    #[tactic(auto, unfolding(crate::specs::Boot::booted))]
     pub fn boot(&mut self, program: &[u8]) -> Result<(), BootError>
         ensures state { Leaves (state_of self.old) (booted self.old.sizes self.old.is_fresh (state_of self.old) program.now) result (state_of self.new) }
         ensures fresh { self.new.is_fresh ≡ (self.old.is_fresh && is_err result) }
@@ -185,7 +185,7 @@ impl Machine {
     }
 
     /// Sets one of R0 to R14 of the present mode. The machine can't be booted after that.
-    #[tactic(auto, unfolding(crate::specs::Parts::state_of, crate::specs::Boot::registered))]
+    #[tactic(auto, unfolding(crate::specs::Boot::registered))]
     pub fn set_register(&mut self, number: u32, value: u32)
         requires { number ≤ 14 }
         ensures state { state_of self.new ≡ registered (state_of self.old) number value }
@@ -205,7 +205,6 @@ impl Machine {
     ///
     /// `AddressException` from 2^26 on, else `DataUnmapped` where no memory is mapped, else
     /// `OwnedWord` where the store calls keep their records.
-    #[tactic(auto, unfolding(crate::specs::Parts::state_of))]
     pub fn poke(&mut self, at: u32, value: u32) -> Result<(), Fault>
         requires { at % 4 ≡ 0 }
         ensures state { Leaves (state_of self.old) (poked (state_of self.old) at value) result (state_of self.new) }
@@ -229,7 +228,6 @@ impl Machine {
     }
 
     /// The core.
-    #[tactic(auto, unfolding(crate::specs::Parts::state_of))]
     pub fn cpu(&self) -> &Cpu
         ensures { result.now ≡ (state_of self.now).cpu }
     {
@@ -237,7 +235,7 @@ impl Machine {
     }
 
     /// The memory.
-    #[tactic(auto, unfolding(crate::specs::Parts::state_of, os_heap::specs::Store::store_of))]
+    #[tactic(auto, unfolding(os_heap::specs::Store::store_of))]
     pub fn memory(&self) -> &AddressMap
         ensures store { store_of result.now ≡ (state_of self.now).store }
         ensures flex { IsFlex result.now (state_of self.now).tables.flex }
@@ -255,7 +253,6 @@ impl Machine {
     }
 
     /// The dynamic areas, which stand on the memory.
-    #[tactic(auto, unfolding(crate::specs::Parts::state_of))]
     pub fn areas(&self) -> &Areas
         ensures land { result.now ≡ (state_of self.now).tables.land }
         ensures table { IsAreaTable result.now.areas }
@@ -265,7 +262,6 @@ impl Machine {
     }
 
     /// The modules and their instances.
-    #[tactic(auto, unfolding(crate::specs::Parts::state_of))]
     pub fn instances(&self) -> &Instances
         ensures { result.now ≡ (state_of self.now).tables.modules }
     {
@@ -273,7 +269,6 @@ impl Machine {
     }
 
     /// Where the flex store is, if there is one; its blocks stand in the memory.
-    #[tactic(auto, unfolding(crate::specs::Parts::state_of))]
     pub fn flex(&self) -> &Flex
         ensures value { result.now ≡ (state_of self.now).tables.flex }
         ensures well_formed { IsWellFormed self.now }
@@ -282,7 +277,6 @@ impl Machine {
     }
 
     /// How many frames of module code are open.
-    #[tactic(auto, unfolding(crate::specs::Parts::state_of))]
     pub fn frames(&self) -> usize
         ensures value { result ≡ length (state_of self.now).tables.frames }
         ensures most { result ≤ 32 }
@@ -291,7 +285,6 @@ impl Machine {
     }
 
     /// Why the machine is halted, if it is.
-    #[tactic(auto, unfolding(crate::specs::Parts::state_of))]
     pub fn stop(&self) -> Option<Stop>
         ensures halt { result ≡ option_map stop_of (state_of self.now).halt }
         ensures stepped { IsSome result → self.now.is_fresh ≡ false }
@@ -312,7 +305,6 @@ impl Machine {
         self.forget_output();
     }
 
-    #[tactic(auto, unfolding(crate::specs::Parts::state_of))]
     pub(crate) fn mark_stepped(&mut self)
         ensures state { state_of self.new ≡ state_of self.old }
         ensures printed { self.new.printed ≡ self.old.printed }
@@ -323,7 +315,6 @@ impl Machine {
         self.is_fresh = false;
     }
 
-    #[tactic(auto, unfolding(crate::specs::Parts::state_of))]
     pub(crate) fn forget_output(&mut self)
         requires stepped { self.old.is_fresh ≡ false }
         ensures after { outcome_of self.new ≡ quiet (state_of self.old) }
@@ -335,7 +326,6 @@ impl Machine {
         self.printed.clear();
     }
 
-    #[tactic(auto, unfolding(crate::specs::Parts::state_of))]
     #[inline(always)]
     pub(crate) fn instruction(&mut self) -> Turn
         requires { self.old.is_fresh ≡ false }
@@ -370,7 +360,6 @@ impl Machine {
         self.call(images, is_bit_set(number, 17), next, without_x_bit(number));
     }
 
-    #[tactic(auto, unfolding(crate::specs::Parts::state_of))]
     pub(crate) fn halt_with(&mut self, halt: Halt)
         requires step { IsInStep self.old }
         ensures after { outcome_of self.new ≡ halted (state_of self.old) halt }

@@ -64,7 +64,7 @@ impl Machine {
     ///
     /// `ModuleBusy` while an initialisation or a finalisation is under way, or a SWI of one of the instances; else `FrameLimit` where no frame more
     /// can be opened.
-    #[tactic(auto, using(crate::proofs::GateLemmas::is_free), unfolding(crate::specs::Parts::state_of, crate::specs::ModulePlans::may_finalise))]
+    #[tactic(auto, using(crate::proofs::GateLemmas::is_free), unfolding(crate::specs::ModulePlans::may_finalise))]
     pub(crate) fn may_finalise(&self, slots: &[u32]) -> Result<(), ErrorNumber>
         ensures value { result ≡ may_finalise slots.now (state_of self.now).tables }
         ensures free { IfOk result (λ _. IsFree (state_of self.now)) }
@@ -84,7 +84,7 @@ impl Machine {
     /// # Errors
     ///
     /// `ModuleBusy` while an initialisation or a finalisation is under way, or a frame is open.
-    #[tactic(auto, using(crate::proofs::GateLemmas::is_free), unfolding(crate::specs::Parts::state_of, crate::specs::ModulePlans::may_begin_alone))]
+    #[tactic(auto, using(crate::proofs::GateLemmas::is_free), unfolding(crate::specs::ModulePlans::may_begin_alone))]
     pub(crate) fn may_begin_alone(&self) -> Result<(), ErrorNumber>
         ensures value { result ≡ may_begin_alone (state_of self.now).tables }
         ensures free { IfOk result (λ _. IsFree (state_of self.now)) }

@@ -91,7 +91,6 @@ impl Machine {
         }
     }
 
-    #[tactic(auto, unfolding(crate::specs::Parts::state_of))]
     fn put_environment(&mut self, text: &[u8])
         requires stepped { self.old.is_fresh ≡ false }
         requires short { length text.now ≤ 255 }
@@ -101,7 +100,6 @@ impl Machine {
         put_text(&mut self.memory, text);
     }
 
-    #[tactic(auto, unfolding(crate::specs::Parts::state_of))]
     fn go_as_user(&mut self, at: u32, slot: u32)
         requires stepped { self.old.is_fresh ≡ false }
         requires slot { slot < 64 }

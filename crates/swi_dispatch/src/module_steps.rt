@@ -78,7 +78,6 @@ impl Machine {
     }
 
     // What the plan of a new call does first.
-    #[tactic(auto, unfolding(crate::specs::Parts::state_of))]
     fn carry_first(&mut self, plan: Plan) -> Next
         requires stepped { self.old.is_fresh ≡ false }
         requires begins { CanBegin (state_of self.old) plan }
@@ -97,7 +96,7 @@ impl Machine {
     }
 
     // An entry of a module is called.
-    #[tactic(auto, unfolding(crate::specs::Parts::state_of, crate::specs::Gates::entry_opened))]
+    #[tactic(auto, unfolding(crate::specs::Gates::entry_opened))]
     fn open_entry(&mut self, call: Call, code: Code)
         requires stepped { self.old.is_fresh ≡ false }
         requires room { length (state_of self.old).tables.frames < 32 }

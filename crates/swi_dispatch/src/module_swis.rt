@@ -16,7 +16,6 @@ impl Machine {
     ghost use Rattle.swi_dispatch.specs.Step.{call_refused, handler_entered, module_called};
 
     /// A call that isn't the system's own.
-    #[tactic(auto, unfolding(crate::specs::Parts::state_of))]
     pub(crate) fn call_module(&mut self, is_x: bool, next: u32, number: u32)
         requires step { IsInStep self.old }
         requires next { next < 2 ^ 26 }
@@ -46,7 +45,7 @@ impl Machine {
     }
 
     // The handler of a module is entered.
-    #[tactic(auto, unfolding(crate::specs::Parts::state_of, crate::specs::Step::handler_entered))]
+    #[tactic(auto, unfolding(crate::specs::Step::handler_entered))]
     fn enter_handler(&mut self, call: Call, number: u32, handler: Handler)
         requires stepped { self.old.is_fresh ≡ false }
         requires room { length (state_of self.old).tables.frames < 32 }

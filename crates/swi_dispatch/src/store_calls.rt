@@ -106,7 +106,7 @@ impl Machine {
     }
 
     /// The error with which a call would end after it changed something. Without the X bit it is a fault instead, and nothing is changed.
-    #[tactic(auto, using(crate::proofs::AreaAnswers::moving_stop), unfolding(crate::specs::Parts::state_of))]
+    #[tactic(auto, using(crate::proofs::AreaAnswers::moving_stop))]
     pub(crate) fn moving_error(&self, name: Option<SwiName>) -> Option<ErrorNumber>
         ensures value { result ≡ moving_error (state_of self.now) name }
         ensures stop { (e : ErrorNumber) → result ≡ Some e → (next number : ℕ)

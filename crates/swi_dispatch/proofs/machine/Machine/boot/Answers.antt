@@ -8,7 +8,7 @@ use Rattle.swi_dispatch.proofs.Kept.{well_kept, program_kept, boots}
 use Rattle.swi_dispatch.proofs.machine.Machine.boot.Goals as goal
 
 pub invariant_of-self : goal.invariant_of-self
-unfolding state_of start_of
+unfolding start_of
 invariant_of-self c =
     let well = c.self.invariant in
     let fresh = c.if-not-self.false in
@@ -20,7 +20,7 @@ invariant_of-self c =
     well_kept _ _ well kept c.put_bytes.ensures.layout c.put_bytes.ensures.marks refl flex refl
 
 pub returns-clause-state : goal.returns-clause-state
-unfolding state_of start_of
+unfolding start_of
 returns-clause-state c =
     let well = c.self.invariant in
     let fresh = c.if-not-self.false in
@@ -30,7 +30,7 @@ returns-clause-state c =
     rw (← c.self.view_is) (boots _ _ _ _ _ _ _ _ fresh fits c.put_bytes.ensures.layout kept c.put_bytes.ensures.bytes)
 
 pub returns-clause-well_formed : goal.returns-clause-well_formed
-unfolding state_of start_of
+unfolding start_of
 returns-clause-well_formed c =
     let well = c.self.invariant in
     let fresh = c.if-not-self.false in
@@ -42,7 +42,7 @@ returns-clause-well_formed c =
     well_kept _ _ well kept c.put_bytes.ensures.layout c.put_bytes.ensures.marks refl flex refl
 
 pub put_bytes-requires : goal.put_bytes-requires
-unfolding state_of start_of store_of
+unfolding start_of store_of
 put_bytes-requires c = λ a low high.
     let mapped = ap (λ (s : MachineState). s.store.bytes.mapped a) (c.self.invariant.fresh c.if-not-self.false) in
     let fits : length c.args.program.now ≤ 4096 * c.self.inside.config.app = omega (arith, c.if-program-app.false, c.app.ensures.value) in

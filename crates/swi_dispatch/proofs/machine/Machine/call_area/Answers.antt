@@ -9,7 +9,6 @@ pub invariant_of-self : goal.invariant_of-self
 invariant_of-self c = well_left _ _ c.self.invariant c.call_area.ensures.leaves refl (ap (λ (p : Parts). p.is_fresh) c.self.view_is ∙ c.requires.stepped)
 
 pub returns-clause-state : goal.returns-clause-state
-unfolding state_of
 returns-clause-state c =
     let s : MachineState = over c.self.inside.memory c.self.inside.cpu (record { land = c.self.inside.areas; modules = c.self.inside.instances; frames = c.self.inside.frames; plan = c.self.inside.plan; flex = c.self.inside.flex }) c.self.inside.halt in
     rw (← c.self.view_is) (estate_left s _ _ _ _ c.call_area.ensures.state)

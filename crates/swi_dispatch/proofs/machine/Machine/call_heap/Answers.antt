@@ -11,7 +11,6 @@ invariant_of-self c =
     well_left _ _ c.self.invariant (c.call_heap.ensures.leaves _ c.self.invariant.areas) refl (ap (λ (p : Parts). p.is_fresh) c.self.view_is ∙ c.requires.stepped)
 
 pub returns-clause-state : goal.returns-clause-state
-unfolding state_of
 returns-clause-state c =
     let left = c.call_heap.ensures.leaves _ c.self.invariant.areas in
     rw (← c.self.view_is) (store_left _ _ _ _ (record { land = c.self.inside.areas; modules = c.self.inside.instances; frames = c.self.inside.frames; plan = c.self.inside.plan; flex = c.self.inside.flex }) c.self.inside.halt _ _

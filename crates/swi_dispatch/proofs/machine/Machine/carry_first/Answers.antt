@@ -7,7 +7,6 @@ use Rattle.swi_dispatch.proofs.CarriedFrames.{begun_beneath, carried_frames, car
 use Rattle.swi_dispatch.proofs.machine.Machine.carry_first.Goals as goal
 
 pub invariant_of-self : goal.invariant_of-self
-unfolding state_of
 invariant_of-self c =
     let carries = c.carry-code.ensures in
     let begins = subst (λ (p : Parts). CanBegin (state_of p) c.args.plan) (sym c.self.view_is) c.requires.begins in
@@ -16,7 +15,6 @@ invariant_of-self c =
     c.self.invariant carries.flex refl (ap (λ (p : Parts). p.is_fresh) c.self.view_is ∙ c.requires.stepped)
 
 pub returns-clause-state : goal.returns-clause-state
-unfolding state_of
 returns-clause-state c =
     let before : MachineState = over c.self.inside.memory c.self.inside.cpu
     (record { land = c.self.inside.areas; modules = c.self.inside.instances; frames = c.self.inside.frames; plan = c.self.inside.plan; flex = c.self.inside.flex })
@@ -25,12 +23,10 @@ returns-clause-state c =
     rw (← c.self.view_is) (state_carried before _ _ _ _ _ c.next_of-kept.ensures carries)
 
 pub returns-clause-next : goal.returns-clause-next
-unfolding state_of
 returns-clause-next c =
     rw (← c.self.view_is) (next_carried _ _ _ _ _ c.next_of-kept.ensures (first_carried _ _ _ c.requires.begins.rests c.carry-code.ensures.carried))
 
 pub returns-clause-goes : goal.returns-clause-goes
-unfolding state_of
 returns-clause-goes c =
     let begins = subst (λ (p : Parts). CanBegin (state_of p) c.args.plan) (sym c.self.view_is) c.requires.begins in
     carries_on _ _ _ _ _ _ _ _ c.next_of-kept.ensures refl refl refl begins.free.room (begun_beneath _ _ begins) c.carry-code.ensures.others

@@ -6,7 +6,6 @@ use Rattle.swi_dispatch.specs.Parts.{Parts, state_of}
 use Rattle.swi_dispatch.proofs.machine.Machine.copy_asked.Goals as goal
 
 pub may_add-requires : goal.may_add-requires
-unfolding state_of
 may_add-requires c =
     let range = c.range_asked-range.result in
     let may : may_be_copied (estate_of c.args.self.now.map c.args.self.now.tables.land) range.at range.len ≡ true =

@@ -9,7 +9,6 @@ use Rattle.swi_dispatch.proofs.OpenFrames.{swi_opened}
 use Rattle.swi_dispatch.proofs.machine.Machine.enter_handler.Goals as goal
 
 pub invariant_of-self : goal.invariant_of-self
-unfolding state_of
 invariant_of-self c =
     let well = c.self.invariant in
     let there = ap (λ (f : Frame). is_used f.slot (slots_of c.self.inside.instances)) c.of.ensures

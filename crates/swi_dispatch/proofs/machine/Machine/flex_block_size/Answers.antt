@@ -5,5 +5,4 @@ use Rattle.swi_dispatch.specs.Parts.{state_of}
 use Rattle.swi_dispatch.proofs.machine.Machine.flex_block_size.Goals as goal
 
 pub returns : goal.returns
-unfolding state_of
 returns c = rw (← c.self.view_is) (c.size.ensures ∙ ap (λ (t : FlexState). sized t c.args.anchor) (state_is _ _))

@@ -11,7 +11,6 @@ invariant_of-self c =
     well_kept _ _ well turn.0.kept c.step.ensures.layout c.step.ensures.marks refl (flex_after _ _ _ well.flex c.step.ensures.layout c.step.ensures.marks turn.0) (ap (λ (p : Parts). p.is_fresh) c.self.view_is ∙ c.requires)
 
 pub returns-clause-turn : goal.returns-clause-turn
-unfolding state_of
 returns-clause-turn c =
     let well = c.self.invariant in
     rw (← c.self.view_is) (takes_turn _ _ _ _ _ _ _ c.step.ensures.layout c.step.ensures.marks well.areas.ground.sound well.classes c.step.ensures.turn).1

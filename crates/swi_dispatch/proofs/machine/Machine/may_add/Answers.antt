@@ -13,7 +13,7 @@ use Rattle.swi_dispatch.specs.Parts.{Parts, state_of}
 use Rattle.swi_dispatch.proofs.machine.Machine.may_add.Goals as goal
 
 pub returns-clause-spared : goal.returns-clause-spared
-unfolding state_of store_of
+unfolding store_of
 returns-clause-spared c =
     let t = (state_of c.args.self.now).tables in
     let there : header_in (state_of c.args.self.now) c.args.range.at c.args.range.len ≡ Ok c.in-Ok.header =

@@ -15,7 +15,6 @@ invariant_of-self c =
     (ap (λ (p : Parts). p.is_fresh) c.self.view_is ∙ c.requires.stepped)
 
 pub returns-clause-state : goal.returns-clause-state
-unfolding state_of
 returns-clause-state c =
     let well = c.self.invariant in
     let did = c.mid_extend.ensures in

@@ -5,7 +5,6 @@ use Rattle.swi_dispatch.proofs.Starting.{start_modules, starts, system_recorded}
 use Rattle.swi_dispatch.proofs.machine.Machine.new.Goals as goal
 
 pub invariant_of-result : goal.invariant_of-result
-unfolding state_of
 invariant_of-result c =
     let memory = c.in_ok-memory.ensures in
     record {
@@ -19,13 +18,11 @@ invariant_of-result c =
     }
 
 pub returns-clause-start : goal.returns-clause-start
-unfolding state_of
 returns-clause-start c =
     let memory = c.in_ok-memory.ensures in
     rw (c.new.ensures, c.new-3.ensures.land, c.new-4.ensures, c.new-5.ensures, c.new-6.ensures) (starts _ _ memory.store memory.areas)
 
 pub returns-clause-well_formed : goal.returns-clause-well_formed
-unfolding state_of
 returns-clause-well_formed c =
     let memory = c.in_ok-memory.ensures in
     record {

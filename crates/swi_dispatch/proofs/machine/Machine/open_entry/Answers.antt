@@ -8,7 +8,6 @@ use Rattle.swi_dispatch.proofs.OpenFrames.{entry_opens}
 use Rattle.swi_dispatch.proofs.machine.Machine.open_entry.Goals as goal
 
 pub invariant_of-self : goal.invariant_of-self
-unfolding state_of
 invariant_of-self c =
     let well = c.self.invariant in
     let idle = ap (λ (p : Parts). entries p.tables.frames) c.self.view_is ∙ c.requires.idle in

@@ -18,7 +18,6 @@ invariant_of-self c =
     (ap (λ (p : Parts). p.is_fresh) c.self.view_is ∙ c.requires.stepped)
 
 pub invariant_of-self-2 : goal.invariant_of-self-2
-unfolding state_of
 invariant_of-self-2 c =
     let before : MachineState = over c.self.inside.memory c.self.inside.cpu
     (record { land = c.self.inside.areas; modules = c.self.inside.instances; frames = c.self.inside.frames; plan = c.self.inside.plan; flex = c.self.inside.flex })
@@ -34,7 +33,6 @@ invariant_of-self-2 c =
     c.self.invariant (keeps_then _ _ _ c.in_ok-plan.ensures.flex carries.flex) refl (ap (λ (p : Parts). p.is_fresh) c.self.view_is ∙ c.requires.stepped)
 
 pub returns-clause-state : goal.returns-clause-state
-unfolding state_of
 returns-clause-state c =
     let before : MachineState = over c.self.inside.memory c.self.inside.cpu
     (record { land = c.self.inside.areas; modules = c.self.inside.instances; frames = c.self.inside.frames; plan = c.self.inside.plan; flex = c.self.inside.flex })
@@ -45,7 +43,6 @@ returns-clause-state c =
     (next_carried _ _ _ _ _ c.next_of-kept.ensures carries))
 
 pub returns-clause-goes : goal.returns-clause-goes
-unfolding state_of
 returns-clause-goes c =
     let before : MachineState = over c.self.inside.memory c.self.inside.cpu
     (record { land = c.self.inside.areas; modules = c.self.inside.instances; frames = c.self.inside.frames; plan = c.self.inside.plan; flex = c.self.inside.flex })

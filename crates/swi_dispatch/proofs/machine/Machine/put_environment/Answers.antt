@@ -16,7 +16,7 @@ invariant_of-self c =
     refl refl refl put.flex refl (ap (λ (p : Parts). p.is_fresh) c.self.view_is ∙ c.requires.stepped)
 
 pub returns-clause-state : goal.returns-clause-state
-unfolding state_of store_of
+unfolding store_of
 returns-clause-state c =
     let tables : Tables = record { land = c.self.inside.areas; modules = c.self.inside.instances; frames = c.self.inside.frames; plan = c.self.inside.plan; flex = c.self.inside.flex } in
     rw (← c.self.view_is) (ap (λ (e : Estate). with_estate (over c.self.inside.memory c.self.inside.cpu tables c.self.inside.halt) e) (c.put_text.ensures.estate c.self.inside.areas))

@@ -13,7 +13,7 @@ invariant_of-self c =
     well_kept _ _ well kept c.write_error.ensures.layout c.write_error.ensures.marks refl flex (ap (λ (p : Parts). p.is_fresh) c.self.view_is ∙ c.requires.stepped)
 
 pub returns-clause-state : goal.returns-clause-state
-unfolding state_of store_of
+unfolding store_of
 returns-clause-state c =
     let well = c.self.invariant in
     let kept = error_kept _ _ _ _ c.write_error.ensures.layout c.write_error.ensures.marks well.areas.ground.sound well.system (short_name c.args.error) c.write_error.ensures.bytes in

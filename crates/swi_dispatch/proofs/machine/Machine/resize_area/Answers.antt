@@ -10,11 +10,9 @@ pub invariant_of-self : goal.invariant_of-self
 invariant_of-self c = well_left _ _ c.self.invariant c.change_area.ensures.leaves refl (ap (λ (p : Parts). p.is_fresh) c.self.view_is ∙ c.requires.stepped)
 
 pub returns-clause-error : goal.returns-clause-error
-unfolding state_of
 returns-clause-error c = rw (← c.self.view_is) c.change_area.ensures.error
 
 pub returns-clause-state : goal.returns-clause-state
-unfolding state_of
 returns-clause-state c =
     let s : MachineState = over c.self.inside.memory c.self.inside.cpu (record { land = c.self.inside.areas; modules = c.self.inside.instances; frames = c.self.inside.frames; plan = c.self.inside.plan; flex = c.self.inside.flex }) c.self.inside.halt in
     rw (← c.self.view_is) (ap (with_guest s) c.change_area.ensures.state)

@@ -6,7 +6,6 @@ use Rattle.swi_dispatch.proofs.CarriedFrames.{carried_frames, carries_on, left_b
 use Rattle.swi_dispatch.proofs.machine.Machine.resume.Goals as goal
 
 pub invariant_of-self-2 : goal.invariant_of-self-2
-unfolding state_of
 invariant_of-self-2 c =
     let carries = c.carry-code.ensures in
     let last = ap (λ (p : Parts). innermost p.tables.frames) c.self.view_is ∙ c.requires.last in
@@ -16,7 +15,6 @@ invariant_of-self-2 c =
     c.self.invariant carries.flex refl (ap (λ (p : Parts). p.is_fresh) c.self.view_is ∙ c.requires.stepped)
 
 pub returns-clause-goes : goal.returns-clause-goes
-unfolding state_of
 returns-clause-goes c =
     let last = ap (λ (p : Parts). innermost p.tables.frames) c.self.view_is ∙ c.requires.last in
     let beneath = left_beneath _ c.args.frame _ c.self.invariant.frames (sym c.in_ok-plan.ensures.value) last c.requires.entry in

@@ -5,6 +5,6 @@ use Rattle.swi_dispatch.proofs.ErrorNumbers.{system_number}
 use Rattle.swi_dispatch.proofs.machine.Machine.system_number.Goals as goal
 
 pub returns : goal.returns
-unfolding state_of store_of
+unfolding store_of
 returns c = λ caller next.
     rw (← c.self.view_is) (c.number.ensures ∙ sym (system_number _ caller next _ c.self.invariant c.has_all_registers.ensures))
