@@ -12,7 +12,7 @@ use Rattle.swi_dispatch.specs.Step.{begun, begun_by, call_of, call_refused}
 
 begins_by : (s t : MachineState) (x : Bool) (next : ℕ) (enters : Bool) (r : Result Planned ErrorNumber) (n : Result Next ErrorNumber) → Starts s r n t
     → begun_by t (call_of s x next enters) n ≡ begun s x next enters r
-unfolding begun carried_on
+unfolding begun
 begins_by s t x next enters (Ok w) (Ok n) starts = λ i. quiet (went_to (starts.0 i) (call_of s x next enters) (starts.1 i))
 begins_by s t x next enters (Err e) (Err f) starts = λ i. call_refused (starts.1 i) x next (starts.0 i)
 begins_by s t x next enters (Ok w) (Err f) starts = absurd starts

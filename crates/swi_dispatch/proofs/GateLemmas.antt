@@ -92,7 +92,6 @@ first_carried w p c rests is = sym is ∙ ap (carried module_doing w) (rests_set
 -- the entry of a call comes back
 pub entry_goes_on : (s t : MachineState) (f : Frame) (kept : Option Plan) (n : Next) → fault_kept f.call (machine_world s) (outcome_left s.cpu) kept ≡ None
     → Resumes s f (outcome_left s.cpu) kept (Some n) t → quiet (went_to t f.call n) ≡ plan_left s f kept
-unfolding carried_on come_back
 entry_goes_on s t f None n well resumes = absurd resumes
 entry_goes_on s t f (Some p) n well resumes = rw well (λ i. quiet (went_to (resumes.0 i) f.call (resumes.1 i)))
 

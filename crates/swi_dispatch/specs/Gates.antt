@@ -38,7 +38,7 @@ abbrev pub with_plan : MachineState → Option Plan → MachineState
 with_plan s p = record s { tables = record s.tables { plan = p } }
 
 -- An entry of a module is called in a frame of the call.
-unfoldable pub entry_opened : MachineState → Call → Code → MachineState
+abbrev pub entry_opened : MachineState → Call → Code → MachineState
 entry_opened s call code = record s {
   cpu = code_entered s.cpu code;
   tables = record s.tables { frames = s.tables.frames ++ frame_of s.cpu call (Entry code.kind) code.slot ∷ [] };
@@ -49,7 +49,7 @@ abbrev pub entered_with : MachineState → List ℕ → Result Start ErrorNumber
 entered_with s text (Ok start) = opened_at s text start.slot start.at
 entered_with s text (Err e) = s
 
-unfoldable pub loaded_entered : MachineState → Given → MachineState
+abbrev pub loaded_entered : MachineState → Given → MachineState
 loaded_entered s g = entered_with s g.text.items (start_found s.tables.modules g.header.title.items)
 
 -- Where nothing of a call is left it goes back. The error of a module stands in R0 as the module gave it.
@@ -87,15 +87,15 @@ abbrev pub world_carried : World → Plan → Carried World
 world_carried w p = carried module_doing w p
 
 -- A call is carried on with what its plan has left to do.
-unfoldable pub carried_on : MachineState → Call → Plan → MachineState
+abbrev pub carried_on : MachineState → Call → Plan → MachineState
 carried_on s call p = (let c = world_carried (machine_world s) p in went_to (with_carried s c) call (next_of c))
 
 -- Module code has come back: the core is the caller's again, but for what a SWI leaves, and the frame is closed.
-unfoldable pub come_back : MachineState → Frame → MachineState
+abbrev pub come_back : MachineState → Frame → MachineState
 come_back s f = record s { cpu = left s.cpu f; tables = record s.tables { frames = closed s.tables.frames } }
 
 -- A SWI of a module goes back. Where V is set it was refused: the error is the module's own, which stands where R0 points.
-unfoldable pub frame_closed : MachineState → Frame → MachineState
+abbrev pub frame_closed : MachineState → Frame → MachineState
 frame_closed s f = record s {
   cpu = returned f.call.caller (left s.cpu f) s.cpu.psr.overflow f.call.next;
   tables = record s.tables { frames = closed s.tables.frames };

@@ -42,7 +42,7 @@ loading_of (Ok load) = Ok (record { image = load.image.now; text = load.text.now
 loading_of (Err e) = Err e
 
 -- reasons 0 and 1, run and load: a string of the name of an image and a text
-unfoldable pub load_asked : List Entry → MachineState → List ℕ → Bool → Result Loading ErrorNumber
+abbrev pub load_asked : List Entry → MachineState → List ℕ → Bool → Result Loading ErrorNumber
 load_asked images s words must_be_alone =
     bind (ok_or (bytes_of images (name_part words)) ImageUnknown) (λ image.
     bind (good_header (header_of image)) (λ header.
@@ -58,20 +58,20 @@ abbrev pub header_in : MachineState → ℕ → ℕ → Result Header HeaderFaul
 header_in s at len = header_of (bytes_between s.store.bytes.at at len)
 
 -- that image may be added
-unfoldable pub may_add : MachineState → ImageRange → Result (Unit {0}) ErrorNumber
+abbrev pub may_add : MachineState → ImageRange → Result (Unit {0}) ErrorNumber
 may_add s range =
     bind (good_header (header_in s range.at range.len)) (λ header.
     may_replace header.title.items s.tables)
 
 -- reason 10, insert: the image stays in place, and has to be one that may
-unfoldable pub insertion_asked : MachineState → Result ImageRange ErrorNumber
+abbrev pub insertion_asked : MachineState → Result ImageRange ErrorNumber
 insertion_asked s =
     let range = range_asked s in
     if not (may_be_in_place s.store range.at range.len) then Err BadPointer else
     bind (may_add s range) (λ _. Ok range)
 
 -- reason 11, copy: the image gets a block of its own
-unfoldable pub copy_asked : MachineState → Result ImageRange ErrorNumber
+abbrev pub copy_asked : MachineState → Result ImageRange ErrorNumber
 copy_asked s =
     let range = range_asked s in
     if not (may_be_copied (machine_estate s) range.at range.len) then Err BadPointer else
@@ -84,7 +84,7 @@ well_named (Err BadString) = Err BadString
 well_named (Err ModuleNotFound) = Err ModuleNotFound
 well_named _ = Ok tt
 
-unfoldable pub instantiation_asked : MachineState → Result Plan ErrorNumber
+abbrev pub instantiation_asked : MachineState → Result Plan ErrorNumber
 instantiation_asked s =
     bind (string_in s.store.bytes s.cpu 1) (λ words.
     let planned = instantiation s.tables.modules (name_part words) (text_part words) in

@@ -21,7 +21,7 @@ unless_open s a = if nat_lt 0 (length s.tables.frames) then Err ModuleBusy else 
 abbrev pub opening_of : Start → List ℕ → Opening
 opening_of start text = record { start = start; text = record { items = text } }
 
-unfoldable pub opening_asked : MachineState → Result Opening ErrorNumber
+abbrev pub opening_asked : MachineState → Result Opening ErrorNumber
 opening_asked s =
     bind (string_in s.store.bytes s.cpu 1) (λ name.
     bind (string_in s.store.bytes s.cpu 2) (λ text.
@@ -33,7 +33,7 @@ abbrev pub with_environment : MachineState → List ℕ → MachineState
 with_environment s text = with_estate s (with_text (machine_estate s) text)
 
 -- The module is entered in user mode with all flags clear: R10 is the address of the text, R12 that of the private word.
-unfoldable pub as_user : State → ℕ → ℕ → State
+abbrev pub as_user : State → ℕ → ℕ → State
 as_user cpu at slot =
     with_pc (with_register_in User (with_register_in User (with_psr cpu start_psr) 10 0x01C02200) 12 (private_of slot)) at
 

@@ -62,7 +62,7 @@ is_exit (Some swi.Exit) = true
 is_exit _ = false
 
 -- A SWI of a module: its handler is entered in a frame.
-unfoldable pub handler_entered : MachineState → Call → ℕ → Handler → MachineState
+abbrev pub handler_entered : MachineState → Call → ℕ → Handler → MachineState
 handler_entered s call number h = record s {
   cpu = swi_entered s.cpu h.at number h.slot;
   tables = record s.tables { frames = s.tables.frames ++ frame_of s.cpu call Swi h.slot ∷ [] };

@@ -52,7 +52,7 @@ impl Machine {
     }
 
     // The innermost frame is closed, and its call goes back. Where the call was refused and its caller takes no error, nothing is changed.
-    #[tactic(auto, unfolding(crate::specs::Gates::frame_closed, os_heap::specs::Store::store_of))]
+    #[tactic(auto, unfolding(os_heap::specs::Store::store_of))]
     fn leave_swi(&mut self, frame: Frame)
         requires step { IsInStep self.old }
         ensures after { outcome_of self.new ≡ swi_left (state_of self.old) frame }
@@ -90,7 +90,6 @@ impl Machine {
     }
 
     // The core is the caller's again, the frame is closed, and the plan that is kept is carried on. Where none is, nothing is done.
-    #[tactic(auto, unfolding(crate::specs::Gates::come_back))]
     fn resume(&mut self, frame: Frame, outcome: Outcome) -> Option<Next>
         requires stepped { self.old.is_fresh ≡ false }
         requires last { innermost (state_of self.old).tables.frames ≡ Some frame }

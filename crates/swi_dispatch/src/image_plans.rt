@@ -44,7 +44,6 @@ impl Machine {
     ///
     /// The first of these: `ImageUnknown` where there is no image of the name; `ModuleBadHeader` where the image has no good header; `ModuleBusy` while
     /// module code is under way that the load may not meet; `FrameLimit` where no frame more can be opened.
-    #[tactic(auto, unfolding(crate::specs::ImagePlans::load_asked))]
     pub(crate) fn load_asked<'a>(
         &self,
         images: &'a Images,
@@ -75,7 +74,6 @@ impl Machine {
     ///
     /// The first of these: `BadPointer` where no image may be in place there; `ModuleBadHeader` where the image has no good header; `ModuleBusy` while
     /// an initialisation or a finalisation is under way, or a SWI of a module of the title; `FrameLimit` where no frame more can be opened.
-    #[tactic(auto, unfolding(crate::specs::ImagePlans::insertion_asked))]
     pub(crate) fn insertion_asked(&self) -> Result<ImageRange, ErrorNumber>
         ensures value { result ≡ insertion_asked (state_of self.now) }
         ensures free { IfOk result (λ _. IsFree (state_of self.now)) }
@@ -94,7 +92,6 @@ impl Machine {
     /// # Errors
     ///
     /// The first of these: `BadPointer` where an image can't be a copy of these bytes; all others as in `insertion_asked`.
-    #[tactic(auto, unfolding(crate::specs::ImagePlans::copy_asked))]
     pub(crate) fn copy_asked(&self) -> Result<ImageRange, ErrorNumber>
         ensures value { result ≡ copy_asked (state_of self.now) }
         ensures free { IfOk result (λ _. IsFree (state_of self.now)) }
@@ -115,7 +112,6 @@ impl Machine {
     /// The first of these: `BadString` where the string can't be read, or has no good full name; `ModuleNotFound` where there is no module of the
     /// title; `ModuleBusy` while an initialisation or a finalisation is under way; `FrameLimit` where no frame more can be opened; `InstanceExists` where
     /// the module has an instance of the name; `InstanceTableFull` where there are 64 instances.
-    #[tactic(auto, unfolding(crate::specs::ImagePlans::instantiation_asked))]
     pub(crate) fn instantiation_asked(&self) -> Result<Plan, ErrorNumber>
         ensures value { result ≡ instantiation_asked (state_of self.now) }
         ensures begins { IfOk result (λ plan. CanBegin (state_of self.now) plan) }
@@ -139,7 +135,7 @@ impl Machine {
     }
 
     // Whether the image that stands in a range may be added.
-    #[tactic(auto, unfolding(crate::specs::ImagePlans::may_add, os_heap::specs::Store::store_of))]
+    #[tactic(auto, unfolding(os_heap::specs::Store::store_of))]
     fn may_add(&self, range: ImageRange) -> Result<(), ErrorNumber>
         requires { AreMapped (state_of self.now).store.bytes.mapped range.at range.len }
         ensures value { result ≡ may_add (state_of self.now) range }

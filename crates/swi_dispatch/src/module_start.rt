@@ -51,7 +51,6 @@ impl Machine {
         }
     }
 
-    #[tactic(auto, unfolding(crate::specs::ModuleStart::opening_asked))]
     fn opening_asked(&self) -> Result<Opening, ErrorNumber>
         ensures value { result ≡ opening_asked (state_of self.now) }
         ensures below { IfOk result (λ o. o.start.slot < 64) }
@@ -111,7 +110,6 @@ impl Machine {
 }
 
 // The core goes to the start of a module.
-#[tactic(auto, unfolding(crate::specs::ModuleStart::as_user))]
 fn enter_as_user(cpu: &mut Cpu, at: u32, slot: u32)
     requires { slot < 64 }
     ensures { cpu.new ≡ as_user cpu.old at slot }

@@ -40,7 +40,6 @@ impl Machine {
         }
     }
 
-    #[tactic(auto, unfolding(crate::specs::Gates::carried_on))]
     fn begin_plan(&mut self, is_x: bool, next: u32, plan: Plan)
         requires step { IsInStep self.old }
         requires begins { CanBegin (state_of self.old) plan }
@@ -96,7 +95,6 @@ impl Machine {
     }
 
     // An entry of a module is called.
-    #[tactic(auto, unfolding(crate::specs::Gates::entry_opened))]
     fn open_entry(&mut self, call: Call, code: Code)
         requires stepped { self.old.is_fresh ≡ false }
         requires room { length (state_of self.old).tables.frames < 32 }
@@ -130,7 +128,6 @@ impl Machine {
     }
 
     // A module that was loaded to be run is entered, if it is there and has a start.
-    #[tactic(auto, unfolding(crate::specs::Gates::loaded_entered))]
     fn enter_loaded(&mut self, given: &Given)
         requires stepped { self.old.is_fresh ≡ false }
         ensures state { state_of self.new ≡ loaded_entered (state_of self.old) given.now }

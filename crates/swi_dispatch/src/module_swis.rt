@@ -45,7 +45,6 @@ impl Machine {
     }
 
     // The handler of a module is entered.
-    #[tactic(auto, unfolding(crate::specs::Step::handler_entered))]
     fn enter_handler(&mut self, call: Call, number: u32, handler: Handler)
         requires stepped { self.old.is_fresh ≡ false }
         requires room { length (state_of self.old).tables.frames < 32 }
