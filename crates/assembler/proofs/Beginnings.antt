@@ -60,7 +60,6 @@ unfolding after_spaces directive_named
 swi_begins rest = record { no_space = refl; no_comment = refl; no_directive = ap directive_named (two_letters 83 87 (73 ∷ (rest)) refl refl) }
 
 pub instruction_begins : (address : ℕ) (c : Condition) (a : Action) → BeginsInstruction (action_text address c a)
-unfolding operate_head multiply_head transfer_head block_head branch_text swi_text
 instruction_begins address c (action.Operate o) = operation_begins o.operation _ _
 instruction_begins address c (action.Multiply m) = multiply_begins m.accumulates _ _
 instruction_begins address c (action.Transfer t) = transfer_begins t.loads _ _

@@ -46,7 +46,7 @@ unfolding print
 instruction_unbroken w address i e fits = rw e (action_unbroken address i.0 i.1 fits)
 
 print_unbroken : (w address : ℕ) (r : Result (Condition × Action) Fault) → decoded w ≡ r → w < 2 ^ 32 → IsUnbroken (print w address)
-unfolding print data_text
+unfolding print
 print_unbroken w address (Ok i) e small = instruction_unbroken w address i e (fields_have_places w i small e).1
 print_unbroken w address (Err f) e small = rw e (hex_word_unbroken w)
 

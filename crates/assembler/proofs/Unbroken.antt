@@ -183,7 +183,6 @@ amount_unbroken n h = word_is_unbroken (decimal n) (is_amount n (λ (name : List
 
 -- the operands of data processing
 immediate_unbroken : (r b : ℕ) → r < 2 ^ 4 → IsUnbroken (immediate_text r b)
-unfolding immediate_text
 immediate_unbroken r b h =
     either (is_field (least_rotation (immediate_value r b)) r) (codes "#" ++ number_text (immediate_value r b))
     (codes "#" ++ (number_text b ++ (codes "," ++ decimal (2 * r)))) (number_unbroken (immediate_value r b))
@@ -200,7 +199,6 @@ limited n h = by (n == 0)
     by false = omega (arith, h)
 
 shifting_unbroken : (s : Shift) (n : ℕ) → n < 2 ^ 5 → IsUnbroken (shifting_text s n)
-unfolding shifting_text
 shifting_unbroken shift.LogicalLeft n h =
     either (n == 0) [] (amount_text shift.LogicalLeft n) refl (by_amount_unbroken shift.LogicalLeft n (omega (arith, h)))
 shifting_unbroken shift.LogicalRight n h = by_amount_unbroken shift.LogicalRight (if n == 0 then 32 else n) (limited n h)
@@ -209,30 +207,25 @@ shifting_unbroken shift.RotateRight n h =
     either (n == 0) (codes ",RRX") (amount_text shift.RotateRight n) refl (by_amount_unbroken shift.RotateRight n (omega (arith, h)))
 
 shifted_unbroken : (s : ShiftedRegister) → FitsShifted s → IsUnbroken (shifted_text s)
-unfolding shifted_text
 shifted_unbroken s fits = join (register_text s.rm) (shifting_text s.shift s.amount) (register_unbroken s.rm) (shifting_unbroken s.shift s.amount fits.1)
 
 by_register_unbroken : (rm : ℕ) (s : Shift) (rs : ℕ) → IsUnbroken (by_register_text rm s rs)
-unfolding by_register_text
 by_register_unbroken rm s rs =
     join (register_text rm) (codes "," ++ (shift_text s ++ (codes " " ++ register_text rs))) (register_unbroken rm)
     (join (shift_text s) (codes " " ++ register_text rs) (shift_unbroken s) (register_unbroken rs))
 
 operand_unbroken : (o : Operand) → FitsOperand o → IsUnbroken (operand_text o)
-unfolding operand_text
 operand_unbroken (operand.Immediate r b) fits = immediate_unbroken r b fits.0
 operand_unbroken (operand.Shifted s) fits = shifted_unbroken s fits
 operand_unbroken (operand.ShiftedByRegister rm s rs) fits = by_register_unbroken rm s rs
 
 -- data processing
 flags_unbroken : (o : Operate) → IsUnbroken (flags_text o)
-unfolding flags_text
 flags_unbroken o =
     either (is_test o.operation) (text_if (is_pc o.rd) (codes "P")) (text_if o.sets_flags (codes "S"))
     (optional (is_pc o.rd) (codes "P") refl) (optional o.sets_flags (codes "S") refl)
 
 operate_head_unbroken : (c : Condition) (o : Operate) → IsUnbroken (operate_head c o)
-unfolding operate_head
 operate_head_unbroken c o =
     join (operation_text o.operation) (condition_text c ++ (flags_text o ++ codes " ")) (operation_unbroken o.operation)
     (join (condition_text c) (flags_text o ++ codes " ") (condition_unbroken c) (join (flags_text o) (codes " ") (flags_unbroken o) refl))
@@ -241,7 +234,6 @@ with_comma : (n : ℕ) (rest : List ℕ) → IsUnbroken rest → IsUnbroken (reg
 with_comma n rest h = join (register_text n) (codes "," ++ rest) (register_unbroken n) h
 
 registers_unbroken : (o : Operate) → IsUnbroken (registers_text o)
-unfolding registers_text
 registers_unbroken o =
     either (is_test o.operation) (register_text o.rn ++ codes ",")
     (if is_move o.operation then register_text o.rd ++ codes "," else register_text o.rd ++ (codes "," ++ (register_text o.rn ++ codes ",")))
@@ -251,7 +243,6 @@ registers_unbroken o =
 
 -- MUL, MLA
 multiply_head_unbroken : (c : Condition) (m : Multiply) → IsUnbroken (multiply_head c m)
-unfolding multiply_head
 multiply_head_unbroken c m =
     join (choose_text m.accumulates (codes "MLA") (codes "MUL")) (condition_text c ++ (text_if m.sets_flags (codes "S") ++ codes " "))
     (chosen m.accumulates (codes "MLA") (codes "MUL") refl refl)
@@ -259,7 +250,6 @@ multiply_head_unbroken c m =
     (join (text_if m.sets_flags (codes "S")) (codes " ") (optional m.sets_flags (codes "S") refl) refl))
 
 multiply_operands_unbroken : (m : Multiply) → IsUnbroken (multiply_operands m)
-unfolding multiply_operands
 multiply_operands_unbroken m =
     with_comma m.rd (register_text m.rm ++ (codes "," ++ (register_text m.rs ++
     (text_if m.accumulates (codes ",") ++ text_if m.accumulates (register_text m.rn)))))
@@ -273,20 +263,16 @@ signed_unbroken : (d : Direction) (rest : List ℕ) → IsUnbroken rest → IsUn
 signed_unbroken d rest h = join (sign_text d) rest (optional (not (is_up d)) (codes "-") refl) h
 
 offset_unbroken : (d : Direction) (o : Offset) → FitsOffset o → IsUnbroken (offset_text d o)
-unfolding offset_text
 offset_unbroken d (offset.Immediate n) fits = signed_unbroken d (number_text n) (number_unbroken n)
 offset_unbroken d (offset.Shifted s) fits = signed_unbroken d (shifted_text s) (shifted_unbroken s fits)
 
 base_unbroken : (n : ℕ) (rest : List ℕ) → IsUnbroken rest → IsUnbroken (base_text n rest)
-unfolding base_text
 base_unbroken n rest h = join (register_text n) rest (register_unbroken n) h
 
 close_unbroken : (w : Bool) → IsUnbroken (close_text w)
-unfolding close_text
 close_unbroken w = optional w (codes "!") refl
 
 before_unbroken : (w : Bool) (a : Address) → FitsOffset a.offset → IsUnbroken (before_text w a)
-unfolding before_text
 before_unbroken w a fits =
     either (not w && is_nothing a.direction a.offset) (base_text a.rn (codes "]"))
     (base_text a.rn (codes ",") ++ (offset_text a.direction a.offset ++ close_text w)) (base_unbroken a.rn (codes "]") refl)
@@ -294,7 +280,6 @@ before_unbroken w a fits =
     (join (offset_text a.direction a.offset) (close_text w) (offset_unbroken a.direction a.offset fits) (close_unbroken w)))
 
 after_unbroken : (a : Address) → FitsOffset a.offset → IsUnbroken (after_text a)
-unfolding after_text
 after_unbroken a fits =
     join (base_text a.rn (codes "],")) (offset_text a.direction a.offset) (base_unbroken a.rn (codes "],") refl)
     (offset_unbroken a.direction a.offset fits)
@@ -304,11 +289,9 @@ indexed_unbroken (Pre w) a fits = before_unbroken w a fits
 indexed_unbroken (Post user) a fits = after_unbroken a fits
 
 address_unbroken : (a : Address) → FitsOffset a.offset → IsUnbroken (address_text a)
-unfolding address_text
 address_unbroken a fits = indexed_unbroken a.indexing a fits
 
 transfer_head_unbroken : (c : Condition) (t : Transfer) → IsUnbroken (transfer_head c t)
-unfolding transfer_head
 transfer_head_unbroken c t =
     join (choose_text t.loads (codes "LDR") (codes "STR")) (condition_text c ++ (text_if t.is_byte (codes "B") ++
     (text_if (is_user t.address.indexing) (codes "T") ++ (codes " " ++ (register_text t.rd ++ codes ",")))))
@@ -333,7 +316,6 @@ unfolding listed_text
 listed_unbroken list = separated_unbroken [] (listed_from list 0) refl
 
 block_head_unbroken : (c : Condition) (b : BlockTransfer) → IsUnbroken (block_head c b)
-unfolding block_head
 block_head_unbroken c b =
     join (choose_text b.loads (codes "LDM") (codes "STM")) (condition_text c ++ (block_mode_text b.mode ++ (codes " " ++
     (register_text b.rn ++ (text_if b.writes_back (codes "!") ++ codes ",")))))
@@ -345,20 +327,17 @@ block_head_unbroken c b =
     (join (text_if b.writes_back (codes "!")) (codes ",") (optional b.writes_back (codes "!") refl) refl))))
 
 braces_unbroken : (b : BlockTransfer) → IsUnbroken (braces_text b)
-unfolding braces_text
 braces_unbroken b =
     join (listed_text b.list) (codes "}" ++ text_if b.psr_or_user (codes "^")) (listed_unbroken b.list) (optional b.psr_or_user (codes "^") refl)
 
 -- B, BL, SWI
 branch_unbroken : (c : Condition) (links : Bool) (t : ℕ) → IsUnbroken (branch_text c links t)
-unfolding branch_text
 branch_unbroken c links t =
     join (choose_text links (codes "BL") (codes "B")) (condition_text c ++ (codes " " ++ number_text t))
     (chosen links (codes "BL") (codes "B") refl refl)
     (join (condition_text c) (codes " " ++ number_text t) (condition_unbroken c) (number_unbroken t))
 
 swi_unbroken : (c : Condition) (n : ℕ) → IsUnbroken (swi_text c n)
-unfolding swi_text
 swi_unbroken c n = join (condition_text c) (codes " " ++ number_text n) (condition_unbroken c) (number_unbroken n)
 
 pub action_unbroken : (address : ℕ) (c : Condition) (a : Action) → FitsFields a → IsUnbroken (action_text address c a)

@@ -81,7 +81,6 @@ begins_plainly c s rest e = subst (λ (t : List ℕ). byte c t ≡ None) (sym (s
 
 offset_again : (labels : Lookup) (d : Direction) (o : Offset) (rest : List ℕ) → FitsOffset o → Ends rest
     → offset_in labels (offset_text d o ++ rest) ≡ signed_read d o rest
-unfolding offset_text
 offset_again labels Up (offset.Immediate n) rest fits ends =
     up_number labels (number_text n ++ rest) (no_minus_number n rest) ∙ number_read labels Up n rest fits ends
 offset_again labels Down (offset.Immediate n) rest fits ends = down_number labels (number_text n ++ rest) ∙ number_read labels Down n rest fits ends
@@ -102,7 +101,6 @@ unfolding after_spaces
 minus_no_space x = refl
 
 offset_no_space : (d : Direction) (o : Offset) (rest : List ℕ) → FitsOffset o → after_spaces (offset_text d o ++ rest) ≡ offset_text d o ++ rest
-unfolding offset_text
 offset_no_space d (offset.Immediate n) rest fits = hash_no_space ((sign_text d ++ number_text n) ++ rest)
 offset_no_space Down (offset.Shifted s) rest fits = minus_no_space (shifted_text s ++ rest)
 offset_no_space Up (offset.Shifted s) rest fits =
@@ -167,7 +165,6 @@ before_read labels w rn d o fits =
 
 -- behind the bracket that opens
 post_shape : (user : Bool) (d : Direction) (rn : ℕ) (o : Offset) → after_text (placed (Post user) d rn o) ≡ 91 ∷ (register_text rn ++ (93 ∷ (44 ∷ offset_text d o)))
-unfolding after_text base_text
 post_shape user d rn o = ap (λ (t : List ℕ). 91 ∷ t) (append_assoc (register_text rn) (codes "],") (offset_text d o))
 
 post_again : (labels : Lookup) (user : Bool) (d : Direction) (rn : ℕ) (o : Offset) → rn < 16 → FitsOffset o
@@ -194,7 +191,6 @@ behind_bracket (Pre w) d rn o =
     if not w && is_nothing d o then register_text rn ++ (93 ∷ []) else register_text rn ++ (44 ∷ (offset_text d o ++ (93 ∷ text_if w (codes "!"))))
 
 before_shape : (w : Bool) (d : Direction) (rn : ℕ) (o : Offset) → before_text w (placed (Pre w) d rn o) ≡ 91 ∷ behind_bracket (Pre w) d rn o
-unfolding before_text base_text close_text
 before_shape w d rn o = by (not w && is_nothing d o) refl
   where
     by : (t : Bool) → (not w && is_nothing d o) ≡ t → before_text w (placed (Pre w) d rn o) ≡ 91 ∷ behind_bracket (Pre w) d rn o
@@ -202,7 +198,6 @@ before_shape w d rn o = by (not w && is_nothing d o) refl
     by false e = rw e (ap (λ (t : List ℕ). 91 ∷ t) (append_assoc (register_text rn) (codes ",") (offset_text d o ++ (codes "]" ++ text_if w (codes "!")))))
 
 address_shape : (way : Indexing) (d : Direction) (rn : ℕ) (o : Offset) → address_text (placed way d rn o) ≡ 91 ∷ behind_bracket way d rn o
-unfolding address_text
 address_shape (Post user) d rn o = post_shape user d rn o
 address_shape (Pre w) d rn o = before_shape w d rn o
 
@@ -253,7 +248,6 @@ head_shape a b x y r rest = simp append_assoc
 transfer_shape : (c : Condition) (t : Transfer)
     → transfer_text c t ≡ (choose_text t.loads (codes "LDR") (codes "STR") ++ (condition_text c ++ kind_text t.is_byte (is_user t.address.indexing)))
     ++ (32 ∷ (register_text t.rd ++ (44 ∷ (91 ∷ behind_bracket t.address.indexing t.address.direction t.address.rn t.address.offset))))
-unfolding transfer_head
 transfer_shape c t =
     head_shape (choose_text t.loads (codes "LDR") (codes "STR")) (condition_text c) (text_if t.is_byte (codes "B"))
     (text_if (is_user t.address.indexing) (codes "T")) (register_text t.rd) (address_text t.address)

@@ -189,7 +189,6 @@ braces_read (n ∷ ns) tail list e some low =
     ∙ ap (list_read tail) e
 
 braces_shape : (b : BlockTransfer) → braces_text b ≡ 123 ∷ (listed_text b.list ++ (125 ∷ text_if b.psr_or_user (codes "^")))
-unfolding braces_text
 braces_shape b = refl
 
 list_again : (list : ℕ) (tail : List ℕ) → list < 2 ^ 16 → (list == 0) ≡ false
@@ -248,7 +247,6 @@ head_shape a b m r w rest = simp append_assoc
 block_shape : (c : Condition) (b : BlockTransfer)
     → block_text c b ≡ (choose_text b.loads (codes "LDM") (codes "STM") ++ (condition_text c ++ block_mode_text b.mode))
     ++ (32 ∷ (register_text b.rn ++ (text_if b.writes_back (codes "!") ++ (44 ∷ (123 ∷ (listed_text b.list ++ (125 ∷ text_if b.psr_or_user (codes "^"))))))))
-unfolding block_head braces_text
 block_shape c b =
     head_shape (choose_text b.loads (codes "LDM") (codes "STM")) (condition_text c) (block_mode_text b.mode) (register_text b.rn)
     (text_if b.writes_back (codes "!")) (123 ∷ (listed_text b.list ++ (125 ∷ text_if b.psr_or_user (codes "^"))))

@@ -68,7 +68,6 @@ four_parts a b c rest =
 
 -- AND to MVN
 flags_again : (o : Operate) → flags_text o ≡ text_if (flag_of o) (flag_text o.operation)
-unfolding flags_text
 flags_again o = by (is_test o.operation) refl
   where
     by : (t : Bool) → is_test o.operation ≡ t → flags_text o ≡ text_if (flag_of o) (flag_text o.operation)
@@ -77,7 +76,6 @@ flags_again o = by (is_test o.operation) refl
 
 operate_shape : (c : Condition) (o : Operate)
     → operate_text c o ≡ (operation_text o.operation ++ (condition_text c ++ text_if (flag_of o) (flag_text o.operation))) ++ (32 ∷ (registers_text o ++ operand_text o.operand))
-unfolding operate_head
 operate_shape c o =
     ap (λ (f : List ℕ). (operation_text o.operation ++ (condition_text c ++ (f ++ codes " "))) ++ (registers_text o ++ operand_text o.operand)) (flags_again o)
     ∙ four_parts (operation_text o.operation) (condition_text c) (text_if (flag_of o) (flag_text o.operation)) (registers_text o ++ operand_text o.operand)
@@ -95,7 +93,6 @@ operate_is_read labels address w c o fits free same =
 -- MUL, MLA
 multiply_shape : (c : Condition) (m : Multiply)
     → multiply_text c m ≡ (choose_text m.accumulates (codes "MLA") (codes "MUL") ++ (condition_text c ++ text_if m.sets_flags (codes "S"))) ++ (32 ∷ multiply_operands m)
-unfolding multiply_head
 multiply_shape c m =
     four_parts (choose_text m.accumulates (codes "MLA") (codes "MUL")) (condition_text c) (text_if m.sets_flags (codes "S")) (multiply_operands m)
 
@@ -143,7 +140,6 @@ branch_again labels address d links even low small =
     rw (number_alone labels t word_sized, branch_of address d links even low small) refl
 
 branch_shape : (c : Condition) (links : Bool) (t : ℕ) → branch_text c links t ≡ (choose_text links (codes "BL") (codes "B") ++ condition_text c) ++ (32 ∷ number_text t)
-unfolding branch_text
 branch_shape c links t = sym (append_assoc (choose_text links (codes "BL") (codes "B")) (condition_text c) (32 ∷ number_text t))
 
 pub branch_is_read : (labels : Lookup) (address w : ℕ) (c : Condition) (links : Bool) (d : ℕ) → address % 4 ≡ 0 → address < 2 ^ 26 → d < 2 ^ 24
@@ -176,7 +172,6 @@ swi_again labels n small =
     rw (no_quote n, no_call n, number_alone labels n word_sized, swi_fits n small) refl
 
 swi_shape : (c : Condition) (n : ℕ) → swi_text c n ≡ (codes "SWI" ++ condition_text c) ++ (32 ∷ number_text n)
-unfolding swi_text
 swi_shape c n = sym (append_assoc (codes "SWI") (condition_text c) (32 ∷ number_text n))
 
 pub swi_is_read : (labels : Lookup) (address w : ℕ) (c : Condition) (n : ℕ) → n < 2 ^ 24 → refusal (action.SoftwareInterrupt n) ≡ None

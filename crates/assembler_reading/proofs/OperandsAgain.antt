@@ -136,7 +136,6 @@ regrouped b digits rest = append_assoc (number_text b) (44 ∷ digits) rest
 
 immediate_again : (labels : Lookup) (r b : ℕ) (rest : List ℕ) → r < 16 → b < 256 → Ends rest
     → second_operand labels (immediate_text r b ++ rest) ≡ Some (Ok (operand.Immediate r b), rest)
-unfolding immediate_text
 immediate_again labels r b rest h low ends = by (is_field (least_rotation (immediate_value r b)) r) refl
   where
     by : (t : Bool) → is_field (least_rotation (immediate_value r b)) r ≡ t → second_operand labels (immediate_text r b ++ rest) ≡ Some (Ok (operand.Immediate r b), rest)
@@ -224,7 +223,6 @@ is_some_left n e = grind (arith, nat_tests, e)
 
 shifting_again : (labels : Lookup) (rm n : ℕ) (s : Shift) (rest : List ℕ) → n < 32 → Ends rest
     → shift_at labels rm (shifting_text s n ++ rest) (comma (shifting_text s n ++ rest)) ≡ Some (Ok (operand.Shifted (shifted_by rm s n)), rest)
-unfolding shifting_text
 shifting_again labels rm n s rest h ends = by s (n == 0) refl
   where
     same : n % 32 ≡ n
@@ -250,7 +248,6 @@ shifting_again labels rm n s rest h ends = by s (n == 0) refl
         ∙ ap (λ (k : ℕ). Some (Ok (operand.Shifted (shifted_by rm shift.RotateRight k)), rest)) same)
 
 apart_shifting : (s : Shift) (n : ℕ) (rest : List ℕ) → prefix_len is_word_byte rest ≡ 0 → prefix_len is_word_byte (shifting_text s n ++ rest) ≡ 0
-unfolding shifting_text
 apart_shifting s n rest apart = by s (n == 0) refl
   where
     by : (s : Shift) (t : Bool) → (n == 0) ≡ t → prefix_len is_word_byte (shifting_text s n ++ rest) ≡ 0
@@ -268,7 +265,6 @@ behind_register labels text behind rm e = rw e refl
 
 pub shifted_again : (labels : Lookup) (s : ShiftedRegister) (rest : List ℕ) → FitsShifted s → Ends rest
     → shifted labels (shifted_text s ++ rest) ≡ Some (Ok (operand.Shifted s), rest)
-unfolding shifted_text
 shifted_again labels s rest fits ends =
     let tail : List ℕ = shifting_text s.shift s.amount ++ rest in
     rw (append_assoc (register_text s.rm) (shifting_text s.shift s.amount) rest)
@@ -276,7 +272,6 @@ shifted_again labels s rest fits ends =
     ∙ shifting_again labels s.rm s.amount s.shift rest fits.1 ends)
 
 pub shifted_shape : (s : ShiftedRegister) (rest : List ℕ) → shifted_text s ++ rest ≡ register_text s.rm ++ (shifting_text s.shift s.amount ++ rest)
-unfolding shifted_text
 shifted_shape s rest = append_assoc (register_text s.rm) (shifting_text s.shift s.amount) rest
 
 no_hash_then : (labels : Lookup) (text : List ℕ) → byte 35 text ≡ None → second_operand labels text ≡ shifted labels text
@@ -290,7 +285,6 @@ by_other labels rm rs s rest h ends = rw ((is_register rs rest h).no_hash, regis
 
 other_shape : (rm rs : ℕ) (s : Shift) (rest : List ℕ)
     → by_register_text rm s rs ++ rest ≡ register_text rm ++ (44 ∷ (shift_text s ++ (32 ∷ (register_text rs ++ rest))))
-unfolding by_register_text
 other_shape rm rs shift.LogicalLeft rest = append_assoc (register_text rm) (codes ",LSL " ++ register_text rs) rest
 other_shape rm rs shift.LogicalRight rest = append_assoc (register_text rm) (codes ",LSR " ++ register_text rs) rest
 other_shape rm rs shift.ArithmeticRight rest = append_assoc (register_text rm) (codes ",ASR " ++ register_text rs) rest
@@ -310,7 +304,6 @@ register_first labels rm rest h = no_hash_then labels (register_text rm ++ rest)
 
 pub operand_again : (labels : Lookup) (o : Operand) (rest : List ℕ) → FitsOperand o → Ends rest
     → second_operand labels (operand_text o ++ rest) ≡ Some (Ok o, rest)
-unfolding operand_text
 operand_again labels (operand.Immediate r b) rest fits ends = immediate_again labels r b rest fits.0 fits.1 ends
 operand_again labels (operand.Shifted s) rest fits ends =
     subst (λ (text : List ℕ). second_operand labels text ≡ shifted labels text) (sym (shifted_shape s rest))

@@ -70,7 +70,7 @@ register_no_space : (s : List ℕ) (n : ℕ) → n < 16 → after_spaces (regist
 register_no_space s n h = (is_register n s h).no_space
 
 immediate_no_space : (r b : ℕ) → after_spaces (immediate_text r b) ≡ immediate_text r b
-unfolding immediate_text after_spaces
+unfolding after_spaces
 immediate_no_space r b = by (is_field (least_rotation (immediate_value r b)) r) refl
   where
     by : (t : Bool) → is_field (least_rotation (immediate_value r b)) r ≡ t → after_spaces (immediate_text r b) ≡ immediate_text r b
@@ -78,7 +78,6 @@ immediate_no_space r b = by (is_field (least_rotation (immediate_value r b)) r) 
     by false e = rw e refl
 
 operand_no_space : (o : Operand) → FitsOperand o → after_spaces (operand_text o) ≡ operand_text o
-unfolding operand_text shifted_text by_register_text
 operand_no_space (operand.Immediate r b) fits = immediate_no_space r b
 operand_no_space (operand.Shifted s) fits = register_no_space (shifting_text s.shift s.amount) s.rm fits.0
 operand_no_space (operand.ShiftedByRegister rm s rs) fits = register_no_space _ rm fits.0
@@ -140,7 +139,6 @@ other_again labels o t m h fits = rw (t, m) (on_operand labels o.operation o.set
 
 pub operate_again : (labels : Lookup) (o : Operate) → FitsFields (action.Operate o) → unallocated (action.Operate o) ≡ false
     → operate_at labels o.operation (flag_of o) (registers_text o ++ operand_text o.operand) ≡ Some (Ok (action.Operate o), [])
-unfolding registers_text
 operate_again labels o fits free = by (is_test o.operation) (is_move o.operation) refl refl
   where
     by : (t m : Bool) → is_test o.operation ≡ t → is_move o.operation ≡ m
@@ -158,7 +156,6 @@ operate_again labels o fits free = by (is_test o.operation) (is_move o.operation
 
 -- the text of operands begins with a register
 pub operate_no_space : (o : Operate) → FitsFields (action.Operate o) → after_spaces (registers_text o ++ operand_text o.operand) ≡ registers_text o ++ operand_text o.operand
-unfolding registers_text
 operate_no_space o fits = by (is_test o.operation) (is_move o.operation) refl refl
   where
     by : (t m : Bool) → is_test o.operation ≡ t → is_move o.operation ≡ m
@@ -201,12 +198,10 @@ multiply_read d n s m adds sets hd hn hs hm absent =
 
 pub multiply_again : (m : Multiply) → FitsFields (action.Multiply m) → unallocated (action.Multiply m) ≡ false
     → multiply_at m.accumulates m.sets_flags (multiply_operands m) ≡ Some (Ok (action.Multiply m), [])
-unfolding multiply_operands
 multiply_again m fits free = multiply_read m.rd m.rn m.rs m.rm m.accumulates m.sets_flags fits.0 fits.1 fits.2 fits.3 no_rn
   where
     no_rn : m.accumulates ≡ false → m.rn ≡ 0
     no_rn e = is_zero m.rn (of_move false (m.rn == 0) (rw e at free))
 
 pub multiply_no_space : (m : Multiply) → FitsFields (action.Multiply m) → after_spaces (multiply_operands m) ≡ multiply_operands m
-unfolding multiply_operands
 multiply_no_space m fits = register_no_space _ m.rd fits.0

@@ -43,7 +43,7 @@ word_alone labels w small =
     (word_again labels w [] small ends_nothing.apart ends_nothing.no_sign)
 
 data_shape : (w address : ℕ) (f : Fault) → decoded w ≡ Err f → print w address ≡ codes "DCD " ++ (38 ∷ hex_word w)
-unfolding print data_text
+unfolding print
 data_shape w address f e = rw e refl
 
 pub data_is_read_again : DataIsReadAgain

@@ -22,7 +22,7 @@ listed_ends list n is_first h = let k : 16 - n ≡ 0 = omega arith in rw k refl
 
 pub listed_goes_on : (list n : ℕ) (is_first b : Bool) → n < 16 → bit_of list n ≡ b
     → listed_rest list n is_first ≡ listed_piece list n is_first ++ listed_rest list (n + 1) (is_first && not b)
-unfolding listed_rest listed_piece
+unfolding listed_rest
 listed_goes_on list n true true h e = let k : 16 - n ≡ suc (16 - (n + 1)) = omega arith in rw (k, e) refl
 listed_goes_on list n false true h e = let k : 16 - n ≡ suc (16 - (n + 1)) = omega arith in rw (k, e) refl
 listed_goes_on list n true false h e = let k : 16 - n ≡ suc (16 - (n + 1)) = omega arith in rw (k, e) refl

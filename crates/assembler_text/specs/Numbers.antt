@@ -28,7 +28,7 @@ is_field None rotation = false
 is_field (Some least) rotation = least == rotation
 
 -- `#v` where the field is the least that gives the value, else `#b,r` with r twice the field
-unfoldable pub immediate_text : ℕ → ℕ → List ℕ
+abbrev pub immediate_text : ℕ → ℕ → List ℕ
 immediate_text rotation byte =
     if is_field (least_rotation (immediate_value rotation byte)) rotation
     then codes "#" ++ number_text (immediate_value rotation byte)

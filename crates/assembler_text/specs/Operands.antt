@@ -13,20 +13,20 @@ abbrev pub amount_text : Shift → ℕ → List ℕ
 amount_text s n = codes "," ++ (shift_text s ++ (codes " #" ++ decimal n))
 
 -- What follows a register that is shifted by the number in the instruction, of which 0 means no shift, 32, 32, and RRX.
-unfoldable pub shifting_text : Shift → ℕ → List ℕ
+abbrev pub shifting_text : Shift → ℕ → List ℕ
 shifting_text shift.LogicalLeft n = if n == 0 then [] else amount_text shift.LogicalLeft n
 shifting_text shift.LogicalRight n = amount_text shift.LogicalRight (if n == 0 then 32 else n)
 shifting_text shift.ArithmeticRight n = amount_text shift.ArithmeticRight (if n == 0 then 32 else n)
 shifting_text shift.RotateRight n = if n == 0 then codes ",RRX" else amount_text shift.RotateRight n
 
-unfoldable pub shifted_text : ShiftedRegister → List ℕ
+abbrev pub shifted_text : ShiftedRegister → List ℕ
 shifted_text s = register_text s.rm ++ shifting_text s.shift s.amount
 
 -- `Rm,LSL Rs`
-unfoldable pub by_register_text : ℕ → Shift → ℕ → List ℕ
+abbrev pub by_register_text : ℕ → Shift → ℕ → List ℕ
 by_register_text rm s rs = register_text rm ++ (codes "," ++ (shift_text s ++ (codes " " ++ register_text rs)))
 
-unfoldable pub operand_text : Operand → List ℕ
+abbrev pub operand_text : Operand → List ℕ
 operand_text (operand.Immediate rotation byte) = immediate_text rotation byte
 operand_text (operand.Shifted s) = shifted_text s
 operand_text (operand.ShiftedByRegister rm s rs) = by_register_text rm s rs

@@ -16,15 +16,15 @@ use Rattle.assembler_text.specs.Operands.{operand_text}
 use Rattle.assembler_text.specs.Transfers.{block_text, transfer_text}
 
 -- S; of a test, which always has it, P where its Rd field is 15
-unfoldable pub flags_text : Operate → List ℕ
+abbrev pub flags_text : Operate → List ℕ
 flags_text o = if is_test o.operation then text_if (is_pc o.rd) (codes "P") else text_if o.sets_flags (codes "S")
 
 -- `ADDcS `
-unfoldable pub operate_head : Condition → Operate → List ℕ
+abbrev pub operate_head : Condition → Operate → List ℕ
 operate_head c o = operation_text o.operation ++ (condition_text c ++ (flags_text o ++ codes " "))
 
 -- `Rn,` of a test; `Rd,` of MOV and MVN; else `Rd,Rn,`
-unfoldable pub registers_text : Operate → List ℕ
+abbrev pub registers_text : Operate → List ℕ
 registers_text o =
     if is_test o.operation then register_text o.rn ++ codes "," else (
     if is_move o.operation then register_text o.rd ++ codes "," else
@@ -34,12 +34,12 @@ abbrev pub operate_text : Condition → Operate → List ℕ
 operate_text c o = operate_head c o ++ (registers_text o ++ operand_text o.operand)
 
 -- `MULcS ` or `MLAcS `
-unfoldable pub multiply_head : Condition → Multiply → List ℕ
+abbrev pub multiply_head : Condition → Multiply → List ℕ
 multiply_head c m =
     choose_text m.accumulates (codes "MLA") (codes "MUL") ++ (condition_text c ++ (text_if m.sets_flags (codes "S") ++ codes " "))
 
 -- `Rd,Rm,Rs`, and of MLA `,Rn`
-unfoldable pub multiply_operands : Multiply → List ℕ
+abbrev pub multiply_operands : Multiply → List ℕ
 multiply_operands m =
     register_text m.rd ++ (codes "," ++ (register_text m.rm ++ (codes "," ++ (register_text m.rs ++
     (text_if m.accumulates (codes ",") ++ text_if m.accumulates (register_text m.rn))))))
@@ -51,10 +51,10 @@ multiply_text c m = multiply_head c m ++ multiply_operands m
 abbrev pub branch_target : ℕ → ℕ → ℕ
 branch_target address distance = (address + 8 + 4 * distance) % 2 ^ 26
 
-unfoldable pub branch_text : Condition → Bool → ℕ → List ℕ
+abbrev pub branch_text : Condition → Bool → ℕ → List ℕ
 branch_text c links target = choose_text links (codes "BL") (codes "B") ++ (condition_text c ++ (codes " " ++ number_text target))
 
-unfoldable pub swi_text : Condition → ℕ → List ℕ
+abbrev pub swi_text : Condition → ℕ → List ℕ
 swi_text c number = codes "SWI" ++ (condition_text c ++ (codes " " ++ number_text number))
 
 abbrev pub action_text : ℕ → Condition → Action → List ℕ
@@ -66,7 +66,7 @@ action_text address c (action.Branch links distance) = branch_text c links (bran
 action_text address c (action.SoftwareInterrupt number) = swi_text c number
 
 -- a word that is no instruction, as a word of data
-unfoldable pub data_text : ℕ → List ℕ
+abbrev pub data_text : ℕ → List ℕ
 data_text word = codes "DCD &" ++ hex_word word
 
 abbrev pub text_or_data : ℕ → ℕ → Result (Condition × Action) Fault → List ℕ

@@ -22,7 +22,7 @@ abbrev pub sign_text : Direction → List ℕ
 sign_text d = text_if (not (is_up d)) (codes "-")
 
 -- `#v`, `#-v`, `Rm` or `-Rm`, Rm with its shift
-unfoldable pub offset_text : Direction → Offset → List ℕ
+abbrev pub offset_text : Direction → Offset → List ℕ
 offset_text d (offset.Immediate number) = codes "#" ++ (sign_text d ++ number_text number)
 offset_text d (offset.Shifted s) = sign_text d ++ shifted_text s
 
@@ -32,29 +32,29 @@ is_nothing d (offset.Immediate number) = is_up d && (number == 0)
 is_nothing d (offset.Shifted s) = false
 
 -- `[Rn` and what follows it
-unfoldable pub base_text : ℕ → List ℕ → List ℕ
+abbrev pub base_text : ℕ → List ℕ → List ℕ
 base_text rn after = codes "[" ++ (register_text rn ++ after)
 
 -- `]`, with `!` where the address is written back
-unfoldable pub close_text : Bool → List ℕ
+abbrev pub close_text : Bool → List ℕ
 close_text writes_back = codes "]" ++ text_if writes_back (codes "!")
 
 -- `[Rn]`, `[Rn,offset]`, `[Rn,offset]!`
-unfoldable pub before_text : Bool → Address → List ℕ
+abbrev pub before_text : Bool → Address → List ℕ
 before_text writes_back a =
     if not writes_back && is_nothing a.direction a.offset
     then base_text a.rn (codes "]")
     else base_text a.rn (codes ",") ++ (offset_text a.direction a.offset ++ close_text writes_back)
 
 -- `[Rn],offset`
-unfoldable pub after_text : Address → List ℕ
+abbrev pub after_text : Address → List ℕ
 after_text a = base_text a.rn (codes "],") ++ offset_text a.direction a.offset
 
 abbrev pub indexed_text : Indexing → Address → List ℕ
 indexed_text (Pre writes_back) a = before_text writes_back a
 indexed_text (Post user) a = after_text a
 
-unfoldable pub address_text : Address → List ℕ
+abbrev pub address_text : Address → List ℕ
 address_text a = indexed_text a.indexing a
 
 -- T: the transfer is one of user mode
@@ -63,7 +63,7 @@ is_user (Pre writes_back) = false
 is_user (Post user) = user
 
 -- `LDRcBT Rd,`
-unfoldable pub transfer_head : Condition → Transfer → List ℕ
+abbrev pub transfer_head : Condition → Transfer → List ℕ
 transfer_head c t =
     choose_text t.loads (codes "LDR") (codes "STR") ++ (condition_text c ++ (text_if t.is_byte (codes "B") ++
     (text_if (is_user t.address.indexing) (codes "T") ++ (codes " " ++ (register_text t.rd ++ codes ",")))))
@@ -84,17 +84,17 @@ unfoldable pub listed_text : ℕ → List ℕ
 listed_text list = separated [] (listed_from list 0)
 
 -- what one register adds to the list's text
-unfoldable pub listed_piece : ℕ → ℕ → Bool → List ℕ
+abbrev pub listed_piece : ℕ → ℕ → Bool → List ℕ
 listed_piece list n is_first = if bit_of list n then text_if (not is_first) (codes ",") ++ register_text n else []
 
 -- `LDMcIA Rn!,`
-unfoldable pub block_head : Condition → BlockTransfer → List ℕ
+abbrev pub block_head : Condition → BlockTransfer → List ℕ
 block_head c b =
     choose_text b.loads (codes "LDM") (codes "STM") ++ (condition_text c ++ (block_mode_text b.mode ++ (codes " " ++
     (register_text b.rn ++ (text_if b.writes_back (codes "!") ++ codes ",")))))
 
 -- `{R0,R1}^`
-unfoldable pub braces_text : BlockTransfer → List ℕ
+abbrev pub braces_text : BlockTransfer → List ℕ
 braces_text b = codes "{" ++ (listed_text b.list ++ (codes "}" ++ text_if b.psr_or_user (codes "^")))
 
 abbrev pub block_text : Condition → BlockTransfer → List ℕ

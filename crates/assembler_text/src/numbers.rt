@@ -9,7 +9,6 @@ use arm_decode::profile::{HexText, Sink, WriteFault, push_parts};
 use itoa::Buffer;
 
 /// Writes `#v` where the rotation field is the least that gives v, else `#b,r`.
-#[tactic(auto, unfolding(crate::specs::Numbers::immediate_text))]
 pub(crate) fn push_immediate<W: Sink>(
     rotation: u32,
     byte: u8,

@@ -11,7 +11,6 @@ use arm_decode::{Operand, Register, Shift, ShiftedRegister};
 use itoa::Buffer;
 
 /// Writes the second operand of data processing.
-#[tactic(auto, unfolding(crate::specs::Operands::operand_text))]
 pub(crate) fn push_operand<W: Sink>(operand: Operand, sink: &mut W) -> Result<(), WriteFault>
     ensures text { OnOk result (Appends (W.contents sink.old) (W.contents sink.new) (operand_text operand)) }
     ensures flag { OnErr result (W.has_failed sink.new ≡ true) }
@@ -25,7 +24,6 @@ pub(crate) fn push_operand<W: Sink>(operand: Operand, sink: &mut W) -> Result<()
 }
 
 /// Writes a register with its shift by a number.
-#[tactic(auto, using(crate::proofs::Pieces::pieces), unfolding(crate::specs::Operands::shifted_text))]
 pub(crate) fn push_shifted<W: Sink>(
     shifted: ShiftedRegister,
     sink: &mut W,
@@ -40,7 +38,6 @@ pub(crate) fn push_shifted<W: Sink>(
 }
 
 // What follows a register that is shifted by the number in the instruction.
-#[tactic(auto, using(crate::proofs::Pieces::pieces), unfolding(crate::specs::Operands::shifting_text))]
 fn push_shifting<W: Sink>(shift: Shift, amount: u32, sink: &mut W) -> Result<(), WriteFault>
     ensures text { OnOk result (Appends (W.contents sink.old) (W.contents sink.new) (shifting_text shift amount)) }
     ensures flag { OnErr result (W.has_failed sink.new ≡ true) }
@@ -73,7 +70,6 @@ fn push_amount<W: Sink>(shift: Shift, amount: u32, sink: &mut W) -> Result<(), W
 }
 
 // `Rm,LSL Rs`
-#[tactic(auto, unfolding(crate::specs::Operands::by_register_text))]
 fn push_by_register<W: Sink>(
     rm: Register,
     shift: Shift,

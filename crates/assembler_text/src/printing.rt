@@ -24,7 +24,6 @@ pub fn disassemble<W: Sink>(word: u32, address: u32, sink: &mut W) -> Result<(),
     }
 }
 
-#[tactic(auto, unfolding(crate::specs::Printing::data_text))]
 fn push_data<W: Sink>(word: u32, sink: &mut W) -> Result<(), WriteFault>
     ensures text { OnOk result (Appends (W.contents sink.old) (W.contents sink.new) (data_text word)) }
     ensures flag { OnErr result (W.has_failed sink.new ≡ true) }
@@ -39,7 +38,8 @@ fn push_action<W: Sink>(
     action: Action,
     sink: &mut W,
 ) -> Result<(), WriteFault>
-    ensures text { OnOk result (Appends (W.contents sink.old) (W.contents sink.new) (action_text address condition action)) }
+    ensures text { OnOk result (Appends (W.contents sink.old) (W.contents sink.new)
+        (action_text address condition action)) }
     ensures flag { OnErr result (W.has_failed sink.new ≡ true) }
     ensures same_flag { OnOk result (W.has_failed sink.new ≡ W.has_failed sink.old) }
 {
@@ -56,13 +56,13 @@ fn push_action<W: Sink>(
     }
 }
 
-#[tactic(auto, using(crate::proofs::Pieces::pieces))]
 fn push_operate<W: Sink>(
     condition: Condition,
     operate: &Operate,
     sink: &mut W,
 ) -> Result<(), WriteFault>
-    ensures text { OnOk result (Appends (W.contents sink.old) (W.contents sink.new) (operate_text condition operate.now)) }
+    ensures text { OnOk result (Appends (W.contents sink.old) (W.contents sink.new)
+        (operate_text condition operate.now)) }
     ensures flag { OnErr result (W.has_failed sink.new ≡ true) }
     ensures same_flag { OnOk result (W.has_failed sink.new ≡ W.has_failed sink.old) }
 {
@@ -72,13 +72,13 @@ fn push_operate<W: Sink>(
 }
 
 // `ADDcS `
-#[tactic(auto, unfolding(crate::specs::Printing::operate_head))]
 fn push_operate_head<W: Sink>(
     condition: Condition,
     operate: &Operate,
     sink: &mut W,
 ) -> Result<(), WriteFault>
-    ensures text { OnOk result (Appends (W.contents sink.old) (W.contents sink.new) (operate_head condition operate.now)) }
+    ensures text { OnOk result (Appends (W.contents sink.old) (W.contents sink.new)
+        (operate_head condition operate.now)) }
     ensures flag { OnErr result (W.has_failed sink.new ≡ true) }
     ensures same_flag { OnOk result (W.has_failed sink.new ≡ W.has_failed sink.old) }
 {
@@ -93,7 +93,6 @@ fn push_operate_head<W: Sink>(
     )
 }
 
-#[tactic(auto, unfolding(crate::specs::Printing::flags_text))]
 fn flags_text(operate: &Operate) -> &'static [u8]
     ensures { result.now ≡ flags_text operate.now }
 {
@@ -105,7 +104,6 @@ fn flags_text(operate: &Operate) -> &'static [u8]
 }
 
 // `Rn,` of a test, `Rd,` of MOV and MVN, else `Rd,Rn,`
-#[tactic(auto, unfolding(crate::specs::Printing::registers_text))]
 fn push_registers<W: Sink>(operate: &Operate, sink: &mut W) -> Result<(), WriteFault>
     ensures text { OnOk result (Appends (W.contents sink.old) (W.contents sink.new) (registers_text operate.now)) }
     ensures flag { OnErr result (W.has_failed sink.new ≡ true) }
@@ -130,13 +128,13 @@ fn push_registers<W: Sink>(operate: &Operate, sink: &mut W) -> Result<(), WriteF
     }
 }
 
-#[tactic(auto, using(crate::proofs::Pieces::pieces))]
 fn push_multiply<W: Sink>(
     condition: Condition,
     multiply: &Multiply,
     sink: &mut W,
 ) -> Result<(), WriteFault>
-    ensures text { OnOk result (Appends (W.contents sink.old) (W.contents sink.new) (multiply_text condition multiply.now)) }
+    ensures text { OnOk result (Appends (W.contents sink.old) (W.contents sink.new)
+        (multiply_text condition multiply.now)) }
     ensures flag { OnErr result (W.has_failed sink.new ≡ true) }
     ensures same_flag { OnOk result (W.has_failed sink.new ≡ W.has_failed sink.old) }
 {
@@ -145,13 +143,13 @@ fn push_multiply<W: Sink>(
 }
 
 // `MULcS ` or `MLAcS `
-#[tactic(auto, unfolding(crate::specs::Printing::multiply_head))]
 fn push_multiply_head<W: Sink>(
     condition: Condition,
     multiply: &Multiply,
     sink: &mut W,
 ) -> Result<(), WriteFault>
-    ensures text { OnOk result (Appends (W.contents sink.old) (W.contents sink.new) (multiply_head condition multiply.now)) }
+    ensures text { OnOk result (Appends (W.contents sink.old) (W.contents sink.new)
+        (multiply_head condition multiply.now)) }
     ensures flag { OnErr result (W.has_failed sink.new ≡ true) }
     ensures same_flag { OnOk result (W.has_failed sink.new ≡ W.has_failed sink.old) }
 {
@@ -167,7 +165,6 @@ fn push_multiply_head<W: Sink>(
 }
 
 // `Rd,Rm,Rs`, and of MLA `,Rn`
-#[tactic(auto, unfolding(crate::specs::Printing::multiply_operands))]
 fn push_multiply_operands<W: Sink>(multiply: &Multiply, sink: &mut W) -> Result<(), WriteFault>
     ensures text { OnOk result (Appends (W.contents sink.old) (W.contents sink.new) (multiply_operands multiply.now)) }
     ensures flag { OnErr result (W.has_failed sink.new ≡ true) }
@@ -188,14 +185,14 @@ fn push_multiply_operands<W: Sink>(multiply: &Multiply, sink: &mut W) -> Result<
     )
 }
 
-#[tactic(auto, unfolding(crate::specs::Printing::branch_text))]
 fn push_branch<W: Sink>(
     condition: Condition,
     links: bool,
     target: u32,
     sink: &mut W,
 ) -> Result<(), WriteFault>
-    ensures text { OnOk result (Appends (W.contents sink.old) (W.contents sink.new) (branch_text condition links target)) }
+    ensures text { OnOk result (Appends (W.contents sink.old) (W.contents sink.new)
+        (branch_text condition links target)) }
     ensures flag { OnErr result (W.has_failed sink.new ≡ true) }
     ensures same_flag { OnOk result (W.has_failed sink.new ≡ W.has_failed sink.old) }
 {
@@ -218,7 +215,6 @@ fn branch_target(address: u32, distance: u32) -> u32
     address.wrapping_add(8).wrapping_add(4 * distance) % (1 << 26)
 }
 
-#[tactic(auto, unfolding(crate::specs::Printing::swi_text))]
 fn push_swi<W: Sink>(condition: Condition, number: u32, sink: &mut W) -> Result<(), WriteFault>
     ensures text { OnOk result (Appends (W.contents sink.old) (W.contents sink.new) (swi_text condition number)) }
     ensures flag { OnErr result (W.has_failed sink.new ≡ true) }

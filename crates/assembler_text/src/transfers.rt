@@ -14,13 +14,13 @@ use arm_decode::{
 };
 
 /// Writes LDR or STR.
-#[tactic(auto, using(crate::proofs::Pieces::pieces))]
 pub(crate) fn push_transfer<W: Sink>(
     condition: Condition,
     transfer: &Transfer,
     sink: &mut W,
 ) -> Result<(), WriteFault>
-    ensures text { OnOk result (Appends (W.contents sink.old) (W.contents sink.new) (transfer_text condition transfer.now)) }
+    ensures text { OnOk result (Appends (W.contents sink.old) (W.contents sink.new)
+        (transfer_text condition transfer.now)) }
     ensures flag { OnErr result (W.has_failed sink.new ≡ true) }
     ensures same_flag { OnOk result (W.has_failed sink.new ≡ W.has_failed sink.old) }
 {
@@ -29,13 +29,13 @@ pub(crate) fn push_transfer<W: Sink>(
 }
 
 // `LDRcBT Rd,`
-#[tactic(auto, unfolding(crate::specs::Transfers::transfer_head))]
 fn push_transfer_head<W: Sink>(
     condition: Condition,
     transfer: &Transfer,
     sink: &mut W,
 ) -> Result<(), WriteFault>
-    ensures text { OnOk result (Appends (W.contents sink.old) (W.contents sink.new) (transfer_head condition transfer.now)) }
+    ensures text { OnOk result (Appends (W.contents sink.old) (W.contents sink.new)
+        (transfer_head condition transfer.now)) }
     ensures flag { OnErr result (W.has_failed sink.new ≡ true) }
     ensures same_flag { OnOk result (W.has_failed sink.new ≡ W.has_failed sink.old) }
 {
@@ -62,7 +62,6 @@ fn is_user(indexing: Indexing) -> bool
     }
 }
 
-#[tactic(auto, unfolding(crate::specs::Transfers::address_text))]
 fn push_address<W: Sink>(address: &Address, sink: &mut W) -> Result<(), WriteFault>
     ensures text { OnOk result (Appends (W.contents sink.old) (W.contents sink.new) (address_text address.now)) }
     ensures flag { OnErr result (W.has_failed sink.new ≡ true) }
@@ -75,13 +74,13 @@ fn push_address<W: Sink>(address: &Address, sink: &mut W) -> Result<(), WriteFau
 }
 
 // `[Rn]`, `[Rn,offset]`, `[Rn,offset]!`
-#[tactic(auto, using(crate::proofs::Pieces::pieces), unfolding(crate::specs::Transfers::before_text))]
 fn push_before<W: Sink>(
     writes_back: bool,
     address: &Address,
     sink: &mut W,
 ) -> Result<(), WriteFault>
-    ensures text { OnOk result (Appends (W.contents sink.old) (W.contents sink.new) (before_text writes_back address.now)) }
+    ensures text { OnOk result (Appends (W.contents sink.old) (W.contents sink.new)
+        (before_text writes_back address.now)) }
     ensures flag { OnErr result (W.has_failed sink.new ≡ true) }
     ensures same_flag { OnOk result (W.has_failed sink.new ≡ W.has_failed sink.old) }
 {
@@ -94,7 +93,6 @@ fn push_before<W: Sink>(
 }
 
 // `[Rn],offset`
-#[tactic(auto, using(crate::proofs::Pieces::pieces), unfolding(crate::specs::Transfers::after_text))]
 fn push_after<W: Sink>(address: &Address, sink: &mut W) -> Result<(), WriteFault>
     ensures text { OnOk result (Appends (W.contents sink.old) (W.contents sink.new) (after_text address.now)) }
     ensures flag { OnErr result (W.has_failed sink.new ≡ true) }
@@ -105,7 +103,6 @@ fn push_after<W: Sink>(address: &Address, sink: &mut W) -> Result<(), WriteFault
 }
 
 // `[Rn` and what follows it
-#[tactic(auto, unfolding(crate::specs::Transfers::base_text))]
 fn push_base<W: Sink>(rn: Register, after: &[u8], sink: &mut W) -> Result<(), WriteFault>
     ensures text { OnOk result (Appends (W.contents sink.old) (W.contents sink.new) (base_text rn after.now)) }
     ensures flag { OnErr result (W.has_failed sink.new ≡ true) }
@@ -117,7 +114,6 @@ fn push_base<W: Sink>(rn: Register, after: &[u8], sink: &mut W) -> Result<(), Wr
     )
 }
 
-#[tactic(auto, unfolding(crate::specs::Transfers::close_text))]
 fn push_close<W: Sink>(writes_back: bool, sink: &mut W) -> Result<(), WriteFault>
     ensures text { OnOk result (Appends (W.contents sink.old) (W.contents sink.new) (close_text writes_back)) }
     ensures flag { OnErr result (W.has_failed sink.new ≡ true) }
@@ -137,7 +133,6 @@ fn is_nothing(direction: Direction, offset: Offset) -> bool
 }
 
 // `#v`, `#-v`, `Rm`, `-Rm`
-#[tactic(auto, using(crate::proofs::Pieces::pieces), unfolding(crate::specs::Transfers::offset_text))]
 fn push_offset<W: Sink>(
     direction: Direction,
     offset: Offset,
@@ -176,7 +171,6 @@ fn sign_text(direction: Direction) -> &'static [u8]
 }
 
 /// Writes LDM or STM.
-#[tactic(auto, using(crate::proofs::Pieces::pieces))]
 pub(crate) fn push_block<W: Sink>(
     condition: Condition,
     block: &BlockTransfer,
@@ -191,7 +185,6 @@ pub(crate) fn push_block<W: Sink>(
 }
 
 // `LDMcIA Rn!,`
-#[tactic(auto, unfolding(crate::specs::Transfers::block_head))]
 fn push_block_head<W: Sink>(
     condition: Condition,
     block: &BlockTransfer,
@@ -216,7 +209,6 @@ fn push_block_head<W: Sink>(
 }
 
 // `{R0,R1}^`
-#[tactic(auto, using(crate::proofs::Pieces::pieces), unfolding(crate::specs::Transfers::braces_text))]
 fn push_braces<W: Sink>(block: &BlockTransfer, sink: &mut W) -> Result<(), WriteFault>
     ensures text { OnOk result (Appends (W.contents sink.old) (W.contents sink.new) (braces_text block.now)) }
     ensures flag { OnErr result (W.has_failed sink.new ≡ true) }
@@ -243,7 +235,6 @@ fn push_listed<W: Sink>(list: RegisterList, sink: &mut W) -> Result<(), WriteFau
 
 // A register if it is in the list, with a comma before it if it isn't the first. Answers whether
 // the first is still to come.
-#[tactic(auto, using(crate::proofs::Pieces::pieces), unfolding(crate::specs::Transfers::listed_piece))]
 fn push_register<W: Sink>(
     list: RegisterList,
     number: u8,
@@ -251,7 +242,8 @@ fn push_register<W: Sink>(
     sink: &mut W,
 ) -> Result<bool, WriteFault>
     requires { number < 16 }
-    ensures text { OnOk result (Appends (W.contents sink.old) (W.contents sink.new) (listed_piece list number is_first)) }
+    ensures text { OnOk result (Appends (W.contents sink.old) (W.contents sink.new)
+        (listed_piece list number is_first)) }
     ensures is_first { IfOk result (λ b. b ≡ (is_first && not (bit_of list number))) }
     ensures flag { OnErr result (W.has_failed sink.new ≡ true) }
     ensures same_flag { OnOk result (W.has_failed sink.new ≡ W.has_failed sink.old) }
