@@ -12,5 +12,4 @@ use Rattle.debugger.specs.Flex.{block_text, extent_text, flex_text, range_text}
 pub shown : (m : AddressMap) (f : Flex) (start end used : ℕ) → f.extent ≡ Some (record { start = start; end = end; used = used })
     → (blocks : List FlexBlock) → blocks ≡ all_listed (flex_in m f.extent)
     → flex_text (bytes_of m) f ≡ Some (range_text start end used ++ flat_map block_text blocks)
-unfolding flex_text extent_text
 shown m f start end used e blocks is = rw (is, e) refl

@@ -40,7 +40,6 @@ no_instance_more b None n past = refl
 no_instance_more b (Some m) n past = all_shown (λ (i : Instance). instance_line b (told_of_instance m i)) m.instances n past
 
 pub first_instance : (b : Bytes) (o : Option Module) → one_text (instances_text b) o ≡ instances_from b 0 o
-unfolding instances_text
 first_instance b None = refl
 first_instance b (Some m) = refl
 

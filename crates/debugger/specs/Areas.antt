@@ -7,17 +7,17 @@ use Rattle.profile.specs.Digits.{hex_word}
 use Rattle.swi_dispatch.specs.dynamic_areas.specs.declared.area.Area.{Area}
 
 -- ` size 65536 max 4194304`
-unfoldable pub extent_text : Area → List ℕ
+abbrev pub extent_text : Area → List ℕ
 extent_text a = codes " size " ++ (decimal (4096 * a.pages) ++ (codes " max " ++ decimal a.maximum))
 
 -- `area 1 base 01800000 size 65536 max 4194304 RMA`
-unfoldable pub area_text : Area → List ℕ
+abbrev pub area_text : Area → List ℕ
 area_text a =
     codes "area " ++ (decimal a.number ++ (codes " base " ++ (hex_word a.base ++ (extent_text a ++ (codes " " ++ (a.name.items ++ codes "\n"))))))
 
 -- `pool 173 pages`
-unfoldable pub pool_text : ℕ → List ℕ
+abbrev pub pool_text : ℕ → List ℕ
 pool_text pages = codes "pool " ++ (decimal pages ++ codes " pages\n")
 
-unfoldable pub areas_text : List Area → ℕ → List ℕ
+abbrev pub areas_text : List Area → ℕ → List ℕ
 areas_text areas pages = flat_map area_text areas ++ pool_text pages

@@ -17,7 +17,7 @@ abbrev pub word_or_unmapped : ℕ → Result ℕ Fault → List ℕ
 word_or_unmapped a (Ok w) = word_text a w
 word_or_unmapped a (Err f) = codes "-------- unmapped\n"
 
-unfoldable pub code_line : Bytes → ℕ → List ℕ
+abbrev pub code_line : Bytes → ℕ → List ℕ
 code_line b a = address_text a ++ word_or_unmapped a (word_loaded b a)
 
 -- the lines of so many words from an address on

@@ -13,12 +13,12 @@ use Rattle.swi_dispatch.specs.flex_store.specs.declared.flex.Extent.{Extent}
 use Rattle.swi_dispatch.specs.flex_store.specs.declared.flex.Flex.{Flex}
 
 -- `flex 0000A000 0000A400 used 48`
-unfoldable pub range_text : ℕ → ℕ → ℕ → List ℕ
+abbrev pub range_text : ℕ → ℕ → ℕ → List ℕ
 range_text start end used =
     codes "flex " ++ (hex_word start ++ (codes " " ++ (hex_word end ++ (codes " used " ++ (decimal used ++ codes "\n")))))
 
 -- `block anchor 00009000 at 0000A008 size 10`
-unfoldable pub block_text : FlexBlock → List ℕ
+abbrev pub block_text : FlexBlock → List ℕ
 block_text b =
     codes "block anchor " ++ (hex_word b.anchor ++ (codes " at " ++ (hex_word b.at ++ (codes " size " ++ (decimal b.size ++ codes "\n")))))
 
@@ -26,9 +26,9 @@ block_text b =
 abbrev pub blocks_shown : Bytes → Extent → List FlexBlock
 blocks_shown b e = listed e.start (blocks_in b.at e.start (e.start + e.used))
 
-unfoldable pub extent_text : Bytes → Extent → List ℕ
+abbrev pub extent_text : Bytes → Extent → List ℕ
 extent_text b e = range_text e.start e.end e.used ++ flat_map block_text (blocks_shown b e)
 
 -- the flex store, if there is one
-unfoldable pub flex_text : Bytes → Flex → Option (List ℕ)
+abbrev pub flex_text : Bytes → Flex → Option (List ℕ)
 flex_text b f = option_map (extent_text b) f.extent

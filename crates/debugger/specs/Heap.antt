@@ -12,7 +12,7 @@ use Rattle.swi_dispatch.specs.os_heap_lists.specs.Heap.{HeapList}
 use Rattle.swi_dispatch.specs.os_heap.specs.Store.{Store, find_heap}
 
 -- `heap 00009000 base 40 end 256`
-unfoldable pub limits_text : ℕ → ℕ → ℕ → List ℕ
+abbrev pub limits_text : ℕ → ℕ → ℕ → List ℕ
 limits_text start base end =
     codes "heap " ++ (hex_word start ++ (codes " base " ++ (decimal base ++ (codes " end " ++ (decimal end ++ codes "\n")))))
 
@@ -22,7 +22,7 @@ use_text (Live total) = codes "live "
 use_text (Free total) = codes "free "
 
 -- `live 00009010 24`
-unfoldable pub item_text : ℕ → Item → List ℕ
+abbrev pub item_text : ℕ → Item → List ℕ
 item_text address item = use_text item ++ (hex_word address ++ (codes " " ++ (decimal (total_of item) ++ codes "\n")))
 
 -- items, the first of them at the address

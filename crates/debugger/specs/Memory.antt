@@ -12,7 +12,7 @@ abbrev pub loaded_text : Result ℕ Fault → List ℕ
 loaded_text (Ok byte) = hex_byte byte
 loaded_text (Err fault) = codes "--"
 
-unfoldable pub byte_text : Bytes → ℕ → List ℕ
+abbrev pub byte_text : Bytes → ℕ → List ℕ
 byte_text b address = codes " " ++ loaded_text (byte_loaded b address)
 
 abbrev pub further : ℕ → ℕ → ℕ
@@ -23,7 +23,7 @@ unfoldable pub bytes_text : Bytes → ℕ → ℕ → List ℕ
 bytes_text b address zero = []
 bytes_text b address (suc count) = byte_text b address ++ bytes_text b (further address 1) count
 
-unfoldable pub line_text : Bytes → ℕ → ℕ → List ℕ
+abbrev pub line_text : Bytes → ℕ → ℕ → List ℕ
 line_text b address count = hex_word address ++ (codes ":" ++ (bytes_text b address count ++ codes "\n"))
 
 -- so many lines, the last of them with what is left of the bytes

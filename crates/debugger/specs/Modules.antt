@@ -18,7 +18,7 @@ one_text text None = []
 one_text text (Some x) = text x
 
 -- `module Title at 01800014 length 47`
-unfoldable pub module_line : ModuleInfo → List ℕ
+abbrev pub module_line : ModuleInfo → List ℕ
 module_line m =
     codes "module " ++ (m.title.items ++ (codes " at " ++ (hex_word m.image ++ (codes " length " ++ (decimal m.len ++ codes "\n")))))
 
@@ -34,15 +34,15 @@ preferred_text true = codes " preferred\n"
 preferred_text false = codes "\n"
 
 -- `  Base word 01C02000 00000000 preferred`
-unfoldable pub instance_line : Bytes → InstanceInfo → List ℕ
+abbrev pub instance_line : Bytes → InstanceInfo → List ℕ
 instance_line b i =
     codes "  " ++ (i.name.items ++ (codes " word " ++ (hex_word (private_word i.slot) ++ (codes " " ++ (hex_word (private_value b i.slot) ++ preferred_text i.preferred)))))
 
-unfoldable pub instances_text : Bytes → Module → List ℕ
+abbrev pub instances_text : Bytes → Module → List ℕ
 instances_text b m = flat_map (λ (i : Instance). instance_line b (told_of_instance m i)) m.instances
 
-unfoldable pub module_text : Bytes → Module → List ℕ
+abbrev pub module_text : Bytes → Module → List ℕ
 module_text b m = module_line (told_of_module m) ++ instances_text b m
 
-unfoldable pub modules_text : Bytes → List Module → List ℕ
+abbrev pub modules_text : Bytes → List Module → List ℕ
 modules_text b modules = flat_map (module_text b) modules

@@ -39,5 +39,5 @@ flag_letters p = flag_letter p.negative 78 ∷ flag_letter p.zero 90 ∷ flag_le
 unfoldable pub status_text : Psr → List ℕ
 status_text p = codes "PSR " ++ (flag_letters p ++ (codes " " ++ (mode_text p.mode ++ codes "\n")))
 
-unfoldable pub registers_text : State → List ℕ
+abbrev pub registers_text : State → List ℕ
 registers_text s = row_text s 0 ++ (row_text s 4 ++ (row_text s 8 ++ (row_text s 12 ++ status_text s.psr)))

@@ -11,7 +11,6 @@ use swi_dispatch::dynamic_areas::Area;
 
 /// Writes a line for each area by number, `area 1 base 01800000 size 65536 max 4194304 RMA`, with its
 /// size and its maximum in bytes, and then how many pages are in the pool, `pool 173 pages`.
-#[tactic(auto, unfolding(crate::specs::Areas::areas_text))]
 pub fn show_areas<W: Sink>(machine: &Machine, sink: &mut W) -> Result<(), WriteFault>
     ensures { Writes W.contents W.has_failed sink.old sink.new result
         (areas_text (state_of machine.now).tables.land.areas (state_of machine.now).pool) }
@@ -32,7 +31,6 @@ fn show_list<W: Sink>(areas: &[Area], sink: &mut W) -> Result<(), WriteFault>
     Ok(())
 }
 
-#[tactic(auto, unfolding(crate::specs::Areas::area_text))]
 fn show_area<W: Sink>(area: &Area, sink: &mut W) -> Result<(), WriteFault>
     ensures { Writes W.contents W.has_failed sink.old sink.new result (area_text area.now) }
 {
@@ -54,7 +52,6 @@ fn show_area<W: Sink>(area: &Area, sink: &mut W) -> Result<(), WriteFault>
 }
 
 // The size of an area and its maximum.
-#[tactic(auto, unfolding(crate::specs::Areas::extent_text))]
 fn show_extent<W: Sink>(area: &Area, sink: &mut W) -> Result<(), WriteFault>
     ensures { Writes W.contents W.has_failed sink.old sink.new result (extent_text area.now) }
 {
@@ -72,7 +69,6 @@ fn show_extent<W: Sink>(area: &Area, sink: &mut W) -> Result<(), WriteFault>
     )
 }
 
-#[tactic(auto, unfolding(crate::specs::Areas::pool_text))]
 fn show_pool<W: Sink>(pages: u32, sink: &mut W) -> Result<(), WriteFault>
     ensures { Writes W.contents W.has_failed sink.old sink.new result (pool_text pages) }
 {

@@ -43,7 +43,7 @@ fn show_words<W: Sink>(
     Ok(())
 }
 
-#[tactic(auto, using(assembler_text::proofs::Pieces::pieces), unfolding(crate::specs::Code::code_line))]
+#[tactic(auto, using(assembler_text::proofs::Pieces::pieces))]
 fn show_line<W: Sink>(memory: &AddressMap, address: u32, sink: &mut W) -> Result<(), WriteFault>
     ensures text { OnOk result (Appends (W.contents sink.old) (W.contents sink.new) (code_line (bytes_of memory.now) address)) }
     ensures flag { OnErr result (W.has_failed sink.new ≡ true) }

@@ -12,7 +12,6 @@ use swi_dispatch::flex_store::{Flex, FlexBlock, FlexBlocks};
 
 /// Writes the flex store, `flex 0000A000 0000A400 used 48`, and its blocks by address, as `block anchor
 /// 00009000 at 0000A008 size 10`. Answers whether there is a store; nothing is written where there is none.
-#[tactic(auto, unfolding(crate::specs::Flex::flex_text))]
 pub fn show_flex<W: Sink>(
     flex: &Flex,
     memory: &AddressMap,
@@ -32,7 +31,6 @@ pub fn show_flex<W: Sink>(
 }
 
 // The line of the store itself.
-#[tactic(auto, unfolding(crate::specs::Flex::range_text))]
 fn show_range<W: Sink>(start: u32, end: u32, used: u32, sink: &mut W) -> Result<(), WriteFault>
     ensures { Writes W.contents W.has_failed sink.old sink.new result (range_text start end used) }
 {
@@ -63,7 +61,6 @@ fn show_all<W: Sink>(blocks: FlexBlocks, sink: &mut W) -> Result<(), WriteFault>
     Ok(())
 }
 
-#[tactic(auto, unfolding(crate::specs::Flex::block_text))]
 fn show_block<W: Sink>(block: &FlexBlock, sink: &mut W) -> Result<(), WriteFault>
     ensures { Writes W.contents W.has_failed sink.old sink.new result (block_text block.now) }
 {

@@ -37,7 +37,6 @@ pub fn show_blocks<W: Sink>(machine: &Machine, heap: u32, sink: &mut W) -> Resul
 }
 
 // The line of the heap itself.
-#[tactic(auto, unfolding(crate::specs::Heap::limits_text))]
 fn show_limits<W: Sink>(memory: &AddressMap, heap: u32, sink: &mut W) -> Result<(), WriteFault>
     requires sound { IsSound (store_of memory.now) }
     requires there { IsSome (find_heap heap (store_of memory.now).heaps) }
@@ -95,7 +94,6 @@ fn show_items<W: Sink>(start: u32, blocks: Blocks, sink: &mut W) -> Result<(), W
     Ok(())
 }
 
-#[tactic(auto, unfolding(crate::specs::Heap::item_text))]
 fn show_item<W: Sink>(address: u32, item: Item, sink: &mut W) -> Result<(), WriteFault>
     ensures { Writes W.contents W.has_failed sink.old sink.new result (item_text address item) }
 {

@@ -37,7 +37,6 @@ pub fn show_memory<W: Sink>(
     Ok(())
 }
 
-#[tactic(auto, unfolding(crate::specs::Memory::line_text))]
 fn show_line<W: Sink>(
     map: &AddressMap,
     address: u32,
@@ -71,7 +70,6 @@ fn show_bytes<W: Sink>(
     Ok(())
 }
 
-#[tactic(auto, unfolding(crate::specs::Memory::byte_text))]
 fn show_byte<W: Sink>(map: &AddressMap, address: u32, sink: &mut W) -> Result<(), WriteFault>
     ensures { Writes W.contents W.has_failed sink.old sink.new result (byte_text (bytes_of map.now) address) }
 {

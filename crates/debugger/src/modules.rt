@@ -13,7 +13,7 @@ use swi_dispatch::instances::{InstanceInfo, Instances, ModuleInfo};
 /// Writes a line for each module, oldest first, `module Title at 01800014 length 47`, and under it a
 /// line for each of its instances, `  Base word 01C02000 00000000 preferred`, with the address of its
 /// private word and what stands there.
-#[tactic(auto, using(crate::proofs::ModuleLemmas::module_steps), unfolding(crate::specs::Modules::modules_text))]
+#[tactic(auto, using(crate::proofs::ModuleLemmas::module_steps))]
 pub fn show_modules<W: Sink>(
     modules: &Instances,
     memory: &AddressMap,
@@ -28,7 +28,6 @@ pub fn show_modules<W: Sink>(
 }
 
 // The lines of the module of a number, if there is one.
-#[tactic(auto, unfolding(crate::specs::Modules::module_text))]
 fn show_module<W: Sink>(
     modules: &Instances,
     number: u32,
@@ -45,7 +44,6 @@ fn show_module<W: Sink>(
     show_instances(modules, number, memory, sink)
 }
 
-#[tactic(auto, unfolding(crate::specs::Modules::module_line))]
 fn show_title<W: Sink>(info: &ModuleInfo, sink: &mut W) -> Result<(), WriteFault>
     ensures { Writes W.contents W.has_failed sink.old sink.new result (module_line info.now) }
 {
@@ -98,7 +96,6 @@ fn show_instance<W: Sink>(
     }
 }
 
-#[tactic(auto, unfolding(crate::specs::Modules::instance_line))]
 fn show_told<W: Sink>(
     told: &InstanceInfo,
     memory: &AddressMap,

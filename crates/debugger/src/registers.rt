@@ -15,7 +15,6 @@ pub fn show_regs<W: Sink>(machine: &Machine, sink: &mut W) -> Result<(), WriteFa
     show_core(machine.cpu(), sink)
 }
 
-#[tactic(auto, unfolding(crate::specs::Registers::registers_text))]
 fn show_core<W: Sink>(cpu: &Cpu, sink: &mut W) -> Result<(), WriteFault>
     ensures { Writes W.contents W.has_failed sink.old sink.new result (registers_text cpu.now) }
 {
