@@ -17,7 +17,7 @@ two_letters : (x y : ℕ) (rest : List ℕ) → is_word_byte x ≡ true → is_w
 two_letters x y rest h k = word_onto x (y ∷ rest) h ∙ ap (λ (text : List ℕ). x ∷ text) (word_onto y rest k)
 
 operation_begins : (o : Operation) (front rest : List ℕ) → BeginsInstruction ((operation_text o ++ front) ++ rest)
-unfolding after_spaces directive_named
+unfolding after_spaces
 operation_begins operation.And front rest = record { no_space = refl; no_comment = refl; no_directive = ap directive_named (two_letters 65 78 (68 ∷ (front ++ rest)) refl refl) }
 operation_begins operation.ExclusiveOr front rest = record { no_space = refl; no_comment = refl; no_directive = ap directive_named (two_letters 69 79 (82 ∷ (front ++ rest)) refl refl) }
 operation_begins operation.Subtract front rest = record { no_space = refl; no_comment = refl; no_directive = ap directive_named (two_letters 83 85 (66 ∷ (front ++ rest)) refl refl) }
@@ -36,27 +36,27 @@ operation_begins operation.BitClear front rest = record { no_space = refl; no_co
 operation_begins operation.MoveNot front rest = record { no_space = refl; no_comment = refl; no_directive = ap directive_named (two_letters 77 86 (78 ∷ (front ++ rest)) refl refl) }
 
 multiply_begins : (b : Bool) (front rest : List ℕ) → BeginsInstruction ((choose_text b (codes "MLA") (codes "MUL") ++ front) ++ rest)
-unfolding after_spaces directive_named
+unfolding after_spaces
 multiply_begins true front rest = record { no_space = refl; no_comment = refl; no_directive = ap directive_named (two_letters 77 76 (65 ∷ (front ++ rest)) refl refl) }
 multiply_begins false front rest = record { no_space = refl; no_comment = refl; no_directive = ap directive_named (two_letters 77 85 (76 ∷ (front ++ rest)) refl refl) }
 
 transfer_begins : (b : Bool) (front rest : List ℕ) → BeginsInstruction ((choose_text b (codes "LDR") (codes "STR") ++ front) ++ rest)
-unfolding after_spaces directive_named
+unfolding after_spaces
 transfer_begins true front rest = record { no_space = refl; no_comment = refl; no_directive = ap directive_named (two_letters 76 68 (82 ∷ (front ++ rest)) refl refl) }
 transfer_begins false front rest = record { no_space = refl; no_comment = refl; no_directive = ap directive_named (two_letters 83 84 (82 ∷ (front ++ rest)) refl refl) }
 
 block_begins : (b : Bool) (front rest : List ℕ) → BeginsInstruction ((choose_text b (codes "LDM") (codes "STM") ++ front) ++ rest)
-unfolding after_spaces directive_named
+unfolding after_spaces
 block_begins true front rest = record { no_space = refl; no_comment = refl; no_directive = ap directive_named (two_letters 76 68 (77 ∷ (front ++ rest)) refl refl) }
 block_begins false front rest = record { no_space = refl; no_comment = refl; no_directive = ap directive_named (two_letters 83 84 (77 ∷ (front ++ rest)) refl refl) }
 
 branch_begins : (b : Bool) (front : List ℕ) → BeginsInstruction (choose_text b (codes "BL") (codes "B") ++ front)
-unfolding after_spaces directive_named
+unfolding after_spaces
 branch_begins true front = record { no_space = refl; no_comment = refl; no_directive = ap directive_named (word_onto 66 (76 ∷ front) refl) }
 branch_begins false front = record { no_space = refl; no_comment = refl; no_directive = ap directive_named (word_onto 66 front refl) }
 
 swi_begins : (rest : List ℕ) → BeginsInstruction (codes "SWI" ++ rest)
-unfolding after_spaces directive_named
+unfolding after_spaces
 swi_begins rest = record { no_space = refl; no_comment = refl; no_directive = ap directive_named (two_letters 83 87 (73 ∷ (rest)) refl refl) }
 
 pub instruction_begins : (address : ℕ) (c : Condition) (a : Action) → BeginsInstruction (action_text address c a)

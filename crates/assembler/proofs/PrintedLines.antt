@@ -29,7 +29,6 @@ at_origin origin = omega arith
 instruction_statement : (labels : Lookup) (origin w : ℕ) (text : List ℕ) → directive_named (word text) ≡ None
     → instruction labels (origin + 0) text ≡ Some (Ok w, [])
     → statement_at labels origin [] text ≡ Some (statement origin [] (unrefused (to_le_bytes w32 w)), [])
-unfolding statement_at aligned
 instruction_statement labels origin w text none read = rw (none, read) refl
 
 -- one byte more of a run at the front
@@ -63,7 +62,6 @@ nothing_ends = refl
 statement_behind : (labels : Lookup) (origin w : ℕ) (text : List ℕ) → is_end (32 ∷ text) ≡ false → spaces (32 ∷ text) ≡ Some text
     → statement_at labels origin [] text ≡ Some (statement origin [] (unrefused (to_le_bytes w32 w)), [])
     → statement_of labels origin [] (32 ∷ text) ≡ Some (statement origin [] (unrefused (to_le_bytes w32 w)))
-unfolding statement_of
 statement_behind labels origin w text no_end spaced read = rw (no_end, spaced, read, nothing_ends) refl
 
 -- a space and what is read as one word to the end
@@ -83,7 +81,7 @@ instruction_line labels origin w text b read =
 -- DCD and one word
 data_statement : (labels : Lookup) (origin w : ℕ) (digits : List ℕ) → expression labels (38 ∷ digits) ≡ Some (Some w, [])
     → statement_at labels origin [] (codes "DCD " ++ (38 ∷ digits)) ≡ Some (statement origin [] (unrefused (to_le_bytes w32 w)), [])
-unfolding statement_at aligned word after_word directive_named spaces byte after_spaces items item_at word_at more_items
+unfolding word after_word spaces byte after_spaces item_at more_items
 data_statement labels origin w digits read = rw read refl
 
 data_begins : (digits : List ℕ) → after_spaces (codes "DCD " ++ (38 ∷ digits)) ≡ codes "DCD " ++ (38 ∷ digits)
@@ -111,5 +109,5 @@ word_fits origin w even low = four_fit origin (to_le_bytes w32 w) refl even low
 -- one line of a word means its four bytes
 pub one_line : (origin w : ℕ) (text : List ℕ) → is_too_long origin (to_le_bytes w32 w) ≡ false
     → line (address_of []) origin [] text ≡ Some (word_line origin w) → means_lines (text ∷ []) origin ≡ Ok (to_le_bytes w32 w)
-unfolding means_lines first_pass second_pass measured finished
+unfolding means_lines first_pass second_pass measured
 one_line origin w text short read = rw (read, short, read, short) refl

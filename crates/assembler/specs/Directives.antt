@@ -13,7 +13,7 @@ use Rattle.assembler.specs.declared.directives.Data.TheVariants.{Words, Bytes}
 use Rattle.assembler.specs.Written.{Written, unrefused, with_item, word_item, byte_item}
 
 -- in capitals or not
-unfoldable pub directive_named : List ℕ → Option Directive
+abbrev pub directive_named : List ℕ → Option Directive
 directive_named name =
     if is_name name (codes "DCD") then Some (directive.Listed Words) else (
     if is_name name (codes "DCB") then Some (directive.Listed Bytes) else (
@@ -26,17 +26,17 @@ abbrev pub is_text_byte : ℕ → Bool
 is_text_byte c = nat_le 32 c && nat_le c 126 && not (c == 34)
 
 -- what follows the first quote of a text, up to its second, after what stands written
-unfoldable pub quoted : Written → List ℕ → Option (Written × List ℕ)
+abbrev pub quoted : Written → List ℕ → Option (Written × List ℕ)
 quoted written text = do
   rest ← byte 34 (drop (prefix_len is_text_byte text) text)
   Some (with_item written (unrefused (take (prefix_len is_text_byte text) text)), rest)
 
-unfoldable pub word_at : Lookup → Written → List ℕ → Option (Written × List ℕ)
+abbrev pub word_at : Lookup → Written → List ℕ → Option (Written × List ℕ)
 word_at labels written text = do
   value ← expression labels text
   Some (with_item written (word_item value.0), value.1)
 
-unfoldable pub byte_at : Lookup → Written → List ℕ → Option (Written × List ℕ)
+abbrev pub byte_at : Lookup → Written → List ℕ → Option (Written × List ℕ)
 byte_at labels written text = do
   value ← expression labels text
   Some (with_item written (byte_item value.0), value.1)
@@ -62,7 +62,7 @@ more_items zero kind labels written text = Some (written, text)
 more_items (suc n) kind labels written text = next_item (more_items n kind labels) kind labels written text (comma text)
 
 -- one item or more
-unfoldable pub items : Data → Lookup → Written → List ℕ → Option (Written × List ℕ)
+abbrev pub items : Data → Lookup → Written → List ℕ → Option (Written × List ℕ)
 items kind labels written text = do
   first ← item_at kind labels written text
   more_items (length first.1) kind labels first.0 first.1
@@ -86,5 +86,5 @@ size_at text (Some after) = size_after 16 after
 size_at text None = size_after 10 text
 
 -- the size of a SPACE: a decimal number, or a hexadecimal one after `&`
-unfoldable pub size : List ℕ → Option (ℕ × List ℕ)
+abbrev pub size : List ℕ → Option (ℕ × List ℕ)
 size text = size_at text (byte 38 text)

@@ -54,11 +54,11 @@ directed labels origin program text (Some (directive.Listed kind)) = listed_at k
 directed labels origin program text (Some directive.Space) = space_at origin program (after_word text)
 directed labels origin program text (Some directive.Align) = Some (statement origin program (unrefused (aligned program)), after_word text)
 
-unfoldable pub statement_at : Lookup → ℕ → List ℕ → List ℕ → Option (Statement × List ℕ)
+abbrev pub statement_at : Lookup → ℕ → List ℕ → List ℕ → Option (Statement × List ℕ)
 statement_at labels origin program text = directed labels origin program text (directive_named (word text))
 
 -- what is left of a line after its label
-unfoldable pub statement_of : Lookup → ℕ → List ℕ → List ℕ → Option Statement
+abbrev pub statement_of : Lookup → ℕ → List ℕ → List ℕ → Option Statement
 statement_of labels origin program text = if is_end text then Some (statement origin program (unrefused program)) else (do
   rest ← spaces text
   read ← statement_at labels origin program rest

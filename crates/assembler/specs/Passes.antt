@@ -53,7 +53,7 @@ unless None a = Ok a
 unless (Some reason) a = Err reason
 
 -- A line that the first pass took is no Syntax and not TooLong here.
-unfoldable pub finished : ℕ → Option Line → Result (List ℕ) Reason
+abbrev pub finished : ℕ → Option Line → Result (List ℕ) Reason
 finished origin None = Err Syntax
 finished origin (Some l) =
     if is_too_long origin l.statement.written.bytes then Err TooLong else unless l.statement.written.fault l.statement.written.bytes

@@ -157,7 +157,6 @@ fn program_of(
 }
 
 // A line of the second pass.
-#[tactic(auto, unfolding(crate::specs::Passes::finished))]
 fn finish(
     labels: &Labels,
     origin: u32,

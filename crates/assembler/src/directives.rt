@@ -25,7 +25,6 @@ pub enum Directive {
 }
 
 /// The directive of that name, in letters of either case.
-#[tactic(auto, unfolding(crate::specs::Directives::directive_named))]
 pub fn directive_named(name: &[u8]) -> Option<Directive>
     ensures { result ≡ directive_named name.now }
 {
@@ -44,7 +43,6 @@ pub fn directive_named(name: &[u8]) -> Option<Directive>
 
 /// The number after SPACE, in decimal or after `&` in hexadecimal, and what follows it; 1,048,577
 /// stands for all greater ones.
-#[tactic(auto, unfolding(crate::specs::Directives::size))]
 pub(crate) fn size(text: &[u8]) -> Read<'_, usize>
     ensures read { option_map (λ r. (r.0, r.1.now)) result ≡ size text.now }
     ensures below { IfSome result (λ r. r.0 ≤ 1048577) }

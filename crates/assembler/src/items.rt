@@ -15,7 +15,6 @@ use std::alloc::AllocError;
 pub(crate) type Rest<'t> = Result<Option<&'t [u8]>, AllocError>;
 
 /// Writes one item or more, parted by commas.
-#[tactic(auto, unfolding(crate::specs::Directives::items))]
 pub(crate) fn put_items<'t>(
     kind: Data,
     labels: &Labels,
@@ -70,7 +69,6 @@ fn put_item<'t>(kind: Data, labels: &Labels, text: &'t [u8], output: &mut Output
     }
 }
 
-#[tactic(auto, unfolding(crate::specs::Directives::word_at))]
 fn put_word<'t>(labels: &Labels, text: &'t [u8], output: &mut Output) -> Rest<'t>
     ensures { IfOk result (λ rest. option_map (λ rest. (output.new, rest.now)) rest
         ≡ word_at (address_of labels.now) output.old text.now) }
@@ -82,7 +80,6 @@ fn put_word<'t>(labels: &Labels, text: &'t [u8], output: &mut Output) -> Rest<'t
     Ok(Some(rest))
 }
 
-#[tactic(auto, unfolding(crate::specs::Directives::byte_at))]
 fn put_byte<'t>(labels: &Labels, text: &'t [u8], output: &mut Output) -> Rest<'t>
     ensures { IfOk result (λ rest. option_map (λ rest. (output.new, rest.now)) rest
         ≡ byte_at (address_of labels.now) output.old text.now) }
@@ -95,7 +92,6 @@ fn put_byte<'t>(labels: &Labels, text: &'t [u8], output: &mut Output) -> Rest<'t
 }
 
 // What follows the first quote of a text, up to its second.
-#[tactic(auto, unfolding(crate::specs::Directives::quoted))]
 fn put_quoted<'t>(text: &'t [u8], output: &mut Output) -> Rest<'t>
     ensures { IfOk result (λ rest. option_map (λ rest. (output.new, rest.now)) rest
         ≡ quoted output.old text.now) }

@@ -76,7 +76,6 @@ impl Output {
     }
 
     /// Zero bytes up to the next multiple of 4.
-    #[tactic(auto, unfolding(crate::specs::Written::aligned))]
     pub(crate) fn align(&mut self) -> Result<(), AllocError>
         requires { length self.old.bytes < 2 ^ 31 }
         ensures aligned { OnOk result (self.new ≡ record self.old { bytes = aligned self.old.bytes }) }

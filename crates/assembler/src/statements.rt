@@ -15,7 +15,6 @@ use std::alloc::AllocError;
 
 /// Writes a statement or nothing, and answers the address at which a label on its line stands; or
 /// `None` where it isn't of the grammar.
-#[tactic(auto, unfolding(crate::specs::Line::statement_of))]
 pub(crate) fn put_statement(
     labels: &Labels,
     origin: u32,
@@ -40,7 +39,6 @@ pub(crate) fn put_statement(
     Ok(if is_end(rest) { Some(place) } else { None })
 }
 
-#[tactic(auto, unfolding(crate::specs::Line::statement_at))]
 fn put_statement_at<'t>(
     labels: &Labels,
     origin: u32,

@@ -26,22 +26,22 @@ numeral radix digits =
     if nat_lt 0 (length digits) && list_all (λ c. is_digit c radix) digits then Some (digits_value radix digits % 2 ^ 32) else None
 
 -- what follows the first quote (39) of `'c'`: one printed byte and a quote. Of `'''` it is 39.
-unfoldable pub quoted : List ℕ → Option (Value × List ℕ)
+abbrev pub quoted : List ℕ → Option (Value × List ℕ)
 quoted (c ∷ quote ∷ rest) = if is_in_range 32 126 c && quote == 39 then Some (Some c, rest) else None
 quoted _ = None
 
 -- what follows `&`
-unfoldable pub hexadecimal : List ℕ → Option (Value × List ℕ)
+abbrev pub hexadecimal : List ℕ → Option (Value × List ℕ)
 hexadecimal text = do
   n ← numeral 16 (word text)
   Some (Some n, after_word text)
 
 -- a decimal number, or a label
-unfoldable pub word_value : Lookup → List ℕ → Option Value
+abbrev pub word_value : Lookup → List ℕ → Option Value
 word_value labels name =
     if begins_with_digit name then option_map Some (numeral 10 name) else (if is_label name then Some (labels name) else None)
 
-unfoldable pub named_term : Lookup → List ℕ → Option (Value × List ℕ)
+abbrev pub named_term : Lookup → List ℕ → Option (Value × List ℕ)
 named_term labels text = do
   value ← word_value labels (word text)
   Some (value, after_word text)

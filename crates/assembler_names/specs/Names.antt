@@ -42,7 +42,7 @@ unfoldable pub printed_condition : List ℕ → Option Condition
 printed_condition name = find (names_condition name) conditions
 
 -- AL may be written or not
-unfoldable pub condition_named : List ℕ → Option Condition
+abbrev pub condition_named : List ℕ → Option Condition
 condition_named name = if is_name name (codes "AL") then Some Always else printed_condition name
 
 abbrev pub names_operation : List ℕ → Operation → Bool

@@ -27,5 +27,5 @@ x_call_named [] = None
 x_call_named (c ∷ name) = if c == 88 then option_map (λ n. bit_or n 0x20000) (call_named name) else None
 
 -- the number of a call by its name, with X before it or without
-unfoldable pub swi_named : List ℕ → Option ℕ
+abbrev pub swi_named : List ℕ → Option ℕ
 swi_named name = call_named name or x_call_named name

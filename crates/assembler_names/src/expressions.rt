@@ -53,7 +53,6 @@ fn term<'t>(labels: &Labels, text: &'t [u8]) -> Read<'t, Value>
 }
 
 // What follows the first quote of `'c'`.
-#[tactic(auto, unfolding(crate::specs::Expressions::quoted))]
 fn quoted(text: &[u8]) -> Read<'_, Value>
     ensures { read_of result ≡ quoted text.now }
 {
@@ -64,7 +63,6 @@ fn quoted(text: &[u8]) -> Read<'_, Value>
 }
 
 // What follows `&`.
-#[tactic(auto, unfolding(crate::specs::Expressions::hexadecimal))]
 fn hexadecimal(text: &[u8]) -> Read<'_, Value>
     ensures { read_of result ≡ hexadecimal text.now }
 {
@@ -72,7 +70,6 @@ fn hexadecimal(text: &[u8]) -> Read<'_, Value>
     Some((Some(number), after_word(text)))
 }
 
-#[tactic(auto, unfolding(crate::specs::Expressions::named_term))]
 fn named_term<'t>(labels: &Labels, text: &'t [u8]) -> Read<'t, Value>
     ensures { read_of result ≡ named_term (address_of labels.now) text.now }
 {
@@ -81,7 +78,6 @@ fn named_term<'t>(labels: &Labels, text: &'t [u8]) -> Read<'t, Value>
 }
 
 // A decimal number, or a label.
-#[tactic(auto, unfolding(crate::specs::Expressions::word_value))]
 fn word_value(labels: &Labels, name: &[u8]) -> Option<Value>
     ensures { result ≡ word_value (address_of labels.now) name.now }
 {

@@ -1,4 +1,5 @@
 //! Labels and their addresses.
+#![tactic(auto, using(crate::proofs::Entries::label_steps), unfolding(crate::specs::Labels::address_of))]
 
 ghost use Rattle.std.specs.Prelude.{◌≡◌, ◌++◌, ◌∷◌, [], None, IfErr, OnOk, OnErr};
 ghost use Rattle.assembler_names.specs.Labels.{address_of, begins_with_digit, is_label};
@@ -36,7 +37,6 @@ impl<'a> Labels<'a> {
     }
 
     /// The address of a label. Letters of either case differ.
-    #[tactic(auto, using(crate::proofs::Entries::label_steps), unfolding(crate::specs::Labels::address_of))]
     pub fn find(&self, name: &[u8]) -> Option<u32>
         ensures { result ≡ address_of self.now name.now }
     {
@@ -48,7 +48,6 @@ impl<'a> Labels<'a> {
     /// # Errors
     ///
     /// `Memory`; then no label was put.
-    #[tactic(auto, using(crate::proofs::Entries::label_steps), unfolding(crate::specs::Labels::address_of))]
     pub fn put(&mut self, name: &'a [u8], address: u32) -> Result<(), Reason>
         requires { address_of self.old name.now ≡ None }
         ensures put { OnOk result (self.new ≡ self.old ++ (name.now, address) ∷ []) }
@@ -64,7 +63,6 @@ impl<'a> Labels<'a> {
 
 /// Whether a word may be a label: 1 to 63 letters, digits and `_`, no digit first, and no
 /// register's name.
-#[tactic(auto, unfolding(crate::specs::Labels::is_label))]
 pub fn is_label(name: &[u8]) -> bool
     ensures { result ≡ is_label name.now }
 {

@@ -62,7 +62,6 @@ pub fn mnemonic_named(name: &[u8]) -> Option<Mnemonic>
         .or(plain_branch(name))
 }
 
-#[tactic(auto, unfolding(crate::specs::Mnemonics::operate_mnemonic))]
 fn operate_mnemonic(name: &[u8]) -> Option<Mnemonic>
     ensures { result ≡ operate_mnemonic name.now }
 {
@@ -75,7 +74,6 @@ fn operate_mnemonic(name: &[u8]) -> Option<Mnemonic>
     })
 }
 
-#[tactic(auto, unfolding(crate::specs::Mnemonics::multiply_mnemonic))]
 fn multiply_mnemonic(name: &[u8]) -> Option<Mnemonic>
     ensures { result ≡ multiply_mnemonic name.now }
 {
@@ -91,7 +89,6 @@ fn multiply_mnemonic(name: &[u8]) -> Option<Mnemonic>
     })
 }
 
-#[tactic(auto, unfolding(crate::specs::Mnemonics::transfer_mnemonic))]
 fn transfer_mnemonic(name: &[u8]) -> Option<Mnemonic>
     ensures { result ≡ transfer_mnemonic name.now }
 {
@@ -108,7 +105,6 @@ fn transfer_mnemonic(name: &[u8]) -> Option<Mnemonic>
     })
 }
 
-#[tactic(auto, unfolding(crate::specs::Mnemonics::block_mnemonic))]
 fn block_mnemonic(name: &[u8]) -> Option<Mnemonic>
     ensures { result ≡ block_mnemonic name.now }
 {
@@ -121,7 +117,6 @@ fn block_mnemonic(name: &[u8]) -> Option<Mnemonic>
     })
 }
 
-#[tactic(auto, unfolding(crate::specs::Mnemonics::swi_mnemonic))]
 fn swi_mnemonic(name: &[u8]) -> Option<Mnemonic>
     ensures { result ≡ swi_mnemonic name.now }
 {
@@ -135,7 +130,6 @@ fn swi_mnemonic(name: &[u8]) -> Option<Mnemonic>
     })
 }
 
-#[tactic(auto, unfolding(crate::specs::Mnemonics::linked_branch))]
 fn linked_branch(name: &[u8]) -> Option<Mnemonic>
     ensures { result ≡ linked_branch name.now }
 {
@@ -149,7 +143,6 @@ fn linked_branch(name: &[u8]) -> Option<Mnemonic>
     })
 }
 
-#[tactic(auto, unfolding(crate::specs::Mnemonics::plain_branch))]
 fn plain_branch(name: &[u8]) -> Option<Mnemonic>
     ensures { result ≡ plain_branch name.now }
 {
@@ -164,7 +157,6 @@ fn plain_branch(name: &[u8]) -> Option<Mnemonic>
 }
 
 // The condition at the front, and the letters that follow it.
-#[tactic(auto, unfolding(crate::specs::Mnemonics::conditioned))]
 fn conditioned(letters: &[u8]) -> (Condition, &[u8])
     ensures { (result.0, result.1.now) ≡ conditioned letters.now }
 {
@@ -175,7 +167,6 @@ fn conditioned(letters: &[u8]) -> (Condition, &[u8])
 }
 
 // Whether a suffix is there, with nothing behind it.
-#[tactic(auto, unfolding(crate::specs::Mnemonics::suffix))]
 fn suffix(name: &[u8], letters: &[u8]) -> Option<bool>
     ensures { result ≡ suffix name.now letters.now }
 {
@@ -189,7 +180,6 @@ fn suffix(name: &[u8], letters: &[u8]) -> Option<bool>
 }
 
 // Whether it is the first of two names.
-#[tactic(auto, unfolding(crate::specs::Mnemonics::first_name))]
 fn first_name(first: &[u8], second: &[u8], name: &[u8]) -> Option<bool>
     ensures { result ≡ first_name first.now second.now name.now }
 {
@@ -208,7 +198,6 @@ fn flag_text(operation: Operation) -> &'static [u8]
     if operation.is_test() { b"P" } else { b"S" }
 }
 
-#[tactic(auto, unfolding(crate::specs::Mnemonics::transfer_suffix))]
 fn transfer_suffix(letters: &[u8]) -> Option<(bool, bool)>
     ensures { result ≡ transfer_suffix letters.now }
 {

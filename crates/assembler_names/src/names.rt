@@ -97,7 +97,6 @@ fn numbered_register(name: &[u8]) -> Option<Register>
 }
 
 /// The condition of this suffix; none at all and `AL` both mean always.
-#[tactic(auto, unfolding(crate::specs::Names::condition_named))]
 pub fn condition_named(name: &[u8]) -> Option<Condition>
     ensures { result ≡ condition_named name.now }
 {

@@ -12,7 +12,6 @@ static CALL_NUMBERS: [u32; 19] = [
 
 /// The number of a store call by its name, which with X before it has bit 17. Capitals and small
 /// letters differ.
-#[tactic(auto, unfolding(crate::specs::SwiNames::swi_named))]
 pub fn swi_named(name: &[u8]) -> Option<u32>
     ensures { result ≡ swi_named name.now }
 {

@@ -1,5 +1,6 @@
 //! The pieces of a line. A reader takes a text from the front, and answers what it read and what
 //! follows, or `None` where the text isn't what it reads.
+#![tactic(auto, unfolding(crate::specs::Words::word, crate::specs::Words::after_word, crate::specs::Words::after_spaces, crate::specs::Words::byte, crate::specs::Words::spaces, crate::specs::Words::comma, crate::specs::Words::is_end))]
 
 ghost use Rattle.std.specs.Prelude.{◌≡◌, ◌≤◌, ◌==◌, length, option_map};
 ghost use Rattle.std.specs.List.{prefix_len};
@@ -9,7 +10,6 @@ ghost use Rattle.assembler_names.specs.Words.{after_mark, after_spaces, after_wo
 pub type Read<'t, A> = Option<(A, &'t [u8])>;
 
 /// The longest run of letters, digits and `_` at the front, which may be none.
-#[tactic(auto, unfolding(crate::specs::Words::word))]
 pub fn word(text: &[u8]) -> &[u8]
     ensures { result.now ≡ word text.now }
 {
@@ -17,7 +17,6 @@ pub fn word(text: &[u8]) -> &[u8]
 }
 
 /// What follows that word.
-#[tactic(auto, unfolding(crate::specs::Words::after_word))]
 pub fn after_word(text: &[u8]) -> &[u8]
     ensures { result.now ≡ after_word text.now }
 {
@@ -25,7 +24,6 @@ pub fn after_word(text: &[u8]) -> &[u8]
 }
 
 /// What follows the spaces at the front, of which there may be none.
-#[tactic(auto, unfolding(crate::specs::Words::after_spaces))]
 pub fn after_spaces(text: &[u8]) -> &[u8]
     ensures { result.now ≡ after_spaces text.now }
 {
@@ -33,7 +31,6 @@ pub fn after_spaces(text: &[u8]) -> &[u8]
 }
 
 /// What follows this byte.
-#[tactic(auto, unfolding(crate::specs::Words::byte))]
 pub fn byte(c: u8, text: &[u8]) -> Option<&[u8]>
     ensures { option_map (λ rest. rest.now) result ≡ byte c text.now }
 {
@@ -53,7 +50,6 @@ pub fn mark(c: u8, text: &[u8]) -> (bool, &[u8])
 }
 
 /// What follows a space and any more spaces.
-#[tactic(auto, unfolding(crate::specs::Words::spaces))]
 pub fn spaces(text: &[u8]) -> Option<&[u8]>
     ensures { option_map (λ rest. rest.now) result ≡ spaces text.now }
 {
@@ -61,7 +57,6 @@ pub fn spaces(text: &[u8]) -> Option<&[u8]>
 }
 
 /// What follows a comma with any number of spaces on both sides.
-#[tactic(auto, unfolding(crate::specs::Words::comma))]
 pub fn comma(text: &[u8]) -> Option<&[u8]>
     ensures { option_map (λ rest. rest.now) result ≡ comma text.now }
 {
@@ -69,7 +64,6 @@ pub fn comma(text: &[u8]) -> Option<&[u8]>
 }
 
 /// Whether nothing is left but spaces and a comment, which begins with `;`.
-#[tactic(auto, unfolding(crate::specs::Words::is_end))]
 pub fn is_end(text: &[u8]) -> bool
     ensures { result ≡ is_end text.now }
 {

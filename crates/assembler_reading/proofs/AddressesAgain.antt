@@ -56,19 +56,16 @@ unfolding offset_in byte
 down_register labels x = refl
 
 offset_fits : (d : Direction) (n : ℕ) → n < 2 ^ 12 → offset_of d (Some n) ≡ Ok (d, offset.Immediate n)
-unfolding offset_of
 offset_fits d n low = let test : nat_lt n 4096 ≡ true = grind (arith, nat_tests, low) in rw test refl
 
 number_read : (labels : Lookup) (d : Direction) (n : ℕ) (rest : List ℕ) → n < 2 ^ 12 → Ends rest
     → number_offset labels d (number_text n ++ rest) ≡ signed_read d (offset.Immediate n) rest
-unfolding number_offset
 number_read labels d n rest low ends =
     let word_sized : n < 2 ^ 32 = omega arith in
     rw (number_again labels n rest word_sized ends.apart ends.no_sign, offset_fits d n low) refl
 
 register_read : (labels : Lookup) (d : Direction) (s : ShiftedRegister) (text rest : List ℕ) → shifted labels text ≡ Some (Ok (operand.Shifted s), rest)
     → shifted_offset labels d text ≡ signed_read d (offset.Shifted s) rest
-unfolding shifted_offset
 register_read labels d s text rest e = rw e refl
 
 no_minus_number : (n : ℕ) (rest : List ℕ) → byte 45 (number_text n ++ rest) ≡ None
@@ -117,7 +114,6 @@ behind_open labels user rn x h e = rw e refl
 
 post_read : (labels : Lookup) (user : Bool) (rn : ℕ) (d : Direction) (o : Offset) → FitsOffset o
     → closed labels user rn (44 ∷ offset_text d o) (comma (44 ∷ offset_text d o)) ≡ place_read (placed (Post user) d rn o) []
-unfolding closed
 post_read labels user rn d o fits =
     let whole : offset_text d o ++ [] ≡ offset_text d o = append-nil (offset_text d o) in
     let no_space = subst (λ (t : List ℕ). after_spaces t ≡ t) whole (offset_no_space d o [] fits) in
@@ -133,7 +129,7 @@ unfolding byte
 comma_first labels rn x = refl
 
 alone_read : (labels : Lookup) (rn : ℕ) → closed labels false rn [] (comma []) ≡ place_read (placed (Pre false) Up rn (offset.Immediate 0)) []
-unfolding closed comma byte after_spaces
+unfolding comma byte after_spaces
 alone_read labels rn = refl
 
 bracket_byte : (x : List ℕ) → byte 93 (93 ∷ x) ≡ Some x
@@ -152,7 +148,6 @@ after_marked false = refl
 
 before_read : (labels : Lookup) (w : Bool) (rn : ℕ) (d : Direction) (o : Offset) → FitsOffset o
     → before_bracket labels rn (44 ∷ (offset_text d o ++ (93 ∷ text_if w (codes "!")))) ≡ place_read (placed (Pre w) d rn o) []
-unfolding before_bracket
 before_read labels w rn d o fits =
     let tail : List ℕ = 93 ∷ text_if w (codes "!") in
     rw (

@@ -36,7 +36,6 @@ single list n = let one : n + 1 - n ≡ suc zero = omega arith in rw one refl
 
 one_register : (n : ℕ) (rest : List ℕ) → register (register_text n ++ rest) ≡ Some (n, rest) → byte 45 rest ≡ None
     → register_range (register_text n ++ rest) ≡ Some ((n, n), rest)
-unfolding register_range last_register
 one_register n rest e none = rw (e, none) refl
 
 no_minus_brace : (tail : List ℕ) → byte 45 (125 ∷ tail) ≡ None
@@ -179,7 +178,7 @@ list_read rest list = Some (list, rest)
 
 braces_read : (ns tail : List ℕ) (list : ℕ) → fold with_register 0 ns ≡ list → (list == 0) ≡ false → AreRegisters ns
     → register_list (123 ∷ (separated [] ns ++ (125 ∷ tail))) ≡ Some (list, tail)
-unfolding register_list byte
+unfolding byte
 braces_read [] tail list e some low = let none : list ≡ 0 = sym e in absurd (differs list none some)
   where
     differs : (k : ℕ) → k ≡ 0 → (k == 0) ≡ false → ⊥

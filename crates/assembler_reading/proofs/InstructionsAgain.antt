@@ -48,7 +48,6 @@ unfolding decoded
 allowed w i h = allowed_as (form_of w) w i h
 
 pub word_for_again : (w : ℕ) (i : Condition × Action) → refusal i.1 ≡ None → word_of i ≡ w → word_for i.0 (Ok i.1) ≡ Ok w
-unfolding word_for
 word_for_again w i free same = rw free (ap (λ (n : ℕ). Ok n) same)
 
 -- a mnemonic, a space and its operands
@@ -126,14 +125,12 @@ distance_again address d even low small = omega arith
 
 branch_of : (address d : ℕ) (links : Bool) → address % 4 ≡ 0 → address < 2 ^ 26 → d < 2 ^ 24
     → branch_to address links (Some (branch_target address d)) ≡ Ok (action.Branch links d)
-unfolding branch_to
 branch_of address d links even low small =
     rw (target_bounds (branch_target address d) (omega arith) (omega arith))
     (ap (λ (n : ℕ). Ok (action.Branch links n)) (distance_again address d even low small))
 
 branch_again : (labels : Lookup) (address d : ℕ) (links : Bool) → address % 4 ≡ 0 → address < 2 ^ 26 → d < 2 ^ 24
     → branch_at labels address links (number_text (branch_target address d)) ≡ Some (Ok (action.Branch links d), [])
-unfolding branch_at
 branch_again labels address d links even low small =
     let t : ℕ = branch_target address d in
     let word_sized : t < 2 ^ 32 = omega arith in
@@ -154,7 +151,7 @@ branch_is_read labels address w c links d even low small free same =
 
 -- SWI
 no_call : (n : ℕ) → plain_call (number_text n) ≡ None
-unfolding plain_call sign after_word word swi_named call_named
+unfolding sign after_word word call_named
 no_call n = refl
 
 no_quote : (n : ℕ) → byte 34 (number_text n) ≡ None
@@ -162,7 +159,6 @@ unfolding byte
 no_quote n = refl
 
 swi_fits : (n : ℕ) → n < 2 ^ 24 → swi_action (Some n) ≡ Ok (action.SoftwareInterrupt n)
-unfolding swi_action
 swi_fits n small = let test : nat_lt n (2 ^ 24) ≡ true = grind (arith, nat_tests, small) in rw test refl
 
 swi_again : (labels : Lookup) (n : ℕ) → n < 2 ^ 24 → swi_at labels (number_text n) ≡ Some (Ok (action.SoftwareInterrupt n), [])

@@ -62,7 +62,7 @@ operation_letters operation.BitClear = refl
 operation_letters operation.MoveNot = refl
 
 conditioned_again : (c : Condition) (s : List ℕ) → conditioned s ≡ (condition.Always, s) → conditioned (condition_text c ++ s) ≡ (c, s)
-unfolding conditioned condition_named printed_condition
+unfolding printed_condition
 conditioned_again condition.Equal s h = refl
 conditioned_again condition.NotEqual s h = refl
 conditioned_again condition.CarrySet s h = refl
@@ -121,14 +121,13 @@ abbrev flag_letter : Bool → List ℕ
 flag_letter is_a_test = if is_a_test then codes "P" else codes "S"
 
 letter_is_none : (t flag : Bool) → conditioned (text_if flag (flag_letter t)) ≡ (condition.Always, text_if flag (flag_letter t))
-unfolding conditioned condition_named printed_condition
+unfolding printed_condition
 letter_is_none true true = refl
 letter_is_none true false = refl
 letter_is_none false true = refl
 letter_is_none false false = refl
 
 letter_again : (t flag : Bool) → suffix (flag_letter t) (text_if flag (flag_letter t)) ≡ Some flag
-unfolding suffix
 letter_again true true = refl
 letter_again true false = refl
 letter_again false true = refl
@@ -142,7 +141,7 @@ letter_letters false false = refl
 
 operate_of : (name s f : List ℕ) (o : Operation) (c : Condition) (flag : Bool) → operation_named (take 3 name) ≡ Some o → drop 3 name ≡ s → conditioned s ≡ (c, f)
     → suffix (flag_text o) f ≡ Some flag → mnemonic_named name ≡ Some (mnemonic c (command.Operate o flag))
-unfolding mnemonic_named operate_mnemonic
+unfolding mnemonic_named
 operate_of name s f o c flag named dropped e last = rw (named, dropped, e, last) refl
 
 -- a mnemonic is a word that is read as it was meant
@@ -166,16 +165,15 @@ operate_word c o flag =
 multiply_of : (name s f : List ℕ) (adds sets : Bool) (c : Condition) → operation_named (take 3 name) ≡ None
     → first_name (codes "MLA") (codes "MUL") (take 3 name) ≡ Some adds → drop 3 name ≡ s → conditioned s ≡ (c, f) → suffix (codes "S") f ≡ Some sets
     → mnemonic_named name ≡ Some (mnemonic c (command.Multiply adds sets))
-unfolding mnemonic_named operate_mnemonic multiply_mnemonic
+unfolding mnemonic_named
 multiply_of name s f adds sets c none named dropped e last = rw (none, named, dropped, e, last) refl
 
 s_is_none : (sets : Bool) → conditioned (text_if sets (codes "S")) ≡ (condition.Always, text_if sets (codes "S"))
-unfolding conditioned condition_named printed_condition
+unfolding printed_condition
 s_is_none true = refl
 s_is_none false = refl
 
 s_again : (sets : Bool) → suffix (codes "S") (text_if sets (codes "S")) ≡ Some sets
-unfolding suffix
 s_again true = refl
 s_again false = refl
 
@@ -184,7 +182,6 @@ s_letters true = refl
 s_letters false = refl
 
 multiply_front : (adds : Bool) (s : List ℕ) → first_name (codes "MLA") (codes "MUL") (take 3 (choose_text adds (codes "MLA") (codes "MUL") ++ s)) ≡ Some adds
-unfolding first_name
 multiply_front true s = refl
 multiply_front false s = refl
 
@@ -219,21 +216,20 @@ transfer_of : (name s f : List ℕ) (loads of_byte user : Bool) (c : Condition) 
     → first_name (codes "MLA") (codes "MUL") (take 3 name) ≡ None → first_name (codes "LDR") (codes "STR") (take 3 name) ≡ Some loads
     → drop 3 name ≡ s → conditioned s ≡ (c, f) → transfer_suffix f ≡ Some (of_byte, user)
     → mnemonic_named name ≡ Some (mnemonic c (command.Transfer loads of_byte user))
-unfolding mnemonic_named operate_mnemonic multiply_mnemonic transfer_mnemonic
+unfolding mnemonic_named
 transfer_of name s f loads of_byte user c none other named dropped e last = rw (none, other, named, dropped, e, last) refl
 
 abbrev pub kind_text : Bool → Bool → List ℕ
 kind_text of_byte user = text_if of_byte (codes "B") ++ text_if user (codes "T")
 
 kind_is_none : (of_byte user : Bool) → conditioned (kind_text of_byte user) ≡ (condition.Always, kind_text of_byte user)
-unfolding conditioned condition_named printed_condition
+unfolding printed_condition
 kind_is_none true true = refl
 kind_is_none true false = refl
 kind_is_none false true = refl
 kind_is_none false false = refl
 
 kind_again : (of_byte user : Bool) → transfer_suffix (kind_text of_byte user) ≡ Some (of_byte, user)
-unfolding transfer_suffix
 kind_again true true = refl
 kind_again true false = refl
 kind_again false true = refl
@@ -254,7 +250,7 @@ pub record IsFront (loads : Bool) (one other front s : List ℕ) : Type 0 where
   pub letters : list_all is_word_byte front ≡ true
 
 transfer_front : (loads : Bool) (s : List ℕ) → IsFront loads (codes "LDR") (codes "STR") (choose_text loads (codes "LDR") (codes "STR")) s
-unfolding operation_named first_name
+unfolding operation_named
 transfer_front true s = record { no_operation = refl; no_multiply = refl; named = refl; behind = refl; letters = refl }
 transfer_front false s = record { no_operation = refl; no_multiply = refl; named = refl; behind = refl; letters = refl }
 
@@ -276,11 +272,11 @@ block_of : (name s f : List ℕ) (loads : Bool) (mode : BlockMode) (c : Conditio
     → first_name (codes "MLA") (codes "MUL") (take 3 name) ≡ None → first_name (codes "LDR") (codes "STR") (take 3 name) ≡ None
     → first_name (codes "LDM") (codes "STM") (take 3 name) ≡ Some loads → drop 3 name ≡ s → conditioned s ≡ (c, f) → block_mode_named loads f ≡ Some mode
     → mnemonic_named name ≡ Some (mnemonic c (command.BlockTransfer loads mode))
-unfolding mnemonic_named operate_mnemonic multiply_mnemonic transfer_mnemonic block_mnemonic
+unfolding mnemonic_named
 block_of name s f loads mode c none other another named dropped e last = rw (none, other, another, named, dropped, e, last) refl
 
 mode_is_none : (mode : BlockMode) → conditioned (block_mode_text mode) ≡ (condition.Always, block_mode_text mode)
-unfolding conditioned condition_named printed_condition
+unfolding printed_condition
 mode_is_none block.DecrementAfter = refl
 mode_is_none block.IncrementAfter = refl
 mode_is_none block.DecrementBefore = refl
@@ -304,12 +300,11 @@ mode_letters block.DecrementBefore = refl
 mode_letters block.IncrementBefore = refl
 
 block_front : (loads : Bool) (s : List ℕ) → IsFront loads (codes "LDM") (codes "STM") (choose_text loads (codes "LDM") (codes "STM")) s
-unfolding operation_named first_name
+unfolding operation_named
 block_front true s = record { no_operation = refl; no_multiply = refl; named = refl; behind = refl; letters = refl }
 block_front false s = record { no_operation = refl; no_multiply = refl; named = refl; behind = refl; letters = refl }
 
 block_no_transfer : (loads : Bool) (s : List ℕ) → first_name (codes "LDR") (codes "STR") (take 3 (choose_text loads (codes "LDM") (codes "STM") ++ s)) ≡ None
-unfolding first_name
 block_no_transfer true s = refl
 block_no_transfer false s = refl
 
@@ -330,7 +325,7 @@ block_word c loads mode =
 -- B, BL, SWI: with their conditions whole words
 pub branch_word : (c : Condition) (links : Bool)
     → IsMnemonic (choose_text links (codes "BL") (codes "B") ++ condition_text c) (mnemonic c (command.Branch links))
-unfolding mnemonic_named operate_mnemonic multiply_mnemonic transfer_mnemonic block_mnemonic swi_mnemonic linked_branch plain_branch operation_named first_name condition_named printed_condition
+unfolding mnemonic_named operation_named printed_condition
 branch_word condition.Equal true = record { letters = refl; named = refl }
 branch_word condition.Equal false = record { letters = refl; named = refl }
 branch_word condition.NotEqual true = record { letters = refl; named = refl }
@@ -365,7 +360,7 @@ branch_word condition.Never true = record { letters = refl; named = refl }
 branch_word condition.Never false = record { letters = refl; named = refl }
 
 pub swi_word : (c : Condition) → IsMnemonic (codes "SWI" ++ condition_text c) (mnemonic c command.SoftwareInterrupt)
-unfolding mnemonic_named operate_mnemonic multiply_mnemonic transfer_mnemonic block_mnemonic swi_mnemonic operation_named first_name condition_named printed_condition
+unfolding mnemonic_named operation_named printed_condition
 swi_word condition.Equal = record { letters = refl; named = refl }
 swi_word condition.NotEqual = record { letters = refl; named = refl }
 swi_word condition.CarrySet = record { letters = refl; named = refl }

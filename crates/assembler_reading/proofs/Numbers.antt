@@ -101,7 +101,6 @@ numeral_of radix n digits low some s = let same : n % 2 ^ 32 ≡ n = omega arith
 
 hexadecimal_of : (n : ℕ) (digits rest : List ℕ) → n < 2 ^ 32 → nat_lt 0 (length digits) ≡ true → Spells 16 0 n digits → prefix_len is_word_byte rest ≡ 0
     → hexadecimal (digits ++ rest) ≡ Some (Some n, rest)
-unfolding hexadecimal
 hexadecimal_of n digits rest low some s apart =
     rw (word_before digits rest s.letters apart, after_before digits rest s.letters apart, numeral_of 16 n digits low some s) refl
 
@@ -164,7 +163,7 @@ written n low = by (nat_lt n 10) refl
         rw e (decimal_step n two (omega arith) ∙ ap (λ (front : List ℕ). front ++ (48 + n % 10) ∷ []) (decimal_digit (n / 10) (omega arith)))
 
 of_digits : (n : ℕ) (labels : Lookup) (rest : List ℕ) → n < 33 → IsAmount (amount_digits n) n labels rest
-unfolding term word_value numeral after_spaces
+unfolding term numeral after_spaces
 of_digits zero labels rest h = record { letters = refl; named = refl; value = refl; no_space = refl }
 of_digits (suc zero) labels rest h = record { letters = refl; named = refl; value = refl; no_space = refl }
 of_digits (suc (suc zero)) labels rest h = record { letters = refl; named = refl; value = refl; no_space = refl }
@@ -205,7 +204,6 @@ is_amount n labels rest h = subst (λ (digits : List ℕ). IsAmount digits n lab
 
 named_of : (labels : Lookup) (name rest : List ℕ) (value : Value) → list_all is_word_byte name ≡ true → word_value labels name ≡ Some value
     → prefix_len is_word_byte rest ≡ 0 → named_term labels (name ++ rest) ≡ Some (value, rest)
-unfolding named_term
 named_of labels name rest value letters known apart =
     rw (word_before name rest letters apart, after_before name rest letters apart, known) refl
 

@@ -68,21 +68,17 @@ same_rotation value r None e = absurd cc
 same_rotation value r (Some n) e = let same : n ≡ r = grind (arith, nat_tests, e) in ap Some same
 
 by_least : (value r : ℕ) → least_rotation value ≡ Some r → immediate_of (Some value) ≡ Ok (operand.Immediate r (rotated_back value r))
-unfolding immediate_of
 by_least value r e = rw e refl
 
 alone : (labels : Lookup) (text rest : List ℕ) (value : Value) → expression labels text ≡ Some (value, rest) → comma rest ≡ None
     → immediate labels text ≡ Some (immediate_of value, rest)
-unfolding immediate rotation_at
 alone labels text rest value e none = rw (e, none) refl
 
 turned : (labels : Lookup) (text behind after rest : List ℕ) (value turns : Value) → expression labels text ≡ Some (value, behind)
     → comma behind ≡ Some after → expression labels after ≡ Some (turns, rest) → immediate labels text ≡ Some (rotated_of value turns, rest)
-unfolding immediate rotation_at
 turned labels text behind after rest value turns e some f = rw (e, some, f) refl
 
 rotated_field : (r b : ℕ) → r < 16 → b < 256 → rotated_of (Some b) (Some (2 * r)) ≡ Ok (operand.Immediate r b)
-unfolding rotated_of
 rotated_field zero b h low = let byte : nat_le b 255 ≡ true = grind (arith, nat_tests, low) in rw byte refl
 rotated_field (suc zero) b h low = let byte : nat_le b 255 ≡ true = grind (arith, nat_tests, low) in rw byte refl
 rotated_field (suc (suc zero)) b h low = let byte : nat_le b 255 ≡ true = grind (arith, nat_tests, low) in rw byte refl
@@ -153,7 +149,7 @@ no_space_named shift.RotateRight rest = refl
 -- no shift is RRX, and each is found by its name
 behind_name : (labels : Lookup) (rm : ℕ) (s : Shift) (rest : List ℕ) → after_spaces rest ≡ rest
     → shift_at labels rm (44 ∷ (shift_text s ++ (32 ∷ rest))) (Some (shift_text s ++ (32 ∷ rest))) ≡ amount_at labels rm s rest (byte 35 rest)
-unfolding shift_at named_shift word after_word spaces byte after_spaces shift_named
+unfolding word after_word spaces byte after_spaces shift_named
 behind_name labels rm shift.LogicalLeft rest h = rw h refl
 behind_name labels rm shift.LogicalRight rest h = rw h refl
 behind_name labels rm shift.ArithmeticRight rest h = rw h refl
@@ -161,7 +157,7 @@ behind_name labels rm shift.RotateRight rest h = rw h refl
 
 by_amount : (labels : Lookup) (rm n : ℕ) (s : Shift) (rest : List ℕ) → n < 33 → Ends rest
     → amount_at labels rm s (35 ∷ (decimal n ++ rest)) (byte 35 (35 ∷ (decimal n ++ rest))) ≡ Some (places_of rm s (Some n), rest)
-unfolding amount_at byte
+unfolding byte
 by_amount labels rm n s rest h ends = rw (amount_again labels n rest h ends.apart ends.no_sign) refl
 
 hash_after_space : (text : List ℕ) → after_spaces (35 ∷ text) ≡ 35 ∷ text
@@ -183,7 +179,6 @@ amount_shape shift.ArithmeticRight n rest = refl
 amount_shape shift.RotateRight n rest = refl
 
 placed_amount : (rm n : ℕ) (s : Shift) → 1 ≤ n → n ≤ most_places s → places_of rm s (Some n) ≡ Ok (operand.Shifted (shifted_by rm s (n % 32)))
-unfolding places_of
 placed_amount rm n s some most =
     let low : nat_le 1 n ≡ true = grind (arith, nat_tests, some) in
     let high : nat_le n (most_places s) ≡ true = grind (arith, nat_tests, most) in rw (low, high) refl
@@ -197,12 +192,10 @@ amount_shifts labels rm n s rest h some most ends =
 
 plain_shifts : (labels : Lookup) (rm : ℕ) (rest : List ℕ) → Ends rest
     → shift_at labels rm rest (comma rest) ≡ Some (Ok (operand.Shifted (shifted_by rm shift.LogicalLeft 0)), rest)
-unfolding shift_at
 plain_shifts labels rm rest ends = rw ends.no_comma refl
 
 extended_read : (labels : Lookup) (rm : ℕ) (rest : List ℕ) → word (codes "RRX" ++ rest) ≡ codes "RRX" → after_word (codes "RRX" ++ rest) ≡ rest
     → shift_at labels rm (44 ∷ (codes "RRX" ++ rest)) (Some (codes "RRX" ++ rest)) ≡ Some (Ok (operand.Shifted (shifted_by rm shift.RotateRight 0)), rest)
-unfolding shift_at
 extended_read labels rm rest named after = rw (named, after) refl
 
 no_space_extended : (rest : List ℕ) → after_spaces (codes "RRX" ++ rest) ≡ codes "RRX" ++ rest
@@ -280,7 +273,6 @@ no_hash_then labels text e = rw e refl
 
 by_other : (labels : Lookup) (rm rs : ℕ) (s : Shift) (rest : List ℕ) → rs < 16 → Ends rest
     → amount_at labels rm s (register_text rs ++ rest) (byte 35 (register_text rs ++ rest)) ≡ Some (Ok (operand.ShiftedByRegister rm s rs), rest)
-unfolding amount_at
 by_other labels rm rs s rest h ends = rw ((is_register rs rest h).no_hash, register_again rs rest h ends.apart) refl
 
 other_shape : (rm rs : ℕ) (s : Shift) (rest : List ℕ)

@@ -88,12 +88,10 @@ operand_alone labels o fits =
 
 with_operand : (labels : Lookup) (what : Operation) (sets : Bool) (n d : ℕ) (o : Operand) → FitsOperand o
     → operate_with labels what sets n d (operand_text o) ≡ Some (Ok (action.Operate (operating what sets n d o)), [])
-unfolding operate_with
 with_operand labels what sets n d o fits = rw (operand_alone labels o fits) refl
 
 on_operand : (labels : Lookup) (what : Operation) (sets : Bool) (n d : ℕ) (o : Operand) → n < 16 → FitsOperand o
     → operate_on labels what sets d (register_text n ++ (44 ∷ operand_text o)) ≡ Some (Ok (action.Operate (operating what sets n d o)), [])
-unfolding operate_on
 on_operand labels what sets n d o h fits =
     rw (register_again n (44 ∷ operand_text o) h refl, comma_then (operand_text o) (operand_no_space o fits)) (with_operand labels what sets n d o fits)
 
@@ -168,7 +166,6 @@ operate_no_space o fits = by (is_test o.operation) (is_move o.operation) refl re
 -- MUL and MLA
 added_again : (adds : Bool) (n : ℕ) → n < 16 → (adds ≡ false → n ≡ 0)
     → added_register adds (text_if adds (codes ",") ++ text_if adds (register_text n)) ≡ Some (n, [])
-unfolding added_register
 added_again false n h absent = let e : n ≡ 0 = absent refl in rw e refl
 added_again true n h absent =
     let whole : register_text n ++ [] ≡ register_text n = append-nil (register_text n) in

@@ -26,11 +26,11 @@ indexed way base (Ok by) = Ok (placed way by.0 base by.1)
 indexed way base (Err reason) = Err reason
 
 -- a number of 12 bits
-unfoldable pub offset_of : Direction → Value → Outcome (Direction × Offset)
+abbrev pub offset_of : Direction → Value → Outcome (Direction × Offset)
 offset_of to None = Err UnknownLabel
 offset_of to (Some n) = if nat_lt n 4096 then Ok (to, offset.Immediate n) else Err BadImmediate
 
-unfoldable pub number_offset : Lookup → Direction → List ℕ → Option (Outcome (Direction × Offset) × List ℕ)
+abbrev pub number_offset : Lookup → Direction → List ℕ → Option (Outcome (Direction × Offset) × List ℕ)
 number_offset labels to text = do
   n ← expression labels text
   Some (offset_of to n.0, n.1)
@@ -44,7 +44,7 @@ abbrev pub as_offset : Direction → Outcome Operand → Option (Outcome (Direct
 as_offset to (Ok second) = operand_offset to second
 as_offset to (Err reason) = Some (Err reason)
 
-unfoldable pub shifted_offset : Lookup → Direction → List ℕ → Option (Outcome (Direction × Offset) × List ℕ)
+abbrev pub shifted_offset : Lookup → Direction → List ℕ → Option (Outcome (Direction × Offset) × List ℕ)
 shifted_offset labels to text = do
   second ← shifted labels text
   by ← as_offset to second.0
@@ -65,7 +65,7 @@ unfoldable pub offset_in : Lookup → List ℕ → Option (Outcome (Direction ×
 offset_in labels text = offset_at labels text (byte 35 text)
 
 -- behind `[Rn]`: a comma and the offset, or nothing, which T forbids
-unfoldable pub closed : Lookup → Bool → ℕ → List ℕ → Option (List ℕ) → Option (Outcome Address × List ℕ)
+abbrev pub closed : Lookup → Bool → ℕ → List ℕ → Option (List ℕ) → Option (Outcome Address × List ℕ)
 closed labels translates base text (Some after) = do
   by ← offset_in labels after
   Some (indexed (Post translates) base by.0, by.1)
@@ -73,7 +73,7 @@ closed labels false base text None = Some (Ok (placed (Pre false) Up base (offse
 closed labels true base text None = None
 
 -- behind `[Rn`: a comma, the offset, `]` (93), and `!` (33) where the address is written back
-unfoldable pub before_bracket : Lookup → ℕ → List ℕ → Option (Outcome Address × List ℕ)
+abbrev pub before_bracket : Lookup → ℕ → List ℕ → Option (Outcome Address × List ℕ)
 before_bracket labels base text = do
   rest ← comma text
   by ← offset_in labels rest
@@ -96,7 +96,7 @@ bracketed labels translates text = do
   based labels translates rn.0 rn.1 (byte 93 rn.1)
 
 -- an address as an offset from the PC, which is 8 past the instruction
-unfoldable pub reached : ℕ → ℕ → Outcome Address
+abbrev pub reached : ℕ → ℕ → Outcome Address
 reached pc target =
     if nat_le pc target && nat_le target (pc + 4095) then Ok (placed (Pre false) Up 15 (offset.Immediate (target - pc))) else (
     if nat_lt target pc && nat_le pc (target + 4095) then Ok (placed (Pre false) Down 15 (offset.Immediate (pc - target)))
@@ -106,7 +106,7 @@ abbrev pub reached_from : ℕ → Value → Outcome Address
 reached_from address None = Err UnknownLabel
 reached_from address (Some target) = reached (address + 8) target
 
-unfoldable pub labelled : Lookup → ℕ → List ℕ → Option (Outcome Address × List ℕ)
+abbrev pub labelled : Lookup → ℕ → List ℕ → Option (Outcome Address × List ℕ)
 labelled labels address text = do
   target ← expression labels text
   Some (reached_from address target.0, target.1)

@@ -21,32 +21,32 @@ use Rattle.assembler_reading.specs.Operating.{operate_at, multiply_at}
 use Rattle.assembler_reading.specs.RegisterLists.{block_at}
 
 -- a branch to a multiple of 4 below 2^26, as the number of words from the address plus 8, modulo 2^24
-unfoldable pub branch_to : ℕ → Bool → Value → Outcome Action
+abbrev pub branch_to : ℕ → Bool → Value → Outcome Action
 branch_to address links None = Err UnknownLabel
 branch_to address links (Some target) =
     if target % 4 == 0 && nat_lt target (2 ^ 26)
     then Ok (action.Branch links ((2 ^ 33 + target - (address + 8)) / 4 % 2 ^ 24))
     else Err OutOfReach
 
-unfoldable pub branch_at : Lookup → ℕ → Bool → List ℕ → Option (Outcome Action × List ℕ)
+abbrev pub branch_at : Lookup → ℕ → Bool → List ℕ → Option (Outcome Action × List ℕ)
 branch_at labels address links text = do
   target ← expression labels text
   Some (branch_to address links target.0, target.1)
 
 -- a number of 24 bits
-unfoldable pub swi_action : Value → Outcome Action
+abbrev pub swi_action : Value → Outcome Action
 swi_action None = Err UnknownLabel
 swi_action (Some n) = if nat_lt n (2 ^ 24) then Ok (action.SoftwareInterrupt n) else Err BadImmediate
 
 -- the name of a call behind a double quote (34), with another behind it
-unfoldable pub quoted_call : List ℕ → Option (Value × List ℕ)
+abbrev pub quoted_call : List ℕ → Option (Value × List ℕ)
 quoted_call text = do
   number ← swi_named (word text)
   rest ← byte 34 (after_word text)
   Some (Some number, rest)
 
 -- a word that names a call, unless `+` or `-` stands behind it
-unfoldable pub plain_call : List ℕ → Option ℕ
+abbrev pub plain_call : List ℕ → Option ℕ
 plain_call text = if is_some (sign (after_word text)) then None else swi_named (word text)
 
 abbrev pub call_or_number : Lookup → List ℕ → Option ℕ → Option (Value × List ℕ)
@@ -77,7 +77,7 @@ word_unless (Ok i) = Ok (word_of i)
 word_unless (Err fault) = Err Forbidden
 
 -- the word of what was read, if the instruction table has it
-unfoldable pub word_for : Condition → Outcome Action → Outcome ℕ
+abbrev pub word_for : Condition → Outcome Action → Outcome ℕ
 word_for c (Ok a) = word_unless (checked (c, a))
 word_for c (Err reason) = Err reason
 

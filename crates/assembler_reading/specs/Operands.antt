@@ -22,7 +22,7 @@ by_rotation value (Some rotation) = Ok (operand.Immediate rotation (rotated_back
 by_rotation value None = Err BadImmediate
 
 -- `#v` is spelled by its least rotation
-unfoldable pub immediate_of : Value → Outcome Operand
+abbrev pub immediate_of : Value → Outcome Operand
 immediate_of None = Err UnknownLabel
 immediate_of (Some value) = by_rotation value (least_rotation value)
 
@@ -30,19 +30,19 @@ immediate_of (Some value) = by_rotation value (least_rotation value)
 abbrev pub is_rotated_byte : ℕ → ℕ → Bool
 is_rotated_byte b r = nat_le b 255 && (nat_le r 30 && (r % 2 == 0))
 
-unfoldable pub rotated_of : Value → Value → Outcome Operand
+abbrev pub rotated_of : Value → Value → Outcome Operand
 rotated_of (Some b) (Some r) = if is_rotated_byte b r then Ok (operand.Immediate (r / 2) b) else Err BadImmediate
 rotated_of _ _ = Err UnknownLabel
 
 -- what stands behind a value: a comma and the rotation, or nothing
-unfoldable pub rotation_at : Lookup → Value → List ℕ → Option (List ℕ) → Option (Outcome Operand × List ℕ)
+abbrev pub rotation_at : Lookup → Value → List ℕ → Option (List ℕ) → Option (Outcome Operand × List ℕ)
 rotation_at labels value text None = Some (immediate_of value, text)
 rotation_at labels value text (Some after) = do
   turns ← expression labels after
   Some (rotated_of value turns.0, turns.1)
 
 -- what follows `#`
-unfoldable pub immediate : Lookup → List ℕ → Option (Outcome Operand × List ℕ)
+abbrev pub immediate : Lookup → List ℕ → Option (Outcome Operand × List ℕ)
 immediate labels text = do
   value ← expression labels text
   rotation_at labels value.0 value.1 (comma value.1)
@@ -57,13 +57,13 @@ most_places LogicalRight = 32
 most_places ArithmeticRight = 32
 most_places RotateRight = 31
 
-unfoldable pub places_of : ℕ → Shift → Value → Outcome Operand
+abbrev pub places_of : ℕ → Shift → Value → Outcome Operand
 places_of rm s None = Err UnknownLabel
 places_of rm s (Some n) =
     if nat_le 1 n && nat_le n (most_places s) then Ok (operand.Shifted (shifted_by rm s (n % 32))) else Err BadImmediate
 
 -- `#n` or a register, behind `Rm,LSL `
-unfoldable pub amount_at : Lookup → ℕ → Shift → List ℕ → Option (List ℕ) → Option (Outcome Operand × List ℕ)
+abbrev pub amount_at : Lookup → ℕ → Shift → List ℕ → Option (List ℕ) → Option (Outcome Operand × List ℕ)
 amount_at labels rm s text (Some after) = do
   places ← expression labels after
   Some (places_of rm s places.0, places.1)
@@ -72,14 +72,14 @@ amount_at labels rm s text None = do
   Some (Ok (operand.ShiftedByRegister rm s by.0), by.1)
 
 -- a shift and its amount
-unfoldable pub named_shift : Lookup → ℕ → List ℕ → Option (Outcome Operand × List ℕ)
+abbrev pub named_shift : Lookup → ℕ → List ℕ → Option (Outcome Operand × List ℕ)
 named_shift labels rm text = do
   s ← shift_named (word text)
   amount ← spaces (after_word text)
   amount_at labels rm s amount (byte 35 amount)
 
 -- what follows `Rm`: nothing, or a comma and RRX or a shift
-unfoldable pub shift_at : Lookup → ℕ → List ℕ → Option (List ℕ) → Option (Outcome Operand × List ℕ)
+abbrev pub shift_at : Lookup → ℕ → List ℕ → Option (List ℕ) → Option (Outcome Operand × List ℕ)
 shift_at labels rm text None = Some (Ok (operand.Shifted (shifted_by rm LogicalLeft 0)), text)
 shift_at labels rm text (Some after) =
     if is_name (word after) (codes "RRX")

@@ -21,13 +21,13 @@ operated what sets n d (Ok second) = Ok (action.Operate (operating what sets n d
 operated what sets n d (Err reason) = Err reason
 
 -- the second operand, behind the registers
-unfoldable pub operate_with : Lookup → Operation → Bool → ℕ → ℕ → List ℕ → Option (Outcome Action × List ℕ)
+abbrev pub operate_with : Lookup → Operation → Bool → ℕ → ℕ → List ℕ → Option (Outcome Action × List ℕ)
 operate_with labels what sets n d text = do
   second ← second_operand labels text
   Some (operated what sets n d second.0, second.1)
 
 -- `Rn,` and the second operand, behind `Rd,`
-unfoldable pub operate_on : Lookup → Operation → Bool → ℕ → List ℕ → Option (Outcome Action × List ℕ)
+abbrev pub operate_on : Lookup → Operation → Bool → ℕ → List ℕ → Option (Outcome Action × List ℕ)
 operate_on labels what sets d text = do
   rn ← register text
   rest ← comma rn.1
@@ -47,7 +47,7 @@ operate_at labels what flag text = do
   operate_behind labels what flag first.0 rest
 
 -- `,Rn` of MLA; MUL has no Rn
-unfoldable pub added_register : Bool → List ℕ → Option (ℕ × List ℕ)
+abbrev pub added_register : Bool → List ℕ → Option (ℕ × List ℕ)
 added_register false text = Some (0, text)
 added_register true text = do
   rest ← comma text

@@ -18,14 +18,14 @@ unfoldable pub with_range : ℕ → ℕ → ℕ → ℕ
 with_range list first last = fold with_register list (range_with_len first (last + 1 - first))
 
 -- the last register of a range that begins with a register: behind a minus one that is no lower, else the first itself
-unfoldable pub last_register : ℕ → List ℕ → Option (List ℕ) → Option (ℕ × List ℕ)
+abbrev pub last_register : ℕ → List ℕ → Option (List ℕ) → Option (ℕ × List ℕ)
 last_register first text None = Some (first, text)
 last_register first text (Some after) = do
   last ← register after
   if nat_le first last.0 then Some (last.0, last.1) else None
 
 -- `R0` or `R0-R3`, as its first and its last register
-unfoldable pub register_range : List ℕ → Option ((ℕ × ℕ) × List ℕ)
+abbrev pub register_range : List ℕ → Option ((ℕ × ℕ) × List ℕ)
 register_range text = do
   first ← register text
   last ← last_register first.0 first.1 (byte 45 first.1)
@@ -46,7 +46,7 @@ more_registers (suc n) list text = do
   next_registers (more_registers n) (with_range list range.0.0 range.0.1) range.1 (comma range.1)
 
 -- `{R0,R4-R6}`, not empty
-unfoldable pub register_list : List ℕ → Option (ℕ × List ℕ)
+abbrev pub register_list : List ℕ → Option (ℕ × List ℕ)
 register_list text = do
   rest ← byte 123 text
   more_registers (length rest) 0 rest

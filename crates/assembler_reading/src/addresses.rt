@@ -67,7 +67,6 @@ fn address_at<'t>(
     }
 }
 
-#[tactic(auto, unfolding(crate::specs::Addresses::labelled))]
 fn labelled<'t>(labels: &Labels, address: u32, text: &'t [u8]) -> Read<'t, Outcome<Address>>
     ensures { read_of result ≡ labelled (address_of labels.now) address text.now }
 {
@@ -85,7 +84,6 @@ fn reached_from(address: u32, target: Value) -> Outcome<Address>
 }
 
 // An address as an offset from the PC.
-#[tactic(auto, unfolding(crate::specs::Addresses::reached))]
 fn reached(pc: u64, target: u64) -> Outcome<Address>
     requires pc_low { pc < 2 ^ 33 }
     requires target_low { target < 2 ^ 33 }
@@ -141,7 +139,6 @@ fn based<'t>(
 }
 
 // Behind `[Rn]`: a comma and the offset, or nothing, which T forbids.
-#[tactic(auto, unfolding(crate::specs::Addresses::closed))]
 fn closed<'t>(
     labels: &Labels,
     translates: bool,
@@ -175,7 +172,6 @@ fn at_base(rn: Register) -> Address
 }
 
 // Behind `[Rn`: a comma, the offset, `]`, and `!` where the address is written back.
-#[tactic(auto, unfolding(crate::specs::Addresses::before_bracket))]
 fn before_bracket<'t>(labels: &Labels, rn: Register, text: &'t [u8]) -> Read<'t, Outcome<Address>>
     ensures { read_of result ≡ before_bracket (address_of labels.now) rn text.now }
 {
@@ -227,7 +223,6 @@ fn signed_direction(is_minus: bool) -> Direction
     }
 }
 
-#[tactic(auto, unfolding(crate::specs::Addresses::number_offset))]
 fn number_offset<'t>(
     labels: &Labels,
     direction: Direction,
@@ -240,7 +235,6 @@ fn number_offset<'t>(
 }
 
 // A number of 12 bits.
-#[tactic(auto, unfolding(crate::specs::Addresses::offset_of))]
 fn offset_of(direction: Direction, number: Value) -> Outcome<SignedOffset>
     ensures { result ≡ offset_of direction number }
 {
@@ -254,7 +248,6 @@ fn offset_of(direction: Direction, number: Value) -> Outcome<SignedOffset>
     }
 }
 
-#[tactic(auto, unfolding(crate::specs::Addresses::shifted_offset))]
 fn shifted_offset<'t>(
     labels: &Labels,
     direction: Direction,

@@ -34,7 +34,6 @@ pub fn instruction<'t>(labels: &Labels, address: u32, text: &'t [u8]) -> Read<'t
 }
 
 // The word of what was read, if the instruction table has it.
-#[tactic(auto, unfolding(crate::specs::Instructions::word_for))]
 fn word_for(condition: Condition, action: Outcome<Action>) -> Outcome<u32>
     ensures { result ≡ word_for condition action }
 {
@@ -73,7 +72,6 @@ fn action_at<'t>(
     }
 }
 
-#[tactic(auto, unfolding(crate::specs::Instructions::branch_at))]
 fn branch_at<'t>(
     labels: &Labels,
     address: u32,
@@ -87,7 +85,6 @@ fn branch_at<'t>(
 }
 
 // A branch to a multiple of 4 below 2^26.
-#[tactic(auto, unfolding(crate::specs::Instructions::branch_to))]
 fn branch_to(address: u32, links: bool, target: Value) -> Outcome<Action>
     ensures { result ≡ branch_to address links target }
 {
@@ -111,7 +108,6 @@ fn swi_at<'t>(labels: &Labels, text: &'t [u8]) -> Read<'t, Outcome<Action>>
 }
 
 // A number of 24 bits.
-#[tactic(auto, unfolding(crate::specs::Instructions::swi_action))]
 fn swi_action(number: Value) -> Outcome<Action>
     ensures { result ≡ swi_action number }
 {
@@ -146,7 +142,6 @@ fn call_or_number<'t>(labels: &Labels, text: &'t [u8]) -> Read<'t, Value>
 }
 
 // The name of a call behind a double quote, with another behind it.
-#[tactic(auto, unfolding(crate::specs::Instructions::quoted_call))]
 fn quoted_call(text: &[u8]) -> Read<'_, Value>
     ensures { read_of result ≡ quoted_call text.now }
 {
@@ -155,7 +150,6 @@ fn quoted_call(text: &[u8]) -> Read<'_, Value>
 }
 
 // A word that names a call, unless `+` or `-` stands behind it.
-#[tactic(auto, unfolding(crate::specs::Instructions::plain_call))]
 fn plain_call(text: &[u8]) -> Option<u32>
     ensures { result ≡ plain_call text.now }
 {

@@ -27,7 +27,6 @@ pub fn second_operand<'t>(labels: &Labels, text: &'t [u8]) -> Read<'t, Outcome<O
 }
 
 // What follows `#`.
-#[tactic(auto, unfolding(crate::specs::Operands::immediate))]
 fn immediate<'t>(labels: &Labels, text: &'t [u8]) -> Read<'t, Outcome<Operand>>
     ensures { read_of result ≡ immediate (address_of labels.now) text.now }
 {
@@ -36,7 +35,6 @@ fn immediate<'t>(labels: &Labels, text: &'t [u8]) -> Read<'t, Outcome<Operand>>
 }
 
 // What stands behind a value: a comma and the rotation, or nothing.
-#[tactic(auto, unfolding(crate::specs::Operands::rotation_at))]
 fn rotation_at<'t>(labels: &Labels, value: Value, text: &'t [u8]) -> Read<'t, Outcome<Operand>>
     ensures { read_of result ≡ rotation_at (address_of labels.now) value text.now (comma text.now) }
 {
@@ -50,7 +48,6 @@ fn rotation_at<'t>(labels: &Labels, value: Value, text: &'t [u8]) -> Read<'t, Ou
 }
 
 // `#v` by its least rotation.
-#[tactic(auto, unfolding(crate::specs::Operands::immediate_of))]
 fn immediate_of(value: Value) -> Outcome<Operand>
     ensures { result ≡ immediate_of value }
 {
@@ -67,7 +64,6 @@ fn immediate_of(value: Value) -> Outcome<Operand>
 }
 
 // `#b,r` as it stands.
-#[tactic(auto, unfolding(crate::specs::Operands::rotated_of))]
 fn rotated_of(byte: Value, turns: Value) -> Outcome<Operand>
     ensures { result ≡ rotated_of byte turns }
 {
@@ -99,7 +95,6 @@ pub fn shifted<'t>(labels: &Labels, text: &'t [u8]) -> Read<'t, Outcome<Operand>
 }
 
 // What follows `Rm`: nothing, or a comma and RRX or a shift.
-#[tactic(auto, unfolding(crate::specs::Operands::shift_at))]
 fn shift_at<'t>(labels: &Labels, rm: Register, text: &'t [u8]) -> Read<'t, Outcome<Operand>>
     ensures { read_of result ≡ shift_at (address_of labels.now) rm text.now (comma text.now) }
 {
@@ -113,7 +108,6 @@ fn shift_at<'t>(labels: &Labels, rm: Register, text: &'t [u8]) -> Read<'t, Outco
 }
 
 // A shift and its amount.
-#[tactic(auto, unfolding(crate::specs::Operands::named_shift))]
 fn named_shift<'t>(labels: &Labels, rm: Register, text: &'t [u8]) -> Read<'t, Outcome<Operand>>
     ensures { read_of result ≡ named_shift (address_of labels.now) rm text.now }
 {
@@ -123,7 +117,6 @@ fn named_shift<'t>(labels: &Labels, rm: Register, text: &'t [u8]) -> Read<'t, Ou
 }
 
 // `#n` or a register, behind `Rm,LSL `.
-#[tactic(auto, unfolding(crate::specs::Operands::amount_at))]
 fn amount_at<'t>(
     labels: &Labels,
     rm: Register,
@@ -148,7 +141,6 @@ fn amount_at<'t>(
 }
 
 // A shift by a number of places.
-#[tactic(auto, unfolding(crate::specs::Operands::places_of))]
 fn places_of(rm: Register, shift: Shift, places: Value) -> Outcome<Operand>
     ensures { result ≡ places_of rm shift places }
 {

@@ -49,7 +49,6 @@ fn operate_behind<'t>(
 }
 
 // `Rn,` and the second operand.
-#[tactic(auto, unfolding(crate::specs::Operating::operate_on))]
 fn operate_on<'t>(
     labels: &Labels,
     operation: Operation,
@@ -66,7 +65,6 @@ fn operate_on<'t>(
 }
 
 // The second operand.
-#[tactic(auto, unfolding(crate::specs::Operating::operate_with))]
 fn operate_with<'t>(
     labels: &Labels,
     operation: Operation,
@@ -134,7 +132,6 @@ pub fn multiply_at(accumulates: bool, sets_flags: bool, text: &[u8]) -> Read<'_,
 }
 
 // `,Rn` of MLA; MUL has no Rn.
-#[tactic(auto, unfolding(crate::specs::Operating::added_register))]
 fn added_register(accumulates: bool, text: &[u8]) -> Read<'_, Register>
     ensures { read_of result ≡ added_register accumulates text.now }
 {

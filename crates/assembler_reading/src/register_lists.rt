@@ -35,7 +35,6 @@ pub fn block_at(loads: bool, mode: BlockMode, text: &[u8]) -> Read<'_, Outcome<A
 }
 
 // `{R0,R4-R6}`.
-#[tactic(auto, unfolding(crate::specs::RegisterLists::register_list))]
 fn register_list(text: &[u8]) -> Read<'_, RegisterList>
     ensures { read_of result ≡ register_list text.now }
 {
@@ -64,7 +63,6 @@ fn more_registers(count: usize, text: &[u8]) -> Read<'_, RegisterList>
 }
 
 // `R0` or `R0-R3`, as its first and its last register.
-#[tactic(auto, unfolding(crate::specs::RegisterLists::register_range))]
 fn register_range(text: &[u8]) -> Read<'_, (Register, Register)>
     ensures { read_of result ≡ register_range text.now }
 {
@@ -78,7 +76,6 @@ fn register_range(text: &[u8]) -> Read<'_, (Register, Register)>
 }
 
 // Behind a register a minus and one that is no lower, or else the register itself.
-#[tactic(auto, unfolding(crate::specs::RegisterLists::last_register))]
 fn last_register(first: Register, text: &[u8]) -> Read<'_, Register>
     ensures { read_of result ≡ last_register first text.now (byte 45 text.now) }
 {
