@@ -1,0 +1,113 @@
+//! The calls that take host memory, each behind some takings of it.
+
+use crate::outcome::{Outcome, take_and_give_back};
+use crate::rows::{ERROR_AT_START, SIX_WORDS, TIDY};
+use crate::scripts::script;
+use address_map::AddressMap;
+use assembler::{Reason, assemble};
+use command_line::{SettingsError, settings};
+use image_loader::{ImageError, Images};
+use profile::Config;
+use raw_store::RawStore;
+use std::alloc::Global;
+use swi_dispatch::Machine;
+
+/// How the call of this name ends behind so many takings of memory.
+pub fn outcome_of(alloc: Global, call: &str, takings: u32) -> Outcome {
+    match call {
+        "region" => region(alloc, takings),
+        "map" => map(alloc, takings),
+        "machine" => machine(alloc, takings),
+        "image" => image(alloc, takings),
+        "program" => program(alloc, takings),
+        "settings" => settings_of_a_name(alloc, takings),
+        "six-words" => script(alloc, takings, &SIX_WORDS),
+        "error-at-start" => script(alloc, takings, &ERROR_AT_START),
+        "tidy" => script(alloc, takings, &TIDY),
+        _ => Outcome::Wrong,
+    }
+}
+
+fn region(alloc: Global, takings: u32) -> Outcome {
+    if take_and_give_back(alloc, takings).is_err() {
+        return Outcome::Before;
+    }
+    match RawStore::new(alloc, 4) {
+        Ok(store) => Outcome::answered(store.len() == 16384),
+        Err(_) => Outcome::Refused,
+    }
+}
+
+fn map(alloc: Global, takings: u32) -> Outcome {
+    if take_and_give_back(alloc, takings).is_err() {
+        return Outcome::Before;
+    }
+    match AddressMap::new(alloc, 16) {
+        Ok(map) => Outcome::answered(map.free_pages() == 16),
+        Err(_) => Outcome::Refused,
+    }
+}
+
+fn machine(alloc: Global, takings: u32) -> Outcome {
+    let Some(config) = Config::new(5, 1, 1) else {
+        return Outcome::Wrong;
+    };
+    if take_and_give_back(alloc, takings).is_err() {
+        return Outcome::Before;
+    }
+    match Machine::new(alloc, config) {
+        Ok(machine) => Outcome::answered(machine.cpu().register(15) == 0x8000),
+        Err(_) => Outcome::Refused,
+    }
+}
+
+/// An image added to one that is there.
+fn image(alloc: Global, takings: u32) -> Outcome {
+    let mut images = Images::new();
+    if images.add(alloc, b"a", b"xyz").is_err() || take_and_give_back(alloc, takings).is_err() {
+        return Outcome::Before;
+    }
+    let added = images.add(alloc, b"b", b"uv");
+    let is_kept = images.get(b"a") == Some(b"xyz".as_slice());
+    match (added, images.get(b"b")) {
+        (Err(ImageError::Memory), None) => Outcome::refused(is_kept),
+        (Ok(()), Some(bytes)) => Outcome::answered(is_kept && bytes == b"uv".as_slice()),
+        _ => Outcome::Wrong,
+    }
+}
+
+/// A module's text, with labels before and after their places.
+static SOURCE: &str = " DCD 0,init,0,0,title,0,0
+title DCB \"Bad\",0
+init ADD R0,PC,#err-init-8
+ ORRS PC,R14,#&10000000
+err DCD 1000
+ DCB \"no\",0
+";
+
+/// Its bytes: seven words of the header, the title, two instructions, an error's number and text.
+static BYTES: [u8; 47] = [
+    0, 0, 0, 0, 0x20, 0, 0, 0, 0, 0, 0, 0, 0, 0, 0, 0, 0x1C, 0, 0, 0, 0, 0, 0, 0, 0, 0, 0, 0, //
+    0x42, 0x61, 0x64, 0, 0x00, 0x00, 0x8F, 0xE2, 0x01, 0xF2, 0x9E, 0xE3, 0xE8, 0x03, 0, 0, //
+    0x6E, 0x6F, 0,
+];
+
+fn program(alloc: Global, takings: u32) -> Outcome {
+    if take_and_give_back(alloc, takings).is_err() {
+        return Outcome::Before;
+    }
+    match assemble(alloc, SOURCE.as_bytes(), 0) {
+        Ok(program) => Outcome::answered(program.bytes() == BYTES.as_slice()),
+        Err(error) => Outcome::refused(matches!(error.reason, Reason::Memory)),
+    }
+}
+
+fn settings_of_a_name(alloc: Global, takings: u32) -> Outcome {
+    if take_and_give_back(alloc, takings).is_err() {
+        return Outcome::Before;
+    }
+    match settings(alloc, &["rosm"]) {
+        Ok(settings) => Outcome::answered(settings.budget == 1_000_000),
+        Err(error) => Outcome::refused(matches!(error, SettingsError::Memory)),
+    }
+}
