@@ -43,7 +43,7 @@ by_tests true false n next e = absurd (cc)
 by_tests false q n next e = absurd (cc)
 
 pub goes_on : (radix value next d : ℕ) (ds : List ℕ) → with_digit radix value d ≡ Some next → digits_onto radix value (d ∷ ds) ≡ digits_onto radix next ds
-unfolding with_digit digits_onto
+unfolding digits_onto
 goes_on radix value next d ds e =
     let tests : (is_digit d radix ≡ true) × (value * radix + digit_value d ≡ next) =
     by_tests (is_digit d radix) (nat_lt (value * radix + digit_value d) (2 ^ 32)) (value * radix + digit_value d) next e in
@@ -60,7 +60,7 @@ stays_high : (n total : ℕ) → n ≤ total → nat_lt n (2 ^ 32) ≡ false →
 stays_high n total more high = grind (arith, nat_tests, more, high)
 
 pub breaks_off : (radix value d : ℕ) (ds : List ℕ) → 2 ≤ radix → with_digit radix value d ≡ None → digits_onto radix value (d ∷ ds) ≡ None
-unfolding with_digit digits_onto
+unfolding digits_onto
 breaks_off radix value d ds some e =
     none_by (is_digit d radix) (nat_lt (value * radix + digit_value d) (2 ^ 32)) (list_all (λ c. is_digit c radix) ds)
     (nat_lt (digits_value_after radix (value * radix + digit_value d) ds) (2 ^ 32))

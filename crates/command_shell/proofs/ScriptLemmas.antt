@@ -1,15 +1,18 @@
 -- How a script goes on after a line, where the lines of a block go with the line that opens it.
-use Rattle.std.proofs.Common.{◌≡◌, ℕ, ◌+◌, ◌≤◌, ◌<◌, length, Bool, true, false, List, [], ◌∷◌, ◌++◌, Some, None, sym, ap, ◌∙◌, append_assoc, add-zero, arith, refl}
+use Rattle.std.proofs.Common.{◌≡◌, ℕ, ◌+◌, ◌≤◌, ◌<◌, length, Bool, true, false, List, [], ◌∷◌, ◌++◌, Option, Some, None, sym, ap, ◌∙◌, append_assoc, add-zero, arith, refl}
 use Rattle.std.proofs.lemmas.List.{append-nil}
-use Rattle.std.specs.Prelude.{if◌then◌else◌}
+use Rattle.std.specs.Prelude.{if◌then◌else◌, IfSome}
+use Rattle.std.specs.Str.Lines.{lines}
+use Rattle.profile.specs.Sizes.{Sizes}
+use Rattle.profile.specs.declared.stop.Stop.{Stop}
 use Rattle.profile.proofs.OutputLemmas.{Completes-start, Completes-more, Completes-same, Appends-from_completes, AppendsFront-from_completes, AppendsFront-start}
 use Rattle.command_shell.specs.Blocks.{block_lines, after_block, block_size, lines_after, lines_taken}
 use Rattle.command_shell.specs.Requests.{Request, Nothing, Hex, Asm, Boot, Run, Regs, Set, Poke, Call, Load, Step, Break, Unbreak, Mem, Code, Heap, Areas, Modules, Flex, Unknown, opens_block, request_of, is_end}
 use Rattle.image_loader.specs.Entries.{Entry}
 use Rattle.command_shell.specs.declared.session.Session.{Session}
 use Rattle.command_shell.specs.Session.{script_state}
-use Rattle.command_shell.specs.Script.{OpenBlock, request_told, on_opened, on_request, in_block, lines_told}
-use Rattle.command_shell.specs.State.{ScriptState, Answered, answer, then_answered}
+use Rattle.command_shell.specs.Script.{OpenBlock, request_told, on_opened, on_request, in_block, lines_told, script_told}
+use Rattle.command_shell.specs.State.{ScriptState, Answered, answer, then_answered, start_state}
 
 -- an answer, and then the lines that are left
 after_told : Answered → ℕ → List (List ℕ) → Answered
@@ -140,8 +143,19 @@ fewer_left line all rest left r first stays = rw (first, stays) (omega (arith, l
 
 -- the images of a session's state
 pub state_images : (session : Session) (images : List Entry) → (script_state session images).images ≡ images
-unfolding script_state
 state_images session images = refl
+
+-- the last stop of a script that was read, by that of the state after its lines
+pub last_told : (o : Option (List ℕ)) (sizes : Sizes) (images : List Entry) (budget : ℕ) (read text : List ℕ) (first now : ScriptState) (last : Option Stop)
+    → IfSome o (λ script. read ≡ script) → text ≡ read → first ≡ start_state sizes images budget
+    → now ≡ (lines_told 0 first None (lines text)).state → last ≡ now.last
+    → IfSome o (λ script. last ≡ (script_told sizes images budget script).state.last)
+unfolding script_told
+last_told None sizes images budget read text first now last is same start after ends = tt
+last_told (Some script) sizes images budget read text first now last is same start after ends =
+    ends ∙ ap (λ (w : ScriptState). w.last) after
+    ∙ ap (λ (w : ScriptState). (lines_told 0 w None (lines text)).state.last) start
+    ∙ ap (λ (xs : List ℕ). (lines_told 0 (start_state sizes images budget) None (lines xs)).state.last) (same ∙ is)
 
 pub ruleset line_steps = (Completes-start, Completes-more, Completes-same, Appends-from_completes, AppendsFront-from_completes, text_step, state_step, text_end, state_end)
 

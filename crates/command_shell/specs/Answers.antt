@@ -9,27 +9,27 @@ use Rattle.profile.specs.declared.fault.Fault.TheVariants.{ErrorStop}
 use Rattle.profile.specs.FaultNames.{fault_name}
 
 -- a space and an address, in capitals without leading zeros
-unfoldable pub address_text : ℕ → List ℕ
+abbrev pub address_text : ℕ → List ℕ
 address_text address = codes " &" ++ hex_number address
 
 -- `? line n`, for a line outside the language
-unfoldable pub unknown_text : ℕ → List ℕ
+abbrev pub unknown_text : ℕ → List ℕ
 unknown_text number = codes "? line " ++ (decimal number ++ codes "\n")
 
 -- `hex name: n bytes`, and the like after `asm `
-unfoldable pub image_text : List ℕ → List ℕ → ℕ → List ℕ
+abbrev pub image_text : List ℕ → List ℕ → ℕ → List ℕ
 image_text word name len = word ++ (name ++ (codes ": " ++ (decimal len ++ codes " bytes\n")))
 
 -- `hex name: line k: Syntax`
-unfoldable pub line_refused_text : List ℕ → List ℕ → ℕ → List ℕ → List ℕ
+abbrev pub line_refused_text : List ℕ → List ℕ → ℕ → List ℕ → List ℕ
 line_refused_text word name line reason = word ++ (name ++ (codes ": line " ++ (decimal line ++ (codes ": " ++ (reason ++ codes "\n")))))
 
 -- `hex name: NameTaken`
-unfoldable pub image_refused_text : List ℕ → List ℕ → List ℕ → List ℕ
+abbrev pub image_refused_text : List ℕ → List ℕ → List ℕ → List ℕ
 image_refused_text word name reason = word ++ (name ++ (codes ": " ++ (reason ++ codes "\n")))
 
 -- `boot name`
-unfoldable pub boot_text : List ℕ → List ℕ
+abbrev pub boot_text : List ℕ → List ℕ
 boot_text name = codes "boot " ++ (name ++ codes "\n")
 
 -- `refused NoImage`
@@ -37,26 +37,26 @@ unfoldable pub refused_text : List ℕ → List ℕ
 refused_text reason = codes "refused " ++ (reason ++ codes "\n")
 
 -- `break &8004`, `unbreak &8004`
-unfoldable pub break_text : ℕ → List ℕ
+abbrev pub break_text : ℕ → List ℕ
 break_text address = codes "break" ++ (address_text address ++ codes "\n")
 
-unfoldable pub unbreak_text : ℕ → List ℕ
+abbrev pub unbreak_text : ℕ → List ℕ
 unbreak_text address = codes "unbreak" ++ (address_text address ++ codes "\n")
 
 -- `ok`
-unfoldable pub ok_text : List ℕ
+abbrev pub ok_text : List ℕ
 ok_text = codes "ok\n"
 
 -- `error n`
-unfoldable pub call_error_text : ℕ → List ℕ
+abbrev pub call_error_text : ℕ → List ℕ
 call_error_text number = codes "error " ++ (decimal number ++ codes "\n")
 
 -- `at &8004`
-unfoldable pub at_text : ℕ → List ℕ
+abbrev pub at_text : ℕ → List ℕ
 at_text pc = codes "at" ++ (address_text pc ++ codes "\n")
 
 -- some words, a number and the program counter
-unfoldable pub numbered_text : List ℕ → ℕ → ℕ → List ℕ
+abbrev pub numbered_text : List ℕ → ℕ → ℕ → List ℕ
 numbered_text words number pc = words ++ (decimal number ++ (address_text pc ++ codes "\n"))
 
 -- `stop OwnedWord &8004`, `stop ErrorStop 6 &8004`
@@ -65,13 +65,13 @@ fault_text (ErrorStop number) pc = numbered_text (codes "stop ErrorStop ") numbe
 fault_text fault pc = codes "stop " ++ (fault_name fault ++ (address_text pc ++ codes "\n"))
 
 -- A stop line: `stop Exit`, `stop Budget`, `stop Break &8004`, or that of a fault.
-unfoldable pub stop_text : Stop → ℕ → List ℕ
+abbrev pub stop_text : Stop → ℕ → List ℕ
 stop_text stop.Exit pc = codes "stop Exit\n"
 stop_text stop.Budget pc = codes "stop Budget\n"
 stop_text (stop.Break address) pc = codes "stop Break" ++ (address_text address ++ codes "\n")
 stop_text (stop.Fault fault) pc = fault_text fault pc
 
 -- What follows on the steps of a STEP line: where the machine stands if all of them could be taken and were, else the stop line.
-unfoldable pub stepped_text : Bool → Stop → ℕ → List ℕ
+abbrev pub stepped_text : Bool → Stop → ℕ → List ℕ
 stepped_text true stop.Budget pc = at_text pc
 stepped_text could_all stop pc = stop_text stop pc

@@ -25,7 +25,7 @@ abbrev pub stop_before_step : ScriptState → Option Stop
 stop_before_step s = stop_before_step_by s.machine.halt s.left
 
 -- what a call tells that came back: V says whether it was refused, and R0 points to the error then
-unfoldable pub call_text : MachineState → List ℕ
+abbrev pub call_text : MachineState → List ℕ
 call_text s = if s.cpu.psr.overflow then call_error_text (error_number s) else ok_text
 
 -- a stop line, which is the last one then

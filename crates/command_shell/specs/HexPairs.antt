@@ -4,7 +4,7 @@ use Rattle.std.specs.Prelude.{ℕ, ◌+◌, ◌*◌, ◌==◌, ◌&&◌, List, [
 use Rattle.std.specs.Char.{is_digit, digit_value}
 use Rattle.std.specs.Io.KnownBytes.{prepend_known}
 
-unfoldable pub pair_value : ℕ → ℕ → Option ℕ
+abbrev pub pair_value : ℕ → ℕ → Option ℕ
 pair_value high low = if is_digit high 16 && is_digit low 16 then Some (16 * digit_value high + digit_value low) else None
 
 abbrev pub onto_bytes : Option ℕ → Option (List ℕ) → Option (List ℕ)

@@ -32,7 +32,7 @@ abbrev pub hex_block : ScriptState → List ℕ → Result (List ℕ) ℕ → An
 hex_block s name (Err line) = answer s (line_refused_text (codes "hex ") name line (codes "Syntax"))
 hex_block s name (Ok bytes) = image_sized s (codes "hex ") name bytes
 
-unfoldable pub hex_told : ScriptState → List ℕ → List (List ℕ) → Answered
+abbrev pub hex_told : ScriptState → List ℕ → List (List ℕ) → Answered
 hex_told s name block =
     image_opened s (codes "hex ") name (hex_block s name (block_bytes 0 block)) (refusal_for s.images name 0)
 
@@ -41,7 +41,7 @@ abbrev pub asm_block : ScriptState → List ℕ → Result (List ℕ) AsmError �
 asm_block s name (Err e) = answer s (line_refused_text (codes "asm ") name e.line (reason_name e.reason))
 asm_block s name (Ok bytes) = image_sized s (codes "asm ") name bytes
 
-unfoldable pub asm_told : ScriptState → List ℕ → ℕ → List (List ℕ) → Answered
+abbrev pub asm_told : ScriptState → List ℕ → ℕ → List (List ℕ) → Answered
 asm_told s name origin block =
     image_opened s (codes "asm ") name (asm_block s name (means_lines block origin)) (refusal_for s.images name 0)
 
@@ -58,5 +58,5 @@ abbrev pub boot_found : ScriptState → List ℕ → Option (List ℕ) → Answe
 boot_found s name None = answer s (refused_text (codes "NoImage"))
 boot_found s name (Some program) = boot_done s name (booted s.sizes s.is_fresh s.machine program)
 
-unfoldable pub boot_told : ScriptState → List ℕ → Answered
+abbrev pub boot_told : ScriptState → List ℕ → Answered
 boot_told s name = boot_found s name (bytes_of s.images name)

@@ -16,5 +16,5 @@ abbrev pub poke_done : ScriptState → Result MachineState Fault → Answered
 poke_done s (Ok machine) = answer (record s { machine = machine; is_fresh = false }) []
 poke_done s (Err fault) = answer s (refused_text (fault_name fault))
 
-unfoldable pub poke_told : ScriptState → ℕ → ℕ → Answered
+abbrev pub poke_told : ScriptState → ℕ → ℕ → Answered
 poke_told s address value = poke_done s (poked s.machine address value)

@@ -12,10 +12,10 @@ number_in radix digits =
     then Some (digits_value radix digits) else None
 
 -- a number with one more digit behind it, where it stays below 2^32
-unfoldable pub with_digit : ℕ → ℕ → ℕ → Option ℕ
+abbrev pub with_digit : ℕ → ℕ → ℕ → Option ℕ
 with_digit radix value digit =
     if is_digit digit radix && nat_lt (value * radix + digit_value digit) (2 ^ 32) then Some (value * radix + digit_value digit) else None
 
-unfoldable pub number_of : List ℕ → Option ℕ
+abbrev pub number_of : List ℕ → Option ℕ
 number_of [] = None
 number_of (c ∷ rest) = if c == 38 then number_in 16 rest else number_in 10 (c ∷ rest)

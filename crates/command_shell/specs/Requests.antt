@@ -105,7 +105,7 @@ request_of_words (word ∷ first ∷ second ∷ []) = request_of_three word firs
 request_of_words (word ∷ first ∷ second ∷ third ∷ others) = Unknown
 
 -- LOAD has a text of a byte at least: all that follows its space, other spaces too.
-unfoldable pub is_load : List ℕ → Bool
+abbrev pub is_load : List ℕ → Bool
 is_load line = nat_lt 5 (length line) && is_word (take 5 line) (codes "LOAD ")
 
 unfoldable pub request_of : List ℕ → Request

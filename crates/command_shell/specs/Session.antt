@@ -5,7 +5,7 @@ use Rattle.debugger.specs.swi_dispatch.specs.Parts.{state_of}
 use Rattle.command_shell.specs.declared.session.Session.{Session}
 use Rattle.command_shell.specs.State.{ScriptState}
 
-unfoldable pub script_state : Session → List Entry → ScriptState
+abbrev pub script_state : Session → List Entry → ScriptState
 script_state s images = record {
   machine = state_of s.machine;
   is_fresh = s.machine.is_fresh;

@@ -13,7 +13,7 @@ run_done s r =
     answer (record s { machine = r.now; is_fresh = s.is_fresh && (s.left == 0); left = s.left - r.taken; last = Some r.stop })
     (r.printed ++ stop_text r.stop r.now.cpu.pc)
 
-unfoldable pub run_told : ScriptState → Answered
+abbrev pub run_told : ScriptState → Answered
 run_told s = run_done s (machine.ran s.images s.breaks s.left s.machine)
 
 -- STEP takes so many steps, or as many as are left.
@@ -27,7 +27,7 @@ step_done s count r =
     })
     (r.printed ++ stepped_text (nat_le count s.left) r.stop r.now.cpu.pc)
 
-unfoldable pub step_told : ScriptState → ℕ → Answered
+abbrev pub step_told : ScriptState → ℕ → Answered
 step_told s count = step_done s count (machine.ran s.images s.breaks (min count s.left) s.machine)
 
 -- BREAK and UNBREAK: what the breaks are then, or why they stay as they are.
@@ -40,8 +40,8 @@ abbrev pub breaks_changed : ScriptState → List ℕ → Result (List ℕ) Break
 breaks_changed s text (Ok breaks) = answer (record s { breaks = breaks }) text
 breaks_changed s text (Err error) = answer s (refused_text (break_error_name error))
 
-unfoldable pub break_told : ScriptState → ℕ → Answered
+abbrev pub break_told : ScriptState → ℕ → Answered
 break_told s address = breaks_changed s (break_text address) (with_break s.breaks address)
 
-unfoldable pub unbreak_told : ScriptState → ℕ → Answered
+abbrev pub unbreak_told : ScriptState → ℕ → Answered
 unbreak_told s address = breaks_changed s (unbreak_text address) (without_break s.breaks address)

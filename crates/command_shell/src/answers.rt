@@ -7,7 +7,6 @@ use itoa::Buffer;
 use profile::{Fault, HexText, Sink, Stop, WriteFault, push_all, push_parts};
 
 /// `? line n`: the line is outside the language.
-#[tactic(auto, unfolding(crate::specs::Answers::unknown_text))]
 pub fn tell_unknown<W: Sink>(sink: &mut W, line: usize) -> Result<(), WriteFault>
     ensures { Writes W.contents W.has_failed sink.old sink.new result (unknown_text line) }
 {
@@ -23,7 +22,6 @@ pub fn tell_unknown<W: Sink>(sink: &mut W, line: usize) -> Result<(), WriteFault
 }
 
 /// `hex name: n bytes`, or `asm ` in place of `hex `: the image was taken.
-#[tactic(auto, unfolding(crate::specs::Answers::image_text))]
 pub fn tell_image<W: Sink>(
     sink: &mut W,
     word: &[u8],
@@ -46,7 +44,6 @@ pub fn tell_image<W: Sink>(
 }
 
 /// `hex name: line k: Syntax`, and the like: that line of the block is refused.
-#[tactic(auto, unfolding(crate::specs::Answers::line_refused_text))]
 pub fn tell_line_refused<'t, W: Sink>(
     sink: &mut W,
     word: &'t [u8],
@@ -73,7 +70,6 @@ pub fn tell_line_refused<'t, W: Sink>(
 }
 
 /// `hex name: NameTaken`, and the like: the image was refused.
-#[tactic(auto, unfolding(crate::specs::Answers::image_refused_text))]
 pub fn tell_image_refused<W: Sink>(
     sink: &mut W,
     word: &[u8],
@@ -90,7 +86,6 @@ pub fn tell_image_refused<W: Sink>(
 }
 
 /// `boot name`: the program was copied.
-#[tactic(auto, unfolding(crate::specs::Answers::boot_text))]
 pub fn tell_boot<W: Sink>(sink: &mut W, name: &[u8]) -> Result<(), WriteFault>
     ensures { Writes W.contents W.has_failed sink.old sink.new result (boot_text name.now) }
 {
@@ -106,7 +101,6 @@ pub fn tell_refused<W: Sink>(sink: &mut W, reason: &[u8]) -> Result<(), WriteFau
 }
 
 /// `break &8004`: a run stops there from now on.
-#[tactic(auto, unfolding(crate::specs::Answers::break_text, crate::specs::Answers::address_text))]
 pub fn tell_break<W: Sink>(sink: &mut W, address: u32) -> Result<(), WriteFault>
     ensures { Writes W.contents W.has_failed sink.old sink.new result (break_text address) }
 {
@@ -121,7 +115,6 @@ pub fn tell_break<W: Sink>(sink: &mut W, address: u32) -> Result<(), WriteFault>
 }
 
 /// `unbreak &8004`: a run doesn't stop there any more.
-#[tactic(auto, unfolding(crate::specs::Answers::unbreak_text, crate::specs::Answers::address_text))]
 pub fn tell_unbreak<W: Sink>(sink: &mut W, address: u32) -> Result<(), WriteFault>
     ensures { Writes W.contents W.has_failed sink.old sink.new result (unbreak_text address) }
 {
@@ -136,7 +129,6 @@ pub fn tell_unbreak<W: Sink>(sink: &mut W, address: u32) -> Result<(), WriteFaul
 }
 
 /// `ok`: the store call succeeded.
-#[tactic(auto, unfolding(crate::specs::Answers::ok_text))]
 pub fn tell_ok<W: Sink>(sink: &mut W) -> Result<(), WriteFault>
     ensures { Writes W.contents W.has_failed sink.old sink.new result ok_text }
 {
@@ -144,7 +136,6 @@ pub fn tell_ok<W: Sink>(sink: &mut W) -> Result<(), WriteFault>
 }
 
 /// `error n`: the store call was refused with that error.
-#[tactic(auto, unfolding(crate::specs::Answers::call_error_text))]
 pub fn tell_error<W: Sink>(sink: &mut W, number: u32) -> Result<(), WriteFault>
     ensures { Writes W.contents W.has_failed sink.old sink.new result (call_error_text number) }
 {
@@ -160,7 +151,6 @@ pub fn tell_error<W: Sink>(sink: &mut W, number: u32) -> Result<(), WriteFault>
 }
 
 /// `at &8004`: the steps are taken, and the machine stands there.
-#[tactic(auto, unfolding(crate::specs::Answers::at_text, crate::specs::Answers::address_text))]
 pub fn tell_at<W: Sink>(sink: &mut W, pc: u32) -> Result<(), WriteFault>
     ensures { Writes W.contents W.has_failed sink.old sink.new result (at_text pc) }
 {
@@ -176,7 +166,6 @@ pub fn tell_at<W: Sink>(sink: &mut W, pc: u32) -> Result<(), WriteFault>
 
 /// A stop line: `stop Exit`, `stop Budget`, `stop Break &8004`, `stop OwnedWord &8004`,
 /// `stop ErrorStop 6 &8004`. After a fault stands the program counter.
-#[tactic(auto, unfolding(crate::specs::Answers::stop_text, crate::specs::Answers::address_text))]
 pub fn tell_stop<W: Sink>(sink: &mut W, stop: Stop, pc: u32) -> Result<(), WriteFault>
     ensures { Writes W.contents W.has_failed sink.old sink.new result (stop_text stop pc) }
 {
@@ -197,7 +186,6 @@ pub fn tell_stop<W: Sink>(sink: &mut W, stop: Stop, pc: u32) -> Result<(), Write
 
 /// What follows on the steps of a STEP line: where the machine stands, if all of them could be taken
 /// and were, else the stop line.
-#[tactic(auto, unfolding(crate::specs::Answers::stepped_text))]
 pub fn tell_stepped<W: Sink>(
     sink: &mut W,
     could_all: bool,
@@ -212,7 +200,6 @@ pub fn tell_stepped<W: Sink>(
     }
 }
 
-#[tactic(auto, unfolding(crate::specs::Answers::numbered_text, crate::specs::Answers::address_text))]
 fn tell_numbered<W: Sink>(
     sink: &mut W,
     words: &[u8],
@@ -234,7 +221,6 @@ fn tell_numbered<W: Sink>(
     )
 }
 
-#[tactic(auto, unfolding(crate::specs::Answers::address_text))]
 fn tell_fault<W: Sink>(sink: &mut W, fault: Fault, pc: u32) -> Result<(), WriteFault>
     ensures { Writes W.contents W.has_failed sink.old sink.new result (fault_text fault pc) }
 {

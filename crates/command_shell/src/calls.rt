@@ -82,7 +82,6 @@ impl Session {
     }
 
     // Why no step can be taken, if none can.
-    #[tactic(auto, unfolding(crate::specs::Session::script_state))]
     fn stop_before_step(&self) -> Option<Stop>
         ensures { (images : List Entry) → result ≡ stop_before_step (script_state self.now images) }
     {
@@ -93,7 +92,6 @@ impl Session {
     }
 
     // Tells a stop, which is the last one then.
-    #[tactic(auto, unfolding(crate::specs::Session::script_state))]
     fn stopped<W: Sink>(&mut self, sink: &mut W, stop: Stop) -> Result<(), WriteFault>
         ensures told { (images : List Entry) → OnOk result (IsAnswered (W.contents sink.old) (W.contents sink.new)
             (script_state self.new images)
@@ -126,7 +124,6 @@ impl Session {
     }
 
     // The first step of a call.
-    #[tactic(auto, unfolding(crate::specs::Session::script_state))]
     fn begin_call<W: Sink>(
         &mut self,
         images: &Images,
@@ -169,7 +166,7 @@ impl Session {
     }
 
     // Why a call that is under way goes no further, if it does not. So many frames were open before it.
-    #[tactic(auto, unfolding(crate::specs::Calls::call_end, crate::specs::Session::script_state))]
+    #[tactic(auto, unfolding(crate::specs::Calls::call_end))]
     fn call_end(&self, frames: usize) -> Option<CallEnd>
         ensures { (images : List Entry) → result ≡ call_end (script_state self.now images) frames }
     {
@@ -202,7 +199,6 @@ impl Session {
     }
 
     // A step of a call that is under way.
-    #[tactic(auto, unfolding(crate::specs::Session::script_state))]
     fn take_step<W: Sink>(&mut self, images: &Images, sink: &mut W) -> Result<(), WriteFault>
         requires { 0 < self.old.left }
         ensures state { OnOk result (script_state self.new images.now
@@ -218,7 +214,6 @@ impl Session {
     }
 
     // Counts the step that the machine has just taken, and writes what it printed.
-    #[tactic(auto, unfolding(crate::specs::Session::script_state))]
     fn count_step<W: Sink>(&mut self, sink: &mut W, halt: Option<Stop>) -> Result<(), WriteFault>
         requires left { 0 < self.old.left }
         requires halt { halt ≡ option_map stop_of (state_of self.old.machine).halt }
@@ -235,7 +230,6 @@ impl Session {
     }
 
     // How a call ended that came back.
-    #[tactic(auto, unfolding(crate::specs::Calls::call_text))]
     fn tell_call<W: Sink>(&self, sink: &mut W) -> Result<(), WriteFault>
         ensures { Writes W.contents W.has_failed sink.old sink.new result
             (call_text (state_of self.now.machine)) }

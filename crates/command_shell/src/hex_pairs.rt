@@ -27,7 +27,6 @@ pub fn append_spelled(bytes: &mut Vec<u8>, line: &[u8]) -> Result<bool, AllocErr
     Ok(true)
 }
 
-#[tactic(auto, unfolding(crate::specs::HexPairs::pair_value))]
 fn pair(high: u8, low: u8) -> Option<u8>
     ensures { result ≡ pair_value high low }
 {

@@ -21,7 +21,6 @@ impl Session {
     ghost use Rattle.command_shell.specs.State.{IsAnswered};
 
     /// Reads the block of a HEX line, and adds its image.
-    #[tactic(auto, unfolding(crate::specs::Images::hex_told, crate::specs::Session::script_state))]
     pub(crate) fn hex<W: Sink>(
         &self,
         images: &mut Images,
@@ -48,7 +47,6 @@ impl Session {
     }
 
     // The answer to a block that was read.
-    #[tactic(auto, unfolding(crate::specs::Session::script_state))]
     fn hex_block<W: Sink>(
         &self,
         images: &mut Images,
@@ -71,7 +69,7 @@ impl Session {
     }
 
     /// Assembles the block of an ASM line, and adds its image.
-    #[tactic(auto, using(crate::proofs::BlockLemmas::block_is_front), unfolding(crate::specs::Images::asm_told, crate::specs::Session::script_state))]
+    #[tactic(auto, using(crate::proofs::BlockLemmas::block_is_front))]
     pub(crate) fn asm<W: Sink>(
         &self,
         images: &mut Images,
@@ -101,7 +99,6 @@ impl Session {
     }
 
     // The answer to a block that was assembled.
-    #[tactic(auto, unfolding(crate::specs::Session::script_state))]
     fn asm_block<W: Sink>(
         &self,
         images: &mut Images,
@@ -132,7 +129,6 @@ impl Session {
     }
 
     // Adds the image of a block without fault; `word` begins the answer.
-    #[tactic(auto, unfolding(crate::specs::Session::script_state))]
     fn add_image<W: Sink>(
         &self,
         images: &mut Images,
@@ -157,7 +153,6 @@ impl Session {
     }
 
     /// Copies an image to the start of the machine.
-    #[tactic(auto, unfolding(crate::specs::Images::boot_told, crate::specs::Session::script_state))]
     pub(crate) fn boot<W: Sink>(
         &mut self,
         images: &Images,

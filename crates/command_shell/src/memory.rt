@@ -14,7 +14,6 @@ impl Session {
     ghost use Rattle.command_shell.specs.State.{IsAnswered};
 
     /// Sets a register of the present mode.
-    #[tactic(auto, unfolding(crate::specs::Session::script_state))]
     pub(crate) fn set(&mut self, register: Register, value: u32)
         ensures { (images : List Entry)
             → script_state self.new images ≡ (set_told (script_state self.old images) register value).state }
@@ -23,7 +22,6 @@ impl Session {
     }
 
     /// Stores a word as a guest's store would, or tells the fault.
-    #[tactic(auto, unfolding(crate::specs::Memory::poke_told, crate::specs::Session::script_state))]
     pub(crate) fn poke<W: Sink>(
         &mut self,
         sink: &mut W,

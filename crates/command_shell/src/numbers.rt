@@ -3,7 +3,6 @@ ghost use Rattle.command_shell.specs.Numbers.{number_in, number_of, with_digit};
 
 /// The number that a word spells: decimal digits, or `&` and hexadecimal digits in either case. None
 /// for a word without digits, with anything else in it, or of a value of 2^32 and more.
-#[tactic(auto, unfolding(crate::specs::Numbers::number_of))]
 pub fn number_of(word: &[u8]) -> Option<u32>
     ensures { result ≡ number_of word.now }
 {
@@ -32,7 +31,6 @@ fn number_in(digits: &[u8], radix: u32) -> Option<u32>
 }
 
 // One more digit behind a number, if that is still below 2^32.
-#[tactic(auto, unfolding(crate::specs::Numbers::with_digit))]
 fn with_digit(value: u32, digit: u8, radix: u32) -> Option<u32>
     requires low { 2 ≤ radix }
     requires high { radix ≤ 36 }

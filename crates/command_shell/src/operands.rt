@@ -25,7 +25,6 @@ impl Model for Register {
 
 impl Register {
     /// The register of that name, `R0` to `R14`.
-    #[tactic(auto, unfolding(crate::specs::Operands::register_named))]
     pub fn named(word: &[u8]) -> Option<Register>
         ensures { result ≡ register_named word.now }
     {
@@ -67,7 +66,6 @@ impl Model for WordAddress {
 
 impl WordAddress {
     /// The address that a number spells, if it is a multiple of 4.
-    #[tactic(auto, unfolding(crate::specs::Operands::word_address))]
     pub fn spelled(word: &[u8]) -> Option<WordAddress>
         ensures { result ≡ word_address word.now }
     {
@@ -105,7 +103,6 @@ impl Model for Origin {
 
 impl Origin {
     /// The origin that a number spells, if it is one.
-    #[tactic(auto, unfolding(crate::specs::Operands::origin_of))]
     pub fn spelled(word: &[u8]) -> Option<Origin>
         ensures { result ≡ origin_of word.now }
     {
@@ -127,7 +124,6 @@ impl Origin {
 }
 
 /// The number that a word spells, if it is from 1 to `most`.
-#[tactic(auto, unfolding(crate::specs::Operands::count_up_to))]
 pub fn count_up_to(most: u32, word: &[u8]) -> Option<u32>
     ensures { result ≡ count_up_to most word.now }
 {

@@ -76,7 +76,6 @@ pub fn command_of(line: &[u8]) -> Command<'_>
 }
 
 // Whether the line is LOAD with a text.
-#[tactic(auto, unfolding(crate::specs::Requests::is_load))]
 fn is_load(line: &[u8]) -> bool
     ensures value { result ≡ is_load line.now }
     ensures long { result ≡ true → 5 < length line.now }

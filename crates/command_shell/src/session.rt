@@ -31,7 +31,7 @@ impl Session {
     ghost use Rattle.command_shell.specs.State.{IsAnswered, start_state};
 
     /// A fresh machine of these sizes, and the whole budget.
-    #[tactic(auto, unfolding(crate::specs::Session::script_state, crate::specs::State::start_state))]
+    #[tactic(auto, unfolding(crate::specs::State::start_state))]
     pub fn new(alloc: Global, config: Config, budget: u64) -> Result<Session, AllocError>
         ensures { IfOk result (λ session. (images : List Entry)
             → script_state session images ≡ start_state config images budget) }
@@ -47,7 +47,6 @@ impl Session {
     }
 
     /// The last stop that a line was answered with.
-    #[tactic(auto, unfolding(crate::specs::Session::script_state))]
     pub fn last(&self) -> Option<Stop>
         ensures { (images : List Entry) → result ≡ (script_state self.now images).last }
     {

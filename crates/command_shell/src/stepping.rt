@@ -16,7 +16,6 @@ impl Session {
     ghost use Rattle.command_shell.specs.Stepping.{run_told, step_told, break_told, unbreak_told};
 
     /// Takes all the steps that are left, and tells the stop.
-    #[tactic(auto, unfolding(crate::specs::Stepping::run_told, crate::specs::Session::script_state))]
     pub(crate) fn run<W: Sink>(&mut self, images: &Images, sink: &mut W) -> Result<(), WriteFault>
         ensures told { OnOk result (IsAnswered (W.contents sink.old) (W.contents sink.new)
             (script_state self.new images.now)
@@ -31,7 +30,6 @@ impl Session {
     }
 
     /// Takes so many steps, or as many as are left, and tells where the machine stands.
-    #[tactic(auto, unfolding(crate::specs::Stepping::step_told, crate::specs::Session::script_state))]
     pub(crate) fn step<W: Sink>(
         &mut self,
         images: &Images,
@@ -53,7 +51,6 @@ impl Session {
     }
 
     /// Adds a break.
-    #[tactic(auto, unfolding(crate::specs::Stepping::break_told, crate::specs::Session::script_state))]
     pub(crate) fn add_break<W: Sink>(
         &mut self,
         sink: &mut W,
@@ -72,7 +69,6 @@ impl Session {
     }
 
     /// Takes a break away.
-    #[tactic(auto, unfolding(crate::specs::Stepping::unbreak_told, crate::specs::Session::script_state))]
     pub(crate) fn remove_break<W: Sink>(
         &mut self,
         sink: &mut W,

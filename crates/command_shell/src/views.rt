@@ -17,7 +17,6 @@ impl Session {
     ghost use Rattle.command_shell.specs.Views.{regs_told, mem_told, code_told, heap_told, areas_told, modules_told, flex_told};
 
     /// Shows the registers of the present mode and the status.
-    #[tactic(auto, unfolding(crate::specs::Session::script_state))]
     pub(crate) fn regs<W: Sink>(&self, sink: &mut W) -> Result<(), WriteFault>
         ensures told { (images : List Entry) → OnOk result (IsAnswered (W.contents sink.old) (W.contents sink.new)
             (script_state self.now images)
@@ -29,7 +28,6 @@ impl Session {
     }
 
     /// Shows so many bytes of memory.
-    #[tactic(auto, unfolding(crate::specs::Session::script_state))]
     pub(crate) fn mem<W: Sink>(
         &self,
         sink: &mut W,
@@ -46,7 +44,6 @@ impl Session {
     }
 
     /// Shows so many words of memory as instructions.
-    #[tactic(auto, unfolding(crate::specs::Session::script_state))]
     pub(crate) fn code<W: Sink>(
         &self,
         sink: &mut W,
@@ -63,7 +60,7 @@ impl Session {
     }
 
     /// Shows the heap that starts at an address, if one does.
-    #[tactic(auto, using(crate::proofs::ViewLemmas::heap_steps), unfolding(crate::specs::Session::script_state))]
+    #[tactic(auto, using(crate::proofs::ViewLemmas::heap_steps))]
     pub(crate) fn heap<W: Sink>(&self, sink: &mut W, address: u32) -> Result<(), WriteFault>
         ensures told { (images : List Entry) → OnOk result (IsAnswered (W.contents sink.old) (W.contents sink.new)
             (script_state self.now images)
@@ -78,7 +75,6 @@ impl Session {
     }
 
     /// Shows all areas, and what is left in the pool.
-    #[tactic(auto, unfolding(crate::specs::Session::script_state))]
     pub(crate) fn areas<W: Sink>(&self, sink: &mut W) -> Result<(), WriteFault>
         ensures told { (images : List Entry) → OnOk result (IsAnswered (W.contents sink.old) (W.contents sink.new)
             (script_state self.now images)
@@ -90,7 +86,6 @@ impl Session {
     }
 
     /// Shows all modules and their instances.
-    #[tactic(auto, unfolding(crate::specs::Session::script_state))]
     pub(crate) fn modules<W: Sink>(&self, sink: &mut W) -> Result<(), WriteFault>
         ensures told { (images : List Entry) → OnOk result (IsAnswered (W.contents sink.old) (W.contents sink.new)
             (script_state self.now images)
@@ -102,7 +97,7 @@ impl Session {
     }
 
     /// Shows the flex store and its blocks, if there is one.
-    #[tactic(auto, using(crate::proofs::ViewLemmas::flex_steps), unfolding(crate::specs::Session::script_state))]
+    #[tactic(auto, using(crate::proofs::ViewLemmas::flex_steps))]
     pub(crate) fn flex<W: Sink>(&self, sink: &mut W) -> Result<(), WriteFault>
         ensures told { (images : List Entry) → OnOk result (IsAnswered (W.contents sink.old) (W.contents sink.new)
             (script_state self.now images)

@@ -6,7 +6,6 @@ use Rattle.command_shell.proofs.CallLemmas.{can_step, call_refused, call_allowed
 use Rattle.command_shell.proofs.session.Session.call.Goals as goal
 
 pub complete-requires : goal.complete-requires
-unfolding script_state
 complete-requires g c =
     let w = script_state c.args.self.now c.args.images.now in
     can_step w.machine.halt w.left (sym (c.stop_before_step.ensures c.args.images.now) ∙ c.in-None.is)
@@ -22,7 +21,6 @@ returns-in-Some-clause-told g c =
     (call_refused w first end (sym (c.stop_before_step.ensures images) ∙ c.in-Some.is)) (c.stopped.ensures.told images)
 
 pub returns-in-None-clause-told : goal.returns-in-None-clause-told
-unfolding script_state
 returns-in-None-clause-told g c =
     let images = c.args.images.now in
     let w = script_state c.args.self.now images in

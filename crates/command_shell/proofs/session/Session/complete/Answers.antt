@@ -6,7 +6,6 @@ use Rattle.command_shell.proofs.AnswerLemmas.{tells_then}
 use Rattle.command_shell.proofs.session.Session.complete.Goals as goal
 
 pub returns-clause-told : goal.returns-clause-told
-unfolding script_state
 returns-clause-told g c =
     let images = c.args.images.now in
     let w = script_state c.args.self.now images in

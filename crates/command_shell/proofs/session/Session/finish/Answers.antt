@@ -14,20 +14,17 @@ returns-in-Some-clause-told g c =
     c.loop-end.invariant.text c.loop-end.invariant.state (sym (c.call_end.ensures images) ∙ c.in-Some.is) (c.tell_end.ensures.told images)
 
 pub take_step-requires : goal.take_step-requires
-unfolding script_state
 take_step-requires g c =
     let images = c.args.images.now in
     goes_left (script_state c.loop-end.self images) c.args.frames (sym (c.call_end.ensures images) ∙ c.in-None.is)
 
 pub loop-end-smaller : goal.loop-end-smaller
-unfolding script_state
 loop-end-smaller g c =
     let images = c.args.images.now in
     fewer_steps c.args.frames (script_state c.loop-end.self images) (script_state c.take_step.new.self images)
     (sym (c.call_end.ensures images) ∙ c.in-None.is) c.in_ok-take_step-in-None.ensures.state
 
 pub loop-end-preserved : goal.loop-end-preserved
-unfolding script_state
 loop-end-preserved g c =
     let images = c.args.images.now in
     let start = script_state c.args.self.now images in

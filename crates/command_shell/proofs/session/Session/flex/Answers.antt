@@ -1,5 +1,5 @@
 use Rattle.std.proofs.Common.{◌≡◌, ℕ, false, List, [], sym, ap, ◌∙◌, refl, subst}
-use Rattle.std.specs.Prelude.{codes, is_some, unwrap_or}
+use Rattle.std.specs.Prelude.{codes, is_some}
 use Rattle.std.specs.Io.KnownBytes.{Appends}
 use Rattle.debugger.specs.address_map.specs.Memory.{bytes_of}
 use Rattle.debugger.specs.flex_store.specs.State.{IsFlex}
@@ -18,7 +18,6 @@ show_flex-requires g c =
     subst (λ (f : Flex). IsFlex c.memory.result.now f) (sym c.flex.ensures.value) c.memory.ensures.flex
 
 pub returns-clause-told : goal.returns-clause-told
-unfolding script_state
 returns-clause-told g c images =
     let s = script_state c.args.self.now images in
     let b = bytes_of c.memory.result.now in

@@ -11,7 +11,6 @@ use Rattle.command_shell.proofs.ViewLemmas.{heap_missing, nothing_shown}
 use Rattle.command_shell.proofs.session.Session.heap.Goals as goal
 
 pub returns-clause-told : goal.returns-clause-told
-unfolding script_state
 returns-clause-told g c images =
     let s = script_state c.args.self.now images in
     let shown = c.in_ok-show_blocks.ensures in

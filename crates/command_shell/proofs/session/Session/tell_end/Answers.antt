@@ -6,7 +6,6 @@ use Rattle.command_shell.proofs.AnswerLemmas.{tells_same, tells_text}
 use Rattle.command_shell.proofs.session.Session.tell_end.Goals as goal
 
 pub returns-in-Returned-clause-told : goal.returns-in-Returned-clause-told
-unfolding script_state
 returns-in-Returned-clause-told g c images =
     let w = script_state c.args.self.now images in
     let from = g.W.Sink.contents c.args.sink.now in
