@@ -1,0 +1,6 @@
+pub use Rattle.text_lines
+pub mod Blocks
+pub mod HexPairs
+pub mod Numbers
+pub mod Operands
+pub mod Requests

@@ -1,0 +1,17 @@
+//! The lines of a script: reading them, and what each asks for. It knows no machine.
+#![tactic(auto)]
+
+mod blocks;
+mod error;
+mod hex_pairs;
+mod numbers;
+mod operands;
+mod reading;
+mod requests;
+
+pub use blocks::{Block, read_block, skip_block};
+pub use error::ReadingError;
+pub use operands::{Origin, Register, WordAddress};
+pub use reading::read_script;
+pub use requests::{Command, command_of};
+pub use text_lines;

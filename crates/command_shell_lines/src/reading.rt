@@ -1,0 +1,38 @@
+ghost use Rattle.std.specs.Prelude.{◌≡◌, ◌≤◌, ◌<◌, true, length, IfOk, IfSome};
+
+use crate::error::ReadingError;
+use profile::Source;
+use profile::memory_map::MOST_BYTES;
+use std::alloc::Global;
+
+const CHUNK: usize = 4096;
+
+/// Reads a script to its end, in at most 1,048,577 pulls: each but the last gives a byte at least,
+/// and that many bytes are too many.
+///
+/// # Errors
+///
+/// `Memory`, `ReadFault`, and `ScriptTooLong` past 1,048,576 bytes.
+#[tactic(auto, using(crate::proofs::ReadLemmas::read_steps))]
+pub fn read_script<R: Source>(alloc: Global, reader: &mut R) -> Result<Vec<u8>, ReadingError>
+    ensures bytes { IfOk result (λ script. IfSome (R.remaining reader.old) (λ told. script.items ≡ told)) }
+    ensures in_limit { IfOk result (λ script. length script.items ≤ 1048576) }
+    ensures told { R.has_failed reader.new ≡ true → result ≡ Err ReadingError.ReadFault }
+    ensures read_fault { result ≡ Err ReadingError.ReadFault → R.has_failed reader.new ≡ true }
+    ensures too_long { result ≡ Err ReadingError.ScriptTooLong
+        → IfSome (R.remaining reader.old) (λ told. 1048576 < length told) }
+{
+    let mut script = Vec::new(alloc);
+    let mut chunk = [0u8; CHUNK];
+    for _pulls in 0..MOST_BYTES + 1 {
+        let count = reader.pull(&mut chunk)?;
+        if count == 0 {
+            return Ok(script);
+        }
+        script.extend_from_slice(&chunk[..count])?;
+        if script.len() > MOST_BYTES {
+            return Err(ReadingError::ScriptTooLong);
+        }
+    }
+    Err(ReadingError::ScriptTooLong)
+}

@@ -1,0 +1,275 @@
+ghost use Rattle.std.specs.Prelude.{◌≡◌, ◌<◌, true, [], ◌∷◌, length};
+ghost use Rattle.command_shell_lines.specs.Numbers.{number_of};
+ghost use Rattle.command_shell_lines.specs.Operands.{register_named, word_address, origin_of, count_up_to};
+ghost use Rattle.command_shell_lines.specs.Requests.{Hex, Boot, Set, Poke, Mem, Code};
+ghost use Rattle.command_shell_lines.specs.Requests.{is_word, is_end, is_load, words, named, named_at, both_numbered};
+ghost use Rattle.command_shell_lines.specs.Requests.{request_of, request_of_word, request_of_number, request_of_two};
+ghost use Rattle.command_shell_lines.specs.Requests.{request_of_three, request_of_words, request_of_command};
+ghost use Rattle.image_loader.specs.Entries.{is_name};
+
+use crate::numbers::number_of;
+use crate::operands::{Origin, Register, WordAddress, count_up_to};
+use image_loader::is_image_name;
+use text_lines::cut;
+
+/// The most bytes of memory that a line shows.
+const MAX_BYTES_SHOWN: u32 = 4096;
+
+/// The most words that a line shows as instructions.
+const MAX_WORDS_SHOWN: u32 = 1024;
+
+/// What a line begins with that loads a module.
+const LOAD: &[u8] = b"LOAD ";
+
+/// What a line of a script asks for.
+#[derive(Clone, Copy, Debug)]
+pub enum Command<'a> {
+    /// An empty line.
+    Nothing,
+    /// `HEX name`, which opens a block.
+    Hex(&'a [u8]),
+    /// `ASM name origin`, which opens a block.
+    Asm(&'a [u8], Origin),
+    /// `BOOT name`.
+    Boot(&'a [u8]),
+    /// `RUN`.
+    Run,
+    /// `REGS`.
+    Regs,
+    /// `SET Rn v`.
+    Set(Register, u32),
+    /// `POKE a v`.
+    Poke(WordAddress, u32),
+    /// `CALL n`.
+    Call(u32),
+    /// `LOAD text`, with a text of a byte at least.
+    Load(&'a [u8]),
+    /// `STEP n`.
+    Step(u32),
+    /// `BREAK a`.
+    Break(u32),
+    /// `UNBREAK a`.
+    Unbreak(u32),
+    /// `MEM a n`, of 1 to 4096 bytes.
+    Mem(u32, u32),
+    /// `CODE a n`, of 1 to 1024 words.
+    Code(WordAddress, u32),
+    /// `HEAP a`.
+    Heap(u32),
+    /// `AREAS`.
+    Areas,
+    /// `MODULES`.
+    Modules,
+    /// `FLEX`.
+    Flex,
+    /// Any other line.
+    Unknown,
+}
+
+/// Reads a line. Words are parted by single spaces, but the text of LOAD is all that follows; a
+/// command may be in upper or lower case.
+pub fn command_of(line: &[u8]) -> Command<'_>
+    ensures { request_of_command result ≡ request_of line.now }
+{
+    if is_load(line) {
+        Command::Load(&line[LOAD.len()..])
+    } else {
+        command_of_line(line)
+    }
+}
+
+// Whether the line is LOAD with a text.
+fn is_load(line: &[u8]) -> bool
+    ensures value { result ≡ is_load line.now }
+    ensures long { result ≡ true → 5 < length line.now }
+{
+    line.len() > LOAD.len() && has_letters(&line[..LOAD.len()], LOAD)
+}
+
+// A line of words.
+fn command_of_line(line: &[u8]) -> Command<'_>
+    ensures { request_of_command result ≡ request_of_words (words line.now) }
+{
+    let (word, rest) = cut(line, b' ');
+    match rest {
+        Some(rest) => command_of_words(word, rest),
+        None => command_of_word(word),
+    }
+}
+
+/// Whether the line ends a block.
+pub fn is_block_end(line: &[u8]) -> bool
+    ensures { result ≡ is_end line.now }
+{
+    has_letters(line, b"END")
+}
+
+fn command_of_word(word: &[u8]) -> Command<'static>
+    ensures { request_of_command result ≡ request_of_word word.now }
+{
+    if word.is_empty() {
+        Command::Nothing
+    } else if has_letters(word, b"RUN") {
+        Command::Run
+    } else if has_letters(word, b"REGS") {
+        Command::Regs
+    } else if has_letters(word, b"AREAS") {
+        Command::Areas
+    } else if has_letters(word, b"MODULES") {
+        Command::Modules
+    } else if has_letters(word, b"FLEX") {
+        Command::Flex
+    } else {
+        Command::Unknown
+    }
+}
+
+fn command_of_words<'a>(word: &[u8], rest: &'a [u8]) -> Command<'a>
+    ensures { request_of_command result ≡ request_of_words (word.now ∷ words rest.now) }
+{
+    let (other, more) = cut(rest, b' ');
+    match more {
+        Some(more) => command_of_more(word, other, more),
+        None => command_of_two(word, other),
+    }
+}
+
+fn command_of_more<'a>(word: &[u8], first: &'a [u8], rest: &[u8]) -> Command<'a>
+    ensures { request_of_command result ≡ request_of_words (word.now ∷ first.now ∷ words rest.now) }
+{
+    let (second, more) = cut(rest, b' ');
+    match more {
+        Some(_) => Command::Unknown,
+        None => command_of_three(word, first, second),
+    }
+}
+
+fn command_of_two<'a>(word: &[u8], other: &'a [u8]) -> Command<'a>
+    ensures { request_of_command result ≡ request_of_two word.now other.now }
+{
+    if has_letters(word, b"HEX") {
+        hex_command(other)
+    } else if has_letters(word, b"BOOT") {
+        boot_command(other)
+    } else {
+        match number_of(other) {
+            Some(number) => command_of_number(word, number),
+            None => Command::Unknown,
+        }
+    }
+}
+
+fn command_of_number(word: &[u8], number: u32) -> Command<'static>
+    ensures { request_of_command result ≡ request_of_number word.now number }
+{
+    if has_letters(word, b"CALL") {
+        Command::Call(number)
+    } else if has_letters(word, b"STEP") {
+        Command::Step(number)
+    } else if has_letters(word, b"BREAK") {
+        Command::Break(number)
+    } else if has_letters(word, b"UNBREAK") {
+        Command::Unbreak(number)
+    } else if has_letters(word, b"HEAP") {
+        Command::Heap(number)
+    } else {
+        Command::Unknown
+    }
+}
+
+fn command_of_three<'a>(word: &[u8], first: &'a [u8], second: &[u8]) -> Command<'a>
+    ensures { request_of_command result ≡ request_of_three word.now first.now second.now }
+{
+    if has_letters(word, b"ASM") {
+        asm_command(first, second)
+    } else if has_letters(word, b"SET") {
+        set_command(first, second)
+    } else if has_letters(word, b"POKE") {
+        poke_command(first, second)
+    } else if has_letters(word, b"MEM") {
+        mem_command(first, second)
+    } else if has_letters(word, b"CODE") {
+        code_command(first, second)
+    } else {
+        Command::Unknown
+    }
+}
+
+fn hex_command(name: &[u8]) -> Command<'_>
+    ensures { request_of_command result ≡ named (is_name name.now) (Hex name.now) }
+{
+    if is_image_name(name) {
+        Command::Hex(name)
+    } else {
+        Command::Unknown
+    }
+}
+
+fn asm_command<'a>(name: &'a [u8], origin: &[u8]) -> Command<'a>
+    ensures { request_of_command result ≡ named_at (is_name name.now) name.now (origin_of origin.now) }
+{
+    match Origin::spelled(origin) {
+        Some(origin) if is_image_name(name) => Command::Asm(name, origin),
+        _ => Command::Unknown,
+    }
+}
+
+fn boot_command(name: &[u8]) -> Command<'_>
+    ensures { request_of_command result ≡ named (is_name name.now) (Boot name.now) }
+{
+    if is_image_name(name) {
+        Command::Boot(name)
+    } else {
+        Command::Unknown
+    }
+}
+
+fn set_command(register: &[u8], value: &[u8]) -> Command<'static>
+    ensures { request_of_command result
+        ≡ both_numbered (register_named register.now) (number_of value.now) Set }
+{
+    match (Register::named(register), number_of(value)) {
+        (Some(register), Some(value)) => Command::Set(register, value),
+        _ => Command::Unknown,
+    }
+}
+
+fn poke_command(address: &[u8], value: &[u8]) -> Command<'static>
+    ensures { request_of_command result
+        ≡ both_numbered (word_address address.now) (number_of value.now) Poke }
+{
+    match (WordAddress::spelled(address), number_of(value)) {
+        (Some(address), Some(value)) => Command::Poke(address, value),
+        _ => Command::Unknown,
+    }
+}
+
+fn mem_command(address: &[u8], count: &[u8]) -> Command<'static>
+    ensures { request_of_command result
+        ≡ both_numbered (number_of address.now) (count_up_to 4096 count.now) Mem }
+{
+    match (number_of(address), count_up_to(MAX_BYTES_SHOWN, count)) {
+        (Some(address), Some(count)) => Command::Mem(address, count),
+        _ => Command::Unknown,
+    }
+}
+
+fn code_command(address: &[u8], count: &[u8]) -> Command<'static>
+    ensures { request_of_command result
+        ≡ both_numbered (word_address address.now) (count_up_to 1024 count.now) Code }
+{
+    match (
+        WordAddress::spelled(address),
+        count_up_to(MAX_WORDS_SHOWN, count),
+    ) {
+        (Some(address), Some(count)) => Command::Code(address, count),
+        _ => Command::Unknown,
+    }
+}
+
+// The same letters in either case.
+fn has_letters(word: &[u8], letters: &[u8]) -> bool
+    ensures { result ≡ is_word word.now letters.now }
+{
+    word.eq_ignore_ascii_case(letters)
+}
