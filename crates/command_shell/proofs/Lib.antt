@@ -1,9 +1,4 @@
 pub mod AnswerLemmas
-pub mod BlockLemmas
 pub mod CallLemmas
-pub mod HexLemmas
-pub mod LineLemmas
-pub mod NumberLemmas
-pub mod ReadLemmas
 pub mod ScriptLemmas
 pub mod ViewLemmas

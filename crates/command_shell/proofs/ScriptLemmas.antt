@@ -1,17 +1,22 @@
 -- How a script goes on after a line, where the lines of a block go with the line that opens it.
-use Rattle.std.proofs.Common.{◌≡◌, ℕ, ◌+◌, ◌≤◌, ◌<◌, length, Bool, true, false, List, [], ◌∷◌, ◌++◌, Option, Some, None, sym, ap, ◌∙◌, append_assoc, add-zero, arith, refl}
+use Rattle.std.proofs.Common.{◌≡◌, ℕ, ◌+◌, ◌≤◌, ◌<◌, length, Bool, true, false, List, [], ◌∷◌, ◌++◌, Option, Some, None}
+use Rattle.std.proofs.Common.{sym, ap, ◌∙◌, append_assoc, add-zero, arith, refl}
 use Rattle.std.proofs.lemmas.List.{append-nil}
 use Rattle.std.specs.Prelude.{if◌then◌else◌, IfSome}
 use Rattle.std.specs.Str.Lines.{lines}
 use Rattle.profile.specs.Sizes.{Sizes}
 use Rattle.profile.specs.declared.stop.Stop.{Stop}
-use Rattle.profile.proofs.OutputLemmas.{Completes-start, Completes-more, Completes-same, Appends-from_completes, AppendsFront-from_completes, AppendsFront-start}
-use Rattle.command_shell.specs.Blocks.{block_lines, after_block, block_size, lines_after, lines_taken}
-use Rattle.command_shell.specs.Requests.{Request, Nothing, Hex, Asm, Boot, Run, Regs, Set, Poke, Call, Load, Step, Break, Unbreak, Mem, Code, Heap, Areas, Modules, Flex, Unknown, opens_block, request_of, is_end}
+use Rattle.profile.proofs.OutputLemmas.{Completes-start, Completes-more, Completes-same, Appends-from_completes}
+use Rattle.profile.proofs.OutputLemmas.{AppendsFront-from_completes, AppendsFront-start}
+use Rattle.command_shell_lines.specs.Blocks.{block_lines, after_block, block_size, lines_after, lines_taken}
+use Rattle.command_shell_lines.specs.Requests.{Request, Nothing, Hex, Asm, Boot, Run, Regs, Set, Poke, Call, Load, Step}
+use Rattle.command_shell_lines.specs.Requests.{Break, Unbreak, Mem, Code, Heap, Areas, Modules, Flex, Unknown}
+use Rattle.command_shell_lines.specs.Requests.{opens_block, request_of, is_end}
 use Rattle.image_loader.specs.Entries.{Entry}
 use Rattle.command_shell.specs.declared.session.Session.{Session}
 use Rattle.command_shell.specs.Session.{script_state}
-use Rattle.command_shell.specs.Script.{OpenBlock, request_told, on_opened, on_request, in_block, lines_told, script_told}
+use Rattle.command_shell.specs.Script.{OpenBlock, request_told, on_opened, on_request, in_block, lines_told}
+use Rattle.command_shell.specs.Script.{script_told}
 use Rattle.command_shell.specs.State.{ScriptState, Answered, answer, then_answered, start_state}
 
 -- an answer, and then the lines that are left
@@ -23,40 +28,53 @@ pub told_end : (number : ℕ) (w : ScriptState) → lines_told number w None [] 
 unfolding lines_told
 told_end number w = refl
 
-block_same : (w : ScriptState) (number : ℕ) (r : Request) (block block' : List (List ℕ)) (next next' : ℕ) (left left' : List (List ℕ))
-    → block ≡ block' → next ≡ next' → left ≡ left' → after_told (request_told w number r block) next left ≡ after_told (request_told w number r block') next' left'
+block_same : (w : ScriptState) (number : ℕ) (r : Request) (block block' : List (List ℕ)) (next next' : ℕ)
+    (left left' : List (List ℕ))
+    → block ≡ block' → next ≡ next' → left ≡ left'
+    → after_told (request_told w number r block) next left ≡ after_told (request_told w number r block') next' left'
 block_same w number r block block' next next' left left' e n l = cc
 
 told_by_end : (number : ℕ) (w : ScriptState) (o : OpenBlock) (line : List ℕ) (rest : List (List ℕ)) (b : Bool)
     → lines_told (number + 1) w (Some (record o { block = o.block ++ line ∷ [] })) rest
-    ≡ after_told (request_told w o.number o.request ((o.block ++ line ∷ []) ++ block_lines rest)) (number + 1 + block_size rest) (after_block rest)
+    ≡ after_told (request_told w o.number o.request ((o.block ++ line ∷ []) ++ block_lines rest))
+    (number + 1 + block_size rest) (after_block rest)
     → in_block w o line b (λ after still. lines_told (number + 1) after still rest)
     ≡ after_told (request_told w o.number o.request (o.block ++ (if b then [] else line ∷ block_lines rest)))
     (number + (if b then 1 else 1 + block_size rest)) (if b then rest else after_block rest)
 unfolding after_told
 told_by_end number w o line rest true later =
-    block_same w o.number o.request o.block (o.block ++ []) (number + 1) (number + 1) rest rest (sym (append-nil o.block)) refl refl
-told_by_end number w o line rest false later = later ∙
-    block_same w o.number o.request ((o.block ++ line ∷ []) ++ block_lines rest) (o.block ++ line ∷ block_lines rest) (number + 1 + block_size rest) (number + (1 + block_size rest))
+    block_same w o.number o.request o.block (o.block ++ []) (number + 1) (number + 1) rest rest
+    (sym (append-nil o.block)) refl refl
+told_by_end number w o line rest false later =
+    later
+    ∙ block_same w o.number o.request ((o.block ++ line ∷ []) ++ block_lines rest)
+    (o.block ++ line ∷ block_lines rest) (number + 1 + block_size rest) (number + (1 + block_size rest))
     (after_block rest) (after_block rest) (append_assoc o.block (line ∷ []) (block_lines rest)) (omega arith) refl
 
 nothing_after : (t : Answered) → t ≡ record { state = t.state; text = t.text ++ [] }
-nothing_after t = ap (λ (xs : List ℕ). let told : Answered = record { state = t.state; text = xs } in told) (sym (append-nil t.text))
+nothing_after t =
+    ap (λ (xs : List ℕ). let told : Answered = record { state = t.state; text = xs } in told) (sym (append-nil t.text))
 
 -- an open block takes its lines up to the one that ends it
 told_open : (number : ℕ) (w : ScriptState) (o : OpenBlock) (left : List (List ℕ))
     → lines_told number w (Some o) left
-    ≡ after_told (request_told w o.number o.request (o.block ++ block_lines left)) (number + block_size left) (after_block left)
+    ≡ after_told (request_told w o.number o.request (o.block ++ block_lines left)) (number + block_size left)
+    (after_block left)
 unfolding lines_told block_lines after_block block_size after_told
 told_open number w o [] =
-    ap (request_told w o.number o.request) (sym (append-nil o.block)) ∙ nothing_after (request_told w o.number o.request (o.block ++ []))
-told_open number w o (line ∷ rest) = told_by_end number w o line rest (is_end line) (told_open (number + 1) w (record o { block = o.block ++ line ∷ [] }) rest)
+    ap (request_told w o.number o.request) (sym (append-nil o.block))
+    ∙ nothing_after (request_told w o.number o.request (o.block ++ []))
+told_open number w o (line ∷ rest) =
+    told_by_end number w o line rest (is_end line)
+    (told_open (number + 1) w (record o { block = o.block ++ line ∷ [] }) rest)
 
-no_lines_more : (first : Answered) (number : ℕ) (left : List (List ℕ)) → after_told first number left ≡ after_told first (number + 0) left
+no_lines_more : (first : Answered) (number : ℕ) (left : List (List ℕ))
+    → after_told first number left ≡ after_told first (number + 0) left
 no_lines_more first number left = ap (λ (n : ℕ). after_told first n left) (sym (add-zero number))
 
 -- what is answered at once doesn't depend on the lines that follow
-at_once : (number : ℕ) (w : ScriptState) (r : Request) (block : List (List ℕ)) → opens_block r ≡ false → request_told w number r [] ≡ request_told w number r block
+at_once : (number : ℕ) (w : ScriptState) (r : Request) (block : List (List ℕ)) → opens_block r ≡ false
+    → request_told w number r [] ≡ request_told w number r block
 at_once number w (Hex name) block e = absurd (cc)
 at_once number w (Asm name origin) block e = absurd (cc)
 at_once number w Nothing block e = refl
@@ -80,42 +98,52 @@ at_once number w Unknown block e = refl
 
 told_by_opened : (number : ℕ) (w : ScriptState) (rest : List (List ℕ)) (r : Request) (b : Bool) → opens_block r ≡ b
     → on_opened w (number + 1) r b (λ after still. lines_told (number + 1) after still rest)
-    ≡ after_told (request_told w (number + 1) r (block_lines rest)) (number + 1 + lines_taken b rest) (lines_after b rest)
+    ≡ after_told (request_told w (number + 1) r (block_lines rest)) (number + 1 + lines_taken b rest)
+    (lines_after b rest)
 unfolding after_told
 told_by_opened number w rest r false e =
     no_lines_more (request_told w (number + 1) r []) (number + 1) rest
     ∙ ap (λ (t : Answered). after_told t (number + 1 + 0) rest) (at_once (number + 1) w r (block_lines rest) e)
-told_by_opened number w rest r true e = told_open (number + 1) w (record { request = r; number = number + 1; block = [] }) rest
+told_by_opened number w rest r true e =
+    told_open (number + 1) w (record { request = r; number = number + 1; block = [] }) rest
 
 told_by_request : (number : ℕ) (w : ScriptState) (rest : List (List ℕ)) (r : Request)
     → on_request w (number + 1) r (λ after still. lines_told (number + 1) after still rest)
-    ≡ after_told (request_told w (number + 1) r (block_lines rest)) (number + 1 + lines_taken (opens_block r) rest) (lines_after (opens_block r) rest)
+    ≡ after_told (request_told w (number + 1) r (block_lines rest)) (number + 1 + lines_taken (opens_block r) rest)
+    (lines_after (opens_block r) rest)
 told_by_request number w rest r = told_by_opened number w rest r (opens_block r) refl
 
 -- a line and the rest of the script
 told_step : (number : ℕ) (w : ScriptState) (line : List ℕ) (rest : List (List ℕ))
     → lines_told number w None (line ∷ rest)
-    ≡ after_told (request_told w (number + 1) (request_of line) (block_lines rest)) (number + 1 + lines_taken (opens_block (request_of line)) rest) (lines_after (opens_block (request_of line)) rest)
+    ≡ after_told (request_told w (number + 1) (request_of line) (block_lines rest))
+    (number + 1 + lines_taken (opens_block (request_of line)) rest) (lines_after (opens_block (request_of line)) rest)
 unfolding lines_told
 told_step number w line rest = told_by_request number w rest (request_of line)
 
 step_at : (number here next : ℕ) (w after : ScriptState) (line : List ℕ) (rest left : List (List ℕ)) (r : Request)
-    → here ≡ number + 1 → r ≡ request_of line → after ≡ (request_told w here r (block_lines rest)).state → next ≡ here + lines_taken (opens_block r) rest
+    → here ≡ number + 1 → r ≡ request_of line → after ≡ (request_told w here r (block_lines rest)).state
+    → next ≡ here + lines_taken (opens_block r) rest
     → left ≡ lines_after (opens_block r) rest
-    → lines_told number w None (line ∷ rest) ≡ then_answered (request_told w here r (block_lines rest)) (λ _. lines_told next after None left)
+    → lines_told number w None (line ∷ rest)
+    ≡ then_answered (request_told w here r (block_lines rest)) (λ _. lines_told next after None left)
 unfolding after_told
 step_at number here next w after line rest left r at is state counted stays =
     rw (state, counted, stays, is, at) (told_step number w line rest)
 
 pub text_step : (number here next : ℕ) (w after : ScriptState) (line : List ℕ) (rest left : List (List ℕ)) (r : Request)
-    → here ≡ number + 1 → r ≡ request_of line → after ≡ (request_told w here r (block_lines rest)).state → next ≡ here + lines_taken (opens_block r) rest
+    → here ≡ number + 1 → r ≡ request_of line → after ≡ (request_told w here r (block_lines rest)).state
+    → next ≡ here + lines_taken (opens_block r) rest
     → left ≡ lines_after (opens_block r) rest
-    → (lines_told number w None (line ∷ rest)).text ≡ (request_told w here r (block_lines rest)).text ++ (lines_told next after None left).text
+    → (lines_told number w None (line ∷ rest)).text
+    ≡ (request_told w here r (block_lines rest)).text ++ (lines_told next after None left).text
 text_step number here next w after line rest left r at is state counted stays =
     ap (λ (t : Answered). t.text) (step_at number here next w after line rest left r at is state counted stays)
 
-pub state_step : (number here next : ℕ) (w after : ScriptState) (line : List ℕ) (rest left : List (List ℕ)) (r : Request)
-    → here ≡ number + 1 → r ≡ request_of line → after ≡ (request_told w here r (block_lines rest)).state → next ≡ here + lines_taken (opens_block r) rest
+pub state_step : (number here next : ℕ) (w after : ScriptState) (line : List ℕ) (rest left : List (List ℕ))
+    (r : Request)
+    → here ≡ number + 1 → r ≡ request_of line → after ≡ (request_told w here r (block_lines rest)).state
+    → next ≡ here + lines_taken (opens_block r) rest
     → left ≡ lines_after (opens_block r) rest
     → (lines_told number w None (line ∷ rest)).state ≡ (lines_told next after None left).state
 state_step number here next w after line rest left r at is state counted stays =
@@ -130,7 +158,8 @@ state_end number w = ap (λ (t : Answered). t.state) (told_end number w)
 after_block-shorter : (rest : List (List ℕ)) → length (after_block rest) ≤ length rest
 unfolding after_block
 after_block-shorter [] = omega arith
-after_block-shorter (line ∷ rest) = elim (is_end line) as (λ b. length (if b then rest else after_block rest) ≤ length (line ∷ rest))
+after_block-shorter (line ∷ rest) =
+    elim (is_end line) as (λ b. length (if b then rest else after_block rest) ≤ length (line ∷ rest))
     [ true ↦ omega arith | false ↦ omega (arith, after_block-shorter rest) ]
 
 lines_after-shorter : (b : Bool) (rest : List (List ℕ)) → length (lines_after b rest) ≤ length rest
@@ -138,15 +167,18 @@ lines_after-shorter false rest = omega arith
 lines_after-shorter true rest = after_block-shorter rest
 
 -- a request leaves fewer lines
-pub fewer_left : (line : List ℕ) (all rest left : List (List ℕ)) (r : Request) → all ≡ line ∷ rest → left ≡ lines_after (opens_block r) rest → length left < length all
-fewer_left line all rest left r first stays = rw (first, stays) (omega (arith, lines_after-shorter (opens_block r) rest))
+pub fewer_left : (line : List ℕ) (all rest left : List (List ℕ)) (r : Request) → all ≡ line ∷ rest
+    → left ≡ lines_after (opens_block r) rest → length left < length all
+fewer_left line all rest left r first stays =
+    rw (first, stays) (omega (arith, lines_after-shorter (opens_block r) rest))
 
 -- the images of a session's state
 pub state_images : (session : Session) (images : List Entry) → (script_state session images).images ≡ images
 state_images session images = refl
 
 -- the last stop of a script that was read, by that of the state after its lines
-pub last_told : (o : Option (List ℕ)) (sizes : Sizes) (images : List Entry) (budget : ℕ) (read text : List ℕ) (first now : ScriptState) (last : Option Stop)
+pub last_told : (o : Option (List ℕ)) (sizes : Sizes) (images : List Entry) (budget : ℕ) (read text : List ℕ)
+    (first now : ScriptState) (last : Option Stop)
     → IfSome o (λ script. read ≡ script) → text ≡ read → first ≡ start_state sizes images budget
     → now ≡ (lines_told 0 first None (lines text)).state → last ≡ now.last
     → IfSome o (λ script. last ≡ (script_told sizes images budget script).state.last)
@@ -157,6 +189,16 @@ last_told (Some script) sizes images budget read text first now last is same sta
     ∙ ap (λ (w : ScriptState). (lines_told 0 w None (lines text)).state.last) start
     ∙ ap (λ (xs : List ℕ). (lines_told 0 (start_state sizes images budget) None (lines xs)).state.last) (same ∙ is)
 
-pub ruleset line_steps = (Completes-start, Completes-more, Completes-same, Appends-from_completes, AppendsFront-from_completes, text_step, state_step, text_end, state_end)
+pub ruleset line_steps = (
+  Completes-start,
+  Completes-more,
+  Completes-same,
+  Appends-from_completes,
+  AppendsFront-from_completes,
+  text_step,
+  state_step,
+  text_end,
+  state_end,
+)
 
 pub ruleset whole_steps = (AppendsFront-start, state_images)

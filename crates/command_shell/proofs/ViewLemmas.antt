@@ -7,11 +7,13 @@ use Rattle.command_shell.specs.Answers.{refused_text}
 use Rattle.command_shell.specs.State.{ScriptState, answer}
 use Rattle.command_shell.specs.Views.{flex_told, heap_told, shown_or}
 
-there : (s : ScriptState) (refusal : List ℕ) (o : Option (List ℕ)) → is_some o ≡ true → shown_or s refusal o ≡ answer s (unwrap_or o [])
+there : (s : ScriptState) (refusal : List ℕ) (o : Option (List ℕ)) → is_some o ≡ true
+    → shown_or s refusal o ≡ answer s (unwrap_or o [])
 there s refusal None e = absurd (cc)
 there s refusal (Some text) e = cc
 
-missing : (s : ScriptState) (refusal : List ℕ) (o : Option (List ℕ)) → is_some o ≡ false → shown_or s refusal o ≡ answer s (refused_text refusal)
+missing : (s : ScriptState) (refusal : List ℕ) (o : Option (List ℕ)) → is_some o ≡ false
+    → shown_or s refusal o ≡ answer s (refused_text refusal)
 missing s refusal None e = cc
 missing s refusal (Some text) e = absurd (cc)
 
@@ -44,7 +46,8 @@ unfolding flex_told
 flex_missing s e = missing s (codes "NoFlex") (flex_text s.machine.store.bytes s.machine.tables.flex) e
 
 -- the same text, from what stands for the same memory and the same store
-pub same_text : {B F : Type 0} (text : B → F → Option (List ℕ)) (b c : B) (f h : F) → b ≡ c → f ≡ h → text b f ≡ text c h
+pub same_text : {B F : Type 0} (text : B → F → Option (List ℕ)) (b c : B) (f h : F) → b ≡ c → f ≡ h
+    → text b f ≡ text c h
 same_text text b c f h same alike = rw (same, alike) refl
 
 pub ruleset heap_steps = (heap_there, heap_missing, nothing_shown)

@@ -22,7 +22,8 @@ image_text word name len = word ++ (name ++ (codes ": " ++ (decimal len ++ codes
 
 -- `hex name: line k: Syntax`
 abbrev pub line_refused_text : List ℕ → List ℕ → ℕ → List ℕ → List ℕ
-line_refused_text word name line reason = word ++ (name ++ (codes ": line " ++ (decimal line ++ (codes ": " ++ (reason ++ codes "\n")))))
+line_refused_text word name line reason =
+    word ++ (name ++ (codes ": line " ++ (decimal line ++ (codes ": " ++ (reason ++ codes "\n")))))
 
 -- `hex name: NameTaken`
 abbrev pub image_refused_text : List ℕ → List ℕ → List ℕ → List ℕ
@@ -71,7 +72,8 @@ stop_text stop.Budget pc = codes "stop Budget\n"
 stop_text (stop.Break address) pc = codes "stop Break" ++ (address_text address ++ codes "\n")
 stop_text (stop.Fault fault) pc = fault_text fault pc
 
--- What follows on the steps of a STEP line: where the machine stands if all of them could be taken and were, else the stop line.
+-- What follows on the steps of a STEP line: where the machine stands if all of them could be taken and were, else the
+-- stop line.
 abbrev pub stepped_text : Bool → Stop → ℕ → List ℕ
 stepped_text true stop.Budget pc = at_text pc
 stepped_text could_all stop pc = stop_text stop pc

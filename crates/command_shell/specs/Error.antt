@@ -1,15 +1,16 @@
 -- Which errors the parts of a run can have.
+use Rattle.command_shell_lines.specs.declared.error.ReadingError.{ReadingError}
+use Rattle.command_shell_lines.specs.declared.error.ReadingError.TheVariants as reading
 use Rattle.command_shell.specs.declared.error.RunError.{RunError}
 use Rattle.command_shell.specs.declared.error.RunError.TheVariants.{Memory, ReadFault, WriteFault, ScriptTooLong}
 
--- while the script is read
-abbrev pub IsReadingError : RunError → Type 0
-IsReadingError Memory = Unit {0}
-IsReadingError ReadFault = Unit {0}
-IsReadingError WriteFault = ⊥
-IsReadingError ScriptTooLong = Unit {0}
+-- how a run ends whose script wasn't read
+abbrev pub reading_end : ReadingError → RunError
+reading_end reading.Memory = Memory
+reading_end reading.ReadFault = ReadFault
+reading_end reading.ScriptTooLong = ScriptTooLong
 
--- while its lines are answered
+-- while the lines of a script are answered
 abbrev pub IsLineError : RunError → Type 0
 IsLineError Memory = Unit {0}
 IsLineError ReadFault = ⊥

@@ -11,13 +11,14 @@ use Rattle.assembler.specs.ErrorNames.{reason_name}
 use Rattle.assembler.specs.Passes.{means_lines}
 use Rattle.assembler.specs.declared.error.AsmError.{AsmError}
 use Rattle.command_shell.specs.Answers.{image_text, line_refused_text, image_refused_text, boot_text, refused_text}
-use Rattle.command_shell.specs.Blocks.{block_bytes}
+use Rattle.command_shell_lines.specs.Blocks.{block_bytes}
 use Rattle.command_shell.specs.State.{ScriptState, Answered, answer}
 
 -- An image of a block, by its bytes. `word` is what its answer begins with.
 abbrev pub image_added : ScriptState → List ℕ → List ℕ → List ℕ → Option ImageError → Answered
 image_added s word name bytes (Some error) = answer s (image_refused_text word name (image_error_name error))
-image_added s word name bytes None = answer (record s { images = with_entry s.images name bytes }) (image_text word name (length bytes))
+image_added s word name bytes None =
+    answer (record s { images = with_entry s.images name bytes }) (image_text word name (length bytes))
 
 abbrev pub image_sized : ScriptState → List ℕ → List ℕ → List ℕ → Answered
 image_sized s word name bytes = image_added s word name bytes (refusal_for s.images name (length bytes))
@@ -45,7 +46,8 @@ abbrev pub asm_told : ScriptState → List ℕ → ℕ → List (List ℕ) → A
 asm_told s name origin block =
     image_opened s (codes "asm ") name (asm_block s name (means_lines block origin)) (refusal_for s.images name 0)
 
--- BOOT: the image must be there, the machine as it was made, and the image no longer than the application space, in this order.
+-- BOOT: the image must be there, the machine as it was made, and the image no longer than the application space, in
+-- this order.
 abbrev pub boot_refusal_name : BootError → List ℕ
 boot_refusal_name boot.Booted = codes "Booted"
 boot_refusal_name boot.TooLarge = codes "TooLarge"

@@ -1,13 +1,8 @@
 pub mod Answers
-pub mod Blocks
 pub mod Calls
 pub mod Error
-pub mod HexPairs
 pub mod Images
 pub mod Memory
-pub mod Numbers
-pub mod Operands
-pub mod Requests
 pub mod Script
 pub mod Session
 pub mod State

@@ -7,7 +7,9 @@ use Rattle.command_shell.specs.Answers.{unknown_text}
 use Rattle.command_shell.specs.Calls.{call_told, load_told}
 use Rattle.command_shell.specs.Images.{hex_told, asm_told, boot_told}
 use Rattle.command_shell.specs.Memory.{set_told, poke_told}
-use Rattle.command_shell.specs.Requests.{Request, Nothing, Hex, Asm, Boot, Run, Regs, Set, Poke, Call, Load, Step, Break, Unbreak, Mem, Code, Heap, Areas, Modules, Flex, Unknown, opens_block, request_of, is_end}
+use Rattle.command_shell_lines.specs.Requests.{Request, Nothing, Hex, Asm, Boot, Run, Regs, Set, Poke, Call, Load, Step}
+use Rattle.command_shell_lines.specs.Requests.{Break, Unbreak, Mem, Code, Heap, Areas, Modules, Flex, Unknown}
+use Rattle.command_shell_lines.specs.Requests.{opens_block, request_of, is_end}
 use Rattle.command_shell.specs.State.{ScriptState, Answered, answer, then_answered, start_state}
 use Rattle.command_shell.specs.Stepping.{run_told, step_told, break_told, unbreak_told}
 use Rattle.command_shell.specs.Views.{regs_told, mem_told, code_told, heap_told, areas_told, modules_told, flex_told}
@@ -56,7 +58,8 @@ abbrev pub in_block : ScriptState → OpenBlock → List ℕ → Bool → (Scrip
 in_block s open_block line true next = then_answered (block_told s open_block) (λ after. next after None)
 in_block s open_block line false next = next s (Some (record open_block { block = open_block.block ++ line ∷ [] }))
 
-abbrev pub on_line : ScriptState → ℕ → Option OpenBlock → List ℕ → (ScriptState → Option OpenBlock → Answered) → Answered
+abbrev pub on_line : ScriptState → ℕ → Option OpenBlock → List ℕ → (ScriptState → Option OpenBlock → Answered)
+    → Answered
 on_line s number None line next = on_request s number (request_of line) next
 on_line s number (Some open_block) line next = in_block s open_block line (is_end line) next
 

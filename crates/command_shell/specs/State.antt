@@ -6,8 +6,8 @@ use Rattle.profile.specs.declared.stop.Stop.{Stop}
 use Rattle.image_loader.specs.Entries.{Entry}
 use Rattle.debugger.specs.swi_dispatch.specs.MachineState.{MachineState, start_of}
 
--- What a script works on: the machine, whether it still stands as it was made, the images, the breaks, what is left of the budget, and the
--- last stop that a line was answered with.
+-- What a script works on: the machine, whether it still stands as it was made, the images, the breaks, what is left of
+-- the budget, and the last stop that a line was answered with.
 pub record ScriptState : Type 0 where
   pub machine : MachineState
   pub is_fresh : Bool

@@ -10,7 +10,12 @@ use Rattle.command_shell.specs.State.{ScriptState, Answered, answer}
 -- RUN: all that is left of the budget may be used. What the guest prints comes first, then the stop line.
 abbrev pub run_done : ScriptState → machine.Run → Answered
 run_done s r =
-    answer (record s { machine = r.now; is_fresh = s.is_fresh && (s.left == 0); left = s.left - r.taken; last = Some r.stop })
+    answer (record s {
+      machine = r.now;
+      is_fresh = s.is_fresh && (s.left == 0);
+      left = s.left - r.taken;
+      last = Some r.stop;
+    })
     (r.printed ++ stop_text r.stop r.now.cpu.pc)
 
 abbrev pub run_told : ScriptState → Answered

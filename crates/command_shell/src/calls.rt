@@ -55,7 +55,8 @@ impl Session {
     ghost use Rattle.image_loader.specs.Entries.{Entry};
     ghost use Rattle.debugger.specs.swi_dispatch.specs.Parts.{state_of};
     ghost use Rattle.debugger.specs.swi_dispatch.specs.Step.{machine_step};
-    ghost use Rattle.command_shell.specs.Calls.{call_made, call_done, call_end, call_text, end_told, finished, first_step, step_made, stop_told, stop_before_step};
+    ghost use Rattle.command_shell.specs.Calls.{call_made, call_done, call_end, call_text, end_told, finished};
+    ghost use Rattle.command_shell.specs.Calls.{first_step, step_made, stop_told, stop_before_step};
     ghost use Rattle.command_shell.specs.Session.{script_state};
     ghost use Rattle.command_shell.specs.State.{IsAnswered};
 

@@ -1,7 +1,9 @@
 ghost use Rattle.std.specs.Prelude.{◌≡◌};
-ghost use Rattle.command_shell.specs.declared.error.RunError.TheVariants.{Memory, ReadFault as IsReadFault, WriteFault as IsWriteFault};
+ghost use Rattle.command_shell.specs.declared.error.RunError.TheVariants.{Memory, WriteFault as IsWriteFault};
+ghost use Rattle.command_shell.specs.Error.{reading_end};
 
-use profile::{ReadFault, WriteFault};
+use command_shell_lines::ReadingError;
+use profile::WriteFault;
 use std::alloc::AllocError;
 use thiserror::Error;
 
@@ -30,11 +32,15 @@ impl From<AllocError> for RunError {
     }
 }
 
-impl From<ReadFault> for RunError {
-    ghost from_gives = { λ _ e. e ≡ IsReadFault };
+impl From<ReadingError> for RunError {
+    ghost from_gives = { λ error e. e ≡ reading_end error };
 
-    fn from(_fault: ReadFault) -> RunError {
-        RunError::ReadFault
+    fn from(error: ReadingError) -> RunError {
+        match error {
+            ReadingError::Memory => RunError::Memory,
+            ReadingError::ReadFault => RunError::ReadFault,
+            ReadingError::ScriptTooLong => RunError::ScriptTooLong,
+        }
     }
 }
 

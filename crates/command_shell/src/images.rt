@@ -1,16 +1,15 @@
 //! The lines that hand in an image and boot one: HEX, ASM and BOOT.
 
 ghost use Rattle.std.specs.Prelude.{◌≡◌, ◌+◌, true, IfErr, OnOk, OnErr};
-ghost use Rattle.command_shell.specs.Blocks.{block_lines, after_block, block_size, result_of_block};
+ghost use Rattle.command_shell_lines.specs.Blocks.{block_lines, after_block, block_size, result_of_block};
 ghost use Rattle.command_shell.specs.Error.{IsLineError};
 
 use crate::answers::{tell_boot, tell_image, tell_image_refused, tell_line_refused, tell_refused};
-use crate::blocks::{Block, read_block, skip_block};
 use crate::error::RunError;
-use crate::operands::Origin;
 use crate::session::Session;
-use assembler::text_lines::Lines;
 use assembler::{AsmError, Program, Reason, assemble_lines};
+use command_shell_lines::text_lines::Lines;
+use command_shell_lines::{Block, Origin, read_block, skip_block};
 use debugger::swi_dispatch::BootError;
 use image_loader::{ImageError, Images};
 use profile::{Sink, WriteFault};
@@ -69,7 +68,6 @@ impl Session {
     }
 
     /// Assembles the block of an ASM line, and adds its image.
-    #[tactic(auto, using(crate::proofs::BlockLemmas::block_is_front))]
     pub(crate) fn asm<W: Sink>(
         &self,
         images: &mut Images,

@@ -3,16 +3,10 @@
 #![tactic(auto)]
 
 mod answers;
-mod blocks;
 mod calls;
 mod error;
-mod hex_pairs;
 mod images;
 mod memory;
-mod numbers;
-mod operands;
-mod reading;
-mod requests;
 mod script;
 mod session;
 mod stepping;

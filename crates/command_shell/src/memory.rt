@@ -3,8 +3,8 @@
 ghost use Rattle.std.specs.Prelude.{◌≡◌, true, List, OnOk, OnErr};
 
 use crate::answers::tell_refused;
-use crate::operands::{Register, WordAddress};
 use crate::session::Session;
+use command_shell_lines::{Register, WordAddress};
 use profile::{Sink, WriteFault};
 
 impl Session {

@@ -8,10 +8,9 @@ ghost use Rattle.command_shell.specs.Session.{script_state};
 ghost use Rattle.command_shell.specs.State.{IsAnswered};
 
 use crate::error::RunError;
-use crate::reading::read_script;
-use crate::requests::command_of;
 use crate::session::Session;
-use assembler::text_lines::Lines;
+use command_shell_lines::text_lines::Lines;
+use command_shell_lines::{command_of, read_script};
 use image_loader::Images;
 use profile::{Config, Sink, Source, Stop};
 use std::alloc::Global;

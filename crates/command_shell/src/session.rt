@@ -1,12 +1,12 @@
 ghost use Rattle.std.specs.Prelude.{◌≡◌, ◌+◌, true, List, IfOk, IfErr, OnOk};
-ghost use Rattle.command_shell.specs.Blocks.{block_lines, lines_after, lines_taken};
+ghost use Rattle.command_shell_lines.specs.Blocks.{block_lines, lines_after, lines_taken};
 ghost use Rattle.command_shell.specs.Error.{IsLineError};
 
 use crate::answers::tell_unknown;
 use crate::calls::OutsideCall;
 use crate::error::RunError;
-use crate::requests::Command;
-use assembler::text_lines::Lines;
+use command_shell_lines::Command;
+use command_shell_lines::text_lines::Lines;
 use debugger::swi_dispatch::{Breaks, Machine};
 use image_loader::Images;
 use profile::{Config, Sink, Stop};
@@ -25,7 +25,7 @@ pub struct Session {
 
 impl Session {
     ghost use Rattle.image_loader.specs.Entries.{Entry};
-    ghost use Rattle.command_shell.specs.Requests.{opens_block, request_of_command};
+    ghost use Rattle.command_shell_lines.specs.Requests.{opens_block, request_of_command};
     ghost use Rattle.command_shell.specs.Script.{request_told};
     ghost use Rattle.command_shell.specs.Session.{script_state};
     ghost use Rattle.command_shell.specs.State.{IsAnswered, start_state};

@@ -3,8 +3,8 @@
 ghost use Rattle.std.specs.Prelude.{◌≡◌, true, List, OnOk, OnErr};
 
 use crate::answers::tell_refused;
-use crate::operands::WordAddress;
 use crate::session::Session;
+use command_shell_lines::WordAddress;
 use debugger::{
     show_areas, show_blocks, show_code, show_flex, show_memory, show_modules, show_regs,
 };
@@ -14,7 +14,8 @@ impl Session {
     ghost use Rattle.image_loader.specs.Entries.{Entry};
     ghost use Rattle.command_shell.specs.Session.{script_state};
     ghost use Rattle.command_shell.specs.State.{IsAnswered};
-    ghost use Rattle.command_shell.specs.Views.{regs_told, mem_told, code_told, heap_told, areas_told, modules_told, flex_told};
+    ghost use Rattle.command_shell.specs.Views.{regs_told, mem_told, code_told, heap_told, areas_told, modules_told};
+    ghost use Rattle.command_shell.specs.Views.{flex_told};
 
     /// Shows the registers of the present mode and the status.
     pub(crate) fn regs<W: Sink>(&self, sink: &mut W) -> Result<(), WriteFault>

@@ -1,5 +1,6 @@
 -- How the spelling of a line goes on, by its first bytes.
-use Rattle.std.proofs.Common.{◌≡◌, ℕ, false, List, [], ◌∷◌, ◌++◌, length, Option, Some, None, sym, ap, ◌∙◌, append_assoc, arith, refl}
+use Rattle.std.proofs.Common.{◌≡◌, ℕ, false, List, [], ◌∷◌, ◌++◌, length, Option, Some, None, sym, ap, ◌∙◌}
+use Rattle.std.proofs.Common.{append_assoc, arith, refl}
 use Rattle.std.specs.Io.KnownBytes.{prepend_known}
 use Rattle.std.specs.Prelude.{◌==◌, ◌≢◌}
 use Rattle.std.proofs.lemmas.Bool.Decides.{nat_tests}
@@ -26,7 +27,8 @@ spelled-pair : (c d : ℕ) (more : List ℕ) → c ≢ 32 → spelled (c ∷ d �
 unfolding spelled
 spelled-pair c d more ne = rw (not_space c ne) refl
 
-onto-some : (bytes : List ℕ) (byte : ℕ) (rest : Option (List ℕ)) → prepend_known bytes (onto_bytes (Some byte) rest) ≡ prepend_known (bytes ++ byte ∷ []) rest
+onto-some : (bytes : List ℕ) (byte : ℕ) (rest : Option (List ℕ))
+    → prepend_known bytes (onto_bytes (Some byte) rest) ≡ prepend_known (bytes ++ byte ∷ []) rest
 onto-some bytes byte None = refl
 onto-some bytes byte (Some more) = ap Some (sym (append_assoc bytes (byte ∷ []) more))
 
@@ -37,9 +39,11 @@ spells_nothing bytes [] none = ap (prepend_known bytes) spelled-end ∙ ap Some 
 spells_nothing bytes (c ∷ rest) none = absurd (omega (arith, none))
 
 -- a space at the front
-pub skips_space : (bytes rest others : List ℕ) (c : ℕ) → rest ≡ c ∷ others → c ≡ 32 → with_spelled bytes rest ≡ with_spelled bytes others
+pub skips_space : (bytes rest others : List ℕ) (c : ℕ) → rest ≡ c ∷ others → c ≡ 32
+    → with_spelled bytes rest ≡ with_spelled bytes others
 unfolding with_spelled
-skips_space bytes rest others c e is = ap (λ (xs : List ℕ). prepend_known bytes (spelled xs)) e ∙ ap (prepend_known bytes) (spelled-space c others is)
+skips_space bytes rest others c e is =
+    ap (λ (xs : List ℕ). prepend_known bytes (spelled xs)) e ∙ ap (prepend_known bytes) (spelled-space c others is)
 
 lone : (bytes others : List ℕ) (c : ℕ) → c ≢ 32 → length others ≡ 0 → with_spelled bytes (c ∷ others) ≡ None
 unfolding with_spelled
@@ -47,27 +51,31 @@ lone bytes [] c ne none = ap (prepend_known bytes) (spelled-lone c ne)
 lone bytes (d ∷ others) c ne none = absurd (omega (arith, none))
 
 -- a digit alone
-pub lone_digit : (bytes rest others : List ℕ) (c : ℕ) → rest ≡ c ∷ others → c ≢ 32 → length others ≡ 0 → with_spelled bytes rest ≡ None
+pub lone_digit : (bytes rest others : List ℕ) (c : ℕ) → rest ≡ c ∷ others → c ≢ 32 → length others ≡ 0
+    → with_spelled bytes rest ≡ None
 lone_digit bytes rest others c e ne none = ap (with_spelled bytes) e ∙ lone bytes others c ne none
 
 -- bytes, then a pair, then what the rest spells
 pub with_pair : List ℕ → Option ℕ → List ℕ → Option (List ℕ)
 with_pair bytes pair rest = prepend_known bytes (onto_bytes pair (spelled rest))
 
-two : (bytes more : List ℕ) (c d : ℕ) → c ≢ 32 → with_spelled bytes (c ∷ d ∷ more) ≡ with_pair bytes (pair_value c d) more
+two : (bytes more : List ℕ) (c d : ℕ) → c ≢ 32
+    → with_spelled bytes (c ∷ d ∷ more) ≡ with_pair bytes (pair_value c d) more
 unfolding with_spelled with_pair
 two bytes more c d ne = ap (prepend_known bytes) (spelled-pair c d more ne)
 
 -- two digits at the front
 pub takes_two : (bytes rest others more : List ℕ) (c d : ℕ) → rest ≡ c ∷ others → c ≢ 32 → others ≡ d ∷ more
     → with_spelled bytes rest ≡ with_pair bytes (pair_value c d) more
-takes_two bytes rest others more c d e ne e' = ap (with_spelled bytes) (e ∙ ap (λ (xs : List ℕ). c ∷ xs) e') ∙ two bytes more c d ne
+takes_two bytes rest others more c d e ne e' =
+    ap (with_spelled bytes) (e ∙ ap (λ (xs : List ℕ). c ∷ xs) e') ∙ two bytes more c d ne
 
 pub no_pair : (bytes more : List ℕ) → with_pair bytes None more ≡ None
 unfolding with_pair
 no_pair bytes more = refl
 
-pub takes_pair : (bytes more : List ℕ) (byte : ℕ) → with_pair bytes (Some byte) more ≡ with_spelled (bytes ++ byte ∷ []) more
+pub takes_pair : (bytes more : List ℕ) (byte : ℕ)
+    → with_pair bytes (Some byte) more ≡ with_spelled (bytes ++ byte ∷ []) more
 unfolding with_spelled with_pair
 takes_pair bytes more byte = onto-some bytes byte (spelled more)
 

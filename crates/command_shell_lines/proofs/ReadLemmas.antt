@@ -1,5 +1,6 @@
 -- What a reader has given so far, and what it has left.
-use Rattle.std.proofs.Common.{◌≡◌, ◌<◌, ℕ, List, [], ◌++◌, length, Option, Some, None, sym, ap, ◌∙◌, append_assoc, arith, length-append}
+use Rattle.std.proofs.Common.{◌≡◌, ◌<◌, ℕ, List, [], ◌++◌, length, Option, Some, None, sym, ap, ◌∙◌, append_assoc}
+use Rattle.std.proofs.Common.{arith, length-append}
 use Rattle.std.proofs.lemmas.List.{append-nil}
 use Rattle.std.specs.Prelude.{IfSome}
 use Rattle.std.specs.Io.KnownBytes.{Consumes, IsAtEnd}
@@ -16,9 +17,11 @@ consumes_more : (a b c : Option (List ℕ)) (xs ys : List ℕ) → Consumes a b 
 consumes_more None b c xs ys h k = tt
 consumes_more (Some told) None c xs ys h k = absurd h
 consumes_more (Some told) (Some rest) None xs ys h k = absurd k
-consumes_more (Some told) (Some rest) (Some left) xs ys h k = h ∙ ap (λ (zs : List ℕ). xs ++ zs) k ∙ sym (append_assoc xs ys left)
+consumes_more (Some told) (Some rest) (Some left) xs ys h k =
+    h ∙ ap (λ (zs : List ℕ). xs ++ zs) k ∙ sym (append_assoc xs ys left)
 
-pub gives_more : (a b c : Option (List ℕ)) (xs ys zs : List ℕ) → HasGiven a b xs → Consumes b c ys → zs ≡ xs ++ ys → HasGiven a c zs
+pub gives_more : (a b c : Option (List ℕ)) (xs ys zs : List ℕ) → HasGiven a b xs → Consumes b c ys → zs ≡ xs ++ ys
+    → HasGiven a c zs
 gives_more a b c xs ys zs given here e = record { consumes = rw e (consumes_more a b c xs ys given.consumes here) }
 
 ends_here : (a b : Option (List ℕ)) (xs : List ℕ) → Consumes a b xs → IsAtEnd b → IfSome a (λ told. xs ≡ told)
@@ -29,12 +32,14 @@ ends_here (Some told) (Some rest) xs h end = sym (h ∙ ap (λ (zs : List ℕ). 
 pub gives_all : (a b : Option (List ℕ)) (xs : List ℕ) → HasGiven a b xs → IsAtEnd b → IfSome a (λ told. xs ≡ told)
 gives_all a b xs given end = ends_here a b xs given.consumes end
 
-is_longer : (a b : Option (List ℕ)) (xs : List ℕ) → Consumes a b xs → 1048576 < length xs → IfSome a (λ told. 1048576 < length told)
+is_longer : (a b : Option (List ℕ)) (xs : List ℕ) → Consumes a b xs → 1048576 < length xs
+    → IfSome a (λ told. 1048576 < length told)
 is_longer None b xs h long = tt
 is_longer (Some told) None xs h long = absurd h
 is_longer (Some told) (Some rest) xs h long = omega (arith, length-append xs rest, ap length h)
 
-pub gives_too_many : (a b : Option (List ℕ)) (xs : List ℕ) → HasGiven a b xs → 1048576 < length xs → IfSome a (λ told. 1048576 < length told)
+pub gives_too_many : (a b : Option (List ℕ)) (xs : List ℕ) → HasGiven a b xs → 1048576 < length xs
+    → IfSome a (λ told. 1048576 < length told)
 gives_too_many a b xs given long = is_longer a b xs given.consumes long
 
 pub ruleset read_steps = (gives_nothing, gives_more, gives_all, gives_too_many)

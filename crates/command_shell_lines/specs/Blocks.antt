@@ -1,5 +1,6 @@
 -- A block of a script: the lines up to one that ends it, or up to the script's end.
-use Rattle.std.specs.Prelude.{ℕ, Bool, true, false, ◌+◌, List, [], ◌∷◌, ◌++◌, Option, Some, None, Result, Ok, Err, if◌then◌else◌}
+use Rattle.std.specs.Prelude.{ℕ, Bool, true, false, ◌+◌, List, [], ◌∷◌, ◌++◌, Option, Some, None, Result, Ok, Err}
+use Rattle.std.specs.Prelude.{if◌then◌else◌}
 use Rattle.command_shell_lines.specs.HexPairs.{spelled}
 use Rattle.command_shell_lines.specs.Requests.{is_end}
 use Rattle.command_shell_lines.specs.declared.blocks.Block.{Block}
@@ -24,7 +25,8 @@ joined_bytes number None more = Err number
 joined_bytes number (Some bytes) (Ok more) = Ok (bytes ++ more)
 joined_bytes number (Some bytes) (Err later) = Err later
 
--- The bytes that the lines of a HEX block spell, where `number` lines came before; or the number of the first line that isn't whole pairs.
+-- The bytes that the lines of a HEX block spell, where `number` lines came before; or the number of the first line that
+-- isn't whole pairs.
 unfoldable pub block_bytes : ℕ → List (List ℕ) → Result (List ℕ) ℕ
 block_bytes number [] = Ok []
 block_bytes number (line ∷ rest) = joined_bytes (number + 1) (spelled line) (block_bytes (number + 1) rest)

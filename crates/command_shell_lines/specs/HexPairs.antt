@@ -1,11 +1,12 @@
--- The bytes that a line of hexadecimal digits spells: pairs of adjacent digits in either case. Any number of spaces may stand before,
--- between and after the pairs, and none inside one.
+-- The bytes that a line of hexadecimal digits spells: pairs of adjacent digits in either case. Any number of spaces may
+-- stand before, between and after the pairs, and none inside one.
 use Rattle.std.specs.Prelude.{ℕ, ◌+◌, ◌*◌, ◌==◌, ◌&&◌, List, [], ◌∷◌, Option, Some, None, if◌then◌else◌}
 use Rattle.std.specs.Char.{is_digit, digit_value}
 use Rattle.std.specs.Io.KnownBytes.{prepend_known}
 
 abbrev pub pair_value : ℕ → ℕ → Option ℕ
-pair_value high low = if is_digit high 16 && is_digit low 16 then Some (16 * digit_value high + digit_value low) else None
+pair_value high low =
+    if is_digit high 16 && is_digit low 16 then Some (16 * digit_value high + digit_value low) else None
 
 abbrev pub onto_bytes : Option ℕ → Option (List ℕ) → Option (List ℕ)
 onto_bytes None rest = None

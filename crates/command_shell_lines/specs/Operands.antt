@@ -1,12 +1,14 @@
 -- What the words after a command stand for: a register that a script can set, the address of a word, a count.
-use Rattle.std.specs.Prelude.{ℕ, ◌-◌, ◌%◌, ◌^◌, ◌==◌, ◌&&◌, nat_le, nat_lt, List, [], ◌∷◌, Option, Some, None, if◌then◌else◌}
+use Rattle.std.specs.Prelude.{ℕ, ◌-◌, ◌%◌, ◌^◌, ◌==◌, ◌&&◌, nat_le, nat_lt, List, [], ◌∷◌, Option, Some, None}
+use Rattle.std.specs.Prelude.{if◌then◌else◌}
 use Rattle.std.specs.Int.{is_in_range}
 use Rattle.command_shell_lines.specs.Numbers.{number_of}
 
 -- `R0` to `R14`, with a capital letter (82) and no leading zero
 abbrev pub register_named : List ℕ → Option ℕ
 register_named (letter ∷ digit ∷ []) = if letter == 82 && is_in_range 48 57 digit then Some (digit - 48) else None
-register_named (letter ∷ one ∷ digit ∷ []) = if letter == 82 && (one == 49 && is_in_range 48 52 digit) then Some (digit - 38) else None
+register_named (letter ∷ one ∷ digit ∷ []) =
+    if letter == 82 && (one == 49 && is_in_range 48 52 digit) then Some (digit - 38) else None
 register_named _ = None
 
 abbrev pub of_a_word : Option ℕ → Option ℕ

@@ -1,4 +1,4 @@
-ghost use Rattle.std.specs.Prelude.{◌≡◌, ◌+◌, length, IfOk, OnOk};
+ghost use Rattle.std.specs.Prelude.{◌≡◌, ◌+◌, length, take, IfOk, OnOk};
 ghost use Rattle.command_shell_lines.specs.Blocks.{block_lines, after_block, block_size, block_bytes, result_of_block};
 
 use crate::hex_pairs::append_spelled;
@@ -42,6 +42,7 @@ pub fn read_block(alloc: Global, script: &mut Lines) -> Result<Block, AllocError
 #[tactic(auto, using(crate::proofs::BlockLemmas::block_steps))]
 pub fn skip_block(script: &mut Lines) -> usize
     ensures lines { result ≡ length (block_lines script.old.left) }
+    ensures front { take result script.old.left ≡ block_lines script.old.left }
     ensures left { script.new.left ≡ after_block script.old.left }
     ensures number { script.new.number ≡ script.old.number + block_size script.old.left }
 {

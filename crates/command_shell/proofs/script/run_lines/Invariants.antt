@@ -8,7 +8,8 @@ use Rattle.command_shell.proofs.script.run_lines.Given as goal
 -- what stands written, and the answers to the lines that are left, are those of the whole script
 abbrev pub invariant-loop-line : goal.invariant-loop-line
 invariant-loop-line g l = record {
-  text : Completes (g.W.Sink.contents l.fn.sink) (g.W.Sink.contents l.sink) (lines_told l.place.number (script_state l.session l.images) None l.place.left).text
+  text : Completes (g.W.Sink.contents l.fn.sink) (g.W.Sink.contents l.sink)
+      (lines_told l.place.number (script_state l.session l.images) None l.place.left).text
       (lines_told 0 (script_state l.fn.session l.fn.images) None (lines l.script)).text;
   state : (lines_told l.place.number (script_state l.session l.images) None l.place.left).state
       ≡ (lines_told 0 (script_state l.fn.session l.fn.images) None (lines l.script)).state;

@@ -5,7 +5,8 @@ use Rattle.command_shell_lines.proofs.blocks.read_block.Given as goal
 
 abbrev pub invariant-loop-line : goal.invariant-loop-line
 invariant-loop-line l = record {
-  bytes : block_onto l.bytes.items (l.script.number - l.first) l.script.left ≡ block_bytes 0 (block_lines l.fn.script.left);
+  bytes : block_onto l.bytes.items (l.script.number - l.first) l.script.left
+      ≡ block_bytes 0 (block_lines l.fn.script.left);
   left : after_block l.script.left ≡ after_block l.fn.script.left;
   number : l.script.number + block_size l.script.left ≡ l.fn.script.number + block_size l.fn.script.left;
   first : l.first ≡ l.fn.script.number;

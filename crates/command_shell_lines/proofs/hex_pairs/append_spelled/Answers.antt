@@ -8,7 +8,8 @@ returns-in_default-pair c =
     let first = c.in-Some in
     let second = c.in-Some-split_first in
     c.loop-first.invariant
-    ∙ takes_two l.bytes.items l.rest.now first.others.now second.others.now first.first.now second.second.now first.ensures.cases.0 c.if-first-ne32.true second.ensures.cases.0
+    ∙ takes_two l.bytes.items l.rest.now first.others.now second.others.now first.first.now second.second.now
+    first.ensures.cases.0 c.if-first-ne32.true second.ensures.cases.0
     ∙ ap (λ (o : Option ℕ). with_pair l.bytes.items o second.others.now) (sym c.pair.ensures ∙ c.in_default-pair.is)
     ∙ no_pair l.bytes.items second.others.now
 
@@ -18,6 +19,7 @@ loop-first-preserved-then-first-ne32 c =
     let first = c.in-Some in
     let second = c.in-Some-split_first in
     rw c.in_ok-push.ensures.items (c.loop-first.invariant
-    ∙ takes_two l.bytes.items l.rest.now first.others.now second.others.now first.first.now second.second.now first.ensures.cases.0 c.if-first-ne32.true second.ensures.cases.0
+    ∙ takes_two l.bytes.items l.rest.now first.others.now second.others.now first.first.now second.second.now
+    first.ensures.cases.0 c.if-first-ne32.true second.ensures.cases.0
     ∙ ap (λ (o : Option ℕ). with_pair l.bytes.items o second.others.now) (sym c.pair.ensures ∙ c.in-Some-pair.is)
     ∙ takes_pair l.bytes.items second.others.now c.in-Some-pair.byte)

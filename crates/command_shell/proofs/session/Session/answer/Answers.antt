@@ -15,8 +15,10 @@ pub returns-in_ok-areas-in-Areas-clause-told : goal.returns-in_ok-areas-in-Areas
 returns-in_ok-areas-in-Areas-clause-told g c = rw c.in-Areas.is (c.in_ok-areas-in-Areas.ensures.told c.args.images.now)
 
 pub returns-in_ok-modules-in-Modules-clause-told : goal.returns-in_ok-modules-in-Modules-clause-told
-returns-in_ok-modules-in-Modules-clause-told g c = rw c.in-Modules.is (c.in_ok-modules-in-Modules.ensures.told c.args.images.now)
+returns-in_ok-modules-in-Modules-clause-told g c =
+    rw c.in-Modules.is (c.in_ok-modules-in-Modules.ensures.told c.args.images.now)
 
 pub returns-in-Set-clause-told : goal.returns-in-Set-clause-told
 returns-in-Set-clause-told g c =
-    rw c.in-Set.is (record { text = Appends-nothing (g.W.Sink.contents c.args.sink.now); state = c.set.ensures c.args.images.now })
+    rw c.in-Set.is
+    (record { text = Appends-nothing (g.W.Sink.contents c.args.sink.now); state = c.set.ensures c.args.images.now })

@@ -16,7 +16,8 @@ returns-in-Some-clause-told g c =
     let w = script_state c.args.self.now images in
     let end = c.in-Some.stop in
     let first = first_step w c.args.call in
-    tells_same c.stopped.result (g.W.Sink.contents c.args.sink.now) (g.W.Sink.contents c.stopped.new.sink) (script_state c.stopped.new.self images)
+    tells_same c.stopped.result (g.W.Sink.contents c.args.sink.now) (g.W.Sink.contents c.stopped.new.sink)
+    (script_state c.stopped.new.self images)
     (stop_told w end) (call_made w first)
     (call_refused w first end (sym (c.stop_before_step.ensures images) ∙ c.in-Some.is)) (c.stopped.ensures.told images)
 
@@ -25,6 +26,7 @@ returns-in-None-clause-told g c =
     let images = c.args.images.now in
     let w = script_state c.args.self.now images in
     let first = first_step w c.args.call in
-    tells_same c.complete.result (g.W.Sink.contents c.args.sink.now) (g.W.Sink.contents c.complete.new.sink) (script_state c.complete.new.self images)
+    tells_same c.complete.result (g.W.Sink.contents c.args.sink.now) (g.W.Sink.contents c.complete.new.sink)
+    (script_state c.complete.new.self images)
     (call_done w first) (call_made w first)
     (call_allowed w first (sym (c.stop_before_step.ensures images) ∙ c.in-None.is)) c.complete.ensures.told

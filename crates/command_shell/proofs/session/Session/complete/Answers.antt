@@ -11,6 +11,9 @@ returns-clause-told g c =
     let w = script_state c.args.self.now images in
     let a = first_step w c.args.call in
     let begun = c.in_ok-begin_call.ensures in
-    tells_then c.finish.result (g.W.Sink.contents c.args.sink.now) (g.W.Sink.contents c.begin_call.new.sink) (g.W.Sink.contents c.finish.new.sink)
-    (script_state c.finish.new.self images) (script_state c.begin_call.new.self images) (answer (step_made w a) a.printed)
-    (λ after. finished (length w.machine.tables.frames) after.left after) begun.text begun.state (rw c.frames-frames.ensures.value at c.finish.ensures.told)
+    tells_then c.finish.result (g.W.Sink.contents c.args.sink.now) (g.W.Sink.contents c.begin_call.new.sink)
+    (g.W.Sink.contents c.finish.new.sink)
+    (script_state c.finish.new.self images) (script_state c.begin_call.new.self images)
+    (answer (step_made w a) a.printed)
+    (λ after. finished (length w.machine.tables.frames) after.left after) begun.text begun.state
+    (rw c.frames-frames.ensures.value at c.finish.ensures.told)

@@ -9,9 +9,11 @@ returns-in-Some-clause-told g c =
     let images = c.args.images.now in
     let start = script_state c.args.self.now images in
     let now = script_state c.tell_end.new.self images in
-    call_ends c.tell_end.result (g.W.Sink.contents c.args.sink.now) (g.W.Sink.contents c.loop-end.sink) (g.W.Sink.contents c.tell_end.new.sink)
+    call_ends c.tell_end.result (g.W.Sink.contents c.args.sink.now) (g.W.Sink.contents c.loop-end.sink)
+    (g.W.Sink.contents c.tell_end.new.sink)
     c.args.frames (script_state c.loop-end.self images) now c.in-Some.end (finished c.args.frames start.left start)
-    c.loop-end.invariant.text c.loop-end.invariant.state (sym (c.call_end.ensures images) ∙ c.in-Some.is) (c.tell_end.ensures.told images)
+    c.loop-end.invariant.text c.loop-end.invariant.state (sym (c.call_end.ensures images) ∙ c.in-Some.is)
+    (c.tell_end.ensures.told images)
 
 pub take_step-requires : goal.take_step-requires
 take_step-requires g c =
@@ -29,7 +31,9 @@ loop-end-preserved g c =
     let images = c.args.images.now in
     let start = script_state c.args.self.now images in
     let now = script_state c.take_step.new.self images in
-    let step = call_goes_on (g.W.Sink.contents c.args.sink.now) (g.W.Sink.contents c.loop-end.sink) (g.W.Sink.contents c.take_step.new.sink)
+    let step =
+    call_goes_on (g.W.Sink.contents c.args.sink.now) (g.W.Sink.contents c.loop-end.sink)
+    (g.W.Sink.contents c.take_step.new.sink)
     c.args.frames (script_state c.loop-end.self images) now (finished c.args.frames start.left start)
     c.loop-end.invariant.text c.loop-end.invariant.state (sym (c.call_end.ensures images) ∙ c.in-None.is)
     c.in_ok-take_step-in-None.ensures.state c.in_ok-take_step-in-None.ensures.text in

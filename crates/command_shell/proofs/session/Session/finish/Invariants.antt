@@ -11,7 +11,8 @@ invariant-loop-end g l =
     let start = script_state l.fn.self l.images in
     let now = script_state l.self l.images in
     record {
-      text : Completes (g.W.Sink.contents l.fn.sink) (g.W.Sink.contents l.sink) (finished l.frames now.left now).text (finished l.frames start.left start).text;
+      text : Completes (g.W.Sink.contents l.fn.sink) (g.W.Sink.contents l.sink) (finished l.frames now.left now).text
+          (finished l.frames start.left start).text;
       state : (finished l.frames now.left now).state ≡ (finished l.frames start.left start).state;
       same_flag : g.W.Sink.has_failed l.sink ≡ g.W.Sink.has_failed l.fn.sink;
     }

@@ -26,9 +26,13 @@ returns-clause-told g c images =
     let from = g.W.Sink.contents c.args.sink.now in
     let between = g.W.Sink.contents c.show_flex.new.sink in
     let to = g.W.Sink.contents c.tell_refused.new.sink in
-    let same = same_text flex_text b s.machine.store.bytes f s.machine.tables.flex c.memory.ensures.bytes c.flex.ensures.value in
+    let same =
+    same_text flex_text b s.machine.store.bytes f s.machine.tables.flex c.memory.ensures.bytes c.flex.ensures.value in
     let none : is_some (flex_text b f) ≡ false = sym shown.found ∙ c.if-branch.false in
-    let empty : Appends from between [] = subst (λ (text : List ℕ). Appends from between text) (nothing (flex_text b f) none) shown.writes.text in
-    tells_same c.tell_refused.result from to s (answer s (refused_text (codes "NoFlex"))) (flex_told s) (flex_missing s (ap is_some (sym same) ∙ none))
-    (tells_then c.tell_refused.result from between to s s (answer s []) (λ after. answer after (refused_text (codes "NoFlex"))) empty refl
+    let empty : Appends from between [] =
+    subst (λ (text : List ℕ). Appends from between text) (nothing (flex_text b f) none) shown.writes.text in
+    tells_same c.tell_refused.result from to s (answer s (refused_text (codes "NoFlex"))) (flex_told s)
+    (flex_missing s (ap is_some (sym same) ∙ none))
+    (tells_then c.tell_refused.result from between to s s (answer s [])
+    (λ after. answer after (refused_text (codes "NoFlex"))) empty refl
     (tells_text c.tell_refused.result between to s (refused_text (codes "NoFlex")) c.tell_refused.ensures.text))

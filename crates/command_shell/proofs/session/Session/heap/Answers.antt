@@ -18,8 +18,10 @@ returns-clause-told g c images =
     let between = g.W.Sink.contents c.show_blocks.new.sink in
     let to = g.W.Sink.contents c.tell_refused.new.sink in
     let none : is_some (blocks_text s.machine.store c.args.address) ≡ false = sym shown.found ∙ c.if-branch.false in
-    let nothing : Appends from between [] = subst (λ (text : List ℕ). Appends from between text) (nothing_shown s c.args.address none) shown.writes.text in
+    let nothing : Appends from between [] =
+    subst (λ (text : List ℕ). Appends from between text) (nothing_shown s c.args.address none) shown.writes.text in
     tells_same c.tell_refused.result from to s (answer s (refused_text (codes "NoHeap"))) (heap_told s c.args.address)
     (heap_missing s c.args.address none)
-    (tells_then c.tell_refused.result from between to s s (answer s []) (λ after. answer after (refused_text (codes "NoHeap"))) nothing refl
+    (tells_then c.tell_refused.result from between to s s (answer s [])
+    (λ after. answer after (refused_text (codes "NoHeap"))) nothing refl
     (tells_text c.tell_refused.result between to s (refused_text (codes "NoHeap")) c.tell_refused.ensures.text))

@@ -10,5 +10,6 @@ returns-in-Returned-clause-told g c images =
     let w = script_state c.args.self.now images in
     let from = g.W.Sink.contents c.args.sink.now in
     let to = g.W.Sink.contents c.tell_call.new.sink in
-    tells_same c.tell_call.result from to w (answer w (call_text w.machine)) (end_told w c.args.end) (ap (end_told w) c.in-Returned.is)
+    tells_same c.tell_call.result from to w (answer w (call_text w.machine)) (end_told w c.args.end)
+    (ap (end_told w) c.in-Returned.is)
     (tells_text c.tell_call.result from to w (call_text w.machine) c.tell_call.ensures.text)
