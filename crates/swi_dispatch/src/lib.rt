@@ -5,7 +5,6 @@ pub mod additions;
 pub mod boot_error;
 pub mod calls;
 pub mod errors;
-pub mod flex_calls;
 pub mod gate;
 pub mod halt;
 pub mod image_plans;
