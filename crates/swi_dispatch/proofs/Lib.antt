@@ -1,11 +1,9 @@
-pub mod FlexAnswers
-pub mod FlexBegun
-pub mod FlexWorlds
 pub mod Answering
 pub mod AreaAnswers
 pub mod Beginning
 pub mod CarriedFrames
 pub mod ErrorNumbers
+pub mod FlexCalls
 pub mod GateLemmas
 pub mod Kept
 pub mod OpenFrames

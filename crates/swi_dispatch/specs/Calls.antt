@@ -1,6 +1,8 @@
--- The store calls: what each answers, by the registers of the caller's mode, and what it leaves (RISC OS 3 Programmer's Reference Manual, the
--- chapters on character output, program environment, generating and handling errors, memory management, and "OS_Heap").
-use Rattle.std.specs.Prelude.{ℕ, ◌+◌, ◌%◌, ◌==◌, ◌&&◌, Option, Some, None, option_map, Result, Ok, List, [], ◌∷◌, length, if◌then◌else◌}
+-- The store calls: what each answers, by the registers of the caller's mode, and what it leaves (RISC OS 3 Programmer's
+-- Reference Manual, the chapters on character output, program environment, generating and handling errors, memory
+-- management, and "OS_Heap").
+use Rattle.std.specs.Prelude.{ℕ, ◌+◌, ◌%◌, ◌==◌, ◌&&◌, Option, Some, None, option_map, Result, Ok, List, [], ◌∷◌}
+use Rattle.std.specs.Prelude.{length, if◌then◌else◌}
 use Rattle.profile.specs.Outcome.{bind}
 use Rattle.profile.specs.declared.error.ErrorNumber.{ErrorNumber}
 use Rattle.profile.specs.declared.error.ErrorNumber.TheVariants.{BadString, BadPointer}
@@ -16,11 +18,12 @@ use Rattle.swi_dispatch_answers.specs.declared.refusal.Refusal.{Refusal}
 use Rattle.swi_dispatch_answers.specs.declared.refusal.Refusal.TheVariants as refusal
 use Rattle.swi_dispatch_answers.specs.declared.strings.TextEnd.TheVariants as end
 use Rattle.swi_dispatch_answers.specs.Strings.{ends, text_at, next_word}
-use Rattle.swi_dispatch_modules.specs.swi_dispatch_store.specs.Areas.{area_called, area_changed, area_read, change_asked}
+use Rattle.swi_dispatch_flex.specs.Calls.{FlexMemory, flex_called}
+use Rattle.swi_dispatch_modules.specs.swi_dispatch_store.specs.Areas.{area_called, area_changed, area_read}
+use Rattle.swi_dispatch_modules.specs.swi_dispatch_store.specs.Areas.{change_asked}
 use Rattle.swi_dispatch_modules.specs.swi_dispatch_store.specs.Heaps.{heap_called}
 use Rattle.swi_dispatch_modules.specs.Calls.{module_called}
 use Rattle.swi_dispatch.specs.Answers.{Answer, done, refused, went_on, with_answer}
-use Rattle.swi_dispatch.specs.FlexCalls.{flex_called}
 use Rattle.swi_dispatch.specs.MachineState.{MachineState, machine_estate, quiet, with_estate}
 use Rattle.swi_dispatch.specs.ModulePlans.{machine_world, with_world}
 
@@ -45,7 +48,8 @@ wrote_text_at s next at (Some text) = done (with_answer s 0 (at + length text + 
 abbrev pub generated : MachineState → ℕ → Refusal
 generated s at = if at % 4 == 0 && s.store.bytes.mapped at then refusal.Own else refusal.System BadPointer
 
--- The machine with what a family of calls leaves of the parts that it acts on: the core, and the store, the estate or the world.
+-- The machine with what a family of calls leaves of the parts that it acts on: the core, and the store, the estate, the
+-- world, or the store with the flex store.
 abbrev pub on_store : MachineState → Result (State × Store) Refusal → Result MachineState Refusal
 on_store s r = bind r (λ q. Ok (record s { cpu = q.0; store = q.1 }))
 
@@ -57,6 +61,15 @@ on_estate s r = bind r (λ q. Ok (with_guest s q))
 
 abbrev pub on_world : MachineState → Result (State × World) Refusal → Result MachineState Refusal
 on_world s r = bind r (λ q. Ok (with_world (record s { cpu = q.0 }) q.1))
+
+abbrev pub machine_flex : MachineState → FlexMemory
+machine_flex s = record { store = s.store; flex = s.tables.flex }
+
+abbrev pub with_flex : MachineState → State × FlexMemory → MachineState
+with_flex s q = record s { cpu = q.0; store = q.1.store; tables = record s.tables { flex = q.1.flex } }
+
+abbrev pub on_flex : MachineState → Result (State × FlexMemory) Refusal → Result MachineState Refusal
+on_flex s r = bind r (λ q. Ok (with_flex s q))
 
 -- OS_ChangeDynamicArea may change something and err.
 abbrev pub area_changing : MachineState → ℕ → Answer
@@ -71,11 +84,13 @@ abbrev pub moving_error : MachineState → Option SwiName → Option ErrorNumber
 moving_error s (Some swi.ChangeDynamicArea) = (change_asked s.cpu (machine_estate s)).error
 moving_error s name = None
 
--- A call by its name and its number without the X bit; `next` is where the guest goes on. What is none of the others is a flex call, or unknown.
+-- A call by its name and its number without the X bit; `next` is where the guest goes on. What is none of the others is
+-- a flex call, or unknown.
 unfoldable pub call_answer : MachineState → ℕ → ℕ → Option SwiName → Answer
 call_answer s next number (Some swi.WriteC) = done s (register_of s.cpu 0 % 256 ∷ []) next
 call_answer s next number (Some swi.WriteS) = wrote_text_after s next (printable_at s.store.bytes next)
-call_answer s next number (Some swi.Write0) = wrote_text_at s next (register_of s.cpu 0) (printable_at s.store.bytes (register_of s.cpu 0))
+call_answer s next number (Some swi.Write0) =
+    wrote_text_at s next (register_of s.cpu 0) (printable_at s.store.bytes (register_of s.cpu 0))
 call_answer s next number (Some swi.NewLine) = done s (10 ∷ 13 ∷ []) next
 call_answer s next number (Some swi.EnterOs) = done (in_supervisor s) [] next
 call_answer s next number (Some swi.Heap) = went_on s next (on_store s (heap_called s.cpu s.store))
@@ -85,4 +100,4 @@ call_answer s next number (Some swi.ReadDynamicArea) = went_on s next (on_estate
 call_answer s next number (Some swi.DynamicArea) = went_on s next (on_estate s (area_called s.cpu (machine_estate s)))
 call_answer s next number (Some swi.GenerateError) = refused s next (generated s (register_of s.cpu 0))
 call_answer s next number (Some swi.WriteI) = done s (number % 256 ∷ []) next
-call_answer s next number name = went_on s next (flex_called s name)
+call_answer s next number name = went_on s next (on_flex s (flex_called s.cpu (machine_flex s) name))

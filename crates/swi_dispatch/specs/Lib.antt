@@ -1,4 +1,6 @@
 pub use Rattle.swi_dispatch_answers
+pub use Rattle.swi_dispatch_breaks
+pub use Rattle.swi_dispatch_flex
 pub use Rattle.swi_dispatch_modules.specs.swi_dispatch_store
 pub use Rattle.swi_dispatch_modules
 pub use Rattle.arm_step
@@ -10,11 +12,9 @@ pub use Rattle.instances_table
 pub mod Additions
 pub mod Answers
 pub mod Boot
-pub mod Breaks
 pub mod Calls
 pub mod Ending
 pub mod Errors
-pub mod FlexCalls
 pub mod Gates
 pub mod ImagePlans
 pub mod MachineState

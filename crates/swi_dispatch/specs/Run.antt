@@ -1,16 +1,18 @@
--- A run: steps until the machine is halted, or the new program counter is among the breaks, or the budget is used up, tested in that
--- order after each step. A start on a break isn't tested. A step that ends in a fault isn't counted; that of OS_Exit is.
-use Rattle.std.specs.Prelude.{◌≡◌, ℕ, Bool, zero, suc, ◌+◌, ◌==◌, Option, Some, None, List, [], ◌++◌, if◌then◌else◌}
-use Rattle.std.specs.List.{list_any}
+-- A run: steps until the machine is halted, or the new program counter is among the breaks, or the budget is used up,
+-- tested in that order after each step. A start on a break isn't tested. A step that ends in a fault isn't counted;
+-- that of OS_Exit is.
+use Rattle.std.specs.Prelude.{◌≡◌, ℕ, zero, suc, ◌+◌, Option, Some, None, List, [], ◌++◌, if◌then◌else◌}
 use Rattle.profile.specs.declared.stop.Stop.{Stop}
 use Rattle.profile.specs.declared.stop.Stop.TheVariants as stop
 use Rattle.image_loader.specs.Entries.{Entry}
+unfoldable pub use Rattle.swi_dispatch_breaks.specs.Breaks.{is_among}
 use Rattle.swi_dispatch.specs.declared.halt.Halt.{Halt}
 use Rattle.swi_dispatch.specs.declared.halt.Halt.TheVariants as halt
 use Rattle.swi_dispatch.specs.MachineState.{MachineState, Outcome, stop_of}
 use Rattle.swi_dispatch.specs.Step.{machine_step}
 
--- what a run leaves: the machine, all that was printed, what the last step printed, if there was a step, the steps that count, and why it ended
+-- what a run leaves: the machine, all that was printed, what the last step printed, if there was a step, the steps
+-- that count, and why it ended
 pub record Run : Type 0 where
   pub now : MachineState
   pub printed : List ℕ
@@ -32,13 +34,12 @@ later first (Some x) = Some x
 
 -- a run after steps that printed so much, the last of them this, and of which so many count
 abbrev pub joined : List ℕ → Option (List ℕ) → ℕ → Run → Run
-joined printed last taken r = record r { printed = printed ++ r.printed; last = later last r.last; taken = taken + r.taken }
-
-unfoldable pub is_among : List ℕ → ℕ → Bool
-is_among breaks a = list_any (λ b. b == a) breaks
+joined printed last taken r =
+    record r { printed = printed ++ r.printed; last = later last r.last; taken = taken + r.taken }
 
 abbrev pub go_on : List ℕ → Outcome → Option Halt → (MachineState → Run) → Run
-go_on breaks a (Some h) rest = record { now = a.now; printed = a.printed; last = Some a.printed; taken = counted h; stop = stop_of h }
+go_on breaks a (Some h) rest =
+    record { now = a.now; printed = a.printed; last = Some a.printed; taken = counted h; stop = stop_of h }
 go_on breaks a None rest = if is_among breaks a.now.cpu.pc
     then record { now = a.now; printed = a.printed; last = Some a.printed; taken = 1; stop = stop.Break a.now.cpu.pc }
     else joined a.printed (Some a.printed) 1 (rest a.now)
@@ -50,7 +51,8 @@ run_unless_halted s None r = r
 unfoldable pub ran : List Entry → List ℕ → ℕ → MachineState → Run
 ran images breaks zero s = run_unless_halted s s.halt (resting s stop.Budget)
 ran images breaks (suc n) s =
-    run_unless_halted s s.halt (go_on breaks (machine_step images s) (machine_step images s).now.halt (ran images breaks n))
+    run_unless_halted s s.halt
+    (go_on breaks (machine_step images s) (machine_step images s).now.halt (ran images breaks n))
 
 -- one run and then another from where it stopped
 abbrev pub then_run : Run → Run → Run

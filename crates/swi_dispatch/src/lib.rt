@@ -3,10 +3,8 @@
 
 pub mod additions;
 pub mod boot_error;
-pub mod breaks;
 pub mod calls;
 pub mod errors;
-pub mod flex_calls;
 pub mod gate;
 pub mod halt;
 pub mod image_plans;
@@ -22,7 +20,6 @@ pub mod store_calls;
 
 pub use arm_step;
 pub use boot_error::BootError;
-pub use breaks::{BreakError, Breaks};
 pub use dynamic_areas;
 pub use flex_ground::flex_store;
 pub use halt::Halt;
@@ -33,4 +30,5 @@ pub use os_heap;
 pub use running::Ran;
 pub use swi_dispatch_answers;
 pub use swi_dispatch_answers::{Refusal, TextEnd};
+pub use swi_dispatch_breaks::{BreakError, Breaks};
 pub use swi_dispatch_modules::instances;

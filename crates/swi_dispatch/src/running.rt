@@ -1,4 +1,5 @@
-ghost use Rattle.std.specs.Prelude.{◌≡◌, ◌&&◌, ◌==◌, ◌≤◌, ◌↔◌, None, Some, [], List, false, true, IsTrue, IfOk, OnOk, OnErr};
+ghost use Rattle.std.specs.Prelude.{◌≡◌, ◌&&◌, ◌==◌, ◌≤◌, ◌↔◌, None, Some, [], List};
+ghost use Rattle.std.specs.Prelude.{false, true, IsTrue, IfOk, OnOk, OnErr};
 ghost use Rattle.std.specs.Option.{option_map};
 ghost use Rattle.swi_dispatch.specs.Parts.{state_of, IsWellFormed, OnlyState};
 ghost use Rattle.swi_dispatch.specs.Run.{ran, stop_after, count_after, last_or, quiet_run};
@@ -6,11 +7,11 @@ ghost use Rattle.swi_dispatch.specs.MachineState.{stop_of};
 ghost use Rattle.profile.specs.Output.{AppendsPart};
 ghost use Rattle.swi_dispatch.specs.Ending.{Ends, StandsAfter};
 
-use crate::breaks::Breaks;
 use crate::machine::Machine;
 use arm_step::Turn;
 use image_loader::Images;
 use profile::{Sink, Stop, WriteFault, push_all};
+use swi_dispatch_breaks::Breaks;
 
 /// Why a run ended, and how many of its steps count against a budget: all but one that ended in a
 /// fault.
@@ -85,7 +86,8 @@ impl Machine {
     // by itself, which prints nothing and halts nothing. Answers how many.
     fn run_quietly(&mut self, breaks: &Breaks, most: u64) -> u64
         requires { (state_of self.old).halt ≡ None }
-        ensures ran { (images : List Entry) → ran images breaks.now result (state_of self.old) ≡ quiet_run (state_of self.new) result }
+        ensures ran { (images : List Entry)
+            → ran images breaks.now result (state_of self.old) ≡ quiet_run (state_of self.new) result }
         ensures output { self.new.printed ≡ last_or self.old.printed (quiet_run (state_of self.new) result).last }
         ensures awake { (state_of self.new).halt ≡ None }
         ensures most { result ≤ most }
@@ -109,7 +111,8 @@ impl Machine {
         requires stepped { self.old.is_fresh ≡ false }
         requires awake { (state_of self.old).halt ≡ None }
         requires well_formed { IsWellFormed self.old }
-        ensures ran { (images : List Entry) → ran images [] result (state_of self.old) ≡ quiet_run (state_of self.new) result }
+        ensures ran { (images : List Entry)
+            → ran images [] result (state_of self.old) ≡ quiet_run (state_of self.new) result }
         ensures awake { (state_of self.new).halt ≡ None }
         ensures most { result ≤ most }
         ensures others { OnlyState self.old self.new }

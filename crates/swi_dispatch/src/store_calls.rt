@@ -1,11 +1,13 @@
-//! The calls on heaps, areas and modules, on the machine's core, memory, areas and modules.
+//! The calls on heaps, areas, modules and the flex store, on the parts of the machine that they act on.
 
 ghost use Rattle.std.specs.Prelude.{ℕ, ◌≡◌, ◌≤◌, [], Some, false};
 ghost use Rattle.profile.specs.Outcome.{Leaves};
 ghost use Rattle.profile.specs.ErrorNames.{error_code};
 ghost use Rattle.profile.specs.declared.error.ErrorNumber.{ErrorNumber};
 ghost use Rattle.profile.specs.declared.fault.Fault.TheVariants.{ErrorStop};
-ghost use Rattle.swi_dispatch_modules.specs.swi_dispatch_store.specs.Areas.{area_called, area_changed, area_read, change_asked};
+ghost use Rattle.swi_dispatch_flex.specs.Calls.{flex_called};
+ghost use Rattle.swi_dispatch_modules.specs.swi_dispatch_store.specs.Areas.{area_called, area_changed, area_read};
+ghost use Rattle.swi_dispatch_modules.specs.swi_dispatch_store.specs.Areas.{change_asked};
 ghost use Rattle.swi_dispatch_modules.specs.swi_dispatch_store.specs.Heaps.{heap_called};
 ghost use Rattle.swi_dispatch_modules.specs.Calls.{module_called};
 
@@ -15,6 +17,7 @@ use arrayvec::ArrayVec;
 use profile::{ErrorNumber, SwiName};
 use swi_dispatch_answers::strings::string_in;
 use swi_dispatch_answers::{MAX_TEXT, Refusal};
+use swi_dispatch_flex::call_flex;
 use swi_dispatch_modules::call_module;
 use swi_dispatch_modules::swi_dispatch_store::{
     call_area, call_heap, change_area, change_error, read_area,
@@ -22,7 +25,8 @@ use swi_dispatch_modules::swi_dispatch_store::{
 
 impl Machine {
     ghost use Rattle.swi_dispatch_answers.specs.Strings.{bytes_read, string_in};
-    ghost use Rattle.swi_dispatch.specs.Calls.{area_changing, call_answer, moving_error, on_estate, on_store, on_world, with_guest};
+    ghost use Rattle.swi_dispatch.specs.Calls.{area_changing, call_answer, machine_flex, moving_error, with_guest};
+    ghost use Rattle.swi_dispatch.specs.Calls.{on_estate, on_flex, on_store, on_world};
     ghost use Rattle.swi_dispatch.specs.MachineState.{machine_estate};
     ghost use Rattle.swi_dispatch.specs.ModulePlans.{machine_world};
     ghost use Rattle.swi_dispatch.specs.Parts.{state_of, outcome_of, Answers, IsInStep, OnlySteps, OnlyState};
@@ -105,7 +109,19 @@ impl Machine {
         change_area(&mut self.cpu, &mut self.memory, &mut self.areas)
     }
 
-    /// The error with which a call would end after it changed something. Without the X bit it is a fault instead, and nothing is changed.
+    /// A flex call by its name; any other is unknown.
+    pub(crate) fn call_flex(&mut self, name: Option<SwiName>) -> Result<(), Refusal>
+        requires stepped { self.old.is_fresh ≡ false }
+        ensures state { let s = state_of self.old in
+            Leaves s (on_flex s (flex_called s.cpu (machine_flex s) name)) result (state_of self.new) }
+        ensures others { OnlyState self.old self.new }
+    {
+        self.instances.count();
+        call_flex(&mut self.cpu, &mut self.memory, &mut self.flex, name)
+    }
+
+    /// The error with which a call would end after it changed something. Without the X bit it is a fault instead, and
+    /// nothing is changed.
     #[tactic(auto, using(crate::proofs::AreaAnswers::moving_stop))]
     pub(crate) fn moving_error(&self, name: Option<SwiName>) -> Option<ErrorNumber>
         ensures value { result ≡ moving_error (state_of self.now) name }

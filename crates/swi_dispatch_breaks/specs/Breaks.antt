@@ -1,9 +1,12 @@
 -- The addresses at which a run stops: multiples of 4, at most 16.
-use Rattle.std.specs.Prelude.{ℕ, not, ◌+◌, ◌%◌, ◌==◌, nat_le, Option, Some, None, Result, Ok, Err, List, [], ◌∷◌, ◌++◌, length, take, drop, if◌then◌else◌}
-use Rattle.std.specs.List.{position}
-use Rattle.swi_dispatch.specs.declared.breaks.BreakError.{BreakError}
-use Rattle.swi_dispatch.specs.declared.breaks.BreakError.TheVariants.{Unaligned, BreakTableFull, NoBreak}
-use Rattle.swi_dispatch.specs.Run.{is_among}
+use Rattle.std.specs.Prelude.{ℕ, Bool, not, ◌+◌, ◌%◌, ◌==◌, nat_le, Option, Some, None, Result, Ok, Err, List, [], ◌∷◌}
+use Rattle.std.specs.Prelude.{◌++◌, length, take, drop, if◌then◌else◌}
+use Rattle.std.specs.List.{list_any, position}
+use Rattle.swi_dispatch_breaks.specs.declared.breaks.BreakError.{BreakError}
+use Rattle.swi_dispatch_breaks.specs.declared.breaks.BreakError.TheVariants.{Unaligned, BreakTableFull, NoBreak}
+
+unfoldable pub is_among : List ℕ → ℕ → Bool
+is_among breaks a = list_any (λ b. b == a) breaks
 
 -- one more; one that is there already is there once
 unfoldable pub with_break : List ℕ → ℕ → Result (List ℕ) BreakError

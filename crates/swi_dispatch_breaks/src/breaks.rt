@@ -35,8 +35,7 @@ impl Model for Breaks {
 }
 
 impl Breaks {
-    ghost use Rattle.swi_dispatch.specs.Breaks.{with_break, without_break};
-    ghost use Rattle.swi_dispatch.specs.Run.{is_among};
+    ghost use Rattle.swi_dispatch_breaks.specs.Breaks.{is_among, with_break, without_break};
 
     /// No break.
     pub fn new() -> Breaks
@@ -91,14 +90,14 @@ impl Breaks {
     }
 
     /// Whether there is no break.
-    pub(crate) fn is_empty(&self) -> bool
+    pub fn is_empty(&self) -> bool
         ensures { IsTrue result ↔ (self.now ≡ []) }
     {
         self.addresses.is_empty()
     }
 
     /// Whether a run stops at the address.
-    #[tactic(auto, unfolding(crate::specs::Run::is_among))]
+    #[tactic(auto, unfolding(crate::specs::Breaks::is_among))]
     pub fn has(&self, address: u32) -> bool
         ensures { result ≡ is_among self.now address }
     {
