@@ -1,9 +1,12 @@
 pub use Rattle.os_heap_lists
 pub mod Calls
+pub mod Cursors
 pub mod Laws
+pub mod Marks
 pub mod Outcomes
 pub mod Payloads
 pub mod Probes
 pub mod Ranges
 pub mod Room
+pub mod Sound
 pub mod Store

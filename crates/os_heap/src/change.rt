@@ -6,6 +6,7 @@ ghost use Rattle.os_heap_lists.specs.Words.{AreApart};
 ghost use Rattle.os_heap.specs.Calls.{changed, end_changed, ending, has_own_size, MayEndArea, IsAreaEnded};
 ghost use Rattle.os_heap.specs.Ranges.{MayEnd, meets_any};
 ghost use Rattle.os_heap.specs.Outcomes.{IsHeapAt};
+ghost use Rattle.os_heap.specs.Sound.{IsSoundMap, KeepsOthers};
 ghost use Rattle.os_heap.specs.Store.{store_of, heap_in, find_heap, AreClasses, IsSound};
 
 use crate::counted::Counted;
@@ -22,25 +23,25 @@ impl Heaps {
     ///
     /// # Errors
     ///
-    /// The first of these, and nothing is changed then: `HeapBadDesc` where no heap starts at `heap`, or it is that of the module area;
-    /// `HeapBadRegion` where `change` is no multiple of 4, the new size is not within 16 to 16,777,216, or not all of the range is mapped;
-    /// `HeapOverlaps` where what the heap grows by meets a recorded range or an anchor; `HeapBadShrink` where the heap would end below its base.
+    /// The first of these, and nothing is changed then: `HeapBadDesc` where no heap starts at `heap`, or it is that of
+    /// the module area; `HeapBadRegion` where `change` is no multiple of 4, the new size is not within 16 to
+    /// 16,777,216, or not all of the range is mapped; `HeapOverlaps` where what the heap grows by meets a recorded range
+    /// or an anchor; `HeapBadShrink` where the heap would end below its base.
     ///
     /// RISC OS 3 Programmer's Reference Manual, "OS_Heap", reason 5.
     pub fn change_size(&self, map: &mut AddressMap, heap: u32, change: u32) -> Counted<()>
         requires sound { IsSound (store_of map.old) }
         requires classes { AreClasses map.old }
-        ensures store { Gives (store_of map.old) (changed (store_of map.old) heap change) result.answer (store_of map.new) }
+        ensures store { Gives (store_of map.old) (changed (store_of map.old) heap change) result.answer
+            (store_of map.new) }
         ensures sound { IsSound (store_of map.new) }
         ensures classes { AreClasses map.new }
         ensures others { (store_of map.new).others ≡ (store_of map.old).others }
         ensures mapping { mapping map.new ≡ mapping map.old }
         ensures probes { result.probes ≡ 0 }
     {
-        Counted {
-            answer: change_end(map, heap, change),
-            probes: 0,
-        }
+        let answer = change_end(map, heap, change);
+        Counted { answer, probes: 0 }
     }
 
     /// Gives the module area's heap another end, where that is allowed, as its area's size changes.
@@ -72,13 +73,9 @@ fn has_own_size(kind: Kind) -> bool
 
 /// Changes the end of a heap, where nothing speaks against it.
 fn change_end(map: &mut AddressMap, heap: u32, change: u32) -> Result<(), ErrorNumber>
-    requires sound { IsSound (store_of map.old) }
-    requires classes { AreClasses map.old }
+    requires { IsSoundMap map.old }
     ensures store { Gives (store_of map.old) (changed (store_of map.old) heap change) result (store_of map.new) }
-    ensures sound { IsSound (store_of map.new) }
-    ensures classes { AreClasses map.new }
-    ensures others { (store_of map.new).others ≡ (store_of map.old).others }
-    ensures mapping { mapping map.new ≡ mapping map.old }
+    ensures kept { KeepsOthers map.old map.new }
 {
     let Some(region) = find(map, heap) else {
         return Err(ErrorNumber::HeapBadDesc);
@@ -99,7 +96,9 @@ fn change_end(map: &mut AddressMap, heap: u32, change: u32) -> Result<(), ErrorN
 /// Whether a heap may have another end.
 fn may_end(map: &AddressMap, region: &Region, end: u32) -> Result<(), ErrorNumber>
     requires { IsHeapAt map.now region.now.at region.now.len }
-    ensures { MatchResult result (λ _. MayEnd (store_of map.now) (heap_in (bytes_of map.now) region.now) end) (λ e. (change : ℕ) → change % 4 ≡ 0 → end_changed (store_of map.now) (heap_in (bytes_of map.now) region.now) change end ≡ Err e) }
+    ensures { MatchResult result (λ _. MayEnd (store_of map.now) (heap_in (bytes_of map.now) region.now) end)
+        (λ e. (change : ℕ) → change % 4 ≡ 0
+        → end_changed (store_of map.now) (heap_in (bytes_of map.now) region.now) change end ≡ Err e) }
 {
     if !is_heap_region(map, region.at, end) {
         return Err(ErrorNumber::HeapBadRegion);
@@ -116,7 +115,8 @@ fn may_end(map: &AddressMap, region: &Region, end: u32) -> Result<(), ErrorNumbe
 /// Whether what a heap grows by up to another end meets a recorded range.
 fn overlaps(map: &AddressMap, region: &Region, end: u32) -> bool
     requires { region.now.at + region.now.len < 2 ^ 32 }
-    ensures { result ≡ (nat_lt region.now.len end && meets_any (region.now.at + region.now.len) (end - region.now.len) (store_of map.now)) }
+    ensures { result ≡ (nat_lt region.now.len end
+        && meets_any (region.now.at + region.now.len) (end - region.now.len) (store_of map.now)) }
 {
     region.len < end && meets_any(map, region.at + region.len, end - region.len)
 }
@@ -126,13 +126,9 @@ fn set_end(map: &mut AddressMap, region: &Region, end: u32)
     requires kind { is_heap_kind region.now.kind ≡ true }
     requires found { find_heap region.now.at (store_of map.old).heaps ≡ Some (heap_in (bytes_of map.old) region.now) }
     requires may { MayEnd (store_of map.old) (heap_in (bytes_of map.old) region.now) end }
-    requires sound { IsSound (store_of map.old) }
-    requires classes { AreClasses map.old }
+    requires state { IsSoundMap map.old }
     ensures store { store_of map.new ≡ ending (store_of map.old) (heap_in (bytes_of map.old) region.now) end }
-    ensures sound { IsSound (store_of map.new) }
-    ensures classes { AreClasses map.new }
-    ensures others { (store_of map.new).others ≡ (store_of map.old).others }
-    ensures mapping { mapping map.new ≡ mapping map.old }
+    ensures kept { KeepsOthers map.old map.new }
     ensures bytes { (a : ℕ) → AreApart a 1 (region.now.at + 12) 4 → byte_at map.new a ≡ byte_at map.old a }
 {
     put(map, region.at + END, end);

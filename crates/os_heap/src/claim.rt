@@ -1,16 +1,17 @@
-ghost use Rattle.std.specs.Prelude.{◌≡◌, ◌≤◌, ◌<◌, ◌-◌, ◌+◌, ◌^◌, Ok, Some, None, MatchOption, true};
+ghost use Rattle.std.specs.Prelude.{◌≡◌, ◌≤◌, ◌-◌, ◌+◌, Ok, Some, None, MatchOption, true};
 ghost use Rattle.profile.specs.Outcome.{Gives};
 ghost use Rattle.address_map.specs.Items.{is_total, size_of};
 ghost use Rattle.address_map.specs.Memory.{layout};
 ghost use Rattle.os_heap_lists.specs.Lists.{total_for, first_fit, claimed, or_at_base};
 ghost use Rattle.os_heap_lists.specs.Counts.{looked_at};
+ghost use Rattle.os_heap.specs.Cursors.{IsNewTotal};
 ghost use Rattle.os_heap.specs.Outcomes.{HasHeapAt, end_at, items_at, Claims};
 ghost use Rattle.os_heap_lists.specs.Walks.{IsFit};
 ghost use Rattle.os_heap.specs.Store.{store_of, AreClasses, IsSound};
 ghost use Rattle.os_heap.specs.Calls.{got};
 ghost use Rattle.os_heap.specs.Probes.{get_probes};
 
-use crate::counted::Counted;
+use crate::counted::{Counted, refused};
 use crate::heaps::{Heaps, find};
 use crate::marks::{make, remark};
 use crate::sums::round_up_8;
@@ -43,7 +44,8 @@ pub fn total_for(size: u32) -> u64
 /// The first free item, along the links, that has `needed` bytes.
 fn find_fit(map: &AddressMap, heap: u32, needed: u64) -> Search
     requires { HasHeapAt map.now heap }
-    ensures fit { MatchOption result.fit (first_fit needed (items_at map.now heap) ≡ None) (λ fit. IsFit heap (items_at map.now heap) needed fit.from fit.at fit.total) }
+    ensures fit { MatchOption result.fit (first_fit needed (items_at map.now heap) ≡ None)
+        (λ fit. IsFit heap (items_at map.now heap) needed fit.from fit.at fit.total) }
     ensures probes { result.probes ≡ looked_at needed (items_at map.now heap) }
 {
     let mut probes = 0;
@@ -87,9 +89,9 @@ fn take(map: &mut AddressMap, heap: u32, fit: &Fit, needed: u32) -> u32
 /// Makes a block of `needed` bytes behind all items, where the heap has room.
 fn append(map: &mut AddressMap, heap: u32, needed: u64) -> Result<u32, ErrorNumber>
     requires heap { HasHeapAt map.old heap }
-    requires total { is_total needed ≡ true }
-    requires small { needed < 2 ^ 34 }
-    ensures { Claims map.old map.new heap (end_at map.old heap) result (or_at_base needed (end_at map.old heap - 16) (items_at map.old heap) None) }
+    requires needed { IsNewTotal needed }
+    ensures { Claims map.old map.new heap (end_at map.old heap) result
+        (or_at_base needed (end_at map.old heap - 16) (items_at map.old heap) None) }
 {
     let base = word(map, heap + BASE);
     let end = word(map, heap + END);
@@ -107,24 +109,22 @@ fn append(map: &mut AddressMap, heap: u32, needed: u64) -> Result<u32, ErrorNumb
 #[tactic(auto, unfolding(os_heap_lists::specs::Lists::claimed))]
 pub(crate) fn claim_total(map: &mut AddressMap, heap: u32, needed: u64) -> Counted<u32>
     requires heap { HasHeapAt map.old heap }
-    requires total { is_total needed ≡ true }
-    requires small { needed < 2 ^ 34 }
-    ensures claim { Claims map.old map.new heap (end_at map.old heap) result.answer (claimed needed (end_at map.old heap - 16) (items_at map.old heap)) }
+    requires needed { IsNewTotal needed }
+    ensures claim { Claims map.old map.new heap (end_at map.old heap) result.answer
+        (claimed needed (end_at map.old heap - 16) (items_at map.old heap)) }
     ensures probes { result.probes ≡ looked_at needed (items_at map.old heap) }
 {
     let search = find_fit(map, heap, needed);
+    let probes = search.probes;
     match search.fit {
         Some(fit) => {
-            let block = take(map, heap, &fit, needed as u32);
-            Counted {
-                answer: Ok(block),
-                probes: search.probes,
-            }
+            let answer = Ok(take(map, heap, &fit, needed as u32));
+            Counted { answer, probes }
         }
-        None => Counted {
-            answer: append(map, heap, needed),
-            probes: search.probes,
-        },
+        None => {
+            let answer = append(map, heap, needed);
+            Counted { answer, probes }
+        }
     }
 }
 
@@ -134,8 +134,8 @@ impl Heaps {
     ///
     /// # Errors
     ///
-    /// `HeapBadDesc` where no heap starts at `heap`; `HeapNoRoom` where neither a free block nor the room above the base
-    /// suffices. Nothing is changed then.
+    /// `HeapBadDesc` where no heap starts at `heap`; `HeapNoRoom` where neither a free block nor the room above the
+    /// base suffices. Nothing is changed then.
     ///
     /// RISC OS 3 Programmer's Reference Manual, "OS_Heap", reason 2.
     pub fn get(&self, map: &mut AddressMap, heap: u32, size: u32) -> Counted<u32>
@@ -149,10 +149,7 @@ impl Heaps {
     {
         match find(map, heap) {
             Some(_) => claim_total(map, heap, total_for(size)),
-            None => Counted {
-                answer: Err(ErrorNumber::HeapBadDesc),
-                probes: 0,
-            },
+            None => refused(ErrorNumber::HeapBadDesc, 0),
         }
     }
 }

@@ -8,7 +8,7 @@ ghost use Rattle.os_heap.specs.Store.{store_of, IsSound};
 ghost use Rattle.os_heap.specs.Calls.{described};
 ghost use Rattle.os_heap.specs.Probes.{describe_probes};
 
-use crate::counted::Counted;
+use crate::counted::{Counted, refused};
 use crate::heaps::{Heaps, find};
 use crate::links::linked;
 use crate::words::{BASE, LINK, word};
@@ -38,10 +38,7 @@ impl Heaps {
         ensures probes { result.probes ≡ describe_probes (store_of map.now) heap }
     {
         let Some(region) = find(map, heap) else {
-            return Counted {
-                answer: Err(ErrorNumber::HeapBadDesc),
-                probes: 0,
-            };
+            return refused(ErrorNumber::HeapBadDesc, 0);
         };
         let free = free_room(map, heap, region.len);
         let room = region.len - word(map, heap + BASE);
@@ -75,9 +72,11 @@ fn free_room(map: &AddressMap, heap: u32, end: u32) -> Tally
 /// Passes one free item.
 fn pass(map: &AddressMap, heap: u32, end: u32, tally: &Tally) -> Tally
     requires heap { IsHeapAt map.now heap end }
-    requires tally { IsTallied (word_at (byte_at map.now)) heap (heap + end) (items_at map.now heap) tally.now.at tally.now.count tally.now.total tally.now.largest }
+    requires tally { IsTallied (word_at (byte_at map.now)) heap (heap + end) (items_at map.now heap)
+        tally.now.at tally.now.count tally.now.total tally.now.largest }
     requires more { tally.now.at ≢ 0 }
-    ensures tally { IsTallied (word_at (byte_at map.now)) heap (heap + end) (items_at map.now heap) result.at result.count result.total result.largest }
+    ensures tally { IsTallied (word_at (byte_at map.now)) heap (heap + end) (items_at map.now heap)
+        result.at result.count result.total result.largest }
     ensures count { result.count ≡ tally.now.count + 1 }
     ensures below { tally.now.count < free_count (items_at map.now heap) }
 {

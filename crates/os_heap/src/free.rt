@@ -4,12 +4,12 @@ ghost use Rattle.address_map.specs.Memory.{layout, regions};
 ghost use Rattle.os_heap_lists.specs.Lists.{released};
 ghost use Rattle.os_heap_lists.specs.Counts.{begun_below};
 ghost use Rattle.os_heap.specs.Outcomes.{HasHeapAt, end_at, has_anchor_in, items_at, Frees, Releases};
-ghost use Rattle.os_heap_lists.specs.Walks.{IsBlock};
+ghost use Rattle.os_heap.specs.Cursors.{IsAtBlock};
 ghost use Rattle.os_heap.specs.Store.{store_of, has_image, AreClasses, IsSound};
 ghost use Rattle.os_heap.specs.Calls.{unless_image, gave_back};
 ghost use Rattle.os_heap.specs.Probes.{walk_probes};
 
-use crate::counted::Counted;
+use crate::counted::{Counted, refused};
 use crate::heaps::{Heaps, find};
 use crate::marks::remark_gap;
 use crate::neighbour::{free_behind, own_total};
@@ -20,9 +20,9 @@ use profile::ErrorNumber;
 
 /// Makes a block free room. It joins the free items that touch it; at the base it is dropped, with that before it.
 pub(crate) fn give_back(map: &mut AddressMap, heap: u32, block: u32, cursor: &Cursor)
-    requires heap { HasHeapAt map.old heap }
-    requires block { IsBlock heap (items_at map.old heap) block cursor.now.from cursor.now.at cursor.now.free cursor.now.gap }
-    ensures { Releases map.old map.new heap (end_at map.old heap) (Ok tt) (released block (heap + 16) (items_at map.old heap)) }
+    requires { IsAtBlock map.old heap block cursor.now }
+    ensures { Releases map.old map.new heap (end_at map.old heap) (Ok tt)
+        (released block (heap + 16) (items_at map.old heap)) }
 {
     let base = heap + word(map, heap + BASE);
     let own = own_total(map, heap, block, cursor);
@@ -49,8 +49,7 @@ pub(crate) fn give_back(map: &mut AddressMap, heap: u32, block: u32, cursor: &Cu
 
 /// Whether the block at the cursor holds an anchor, its length word counted with it.
 pub(crate) fn holds_anchor(map: &AddressMap, heap: u32, block: u32, cursor: &Cursor) -> bool
-    requires heap { HasHeapAt map.now heap }
-    requires block { IsBlock heap (items_at map.now heap) block cursor.now.from cursor.now.at cursor.now.free cursor.now.gap }
+    requires { IsAtBlock map.now heap block cursor.now }
     ensures { result ≡ has_anchor_in map.now heap block }
 {
     map.anchor_in(cursor.at, own_total(map, heap, block, cursor))
@@ -59,22 +58,17 @@ pub(crate) fn holds_anchor(map: &AddressMap, heap: u32, block: u32, cursor: &Cur
 /// Gives a block of one heap back, where no anchor is in it.
 fn release(map: &mut AddressMap, heap: u32, block: u32) -> Counted<()>
     requires { HasHeapAt map.old heap }
-    ensures release { let left = unless_image (has_image block (regions map.old)) (released block (heap + 16) (items_at map.old heap)) in
+    ensures release { let left = unless_image (has_image block (regions map.old))
+        (released block (heap + 16) (items_at map.old heap)) in
         Frees map.old map.new heap (end_at map.old heap) result.answer (has_anchor_in map.old heap block) left }
     ensures probes { result.probes ≡ begun_below block (heap + 16) (items_at map.old heap) }
 {
     let walk = find_guest_block(map, heap, block);
-    let Some(cursor) = walk.block else {
-        return Counted {
-            answer: Err(ErrorNumber::HeapNotABlock),
-            probes: walk.probes,
-        };
+    let Some(cursor) = walk.hit else {
+        return refused(ErrorNumber::HeapNotABlock, walk.probes);
     };
     if holds_anchor(map, heap, block, &cursor) {
-        return Counted {
-            answer: Err(ErrorNumber::HeapHoldsAnchor),
-            probes: walk.probes,
-        };
+        return refused(ErrorNumber::HeapHoldsAnchor, walk.probes);
     }
     give_back(map, heap, block, &cursor);
     Counted {
@@ -89,14 +83,16 @@ impl Heaps {
     ///
     /// # Errors
     ///
-    /// `HeapBadDesc` where no heap starts at `heap`; `HeapNotABlock` where no block's bytes begin at `block`, or they are a
-    /// module image; `HeapHoldsAnchor` where an anchor of the flex store lies in the block. Nothing is changed then.
+    /// `HeapBadDesc` where no heap starts at `heap`; `HeapNotABlock` where no block's bytes begin at `block`, or they
+    /// are a module image; `HeapHoldsAnchor` where an anchor of the flex store lies in the block. Nothing is changed
+    /// then.
     ///
     /// RISC OS 3 Programmer's Reference Manual, "OS_Heap", reason 3.
     pub fn free(&self, map: &mut AddressMap, heap: u32, block: u32) -> Counted<()>
         requires sound { IsSound (store_of map.old) }
         requires classes { AreClasses map.old }
-        ensures store { Gives (store_of map.old) (gave_back (store_of map.old) heap block) result.answer (store_of map.new) }
+        ensures store { Gives (store_of map.old) (gave_back (store_of map.old) heap block) result.answer
+            (store_of map.new) }
         ensures sound { IsSound (store_of map.new) }
         ensures classes { AreClasses map.new }
         ensures layout { layout map.new ≡ layout map.old }
@@ -104,10 +100,7 @@ impl Heaps {
     {
         match find(map, heap) {
             Some(_) => release(map, heap, block),
-            None => Counted {
-                answer: Err(ErrorNumber::HeapBadDesc),
-                probes: 0,
-            },
+            None => refused(ErrorNumber::HeapBadDesc, 0),
         }
     }
 }

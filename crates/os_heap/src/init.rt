@@ -7,6 +7,7 @@ ghost use Rattle.address_map.specs.Records.{is_heap_kind};
 ghost use Rattle.address_map.specs.declared.region.Kind.TheVariants.{Heap, Rma};
 ghost use Rattle.os_heap.specs.Ranges.{MayBegin, is_heap_region, meets, meets_any};
 ghost use Rattle.os_heap_lists.specs.Heap.{with_heap};
+ghost use Rattle.os_heap.specs.Sound.{IsSoundMap, KeepsOthers};
 ghost use Rattle.os_heap.specs.Store.{store_of, heaps_in, guest_count, AreClasses, IsSound};
 ghost use Rattle.os_heap.specs.Calls.{begun, begun_with};
 
@@ -29,9 +30,9 @@ impl Heaps {
     ///
     /// # Errors
     ///
-    /// The first of these, and nothing is changed then: `HeapBadRegion` where the address or the size is no multiple of 4, the size
-    /// is not within 16 to 16,777,216, or not all of the range is mapped; `HeapOverlaps` where it meets a recorded range or an
-    /// anchor; `HeapTableFull` where there are 64 heaps besides that of the module area.
+    /// The first of these, and nothing is changed then: `HeapBadRegion` where the address or the size is no multiple of
+    /// 4, the size is not within 16 to 16,777,216, or not all of the range is mapped; `HeapOverlaps` where it meets a
+    /// recorded range or an anchor; `HeapTableFull` where there are 64 heaps besides that of the module area.
     pub fn init(&self, map: &mut AddressMap, heap: u32, size: u32) -> Counted<()>
         requires sound { IsSound (store_of map.old) }
         requires classes { AreClasses map.old }
@@ -42,10 +43,8 @@ impl Heaps {
         ensures mapping { mapping map.new ≡ mapping map.old }
         ensures probes { result.probes ≡ 0 }
     {
-        Counted {
-            answer: begin(map, heap, size),
-            probes: 0,
-        }
+        let answer = begin(map, heap, size);
+        Counted { answer, probes: 0 }
     }
 
     /// Makes the heap of the module area, without items, as `init` makes one that it does not refuse.
@@ -65,13 +64,9 @@ impl Heaps {
 
 /// Makes a heap, where nothing speaks against it.
 fn begin(map: &mut AddressMap, heap: u32, size: u32) -> Result<(), ErrorNumber>
-    requires sound { IsSound (store_of map.old) }
-    requires classes { AreClasses map.old }
+    requires { IsSoundMap map.old }
     ensures store { Gives (store_of map.old) (begun (store_of map.old) heap size) result (store_of map.new) }
-    ensures sound { IsSound (store_of map.new) }
-    ensures classes { AreClasses map.new }
-    ensures others { (store_of map.new).others ≡ (store_of map.old).others }
-    ensures mapping { mapping map.new ≡ mapping map.old }
+    ensures kept { KeepsOthers map.old map.new }
 {
     may_begin(map, heap, size)?;
     make(map, Kind::Heap, heap, size);
@@ -82,13 +77,9 @@ fn begin(map: &mut AddressMap, heap: u32, size: u32) -> Result<(), ErrorNumber>
 fn make(map: &mut AddressMap, kind: Kind, heap: u32, size: u32)
     requires kind { is_heap_kind kind ≡ true }
     requires may { MayBegin kind (store_of map.old) heap size }
-    requires sound { IsSound (store_of map.old) }
-    requires classes { AreClasses map.old }
+    requires state { IsSoundMap map.old }
     ensures store { store_of map.new ≡ begun_with kind (store_of map.old) heap size }
-    ensures sound { IsSound (store_of map.new) }
-    ensures classes { AreClasses map.new }
-    ensures others { (store_of map.new).others ≡ (store_of map.old).others }
-    ensures mapping { mapping map.new ≡ mapping map.old }
+    ensures kept { KeepsOthers map.old map.new }
 {
     write_descriptor(map, heap, size);
     mark_descriptor(map, heap);
@@ -112,7 +103,8 @@ fn write_descriptor(map: &mut AddressMap, heap: u32, size: u32)
 
 /// Whether a heap may be made of a range.
 fn may_begin(map: &AddressMap, heap: u32, size: u32) -> Result<(), ErrorNumber>
-    ensures { MatchResult result (λ _. MayBegin Heap (store_of map.now) heap size) (λ e. begun (store_of map.now) heap size ≡ Err e) }
+    ensures { MatchResult result (λ _. MayBegin Heap (store_of map.now) heap size)
+        (λ e. begun (store_of map.now) heap size ≡ Err e) }
 {
     if !is_heap_region(map, heap, size) {
         return Err(ErrorNumber::HeapBadRegion);
@@ -120,7 +112,7 @@ fn may_begin(map: &AddressMap, heap: u32, size: u32) -> Result<(), ErrorNumber>
     if meets_any(map, heap, size) {
         return Err(ErrorNumber::HeapOverlaps);
     }
-    if count_guests(map) >= MOST_HEAPS {
+    if count_guests(map.regions()) >= MOST_HEAPS {
         return Err(ErrorNumber::HeapTableFull);
     }
     Ok(())
@@ -169,13 +161,7 @@ fn meets(region: &Region, heap: u32, size: u32) -> bool
 }
 
 /// How many heaps guests have made.
-fn count_guests(map: &AddressMap) -> usize
-    ensures { result ≡ guest_count (store_of map.now).heaps }
-{
-    count_regions(map.regions())
-}
-
-fn count_regions(regions: &[Region]) -> usize
+fn count_guests(regions: &[Region]) -> usize
     ensures { (b : Bytes) → guest_count (heaps_in b regions.now) ≡ result }
 {
     let mut count = 0;

@@ -5,6 +5,7 @@ ghost use Rattle.address_map.specs.Records.{with_class};
 ghost use Rattle.address_map.specs.declared.class.Class.TheVariants.{Heap};
 ghost use Rattle.os_heap_lists.specs.Lists.{left_free};
 ghost use Rattle.os_heap_lists.specs.Marks.{head_class, Remarks, with_item_marked, with_items_marked};
+ghost use Rattle.os_heap.specs.Marks.{RemarksItems, SetsClasses};
 ghost use Rattle.os_heap.specs.Outcomes.{CanStand};
 
 use crate::walk::Cursor;
@@ -18,9 +19,7 @@ const WORD: u32 = 4;
 fn mark(map: &mut AddressMap, at: u32, is_head: bool)
     requires aligned { at % 4 ≡ 0 }
     requires mapped { is_mapped map.old at ≡ true }
-    ensures marks { (a : ℕ) → class_of map.new a ≡ with_class (class_of map.old) at (head_class is_head) a }
-    ensures bytes { byte_at map.new ≡ byte_at map.old }
-    ensures layout { layout map.new ≡ layout map.old }
+    ensures { SetsClasses map.old map.new (with_class (class_of map.old) at (head_class is_head)) }
 {
     if is_head {
         map.own(Kind::HeadWord, at, WORD);
@@ -45,9 +44,7 @@ pub fn mark_item(map: &mut AddressMap, at: u32, item: Item, is_head: bool)
 /// Marks the words of items that lie one behind the other, or takes their marks away.
 fn mark_items(map: &mut AddressMap, at: u32, items: &[Item], is_head: bool)
     requires { CanStand map.old at items.now }
-    ensures marks { (a : ℕ) → class_of map.new a ≡ with_items_marked at items.now (head_class is_head) (class_of map.old) a }
-    ensures bytes { byte_at map.new ≡ byte_at map.old }
-    ensures layout { layout map.new ≡ layout map.old }
+    ensures { SetsClasses map.old map.new (with_items_marked at items.now (head_class is_head) (class_of map.old)) }
 {
     let mut place = at;
     for item in items {
@@ -70,25 +67,21 @@ pub fn make(map: &mut AddressMap, at: u32, news: &[Item])
 pub(crate) fn remark(map: &mut AddressMap, at: u32, olds: &[Item], news: &[Item])
     requires olds { CanStand map.old at olds.now }
     requires news { CanStand map.old at news.now }
-    ensures marks { Remarks (class_of map.old) (class_of map.new) at olds.now news.now }
-    ensures bytes { byte_at map.new ≡ byte_at map.old }
-    ensures layout { layout map.new ≡ layout map.old }
+    ensures { RemarksItems map.old map.new at olds.now news.now }
 {
     mark_items(map, at, olds, false);
     mark_items(map, at, news, true);
 }
 
-/// The same with a free item before the cursor, if there is one, which is given up with the items from the cursor on. The new ones
-/// begin where it began.
+/// The same with a free item before the cursor, if there is one, which is given up with the items from the cursor on.
+/// The new ones begin where it began.
 pub(crate) fn remark_gap(map: &mut AddressMap, cursor: &Cursor, olds: &[Item], news: &[Item])
     requires low { cursor.now.gap ≤ cursor.now.at }
     requires gap { CanStand map.old (cursor.now.at - cursor.now.gap) (left_free cursor.now.gap) }
     requires olds { CanStand map.old cursor.now.at olds.now }
     requires news { CanStand map.old (cursor.now.at - cursor.now.gap) news.now }
-    ensures marks { let from = cursor.now.at - cursor.now.gap in
-        Remarks (class_of map.old) (class_of map.new) from (left_free cursor.now.gap ++ olds.now) news.now }
-    ensures bytes { byte_at map.new ≡ byte_at map.old }
-    ensures layout { layout map.new ≡ layout map.old }
+    ensures { let from = cursor.now.at - cursor.now.gap in
+        RemarksItems map.old map.new from (left_free cursor.now.gap ++ olds.now) news.now }
 {
     let from = cursor.at - cursor.gap;
     give_up_gap(map, from, cursor.gap);
@@ -99,9 +92,7 @@ pub(crate) fn remark_gap(map: &mut AddressMap, cursor: &Cursor, olds: &[Item], n
 /// Takes the marks of a free item away, or of nothing, where it would have no bytes.
 fn give_up_gap(map: &mut AddressMap, at: u32, gap: u32)
     requires { CanStand map.old at (left_free gap) }
-    ensures marks { Remarks (class_of map.old) (class_of map.new) at (left_free gap) [] }
-    ensures bytes { byte_at map.new ≡ byte_at map.old }
-    ensures layout { layout map.new ≡ layout map.old }
+    ensures { RemarksItems map.old map.new at (left_free gap) [] }
 {
     if gap != 0 {
         mark_items(map, at, &[Item::Free(gap)], false);
@@ -112,9 +103,7 @@ fn give_up_gap(map: &mut AddressMap, at: u32, gap: u32)
 pub(crate) fn mark_descriptor(map: &mut AddressMap, heap: u32)
     requires aligned { heap % 4 ≡ 0 }
     requires mapped { AreMapped (is_mapped map.old) heap 16 }
-    ensures marks { (a : ℕ) → class_of map.new a ≡ (if in_range heap 16 (word_start a) then Heap else class_of map.old a) }
-    ensures bytes { byte_at map.new ≡ byte_at map.old }
-    ensures layout { layout map.new ≡ layout map.old }
+    ensures { SetsClasses map.old map.new (λ a. if in_range heap 16 (word_start a) then Heap else class_of map.old a) }
 {
     mark(map, heap, true);
     mark(map, heap + LINK, true);

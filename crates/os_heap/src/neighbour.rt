@@ -2,8 +2,8 @@ ghost use Rattle.std.specs.Prelude.{◌≡◌, ◌≤◌, ◌+◌};
 ghost use Rattle.address_map.specs.Bytes.{word_at};
 ghost use Rattle.address_map.specs.Items.{linked};
 ghost use Rattle.address_map.specs.Memory.{byte_at};
-ghost use Rattle.os_heap.specs.Outcomes.{HasHeapAt, end_at, items_at};
-ghost use Rattle.os_heap_lists.specs.Walks.{IsBlock};
+ghost use Rattle.os_heap.specs.Cursors.{IsAtBlock};
+ghost use Rattle.os_heap.specs.Outcomes.{end_at};
 ghost use Rattle.os_heap_lists.specs.Words.{link_at};
 
 use crate::walk::Cursor;
@@ -21,8 +21,7 @@ pub(crate) struct Neighbour {
 
 /// The total of the block at the cursor.
 pub(crate) fn own_total(map: &AddressMap, heap: u32, block: u32, cursor: &Cursor) -> u32
-    requires heap { HasHeapAt map.now heap }
-    requires block { IsBlock heap (items_at map.now heap) block cursor.now.from cursor.now.at cursor.now.free cursor.now.gap }
+    requires { IsAtBlock map.now heap block cursor.now }
     ensures word { result ≡ word_at (byte_at map.now) cursor.now.at }
     ensures inside { cursor.now.at + result ≤ heap + end_at map.now heap }
     ensures below { cursor.now.at + result ≤ 67108864 }
@@ -32,8 +31,7 @@ pub(crate) fn own_total(map: &AddressMap, heap: u32, block: u32, cursor: &Cursor
 
 /// The free item behind the block at the cursor, which ends where that item begins.
 pub(crate) fn free_behind(map: &AddressMap, heap: u32, block: u32, cursor: &Cursor) -> Neighbour
-    requires heap { HasHeapAt map.now heap }
-    requires block { IsBlock heap (items_at map.now heap) block cursor.now.from cursor.now.at cursor.now.free cursor.now.gap }
+    requires place { IsAtBlock map.now heap block cursor.now }
     requires here { cursor.now.at + word_at (byte_at map.now) cursor.now.at ≡ cursor.now.free }
     ensures total { result.total ≡ word_at (byte_at map.now) (cursor.now.free + 4) }
     ensures next { result.next ≡ linked cursor.now.free (word_at (byte_at map.now) (link_at heap cursor.now.free)) }

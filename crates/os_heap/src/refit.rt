@@ -1,11 +1,11 @@
-ghost use Rattle.std.specs.Prelude.{◌≡◌, ◌≢◌, ◌≤◌, ◌<◌, ◌+◌, ◌^◌, true};
+ghost use Rattle.std.specs.Prelude.{◌≡◌, ◌≢◌, ◌≤◌, ◌<◌, ◌+◌, true};
 ghost use Rattle.address_map.specs.Bytes.{word_at};
 ghost use Rattle.address_map.specs.Items.{is_total};
 ghost use Rattle.address_map.specs.Memory.{byte_at, layout, class_of};
-ghost use Rattle.os_heap.specs.Outcomes.{HasHeapAt, end_at, items_at, Refits};
+ghost use Rattle.os_heap.specs.Cursors.{IsAtBlock, IsNewTotal, RefitsBlock};
+ghost use Rattle.os_heap.specs.Outcomes.{end_at};
 ghost use Rattle.os_heap_lists.specs.Words.{IsDivided};
-ghost use Rattle.os_heap_lists.specs.Walks.{last_link, IsBlock};
-ghost use Rattle.os_heap_lists.specs.Lists.{resized_in_place};
+ghost use Rattle.os_heap_lists.specs.Walks.{last_link};
 
 use crate::marks::remark;
 use crate::neighbour::{free_behind, own_total};
@@ -21,11 +21,9 @@ pub(crate) fn refit(
     cursor: &Cursor,
     needed: u64,
 ) -> bool
-    requires heap { HasHeapAt map.old heap }
-    requires block { IsBlock heap (items_at map.old heap) block cursor.now.from cursor.now.at cursor.now.free cursor.now.gap }
-    requires total { is_total needed ≡ true }
-    requires small { needed < 2 ^ 34 }
-    ensures { Refits map.old map.new heap (end_at map.old heap) result (resized_in_place block (heap + end_at map.old heap) needed (heap + 16) (items_at map.old heap)) }
+    requires place { IsAtBlock map.old heap block cursor.now }
+    requires needed { IsNewTotal needed }
+    ensures { RefitsBlock map.old map.new heap block needed result }
 {
     let total = own_total(map, heap, block, cursor);
     if needed == u64::from(total) {
@@ -41,14 +39,14 @@ pub(crate) fn refit(
     true
 }
 
-/// Gives the block that ends at the base another total, where the heap has room for that. The base moves with the block's end.
+/// Gives the block that ends at the base another total, where the heap has room for that. The base moves with the
+/// block's end.
 fn refit_last(map: &mut AddressMap, heap: u32, block: u32, cursor: &Cursor, needed: u64) -> bool
-    requires heap { HasHeapAt map.old heap }
-    requires block { IsBlock heap (items_at map.old heap) block cursor.now.from cursor.now.at cursor.now.free cursor.now.gap }
-    requires total { is_total needed ≡ true }
-    requires small { needed < 2 ^ 34 }
-    requires last { cursor.now.at + word_at (byte_at map.old) cursor.now.at ≡ heap + word_at (byte_at map.old) (heap + 8) }
-    ensures { Refits map.old map.new heap (end_at map.old heap) result (resized_in_place block (heap + end_at map.old heap) needed (heap + 16) (items_at map.old heap)) }
+    requires place { IsAtBlock map.old heap block cursor.now }
+    requires needed { IsNewTotal needed }
+    requires last { cursor.now.at + word_at (byte_at map.old) cursor.now.at
+        ≡ heap + word_at (byte_at map.old) (heap + 8) }
+    ensures { RefitsBlock map.old map.new heap block needed result }
 {
     let end = heap + word(map, heap + END);
     if u64::from(cursor.at) + needed > u64::from(end) {
@@ -62,12 +60,12 @@ fn refit_last(map: &mut AddressMap, heap: u32, block: u32, cursor: &Cursor, need
 
 /// Cuts bytes off a block that is not the last. They are free then, and join what is free behind them.
 fn cut(map: &mut AddressMap, heap: u32, block: u32, cursor: &Cursor, needed: u32)
-    requires heap { HasHeapAt map.old heap }
-    requires block { IsBlock heap (items_at map.old heap) block cursor.now.from cursor.now.at cursor.now.free cursor.now.gap }
+    requires place { IsAtBlock map.old heap block cursor.now }
     requires total { is_total needed ≡ true }
-    requires inside { cursor.now.at + word_at (byte_at map.old) cursor.now.at ≢ heap + word_at (byte_at map.old) (heap + 8) }
+    requires inside { cursor.now.at + word_at (byte_at map.old) cursor.now.at
+        ≢ heap + word_at (byte_at map.old) (heap + 8) }
     requires smaller { needed < word_at (byte_at map.old) cursor.now.at }
-    ensures { Refits map.old map.new heap (end_at map.old heap) true (resized_in_place block (heap + end_at map.old heap) needed (heap + 16) (items_at map.old heap)) }
+    ensures { RefitsBlock map.old map.new heap block needed true }
 {
     let total = own_total(map, heap, block, cursor);
     let behind = cursor.at + total;
@@ -77,12 +75,8 @@ fn cut(map: &mut AddressMap, heap: u32, block: u32, cursor: &Cursor, needed: u32
         let joined = left + item.total;
         divide(map, heap, cursor, needed, joined, item.next);
         let olds = [Item::Live(total), Item::Free(item.total)];
-        remark(
-            map,
-            cursor.at,
-            &olds,
-            &[Item::Live(needed), Item::Free(joined)],
-        );
+        let news = [Item::Live(needed), Item::Free(joined)];
+        remark(map, cursor.at, &olds, &news);
         return;
     }
     divide(map, heap, cursor, needed, left, cursor.free);
@@ -92,12 +86,12 @@ fn cut(map: &mut AddressMap, heap: u32, block: u32, cursor: &Cursor, needed: u32
 
 /// Gives a block that is not the last more bytes where it stands: those of the free item behind it.
 fn grow(map: &mut AddressMap, heap: u32, block: u32, cursor: &Cursor, needed: u64) -> bool
-    requires heap { HasHeapAt map.old heap }
-    requires block { IsBlock heap (items_at map.old heap) block cursor.now.from cursor.now.at cursor.now.free cursor.now.gap }
+    requires place { IsAtBlock map.old heap block cursor.now }
     requires total { is_total needed ≡ true }
-    requires inside { cursor.now.at + word_at (byte_at map.old) cursor.now.at ≢ heap + word_at (byte_at map.old) (heap + 8) }
+    requires inside { cursor.now.at + word_at (byte_at map.old) cursor.now.at
+        ≢ heap + word_at (byte_at map.old) (heap + 8) }
     requires larger { word_at (byte_at map.old) cursor.now.at < needed }
-    ensures { Refits map.old map.new heap (end_at map.old heap) result (resized_in_place block (heap + end_at map.old heap) needed (heap + 16) (items_at map.old heap)) }
+    ensures { RefitsBlock map.old map.new heap block needed result }
 {
     let total = own_total(map, heap, block, cursor);
     let behind = cursor.at + total;
@@ -120,22 +114,18 @@ fn grow(map: &mut AddressMap, heap: u32, block: u32, cursor: &Cursor, needed: u6
         return true;
     }
     divide(map, heap, cursor, grown, left, item.next);
-    remark(
-        map,
-        cursor.at,
-        &olds,
-        &[Item::Live(grown), Item::Free(left)],
-    );
+    let news = [Item::Live(grown), Item::Free(left)];
+    remark(map, cursor.at, &olds, &news);
     true
 }
 
 /// Gives a block another total, and makes what is behind its new end a free item.
 fn divide(map: &mut AddressMap, heap: u32, cursor: &Cursor, total: u32, left: u32, next: u32)
-    requires heap { HasHeapAt map.old heap }
-    requires block { IsBlock heap (items_at map.old heap) (cursor.now.at + 4) cursor.now.from cursor.now.at cursor.now.free cursor.now.gap }
+    requires place { IsAtBlock map.old heap (cursor.now.at + 4) cursor.now }
     requires total { is_total total ≡ true }
     requires room { cursor.now.at + total + 8 ≤ heap + end_at map.old heap }
-    ensures words { IsDivided (byte_at map.old) (byte_at map.new) heap (last_link cursor.now.from cursor.now.at cursor.now.gap) cursor.now.at total left next }
+    ensures words { IsDivided (byte_at map.old) (byte_at map.new) heap
+        (last_link cursor.now.from cursor.now.at cursor.now.gap) cursor.now.at total left next }
     ensures layout { layout map.new ≡ layout map.old }
     ensures marks { class_of map.new ≡ class_of map.old }
 {

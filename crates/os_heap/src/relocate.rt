@@ -1,15 +1,15 @@
-ghost use Rattle.std.specs.Prelude.{false, ◌≡◌, ◌≢◌, ◌<◌, ◌+◌, ◌-◌, ◌^◌, Some, true, is_some};
+ghost use Rattle.std.specs.Prelude.{◌≡◌, ◌≢◌, ◌<◌, ◌+◌, ◌-◌, Some, true, is_some};
 ghost use Rattle.profile.specs.Outcome.{Gives};
-ghost use Rattle.address_map.specs.Items.{is_total};
-ghost use Rattle.address_map.specs.Memory.{layout, regions};
-ghost use Rattle.os_heap.specs.Calls.{holds_anchor, moved};
+ghost use Rattle.os_heap.specs.Calls.{moved};
+ghost use Rattle.os_heap.specs.Cursors.{HasFollowed, IsNewTotal, MayMove};
 ghost use Rattle.os_heap.specs.Probes.{move_probes};
 ghost use Rattle.os_heap_lists.specs.Heap.{HeapList};
 ghost use Rattle.os_heap.specs.Outcomes.{HasHeapAt, items_at};
 ghost use Rattle.os_heap_lists.specs.Lists.{claimed, live_total};
-ghost use Rattle.os_heap_lists.specs.Walks.{IsBlock, IsLinked};
+ghost use Rattle.os_heap_lists.specs.Walks.{IsBlock};
 ghost use Rattle.os_heap_lists.specs.Counts.{free_below};
-ghost use Rattle.os_heap.specs.Store.{has_image, store_of, find_heap, AreClasses, IsSound};
+ghost use Rattle.os_heap.specs.Sound.{IsSoundMap, KeepsLayout};
+ghost use Rattle.os_heap.specs.Store.{store_of, find_heap};
 
 use crate::claim::claim_total;
 use crate::counted::Counted;
@@ -19,7 +19,8 @@ use crate::words::{follow, word};
 use address_map::AddressMap;
 use profile::memory_map::HEAP_DESCRIPTOR;
 
-/// Moves a block to one of `needed` bytes: claims that, copies the bytes that the old block holds, and gives the old block back.
+/// Moves a block to one of `needed` bytes: claims that, copies the bytes that the old block holds, and gives the old
+/// block back.
 pub(crate) fn relocate(
     map: &mut AddressMap,
     heap: u32,
@@ -27,21 +28,15 @@ pub(crate) fn relocate(
     total: u32,
     needed: u64,
 ) -> Counted<u32>
-    requires sound { IsSound (store_of map.old) }
-    requires classes { AreClasses map.old }
-    requires heap { HasHeapAt map.old heap }
-    requires found { is_some (find_heap heap (store_of map.old).heaps) ≡ true }
-    requires own { has_image block (regions map.old) ≡ false }
-    requires live { live_total block (heap + 16) (items_at map.old heap) ≡ Some total }
-    requires unheld { holds_anchor (store_of map.old).anchor block (Some total) ≡ false }
-    requires whole { is_total needed ≡ true }
-    requires small { needed < 2 ^ 34 }
+    requires state { IsSoundMap map.old }
+    requires may { MayMove map.old heap block total }
+    requires needed { IsNewTotal needed }
     requires larger { total < needed }
-    ensures store { (h : HeapList) → find_heap heap (store_of map.old).heaps ≡ Some h → Gives (store_of map.old) (moved (store_of map.old) h block total needed) result.answer (store_of map.new) }
-    ensures sound { IsSound (store_of map.new) }
-    ensures classes { AreClasses map.new }
-    ensures layout { layout map.new ≡ layout map.old }
-    ensures probes { (h : HeapList) → find_heap heap (store_of map.old).heaps ≡ Some h → result.probes ≡ move_probes h block needed (claimed needed (h.end - 16) h.items) }
+    ensures store { (h : HeapList) → find_heap heap (store_of map.old).heaps ≡ Some h
+        → Gives (store_of map.old) (moved (store_of map.old) h block total needed) result.answer (store_of map.new) }
+    ensures kept { KeepsLayout map.old map.new }
+    ensures probes { (h : HeapList) → find_heap heap (store_of map.old).heaps ≡ Some h
+        → result.probes ≡ move_probes h block needed (claimed needed (h.end - 16) h.items) }
 {
     let claim = claim_total(map, heap, needed);
     let Ok(new) = claim.answer else {
@@ -89,10 +84,10 @@ fn find_by_links(map: &AddressMap, heap: u32, block: u32) -> Cursor
 /// The walk along the links after one more free item.
 fn pass_free(map: &AddressMap, heap: u32, block: u32, cursor: &Cursor) -> Cursor
     requires heap { HasHeapAt map.now heap }
-    requires walk { IsLinked heap (items_at map.now heap) block cursor.now.from cursor.now.at cursor.now.free cursor.now.gap cursor.now.probes }
+    requires walk { HasFollowed map.now heap block cursor.now }
     requires more { cursor.now.free ≢ 0 }
     requires before { cursor.now.free < block }
-    ensures walk { IsLinked heap (items_at map.now heap) block result.from result.at result.free result.gap result.probes }
+    ensures walk { HasFollowed map.now heap block result }
     ensures grows { cursor.now.at < result.at }
 {
     let free = cursor.free;

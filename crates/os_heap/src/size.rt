@@ -6,7 +6,7 @@ ghost use Rattle.address_map.specs.Memory.{regions};
 ghost use Rattle.os_heap.specs.Store.{store_of, IsSound};
 ghost use Rattle.os_heap.specs.Probes.{walk_probes};
 
-use crate::counted::Counted;
+use crate::counted::{Counted, refused};
 use crate::heaps::{Heaps, find};
 use crate::walk::find_guest_block;
 use crate::words::word;
@@ -14,13 +14,13 @@ use address_map::AddressMap;
 use profile::ErrorNumber;
 
 impl Heaps {
-    /// The bytes that the block whose first byte is at `block` holds: its total, less the 4 bytes of its length word. A probe is an
-    /// item that the walk to the block passes.
+    /// The bytes that the block whose first byte is at `block` holds: its total, less the 4 bytes of its length word. A
+    /// probe is an item that the walk to the block passes.
     ///
     /// # Errors
     ///
-    /// `HeapBadDesc` where no heap starts at `heap`; `HeapNotABlock` where no block's bytes begin at `block`, or they are a
-    /// module image.
+    /// `HeapBadDesc` where no heap starts at `heap`; `HeapNotABlock` where no block's bytes begin at `block`, or they
+    /// are a module image.
     ///
     /// RISC OS 3 Programmer's Reference Manual, "OS_Heap", reason 6.
     pub fn block_size(&self, map: &AddressMap, heap: u32, block: u32) -> Counted<u32>
@@ -30,10 +30,7 @@ impl Heaps {
     {
         match find(map, heap) {
             Some(_) => measure(map, heap, block),
-            None => Counted {
-                answer: Err(ErrorNumber::HeapBadDesc),
-                probes: 0,
-            },
+            None => refused(ErrorNumber::HeapBadDesc, 0),
         }
     }
 }
@@ -45,14 +42,11 @@ fn measure(map: &AddressMap, heap: u32, block: u32) -> Counted<u32>
     ensures probes { result.probes ≡ begun_below block (heap + 16) (items_at map.now heap) }
 {
     let walk = find_guest_block(map, heap, block);
-    match walk.block {
+    match walk.hit {
         Some(cursor) => Counted {
             answer: Ok(word(map, cursor.at) - 4),
             probes: walk.probes,
         },
-        None => Counted {
-            answer: Err(ErrorNumber::HeapNotABlock),
-            probes: walk.probes,
-        },
+        None => refused(ErrorNumber::HeapNotABlock, walk.probes),
     }
 }

@@ -1,12 +1,10 @@
-ghost use Rattle.std.specs.Prelude.{◌≡◌, ◌≢◌, ◌≤◌, ◌<◌, ◌-◌, ◌+◌, ◌^◌, false, None, MatchOption};
+ghost use Rattle.std.specs.Prelude.{◌≡◌, ◌≤◌, ◌<◌, ◌-◌, ◌+◌};
 ghost use Rattle.address_map.specs.Bytes.{word_at};
-ghost use Rattle.address_map.specs.Memory.{byte_at, regions};
-ghost use Rattle.os_heap_lists.specs.Lists.{released};
+ghost use Rattle.address_map.specs.Memory.{byte_at};
 ghost use Rattle.os_heap_lists.specs.Counts.{begun_below};
 ghost use Rattle.os_heap.specs.Outcomes.{HasHeapAt, items_at};
-ghost use Rattle.os_heap_lists.specs.Walks.{last_link, IsWalked, IsBlock};
-ghost use Rattle.os_heap.specs.Calls.{unless_image};
-ghost use Rattle.os_heap.specs.Outcomes.{IsGuestBlock};
+ghost use Rattle.os_heap_lists.specs.Walks.{last_link};
+ghost use Rattle.os_heap.specs.Cursors.{FindsBlock, FindsGuestBlock, HasWalked};
 ghost use Rattle.os_heap.specs.Store.{has_image, is_image};
 
 use crate::words::{BASE, follow, word};
@@ -30,10 +28,10 @@ pub(crate) struct Cursor {
     pub(crate) probes: u32,
 }
 
-/// What a walk came to, and how many items it passed.
+/// The block that a walk came to, and how many items it passed.
 #[derive(Clone, Copy)]
 pub(crate) struct Walk {
-    pub(crate) block: Option<Cursor>,
+    pub(crate) hit: Option<Cursor>,
     pub(crate) probes: u32,
 }
 
@@ -52,10 +50,10 @@ pub(crate) fn last_link(cursor: &Cursor) -> u32
 /// The walk after one more item.
 fn pass(map: &AddressMap, heap: u32, block: u32, cursor: &Cursor) -> Cursor
     requires heap { HasHeapAt map.now heap }
-    requires walk { IsWalked heap (items_at map.now heap) block cursor.now.from cursor.now.at cursor.now.free cursor.now.gap cursor.now.probes }
+    requires walk { HasWalked map.now heap block cursor.now }
     requires more { cursor.now.at < heap + word_at (byte_at map.now) (heap + 8) }
     requires before { cursor.now.at + 4 < block }
-    ensures walk { IsWalked heap (items_at map.now heap) block result.from result.at result.free result.gap result.probes }
+    ensures walk { HasWalked map.now heap block result }
     ensures grows { cursor.now.at < result.at }
 {
     let at = cursor.at;
@@ -84,7 +82,7 @@ fn pass(map: &AddressMap, heap: u32, block: u32, cursor: &Cursor) -> Cursor
 /// A walk to the item that begins at most 4 bytes before `block`, or to the base.
 fn approach(map: &AddressMap, heap: u32, block: u32) -> Cursor
     requires { HasHeapAt map.now heap }
-    ensures walk { IsWalked heap (items_at map.now heap) block result.from result.at result.free result.gap result.probes }
+    ensures walk { HasWalked map.now heap block result }
     ensures end { (result.at + 4 < block) → heap + word_at (byte_at map.now) (heap + 8) ≤ result.at }
 {
     let base = heap + word(map, heap + BASE);
@@ -106,48 +104,35 @@ fn approach(map: &AddressMap, heap: u32, block: u32) -> Cursor
 /// The block whose bytes begin at `block`, by a walk from the first item on.
 pub(crate) fn find_block(map: &AddressMap, heap: u32, block: u32) -> Walk
     requires { HasHeapAt map.now heap }
-    ensures block { MatchOption result.block (released block (heap + 16) (items_at map.now heap) ≡ None) (λ c. IsBlock heap (items_at map.now heap) block c.from c.at c.free c.gap) }
+    ensures block { FindsBlock map.now heap block result.hit }
     ensures probes { result.probes ≡ begun_below block (heap + 16) (items_at map.now heap) }
 {
     let base = heap + word(map, heap + BASE);
     let cursor = approach(map, heap, block);
+    let probes = cursor.probes;
     if cursor.at >= base {
-        return Walk {
-            block: None,
-            probes: cursor.probes,
-        };
+        return Walk { hit: None, probes };
     }
     if cursor.at + 4 > block {
-        return Walk {
-            block: None,
-            probes: cursor.probes,
-        };
+        return Walk { hit: None, probes };
     }
-    let probes = cursor.probes + 1;
+    let probes = probes + 1;
     if cursor.at == cursor.free {
-        return Walk {
-            block: None,
-            probes,
-        };
+        return Walk { hit: None, probes };
     }
-    Walk {
-        block: Some(cursor),
-        probes,
-    }
+    let hit = Some(cursor);
+    Walk { hit, probes }
 }
 
 /// The guest's block whose bytes begin at `block`: where a module image is recorded there is none.
 pub(crate) fn find_guest_block(map: &AddressMap, heap: u32, block: u32) -> Walk
     requires { HasHeapAt map.now heap }
-    ensures block { MatchOption result.block (unless_image (has_image block (regions map.now)) (released block (heap + 16) (items_at map.now heap)) ≡ None) (λ c. IsGuestBlock (regions map.now) heap (items_at map.now heap) block c.from c.at c.free c.gap) }
+    ensures block { FindsGuestBlock map.now heap block result.hit }
     ensures probes { result.probes ≡ begun_below block (heap + 16) (items_at map.now heap) }
 {
     let walk = find_block(map, heap, block);
     if has_image(map.regions(), block) {
-        return Walk {
-            block: None,
-            probes: walk.probes,
-        };
+        return Walk { hit: None, ..walk };
     }
     walk
 }

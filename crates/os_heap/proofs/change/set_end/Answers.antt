@@ -14,19 +14,19 @@ use Rattle.os_heap.proofs.change.set_end.Goals as goal
 pub overflow_add-region : goal.overflow_add-region
 overflow_add-region c =
     let r = c.args.region.now in
-    let heap : IsHeapAt c.args.map.now r.at r.len = found_at c.args.map.now r.at r c.requires.sound refl c.requires.found in
+    let heap : IsHeapAt c.args.map.now r.at r.len = found_at c.args.map.now r.at r c.requires.state.sound refl c.requires.found in
     omega (arith, heap_below c.args.map.now r.at r.len heap)
 
 pub put-requires-clause-aligned : goal.put-requires-clause-aligned
 put-requires-clause-aligned c =
     let r = c.args.region.now in
-    let heap : IsHeapAt c.args.map.now r.at r.len = found_at c.args.map.now r.at r c.requires.sound refl c.requires.found in
+    let heap : IsHeapAt c.args.map.now r.at r.len = found_at c.args.map.now r.at r c.requires.state.sound refl c.requires.found in
     omega (arith, heap.aligned)
 
 pub put-requires-clause-mapped : goal.put-requires-clause-mapped
 put-requires-clause-mapped c =
     let r = c.args.region.now in
-    let heap : IsHeapAt c.args.map.now r.at r.len = found_at c.args.map.now r.at r c.requires.sound refl c.requires.found in
+    let heap : IsHeapAt c.args.map.now r.at r.len = found_at c.args.map.now r.at r c.requires.state.sound refl c.requires.found in
     heap.mapped (r.at + 12) (omega arith) (omega (arith, heap.inside))
 
 pub set_len-requires : goal.set_len-requires
@@ -46,7 +46,7 @@ returns-clause-store c =
     let m = c.args.map.now in
     let h : HeapList = heap_in (bytes_of m) c.args.region.now in
     let ends : EndsAt m c.put.new.map h c.args.end = record {
-      sound = c.requires.sound;
+      sound = c.requires.state.sound;
       found = c.requires.found;
       own = c.requires.kind;
       may = c.requires.may;
@@ -60,12 +60,12 @@ returns-clause-store c =
     let records = rw same at c.set_len.ensures.regions in
     store_ended m c.put.new.map c.set_len.new.self h c.args.end ends bytes records c.set_len.ensures.marks
 
-pub returns-clause-sound : goal.returns-clause-sound
-returns-clause-sound c =
+pub returns-clause-kept : goal.returns-clause-kept
+returns-clause-kept c =
     let m = c.args.map.now in
     let h : HeapList = heap_in (bytes_of m) c.args.region.now in
     let ends : EndsAt m c.put.new.map h c.args.end = record {
-      sound = c.requires.sound;
+      sound = c.requires.state.sound;
       found = c.requires.found;
       own = c.requires.kind;
       may = c.requires.may;
@@ -77,29 +77,9 @@ returns-clause-sound c =
     λ i. record { mapped = λ a. is_some ((c.set_len.ensures.mapping i).place a); at = c.set_len.ensures.bytes i } in
     let same = layout-regions m c.put.new.map c.put.ensures.layout in
     let records = rw same at c.set_len.ensures.regions in
-    sound_ended m c.put.new.map c.set_len.new.self h c.args.end ends bytes records c.set_len.ensures.marks
-
-pub returns-clause-classes : goal.returns-clause-classes
-returns-clause-classes c =
-    let m = c.args.map.now in
-    let h : HeapList = heap_in (bytes_of m) c.args.region.now in
-    let ends : EndsAt m c.put.new.map h c.args.end = record {
-      sound = c.requires.sound;
-      found = c.requires.found;
-      own = c.requires.kind;
-      may = c.requires.may;
-      same = c.put.ensures.layout;
-      marks = c.put.ensures.marks;
-      word = c.put.ensures.word;
-    } in
-    let bytes : bytes_of c.set_len.new.self ≡ bytes_of c.put.new.map =
-    λ i. record { mapped = λ a. is_some ((c.set_len.ensures.mapping i).place a); at = c.set_len.ensures.bytes i } in
-    let same = layout-regions m c.put.new.map c.put.ensures.layout in
-    let records = rw same at c.set_len.ensures.regions in
-    classes_ended m c.put.new.map c.set_len.new.self h c.args.end ends bytes records c.set_len.ensures.marks c.requires.classes
-
-pub returns-clause-others : goal.returns-clause-others
-returns-clause-others c = ap (λ s. s.others) (returns-clause-store c)
-
-pub returns-clause-mapping : goal.returns-clause-mapping
-returns-clause-mapping c = c.set_len.ensures.mapping ∙ layout-mapping _ _ c.put.ensures.layout
+    record {
+      sound = sound_ended m c.put.new.map c.set_len.new.self h c.args.end ends bytes records c.set_len.ensures.marks;
+      classes = classes_ended m c.put.new.map c.set_len.new.self h c.args.end ends bytes records c.set_len.ensures.marks c.requires.state.classes;
+      others = ap (λ s. s.others) (returns-clause-store c);
+      mapping = c.set_len.ensures.mapping ∙ layout-mapping _ _ c.put.ensures.layout;
+    }

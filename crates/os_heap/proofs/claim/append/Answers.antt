@@ -29,7 +29,7 @@ pub overflow_add-from : goal.overflow_add-from
 overflow_add-from c =
     let top = heap_below c.args.map.now c.args.heap (end_at c.args.map.now c.args.heap) _ c.requires.heap in
     let base : c.word-base.result ≡ 16 + size_of (items_at c.args.map.now c.args.heap) = c.word-base.ensures ∙ c.requires.heap.base in
-    omega (arith, top, base, c.requires.heap.inside, c.requires.small)
+    omega (arith, top, base, c.requires.heap.inside, c.requires.needed.small)
 
 pub overflow_add-heap-3 : goal.overflow_add-heap-3
 overflow_add-heap-3 c =
@@ -59,14 +59,14 @@ pub make-requires : goal.make-requires
 make-requires c =
     let base : c.word-base.result ≡ 16 + size_of (items_at c.args.map.now c.args.heap) = c.word-base.ensures ∙ c.requires.heap.base in
     can_stand c.args.map.now c.put-2.new.map c.args.heap (end_at c.args.map.now c.args.heap) (c.args.heap + c.word-base.result) _ (Live c.args.needed ∷ []) c.requires.heap (c.put-2.ensures.layout ∙ c.put.ensures.layout)
-    (c.requires.total, tt)
+    (c.requires.needed.total, tt)
     (omega (arith, base, c.requires.heap.aligned, size_of-multiple (items_at c.args.map.now c.args.heap) c.requires.heap.totals)) (omega arith) (omega (arith, c.word-end.ensures))
 
 pub returns : goal.returns
 returns c =
     let base : c.word-base.result ≡ 16 + size_of (items_at c.args.map.now c.args.heap) = c.word-base.ensures ∙ c.requires.heap.base in
     claims_base c.args.map.now _ c.args.heap (end_at c.args.map.now c.args.heap) c.args.needed c.word-base.result _ _ c.requires.heap
-    (c.make.ensures.layout ∙ c.put-2.ensures.layout ∙ c.put.ensures.layout) c.requires.total base (omega (arith, c.word-end.ensures)) c.put.ensures.word
+    (c.make.ensures.layout ∙ c.put-2.ensures.layout ∙ c.put.ensures.layout) c.requires.needed.total base (omega (arith, c.word-end.ensures)) c.put.ensures.word
     (still_written _ _ _ _ _ c.make.ensures.bytes c.put-2.ensures.word)
     (remarks_after (class_of c.args.map.now) (class_of c.put-2.new.map) (class_of c.make.new.map) (c.args.heap + c.word-base.result) [] (Live c.args.needed ∷ [])
     (c.put-2.ensures.marks ∙ c.put.ensures.marks) c.make.ensures.marks)

@@ -54,7 +54,7 @@ pub own-requires-clause-room : goal.own-requires-clause-room
 own-requires-clause-room c =
     let same : regions c.mark_descriptor.new.map ≡ regions c.args.map.now =
     layout-regions _ _ (c.mark_descriptor.ensures.layout ∙ c.write_descriptor.ensures.layout) in
-    λ _. rw same (records_room c.args.map.now c.args.kind c.args.heap c.requires.sound c.requires.may.room)
+    λ _. rw same (records_room c.args.map.now c.args.kind c.args.heap c.requires.state.sound c.requires.may.room)
 
 pub own-requires-clause-mapped : goal.own-requires-clause-mapped
 own-requires-clause-mapped c = λ is. absurd (both_ways _ (heap_is_no_word c.args.kind c.requires.kind) is)
@@ -74,24 +74,19 @@ returns-clause-store c =
     λ a. c.own.ensures.marks a ∙ heap_unmarked c.args.kind c.args.heap (class_of c.mark_descriptor.new.map) a c.requires.kind
     ∙ c.mark_descriptor.ensures.marks a
     ∙ ap (λ (f : ℕ → Class). cond (in_range c.args.heap 16 (word_start a)) class.Heap (f a)) c.write_descriptor.ensures.marks in
-    store_begun c.args.map.now c.own.new.self c.args.kind c.args.heap c.args.size c.requires.kind c.requires.may c.requires.sound records (moved ∙ written)
-    (flex_begun (class_of c.args.map.now) (class_of c.own.new.self) c.args.heap marks (λ a inside. begun_unflexed c.args.map.now c.args.kind c.args.heap c.args.size c.requires.may c.requires.sound a inside))
+    store_begun c.args.map.now c.own.new.self c.args.kind c.args.heap c.args.size c.requires.kind c.requires.may c.requires.state.sound records (moved ∙ written)
+    (flex_begun (class_of c.args.map.now) (class_of c.own.new.self) c.args.heap marks (λ a inside. begun_unflexed c.args.map.now c.args.kind c.args.heap c.args.size c.requires.may c.requires.state.sound a inside))
 
-pub returns-clause-sound : goal.returns-clause-sound
-returns-clause-sound c =
+pub returns-clause-kept : goal.returns-clause-kept
+returns-clause-kept c =
     let store : store_of c.own.new.self ≡ begun_with c.args.kind (store_of c.args.map.now) c.args.heap c.args.size = returns-clause-store c in
-    subst IsSound (sym store) (begun_sound c.args.kind (store_of c.args.map.now) c.args.heap c.args.size c.requires.may c.requires.sound)
-
-pub returns-clause-classes : goal.returns-clause-classes
-returns-clause-classes c =
-    classes_begun c.args.map.now c.own.new.self c.args.kind c.args.heap c.args.size (returns-clause-store c)
-    (λ a. c.own.ensures.marks a ∙ heap_unmarked c.args.kind c.args.heap (class_of c.mark_descriptor.new.map) a c.requires.kind
-    ∙ c.mark_descriptor.ensures.marks a
-    ∙ ap (λ (f : ℕ → Class). cond (in_range c.args.heap 16 (word_start a)) class.Heap (f a)) c.write_descriptor.ensures.marks)
-    c.requires.classes
-
-pub returns-clause-others : goal.returns-clause-others
-returns-clause-others c = ap (λ s. s.others) (returns-clause-store c)
-
-pub returns-clause-mapping : goal.returns-clause-mapping
-returns-clause-mapping c = c.own.ensures.mapping ∙ layout-mapping _ _ (c.mark_descriptor.ensures.layout ∙ c.write_descriptor.ensures.layout)
+    record {
+      sound = subst IsSound (sym store) (begun_sound c.args.kind (store_of c.args.map.now) c.args.heap c.args.size c.requires.may c.requires.state.sound);
+      classes = classes_begun c.args.map.now c.own.new.self c.args.kind c.args.heap c.args.size store
+          (λ a. c.own.ensures.marks a ∙ heap_unmarked c.args.kind c.args.heap (class_of c.mark_descriptor.new.map) a c.requires.kind
+          ∙ c.mark_descriptor.ensures.marks a
+          ∙ ap (λ (f : ℕ → Class). cond (in_range c.args.heap 16 (word_start a)) class.Heap (f a)) c.write_descriptor.ensures.marks)
+          c.requires.state.classes;
+      others = ap (λ s. s.others) store;
+      mapping = c.own.ensures.mapping ∙ layout-mapping _ _ (c.mark_descriptor.ensures.layout ∙ c.write_descriptor.ensures.layout);
+    }

@@ -24,13 +24,16 @@ unfolding store_of
 returns-then-count_guests-ge-MOST_HEAPS c =
     let good : is_heap_region (bytes_of c.args.map.now) c.args.heap c.args.size ≡ true = cc in
     let clear : meets_any c.args.heap c.args.size (store_of c.args.map.now) ≡ false = cc in
-    let full : leb 64 (guest_count (store_of c.args.map.now).heaps) ≡ true = le-leb 64 _ (omega (arith, c.count_guests.ensures)) in
+    let guests = rw c.regions.ensures at (c.count_guests.ensures (bytes_of c.args.map.now)) in
+    let full : leb 64 (guest_count (store_of c.args.map.now).heaps) ≡ true = le-leb 64 _ (omega (arith, guests)) in
     begun_full (store_of c.args.map.now) c.args.heap c.args.size good clear full
 
 pub returns : goal.returns
 unfolding store_of
-returns c = record {
-  region = cc;
-  clear = cc;
-  room = lt-leb 64 (guest_count (store_of c.args.map.now).heaps) (omega (arith, c.count_guests.ensures));
-}
+returns c =
+    let guests = rw c.regions.ensures at (c.count_guests.ensures (bytes_of c.args.map.now)) in
+    record {
+      region = cc;
+      clear = cc;
+      room = lt-leb 64 (guest_count (store_of c.args.map.now).heaps) (omega (arith, guests));
+    }

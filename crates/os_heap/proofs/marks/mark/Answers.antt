@@ -1,4 +1,4 @@
-use Rattle.std.proofs.Common.{◌∙◌}
+use Rattle.std.proofs.Common.{◌∙◌, rules}
 use Rattle.os_heap.proofs.Marking.{same_parts, without_word, word_below}
 use Rattle.os_heap.proofs.marks.mark.Goals as goal
 
@@ -8,6 +8,9 @@ own-requires-clause-region c = record {
   end = word_below c.args.map.now c.args.at c.requires.aligned c.requires.mapped;
 }
 
-pub returns-else-is_head-clause-layout : goal.returns-else-is_head-clause-layout
-returns-else-is_head-clause-layout c =
-    same_parts c.args.map.now c.disown.new.self c.disown.ensures.mapping (c.disown.ensures.regions ∙ without_word _ c.args.at)
+pub returns-else-is_head : goal.returns-else-is_head
+returns-else-is_head c = record {
+  marks = search rules;
+  bytes = search rules;
+  layout = same_parts c.args.map.now c.disown.new.self c.disown.ensures.mapping (c.disown.ensures.regions ∙ without_word _ c.args.at);
+}

@@ -9,29 +9,29 @@ use Rattle.os_heap.proofs.refit.refit_last.Goals as goal
 
 pub overflow_add-end : goal.overflow_add-end
 overflow_add-end c =
-    omega (arith, heap_below c.args.map.now c.args.heap (end_at c.args.map.now c.args.heap) _ c.requires.heap, c.word.ensures)
+    omega (arith, heap_below c.args.map.now c.args.heap (end_at c.args.map.now c.args.heap) _ c.requires.place.heap, c.word.ensures)
 
 pub put-requires-clause-aligned : goal.put-requires-clause-aligned
 put-requires-clause-aligned c =
-    let f = place_facts c.args.map.now c.args.heap (end_at c.args.map.now c.args.heap) c.args.block c.args.cursor.now.from c.args.cursor.now.at c.args.cursor.now.free c.args.cursor.now.gap c.requires.heap c.requires.block in
+    let f = place_facts c.args.map.now c.args.heap (end_at c.args.map.now c.args.heap) c.args.block c.args.cursor.now.from c.args.cursor.now.at c.args.cursor.now.free c.args.cursor.now.gap c.requires.place.heap c.requires.place.block in
     f.facts.whole
 
 pub overflow_add-cursor : goal.overflow_add-cursor
 overflow_add-cursor c =
-    let f = place_facts c.args.map.now c.args.heap (end_at c.args.map.now c.args.heap) c.args.block c.args.cursor.now.from c.args.cursor.now.at c.args.cursor.now.free c.args.cursor.now.gap c.requires.heap c.requires.block in
+    let f = place_facts c.args.map.now c.args.heap (end_at c.args.map.now c.args.heap) c.args.block c.args.cursor.now.from c.args.cursor.now.at c.args.cursor.now.free c.args.cursor.now.gap c.requires.place.heap c.requires.place.block in
     omega (arith, f.facts.top, c.word.ensures)
 
 pub returns-then-from-needed : goal.returns-then-from-needed
 returns-then-from-needed c =
-    let f = place_facts c.args.map.now c.args.heap (end_at c.args.map.now c.args.heap) c.args.block c.args.cursor.now.from c.args.cursor.now.at c.args.cursor.now.free c.args.cursor.now.gap c.requires.heap c.requires.block in
-    let ends : c.args.cursor.now.at + c.requires.block.total ≡ c.args.heap + word_at (byte_at c.args.map.now) (c.args.heap + 8) =
+    let f = place_facts c.args.map.now c.args.heap (end_at c.args.map.now c.args.heap) c.args.block c.args.cursor.now.from c.args.cursor.now.at c.args.cursor.now.free c.args.cursor.now.gap c.requires.place.heap c.requires.place.block in
+    let ends : c.args.cursor.now.at + c.requires.place.block.total ≡ c.args.heap + word_at (byte_at c.args.map.now) (c.args.heap + 8) =
     sym (ap (λ n. c.args.cursor.now.at + n) f.facts.total_word) ∙ c.requires.last in
-    refits_last-full c.args.map.now c.args.heap (end_at c.args.map.now c.args.heap) c.args.needed c.args.block c.args.cursor.now.from c.args.cursor.now.at c.args.cursor.now.free c.args.cursor.now.gap c.requires.heap c.requires.block ends (omega (arith, c.word.ensures))
+    refits_last-full c.args.map.now c.args.heap (end_at c.args.map.now c.args.heap) c.args.needed c.args.block c.args.cursor.now.from c.args.cursor.now.at c.args.cursor.now.free c.args.cursor.now.gap c.requires.place.heap c.requires.place.block ends (omega (arith, c.word.ensures))
 
 pub returns : goal.returns
 returns c =
-    let f = place_facts c.args.map.now c.args.heap (end_at c.args.map.now c.args.heap) c.args.block c.args.cursor.now.from c.args.cursor.now.at c.args.cursor.now.free c.args.cursor.now.gap c.requires.heap c.requires.block in
-    let ends : c.args.cursor.now.at + c.requires.block.total ≡ c.args.heap + word_at (byte_at c.args.map.now) (c.args.heap + 8) =
+    let f = place_facts c.args.map.now c.args.heap (end_at c.args.map.now c.args.heap) c.args.block c.args.cursor.now.from c.args.cursor.now.at c.args.cursor.now.free c.args.cursor.now.gap c.requires.place.heap c.requires.place.block in
+    let ends : c.args.cursor.now.at + c.requires.place.block.total ≡ c.args.heap + word_at (byte_at c.args.map.now) (c.args.heap + 8) =
     sym (ap (λ n. c.args.cursor.now.at + n) f.facts.total_word) ∙ c.requires.last in
-    refits_last c.args.map.now _ c.args.heap (end_at c.args.map.now c.args.heap) c.args.needed c.args.block c.args.cursor.now.from c.args.cursor.now.at c.args.cursor.now.free c.args.cursor.now.gap _ c.requires.heap c.requires.block ends
-    (c.put-2.ensures.layout ∙ c.put.ensures.layout) c.requires.total (omega (arith, c.word.ensures)) c.put.ensures.word c.put-2.ensures.word (c.put-2.ensures.marks ∙ c.put.ensures.marks)
+    refits_last c.args.map.now _ c.args.heap (end_at c.args.map.now c.args.heap) c.args.needed c.args.block c.args.cursor.now.from c.args.cursor.now.at c.args.cursor.now.free c.args.cursor.now.gap _ c.requires.place.heap c.requires.place.block ends
+    (c.put-2.ensures.layout ∙ c.put.ensures.layout) c.requires.needed.total (omega (arith, c.word.ensures)) c.put.ensures.word c.put-2.ensures.word (c.put-2.ensures.marks ∙ c.put.ensures.marks)

@@ -8,104 +8,85 @@ use Rattle.os_heap.proofs.Walking.{begun_few}
 use Rattle.os_heap.proofs.resize.resize_block.Goals as goal
 
 pub find_guest_block-walk-requires : goal.find_guest_block-walk-requires
-find_guest_block-walk-requires c = there_heap c.args.map.now c.args.heap c.requires.sound c.requires.found
+find_guest_block-walk-requires c = there_heap c.args.map.now c.args.heap c.requires.state.sound c.requires.found
 
 pub returns-in_default : goal.returns-in_default
 returns-in_default c =
     let none = unheld (regions c.args.map.now) c.args.block (c.args.heap + 16) (items_at c.args.map.now c.args.heap) (rw c.in_default.is at c.find_guest_block-walk.ensures.block) in
     let refused = resize_refused c.args.map.now c.args.heap c.args.block c.args.change c.requires.found none in
     record {
-      store = rw refused.0 (refl, refl);
-      sound = c.requires.sound;
-      classes = c.requires.classes;
-      layout = refl;
-      probes = c.find_guest_block-walk.ensures.probes ∙ sym refused.1;
+      store = rw (c.refused.ensures, refused.0) (refl, refl);
+      kept = record { sound = c.requires.state.sound; classes = c.requires.state.classes; layout = refl };
+      probes = rw c.refused.ensures (c.find_guest_block-walk.ensures.probes ∙ sym refused.1);
     }
 
 pub word-total-requires : goal.word-total-requires
 word-total-requires c =
-    let here = block_here c.args.map.now c.args.heap c.args.block _ c.in-Some.cursor.at _ _ c.requires.sound c.requires.found (rw c.in-Some.is at c.find_guest_block-walk.ensures.block) in
+    let here = block_here c.args.map.now c.args.heap c.args.block _ c.in-Some.cursor.at _ _ c.requires.state.sound c.requires.found (rw c.in-Some.is at c.find_guest_block-walk.ensures.block) in
     record { aligned = here.whole; mapped = here.mapped }
 
-pub give_back-requires-clause-heap : goal.give_back-requires-clause-heap
-give_back-requires-clause-heap c = there_heap c.args.map.now c.args.heap c.requires.sound c.requires.found
+pub give_back-requires : goal.give_back-requires
+give_back-requires c = record {
+  heap = there_heap c.args.map.now c.args.heap c.requires.state.sound c.requires.found;
+  block = (rw c.in-Some.is at c.find_guest_block-walk.ensures.block).here;
+}
 
-pub give_back-requires-clause-block : goal.give_back-requires-clause-block
-give_back-requires-clause-block c = (rw c.in-Some.is at c.find_guest_block-walk.ensures.block).here
-
-pub refit-requires-clause-block : goal.refit-requires-clause-block
-refit-requires-clause-block c = (rw c.in-Some.is at c.find_guest_block-walk.ensures.block).here
-
-pub relocate-moved-requires-clause-own : goal.relocate-moved-requires-clause-own
-relocate-moved-requires-clause-own c =
-    let un = unrefitted c.args.map.now c.refit.new.map c.args.heap (end_at c.args.map.now c.args.heap) _ (rw c.if-refit.false at c.refit.ensures) in
-    rw un.1 (rw c.in-Some.is at c.find_guest_block-walk.ensures.block).own
-
-pub refit-requires-clause-heap : goal.refit-requires-clause-heap
-refit-requires-clause-heap c = there_heap c.args.map.now c.args.heap c.requires.sound c.requires.found
+pub refit-requires-clause-place : goal.refit-requires-clause-place
+refit-requires-clause-place c = record {
+  heap = there_heap c.args.map.now c.args.heap c.requires.state.sound c.requires.found;
+  block = (rw c.in-Some.is at c.find_guest_block-walk.ensures.block).here;
+}
 
 pub returns-then-size-le4 : goal.returns-then-size-le4
 returns-then-size-le4 c =
-    let here = block_here c.args.map.now c.args.heap c.args.block _ c.in-Some.cursor.at _ _ c.requires.sound c.requires.found (rw c.in-Some.is at c.find_guest_block-walk.ensures.block) in
+    let here = block_here c.args.map.now c.args.heap c.args.block _ c.in-Some.cursor.at _ _ c.requires.state.sound c.requires.found (rw c.in-Some.is at c.find_guest_block-walk.ensures.block) in
     let live : live_total c.args.block (c.args.heap + 16) (items_at c.args.map.now c.args.heap) ≡ Some c.word-total.result = here.live ∙ ap (λ n. Some n) (sym c.word-total.ensures) in
-    let done = resize_freed c.args.map.now c.give_back.new.map c.args.heap c.args.block c.args.change c.word-total.result c.requires.sound c.requires.classes c.requires.found here.own live
+    let done = resize_freed c.args.map.now c.give_back.new.map c.args.heap c.args.block c.args.change c.word-total.result c.requires.state.sound c.requires.state.classes c.requires.found here.own live
     (omega (arith, c.changed_by-size.ensures, c.if-size-le4.true)) (sym c.holds_anchor.ensures ∙ c.if-holds_anchor.false) c.give_back.ensures in
     record {
       store = done.store;
-      sound = done.sound;
-      classes = done.classes;
-      layout = done.same;
+      kept = record { sound = done.sound; classes = done.classes; layout = done.same };
       probes = c.find_guest_block-walk.ensures.probes ∙ omega (arith, done.probes);
     }
 
 pub returns-then-refit : goal.returns-then-refit
 returns-then-refit c =
-    let here = block_here c.args.map.now c.args.heap c.args.block _ c.in-Some.cursor.at _ _ c.requires.sound c.requires.found (rw c.in-Some.is at c.find_guest_block-walk.ensures.block) in
+    let here = block_here c.args.map.now c.args.heap c.args.block _ c.in-Some.cursor.at _ _ c.requires.state.sound c.requires.found (rw c.in-Some.is at c.find_guest_block-walk.ensures.block) in
     let live : live_total c.args.block (c.args.heap + 16) (items_at c.args.map.now c.args.heap) ≡ Some c.word-total.result = here.live ∙ ap (λ n. Some n) (sym c.word-total.ensures) in
     let size : c.changed_by-size.result ≡ changed_by c.word-total.result c.args.change = c.changed_by-size.ensures in
     let needed : c.round_up_8-needed.result ≡ round_up_8 (changed_by c.word-total.result c.args.change) = c.round_up_8-needed.ensures ∙ ap round_up_8 size in
     let cut = rw needed at c.cut_holds_anchor.ensures in
     let uncut = cut_told c.args.map.now _ _ c.cut_holds_anchor.result false cut c.if-cut_holds_anchor.false in
-    let done = resize_refitted c.args.map.now c.refit.new.map c.args.heap c.args.block c.args.change c.word-total.result c.requires.sound c.requires.classes c.requires.found here.own live
+    let done = resize_refitted c.args.map.now c.refit.new.map c.args.heap c.args.block c.args.change c.word-total.result c.requires.state.sound c.requires.state.classes c.requires.found here.own live
     (omega (arith, size, c.if-size-le4.false)) uncut (rw (c.if-refit.true, needed) at c.refit.ensures) in
     record {
       store = done.store;
-      sound = done.sound;
-      classes = done.classes;
-      layout = done.same;
+      kept = record { sound = done.sound; classes = done.classes; layout = done.same };
       probes = c.find_guest_block-walk.ensures.probes ∙ omega (arith, done.probes);
     }
 
-pub relocate-moved-requires-clause-sound : goal.relocate-moved-requires-clause-sound
-relocate-moved-requires-clause-sound c =
+pub relocate-moved-requires-clause-state : goal.relocate-moved-requires-clause-state
+relocate-moved-requires-clause-state c =
     let un = unrefitted c.args.map.now c.refit.new.map c.args.heap (end_at c.args.map.now c.args.heap) _ (rw c.if-refit.false at c.refit.ensures) in
-    rw un.1 c.requires.sound
+    rw un.1 c.requires.state
 
-pub relocate-moved-requires-clause-classes : goal.relocate-moved-requires-clause-classes
-relocate-moved-requires-clause-classes c =
-    let un = unrefitted c.args.map.now c.refit.new.map c.args.heap (end_at c.args.map.now c.args.heap) _ (rw c.if-refit.false at c.refit.ensures) in
-    rw un.1 c.requires.classes
-
-pub relocate-moved-requires-clause-heap : goal.relocate-moved-requires-clause-heap
-relocate-moved-requires-clause-heap c =
-    let un = unrefitted c.args.map.now c.refit.new.map c.args.heap (end_at c.args.map.now c.args.heap) _ (rw c.if-refit.false at c.refit.ensures) in
-    rw un.1 (there_heap c.args.map.now c.args.heap c.requires.sound c.requires.found)
-
-pub relocate-moved-requires-clause-found : goal.relocate-moved-requires-clause-found
-relocate-moved-requires-clause-found c =
-    let un = unrefitted c.args.map.now c.refit.new.map c.args.heap (end_at c.args.map.now c.args.heap) _ (rw c.if-refit.false at c.refit.ensures) in
-    rw un.1 c.requires.found
-
-pub relocate-moved-requires-clause-live : goal.relocate-moved-requires-clause-live
-relocate-moved-requires-clause-live c =
-    let here = block_here c.args.map.now c.args.heap c.args.block _ c.in-Some.cursor.at _ _ c.requires.sound c.requires.found (rw c.in-Some.is at c.find_guest_block-walk.ensures.block) in
+pub relocate-moved-requires-clause-may : goal.relocate-moved-requires-clause-may
+relocate-moved-requires-clause-may c =
+    let here = block_here c.args.map.now c.args.heap c.args.block _ c.in-Some.cursor.at _ _ c.requires.state.sound c.requires.found (rw c.in-Some.is at c.find_guest_block-walk.ensures.block) in
     let live : live_total c.args.block (c.args.heap + 16) (items_at c.args.map.now c.args.heap) ≡ Some c.word-total.result = here.live ∙ ap (λ n. Some n) (sym c.word-total.ensures) in
     let un = unrefitted c.args.map.now c.refit.new.map c.args.heap (end_at c.args.map.now c.args.heap) _ (rw c.if-refit.false at c.refit.ensures) in
-    rw un.1 live
+    let told = rw un.1 at c.holds_anchor-2.ensures in
+    rw un.1 (record {
+      heap = there_heap c.args.map.now c.args.heap c.requires.state.sound c.requires.found;
+      found = c.requires.found;
+      own = (rw c.in-Some.is at c.find_guest_block-walk.ensures.block).own;
+      live = live;
+      unheld = anchor_told c.args.map.now c.args.heap c.args.block c.word-total.result c.holds_anchor-2.result false live told c.if-holds_anchor-2.false;
+    })
 
 pub relocate-moved-requires-clause-larger : goal.relocate-moved-requires-clause-larger
 relocate-moved-requires-clause-larger c =
-    let here = block_here c.args.map.now c.args.heap c.args.block _ c.in-Some.cursor.at _ _ c.requires.sound c.requires.found (rw c.in-Some.is at c.find_guest_block-walk.ensures.block) in
+    let here = block_here c.args.map.now c.args.heap c.args.block _ c.in-Some.cursor.at _ _ c.requires.state.sound c.requires.found (rw c.in-Some.is at c.find_guest_block-walk.ensures.block) in
     let live : live_total c.args.block (c.args.heap + 16) (items_at c.args.map.now c.args.heap) ≡ Some c.word-total.result = here.live ∙ ap (λ n. Some n) (sym c.word-total.ensures) in
     let un = unrefitted c.args.map.now c.refit.new.map c.args.heap (end_at c.args.map.now c.args.heap) _ (rw c.if-refit.false at c.refit.ensures) in
     larger_where_none c.args.block _ _ (c.args.heap + 16) c.word-total.result (items_at c.args.map.now c.args.heap) live un.0
@@ -113,61 +94,62 @@ relocate-moved-requires-clause-larger c =
 pub overflow_add-result : goal.overflow_add-result
 overflow_add-result c =
     let un = unrefitted c.args.map.now c.refit.new.map c.args.heap (end_at c.args.map.now c.args.heap) _ (rw c.if-refit.false at c.refit.ensures) in
-    let few = move_few c.args.map.now c.args.heap c.args.block c.round_up_8-needed.result c.relocate-moved.result.probes c.requires.sound c.requires.found
+    let few = move_few c.args.map.now c.args.heap c.args.block c.round_up_8-needed.result c.relocate-moved.result.probes c.requires.state.sound c.requires.found
     (rw un.1 at c.relocate-moved.ensures.probes) in
-    let heap = there_heap c.args.map.now c.args.heap c.requires.sound c.requires.found in
+    let heap = there_heap c.args.map.now c.args.heap c.requires.state.sound c.requires.found in
     omega (arith, few, c.find_guest_block-walk.ensures.probes, begun_few c.args.map.now c.args.heap (end_at c.args.map.now c.args.heap) c.args.block (items_at c.args.map.now c.args.heap) heap)
 
 pub returns : goal.returns
 returns c =
-    let here = block_here c.args.map.now c.args.heap c.args.block _ c.in-Some.cursor.at _ _ c.requires.sound c.requires.found (rw c.in-Some.is at c.find_guest_block-walk.ensures.block) in
+    let here = block_here c.args.map.now c.args.heap c.args.block _ c.in-Some.cursor.at _ _ c.requires.state.sound c.requires.found (rw c.in-Some.is at c.find_guest_block-walk.ensures.block) in
     let live : live_total c.args.block (c.args.heap + 16) (items_at c.args.map.now c.args.heap) ≡ Some c.word-total.result = here.live ∙ ap (λ n. Some n) (sym c.word-total.ensures) in
     let size : c.changed_by-size.result ≡ changed_by c.word-total.result c.args.change = c.changed_by-size.ensures in
     let needed : c.round_up_8-needed.result ≡ round_up_8 (changed_by c.word-total.result c.args.change) = c.round_up_8-needed.ensures ∙ ap round_up_8 size in
     let un = unrefitted c.args.map.now c.refit.new.map c.args.heap (end_at c.args.map.now c.args.heap) _ (rw c.if-refit.false at c.refit.ensures) in
     let told = rw un.1 at c.holds_anchor-2.ensures in
     let free = anchor_told c.args.map.now c.args.heap c.args.block c.word-total.result c.holds_anchor-2.result false live told c.if-holds_anchor-2.false in
-    let done = resize_moved c.args.map.now c.relocate-moved.new.map c.args.heap c.args.block c.args.change c.word-total.result c.relocate-moved.result.probes _ c.requires.sound c.requires.found here.own live
-    (omega (arith, size, c.if-size-le4.false)) (rw needed at un.0) free (rw (un.1, needed) at c.relocate-moved.ensures.store) c.relocate-moved.ensures.sound (rw un.1 at c.relocate-moved.ensures.layout) c.relocate-moved.ensures.classes
+    let done = resize_moved c.args.map.now c.relocate-moved.new.map c.args.heap c.args.block c.args.change c.word-total.result c.relocate-moved.result.probes _ c.requires.state.sound c.requires.found here.own live
+    (omega (arith, size, c.if-size-le4.false)) (rw needed at un.0) free (rw (un.1, needed) at c.relocate-moved.ensures.store) c.relocate-moved.ensures.kept.sound (rw un.1 at c.relocate-moved.ensures.kept.layout) c.relocate-moved.ensures.kept.classes
     (rw (un.1, needed) at c.relocate-moved.ensures.probes) in
     record {
       store = done.store;
-      sound = done.sound;
-      classes = done.classes;
-      layout = done.same;
+      kept = record { sound = done.sound; classes = done.classes; layout = done.same };
       probes = rw (sym c.find_guest_block-walk.ensures.probes) at done.probes;
     }
 
-pub holds_anchor-requires-clause-heap : goal.holds_anchor-requires-clause-heap
-holds_anchor-requires-clause-heap c = there_heap c.args.map.now c.args.heap c.requires.sound c.requires.found
+pub holds_anchor-requires : goal.holds_anchor-requires
+holds_anchor-requires c = record {
+  heap = there_heap c.args.map.now c.args.heap c.requires.state.sound c.requires.found;
+  block = (rw c.in-Some.is at c.find_guest_block-walk.ensures.block).here;
+}
 
 pub returns-then-holds_anchor-clause-store : goal.returns-then-holds_anchor-clause-store
 returns-then-holds_anchor-clause-store c =
-    let here = block_here c.args.map.now c.args.heap c.args.block _ c.in-Some.cursor.at _ _ c.requires.sound c.requires.found (rw c.in-Some.is at c.find_guest_block-walk.ensures.block) in
+    let here = block_here c.args.map.now c.args.heap c.args.block _ c.in-Some.cursor.at _ _ c.requires.state.sound c.requires.found (rw c.in-Some.is at c.find_guest_block-walk.ensures.block) in
     let live : live_total c.args.block (c.args.heap + 16) (items_at c.args.map.now c.args.heap) ≡ Some c.word-total.result = here.live ∙ ap (λ n. Some n) (sym c.word-total.ensures) in
     let refused = held_freed c.args.map.now c.args.heap c.args.block c.args.change c.word-total.result c.requires.found here.own live
     (omega (arith, c.changed_by-size.ensures, c.if-size-le4.true))
     (anchor_told c.args.map.now c.args.heap c.args.block c.word-total.result c.holds_anchor.result true live c.holds_anchor.ensures c.if-holds_anchor.true) in
-    rw (c.held.ensures, refused.0) (refl, refl)
+    rw (c.refused-then-holds_anchor.ensures, refused.0) (refl, refl)
 
 pub returns-then-holds_anchor-clause-probes : goal.returns-then-holds_anchor-clause-probes
 returns-then-holds_anchor-clause-probes c =
-    let here = block_here c.args.map.now c.args.heap c.args.block _ c.in-Some.cursor.at _ _ c.requires.sound c.requires.found (rw c.in-Some.is at c.find_guest_block-walk.ensures.block) in
+    let here = block_here c.args.map.now c.args.heap c.args.block _ c.in-Some.cursor.at _ _ c.requires.state.sound c.requires.found (rw c.in-Some.is at c.find_guest_block-walk.ensures.block) in
     let live : live_total c.args.block (c.args.heap + 16) (items_at c.args.map.now c.args.heap) ≡ Some c.word-total.result = here.live ∙ ap (λ n. Some n) (sym c.word-total.ensures) in
     let refused = held_freed c.args.map.now c.args.heap c.args.block c.args.change c.word-total.result c.requires.found here.own live
     (omega (arith, c.changed_by-size.ensures, c.if-size-le4.true))
     (anchor_told c.args.map.now c.args.heap c.args.block c.word-total.result c.holds_anchor.result true live c.holds_anchor.ensures c.if-holds_anchor.true) in
-    rw c.held.ensures (c.find_guest_block-walk.ensures.probes ∙ sym refused.1)
+    rw c.refused-then-holds_anchor.ensures (c.find_guest_block-walk.ensures.probes ∙ sym refused.1)
 
 pub cut_holds_anchor-requires-clause-below : goal.cut_holds_anchor-requires-clause-below
 cut_holds_anchor-requires-clause-below c =
-    let here = block_here c.args.map.now c.args.heap c.args.block _ c.in-Some.cursor.at _ _ c.requires.sound c.requires.found (rw c.in-Some.is at c.find_guest_block-walk.ensures.block) in
+    let here = block_here c.args.map.now c.args.heap c.args.block _ c.in-Some.cursor.at _ _ c.requires.state.sound c.requires.found (rw c.in-Some.is at c.find_guest_block-walk.ensures.block) in
     let live : live_total c.args.block (c.args.heap + 16) (items_at c.args.map.now c.args.heap) ≡ Some c.word-total.result = here.live ∙ ap (λ n. Some n) (sym c.word-total.ensures) in
-    below_all c.args.map.now c.args.heap c.args.block c.word-total.result (there_heap c.args.map.now c.args.heap c.requires.sound c.requires.found) live
+    below_all c.args.map.now c.args.heap c.args.block c.word-total.result (there_heap c.args.map.now c.args.heap c.requires.state.sound c.requires.found) live
 
 pub returns-then-cut_holds_anchor-clause-store : goal.returns-then-cut_holds_anchor-clause-store
 returns-then-cut_holds_anchor-clause-store c =
-    let here = block_here c.args.map.now c.args.heap c.args.block _ c.in-Some.cursor.at _ _ c.requires.sound c.requires.found (rw c.in-Some.is at c.find_guest_block-walk.ensures.block) in
+    let here = block_here c.args.map.now c.args.heap c.args.block _ c.in-Some.cursor.at _ _ c.requires.state.sound c.requires.found (rw c.in-Some.is at c.find_guest_block-walk.ensures.block) in
     let live : live_total c.args.block (c.args.heap + 16) (items_at c.args.map.now c.args.heap) ≡ Some c.word-total.result = here.live ∙ ap (λ n. Some n) (sym c.word-total.ensures) in
     let size : c.changed_by-size.result ≡ changed_by c.word-total.result c.args.change = c.changed_by-size.ensures in
     let needed : c.round_up_8-needed.result ≡ round_up_8 (changed_by c.word-total.result c.args.change) = c.round_up_8-needed.ensures ∙ ap round_up_8 size in
@@ -175,11 +157,11 @@ returns-then-cut_holds_anchor-clause-store c =
     let refused = held_cut c.args.map.now c.args.heap c.args.block c.args.change c.word-total.result c.requires.found here.own live
     (omega (arith, size, c.if-size-le4.false))
     (cut_told c.args.map.now _ _ c.cut_holds_anchor.result true cut c.if-cut_holds_anchor.true) in
-    rw (c.held-then-cut_holds_anchor.ensures, refused.0) (refl, refl)
+    rw (c.refused-then-cut_holds_anchor.ensures, refused.0) (refl, refl)
 
 pub returns-then-cut_holds_anchor-clause-probes : goal.returns-then-cut_holds_anchor-clause-probes
 returns-then-cut_holds_anchor-clause-probes c =
-    let here = block_here c.args.map.now c.args.heap c.args.block _ c.in-Some.cursor.at _ _ c.requires.sound c.requires.found (rw c.in-Some.is at c.find_guest_block-walk.ensures.block) in
+    let here = block_here c.args.map.now c.args.heap c.args.block _ c.in-Some.cursor.at _ _ c.requires.state.sound c.requires.found (rw c.in-Some.is at c.find_guest_block-walk.ensures.block) in
     let live : live_total c.args.block (c.args.heap + 16) (items_at c.args.map.now c.args.heap) ≡ Some c.word-total.result = here.live ∙ ap (λ n. Some n) (sym c.word-total.ensures) in
     let size : c.changed_by-size.result ≡ changed_by c.word-total.result c.args.change = c.changed_by-size.ensures in
     let needed : c.round_up_8-needed.result ≡ round_up_8 (changed_by c.word-total.result c.args.change) = c.round_up_8-needed.ensures ∙ ap round_up_8 size in
@@ -187,44 +169,38 @@ returns-then-cut_holds_anchor-clause-probes c =
     let refused = held_cut c.args.map.now c.args.heap c.args.block c.args.change c.word-total.result c.requires.found here.own live
     (omega (arith, size, c.if-size-le4.false))
     (cut_told c.args.map.now _ _ c.cut_holds_anchor.result true cut c.if-cut_holds_anchor.true) in
-    rw c.held-then-cut_holds_anchor.ensures (c.find_guest_block-walk.ensures.probes ∙ sym refused.1)
+    rw c.refused-then-cut_holds_anchor.ensures (c.find_guest_block-walk.ensures.probes ∙ sym refused.1)
 
-pub holds_anchor-requires-2-clause-heap : goal.holds_anchor-requires-2-clause-heap
-holds_anchor-requires-2-clause-heap c =
+pub holds_anchor-requires-2 : goal.holds_anchor-requires-2
+holds_anchor-requires-2 c =
     let un = unrefitted c.args.map.now c.refit.new.map c.args.heap (end_at c.args.map.now c.args.heap) _ (rw c.if-refit.false at c.refit.ensures) in
-    rw un.1 (there_heap c.args.map.now c.args.heap c.requires.sound c.requires.found)
+    rw un.1 (record {
+      heap = there_heap c.args.map.now c.args.heap c.requires.state.sound c.requires.found;
+      block = (rw c.in-Some.is at c.find_guest_block-walk.ensures.block).here;
+    })
 
 pub returns-then-holds_anchor-2-clause-store : goal.returns-then-holds_anchor-2-clause-store
 returns-then-holds_anchor-2-clause-store c =
-    let here = block_here c.args.map.now c.args.heap c.args.block _ c.in-Some.cursor.at _ _ c.requires.sound c.requires.found (rw c.in-Some.is at c.find_guest_block-walk.ensures.block) in
+    let here = block_here c.args.map.now c.args.heap c.args.block _ c.in-Some.cursor.at _ _ c.requires.state.sound c.requires.found (rw c.in-Some.is at c.find_guest_block-walk.ensures.block) in
     let live : live_total c.args.block (c.args.heap + 16) (items_at c.args.map.now c.args.heap) ≡ Some c.word-total.result = here.live ∙ ap (λ n. Some n) (sym c.word-total.ensures) in
     let size : c.changed_by-size.result ≡ changed_by c.word-total.result c.args.change = c.changed_by-size.ensures in
     let needed : c.round_up_8-needed.result ≡ round_up_8 (changed_by c.word-total.result c.args.change) = c.round_up_8-needed.ensures ∙ ap round_up_8 size in
     let un = unrefitted c.args.map.now c.refit.new.map c.args.heap (end_at c.args.map.now c.args.heap) _ (rw c.if-refit.false at c.refit.ensures) in
     let told = rw un.1 at c.holds_anchor-2.ensures in
-    let refused = held_moved c.args.map.now c.args.heap c.args.block c.args.change c.word-total.result c.requires.sound c.requires.found here.own live
+    let refused = held_moved c.args.map.now c.args.heap c.args.block c.args.change c.word-total.result c.requires.state.sound c.requires.found here.own live
     (omega (arith, size, c.if-size-le4.false)) (rw needed at un.0)
     (anchor_told c.args.map.now c.args.heap c.args.block c.word-total.result c.holds_anchor-2.result true live told c.if-holds_anchor-2.true) in
-    rw (un.1, c.held-then-holds_anchor-2.ensures, refused.0) (refl, refl)
+    rw (un.1, c.refused-then-holds_anchor-2.ensures, refused.0) (refl, refl)
 
 pub returns-then-holds_anchor-2-clause-probes : goal.returns-then-holds_anchor-2-clause-probes
 returns-then-holds_anchor-2-clause-probes c =
-    let here = block_here c.args.map.now c.args.heap c.args.block _ c.in-Some.cursor.at _ _ c.requires.sound c.requires.found (rw c.in-Some.is at c.find_guest_block-walk.ensures.block) in
+    let here = block_here c.args.map.now c.args.heap c.args.block _ c.in-Some.cursor.at _ _ c.requires.state.sound c.requires.found (rw c.in-Some.is at c.find_guest_block-walk.ensures.block) in
     let live : live_total c.args.block (c.args.heap + 16) (items_at c.args.map.now c.args.heap) ≡ Some c.word-total.result = here.live ∙ ap (λ n. Some n) (sym c.word-total.ensures) in
     let size : c.changed_by-size.result ≡ changed_by c.word-total.result c.args.change = c.changed_by-size.ensures in
     let needed : c.round_up_8-needed.result ≡ round_up_8 (changed_by c.word-total.result c.args.change) = c.round_up_8-needed.ensures ∙ ap round_up_8 size in
     let un = unrefitted c.args.map.now c.refit.new.map c.args.heap (end_at c.args.map.now c.args.heap) _ (rw c.if-refit.false at c.refit.ensures) in
     let told = rw un.1 at c.holds_anchor-2.ensures in
-    let refused = held_moved c.args.map.now c.args.heap c.args.block c.args.change c.word-total.result c.requires.sound c.requires.found here.own live
+    let refused = held_moved c.args.map.now c.args.heap c.args.block c.args.change c.word-total.result c.requires.state.sound c.requires.found here.own live
     (omega (arith, size, c.if-size-le4.false)) (rw needed at un.0)
     (anchor_told c.args.map.now c.args.heap c.args.block c.word-total.result c.holds_anchor-2.result true live told c.if-holds_anchor-2.true) in
-    rw c.held-then-holds_anchor-2.ensures (c.find_guest_block-walk.ensures.probes ∙ sym refused.1)
-
-pub relocate-moved-requires-clause-unheld : goal.relocate-moved-requires-clause-unheld
-relocate-moved-requires-clause-unheld c =
-    let here = block_here c.args.map.now c.args.heap c.args.block _ c.in-Some.cursor.at _ _ c.requires.sound c.requires.found (rw c.in-Some.is at c.find_guest_block-walk.ensures.block) in
-    let live : live_total c.args.block (c.args.heap + 16) (items_at c.args.map.now c.args.heap) ≡ Some c.word-total.result = here.live ∙ ap (λ n. Some n) (sym c.word-total.ensures) in
-    let un = unrefitted c.args.map.now c.refit.new.map c.args.heap (end_at c.args.map.now c.args.heap) _ (rw c.if-refit.false at c.refit.ensures) in
-    let told = rw un.1 at c.holds_anchor-2.ensures in
-    let free = anchor_told c.args.map.now c.args.heap c.args.block c.word-total.result c.holds_anchor-2.result false live told c.if-holds_anchor-2.false in
-    rw un.1 free
+    rw c.refused-then-holds_anchor-2.ensures (c.find_guest_block-walk.ensures.probes ∙ sym refused.1)

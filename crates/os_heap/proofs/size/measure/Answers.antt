@@ -39,4 +39,4 @@ returns-in-Some-clause-answer c =
 pub returns-in-None-clause-answer : goal.returns-in-None-clause-answer
 returns-in-None-clause-answer c =
     let none = rw c.in-None.is at c.find_guest_block-walk.ensures.block in
-    sym (unsized (regions c.args.map.now) c.args.heap c.args.block (items_at c.args.map.now c.args.heap) none)
+    rw c.refused.ensures (sym (unsized (regions c.args.map.now) c.args.heap c.args.block (items_at c.args.map.now c.args.heap) none))

@@ -17,6 +17,6 @@ returns-in-Some c =
 pub returns-in-None : goal.returns-in-None
 returns-in-None c =
     record {
-      answer = sym (sized_none c.args.map.now c.args.heap c.args.block c.in-None.ensures);
-      probes = sym (free_counted_none c.args.map.now c.args.heap c.args.block c.in-None.ensures);
+      answer = rw c.refused.ensures (sym (sized_none c.args.map.now c.args.heap c.args.block c.in-None.ensures));
+      probes = rw c.refused.ensures (sym (free_counted_none c.args.map.now c.args.heap c.args.block c.in-None.ensures));
     }

@@ -9,10 +9,10 @@ use Rattle.os_heap_lists.proofs.Tally.{free_total-bound, larger_max}
 use Rattle.os_heap.proofs.heaps.Heaps.describe.Goals as goal
 
 pub returns-in_default-clause-answer : goal.returns-in_default-clause-answer
-returns-in_default-clause-answer c = sym (described_none (store_of c.args.map.now) c.args.heap c.in_default.ensures)
+returns-in_default-clause-answer c = rw c.refused.ensures (sym (described_none (store_of c.args.map.now) c.args.heap c.in_default.ensures))
 
 pub returns-in_default-clause-probes : goal.returns-in_default-clause-probes
-returns-in_default-clause-probes c = sym (probes_none (store_of c.args.map.now) c.args.heap c.in_default.ensures)
+returns-in_default-clause-probes c = rw c.refused.ensures (sym (probes_none (store_of c.args.map.now) c.args.heap c.in_default.ensures))
 
 pub free_room-free-requires : goal.free_room-free-requires
 free_room-free-requires c =

@@ -20,9 +20,9 @@ returns-in-Some c =
 pub returns-in-None : goal.returns-in-None
 returns-in-None c =
     record {
-      store = rw (free_refused c.args.map.now c.args.heap c.args.block c.in-None.ensures) (refl, refl);
+      store = rw (c.refused.ensures, free_refused c.args.map.now c.args.heap c.args.block c.in-None.ensures) (refl, refl);
       sound = c.requires.sound;
       classes = c.requires.classes;
       layout = refl;
-      probes = sym (free_counted_none c.args.map.now c.args.heap c.args.block c.in-None.ensures);
+      probes = rw c.refused.ensures (sym (free_counted_none c.args.map.now c.args.heap c.args.block c.in-None.ensures));
     }

@@ -23,9 +23,9 @@ returns-in-Some c =
 pub returns-in-None : goal.returns-in-None
 returns-in-None c =
     record {
-      store = rw (get_refused c.args.map.now c.args.heap c.args.size c.in-None.ensures) (refl, refl);
+      store = rw (c.refused.ensures, get_refused c.args.map.now c.args.heap c.args.size c.in-None.ensures) (refl, refl);
       sound = c.requires.sound;
       classes = c.requires.classes;
       layout = refl;
-      probes = sym (get_counted_none c.args.map.now c.args.heap c.args.size c.in-None.ensures);
+      probes = rw c.refused.ensures (sym (get_counted_none c.args.map.now c.args.heap c.args.size c.in-None.ensures));
     }

@@ -11,9 +11,9 @@ pub returns-in-Some : goal.returns-in-Some
 returns-in-Some c =
     record {
       store = c.resize_block.ensures.store;
-      sound = c.resize_block.ensures.sound;
-      classes = c.resize_block.ensures.classes;
-      layout = c.resize_block.ensures.layout;
+      sound = c.resize_block.ensures.kept.sound;
+      classes = c.resize_block.ensures.kept.classes;
+      layout = c.resize_block.ensures.kept.layout;
       probes = c.resize_block.ensures.probes;
       bounds = rw c.resize_block.ensures.probes (in_bounds (store_of c.args.map.now) c.args.heap c.args.block c.args.change);
     }
@@ -22,10 +22,10 @@ pub returns-in-None : goal.returns-in-None
 returns-in-None c =
     let none = resize_nowhere c.args.map.now c.args.heap c.args.block c.args.change c.in-None.ensures in
     record {
-      store = rw none.0 (refl, refl);
+      store = rw (c.refused.ensures, none.0) (refl, refl);
       sound = c.requires.sound;
       classes = c.requires.classes;
       layout = refl;
-      probes = sym none.1;
-      bounds = rw c.in-None.ensures refl;
+      probes = rw c.refused.ensures (sym none.1);
+      bounds = rw (c.in-None.ensures, c.refused.ensures) refl;
     }

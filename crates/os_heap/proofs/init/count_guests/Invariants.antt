@@ -1,7 +1,7 @@
 use Rattle.std.proofs.Common.{◌≡◌, ◌+◌, ◌≤◌, drop}
 use Rattle.address_map.specs.Bytes.{Bytes}
 use Rattle.os_heap.specs.Store.{heaps_in, guest_count}
-use Rattle.os_heap.proofs.init.count_regions.Given as goal
+use Rattle.os_heap.proofs.init.count_guests.Given as goal
 
 abbrev pub invariant-loop-region : goal.invariant-loop-region
 invariant-loop-region l =
