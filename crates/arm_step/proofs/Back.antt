@@ -77,14 +77,12 @@ words_back b a (w ∷ ws) h =
 
 -- the addresses there and back
 start_again : (mode : BlockMode) (x k : ℕ) → x < 2 ^ 32 → k ≤ 16 → lowest (opposite mode) (stepped_base mode x k) k ≡ lowest mode x k
-unfolding lowest stepped_base
 start_again IncrementAfter x k h g = omega arith
 start_again IncrementBefore x k h g = omega arith
 start_again DecrementAfter x k h g = omega arith
 start_again DecrementBefore x k h g = omega arith
 
 base_again : (mode : BlockMode) (x k : ℕ) → x < 2 ^ 32 → k ≤ 16 → stepped_base (opposite mode) (stepped_base mode x k) k ≡ x
-unfolding stepped_base
 base_again IncrementAfter x k h g = omega arith
 base_again IncrementBefore x k h g = omega arith
 base_again DecrementAfter x k h g = omega arith
@@ -92,7 +90,6 @@ base_again DecrementBefore x k h g = omega arith
 
 -- what is stored of a listed register is the register
 value_is : (s : State) (t : BlockTransfer) (r : ℕ) → PutsAway t → bit_of t.list r ≡ true → block_value s t r ≡ register_in s.psr.mode s r
-unfolding block_value status_operand bank_of
 value_is s t r p e =
     let other : nat_eq r t.rn ≡ false = off r t.rn (λ f. let both : bit_of t.list r ≡ bit_of t.list t.rn = ap (bit_of t.list) f in cc (p.apart, e, both)) in
     let no : nat_eq r 15 ≡ false = off r 15 (λ f. let both : bit_of t.list r ≡ bit_of t.list 15 = ap (bit_of t.list) f in cc (p.without_pc, e, both)) in
@@ -114,7 +111,6 @@ values_are s t zero p = refl
 values_are s t (suc n) p = one_value s t (listed_below n t.list) n (bit_of t.list n) refl p (values_are s t n p)
 
 all_words : (s : State) (xs : List ℕ) → IsCore s → AreWords (map (register_in s.psr.mode s) xs)
-unfolding register_in
 all_words s [] c = tt
 all_words s (x ∷ xs) c = (c.words _, all_words s xs c)
 
@@ -140,7 +136,7 @@ stored_by false r q w h e = from_fault q w e
 
 pub store_left : (owned : ℕ → Bool) (t : BlockTransfer) (s out : State) (b c : Bytes) → t.loads ≡ false → acted owned s b (action.BlockTransfer t) ≡ Ok (out, c)
     → (out ≡ with_block_base (advanced s) t (block_base s t)) × (c ≡ with_words b (block_start s t) (block_values s t))
-unfolding acted block_transferred block_stored words_stored
+unfolding acted block_transferred
 store_left owned t s out b c h e = from_store _ _ c _ out (stored_by t.loads (block_loaded s b t) _ (out, c) h e)
 
 loaded_by : (loads : Bool) (r q : Result (State × Bytes) Fault) (w : State × Bytes) → loads ≡ true → or_fault (cond loads r q) ≡ Ok w → r ≡ Ok w
@@ -150,33 +146,28 @@ loaded_by false r q w h e = absurd (cc)
 pub load_left : (owned : ℕ → Bool) (u : BlockTransfer) (s end : State) (c d : Bytes) → u.loads ≡ true → acted owned s c (action.BlockTransfer u) ≡ Ok (end, d)
     → end ≡ (let ws = words_at c (block_start s u) (block_size u) in
     with_block_status (with_loaded (bank_of s u) (with_block_base (advanced s) u (block_base s u)) (listed u.list) ws) u ws)
-unfolding acted block_transferred block_loaded words_loaded
+unfolding acted block_transferred
 load_left owned u s end c d h e = from_load _ _ _ c d end (loaded_by u.loads _ (block_stored owned s c u) (end, d) h e)
 
 based : (s : State) (t : BlockTransfer) (v : ℕ) → t.writes_back ≡ true → t.rn < 15 → length s.file ≡ 26 → register_in s.psr.mode (with_block_base (advanced s) t v) t.rn ≡ v
-unfolding with_block_base with_result advanced with_pc
 based s t v w h l = rw w (same_read s.psr.mode (advanced s) t.rn v l h)
 
 based_size : (s : State) (t : BlockTransfer) (v : ℕ) → t.writes_back ≡ true → length (with_block_base (advanced s) t v).file ≡ length s.file
-unfolding with_block_base with_result advanced with_pc
 based_size s t v w = rw w (size_kept s.psr.mode (advanced s) t.rn v)
 
 base_read : (s : State) (r : ℕ) → r < 15 → plain_operand s r 2 ≡ register_in s.psr.mode s r
-unfolding plain_operand
 base_read s r h = rw (no_pc r h) refl
 
 start_back : (s back : State) (t : BlockTransfer) → plain_operand s t.rn 2 < 2 ^ 32 → plain_operand back t.rn 2 ≡ block_base s t → block_start back (brought_back t) ≡ block_start s t
-unfolding block_start block_base
 start_back s back t h e =
     ap (λ x. word_start (lowest (opposite t.mode) x (block_size t))) e ∙ ap word_start (start_again t.mode (plain_operand s t.rn 2) (block_size t) h (few_of_all t.list))
 
 base_back : (s back : State) (t : BlockTransfer) → plain_operand s t.rn 2 < 2 ^ 32 → plain_operand back t.rn 2 ≡ block_base s t → block_base back (brought_back t) ≡ plain_operand s t.rn 2
-unfolding block_base
 base_back s back t h e =
     ap (λ x. stepped_base (opposite t.mode) x (block_size t)) e ∙ base_again t.mode (plain_operand s t.rn 2) (block_size t) h (few_of_all t.list)
 
 values_listed : (s : State) (t : BlockTransfer) → PutsAway t → block_values s t ≡ map (register_in s.psr.mode s) (listed t.list)
-unfolding block_values listed
+unfolding listed
 values_listed s t p = values_are s t 16 p
 
 words_again : (s : State) (t : BlockTransfer) (b : Bytes) (a : ℕ) → IsCore s → words_at (with_words b a (map (register_in s.psr.mode s) (listed t.list))) a (block_size t) ≡ map (register_in s.psr.mode s) (listed t.list)
@@ -185,11 +176,9 @@ words_again s t b a i =
     ap (λ k. words_at (with_words b a values) a k) (sym (length-map (listed t.list) (register_in s.psr.mode s))) ∙ words_back b a values (all_words s (listed t.list) i)
 
 no_status : (s : State) (t : BlockTransfer) (ws : List ℕ) → PutsAway t → with_block_status s (brought_back t) ws ≡ s
-unfolding with_block_status loads_status
 no_status s t ws p = rw p.plain refl
 
 same_bank : (s : State) (t : BlockTransfer) → PutsAway t → bank_of s (brought_back t) ≡ s.psr.mode
-unfolding bank_of
 same_bank s t p = rw p.plain refl
 
 all_placed : (m : Mode) (s : State) (f : ℕ → ℕ) (list q : ℕ) → length s.file ≡ 26 → q < 15 → register_in m (with_loaded m s (listed list) (map f (listed list))) q ≡ cond (nat_lt q 16 && bit_of list q) (f q) (register_in m s q)
@@ -232,6 +221,6 @@ comes_back owned t s out back end b c d p i j e mode base f n h which =
     ap (λ q. register_in q (with_block_base (advanced back) (brought_back t) (block_base back (brought_back t))) t.rn) (sym mode)
     ∙ based back (brought_back t) (block_base back (brought_back t)) p.moves_base p.base j.size ∙ base_back s back t word here ∙ base_read s t.rn p.base in
     let state : end ≡ with_loaded s.psr.mode z (listed t.list) (map (register_in s.psr.mode s) (listed t.list)) =
-    came ∙ no_status _ t _ p ∙ ap (λ q. with_loaded q z (listed t.list) (words_at c (block_start back (brought_back t)) (block_size t))) (same_bank back t p ∙ mode)
+    came ∙ no_status _ t (words_at c (block_start back (brought_back t)) (block_size (brought_back t))) p ∙ ap (λ q. with_loaded q z (listed t.list) (words_at c (block_start back (brought_back t)) (block_size t))) (same_bank back t p ∙ mode)
     ∙ ap (λ ws. with_loaded s.psr.mode z (listed t.list) ws) words in
     ap (λ q. register_in s.psr.mode q n) state ∙ read_end s z t n p size again h which

@@ -28,7 +28,6 @@ not_and true c = refl
 not_and false c = not_not c
 
 pub pairs : PairsDiffer
-unfolding holds
 pairs zero p h = not_not _
 pairs (suc zero) p h = not_not _
 pairs (suc (suc zero)) p h = not_not _
@@ -47,12 +46,11 @@ abbrev compared : Psr → ℕ → ℕ → Psr
 compared p x y = with_flags_of p (difference_of x y true)
 
 order : (p : Psr) (x y : ℕ) → x < 2 ^ 32 → y < 2 ^ 32 → TellsOrder (compared p x y) x y
-unfolding holds
 order p x y h g = first_of (search rules, grind (arith, common_steps))
 
 compares : (s : State) (o : Operate) → o.operation ≡ operation.Compare → nat_eq o.rd 15 ≡ false
     → (operated s o).psr ≡ compared s.psr (plain_operand s o.rn (words_ahead o.operand)) (operand_of s o.operand).value
-unfolding operated finished tested computed flagged advanced with_pc with_flags
+unfolding operated
 compares s o e h = rw (e, h) refl
 
 pub compare_tells : CompareTells

@@ -97,12 +97,11 @@ free_words_by false true false h = absurd (cc)
 free_words_by false true true h = refl
 
 stored_words : (owned : ℕ → Bool) (b : Bytes) (a : ℕ) (ws : List ℕ) → IsByWords owned → a % 4 ≡ 0 → KeptBy owned b (words_stored owned b a ws)
-unfolding words_stored words_store_fault
 stored_words owned b a ws h g =
     unless_fault owned b (with_words b a ws) _ (λ e. words_kept owned b a ws h g (free_words_by (nat_lt (2 ^ 26) _) (are_mapped b a (length ws)) (are_free owned a (length ws)) e))
 
 stored_value : (owned : ℕ → Bool) (b : Bytes) (is_byte : Bool) (a v : ℕ) → IsByWords owned → KeptBy owned b (value_stored owned b is_byte a v)
-unfolding value_stored byte_stored word_stored
+unfolding byte_stored word_stored
 stored_value owned b true a v h = unless_fault owned b _ _ (λ e. byte_kept owned b a _ (free_at owned b a e))
 stored_value owned b false a v h =
     let start : (a - a % 4) % 4 ≡ 0 = omega arith in
@@ -117,12 +116,10 @@ read owned b t (Ok v) = same owned b
 read owned b t (Err f) = tt
 
 transfer_kept : (owned : ℕ → Bool) (s : State) (b : Bytes) (t : Transfer) (loads : Bool) → IsByWords owned → KeptWith owned b (cond loads (loaded s b t) (stored owned s b t))
-unfolding loaded stored
 transfer_kept owned s b t true h = read owned b _ _
 transfer_kept owned s b t false h = bound owned b _ _ (stored_value owned b t.is_byte (transfer_address s t.address) _ h)
 
 block_kept : (owned : ℕ → Bool) (s : State) (b : Bytes) (t : BlockTransfer) (loads : Bool) → IsByWords owned → KeptWith owned b (cond loads (block_loaded s b t) (block_stored owned s b t))
-unfolding block_loaded block_stored block_start
 block_kept owned s b t true h = read owned b _ _
 block_kept owned s b t false h = bound owned b _ _ (stored_words owned b (block_start s t) (block_values s t) h (omega arith))
 
@@ -148,7 +145,6 @@ met_kept owned s b w true h = decoded_kept owned s b (decoded w) h
 met_kept owned s b w false h = same owned b
 
 fetched_kept : (owned : ℕ → Bool) (s : State) (b : Bytes) (r : Result ℕ Fault) → IsByWords owned → KeptWith owned b (executed_if_fetched owned s b r)
-unfolding executed
 fetched_kept owned s b (Ok w) h = met_kept owned s b w (holds (condition_in w) s.psr) h
 fetched_kept owned s b (Err f) h = tt
 

@@ -47,22 +47,18 @@ words_listed b a list = words_below b a list 16
 
 -- base and status keep what was loaded
 base_size_by : (s : State) (r v : ℕ) (writes : Bool) → length s.file ≡ 26 → length (cond writes (with_result (advanced s) r v) (advanced s)).file ≡ 26
-unfolding with_result advanced with_pc
 base_size_by s r v true h = size_kept s.psr.mode (advanced s) r v ∙ h
 base_size_by s r v false h = h
 
 base_size : (s : State) (t : BlockTransfer) (v : ℕ) → length s.file ≡ 26 → length (with_block_base (advanced s) t v).file ≡ 26
-unfolding with_block_base
 base_size s t v h = base_size_by s t.rn v t.writes_back h
 
 status_read_by : (m : Mode) (s : State) (n : ℕ) (w : Option ℕ) (loads : Bool) → register_in m (cond loads (with_status_if s w) s) n ≡ register_in m s n
-unfolding register_in with_status with_psr
 status_read_by m s n w false = refl
 status_read_by m s n None true = refl
 status_read_by m s n (Some w) true = refl
 
 status_read : (m : Mode) (s : State) (t : BlockTransfer) (ws : List ℕ) (n : ℕ) → register_in m (with_block_status s t ws) n ≡ register_in m s n
-unfolding with_block_status
 status_read m s t ws n = status_read_by m s n _ _
 
 placed_read : (m : Mode) (s : State) (f : ℕ → ℕ) (list r : ℕ) → length s.file ≡ 26 → r < 15 → bit_of list r ≡ true
@@ -81,7 +77,6 @@ loads_in_order owned t s end b c i loads e r h listed_r =
     ∙ placed_read m z (word_of b (block_start s t) t.list) t.list r (base_size s t (block_base s t) i.size) h listed_r
 
 stepped_word : (mode : BlockMode) (x n : ℕ) → stepped_base mode x n < 2 ^ 32
-unfolding stepped_base
 stepped_word IncrementAfter x n = omega arith
 stepped_word IncrementBefore x n = omega arith
 stepped_word DecrementAfter x n = omega arith
@@ -92,7 +87,6 @@ one_of true y z h g = h
 one_of false y z h g = g
 
 value_word : (s : State) (t : BlockTransfer) (r : ℕ) → IsCore s → block_value s t r < 2 ^ 32
-unfolding block_value block_base
 value_word s t r i = one_of _ _ _ (stepped_word t.mode (plain_operand s t.rn 2) (block_size t)) (status_word (bank_of s t) s r 3 i)
 
 all_values : (s : State) (t : BlockTransfer) (xs : List ℕ) → IsCore s → AreWords (map (block_value s t) xs)
@@ -100,7 +94,6 @@ all_values s t [] i = tt
 all_values s t (x ∷ xs) i = (value_word s t x i, all_values s t xs i)
 
 values_back : (s : State) (t : BlockTransfer) (b : Bytes) (a : ℕ) → IsCore s → words_at (with_words b a (block_values s t)) a (block_size t) ≡ map (block_value s t) (listed t.list)
-unfolding block_values
 values_back s t b a i =
     let vs = map (block_value s t) (listed t.list) in
     ap (λ k. words_at (with_words b a vs) a k) (sym (length-map (listed t.list) (block_value s t))) ∙ words_back b a vs (all_values s t (listed t.list) i)

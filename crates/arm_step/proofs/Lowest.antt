@@ -138,7 +138,6 @@ value_is false is_base base x = refl
 pub stored_as : (s : State) (t : BlockTransfer) (bank : Mode) (r : ℕ) (changed : Option ℕ) (value : ℕ)
     → changed ≡ changed_base s t → bank ≡ bank_of s t
     → value ≡ value_by changed (nat_eq r t.rn) (status_operand bank s r 3) → value ≡ block_value s t r
-unfolding block_value
 stored_as s t bank r changed value ec ek ev =
     rw (ev, ec, ek) (value_is (stores_new_base t) (nat_eq r t.rn) (block_base s t) (status_operand (bank_of s t) s r 3))
 
@@ -157,21 +156,17 @@ put_end b f a x e = let none : listed x ≡ [] = ap listed e ∙ listed_empty in
 
 -- all words of a block, by the fault that a store of them meets
 length_values : (s : State) (t : BlockTransfer) → length (block_values s t) ≡ block_size t
-unfolding block_values
 length_values s t = length-map (listed t.list) (block_value s t)
 
 block_words : (owned : ℕ → Bool) (s : State) (b : Bytes) (t : BlockTransfer) (first : ℕ) (fault : Option Fault) → words_store_fault owned b first (block_size t) ≡ fault
     → words_stored owned b first (block_values s t) ≡ unless fault (with_words b first (block_values s t))
-unfolding words_stored
 block_words owned s b t first fault h = rw (length_values s t, h) refl
 
 pub block_refused : (owned : ℕ → Bool) (s : State) (b : Bytes) (t : BlockTransfer) (first : ℕ) (fault : Fault) → first ≡ block_start s t
     → words_store_fault owned b first (block_size t) ≡ Some fault → block_stored owned s b t ≡ Err fault
-unfolding block_stored
 block_refused owned s b t first fault start h = rw (← start, block_words owned s b t first (Some fault) h) refl
 
 pub block_done : (owned : ℕ → Bool) (s : State) (b : Bytes) (t : BlockTransfer) (first base : ℕ) → first ≡ block_start s t → base ≡ block_base s t
     → words_store_fault owned b first (block_size t) ≡ None
     → block_stored owned s b t ≡ Ok (with_block_base (advanced s) t base, with_words b first (block_values s t))
-unfolding block_stored
 block_done owned s b t first base start to h = rw (← start, ← to, block_words owned s b t first None h) refl

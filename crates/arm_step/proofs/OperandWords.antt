@@ -23,7 +23,6 @@ use Rattle.arm_step.specs.Operand.{kept, shifted_by, shifted_by_zero, shifted_by
 use Rattle.arm_step.proofs.Turning.{one_below}
 
 pub is_word : (s : State) (m : Mode) (r : ℕ) → IsCore s → register_in m s r < 2 ^ 32
-unfolding register_in
 is_word s m r i = i.words _
 
 ahead_below : (s : State) (k : ℕ) → ahead s k < 2 ^ 26
@@ -37,7 +36,6 @@ plain_by s n k true i = let below = ahead_below s k in omega (arith, below)
 plain_by s n k false i = is_word s s.psr.mode n i
 
 pub plain_word : (s : State) (n k : ℕ) → IsCore s → plain_operand s n k < 2 ^ 32
-unfolding plain_operand
 plain_word s n k i = plain_by s n k (nat_eq n 15) i
 
 bit_most : (b : Bool) → from_bool b ≤ 1
@@ -67,7 +65,6 @@ status_by m s n k true i = r15_below (psr_bits s.psr) (ahead s k) (psr_most s.ps
 status_by m s n k false i = is_word s m n i
 
 pub status_word : (m : Mode) (s : State) (n k : ℕ) → IsCore s → status_operand m s n k < 2 ^ 32
-unfolding status_operand
 status_word m s n k i = status_by m s n k (nat_eq n 15) i
 
 -- shifts of a word
@@ -92,14 +89,12 @@ rotated_word : (x n : ℕ) → x < 2 ^ 32 → (rotated x n).value < 2 ^ 32
 rotated_word x n h = turned_word x (n % 32) (omega arith) h
 
 shifted_word : (kind : Shift) (x n : ℕ) → x < 2 ^ 32 → (shifted_by kind x n).value < 2 ^ 32
-unfolding shifted_by
 shifted_word shift.LogicalLeft x n h = omega arith
 shifted_word shift.LogicalRight x n h = let less = shr_le x n in omega (arith, less)
 shifted_word shift.ArithmeticRight x n h = signed_word x n (nat_lt x (2 ^ 31)) refl h
 shifted_word shift.RotateRight x n h = rotated_word x n h
 
 zero_word : (kind : Shift) (x : ℕ) (c : Bool) → x < 2 ^ 32 → (shifted_by_zero kind x c).value < 2 ^ 32
-unfolding shifted_by_zero
 zero_word shift.LogicalLeft x c h = h
 zero_word shift.LogicalRight x c h = let less = shr_le x 32 in omega (arith, less)
 zero_word shift.ArithmeticRight x c h = signed_word x 32 (nat_lt x (2 ^ 31)) refl h
@@ -110,21 +105,17 @@ either true y z h g = h
 either false y z h g = g
 
 number_word : (kind : Shift) (x n : ℕ) (c : Bool) → x < 2 ^ 32 → (shifted_by_number kind x n c).value < 2 ^ 32
-unfolding shifted_by_number
 number_word kind x n c h = either (nat_eq n 0) (shifted_by_zero kind x c) (shifted_by kind x n) (zero_word kind x c h) (shifted_word kind x n h)
 
 byte_word : (kind : Shift) (x n : ℕ) (c : Bool) → x < 2 ^ 32 → (shifted_by_byte kind x n c).value < 2 ^ 32
-unfolding shifted_by_byte
 byte_word kind x n c h = either (nat_eq n 0) (kept x c) (shifted_by kind x n) h (shifted_word kind x n h)
 
 immediate_word : (rotation byte : ℕ) (c : Bool) → byte < 2 ^ 8 → (immediate rotation byte c).value < 2 ^ 32
-unfolding immediate
 immediate_word rotation byte c h =
     let word : byte < 2 ^ 32 = omega arith in
     either (nat_eq rotation 0) (kept byte c) (rotated byte (2 * rotation)) word (rotated_word byte (2 * rotation) word)
 
 pub operand_word : (s : State) (o : Operand) → IsCore s → FitsOperand o → (operand_of s o).value < 2 ^ 32
-unfolding operand_of shifted_register
 operand_word s (operand.Immediate rotation byte) i f = immediate_word rotation byte s.psr.carry f.1
 operand_word s (operand.Shifted r) i f = number_word r.shift (status_operand s.psr.mode s r.rm 2) r.amount s.psr.carry (status_word s.psr.mode s r.rm 2 i)
 operand_word s (operand.ShiftedByRegister rm kind rs) i f =

@@ -79,7 +79,6 @@ page_lent m a n lent e is =
 -- where the page is not mapped
 load_missing : (far mapped below : Bool) (b : Bytes) (a n : ℕ) → far ≡ not below → mapped ≡ false → nat_lt (2 ^ 26) (a + 4 * n) ≡ far → are_mapped b a n ≡ mapped
     → nat_lt a (2 ^ 26) ≡ below → words_loaded b a n ≡ Err (missing a)
-unfolding words_loaded words_load_fault
 load_missing far mapped true b a n f m near gone low = rw (near, gone, f, m, low) refl
 load_missing far mapped false b a n f m near gone low = rw (near, f, low) refl
 
@@ -109,7 +108,6 @@ free_not_owned owned a (suc n) =
 
 fault_missing : (below : Bool) (owned : ℕ → Bool) (b : Bytes) (a n : ℕ) → nat_lt a (2 ^ 26) ≡ below
     → nat_lt (2 ^ 26) (a + 4 * n) ≡ not below → are_mapped b a n ≡ false → words_store_fault owned b a n ≡ Some (missing a)
-unfolding words_store_fault
 fault_missing true owned b a n low near gone = rw (near, gone, low) refl
 fault_missing false owned b a n low near gone = rw (near, low) refl
 
@@ -121,7 +119,6 @@ page_refused owned m a n e h =
 
 fault_by : (any : Bool) (owned : ℕ → Bool) (b : Bytes) (a n : ℕ) → a + 4 * n ≤ 2 ^ 26 → are_mapped b a n ≡ true
     → any_owned owned a n ≡ any → words_store_fault owned b a n ≡ cond any (Some OwnedWord) None
-unfolding words_store_fault
 fault_by true owned b a n inside mapped any =
     let near : ltb (2 ^ 26) (a + 4 * n) ≡ false = le-ltb (2 ^ 26) (a + 4 * n) inside in
     let free : are_free owned a n ≡ false = free_not_owned owned a n ∙ ap not any in

@@ -22,14 +22,12 @@ moved_apart k j q r true false e f d g = let x = is_below q k e in let y = not_b
 moved_apart k j q r false true e f d g = let x = is_below r k f in let y = not_below q k e in d (omega (arith, x, y))
 
 slots_differ : (m : Mode) (q r : ℕ) → q ≢ r → slot_of m q ≢ slot_of m r
-unfolding slot_of
 slots_differ User q r d = d
 slots_differ FastInterrupt q r d = moved_apart 8 7 q r (nat_lt q 8) (nat_lt r 8) refl refl d
 slots_differ Interrupt q r d = moved_apart 13 9 q r (nat_lt q 13) (nat_lt r 13) refl refl d
 slots_differ Supervisor q r d = moved_apart 13 11 q r (nat_lt q 13) (nat_lt r 13) refl refl d
 
 slot_below : (m : Mode) (r : ℕ) → r < 15 → slot_of m r < 26
-unfolding slot_of
 slot_below User r h = omega arith
 slot_below FastInterrupt r h = grind (arith, nat_tests)
 slot_below Interrupt r h = grind (arith, nat_tests)
@@ -39,27 +37,22 @@ pub no_pc : (r : ℕ) → r < 15 → nat_eq r 15 ≡ false
 no_pc r h = grind (arith, nat_tests)
 
 pub same_read : (m : Mode) (s : State) (r v : ℕ) → length s.file ≡ 26 → r < 15 → register_in m (with_result_in m s r v) r ≡ v
-unfolding register_in with_result_in with_register_in
 same_read m s r v e h =
     let inside : slot_of m r < length s.file = omega (arith, slot_below m r h) in
     rw (no_pc r h) (get_or-set_same s.file (slot_of m r) v 0 inside)
 
 other_read_by : (m : Mode) (s : State) (q r v : ℕ) (pc : Bool) → nat_eq r 15 ≡ pc → q ≢ r → register_in m (cond pc (with_pc s v) (with_register_in m s r v)) q ≡ register_in m s q
-unfolding register_in with_register_in with_pc
 other_read_by m s q r v true e d = refl
 other_read_by m s q r v false e d = get_or-set_other s.file (slot_of m r) (slot_of m q) v 0 (slots_differ m q r d)
 
 pub other_read : (m : Mode) (s : State) (q r v : ℕ) → q ≢ r → register_in m (with_result_in m s r v) q ≡ register_in m s q
-unfolding with_result_in
 other_read m s q r v d = other_read_by m s q r v (nat_eq r 15) refl d
 
 size_kept_by : (m : Mode) (s : State) (r v : ℕ) (pc : Bool) → length (cond pc (with_pc s v) (with_register_in m s r v)).file ≡ length s.file
-unfolding with_register_in with_pc
 size_kept_by m s r v true = refl
 size_kept_by m s r v false = length-set s.file (slot_of m r) v
 
 pub size_kept : (m : Mode) (s : State) (r v : ℕ) → length (with_result_in m s r v).file ≡ length s.file
-unfolding with_result_in
 size_kept m s r v = size_kept_by m s r v (nat_eq r 15)
 
 -- words placed for a list of registers and one more

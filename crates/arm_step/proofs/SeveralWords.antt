@@ -67,11 +67,9 @@ unfolding words_at
 words_end b a n i h = let e : n - i ≡ 0 = omega arith in rw e refl
 
 pub words_all : (b : Bytes) (a n : ℕ) (ws : List ℕ) → a + 4 * n ≤ 2 ^ 26 → are_mapped b a n ≡ true → words_at b a n ≡ ws → words_loaded b a n ≡ Ok ws
-unfolding words_loaded words_load_fault
 words_all b a n ws h m e = let near : ltb (2 ^ 26) (a + 4 * n) ≡ false = le-ltb (2 ^ 26) (a + 4 * n) h in rw (near, m) (ap (λ xs. Ok xs) e)
 
 pub words_missing : (b : Bytes) (a n : ℕ) → a + 4 * n ≤ 2 ^ 26 → are_mapped b a n ≡ false → words_loaded b a n ≡ Err DataUnmapped
-unfolding words_loaded words_load_fault
 words_missing b a n h m = let near : ltb (2 ^ 26) (a + 4 * n) ≡ false = le-ltb (2 ^ 26) (a + 4 * n) h in rw (near, m) refl
 
 pub free_step : (owned : ℕ → Bool) (first n i : ℕ) → i < n → owned (first + 4 * i) ≡ false → are_free owned (first + 4 * i) (n - i) ≡ are_free owned (first + 4 * (i + 1)) (n - (i + 1))

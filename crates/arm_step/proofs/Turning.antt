@@ -20,7 +20,6 @@ left_part x n h =
     ∙ omega arith
 
 pub rotation_parts : RotatesByShifting
-unfolding shifted_by
 rotation_parts x n g low high =
     let e : n % 32 ≡ n = omega arith in
     ap (λ k. x / 2 ^ k + x % 2 ^ k * 2 ^ (32 - k)) e ∙ ap (λ y. x / 2 ^ n + y) (sym (left_part x n high))
@@ -71,7 +70,7 @@ record IsTurned (s : Shifted) (n k : ℕ) : Type 0 where
   place : whole s ≡ turned n k
 
 turned_on : (k j n : ℕ) (s : Shifted) → j + k ≤ 33 → IsTurned s n j → IsTurned (turned_times k s) n (j + k)
-unfolding turned_times shifted_by_number shifted_by_zero
+unfolding turned_times
 turned_on zero j n s h i = let e : j ≡ j + zero = omega arith in record { below = i.below; place = i.place ∙ ap (turned n) e }
 turned_on (suc k) j n s h i =
     let few : j ≤ 32 = omega arith in

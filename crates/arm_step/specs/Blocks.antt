@@ -38,10 +38,10 @@ stepped_base DecrementBefore base n = (2 ^ 32 + base - 4 * n) % 2 ^ 32
 abbrev pub block_size : BlockTransfer → ℕ
 block_size t = length (listed t.list)
 
-unfoldable pub block_start : State → BlockTransfer → ℕ
+abbrev pub block_start : State → BlockTransfer → ℕ
 block_start s t = word_start (lowest t.mode (plain_operand s t.rn 2) (block_size t))
 
-unfoldable pub block_base : State → BlockTransfer → ℕ
+abbrev pub block_base : State → BlockTransfer → ℕ
 block_base s t = stepped_base t.mode (plain_operand s t.rn 2) (block_size t)
 
 -- S in LDM with R15 loads the status; else it means the registers of the user bank.
@@ -51,7 +51,7 @@ loads_status t = t.psr_or_user && (t.loads && bit_of t.list 15)
 abbrev pub bank_of : State → BlockTransfer → Mode
 bank_of s t = if t.psr_or_user && not (loads_status t) then User else s.psr.mode
 
-unfoldable pub with_block_base : State → BlockTransfer → ℕ → State
+abbrev pub with_block_base : State → BlockTransfer → ℕ → State
 with_block_base s t base = if t.writes_back then with_result s t.rn base else s
 
 -- The words of a load placed in the registers of a list, one by one.
@@ -65,11 +65,11 @@ abbrev pub with_status_if : State → Option ℕ → State
 with_status_if s None = s
 with_status_if s (Some w) = with_status s w
 
-unfoldable pub with_block_status : State → BlockTransfer → List ℕ → State
+abbrev pub with_block_status : State → BlockTransfer → List ℕ → State
 with_block_status s t ws = if loads_status t then with_status_if s (slice_get ws (length ws - 1)) else s
 
 -- The base is written first, so a loaded base wins.
-unfoldable pub block_loaded : State → Bytes → BlockTransfer → Result (State × Bytes) Fault
+abbrev pub block_loaded : State → Bytes → BlockTransfer → Result (State × Bytes) Fault
 block_loaded s b t =
     bind (words_loaded b (block_start s t) (block_size t))
     (λ ws. Ok (with_block_status (with_loaded (bank_of s t) (with_block_base (advanced s) t (block_base s t)) (listed t.list) ws) t ws, b))
@@ -79,13 +79,13 @@ abbrev pub stores_new_base : BlockTransfer → Bool
 stores_new_base t = t.writes_back && not (t.list % 2 ^ t.rn == 0)
 
 -- R15 is stored three words ahead with the status.
-unfoldable pub block_value : State → BlockTransfer → ℕ → ℕ
+abbrev pub block_value : State → BlockTransfer → ℕ → ℕ
 block_value s t r = if stores_new_base t && r == t.rn then block_base s t else status_operand (bank_of s t) s r 3
 
-unfoldable pub block_values : State → BlockTransfer → List ℕ
+abbrev pub block_values : State → BlockTransfer → List ℕ
 block_values s t = map (block_value s t) (listed t.list)
 
-unfoldable pub block_stored : (ℕ → Bool) → State → Bytes → BlockTransfer → Result (State × Bytes) Fault
+abbrev pub block_stored : (ℕ → Bool) → State → Bytes → BlockTransfer → Result (State × Bytes) Fault
 block_stored owned s b t =
     bind (words_stored owned b (block_start s t) (block_values s t)) (λ c. Ok (with_block_base (advanced s) t (block_base s t), c))
 

@@ -8,7 +8,7 @@ abbrev pub are_alike : Bool → Bool → Bool
 are_alike true b = b
 are_alike false b = not b
 
-unfoldable pub holds : Condition → Psr → Bool
+abbrev pub holds : Condition → Psr → Bool
 holds condition.Equal p = p.zero
 holds condition.NotEqual p = not p.zero
 holds condition.CarrySet p = p.carry

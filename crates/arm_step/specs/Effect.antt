@@ -12,28 +12,28 @@ abbrev pub ahead : State → ℕ → ℕ
 ahead s words = (s.pc + 4 * words) % 2 ^ 26
 
 -- After an instruction that doesn't set it, the program counter is at the next word.
-unfoldable pub advanced : State → State
+abbrev pub advanced : State → State
 advanced s = with_pc s (s.pc + 4)
 
 -- A register as an operand: R15 reads as the program counter ahead, with the status bits 0 or with the status.
-unfoldable pub plain_operand : State → ℕ → ℕ → ℕ
+abbrev pub plain_operand : State → ℕ → ℕ → ℕ
 plain_operand s n words = if n == 15 then ahead s words else register_in s.psr.mode s n
 
-unfoldable pub status_operand : Mode → State → ℕ → ℕ → ℕ
+abbrev pub status_operand : Mode → State → ℕ → ℕ → ℕ
 status_operand m s n words = if n == 15 then psr_bits s.psr + ahead s words else register_in m s n
 
 -- A register set; R15 takes bits 25 to 2 as the program counter.
-unfoldable pub with_result_in : Mode → State → ℕ → ℕ → State
+abbrev pub with_result_in : Mode → State → ℕ → ℕ → State
 with_result_in m s n v = if n == 15 then with_pc s v else with_register_in m s n v
 
 -- The same in the present mode.
-unfoldable pub with_result : State → ℕ → ℕ → State
+abbrev pub with_result : State → ℕ → ℕ → State
 with_result s n v = with_result_in s.psr.mode s n v
 
 -- The status set from a word; in user mode N, Z, C and V alone.
-unfoldable pub with_status : State → ℕ → State
+abbrev pub with_status : State → ℕ → State
 with_status s v = with_psr s (psr_taken s.psr (psr_of v))
 
 -- N and Z of a result, with C and V as they come.
-unfoldable pub flagged : State → Sum → State
+abbrev pub flagged : State → Sum → State
 flagged s r = with_flags s (bit_of r.value 31) (r.value == 0) r.carry r.overflow

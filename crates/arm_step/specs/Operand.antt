@@ -45,10 +45,10 @@ words_ahead (operand.Immediate rotation byte) = 2
 words_ahead (operand.Shifted r) = 2
 words_ahead (operand.ShiftedByRegister rm kind rs) = 3
 
-unfoldable pub shifted_register : State → ShiftedRegister → Shifted
+abbrev pub shifted_register : State → ShiftedRegister → Shifted
 shifted_register s r = shifted_by_number r.shift (status_operand s.psr.mode s r.rm 2) r.amount s.psr.carry
 
-unfoldable pub operand_of : State → Operand → Shifted
+abbrev pub operand_of : State → Operand → Shifted
 operand_of s (operand.Immediate rotation byte) = immediate rotation byte s.psr.carry
 operand_of s (operand.Shifted r) = shifted_register s r
 operand_of s (operand.ShiftedByRegister rm kind rs) = shifted_by_byte kind (status_operand s.psr.mode s rm 3) (plain_operand s rs 3 % 256) s.psr.carry

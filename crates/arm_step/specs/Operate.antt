@@ -19,7 +19,7 @@ use Rattle.arm_step.specs.Operand.{operand_of, words_ahead}
 abbrev pub logical : ℕ → Shifted → Psr → Sum
 logical x second p = record { value = x; carry = second.carry; overflow = p.overflow }
 
-unfoldable pub computed : Operation → ℕ → Shifted → Psr → Sum
+abbrev pub computed : Operation → ℕ → Shifted → Psr → Sum
 computed operation.And x y p = logical (bit_and x y.value) y p
 computed operation.ExclusiveOr x y p = logical (bit_xor x y.value) y p
 computed operation.Subtract x y p = difference_of x y.value true
@@ -38,16 +38,16 @@ computed operation.BitClear x y p = logical (bit_and x (bit_not w32 y.value)) y 
 computed operation.MoveNot x y p = logical (bit_not w32 y.value) y p
 
 -- A test sets the flags, or in its form P the status from its result.
-unfoldable pub tested : State → Operate → Sum → State
+abbrev pub tested : State → Operate → Sum → State
 tested s o r = if o.rd == 15 then with_status s r.value else flagged s r
 
 -- With S a result for R15 sets program counter and status, any other result the flags.
-unfoldable pub placed : State → Operate → Sum → State
+abbrev pub placed : State → Operate → Sum → State
 placed s o r =
     if o.sets_flags then (if o.rd == 15 then with_status (with_pc s r.value) r.value else flagged (with_register s o.rd r.value) r) else
     with_result s o.rd r.value
 
-unfoldable pub finished : State → Operate → Sum → State
+abbrev pub finished : State → Operate → Sum → State
 finished s o r = if is_test o.operation then tested s o r else placed s o r
 
 unfoldable pub operated : State → Operate → State
@@ -62,13 +62,13 @@ product s m =
 abbrev pub with_sign : State → ℕ → State
 with_sign s v = flagged s (record { value = v; carry = s.psr.carry; overflow = s.psr.overflow })
 
-unfoldable pub multiplied : State → Multiply → State
+abbrev pub multiplied : State → Multiply → State
 multiplied s m =
     if m.sets_flags then with_sign (with_result (advanced s) m.rd (product s m)) (product s m) else
     with_result (advanced s) m.rd (product s m)
 
 -- The distance counts words from 8 bytes ahead. Modulo 2^26 four times a signed field of 24 bits is four times the unsigned one.
 -- BL leaves the next word's address with the status in R14.
-unfoldable pub branched : State → Bool → ℕ → State
+abbrev pub branched : State → Bool → ℕ → State
 branched s links distance =
     if links then with_pc (with_register s 14 (psr_bits s.psr + ahead s 1)) (s.pc + 8 + 4 * distance) else with_pc s (s.pc + 8 + 4 * distance)

@@ -27,32 +27,32 @@ slot_of Interrupt n = if nat_lt n 13 then n else n + 9
 slot_of Supervisor n = if nat_lt n 13 then n else n + 11
 
 -- R0 to R14 of a mode, whatever the present one.
-unfoldable pub register_in : Mode → State → ℕ → ℕ
+abbrev pub register_in : Mode → State → ℕ → ℕ
 register_in m s n = slice_index s.file (slot_of m n)
 
-unfoldable pub with_register_in : Mode → State → ℕ → ℕ → State
+abbrev pub with_register_in : Mode → State → ℕ → ℕ → State
 with_register_in m s n v = record s { file = slice_set s.file (slot_of m n) v }
 
 -- R15: the status and the program counter in one word.
-unfoldable pub r15_of : State → ℕ
+abbrev pub r15_of : State → ℕ
 r15_of s = psr_bits s.psr + s.pc
 
 -- R0 to R15 of the present mode.
-unfoldable pub register_of : State → ℕ → ℕ
+abbrev pub register_of : State → ℕ → ℕ
 register_of s n = if n == 15 then r15_of s else register_in s.psr.mode s n
 
 -- One of R0 to R14 of the present mode set.
-unfoldable pub with_register : State → ℕ → ℕ → State
+abbrev pub with_register : State → ℕ → ℕ → State
 with_register s n v = with_register_in s.psr.mode s n v
 
 abbrev pub with_psr : State → Psr → State
 with_psr s p = record s { psr = p }
 
 -- The program counter set to bits 25 to 2 of a number, all others being left out.
-unfoldable pub with_pc : State → ℕ → State
+abbrev pub with_pc : State → ℕ → State
 with_pc s a = record s { pc = a / 4 % 2 ^ 24 * 4 }
 
-unfoldable pub with_flags : State → Bool → Bool → Bool → Bool → State
+abbrev pub with_flags : State → Bool → Bool → Bool → Bool → State
 with_flags s n z c v = record s { psr = record s.psr { negative = n; zero = z; carry = c; overflow = v } }
 
 abbrev pub with_overflow : State → Bool → State

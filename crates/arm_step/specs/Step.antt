@@ -35,7 +35,7 @@ acted_if_decoded owned s b (Ok i) = acted owned s b i.1
 acted_if_decoded owned s b (Err f) = Err (turn.Fault f)
 
 -- Where the condition fails the instruction does nothing, whatever its other bits are.
-unfoldable pub executed : (ℕ → Bool) → State → Bytes → ℕ → Result (State × Bytes) Turn
+abbrev pub executed : (ℕ → Bool) → State → Bytes → ℕ → Result (State × Bytes) Turn
 executed owned s b w = if holds (condition_in w) s.psr then acted_if_decoded owned s b (decoded w) else Ok (advanced s, b)
 
 abbrev pub executed_if_fetched : (ℕ → Bool) → State → Bytes → Result ℕ Fault → Result (State × Bytes) Turn

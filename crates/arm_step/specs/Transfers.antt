@@ -45,7 +45,7 @@ value_loaded b true a = byte_loaded b a
 value_loaded b false a = bind (word_loaded b a) (λ w. Ok (rotated_right w (8 * (a % 4))))
 
 -- the base is written first, so a loaded base wins
-unfoldable pub loaded : State → Bytes → Transfer → Result (State × Bytes) Fault
+abbrev pub loaded : State → Bytes → Transfer → Result (State × Bytes) Fault
 loaded s b t =
     bind (value_loaded b t.is_byte (transfer_address s t.address))
     (λ v. Ok (with_result (with_base (advanced s) t.address (moved_base s t.address)) t.rd v, b))
@@ -55,7 +55,7 @@ value_stored owned b true a v = byte_stored owned b a (v % 256)
 value_stored owned b false a v = word_stored owned b a v
 
 -- R15 is stored three words ahead with the status; a base that is stored has its old value
-unfoldable pub stored : (ℕ → Bool) → State → Bytes → Transfer → Result (State × Bytes) Fault
+abbrev pub stored : (ℕ → Bool) → State → Bytes → Transfer → Result (State × Bytes) Fault
 stored owned s b t =
     bind (value_stored owned b t.is_byte (transfer_address s t.address) (status_operand s.psr.mode s t.rd 3))
     (λ c. Ok (with_base (advanced s) t.address (moved_base s t.address), c))

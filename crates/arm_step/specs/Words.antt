@@ -21,18 +21,18 @@ unfoldable pub with_words : Bytes → ℕ → List ℕ → Bytes
 with_words b a [] = b
 with_words b a (w ∷ ws) = with_words (with_word b a w) (a + 4) ws
 
-unfoldable pub words_load_fault : Bytes → ℕ → ℕ → Option Fault
+abbrev pub words_load_fault : Bytes → ℕ → ℕ → Option Fault
 words_load_fault b a n =
     if nat_lt (2 ^ 26) (a + 4 * n) then Some AddressException else (
     if are_mapped b a n then None else Some DataUnmapped)
 
-unfoldable pub words_store_fault : (ℕ → Bool) → Bytes → ℕ → ℕ → Option Fault
+abbrev pub words_store_fault : (ℕ → Bool) → Bytes → ℕ → ℕ → Option Fault
 words_store_fault owned b a n =
     if nat_lt (2 ^ 26) (a + 4 * n) then Some AddressException else (
     if are_mapped b a n then (if are_free owned a n then None else Some OwnedWord) else Some DataUnmapped)
 
-unfoldable pub words_loaded : Bytes → ℕ → ℕ → Result (List ℕ) Fault
+abbrev pub words_loaded : Bytes → ℕ → ℕ → Result (List ℕ) Fault
 words_loaded b a n = unless (words_load_fault b a n) (words_at b a n)
 
-unfoldable pub words_stored : (ℕ → Bool) → Bytes → ℕ → List ℕ → Result Bytes Fault
+abbrev pub words_stored : (ℕ → Bool) → Bytes → ℕ → List ℕ → Result Bytes Fault
 words_stored owned b a ws = unless (words_store_fault owned b a (length ws)) (with_words b a ws)

@@ -74,7 +74,6 @@ impl Cpu {
     }
 
     /// Writes the base of a block transfer back where it does that.
-    #[tactic(auto, unfolding(crate::specs::Blocks::with_block_base))]
     #[inline(always)]
     pub(crate) fn write_block_base(&mut self, block: &BlockTransfer, base: u32)
         ensures { self.new ≡ with_block_base self.old block.now base }
@@ -101,7 +100,6 @@ impl Cpu {
     }
 
     /// Loads the status from the last word, where the block transfer does that.
-    #[tactic(auto, unfolding(crate::specs::Blocks::with_block_status))]
     fn set_block_status(&mut self, block: &BlockTransfer, words: &[u32])
         ensures { self.new ≡ with_block_status self.old block.now words.now }
     {
@@ -114,7 +112,7 @@ impl Cpu {
     }
 
     /// What a block transfer stores of its registers, with the base that it writes back.
-    #[tactic(auto, using(crate::proofs::Listing::valuing), unfolding(crate::specs::Blocks::block_value, crate::specs::Blocks::block_values))]
+    #[tactic(auto, using(crate::proofs::Listing::valuing))]
     fn block_values(&self, block: &BlockTransfer, base: u32) -> ArrayVec<u32, MOST_WORDS>
         requires { base ≡ block_base self.now block.now }
         ensures { result.items ≡ block_values self.now block.now }
@@ -136,7 +134,6 @@ impl Cpu {
     }
 
     /// Where the words of a block transfer begin, and the base that it writes back.
-    #[tactic(auto, unfolding(crate::specs::Blocks::block_start, crate::specs::Blocks::block_base))]
     #[inline(always)]
     fn block_reach(&self, block: &BlockTransfer, count: u32) -> (u32, u32)
         requires size { count ≡ block_size block.now }
@@ -165,7 +162,6 @@ impl Cpu {
     }
 
     /// LDM of words that may lie in two pages.
-    #[tactic(auto, unfolding(crate::specs::Blocks::block_loaded))]
     #[inline(never)]
     fn load_from_pages(
         &mut self,
@@ -207,7 +203,6 @@ impl Cpu {
     }
 
     /// STM of words that may lie in two pages.
-    #[tactic(auto, unfolding(crate::specs::Blocks::block_stored))]
     #[inline(never)]
     fn store_to_pages(
         &mut self,

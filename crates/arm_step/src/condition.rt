@@ -7,7 +7,6 @@ use crate::psr::Psr;
 use arm_decode::Condition;
 
 /// Whether a condition holds by the flags of a status (ARM2 data sheet, "The condition field").
-#[tactic(auto, unfolding(crate::specs::Conditions::holds))]
 #[inline(always)]
 pub(crate) fn is_met(condition: Condition, psr: Psr) -> bool
     ensures { result ≡ holds condition psr }

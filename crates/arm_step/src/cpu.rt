@@ -79,7 +79,6 @@ impl Cpu {
     }
 
     /// R0 to R14 of a mode, whatever the present one.
-    #[tactic(auto, unfolding(crate::specs::State::register_in))]
     #[inline(always)]
     pub fn register_in(&self, mode: Mode, number: u32) -> u32
         requires { number < 15 }
@@ -89,7 +88,6 @@ impl Cpu {
     }
 
     /// R0 to R15 of the present mode; R15 is the program counter with the status.
-    #[tactic(auto, unfolding(crate::specs::State::register_of))]
     #[inline(always)]
     pub fn register(&self, number: u32) -> u32
         requires { number ≤ 15 }
@@ -103,7 +101,6 @@ impl Cpu {
     }
 
     /// The program counter with the status.
-    #[tactic(auto, unfolding(crate::specs::State::r15_of))]
     #[inline(always)]
     pub(crate) fn r15(&self) -> u32
         ensures { result ≡ r15_of self.now }
@@ -130,7 +127,6 @@ impl Cpu {
     }
 
     /// Sets one of R0 to R14 of a mode, whatever the present one.
-    #[tactic(auto, unfolding(crate::specs::State::with_register_in))]
     #[inline(always)]
     pub fn set_register_in(&mut self, mode: Mode, number: u32, value: u32)
         requires { number < 15 }
@@ -140,7 +136,6 @@ impl Cpu {
     }
 
     /// Sets one of R0 to R14 of the present mode.
-    #[tactic(auto, unfolding(crate::specs::State::with_register))]
     #[inline(always)]
     pub fn set_register(&mut self, number: u32, value: u32)
         requires { number ≤ 14 }
@@ -150,7 +145,6 @@ impl Cpu {
     }
 
     /// Sets the program counter to bits 25 to 2 of an address; the other bits are left out.
-    #[tactic(auto, unfolding(crate::specs::State::with_pc))]
     #[inline(always)]
     pub fn set_pc(&mut self, address: u32)
         ensures { self.new ≡ with_pc self.old address }
@@ -167,7 +161,6 @@ impl Cpu {
     }
 
     /// Sets the flags N, Z, C and V.
-    #[tactic(auto, unfolding(crate::specs::State::with_flags))]
     #[inline(always)]
     pub(crate) fn set_flags(&mut self, negative: bool, zero: bool, carry: bool, overflow: bool)
         ensures { self.new ≡ with_flags self.old negative zero carry overflow }

@@ -23,7 +23,6 @@ impl Cpu {
     }
 
     /// Goes on to the next word.
-    #[tactic(auto, unfolding(crate::specs::Effect::advanced))]
     #[inline(always)]
     pub(crate) fn advance(&mut self)
         ensures { self.new ≡ advanced self.old }
@@ -33,7 +32,6 @@ impl Cpu {
     }
 
     /// A register as an operand, R15 being read ahead of the instruction and without the status.
-    #[tactic(auto, unfolding(crate::specs::Effect::plain_operand))]
     #[inline(always)]
     pub(crate) fn plain_operand(&self, register: Register, words: u32) -> u32
         requires { words ≤ 3 }
@@ -48,7 +46,6 @@ impl Cpu {
 
     /// A register of a mode as an operand, R15 being read ahead of the instruction and with the
     /// status.
-    #[tactic(auto, unfolding(crate::specs::Effect::status_operand))]
     #[inline(always)]
     pub(crate) fn status_operand(&self, mode: Mode, register: Register, words: u32) -> u32
         requires { words ≤ 3 }
@@ -62,7 +59,6 @@ impl Cpu {
     }
 
     /// Sets a register of a mode; R15 takes bits 25 to 2 as the program counter.
-    #[tactic(auto, unfolding(crate::specs::Effect::with_result_in))]
     #[inline(always)]
     pub(crate) fn set_result_in(&mut self, mode: Mode, register: Register, value: u32)
         ensures { self.new ≡ with_result_in mode self.old register value }
@@ -75,7 +71,6 @@ impl Cpu {
     }
 
     /// Sets a register of the present mode, likewise.
-    #[tactic(auto, unfolding(crate::specs::Effect::with_result))]
     #[inline(always)]
     pub(crate) fn set_result(&mut self, register: Register, value: u32)
         ensures { self.new ≡ with_result self.old register value }
@@ -84,7 +79,6 @@ impl Cpu {
     }
 
     /// Sets the status from a word; in user mode N, Z, C and V alone.
-    #[tactic(auto, unfolding(crate::specs::Effect::with_status))]
     #[inline(always)]
     pub(crate) fn set_status(&mut self, word: u32)
         ensures { self.new ≡ with_status self.old word }
@@ -94,7 +88,6 @@ impl Cpu {
     }
 
     /// Sets N and Z by a result, and C and V as they come with it.
-    #[tactic(auto, unfolding(crate::specs::Effect::flagged))]
     #[inline(always)]
     pub(crate) fn set_flags_of(&mut self, result_of: Sum)
         ensures { self.new ≡ flagged self.old result_of }

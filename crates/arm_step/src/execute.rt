@@ -45,7 +45,6 @@ pub fn step(cpu: &mut Cpu, memory: &mut AddressMap) -> Turn
 
 impl Cpu {
     /// Carries out a word where its condition holds, and else goes on to the next.
-    #[tactic(auto, unfolding(crate::specs::Step::executed))]
     #[inline(always)]
     fn execute(&mut self, memory: &mut AddressMap, word: u32) -> Turn
         ensures turn { let executed = executed (is_owned memory.old) self.old (bytes_of memory.old) word in

@@ -20,7 +20,6 @@ pub fn compare_tells_order()
 {}
 
 /// SUB and SBC are ADC with the second operand complemented.
-#[tactic(auto, unfolding(crate::specs::Operate::computed))]
 pub fn difference_is_sum()
     ensures set { SubtractsByAdding }
     ensures kept { SubtractsCarryByAdding }

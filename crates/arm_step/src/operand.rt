@@ -86,7 +86,6 @@ pub(crate) fn words_ahead(operand: &Operand) -> u32
 
 impl Cpu {
     /// A register shifted by a number.
-    #[tactic(auto, unfolding(crate::specs::Operand::shifted_register))]
     #[inline(always)]
     pub(crate) fn shifted_register(&self, shifted: ShiftedRegister) -> Shifted
         ensures { result ≡ shifted_register self.now shifted }
@@ -97,7 +96,6 @@ impl Cpu {
     }
 
     /// The second operand, with the carry of the shifter.
-    #[tactic(auto, unfolding(crate::specs::Operand::operand_of))]
     #[inline(always)]
     pub(crate) fn operand(&self, operand: &Operand) -> Shifted
         ensures { result ≡ operand_of self.now operand.now }

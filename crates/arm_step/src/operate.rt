@@ -12,7 +12,6 @@ use profile::word::{Sum, add, subtract};
 
 /// The result of an operation with the flags C and V that come with it; a logical one takes C from
 /// the shifter and keeps V.
-#[tactic(auto, unfolding(crate::specs::Operate::computed))]
 #[inline(always)]
 fn compute(operation: Operation, first: u32, second: Shifted, psr: Psr) -> Sum
     ensures { result ≡ computed operation first second psr }
@@ -53,7 +52,6 @@ impl Cpu {
     }
 
     /// What data processing does with its result.
-    #[tactic(auto, unfolding(crate::specs::Operate::finished))]
     #[inline(always)]
     fn finish(&mut self, operate: &Operate, computed: Sum)
         ensures { self.new ≡ finished self.old operate.now computed }
@@ -66,7 +64,6 @@ impl Cpu {
     }
 
     /// A test sets the flags, or in its form P the status.
-    #[tactic(auto, unfolding(crate::specs::Operate::tested))]
     #[inline(always)]
     fn test(&mut self, operate: &Operate, computed: Sum)
         ensures { self.new ≡ tested self.old operate.now computed }
@@ -79,7 +76,6 @@ impl Cpu {
     }
 
     /// All others set Rd, and with S the flags or, where Rd is R15, the status.
-    #[tactic(auto, unfolding(crate::specs::Operate::placed))]
     #[inline(always)]
     fn place(&mut self, operate: &Operate, computed: Sum)
         ensures { self.new ≡ placed self.old operate.now computed }
@@ -111,7 +107,6 @@ impl Cpu {
     }
 
     /// MUL and MLA.
-    #[tactic(auto, unfolding(crate::specs::Operate::multiplied))]
     #[inline(always)]
     pub(crate) fn multiply(&mut self, multiply: Multiply)
         ensures { self.new ≡ multiplied self.old multiply }
@@ -130,7 +125,6 @@ impl Cpu {
     }
 
     /// B, and with `links` BL: the distance counts words.
-    #[tactic(auto, unfolding(crate::specs::Operate::branched))]
     #[inline(always)]
     pub(crate) fn branch(&mut self, links: bool, distance: u32)
         requires { distance < 2 ^ 24 }

@@ -20,7 +20,6 @@ use profile::Fault;
 
 impl Cpu {
     /// LDM of words in one page.
-    #[tactic(auto, unfolding(crate::specs::Blocks::block_loaded))]
     #[inline(always)]
     pub(crate) fn load_from_page(
         &mut self,
@@ -75,7 +74,7 @@ impl Cpu {
     }
 
     /// Loads the status from the last of some words, where the block transfer does that.
-    #[tactic(auto, using(crate::proofs::Lowest::last_word), unfolding(crate::specs::Blocks::with_block_status))]
+    #[tactic(auto, using(crate::proofs::Lowest::last_word))]
     #[inline(always)]
     fn set_status_of_bytes(&mut self, block: &BlockTransfer, bytes: &[u8])
         requires size { length bytes.now ≡ 4 * block_size block.now }
@@ -88,7 +87,6 @@ impl Cpu {
     }
 
     /// STM of words in one page.
-    #[tactic(auto, unfolding(crate::specs::Blocks::block_stored))]
     #[inline(always)]
     pub(crate) fn store_to_page(
         &mut self,

@@ -92,7 +92,6 @@ impl Cpu {
     }
 
     /// LDR: the base is written first, so a loaded base wins.
-    #[tactic(auto, unfolding(crate::specs::Transfers::loaded))]
     #[inline(always)]
     fn load(&mut self, memory: &AddressMap, transfer: &Transfer) -> Result<(), Fault>
         ensures { let loaded = loaded self.old (bytes_of memory.now) transfer.now in
@@ -111,7 +110,6 @@ impl Cpu {
     }
 
     /// STR: R15 is stored three words ahead with the status, the base with its old value.
-    #[tactic(auto, unfolding(crate::specs::Transfers::stored))]
     #[inline(always)]
     fn store(&mut self, memory: &mut AddressMap, transfer: &Transfer) -> Result<(), Fault>
         ensures state { let stored = stored (is_owned memory.old) self.old (bytes_of memory.old) transfer.now in

@@ -19,7 +19,6 @@ pub(crate) const MOST_WORDS: usize = 16;
 /// # Errors
 ///
 /// `AddressException` where any of them lies past the address space, else `DataUnmapped`.
-#[tactic(auto, unfolding(crate::specs::Words::words_loaded, crate::specs::Words::words_load_fault))]
 pub(crate) fn load_words(
     memory: &AddressMap,
     first: u32,
@@ -74,7 +73,6 @@ fn are_free(memory: &AddressMap, first: u32, count: u32) -> bool
 
 /// The fault that a store of up to 16 words would meet: `AddressException`, `DataUnmapped`,
 /// `OwnedWord`, each over all of them.
-#[tactic(auto, unfolding(crate::specs::Words::words_store_fault))]
 fn store_fault(memory: &AddressMap, first: u32, count: u32) -> Option<Fault>
     requires { count ≤ 16 }
     ensures fault { result ≡ words_store_fault (is_owned memory.now) (bytes_of memory.now) first count }
@@ -112,7 +110,6 @@ fn put_words(memory: &mut AddressMap, first: u32, words: &[u32])
 ///
 /// `AddressException` where any of them lies past the address space, else `DataUnmapped`, else
 /// `OwnedWord`. Nothing is stored then.
-#[tactic(auto, unfolding(crate::specs::Words::words_stored))]
 pub(crate) fn store_words(memory: &mut AddressMap, first: u32, words: &[u32]) -> Result<(), Fault>
     requires aligned { first % 4 ≡ 0 }
     requires few { length words.now ≤ 16 }

@@ -39,7 +39,6 @@ loop-rest-preserved c =
     }
 
 pub returns-clause-bytes : goal.returns-clause-bytes
-unfolding block_values
 returns-clause-bytes c =
     let s = c.args.self.now in
     let t = c.args.block.now in
