@@ -1,4 +1,6 @@
-use command_line::{Files, Settings, SettingsError, line_reason, settings, sizes_reason, stop_status};
+use command_line::{
+    Files, Settings, SettingsError, line_reason, settings, sizes_reason, stop_status,
+};
 use profile::{Config, Fault, Stop};
 use std::alloc::Global;
 use std::process::Abort;
@@ -131,9 +133,15 @@ fn the_status_tells_how_a_script_ended(rt: HostRuntime) {
 
 // Why no machine can have the sizes of these words, typed or not.
 static SIZES: [(&[&str], &str); 5] = [
-    (&["rosm", "--app", "0", "--rma", "0"], "--app is at least 1, not 0"),
+    (
+        &["rosm", "--app", "0", "--rma", "0"],
+        "--app is at least 1, not 0",
+    ),
     (&["rosm", "--rma=0"], "--rma is at least 1, not 0"),
-    (&["rosm", "--pages", "1025"], "--pages is at most 1024, not 1025"),
+    (
+        &["rosm", "--pages", "1025"],
+        "--pages is at most 1024, not 1025",
+    ),
     (
         &["rosm", "--pages", "10", "--app", "6", "--rma", "2"],
         "--pages is at least app + rma + 3, 11 by --app 6 and --rma 2, not 10",
