@@ -1,6 +1,6 @@
 //! The two passes over a source.
 
-ghost use Rattle.std.specs.Prelude.{◌≡◌, ◌≢◌, ◌%◌, ◌≤◌, ◌<◌, ◌^◌, [], Err, length, take, IfOk, OnOk};
+ghost use Rattle.std.specs.Prelude.{◌≡◌, ◌≢◌, ◌≤◌, ◌<◌, ◌^◌, [], Err, length, take, IfOk, OnOk};
 ghost use Rattle.assembler_names.specs.Labels.{address_of};
 ghost use Rattle.assembler.specs.Line.{line};
 ghost use Rattle.assembler.specs.Passes.{finished, first_pass, leaving, means, means_lines, measured, second_pass};
@@ -10,11 +10,13 @@ use crate::line::put_line;
 use crate::output::Output;
 use crate::program::Program;
 use assembler_names::{Labels, Reason};
+use profile::memory_map::ADDRESS_LIMIT;
 use std::alloc::{AllocError, Global};
 use text_lines::Lines;
 
-/// The program that a source means at an origin, a multiple of 4 below 2^26. Lines end in LF or
-/// CR LF; the last may lack it.
+/// The program that a source means at an origin below 2^26. Lines end in LF or CR LF; the last may
+/// lack it. A program stands at a multiple of 4; from 2^26 on there is no memory, and the source is
+/// read as at the origin modulo 2^26.
 ///
 /// # Errors
 ///
@@ -22,9 +24,8 @@ use text_lines::Lines;
 /// line 0 and `Memory`.
 #[tactic(auto, using(std::proofs::lemmas::List::take_all), unfolding(crate::specs::Passes::means))]
 pub fn assemble(alloc: Global, source: &[u8], origin: u32) -> Result<Program, AsmError>
-    requires aligned { origin % 4 ≡ 0 }
-    requires in_memory { origin < 2 ^ 26 }
-    ensures { result ≢ Err (record { line = 0; reason = Reason.Memory }) → result ≡ means source.now origin }
+    ensures { origin < 2 ^ 26 → result ≢ Err (record { line = 0; reason = Reason.Memory })
+        → result ≡ means source.now origin }
 {
     let lines = Lines::new(source);
     assemble_lines(alloc, &lines, lines.count(), origin)
@@ -38,12 +39,10 @@ pub fn assemble_lines(
     count: usize,
     origin: u32,
 ) -> Result<Program, AsmError>
-    requires aligned { origin % 4 ≡ 0 }
-    requires in_memory { origin < 2 ^ 26 }
-    ensures { result ≢ Err (record { line = 0; reason = Reason.Memory })
+    ensures { origin < 2 ^ 26 → result ≢ Err (record { line = 0; reason = Reason.Memory })
         → result ≡ means_lines (take count lines.now.left) origin }
 {
-    match both_passes(alloc, lines, count, origin) {
+    match both_passes(alloc, lines, count, origin % ADDRESS_LIMIT) {
         Ok(answer) => answer,
         Err(AllocError) => Err(AsmError {
             line: 0,

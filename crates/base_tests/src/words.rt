@@ -1,4 +1,6 @@
-use command_line::{Files, Settings, SettingsError, line_reason, settings, stop_status};
+use command_line::{
+    Files, Settings, SettingsError, line_reason, settings, sizes_reason, stop_status,
+};
 use profile::{Config, Fault, Stop};
 use std::alloc::Global;
 use std::process::Abort;
@@ -91,19 +93,19 @@ static REASONS: [(&[&str], &str); 7] = [
     (&["rosm", "-x\ny"], "unexpected argument '-x' found"),
     (
         &["rosm", "--pages"],
-        "a value is required for '--pages <pages>' but none was supplied",
+        "a value is required for '--pages <N>' but none was supplied",
     ),
     (
         &["rosm", "--budget", "5", "--budget", "5"],
-        "the argument '--budget <budget>' cannot be used multiple times",
+        "the argument '--budget <N>' cannot be used multiple times",
     ),
     (
         &["rosm", "--pages", "x\ny"],
-        "--pages takes a number of at most 4294967295, not \"x\\ny\"",
+        "--pages takes a number N of at most 4294967295, not \"x\\ny\"",
     ),
     (
         &["rosm", "--budget", "18446744073709551616"],
-        "--budget takes a number of at most 18446744073709551615, not \"18446744073709551616\"",
+        "--budget takes a number N of at most 18446744073709551615, not \"18446744073709551616\"",
     ),
     (
         &["rosm", "--help"],
@@ -127,4 +129,34 @@ fn the_status_tells_how_a_script_ended(rt: HostRuntime) {
     assert_eq!(rt; stop_status(Some(Stop::Budget)), 3);
     assert_eq!(rt; stop_status(Some(Stop::Break(0x8000))), 3);
     assert_eq!(rt; stop_status(None), 3);
+}
+
+// Why no machine can have the sizes of these words, typed or not.
+static SIZES: [(&[&str], &str); 5] = [
+    (
+        &["rosm", "--app", "0", "--rma", "0"],
+        "--app is at least 1, not 0",
+    ),
+    (&["rosm", "--rma=0"], "--rma is at least 1, not 0"),
+    (
+        &["rosm", "--pages", "1025"],
+        "--pages is at most 1024, not 1025",
+    ),
+    (
+        &["rosm", "--pages", "10", "--app", "6", "--rma", "2"],
+        "--pages is at least app + rma + 3, 11 by --app 6 and --rma 2, not 10",
+    ),
+    (
+        &["rosm", "--app", "4294967295"],
+        "--pages is at least app + rma + 3, 4294967314 by --app 4294967295 and --rma 16, not 256",
+    ),
+];
+
+#[test]
+fn refused_sizes_are_named_with_their_rule(rt: HostRuntime) -> Result<(), Fail> {
+    for (words, expected) in SIZES {
+        let reason = sizes_reason(rt.alloc(), words)?;
+        assert_eq!(rt; reason.as_str(), expected);
+    }
+    Ok(())
 }

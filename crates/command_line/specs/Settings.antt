@@ -16,9 +16,9 @@ use Rattle.command_line.specs.declared.options.Settings.{Settings}
 use Rattle.command_line.specs.declared.options.SettingsError.{SettingsError}
 use Rattle.command_line.specs.declared.options.SettingsError.TheVariants as refused
 
--- `--name N`, once at most, with a default
+-- `--name N`, once at most, with a default; N is the one name of its value
 abbrev pub option_rule : List ℕ → List ℕ → Rule
-option_rule name default = record (new_rule name) { long = Some name; defaults = default ∷ [] }
+option_rule name default = record (new_rule name) { long = Some name; value_names = 1; defaults = default ∷ [] }
 
 -- a word that belongs to no option, as often as one likes
 abbrev pub file_rule : Rule

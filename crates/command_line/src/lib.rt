@@ -11,5 +11,5 @@ pub mod status;
 pub use files::Files;
 pub use options::{Settings, SettingsError, USAGE};
 pub use reading::settings;
-pub use reasons::line_reason;
+pub use reasons::{line_reason, sizes_reason};
 pub use status::stop_status;

@@ -92,7 +92,10 @@ fn option<'a>(alloc: Global, name: &'a str, default: &'a str) -> Arg<'a>
     ensures rule { rule_of result ≡ option_rule name.entry.now default.entry.now }
     ensures local { result.global ≡ false }
 {
-    Arg::new(alloc, name).long(name).default_value(default)
+    Arg::new(alloc, name)
+        .long(name)
+        .value_name("N")
+        .default_value(default)
 }
 
 // Each word that belongs to no option.

@@ -7,7 +7,8 @@ use std::test::Fail;
 fn the_status_tells_what_was_refused(rt: HostRuntime) -> Result<(), Fail> {
     let line = Refusal::Line(String::from_str(rt.alloc(), "a word")?);
     assert_eq!(rt; line.status(), 2);
-    assert_eq!(rt; Refusal::Sizes.status(), 2);
+    let sizes = Refusal::Sizes(String::from_str(rt.alloc(), "a size")?);
+    assert_eq!(rt; sizes.status(), 2);
     assert_eq!(rt; Refusal::Memory.status(), 4);
     assert_eq!(rt; Refusal::File("a", FileError::Missing).status(), 4);
     assert_eq!(rt; Refusal::Script(RunError::ScriptTooLong).status(), 4);
@@ -27,9 +28,11 @@ fn a_refusal_is_one_line(rt: HostRuntime) -> Result<(), Fail> {
         format!(in alloc; "{line}")?.as_str(),
         format!(in alloc; "a word; {usage}")?.as_str()
     );
-    let sizes =
-        "sizes: --app and --rma at least 1, --pages at most 1024 and at least app + rma + 3";
-    assert_eq!(rt; format!(in alloc; "{}", Refusal::Sizes)?.as_str(), sizes);
+    let sizes = Refusal::Sizes(String::from_str(alloc, "a size")?);
+    assert_eq!(rt;
+        format!(in alloc; "{sizes}")?.as_str(),
+        format!(in alloc; "a size; {usage}")?.as_str()
+    );
     assert_eq!(rt;
         format!(in alloc; "{}", Refusal::Memory)?.as_str(),
         "out of memory"
@@ -42,7 +45,7 @@ fn a_refusal_is_one_line(rt: HostRuntime) -> Result<(), Fail> {
     Ok(())
 }
 
-static FILE_ERRORS: [(FileError, &str); 6] = [
+static FILE_ERRORS: [(FileError, &str); 10] = [
     (FileError::Missing, "\"a\\nb\": no such file"),
     (
         FileError::NotPermitted,
@@ -53,7 +56,23 @@ static FILE_ERRORS: [(FileError, &str); 6] = [
     (FileError::Nameless, "\"a\\nb\": no name in this path"),
     (
         FileError::Image(ImageError::NameTaken),
-        "\"a\\nb\": refused NameTaken",
+        "\"a\\nb\": refused NameTaken: the last part of a path is the name, and each name stands once",
+    ),
+    (
+        FileError::Image(ImageError::BadName),
+        "\"a\\nb\": refused BadName: a name has 1 to 63 bytes from ! to ~, and no space",
+    ),
+    (
+        FileError::Image(ImageError::TooLarge),
+        "\"a\\nb\": refused TooLarge: an image has at most 1048576 bytes",
+    ),
+    (
+        FileError::Image(ImageError::TableFull),
+        "\"a\\nb\": refused TableFull: there are at most 64 images",
+    ),
+    (
+        FileError::Image(ImageError::Memory),
+        "\"a\\nb\": refused Memory",
     ),
 ];
 

@@ -13,13 +13,13 @@ use Rattle.rosm_settings.specs.declared.refusal.Refusal.TheVariants as refusal
 abbrev pub IsRefusalOf : Result Settings SettingsError → Refusal → Type 0
 IsRefusalOf answer refusal.Memory = Unit {0}
 IsRefusalOf answer (refusal.Line reason) = answer ≡ Err refused.Line
-IsRefusalOf answer refusal.Sizes = answer ≡ Err refused.Sizes
+IsRefusalOf answer (refusal.Sizes reason) = answer ≡ Err refused.Sizes
 IsRefusalOf answer _ = ⊥
 
 abbrev pub refusal_status : Refusal → ℕ
 refusal_status refusal.Memory = 4
 refusal_status (refusal.Line reason) = 2
-refusal_status refusal.Sizes = 2
+refusal_status (refusal.Sizes reason) = 2
 refusal_status (refusal.File path error) = 4
 refusal_status (refusal.Script error) = 4
 

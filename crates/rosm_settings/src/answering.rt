@@ -1,8 +1,8 @@
-ghost use Rattle.std.specs.Prelude.{◌≡◌, ◌<◌, false, true, length, Err, IfOk, IfSome, IsErr, OnOk};
+ghost use Rattle.std.specs.Prelude.{◌≡◌, ◌<◌, false, true, length, Err, IfErr, IfOk, IfSome, IsErr, OnOk};
 ghost use Rattle.std.specs.Io.KnownBytes.{Appends};
 ghost use Rattle.profile.specs.Devices.{device_failed, device_inner};
 ghost use Rattle.profile.specs.Output.{AppendsFront};
-ghost use Rattle.rosm_settings.specs.Answering.{AnswersScript, answers_to};
+ghost use Rattle.rosm_settings.specs.Answering.{AnswersScript, RefusesFiles, answers_to, is_of_run};
 
 use crate::image_files::add_files;
 use crate::refusal::Refusal;
@@ -19,8 +19,8 @@ use std::io::Write;
 ///
 /// # Errors
 ///
-/// The first file that gives no image; else as [`answer_script`], and `WriteFault` too where the
-/// last of the answers can't be handed on.
+/// The first file that gives no image, before anything is read or written; else as
+/// [`answer_script`], and `WriteFault` too where the last of the answers can't be handed on.
 pub fn run<'a, F, R, W>(
     files: &F,
     settings: &'a Settings,
@@ -34,6 +34,13 @@ where
     ensures answers { IfOk result (AnswersScript settings.entry.now (R.remaining reader.old)
         (W.contents (device_inner writer.old)) (W.contents (device_inner writer.new))) }
     ensures well { OnOk result (device_failed writer.new ≡ false) }
+    ensures refused { IfErr result (λ e. is_of_run e ≡ true) }
+    ensures files { IfErr result (RefusesFiles settings.entry.now.files reader.old reader.new writer.old writer.new) }
+    ensures read_fault { result ≡ Err (Refusal.Script RunError.ReadFault)
+        → (R.has_failed reader.new ≡ true) × (writer.new ≡ writer.old) }
+    ensures too_long { result ≡ Err (Refusal.Script RunError.ScriptTooLong)
+        → (writer.new ≡ writer.old) × IfSome (R.remaining reader.old) (λ script. 1048576 < length script) }
+    ensures write_fault { result ≡ Err (Refusal.Script RunError.WriteFault) → device_failed writer.new ≡ true }
 {
     let mut images = Images::new();
     add_files(files, &settings.files, &mut images)?;

@@ -33,8 +33,19 @@ pub enum FileError {
     #[error("no name in this path")]
     Nameless,
     /// The table of images refuses it.
-    #[error("refused {0}")]
+    #[error("refused {0}{rule}", rule = image_rule(.0))]
     Image(ImageError),
+}
+
+// What an image has to be that is refused so, for people who named a file.
+fn image_rule(error: &ImageError) -> &'static str {
+    match error {
+        ImageError::BadName => ": a name has 1 to 63 bytes from ! to ~, and no space",
+        ImageError::NameTaken => ": the last part of a path is the name, and each name stands once",
+        ImageError::TooLarge => ": an image has at most 1048576 bytes",
+        ImageError::TableFull => ": there are at most 64 images",
+        ImageError::Memory => "",
+    }
 }
 
 impl From<ImageError> for FileError {

@@ -6,7 +6,7 @@ ghost use Rattle.rosm_settings.specs.Endings.{IsRefusalOf, status_of};
 
 use crate::answering::run;
 use crate::refusal::Refusal;
-use command_line::{Settings, SettingsError, line_reason, settings, stop_status};
+use command_line::{Settings, SettingsError, line_reason, settings, sizes_reason, stop_status};
 use profile::{Device, Stop};
 use std::alloc::{AllocError, Global};
 use std::env::Env;
@@ -52,7 +52,7 @@ fn settings_of(alloc: Global, words: &[String]) -> Result<Settings, Refusal<'sta
         Ok(settings) => Ok(settings),
         Err(SettingsError::Memory) => Err(Refusal::Memory),
         Err(SettingsError::Line) => Err(Refusal::Line(line_reason(alloc, texts.as_slice())?)),
-        Err(SettingsError::Sizes) => Err(Refusal::Sizes),
+        Err(SettingsError::Sizes) => Err(Refusal::Sizes(sizes_reason(alloc, texts.as_slice())?)),
     }
 }
 

@@ -15,9 +15,9 @@ pub enum Refusal<'a> {
     /// The words are no command line; the text says what is wrong with them.
     #[error("{0}; {usage}", usage = USAGE)]
     Line(String),
-    /// No machine can have the sizes of the command line.
-    #[error("{}", SettingsError::Sizes)]
-    Sizes,
+    /// No machine can have the sizes of the command line; the text says which, and by what rule.
+    #[error("{0}; {usage}", usage = USAGE)]
+    Sizes(String),
     /// The file of this path is no image, for this reason.
     #[error("{0:?}: {1}")]
     File(&'a str, FileError),
@@ -34,7 +34,7 @@ impl Refusal<'_> {
         ensures { result ≡ refusal_status self.now }
     {
         match self {
-            Refusal::Line(_) | Refusal::Sizes => 2,
+            Refusal::Line(_) | Refusal::Sizes(_) => 2,
             Refusal::Memory | Refusal::File(_, _) | Refusal::Script(_) => 4,
         }
     }
