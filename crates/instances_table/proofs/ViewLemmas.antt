@@ -108,6 +108,9 @@ slot_view names ms k i l found =
     rw (module_view names ms k l found)
     (ap (option_map (λ (x : Instance). x.slot)) (slice_get-map (instance_of names) l.slots.items i) ∙ slots_again names (slice_get l.slots.items i))
 
+-- what the table tells by a number
+pub ruleset table_views = (position-map, list_any-map, slice_get-map, module_view, told_view, meant_view, within_view, slot_view)
+
 -- a name changed: where no instance has the slot nothing is, else its name
 kept_one : (names : List (ArrayVec ℕ)) (slot s : ℕ) (name : ArrayVec ℕ) → s ≢ slot → instance_of (set names slot name) s ≡ instance_of names s
 kept_one names slot s name other =

@@ -1,4 +1,6 @@
 //! What changes the modules, wherever their names stand.
+#![tactic(auto, using(crate::proofs::ViewLemmas::changed_view))]
+
 ghost use Rattle.std.specs.Prelude.{◌≡◌, ◌<◌, length, slice_index_or};
 ghost use Rattle.instances_table.specs.declared.loaded.Loaded.{Loaded};
 ghost use Rattle.instances_table.specs.Modules.{changed_at};
@@ -9,7 +11,6 @@ use crate::loaded::{Loaded, MOST_INSTANCES, number_of_slot};
 use arrayvec::ArrayVec;
 
 /// Gives the module of a number one instance more, the youngest.
-#[tactic(auto, using(crate::proofs::ViewLemmas::changed_view))]
 pub(crate) fn push_slot(modules: &mut ArrayVec<Loaded, MOST_INSTANCES>, number: usize, slot: u32)
     requires number { number < length modules.old.items }
     requires room { (d : Loaded) → length (slice_index_or modules.old.items number d).slots.items < 64 }
@@ -21,7 +22,6 @@ pub(crate) fn push_slot(modules: &mut ArrayVec<Loaded, MOST_INSTANCES>, number: 
 }
 
 /// Makes the instance of a slot the preferred one of the module of a number, if there is one.
-#[tactic(auto, using(crate::proofs::ViewLemmas::changed_view))]
 pub(crate) fn set_preferred(
     modules: &mut ArrayVec<Loaded, MOST_INSTANCES>,
     number: usize,
@@ -36,7 +36,6 @@ pub(crate) fn set_preferred(
 }
 
 /// Gives the image of the module of a number another address, if there is one.
-#[tactic(auto, using(crate::proofs::ViewLemmas::changed_view))]
 pub(crate) fn set_image(modules: &mut ArrayVec<Loaded, MOST_INSTANCES>, number: usize, at: u32)
     ensures { (names : Names)
         → modules_of names modules.new.items ≡ changed_at number (with_image_at at) (modules_of names modules.old.items) }

@@ -1,3 +1,6 @@
+//! The table, and what it tells.
+#![tactic(auto, using(crate::proofs::ViewLemmas::table_views))]
+
 ghost use Rattle.std.specs.Prelude.{◌≡◌, ◌≤◌, ◌<◌, [], length, map, true, option_map, slice_get, slice_index, EachIndex, IfSome};
 ghost use Rattle.std.specs.List.{position};
 ghost use Rattle.std.specs.Option.{option_copied};
@@ -58,7 +61,6 @@ impl InstanceTable {
     }
 
     /// What is told of the module of a number, if there is one.
-    #[tactic(auto, using(crate::proofs::ViewLemmas::view_steps))]
     pub fn module(&self, number: u32) -> Option<ModuleInfo>
         ensures { result ≡ option_map told_of_module (slice_get self.now number) }
     {
@@ -67,7 +69,6 @@ impl InstanceTable {
     }
 
     /// The header of the module of a number, if there is one.
-    #[tactic(auto, using(crate::proofs::ViewLemmas::view_steps, crate::proofs::ViewLemmas::module_view))]
     pub fn header(&self, number: u32) -> Option<&Header>
         ensures { option_copied result ≡ option_map (λ (m : Module). m.header) (slice_get self.now number) }
     {
@@ -76,7 +77,6 @@ impl InstanceTable {
     }
 
     /// The slot of the preferred instance of the module of a number, if there is one.
-    #[tactic(auto, using(crate::proofs::ViewLemmas::view_steps, crate::proofs::ViewLemmas::module_view))]
     pub fn preferred(&self, number: u32) -> Option<u32>
         ensures { result ≡ option_map (λ (m : Module). m.preferred) (slice_get self.now number) }
     {
@@ -85,7 +85,6 @@ impl InstanceTable {
     }
 
     /// The module of a title, whatever the case of its letters.
-    #[tactic(auto, using(crate::proofs::ViewLemmas::view_steps))]
     pub fn of_title(&self, title: &[u8]) -> Option<u32>
         ensures { result ≡ number_of_title title.now self.now }
     {
@@ -94,7 +93,6 @@ impl InstanceTable {
     }
 
     /// The oldest module whose chunk has a SWI of that number, if one has.
-    #[tactic(auto, using(crate::proofs::ViewLemmas::view_steps))]
     pub fn with_chunk(&self, call: u32) -> Option<u32>
         ensures { result ≡ number_of_call call self.now }
     {
@@ -113,7 +111,6 @@ impl InstanceTable {
         self.find_handler(call)
     }
 
-    #[tactic(auto, using(crate::proofs::ViewLemmas::view_steps, crate::proofs::ViewLemmas::module_view))]
     fn find_handler(&self, call: u32) -> Option<Handler>
         ensures { result ≡ handler_of call self.now }
     {
@@ -158,7 +155,6 @@ impl InstanceTable {
     }
 
     /// Where in the module of a number the instance of a name is, or the preferred one.
-    #[tactic(auto, using(crate::proofs::ViewLemmas::view_steps, crate::proofs::ViewLemmas::meant_view))]
     fn instance_meant(&self, number: usize, name: Option<&[u8]>) -> Option<usize>
         ensures value { result ≡ instance_in (option_map (λ n. n.now) name.entry) (slice_get self.now number) }
         ensures within { IfSome result (λ i. i < 64) }
@@ -216,7 +212,6 @@ impl InstanceTable {
         self.told(number, instance)
     }
 
-    #[tactic(auto, using(crate::proofs::ViewLemmas::view_steps, crate::proofs::ViewLemmas::told_view))]
     fn told(&self, number: u32, instance: u32) -> Option<InstanceInfo>
         ensures { result ≡ told_of_place instance (slice_get self.now number) }
     {
@@ -258,7 +253,6 @@ impl InstanceTable {
         number_of_slot(self.modules.as_slice(), slot)
     }
 
-    #[tactic(auto, using(crate::proofs::ViewLemmas::view_steps, crate::proofs::ViewLemmas::within_view))]
     fn instance_of_slot(&self, number: usize, slot: u32) -> Option<usize>
         ensures value { result ≡ slot_within slot (slice_get self.now number) }
         ensures few { IfSome result (λ i. i < 64) }
@@ -277,7 +271,6 @@ impl InstanceTable {
         self.slot_at(place)
     }
 
-    #[tactic(auto, using(crate::proofs::ViewLemmas::view_steps, crate::proofs::ViewLemmas::slot_view))]
     fn slot_at(&self, place: Place) -> Option<u32>
         ensures { result ≡ slot_in place.instance (slice_get self.now place.number) }
     {
@@ -289,7 +282,6 @@ impl InstanceTable {
             .copied()
     }
 
-    #[tactic(auto, using(crate::proofs::ViewLemmas::view_steps))]
     pub(crate) fn number_of_title(&self, title: &[u8]) -> Option<usize>
         ensures value { result ≡ number_of_title title.now self.now }
         ensures within { IfSome result (λ number. number < length self.now) }
