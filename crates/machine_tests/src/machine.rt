@@ -2,7 +2,6 @@
 
 mod areas;
 mod arguments;
-mod cuts;
 mod heaps;
 mod modules;
 mod steps;

@@ -2,10 +2,7 @@
 
 use command_shell::{RunError, run_script};
 use image_loader::Images;
-use profile::{Config, Device, MemorySink, MemorySource, Source};
-use std::alloc::Global;
-use std::io;
-use std::io::Read;
+use profile::{Config, MemorySink, MemorySource};
 use std::process::Abort;
 use std::test::Fail;
 
@@ -155,48 +152,4 @@ fn errors_have_texts(rt: HostRuntime) -> Result<(), Fail> {
             == "no memory for the script, the machine or an image; the script can't be read; the answers can't be written; the script has more than 1,048,576 bytes"
     );
     Ok(())
-}
-
-/// A reader that gives an empty line a time and never ends, and counts how often it was asked.
-#[derive(Drop)]
-struct Endless {
-    reads: u64,
-}
-
-impl Read for Endless {
-    fn read(&mut self, buf: &mut [u8]) -> io::Result<usize> {
-        self.reads = self.reads.saturating_add(1);
-        match buf.first_mut() {
-            Some(byte) => {
-                *byte = b'\n';
-                Ok(1)
-            }
-            None => Ok(0),
-        }
-    }
-}
-
-/// Whether a script is found too long before anything is written.
-fn is_too_long<R: Source>(rt: &impl Abort, alloc: Global, reader: &mut R) -> bool {
-    let mut room = [0u8; 16];
-    let mut writer = MemorySink::new(&mut room, 16, u64::MAX);
-    let result = run_script(
-        alloc,
-        reader,
-        &mut Images::new(),
-        &mut writer,
-        usual_sizes(rt),
-        20,
-    );
-    result == Err(RunError::ScriptTooLong) && writer.written().is_empty()
-}
-
-#[test]
-fn a_reader_without_end_is_left(rt: HostRuntime) {
-    let mut repeated = Device::new(io::repeat(b'\n'));
-    assert!(rt; is_too_long(&rt, rt.alloc(), &mut repeated));
-    let mut endless = Endless { reads: 0 };
-    let mut device = Device::new(&mut endless);
-    assert!(rt; is_too_long(&rt, rt.alloc(), &mut device));
-    assert!(rt; endless.reads <= 1_048_577);
 }
