@@ -27,11 +27,13 @@ can_step None left none = grind (arith, nat_tests, none)
 -- a call that can't take its first step
 pub call_refused : (w : ScriptState) (first : Outcome) (stop : Stop) → stop_before_step w ≡ Some stop
     → call_made w first ≡ stop_told w stop
+unfolding call_made
 call_refused w first stop e = ap (call_unless w first) e
 
 -- and one that can
 pub call_allowed : (w : ScriptState) (first : Outcome) → stop_before_step w ≡ None
     → call_made w first ≡ call_done w first
+unfolding call_made
 call_allowed w first e = ap (call_unless w first) e
 
 -- the step that a call takes next

@@ -34,7 +34,7 @@ abbrev pub boot_text : List ℕ → List ℕ
 boot_text name = codes "boot " ++ (name ++ codes "\n")
 
 -- `refused NoImage`
-abbrev pub refused_text : List ℕ → List ℕ
+unfoldable pub refused_text : List ℕ → List ℕ
 refused_text reason = codes "refused " ++ (reason ++ codes "\n")
 
 -- `break &8004`, `unbreak &8004`

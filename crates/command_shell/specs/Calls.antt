@@ -76,7 +76,7 @@ call_unless s a (Some stop) = stop_told s stop
 call_unless s a None = call_done s a
 
 -- a call whose first step leaves this, unless no step can be taken
-abbrev pub call_made : ScriptState → Outcome → Answered
+unfoldable pub call_made : ScriptState → Outcome → Answered
 call_made s a = call_unless s a (stop_before_step s)
 
 -- CALL makes a store call; LOAD loads a module.

@@ -35,7 +35,7 @@ abbrev pub then_answered : Answered → (ScriptState → Answered) → Answered
 then_answered first next = record { state = (next first.state).state; text = first.text ++ (next first.state).text }
 
 -- the state before the first line
-abbrev pub start_state : Sizes → List Entry → ℕ → ScriptState
+unfoldable pub start_state : Sizes → List Entry → ℕ → ScriptState
 start_state sizes images budget = record {
   machine = start_of sizes;
   is_fresh = true;

@@ -96,6 +96,7 @@ pub fn tell_boot<W: Sink>(sink: &mut W, name: &[u8]) -> Result<(), WriteFault>
 }
 
 /// `refused NoImage`, and the like.
+#[tactic(auto, unfolding(crate::specs::Answers::refused_text))]
 pub fn tell_refused<W: Sink>(sink: &mut W, reason: &[u8]) -> Result<(), WriteFault>
     ensures { Writes W.contents W.has_failed sink.old sink.new result (refused_text reason.now) }
 {

@@ -62,6 +62,7 @@ impl Session {
 
     /// Makes a call, takes the steps of the module code that it enters, until that has come back,
     /// and tells how the call ended.
+    #[tactic(auto, unfolding(crate::specs::Calls::call_made))]
     pub(crate) fn call<W: Sink>(
         &mut self,
         images: &Images,

@@ -31,6 +31,7 @@ impl Session {
     ghost use Rattle.command_shell.specs.State.{IsAnswered, start_state};
 
     /// A fresh machine of these sizes, and the whole budget.
+    #[tactic(auto, unfolding(crate::specs::State::start_state))]
     pub fn new(alloc: Global, config: Config, budget: u64) -> Result<Session, AllocError>
         ensures { IfOk result (λ session. (images : List Entry)
             → script_state session images ≡ start_state config images budget) }
