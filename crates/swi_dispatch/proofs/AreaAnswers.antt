@@ -35,7 +35,6 @@ errs_moving s next name (Err e) o is done = λ still.
     absurd (let never = some in cc)
 
 size_set : (s : State) (n v : ℕ) → length (with_register s n v).file ≡ length s.file
-unfolding with_register with_register_in
 size_set s n v = length-set s.file (slot_of s.psr.mode n) v
 
 abbrev after_change : MachineState → Option Area → MachineState

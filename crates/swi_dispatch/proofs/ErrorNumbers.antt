@@ -29,11 +29,10 @@ zero_apart : (m : Mode) → slot_of m 0 ≢ 25
 zero_apart m same = let zero : slot_of m 0 ≡ 0 = zero_slot m in omega (arith, zero, same)
 
 zero_kept : (caller : Psr) (cpu : State) (v : Bool) (next : ℕ) → register_of (returned caller cpu v next) 0 ≡ register_of cpu 0
-unfolding register_of register_in returned with_pc with_register_in
+unfolding returned
 zero_kept caller cpu v next = get_or-set_other cpu.file 25 (slot_of cpu.psr.mode 0) (return_word caller next) 0 (zero_apart cpu.psr.mode)
 
 zero_set : (s : State) (v : ℕ) → length s.file ≡ 26 → register_of (with_register s 0 v) 0 ≡ v
-unfolding register_of register_in with_register with_register_in
 zero_set s v size =
     let zero : slot_of s.psr.mode 0 ≡ 0 = zero_slot s.psr.mode in
     let inside : slot_of s.psr.mode 0 < length s.file = omega (arith, zero, size) in
