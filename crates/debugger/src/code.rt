@@ -1,3 +1,6 @@
+//! Words of memory and their instructions, as text.
+#![tactic(auto, using(assembler_text::proofs::Pieces::pieces, crate::proofs::CodeLines::code_steps))]
+
 ghost use Rattle.std.specs.Prelude.{◌≡◌, true, OnOk, OnErr};
 ghost use Rattle.std.specs.Io.KnownBytes.{Appends};
 ghost use Rattle.address_map.specs.Memory.{bytes_of};
@@ -24,7 +27,6 @@ pub fn show_code<W: Sink>(
     show_words(machine.memory(), address, count, sink)
 }
 
-#[tactic(auto, using(crate::proofs::CodeLines::code_steps))]
 fn show_words<W: Sink>(
     memory: &AddressMap,
     address: u32,
@@ -43,7 +45,6 @@ fn show_words<W: Sink>(
     Ok(())
 }
 
-#[tactic(auto, using(assembler_text::proofs::Pieces::pieces))]
 fn show_line<W: Sink>(memory: &AddressMap, address: u32, sink: &mut W) -> Result<(), WriteFault>
     ensures text { OnOk result (Appends (W.contents sink.old) (W.contents sink.new) (code_line (bytes_of memory.now) address)) }
     ensures flag { OnErr result (W.has_failed sink.new ≡ true) }
@@ -56,7 +57,6 @@ fn show_line<W: Sink>(memory: &AddressMap, address: u32, sink: &mut W) -> Result
     }
 }
 
-#[tactic(auto, using(assembler_text::proofs::Pieces::pieces))]
 fn show_word<W: Sink>(word: u32, address: u32, sink: &mut W) -> Result<(), WriteFault>
     ensures text { OnOk result (Appends (W.contents sink.old) (W.contents sink.new) (word_text address word)) }
     ensures flag { OnErr result (W.has_failed sink.new ≡ true) }

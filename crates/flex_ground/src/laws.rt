@@ -9,13 +9,11 @@ pub fn calls_keep_flex()
 
 /// It leaves each block of the store as it is, with its anchor, its size and its bytes. So over any list of calls the contents of blocks change by
 /// flex calls and by what guests store alone, wherever blocks of the module area slide.
-#[tactic(auto, using(crate::proofs::Kept::blocks_kept))]
 pub fn calls_keep_blocks()
     ensures { BlocksKept }
 {}
 
 /// No byte of the store is one of a live block of a heap.
-#[tactic(auto, using(crate::proofs::Kept::store_apart))]
 pub fn the_store_shares_no_byte_with_heaps()
     ensures { StoreIsApart }
 {}

@@ -3,25 +3,21 @@
 ghost use Rattle.flex_kept.specs.Laws.{AreaCallsKeepFlex, HeapCallsKeepFlex, SlidesKeepFlex, WritesKeepFlex};
 
 /// A call on a heap keeps the flex store.
-#[tactic(auto, using(crate::proofs::Heaps::heap_calls_keep))]
 pub fn heap_calls_keep_flex()
     ensures { HeapCallsKeepFlex }
 {}
 
 /// A call on a dynamic area keeps the flex store.
-#[tactic(auto, using(crate::proofs::Areas::area_calls_keep))]
 pub fn area_calls_keep_flex()
     ensures { AreaCallsKeepFlex }
 {}
 
 /// The slide of the module area keeps the flex store: blocks with anchors stay.
-#[tactic(auto, using(crate::proofs::Slides::slides_keep))]
 pub fn slides_keep_flex()
     ensures { SlidesKeepFlex }
 {}
 
 /// Writes to the system pages and to blocks of the module area, and records of module images, keep the flex store.
-#[tactic(auto, using(crate::proofs::Writes::writes_keep_all))]
 pub fn writes_keep_flex()
     ensures { WritesKeepFlex }
 {}

@@ -174,10 +174,8 @@ mid_done m n e f anchor header at by cut more done inside w within some cut_is m
     (fits_state m n e f (with_block anchor (holding (first_at m header) (spliced (contents (first_at m header)) at (cut_of by) (more_of by))) (blocks_of m e)) done (rw w.found at change'))
 
 pub size_none : (m : AddressMap) (e : Extent) (anchor : ℕ) → find_block anchor (blocks_of m e) ≡ None → Err FlexBadAnchor ≡ sized (held_in m e) anchor
-unfolding sized
 size_none m e anchor none = rw none refl
 
 pub size_done : (m : AddressMap) (e : Extent) (anchor header size : ℕ) → IsHeaderWord m e anchor header → size ≡ (first_at m header).size
     → Ok size ≡ sized (held_in m e) anchor
-unfolding sized
 size_done m e anchor header size w size_is = rw w.found (ap (λ (n : ℕ). Ok n) size_is)

@@ -89,7 +89,7 @@ released t anchor =
     Ok (with_blocks (without_anchor t anchor) s (without_block anchor s.blocks), tt)))
 
 -- Size: the bytes of a block that are its guest's own.
-unfoldable pub sized : FlexState → ℕ → Result ℕ ErrorNumber
+abbrev pub sized : FlexState → ℕ → Result ℕ ErrorNumber
 sized t anchor =
     bind (ready t) (λ s.
     bind (live s anchor) (λ b.

@@ -23,7 +23,6 @@ use os_heap::Heaps;
 use profile::ErrorNumber;
 
 /// The size of an anchor's block.
-#[tactic(auto, unfolding(crate::specs::Calls::sized))]
 pub(crate) fn block_size(map: &AddressMap, extent: &Extent, anchor: u32) -> Result<u32, ErrorNumber>
     requires { IsStoreAt map.now extent.now }
     ensures { result ≡ sized (held_in map.now extent.now) anchor }

@@ -48,7 +48,7 @@ impl Flex {
     /// `FlexNotReady` before `init`; `FlexBadAnchor` where no block has the anchor.
     ///
     /// Acorn C manual, "flex", flex_size.
-    #[tactic(auto, unfolding(crate::specs::Calls::sized, crate::specs::State::state_of))]
+    #[tactic(auto, unfolding(crate::specs::State::state_of))]
     pub fn size(&self, map: &AddressMap, anchor: u32) -> Result<u32, ErrorNumber>
         requires { IsFlex map.now self.now }
         ensures { result ≡ sized (state_of map.now self.now) anchor }

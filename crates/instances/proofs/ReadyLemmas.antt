@@ -67,6 +67,9 @@ clear_pending given slots = rw (clear_none slots) refl
 pub tidy_pending : (given : Given) (slots : List ℕ) → pending_of (tidy_plan given slots) ≡ []
 tidy_pending given slots = rw (tidy_none slots slots) refl
 
+-- the plans of calls on instances that are there find what they need, and have no image
+pub ruleset plans_ready = (delete_ready, reinit_ready, clear_ready, clear_pending, tidy_ready, tidy_pending)
+
 -- An instantiation finds the module of its title, whose title is the same but for the case of its letters.
 slot_by : (number : ℕ) (name : List ℕ) (o : Option ℕ) (new : NewInstance)
     → (let room : Result NewInstance ErrorNumber = bind (ok_or o InstanceTableFull)

@@ -12,14 +12,14 @@ use Rattle.instances.specs.declared.answers.Start.{Start}
 use Rattle.instances.specs.declared.answers.Told.{Told}
 
 -- OS_Module 12: the place behind an instance, its module's image, and the value of its private word
-unfoldable pub told : (ℕ → ℕ) → List Module → Place → Result Told ErrorNumber
+abbrev pub told : (ℕ → ℕ) → List Module → Place → Result Told ErrorNumber
 told bytes modules place =
     bind (information modules place.number place.instance) (λ i.
     bind (slot_at modules place) (λ slot.
     Ok (record { next = i.next; image = i.image; word = word_at bytes (private_of slot) })))
 
 -- OS_Module 18: where an instance is, and the same of it
-unfoldable pub found : (ℕ → ℕ) → List Module → List ℕ → Result Found ErrorNumber
+abbrev pub found : (ℕ → ℕ) → List Module → List ℕ → Result Found ErrorNumber
 found bytes modules full =
     bind (looked_up modules full) (λ place.
     bind (told bytes modules place) (λ t.

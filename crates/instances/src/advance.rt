@@ -1,4 +1,6 @@
 //! What is left of a call is done, action by action, up to the next entry of module code.
+#![tactic(auto, using(crate::proofs::Keeping::keeps_same))]
+
 ghost use Rattle.std.specs.Prelude.{◌≡◌, [], None, Some};
 ghost use Rattle.instances_slide.specs.os_heap.specs.Store.{AreClasses, store_of};
 ghost use Rattle.instances_slide.specs.flex_kept.specs.Keeping.{KeepsFlex};
@@ -24,7 +26,6 @@ impl Instances {
     /// is to be entered, which is the answer, or to the end of the call, where there is none.
     ///
     /// RISC OS 3 Programmer's Reference Manual, "Modules"; the order of actions is that of "OS_Module".
-    #[tactic(auto, using(crate::proofs::Keeping::keeps_same))]
     pub fn carry(
         &mut self,
         map: &mut AddressMap,
@@ -54,7 +55,6 @@ impl Instances {
 
     /// One turn of a call: the code that was under way, if any was, has come back; then one action is done, or its own part is, and its code is to be
     /// entered.
-    #[tactic(auto, using(crate::proofs::Keeping::keeps_same))]
     pub fn advance(
         &mut self,
         map: &mut AddressMap,

@@ -73,7 +73,6 @@ impl Instances {
     /// `ModuleNotFound` where there is no such module or instance.
     ///
     /// RISC OS 3 Programmer's Reference Manual, "OS_Module", reason 12.
-    #[tactic(auto, unfolding(crate::specs::Reading::told))]
     pub fn info(&self, map: &AddressMap, place: Place) -> Result<Told, ErrorNumber>
         requires { AreMapped (is_mapped map.now) 0x01C02000 256 }
         ensures { result ≡ told (byte_at map.now) self.now place }
@@ -97,7 +96,6 @@ impl Instances {
     /// `ModuleNotFound` where there is none.
     ///
     /// RISC OS 3 Programmer's Reference Manual, "OS_Module", reason 18.
-    #[tactic(auto, unfolding(crate::specs::Reading::found))]
     pub fn lookup(&self, map: &AddressMap, full: &[u8]) -> Result<Found, ErrorNumber>
         requires { AreMapped (is_mapped map.now) 0x01C02000 256 }
         ensures { result ≡ found (byte_at map.now) self.now full.now }

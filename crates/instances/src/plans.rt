@@ -1,4 +1,6 @@
 //! The plans of the calls on instances that are there.
+#![tactic(auto, using(crate::proofs::ReadyLemmas::plans_ready), unfolding(crate::specs::Plans::deletion, crate::specs::Plans::reinitialisation))]
+
 ghost use Rattle.std.specs.Prelude.{◌≡◌, ◌≤◌, [], false, length, IfOk};
 ghost use Rattle.instances_actions.specs.Pending.{pending_of};
 ghost use Rattle.instances_actions.specs.Ready.{IsReady};
@@ -17,7 +19,6 @@ impl Instances {
     /// `ModuleNotFound` where there is none.
     ///
     /// RISC OS 3 Programmer's Reference Manual, "OS_Module", reason 4.
-    #[tactic(auto, unfolding(crate::specs::Plans::deletion), using(crate::proofs::ReadyLemmas::delete_ready))]
     pub fn plan_delete(&self, full: &[u8]) -> Result<Plan, ErrorNumber>
         ensures value { result ≡ deletion self.now full.now }
         ensures ready { IfOk result (λ plan. IsReady self.now plan) }
@@ -39,7 +40,6 @@ impl Instances {
     /// `ModuleNotFound` where there is none.
     ///
     /// RISC OS 3 Programmer's Reference Manual, "OS_Module", reason 3.
-    #[tactic(auto, unfolding(crate::specs::Plans::reinitialisation), using(crate::proofs::ReadyLemmas::reinit_ready))]
     pub fn plan_reinit(&self, full: &[u8], text: &[u8]) -> Result<Plan, ErrorNumber>
         requires { length text.now ≤ 255 }
         ensures value { result ≡ reinitialisation self.now full.now text.now }
@@ -58,7 +58,6 @@ impl Instances {
     /// All instances are finalised and removed, oldest first.
     ///
     /// RISC OS 3 Programmer's Reference Manual, "OS_Module", reason 9.
-    #[tactic(auto, using(crate::proofs::ReadyLemmas::clear_ready, crate::proofs::ReadyLemmas::clear_pending))]
     pub fn plan_clear(&self) -> Plan
         ensures value { result ≡ clearing self.now }
         ensures ready { IsReady self.now result }
@@ -72,7 +71,6 @@ impl Instances {
     /// The module area is tidied, while all instances are finalised; the caller goes on at the return address.
     ///
     /// RISC OS 3 Programmer's Reference Manual, "OS_Module", reason 8.
-    #[tactic(auto, using(crate::proofs::ReadyLemmas::tidy_ready, crate::proofs::ReadyLemmas::tidy_pending))]
     pub fn plan_tidy(&self, return_address: u32) -> Plan
         ensures value { result ≡ tidying self.now return_address }
         ensures ready { IsReady self.now result }

@@ -3,13 +3,11 @@
 ghost use Rattle.os_heap_lists.specs.Laws.{ReadsHeap, GivesBack};
 
 /// Where memory spells a heap, just its list is read there.
-#[tactic(auto, using(crate::proofs::Reading::reads_heap))]
 pub fn heaps_are_read()
     ensures { ReadsHeap }
 {}
 
 /// A claim and the release of the claimed block bring the list back.
-#[tactic(auto, using(crate::proofs::ReleaseOfClaim::gives_back))]
 pub fn release_undoes_claim()
     ensures { GivesBack }
 {}

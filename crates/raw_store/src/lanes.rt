@@ -1,4 +1,6 @@
 //! Copies and fills within a slice, by lanes of 32 bytes and then byte by byte for the rest.
+#![tactic(auto, using(crate::proofs::Pieces::pieces))]
+
 ghost use Rattle.std.specs.Prelude.{◌≡◌, ◌≤◌, ◌<◌, ◌+◌, ◌-◌, ◌*◌, length, replicate};
 ghost use Rattle.raw_store.specs.Region.{copied, zeroed};
 
@@ -11,7 +13,6 @@ const LANE: usize = 32;
 ///
 /// Each piece is read before it is written over: from the first piece on where the bytes go down,
 /// and from the last one back where they go up.
-#[tactic(auto, using(crate::proofs::Pieces::pieces))]
 pub(crate) fn copy(bytes: &mut [u8], from: usize, to: usize, len: usize)
     requires source { from + len ≤ length bytes.old }
     requires target { to + len ≤ length bytes.old }
@@ -30,7 +31,6 @@ pub(crate) fn copy(bytes: &mut [u8], from: usize, to: usize, len: usize)
 }
 
 /// Makes all the bytes zero.
-#[tactic(auto, using(crate::proofs::Pieces::pieces))]
 pub(crate) fn zero(bytes: &mut [u8])
     ensures { bytes.new ≡ replicate (length bytes.old) 0 }
 {
@@ -40,7 +40,6 @@ pub(crate) fn zero(bytes: &mut [u8])
 }
 
 // To a lower place, or the same: the first lane first.
-#[tactic(auto, using(crate::proofs::Pieces::pieces))]
 fn copy_lanes_down(bytes: &mut [u8], from: usize, to: usize, lanes: usize)
     requires source { from + 32 * lanes ≤ length bytes.old }
     requires below { to ≤ from }
@@ -51,7 +50,6 @@ fn copy_lanes_down(bytes: &mut [u8], from: usize, to: usize, lanes: usize)
     }
 }
 
-#[tactic(auto, using(crate::proofs::Pieces::pieces))]
 fn copy_bytes_down(bytes: &mut [u8], from: usize, to: usize, len: usize)
     requires source { from + len ≤ length bytes.old }
     requires below { to ≤ from }
@@ -63,7 +61,6 @@ fn copy_bytes_down(bytes: &mut [u8], from: usize, to: usize, len: usize)
 }
 
 // To a higher place, or the same: the last lane first.
-#[tactic(auto, using(crate::proofs::Pieces::pieces))]
 fn copy_lanes_up(bytes: &mut [u8], from: usize, to: usize, lanes: usize)
     requires target { to + 32 * lanes ≤ length bytes.old }
     requires above { from ≤ to }
@@ -74,7 +71,6 @@ fn copy_lanes_up(bytes: &mut [u8], from: usize, to: usize, lanes: usize)
     }
 }
 
-#[tactic(auto, using(crate::proofs::Pieces::pieces))]
 fn copy_bytes_up(bytes: &mut [u8], from: usize, to: usize, len: usize)
     requires target { to + len ≤ length bytes.old }
     requires above { from ≤ to }
@@ -103,7 +99,6 @@ fn copy_byte(bytes: &mut [u8], from: usize, to: usize)
     bytes[to] = bytes[from];
 }
 
-#[tactic(auto, using(crate::proofs::Pieces::pieces))]
 fn zero_lanes(bytes: &mut [u8], lanes: usize)
     requires { 32 * lanes ≤ length bytes.old }
     ensures { bytes.new ≡ zeroed bytes.old 0 (32 * lanes) }
@@ -114,7 +109,6 @@ fn zero_lanes(bytes: &mut [u8], lanes: usize)
 }
 
 // All bytes from a place on.
-#[tactic(auto, using(crate::proofs::Pieces::pieces))]
 fn zero_bytes(bytes: &mut [u8], first: usize)
     requires { first ≤ length bytes.old }
     ensures { bytes.new ≡ zeroed bytes.old first (length bytes.old - first) }

@@ -1,5 +1,6 @@
 -- Calls on modules that are carried on: what they keep, and that the steps of the code are those of the definitions.
-use Rattle.std.proofs.Common.{inl, inr, ◌≡◌, ◌<◌, length, ℕ, true, false, Some, None, Ok, Err, List, [], ◌∷◌, refl, sym, ap, subst, ◌∙◌}
+use Rattle.std.proofs.Common.{inl, inr, ◌≡◌, ◌<◌, length, ℕ, true, false, Some, None, Ok, Err, List, [], ◌∷◌, refl, sym}
+use Rattle.std.proofs.Common.{ap, subst, ◌∙◌}
 use Rattle.std.specs.Prelude.{◌⊎◌, IfOk, Option, Result, is_some, option_map}
 use Rattle.std.proofs.lemmas.Bool.{false≢true, true≢false}
 use Rattle.address_map.specs.declared.map.AddressMap.{AddressMap}
@@ -21,55 +22,61 @@ use Rattle.instances_plans.specs.Carrying.{Carried, Doing, carried, carried_by, 
 use Rattle.instances_plans.specs.Plans.{Plan, end_by, settled}
 use Rattle.flex_ground.specs.instances_ground.specs.Sound.{IsWorld}
 use Rattle.flex_ground.specs.instances_ground.specs.World.{World, world_of}
-use Rattle.swi_dispatch_modules.specs.instances.specs.Naming.{NamesOnly, slots_of_plan}
 use Rattle.swi_dispatch_modules.specs.instances.specs.Turns.{IsUnderWay, MayGoOn, module_doing}
-use Rattle.swi_dispatch_modules.specs.instances.proofs.NamedByCalls.{NamesNone, NamesOne}
 use Rattle.swi_dispatch_modules.specs.instances.specs.instances_actions.specs.Pending.{pending_of}
-use Rattle.swi_dispatch_modules.specs.instances.specs.instances_actions.specs.Ready.{IsReady}
 use Rattle.swi_dispatch_frames.specs.declared.frame.Frame.{Frame}
-use Rattle.swi_dispatch_frames.specs.Busy.{has_swi_of}
 use Rattle.profile.specs.declared.fault.Fault.TheVariants.{ErrorStop, FetchUnmapped}
 use Rattle.swi_dispatch.specs.declared.halt.Halt.TheVariants as halt
 use Rattle.swi_dispatch.specs.declared.module_steps.Next.{Next}
 use Rattle.swi_dispatch_answers.specs.Errors.{error_at}
-use Rattle.swi_dispatch.specs.Gates.{Resumes, carried_on, come_back, error_ahead, error_left, fault_kept, kept_by, next_by, next_of, outcome_left, plan_left, went_to, with_carried, with_plan, world_carried}
-use Rattle.swi_dispatch.specs.MachineState.{MachineState, Outcome, quiet}
+use Rattle.swi_dispatch.specs.Gates.{Resumes, carried_on, come_back, error_ahead, error_left, fault_kept, kept_by}
+use Rattle.swi_dispatch.specs.Gates.{next_by, next_of, outcome_left, plan_left, went_to, with_carried, with_plan}
+use Rattle.swi_dispatch.specs.Gates.{world_carried}
+use Rattle.swi_dispatch.specs.MachineState.{MachineState, Outcome, machine_world, quiet, with_world}
 use Rattle.swi_dispatch.specs.Additions.{Starts, planned}
-use Rattle.swi_dispatch.specs.ModulePlans.{machine_world, with_world}
 use Rattle.swi_dispatch.specs.OpenFrames.{AreFrames}
-use Rattle.swi_dispatch.specs.Parts.{CanBegin, IsFree, IsWellFormed, Parts, parts_world, state_of}
+use Rattle.swi_dispatch.specs.Parts.{IsWellFormed, Parts, parts_world}
 use Rattle.swi_dispatch.specs.Returns.{halted}
 use Rattle.flex_ground.specs.Ground.{HasFlex}
 use Rattle.flex_ground.specs.flex_kept.specs.Keeping.{KeepsFlex}
 use Rattle.swi_dispatch.proofs.Kept.{flex_by, kept_all, kept_classes, same_kept, same_pool}
-use Rattle.swi_dispatch.proofs.OpenFrames.{frames_kept, none_of, none_of_none}
+use Rattle.swi_dispatch.proofs.OpenFrames.{frames_kept}
 
 -- where code is entered, it runs
-runs_by : (d : Doing World) (w : World) (p : Plan) (a : Action) (others : List Action) (o : Option Code) (code : Code) (on : World → Plan → Carried World)
+runs_by : (d : Doing World) (w : World) (p : Plan) (a : Action) (others : List Action) (o : Option Code) (code : Code)
+    (on : World → Plan → Carried World)
     → ((v : World) (q : Plan) → (on v q).code ≡ Some code → (on v q).rest.runs ≡ true)
     → (carried_by d w p a others o on).code ≡ Some code → (carried_by d w p a others o on).rest.runs ≡ true
 runs_by d w p a others (Some c) code on later is = refl
 runs_by d w p a others None code on later is = later _ _ is
 
-runs_from : (d : Doing World) (actions : List Action) (w : World) (p : Plan) (code : Code) → (carried_from d actions w p).code ≡ Some code
+runs_from : (d : Doing World) (actions : List Action) (w : World) (p : Plan) (code : Code)
+    → (carried_from d actions w p).code ≡ Some code
     → (carried_from d actions w p).rest.runs ≡ true
 runs_from d [] w p code is = cc
 runs_from d (a ∷ others) w p code is =
     runs_by d w p a others (d.code_of w a) code (carried_from d others) (λ v q e. runs_from d others v q code e) is
 
-code_runs : (w : World) (p : Plan) (c : Carried World) (code : Code) → carried module_doing w p ≡ c → c.code ≡ Some code → c.rest.runs ≡ true
+code_runs : (w : World) (p : Plan) (c : Carried World) (code : Code) → carried module_doing w p ≡ c
+    → c.code ≡ Some code → c.rest.runs ≡ true
 unfolding carried
 code_runs w p c code is has =
-    sym (ap (λ (x : Carried World). x.rest.runs) is) ∙ runs_from module_doing p.actions w p code (ap (λ (x : Carried World). x.code) is ∙ has)
+    sym (ap (λ (x : Carried World). x.rest.runs) is) ∙ runs_from module_doing p.actions w p code
+    (ap (λ (x : Carried World). x.code) is ∙ has)
 
 -- what is kept of the plan may go on
-pub may_go_on : (w v : World) (p q : Plan) (code : Option Code) → carried module_doing w p ≡ record { world = v; rest = q; code = code }
+pub may_go_on : (w v : World) (p q : Plan) (code : Option Code)
+    → carried module_doing w p ≡ record { world = v; rest = q; code = code }
     → (code ≡ None → IsWorld v []) → IsUnderWay v q → MayGoOn v (kept_by q code)
 may_go_on w v p q None is ended going = ended refl
-may_go_on w v p q (Some code) is ended going = (code_runs w p (record { world = v; rest = q; code = Some code }) code is refl, going)
+may_go_on w v p q (Some code) is ended going = (
+  code_runs w p (record { world = v; rest = q; code = Some code }) code is refl,
+  going,
+)
 
 -- the parts of a machine after a call was carried on
-pub well_carried : (new : Parts) (pending : List Image) → IsWorld (parts_world new) pending → MayGoOn (parts_world new) new.tables.plan → AreClasses new.map
+pub well_carried : (new : Parts) (pending : List Image) → IsWorld (parts_world new) pending
+    → MayGoOn (parts_world new) new.tables.plan → AreClasses new.map
     → AreFrames new.tables → HasFlex new.map new.tables.flex → new.is_fresh ≡ false → IsWellFormed new
 well_carried new pending world modules classes frames flex stepped = record {
   areas = world.estate;
@@ -86,11 +93,13 @@ pub rests_settled : (p : Plan) (o : CodeOutcome) → p.runs ≡ false → settle
 unfolding settled
 rests_settled p o rests = rw rests refl
 
-pub first_carried : (w : World) (p : Plan) (c : Carried World) → p.runs ≡ false → carried module_doing w (settled p Well) ≡ c → c ≡ world_carried w p
+pub first_carried : (w : World) (p : Plan) (c : Carried World) → p.runs ≡ false
+    → carried module_doing w (settled p Well) ≡ c → c ≡ world_carried w p
 first_carried w p c rests is = sym is ∙ ap (carried module_doing w) (rests_settled p Well rests)
 
 -- the entry of a call comes back
-pub entry_goes_on : (s t : MachineState) (f : Frame) (kept : Option Plan) (n : Next) → fault_kept f.call (machine_world s) (outcome_left s.cpu) kept ≡ None
+pub entry_goes_on : (s t : MachineState) (f : Frame) (kept : Option Plan) (n : Next)
+    → fault_kept f.call (machine_world s) (outcome_left s.cpu) kept ≡ None
     → Resumes s f (outcome_left s.cpu) kept (Some n) t → quiet (went_to t f.call n) ≡ plan_left s f kept
 entry_goes_on s t f None n well resumes = absurd resumes
 entry_goes_on s t f (Some p) n well resumes = rw well (λ i. quiet (went_to (resumes.0 i) f.call (resumes.1 i)))
@@ -99,8 +108,10 @@ pub none_else : {A : Type 0} (o : Option A) → ((x : A) → o ≡ Some x → �
 none_else None never = refl
 none_else (Some x) never = absurd (never x refl)
 
-pub entry_went_on : (s t : MachineState) (f : Frame) (kept : Option Plan) (n : Next) (o : CodeOutcome) (fault : Option ℕ) (end : Outcome)
-    → fault ≡ fault_kept f.call (machine_world s) o kept → fault ≡ None → o ≡ outcome_left s.cpu → Resumes s f o kept (Some n) t
+pub entry_went_on : (s t : MachineState) (f : Frame) (kept : Option Plan) (n : Next) (o : CodeOutcome)
+    (fault : Option ℕ) (end : Outcome)
+    → fault ≡ fault_kept f.call (machine_world s) o kept → fault ≡ None → o ≡ outcome_left s.cpu
+    → Resumes s f o kept (Some n) t
     → end.now ≡ went_to t f.call n → end.printed ≡ [] → end ≡ plan_left s f kept
 entry_went_on s t f kept n o fault end is none left resumes now printed =
     let none : fault_kept f.call (machine_world s) (outcome_left s.cpu) kept ≡ None =
@@ -108,12 +119,14 @@ entry_went_on s t f kept n o fault end is none left resumes now printed =
     (λ i. record { now = now i; printed = printed i })
     ∙ entry_goes_on s t f kept n none (subst (λ (x : CodeOutcome). Resumes s f x kept (Some n) t) left resumes)
 
-pub entry_stops : (s : MachineState) (f : Frame) (kept : Option Plan) (number : ℕ) → fault_kept f.call (machine_world s) (outcome_left s.cpu) kept ≡ Some number
+pub entry_stops : (s : MachineState) (f : Frame) (kept : Option Plan) (number : ℕ)
+    → fault_kept f.call (machine_world s) (outcome_left s.cpu) kept ≡ Some number
     → halted s (halt.Fault (ErrorStop number)) ≡ plan_left s f kept
 entry_stops s f None number is = cc
 entry_stops s f (Some p) number is = rw is refl
 
-pub entry_without_plan : (s t : MachineState) (f : Frame) (kept : Option Plan) → Resumes s f (outcome_left s.cpu) kept None t
+pub entry_without_plan : (s t : MachineState) (f : Frame) (kept : Option Plan)
+    → Resumes s f (outcome_left s.cpu) kept None t
     → halted t (halt.Fault FetchUnmapped) ≡ plan_left s f kept
 entry_without_plan s t f None resumes = ap (λ (u : MachineState). halted u (halt.Fault FetchUnmapped)) resumes
 entry_without_plan s t f (Some p) resumes = absurd resumes
@@ -123,37 +136,45 @@ own_first : (first : Option ℕ) (r0 : ℕ) → end_by first ≡ ended.Own r0 �
 own_first None r0 is = cc
 own_first (Some r) r0 is = cc
 
-no_first : (first : Option ℕ) → (end_by first ≡ ended.Well) ⊎ ((e : ErrorNumber) × (end_by first ≡ ended.System e)) → first ≡ None
+no_first : (first : Option ℕ) → (end_by first ≡ ended.Well) ⊎ ((e : ErrorNumber) × (end_by first ≡ ended.System e))
+    → first ≡ None
 no_first None is = refl
 no_first (Some r) (inl is) = cc
 no_first (Some r) (inr is) = absurd (let never = is.1 in cc)
 
-pub error_in_code : (w v : World) (p q : Plan) (code : Option Code) → carried module_doing w p ≡ record { world = v; rest = q; code = code }
+pub error_in_code : (w v : World) (p q : Plan) (code : Option Code)
+    → carried module_doing w p ≡ record { world = v; rest = q; code = code }
     → is_some code ≡ true → None ≡ error_ahead w p
 unfolding error_ahead
 error_in_code w v p q None is some = absurd (false≢true some)
 error_in_code w v p q (Some c) is some = sym (ap (λ (x : Carried World). error_left x x.code) is)
 
-pub error_at_end : (w v : World) (p q : Plan) (code : Option Code) (r0 number : ℕ) → carried module_doing w p ≡ record { world = v; rest = q; code = code }
-    → is_some code ≡ false → end_by q.first ≡ ended.Own r0 → number ≡ error_at v.estate.store.bytes r0 → Some number ≡ error_ahead w p
+pub error_at_end : (w v : World) (p q : Plan) (code : Option Code) (r0 number : ℕ)
+    → carried module_doing w p ≡ record { world = v; rest = q; code = code }
+    → is_some code ≡ false → end_by q.first ≡ ended.Own r0 → number ≡ error_at v.estate.store.bytes r0
+    → Some number ≡ error_ahead w p
 unfolding error_ahead
 error_at_end w v p q (Some c) r0 number is none own there = absurd (true≢false none)
 error_at_end w v p q None r0 number is none own there =
-    ap Some there ∙ sym (ap (λ (x : Carried World). error_left x x.code) is ∙ ap (option_map (error_at v.estate.store.bytes)) (own_first q.first r0 own))
+    ap Some there ∙ sym (ap (λ (x : Carried World). error_left x x.code) is
+    ∙ ap (option_map (error_at v.estate.store.bytes)) (own_first q.first r0 own))
 
 pub no_error_at_end : (w v : World) (p q : Plan) (code : Option Code) (end : Ended)
-    → carried module_doing w p ≡ record { world = v; rest = q; code = code } → is_some code ≡ false → end ≡ end_by q.first
+    → carried module_doing w p ≡ record { world = v; rest = q; code = code } → is_some code ≡ false
+    → end ≡ end_by q.first
     → (end ≡ ended.Well) ⊎ ((e : ErrorNumber) × (end ≡ ended.System e)) → None ≡ error_ahead w p
 unfolding error_ahead
 no_error_at_end w v p q (Some c) end is none ends well = absurd (true≢false none)
 no_error_at_end w v p q None end is none ends well =
-    sym (ap (λ (x : Carried World). error_left x x.code) is ∙ ap (option_map (error_at v.estate.store.bytes)) (no_first q.first (rw (← ends) well)))
+    sym (ap (λ (x : Carried World). error_left x x.code) is ∙ ap (option_map (error_at v.estate.store.bytes))
+    (no_first q.first (rw (← ends) well)))
 
 -- a trial on a copy of the world
 pub copied_bytes : (m n : AddressMap) → byte_at n ≡ byte_at m → layout n ≡ layout m → bytes_of n ≡ bytes_of m
 copied_bytes m n at same = λ i. record { mapped = λ a. is_some ((same i).place a); at = at i }
 
-pub copied_world : (m n : AddressMap) (l : Land) (ms ns : List Module) → byte_at n ≡ byte_at m → layout n ≡ layout m → class_of n ≡ class_of m
+pub copied_world : (m n : AddressMap) (l : Land) (ms ns : List Module) → byte_at n ≡ byte_at m → layout n ≡ layout m
+    → class_of n ≡ class_of m
     → IsSound (store_of m) → ns ≡ ms → world_of n l ns ≡ world_of m l ms
 copied_world m n l ms ns at same marks sound modules =
     let bytes = copied_bytes m n at same in
@@ -161,28 +182,37 @@ copied_world m n l ms ns at same marks sound modules =
     let pool = same_pool m n same in
     λ i. record { estate = record { store = store i; pool = pool i; land = l }; modules = modules i }
 
-pub copied_classes : (m n : AddressMap) → byte_at n ≡ byte_at m → layout n ≡ layout m → class_of n ≡ class_of m → IsSound (store_of m) → AreClasses m
+pub copied_classes : (m n : AddressMap) → byte_at n ≡ byte_at m → layout n ≡ layout m → class_of n ≡ class_of m
+    → IsSound (store_of m) → AreClasses m
     → AreClasses n
-copied_classes m n at same marks sound classes = kept_classes m n (same_kept m n same marks sound (copied_bytes m n at same)) marks classes
+copied_classes m n at same marks sound classes = kept_classes m n
+    (same_kept m n same marks sound (copied_bytes m n at same)) marks classes
 
-pub tried : (w v : World) (p q : Plan) (o : CodeOutcome) (c : Carried World) → v ≡ w → q ≡ p → carried module_doing v (settled q o) ≡ c
+pub tried : (w v : World) (p q : Plan) (o : CodeOutcome) (c : Carried World) → v ≡ w → q ≡ p
+    → carried module_doing v (settled q o) ≡ c
     → carried module_doing w (settled p o) ≡ c
 tried w v p q o c world plan is =
-    ap (λ (x : World). carried module_doing x (settled p o)) (sym world) ∙ ap (λ (x : Plan). carried module_doing v (settled x o)) (sym plan) ∙ is
+    ap (λ (x : World). carried module_doing x (settled p o)) (sym world)
+    ∙ ap (λ (x : Plan). carried module_doing v (settled x o)) (sym plan) ∙ is
 
 -- a leaf of the machine that carries a call on: its invariant, its state, and what is next
-pub carried_well : (old new : Parts) (w : World) (p q : Plan) (code : Option Code) (kept : Option Plan × Next) → kept ≡ (kept_by q code, next_by q code)
+pub carried_well : (old new : Parts) (w : World) (p q : Plan) (code : Option Code) (kept : Option Plan × Next)
+    → kept ≡ (kept_by q code, next_by q code)
     → new.tables.plan ≡ kept.0 → carried module_doing w p ≡ record { world = parts_world new; rest = q; code = code }
-    → (code ≡ None → IsWorld (parts_world new) []) → IsUnderWay (parts_world new) q → AreClasses new.map → AreFrames new.tables
+    → (code ≡ None → IsWorld (parts_world new) []) → IsUnderWay (parts_world new) q → AreClasses new.map
+    → AreFrames new.tables
     → IsWellFormed old → KeepsFlex (store_of old.map) (store_of new.map) → new.tables.flex ≡ old.tables.flex
     → new.is_fresh ≡ false → IsWellFormed new
 carried_well old new w p q code kept is plan carries ended going classes frames well keeps flex stepped =
     well_carried new (pending_of q) going.world
-    (subst (MayGoOn (parts_world new)) (sym (plan ∙ ap (λ (r : Option Plan × Next). r.0) is)) (may_go_on w (parts_world new) p q code carries ended going))
+    (subst (MayGoOn (parts_world new)) (sym (plan ∙ ap (λ (r : Option Plan × Next). r.0) is))
+    (may_go_on w (parts_world new) p q code carries ended going))
     classes frames (flex_by old new well going.world.estate keeps flex) stepped
 
-pub state_carried : (s : MachineState) (w : World) (q : Plan) (code : Option Code) (kept : Option Plan × Next) (c : Carried World)
-    → kept ≡ (kept_by q code, next_by q code) → record { world = w; rest = q; code = code } ≡ c → with_plan (with_world s w) kept.0 ≡ with_carried s c
+pub state_carried : (s : MachineState) (w : World) (q : Plan) (code : Option Code) (kept : Option Plan × Next)
+    (c : Carried World)
+    → kept ≡ (kept_by q code, next_by q code) → record { world = w; rest = q; code = code } ≡ c
+    → with_plan (with_world s w) kept.0 ≡ with_carried s c
 state_carried s w q code kept c is carries =
     ap (λ (r : Option Plan × Next). with_plan (with_world s w) r.0) is ∙ ap (with_carried s) carries
 
@@ -195,8 +225,10 @@ pub refused_world : {W P E : Type 0} (w v : W) (r : Result (W × P) E) (e : E) �
 refused_world w v (Ok r) e gives = absurd gives
 refused_world w v (Err f) e gives = gives.1
 
-pub refused_well : (old new : Parts) → IsWellFormed old → parts_world new ≡ parts_world old → new.tables.plan ≡ old.tables.plan
-    → new.tables.frames ≡ old.tables.frames → AreClasses new.map → KeepsFlex (store_of old.map) (store_of new.map) → new.tables.flex ≡ old.tables.flex
+pub refused_well : (old new : Parts) → IsWellFormed old → parts_world new ≡ parts_world old
+    → new.tables.plan ≡ old.tables.plan
+    → new.tables.frames ≡ old.tables.frames → AreClasses new.map → KeepsFlex (store_of old.map) (store_of new.map)
+    → new.tables.flex ≡ old.tables.flex
     → new.is_fresh ≡ false → IsWellFormed new
 refused_well old new well world plan frames classes keeps flex stepped = record {
   areas = subst (λ (w : World). IsEstate w.estate) (sym world) well.areas;
@@ -208,57 +240,13 @@ refused_well old new well world plan frames classes keeps flex stepped = record 
   fresh = λ e. absurd (true≢false (sym e ∙ stepped));
 }
 
-pub starts_by : (s t : MachineState) (old w : World) (r : Result (World × Plan) ErrorNumber) (p : Plan) (n : Next) → Gives old r (Ok p) w
+pub starts_by : (s t : MachineState) (old w : World) (r : Result (World × Plan) ErrorNumber) (p : Plan) (n : Next)
+    → Gives old r (Ok p) w
     → t ≡ with_carried s (world_carried w p) → n ≡ next_of (world_carried w p) → Starts s (planned r) (Ok n) t
 starts_by s t old w (Err f) p n gives state next = absurd gives
 starts_by s t old w (Ok r) p n gives state next = (
-  state ∙ ap (λ (v : World). with_carried s (world_carried v p)) gives.0 ∙ ap (λ (q : Plan). with_carried s (world_carried r.0 q)) gives.1,
-  next ∙ ap (λ (v : World). next_of (world_carried v p)) gives.0 ∙ ap (λ (q : Plan). next_of (world_carried r.0 q)) gives.1,
+  state ∙ ap (λ (v : World). with_carried s (world_carried v p)) gives.0
+      ∙ ap (λ (q : Plan). with_carried s (world_carried r.0 q)) gives.1,
+  next ∙ ap (λ (v : World). next_of (world_carried v p)) gives.0
+      ∙ ap (λ (q : Plan). next_of (world_carried r.0 q)) gives.1,
 )
-
--- a machine on which no call on modules is under way
-pub is_free : (p : Parts) → IsWellFormed p → (state_of p).tables.plan ≡ None → length (state_of p).tables.frames < 32 → IsFree (state_of p)
-is_free p well none room = record {
-  none = none;
-  room = room;
-  idle = well.frames.kept none;
-  held = well.frames.held;
-  world = subst (MayGoOn (parts_world p)) none well.modules;
-}
-
-pub can_begin : (s : MachineState) (p : Plan) → IsFree s → IsReady s.tables.modules p → p.runs ≡ false → pending_of p ≡ []
-    → has_swi_of (slots_of_plan p) s.tables.frames ≡ false → CanBegin s p
-can_begin s p free ready rests pending spared = record {
-  going = record {
-    world = subst (IsWorld (machine_world s)) (sym pending) free.world;
-    ready = ready;
-    code = λ runs. absurd (true≢false (sym runs ∙ rests));
-  };
-  rests = rests;
-  free = free;
-  spared = spared;
-}
-
--- a call whose plan names only instances that were tested for
-named_begins : (s : MachineState) (p : Plan) (slots : List ℕ) → IsFree s → IsReady s.tables.modules p → p.runs ≡ false → pending_of p ≡ []
-    → has_swi_of slots s.tables.frames ≡ false → NamesOnly slots s.tables.modules p → CanBegin s p
-named_begins s p slots free ready rests pending none names =
-    can_begin s p free ready rests pending (none_of (slots_of s.tables.modules) slots (slots_of_plan p) s.tables.frames free.held names none)
-
--- one on the instance that a name means
-pub meant_begins : (s : MachineState) (meant : Result ℕ ErrorNumber) (r x : Result Plan ErrorNumber) (slot : ℕ) → Ok slot ≡ meant → x ≡ r
-    → IfOk meant (NamesOne s.tables.modules r) → has_swi_of (slot ∷ []) s.tables.frames ≡ false → IsFree s → IfOk x (IsReady s.tables.modules)
-    → IfOk x (λ p. p.runs ≡ false) → IfOk x (λ p. pending_of p ≡ []) → IfOk x (CanBegin s)
-meant_begins s meant r (Err e) slot means makes names none free ready rests pending = tt
-meant_begins s meant r (Ok p) slot means makes names none free ready rests pending =
-    let one : NamesOne s.tables.modules r slot = subst (λ (m : Result ℕ ErrorNumber). IfOk m (NamesOne s.tables.modules r)) (sym means) names in
-    named_begins s p (slot ∷ []) free ready rests pending none
-    (subst (λ (q : Result Plan ErrorNumber). IfOk q (NamesOnly (slot ∷ []) s.tables.modules)) (sym makes) one)
-
--- and one that adds an instance
-pub new_begins : (s : MachineState) (r x : Result Plan ErrorNumber) → x ≡ r → IfOk r (NamesNone s.tables.modules) → IsFree s
-    → IfOk x (IsReady s.tables.modules) → IfOk x (λ p. p.runs ≡ false) → IfOk x (λ p. pending_of p ≡ []) → IfOk x (CanBegin s)
-new_begins s r (Err e) makes names free ready rests pending = tt
-new_begins s r (Ok p) makes names free ready rests pending =
-    named_begins s p [] free ready rests pending (none_of_none s.tables.frames)
-    (subst (λ (q : Result Plan ErrorNumber). IfOk q (NamesNone s.tables.modules)) (sym makes) names ready)

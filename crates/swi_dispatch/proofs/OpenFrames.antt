@@ -1,5 +1,7 @@
 -- What holds of the frames of module code that is under way: that it is kept.
-use Rattle.std.proofs.Common.{◌≡◌, ◌≤◌, ◌+◌, ◌-◌, ◌==◌, ◌||◌, ◌&&◌, length, take, drop, ℕ, zero, suc, Bool, true, false, Some, List, [], ◌∷◌, ◌++◌, refl, sym, ◌∙◌, ap, inl, inr, append_assoc, length-append, arith}
+use Rattle.std.proofs.Common.{◌≡◌, ◌≤◌, ◌+◌, ◌-◌, ◌==◌, ◌||◌, ◌&&◌, length, take, drop, ℕ, zero, suc, Bool, true, false}
+use Rattle.std.proofs.Common.{Some, List, [], ◌∷◌, ◌++◌, refl, sym, ◌∙◌, ap, inl, inr, append_assoc, length-append}
+use Rattle.std.proofs.Common.{arith}
 use Rattle.std.specs.Prelude.{◌⊎◌, slice_get, if◌then◌else◌}
 use Rattle.std.specs.List.{All, list_any}
 use Rattle.std.proofs.lemmas.Bool.{false≢true, or_parts}
@@ -12,11 +14,13 @@ use Rattle.instances_table.specs.Modules.{Module, slots_of}
 use Rattle.swi_dispatch_frames.specs.declared.frame.Frame.{Frame}
 use Rattle.swi_dispatch_frames.specs.Busy.{has_swi_of, is_swi}
 use Rattle.swi_dispatch_frames.specs.Frames.{closed, innermost}
+use Rattle.swi_dispatch_plans.proofs.Sparing.{among, none_of}
 use Rattle.swi_dispatch.specs.MachineState.{Tables}
 use Rattle.swi_dispatch.specs.OpenFrames.{AreFrames, AreHeld, AreSpared, MayEnter, entries}
 
 -- the same frames and the same plan, of modules with the same slots
-pub frames_kept : (old new : Tables) → AreFrames old → new.frames ≡ old.frames → new.plan ≡ old.plan → slots_of new.modules ≡ slots_of old.modules
+pub frames_kept : (old new : Tables) → AreFrames old → new.frames ≡ old.frames → new.plan ≡ old.plan
+    → slots_of new.modules ≡ slots_of old.modules
     → AreFrames new
 frames_kept old new are frames plan slots = record {
   one = rw frames are.one;
@@ -68,48 +72,21 @@ frames_idle t none held = record {
 
 -- no frame at all
 pub frames_none : (t : Tables) → t.frames ≡ [] → AreFrames t
-frames_none t none = frames_idle t (ap entries none) (rw none (All-nil (λ (f : Frame). is_used f.slot (slots_of t.modules) ≡ true)))
-
--- Frames that no SWI of some slots is among have none of others either, if of the instances that are there these are no more.
-unlike : (swi a b : Bool) → (a ≡ false → b ≡ false) → (swi && a) ≡ false → (swi && b) ≡ false
-unlike true a b fewer none = fewer none
-unlike false a b fewer none = refl
-
-among : (s : ℕ) (slots : List ℕ) → list_any (λ (slot : ℕ). slot == s) slots ≡ is_used s slots
-among s [] = refl
-among s (slot ∷ others) = ap (λ (b : Bool). slot == s || b) (among s others)
-
-pub none_of : (used slots more : List ℕ) (fs : List Frame) → All (λ (f : Frame). is_used f.slot used ≡ true) fs
-    → ((s : ℕ) → is_used s used ≡ true → is_used s slots ≡ false → is_used s more ≡ false) → has_swi_of slots fs ≡ false → has_swi_of more fs ≡ false
-none_of used slots more [] held fewer none = refl
-none_of used slots more (f ∷ fs) held fewer none =
-    let parts = or_parts (is_swi f.kind && list_any (λ (slot : ℕ). slot == f.slot) slots) (has_swi_of slots fs) none in
-    let there : is_used f.slot used ≡ true = All-head (λ (g : Frame). is_used g.slot used ≡ true) f fs held in
-    let here = unlike (is_swi f.kind) (list_any (λ (slot : ℕ). slot == f.slot) slots) (list_any (λ (slot : ℕ). slot == f.slot) more)
-    (λ unnamed. among f.slot more ∙ fewer f.slot there (sym (among f.slot slots) ∙ unnamed)) parts.0 in
-    let rest = none_of used slots more fs (All-tail (λ (g : Frame). is_used g.slot used ≡ true) f fs held) fewer parts.1 in
-    rw (here, rest) refl
-
-none_here : (swi : Bool) → (swi && false) ≡ false
-none_here true = refl
-none_here false = refl
-
-pub none_of_none : (fs : List Frame) → has_swi_of [] fs ≡ false
-none_of_none [] = refl
-none_of_none (f ∷ fs) = rw (none_here (is_swi f.kind), none_of_none fs) refl
-
-pub none_of_empty : (slots : List ℕ) (fs : List Frame) → fs ≡ [] → has_swi_of slots fs ≡ false
-none_of_empty slots fs none = ap (has_swi_of slots) none
+frames_none t none = frames_idle t (ap entries none) (rw none
+    (All-nil (λ (f : Frame). is_used f.slot (slots_of t.modules) ≡ true)))
 
 -- where slots change that no SWI under way is of, the frames' instances are there still
-stays_held : (old new slots : List ℕ) (f : Frame) → is_swi f.kind ≡ true → (is_swi f.kind && list_any (λ (slot : ℕ). slot == f.slot) slots) ≡ false
-    → ((s : ℕ) → is_used s slots ≡ false → is_used s new ≡ is_used s old) → is_used f.slot old ≡ true → is_used f.slot new ≡ true
+stays_held : (old new slots : List ℕ) (f : Frame) → is_swi f.kind ≡ true
+    → (is_swi f.kind && list_any (λ (slot : ℕ). slot == f.slot) slots) ≡ false
+    → ((s : ℕ) → is_used s slots ≡ false → is_used s new ≡ is_used s old) → is_used f.slot old ≡ true
+    → is_used f.slot new ≡ true
 stays_held old new slots f swi none same there =
     let unnamed : list_any (λ (slot : ℕ). slot == f.slot) slots ≡ false = rw swi at none in
     same f.slot (sym (among f.slot slots) ∙ unnamed) ∙ there
 
 pub held_still : (old new slots : List ℕ) (fs : List Frame) → entries fs ≡ 0 → has_swi_of slots fs ≡ false
-    → ((s : ℕ) → is_used s slots ≡ false → is_used s new ≡ is_used s old) → All (λ (f : Frame). is_used f.slot old ≡ true) fs
+    → ((s : ℕ) → is_used s slots ≡ false → is_used s new ≡ is_used s old)
+    → All (λ (f : Frame). is_used f.slot old ≡ true) fs
     → All (λ (f : Frame). is_used f.slot new ≡ true) fs
 held_still old new slots [] idle none same held = All-nil (λ (f : Frame). is_used f.slot new ≡ true)
 held_still old new slots (f ∷ fs) idle none same held =
@@ -143,38 +120,47 @@ parted (x ∷ xs) (b ∷ bs) above f g is =
     ]
 
 -- a frame of a SWI is opened
-swi_spared : (slots : List ℕ) (fs : List Frame) (f : Frame) → is_swi f.kind ≡ true → AreSpared slots fs → AreSpared slots (fs ++ f ∷ [])
+swi_spared : (slots : List ℕ) (fs : List Frame) (f : Frame) → is_swi f.kind ≡ true → AreSpared slots fs
+    → AreSpared slots (fs ++ f ∷ [])
 swi_spared slots fs f swi spared below above g is entry = elim (parted fs below above f g is) [
   | inl last ↦ absurd (false≢true (sym entry ∙ ap (λ (x : Frame). is_swi x.kind) (sym last.1) ∙ swi))
   | inr before ↦ spared below before.0 g before.1 entry
 ]
 
-pub swi_opened : (old new : Tables) (f : Frame) → AreFrames old → new.plan ≡ old.plan → new.modules ≡ old.modules → new.frames ≡ old.frames ++ f ∷ []
+pub swi_opened : (old new : Tables) (f : Frame) → AreFrames old → new.plan ≡ old.plan → new.modules ≡ old.modules
+    → new.frames ≡ old.frames ++ f ∷ []
     → is_swi f.kind ≡ true → is_used f.slot (slots_of old.modules) ≡ true → AreFrames new
 swi_opened old new f are plan modules opened swi there =
-    let same : entries new.frames ≡ entries old.frames = ap entries opened ∙ entries-append old.frames (f ∷ []) ∙ rw swi (omega arith) in
+    let same : entries new.frames ≡ entries old.frames = ap entries opened ∙ entries-append old.frames (f ∷ [])
+    ∙ rw swi (omega arith) in
     record {
       one = rw same are.one;
       kept = λ none. rw same (are.kept (sym plan ∙ none));
-      held = rw (modules, opened) (All-push (λ (g : Frame). is_used g.slot (slots_of old.modules) ≡ true) old.frames f are.held there);
+      held = rw (modules, opened) (All-push (λ (g : Frame). is_used g.slot (slots_of old.modules) ≡ true) old.frames f
+          are.held there);
       spared = rw (plan, opened) (swi_spared (slots_of_kept old.plan) old.frames f swi are.spared);
     }
 
 -- a frame of an entry is opened where there is none yet, and its code may be entered
-entry_spared : (slots : List ℕ) (fs : List Frame) (f : Frame) → entries fs ≡ 0 → has_swi_of (f.slot ∷ slots) fs ≡ false → AreSpared slots (fs ++ f ∷ [])
+entry_spared : (slots : List ℕ) (fs : List Frame) (f : Frame) → entries fs ≡ 0 → has_swi_of (f.slot ∷ slots) fs ≡ false
+    → AreSpared slots (fs ++ f ∷ [])
 entry_spared slots fs f idle none below above g is entry = elim (parted fs below above f g is) [
   | inl last ↦ (λ i. has_swi_of ((sym last.1 i).slot ∷ slots) (sym last.0 i)) ∙ none
   | inr before ↦ absurd (no_entry below before.0 g (ap entries (sym before.1) ∙ idle) entry)
 ]
 
-pub entry_opens : (old new : Tables) (f : Frame) (code : Code) → AreFrames old → entries old.frames ≡ 0 → MayEnter code old → f.slot ≡ code.slot
-    → is_swi f.kind ≡ false → new.plan ≡ old.plan → new.modules ≡ old.modules → new.frames ≡ old.frames ++ f ∷ [] → AreFrames new
+pub entry_opens : (old new : Tables) (f : Frame) (code : Code) → AreFrames old → entries old.frames ≡ 0
+    → MayEnter code old → f.slot ≡ code.slot
+    → is_swi f.kind ≡ false → new.plan ≡ old.plan → new.modules ≡ old.modules → new.frames ≡ old.frames ++ f ∷ []
+    → AreFrames new
 entry_opens old new f code are idle may slot entry plan modules opened =
-    let same : entries new.frames ≡ entries old.frames + 1 = ap entries opened ∙ entries-append old.frames (f ∷ []) ∙ rw entry (omega arith) in
+    let same : entries new.frames ≡ entries old.frames + 1 = ap entries opened ∙ entries-append old.frames (f ∷ [])
+    ∙ rw entry (omega arith) in
     record {
       one = omega (arith, same, idle);
       kept = λ none. absurd (false≢true (rw (sym plan ∙ none) at may.kept));
-      held = rw (modules, opened) (All-push (λ (g : Frame). is_used g.slot (slots_of old.modules) ≡ true) old.frames f are.held (rw slot may.held));
+      held = rw (modules, opened) (All-push (λ (g : Frame). is_used g.slot (slots_of old.modules) ≡ true) old.frames f
+          are.held (rw slot may.held));
       spared = rw (plan, opened) (entry_spared (slots_of_kept old.plan) old.frames f idle (rw slot may.spared));
     }
 
@@ -182,16 +168,19 @@ entry_opens old new f code are idle may slot entry plan modules opened =
 closed_spared : (slots : List ℕ) (n : ℕ) (fs : List Frame) → AreSpared slots fs → AreSpared slots (take n fs)
 closed_spared slots n fs spared below above f is entry =
     let whole : fs ≡ below ++ f ∷ (above ++ drop n fs) =
-    sym (take-append-drop n fs) ∙ ap (λ (xs : List Frame). xs ++ drop n fs) is ∙ append_assoc below (f ∷ above) (drop n fs) in
+    sym (take-append-drop n fs) ∙ ap (λ (xs : List Frame). xs ++ drop n fs) is
+    ∙ append_assoc below (f ∷ above) (drop n fs) in
     spared below (above ++ drop n fs) f whole entry
 
-pub frame_closes : (old new : Tables) → AreFrames old → new.plan ≡ old.plan → new.modules ≡ old.modules → new.frames ≡ closed old.frames → AreFrames new
+pub frame_closes : (old new : Tables) → AreFrames old → new.plan ≡ old.plan → new.modules ≡ old.modules
+    → new.frames ≡ closed old.frames → AreFrames new
 frame_closes old new are plan modules closes =
     let fewer : entries new.frames ≤ entries old.frames = rw closes (entries-take (length old.frames - 1) old.frames) in
     record {
       one = omega (arith, fewer, are.one);
       kept = λ none. omega (arith, fewer, are.kept (sym plan ∙ none));
-      held = rw (modules, closes) (All-take (λ (f : Frame). is_used f.slot (slots_of old.modules) ≡ true) (length old.frames - 1) old.frames are.held);
+      held = rw (modules, closes) (All-take (λ (f : Frame). is_used f.slot (slots_of old.modules) ≡ true)
+          (length old.frames - 1) old.frames are.held);
       spared = rw (plan, closes) (closed_spared (slots_of_kept old.plan) (length old.frames - 1) old.frames are.spared);
     }
 
@@ -206,7 +195,8 @@ innermost_last : (xs : List Frame) (f : Frame) → innermost xs ≡ Some f → x
 innermost_last [] f there = cc
 innermost_last (x ∷ xs) f there = last_of (length (x ∷ xs) - 1) (x ∷ xs) f there (omega arith)
 
-pub entry_closes : (xs : List Frame) (f : Frame) → entries xs ≤ 1 → innermost xs ≡ Some f → is_swi f.kind ≡ false → entries (closed xs) ≡ 0
+pub entry_closes : (xs : List Frame) (f : Frame) → entries xs ≤ 1 → innermost xs ≡ Some f → is_swi f.kind ≡ false
+    → entries (closed xs) ≡ 0
 entry_closes xs f one there entry =
     let counted : entries (f ∷ []) ≡ 1 = rw entry refl in
     omega (arith, ap entries (innermost_last xs f there), entries-append (closed xs) (f ∷ []), counted, one)
@@ -214,8 +204,10 @@ entry_closes xs f one there entry =
 pub closed_held : (ms : List Module) (xs : List Frame) → AreHeld ms xs → AreHeld ms (closed xs)
 closed_held ms xs held = All-take (λ (f : Frame). is_used f.slot (slots_of ms) ≡ true) (length xs - 1) xs held
 
-pub entry_spares : (used slots : List ℕ) (xs : List Frame) (f : Frame) → All (λ (g : Frame). is_used g.slot used ≡ true) (closed xs)
+pub entry_spares : (used slots : List ℕ) (xs : List Frame) (f : Frame)
+    → All (λ (g : Frame). is_used g.slot used ≡ true) (closed xs)
     → AreSpared slots xs → innermost xs ≡ Some f → is_swi f.kind ≡ false → has_swi_of slots (closed xs) ≡ false
 entry_spares used slots xs f held spared there entry =
-    none_of used (f.slot ∷ slots) slots (closed xs) held (λ s used none. (or_parts (f.slot == s) (is_used s slots) none).1)
+    none_of used (f.slot ∷ slots) slots (closed xs) held (λ s used none.
+    (or_parts (f.slot == s) (is_used s slots) none).1)
     (spared (closed xs) [] f (innermost_last xs f there) entry)

@@ -24,8 +24,7 @@ use Rattle.swi_dispatch_modules.specs.swi_dispatch_store.specs.Areas.{change_ask
 use Rattle.swi_dispatch_modules.specs.swi_dispatch_store.specs.Heaps.{heap_called}
 use Rattle.swi_dispatch_modules.specs.Calls.{module_called}
 use Rattle.swi_dispatch.specs.Answers.{Answer, done, refused, went_on, with_answer}
-use Rattle.swi_dispatch.specs.MachineState.{MachineState, machine_estate, quiet, with_estate}
-use Rattle.swi_dispatch.specs.ModulePlans.{machine_world, with_world}
+use Rattle.swi_dispatch.specs.MachineState.{MachineState, machine_estate, machine_world, quiet, with_estate, with_world}
 
 abbrev pub in_supervisor : MachineState → MachineState
 in_supervisor s = record s { cpu = with_mode s.cpu Supervisor }

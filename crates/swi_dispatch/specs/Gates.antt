@@ -1,7 +1,9 @@
--- Calls on modules whose code runs in between: how such a call begins, is carried on from one entry of module code to the next, and ends; and the
--- return gate, where module code comes back (RISC OS 3 Programmer's Reference Manual, "Modules" and "OS_Module"; frames, the gate, and that a call that
--- gives its caller no error does nothing where there is one, are this project's own).
-use Rattle.std.specs.Prelude.{◌≡◌, ℕ, Bool, true, false, ◌==◌, ◌++◌, ◌∷◌, [], List, Option, Some, None, option_map, Result, Ok, Err, if◌then◌else◌}
+-- Calls on modules whose code runs in between: how such a call begins, is carried on from one entry of module code to
+-- the next, and ends; and the return gate, where module code comes back (RISC OS 3 Programmer's Reference Manual,
+-- "Modules" and "OS_Module"; frames, the gate, and that a call that gives its caller no error does nothing where there
+-- is one, are this project's own).
+use Rattle.std.specs.Prelude.{◌≡◌, ℕ, Bool, true, false, ◌==◌, ◌++◌, ◌∷◌, [], List, Option, Some, None, option_map}
+use Rattle.std.specs.Prelude.{Result, Ok, Err, if◌then◌else◌}
 use Rattle.profile.specs.declared.error.ErrorNumber.{ErrorNumber}
 use Rattle.profile.specs.declared.fault.Fault.TheVariants.{FetchUnmapped, ErrorStop, StackChanged}
 use Rattle.arm_step.specs.declared.psr.Mode.TheVariants.{Supervisor}
@@ -28,8 +30,7 @@ use Rattle.swi_dispatch.specs.declared.module_steps.Next.{Next}
 use Rattle.swi_dispatch.specs.declared.module_steps.Next.TheVariants as next
 use Rattle.swi_dispatch.specs.Answers.{with_answer}
 use Rattle.swi_dispatch_answers.specs.Errors.{error_at}
-use Rattle.swi_dispatch.specs.MachineState.{MachineState, Outcome, quiet}
-use Rattle.swi_dispatch.specs.ModulePlans.{machine_world, with_world}
+use Rattle.swi_dispatch.specs.MachineState.{MachineState, Outcome, machine_world, quiet, with_world}
 use Rattle.swi_dispatch.specs.ModuleStart.{opened_at}
 use Rattle.swi_dispatch.specs.Returns.{erred, gone_back, halted}
 use Rattle.swi_dispatch_answers.specs.Returns.{returned}
@@ -94,7 +95,8 @@ carried_on s call p = (let c = world_carried (machine_world s) p in went_to (wit
 abbrev pub come_back : MachineState → Frame → MachineState
 come_back s f = record s { cpu = left s.cpu f; tables = record s.tables { frames = closed s.tables.frames } }
 
--- A SWI of a module goes back. Where V is set it was refused: the error is the module's own, which stands where R0 points.
+-- A SWI of a module goes back. Where V is set it was refused: the error is the module's own, which stands where R0
+-- points.
 abbrev pub frame_closed : MachineState → Frame → MachineState
 frame_closed s f = record s {
   cpu = returned f.call.caller (left s.cpu f) s.cpu.psr.overflow f.call.next;
@@ -118,7 +120,8 @@ error_left c None = option_map (error_at c.world.estate.store.bytes) c.rest.firs
 unfoldable pub error_ahead : World → Plan → Option ℕ
 error_ahead w p = error_left (world_carried w p) (world_carried w p).code
 
--- The call whose entry it was is carried on. Where its caller takes no error, and there is one, the step is a fault, and nothing of it is done.
+-- The call whose entry it was is carried on. Where its caller takes no error, and there is one, the step is a fault,
+-- and nothing of it is done.
 abbrev pub fault_ahead : Call → World → Plan → Option ℕ
 fault_ahead call w p = if call.is_x then None else error_ahead w p
 
@@ -142,7 +145,8 @@ frame_left s f (Entry kind) kept = plan_left s f kept
 abbrev pub gated_by : MachineState → Option Frame → Outcome
 gated_by s None = halted s (halt.Fault FetchUnmapped)
 gated_by s (Some f) =
-    if register_in Supervisor s.cpu 13 == f.stack then frame_left s f f.kind s.tables.plan else halted s (halt.Fault StackChanged)
+    if register_in Supervisor s.cpu 13 == f.stack then frame_left s f f.kind s.tables.plan else
+    halted s (halt.Fault StackChanged)
 
 abbrev pub gated : MachineState → Outcome
 gated s = gated_by s (innermost s.tables.frames)

@@ -16,9 +16,7 @@ pub mod Calls
 pub mod Ending
 pub mod Errors
 pub mod Gates
-pub mod ImagePlans
 pub mod MachineState
-pub mod ModulePlans
 pub mod ModuleStart
 pub mod OpenFrames
 pub mod Parts

@@ -1,5 +1,6 @@
--- The written machine: its core, its store (memory as a function from addresses to bytes, the lists of all heaps, and the other recorded
--- ranges), how many pages are in the pool, what stands beside core and memory, and the halt that keeps it from further steps.
+-- The written machine: its core, its store (memory as a function from addresses to bytes, the lists of all heaps, and
+-- the other recorded ranges), how many pages are in the pool, what stands beside core and memory, and the halt that
+-- keeps it from further steps.
 use Rattle.std.specs.Prelude.{ℕ, Option, None, List, []}
 use Rattle.profile.specs.declared.stop.Stop.{Stop}
 use Rattle.profile.specs.declared.stop.Stop.TheVariants as stop
@@ -11,14 +12,16 @@ use Rattle.dynamic_areas.specs.Areas.{Land, start_land}
 use Rattle.dynamic_areas.specs.Ground.{Estate, pool_of}
 use Rattle.dynamic_areas.specs.Start.{start_store}
 use Rattle.flex_ground.specs.flex_store.specs.declared.flex.Flex.{Flex}
+use Rattle.flex_ground.specs.instances_ground.specs.World.{World}
 use Rattle.instances_plans.specs.Plans.{Plan}
 use Rattle.instances_table.specs.Modules.{Module}
 use Rattle.swi_dispatch_frames.specs.declared.frame.Frame.{Frame}
+use Rattle.swi_dispatch_plans.specs.Setting.{Setting}
 use Rattle.swi_dispatch.specs.declared.halt.Halt.{Halt}
 use Rattle.swi_dispatch.specs.declared.halt.Halt.TheVariants as halt
 
--- what stands beside the core and the memory: the areas, the modules, the frames of module code that is under way, what is left to do of a call on
--- modules whose code is under way, and where the flex store is, if there is one
+-- what stands beside the core and the memory: the areas, the modules, the frames of module code that is under way,
+-- what is left to do of a call on modules whose code is under way, and where the flex store is, if there is one
 pub record Tables : Type 0 where
   pub land : Land
   pub modules : List Module
@@ -58,6 +61,17 @@ with_estate s e = record s { store = e.store; pool = e.pool; tables = record s.t
 
 abbrev pub with_modules : MachineState → List Module → MachineState
 with_modules s modules = record s { tables = record s.tables { modules = modules } }
+
+-- what calls on modules act on, and the machine after one of their actions
+abbrev pub machine_world : MachineState → World
+machine_world s = record { estate = machine_estate s; modules = s.tables.modules }
+
+abbrev pub with_world : MachineState → World → MachineState
+with_world s w = with_modules (with_estate s w.estate) w.modules
+
+-- what a call on modules finds as it begins
+abbrev pub setting_of : MachineState → Setting
+setting_of s = record { cpu = s.cpu; world = machine_world s; frames = s.tables.frames; plan = s.tables.plan }
 
 -- the start: all pages but those mapped then are in the pool
 unfoldable pub start_of : Sizes → MachineState

@@ -8,18 +8,13 @@ use Rattle.dynamic_areas.specs.Ground.{AreAreas, IsRecorded, system_pages}
 use Rattle.flex_ground.specs.Ground.{HasFlex}
 use Rattle.arm_step.specs.declared.turn.Turn.{Turn}
 use Rattle.arm_step.specs.State.{State}
-use Rattle.instances_plans.specs.Plans.{Plan}
-use Rattle.flex_ground.specs.instances_ground.specs.Sound.{IsWorld}
 use Rattle.flex_ground.specs.instances_ground.specs.World.{World, world_of}
-use Rattle.swi_dispatch_modules.specs.instances.specs.Naming.{slots_of_plan}
-use Rattle.swi_dispatch_modules.specs.instances.specs.Turns.{IsUnderWay, MayGoOn}
-use Rattle.swi_dispatch_frames.specs.Busy.{has_swi_of}
+use Rattle.swi_dispatch_modules.specs.instances.specs.Turns.{MayGoOn}
 use Rattle.swi_dispatch.specs.declared.halt.Halt.{Halt}
 use Rattle.swi_dispatch_answers.specs.declared.refusal.Refusal.{Refusal}
 use Rattle.swi_dispatch.specs.Answers.{Answer}
 use Rattle.swi_dispatch.specs.MachineState.{MachineState, Outcome, Tables, start_of}
-use Rattle.swi_dispatch.specs.ModulePlans.{machine_world}
-use Rattle.swi_dispatch.specs.OpenFrames.{AreFrames, AreHeld, entries}
+use Rattle.swi_dispatch.specs.OpenFrames.{AreFrames}
 use Rattle.swi_dispatch.specs.Step.{Turned, instructed}
 
 pub record Parts : Type 0 where
@@ -47,11 +42,13 @@ Answers a next (Err e) o = (o ≡ a.left) × ((next ≡ a.next) × (a.error ≡ 
 abbrev pub parts_world : Parts → World
 parts_world p = world_of p.map p.tables.land p.tables.modules
 
--- What holds of every machine, whatever its guest does: the areas stand on its memory, so that memory spells the lists of all heaps; the words that
--- these lists spell are those that are marked; the system pages are recorded; the recorded images are the modules', and the plan that is kept while module
--- code runs finds all that it asks for; at most one initialisation or finalisation is under way, and none where no plan is kept; each frame is of an
--- instance that is there, and no SWI that waits for an initialisation or a finalisation is of its instance, nor of one that the plan names; memory spells
--- the flex store, if there is one; and a machine that can still be booted stands as at the start.
+-- What holds of every machine, whatever its guest does: the areas stand on its memory, so that memory spells the lists
+-- of all heaps; the words that these lists spell are those that are marked; the system pages are recorded; the
+-- recorded images are the modules', and the plan that is kept while module code runs finds all that it asks for; at
+-- most one initialisation or finalisation is under way, and none where no plan is kept; each frame is of an instance
+-- that is there, and no SWI that waits for an initialisation or a finalisation is of its instance, nor of one that the
+-- plan names; memory spells the flex store, if there is one; and a machine that can still be booted stands as at the
+-- start.
 pub record IsWellFormed (p : Parts) : Type 0 where
   pub areas : AreAreas (store_of p.map) (free_pages p.map) p.tables.land
   pub classes : AreClasses p.map
@@ -80,18 +77,3 @@ pub record OnlyState (old new : Parts) : Type 0 where
 -- the core takes a turn, and the rest of the machine stays
 abbrev pub TakesTurn : MachineState → Turn → MachineState → Type 0
 TakesTurn s t s' = Turned s (instructed s) t s'
-
--- No call on modules is under way, and no entry of a module, and a frame more can be opened.
-pub record IsFree (s : MachineState) : Type 0 where
-  pub none : s.tables.plan ≡ None
-  pub room : length s.tables.frames < 32
-  pub idle : entries s.tables.frames ≡ 0
-  pub held : AreHeld s.tables.modules s.tables.frames
-  pub world : IsWorld (machine_world s) []
-
--- A call on modules may begin: its plan is ready, and no SWI is under way of an instance that it names.
-pub record CanBegin (s : MachineState) (p : Plan) : Type 0 where
-  pub going : IsUnderWay (machine_world s) p
-  pub rests : p.runs ≡ false
-  pub free : IsFree s
-  pub spared : has_swi_of (slots_of_plan p) s.tables.frames ≡ false

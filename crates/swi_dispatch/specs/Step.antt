@@ -1,5 +1,7 @@
--- One step of the machine: an instruction, or a store call. A fault changes nothing but that the machine is halted with it.
-use Rattle.std.specs.Prelude.{◌≡◌, ℕ, Bool, true, false, ◌+◌, ◌-◌, ◌%◌, ◌^◌, ◌==◌, Option, Some, None, ok_or, Result, Ok, Err, List, length, ◌++◌, ◌∷◌, [], if◌then◌else◌}
+-- One step of the machine: an instruction, or a store call. A fault changes nothing but that the machine is halted
+-- with it.
+use Rattle.std.specs.Prelude.{◌≡◌, ℕ, Bool, true, false, ◌+◌, ◌-◌, ◌%◌, ◌^◌, ◌==◌, Option, Some, None, ok_or, Result}
+use Rattle.std.specs.Prelude.{Ok, Err, List, length, ◌++◌, ◌∷◌, [], if◌then◌else◌}
 use Rattle.profile.specs.declared.error.ErrorNumber.{ErrorNumber}
 use Rattle.profile.specs.declared.error.ErrorNumber.TheVariants.{BadString, FrameLimit, SwiUnknown}
 use Rattle.profile.specs.declared.swi.SwiName.{SwiName}
@@ -28,14 +30,16 @@ use Rattle.instances_table.specs.declared.parts.Handler.{Handler}
 use Rattle.instances_table.specs.Lookup.{handler_of}
 use Rattle.swi_dispatch_answers.specs.declared.refusal.Refusal.{Refusal}
 use Rattle.swi_dispatch_answers.specs.declared.refusal.Refusal.TheVariants as refusal
-use Rattle.swi_dispatch.specs.declared.module_start.Opening.{Opening}
-use Rattle.swi_dispatch.specs.MachineState.{MachineState, Outcome, quiet, with_memory}
-use Rattle.swi_dispatch.specs.ModulePlans.{Planned, clear_planned, delete_planned, plan_alone, reinit_planned, tidy_planned, with_world}
-use Rattle.swi_dispatch.specs.ImagePlans.{instantiation_asked}
-use Rattle.swi_dispatch.specs.ModuleStart.{module_opened, opening_asked}
+use Rattle.swi_dispatch_plans.specs.declared.openings.Opening.{Opening}
+use Rattle.swi_dispatch.specs.MachineState.{MachineState, Outcome, quiet, setting_of, with_memory, with_world}
+use Rattle.swi_dispatch_plans.specs.ModulePlans.{clear_planned, delete_planned, reinit_planned, tidy_planned}
+use Rattle.swi_dispatch_plans.specs.ImagePlans.{instantiation_planned}
+use Rattle.swi_dispatch_plans.specs.Openings.{opening_asked}
+use Rattle.swi_dispatch.specs.ModuleStart.{module_opened}
 use Rattle.swi_dispatch_answers.specs.Words.{host_string}
 use Rattle.swi_dispatch.specs.declared.module_steps.Next.{Next}
-use Rattle.swi_dispatch.specs.Additions.{copy_planned, insertion_planned, load_planned, named_load_planned}
+use Rattle.swi_dispatch.specs.Additions.{Planned, copy_planned, insertion_planned, load_planned, named_load_planned}
+use Rattle.swi_dispatch.specs.Additions.{plan_alone}
 use Rattle.swi_dispatch.specs.Answers.{Answer, refused}
 use Rattle.swi_dispatch.specs.Calls.{call_answer}
 use Rattle.swi_dispatch.specs.Gates.{carried_on, gated, went_to}
@@ -45,7 +49,8 @@ use Rattle.swi_dispatch.specs.Returns.{erred, error_answered, gone_back, halted}
 abbrev pub moved_on : MachineState → State × Bytes → Outcome
 moved_on s w = quiet (record s { cpu = w.0; store = with_memory s.store w.1 })
 
--- The number of a store call without its X bit, which is bit 17 (RISC OS 3 Programmer's Reference Manual, "An introduction to SWIs").
+-- The number of a store call without its X bit, which is bit 17 (RISC OS 3 Programmer's Reference Manual, "An
+-- introduction to SWIs").
 abbrev pub without_x : ℕ → ℕ
 without_x n = if bit_of n 17 then n - 2 ^ 17 else n
 
@@ -100,22 +105,26 @@ begun_by s call (Ok n) = quiet (went_to s call n)
 abbrev pub begun_alone : MachineState → Bool → ℕ → Result Plan ErrorNumber → Outcome
 begun_alone s x next r = begun s x next false (bind r (λ p. Ok (plan_alone s p)))
 
--- OS_Module, by its reason in R0: where no module code is to run, and where there is no such reason, it is a call as any other.
+-- OS_Module, by its reason in R0: where no module code is to run, and where there is no such reason, it is a call as
+-- any other.
 abbrev pub os_module_called_for : List Entry → MachineState → Bool → ℕ → ℕ → Option ModuleReason → Outcome
 os_module_called_for images s x next number (Some reason.Run) = begun s x next true (named_load_planned images s true)
-os_module_called_for images s x next number (Some reason.Load) = begun s x next false (named_load_planned images s false)
-os_module_called_for images s x next number (Some reason.Enter) = module_entered s x next (opening_asked s)
-os_module_called_for images s x next number (Some reason.Reinit) = begun_alone s x next (reinit_planned s)
-os_module_called_for images s x next number (Some reason.Delete) = begun_alone s x next (delete_planned s)
-os_module_called_for images s x next number (Some reason.Tidy) = begun_alone s x next (tidy_planned s next)
-os_module_called_for images s x next number (Some reason.Clear) = begun_alone s x next (clear_planned s)
+os_module_called_for images s x next number (Some reason.Load) =
+    begun s x next false (named_load_planned images s false)
+os_module_called_for images s x next number (Some reason.Enter) = module_entered s x next (opening_asked (setting_of s))
+os_module_called_for images s x next number (Some reason.Reinit) = begun_alone s x next (reinit_planned (setting_of s))
+os_module_called_for images s x next number (Some reason.Delete) = begun_alone s x next (delete_planned (setting_of s))
+os_module_called_for images s x next number (Some reason.Tidy) = begun_alone s x next (tidy_planned (setting_of s) next)
+os_module_called_for images s x next number (Some reason.Clear) = begun_alone s x next (clear_planned (setting_of s))
 os_module_called_for images s x next number (Some reason.Insert) = begun s x next false (insertion_planned s)
 os_module_called_for images s x next number (Some reason.InsertCopy) = begun s x next false (copy_planned s)
-os_module_called_for images s x next number (Some reason.Instantiate) = begun_alone s x next (instantiation_asked s)
+os_module_called_for images s x next number (Some reason.Instantiate) =
+    begun_alone s x next (instantiation_planned (setting_of s))
 os_module_called_for images s x next number other = ended s x (call_answer s next number (Some swi.Module))
 
 unfoldable pub os_module_called : List Entry → MachineState → Bool → ℕ → ℕ → Outcome
-os_module_called images s x next number = os_module_called_for images s x next number (module_reason (register_of s.cpu 0))
+os_module_called images s x next number = os_module_called_for images s x next number
+    (module_reason (register_of s.cpu 0))
 
 -- A call without a name is looked for among the modules.
 abbrev pub called_by : List Entry → MachineState → Bool → ℕ → ℕ → Option SwiName → Outcome
@@ -160,12 +169,13 @@ unless_halted s None a = a
 unfoldable pub machine_step : List Entry → MachineState → Outcome
 machine_step images s = unless_halted s s.halt (turned images s (instructed s))
 
--- A store call that a user makes from outside acts as one with the X bit, at the present program counter; bits 31 to 24 of its number and its
--- X bit are left out.
+-- A store call that a user makes from outside acts as one with the X bit, at the present program counter; bits 31 to
+-- 24 of its number and its X bit are left out.
 unfoldable pub store_called : List Entry → MachineState → ℕ → Outcome
 store_called images s number = unless_halted s s.halt (called images s true s.cpu.pc (without_x (number % 2 ^ 24)))
 
--- A module that a user loads from outside: as reason 1 of OS_Module with the X bit does, at the present program counter, with these words for the string.
+-- A module that a user loads from outside: as reason 1 of OS_Module with the X bit does, at the present program
+-- counter, with these words for the string.
 unfoldable pub module_loaded : List Entry → MachineState → List ℕ → Outcome
 module_loaded images s text = unless_halted s s.halt (begun s true s.cpu.pc false
     (bind (ok_or (host_string text) BadString) (λ words. load_planned images s words false)))

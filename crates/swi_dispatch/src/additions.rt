@@ -1,5 +1,5 @@
-//! OS_Module, the reasons that add a module: its image is recorded at once, and the call begins (RISC OS 3 Programmer's Reference Manual, "OS_Module",
-//! reasons 0, 1, 10 and 11).
+//! OS_Module, the reasons that add a module: its image is recorded at once, and the call begins (RISC OS 3 Programmer's
+//! Reference Manual, "OS_Module", reasons 0, 1, 10 and 11).
 
 ghost use Rattle.std.specs.Prelude.{◌≡◌, ◌<◌, ◌≤◌, ◌^◌, false, length, IfOk};
 ghost use Rattle.module_header.specs.Header.{header_of};
@@ -12,21 +12,27 @@ use profile::ErrorNumber;
 use swi_dispatch_frames::Call;
 
 impl Machine {
-    ghost use Rattle.swi_dispatch.specs.Additions.{Starts, copied_range_planned, copy_planned, image_planned, insertion_planned, load_planned, named_load_planned, range_planned};
-    ghost use Rattle.swi_dispatch.specs.ImagePlans.{header_in};
-    ghost use Rattle.swi_dispatch.specs.OpenFrames.{GoesTo, SparesTitle};
-    ghost use Rattle.swi_dispatch.specs.Parts.{state_of, outcome_of, IsFree, IsInStep, OnlySteps, OnlyState};
+    ghost use Rattle.swi_dispatch.specs.Additions.{Starts, copied_range_planned, copy_planned, image_planned};
+    ghost use Rattle.swi_dispatch.specs.Additions.{insertion_planned, load_planned, named_load_planned, range_planned};
+    ghost use Rattle.swi_dispatch.specs.MachineState.{setting_of};
+    ghost use Rattle.swi_dispatch.specs.OpenFrames.{GoesTo};
+    ghost use Rattle.swi_dispatch.specs.Parts.{state_of, outcome_of, IsInStep, OnlySteps, OnlyState};
+    ghost use Rattle.swi_dispatch_plans.specs.Beginning.{IsFree, SparesTitle};
+    ghost use Rattle.swi_dispatch_plans.specs.ImagePlans.{SparesRange};
     ghost use Rattle.swi_dispatch.specs.Step.{begun, begun_by};
 
-    /// OS_Module 0 and 1: R1 points to the name of an image and a text. `enters` says whether the module is entered at the end.
+    /// OS_Module 0 and 1: R1 points to the name of an image and a text. `enters` says whether the module is entered at
+    /// the end.
     #[tactic(auto, unfolding(crate::specs::Step::begun))]
     pub(crate) fn load_named(&mut self, images: &Images, is_x: bool, next: u32, enters: bool)
         requires step { IsInStep self.old }
         requires next { next < 2 ^ 26 }
-        ensures after { outcome_of self.new ≡ begun (state_of self.old) is_x next enters (named_load_planned images.now (state_of self.old) enters) }
+        ensures after { let s = state_of self.old in
+            outcome_of self.new ≡ begun s is_x next enters (named_load_planned images.now s enters) }
         ensures others { OnlySteps self.old self.new }
     {
-        match self.string_in(1) {
+        let words = self.planner().string(1);
+        match words {
             Ok(words) => self.load_words(images, is_x, next, enters, words.as_slice()),
             Err(error) => self.refuse_call(is_x, next, error),
         }
@@ -44,7 +50,8 @@ impl Machine {
     )
         requires step { IsInStep self.old }
         requires short { length words.now ≤ 255 }
-        ensures after { outcome_of self.new ≡ begun (state_of self.old) is_x next enters (load_planned images.now (state_of self.old) words.now enters) }
+        ensures after { let s = state_of self.old in
+            outcome_of self.new ≡ begun s is_x next enters (load_planned images.now s words.now enters) }
         ensures others { OnlySteps self.old self.new }
     {
         let call = self.call_of(is_x, next, enters);
@@ -52,32 +59,8 @@ impl Machine {
         self.go_on(call, started);
     }
 
-    /// OS_Module 10: R1 has the address of an image, R2 its length.
-    #[tactic(auto, using(crate::proofs::Beginning::begins))]
-    pub(crate) fn insert_image(&mut self, is_x: bool, next: u32)
-        requires step { IsInStep self.old }
-        ensures after { outcome_of self.new ≡ begun (state_of self.old) is_x next false (insertion_planned (state_of self.old)) }
-        ensures others { OnlySteps self.old self.new }
-    {
-        let call = self.call_of(is_x, next, false);
-        let started = self.start_insertion();
-        self.go_on(call, started);
-    }
-
-    /// OS_Module 11: R1 has the address of an image, R2 its length.
-    #[tactic(auto, using(crate::proofs::Beginning::begins))]
-    pub(crate) fn copy_image(&mut self, is_x: bool, next: u32)
-        requires step { IsInStep self.old }
-        ensures after { outcome_of self.new ≡ begun (state_of self.old) is_x next false (copy_planned (state_of self.old)) }
-        ensures others { OnlySteps self.old self.new }
-    {
-        let call = self.call_of(is_x, next, false);
-        let started = self.start_copy();
-        self.go_on(call, started);
-    }
-
-    // A call goes on that has begun, or is refused.
-    fn go_on(&mut self, call: Call, started: Result<Next, ErrorNumber>)
+    /// A call goes on that has begun, or is refused.
+    pub(crate) fn go_on(&mut self, call: Call, started: Result<Next, ErrorNumber>)
         requires step { IsInStep self.old }
         requires goes { IfOk started (λ next. GoesTo next (state_of self.old).tables) }
         ensures after { outcome_of self.new ≡ begun_by (state_of self.old) call started }
@@ -98,33 +81,36 @@ impl Machine {
     ) -> Result<Next, ErrorNumber>
         requires stepped { self.old.is_fresh ≡ false }
         requires short { length words.now ≤ 255 }
-        ensures state { Starts (state_of self.old) (load_planned images.now (state_of self.old) words.now enters) result (state_of self.new) }
+        ensures state { let s = state_of self.old in
+            Starts s (load_planned images.now s words.now enters) result (state_of self.new) }
         ensures goes { IfOk result (λ next. GoesTo next (state_of self.new).tables) }
         ensures others { OnlyState self.old self.new }
     {
-        let load = self.load_asked(images, words, enters)?;
+        let load = self.planner().load(images, words, enters)?;
         self.place_image(load.image, load.text)
     }
 
+    /// OS_Module 10: R1 has the address of an image, R2 its length.
     #[tactic(auto, unfolding(crate::specs::Additions::insertion_planned))]
-    fn start_insertion(&mut self) -> Result<Next, ErrorNumber>
+    pub(crate) fn start_insertion(&mut self) -> Result<Next, ErrorNumber>
         requires stepped { self.old.is_fresh ≡ false }
         ensures state { Starts (state_of self.old) (insertion_planned (state_of self.old)) result (state_of self.new) }
         ensures goes { IfOk result (λ next. GoesTo next (state_of self.new).tables) }
         ensures others { OnlyState self.old self.new }
     {
-        let range = self.insertion_asked()?;
+        let range = self.planner().insertion()?;
         self.record_image(range.at, range.len)
     }
 
+    /// OS_Module 11: R1 has the address of an image, R2 its length.
     #[tactic(auto, unfolding(crate::specs::Additions::copy_planned))]
-    fn start_copy(&mut self) -> Result<Next, ErrorNumber>
+    pub(crate) fn start_copy(&mut self) -> Result<Next, ErrorNumber>
         requires stepped { self.old.is_fresh ≡ false }
         ensures state { Starts (state_of self.old) (copy_planned (state_of self.old)) result (state_of self.new) }
         ensures goes { IfOk result (λ next. GoesTo next (state_of self.new).tables) }
         ensures others { OnlyState self.old self.new }
     {
-        let range = self.copy_asked()?;
+        let range = self.planner().copy()?;
         self.place_copy(range.at, range.len)
     }
 
@@ -132,9 +118,10 @@ impl Machine {
     fn place_image(&mut self, image: &[u8], text: &[u8]) -> Result<Next, ErrorNumber>
         requires stepped { self.old.is_fresh ≡ false }
         requires short { length text.now ≤ 255 }
-        requires free { IsFree (state_of self.old) }
-        requires spared { SparesTitle (state_of self.old).tables (header_of image.now) }
-        ensures state { Starts (state_of self.old) (image_planned (state_of self.old) image.now text.now) result (state_of self.new) }
+        requires free { IsFree (setting_of (state_of self.old)) }
+        requires spared { SparesTitle (setting_of (state_of self.old)) (header_of image.now) }
+        ensures state { let s = state_of self.old in
+            Starts s (image_planned s image.now text.now) result (state_of self.new) }
         ensures goes { IfOk result (λ next. GoesTo next (state_of self.new).tables) }
         ensures others { OnlyState self.old self.new }
     {
@@ -152,9 +139,9 @@ impl Machine {
     // An image is recorded where it stands, and the plan of its call is begun.
     fn record_image(&mut self, at: u32, len: u32) -> Result<Next, ErrorNumber>
         requires stepped { self.old.is_fresh ≡ false }
-        requires free { IsFree (state_of self.old) }
-        requires spared { SparesTitle (state_of self.old).tables (header_in (state_of self.old) at len) }
-        ensures state { Starts (state_of self.old) (range_planned (state_of self.old) at len) result (state_of self.new) }
+        requires free { IsFree (setting_of (state_of self.old)) }
+        requires spared { SparesRange (setting_of (state_of self.old)) at len }
+        ensures state { let s = state_of self.old in Starts s (range_planned s at len) result (state_of self.new) }
         ensures goes { IfOk result (λ next. GoesTo next (state_of self.new).tables) }
         ensures others { OnlyState self.old self.new }
     {
@@ -172,9 +159,10 @@ impl Machine {
     // A copy of an image that stands in memory gets a block of the module area, and the plan of its call is begun.
     fn place_copy(&mut self, at: u32, len: u32) -> Result<Next, ErrorNumber>
         requires stepped { self.old.is_fresh ≡ false }
-        requires free { IsFree (state_of self.old) }
-        requires spared { SparesTitle (state_of self.old).tables (header_in (state_of self.old) at len) }
-        ensures state { Starts (state_of self.old) (copied_range_planned (state_of self.old) at len) result (state_of self.new) }
+        requires free { IsFree (setting_of (state_of self.old)) }
+        requires spared { SparesRange (setting_of (state_of self.old)) at len }
+        ensures state { let s = state_of self.old in
+            Starts s (copied_range_planned s at len) result (state_of self.new) }
         ensures goes { IfOk result (λ next. GoesTo next (state_of self.new).tables) }
         ensures others { OnlyState self.old self.new }
     {

@@ -1,7 +1,7 @@
 //! Store calls: what each does, and how a guest comes back from one.
 
 ghost use Rattle.std.specs.Prelude.{◌≡◌, ◌<◌, ◌≤◌, ◌^◌, false, [], ◌∷◌, ◌++◌, None, length, OnErr};
-ghost use Rattle.swi_dispatch.specs.Step.{is_exit};
+ghost use Rattle.swi_dispatch.specs.Step.{called, ended, is_exit, os_module_called};
 
 use crate::halt::Halt;
 use crate::machine::{MOST_PRINTED, Machine};
@@ -17,8 +17,8 @@ impl Machine {
     ghost use Rattle.swi_dispatch.specs.MachineState.{quiet};
     ghost use Rattle.swi_dispatch.specs.Parts.{state_of, outcome_of, IsInStep, OnlySteps, OnlyState, Answers};
     ghost use Rattle.swi_dispatch.specs.Answers.{with_answer};
-    ghost use Rattle.swi_dispatch.specs.Calls.{call_answer, moving_error, wrote_text_after, wrote_text_at, printable_at, in_supervisor};
-    ghost use Rattle.swi_dispatch.specs.Step.{called, ended, os_module_called};
+    ghost use Rattle.swi_dispatch.specs.Calls.{call_answer, moving_error, wrote_text_after, wrote_text_at};
+    ghost use Rattle.swi_dispatch.specs.Calls.{printable_at, in_supervisor};
     ghost use Rattle.swi_dispatch.specs.Returns.{gone_back};
     ghost use Rattle.arm_step.specs.State.{register_of};
 
@@ -43,37 +43,44 @@ impl Machine {
     }
 
     // OS_Module, by its reason in R0.
-    #[tactic(auto, unfolding(crate::specs::Step::os_module_called))]
+    #[tactic(auto, using(crate::proofs::Beginning::begins), unfolding(crate::specs::Step::os_module_called))]
     fn call_os_module(&mut self, images: &Images, is_x: bool, next: u32, number: u32)
         requires step { IsInStep self.old }
         requires next { next < 2 ^ 26 }
         ensures after { outcome_of self.new ≡ os_module_called images.now (state_of self.old) is_x next number }
         ensures others { OnlySteps self.old self.new }
     {
+        let call = self.call_of(is_x, next, false);
         match ModuleReason::of(self.cpu().register(0)) {
             Some(ModuleReason::Run) => self.load_named(images, is_x, next, true),
             Some(ModuleReason::Load) => self.load_named(images, is_x, next, false),
             Some(ModuleReason::Enter) => self.enter_module(is_x, next),
             Some(ModuleReason::Reinit) => {
-                let planned = self.plan_reinit();
+                let planned = self.planner().reinit();
                 self.begin(is_x, next, planned)
             }
             Some(ModuleReason::Delete) => {
-                let planned = self.plan_delete();
+                let planned = self.planner().delete();
                 self.begin(is_x, next, planned)
             }
             Some(ModuleReason::Tidy) => {
-                let planned = self.plan_tidy(next);
+                let planned = self.planner().tidy(next);
                 self.begin(is_x, next, planned)
             }
             Some(ModuleReason::Clear) => {
-                let planned = self.plan_clear();
+                let planned = self.planner().clear();
                 self.begin(is_x, next, planned)
             }
-            Some(ModuleReason::Insert) => self.insert_image(is_x, next),
-            Some(ModuleReason::InsertCopy) => self.copy_image(is_x, next),
+            Some(ModuleReason::Insert) => {
+                let started = self.start_insertion();
+                self.go_on(call, started)
+            }
+            Some(ModuleReason::InsertCopy) => {
+                let started = self.start_copy();
+                self.go_on(call, started)
+            }
             Some(ModuleReason::Instantiate) => {
-                let planned = self.instantiation_asked();
+                let planned = self.planner().instantiation();
                 self.begin(is_x, next, planned)
             }
             _ => self.call_system(is_x, next, number, Some(SwiName::Module)),
@@ -85,7 +92,8 @@ impl Machine {
     fn call_system(&mut self, is_x: bool, next: u32, number: u32, name: Option<SwiName>)
         requires step { IsInStep self.old }
         requires next { next < 2 ^ 26 }
-        ensures after { outcome_of self.new ≡ ended (state_of self.old) is_x (call_answer (state_of self.old) next number name) }
+        ensures after { let s = state_of self.old in
+            outcome_of self.new ≡ ended s is_x (call_answer s next number name) }
         ensures others { OnlySteps self.old self.new }
     {
         if !is_x && let Some(error) = self.moving_error(name) {
@@ -104,7 +112,8 @@ impl Machine {
         requires step { IsInStep self.old }
         requires next { next < 2 ^ 26 }
         ensures done { Answers (call_answer (state_of self.old) next number name) next result (outcome_of self.new) }
-        ensures unmoved { OnErr result (moving_error (state_of self.old) name ≡ None → outcome_of self.new ≡ quiet (state_of self.old)) }
+        ensures unmoved { let s = state_of self.old in
+            OnErr result (moving_error s name ≡ None → outcome_of self.new ≡ quiet s) }
         ensures silent { OnErr result (self.new.printed ≡ []) }
         ensures others { OnlySteps self.old self.new }
     {
@@ -157,7 +166,8 @@ impl Machine {
     fn print(&mut self, byte: u8)
         requires room { length self.old.printed < 4096 }
         requires stepped { self.old.is_fresh ≡ false }
-        ensures after { outcome_of self.new ≡ record { now = state_of self.old; printed = self.old.printed ++ byte ∷ [] } }
+        ensures after { let s = state_of self.old in
+            outcome_of self.new ≡ record { now = s; printed = self.old.printed ++ byte ∷ [] } }
         ensures others { OnlySteps self.old self.new }
     {
         self.printed.push(byte);
@@ -192,8 +202,8 @@ impl Machine {
     // OS_WriteS: the text stands after the instruction.
     fn write_text_after(&mut self, next: u32) -> Result<u32, Refusal>
         requires step { IsInStep self.old }
-        ensures done { Answers (wrote_text_after (state_of self.old) next (printable_at (state_of self.old).store.bytes next))
-            next result (outcome_of self.new) }
+        ensures done { let s = state_of self.old in
+            Answers (wrote_text_after s next (printable_at s.store.bytes next)) next result (outcome_of self.new) }
         ensures unmoved { OnErr result (outcome_of self.new ≡ quiet (state_of self.old)) }
         ensures others { OnlySteps self.old self.new }
     {

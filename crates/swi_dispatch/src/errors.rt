@@ -1,5 +1,5 @@
-//! Errors: how a call that errs ends, and the block that the error stands in (RISC OS 3 Programmer's Reference Manual, "Generating and
-//! handling errors").
+//! Errors: how a call that errs ends, and the block that the error stands in (RISC OS 3 Programmer's Reference Manual,
+//! "Generating and handling errors").
 
 ghost use Rattle.std.specs.Prelude.{ℕ, ◌≡◌, false, true};
 
@@ -41,14 +41,16 @@ impl Machine {
         self.go_back(caller, true, next);
     }
 
-    // The number that R0 would point to once an error is answered, wherever the guest goes on.
+    // The number that R0 would point to once an error is answered, wherever the guest goes on. To the guest's own it
+    // points already.
+    #[tactic(auto, using(crate::proofs::ErrorNumbers::number_kept))]
     fn answered_number(&self, refusal: Refusal) -> u32
         ensures { (caller : Psr) (next : ℕ) → result
             ≡ error_number (gone_back caller (with_error (state_of self.now) refusal) true next) }
     {
         match refusal {
             Refusal::System(error) => self.system_number(error),
-            Refusal::Own => self.own_number(),
+            Refusal::Own => self.error_number(),
         }
     }
 
@@ -59,13 +61,6 @@ impl Machine {
     {
         self.cpu.has_all_registers();
         error.number()
-    }
-
-    // R0 points to the guest's own error already.
-    fn own_number(&self) -> u32
-        ensures { (caller : Psr) (next : ℕ) → result ≡ error_number (gone_back caller (state_of self.now) true next) }
-    {
-        self.error_number()
     }
 
     /// OS_GenerateError: the error of the block that R0 points to.

@@ -3,7 +3,7 @@
 ghost use Rattle.std.specs.Prelude.{◌≡◌, false, Some, IfSome};
 ghost use Rattle.swi_dispatch_frames.specs.Busy.{is_swi};
 ghost use Rattle.swi_dispatch_frames.specs.Frames.{innermost};
-ghost use Rattle.swi_dispatch.specs.Gates.{outcome_left};
+ghost use Rattle.swi_dispatch.specs.Gates.{Resumes, fault_kept, frame_left, gated, outcome_left, plan_left, swi_left};
 
 use crate::halt::Halt;
 use crate::machine::Machine;
@@ -16,8 +16,7 @@ use swi_dispatch_answers::returns::return_to;
 use swi_dispatch_frames::{Call, Frame, FrameKind};
 
 impl Machine {
-    ghost use Rattle.swi_dispatch.specs.Gates.{Resumes, fault_kept, frame_left, gated, plan_left, swi_left};
-    ghost use Rattle.swi_dispatch.specs.ModulePlans.{machine_world};
+    ghost use Rattle.swi_dispatch.specs.MachineState.{machine_world};
     ghost use Rattle.swi_dispatch.specs.OpenFrames.{GoesTo};
     ghost use Rattle.swi_dispatch.specs.Parts.{state_of, outcome_of, IsInStep, OnlySteps, OnlyState};
 
@@ -29,20 +28,15 @@ impl Machine {
     {
         match self.frames.innermost() {
             None => self.halt_with(Halt::Fault(Fault::FetchUnmapped)),
-            Some(frame) => {
-                if frame.has_its_stack(&self.cpu) {
-                    self.leave_frame(frame);
-                } else {
-                    self.halt_with(Halt::Fault(Fault::StackChanged));
-                }
-            }
+            Some(frame) if frame.has_its_stack(&self.cpu) => self.leave_frame(frame),
+            Some(_) => self.halt_with(Halt::Fault(Fault::StackChanged)),
         }
     }
 
     fn leave_frame(&mut self, frame: Frame)
         requires step { IsInStep self.old }
         requires last { innermost (state_of self.old).tables.frames ≡ Some frame }
-        ensures after { outcome_of self.new ≡ frame_left (state_of self.old) frame frame.kind (state_of self.old).tables.plan }
+        ensures after { let s = state_of self.old in outcome_of self.new ≡ frame_left s frame frame.kind s.tables.plan }
         ensures others { OnlySteps self.old self.new }
     {
         match frame.kind {
@@ -51,7 +45,8 @@ impl Machine {
         }
     }
 
-    // The innermost frame is closed, and its call goes back. Where the call was refused and its caller takes no error, nothing is changed.
+    // The innermost frame is closed, and its call goes back. Where the call was refused and its caller takes no error,
+    // nothing is changed.
     #[tactic(auto, unfolding(os_heap::specs::Store::store_of))]
     fn leave_swi(&mut self, frame: Frame)
         requires step { IsInStep self.old }
@@ -70,7 +65,8 @@ impl Machine {
         self.frames.close();
     }
 
-    // The call whose entry it was is carried on, if a plan is kept. Where its caller takes no error, and there is one, nothing is changed.
+    // The call whose entry it was is carried on, if a plan is kept. Where its caller takes no error, and there is one,
+    // nothing is changed.
     #[tactic(auto, using(crate::proofs::GateLemmas::entry_went_on))]
     fn leave_entry(&mut self, frame: Frame)
         requires step { IsInStep self.old }
@@ -89,12 +85,13 @@ impl Machine {
         }
     }
 
-    // The core is the caller's again, the frame is closed, and the plan that is kept is carried on. Where none is, nothing is done.
+    // The core is the caller's again, the frame is closed, and the plan that is kept is carried on. Where none is,
+    // nothing is done.
     fn resume(&mut self, frame: Frame, outcome: Outcome) -> Option<Next>
         requires stepped { self.old.is_fresh ≡ false }
         requires last { innermost (state_of self.old).tables.frames ≡ Some frame }
         requires entry { is_swi frame.kind ≡ false }
-        ensures state { Resumes (state_of self.old) frame outcome (state_of self.old).tables.plan result (state_of self.new) }
+        ensures state { let s = state_of self.old in Resumes s frame outcome s.tables.plan result (state_of self.new) }
         ensures goes { IfSome result (λ next. GoesTo next (state_of self.new).tables) }
         ensures others { OnlyState self.old self.new }
     {
@@ -109,9 +106,10 @@ impl Machine {
         Some(next)
     }
 
-    // The number of the error that a call ends with whose entry comes back with this outcome, if it ends with one that its caller doesn't take.
+    // The number of the error that a call ends with whose entry comes back with this outcome, if it ends with one that
+    // its caller doesn't take.
     fn fault_ahead(&mut self, call: Call, outcome: Outcome) -> Option<u32>
-        ensures value { result ≡ fault_kept call (machine_world (state_of self.old)) outcome (state_of self.old).tables.plan }
+        ensures value { let s = state_of self.old in result ≡ fault_kept call (machine_world s) outcome s.tables.plan }
         ensures same { self.new ≡ self.old }
     {
         if call.is_x {

@@ -1,11 +1,11 @@
-ghost use Rattle.std.specs.Prelude.{◌≡◌, ◌≤◌, ◌+◌, ◌%◌, ◌&&◌, Bool, true, false, not, [], ◌∷◌, List, Option, Some, None, IfOk, IsSome, is_err, length};
+ghost use Rattle.std.specs.Prelude.{◌≡◌, ◌≤◌, ◌%◌, ◌&&◌, true, false, [], Some, None, IfOk, IsSome, is_err, length};
 ghost use Rattle.std.specs.Option.{option_map};
 ghost use Rattle.profile.specs.Outcome.{Leaves};
 ghost use Rattle.address_map.specs.Memory.{free_pages};
 ghost use Rattle.os_heap.specs.Store.{store_of, IsSound};
 ghost use Rattle.dynamic_areas.specs.Rooms.{IsAreaTable};
 ghost use Rattle.flex_ground.specs.flex_store.specs.State.{IsFlex};
-ghost use Rattle.swi_dispatch.specs.Step.{without_x};
+ghost use Rattle.swi_dispatch.specs.Step.{machine_step, module_loaded, store_called, swi_called, turn_end, without_x};
 
 use crate::boot_error::BootError;
 use crate::halt::Halt;
@@ -26,6 +26,7 @@ use std::marker::Model;
 use swi_dispatch_answers::words::host_string;
 use swi_dispatch_frames::Frames;
 use swi_dispatch_modules::instances::Instances;
+use swi_dispatch_plans::Planner;
 
 /// The most bytes that a step can print.
 pub(crate) const MOST_PRINTED: usize = 4096;
@@ -64,10 +65,11 @@ impl Model for Machine {
 
 impl Machine {
     ghost use Rattle.address_map.specs.Memory.{bytes_of};
-    ghost use Rattle.swi_dispatch.specs.Parts.{state_of, outcome_of, IsInStep, OnlySteps, OnlyState, TakesTurn, IsWellFormed};
-    ghost use Rattle.swi_dispatch.specs.MachineState.{start_of, stop_of, quiet};
+    ghost use Rattle.swi_dispatch.specs.Parts.{state_of, outcome_of, IsInStep, OnlySteps, OnlyState};
+    ghost use Rattle.swi_dispatch.specs.Parts.{TakesTurn, IsWellFormed};
+    ghost use Rattle.swi_dispatch.specs.MachineState.{start_of, stop_of, quiet, setting_of};
     ghost use Rattle.swi_dispatch.specs.Boot.{booted, registered, poked};
-    ghost use Rattle.swi_dispatch.specs.Step.{machine_step, module_loaded, store_called, swi_called, turn_end};
+    ghost use Rattle.swi_dispatch_plans.specs.Setting.{setting_in};
     ghost use Rattle.swi_dispatch.specs.Returns.{halted};
 
     /// A machine of these sizes at its start: user mode at &8000, each register 0 but the stack
@@ -106,7 +108,8 @@ impl Machine {
     /// program is longer than the application space.
     #[tactic(auto, unfolding(crate::specs::Boot::booted))]
     pub fn boot(&mut self, program: &[u8]) -> Result<(), BootError>
-        ensures state { Leaves (state_of self.old) (booted self.old.sizes self.old.is_fresh (state_of self.old) program.now) result (state_of self.new) }
+        ensures state { Leaves (state_of self.old)
+            (booted self.old.sizes self.old.is_fresh (state_of self.old) program.now) result (state_of self.new) }
         ensures fresh { self.new.is_fresh ≡ (self.old.is_fresh && is_err result) }
         ensures sizes { self.new.sizes ≡ self.old.sizes }
         ensures printed { self.new.printed ≡ self.old.printed }
@@ -162,8 +165,9 @@ impl Machine {
         self.stop()
     }
 
-    /// Loads a module as OS_Module 1 does with the X bit, with these words in place of the string that R1 points to: the name of an image and a text.
-    /// The guest goes on at the present program counter. A halted machine stays as it is.
+    /// Loads a module as OS_Module 1 does with the X bit, with these words in place of the string that R1 points to:
+    /// the name of an image and a text. The guest goes on at the present program counter. A halted machine stays as it
+    /// is.
     #[tactic(auto, unfolding(crate::specs::Step::module_loaded, crate::specs::Step::begun))]
     pub fn load_module(&mut self, images: &Images, text: &[u8]) -> Option<Stop>
         ensures after { outcome_of self.new ≡ module_loaded images.now (state_of self.old) text.now }
@@ -282,6 +286,20 @@ impl Machine {
         ensures most { result ≤ 32 }
     {
         self.frames.len()
+    }
+
+    // What the plans of calls on modules are made from.
+    pub(crate) fn planner<'a>(&'a self) -> Planner<'a>
+        ensures { setting_in result ≡ setting_of (state_of self.now) }
+    {
+        Planner::new(
+            &self.cpu,
+            &self.memory,
+            &self.areas,
+            &self.instances,
+            &self.frames,
+            &self.plan,
+        )
     }
 
     /// Why the machine is halted, if it is.

@@ -1,8 +1,9 @@
-//! Calls on modules that may run module code, step by step: how such a call begins, goes on and ends (RISC OS 3 Programmer's Reference Manual,
-//! "Modules" and "OS_Module").
+//! Calls on modules that may run module code, step by step: how such a call begins, goes on and ends (RISC OS 3
+//! Programmer's Reference Manual, "Modules" and "OS_Module").
 
 ghost use Rattle.std.specs.Prelude.{◌≡◌, ◌<◌, false, length, IfOk};
-ghost use Rattle.swi_dispatch.specs.Gates.{kept_by, next_by};
+ghost use Rattle.swi_dispatch.specs.Gates.{call_ended, carried_on, entry_opened, kept_by, loaded_entered, next_by};
+ghost use Rattle.swi_dispatch.specs.Gates.{next_of, went_to, with_carried, world_carried};
 
 use crate::machine::Machine;
 use instances_plans::{Code, Ended, Given, Outcome, Plan};
@@ -19,18 +20,17 @@ pub enum Next {
 }
 
 impl Machine {
-    ghost use Rattle.swi_dispatch.specs.Gates.{call_ended, carried_on, entry_opened, loaded_entered, next_of, went_to, with_carried, world_carried};
-    ghost use Rattle.swi_dispatch.specs.MachineState.{quiet};
-    ghost use Rattle.swi_dispatch.specs.ModulePlans.{machine_world};
+    ghost use Rattle.swi_dispatch.specs.MachineState.{machine_world, quiet, setting_of};
     ghost use Rattle.swi_dispatch.specs.OpenFrames.{GoesTo, MayEnter, entries};
-    ghost use Rattle.swi_dispatch.specs.Parts.{state_of, outcome_of, CanBegin, IsInStep, OnlySteps, OnlyState};
+    ghost use Rattle.swi_dispatch.specs.Parts.{state_of, outcome_of, IsInStep, OnlySteps, OnlyState};
+    ghost use Rattle.swi_dispatch_plans.specs.Beginning.{CanBegin};
     ghost use Rattle.swi_dispatch.specs.Step.{begun_alone, call_of};
 
     /// A call begins whose plan is made, or is refused.
     #[tactic(auto, unfolding(crate::specs::Step::begun))]
     pub(crate) fn begin(&mut self, is_x: bool, next: u32, planned: Result<Plan, ErrorNumber>)
         requires step { IsInStep self.old }
-        requires begins { IfOk planned (λ plan. CanBegin (state_of self.old) plan) }
+        requires begins { IfOk planned (CanBegin (setting_of (state_of self.old))) }
         ensures after { outcome_of self.new ≡ begun_alone (state_of self.old) is_x next planned }
         ensures others { OnlySteps self.old self.new }
     {
@@ -42,8 +42,9 @@ impl Machine {
 
     fn begin_plan(&mut self, is_x: bool, next: u32, plan: Plan)
         requires step { IsInStep self.old }
-        requires begins { CanBegin (state_of self.old) plan }
-        ensures after { outcome_of self.new ≡ quiet (carried_on (state_of self.old) (call_of (state_of self.old) is_x next false) plan) }
+        requires begins { CanBegin (setting_of (state_of self.old)) plan }
+        ensures after { let s = state_of self.old in
+            outcome_of self.new ≡ quiet (carried_on s (call_of s is_x next false) plan) }
         ensures others { OnlySteps self.old self.new }
     {
         let call = self.call_of(is_x, next, false);
@@ -79,8 +80,9 @@ impl Machine {
     // What the plan of a new call does first.
     fn carry_first(&mut self, plan: Plan) -> Next
         requires stepped { self.old.is_fresh ≡ false }
-        requires begins { CanBegin (state_of self.old) plan }
-        ensures state { state_of self.new ≡ with_carried (state_of self.old) (world_carried (machine_world (state_of self.old)) plan) }
+        requires begins { CanBegin (setting_of (state_of self.old)) plan }
+        ensures state { let s = state_of self.old in
+            state_of self.new ≡ with_carried s (world_carried (machine_world s) plan) }
         ensures next { result ≡ next_of (world_carried (machine_world (state_of self.old)) plan) }
         ensures goes { GoesTo result (state_of self.new).tables }
         ensures others { OnlyState self.old self.new }
@@ -133,8 +135,7 @@ impl Machine {
         ensures state { state_of self.new ≡ loaded_entered (state_of self.old) given.now }
         ensures others { OnlyState self.old self.new }
     {
-        let title = given.header.title.as_slice();
-        if let Ok(start) = self.instances().start(title) {
+        if let Ok(start) = self.instances().start(given.header.title.as_slice()) {
             self.open_module(start, given.text.as_slice());
         }
     }

@@ -1,5 +1,5 @@
-ghost use Rattle.std.specs.Prelude.{◌≡◌, ◌&&◌, ◌==◌, ◌≤◌, ◌↔◌, None, Some, [], List};
-ghost use Rattle.std.specs.Prelude.{false, true, IsTrue, IfOk, OnOk, OnErr};
+ghost use Rattle.std.specs.Prelude.{◌≡◌, ◌&&◌, ◌==◌, ◌≤◌, ◌↔◌, None, Some, [], List, false, true, IsTrue, IfOk};
+ghost use Rattle.std.specs.Prelude.{OnOk, OnErr};
 ghost use Rattle.std.specs.Option.{option_map};
 ghost use Rattle.swi_dispatch.specs.Parts.{state_of, IsWellFormed, OnlyState};
 ghost use Rattle.swi_dispatch.specs.Run.{ran, stop_after, count_after, last_or, quiet_run};
@@ -69,17 +69,12 @@ impl Machine {
                 let one = self.run_one(images, breaks, sink)?;
                 taken += one.taken;
                 if !one.goes_on() {
-                    return Ok(Ran {
-                        stop: one.stop,
-                        taken,
-                    });
+                    return Ok(Ran { taken, ..one });
                 }
             }
         }
-        Ok(Ran {
-            stop: Stop::Budget,
-            taken,
-        })
+        let stop = Stop::Budget;
+        Ok(Ran { stop, taken })
     }
 
     // Where there are no breaks, takes steps as long as each is an instruction that the core does
@@ -164,15 +159,10 @@ impl Machine {
             return Ran { stop, taken };
         }
         let at = self.cpu().pc();
+        let mut stop = Stop::Budget;
         if breaks.has(at) {
-            return Ran {
-                stop: Stop::Break(at),
-                taken: 1,
-            };
+            stop = Stop::Break(at);
         }
-        Ran {
-            stop: Stop::Budget,
-            taken: 1,
-        }
+        Ran { stop, taken: 1 }
     }
 }

@@ -13,10 +13,8 @@ ghost use Rattle.swi_dispatch_modules.specs.Calls.{module_called};
 
 use crate::halt::Halt;
 use crate::machine::Machine;
-use arrayvec::ArrayVec;
 use profile::{ErrorNumber, SwiName};
-use swi_dispatch_answers::strings::string_in;
-use swi_dispatch_answers::{MAX_TEXT, Refusal};
+use swi_dispatch_answers::Refusal;
 use swi_dispatch_flex::call_flex;
 use swi_dispatch_modules::call_module;
 use swi_dispatch_modules::swi_dispatch_store::{
@@ -24,22 +22,12 @@ use swi_dispatch_modules::swi_dispatch_store::{
 };
 
 impl Machine {
-    ghost use Rattle.swi_dispatch_answers.specs.Strings.{bytes_read, string_in};
     ghost use Rattle.swi_dispatch.specs.Calls.{area_changing, call_answer, machine_flex, moving_error, with_guest};
     ghost use Rattle.swi_dispatch.specs.Calls.{on_estate, on_flex, on_store, on_world};
-    ghost use Rattle.swi_dispatch.specs.MachineState.{machine_estate};
-    ghost use Rattle.swi_dispatch.specs.ModulePlans.{machine_world};
+    ghost use Rattle.swi_dispatch.specs.MachineState.{machine_estate, machine_world};
     ghost use Rattle.swi_dispatch.specs.Parts.{state_of, outcome_of, Answers, IsInStep, OnlySteps, OnlyState};
     ghost use Rattle.swi_dispatch.specs.Step.{ended};
     ghost use Rattle.swi_dispatch.specs.Returns.{halted};
-
-    /// The string that a register points to, whole.
-    pub(crate) fn string_in(&self, number: u32) -> Result<ArrayVec<u8, MAX_TEXT>, ErrorNumber>
-        requires { number ≤ 14 }
-        ensures { let s = state_of self.now in bytes_read result ≡ string_in s.store.bytes s.cpu number }
-    {
-        string_in(self.cpu(), self.memory(), number)
-    }
 
     /// OS_Heap.
     pub(crate) fn call_heap(&mut self) -> Result<(), Refusal>

@@ -9,7 +9,7 @@ unfoldable pub is_among : List ℕ → ℕ → Bool
 is_among breaks a = list_any (λ b. b == a) breaks
 
 -- one more; one that is there already is there once
-unfoldable pub with_break : List ℕ → ℕ → Result (List ℕ) BreakError
+abbrev pub with_break : List ℕ → ℕ → Result (List ℕ) BreakError
 with_break breaks a =
     if not (a % 4 == 0) then Err Unaligned else (
     if is_among breaks a then Ok breaks else (
@@ -21,5 +21,5 @@ abbrev pub without_place : List ℕ → Option ℕ → Result (List ℕ) BreakEr
 without_place breaks None = Err NoBreak
 without_place breaks (Some k) = Ok (take k breaks ++ drop (k + 1) breaks)
 
-unfoldable pub without_break : List ℕ → ℕ → Result (List ℕ) BreakError
+abbrev pub without_break : List ℕ → ℕ → Result (List ℕ) BreakError
 without_break breaks a = without_place breaks (position (λ b. b == a) breaks)

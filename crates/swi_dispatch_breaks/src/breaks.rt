@@ -52,7 +52,6 @@ impl Breaks {
     ///
     /// `Unaligned` where the address is no multiple of 4, else `BreakTableFull` where 16 others are
     /// there.
-    #[tactic(auto, unfolding(crate::specs::Breaks::with_break))]
     pub fn add(&mut self, address: u32) -> Result<(), BreakError>
         ensures { Leaves self.old (with_break self.old address) result self.new }
     {
@@ -74,7 +73,6 @@ impl Breaks {
     /// # Errors
     ///
     /// `NoBreak` where none is at the address.
-    #[tactic(auto, unfolding(crate::specs::Breaks::without_break))]
     pub fn remove(&mut self, address: u32) -> Result<(), BreakError>
         ensures { Leaves self.old (without_break self.old address) result self.new }
     {

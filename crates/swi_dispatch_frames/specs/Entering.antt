@@ -15,7 +15,7 @@ gate = 0x03800000
 abbrev pub in_supervisor : State → State
 in_supervisor cpu = with_overflow (with_mode cpu Supervisor) false
 
-unfoldable pub entered : State → ℕ → State
+abbrev pub entered : State → ℕ → State
 entered cpu at = with_pc (with_register_in Supervisor (in_supervisor cpu) 14 (psr_bits (in_supervisor cpu).psr + gate)) at
 
 -- R11 is the number of the SWI in its chunk of 64, R12 the address of the instance's private word.

@@ -31,7 +31,6 @@ pub fn enter_code(cpu: &mut Cpu, code: Code)
 }
 
 // The core goes to an address in supervisor mode, and what is there returns to the gate.
-#[tactic(auto, unfolding(crate::specs::Entering::entered))]
 fn enter(cpu: &mut Cpu, at: u32)
     ensures { cpu.new ≡ entered cpu.old at }
 {

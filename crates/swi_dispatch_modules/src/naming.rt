@@ -1,5 +1,6 @@
 //! OS_Module, the reasons that tell of instances, name them and prefer them: 12, 15, 16 and 18 (RISC OS 3 Programmer's Reference Manual,
 //! "OS_Module").
+#![tactic(auto, unfolding(os_heap::specs::Store::store_of))]
 
 ghost use Rattle.std.specs.Prelude.{◌≡◌, Option};
 ghost use Rattle.profile.specs.Outcome.{Leaves};
@@ -19,7 +20,6 @@ use swi_dispatch_store::swi_dispatch_answers::Refusal;
 use swi_dispatch_store::swi_dispatch_answers::strings::string_in;
 
 /// Reason 12: R1 and R2 have the numbers of a module and of an instance.
-#[tactic(auto, unfolding(os_heap::specs::Store::store_of))]
 pub(crate) fn tell_instance(
     cpu: &mut Cpu,
     memory: &AddressMap,
@@ -42,7 +42,6 @@ pub(crate) fn tell_instance(
 }
 
 /// Reason 15: R1 points to the full name of an instance, R2 to its new name.
-#[tactic(auto, unfolding(os_heap::specs::Store::store_of))]
 pub(crate) fn rename_instance(
     cpu: &Cpu,
     memory: &AddressMap,
@@ -61,7 +60,6 @@ pub(crate) fn rename_instance(
 }
 
 /// Reason 16: R1 points to the full name of an instance.
-#[tactic(auto, unfolding(os_heap::specs::Store::store_of))]
 pub(crate) fn prefer_instance(
     cpu: &Cpu,
     memory: &AddressMap,
@@ -79,7 +77,6 @@ pub(crate) fn prefer_instance(
 }
 
 /// Reason 18: R1 points to a name.
-#[tactic(auto, unfolding(os_heap::specs::Store::store_of))]
 pub(crate) fn find_instance(
     cpu: &mut Cpu,
     memory: &AddressMap,

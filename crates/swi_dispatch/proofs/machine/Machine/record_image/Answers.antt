@@ -1,13 +1,13 @@
 use Rattle.std.proofs.Common.{refl, ap, subst, sym, ◌∙◌}
 use Rattle.flex_ground.specs.flex_kept.proofs.Keeping.{keeps_then}
 use Rattle.swi_dispatch_modules.specs.instances.proofs.NamedByCalls.{inserting_names, named_given}
-use Rattle.swi_dispatch.specs.MachineState.{MachineState}
-use Rattle.swi_dispatch.specs.ImagePlans.{header_in}
-use Rattle.swi_dispatch.specs.ModulePlans.{machine_world}
-use Rattle.swi_dispatch.specs.OpenFrames.{SparesTitle}
-use Rattle.swi_dispatch.specs.Parts.{IsFree, Parts, state_of}
+use Rattle.swi_dispatch.specs.MachineState.{MachineState, machine_world, setting_of}
+use Rattle.swi_dispatch_plans.specs.ImagePlans.{SparesRange, header_in}
+use Rattle.swi_dispatch_plans.specs.Beginning.{IsFree}
+use Rattle.swi_dispatch.specs.Parts.{Parts, state_of}
 use Rattle.swi_dispatch.proofs.Kept.{over}
-use Rattle.swi_dispatch.proofs.GateLemmas.{carried_well, first_carried, next_carried, refused_well, refused_world, starts_by, state_carried}
+use Rattle.swi_dispatch.proofs.GateLemmas.{carried_well, first_carried, next_carried, refused_well, refused_world}
+use Rattle.swi_dispatch.proofs.GateLemmas.{starts_by, state_carried}
 use Rattle.swi_dispatch.proofs.CarriedFrames.{carried_frames, carries_on, titled_beneath}
 use Rattle.swi_dispatch.proofs.machine.Machine.record_image.Goals as goal
 
@@ -20,36 +20,60 @@ invariant_of-self c =
 pub invariant_of-self-2 : goal.invariant_of-self-2
 invariant_of-self-2 c =
     let before : MachineState = over c.self.inside.memory c.self.inside.cpu
-    (record { land = c.self.inside.areas; modules = c.self.inside.instances; frames = c.self.inside.frames; plan = c.self.inside.plan; flex = c.self.inside.flex })
+    (record {
+      land = c.self.inside.areas;
+      modules = c.self.inside.instances;
+      frames = c.self.inside.frames;
+      plan = c.self.inside.plan;
+      flex = c.self.inside.flex;
+    })
     c.self.inside.halt in
     let given = c.in_ok-plan.ensures in
-    let free = subst (λ (p : Parts). IsFree (state_of p)) (sym c.self.view_is) c.requires.free in
-    let spared = subst (λ (p : Parts). SparesTitle p.tables (header_in (state_of p) c.args.at c.args.len)) (sym c.self.view_is) c.requires.spared in
-    let names = named_given _ _ _ _ _ _ (inserting_names (machine_world before) c.args.at c.args.len) given.world given.ready in
-    let beneath = titled_beneath before _ (header_in before c.args.at c.args.len) free spared names in
+    let free = subst (λ (p : Parts). IsFree (setting_of (state_of p))) (sym c.self.view_is) c.requires.free in
+    let spared = subst (λ (p : Parts). SparesRange (setting_of (state_of p)) c.args.at c.args.len) (sym c.self.view_is)
+    c.requires.spared in
+    let names = named_given _ _ _ _ _ _ (inserting_names (machine_world before) c.args.at c.args.len) given.world
+    given.ready in
+    let beneath = titled_beneath before _ (header_in (setting_of before) c.args.at c.args.len) free spared names in
     let carries = c.carry-code.ensures in
     carried_well _ _ _ _ _ _ _ c.next_of-kept.ensures refl carries.carried carries.ended carries.going carries.classes
     (carried_frames _ _ _ _ _ _ _ beneath carries.others refl refl)
-    c.self.invariant (keeps_then _ _ _ c.in_ok-plan.ensures.flex carries.flex) refl (ap (λ (p : Parts). p.is_fresh) c.self.view_is ∙ c.requires.stepped)
+    c.self.invariant (keeps_then _ _ _ c.in_ok-plan.ensures.flex carries.flex) refl
+    (ap (λ (p : Parts). p.is_fresh) c.self.view_is ∙ c.requires.stepped)
 
 pub returns-clause-state : goal.returns-clause-state
 returns-clause-state c =
     let before : MachineState = over c.self.inside.memory c.self.inside.cpu
-    (record { land = c.self.inside.areas; modules = c.self.inside.instances; frames = c.self.inside.frames; plan = c.self.inside.plan; flex = c.self.inside.flex })
+    (record {
+      land = c.self.inside.areas;
+      modules = c.self.inside.instances;
+      frames = c.self.inside.frames;
+      plan = c.self.inside.plan;
+      flex = c.self.inside.flex;
+    })
     c.self.inside.halt in
     let given = c.in_ok-plan.ensures in
     let carries = first_carried _ _ _ given.rests c.carry-code.ensures.carried in
-    rw (← c.self.view_is) (starts_by before _ _ _ _ _ _ given.world (state_carried before _ _ _ _ _ c.next_of-kept.ensures carries)
+    rw (← c.self.view_is) (starts_by before _ _ _ _ _ _ given.world
+    (state_carried before _ _ _ _ _ c.next_of-kept.ensures carries)
     (next_carried _ _ _ _ _ c.next_of-kept.ensures carries))
 
 pub returns-clause-goes : goal.returns-clause-goes
 returns-clause-goes c =
     let before : MachineState = over c.self.inside.memory c.self.inside.cpu
-    (record { land = c.self.inside.areas; modules = c.self.inside.instances; frames = c.self.inside.frames; plan = c.self.inside.plan; flex = c.self.inside.flex })
+    (record {
+      land = c.self.inside.areas;
+      modules = c.self.inside.instances;
+      frames = c.self.inside.frames;
+      plan = c.self.inside.plan;
+      flex = c.self.inside.flex;
+    })
     c.self.inside.halt in
     let given = c.in_ok-plan.ensures in
-    let free = subst (λ (p : Parts). IsFree (state_of p)) (sym c.self.view_is) c.requires.free in
-    let spared = subst (λ (p : Parts). SparesTitle p.tables (header_in (state_of p) c.args.at c.args.len)) (sym c.self.view_is) c.requires.spared in
-    let names = named_given _ _ _ _ _ _ (inserting_names (machine_world before) c.args.at c.args.len) given.world given.ready in
-    let beneath = titled_beneath before _ (header_in before c.args.at c.args.len) free spared names in
+    let free = subst (λ (p : Parts). IsFree (setting_of (state_of p))) (sym c.self.view_is) c.requires.free in
+    let spared = subst (λ (p : Parts). SparesRange (setting_of (state_of p)) c.args.at c.args.len) (sym c.self.view_is)
+    c.requires.spared in
+    let names = named_given _ _ _ _ _ _ (inserting_names (machine_world before) c.args.at c.args.len) given.world
+    given.ready in
+    let beneath = titled_beneath before _ (header_in (setting_of before) c.args.at c.args.len) free spared names in
     carries_on _ _ _ _ _ _ _ _ c.next_of-kept.ensures refl refl refl free.room beneath c.carry-code.ensures.others

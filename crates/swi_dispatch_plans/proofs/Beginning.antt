@@ -1,0 +1,75 @@
+-- When a call on modules may begin.
+use Rattle.std.proofs.Common.{◌≡◌, ◌<◌, length, ℕ, false, None, Ok, Err, List, [], ◌∷◌, sym, subst, ◌∙◌}
+use Rattle.std.specs.Prelude.{IfOk, Result}
+use Rattle.std.proofs.lemmas.Bool.{true≢false}
+use Rattle.instances_ground.specs.Sound.{IsWorld}
+use Rattle.instances_plans.specs.Plans.{Plan}
+use Rattle.instances_table.specs.Modules.{slots_of}
+use Rattle.profile.specs.declared.error.ErrorNumber.{ErrorNumber}
+use Rattle.swi_dispatch_frames.specs.Busy.{has_swi_of}
+use Rattle.swi_dispatch_modules.specs.instances.specs.Naming.{NamesOnly, slots_of_plan}
+use Rattle.swi_dispatch_modules.specs.instances.specs.Turns.{MayGoOn}
+use Rattle.swi_dispatch_modules.specs.instances.specs.instances_actions.specs.Pending.{pending_of}
+use Rattle.swi_dispatch_modules.specs.instances.specs.instances_actions.specs.Ready.{IsReady}
+use Rattle.swi_dispatch_modules.specs.instances.proofs.NamedByCalls.{NamesNone, NamesOne}
+use Rattle.swi_dispatch_plans.specs.Beginning.{CanBegin, IsFree, IsSetting}
+use Rattle.swi_dispatch_plans.specs.Setting.{Setting}
+use Rattle.swi_dispatch_plans.proofs.Sparing.{none_of, none_of_empty, none_of_none}
+
+-- a setting in which no call on modules is under way
+pub is_free : (s : Setting) → IsSetting s → s.plan ≡ None → length s.frames < 32 → IsFree s
+is_free s is none room = record {
+  none = none;
+  room = room;
+  idle = is.idle none;
+  held = is.held;
+  world = subst (MayGoOn s.world) none is.modules;
+}
+
+can_begin : (s : Setting) (p : Plan) → IsFree s → IsReady s.world.modules p → p.runs ≡ false → pending_of p ≡ []
+    → has_swi_of (slots_of_plan p) s.frames ≡ false → CanBegin s p
+can_begin s p free ready rests pending spared = record {
+  going = record {
+    world = subst (IsWorld s.world) (sym pending) free.world;
+    ready = ready;
+    code = λ runs. absurd (true≢false (sym runs ∙ rests));
+  };
+  rests = rests;
+  free = free;
+  spared = spared;
+}
+
+-- a call that no module code under way allows
+pub alone_begins : (s : Setting) (p : Plan) → IsFree s → s.frames ≡ [] → IsReady s.world.modules p → p.runs ≡ false
+    → pending_of p ≡ [] → CanBegin s p
+alone_begins s p free alone ready rests pending =
+    can_begin s p free ready rests pending (none_of_empty (slots_of_plan p) s.frames alone)
+
+-- one whose plan names only instances that were tested for
+named_begins : (s : Setting) (p : Plan) (slots : List ℕ) → IsFree s → IsReady s.world.modules p → p.runs ≡ false
+    → pending_of p ≡ [] → has_swi_of slots s.frames ≡ false → NamesOnly slots s.world.modules p → CanBegin s p
+named_begins s p slots free ready rests pending none names =
+    can_begin s p free ready rests pending
+    (none_of (slots_of s.world.modules) slots (slots_of_plan p) s.frames free.held names none)
+
+-- one on the instance that a name means
+pub meant_begins : (s : Setting) (meant : Result ℕ ErrorNumber) (r x : Result Plan ErrorNumber) (slot : ℕ)
+    → Ok slot ≡ meant
+    → x ≡ r → IfOk meant (NamesOne s.world.modules r) → has_swi_of (slot ∷ []) s.frames ≡ false → IsFree s
+    → IfOk x (IsReady s.world.modules) → IfOk x (λ p. p.runs ≡ false) → IfOk x (λ p. pending_of p ≡ [])
+    → IfOk x (CanBegin s)
+meant_begins s meant r (Err e) slot means makes names none free ready rests pending = tt
+meant_begins s meant r (Ok p) slot means makes names none free ready rests pending =
+    let one : NamesOne s.world.modules r slot =
+    subst (λ (m : Result ℕ ErrorNumber). IfOk m (NamesOne s.world.modules r)) (sym means) names in
+    named_begins s p (slot ∷ []) free ready rests pending none
+    (subst (λ (q : Result Plan ErrorNumber). IfOk q (NamesOnly (slot ∷ []) s.world.modules)) (sym makes) one)
+
+-- and one that adds an instance
+pub new_begins : (s : Setting) (r x : Result Plan ErrorNumber) → x ≡ r → IfOk r (NamesNone s.world.modules) → IsFree s
+    → IfOk x (IsReady s.world.modules) → IfOk x (λ p. p.runs ≡ false) → IfOk x (λ p. pending_of p ≡ [])
+    → IfOk x (CanBegin s)
+new_begins s r (Err e) makes names free ready rests pending = tt
+new_begins s r (Ok p) makes names free ready rests pending =
+    named_begins s p [] free ready rests pending (none_of_none s.frames)
+    (subst (λ (q : Result Plan ErrorNumber). IfOk q (NamesNone s.world.modules)) (sym makes) names ready)

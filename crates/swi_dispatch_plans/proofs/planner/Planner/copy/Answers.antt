@@ -1,0 +1,14 @@
+use Rattle.std.proofs.Common.{◌≡◌, true, sym, ap, ◌∙◌}
+use Rattle.instances_ground.specs.dynamic_areas.specs.Ground.{estate_of}
+use Rattle.instances_ground.specs.rma.specs.Copies.{may_be_copied}
+use Rattle.swi_dispatch_modules.specs.instances.proofs.AddingLemmas.{copied_mapped}
+use Rattle.swi_dispatch_plans.specs.Setting.{PlanParts}
+use Rattle.swi_dispatch_plans.proofs.planner.Planner.copy.Goals as goal
+
+pub may_add-requires : goal.may_add-requires
+may_add-requires c =
+    let range = c.range_asked-range.result in
+    let may : may_be_copied (estate_of c.args.self.now.map c.args.self.now.land) range.at range.len ≡ true =
+    ap (λ (p : PlanParts). may_be_copied (estate_of p.map p.land) range.at range.len) (sym c.self.view_is)
+    ∙ sym c.may_be_copied.ensures ∙ c.if-not-may_be_copied.false in
+    copied_mapped (estate_of c.args.self.now.map c.args.self.now.land) range.at range.len may

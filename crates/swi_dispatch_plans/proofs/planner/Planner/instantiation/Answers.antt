@@ -1,0 +1,22 @@
+use Rattle.std.proofs.Common.{◌≡◌, IfOk, List, ap, subst, ◌∙◌}
+use Rattle.instances_table.specs.Modules.{Module}
+use Rattle.swi_dispatch_modules.specs.instances.specs.Adding.{instantiation}
+use Rattle.swi_dispatch_modules.specs.instances.specs.instances_actions.specs.Ready.{IsReady}
+use Rattle.swi_dispatch_modules.specs.instances.proofs.NamedByCalls.{instantiation_names}
+use Rattle.swi_dispatch_plans.specs.Setting.{PlanParts, setting_in}
+use Rattle.swi_dispatch_plans.proofs.Beginning.{new_begins}
+use Rattle.swi_dispatch_plans.proofs.planner.Planner.instantiation.Goals as goal
+
+pub returns-clause-begins : goal.returns-clause-begins
+returns-clause-begins c =
+    let s = setting_in c.args.self.now in
+    let name = c.name_part.result.now in
+    let text = c.text_part.result.now in
+    let made = c.instantiate-planned in
+    let modules : c.self.inside.instances.now ≡ s.world.modules = ap (λ (p : PlanParts). p.modules) c.self.view_is in
+    let makes : made.result ≡ instantiation s.world.modules name text =
+    made.ensures.value ∙ ap (λ (ms : List Module). instantiation ms name text) modules in
+    let ready = subst (λ (ms : List Module). IfOk made.result (IsReady ms)) modules made.ensures.ready in
+    new_begins s (instantiation s.world.modules name text) made.result makes
+    (instantiation_names s.world.modules name text)
+    c.in_ok-may_finalise.ensures.free ready made.ensures.rests made.ensures.pending

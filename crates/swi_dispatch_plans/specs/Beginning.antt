@@ -1,0 +1,57 @@
+-- When a call on modules may begin (this project's own).
+use Rattle.std.specs.Prelude.{◌≡◌, ◌<◌, ◌+◌, length, ℕ, true, false, IfOk, None, Result, List, [], ◌∷◌}
+use Rattle.std.specs.Prelude.{if◌then◌else◌}
+use Rattle.std.specs.List.{All}
+use Rattle.instances_ground.specs.Sound.{IsWorld}
+use Rattle.instances_ground.specs.dynamic_areas.specs.Ground.{IsEstate}
+use Rattle.instances_plans.specs.Doable.{is_used}
+use Rattle.instances_plans.specs.Plans.{Plan}
+use Rattle.instances_table.specs.Changes.{titled}
+use Rattle.instances_table.specs.Modules.{Module, slots_of}
+use Rattle.module_header.specs.declared.fault.HeaderFault.{HeaderFault}
+use Rattle.module_header.specs.declared.header.Header.{Header}
+use Rattle.swi_dispatch_frames.specs.Busy.{has_swi_of, is_swi}
+use Rattle.swi_dispatch_frames.specs.declared.frame.Frame.{Frame}
+use Rattle.swi_dispatch_modules.specs.instances.specs.Naming.{slots_of_plan}
+use Rattle.swi_dispatch_modules.specs.instances.specs.Turns.{IsUnderWay, MayGoOn}
+use Rattle.swi_dispatch_plans.specs.Setting.{Setting}
+
+-- how many of the frames are entries of modules, and not SWIs
+abbrev pub entries : List Frame → ℕ
+entries [] = 0
+entries (f ∷ fs) = if is_swi f.kind then entries fs else 1 + entries fs
+
+-- Each frame is of an instance that is there.
+abbrev pub AreHeld : List Module → List Frame → Type 0
+AreHeld modules frames = All (λ (f : Frame). is_used f.slot (slots_of modules) ≡ true) frames
+
+-- What holds of every setting: the areas stand on the memory; the plan that is kept while module code runs finds all
+-- that it asks for; no entry of a module is under way while none is kept; and each frame is of an instance that is
+-- there.
+pub record IsSetting (s : Setting) : Type 0 where
+  pub estate : IsEstate s.world.estate
+  pub modules : MayGoOn s.world s.plan
+  pub idle : s.plan ≡ None → entries s.frames ≡ 0
+  pub held : AreHeld s.world.modules s.frames
+
+-- No call on modules is under way, and no entry of a module, and a frame more can be opened.
+pub record IsFree (s : Setting) : Type 0 where
+  pub none : s.plan ≡ None
+  pub room : length s.frames < 32
+  pub idle : entries s.frames ≡ 0
+  pub held : AreHeld s.world.modules s.frames
+  pub world : IsWorld s.world []
+
+-- A call on modules may begin: its plan is ready, and no SWI is under way of an instance that it names.
+pub record CanBegin (s : Setting) (p : Plan) : Type 0 where
+  pub going : IsUnderWay s.world p
+  pub rests : p.runs ≡ false
+  pub free : IsFree s
+  pub spared : has_swi_of (slots_of_plan p) s.frames ≡ false
+
+-- No SWI is under way of an instance of the module that one of a title, or one with a header, takes the place of.
+abbrev pub SparesTitled : Setting → List ℕ → Type 0
+SparesTitled s title = has_swi_of (slots_of (titled title s.world.modules)) s.frames ≡ false
+
+abbrev pub SparesTitle : Setting → Result Header HeaderFault → Type 0
+SparesTitle s h = IfOk h (λ header. SparesTitled s header.title.items)

@@ -1,0 +1,35 @@
+-- What a call on modules finds as it begins (this project's own).
+use Rattle.std.specs.Prelude.{ℕ, Option, Result, List}
+use Rattle.profile.specs.declared.error.ErrorNumber.{ErrorNumber}
+use Rattle.address_map.specs.declared.map.AddressMap.{AddressMap}
+use Rattle.arm_step.specs.State.{State}
+use Rattle.instances_ground.specs.World.{World, world_of}
+use Rattle.instances_ground.specs.dynamic_areas.specs.Areas.{Land}
+use Rattle.instances_plans.specs.Plans.{Plan}
+use Rattle.instances_table.specs.Modules.{Module}
+use Rattle.swi_dispatch_answers.specs.Strings.{string_in}
+use Rattle.swi_dispatch_frames.specs.declared.frame.Frame.{Frame}
+
+-- The core, the modules and what they stand on, the frames of module code that is under way, and what is left to do of
+-- a call on modules whose code is under way.
+pub record Setting : Type 0 where
+  pub cpu : State
+  pub world : World
+  pub frames : List Frame
+  pub plan : Option Plan
+
+-- the string that a register points to
+unfoldable pub string_asked : Setting → ℕ → Result (List ℕ) ErrorNumber
+string_asked s number = string_in s.world.estate.store.bytes s.cpu number
+
+-- the parts of a real machine that are read then, and the setting that they stand for
+pub record PlanParts : Type 0 where
+  pub cpu : State
+  pub map : AddressMap
+  pub land : Land
+  pub modules : List Module
+  pub frames : List Frame
+  pub plan : Option Plan
+
+abbrev pub setting_in : PlanParts → Setting
+setting_in p = record { cpu = p.cpu; world = world_of p.map p.land p.modules; frames = p.frames; plan = p.plan }

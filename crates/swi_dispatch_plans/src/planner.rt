@@ -1,0 +1,106 @@
+//! What the plans of calls on modules are made from.
+#![tactic(auto, unfolding(os_heap::specs::Store::store_of, crate::specs::Setting::string_asked))]
+
+ghost use Rattle.std.specs.Prelude.{◌≡◌, ◌≤◌};
+ghost use Rattle.swi_dispatch_answers.specs.Strings.{bytes_read};
+ghost use Rattle.swi_dispatch_plans.specs.Beginning.{IsSetting};
+ghost use Rattle.swi_dispatch_plans.specs.Setting.{setting_in, string_asked};
+
+use address_map::AddressMap;
+use arm_step::Cpu;
+use arrayvec::ArrayVec;
+use instances_ground::dynamic_areas::Areas;
+use instances_plans::Plan;
+use profile::ErrorNumber;
+use std::marker::Model;
+use swi_dispatch_answers::MAX_TEXT;
+use swi_dispatch_answers::strings::string_in;
+use swi_dispatch_frames::Frames;
+use swi_dispatch_modules::instances::Instances;
+
+/// The parts of a machine that a call on modules reads as it begins: the core, the memory, the areas and the modules on
+/// it, the frames of module code that is under way, and what is left to do of a call whose code is under way.
+#[derive(Drop)]
+pub struct Planner<'a> {
+    pub(crate) cpu: &'a Cpu,
+    pub(crate) memory: &'a AddressMap,
+    pub(crate) areas: &'a Areas,
+    pub(crate) instances: &'a Instances,
+    pub(crate) frames: &'a Frames,
+    pub(crate) plan: &'a Option<Plan>,
+}
+
+impl<'a> Model for Planner<'a> {
+    ghost use Rattle.swi_dispatch_plans.specs.Beginning.{IsSetting};
+    ghost use Rattle.swi_dispatch_plans.specs.Setting.{PlanParts, setting_in};
+
+    ghost Value = { PlanParts };
+
+    ghost view = { λ p. record {
+      cpu = p.cpu.now;
+      map = p.memory.now;
+      land = p.areas.now;
+      modules = p.instances.now;
+      frames = p.frames.now;
+      plan = p.plan.now;
+    } };
+
+    ghost invariant = { λ p. IsSetting (setting_in (record {
+      cpu = p.cpu.now;
+      map = p.memory.now;
+      land = p.areas.now;
+      modules = p.instances.now;
+      frames = p.frames.now;
+      plan = p.plan.now;
+    })) };
+}
+
+impl<'a> Planner<'a> {
+    /// One over these parts.
+    pub fn new(
+        cpu: &'a Cpu,
+        memory: &'a AddressMap,
+        areas: &'a Areas,
+        instances: &'a Instances,
+        frames: &'a Frames,
+        plan: &'a Option<Plan>,
+    ) -> Planner<'a>
+        requires { IsSetting (setting_in (record {
+          cpu = cpu.now;
+          map = memory.now;
+          land = areas.now;
+          modules = instances.now;
+          frames = frames.now;
+          plan = plan.now;
+        })) }
+        ensures { result ≡ record {
+          cpu = cpu.now;
+          map = memory.now;
+          land = areas.now;
+          modules = instances.now;
+          frames = frames.now;
+          plan = plan.now;
+        } }
+    {
+        Planner {
+            cpu,
+            memory,
+            areas,
+            instances,
+            frames,
+            plan,
+        }
+    }
+
+    /// The string that a register points to, whole.
+    ///
+    /// # Errors
+    ///
+    /// `BadString` where one of its bytes or its end is not mapped, or it is longer than 255 bytes.
+    pub fn string(&self, number: u32) -> Result<ArrayVec<u8, MAX_TEXT>, ErrorNumber>
+        requires { number ≤ 14 }
+        ensures { bytes_read result ≡ string_asked (setting_in self.now) number }
+    {
+        string_in(self.cpu, self.memory, number)
+    }
+}
