@@ -265,7 +265,8 @@ impl AddressMap {
     #[inline(always)]
     fn writable(&self, addr: u32) -> Result<usize, Fault>
         ensures { let refused = store_fault (is_owned self.now) (bytes_of self.now) addr in
-            MatchResult result (λ k. (refused ≡ None) × (place self.now addr ≡ Some k)) (λ fault. refused ≡ Some fault) }
+            MatchResult result (λ k. (refused ≡ None) × (place self.now addr ≡ Some k))
+            (λ fault. refused ≡ Some fault) }
     {
         let place = self.readable(addr)?;
         if !self.class_at(place).is_plain() {

@@ -95,7 +95,8 @@ impl AddressMap {
         requires mapped { AreMapped (is_mapped self.old) base (4096 * count) }
         requires unrecorded { meets_record (regions self.old) base (4096 * count) ≡ false }
         requires unanchored { HasNoAnchor (class_of self.old) base (4096 * count) }
-        ensures mapping { (a : ℕ) → is_mapped self.new a ≡ (is_mapped self.old a && not (in_range base (4096 * count) a)) }
+        ensures mapping { (a : ℕ)
+            → is_mapped self.new a ≡ (is_mapped self.old a && not (in_range base (4096 * count) a)) }
         ensures stays { StaysInPlace self.old self.new }
         ensures bytes { (a : ℕ) → byte_at self.new a ≡ with_zeros_at (byte_at self.old) base (4096 * count) a }
         ensures pages { free_pages self.new ≡ free_pages self.old + count }

@@ -36,7 +36,8 @@ impl AddressMap {
         requires region { IsRegion (record { kind = kind; at = at; len = len }) }
         requires room { is_word_kind kind ≡ false → length (regions self.old) < 133 }
         requires mapped { is_word_kind kind ≡ true → is_mapped self.old at ≡ true }
-        ensures regions { regions self.new ≡ with_region (regions self.old) (record { kind = kind; at = at; len = len }) }
+        ensures regions { regions self.new
+            ≡ with_region (regions self.old) (record { kind = kind; at = at; len = len }) }
         ensures mapping { mapping self.new ≡ mapping self.old }
         ensures bytes { byte_at self.new ≡ byte_at self.old }
         ensures marks { (a : ℕ) → class_of self.new a ≡ with_mark kind at (class_of self.old) a }
@@ -119,8 +120,12 @@ impl AddressMap {
 
     /// Which of the records is the first of that kind that starts at `at`.
     fn record_index(&self, kind: Kind, at: u32) -> Option<usize>
-        ensures found { MatchOption result (without_region (regions self.now) kind at ≡ regions self.now) (λ i. (i < length (regions self.now)) × (without_region (regions self.now) kind at ≡ remove (regions self.now) i)) }
-        ensures len { MatchOption result ((len : ℕ) → with_len (regions self.now) kind at len ≡ regions self.now) (λ i. (len : ℕ) → with_len (regions self.now) kind at len ≡ slice_set (regions self.now) i (record { kind = kind; at = at; len = len })) }
+        ensures found { MatchOption result (without_region (regions self.now) kind at ≡ regions self.now)
+            (λ i. (i < length (regions self.now))
+            × (without_region (regions self.now) kind at ≡ remove (regions self.now) i)) }
+        ensures len { MatchOption result ((len : ℕ) → with_len (regions self.now) kind at len ≡ regions self.now)
+            (λ i. (len : ℕ) → with_len (regions self.now) kind at len
+            ≡ slice_set (regions self.now) i (record { kind = kind; at = at; len = len })) }
     {
         let regions = self.regions();
         for (index, region) in regions.iter().enumerate() {

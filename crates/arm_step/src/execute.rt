@@ -28,7 +28,8 @@ use profile::word::is_bit_set;
 #[tactic(auto, unfolding(crate::specs::Step::stepped))]
 #[inline(always)]
 pub fn step(cpu: &mut Cpu, memory: &mut AddressMap) -> Turn
-    ensures turn { Turns (cpu.old, bytes_of memory.old) (stepped (is_owned memory.old) cpu.old (bytes_of memory.old)) result (cpu.new, bytes_of memory.new) }
+    ensures turn { Turns (cpu.old, bytes_of memory.old)
+        (stepped (is_owned memory.old) cpu.old (bytes_of memory.old)) result (cpu.new, bytes_of memory.new) }
     ensures layout { layout memory.new ≡ layout memory.old }
     ensures marks { class_of memory.new ≡ class_of memory.old }
     ensures unchanged { result ≢ Turn.Done → (cpu.new ≡ cpu.old) × (bytes_of memory.new ≡ bytes_of memory.old) }
@@ -67,7 +68,8 @@ impl Cpu {
     #[tactic(auto, unfolding(crate::specs::Step::acted, arm_decode::specs::Decoded::decoded))]
     #[inline(always)]
     fn execute_always(&mut self, memory: &mut AddressMap, word: u32) -> Result<(), Turn>
-        ensures state { let acted = acted_if_decoded (is_owned memory.old) self.old (bytes_of memory.old) (decoded word) in
+        ensures state { let acted = acted_if_decoded (is_owned memory.old) self.old (bytes_of memory.old)
+            (decoded word) in
             Leaves (self.old, bytes_of memory.old) acted result (self.new, bytes_of memory.new) }
         ensures layout { layout memory.new ≡ layout memory.old }
         ensures marks { class_of memory.new ≡ class_of memory.old }

@@ -52,7 +52,8 @@ pub(crate) fn lend_words(memory: &AddressMap, first: u32, count: u32) -> Result<
     requires page { are_in_page first count ≡ true }
     requires few { count ≤ 16 }
     ensures { let loaded = words_loaded (bytes_of memory.now) first count in
-        MatchResult result (λ bytes. (loaded ≡ Ok (words_in bytes.now 0 count)) × (length bytes.now ≡ 4 * count)) (λ fault. loaded ≡ Err fault) }
+        MatchResult result (λ bytes. (loaded ≡ Ok (words_in bytes.now 0 count)) × (length bytes.now ≡ 4 * count))
+        (λ fault. loaded ≡ Err fault) }
 {
     match memory.lend(first, 4 * count) {
         Some(bytes) => Ok(bytes),
@@ -73,7 +74,8 @@ pub(crate) fn free_place(memory: &AddressMap, first: u32, count: u32) -> Result<
     requires few { count ≤ 16 }
     requires page { are_in_page first count ≡ true }
     ensures { let fault_of = words_store_fault (is_owned memory.now) (bytes_of memory.now) first count in
-        MatchResult result (λ at. (fault_of ≡ None) × (place memory.now first ≡ Some at)) (λ fault. fault_of ≡ Some fault) }
+        MatchResult result (λ at. (fault_of ≡ None) × (place memory.now first ≡ Some at))
+        (λ fault. fault_of ≡ Some fault) }
 {
     match memory.translate(first) {
         None => Err(missing(first)),

@@ -20,7 +20,9 @@ pub fn show_code<W: Sink>(
     count: u32,
     sink: &mut W,
 ) -> Result<(), WriteFault>
-    ensures text { OnOk result (Appends (W.contents sink.old) (W.contents sink.new) (code_text (state_of machine.now).store.bytes address count)) }
+    ensures text { OnOk result
+        (Appends (W.contents sink.old) (W.contents sink.new)
+        (code_text (state_of machine.now).store.bytes address count)) }
     ensures flag { OnErr result (W.has_failed sink.new ≡ true) }
     ensures same_flag { OnOk result (W.has_failed sink.new ≡ W.has_failed sink.old) }
 {
@@ -33,7 +35,8 @@ fn show_words<W: Sink>(
     count: u32,
     sink: &mut W,
 ) -> Result<(), WriteFault>
-    ensures text { OnOk result (Appends (W.contents sink.old) (W.contents sink.new) (code_text (bytes_of memory.now) address count)) }
+    ensures text { OnOk result
+        (Appends (W.contents sink.old) (W.contents sink.new) (code_text (bytes_of memory.now) address count)) }
     ensures flag { OnErr result (W.has_failed sink.new ≡ true) }
     ensures same_flag { OnOk result (W.has_failed sink.new ≡ W.has_failed sink.old) }
 {
@@ -46,7 +49,8 @@ fn show_words<W: Sink>(
 }
 
 fn show_line<W: Sink>(memory: &AddressMap, address: u32, sink: &mut W) -> Result<(), WriteFault>
-    ensures text { OnOk result (Appends (W.contents sink.old) (W.contents sink.new) (code_line (bytes_of memory.now) address)) }
+    ensures text { OnOk result
+        (Appends (W.contents sink.old) (W.contents sink.new) (code_line (bytes_of memory.now) address)) }
     ensures flag { OnErr result (W.has_failed sink.new ≡ true) }
     ensures same_flag { OnOk result (W.has_failed sink.new ≡ W.has_failed sink.old) }
 {

@@ -42,7 +42,8 @@ pub(crate) fn extend_block(
     size: u32,
 ) -> Result<bool, ErrorNumber>
     requires { IsStoreAt map.old extent.old }
-    ensures state { Gives (held_in map.old extent.old) (extended (held_in map.old extent.old) anchor size) result (held_in map.new extent.new) }
+    ensures state { Gives (held_in map.old extent.old) (extended (held_in map.old extent.old) anchor size) result
+        (held_in map.new extent.new) }
     ensures keeps { Keeps map.old extent.old map.new extent.new }
 {
     let Some(header) = find_header(map, extent, anchor) else {
@@ -70,7 +71,8 @@ pub(crate) fn mid_extend_block(
     by: u32,
 ) -> Result<bool, ErrorNumber>
     requires { IsStoreAt map.old extent.old }
-    ensures state { Gives (held_in map.old extent.old) (mid_extended (held_in map.old extent.old) anchor at by) result (held_in map.new extent.new) }
+    ensures state { Gives (held_in map.old extent.old) (mid_extended (held_in map.old extent.old) anchor at by) result
+        (held_in map.new extent.new) }
     ensures keeps { Keeps map.old extent.old map.new extent.new }
 {
     let cut = cut_of(by);
@@ -120,7 +122,8 @@ pub(crate) fn release_block(
     anchor: u32,
 ) -> Result<(), ErrorNumber>
     requires { IsStoreAt map.old extent.old }
-    ensures state { Gives (held_in map.old extent.old) (released (held_in map.old extent.old) anchor) result (held_in map.new extent.new) }
+    ensures state { Gives (held_in map.old extent.old) (released (held_in map.old extent.old) anchor) result
+        (held_in map.new extent.new) }
     ensures keeps { Keeps map.old extent.old map.new extent.new }
 {
     let Some(header) = find_header(map, extent, anchor) else {
@@ -187,7 +190,8 @@ pub(crate) fn alloc_block(
     requires store { IsStoreAt map.old extent.old }
     requires sound { IsSound (store_of map.old) }
     requires classes { AreClasses map.old }
-    ensures state { Gives (held_in map.old extent.old) (allocated (store_of map.old) (held_in map.old extent.old) anchor size) result (held_in map.new extent.new) }
+    ensures state { Gives (held_in map.old extent.old)
+        (allocated (store_of map.old) (held_in map.old extent.old) anchor size) result (held_in map.new extent.new) }
     ensures keeps { Keeps map.old extent.old map.new extent.new }
 {
     if !may_hold(map, extent, anchor) {
@@ -203,7 +207,8 @@ pub(crate) fn alloc_block(
 fn may_hold(map: &AddressMap, extent: &Extent, anchor: u32) -> bool
     requires range { extent.now.start ≤ extent.now.end }
     requires sound { IsSound (store_of map.now) }
-    ensures { result ≡ (is_anchor_place (store_of map.now) anchor && not (is_in_store (store_in map.now extent.now) anchor)) }
+    ensures { result ≡ (is_anchor_place (store_of map.now) anchor
+        && not (is_in_store (store_in map.now extent.now) anchor)) }
 {
     if anchor % 4 != 0 {
         return false;
@@ -254,7 +259,8 @@ fn append_block(map: &mut AddressMap, extent: &mut Extent, anchor: u32, size: u3
     requires place { IsAnchorWord (is_mapped map.old) extent.old.start extent.old.end anchor }
     requires free { has_anchor (blocks_of map.old extent.old) anchor ≡ false }
     requires head { is_heap_class (class_of map.old anchor) ≡ false }
-    ensures { Fits map.old extent.old (blocks_of map.old extent.old ++ new_block anchor size ∷ []) result map.new extent.new }
+    ensures { Fits map.old extent.old
+        (blocks_of map.old extent.old ++ new_block anchor size ∷ []) result map.new extent.new }
 {
     let used = u64::from(extent.used) + taken(u64::from(size));
     if u64::from(extent.start) + used > u64::from(extent.end) {

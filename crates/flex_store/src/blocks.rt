@@ -32,7 +32,8 @@ impl<'a> Model for FlexBlocks<'a> {
 
     ghost view = { λ b. listed b.header (blocks_in (byte_at b.map.now) b.header b.end) };
 
-    ghost invariant = { λ b. IsText (bytes_of b.map.now) b.header b.end (blocks_in (byte_at b.map.now) b.header b.end) };
+    ghost invariant = { λ b. IsText (bytes_of b.map.now) b.header b.end
+        (blocks_in (byte_at b.map.now) b.header b.end) };
 }
 
 impl<'a> Iterator for FlexBlocks<'a> {

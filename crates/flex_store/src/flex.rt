@@ -150,7 +150,8 @@ impl Flex {
         requires flex { IsFlex map.old self.old }
         requires sound { IsSound (store_of map.old) }
         requires classes { AreClasses map.old }
-        ensures state { Gives (state_of map.old self.old) (released (state_of map.old self.old) anchor) result (state_of map.new self.new) }
+        ensures state { Gives (state_of map.old self.old) (released (state_of map.old self.old) anchor) result
+            (state_of map.new self.new) }
         ensures flex { IsFlex map.new self.new }
         ensures layout { layout map.new ≡ layout map.old }
         ensures anchors { (a : ℕ) → (store_of map.new).anchor a ≡ true
@@ -185,7 +186,8 @@ impl Flex {
         requires flex { IsFlex map.old self.old }
         requires sound { IsSound (store_of map.old) }
         requires classes { AreClasses map.old }
-        ensures state { Gives (state_of map.old self.old) (extended (state_of map.old self.old) anchor size) result (state_of map.new self.new) }
+        ensures state { Gives (state_of map.old self.old) (extended (state_of map.old self.old) anchor size) result
+            (state_of map.new self.new) }
         ensures flex { IsFlex map.new self.new }
         ensures layout { layout map.new ≡ layout map.old }
         ensures anchors { (a : ℕ) → (store_of map.new).anchor a ≡ true
@@ -222,7 +224,8 @@ impl Flex {
         requires flex { IsFlex map.old self.old }
         requires sound { IsSound (store_of map.old) }
         requires classes { AreClasses map.old }
-        ensures state { Gives (state_of map.old self.old) (mid_extended (state_of map.old self.old) anchor at by) result (state_of map.new self.new) }
+        ensures state { Gives (state_of map.old self.old)
+            (mid_extended (state_of map.old self.old) anchor at by) result (state_of map.new self.new) }
         ensures flex { IsFlex map.new self.new }
         ensures layout { layout map.new ≡ layout map.old }
         ensures anchors { (a : ℕ) → (store_of map.new).anchor a ≡ true

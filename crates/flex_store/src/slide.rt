@@ -14,7 +14,8 @@ use address_map::AddressMap;
 fn respace(map: &mut AddressMap, contents: u32, size: u32, splice: &Splice, end: u32)
     requires splice { IsSplice splice.now size }
     requires room { HasRoom (is_mapped map.old) contents size (size_after splice.now size) }
-    requires rest { IsRest (is_mapped map.old) (contents + whole_words size) (contents + whole_words (size_after splice.now size)) end }
+    requires rest { IsRest (is_mapped map.old) (contents + whole_words size)
+        (contents + whole_words (size_after splice.now size)) end }
     ensures bytes { (a : ℕ) → byte_at map.new a ≡ with_bytes_at (byte_at map.old) contents
         (filled (spliced (bytes_between (byte_at map.old) contents size) splice.now.at splice.now.cut splice.now.more)
         ++ bytes_between (byte_at map.old) (contents + whole_words size) (end - (contents + whole_words size))) a }
@@ -38,9 +39,11 @@ pub(crate) fn replace(map: &mut AddressMap, header: u32, splice: &Splice, end: u
     requires text { IsText (bytes_of map.old) header end (first_at map.old header ∷ behind map.old header end) }
     requires splice { IsSplice splice.now (first_at map.old header).size }
     requires room { MayLie map.old header (holding (first_at map.old header)
-        (spliced (contents (first_at map.old header)) splice.now.at splice.now.cut splice.now.more) ∷ behind map.old header end) }
+        (spliced (contents (first_at map.old header)) splice.now.at splice.now.cut splice.now.more)
+        ∷ behind map.old header end) }
     ensures { Relaid map.old map.new header (first_at map.old header ∷ behind map.old header end)
-        (holding (first_at map.old header) (spliced (contents (first_at map.old header)) splice.now.at splice.now.cut splice.now.more)
+        (holding (first_at map.old header)
+        (spliced (contents (first_at map.old header)) splice.now.at splice.now.cut splice.now.more)
         ∷ behind map.old header end) }
 {
     let size = word(map, header + SIZE);
@@ -56,7 +59,8 @@ pub(crate) fn replace(map: &mut AddressMap, header: u32, splice: &Splice, end: u
 /// Takes the block whose header is at `header` out of the text. Those behind it, up to `end`, slide, and their anchors follow.
 pub(crate) fn remove(map: &mut AddressMap, header: u32, end: u32)
     requires { IsText (bytes_of map.old) header end (first_at map.old header ∷ behind map.old header end) }
-    ensures { Relaid map.old map.new header (first_at map.old header ∷ behind map.old header end) (behind map.old header end) }
+    ensures { Relaid map.old map.new header (first_at map.old header ∷ behind map.old header end)
+        (behind map.old header end) }
 {
     let size = word(map, header + SIZE);
     let next = header + taken(u64::from(size)) as u32;

@@ -30,7 +30,8 @@ pub(crate) fn splice_bytes(map: &mut AddressMap, contents: u32, size: u32, splic
     requires splice { IsSplice splice.now size }
     requires room { HasRoom (is_mapped map.old) contents size (size_after splice.now size) }
     ensures bytes { (a : ℕ) → byte_at map.new a ≡ with_bytes_at (byte_at map.old) contents
-        (filled (spliced (bytes_between (byte_at map.old) contents size) splice.now.at splice.now.cut splice.now.more)) a }
+        (filled (spliced (bytes_between (byte_at map.old) contents size)
+        splice.now.at splice.now.cut splice.now.more)) a }
     ensures layout { layout map.new ≡ layout map.old }
     ensures marks { class_of map.new ≡ class_of map.old }
 {

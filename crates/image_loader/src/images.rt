@@ -78,7 +78,8 @@ impl Images {
     ///
     /// Refused as [`ImageError`] says, in the order of its list; nothing is changed then.
     pub fn add(&mut self, alloc: Global, name: &[u8], bytes: &[u8]) -> Result<(), ImageError>
-        ensures refused { MatchOption (refusal_for self.old name.now (length bytes.now)) (IsOkUnless result ImageError.Memory) (λ e. result ≡ Err e) }
+        ensures refused { MatchOption (refusal_for self.old name.now (length bytes.now))
+            (IsOkUnless result ImageError.Memory) (λ e. result ≡ Err e) }
         ensures ok { OnOk result (self.new ≡ with_entry self.old name.now bytes.now) }
         ensures err { OnErr result (self.new ≡ self.old) }
     {

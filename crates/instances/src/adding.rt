@@ -44,7 +44,9 @@ impl Instances {
         requires sound { IsWorld (world_of map.old areas.old self.now) [] }
         requires classes { AreClasses map.old }
         requires text { length text.now ≤ 255 }
-        ensures world { Gives (world_of map.old areas.old self.now) (loading (world_of map.old areas.old self.now) image.now text.now) result (world_of map.new areas.new self.now) }
+        ensures world { Gives (world_of map.old areas.old self.now)
+            (loading (world_of map.old areas.old self.now) image.now text.now) result
+            (world_of map.new areas.new self.now) }
         ensures sound { IfOk result (λ plan. IsWorld (world_of map.new areas.new self.now) (pending_of plan)) }
         ensures classes { AreClasses map.new }
         ensures flex { KeepsFlex (store_of map.old) (store_of map.new) }

@@ -94,7 +94,8 @@ impl Instances {
         requires first { first_of plan.now.actions ≡ Some action }
         requires going { IsUnderWay (world_of map.old areas.now self.old) plan.now }
         requires classes { AreClasses map.old }
-        ensures world { world_of map.new areas.now self.new ≡ acted world_slid plan.now.given (world_of map.old areas.now self.old) action }
+        ensures world { world_of map.new areas.now self.new
+            ≡ acted world_slid plan.now.given (world_of map.old areas.now self.old) action }
         ensures sound { IsWorld (world_of map.new areas.now self.new) (pending_of (finished plan.now action)) }
         ensures classes { AreClasses map.new }
         ensures flex { KeepsFlex (store_of map.old) (store_of map.new) }

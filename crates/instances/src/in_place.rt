@@ -39,7 +39,8 @@ impl Instances {
     ) -> Result<Plan, ErrorNumber>
         requires sound { IsWorld (world_of map.old areas.now self.now) [] }
         requires classes { AreClasses map.old }
-        ensures world { Gives (world_of map.old areas.now self.now) (inserting (world_of map.old areas.now self.now) at len) result (world_of map.new areas.now self.now) }
+        ensures world { Gives (world_of map.old areas.now self.now)
+            (inserting (world_of map.old areas.now self.now) at len) result (world_of map.new areas.now self.now) }
         ensures sound { IfOk result (λ plan. IsWorld (world_of map.new areas.now self.now) (pending_of plan)) }
         ensures classes { AreClasses map.new }
         ensures flex { KeepsFlex (store_of map.old) (store_of map.new) }

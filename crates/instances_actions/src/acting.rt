@@ -25,10 +25,13 @@ pub fn act(map: &mut AddressMap, table: &mut InstanceTable, given: &Given, actio
     requires can { CanAct given.now table.old action }
     requires system { HasSystemPages map.old }
     requires classes { AreClasses map.old }
-    ensures world { (slide : ℕ → World → World) (l : Land) → world_of map.new l table.new ≡ acted slide given.now (world_of map.old l table.old) action }
-    ensures sound { (l : Land) (pending : List Image) → settles action ≡ false → IsWorld (world_of map.old l table.old) pending
+    ensures world { (slide : ℕ → World → World) (l : Land)
+        → world_of map.new l table.new ≡ acted slide given.now (world_of map.old l table.old) action }
+    ensures sound { (l : Land) (pending : List Image) → settles action ≡ false
+        → IsWorld (world_of map.old l table.old) pending
         → IsWorld (world_of map.new l table.new) pending }
-    ensures settled { (l : Land) → settles action ≡ true → IsWorld (world_of map.old l table.old) (image_given given.now ∷ [])
+    ensures settled { (l : Land) → settles action ≡ true
+        → IsWorld (world_of map.old l table.old) (image_given given.now ∷ [])
         → IsWorld (world_of map.new l table.new) [] }
     ensures pages { HasSystemPages map.new }
     ensures classes { AreClasses map.new }

@@ -63,7 +63,8 @@ pub fn give_up(map: &mut AddressMap, given: &Given)
     requires system { HasSystemPages map.old }
     requires classes { AreClasses map.old }
     ensures estate { (l : Land) → estate_of map.new l ≡ image_gone (estate_of map.old l) (image_given given.now) }
-    ensures sound { (l : Land) (modules : List Module) → IsWorld (world_of map.old l modules) (image_given given.now ∷ [])
+    ensures sound { (l : Land) (modules : List Module)
+        → IsWorld (world_of map.old l modules) (image_given given.now ∷ [])
         → IsWorld (world_of map.new l modules) [] }
     ensures pages { HasSystemPages map.new }
     ensures classes { AreClasses map.new }

@@ -48,7 +48,8 @@ pub fn free_private(map: &mut AddressMap, slot: u32)
     requires system { HasSystemPages map.old }
     requires classes { AreClasses map.old }
     ensures estate { (l : Land) → estate_of map.new l ≡ private_freed (estate_of map.old l) slot }
-    ensures sound { (l : Land) (modules : List Module) (pending : List Image) → IsWorld (world_of map.old l modules) pending
+    ensures sound { (l : Land) (modules : List Module) (pending : List Image)
+        → IsWorld (world_of map.old l modules) pending
         → IsWorld (world_of map.new l modules) pending }
     ensures pages { HasSystemPages map.new }
     ensures classes { AreClasses map.new }

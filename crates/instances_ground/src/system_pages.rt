@@ -32,7 +32,8 @@ pub fn put_private(map: &mut AddressMap, slot: u32, value: u32)
     requires below { slot < 64 }
     requires system { HasSystemPages map.old }
     ensures estate { (l : Land) → estate_of map.new l ≡ with_private (estate_of map.old l) slot value }
-    ensures sound { (l : Land) (modules : List Module) (pending : List Image) → IsWorld (world_of map.old l modules) pending
+    ensures sound { (l : Land) (modules : List Module) (pending : List Image)
+        → IsWorld (world_of map.old l modules) pending
         → IsWorld (world_of map.new l modules) pending }
     ensures pages { HasSystemPages map.new }
     ensures classes { AreClasses map.old → AreClasses map.new }
@@ -48,7 +49,8 @@ pub fn put_text(map: &mut AddressMap, text: &[u8])
     requires system { HasSystemPages map.old }
     ensures estate { (l : Land) → estate_of map.new l ≡ with_text (estate_of map.old l) text.now }
     ensures areas { (l : Land) → IsEstate (estate_of map.old l) → IsEstate (estate_of map.new l) }
-    ensures sound { (l : Land) (modules : List Module) (pending : List Image) → IsWorld (world_of map.old l modules) pending
+    ensures sound { (l : Land) (modules : List Module) (pending : List Image)
+        → IsWorld (world_of map.old l modules) pending
         → IsWorld (world_of map.new l modules) pending }
     ensures pages { HasSystemPages map.new }
     ensures classes { AreClasses map.old → AreClasses map.new }

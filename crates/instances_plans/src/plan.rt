@@ -31,7 +31,13 @@ impl Model for Plan {
 
     ghost Value = { Plan };
 
-    ghost view = { λ p. record { given = p.given; actions = p.actions.items; instead = p.instead.items; runs = p.runs; first = p.first } };
+    ghost view = { λ p. record {
+      given = p.given;
+      actions = p.actions.items;
+      instead = p.instead.items;
+      runs = p.runs;
+      first = p.first;
+    } };
 
     ghost invariant = { λ p. length p.actions.items + length p.instead.items ≤ 132 };
 }

@@ -42,7 +42,8 @@ pub(crate) fn move_words(map: &mut AddressMap, slots: &[u32], moves: &[Move])
     requires below { EachIndex slots.now (λ k. slice_index slots.now k < 64) }
     requires system { HasSystemPages map.old }
     ensures estate { (l : Land) → estate_of map.new l ≡ words_moved moves.now slots.now (estate_of map.old l) }
-    ensures sound { (l : Land) (modules : List Module) (pending : List Image) → IsWorld (world_of map.old l modules) pending
+    ensures sound { (l : Land) (modules : List Module) (pending : List Image)
+        → IsWorld (world_of map.old l modules) pending
         → IsWorld (world_of map.new l modules) pending }
     ensures classes { AreClasses map.old → AreClasses map.new }
     ensures flex { KeepsFlex (store_of map.old) (store_of map.new) }

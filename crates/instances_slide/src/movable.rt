@@ -25,7 +25,9 @@ pub(crate) fn movable_blocks(
     requires sound { IsSound (store_of map.now) }
     requires modules { length table.now ≤ 64 }
     requires few { length words.now ≤ 64 }
-    ensures { result.items ≡ movable_in (store_of map.now) table.now words.now return_address (find_heap 0x01800000 (store_of map.now).heaps) }
+    ensures { result.items
+        ≡ movable_in (store_of map.now) table.now words.now return_address
+        (find_heap 0x01800000 (store_of map.now).heaps) }
 {
     match Heaps::new().blocks(map, RMA_START) {
         Some(blocks) => choose(map, table, words, return_address, blocks),
@@ -42,8 +44,10 @@ fn choose(
     blocks: Blocks,
 ) -> Movable
     requires below { 0x01800010 + size_of blocks ≤ 2 ^ 26 }
-    requires few { length (blocks_that (can_move (anchor_of map.now) table.now words.now return_address) 0x01800010 blocks) ≤ 128 }
-    ensures { result.items ≡ blocks_that (can_move (anchor_of map.now) table.now words.now return_address) 0x01800010 blocks.entry }
+    requires few { length
+        (blocks_that (can_move (anchor_of map.now) table.now words.now return_address) 0x01800010 blocks) ≤ 128 }
+    ensures { result.items
+        ≡ blocks_that (can_move (anchor_of map.now) table.now words.now return_address) 0x01800010 blocks.entry }
 {
     let mut movable = Movable::new();
     let mut at = RMA_START + HEAP_DESCRIPTOR;

@@ -21,7 +21,8 @@ use instances_table::InstanceTable;
 pub fn slide(map: &mut AddressMap, areas: &Areas, table: &mut InstanceTable, return_address: u32)
     requires sound { IsWorld (world_of map.old areas.now table.old) [] }
     requires classes { AreClasses map.old }
-    ensures world { world_of map.new areas.now table.new ≡ world_slid return_address (world_of map.old areas.now table.old) }
+    ensures world { world_of map.new areas.now table.new
+        ≡ world_slid return_address (world_of map.old areas.now table.old) }
     ensures sound { IsWorld (world_of map.new areas.now table.new) [] }
     ensures classes { AreClasses map.new }
     ensures flex { KeepsFlex (store_of map.old) (store_of map.new) }

@@ -28,7 +28,8 @@ pub(crate) fn set_preferred(
     slot: u32,
 )
     ensures { (names : Names)
-        → modules_of names modules.new.items ≡ changed_at number (with_preferred slot) (modules_of names modules.old.items) }
+        → modules_of names modules.new.items
+        ≡ changed_at number (with_preferred slot) (modules_of names modules.old.items) }
 {
     if number < modules.len() {
         modules[number].preferred = slot;
@@ -38,7 +39,8 @@ pub(crate) fn set_preferred(
 /// Gives the image of the module of a number another address, if there is one.
 pub(crate) fn set_image(modules: &mut ArrayVec<Loaded, MOST_INSTANCES>, number: usize, at: u32)
     ensures { (names : Names)
-        → modules_of names modules.new.items ≡ changed_at number (with_image_at at) (modules_of names modules.old.items) }
+        → modules_of names modules.new.items
+        ≡ changed_at number (with_image_at at) (modules_of names modules.old.items) }
 {
     if number < modules.len() {
         modules[number].image.at = at;

@@ -187,7 +187,8 @@ fn copy_of(slots: &ArrayVec<u32, MOST_INSTANCES>) -> ArrayVec<u32, MOST_INSTANCE
 /// Whether an instance of a module of another title has a slot.
 pub(crate) fn is_held_beside(modules: &[Loaded], title: &[u8], slot: u32) -> bool
     ensures { result
-        ≡ list_any (λ l. not (str_eq_ignore_ascii_case l.header.title.items title.now) && list_any (λ s. s == slot) l.slots.items) modules.now }
+        ≡ list_any (λ l. not (str_eq_ignore_ascii_case l.header.title.items title.now)
+        && list_any (λ s. s == slot) l.slots.items) modules.now }
 {
     modules
         .iter()

@@ -140,7 +140,8 @@ impl InstanceTable {
         title: &[u8],
         name: Option<&[u8]>,
     ) -> Result<Place, ErrorNumber>
-        ensures { result ≡ place_meant (record { title = title.now; name = option_map (λ n. n.now) name.entry }) self.now }
+        ensures { result ≡ place_meant
+            (record { title = title.now; name = option_map (λ n. n.now) name.entry }) self.now }
     {
         let number = self
             .number_of_title(title)

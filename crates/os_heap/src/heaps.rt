@@ -18,7 +18,8 @@ impl Heaps {
 /// The recorded range of the heap that starts at an address.
 #[tactic(auto, unfolding(crate::specs::Store::store_of))]
 pub(crate) fn find(map: &AddressMap, heap: u32) -> Option<Region>
-    ensures { MatchOption result (find_heap heap (store_of map.now).heaps ≡ None) (λ region. (region.at ≡ heap) × (find_heap heap (store_of map.now).heaps ≡ Some (heap_in (bytes_of map.now) region))) }
+    ensures { MatchOption result (find_heap heap (store_of map.now).heaps ≡ None) (λ region.
+        (region.at ≡ heap) × (find_heap heap (store_of map.now).heaps ≡ Some (heap_in (bytes_of map.now) region))) }
 {
     let regions = map.regions();
     for region in regions {

@@ -35,7 +35,8 @@ pub(crate) fn pass_free(map: &mut AddressMap, heap: u32, cursor: &Cursor) -> Cur
     ensures at { result.at ≡ cursor.now.at + word_at (byte_at map.old) (cursor.now.at + 4) }
     ensures free { result.free ≡ linked cursor.now.at (word_at (byte_at map.old) cursor.now.at) }
     ensures marks { (a : ℕ) → class_of map.new a
-        ≡ with_item_marked cursor.now.at (Free (word_at (byte_at map.old) (cursor.now.at + 4))) (head_class false) (class_of map.old) a }
+        ≡ with_item_marked cursor.now.at (Free (word_at (byte_at map.old) (cursor.now.at + 4))) (head_class false)
+        (class_of map.old) a }
     ensures bytes { byte_at map.new ≡ byte_at map.old }
     ensures layout { layout map.new ≡ layout map.old }
 {

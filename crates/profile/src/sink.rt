@@ -75,7 +75,13 @@ pub struct MemorySink<'a> {
 impl<'a> Model for MemorySink<'a> {
     ghost Value = { SinkState };
 
-    ghost view = { λ s. record { taken = take s.used s.room.now; room = length s.room.now; most = s.most; calls = s.calls; has_failed = s.has_failed } };
+    ghost view = { λ s. record {
+      taken = take s.used s.room.now;
+      room = length s.room.now;
+      most = s.most;
+      calls = s.calls;
+      has_failed = s.has_failed;
+    } };
 
     ghost invariant = { λ s. (s.used ≤ length s.room.now) × (0 < s.most) };
 }
@@ -86,7 +92,13 @@ impl<'a> MemorySink<'a> {
     pub fn new(room: &'a mut [u8], most: usize, fails_from: u64) -> MemorySink<'a>
         requires some { 0 < most }
         requires first { 0 < fails_from }
-        ensures { result ≡ record { taken = []; room = length room.entry.now; most = most; calls = fails_from - 1; has_failed = false } }
+        ensures { result ≡ record {
+          taken = [];
+          room = length room.entry.now;
+          most = most;
+          calls = fails_from - 1;
+          has_failed = false;
+        } }
     {
         MemorySink {
             room,
@@ -154,7 +166,8 @@ pub fn push_all<W: Sink>(sink: &mut W, bytes: &[u8]) -> Result<(), WriteFault>
 #[tactic(auto, using(crate::proofs::OutputLemmas::output_steps))]
 pub fn push_parts<W: Sink>(sink: &mut W, parts: &[&[u8]]) -> Result<(), WriteFault>
     ensures text { OnOk result (Appends (W.contents sink.old) (W.contents sink.new) (flat_map (λ p. p.now) parts.now)) }
-    ensures part { OnErr result (AppendsPart (W.contents sink.old) (W.contents sink.new) (flat_map (λ p. p.now) parts.now)) }
+    ensures part { OnErr result
+        (AppendsPart (W.contents sink.old) (W.contents sink.new) (flat_map (λ p. p.now) parts.now)) }
     ensures flag { OnErr result (W.has_failed sink.new ≡ true) }
     ensures same_flag { OnOk result (W.has_failed sink.new ≡ W.has_failed sink.old) }
 {

@@ -62,7 +62,8 @@ pub(crate) fn allocate<A: Allocator>(
     len: usize,
 ) -> Result<(Base, Bytes, Deed<A>), AllocError>
     requires { len < 2 ^ 63 }
-    ensures { IfOk result (λ r. (r.1.at ≡ r.0.ptr) × (r.1.items ≡ []) × (r.1.spare ≡ len) × (r.2.at ≡ r.0.ptr) × (r.2.len ≡ len) × (r.2.alloc ≡ alloc.now)) }
+    ensures { IfOk result (λ r. (r.1.at ≡ r.0.ptr) × (r.1.items ≡ []) × (r.1.spare ≡ len) × (r.2.at ≡ r.0.ptr)
+        × (r.2.len ≡ len) × (r.2.alloc ≡ alloc.now)) }
 {
     match alloc.allocate(len, 1) {
         Ok(ptr) => Ok((Base { ptr }, Bytes {}, Deed { by: PhantomData })),
@@ -78,7 +79,8 @@ pub(crate) fn deallocate<A: Allocator>(
     bytes: Bytes,
     deed: Deed<A>,
 )
-    requires { (bytes.at ≡ base.ptr) × (length bytes.items ≡ len) × (bytes.spare ≡ 0) × (deed.at ≡ base.ptr) × (deed.len ≡ len) × (deed.alloc ≡ alloc.now) }
+    requires { (bytes.at ≡ base.ptr) × (length bytes.items ≡ len) × (bytes.spare ≡ 0) × (deed.at ≡ base.ptr)
+        × (deed.len ≡ len) × (deed.alloc ≡ alloc.now) }
 {
     let Bytes {} = bytes;
     let Deed { by: _ } = deed;
@@ -91,7 +93,8 @@ impl Bytes {
     /// Writes the first of the bytes that nothing was written to.
     pub(crate) fn push(&mut self, base: Base, at: usize, byte: u8)
         requires { (base.ptr ≡ self.old.at) × (at ≡ length self.old.items) × (0 < self.old.spare) }
-        ensures { (self.new.at ≡ self.old.at) × (self.new.items ≡ self.old.items ++ byte ∷ []) × (self.new.spare + 1 ≡ self.old.spare) }
+        ensures { (self.new.at ≡ self.old.at) × (self.new.items ≡ self.old.items ++ byte ∷ [])
+            × (self.new.spare + 1 ≡ self.old.spare) }
     {
         unsafe { base.ptr.add(at).write(byte) }
     }
@@ -107,7 +110,8 @@ impl Bytes {
     /// Writes the byte at a place.
     pub(crate) fn write(&mut self, base: Base, at: usize, byte: u8)
         requires { (base.ptr ≡ self.old.at) × (at < length self.old.items) }
-        ensures { (self.new.at ≡ self.old.at) × (self.new.items ≡ slice_set self.old.items at byte) × (self.new.spare ≡ self.old.spare) }
+        ensures { (self.new.at ≡ self.old.at) × (self.new.items ≡ slice_set self.old.items at byte)
+            × (self.new.spare ≡ self.old.spare) }
     {
         unsafe { *base.ptr.add(at) = byte }
     }

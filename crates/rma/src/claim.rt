@@ -36,7 +36,8 @@ impl Rma {
     ) -> Result<u32, ErrorNumber>
         requires estate { IsEstate (estate_of map.old areas.old) }
         requires classes { AreClasses map.old }
-        ensures claimed { Gives (estate_of map.old areas.old) (rma_claimed (estate_of map.old areas.old) size) result (estate_of map.new areas.new) }
+        ensures claimed { Gives (estate_of map.old areas.old) (rma_claimed (estate_of map.old areas.old) size) result
+            (estate_of map.new areas.new) }
         ensures estate { IsEstate (estate_of map.new areas.new) }
         ensures classes { AreClasses map.new }
         ensures others { (store_of map.new).others ≡ (store_of map.old).others }
@@ -59,7 +60,9 @@ impl Rma {
 fn claim_grown(map: &mut AddressMap, areas: &mut Areas, size: u32) -> Result<u32, ErrorNumber>
     requires estate { IsEstate (estate_of map.old areas.old) }
     requires classes { AreClasses map.old }
-    ensures claimed { Gives (estate_of map.old areas.old) (in_grown_area (estate_of map.old areas.old) (rma_base (store_of map.old) + total_for size) (λ s. got s 0x01800000 size)) result (estate_of map.new areas.new) }
+    ensures claimed { Gives (estate_of map.old areas.old)
+        (in_grown_area (estate_of map.old areas.old) (rma_base (store_of map.old) + total_for size)
+        (λ s. got s 0x01800000 size)) result (estate_of map.new areas.new) }
     ensures estate { IsEstate (estate_of map.new areas.new) }
     ensures classes { AreClasses map.new }
     ensures others { (store_of map.new).others ≡ (store_of map.old).others }

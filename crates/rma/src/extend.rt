@@ -38,7 +38,8 @@ impl Rma {
     ) -> Result<u32, ErrorNumber>
         requires estate { IsEstate (estate_of map.old areas.old) }
         requires classes { AreClasses map.old }
-        ensures extended { Gives (estate_of map.old areas.old) (rma_extended (estate_of map.old areas.old) block change) result (estate_of map.new areas.new) }
+        ensures extended { Gives (estate_of map.old areas.old)
+            (rma_extended (estate_of map.old areas.old) block change) result (estate_of map.new areas.new) }
         ensures estate { IsEstate (estate_of map.new areas.new) }
         ensures classes { AreClasses map.new }
         ensures others { (store_of map.new).others ≡ (store_of map.old).others }
@@ -79,7 +80,10 @@ fn move_grown(
     requires estate { IsEstate (estate_of map.old areas.old) }
     requires classes { AreClasses map.old }
     requires full { is_full (resized (store_of map.old) 0x01800000 block change) ≡ true }
-    ensures moved { Gives (estate_of map.old areas.old) (in_grown_area (estate_of map.old areas.old) (end_if_moved (rma_base (store_of map.old)) change (block_sized (store_of map.old) 0x01800000 block)) (λ s. resized s 0x01800000 block change)) result (estate_of map.new areas.new) }
+    ensures moved { Gives (estate_of map.old areas.old)
+        (in_grown_area (estate_of map.old areas.old)
+        (end_if_moved (rma_base (store_of map.old)) change (block_sized (store_of map.old) 0x01800000 block))
+        (λ s. resized s 0x01800000 block change)) result (estate_of map.new areas.new) }
     ensures estate { IsEstate (estate_of map.new areas.new) }
     ensures classes { AreClasses map.new }
     ensures others { (store_of map.new).others ≡ (store_of map.old).others }
@@ -97,7 +101,8 @@ fn move_grown(
 /// Where the heap would have to end for a change of its last block; 0 where the block is another, or none.
 fn end_in_place(map: &AddressMap, block: u32, change: u32) -> u64
     requires { IsSound (store_of map.now) }
-    ensures { result ≡ end_in_place (rma_base (store_of map.now)) block change (block_sized (store_of map.now) 0x01800000 block) }
+    ensures { result ≡ end_in_place (rma_base (store_of map.now)) block change
+        (block_sized (store_of map.now) 0x01800000 block) }
 {
     let base = Heaps::new().base(map, RMA_START);
     match Heaps::new().block_size(map, RMA_START, block).answer {
@@ -111,7 +116,8 @@ fn end_in_place(map: &AddressMap, block: u32, change: u32) -> u64
 /// Where the heap would have to end for a changed block at its base; 0 where there is none.
 fn end_if_moved(map: &AddressMap, block: u32, change: u32) -> u64
     requires { IsSound (store_of map.now) }
-    ensures { result ≡ end_if_moved (rma_base (store_of map.now)) change (block_sized (store_of map.now) 0x01800000 block) }
+    ensures { result ≡ end_if_moved (rma_base (store_of map.now)) change
+        (block_sized (store_of map.now) 0x01800000 block) }
 {
     let base = Heaps::new().base(map, RMA_START);
     match Heaps::new().block_size(map, RMA_START, block).answer {

@@ -27,7 +27,8 @@ impl Rma {
     pub fn free(&self, map: &mut AddressMap, block: u32) -> Result<(), ErrorNumber>
         requires sound { IsSound (store_of map.old) }
         requires classes { AreClasses map.old }
-        ensures freed { (l : Land) → Gives (estate_of map.old l) (rma_freed (estate_of map.old l) block) result (estate_of map.new l) }
+        ensures freed { (l : Land)
+            → Gives (estate_of map.old l) (rma_freed (estate_of map.old l) block) result (estate_of map.new l) }
         ensures sound { IsSound (store_of map.new) }
         ensures estate { (l : Land) → IsEstate (estate_of map.old l) → IsEstate (estate_of map.new l) }
         ensures classes { AreClasses map.new }

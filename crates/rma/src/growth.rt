@@ -23,7 +23,8 @@ use profile::memory_map::{PAGE_SIZE, RMA_MAXIMUM};
 pub(crate) fn grow_to(map: &mut AddressMap, areas: &mut Areas, end: u64) -> Result<(), ErrorNumber>
     requires estate { IsEstate (estate_of map.old areas.old) }
     requires classes { AreClasses map.old }
-    ensures grown { Leaves (estate_of map.old areas.old) (grown_to (estate_of map.old areas.old) end) result (estate_of map.new areas.new) }
+    ensures grown { Leaves (estate_of map.old areas.old) (grown_to (estate_of map.old areas.old) end) result
+        (estate_of map.new areas.new) }
     ensures estate { IsEstate (estate_of map.new areas.new) }
     ensures classes { AreClasses map.new }
     ensures others { (store_of map.new).others ≡ (store_of map.old).others }

@@ -23,7 +23,8 @@ impl Rma {
         ensures estate { (l : Land) → IsEstate (estate_of map.old l) → IsEstate (estate_of map.new l) }
         ensures classes { AreClasses map.old → AreClasses map.new }
         ensures mapping { mapping map.new ≡ mapping map.old }
-        ensures flex { IfOk (block_sized (store_of map.old) 0x01800000 at) (λ len. IsUnanchored (store_of map.old) at len)
+        ensures flex { IfOk (block_sized (store_of map.old) 0x01800000 at)
+            (λ len. IsUnanchored (store_of map.old) at len)
             → KeepsFlex (store_of map.old) (store_of map.new) }
     {
         match Heaps::new().block_size(map, RMA_START, at).answer {

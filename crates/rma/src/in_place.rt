@@ -28,7 +28,8 @@ impl Rma {
         requires may { may_be_in_place (store_of map.old) at len ≡ true }
         requires some { 0 < len }
         requires room { length (store_of map.old).others < 68 }
-        ensures placed { (l : Land) → estate_of map.new l ≡ with_store (estate_of map.old l) (with_image_in_place (store_of map.old) at len) }
+        ensures placed { (l : Land)
+            → estate_of map.new l ≡ with_store (estate_of map.old l) (with_image_in_place (store_of map.old) at len) }
         ensures sound { IsSound (store_of map.new) }
         ensures estate { (l : Land) → IsEstate (estate_of map.old l) → IsEstate (estate_of map.new l) }
         ensures classes { AreClasses map.old → AreClasses map.new }

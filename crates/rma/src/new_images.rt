@@ -35,7 +35,8 @@ impl Rma {
         requires estate { IsEstate (estate_of map.old areas.old) }
         requires classes { AreClasses map.old }
         requires room { length (store_of map.old).others < 68 }
-        ensures made { Gives (estate_of map.old areas.old) (image_made (estate_of map.old areas.old) image.now) result (estate_of map.new areas.new) }
+        ensures made { Gives (estate_of map.old areas.old) (image_made (estate_of map.old areas.old) image.now) result
+            (estate_of map.new areas.new) }
         ensures estate { IsEstate (estate_of map.new areas.new) }
         ensures classes { AreClasses map.new }
         ensures flex { KeepsFlex (store_of map.old) (store_of map.new) }
@@ -74,7 +75,8 @@ impl Rma {
         requires classes { AreClasses map.old }
         requires room { length (store_of map.old).others < 68 }
         requires source { AreMapped (is_mapped map.old) from len }
-        ensures made { Gives (estate_of map.old areas.old) (image_copied (estate_of map.old areas.old) from len) result (estate_of map.new areas.new) }
+        ensures made { Gives (estate_of map.old areas.old) (image_copied (estate_of map.old areas.old) from len) result
+            (estate_of map.new areas.new) }
         ensures estate { IsEstate (estate_of map.new areas.new) }
         ensures classes { AreClasses map.new }
         ensures flex { KeepsFlex (store_of map.old) (store_of map.new) }

@@ -58,9 +58,26 @@ impl Model for Machine {
 
     ghost Value = { Parts };
 
-    ghost view = { λ m. record { cpu = m.cpu; map = m.memory; tables = record { land = m.areas; modules = m.instances; frames = m.frames; plan = m.plan; flex = m.flex }; halt = m.halt; sizes = m.config; is_fresh = m.is_fresh; printed = m.printed.items } };
+    ghost view = { λ m. record {
+      cpu = m.cpu;
+      map = m.memory;
+      tables = record { land = m.areas; modules = m.instances; frames = m.frames; plan = m.plan; flex = m.flex };
+      halt = m.halt;
+      sizes = m.config;
+      is_fresh = m.is_fresh;
+      printed = m.printed.items;
+    } };
 
-    ghost invariant = { λ m. IsWellFormed (record { cpu = m.cpu; map = m.memory; tables = record { land = m.areas; modules = m.instances; frames = m.frames; plan = m.plan; flex = m.flex }; halt = m.halt; sizes = m.config; is_fresh = m.is_fresh; printed = m.printed.items }) };
+    ghost invariant = { λ m. IsWellFormed
+        (record {
+          cpu = m.cpu;
+          map = m.memory;
+          tables = record { land = m.areas; modules = m.instances; frames = m.frames; plan = m.plan; flex = m.flex };
+          halt = m.halt;
+          sizes = m.config;
+          is_fresh = m.is_fresh;
+          printed = m.printed.items;
+        }) };
 }
 
 impl Machine {

@@ -37,7 +37,8 @@ pub(crate) fn claim_block(
     requires estate { IsEstate (estate_of memory.old areas.old) }
     requires classes { AreClasses memory.old }
     ensures state { (modules : List Module) → Leaves (cpu.old, world_of memory.old areas.old modules)
-        (block_claimed cpu.old (world_of memory.old areas.old modules)) result (cpu.new, world_of memory.new areas.new modules) }
+        (block_claimed cpu.old (world_of memory.old areas.old modules)) result
+        (cpu.new, world_of memory.new areas.new modules) }
     ensures leaves { LeavesSound memory.old memory.new areas.new }
 {
     let size = cpu.register(3);
@@ -55,7 +56,8 @@ pub(crate) fn free_block(
     requires estate { IsEstate (estate_of memory.old areas.now) }
     requires classes { AreClasses memory.old }
     ensures state { (modules : List Module) → Leaves (cpu.old, world_of memory.old areas.now modules)
-        (block_freed cpu.old (world_of memory.old areas.now modules)) result (cpu.new, world_of memory.new areas.now modules) }
+        (block_freed cpu.old (world_of memory.old areas.now modules)) result
+        (cpu.new, world_of memory.new areas.now modules) }
     ensures leaves { LeavesSound memory.old memory.new areas.now }
 {
     let block = cpu.register(2);
@@ -72,7 +74,8 @@ pub(crate) fn extend_block(
     requires estate { IsEstate (estate_of memory.old areas.old) }
     requires classes { AreClasses memory.old }
     ensures state { (modules : List Module) → Leaves (cpu.old, world_of memory.old areas.old modules)
-        (block_extended cpu.old (world_of memory.old areas.old modules)) result (cpu.new, world_of memory.new areas.new modules) }
+        (block_extended cpu.old (world_of memory.old areas.old modules)) result
+        (cpu.new, world_of memory.new areas.new modules) }
     ensures leaves { LeavesSound memory.old memory.new areas.new }
 {
     let block = cpu.register(2);

@@ -27,7 +27,8 @@ pub(crate) fn tell_instance(
 ) -> Result<(), Refusal>
     requires { AreMapped (is_mapped memory.now) 0x01C02000 256 }
     ensures { (l : Land) → Leaves (cpu.old, world_of memory.now l instances.now)
-        (instance_told cpu.old (world_of memory.now l instances.now)) result (cpu.new, world_of memory.now l instances.now) }
+        (instance_told cpu.old (world_of memory.now l instances.now)) result
+        (cpu.new, world_of memory.now l instances.now) }
 {
     let place = Place {
         number: cpu.register(1),
@@ -48,7 +49,8 @@ pub(crate) fn rename_instance(
     instances: &mut Instances,
 ) -> Result<(), Refusal>
     ensures state { (l : Land) → Leaves (cpu.now, world_of memory.now l instances.old)
-        (instance_renamed cpu.now (world_of memory.now l instances.old)) result (cpu.now, world_of memory.now l instances.new) }
+        (instance_renamed cpu.now (world_of memory.now l instances.old)) result
+        (cpu.now, world_of memory.now l instances.new) }
     ensures slots { slots_of instances.new ≡ slots_of instances.old }
     ensures going { (l : Land) (plan : Option Plan) → MayGoOn (world_of memory.now l instances.old) plan
         → MayGoOn (world_of memory.now l instances.new) plan }
@@ -66,7 +68,8 @@ pub(crate) fn prefer_instance(
     instances: &mut Instances,
 ) -> Result<(), Refusal>
     ensures state { (l : Land) → Leaves (cpu.now, world_of memory.now l instances.old)
-        (instance_preferred cpu.now (world_of memory.now l instances.old)) result (cpu.now, world_of memory.now l instances.new) }
+        (instance_preferred cpu.now (world_of memory.now l instances.old)) result
+        (cpu.now, world_of memory.now l instances.new) }
     ensures slots { slots_of instances.new ≡ slots_of instances.old }
     ensures going { (l : Land) (plan : Option Plan) → MayGoOn (world_of memory.now l instances.old) plan
         → MayGoOn (world_of memory.now l instances.new) plan }
@@ -84,7 +87,8 @@ pub(crate) fn find_instance(
 ) -> Result<(), Refusal>
     requires { AreMapped (is_mapped memory.now) 0x01C02000 256 }
     ensures { (l : Land) → Leaves (cpu.old, world_of memory.now l instances.now)
-        (instance_found cpu.old (world_of memory.now l instances.now)) result (cpu.new, world_of memory.now l instances.now) }
+        (instance_found cpu.old (world_of memory.now l instances.now)) result
+        (cpu.new, world_of memory.now l instances.now) }
 {
     let full = string_in(cpu, memory, 1)?;
     let found = instances.lookup(memory, full.as_slice())?;
