@@ -29,9 +29,9 @@ use Rattle.profile.specs.declared.fault.Fault.TheVariants.{ErrorStop, FetchUnmap
 use Rattle.swi_dispatch.specs.declared.halt.Halt.TheVariants as halt
 use Rattle.swi_dispatch.specs.declared.module_steps.Next.{Next}
 use Rattle.swi_dispatch_answers.specs.Errors.{error_at}
-use Rattle.swi_dispatch.specs.Gates.{Resumes, carried_on, come_back, error_ahead, error_left, fault_kept, kept_by}
+use Rattle.swi_dispatch.specs.Gates.{Resumes, carried_on, come_back, fault_kept, kept_by}
 use Rattle.swi_dispatch.specs.Gates.{next_by, next_of, outcome_left, plan_left, went_to, with_carried, with_plan}
-use Rattle.swi_dispatch.specs.Gates.{world_carried}
+use Rattle.swi_dispatch_plans.specs.Trials.{world_carried}
 use Rattle.swi_dispatch.specs.MachineState.{MachineState, Outcome, machine_world, quiet, with_world}
 use Rattle.swi_dispatch.specs.Additions.{Starts, planned}
 use Rattle.swi_dispatch.specs.OpenFrames.{AreFrames}
@@ -130,70 +130,6 @@ pub entry_without_plan : (s t : MachineState) (f : Frame) (kept : Option Plan)
     → halted t (halt.Fault FetchUnmapped) ≡ plan_left s f kept
 entry_without_plan s t f None resumes = ap (λ (u : MachineState). halted u (halt.Fault FetchUnmapped)) resumes
 entry_without_plan s t f (Some p) resumes = absurd resumes
-
--- the error that a trial ends with
-own_first : (first : Option ℕ) (r0 : ℕ) → end_by first ≡ ended.Own r0 → first ≡ Some r0
-own_first None r0 is = cc
-own_first (Some r) r0 is = cc
-
-no_first : (first : Option ℕ) → (end_by first ≡ ended.Well) ⊎ ((e : ErrorNumber) × (end_by first ≡ ended.System e))
-    → first ≡ None
-no_first None is = refl
-no_first (Some r) (inl is) = cc
-no_first (Some r) (inr is) = absurd (let never = is.1 in cc)
-
-pub error_in_code : (w v : World) (p q : Plan) (code : Option Code)
-    → carried module_doing w p ≡ record { world = v; rest = q; code = code }
-    → is_some code ≡ true → None ≡ error_ahead w p
-unfolding error_ahead
-error_in_code w v p q None is some = absurd (false≢true some)
-error_in_code w v p q (Some c) is some = sym (ap (λ (x : Carried World). error_left x x.code) is)
-
-pub error_at_end : (w v : World) (p q : Plan) (code : Option Code) (r0 number : ℕ)
-    → carried module_doing w p ≡ record { world = v; rest = q; code = code }
-    → is_some code ≡ false → end_by q.first ≡ ended.Own r0 → number ≡ error_at v.estate.store.bytes r0
-    → Some number ≡ error_ahead w p
-unfolding error_ahead
-error_at_end w v p q (Some c) r0 number is none own there = absurd (true≢false none)
-error_at_end w v p q None r0 number is none own there =
-    ap Some there ∙ sym (ap (λ (x : Carried World). error_left x x.code) is
-    ∙ ap (option_map (error_at v.estate.store.bytes)) (own_first q.first r0 own))
-
-pub no_error_at_end : (w v : World) (p q : Plan) (code : Option Code) (end : Ended)
-    → carried module_doing w p ≡ record { world = v; rest = q; code = code } → is_some code ≡ false
-    → end ≡ end_by q.first
-    → (end ≡ ended.Well) ⊎ ((e : ErrorNumber) × (end ≡ ended.System e)) → None ≡ error_ahead w p
-unfolding error_ahead
-no_error_at_end w v p q (Some c) end is none ends well = absurd (true≢false none)
-no_error_at_end w v p q None end is none ends well =
-    sym (ap (λ (x : Carried World). error_left x x.code) is ∙ ap (option_map (error_at v.estate.store.bytes))
-    (no_first q.first (rw (← ends) well)))
-
--- a trial on a copy of the world
-pub copied_bytes : (m n : AddressMap) → byte_at n ≡ byte_at m → layout n ≡ layout m → bytes_of n ≡ bytes_of m
-copied_bytes m n at same = λ i. record { mapped = λ a. is_some ((same i).place a); at = at i }
-
-pub copied_world : (m n : AddressMap) (l : Land) (ms ns : List Module) → byte_at n ≡ byte_at m → layout n ≡ layout m
-    → class_of n ≡ class_of m
-    → IsSound (store_of m) → ns ≡ ms → world_of n l ns ≡ world_of m l ms
-copied_world m n l ms ns at same marks sound modules =
-    let bytes = copied_bytes m n at same in
-    let store = kept_all m n (same_kept m n same marks sound bytes) bytes in
-    let pool = same_pool m n same in
-    λ i. record { estate = record { store = store i; pool = pool i; land = l }; modules = modules i }
-
-pub copied_classes : (m n : AddressMap) → byte_at n ≡ byte_at m → layout n ≡ layout m → class_of n ≡ class_of m
-    → IsSound (store_of m) → AreClasses m
-    → AreClasses n
-copied_classes m n at same marks sound classes = kept_classes m n
-    (same_kept m n same marks sound (copied_bytes m n at same)) marks classes
-
-pub tried : (w v : World) (p q : Plan) (o : CodeOutcome) (c : Carried World) → v ≡ w → q ≡ p
-    → carried module_doing v (settled q o) ≡ c
-    → carried module_doing w (settled p o) ≡ c
-tried w v p q o c world plan is =
-    ap (λ (x : World). carried module_doing x (settled p o)) (sym world)
-    ∙ ap (λ (x : Plan). carried module_doing v (settled x o)) (sym plan) ∙ is
 
 -- a leaf of the machine that carries a call on: its invariant, its state, and what is next
 pub carried_well : (old new : Parts) (w : World) (p q : Plan) (code : Option Code) (kept : Option Plan × Next)

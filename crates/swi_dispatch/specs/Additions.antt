@@ -8,7 +8,8 @@ use Rattle.instances_plans.specs.Plans.{Plan}
 use Rattle.flex_ground.specs.instances_ground.specs.World.{World}
 use Rattle.swi_dispatch_modules.specs.instances.specs.Adding.{copying, inserting, loading}
 use Rattle.swi_dispatch.specs.declared.module_steps.Next.{Next}
-use Rattle.swi_dispatch.specs.Gates.{next_of, with_carried, world_carried}
+use Rattle.swi_dispatch.specs.Gates.{next_of, with_carried}
+use Rattle.swi_dispatch_plans.specs.Trials.{world_carried}
 use Rattle.swi_dispatch_plans.specs.Setting.{string_asked}
 use Rattle.swi_dispatch_plans.specs.ImagePlans.{copy_asked, insertion_asked, load_asked}
 use Rattle.swi_dispatch.specs.MachineState.{MachineState, machine_world, setting_of}

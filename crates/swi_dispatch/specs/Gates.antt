@@ -2,7 +2,7 @@
 -- the next, and ends; and the return gate, where module code comes back (RISC OS 3 Programmer's Reference Manual,
 -- "Modules" and "OS_Module"; frames, the gate, and that a call that gives its caller no error does nothing where there
 -- is one, are this project's own).
-use Rattle.std.specs.Prelude.{◌≡◌, ℕ, Bool, true, false, ◌==◌, ◌++◌, ◌∷◌, [], List, Option, Some, None, option_map}
+use Rattle.std.specs.Prelude.{◌≡◌, ℕ, Bool, true, false, ◌==◌, ◌++◌, ◌∷◌, [], List, Option, Some, None}
 use Rattle.std.specs.Prelude.{Result, Ok, Err, if◌then◌else◌}
 use Rattle.profile.specs.declared.error.ErrorNumber.{ErrorNumber}
 use Rattle.profile.specs.declared.fault.Fault.TheVariants.{FetchUnmapped, ErrorStop, StackChanged}
@@ -12,12 +12,11 @@ use Rattle.instances_plans.specs.declared.code.Code.{Code}
 use Rattle.instances_plans.specs.declared.code.Outcome.{Outcome as CodeOutcome}
 use Rattle.instances_plans.specs.declared.code.Outcome.TheVariants.{Well, Refused}
 use Rattle.instances_plans.specs.declared.given.Given.{Given}
-use Rattle.instances_plans.specs.Carrying.{Carried, carried}
+use Rattle.instances_plans.specs.Carrying.{Carried}
 use Rattle.instances_plans.specs.Plans.{Plan, settled}
 use Rattle.flex_ground.specs.instances_ground.specs.World.{World}
 use Rattle.swi_dispatch_modules.specs.instances.specs.declared.answers.Start.{Start}
 use Rattle.swi_dispatch_modules.specs.instances.specs.Reading.{start_found}
-use Rattle.swi_dispatch_modules.specs.instances.specs.Turns.{module_doing}
 use Rattle.swi_dispatch_frames.specs.declared.call.Call.{Call}
 use Rattle.swi_dispatch_frames.specs.declared.frame.Frame.{Frame}
 use Rattle.swi_dispatch_frames.specs.declared.frame.FrameKind.{FrameKind}
@@ -29,11 +28,11 @@ use Rattle.swi_dispatch.specs.declared.halt.Halt.TheVariants as halt
 use Rattle.swi_dispatch.specs.declared.module_steps.Next.{Next}
 use Rattle.swi_dispatch.specs.declared.module_steps.Next.TheVariants as next
 use Rattle.swi_dispatch.specs.Answers.{with_answer}
-use Rattle.swi_dispatch_answers.specs.Errors.{error_at}
 use Rattle.swi_dispatch.specs.MachineState.{MachineState, Outcome, machine_world, quiet, with_world}
 use Rattle.swi_dispatch.specs.ModuleStart.{opened_at}
 use Rattle.swi_dispatch.specs.Returns.{erred, gone_back, halted}
 use Rattle.swi_dispatch_answers.specs.Returns.{returned}
+use Rattle.swi_dispatch_plans.specs.Trials.{error_ahead, world_carried}
 
 abbrev pub with_plan : MachineState → Option Plan → MachineState
 with_plan s p = record s { tables = record s.tables { plan = p } }
@@ -84,9 +83,6 @@ abbrev pub went_to : MachineState → Call → Next → MachineState
 went_to s call (next.Code code) = entry_opened s call code
 went_to s call (next.End p) = call_ended s call p
 
-abbrev pub world_carried : World → Plan → Carried World
-world_carried w p = carried module_doing w p
-
 -- A call is carried on with what its plan has left to do.
 abbrev pub carried_on : MachineState → Call → Plan → MachineState
 carried_on s call p = (let c = world_carried (machine_world s) p in went_to (with_carried s c) call (next_of c))
@@ -111,14 +107,6 @@ swi_left s f =
 -- An initialisation or a finalisation with V set has refused, and its error is the R0 that it left.
 abbrev pub outcome_left : State → CodeOutcome
 outcome_left cpu = if cpu.psr.overflow then Refused (register_of cpu 0) else Well
-
--- The number of the error that a call ends with, if it is carried on to its end: the word where R0 points to then.
-abbrev pub error_left : Carried World → Option Code → Option ℕ
-error_left c (Some code) = None
-error_left c None = option_map (error_at c.world.estate.store.bytes) c.rest.first
-
-unfoldable pub error_ahead : World → Plan → Option ℕ
-error_ahead w p = error_left (world_carried w p) (world_carried w p).code
 
 -- The call whose entry it was is carried on. Where its caller takes no error, and there is one, the step is a fault,
 -- and nothing of it is done.

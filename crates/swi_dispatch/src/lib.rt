@@ -13,7 +13,6 @@ pub mod module_start;
 pub mod module_steps;
 pub mod module_swis;
 pub mod running;
-pub mod spare;
 pub mod store_calls;
 
 pub use arm_step;

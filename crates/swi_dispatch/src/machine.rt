@@ -9,7 +9,6 @@ ghost use Rattle.swi_dispatch.specs.Step.{machine_step, module_loaded, store_cal
 
 use crate::boot_error::BootError;
 use crate::halt::Halt;
-use crate::spare::Spare;
 use address_map::AddressMap;
 use arm_step::{Cpu, Turn, step};
 use arrayvec::ArrayVec;
@@ -26,7 +25,7 @@ use std::marker::Model;
 use swi_dispatch_answers::words::host_string;
 use swi_dispatch_frames::Frames;
 use swi_dispatch_modules::instances::Instances;
-use swi_dispatch_plans::Planner;
+use swi_dispatch_plans::{Planner, Spare};
 
 /// The most bytes that a step can print.
 pub(crate) const MOST_PRINTED: usize = 4096;

@@ -3,7 +3,8 @@
 
 ghost use Rattle.std.specs.Prelude.{◌≡◌, ◌<◌, false, length, IfOk};
 ghost use Rattle.swi_dispatch.specs.Gates.{call_ended, carried_on, entry_opened, kept_by, loaded_entered, next_by};
-ghost use Rattle.swi_dispatch.specs.Gates.{next_of, went_to, with_carried, world_carried};
+ghost use Rattle.swi_dispatch.specs.Gates.{next_of, went_to, with_carried};
+ghost use Rattle.swi_dispatch_plans.specs.Trials.{world_carried};
 
 use crate::machine::Machine;
 use instances_plans::{Code, Ended, Given, Outcome, Plan};

@@ -4,3 +4,4 @@ pub mod ImagePlans
 pub mod ModulePlans
 pub mod Openings
 pub mod Setting
+pub mod Trials

@@ -1,7 +1,8 @@
 //! The calls on modules that may run module code, before they begin: what each refuses, and the plan that it makes.
 //!
 //! A `Planner` is made from the parts of a machine that these calls read; it changes none of them. What holds between
-//! calls is its invariant (`IsSetting`), so that a plan of its may begin (`CanBegin`) on what it was made from.
+//! calls is its invariant (`IsSetting`), so that a plan of its may begin (`CanBegin`) on what it was made from. A `Spare`
+//! tries a call that is under way on a copy, to tell whether it ends with an error.
 #![tactic(auto)]
 
 pub mod image_plans;
@@ -9,7 +10,9 @@ pub mod module_plans;
 pub mod openings;
 pub mod planner;
 pub mod refusals;
+pub mod spare;
 
 pub use image_plans::{ImageRange, Load};
 pub use openings::{Opening, enter_as_user};
 pub use planner::Planner;
+pub use spare::Spare;

@@ -1,14 +1,15 @@
-//! A second memory and list of modules, on which a call is tried before it is carried on, where its caller takes no error.
+//! A second memory and list of modules, on which a call is tried before it is carried on, where its caller takes no
+//! error.
 
 ghost use Rattle.std.specs.Prelude.{◌≡◌};
 ghost use Rattle.os_heap.specs.Store.{AreClasses};
 ghost use Rattle.instances_plans.specs.Plans.{settled};
-ghost use Rattle.flex_ground.specs.instances_ground.specs.World.{world_of};
+ghost use Rattle.instances_ground.specs.World.{world_of};
 ghost use Rattle.swi_dispatch_modules.specs.instances.specs.Turns.{IsUnderWay};
-ghost use Rattle.swi_dispatch.specs.Gates.{error_ahead};
+ghost use Rattle.swi_dispatch_plans.specs.Trials.{error_ahead};
 
 use address_map::AddressMap;
-use dynamic_areas::Areas;
+use instances_ground::dynamic_areas::Areas;
 use instances_plans::{Ended, Outcome, Plan};
 use profile::Config;
 use std::alloc::{AllocError, Global};
@@ -17,20 +18,26 @@ use swi_dispatch_modules::instances::Instances;
 
 /// What a call is tried on.
 #[derive(Drop)]
-pub(crate) struct Spare {
+pub struct Spare {
     memory: AddressMap,
     instances: Instances,
 }
 
 impl Spare {
-    pub(crate) fn new(alloc: Global, config: Config) -> Result<Spare, AllocError> {
+    /// One for memories of a machine of these sizes.
+    ///
+    /// # Errors
+    ///
+    /// Where memory is missing.
+    pub fn new(alloc: Global, config: Config) -> Result<Spare, AllocError> {
         Ok(Spare {
             memory: AddressMap::new(alloc, config.pages())?,
             instances: Instances::new(),
         })
     }
 
-    /// The number of the error that a call ends with whose entry comes back with an outcome, if it ends so before more module code runs.
+    /// The number of the error that a call ends with whose entry comes back with an outcome, if it ends so before more
+    /// module code runs.
     pub(crate) fn error_after(
         &mut self,
         memory: &AddressMap,

@@ -1,9 +1,9 @@
 use Rattle.std.proofs.Common.{sym, subst, ◌∙◌}
 use Rattle.os_heap.specs.Store.{store_of}
-use Rattle.flex_ground.specs.instances_ground.specs.World.{World}
+use Rattle.instances_ground.specs.World.{World}
 use Rattle.swi_dispatch_modules.specs.instances.specs.Turns.{IsUnderWay}
-use Rattle.swi_dispatch.proofs.GateLemmas.{copied_classes, copied_world, error_at_end, error_in_code, no_error_at_end, tried}
-use Rattle.swi_dispatch.proofs.spare.Spare.error_after.Goals as goal
+use Rattle.swi_dispatch_plans.proofs.Trials.{copied_classes, copied_world, error_at_end, error_in_code, no_error_at_end, tried}
+use Rattle.swi_dispatch_plans.proofs.spare.Spare.error_after.Goals as goal
 
 pub carry-code-requires-clause-going : goal.carry-code-requires-clause-going
 carry-code-requires-clause-going c =
