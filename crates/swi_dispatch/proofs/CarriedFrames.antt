@@ -8,7 +8,7 @@ use Rattle.instances_plans.specs.declared.code.Code.{Code}
 use Rattle.instances_plans.specs.Plans.{Plan}
 use Rattle.instances_table.specs.Changes.{titled}
 use Rattle.instances_table.specs.Modules.{Module, slots_of}
-use Rattle.swi_dispatch_modules.specs.instances.specs.Naming.{KeepsOthers, NamesTitled, slots_of_kept, slots_of_plan}
+use Rattle.swi_dispatch_plans.specs.instances.specs.Naming.{KeepsOthers, NamesTitled, slots_of_kept, slots_of_plan}
 use Rattle.swi_dispatch_frames.specs.declared.frame.Frame.{Frame}
 use Rattle.swi_dispatch_frames.specs.Busy.{has_swi_of, is_swi}
 use Rattle.swi_dispatch_frames.specs.Frames.{closed, innermost}

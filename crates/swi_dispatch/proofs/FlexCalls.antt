@@ -17,10 +17,10 @@ use Rattle.instances_table.specs.Modules.{Module, slots_of}
 use Rattle.swi_dispatch_answers.specs.declared.refusal.Refusal.{Refusal}
 use Rattle.swi_dispatch_flex.specs.Calls.{FlexMemory, memory_of}
 use Rattle.swi_dispatch_flex.specs.Leaving.{CanCallFlex, LeavesFlex}
-use Rattle.swi_dispatch_modules.specs.instances.specs.Turns.{MayGoOn}
-use Rattle.swi_dispatch_modules.specs.instances.specs.instances_actions.specs.Pending.{is_pending, pending_by}
-use Rattle.swi_dispatch_modules.specs.instances.specs.instances_actions.specs.Pending.{pending_of}
-use Rattle.swi_dispatch_modules.specs.instances.specs.instances_actions.specs.Ready.{IsReady}
+use Rattle.swi_dispatch_plans.specs.instances.specs.Turns.{MayGoOn}
+use Rattle.swi_dispatch_plans.specs.instances.specs.instances_actions.specs.Pending.{is_pending, pending_by}
+use Rattle.swi_dispatch_plans.specs.instances.specs.instances_actions.specs.Pending.{pending_of}
+use Rattle.swi_dispatch_plans.specs.instances.specs.instances_actions.specs.Ready.{IsReady}
 use Rattle.swi_dispatch.specs.declared.halt.Halt.{Halt}
 use Rattle.swi_dispatch.specs.Calls.{on_flex}
 use Rattle.swi_dispatch.specs.MachineState.{Tables}

@@ -22,8 +22,8 @@ use Rattle.instances_plans.specs.Carrying.{Carried, Doing, carried, carried_by, 
 use Rattle.instances_plans.specs.Plans.{Plan, end_by, settled}
 use Rattle.flex_ground.specs.instances_ground.specs.Sound.{IsWorld}
 use Rattle.flex_ground.specs.instances_ground.specs.World.{World, world_of}
-use Rattle.swi_dispatch_modules.specs.instances.specs.Turns.{IsUnderWay, MayGoOn, module_doing}
-use Rattle.swi_dispatch_modules.specs.instances.specs.instances_actions.specs.Pending.{pending_of}
+use Rattle.swi_dispatch_plans.specs.instances.specs.Turns.{IsUnderWay, MayGoOn, module_doing}
+use Rattle.swi_dispatch_plans.specs.instances.specs.instances_actions.specs.Pending.{pending_of}
 use Rattle.swi_dispatch_frames.specs.declared.frame.Frame.{Frame}
 use Rattle.profile.specs.declared.fault.Fault.TheVariants.{ErrorStop, FetchUnmapped}
 use Rattle.swi_dispatch.specs.declared.halt.Halt.TheVariants as halt

@@ -35,8 +35,8 @@ use Rattle.dynamic_areas.specs.Areas.{Land}
 use Rattle.flex_ground.specs.flex_kept.proofs.Writes.{system_keeps}
 use Rattle.flex_ground.specs.flex_kept.specs.Keeping.{KeepsFlex}
 use Rattle.instances_table.specs.Modules.{slots_of}
-use Rattle.swi_dispatch_modules.specs.instances.specs.Turns.{MayGoOn}
-use Rattle.swi_dispatch_modules.specs.instances.proofs.GoingOn.{may_go_on_kept}
+use Rattle.swi_dispatch_plans.specs.instances.specs.Turns.{MayGoOn}
+use Rattle.swi_dispatch_plans.specs.instances.proofs.GoingOn.{may_go_on_kept}
 use Rattle.swi_dispatch.specs.OpenFrames.{AreFrames}
 use Rattle.swi_dispatch.specs.Parts.{Parts, IsWellFormed, parts_world, state_of}
 use Rattle.swi_dispatch.proofs.OpenFrames.{frames_kept}

@@ -7,7 +7,7 @@ use Rattle.std.specs.List.{All, list_any}
 use Rattle.std.proofs.lemmas.Bool.{false≢true, or_parts}
 use Rattle.std.proofs.lemmas.List.{take-append-drop}
 use Rattle.std.proofs.lemmas.List.Elements.{All-cons, All-head, All-nil, All-push, All-tail, All-take}
-use Rattle.swi_dispatch_modules.specs.instances.specs.Naming.{slots_of_kept}
+use Rattle.swi_dispatch_plans.specs.instances.specs.Naming.{slots_of_kept}
 use Rattle.instances_plans.specs.declared.code.Code.{Code}
 use Rattle.instances_plans.specs.Doable.{is_used}
 use Rattle.instances_table.specs.Modules.{Module, slots_of}

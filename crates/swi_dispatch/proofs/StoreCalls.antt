@@ -11,8 +11,8 @@ use Rattle.dynamic_areas.proofs.HeapCalls.{pool_is}
 use Rattle.flex_ground.specs.instances_ground.specs.World.{World, world_of}
 use Rattle.instances_table.specs.Modules.{Module, slots_of}
 use Rattle.swi_dispatch_answers.specs.declared.refusal.Refusal.{Refusal}
-use Rattle.swi_dispatch_modules.specs.swi_dispatch_store.specs.Leaving.{LeavesAreas, LeavesSound}
-use Rattle.swi_dispatch_modules.specs.Leaving.{LeavesWorld}
+use Rattle.swi_dispatch_plans.specs.swi_dispatch_store.specs.Leaving.{LeavesAreas, LeavesSound}
+use Rattle.swi_dispatch_plans.specs.swi_dispatch_modules.specs.Leaving.{LeavesWorld}
 use Rattle.swi_dispatch.specs.declared.halt.Halt.{Halt}
 use Rattle.swi_dispatch.specs.Calls.{on_estate, on_store, on_world, with_guest}
 use Rattle.swi_dispatch.specs.MachineState.{MachineState, Tables}

@@ -6,7 +6,7 @@ use Rattle.profile.specs.declared.error.ErrorNumber.{ErrorNumber}
 use Rattle.image_loader.specs.Entries.{Entry}
 use Rattle.instances_plans.specs.Plans.{Plan}
 use Rattle.flex_ground.specs.instances_ground.specs.World.{World}
-use Rattle.swi_dispatch_modules.specs.instances.specs.Adding.{copying, inserting, loading}
+use Rattle.swi_dispatch_plans.specs.instances.specs.Adding.{copying, inserting, loading}
 use Rattle.swi_dispatch.specs.declared.module_steps.Next.{Next}
 use Rattle.swi_dispatch.specs.Gates.{next_of, with_carried}
 use Rattle.swi_dispatch_plans.specs.Trials.{world_carried}

@@ -19,10 +19,10 @@ use Rattle.swi_dispatch_answers.specs.declared.refusal.Refusal.TheVariants as re
 use Rattle.swi_dispatch_answers.specs.declared.strings.TextEnd.TheVariants as end
 use Rattle.swi_dispatch_answers.specs.Strings.{ends, text_at, next_word}
 use Rattle.swi_dispatch_flex.specs.Calls.{FlexMemory, flex_called}
-use Rattle.swi_dispatch_modules.specs.swi_dispatch_store.specs.Areas.{area_called, area_changed, area_read}
-use Rattle.swi_dispatch_modules.specs.swi_dispatch_store.specs.Areas.{change_asked}
-use Rattle.swi_dispatch_modules.specs.swi_dispatch_store.specs.Heaps.{heap_called}
-use Rattle.swi_dispatch_modules.specs.Calls.{module_called}
+use Rattle.swi_dispatch_plans.specs.swi_dispatch_store.specs.Areas.{area_called, area_changed, area_read}
+use Rattle.swi_dispatch_plans.specs.swi_dispatch_store.specs.Areas.{change_asked}
+use Rattle.swi_dispatch_plans.specs.swi_dispatch_store.specs.Heaps.{heap_called}
+use Rattle.swi_dispatch_plans.specs.swi_dispatch_modules.specs.Calls.{module_called}
 use Rattle.swi_dispatch.specs.Answers.{Answer, done, refused, went_on, with_answer}
 use Rattle.swi_dispatch.specs.MachineState.{MachineState, machine_estate, machine_world, quiet, with_estate, with_world}
 

@@ -15,8 +15,8 @@ use Rattle.instances_plans.specs.declared.given.Given.{Given}
 use Rattle.instances_plans.specs.Carrying.{Carried}
 use Rattle.instances_plans.specs.Plans.{Plan, settled}
 use Rattle.flex_ground.specs.instances_ground.specs.World.{World}
-use Rattle.swi_dispatch_modules.specs.instances.specs.declared.answers.Start.{Start}
-use Rattle.swi_dispatch_modules.specs.instances.specs.Reading.{start_found}
+use Rattle.swi_dispatch_plans.specs.instances.specs.declared.answers.Start.{Start}
+use Rattle.swi_dispatch_plans.specs.instances.specs.Reading.{start_found}
 use Rattle.swi_dispatch_frames.specs.declared.call.Call.{Call}
 use Rattle.swi_dispatch_frames.specs.declared.frame.Frame.{Frame}
 use Rattle.swi_dispatch_frames.specs.declared.frame.FrameKind.{FrameKind}

@@ -2,7 +2,7 @@
 use Rattle.std.specs.Prelude.{◌≡◌, ◌<◌, ◌≤◌, length, ℕ, true, false, None, IsSome, List, ◌∷◌, ◌++◌}
 use Rattle.swi_dispatch_frames.specs.Busy.{has_swi_of, is_swi}
 use Rattle.swi_dispatch_frames.specs.declared.frame.Frame.{Frame}
-use Rattle.swi_dispatch_modules.specs.instances.specs.Naming.{slots_of_kept}
+use Rattle.swi_dispatch_plans.specs.instances.specs.Naming.{slots_of_kept}
 use Rattle.instances_plans.specs.declared.code.Code.{Code}
 use Rattle.instances_plans.specs.Doable.{is_used}
 use Rattle.instances_table.specs.Modules.{slots_of}

@@ -28,4 +28,4 @@ pub use running::Ran;
 pub use swi_dispatch_answers;
 pub use swi_dispatch_answers::{Refusal, TextEnd};
 pub use swi_dispatch_breaks::{BreakError, Breaks};
-pub use swi_dispatch_modules::instances;
+pub use swi_dispatch_plans::instances;

@@ -24,7 +24,7 @@ use std::alloc::{AllocError, Global};
 use std::marker::Model;
 use swi_dispatch_answers::words::host_string;
 use swi_dispatch_frames::Frames;
-use swi_dispatch_modules::instances::Instances;
+use swi_dispatch_plans::instances::Instances;
 use swi_dispatch_plans::{Planner, Spare};
 
 /// The most bytes that a step can print.

@@ -5,7 +5,7 @@ ghost use Rattle.std.specs.Prelude.{◌≡◌, ◌<◌, ◌≤◌, ◌^◌, fals
 
 use crate::machine::Machine;
 use flex_ground::instances_ground::put_text;
-use swi_dispatch_modules::instances::Start;
+use swi_dispatch_plans::instances::Start;
 use swi_dispatch_plans::{Opening, enter_as_user};
 
 impl Machine {

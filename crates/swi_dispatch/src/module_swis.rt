@@ -7,7 +7,7 @@ use crate::machine::Machine;
 use profile::ErrorNumber;
 use swi_dispatch_answers::Refusal;
 use swi_dispatch_frames::{Call, Frame, FrameKind, MOST_FRAMES, enter_swi};
-use swi_dispatch_modules::instances::Handler;
+use swi_dispatch_plans::instances::Handler;
 
 impl Machine {
     ghost use Rattle.instances_table.specs.Lookup.{handler_of};

@@ -6,18 +6,18 @@ ghost use Rattle.profile.specs.ErrorNames.{error_code};
 ghost use Rattle.profile.specs.declared.error.ErrorNumber.{ErrorNumber};
 ghost use Rattle.profile.specs.declared.fault.Fault.TheVariants.{ErrorStop};
 ghost use Rattle.swi_dispatch_flex.specs.Calls.{flex_called};
-ghost use Rattle.swi_dispatch_modules.specs.swi_dispatch_store.specs.Areas.{area_called, area_changed, area_read};
-ghost use Rattle.swi_dispatch_modules.specs.swi_dispatch_store.specs.Areas.{change_asked};
-ghost use Rattle.swi_dispatch_modules.specs.swi_dispatch_store.specs.Heaps.{heap_called};
-ghost use Rattle.swi_dispatch_modules.specs.Calls.{module_called};
+ghost use Rattle.swi_dispatch_plans.specs.swi_dispatch_store.specs.Areas.{area_called, area_changed, area_read};
+ghost use Rattle.swi_dispatch_plans.specs.swi_dispatch_store.specs.Areas.{change_asked};
+ghost use Rattle.swi_dispatch_plans.specs.swi_dispatch_store.specs.Heaps.{heap_called};
+ghost use Rattle.swi_dispatch_plans.specs.swi_dispatch_modules.specs.Calls.{module_called};
 
 use crate::halt::Halt;
 use crate::machine::Machine;
 use profile::{ErrorNumber, SwiName};
 use swi_dispatch_answers::Refusal;
 use swi_dispatch_flex::call_flex;
-use swi_dispatch_modules::call_module;
-use swi_dispatch_modules::swi_dispatch_store::{
+use swi_dispatch_plans::swi_dispatch_modules::call_module;
+use swi_dispatch_plans::swi_dispatch_store::{
     call_area, call_heap, change_area, change_error, read_area,
 };
 

@@ -1,3 +1,5 @@
+pub use Rattle.swi_dispatch_modules.specs.instances
+pub use Rattle.swi_dispatch_modules.specs.swi_dispatch_store
 pub use Rattle.swi_dispatch_modules
 pub mod Beginning
 pub mod ImagePlans

@@ -16,3 +16,5 @@ pub use image_plans::{ImageRange, Load};
 pub use openings::{Opening, enter_as_user};
 pub use planner::Planner;
 pub use spare::Spare;
+pub use swi_dispatch_modules;
+pub use swi_dispatch_modules::{instances, swi_dispatch_store};
