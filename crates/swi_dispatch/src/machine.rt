@@ -257,6 +257,7 @@ impl Machine {
     /// The memory.
     #[tactic(auto, unfolding(os_heap::specs::Store::store_of))]
     pub fn memory(&self) -> &AddressMap
+        ensures map { result.now ≡ self.now.map }
         ensures store { store_of result.now ≡ (state_of self.now).store }
         ensures flex { IsFlex result.now (state_of self.now).tables.flex }
         ensures pool { free_pages result.now ≡ (state_of self.now).pool }
