@@ -38,7 +38,7 @@ impl Spare {
 
     /// The number of the error that a call ends with whose entry comes back with an outcome, if it ends so before more
     /// module code runs.
-    pub(crate) fn error_after(
+    pub fn error_after(
         &mut self,
         memory: &AddressMap,
         areas: &Areas,

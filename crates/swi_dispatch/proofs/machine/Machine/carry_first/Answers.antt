@@ -9,11 +9,20 @@ use Rattle.swi_dispatch.proofs.machine.Machine.carry_first.Goals as goal
 
 pub invariant_of-self : goal.invariant_of-self
 invariant_of-self c =
+    let before : MachineState = over c.self.inside.memory c.self.inside.cpu
+    (record {
+      land = c.self.inside.areas;
+      modules = c.self.inside.instances;
+      frames = c.self.inside.frames;
+      plan = c.self.inside.plan;
+      flex = c.self.inside.flex;
+    })
+    c.self.inside.halt in
     let carries = c.carry-code.ensures in
     let begins = subst (λ (p : Parts). CanBegin (setting_of (state_of p)) c.args.plan) (sym c.self.view_is)
     c.requires.begins in
     carried_well _ _ _ _ _ _ _ c.next_of-kept.ensures refl carries.carried carries.ended carries.going carries.classes
-    (carried_frames _ _ _ _ _ _ _ (begun_beneath _ _ begins) carries.others refl refl)
+    (carried_frames _ _ _ _ _ _ _ (begun_beneath before _ begins) carries.others refl refl)
     c.self.invariant carries.flex refl (ap (λ (p : Parts). p.is_fresh) c.self.view_is ∙ c.requires.stepped)
 
 pub returns-clause-state : goal.returns-clause-state
@@ -37,7 +46,16 @@ returns-clause-next c =
 
 pub returns-clause-goes : goal.returns-clause-goes
 returns-clause-goes c =
+    let before : MachineState = over c.self.inside.memory c.self.inside.cpu
+    (record {
+      land = c.self.inside.areas;
+      modules = c.self.inside.instances;
+      frames = c.self.inside.frames;
+      plan = c.self.inside.plan;
+      flex = c.self.inside.flex;
+    })
+    c.self.inside.halt in
     let begins = subst (λ (p : Parts). CanBegin (setting_of (state_of p)) c.args.plan) (sym c.self.view_is)
     c.requires.begins in
-    carries_on _ _ _ _ _ _ _ _ c.next_of-kept.ensures refl refl refl begins.free.room (begun_beneath _ _ begins)
+    carries_on _ _ _ _ _ _ _ _ c.next_of-kept.ensures refl refl refl begins.free.room (begun_beneath before _ begins)
     c.carry-code.ensures.others
