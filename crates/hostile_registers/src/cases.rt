@@ -100,7 +100,10 @@ pub fn read_cases(alloc: Global, text: &[u8]) -> Result<Vec<Case>, CaseError> {
     let mut cases: Vec<Case> = Vec::new(alloc);
     for line in text.split_inclusive(|byte| *byte == b'\n') {
         match line {
-            [b'=', b'=', b'=', b' ', title @ ..] => cases.push(Case::titled(alloc, title)?)?,
+            [b'=', b'=', b'=', b' ', title @ ..] => {
+                let case = Case::titled(alloc, title)?;
+                cases.push(case).map_err(|_| CaseError::Memory)?;
+            }
             _ => {
                 let case = cases.last_mut().ok_or(CaseError::Title)?;
                 case.session.take_line(line)?;
