@@ -11,7 +11,7 @@ mod run;
 
 use crate::cases::{Session, read_cases};
 use crate::error::CaseError;
-use crate::run::{Difference, difference};
+use crate::run::complaint_of;
 use std::alloc::{AllocError, Global};
 use std::process::ExitCode;
 use std::{env, fs};
@@ -77,7 +77,7 @@ where
         if case.is_refused() {
             tally.stepped = tally.stepped.saturating_add(1);
         }
-        match difference(alloc, begin, case)? {
+        match complaint_of(alloc, begin, case)? {
             None => tally.good = tally.good.saturating_add(1),
             Some(found) => println!(rt; "{}: {found}", case.name.as_str())?,
         }

@@ -42,7 +42,7 @@ impl fmt::Display for Difference {
 /// # Errors
 ///
 /// A script can't be run, and `Memory`.
-pub fn difference(
+pub fn complaint_of(
     alloc: Global,
     begin: &Session,
     case: &Case,
