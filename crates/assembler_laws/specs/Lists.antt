@@ -1,5 +1,6 @@
--- The lists on a line without counts. A count bounds the terms of a number, the items of DCD and DCB, and the registers of LDM and STM, in the
--- definitions of the assembler; what is said here is that each goes on for as long as its sign or comma stands there, whatever the count.
+-- The lists on a line without counts. A count bounds the terms of a number, the items of DCD and DCB, and the registers
+-- of LDM and STM, in the definitions of the assembler; what is said here is that each goes on for as long as its sign or
+-- comma stands there, whatever the count.
 use Rattle.std.specs.Prelude.{ℕ, ◌≡◌, List, length, Option}
 use Rattle.assembler_names.specs.Expressions.{Lookup, Value, more_terms, next_term, sign}
 use Rattle.assembler_names.specs.Words.{comma, ◌>>=◌}
@@ -23,7 +24,8 @@ all_registers list text = more_registers (length text) list text
 -- behind a sign a term and all that follow it, else nothing
 abbrev pub TermsGoOn : Type 0
 TermsGoOn =
-    (labels : Lookup) (sum : Value) (text : List ℕ) → all_terms labels sum text ≡ next_term (all_terms labels) labels sum text (sign text)
+    (labels : Lookup) (sum : Value) (text : List ℕ)
+    → all_terms labels sum text ≡ next_term (all_terms labels) labels sum text (sign text)
 
 -- behind a comma an item and all that follow it, else nothing
 abbrev pub ItemsGoOn : Type 0

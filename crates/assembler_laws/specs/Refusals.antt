@@ -21,7 +21,8 @@ pub record Follows (origin : ℕ) (pieces : List Piece) (text : List ℕ) (q : P
 abbrev pub IsTwice : List Piece → Piece → Type 0
 IsTwice pieces q = (address : ℕ) × HasLabel pieces q.label address
 
--- Why a line can't be laid out behind others, the reasons in this order: it is not of the grammar; it has a label of an earlier line; it ends too far.
+-- Why a line can't be laid out behind others, the reasons in this order: it is not of the grammar; it has a label of an
+-- earlier line; it ends too far.
 abbrev pub IsUnplacedFor : ℕ → List Piece → List ℕ → Reason → Type 0
 IsUnplacedFor origin pieces text Syntax = (q : Piece) → Follows origin pieces text q → ⊥
 IsUnplacedFor origin pieces text LabelTwice = (q : Piece) × (Follows origin pieces text q × IsTwice pieces q)
