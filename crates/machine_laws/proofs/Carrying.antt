@@ -9,7 +9,7 @@ use Rattle.flex_ground.specs.instances_ground.specs.World.{World}
 use Rattle.swi_dispatch_plans.specs.instances.specs.declared.answers.Start.{Start}
 use Rattle.swi_dispatch_plans.specs.instances.specs.Reading.{start_found}
 use Rattle.swi_dispatch_frames.specs.declared.call.Call.{Call}
-use Rattle.swi_dispatch.specs.Gates.{call_ended_by, entered_if, entered_with, kept_by, next_of, went_to, with_carried}
+use Rattle.swi_dispatch.specs.Gates.{call_ended_by, entered_if, entered_with, ended_of, finished, kept_by, opened}
 use Rattle.swi_dispatch.specs.Returns.{gone_back}
 use Rattle.swi_dispatch.specs.MachineState.{MachineState, machine_world}
 use Rattle.swi_dispatch.specs.ModuleStart.{opened_at}
@@ -17,7 +17,7 @@ use Rattle.machine_laws.proofs.Behind.{IsTexted, text_texted, texted_same}
 
 -- the machine after it
 abbrev pub gone : MachineState → Call → Carried World → MachineState
-gone s call c = went_to (with_carried s c) call (next_of c)
+gone s call c = finished (opened s call c) call (ended_of c)
 
 -- a machine where only texts were written
 record IsTextedOnly (s t : MachineState) : Type 0 where
@@ -53,7 +53,7 @@ carried_by : (s : MachineState) (call : Call) (w : World) (q : Plan) (o : Option
     → IsCarriedOn s (gone s call (record { world = w; rest = q; code = o })) (record { world = w; rest = q; code = o })
 carried_by s call w q (Some code) few = record { texted = texted_same w; plan = refl; flex = refl }
 carried_by s call w q None few =
-    let r = ended_only (with_carried s (record { world = w; rest = q; code = None })) call q.given q.first few in
+    let r = ended_only (opened s call (record { world = w; rest = q; code = None })) call q.given q.first few in
     record { texted = r.texted; plan = r.plan; flex = r.flex }
 
 pub carried_so : (s : MachineState) (call : Call) (c : Carried World) → length c.rest.given.text.items ≤ 255 → IsCarriedOn s (gone s call c) c

@@ -12,10 +12,10 @@ use Rattle.instances_plans.specs.Plans.{Plan}
 use Rattle.swi_dispatch_plans.specs.ModulePlans.{tidy_planned}
 use Rattle.swi_dispatch.specs.Gates.{outcome_left}
 use Rattle.swi_dispatch.specs.MachineState.{MachineState, setting_of}
-use Rattle.swi_dispatch.specs.Parts.{Parts, state_of}
+use Rattle.swi_dispatch.specs.Parts.{IsMachine, Parts, state_of}
 use Rattle.swi_dispatch.specs.Step.{called, instructed, machine_step, module_loaded, store_called}
 use Rattle.swi_dispatch.specs.Step.{without_x}
-use Rattle.machine_laws.specs.MachineStores.{IsMachine, stores_of}
+use Rattle.machine_laws.specs.MachineStores.{stores_of}
 use Rattle.machine_laws.specs.Turns.{AreStill, FlexSwi, IsTidied, IsTidyKept, IsTurnMade, flex_name, flex_turn}
 
 -- A call by its number, after which the guest goes on at `next`: a flex call is its turn, and a tidy that isn't refused

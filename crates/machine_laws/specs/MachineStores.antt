@@ -1,18 +1,11 @@
 -- What a machine has of the stores that flex calls and slides act on.
-use Rattle.std.specs.Prelude.{◌≤◌, length, Option, Some, None, List, []}
-use Rattle.std.specs.Prelude.{IfSome}
+use Rattle.std.specs.Prelude.{Option, Some, None, List, []}
 use Rattle.instances_plans.specs.Plans.{Plan}
 use Rattle.instances_table.specs.declared.parts.Image.{Image}
-use Rattle.instances_table.specs.Modules.{AreModules}
 use Rattle.swi_dispatch_plans.specs.instances.specs.instances_actions.specs.Pending.{pending_of}
 use Rattle.swi_dispatch.specs.MachineState.{MachineState, machine_world}
-use Rattle.swi_dispatch.specs.Parts.{IsWellFormed, Parts, state_of}
+use Rattle.swi_dispatch.specs.Parts.{IsMachine, Parts, state_of}
 use Rattle.store_laws.specs.Meaning.{AreStores, Stores}
-
-pub record IsMachine (p : Parts) : Type 0 where
-  pub well_formed : IsWellFormed p
-  pub modules : AreModules p.tables.modules
-  pub text : IfSome p.tables.plan (λ (plan : Plan). length plan.given.text.items ≤ 255)
 
 -- the image that the call under way has recorded and not added to the modules yet, if there is one
 abbrev pub pending_in : Option Plan → List Image
