@@ -2,7 +2,10 @@
 
 use command_shell::{RunError, run_script};
 use image_loader::Images;
-use profile::{Config, MemorySink, MemorySource};
+use profile::{Config, Device, MemorySink, MemorySource, Source};
+use std::alloc::Global;
+use std::io;
+use std::io::Read;
 use std::process::Abort;
 use std::test::Fail;
 
@@ -57,21 +60,15 @@ fn each_pull_can_fail(rt: HostRuntime) {
 }
 
 #[test]
-fn each_push_can_fail(rt: HostRuntime) {
+fn each_push_can_fail(rt: HostRuntime) -> Result<(), Fail> {
+    let sizes = Config::new(5, 1, 1).ok_or("sizes")?;
     let mut last_failing = 0;
     for n in 1..200u64 {
         let mut reader = MemorySource::new(SIX_WORDS.as_bytes(), 4096, u64::MAX);
         let mut room = [0u8; 1024];
         let mut writer = MemorySink::new(&mut room, 5, n);
         let mut images = Images::new();
-        let result = run_script(
-            rt.alloc(),
-            &mut reader,
-            &mut images,
-            &mut writer,
-            usual_sizes(&rt),
-            20,
-        );
+        let result = run_script(rt.alloc(), &mut reader, &mut images, &mut writer, sizes, 20);
         assert!(rt; SIX_WORDS_ANSWER.as_bytes().starts_with(writer.written()));
         if writer.written().len() < SIX_WORDS_ANSWER.len() {
             assert!(rt; result == Err(RunError::WriteFault), "push {n}");
@@ -81,6 +78,7 @@ fn each_push_can_fail(rt: HostRuntime) {
         }
     }
     assert!(rt; 55 < last_failing && last_failing < 150);
+    Ok(())
 }
 
 /// Passes with each allocation refused, too: what stands written is then a part of the answers.
@@ -152,4 +150,48 @@ fn errors_have_texts(rt: HostRuntime) -> Result<(), Fail> {
             == "no memory for the script, the machine or an image; the script can't be read; the answers can't be written; the script has more than 1,048,576 bytes"
     );
     Ok(())
+}
+
+/// A reader that gives an empty line a time and never ends, and counts how often it was asked.
+#[derive(Drop)]
+struct Endless {
+    reads: u64,
+}
+
+impl Read for Endless {
+    fn read(&mut self, buf: &mut [u8]) -> io::Result<usize> {
+        self.reads = self.reads.saturating_add(1);
+        match buf.first_mut() {
+            Some(byte) => {
+                *byte = b'\n';
+                Ok(1)
+            }
+            None => Ok(0),
+        }
+    }
+}
+
+/// Whether a script is found too long before anything is written.
+fn is_too_long<R: Source>(rt: &impl Abort, alloc: Global, reader: &mut R) -> bool {
+    let mut room = [0u8; 16];
+    let mut writer = MemorySink::new(&mut room, 16, u64::MAX);
+    let result = run_script(
+        alloc,
+        reader,
+        &mut Images::new(),
+        &mut writer,
+        usual_sizes(rt),
+        20,
+    );
+    result == Err(RunError::ScriptTooLong) && writer.written().is_empty()
+}
+
+#[test]
+fn a_reader_without_end_is_left(rt: HostRuntime) {
+    let mut repeated = Device::new(io::repeat(b'\n'));
+    assert!(rt; is_too_long(&rt, rt.alloc(), &mut repeated));
+    let mut endless = Endless { reads: 0 };
+    let mut device = Device::new(&mut endless);
+    assert!(rt; is_too_long(&rt, rt.alloc(), &mut device));
+    assert!(rt; endless.reads <= 1_048_577);
 }

@@ -1,4 +1,4 @@
-//! Tests of the shell where a reader or a writer fails, memory is refused, or a script is too long.
+//! Tests of the shell where a reader or a writer fails, memory is refused, or a script is too long, cut off or random.
 //!
 //! What a script is answered with stands in the transcripts of `worked_scripts`. These tests stand apart
 //! from the crates that they test, since a crate with tests is proved once more with them.
@@ -6,3 +6,5 @@
 
 #[cfg(test)]
 mod failures;
+#[cfg(test)]
+mod malformed;

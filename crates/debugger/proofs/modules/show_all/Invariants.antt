@@ -3,7 +3,7 @@ use Rattle.std.specs.List.{flat_map}
 use Rattle.profile.specs.Output.{Completes}
 use Rattle.address_map.specs.Memory.{bytes_of}
 use Rattle.debugger.specs.Modules.{module_text}
-use Rattle.debugger.proofs.modules.show_modules.Given as goal
+use Rattle.debugger.proofs.modules.show_all.Given as goal
 
 -- what stands written, and the lines of the modules that are left, is all
 abbrev pub invariant-loop-number : goal.invariant-loop-number
