@@ -24,8 +24,8 @@ pub fn store_calls_are_turns()
     ensures { StoreCallsAreTurns }
 {}
 
-/// A tidy whose module code comes back goes on: the step in which the module area slides is a turn, and all others leave
-/// what the stores mean.
+/// A tidy whose module code comes back goes on: the step in which the module area slides is a turn, and all others
+/// leave what the stores mean.
 pub fn tidies_go_on()
     ensures { TidiesGoOn }
 {}
