@@ -4,6 +4,7 @@
 
 mod banks;
 mod blocks;
+mod faults;
 mod flow;
 mod processing;
 mod program_counter;
@@ -30,12 +31,12 @@ enum Line {
     Pc(u32),
     /// A word is put where the program counter is, and a step carries it out.
     Run(u32),
-    /// The same of a word that ends otherwise.
-    Ends(u32, Turn),
     /// A step of what memory holds.
     Steps(Turn),
     /// R0 to R4 have these values.
     Lowest(u32, u32, u32, u32, u32),
+    /// R5 to R14 have this value.
+    Above(u32),
     Has(u32, u32),
     /// A register, as a mode sees it, has this value.
     In(Mode, u32, u32),
@@ -113,6 +114,15 @@ impl Board {
             && self.has(4, values.4)
     }
 
+    /// R5 to R14 have this value.
+    fn has_above(&self, value: u32) -> bool {
+        let mut has = true;
+        for number in 5..15 {
+            has = has && self.has(number, value);
+        }
+        has
+    }
+
     fn holds(&self, address: u32, value: u32) -> bool {
         self.memory.load_word(address) == Ok(value)
     }
@@ -136,7 +146,6 @@ impl Board {
             Line::Pc(address) => self.cpu.set_pc(address),
             Line::Put(address, word) => return self.memory.store_word(address, word).is_ok(),
             Line::Run(word) => return self.run(word) == Turn::Done,
-            Line::Ends(word, turn) => return self.run(word) == turn,
             Line::Steps(turn) => return self.step() == turn,
             _ => (),
         }
@@ -147,6 +156,7 @@ impl Board {
     fn finds(&self, line: &Line) -> bool {
         match *line {
             Line::Lowest(r0, r1, r2, r3, r4) => self.has_lowest((r0, r1, r2, r3, r4)),
+            Line::Above(value) => self.has_above(value),
             Line::Has(number, value) => self.has(number, value),
             Line::In(mode, number, value) => self.cpu.register_in(mode, number.min(14)) == value,
             Line::Holds(address, value) => self.holds(address, value),

@@ -6,8 +6,6 @@ use Rattle.std.specs.Prelude.{if◌then◌else◌, IfSome}
 use Rattle.std.specs.Str.Lines.{lines}
 use Rattle.profile.specs.Sizes.{Sizes}
 use Rattle.profile.specs.declared.stop.Stop.{Stop}
-use Rattle.profile.proofs.OutputLemmas.{Completes-start, Completes-more, Completes-same, Appends-from_completes}
-use Rattle.profile.proofs.OutputLemmas.{AppendsFront-from_completes, AppendsFront-start}
 use Rattle.command_shell_lines.specs.Blocks.{block_lines, after_block, block_size, lines_after, lines_taken}
 use Rattle.command_shell_lines.specs.Requests.{Request, Nothing, Hex, Asm, Boot, Run, Regs, Set, Poke, Call, Load, Step}
 use Rattle.command_shell_lines.specs.Requests.{Break, Unbreak, Mem, Code, Heap, Areas, Modules, Flex, Unknown}
@@ -18,6 +16,8 @@ use Rattle.command_shell.specs.Session.{script_state}
 use Rattle.command_shell.specs.Script.{OpenBlock, request_told, on_opened, on_request, in_block, lines_told}
 use Rattle.command_shell.specs.Script.{script_told}
 use Rattle.command_shell.specs.State.{ScriptState, Answered, answer, then_answered, start_state}
+use Rattle.command_shell.proofs.FrontLemmas.{AddsAllBut-start, Appends-from_all_but, AddsFront-from_all_but}
+use Rattle.command_shell.proofs.FrontLemmas.{AddsFront-start, IsFront-same}
 
 -- an answer, and then the lines that are left
 after_told : Answered → ℕ → List (List ℕ) → Answered
@@ -190,15 +190,12 @@ last_told (Some script) sizes images budget read text first now last is same sta
     ∙ ap (λ (xs : List ℕ). (lines_told 0 (start_state sizes images budget) None (lines xs)).state.last) (same ∙ is)
 
 pub ruleset line_steps = (
-  Completes-start,
-  Completes-more,
-  Completes-same,
-  Appends-from_completes,
-  AppendsFront-from_completes,
-  text_step,
-  state_step,
+  AddsAllBut-start,
+  Appends-from_all_but,
+  AddsFront-from_all_but,
+  IsFront-same,
   text_end,
   state_end,
 )
 
-pub ruleset whole_steps = (AppendsFront-start, state_images)
+pub ruleset whole_steps = (AddsFront-start, state_images)

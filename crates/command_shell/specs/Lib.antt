@@ -1,6 +1,7 @@
 pub mod Answers
 pub mod Calls
 pub mod Error
+pub mod Fronts
 pub mod Images
 pub mod Memory
 pub mod Script

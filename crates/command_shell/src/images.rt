@@ -3,6 +3,7 @@
 ghost use Rattle.std.specs.Prelude.{◌≡◌, ◌+◌, true, IfErr, OnOk, OnErr};
 ghost use Rattle.command_shell_lines.specs.Blocks.{block_lines, after_block, block_size, result_of_block};
 ghost use Rattle.command_shell.specs.Error.{IsLineError};
+ghost use Rattle.command_shell.specs.Fronts.{AreOldOrTold};
 
 use crate::answers::{tell_boot, tell_image, tell_image_refused, tell_line_refused, tell_refused};
 use crate::error::RunError;
@@ -34,6 +35,8 @@ impl Session {
         ensures number { OnOk result (script.new.number ≡ script.old.number + block_size script.old.left) }
         ensures memory { result ≡ Err RunError.Memory → sink.new ≡ sink.old }
         ensures write_fault { result ≡ Err RunError.WriteFault → W.has_failed sink.new ≡ true }
+        ensures images { OnErr result (AreOldOrTold images.old images.new
+            (hex_told (script_state self.now images.old) name.now (block_lines script.old.left))) }
         ensures errors { IfErr result IsLineError }
         ensures same_flag { OnOk result (W.has_failed sink.new ≡ W.has_failed sink.old) }
     {
@@ -58,6 +61,8 @@ impl Session {
             (hex_block (script_state self.now images.old) name.now (result_of_block block.now))) }
         ensures memory { result ≡ Err RunError.Memory → sink.new ≡ sink.old }
         ensures write_fault { result ≡ Err RunError.WriteFault → W.has_failed sink.new ≡ true }
+        ensures images { OnErr result (AreOldOrTold images.old images.new
+            (hex_block (script_state self.now images.old) name.now (result_of_block block.now))) }
         ensures errors { IfErr result IsLineError }
         ensures same_flag { OnOk result (W.has_failed sink.new ≡ W.has_failed sink.old) }
     {
@@ -83,6 +88,8 @@ impl Session {
         ensures number { OnOk result (script.new.number ≡ script.old.number + block_size script.old.left) }
         ensures memory { result ≡ Err RunError.Memory → sink.new ≡ sink.old }
         ensures write_fault { result ≡ Err RunError.WriteFault → W.has_failed sink.new ≡ true }
+        ensures images { OnErr result (AreOldOrTold images.old images.new
+            (asm_told (script_state self.now images.old) name.now origin (block_lines script.old.left))) }
         ensures errors { IfErr result IsLineError }
         ensures same_flag { OnOk result (W.has_failed sink.new ≡ W.has_failed sink.old) }
     {
@@ -111,6 +118,8 @@ impl Session {
             → result ≡ Err RunError.Memory }
         ensures memory { result ≡ Err RunError.Memory → sink.new ≡ sink.old }
         ensures write_fault { result ≡ Err RunError.WriteFault → W.has_failed sink.new ≡ true }
+        ensures images { OnErr result (AreOldOrTold images.old images.new
+            (asm_block (script_state self.now images.old) name.now answer.now)) }
         ensures errors { IfErr result IsLineError }
         ensures same_flag { OnOk result (W.has_failed sink.new ≡ W.has_failed sink.old) }
     {
@@ -140,6 +149,8 @@ impl Session {
             (image_sized (script_state self.now images.old) word.now name.now bytes.now)) }
         ensures memory { result ≡ Err RunError.Memory → sink.new ≡ sink.old }
         ensures write_fault { result ≡ Err RunError.WriteFault → W.has_failed sink.new ≡ true }
+        ensures images { OnErr result (AreOldOrTold images.old images.new
+            (image_sized (script_state self.now images.old) word.now name.now bytes.now)) }
         ensures errors { IfErr result IsLineError }
         ensures same_flag { OnOk result (W.has_failed sink.new ≡ W.has_failed sink.old) }
     {

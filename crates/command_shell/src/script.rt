@@ -1,8 +1,8 @@
-ghost use Rattle.std.specs.Prelude.{◌≡◌, ◌≤◌, ◌<◌, true, false, None, length, IfOk, IfErr, IfSome, IsErr, OnOk};
+ghost use Rattle.std.specs.Prelude.{◌≡◌, ◌≤◌, ◌<◌, true, false, None, length, IfOk, IfErr, IfSome, IsErr, OnOk, OnErr};
 ghost use Rattle.std.specs.Str.Lines.{lines};
 ghost use Rattle.std.specs.Io.KnownBytes.{Appends};
-ghost use Rattle.profile.specs.Output.{AppendsFront};
 ghost use Rattle.command_shell.specs.Error.{IsLineError};
+ghost use Rattle.command_shell.specs.Fronts.{AddsFront, HasSome};
 ghost use Rattle.command_shell.specs.Script.{lines_told, script_told};
 ghost use Rattle.command_shell.specs.Session.{script_state};
 ghost use Rattle.command_shell.specs.State.{IsAnswered};
@@ -28,8 +28,8 @@ pub struct Summary {
 /// # Errors
 ///
 /// `ReadFault` and `ScriptTooLong`, past 1,048,576 bytes, before anything is written; `Memory`, when
-/// a part of the answers may stand written; `WriteFault`. The images may then hold those that the
-/// script has added.
+/// a part of the answers may stand written; `WriteFault`. The images are then those of before and
+/// some of those that the script adds, in order.
 #[tactic(auto, using(crate::proofs::ScriptLemmas::whole_steps), unfolding(crate::specs::Script::script_told))]
 pub fn run_script<R: Source, W: Sink>(
     alloc: Global,
@@ -46,8 +46,10 @@ pub fn run_script<R: Source, W: Sink>(
         summary.last ≡ (script_told config images.old budget script).state.last)) }
     ensures images { IfOk result (λ _. IfSome (R.remaining reader.old) (λ script.
         images.new ≡ (script_told config images.old budget script).state.images)) }
+    ensures added { OnErr result (IfSome (R.remaining reader.old) (λ script.
+        HasSome images.old (script_told config images.old budget script).state.images images.new)) }
     ensures memory { result ≡ Err RunError.Memory → IfSome (R.remaining reader.old) (λ script.
-        AppendsFront (W.contents writer.old) (W.contents writer.new)
+        AddsFront (W.contents writer.old) (W.contents writer.new)
         (script_told config images.old budget script).text) }
     ensures told { R.has_failed reader.new ≡ true → result ≡ Err RunError.ReadFault }
     ensures read_fault { result ≡ Err RunError.ReadFault
@@ -80,11 +82,13 @@ fn run_lines<W: Sink>(
     ensures told { OnOk result (IsAnswered (W.contents sink.old) (W.contents sink.new)
         (script_state session.new images.new)
         (lines_told 0 (script_state session.old images.old) None (lines script.now))) }
-    ensures memory { result ≡ Err RunError.Memory → AppendsFront (W.contents sink.old) (W.contents sink.new)
+    ensures memory { result ≡ Err RunError.Memory → AddsFront (W.contents sink.old) (W.contents sink.new)
         (lines_told 0 (script_state session.old images.old) None (lines script.now)).text }
     ensures write_fault { result ≡ Err RunError.WriteFault → W.has_failed sink.new ≡ true }
     ensures write_told { W.has_failed sink.old ≡ false → W.has_failed sink.new ≡ true
         → result ≡ Err RunError.WriteFault }
+    ensures added { OnErr result (HasSome images.old
+        (lines_told 0 (script_state session.old images.old) None (lines script.now)).state.images images.new) }
     ensures errors { IfErr result IsLineError }
     ensures same_flag { OnOk result (W.has_failed sink.new ≡ W.has_failed sink.old) }
 {

@@ -1,6 +1,7 @@
-ghost use Rattle.std.specs.Prelude.{◌≡◌, ◌+◌, true, List, IfOk, IfErr, OnOk};
+ghost use Rattle.std.specs.Prelude.{◌≡◌, ◌+◌, true, List, IfOk, IfErr, OnOk, OnErr};
 ghost use Rattle.command_shell_lines.specs.Blocks.{block_lines, lines_after, lines_taken};
 ghost use Rattle.command_shell.specs.Error.{IsLineError};
+ghost use Rattle.command_shell.specs.Fronts.{AreOldOrTold};
 
 use crate::answers::tell_unknown;
 use crate::calls::OutsideCall;
@@ -75,6 +76,9 @@ impl Session {
             ≡ script.old.number + lines_taken (opens_block (request_of_command command.entry)) script.old.left) }
         ensures memory { result ≡ Err RunError.Memory → sink.new ≡ sink.old }
         ensures write_fault { result ≡ Err RunError.WriteFault → W.has_failed sink.new ≡ true }
+        ensures images { OnErr result (AreOldOrTold images.old images.new
+            (request_told (script_state self.old images.old) script.old.number
+            (request_of_command command.entry) (block_lines script.old.left))) }
         ensures errors { IfErr result IsLineError }
         ensures same_flag { OnOk result (W.has_failed sink.new ≡ W.has_failed sink.old) }
     {

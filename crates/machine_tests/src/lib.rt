@@ -6,4 +6,6 @@
 #[cfg(test)]
 mod machine;
 #[cfg(test)]
+mod refusals;
+#[cfg(test)]
 mod views;

@@ -1,13 +1,16 @@
 -- A file's front of one byte more than an image can have tells whether the file can be an image.
-use Rattle.std.proofs.Common.{◌≡◌, ◌≤◌, ◌<◌, ◌∙◌, ◌+◌, ◌++◌, ◌∷◌, [], ℕ, List, length, take, append_assoc, slice_get, nat_lt, Option, Some, None, Result, Ok, Err, IfSome, IsOkUnless, MatchOption, false, arith, refl, sym, ap}
+use Rattle.std.proofs.Common.{◌≡◌, ◌≤◌, ◌<◌, ◌∙◌, ◌+◌, ◌++◌, ◌∷◌, [], ℕ, List, length, take, append_assoc, slice_get, nat_lt}
+use Rattle.std.proofs.Common.{Option, Some, None, Result, Ok, Err, IfSome, IsOkUnless, MatchOption, false, arith, refl, sym, ap}
+use Rattle.std.proofs.Common.{subst}
 use Rattle.std.proofs.lemmas.Bool.Decides.{nat_tests}
-use Rattle.std.proofs.lemmas.List.{length-take, map-append, take_all, take_more}
+use Rattle.std.proofs.lemmas.List.{append-nil, length-take, map-append, take_all, take_more}
 use Rattle.std.proofs.lemmas.Option.{get_or_from_slice_get, slice_get_within}
 use Rattle.image_loader.specs.Entries.{Entry, refusal_for, with_entry}
 use Rattle.image_loader.specs.declared.error.ImageError.{ImageError}
 use Rattle.image_loader.specs.declared.error.ImageError.TheVariants as image
 use Rattle.std.specs.Path.{path_file_name}
-use Rattle.rosm_settings.specs.ImageFiles.{AddsImage, RefusesImage, front_of, is_host_error, names_for}
+use Rattle.rosm_settings.specs.ImageFiles.{AddsFile, AddsFiles, AddsImage, RefusesImage, front_of, is_host_error}
+use Rattle.rosm_settings.specs.ImageFiles.{names_for, names_of}
 use Rattle.rosm_settings.specs.declared.image_files.FileError.TheVariants as file
 
 in_limit : (entries : List Entry) (name : List ℕ) (len : ℕ) → refusal_for entries name len ≡ None → len ≤ 1048576
@@ -22,33 +25,69 @@ let_in : {U : Type 0} (u : U) (o : Option ImageError) (P : Type 0) → MatchOpti
 let_in u None P h = refl
 let_in u (Some e) P h = absurd (cc)
 
-pub adds_image : {U : Type 0} (u : U) (P : Type 0) (old new : List Entry) (path name bytes all : List ℕ) (most : ℕ)
-    → 1048576 < most → Some name ≡ path_file_name path → bytes ≡ front_of most all
-    → MatchOption (refusal_for old name (length bytes)) P (λ e. ◌≡◌ {A = Result U ImageError} (Ok u) (Err e))
-    → new ≡ with_entry old name bytes → AddsImage old path new all
-adds_image u P old new path name bytes all most enough part front refused added =
-    let free : refusal_for old name (length bytes) ≡ None = let_in u _ P refused in
+-- a front of the bytes that are told, which the table lets in, is all of them
+let_in_whole : (old : List Entry) (name bytes : List ℕ) (known : Option (List ℕ)) (most : ℕ) → 1048576 < most
+    → IfSome known (λ all. bytes ≡ front_of most all) → refusal_for old name (length bytes) ≡ None
+    → IfSome known (λ all. bytes ≡ all)
+let_in_whole old name bytes None most enough front free = tt
+let_in_whole old name bytes (Some all) most enough front free =
     let limit : length bytes ≤ 1048576 = in_limit old name (length bytes) free in
     let short : length (front_of most all) < most = rw (← front) (omega arith) in
-    let whole : bytes ≡ all = front ∙ front_is_all all most short in
+    front ∙ front_is_all all most short
+
+pub adds_image : {U : Type 0} (u : U) (P : Type 0) (old new : List Entry) (path name bytes : List ℕ)
+    (known : Option (List ℕ)) (most : ℕ)
+    → 1048576 < most → Some name ≡ path_file_name path → IfSome known (λ all. bytes ≡ front_of most all)
+    → MatchOption (refusal_for old name (length bytes)) P (λ e. ◌≡◌ {A = Result U ImageError} (Ok u) (Err e))
+    → new ≡ with_entry old name bytes → AddsImage old path known new
+adds_image u P old new path name bytes known most enough part front refused added =
+    let free : refusal_for old name (length bytes) ≡ None = let_in u _ P refused in
     record {
       name = name;
+      bytes = bytes;
       last_part = sym part;
-      let_in = rw (← whole) free;
-      added = added ∙ ap (with_entry old name) whole;
+      told = let_in_whole old name bytes known most enough front free;
+      let_in = free;
+      added = added;
     }
 
--- one more file
-pub names_more : (paths : List (List ℕ)) (n : ℕ) (path : List ℕ) (before between after : List (Option (List ℕ)))
-    → between ≡ before ++ names_for (take n paths) → after ≡ between ++ path_file_name path ∷ [] → slice_get paths n ≡ Some path
-    → after ≡ before ++ names_for (take (n + 1) paths)
-names_more paths n path before between after first then at =
+-- one more file after others
+files_then : {F : Type 0} (remaining : F → Option (List ℕ)) (old now new : List Entry) (paths : List (List ℕ))
+    (path : List ℕ)
+    → AddsFiles remaining old paths now → AddsFile remaining now path new
+    → AddsFiles remaining old (paths ++ path ∷ []) new
+files_then remaining old now new [] path first next =
+    (new, subst (λ (es : List Entry). AddsFile remaining es path new) first next, refl)
+files_then remaining old now new (p ∷ paths) path first next =
+    (first.0, first.1, files_then remaining first.0 now new paths path first.2 next)
+
+pub files_more : {F : Type 0} (remaining : F → Option (List ℕ)) (old now new : List Entry) (paths : List (List ℕ))
+    (n : ℕ) (path : List ℕ)
+    → AddsFiles remaining old (take n paths) now → AddsFile remaining now path new → slice_get paths n ≡ Some path
+    → AddsFiles remaining old (take (n + 1) paths) new
+files_more remaining old now new paths n path first next at =
     let taken : take (n + 1) paths ≡ take n paths ++ path ∷ [] =
-    take_more paths n path (slice_get_within paths n path at) ∙ ap (λ x. take n paths ++ x ∷ []) (get_or_from_slice_get paths n path path at) in
-    let names : names_for (take (n + 1) paths) ≡ names_for (take n paths) ++ path_file_name path ∷ [] =
-    ap names_for taken ∙ map-append path_file_name (take n paths) (path ∷ []) in
-    then ∙ ap (λ x. x ++ path_file_name path ∷ []) first
-    ∙ append_assoc before (names_for (take n paths)) (path_file_name path ∷ []) ∙ ap (λ x. before ++ x) (sym names)
+    take_more paths n path (slice_get_within paths n path at)
+    ∙ ap (λ x. take n paths ++ x ∷ []) (get_or_from_slice_get paths n path path at) in
+    subst (λ (front : List (List ℕ)). AddsFiles remaining old front new) (sym taken)
+    (files_then remaining old now new (take n paths) path first next)
+
+-- the names of images that were added for files
+name_of_file : {F : Type 0} (remaining : F → Option (List ℕ)) (old new : List Entry) (path : List ℕ)
+    → AddsFile remaining old path new → names_of new ≡ names_of old ++ path_file_name path ∷ []
+name_of_file remaining old new path adds =
+    let e : Entry = record { name = adds.adds.name; bytes = adds.adds.bytes } in
+    ap names_of adds.adds.added ∙ map-append (λ (e : Entry). Some e.name) old (e ∷ [])
+    ∙ ap (λ (o : Option (List ℕ)). names_of old ++ o ∷ []) (sym adds.adds.last_part)
+
+pub names_of_files : {F : Type 0} (remaining : F → Option (List ℕ)) (old : List Entry) (paths : List (List ℕ))
+    (new : List Entry)
+    → AddsFiles remaining old paths new → names_of new ≡ names_of old ++ names_for paths
+names_of_files remaining old [] new adds = ap names_of adds ∙ sym (append-nil (names_of old))
+names_of_files remaining old (path ∷ paths) new adds =
+    names_of_files remaining adds.0 paths new adds.2
+    ∙ ap (λ (names : List (Option (List ℕ))). names ++ names_for paths) (name_of_file remaining old adds.0 path adds.1)
+    ∙ append_assoc (names_of old) (path_file_name path ∷ []) (names_for paths)
 
 -- whatever a file holds, bytes that it can hold
 known_bytes : (known : Option (List ℕ)) → (bytes : List ℕ) × IfSome known (λ all. bytes ≡ all)

@@ -1,1 +1,2 @@
 pub mod ImageFilesLemmas
+pub mod StreamLemmas

@@ -1,12 +1,13 @@
 -- The whole run of the program: files as images, and then the script.
-use Rattle.std.specs.Prelude.{◌≡◌, ℕ, Bool, true, false, List, [], Option, IfSome}
+use Rattle.std.specs.Prelude.{◌≡◌, ◌<◌, ℕ, Bool, true, false, List, [], length, Option, IfSome}
 use Rattle.std.specs.Io.KnownBytes.{Appends}
 use Rattle.profile.specs.declared.stop.Stop.{Stop}
 use Rattle.image_loader.specs.Entries.{Entry}
+use Rattle.command_shell.specs.Fronts.{AddsFront}
 use Rattle.command_shell.specs.Script.{script_told}
 use Rattle.command_shell.specs.State.{Answered}
 use Rattle.command_line.specs.declared.options.Settings.{Settings}
-use Rattle.rosm_settings.specs.ImageFiles.{StopsAtFile, names_for, names_of}
+use Rattle.rosm_settings.specs.ImageFiles.{AddsFiles, StopsAtFile}
 use Rattle.rosm_settings.specs.declared.refusal.Refusal.{Refusal}
 use Rattle.rosm_settings.specs.declared.refusal.Refusal.TheVariants as refusal
 
@@ -14,13 +15,21 @@ use Rattle.rosm_settings.specs.declared.refusal.Refusal.TheVariants as refusal
 abbrev pub answers_to : Settings → List Entry → List ℕ → Answered
 answers_to settings images script = script_told settings.config images settings.budget script
 
--- With the files' images there from the start, the answers to the script are appended to what was written before, all of them,
--- and the last stop is the script's.
-pub record AnswersScript (settings : Settings) (script before after : Option (List ℕ)) (last : Option Stop) : Type 0 where
+-- With the files' images there from the start, the answers to the script are appended to what was written before, all
+-- of them, and the last stop is the script's.
+pub record AnswersScript {F : Type 0} (of_file : F → Option (List ℕ)) (settings : Settings)
+    (script before after : Option (List ℕ)) (last : Option Stop) : Type 0 where
   pub images : List Entry
-  pub named : names_of images ≡ names_for settings.files
+  pub files : AddsFiles of_file [] settings.files images
   pub text : IfSome script (λ bytes. Appends before after (answers_to settings images bytes).text)
   pub stop : IfSome script (λ bytes. last ≡ (answers_to settings images bytes).state.last)
+
+-- Where memory runs out after the files, a front of these answers was appended.
+pub record EndsWithin {F : Type 0} (of_file : F → Option (List ℕ)) (settings : Settings)
+    (script before after : Option (List ℕ)) : Type 0 where
+  pub images : List Entry
+  pub files : AddsFiles of_file [] settings.files images
+  pub text : IfSome script (λ bytes. AddsFront before after (answers_to settings images bytes).text)
 
 -- refusals that come of files and scripts, and not of words
 abbrev pub is_of_run : Refusal → Bool
@@ -29,13 +38,33 @@ is_of_run (refusal.Script error) = true
 is_of_run _ = false
 
 -- The first file that gives no image is told of; nothing was read of the script then, nor written.
-pub record StopsBeforeScript {R W : Type 0} (paths : List (List ℕ)) (r r' : R) (w w' : W) (told : Refusal) : Type 0 where
+pub record StopsBeforeScript {F R W : Type 0} (of_file : F → Option (List ℕ)) (paths : List (List ℕ)) (r r' : R)
+    (w w' : W) (told : Refusal) : Type 0 where
   pub images : List Entry
-  pub stops : StopsAtFile [] images paths told
+  pub stops : StopsAtFile of_file [] images paths told
   pub unread : r' ≡ r
   pub unwritten : w' ≡ w
 
-abbrev pub RefusesFiles : {R W : Type 0} → List (List ℕ) → R → R → W → W → Refusal → Type 0
-RefusesFiles paths r r' w w' (refusal.File path error) =
-    StopsBeforeScript paths r r' w w' (refusal.File path error)
-RefusesFiles paths r r' w w' _ = Unit {0}
+abbrev pub RefusesFiles : {F R W : Type 0} → (F → Option (List ℕ)) → List (List ℕ) → R → R → W → W → Refusal → Type 0
+RefusesFiles of_file paths r r' w w' (refusal.File path error) =
+    StopsBeforeScript of_file paths r r' w w' (refusal.File path error)
+RefusesFiles of_file paths r r' w w' _ = Unit {0}
+
+-- The last stop is that of a script that a reader tells, with the files' images there from the start.
+pub record StopsWithScript {F R : Type 0} (of_file : F → Option (List ℕ)) (of_reader : R → Option (List ℕ))
+    (settings : Settings) (last : Option Stop) : Type 0 where
+  pub reader : R
+  pub images : List Entry
+  pub files : AddsFiles of_file [] settings.files images
+  pub stop : IfSome (of_reader reader) (λ bytes. last ≡ (answers_to settings images bytes).state.last)
+
+-- The refusal of a file is that of the first that gives no image.
+abbrev pub TellsOfFile : {F : Type 0} → (F → Option (List ℕ)) → List (List ℕ) → Refusal → Type 0
+TellsOfFile of_file paths (refusal.File path error) =
+    (images : List Entry) × StopsAtFile of_file [] images paths (refusal.File path error)
+TellsOfFile of_file paths _ = Unit {0}
+
+-- A reader tells more bytes than a script may have.
+pub record TellsTooMuch {R : Type 0} (of_reader : R → Option (List ℕ)) : Type 0 where
+  pub reader : R
+  pub long : IfSome (of_reader reader) (λ script. 1048576 < length script)

@@ -1,5 +1,6 @@
--- Files as images: a file's image is named by the last part of its path.
-use Rattle.std.specs.Prelude.{◌≡◌, ◌++◌, ℕ, Bool, true, false, List, length, map, take, slice_get, Option, Some, None, IfSome, option_map}
+-- Files as images: a file's image is named by the last part of its path, and has the bytes that its reader tells.
+use Rattle.std.specs.Prelude.{◌≡◌, ℕ, Bool, true, false, List, [], ◌∷◌, length, map, take, slice_get, Option, Some, None}
+use Rattle.std.specs.Prelude.{IfSome, option_map}
 use Rattle.std.specs.Path.{path_file_name}
 use Rattle.std.specs.declared.io.ErrorKind.{ErrorKind}
 use Rattle.std.specs.declared.io.ErrorKind.TheVariants as kind
@@ -43,10 +44,12 @@ named_refusal entries (Some name) bytes = option_map file.Image (refusal_for ent
 abbrev pub file_refusal : List Entry → List ℕ → List ℕ → Option FileError
 file_refusal entries path bytes = named_refusal entries (path_file_name path) bytes
 
--- the file of that path, which holds these bytes, is taken into the table
-pub record AddsImage (old : List Entry) (path : List ℕ) (new : List Entry) (bytes : List ℕ) : Type 0 where
+-- the file of that path is taken into the table, with all the bytes that its reader tells, as far as they are known
+pub record AddsImage (old : List Entry) (path : List ℕ) (known : Option (List ℕ)) (new : List Entry) : Type 0 where
   pub name : List ℕ
+  pub bytes : List ℕ
   pub last_part : path_file_name path ≡ Some name
+  pub told : IfSome known (λ all. bytes ≡ all)
   pub let_in : refusal_for old name (length bytes) ≡ None
   pub added : new ≡ with_entry old name bytes
 
@@ -55,6 +58,24 @@ pub record RefusesImage (old : List Entry) (path : List ℕ) (known : Option (Li
   pub bytes : List ℕ
   pub held : IfSome known (λ all. bytes ≡ all)
   pub refused : file_refusal old path bytes ≡ Some error
+
+-- A file was opened, and it is taken into the table with the bytes that it tells.
+pub record AddsFile {F : Type 0} (remaining : F → Option (List ℕ)) (old : List Entry) (path : List ℕ) (new : List Entry)
+    : Type 0 where
+  pub file : F
+  pub adds : AddsImage old path (remaining file) new
+
+-- A file was opened, and its image is refused so.
+pub record RefusesFile {F : Type 0} (remaining : F → Option (List ℕ)) (old : List Entry) (path : List ℕ)
+    (error : FileError) : Type 0 where
+  pub file : F
+  pub refuses : RefusesImage old path (remaining file) error
+
+-- The files of these paths are taken in one after another.
+abbrev pub AddsFiles : {F : Type 0} → (F → Option (List ℕ)) → List Entry → List (List ℕ) → List Entry → Type 0
+AddsFiles remaining old [] new = new ≡ old
+AddsFiles remaining old (path ∷ paths) new =
+    (now : List Entry) × AddsFile remaining old path now × AddsFiles remaining now paths new
 
 -- the names of the images, in order
 abbrev pub names_of : List Entry → List (Option (List ℕ))
@@ -69,13 +90,14 @@ abbrev pub IsOfFile : Refusal → List ℕ → FileError → Type 0
 IsOfFile (refusal.File at error) path told = (at.now ≡ path) × (error ≡ told)
 IsOfFile _ path told = ⊥
 
--- The files before the first one that gives no image are taken in; it is the one that is told of, and its error is the host's or the
--- table's at that time.
-pub record StopsAtFile (old new : List Entry) (paths : List (List ℕ)) (told : Refusal) : Type 0 where
+-- The files before the first one that gives no image are taken in; it is the one that is told of, and its error is the
+-- host's or the table's at that time.
+pub record StopsAtFile {F : Type 0} (remaining : F → Option (List ℕ)) (old new : List Entry) (paths : List (List ℕ))
+    (told : Refusal) : Type 0 where
   pub place : ℕ
   pub path : List ℕ
   pub error : FileError
   pub there : slice_get paths place ≡ Some path
   pub tells : IsOfFile told path error
-  pub before : names_of new ≡ names_of old ++ names_for (take place paths)
-  pub cause : is_host_error error ≡ false → RefusesImage new path None error
+  pub before : AddsFiles remaining old (take place paths) new
+  pub cause : is_host_error error ≡ false → RefusesFile remaining new path error

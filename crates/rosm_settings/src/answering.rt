@@ -1,8 +1,8 @@
-ghost use Rattle.std.specs.Prelude.{◌≡◌, ◌<◌, false, true, length, Err, IfErr, IfOk, IfSome, IsErr, OnOk};
+ghost use Rattle.std.specs.Prelude.{◌≡◌, ◌<◌, false, true, length, Err, IfErr, IfOk, IfSome, IsErr, OnErr, OnOk};
 ghost use Rattle.std.specs.Io.KnownBytes.{Appends};
 ghost use Rattle.profile.specs.Devices.{device_failed, device_inner};
-ghost use Rattle.profile.specs.Output.{AppendsFront};
-ghost use Rattle.rosm_settings.specs.Answering.{AnswersScript, RefusesFiles, answers_to, is_of_run};
+ghost use Rattle.command_shell.specs.Fronts.{AddsFront, HasSome};
+ghost use Rattle.rosm_settings.specs.Answering.{AnswersScript, EndsWithin, RefusesFiles, answers_to, is_of_run};
 
 use crate::image_files::add_files;
 use crate::refusal::Refusal;
@@ -31,11 +31,15 @@ where
     F: AllocGlobal + fs::Files,
     R: Source,
     W: Write,
-    ensures answers { IfOk result (AnswersScript settings.entry.now (R.remaining reader.old)
+    ensures answers { IfOk result (AnswersScript F.File.Read.remaining settings.entry.now (R.remaining reader.old)
         (W.contents (device_inner writer.old)) (W.contents (device_inner writer.new))) }
     ensures well { OnOk result (device_failed writer.new ≡ false) }
     ensures refused { IfErr result (λ e. is_of_run e ≡ true) }
-    ensures files { IfErr result (RefusesFiles settings.entry.now.files reader.old reader.new writer.old writer.new) }
+    ensures files { IfErr result (RefusesFiles F.File.Read.remaining settings.entry.now.files reader.old reader.new
+        writer.old writer.new) }
+    ensures memory { result ≡ Err (Refusal.Script RunError.Memory)
+        → EndsWithin F.File.Read.remaining settings.entry.now (R.remaining reader.old)
+        (W.contents (device_inner writer.old)) (W.contents (device_inner writer.new)) }
     ensures read_fault { result ≡ Err (Refusal.Script RunError.ReadFault)
         → (R.has_failed reader.new ≡ true) × (writer.new ≡ writer.old) }
     ensures too_long { result ≡ Err (Refusal.Script RunError.ScriptTooLong)
@@ -71,8 +75,10 @@ pub fn answer_script<R: Source, W: Sink>(
         last ≡ (answers_to settings.now images.old script).state.last)) }
     ensures images { OnOk result (IfSome (R.remaining reader.old) (λ script.
         images.new ≡ (answers_to settings.now images.old script).state.images)) }
+    ensures added { OnErr result (IfSome (R.remaining reader.old) (λ script.
+        HasSome images.old (answers_to settings.now images.old script).state.images images.new)) }
     ensures memory { result ≡ Err RunError.Memory → IfSome (R.remaining reader.old) (λ script.
-        AppendsFront (W.contents writer.old) (W.contents writer.new)
+        AddsFront (W.contents writer.old) (W.contents writer.new)
         (answers_to settings.now images.old script).text) }
     ensures told { R.has_failed reader.new ≡ true → result ≡ Err RunError.ReadFault }
     ensures read_fault { result ≡ Err RunError.ReadFault

@@ -1,7 +1,8 @@
-ghost use Rattle.std.specs.Prelude.{◌≡◌, [], ◌∷◌, ◌++◌, false, None, IfErr, IfOk, IfSome, OnErr, OnOk};
+ghost use Rattle.std.specs.Prelude.{◌≡◌, [], ◌∷◌, ◌++◌, false, IfErr, IfOk, IfSome, OnErr, OnOk};
 ghost use Rattle.std.specs.Path.{path_file_name};
 ghost use Rattle.rosm_settings.specs.ImageFiles.{file_error as error_of};
-ghost use Rattle.rosm_settings.specs.ImageFiles.{AddsImage, RefusesImage, StopsAtFile, front_of, is_host_error, names_for, names_of};
+ghost use Rattle.rosm_settings.specs.ImageFiles.{AddsFile, AddsFiles, AddsImage, RefusesFile, RefusesImage, StopsAtFile};
+ghost use Rattle.rosm_settings.specs.ImageFiles.{front_of, is_host_error, names_for, names_of};
 
 use crate::refusal::Refusal;
 use command_line::Files;
@@ -89,8 +90,9 @@ fn file_error(kind: ErrorKind) -> FileError
 pub fn add_files<'a, R>(rt: &R, files: &'a Files, images: &mut Images) -> Result<(), Refusal<'a>>
 where
     R: AllocGlobal + fs::Files,
-    ensures added { OnOk result (names_of images.new ≡ names_of images.old ++ names_for files.entry.now) }
-    ensures refused { IfErr result (StopsAtFile images.old images.new files.entry.now) }
+    ensures added { OnOk result (AddsFiles R.File.Read.remaining images.old files.entry.now images.new) }
+    ensures named { OnOk result (names_of images.new ≡ names_of images.old ++ names_for files.entry.now) }
+    ensures refused { IfErr result (StopsAtFile R.File.Read.remaining images.old images.new files.entry.now) }
 {
     for n in 0..files.len() {
         let path = files.get(n);
@@ -104,9 +106,9 @@ where
 fn add_file<R>(rt: &R, path: &str, images: &mut Images) -> Result<(), FileError>
 where
     R: AllocGlobal + fs::Files,
-    ensures named { OnOk result (names_of images.new ≡ names_of images.old ++ path_file_name path.now ∷ []) }
+    ensures added { OnOk result (AddsFile R.File.Read.remaining images.old path.now images.new) }
     ensures refused { IfErr result (λ e. is_host_error e ≡ false
-        → RefusesImage images.old path.now None e) }
+        → RefusesFile R.File.Read.remaining images.old path.now e) }
     ensures err { OnErr result (images.new ≡ images.old) }
 {
     let file = File::open(rt, path)?;
@@ -125,8 +127,7 @@ pub fn add_image<R: Read + Drop>(
     reader: R,
     images: &mut Images,
 ) -> Result<(), FileError>
-    ensures ok { OnOk result (IfSome (R.remaining reader)
-        (AddsImage images.old path.now images.new)) }
+    ensures ok { OnOk result (AddsImage images.old path.now (R.remaining reader) images.new) }
     ensures refused { IfErr result (λ e. is_host_error e ≡ false
         → RefusesImage images.old path.now (R.remaining reader) e) }
     ensures named { OnOk result (names_of images.new ≡ names_of images.old ++ path_file_name path.now ∷ []) }

@@ -1,8 +1,10 @@
 //! The program's process: its words, its standard streams and its exit status.
-ghost use Rattle.std.specs.Prelude.{◌≡◌, ◌≢◌, IfErr, IfOk, Ok, map, string_bytes};
+ghost use Rattle.std.specs.Prelude.{◌≡◌, ◌≢◌, Err, IfErr, IfOk, Ok, map, string_bytes};
 ghost use Rattle.std.specs.Process.{exit_status};
 ghost use Rattle.command_line.specs.Settings.{settings_for};
-ghost use Rattle.rosm_settings.specs.Endings.{IsRefusalOf, status_of};
+ghost use Rattle.command_shell.specs.declared.error.RunError.TheVariants.{ScriptTooLong};
+ghost use Rattle.rosm_settings.specs.Answering.{StopsWithScript, TellsOfFile, TellsTooMuch};
+ghost use Rattle.rosm_settings.specs.Endings.{IsRefusalOf, refusal_status, status_of};
 
 use crate::answering::run;
 use crate::refusal::Refusal;
@@ -78,6 +80,10 @@ pub fn run_on_standard_streams<'a, R>(
 ) -> Result<Option<Stop>, Refusal<'a>>
 where
     R: AllocGlobal + fs::Files + Input + Print,
+    ensures stop { IfOk result (StopsWithScript R.File.Read.remaining R.Reader.Read.remaining settings.entry.now) }
+    ensures refused { IfErr result (λ e. refusal_status e ≡ 4) }
+    ensures files { IfErr result (TellsOfFile R.File.Read.remaining settings.entry.now.files) }
+    ensures too_long { result ≡ Err (Refusal.Script ScriptTooLong) → TellsTooMuch R.Reader.Read.remaining }
 {
     let Ok(buffered) = BufWriter::new(rt.alloc(), io::writer(rt)) else {
         return Err(Refusal::Memory);

@@ -1,25 +1,10 @@
 ghost use Rattle.std.specs.Prelude.{◌≡◌, IfOk, None};
-ghost use Rattle.command_line.specs.Status.{status_after};
-ghost use Rattle.command_shell.specs.Script.{script_told};
 
 use crate::difference::Difference;
 use crate::error::TranscriptError;
 use crate::transcript::Transcript;
-use command_line::stop_status;
-use command_shell::{RunError, run_script};
-use image_loader::Images;
-use profile::{Config, Device, MemorySink};
+use script_outcomes::{Outcome, outcome_of};
 use std::alloc::{AllocError, Global};
-
-/// The most bytes that the answers of a transcript may have.
-const MOST_ANSWER_BYTES: usize = 65536;
-
-/// What came of a script.
-#[derive(Drop)]
-struct Outcome {
-    answer: Vec<u8>,
-    status: u8,
-}
 
 /// What is wrong with a transcript, or `None` where all is as it says. One that is wrong on purpose
 /// says what is to be told of it.
@@ -68,29 +53,6 @@ fn run(alloc: Global, transcript: &mut Transcript) -> Result<Outcome, Transcript
     let script = transcript.script.as_slice();
     let outcome = outcome_of(alloc, script, &mut settings.images, config, settings.budget)?;
     Ok(outcome)
-}
-
-// Runs a script on a fresh machine.
-fn outcome_of(
-    alloc: Global,
-    script: &[u8],
-    images: &mut Images,
-    config: Config,
-    budget: u64,
-) -> Result<Outcome, RunError>
-    ensures answer { IfOk result (λ outcome. outcome.answer.items
-        ≡ (script_told config images.old budget script.now).text) }
-    ensures status { IfOk result (λ outcome. outcome.status
-        ≡ status_after (script_told config images.old budget script.now).state.last) }
-{
-    let mut reader = Device::new(script);
-    let mut room = vec![in alloc; 0u8; MOST_ANSWER_BYTES]?;
-    let mut writer = MemorySink::new(&mut room, MOST_ANSWER_BYTES, u64::MAX);
-    let summary = run_script(alloc, &mut reader, images, &mut writer, config, budget)?;
-    Ok(Outcome {
-        answer: Vec::from_slice(alloc, writer.written())?,
-        status: stop_status(summary.last),
-    })
 }
 
 // The first line that differs. Texts that are equal are not looked at line by line.

@@ -1,24 +1,15 @@
 //! The banks of the four modes.
 
-use super::Line::{At, Has, In, Lowest, New, Run};
+use super::Line::{Above, At, Has, In, Lowest, New, Run};
 use super::{Board, Line, play, psr_of};
 use arm_step::{Cpu, Mode, Turn};
 use std::alloc::{AllocError, Global};
 use std::test::Fail;
 
-static LINES: [Line; 43] = [
+static LINES: [Line; 34] = [
     // R0 to R14 of a core as the machine starts
     Lowest(0, 0, 0, 0, 0),
-    Has(5, 0),
-    Has(6, 0),
-    Has(7, 0),
-    Has(8, 0),
-    Has(9, 0),
-    Has(10, 0),
-    Has(11, 0),
-    Has(12, 0),
-    Has(13, 0),
-    Has(14, 0),
+    Above(0),
     Has(15, 0x8000),
     At(0x8000),
     // BL to itself in each mode: R14 is the next word's address with the status

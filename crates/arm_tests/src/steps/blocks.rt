@@ -1,13 +1,13 @@
 //! LDM and STM.
 
-use super::Line::{Ends, Has, Holds, In, Lowest, New, Put, Registers, Run, Set, Words};
+use super::Line::{Has, Holds, In, Lowest, New, Put, Registers, Run, Set, Words};
 use super::{Line, play};
 use address_map::{AddressMap, Kind};
 use arm_step::{Cpu, Mode, Turn, step};
 use profile::Fault;
 use std::test::Fail;
 
-static LINES: [Line; 221] = [
+static LINES: [Line; 167] = [
     // STM R1!,{R2,R3,R4} by IA, IB, DA, DB
     New(0),
     Registers(0, 0x9010, 0x22, 0x33, 0x44),
@@ -169,63 +169,6 @@ static LINES: [Line; 221] = [
     Set(13, 0x9020),
     Run(0xE8CD_2000),
     Holds(0x9020, 13),
-    // faults move nothing
-    // LDMIA R1,{R2,R3,R4}
-    New(0),
-    Registers(0, 0x03FF_FFF8, 2, 3, 4),
-    Ends(0xE891_001C, Turn::Fault(Fault::AddressException)),
-    Lowest(0, 0x03FF_FFF8, 2, 3, 4),
-    Has(15, 0x8000),
-    Holds(0x9FFC, 0),
-    Holds(0x03FF_FFFC, 0),
-    // STMIB R1,{R2}
-    New(0),
-    Registers(0, 0x03FF_FFFC, 2, 3, 4),
-    Ends(0xE981_0004, Turn::Fault(Fault::AddressException)),
-    Lowest(0, 0x03FF_FFFC, 2, 3, 4),
-    Has(15, 0x8000),
-    Holds(0x9FFC, 0),
-    Holds(0x03FF_FFFC, 0),
-    // LDMIA R1,{R2} past 2^26
-    New(0),
-    Registers(0, 0xFFFF_FFFC, 2, 3, 4),
-    Ends(0xE891_0004, Turn::Fault(Fault::AddressException)),
-    Lowest(0, 0xFFFF_FFFC, 2, 3, 4),
-    Has(15, 0x8000),
-    Holds(0x9FFC, 0),
-    Holds(0x03FF_FFFC, 0),
-    // LDMDB R1,{R2,R3,R4} below 0
-    New(0),
-    Registers(0, 4, 2, 3, 4),
-    Ends(0xE911_001C, Turn::Fault(Fault::AddressException)),
-    Lowest(0, 4, 2, 3, 4),
-    Has(15, 0x8000),
-    Holds(0x9FFC, 0),
-    Holds(0x03FF_FFFC, 0),
-    // LDMIA R1!,{R2}
-    New(0),
-    Registers(0, 0x7FFC, 2, 3, 4),
-    Ends(0xE8B1_0004, Turn::Fault(Fault::DataUnmapped)),
-    Lowest(0, 0x7FFC, 2, 3, 4),
-    Has(15, 0x8000),
-    Holds(0x9FFC, 0),
-    Holds(0x03FF_FFFC, 0),
-    // STMIA R1!,{R2,R3}
-    New(0),
-    Registers(0, 0x9FFC, 2, 3, 4),
-    Ends(0xE8A1_000C, Turn::Fault(Fault::DataUnmapped)),
-    Lowest(0, 0x9FFC, 2, 3, 4),
-    Has(15, 0x8000),
-    Holds(0x9FFC, 0),
-    Holds(0x03FF_FFFC, 0),
-    // STMDB R1!,{R2,R3}
-    New(0),
-    Registers(0, 0x8000, 2, 3, 4),
-    Ends(0xE921_000C, Turn::Fault(Fault::DataUnmapped)),
-    Lowest(0, 0x8000, 2, 3, 4),
-    Has(15, 0x8000),
-    Holds(0x9FFC, 0),
-    Holds(0x03FF_FFFC, 0),
     // STMIA R1!,{R2,R3} to the last words below the edge
     New(0),
     Registers(0, 0x03FF_FFF8, 2, 3, 0),
@@ -244,12 +187,6 @@ static LINES: [Line; 221] = [
     Holds(0x8FFC, 7),
     Holds(0x9000, 8),
     Has(1, 0x9004),
-    // LDMIA R1!,{R2,R3} whose second word is not mapped
-    New(0),
-    Registers(0, 0x9FFC, 2, 3, 4),
-    Ends(0xE8B1_000C, Turn::Fault(Fault::DataUnmapped)),
-    Lowest(0, 0x9FFC, 2, 3, 4),
-    Has(15, 0x8000),
 ];
 
 #[test]

@@ -1,7 +1,7 @@
-//! Conditions, branches, software interrupts, fetches and refused words.
+//! Conditions, branches, software interrupts, the gate and fetches.
 
-use super::Line::{At, Ends, Has, Holds, Lowest, New, Pc, Run, Set, Steps};
-use super::{Line, play, takes};
+use super::Line::{Above, At, Has, Lowest, New, Pc, Put, Run, Steps};
+use super::{Board, Line, play, takes};
 use arm_step::Turn;
 use profile::Fault;
 use std::test::Fail;
@@ -39,69 +39,49 @@ fn meets_conditions_by_the_flags(rt: HostRuntime) -> Result<(), Fail> {
     Ok(())
 }
 
-static LINES: [Line; 176] = [
-    // where the condition fails, nothing else of the word counts
-    New(0),
-    Set(0, 3),
-    Run(0xF600_0010),
-    Has(0, 3),
-    Has(15, 0x8004),
-    New(0),
-    Set(0, 3),
-    Run(0xF100_0090),
-    Has(0, 3),
-    Has(15, 0x8004),
-    New(0),
-    Set(0, 3),
-    Run(0x0E00_0000),
-    Has(0, 3),
-    Has(15, 0x8004),
-    New(0),
-    Set(0, 3),
-    Run(0x0F00_0011),
-    Has(0, 3),
-    Has(15, 0x8004),
-    New(0),
-    Set(0, 3),
-    Run(0xF8E0_0002),
-    Has(0, 3),
-    Has(15, 0x8004),
-    // branches both ways
-    New(0),
-    Pc(0x8000),
-    Run(0xEA00_0000),
-    At(0x8008),
-    Has(14, 0),
-    New(0),
-    Pc(0x8000),
-    Run(0xEAFF_FFFE),
-    At(0x8000),
-    Has(14, 0),
-    New(0),
-    Pc(0x8000),
-    Run(0xEA00_03FE),
-    At(0x9000),
-    Has(14, 0),
-    New(0),
-    Pc(0x8004),
-    Run(0xEAFF_FFFD),
-    At(0x8000),
-    Has(14, 0),
-    New(0),
-    Pc(0x03FF_FFF8),
-    Run(0xEA00_0000),
-    At(0),
-    Has(14, 0),
-    New(0),
-    Pc(0x8000),
-    Run(0xEAFF_DFFD),
-    At(0x03FF_FFFC),
-    Has(14, 0),
-    New(0),
-    Pc(0x8000),
-    Run(0xEA80_0000),
-    At(0x0200_8008),
-    Has(14, 0),
+/// Words whose condition fails: nothing else of them counts.
+static NOT_MET: [u32; 5] = [
+    0xF600_0010, // no instruction under AL
+    0xF100_0090, // SWPNV of later processors
+    0x0E00_0000, // a coprocessor's, under EQ
+    0x0F00_0011, // SWIEQ &11
+    0xF8E0_0002, // STMNVIA R0!,{R1}^
+];
+
+#[test]
+fn passes_over_words_whose_condition_fails(rt: HostRuntime) -> Result<(), Fail> {
+    for &word in &NOT_MET {
+        assert!(rt;
+            takes(rt.alloc(), 0, (3, 0, 0, 0), word, 3, 0)?,
+            "{word:08X}"
+        );
+    }
+    Ok(())
+}
+
+/// Where the program counter is, a branch there, and where it is then.
+static BRANCHES: [(u32, u32, u32); 7] = [
+    (0x8000, 0xEA00_0000, 0x8008),
+    (0x8000, 0xEAFF_FFFE, 0x8000),
+    (0x8000, 0xEA00_03FE, 0x9000),
+    (0x8004, 0xEAFF_FFFD, 0x8000),
+    (0x03FF_FFF8, 0xEA00_0000, 0),
+    (0x8000, 0xEAFF_DFFD, 0x03FF_FFFC),
+    (0x8000, 0xEA80_0000, 0x0200_8008),
+];
+
+#[test]
+fn branches_both_ways(rt: HostRuntime) -> Result<(), Fail> {
+    for &(from, word, to) in &BRANCHES {
+        let mut board = Board::new(rt.alloc())?;
+        board.cpu.set_pc(from);
+        let is_done = board.run(word) == Turn::Done && board.has(15, to) && board.has(14, 0);
+        assert!(rt; is_done, "{word:08X}");
+    }
+    Ok(())
+}
+
+static LINES: [Line; 40] = [
     // MOV R0,PC at the last word: two words ahead is 4. BL there: the link is 0
     New(0),
     Pc(0x03FF_FFFC),
@@ -113,79 +93,12 @@ static LINES: [Line; 176] = [
     Run(0xEB00_0000),
     Has(14, 0),
     At(4),
-    // turns that change nothing
-    New(0x5000_0000),
-    Set(0, 3),
-    Set(14, 5),
-    Ends(0xEF00_0011, Turn::Swi(0x11)),
-    Has(0, 3),
-    Has(14, 5),
-    Has(15, 0x5000_8000),
-    Holds(0x8000, 0xEF00_0011),
-    New(0x5000_0000),
-    Set(0, 3),
-    Set(14, 5),
-    Ends(0xEFFF_FFFF, Turn::Swi(0xFF_FFFF)),
-    Has(0, 3),
-    Has(14, 5),
-    Has(15, 0x5000_8000),
-    Holds(0x8000, 0xEFFF_FFFF),
-    New(0x5000_0000),
-    Set(0, 3),
-    Set(14, 5),
-    Ends(0xE600_0010, Turn::Fault(Fault::UndefinedInstruction)),
-    Has(0, 3),
-    Has(14, 5),
-    Has(15, 0x5000_8000),
-    Holds(0x8000, 0xE600_0010),
-    New(0x5000_0000),
-    Set(0, 3),
-    Set(14, 5),
-    Ends(0xEC00_0000, Turn::Fault(Fault::UndefinedInstruction)),
-    Has(0, 3),
-    Has(14, 5),
-    Has(15, 0x5000_8000),
-    Holds(0x8000, 0xEC00_0000),
-    New(0x5000_0000),
-    Set(0, 3),
-    Set(14, 5),
-    Ends(0xE100_0090, Turn::Fault(Fault::Unallocated)),
-    Has(0, 3),
-    Has(14, 5),
-    Has(15, 0x5000_8000),
-    Holds(0x8000, 0xE100_0090),
-    New(0x5000_0000),
-    Set(0, 3),
-    Set(14, 5),
-    Ends(0xE081_0F12, Turn::Fault(Fault::PcOperand)),
-    Has(0, 3),
-    Has(14, 5),
-    Has(15, 0x5000_8000),
-    Holds(0x8000, 0xE081_0F12),
-    New(0x5000_0000),
-    Set(0, 3),
-    Set(14, 5),
-    Ends(0xE001_0291, Turn::Fault(Fault::MultiplySame)),
-    Has(0, 3),
-    Has(14, 5),
-    Has(15, 0x5000_8000),
-    Holds(0x8000, 0xE001_0291),
-    New(0x5000_0000),
-    Set(0, 3),
-    Set(14, 5),
-    Ends(0xE890_0000, Turn::Fault(Fault::EmptyList)),
-    Has(0, 3),
-    Has(14, 5),
-    Has(15, 0x5000_8000),
-    Holds(0x8000, 0xE890_0000),
-    New(0x5000_0000),
-    Set(0, 3),
-    Set(14, 5),
-    Ends(0xE8E0_0002, Turn::Fault(Fault::UserBankWriteback)),
-    Has(0, 3),
-    Has(14, 5),
-    Has(15, 0x5000_8000),
-    Holds(0x8000, 0xE8E0_0002),
+    // SWI &11, and that of the highest number
+    New(0),
+    Put(0x8000, 0xEF00_0011),
+    Steps(Turn::Swi(0x11)),
+    Put(0x8000, 0xEFFF_FFFF),
+    Steps(Turn::Swi(0xFF_FFFF)),
     // MOV PC,#&3800000, then the gate; other unmapped words are FetchUnmapped
     New(0),
     Run(0xE3A0_F50E),
@@ -211,16 +124,7 @@ static LINES: [Line; 176] = [
     New(0),
     Run(0xF600_0010),
     Lowest(0, 0, 0, 0, 0),
-    Has(5, 0),
-    Has(6, 0),
-    Has(7, 0),
-    Has(8, 0),
-    Has(9, 0),
-    Has(10, 0),
-    Has(11, 0),
-    Has(12, 0),
-    Has(13, 0),
-    Has(14, 0),
+    Above(0),
     Has(15, 0x8004),
 ];
 

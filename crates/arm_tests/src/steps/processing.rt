@@ -3,6 +3,9 @@
 use super::takes;
 use std::test::Fail;
 
+/// A word of ones.
+const ONES: u32 = 0xFFFF_FFFF;
+
 /// Flags before, R0 to R3, the word; R0 and the flags after it.
 static ROWS: [(u32, u32, u32, u32, u32, u32, u32, u32); 62] = [
     // every operation with S, to R0 from R1 and R2, with Z and V set before; C is given
@@ -25,42 +28,15 @@ static ROWS: [(u32, u32, u32, u32, u32, u32, u32, u32); 62] = [
     // ADDS, SUBS, ADCS and SBCS at the edges
     (0, 0, 0x7FFF_FFFF, 1, 0, 0xE091_0002, 0x8000_0000, 9),
     (0, 0, 0xFFFF_FFFF, 1, 0, 0xE091_0002, 0, 6),
-    (
-        2,
-        0,
-        0xFFFF_FFFF,
-        0xFFFF_FFFF,
-        0,
-        0xE091_0002,
-        0xFFFF_FFFE,
-        0xA,
-    ),
+    (2, 0, ONES, ONES, 0, 0xE091_0002, 0xFFFF_FFFE, 0xA),
     (0, 0, 0x8000_0000, 0x8000_0000, 0, 0xE091_0002, 0, 7),
     (0, 0, 0, 0, 0, 0xE091_0002, 0, 4),
     (0, 0, 0, 0, 0, 0xE051_0002, 0, 6),
     (0, 0, 0, 1, 0, 0xE051_0002, 0xFFFF_FFFF, 8),
     (0, 0, 0x8000_0000, 1, 0, 0xE051_0002, 0x7FFF_FFFF, 3),
-    (
-        0,
-        0,
-        0x7FFF_FFFF,
-        0xFFFF_FFFF,
-        0,
-        0xE051_0002,
-        0x8000_0000,
-        9,
-    ),
+    (0, 0, 0x7FFF_FFFF, ONES, 0, 0xE051_0002, 0x8000_0000, 9),
     (0, 0, 1, 0x8000_0000, 0, 0xE051_0002, 0x8000_0001, 9),
-    (
-        0,
-        0,
-        0xFFFF_FFFF,
-        0x7FFF_FFFF,
-        0,
-        0xE051_0002,
-        0x8000_0000,
-        0xA,
-    ),
+    (0, 0, ONES, 0x7FFF_FFFF, 0, 0xE051_0002, 0x8000_0000, 0xA),
     (2, 0, 0xFFFF_FFFF, 0, 0, 0xE0B1_0002, 0, 6),
     (2, 0, 0x7FFF_FFFF, 0x8000_0000, 0, 0xE0B1_0002, 0, 6),
     (2, 0, 0x7FFF_FFFF, 0, 0, 0xE0B1_0002, 0x8000_0000, 9),

@@ -68,7 +68,7 @@ fn offsets_by_numbers(rt: HostRuntime) {
 }
 
 /// Word; P, U, B, W, L, Rn, Rd, amount, type, Rm.
-static OFFSETS_BY_REGISTERS: [(
+type ByRegister = (
     u32,
     bool,
     Direction,
@@ -80,7 +80,9 @@ static OFFSETS_BY_REGISTERS: [(
     u32,
     Shift,
     u8,
-); 9] = [
+);
+
+static OFFSETS_BY_REGISTERS: [ByRegister; 9] = [
     (0xE792_1003, PRE, Up, false, false, true, 2, 1, 0, Lsl, 3), // LDR R1,[R2,R3]
     (0xE712_1003, PRE, Down, false, false, true, 2, 1, 0, Lsl, 3), // LDR R1,[R2,-R3]
     (0xE7A2_1103, PRE, Up, false, true, false, 2, 1, 2, Lsl, 3), // STR R1,[R2,R3,LSL #2]!

@@ -1,4 +1,5 @@
 use Rattle.command_shell.specs.Session.{script_state}
+use Rattle.command_shell.proofs.ImageLemmas.{at_err, none_added, some_added}
 use Rattle.command_shell.proofs.ScriptLemmas.{last_told}
 use Rattle.command_shell.proofs.script.run_script.Goals as goal
 
@@ -10,3 +11,20 @@ returns-clause-last g c =
     c.as_slice.result.now (script_state c.in_ok-session.session images) now c.last.result
     c.in_ok-script.ensures.bytes c.as_slice.ensures.value
     (c.in_ok-session.ensures images) c.in_ok-run_lines.ensures.told.state (c.last.ensures c.run_lines.new.images)
+
+pub returns-in_err-script-clause-added : goal.returns-in_err-script-clause-added
+returns-in_err-script-clause-added g c =
+    at_err _ _ (none_added (g.R.Source.remaining c.args.reader.now) c.args.config c.args.images.now c.args.budget)
+
+pub returns-in_err-session-clause-added : goal.returns-in_err-session-clause-added
+returns-in_err-session-clause-added g c =
+    at_err _ _ (none_added (g.R.Source.remaining c.args.reader.now) c.args.config c.args.images.now c.args.budget)
+
+pub returns-in_err-run_lines-clause-added : goal.returns-in_err-run_lines-clause-added
+returns-in_err-run_lines-clause-added g c =
+    let images = c.args.images.now in
+    at_err _ _
+    (some_added (g.R.Source.remaining c.args.reader.now) c.args.config images c.run_lines.new.images c.args.budget
+    c.in_ok-script.script.items c.as_slice.result.now (script_state c.in_ok-session.session images)
+    c.in_ok-script.ensures.bytes c.as_slice.ensures.value (c.in_ok-session.ensures images)
+    c.in_err-run_lines.ensures.added)

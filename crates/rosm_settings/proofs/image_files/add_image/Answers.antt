@@ -9,9 +9,11 @@ pub returns-clause-ok : goal.returns-clause-ok
 returns-clause-ok g c =
     let part : Some c.in_ok-name.name.now ≡ path_file_name c.args.path.now =
     sym (ap option_copied c.in_ok-name.ensures.ok_part) ∙ c.file_name.ensures ∙ ap path_file_name c.new.ensures in
-    IfSome_then (g.R.Read.remaining c.args.reader) c.in_ok-bytes.ensures
-    (λ all front. adds_image c.in_ok-add.field-0 _ _ _ _ c.as_bytes.result.now c.as_slice.result.now all 1048577 (lit< tt)
-    (ap Some c.as_bytes.ensures.value ∙ part) (c.as_slice.ensures.value ∙ front) c.in_ok-add.ensures.refused c.in_ok-add.ensures.ok)
+    let known = g.R.Read.remaining c.args.reader in
+    adds_image c.in_ok-add.field-0 _ _ _ _ c.as_bytes.result.now c.as_slice.result.now known 1048577 (lit< tt)
+    (ap Some c.as_bytes.ensures.value ∙ part)
+    (IfSome_then known c.in_ok-bytes.ensures (λ all front. c.as_slice.ensures.value ∙ front))
+    c.in_ok-add.ensures.refused c.in_ok-add.ensures.ok
 
 pub returns-in_err-name-clause-refused : goal.returns-in_err-name-clause-refused
 returns-in_err-name-clause-refused g c =

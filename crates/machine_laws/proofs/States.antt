@@ -1,0 +1,27 @@
+-- What every machine has are stores.
+use Rattle.std.proofs.Common.{◌≤◌, Bool, true, false, [], Option, Some, None, length, lit≤}
+use Rattle.instances_plans.specs.declared.given.Given.{Given}
+use Rattle.instances_plans.specs.Plans.{Plan}
+use Rattle.instances_table.specs.Modules.{AreModules}
+use Rattle.flex_ground.specs.Ground.{HasFlex}
+use Rattle.swi_dispatch_plans.specs.instances.specs.Turns.{MayGoOn}
+use Rattle.swi_dispatch_plans.specs.instances.specs.instances_actions.specs.Pending.{is_pending, pending_by, pending_of}
+use Rattle.swi_dispatch.specs.Parts.{Parts, parts_world}
+use Rattle.store_laws.proofs.Turns.{machines_have}
+use Rattle.store_laws.specs.Meaning.{AreStores}
+use Rattle.machine_laws.specs.MachineStores.{StatesHaveStores, pending_in}
+
+pending_one : (b : Bool) (g : Given) → length (pending_by b g []) ≤ 1
+pending_one true g = lit≤ tt
+pending_one false g = lit≤ tt
+
+stores_by : (p : Parts) (plan : Option Plan) → MayGoOn (parts_world p) plan → HasFlex p.map p.tables.flex → AreModules p.tables.modules
+    → AreStores (record { world = parts_world p; flex = p.tables.flex; pending = pending_in plan })
+stores_by p None going flex modules =
+    machines_have p.map p.tables.land p.tables.modules [] p.tables.flex going flex modules (lit≤ tt)
+stores_by p (Some q) going flex modules =
+    machines_have p.map p.tables.land p.tables.modules (pending_of q) p.tables.flex going.1.world flex modules
+    (pending_one (is_pending q.actions) q.given)
+
+pub states_have : StatesHaveStores
+states_have p is = stores_by p p.tables.plan is.well_formed.modules is.well_formed.flex is.modules
