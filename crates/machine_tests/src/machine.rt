@@ -2,6 +2,7 @@
 
 mod areas;
 mod arguments;
+mod cuts;
 mod heaps;
 mod modules;
 mod steps;

@@ -74,10 +74,9 @@ fn random_script(alloc: Global, numbers: &mut Numbers) -> Result<Script, Fail> {
 fn random_scripts_are_answered(rt: HostRuntime) -> Result<(), Fail> {
     let mut numbers = Numbers { last: 1 };
     let sizes = Config::new(5, 1, 1).ok_or("sizes")?;
-    let mut answers = Vec::new(rt.alloc());
     for number in 0..1000 {
         let script = random_script(rt.alloc(), &mut numbers)?;
-        answers.clear();
+        let mut answers = Vec::new(rt.alloc());
         let status = run_whole(rt.alloc(), script.bytes.as_slice(), sizes, &mut answers)?;
         assert!(rt;
             answers.as_slice() == script.told.as_slice(),
@@ -150,10 +149,9 @@ fn status_told(answered: &[u8]) -> u8 {
 fn change(rt: &impl Abort, alloc: Global, session: &str) -> Result<(), Fail> {
     let mut numbers = Numbers { last: 1 };
     let sizes = session_sizes()?;
-    let mut answers = Vec::new(alloc);
     for number in 0..200 {
         let script = changed_script(alloc, &mut numbers, session)?;
-        answers.clear();
+        let mut answers = Vec::new(alloc);
         let status = run_whole(alloc, script.bytes.as_slice(), sizes, &mut answers)?;
         assert!(rt;
             answers.as_slice().starts_with(script.told.as_slice()),
