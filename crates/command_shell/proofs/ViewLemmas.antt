@@ -1,5 +1,5 @@
 -- What HEAP and FLEX answer, by whether there is a heap at the address, or a flex store.
-use Rattle.std.proofs.Common.{◌≡◌, ℕ, true, false, List, [], Option, Some, None, refl}
+use Rattle.std.proofs.Common.{◌≡◌, ℕ, true, false, List, [], Option, Some, None}
 use Rattle.std.specs.Prelude.{codes, is_some, unwrap_or}
 use Rattle.debugger.specs.Flex.{flex_text}
 use Rattle.debugger.specs.Heap.{blocks_text}
@@ -44,11 +44,6 @@ pub flex_missing : (s : ScriptState) → is_some (flex_text s.machine.store.byte
     → flex_told s ≡ answer s (refused_text (codes "NoFlex"))
 unfolding flex_told
 flex_missing s e = missing s (codes "NoFlex") (flex_text s.machine.store.bytes s.machine.tables.flex) e
-
--- the same text, from what stands for the same memory and the same store
-pub same_text : {B F : Type 0} (text : B → F → Option (List ℕ)) (b c : B) (f h : F) → b ≡ c → f ≡ h
-    → text b f ≡ text c h
-same_text text b c f h same alike = rw (same, alike) refl
 
 pub ruleset heap_steps = (heap_there, heap_missing, nothing_shown)
 

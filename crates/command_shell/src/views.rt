@@ -94,7 +94,7 @@ impl Session {
         ensures flag { OnErr result (W.has_failed sink.new ≡ true) }
         ensures same_flag { OnOk result (W.has_failed sink.new ≡ W.has_failed sink.old) }
     {
-        show_modules(self.machine.instances(), self.machine.memory(), sink)
+        show_modules(&self.machine, sink)
     }
 
     /// Shows the flex store and its blocks, if there is one.
@@ -106,7 +106,7 @@ impl Session {
         ensures flag { OnErr result (W.has_failed sink.new ≡ true) }
         ensures same_flag { OnOk result (W.has_failed sink.new ≡ W.has_failed sink.old) }
     {
-        if show_flex(self.machine.flex(), self.machine.memory(), sink)? {
+        if show_flex(&self.machine, sink)? {
             return Ok(());
         }
         tell_refused(sink, b"NoFlex")

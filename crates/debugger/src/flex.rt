@@ -3,20 +3,28 @@ ghost use Rattle.std.specs.List.{flat_map};
 ghost use Rattle.address_map.specs.Memory.{bytes_of};
 ghost use Rattle.swi_dispatch.specs.flex_store.specs.State.{IsFlex};
 ghost use Rattle.profile.specs.Output.{Writes};
+ghost use Rattle.swi_dispatch.specs.Parts.{state_of};
 ghost use Rattle.debugger.specs.Flex.{block_text, flex_text, range_text};
 
 use address_map::AddressMap;
 use itoa::Buffer;
 use profile::{HexText, Sink, WriteFault, push_parts};
+use swi_dispatch::Machine;
 use swi_dispatch::flex_store::{Flex, FlexBlock, FlexBlocks};
 
 /// Writes the flex store, `flex 0000A000 0000A400 used 48`, and its blocks by address, as `block anchor
 /// 00009000 at 0000A008 size 10`. Answers whether there is a store; nothing is written where there is none.
-pub fn show_flex<W: Sink>(
-    flex: &Flex,
-    memory: &AddressMap,
-    sink: &mut W,
-) -> Result<bool, WriteFault>
+pub fn show_flex<W: Sink>(machine: &Machine, sink: &mut W) -> Result<bool, WriteFault>
+    ensures found { let s = state_of machine.now in
+        IfOk result (λ is_there. is_there ≡ is_some (flex_text s.store.bytes s.tables.flex)) }
+    ensures writes { let s = state_of machine.now in
+        Writes W.contents W.has_failed sink.old sink.new result
+        (unwrap_or (flex_text s.store.bytes s.tables.flex) []) }
+{
+    show_store(machine.flex(), machine.memory(), sink)
+}
+
+fn show_store<W: Sink>(flex: &Flex, memory: &AddressMap, sink: &mut W) -> Result<bool, WriteFault>
     requires { IsFlex memory.now flex.now }
     ensures found { IfOk result (λ is_there. is_there ≡ is_some (flex_text (bytes_of memory.now) flex.now)) }
     ensures writes { Writes W.contents W.has_failed sink.old sink.new result

@@ -17,4 +17,4 @@ pub use memory::show_memory;
 pub use modules::show_modules;
 pub use registers::show_regs;
 pub use swi_dispatch;
-pub use swi_dispatch::{arm_step, instances, instances_table, module_header};
+pub use swi_dispatch::arm_step;

@@ -4,7 +4,7 @@ use Rattle.std.specs.Prelude.{Result, if◌then◌else◌, length, not}
 use Rattle.std.proofs.lemmas.Bool.{cases_Bool, eqb-true, false≢true, or_parts}
 use Rattle.profile.specs.Outcome.{Gives, bind}
 use Rattle.profile.specs.declared.error.ErrorNumber.{ErrorNumber}
-use Rattle.profile.specs.declared.error.ErrorNumber.TheVariants.{BadPointer}
+use Rattle.profile.specs.declared.error.ErrorNumber.TheVariants.{BadPointer, BadString}
 use Rattle.address_map.specs.Bytes.{bytes_between}
 use Rattle.instances_plans.specs.module_header.specs.declared.fault.HeaderFault.{HeaderFault}
 use Rattle.instances_plans.specs.module_header.specs.declared.header.Header.{Header}
@@ -26,7 +26,7 @@ use Rattle.instances_slide.specs.instances_ground.specs.World.{World}
 use Rattle.instances_actions.specs.Ready.{IsReady}
 use Rattle.instances_actions.proofs.Used.{others_stay}
 use Rattle.instances.specs.Adding.{adding_plan, copying, good_header, inserting, instantiation, loading, slot_for}
-use Rattle.instances.specs.Given.{given_only}
+use Rattle.instances.specs.Given.{given_only, is_too_long}
 use Rattle.instances.specs.Naming.{NamesOnly, NamesTitled, slots_of_actions}
 use Rattle.instances.specs.Plans.{deletion, reinitialisation}
 use Rattle.instances.specs.Reading.{slot_meant}
@@ -73,23 +73,29 @@ adding_names ms header image text slot can s there none =
     ap (is_used s) (without_end (slots_of_actions (clear_actions old ++ Insert slot ∷ Initialise slot ∷ [])))
     ∙ none_cleared s old (Insert slot ∷ Initialise slot ∷ []) none (rw apart refl)
 
+-- where a call is refused, nothing is named
+unless : {A : Type 0} (P : A → Type 0) (t : Bool) (e : ErrorNumber) (r : Result A ErrorNumber) → IfOk r P → IfOk (if t then Err e else r) P
+unless P true e r all = tt
+unless P false e r all = all
+
 -- reasons 1, 10 and 11, by the header of the image
 abbrev pub ReadyTitled : List Module → Result Header HeaderFault → World × Plan → Type 0
 ReadyTitled ms h r = IsReady ms r.1 → NamesTitled ms r.1 h
 
 pub loading_names : (w : World) (image text : List ℕ) → IfOk (loading w image text) (ReadyTitled w.modules (header_of image))
 unfolding loading
-loading_names w image text = by (header_of image) where
-  by : (h : Result Header HeaderFault) → IfOk (bind (good_header h) (λ header.
-      bind (slot_for w.modules header) (λ slot.
-      bind (image_made w.estate image) (λ made.
-      let placed : Image = record { at = made.1; len = length image; in_rma = true } in
-      let r : Result (World × Plan) ErrorNumber = Ok (record w { estate = made.0 }, adding_plan w.modules header placed text slot) in r)))) (ReadyTitled w.modules h)
-  by (Err fault) = tt
-  by (Ok header) =
-      bound (ReadyTitled w.modules (Ok header)) (slot_for w.modules header) _ (λ slot.
-      bound (ReadyTitled w.modules (Ok header)) (image_made w.estate image) _ (λ made ready.
-      adding_names w.modules header (record { at = made.1; len = length image; in_rma = true }) text slot ready.doable))
+loading_names w image text =
+    unless (ReadyTitled w.modules (header_of image)) (is_too_long text) BadString _ (by (header_of image)) where
+      by : (h : Result Header HeaderFault) → IfOk (bind (good_header h) (λ header.
+          bind (slot_for w.modules header) (λ slot.
+          bind (image_made w.estate image) (λ made.
+          let placed : Image = record { at = made.1; len = length image; in_rma = true } in
+          let r : Result (World × Plan) ErrorNumber = Ok (record w { estate = made.0 }, adding_plan w.modules header placed text slot) in r)))) (ReadyTitled w.modules h)
+      by (Err fault) = tt
+      by (Ok header) =
+          bound (ReadyTitled w.modules (Ok header)) (slot_for w.modules header) _ (λ slot.
+          bound (ReadyTitled w.modules (Ok header)) (image_made w.estate image) _ (λ made ready.
+          adding_names w.modules header (record { at = made.1; len = length image; in_rma = true }) text slot ready.doable))
 
 -- so of the plan that such a call gives
 pub named_given : (ms : List Module) (h : Result Header HeaderFault) (old new : World) (r : Result (World × Plan) ErrorNumber) (p : Plan)
@@ -98,14 +104,10 @@ named_given ms h old new (Ok r) p names gives ready =
     subst (λ (q : Plan). NamesTitled ms q h) (sym gives.1) (names (subst (IsReady ms) gives.1 ready))
 named_given ms h old new (Err e) p names gives ready = absurd gives
 
-unless : (P : World × Plan → Type 0) (t : Bool) (r : Result (World × Plan) ErrorNumber) → IfOk r P → IfOk (if t then Err BadPointer else r) P
-unless P true r all = tt
-unless P false r all = all
-
 pub copying_names : (w : World) (at len : ℕ) → IfOk (copying w at len) (ReadyTitled w.modules (header_of (bytes_between w.estate.store.bytes.at at len)))
 unfolding copying
 copying_names w at len =
-    unless (ReadyTitled w.modules (header_of (bytes_between w.estate.store.bytes.at at len))) (not (may_be_copied w.estate at len)) _
+    unless (ReadyTitled w.modules (header_of (bytes_between w.estate.store.bytes.at at len))) (not (may_be_copied w.estate at len)) BadPointer _
     (by (header_of (bytes_between w.estate.store.bytes.at at len)))
   where
     by : (h : Result Header HeaderFault) → IfOk (bind (good_header h) (λ header.
@@ -122,7 +124,7 @@ copying_names w at len =
 pub inserting_names : (w : World) (at len : ℕ) → IfOk (inserting w at len) (ReadyTitled w.modules (header_of (bytes_between w.estate.store.bytes.at at len)))
 unfolding inserting
 inserting_names w at len =
-    unless (ReadyTitled w.modules (header_of (bytes_between w.estate.store.bytes.at at len))) (not (may_be_in_place w.estate.store at len)) _
+    unless (ReadyTitled w.modules (header_of (bytes_between w.estate.store.bytes.at at len))) (not (may_be_in_place w.estate.store at len)) BadPointer _
     (by (header_of (bytes_between w.estate.store.bytes.at at len)))
   where
     by : (h : Result Header HeaderFault) → IfOk (bind (good_header h) (λ header.
@@ -157,7 +159,13 @@ deletion_names ms full = by (looked_up ms full) where
 
 pub reinitialisation_names : (ms : List Module) (full text : List ℕ) → IfOk (slot_meant ms full) (NamesOne ms (reinitialisation ms full text))
 unfolding reinitialisation slot_meant
-reinitialisation_names ms full text = by (looked_up ms full) where
+reinitialisation_names ms full text = kept (is_too_long text) (bind (looked_up ms full) (λ place. slot_at ms place)) _ (by (looked_up ms full)) where
+  kept : (t : Bool) (meant : Result ℕ ErrorNumber) (r : Result Plan ErrorNumber) → IfOk meant (NamesOne ms r)
+      → IfOk meant (NamesOne ms (if t then Err BadString else r))
+  kept t (Err e) r names = tt
+  kept true (Ok slot) r names = tt
+  kept false (Ok slot) r names = names
+
   at : (r : Result ℕ ErrorNumber) → IfOk r (NamesOne ms (bind r (λ slot. Ok (reinit_plan (given_only text 0) slot))))
   at (Err e) = tt
   at (Ok slot) = λ s there none. rw (one_slot s slot none) refl
@@ -174,6 +182,7 @@ NamesNone ms p = IsReady ms p → NamesOnly [] ms p
 pub instantiation_names : (ms : List Module) (full text : List ℕ) → IfOk (instantiation ms full text) (NamesNone ms)
 unfolding instantiation
 instantiation_names ms full text =
-    bound (NamesNone ms) (instance_room ms full) _ (λ new.
+    unless (NamesNone ms) (is_too_long text) BadString _
+    (bound (NamesNone ms) (instance_room ms full) _ (λ new.
     bound (NamesNone ms) (module_at ms new.number) _ (λ m ready s there none.
-    rw (apart_used s new.slot (slots_of ms) there ready.doable.0) refl))
+    rw (apart_used s new.slot (slots_of ms) there ready.doable.0) refl)))

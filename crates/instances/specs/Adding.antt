@@ -4,7 +4,7 @@
 use Rattle.std.specs.Prelude.{ℕ, true, false, not, List, [], length, ok_or, Result, Ok, Err, if◌then◌else◌}
 use Rattle.profile.specs.Outcome.{bind}
 use Rattle.profile.specs.declared.error.ErrorNumber.{ErrorNumber}
-use Rattle.profile.specs.declared.error.ErrorNumber.TheVariants.{BadPointer, ModuleBadHeader, InstanceTableFull}
+use Rattle.profile.specs.declared.error.ErrorNumber.TheVariants.{BadPointer, BadString, ModuleBadHeader, InstanceTableFull}
 use Rattle.address_map.specs.Bytes.{bytes_between}
 use Rattle.instances_plans.specs.module_header.specs.Header.{header_of}
 use Rattle.instances_plans.specs.module_header.specs.declared.fault.HeaderFault.{HeaderFault}
@@ -19,11 +19,12 @@ use Rattle.instances_table.specs.Modules.{Module, slots_of}
 use Rattle.instances_table.specs.Changes.{free_slot_for, instance_room, titled}
 use Rattle.instances_table.specs.Lookup.{module_at}
 use Rattle.instances_slide.specs.instances_ground.specs.World.{World}
-use Rattle.instances.specs.Given.{given_instance, given_module}
+use Rattle.instances.specs.Given.{given_instance, given_module, is_too_long}
 
--- Reason 14: a new instance of a module that is there, with its name, and a text
+-- Reason 14: a new instance of a module that is there, with its name, and a text, which has to be one that can be kept
 unfoldable pub instantiation : List Module → List ℕ → List ℕ → Result Plan ErrorNumber
 instantiation modules full text =
+    if is_too_long text then Err BadString else
     bind (instance_room modules full) (λ new.
     bind (module_at modules new.number) (λ m.
     Ok (instantiate_plan (given_instance m.header.title new text) new.slot)))
@@ -40,9 +41,10 @@ slot_for modules header = ok_or (free_slot_for header.title.items modules) Insta
 abbrev pub adding_plan : List Module → Header → Image → List ℕ → ℕ → Plan
 adding_plan modules header image text slot = load_plan (given_module header image text) (slots_of (titled header.title.items modules)) slot
 
--- Reason 1: an image that is given gets a block of the module area.
+-- Reason 1: an image that is given, with a text that can be kept, gets a block of the module area.
 unfoldable pub loading : World → List ℕ → List ℕ → Result (World × Plan) ErrorNumber
 loading w image text =
+    if is_too_long text then Err BadString else
     bind (good_header (header_of image)) (λ header.
     bind (slot_for w.modules header) (λ slot.
     bind (image_made w.estate image) (λ made.

@@ -1,5 +1,5 @@
 -- What a call on modules is given that its actions need. What it isn't given is 0, or empty (this project's own).
-use Rattle.std.specs.Prelude.{ℕ, false, List, []}
+use Rattle.std.specs.Prelude.{ℕ, Bool, false, nat_lt, List, [], length}
 use Rattle.arrayvec.specs.ArrayVec.{ArrayVec}
 use Rattle.instances_plans.specs.module_header.specs.declared.header.Header.{Header}
 use Rattle.instances_plans.specs.declared.given.Given.{Given}
@@ -8,6 +8,10 @@ use Rattle.instances_table.specs.declared.parts.NewInstance.{NewInstance}
 
 abbrev pub no_header : Header
 no_header = record { title = record { items = [] }; start = 0; initialise = 0; finalise = 0; chunk = 0; handler = 0 }
+
+-- Of a text at most 255 bytes are kept.
+abbrev pub is_too_long : List ℕ → Bool
+is_too_long text = nat_lt 255 (length text)
 
 -- a call that names an instance
 abbrev pub given_only : List ℕ → ℕ → Given

@@ -13,7 +13,7 @@ ghost use Rattle.instances_slide.specs.instances_ground.specs.Sound.{IsWorld};
 ghost use Rattle.instances_slide.specs.instances_ground.specs.World.{world_of};
 ghost use Rattle.instances.specs.Adding.{adding_plan, good_header, loading, slot_for};
 
-use crate::given::given_module;
+use crate::given::{given_module, is_too_long};
 use crate::instances::Instances;
 use address_map::AddressMap;
 use instances_plans::Plan;
@@ -29,7 +29,7 @@ impl Instances {
     ///
     /// # Errors
     ///
-    /// The first of these, and nothing is changed then: `ModuleBadHeader` where the image has no good header; `InstanceTableFull` where there are 64
+    /// The first of these, and nothing is changed then: `BadString` where the text is longer than 255 bytes; `ModuleBadHeader` where the image has no good header; `InstanceTableFull` where there are 64
     /// instances, and none of a module of the title; `RmaNoRoom` where the module area has no room for the image, and can't grow by as much.
     ///
     /// RISC OS 3 Programmer's Reference Manual, "OS_Module", reason 1.
@@ -43,7 +43,6 @@ impl Instances {
     ) -> Result<Plan, ErrorNumber>
         requires sound { IsWorld (world_of map.old areas.old self.now) [] }
         requires classes { AreClasses map.old }
-        requires text { length text.now ≤ 255 }
         ensures world { Gives (world_of map.old areas.old self.now)
             (loading (world_of map.old areas.old self.now) image.now text.now) result
             (world_of map.new areas.new self.now) }
@@ -53,6 +52,9 @@ impl Instances {
         ensures ready { IfOk result (λ plan. IsReady self.now plan) }
         ensures rests { IfOk result (λ plan. plan.runs ≡ false) }
     {
+        if is_too_long(text) {
+            return Err(ErrorNumber::BadString);
+        }
         let header = good_header(Header::read(image))?;
         let slot = self.slot_for(&header)?;
         let at = Rma::new().make_image(map, areas, image)?;

@@ -1,11 +1,20 @@
 //! What the actions of each call need.
-ghost use Rattle.std.specs.Prelude.{◌≡◌, ◌≤◌, length};
-ghost use Rattle.instances.specs.Given.{given_instance, given_module, given_only};
+ghost use Rattle.std.specs.Prelude.{◌≡◌, ◌≤◌, false, length};
+ghost use Rattle.instances.specs.Given.{given_instance, given_module, given_only, is_too_long};
 
 use arrayvec::ArrayVec;
 use instances_plans::Given;
+use instances_plans::given::MOST_TEXT_BYTES;
 use instances_plans::module_header::Header;
 use instances_table::{Image, ModuleInfo, NewInstance};
+
+/// Whether a text is longer than one that is kept.
+pub(crate) fn is_too_long(text: &[u8]) -> bool
+    ensures value { result ≡ is_too_long text.now }
+    ensures else_fits { result ≡ false → length text.now ≤ 255 }
+{
+    text.len() > MOST_TEXT_BYTES
+}
 
 /// What a call is given that names an instance: a text, or a return address.
 pub(crate) fn given_only(text: &[u8], return_address: u32) -> Given

@@ -6,7 +6,7 @@ ghost use Rattle.instances_slide.specs.dynamic_areas.specs.Ground.{Estate};
 ghost use Rattle.instances_plans.specs.Plans.{Plan};
 ghost use Rattle.instances_table.specs.Lookup.{told_of_module, told_of_place};
 ghost use Rattle.instances_table.specs.Changes.{preferring, renamed};
-ghost use Rattle.instances_table.specs.Modules.{slots_of};
+ghost use Rattle.instances_table.specs.Modules.{AreModules, slots_of};
 ghost use Rattle.instances.specs.Reading.{found, told};
 ghost use Rattle.instances.specs.Turns.{MayGoOn};
 
@@ -42,6 +42,14 @@ impl Instances {
         Instances {
             table: InstanceTable::new(),
         }
+    }
+
+    /// Titles differ, so do the names of a module's instances and the slots of all, which are below 64, and one instance
+    /// of each module is preferred. The call does nothing but to say so.
+    pub fn known(&self)
+        ensures { AreModules self.now }
+    {
+        self.table.known();
     }
 
     /// Become a copy of other instances.

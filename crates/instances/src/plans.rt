@@ -1,12 +1,12 @@
 //! The plans of the calls on instances that are there.
 #![tactic(auto, using(crate::proofs::ReadyLemmas::plans_ready), unfolding(crate::specs::Plans::deletion, crate::specs::Plans::reinitialisation))]
 
-ghost use Rattle.std.specs.Prelude.{◌≡◌, ◌≤◌, [], false, length, IfOk};
+ghost use Rattle.std.specs.Prelude.{◌≡◌, [], false, IfOk};
 ghost use Rattle.instances_actions.specs.Pending.{pending_of};
 ghost use Rattle.instances_actions.specs.Ready.{IsReady};
 ghost use Rattle.instances.specs.Plans.{clearing, deletion, reinitialisation, tidying};
 
-use crate::given::given_only;
+use crate::given::{given_only, is_too_long};
 use crate::instances::Instances;
 use instances_plans::Plan;
 use profile::ErrorNumber;
@@ -37,16 +37,18 @@ impl Instances {
     ///
     /// # Errors
     ///
-    /// `ModuleNotFound` where there is none.
+    /// The first of these: `BadString` where the text is longer than 255 bytes; `ModuleNotFound` where there is none.
     ///
     /// RISC OS 3 Programmer's Reference Manual, "OS_Module", reason 3.
     pub fn plan_reinit(&self, full: &[u8], text: &[u8]) -> Result<Plan, ErrorNumber>
-        requires { length text.now ≤ 255 }
         ensures value { result ≡ reinitialisation self.now full.now text.now }
         ensures ready { IfOk result (λ plan. IsReady self.now plan) }
         ensures rests { IfOk result (λ plan. plan.runs ≡ false) }
         ensures pending { IfOk result (λ plan. pending_of plan ≡ []) }
     {
+        if is_too_long(text) {
+            return Err(ErrorNumber::BadString);
+        }
         let place = self.table.lookup(full)?;
         let slot = self
             .table

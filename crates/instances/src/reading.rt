@@ -1,4 +1,4 @@
-//! What is read of the list of modules alone, and a list made of a table.
+//! What is read of the list of modules alone.
 
 ghost use Rattle.std.specs.Prelude.{◌≡◌, ◌<◌, ◌≤◌, ◌+◌, ◌%◌, ◌^◌, ◌==◌, if◌then◌else◌, length, slice_get, IfOk, IfSome, Some, None, true};
 ghost use Rattle.instances_plans.specs.Doable.{is_used};
@@ -10,17 +10,10 @@ ghost use Rattle.instances.specs.Reading.{slot_meant, start_found};
 use crate::answers::Start;
 use crate::instances::Instances;
 use arrayvec::ArrayVec;
-use instances_table::{Handler, InstanceTable, MOST_INSTANCES, ModuleInfo};
+use instances_table::{Handler, MOST_INSTANCES, ModuleInfo};
 use profile::ErrorNumber;
 
 impl Instances {
-    /// The modules and instances of a table.
-    pub fn of(table: InstanceTable) -> Instances
-        ensures { result ≡ table }
-    {
-        Instances { table }
-    }
-
     /// How many modules there are, at most 64.
     pub fn count(&self) -> u32
         ensures value { result ≡ length self.now }

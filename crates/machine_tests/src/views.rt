@@ -1,8 +1,5 @@
-use debugger::instances::Instances;
-use debugger::instances_table::{Image, InstanceTable};
-use debugger::module_header::Header;
 use debugger::swi_dispatch::Machine;
-use debugger::{show_blocks, show_memory, show_modules, show_regs};
+use debugger::{show_blocks, show_memory, show_regs};
 use image_loader::Images;
 use profile::{Config, MemorySink};
 use std::alloc::Global;
@@ -22,16 +19,6 @@ const DESCRIPTOR: &[u8] = b"00009000: 48 65 61 70 00 00 00 00 30 00 00 00 00 01 
 00009010: 18 00 00 00
 ";
 
-/// The image of a module without code: seven words, of which one tells where its title is, and the
-/// title, `W` and a zero.
-const MODULE: &[u8] = b"\0\0\0\0\0\0\0\0\0\0\0\0\0\0\0\0\x1C\0\0\0\0\0\0\0\0\0\0\0W\0";
-
-/// That module with a second instance, whose private word holds the address of a block.
-const MODULES: &[u8] = b"module W at 01800014 length 30
-  Base word 01C02000 00000000 preferred
-  B word 01C02004 01800054
-";
-
 fn usual_machine(rt: &impl Abort, alloc: Global) -> Machine {
     let config = Config::new(256, 64, 16).expect(rt, "sizes that a machine can have");
     Machine::new(alloc, config).expect(rt, "memory for a machine")
@@ -45,25 +32,6 @@ fn make_heap(machine: &mut Machine) {
         machine.set_register(3, size);
         let _stop = machine.store_call(&Images::new(), 0x1D);
     }
-}
-
-#[test]
-fn modules_are_shown_by_instances(rt: HostRuntime) -> Result<(), Fail> {
-    let mut machine = usual_machine(&rt, rt.alloc());
-    machine.poke(0x01C0_2004, 0x0180_0054)?;
-    let image = Image {
-        at: 0x0180_0014,
-        len: 30,
-        in_rma: true,
-    };
-    let mut modules = InstanceTable::new();
-    assert!(rt; modules.insert(Header::read(MODULE)?, image, 0));
-    modules.instantiate(b"W%B")?;
-    let mut room = [0u8; 300];
-    let mut sink = MemorySink::new(&mut room, 7, 1000);
-    show_modules(&Instances::of(modules), machine.memory(), &mut sink)?;
-    assert!(rt; sink.written() == MODULES);
-    Ok(())
 }
 
 /// A sink that fails at one call after the other: the fault is answered, and what stands written

@@ -3,12 +3,9 @@ use Rattle.std.proofs.Common.{ℕ, Bool, true, false, not, nat_eq, ◌+◌, ◌%
 use Rattle.std.specs.Prelude.{nat_le, nat_lt}
 use Rattle.std.proofs.lemmas.Bool.{both_ways, cases_Bool, cases_lt}
 use Rattle.address_map.specs.Bytes.{Bytes, with_word_at, word_start}
-use Rattle.address_map.specs.Memory.{is_mapped}
-use Rattle.address_map.specs.declared.map.AddressMap.{AddressMap}
-use Rattle.os_heap.specs.Store.{Store, is_in_flex_store, store_of}
+use Rattle.os_heap.specs.Store.{Store, is_in_flex_store}
 use Rattle.flex_store.proofs.Anchoring.{anchors_beside, other_word}
 use Rattle.flex_store.proofs.Holding.{bytes_beside, word_beside}
-use Rattle.flex_store.proofs.Keeping.{in_extent}
 use Rattle.flex_store.proofs.LawLemmas.{Answers, fit_if, same_answer}
 use Rattle.flex_store.proofs.Lists.{none_found, text_used}
 use Rattle.flex_store.proofs.Storing.{word_of}
@@ -16,9 +13,12 @@ use Rattle.flex_store.specs.Blocks.{Block, FlexStore, contents, cut_of, find_blo
 use Rattle.flex_store.specs.Calls.{FlexState, allocated, extended, fitted, is_anchor_place, is_in_store, mid_extended, released, with_blocks, without_anchor}
 use Rattle.flex_store.specs.Memory.{laid_out, text_of}
 use Rattle.flex_store.specs.Runs.{Alloc, Extend, FlexCall, IsDone, MidExtend, Release}
-use Rattle.flex_store.specs.State.{AreAnchorWords, AreWhole, IsFlexAt, flex_in, state_of}
+use Rattle.flex_store.specs.State.{AreAnchorWords, AreWhole}
 use Rattle.flex_store.specs.declared.flex.Extent.{Extent}
 use Rattle.flex_store.specs.declared.flex.Flex.{Flex}
+use Rattle.flex_ground.specs.Ground.{flex_state, spelled_store}
+use Rattle.store_laws.proofs.Spelled.{in_recorded}
+use Rattle.store_laws.specs.FlexStore.{IsSpelledAt}
 
 -- a byte outside a store, and of none of its anchors
 pub record IsBesideStore (s : FlexStore) (a : ℕ) : Type 0 where
@@ -154,36 +154,32 @@ module _ (a : ℕ) where
   done_stays t v (Extend anchor size) answer is was = extend_stays t.bytes t.flex v anchor size answer is
   done_stays t v (MidExtend anchor at by) answer is was = mid_stays t.bytes t.flex v anchor at by answer is
 
-  -- the same of memory
-  pub beside_in : (m : AddressMap) (o : Option Extent) → IsFlexAt m o → is_in_flex_store (store_of m).others a ≡ false → (store_of m).anchor a ≡ false
-      → IsBeside (flex_in m o) a
-  unfolding store_of
-  beside_in m None is out none = tt
-  beside_in m (Some e) is out none =
-      let s = is.held.store in
-      record {
-        mapped = is_mapped m;
-        whole = s.whole;
-        words = s.words;
-        fits = s.fits;
-        out = elim (cases_lt a e.start) [
-          | inl low ↦ inl low
-          | inr up ↦ elim (cases_lt a e.end) [
-            | inl below ↦ absurd (both_ways (is_in_flex_store (store_of m).others a) out (in_extent m e a is up below))
-            | inr high ↦ inr high
-          ]
-        ];
-        none = sym (s.anchors a) ∙ none;
-      }
+  -- the same of a store
+  pub beside_in : (s : Store) (o : Option Extent) → IsSpelledAt s o → is_in_flex_store s.others a ≡ false → s.anchor a ≡ false
+      → IsBeside (spelled_store s.bytes.at o) a
+  beside_in s None is out none = tt
+  beside_in s (Some e) is out none = record {
+    mapped = s.bytes.mapped;
+    whole = is.whole;
+    words = is.words;
+    fits = is.fits;
+    out = elim (cases_lt a e.start) [
+      | inl low ↦ inl low
+      | inr up ↦ elim (cases_lt a e.end) [
+        | inl below ↦ absurd (both_ways (is_in_flex_store s.others a) out (in_recorded s.others e.start e.end a is.recorded up below))
+        | inr high ↦ inr high
+      ]
+    ];
+    none = sym (is.anchors a) ∙ none;
+  }
 
 -- a byte that is neither the store's nor of an anchor
-pub record IsLeftAlone (m : AddressMap) (a : ℕ) : Type 0 where
-  pub outside : is_in_flex_store (store_of m).others a ≡ false
-  pub none : (store_of m).anchor a ≡ false
+pub record IsLeftAlone (s : Store) (a : ℕ) : Type 0 where
+  pub outside : is_in_flex_store s.others a ≡ false
+  pub none : s.anchor a ≡ false
 
-pub byte_stays : (m n : AddressMap) (f g : Flex) (call : FlexCall) (answer : Bool) (a : ℕ) → IsFlexAt m f.extent → IsFlexAt n g.extent
-    → IsDone (state_of m f) call answer (state_of n g) → IsLeftAlone m a → IsLeftAlone n a → (store_of n).bytes.at a ≡ (store_of m).bytes.at a
-unfolding state_of store_of
-byte_stays m n f g call answer a was is done old new =
-    done_stays a (state_of m f) (state_of n g) call answer done (beside_in a m f.extent was old.outside old.none)
-    (beside_in a n g.extent is new.outside new.none)
+pub byte_stays : (s t : Store) (f g : Flex) (call : FlexCall) (answer : Bool) (a : ℕ) → IsSpelledAt s f.extent → IsSpelledAt t g.extent
+    → IsDone (flex_state s f) call answer (flex_state t g) → IsLeftAlone s a → IsLeftAlone t a → t.bytes.at a ≡ s.bytes.at a
+byte_stays s t f g call answer a was is done old new =
+    done_stays a (flex_state s f) (flex_state t g) call answer done (beside_in a s f.extent was old.outside old.none)
+    (beside_in a t g.extent is new.outside new.none)

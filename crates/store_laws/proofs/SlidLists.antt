@@ -1,7 +1,9 @@
 -- The live items of a list that slides: each holds what it held, at the same place among the live ones.
 use Rattle.std.proofs.Common.{ℕ, Bool, true, false, zero, suc, ◌+◌, ◌-◌, ◌==◌, ◌≡◌, ◌≢◌, ◌≤◌, ◌<◌, ◌∙◌, List, [], ◌∷◌, ◌++◌, map, Option, Some, None, is_some, option_map, refl, sym, ap, inl, inr, arith}
+use Rattle.std.specs.Prelude.{if◌then◌else◌}
 use Rattle.std.specs.List.{range_with_len}
-use Rattle.std.proofs.lemmas.Bool.{cases_Bool, cases_lt, eq-eqb, eqb-true, false_from_ne_true, false≢true, ne_eqb}
+use Rattle.std.proofs.lemmas.Bool.{both_ways, cases_Bool, cases_lt, eq-eqb, eqb-true, false_from_ne_true, false≢true, ne_eqb}
+use Rattle.address_map.specs.Bytes.{in_range}
 use Rattle.address_map.specs.Items.{size_of}
 use Rattle.address_map.specs.Moves.{moved_to}
 use Rattle.address_map.specs.declared.follow.Move.{Move}
@@ -10,10 +12,11 @@ use Rattle.address_map.specs.declared.item.Item.TheVariants.{Free, Live}
 use Rattle.os_heap_lists.proofs.Reading.{total_facts}
 use Rattle.os_heap_lists.specs.Heap.{AreTotals}
 use Rattle.os_heap_lists.specs.Lists.{left_free, live_total}
+use Rattle.os_heap.proofs.Apart.{range_parts}
 use Rattle.os_heap.specs.Store.{IsInBlock}
 use Rattle.os_heap_slide.proofs.Places.{between, first_moved, low_still, one_moved, some_low}
 use Rattle.os_heap_slide.specs.Slide.{move_of, moves_of, place_of, slid}
-use Rattle.store_laws.specs.Meaning.{block_number, payloads, seen}
+use Rattle.store_laws.specs.Meaning.{Place, block_number, one_further, payloads, place_among, seen}
 
 -- two functions that are the same over two ranges
 pub map_same : {X : Type 0} (f g : ℕ → X) (from to n : ℕ) → ((k : ℕ) → k < n → g (to + k) ≡ f (from + k))
@@ -165,6 +168,43 @@ module _ (mv anchor : ℕ → Bool) (old new : ℕ → ℕ) where
       let rest = payloads_slid (place + t) (at + t) xs (past_live top at t xs c) in
       payloads_laid (seen anchor new) top place t (slid mv (place + t) (at + t) xs) bounds.0 ∙ rw (here, rest) refl
 
+  -- where an anchor is among the blocks
+  place_laid : (w top place t : ℕ) (zs : List Item) → top ≤ place
+      → place_among w top (left_free (place - top) ++ Live t ∷ zs) ≡ place_among w place (Live t ∷ zs)
+  place_laid w top place t zs low = elim (cases_Bool (place - top == 0)) [
+    | inl none ↦
+        let e : place - top ≡ 0 = eqb-true (place - top) 0 none in
+        let k : top ≡ place = omega arith in
+        rw (none, k) refl
+    | inr some ↦
+        let k : top + (place - top) ≡ place = omega arith in
+        rw (some, k) refl
+  ]
+
+  pub place_slid : (top at : ℕ) (xs : List Item) (w : ℕ) → CanSlide mv anchor old new top at xs → anchor w ≡ true
+      → place_among w top (slid mv top at xs) ≡ place_among w at xs
+  place_slid top at [] w c is = refl
+  place_slid top at (Free t ∷ xs) w c is = place_slid top (at + t) xs w (past_free top at t xs c) is
+  place_slid top at (Live t ∷ xs) w c is =
+      let place : ℕ = place_of (mv (at + 4)) top at in
+      let bounds : (top ≤ place) × (place ≤ at) = between (mv (at + 4)) top at c.low in
+      let zs : List Item = slid mv (place + t) (at + t) xs in
+      let rest : place_among w (place + t) zs ≡ place_among w (at + t) xs = place_slid (place + t) (at + t) xs w (past_live top at t xs c) is in
+      place_laid w top place t zs bounds.0 ∙ elim (cases_Bool (mv (at + 4))) [
+        | inl moves ↦
+            let none : (b : ℕ) → top ≤ b → b ≤ at → in_range (b + 4) (t - 4) w ≡ false = λ b low high.
+            false_from_ne_true (in_range (b + 4) (t - 4) w) (λ inside.
+            let p = range_parts (b + 4) (t - 4) w inside in
+            both_ways (anchor w) (item_clear top at t xs c moves w (omega (arith, low, p.0)) (omega (arith, high, p.1))) is) in
+            rw (none place bounds.0 bounds.1, none at c.low (omega arith), rest) refl
+        | inr fixed ↦
+            let still : place ≡ at = rw fixed refl in
+            let here : ℕ → Option Place = λ b. if in_range (b + 4) (t - 4) w
+            then Some (record { block = 0; offset = w - (b + 4) })
+            else option_map one_further (place_among w (at + t) xs) in
+            rw rest (ap here still)
+      ]
+
 -- the numbers of live items
 some_mapped : (o : Option ℕ) → is_some (option_map suc o) ≡ is_some o
 some_mapped None = refl
@@ -201,6 +241,24 @@ number_later top place t zs b low other = elim (cases_Bool (place - top == 0)) [
       let k : top + (place - top) ≡ place = omega arith in
       rw (some, k, ne_eqb (place + 4) b other) refl
 ]
+
+-- what is no block of the list doesn't move
+unmapped : (o : Option ℕ) → option_map suc o ≡ None → o ≡ None
+unmapped None none = refl
+unmapped (Some n) none = absurd (let no : Some (suc n) ≡ None = none in cc)
+
+pub unnamed_still : (mv : ℕ → Bool) (top at : ℕ) (xs : List Item) (b : ℕ) → block_number b at xs ≡ None → moved_to (moves_of mv top at xs) b ≡ b
+unnamed_still mv top at [] b none = refl
+unnamed_still mv top at (Free t ∷ xs) b none = unnamed_still mv top (at + t) xs b none
+unnamed_still mv top at (Live t ∷ xs) b none =
+    let place : ℕ = place_of (mv (at + 4)) top at in
+    elim (cases_Bool (at + 4 == b)) [
+      | inl here ↦ absurd (let no : Some 0 ≡ None = rw here at none in cc)
+      | inr other ↦
+          let ne : at + 4 ≢ b = λ (e : at + 4 ≡ b). false≢true (sym other ∙ eq-eqb (at + 4) b e) in
+          one_moved at place (moves_of mv (place + t) (at + t) xs) b ne
+          ∙ unnamed_still mv (place + t) (at + t) xs b (unmapped (block_number b (at + t) xs) (rw other at none))
+    ]
 
 pub number_slid : (mv : ℕ → Bool) (top at : ℕ) (xs : List Item) (b : ℕ) → top ≤ at → AreTotals xs → is_some (block_number b at xs) ≡ true
     → block_number (moved_to (moves_of mv top at xs) b) top (slid mv top at xs) ≡ block_number b at xs

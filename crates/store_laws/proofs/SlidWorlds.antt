@@ -10,7 +10,7 @@ use Rattle.address_map.specs.Records.{anchor_among}
 use Rattle.address_map.specs.declared.follow.Move.{Move}
 use Rattle.address_map.specs.declared.region.Region.{Region}
 use Rattle.os_heap_lists.specs.Heap.{HeapList, IsHeapIn}
-use Rattle.os_heap.proofs.Anchored.{place_in}
+use Rattle.os_heap.proofs.Anchored.{place_in as block_of_anchor}
 use Rattle.os_heap.proofs.Found.{found_heap}
 use Rattle.os_heap.proofs.Stores.{clear_of-found}
 use Rattle.os_heap.specs.Calls.{holds_anchor}
@@ -35,8 +35,8 @@ use Rattle.instances_slide.specs.Laws.{AreBytes}
 use Rattle.instances_slide.specs.Movable.{can_move, movable_blocks}
 use Rattle.instances_slide.specs.Slid.{image_moved, private_words, words_moved, world_moved, world_slid}
 use Rattle.store_laws.proofs.Ranges.{recorded_apart}
-use Rattle.store_laws.proofs.SlidLists.{CanSlide, map_same, number_slid, payloads_slid}
-use Rattle.store_laws.specs.Meaning.{area_blocks, area_images, area_names, block_number, images_in}
+use Rattle.store_laws.proofs.SlidLists.{CanSlide, map_same, number_slid, payloads_slid, place_slid, unnamed_still}
+use Rattle.store_laws.specs.Meaning.{BlockNumber, PrivateWord, Value, area_blocks, area_images, area_names, block_number, images_in, place_in, word_said}
 use Rattle.store_laws.specs.Rules.{IsStillNamed}
 
 -- private words are written in the system pages alone
@@ -48,7 +48,7 @@ words_others : (moves : List Move) (slots : List ℕ) (e : Estate) → (words_mo
 words_others moves [] e = refl
 words_others moves (slot ∷ slots) e = words_others moves slots (with_private e slot (moved_to moves (private_word e slot)))
 
-word_outside : (bytes : ℕ → ℕ) (slot value a : ℕ) → slot < 64 → (a < 0x01C02000) ⊎ (0x01C03000 ≤ a) → with_word_at bytes (private_of slot) value a ≡ bytes a
+pub word_outside : (bytes : ℕ → ℕ) (slot value a : ℕ) → slot < 64 → (a < 0x01C02000) ⊎ (0x01C03000 ≤ a) → with_word_at bytes (private_of slot) value a ≡ bytes a
 word_outside bytes slot value a few out = elim out [ inl low ↦ grind (arith, nat_tests) | inr high ↦ grind (arith, nat_tests) ]
 
 words_outside : (moves : List Move) (slots : List ℕ) (e : Estate) (a : ℕ) → ((s : ℕ) → 1 ≤ number_of (λ x. x == s) slots → s < 64)
@@ -64,7 +64,7 @@ pub slots_below : (modules : List Module) → AreModules modules → (s : ℕ) �
 slots_below modules are s some = below_64 s (slot_count s modules) (omega (arith, some, slots_counted s modules)) (are.slots s)
 
 -- each recorded range is in a heap or beside all, and no image is empty
-placed_of : (hs : List HeapList) (rs : List Region) (r : Region) → ArePlaced hs rs → IsRecorded r rs → IsClearOfHeaps r.at r.len hs ⊎ IsImageIn hs r
+pub placed_of : (hs : List HeapList) (rs : List Region) (r : Region) → ArePlaced hs rs → IsRecorded r rs → IsClearOfHeaps r.at r.len hs ⊎ IsImageIn hs r
 placed_of hs [] r placed recorded = absurd recorded
 placed_of hs (q ∷ rs) r placed recorded = elim recorded [
   | inl same ↦ subst (λ (x : Region). IsClearOfHeaps x.at x.len hs ⊎ IsImageIn hs x) same placed.0
@@ -95,9 +95,15 @@ held_moved : (slot : ℕ) (moves : List Move) (modules : List Module) → is_hel
 held_moved slot moves [] = refl
 held_moved slot moves (m ∷ ms) = ap (λ (b : Bool). has_instance slot m || b) (held_moved slot moves ms)
 
-still_named : (o n : Option ℕ) → (is_some o ≡ true → n ≡ o) → IsStillNamed o n
-still_named None n same = tt
-still_named (Some k) n same = same refl
+-- What a word says, where it goes to `to` and then names the block that it named, if it named one, and stays, if it named none.
+said_still : (word to : ℕ) (o n : Option ℕ) → (is_some o ≡ true → n ≡ o) → (o ≡ None → to ≡ word) → IsStillNamed (Some (word_said word o)) (Some (word_said to n))
+said_still word to (Some k) n same stays = ap (λ (x : Option ℕ). let said : Option PrivateWord = Some (word_said to x) in said) (same refl)
+said_still word to None None same stays = inl (ap (λ (v : ℕ). let said : Option PrivateWord = Some (Value v) in said) (stays refl))
+said_still word to None (Some k) same stays = inr (k, refl)
+
+said_value : (word value : ℕ) (o : Option ℕ) → word_said word o ≡ Value value → (o ≡ None) × (word ≡ value)
+said_value word value None is = (refl, cc)
+said_value word value (Some k) is = absurd (let no : BlockNumber k ≡ Value value = is in cc)
 
 -- what slides: the movable blocks of a sound world's module area
 record IsTidied (w : World) (h : HeapList) (movable : List ℕ) : Type 0 where
@@ -127,7 +133,7 @@ module _ (w : World) (h : HeapList) (movable : List ℕ) (d : IsTidied w h movab
     low = omega arith;
     totals = heap.totals;
     clear = λ a low high. absurd (omega (arith, low, high));
-    held = λ a is low high. elim (place_in 0x01800000 s.heaps h a d.found (d.world.estate.ground.sound.anchors a is).1) [
+    held = λ a is low high. elim (block_of_anchor 0x01800000 s.heaps h a d.found (d.world.estate.ground.sound.anchors a is).1) [
       | inr held ↦ held
       | inl out ↦ absurd (both_ways (in_range h.start h.end a) out
           (rw (le-leb h.start a (omega (arith, low)), lt-ltb a (h.start + h.end) (omega (arith, high, heap.inside))) refl))
@@ -145,6 +151,14 @@ module _ (w : World) (h : HeapList) (movable : List ℕ) (d : IsTidied w h movab
       let anchors : t.anchor ≡ s.anchor = words_anchor moves (slots_of w.modules) (with_store w.estate (with_slid s h movable)) in
       rw (heap_after w h movable d.found, d.found, anchors)
       (payloads_slid (is_listed movable) s.anchor s.bytes.at t.bytes.at (h.start + 16) (h.start + 16) h.items can_slide)
+
+  -- the places of anchors
+  place_same : (a : ℕ) → w.estate.store.anchor a ≡ true
+      → place_in a (find_heap 0x01800000 (world_moved w h movable).estate.store.heaps) ≡ place_in a (find_heap 0x01800000 w.estate.store.heaps)
+  unfolding s t moves heap
+  place_same a is =
+      rw (heap_after w h movable d.found, d.found)
+      (place_slid (is_listed movable) s.anchor s.bytes.at t.bytes.at (h.start + 16) (h.start + 16) h.items a can_slide is)
 
   -- the images
   byte_same : (a : ℕ) → (a < h.start) ⊎ (h.start + h.end ≤ a) → in_range 0x01C00000 0x3000 a ≡ false
@@ -218,23 +232,43 @@ module _ (w : World) (h : HeapList) (movable : List ℕ) (d : IsTidied w h movab
   unfolding s t moves heap
   named_same slot bytes =
       let held : is_held slot (map (image_moved moves) w.modules) ≡ is_held slot w.modules = held_moved slot moves w.modules in
+      let from : ℕ = private_word w.estate slot in
       elim (cases_Bool (is_held slot w.modules)) [
-        | inr none ↦ rw none tt
+        | inr none ↦ rw (held, none) refl
         | inl there ↦
             let word = names_moved w h movable slot d.world d.modules bytes d.found there in
             rw (held, there, heap_after w h movable d.found, d.found, word)
-            (still_named (block_number (private_word w.estate slot) (h.start + 16) h.items) _ (λ some.
-            number_slid (is_listed movable) (h.start + 16) (h.start + 16) h.items (private_word w.estate slot) (omega arith) heap.totals some))
+            (said_still from (moved_to moves from) (block_number from (h.start + 16) h.items) _
+            (λ some. number_slid (is_listed movable) (h.start + 16) (h.start + 16) h.items from (omega arith) heap.totals some)
+            (unnamed_still (is_listed movable) (h.start + 16) (h.start + 16) h.items from))
       ]
+
+  value_same : (slot value : ℕ) → AreBytes w.estate.store.bytes.at → area_names w slot ≡ Some (Value value)
+      → private_word (world_moved w h movable).estate slot ≡ value
+  unfolding s t moves heap
+  value_same slot value bytes says = elim (cases_Bool (is_held slot w.modules)) [
+    | inr none ↦ absurd (let no : None ≡ Some (Value value) = rw none at says in cc)
+    | inl there ↦
+        let from : ℕ = private_word w.estate slot in
+        let number : Option ℕ = block_number from (h.start + 16) h.items in
+        let said = rw (there, d.found) at says in
+        let is : (number ≡ None) × (from ≡ value) = said_value from value number (let it : Some (word_said from number) ≡ Some (Value value) = said in cc) in
+        names_moved w h movable slot d.world d.modules bytes d.found there
+        ∙ unnamed_still (is_listed movable) (h.start + 16) (h.start + 16) h.items from is.0
+        ∙ is.1
+  ]
 
 -- what a tidied module area keeps
 pub record IsAreaKept (w v : World) : Type 0 where
   pub blocks : area_blocks v ≡ area_blocks w
+  pub places : (a : ℕ) → w.estate.store.anchor a ≡ true
+      → place_in a (find_heap 0x01800000 v.estate.store.heaps) ≡ place_in a (find_heap 0x01800000 w.estate.store.heaps)
   pub images : area_images v ≡ area_images w
   pub names : (slot : ℕ) → IsStillNamed (area_names w slot) (area_names v slot)
+  pub words : (slot word : ℕ) → area_names w slot ≡ Some (Value word) → private_word v.estate slot ≡ word
 
 -- no anchor lies in a block that can be moved
-holds_none : (w : World) (h : HeapList) (return_address : ℕ) → IsHeapIn w.estate.store.bytes h.start h.end h.items
+pub holds_none : (w : World) (h : HeapList) (return_address : ℕ) → IsHeapIn w.estate.store.bytes h.start h.end h.items
     → HoldNoAnchor w.estate.store h (movable_blocks w.estate.store w.modules (private_words w) return_address h)
 holds_none w h return_address heap b is =
     let test : ℕ → ℕ → Bool = can_move w.estate.store.anchor w.modules (private_words w) return_address in
@@ -252,6 +286,8 @@ area_kept return_address w world modules bytes =
     subst (λ (v : World). IsAreaKept w v) (sym (slid_where return_address w h there.found))
     (record {
       blocks = blocks_same w h movable d;
+      places = place_same w h movable d;
       images = images_same w h movable d;
       names = λ slot. named_same w h movable d slot bytes;
+      words = λ slot word. value_same w h movable d slot word bytes;
     })

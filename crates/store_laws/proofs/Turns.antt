@@ -1,73 +1,136 @@
 -- Each turn follows its rule, and so do lists of turns.
-use Rattle.std.proofs.Common.{ℕ, Bool, ◌≡◌, ◌∙◌, List, [], ◌∷◌, Option, Some, None, refl, ap, subst, sym}
-use Rattle.address_map.proofs.Bytes.{byte_at-lt}
+use Rattle.std.proofs.Common.{ℕ, Bool, true, false, ◌≡◌, ◌∙◌, List, [], ◌∷◌, map, Option, Some, None, is_some, refl, ap, subst, sym, inl, inr, arith}
+use Rattle.std.specs.Prelude.{if◌then◌else◌}
+use Rattle.std.proofs.lemmas.Bool.{cases_Bool}
+use Rattle.address_map.proofs.Bytes.{byte_at-lt, is_mapped-page}
+use Rattle.address_map.proofs.Spans.{mapped_below}
+use Rattle.address_map.specs.Bytes.{word_start}
+use Rattle.address_map.specs.declared.follow.Move.{Move}
 use Rattle.address_map.specs.declared.map.AddressMap.{AddressMap}
-use Rattle.os_heap.specs.Store.{store_of}
-use Rattle.flex_store.proofs.Runs.{calls_move_contents}
-use Rattle.flex_store.specs.Blocks.{Block, FlexStore}
-use Rattle.flex_store.specs.Laws.{AreDistinct, HasBlocks, contents_in}
-use Rattle.flex_store.specs.Runs.{Answered, IsDone, contents_left}
-use Rattle.flex_store.specs.State.{AreAnchorWords, IsFlexAt, flex_in, state_of}
-use Rattle.flex_store.specs.declared.flex.Extent.{Extent}
-use Rattle.flex_store.specs.declared.flex.Flex.{Flex}
-use Rattle.flex_ground.proofs.Kept.{blocks_kept}
+use Rattle.os_heap_lists.specs.Heap.{HeapList}
+use Rattle.os_heap.specs.Store.{find_heap, store_of}
+use Rattle.flex_kept.specs.Keeping.{IsFlexKept, KeepsFlex}
+use Rattle.flex_store.specs.Blocks.{FlexStore}
+use Rattle.flex_store.specs.Laws.{contents_in}
+use Rattle.instances_table.specs.declared.parts.Image.{Image}
+use Rattle.instances_table.specs.Modules.{Module}
+use Rattle.instances_ground.specs.Sound.{IsWorld}
 use Rattle.instances_ground.specs.World.{World}
-use Rattle.instances_slide.specs.Laws.{AreBytes}
-use Rattle.store_laws.proofs.Called.{blocks_left, images_left, names_left}
+use Rattle.instances_slide.specs.Movable.{movable_blocks}
+use Rattle.instances_slide.specs.Slid.{image_moved, moves_in, private_words, world_slid, world_slid_in}
+use Rattle.store_laws.proofs.Beginning.{init_followed}
+use Rattle.store_laws.proofs.CalledSeen.{anchor_word}
+use Rattle.store_laws.proofs.Calling.{call_followed}
+use Rattle.store_laws.proofs.Kept.{kept_store}
+use Rattle.store_laws.proofs.SlidSound.{IsTidy, tidy}
 use Rattle.store_laws.proofs.SlidWorlds.{IsAreaKept, area_kept}
-use Rattle.store_laws.specs.Laws.{IsCallDone, IsSlideDone, IsTurnDone, TurnsFollowRules}
-use Rattle.store_laws.specs.Meaning.{AreStores, Stores, meaning_of, world_in}
-use Rattle.store_laws.specs.Rules.{Call, IsCalled, IsSlid, IsTurned, Slide, Turn}
+use Rattle.store_laws.proofs.Spelled.{has_store, spelled_kept}
+use Rattle.store_laws.specs.Laws.{IsFollowed, MachinesHaveStores, TurnsFollowRules, unplaced}
+use Rattle.store_laws.specs.Meaning.{AreStores, IsMemory, Place, Stores, area_places, contents_of, meaning_of, place_in, store_in}
+use Rattle.store_laws.specs.Turning.{AreAllowed, Call, Init, IsAllowed, Slide, Turn, answered, turned}
 
--- what memory spells are blocks with anchors of their own
-distinct : (mapped : ℕ → Bool) (start end : ℕ) (bs : List Block) → AreAnchorWords mapped start end bs → AreDistinct bs
-distinct mapped start end [] words = tt
-distinct mapped start end (b ∷ bs) words = (words.0.1, distinct mapped start end bs words.1)
+-- a slide moves images, and leaves all else of their modules
+images_alike : (moves : List Move) (ms : List Module) → map unplaced (map (image_moved moves) ms) ≡ map unplaced ms
+images_alike moves [] = refl
+images_alike moves (m ∷ ms) = ap (λ (xs : List Module). unplaced m ∷ xs) (images_alike moves ms)
 
-has_blocks : (m : AddressMap) (o : Option Extent) → IsFlexAt m o → HasBlocks (flex_in m o)
-has_blocks m None is = tt
-has_blocks m (Some e) is = (is.held.store.whole, distinct _ _ _ _ is.held.store.words)
+modules_slid_in : (return_address : ℕ) (w : World) (o : Option HeapList)
+    → map unplaced (world_slid_in return_address w o).modules ≡ map unplaced w.modules
+modules_slid_in return_address w None = refl
+modules_slid_in return_address w (Some h) =
+    images_alike (moves_in h (movable_blocks w.estate.store w.modules (private_words w) return_address h)) w.modules
 
-contents_called : (d : Answered) (m n : AddressMap) (f g : Flex) → IsFlexAt m f.extent → IsDone (state_of m f) d.call d.answer (state_of n g) → (a : ℕ)
-    → contents_in (flex_in n g.extent) a ≡ contents_left d (contents_in (flex_in m f.extent)) a
-unfolding state_of
-contents_called d m n f g is done a =
-    calls_move_contents (state_of m f) (state_of n g) (d ∷ []) a (has_blocks m f.extent is) (state_of n g, (done, refl))
+modules_slid : (return_address : ℕ) (w : World) → map unplaced (world_slid return_address w).modules ≡ map unplaced w.modules
+unfolding world_slid
+modules_slid return_address w = modules_slid_in return_address w (find_heap 0x01800000 w.estate.store.heaps)
 
-called : (d : Answered) (x y : Stores) → AreStores x → AreStores y → IsCallDone d x y → IsCalled d (meaning_of x) (meaning_of y)
-unfolding meaning_of
-called d x y are after done = record {
-  flex = contents_called d x.memory y.memory x.flex y.flex are.flex.is done.done;
-  blocks = blocks_left d x y are after done;
-  images = images_left d x y are after done;
-  names = names_left d x y are after done;
-}
+place_of_some : (x : Stores) (w : World) (a : ℕ) (b : Bool) → is_some (contents_of x a) ≡ b
+    → area_places (contents_of x) w a ≡ (if b then place_in a (find_heap 0x01800000 w.estate.store.heaps) else None)
+place_of_some x w a b is = ap (λ (q : Bool). let o : Option Place = if q then place_in a (find_heap 0x01800000 w.estate.store.heaps) else None in o) is
 
--- memory holds bytes
-are_bytes : (m : AddressMap) → AreBytes (store_of m).bytes.at
-unfolding store_of
-are_bytes m a = byte_at-lt m a
+module _ (return_address : ℕ) (x : Stores) (are : AreStores x) (none : x.pending ≡ []) where
+  y : Stores
+  y = record x { world = world_slid return_address x.world }
 
-contents_slid : (x y : Stores) → AreStores x → IsSlideDone x y → (a : ℕ)
-    → contents_in (flex_in y.memory y.flex.extent) a ≡ contents_in (flex_in x.memory x.flex.extent) a
-contents_slid x y are done a =
-    ap (λ (f : Flex). contents_in (flex_in y.memory f.extent) a) done.flex
-    ∙ ap (λ (o : Option FlexStore). contents_in o a) (blocks_kept x.memory y.memory x.flex are.flex done.keeps)
+  world : IsWorld x.world []
+  world = subst (IsWorld x.world) none are.world
 
-slid : (x y : Stores) → AreStores x → IsSlideDone x y → IsSlid (meaning_of x) (meaning_of y)
-unfolding meaning_of
-slid x y are done =
-    let kept : IsAreaKept (world_in x) (world_in y) =
-    subst (λ (v : World). IsAreaKept (world_in x) v) (sym done.world)
-    (area_kept done.return_address (world_in x) are.world are.modules (are_bytes x.memory)) in
-    record { flex = contents_slid x y are done; blocks = kept.blocks; images = kept.images; names = kept.names }
+  tidied : IsTidy x.world (world_slid return_address x.world)
+  tidied = tidy return_address x.world world are.modules are.memory.bytes are.memory.low
 
-turned : (turn : Turn) (x y : Stores) → AreStores x → AreStores y → IsTurnDone turn x y → IsTurned turn (meaning_of x) (meaning_of y)
-turned (Call d) x y are after done = called d x y are after done
-turned Slide x y are after done = slid x y are done
+  kept : IsAreaKept x.world (world_slid return_address x.world)
+  kept = area_kept return_address x.world world are.modules are.memory.bytes
+
+  flex_kept : IsFlexKept (store_in x) (store_in y)
+  unfolding KeepsFlex y
+  flex_kept = (tidied.keeps are.flex.free).0
+
+  contents_slid : (a : ℕ) → contents_of y a ≡ contents_of x a
+  unfolding y flex_kept
+  contents_slid a =
+      ap (λ (o : Option FlexStore). contents_in o a) (spelled_kept (store_in x) (world_slid return_address x.world).estate.store x.flex.extent are.flex.is flex_kept)
+
+  places_slid : (a : ℕ) → area_places (contents_of y) y.world a ≡ area_places (contents_of x) x.world a
+  unfolding y contents_slid
+  places_slid a =
+      let same : is_some (contents_of y a) ≡ is_some (contents_of x a) = ap is_some (contents_slid a) in
+      elim (cases_Bool (is_some (contents_of x a))) [
+        | inr gone ↦ place_of_some y y.world a false (same ∙ gone) ∙ sym (place_of_some x x.world a false gone)
+        | inl some ↦
+            place_of_some y y.world a true (same ∙ some)
+            ∙ (kept.places a (anchor_word (store_in x) x.flex.extent a are.flex.is some).1 ∙ sym (place_of_some x x.world a true some))
+      ]
+
+  stores : AreStores y
+  unfolding y
+  stores = record {
+    world = subst (IsWorld (world_slid return_address x.world)) (sym none) tidied.world;
+    flex = kept_store (store_in x) (world_slid return_address x.world).estate.store x.flex are.flex tidied.keeps tidied.mapped;
+    modules = tidied.modules;
+    memory = record {
+      bytes = tidied.small;
+      low = λ a there. are.memory.low a (ap (λ (p : ℕ → Bool). p a) (sym tidied.mapped) ∙ there);
+      words = λ a. ap (λ (p : ℕ → Bool). p a) tidied.mapped ∙ (are.memory.words a ∙ ap (λ (p : ℕ → Bool). p (word_start a)) (sym tidied.mapped));
+    };
+    one = are.one;
+  }
+
+  slide_followed : IsFollowed (Slide return_address) x (turned (Slide return_address) x)
+  unfolding turned answered meaning_of y stores contents_slid places_slid
+  slide_followed = record {
+    rule = record { flex = contents_slid; places = places_slid; blocks = kept.blocks; images = kept.images; names = kept.names };
+    words = kept.words;
+    modules = modules_slid return_address x.world;
+    stores = stores;
+    mapped = tidied.mapped;
+    pool = tidied.pool;
+    land = tidied.land;
+    pending = refl;
+  }
+
+followed : (turn : Turn) (x : Stores) → AreStores x → IsAllowed x.pending turn → IsFollowed turn x (turned turn x)
+followed (Init start end) x are may = init_followed x start end are
+followed (Call call) x are may = call_followed x call are
+followed (Slide return_address) x are may = slide_followed return_address x are may
+
+allowed_still : (pending new : List Image) (turns : List Turn) → new ≡ pending → AreAllowed pending turns → AreAllowed new turns
+allowed_still pending new turns same may = subst (λ (p : List Image). AreAllowed p turns) (sym same) may
 
 pub turns_follow : TurnsFollowRules
-turns_follow x y [] are done = ap meaning_of done
-turns_follow x y (turn ∷ turns) are done =
-    let z : Stores = done.0 in
-    (meaning_of z, (turned turn x z are done.1.1.0 done.1.0, turns_follow z y turns done.1.1.0 done.1.1.1))
+turns_follow x [] are may = tt
+turns_follow x (turn ∷ turns) are may =
+    let f : IsFollowed turn x (turned turn x) = followed turn x are may.0 in
+    (f, turns_follow (turned turn x) turns f.stores (allowed_still x.pending (turned turn x).pending turns f.pending may.1))
+
+-- the memory of a map
+is_memory : (m : AddressMap) → IsMemory (store_of m).bytes
+unfolding store_of
+is_memory m = record {
+  bytes = λ a. byte_at-lt m a;
+  low = λ a there. mapped_below m a there;
+  words = λ a. is_mapped-page m a (word_start a) (omega arith);
+}
+
+pub machines_have : MachinesHaveStores
+machines_have m l modules pending f world has are one =
+    record { world = world; flex = has_store m f has; modules = are; memory = is_memory m; one = one }

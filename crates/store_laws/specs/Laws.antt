@@ -1,37 +1,49 @@
--- Over lists of flex calls and slides the meaning of a machine's stores moves by rules in which no address of a block stands.
-use Rattle.std.specs.Prelude.{ℕ, ◌≡◌, List, [], ◌∷◌}
-use Rattle.address_map.specs.Memory.{layout}
-use Rattle.os_heap.specs.Store.{store_of}
-use Rattle.flex_kept.specs.Keeping.{KeepsFlex}
-use Rattle.flex_store.specs.Runs.{Answered, IsDone}
-use Rattle.flex_store.specs.State.{state_of}
-use Rattle.instances_slide.specs.Slid.{world_slid}
-use Rattle.store_laws.specs.Meaning.{AreStores, Stores, meaning_of, world_in}
-use Rattle.store_laws.specs.Rules.{Call, Follows, Slide, Turn}
+-- Over lists of flex calls and slides the meaning of a machine's stores moves by rules in which no address of a block
+-- stands.
+use Rattle.std.specs.Prelude.{ℕ, ◌≡◌, ◌≤◌, length, List, [], ◌∷◌, map, Some}
+use Rattle.address_map.specs.declared.map.AddressMap.{AddressMap}
+use Rattle.dynamic_areas.specs.Areas.{Land}
+use Rattle.flex_ground.specs.Ground.{HasFlex}
+use Rattle.flex_store.specs.declared.flex.Flex.{Flex}
+use Rattle.instances_table.specs.declared.parts.Image.{Image}
+use Rattle.instances_table.specs.Modules.{AreModules, Module}
+use Rattle.instances_ground.specs.Sound.{IsWorld}
+use Rattle.instances_ground.specs.World.{private_word, world_of}
+use Rattle.store_laws.specs.Meaning.{AreStores, Stores, Value, meaning_of, store_in}
+use Rattle.store_laws.specs.Rules.{IsTurned}
+use Rattle.store_laws.specs.Turning.{AreAllowed, Turn, answered, turned}
 
--- A flex call was done by its definition. No heap changed, nothing that is mapped or recorded, and no module.
-pub record IsCallDone (d : Answered) (x y : Stores) : Type 0 where
-  pub done : IsDone (state_of x.memory x.flex) d.call d.answer (state_of y.memory y.flex)
-  pub same : layout y.memory ≡ layout x.memory
-  pub heaps : (store_of y.memory).heaps ≡ (store_of x.memory).heaps
-  pub modules : y.modules ≡ x.modules
+-- a module, wherever its image stands
+abbrev pub unplaced : Module → Module
+unplaced m = record m { image = record m.image { at = 0 } }
 
--- The module area was tidied by its definition, from a call that returns to some address, and the flex store was kept.
-pub record IsSlideDone (x y : Stores) : Type 0 where
-  pub return_address : ℕ
-  pub world : world_in y ≡ world_slid return_address (world_in x)
-  pub keeps : KeepsFlex (store_of x.memory) (store_of y.memory)
-  pub flex : y.flex ≡ x.flex
+-- A turn moves the meaning of the stores by its rule. A private word that had a value has it still, and the modules are
+-- what they were, but for where their images stand. What has to hold of stores holds of those that it leaves; the same
+-- memory is mapped, with as many pages in the pool and the same areas, and what is pending is pending still.
+pub record IsFollowed (turn : Turn) (x y : Stores) : Type 0 where
+  pub rule : IsTurned turn (answered turn x) (meaning_of x) (meaning_of y)
+  pub words : (slot word : ℕ) → (meaning_of x).names slot ≡ Some (Value word)
+      → private_word y.world.estate slot ≡ word
+  pub modules : map unplaced y.world.modules ≡ map unplaced x.world.modules
+  pub stores : AreStores y
+  pub mapped : (store_in y).bytes.mapped ≡ (store_in x).bytes.mapped
+  pub pool : y.world.estate.pool ≡ x.world.estate.pool
+  pub land : y.world.estate.land ≡ x.world.estate.land
+  pub pending : y.pending ≡ x.pending
 
-abbrev pub IsTurnDone : Turn → Stores → Stores → Type 0
-IsTurnDone (Call d) x y = IsCallDone d x y
-IsTurnDone Slide x y = IsSlideDone x y
+-- each of some turns, from the stores before it to those after it
+abbrev pub AreFollowed : Stores → List Turn → Type 0
+AreFollowed x [] = Unit {0}
+AreFollowed x (turn ∷ turns) = IsFollowed turn x (turned turn x) × AreFollowed (turned turn x) turns
 
--- turns done one after another, where what has to hold of the stores holds after each
-abbrev pub AreTurnsDone : Stores → List Turn → Stores → Type 0
-AreTurnsDone x [] y = y ≡ x
-AreTurnsDone x (turn ∷ turns) y = (z : Stores) × (IsTurnDone turn x z × (AreStores z × AreTurnsDone z turns y))
-
--- Whatever is called and slid in whatever order, the meaning at the end is one that the rules lead to.
+-- Whatever is called and slid in whatever order, each turn leads from the meaning of the stores before it to that of
+-- the stores after it by its rule.
 abbrev pub TurnsFollowRules : Type 0
-TurnsFollowRules = (x y : Stores) (turns : List Turn) → AreStores x → AreTurnsDone x turns y → Follows (meaning_of x) turns (meaning_of y)
+TurnsFollowRules = (x : Stores) (turns : List Turn) → AreStores x → AreAllowed x.pending turns → AreFollowed x turns
+
+-- The memory of a machine with its areas, its modules and its flex store is such stores.
+abbrev pub MachinesHaveStores : Type 0
+MachinesHaveStores =
+    (m : AddressMap) (l : Land) (modules : List Module) (pending : List Image) (f : Flex)
+    → IsWorld (world_of m l modules) pending → HasFlex m f → AreModules modules → length pending ≤ 1
+    → AreStores (record { world = world_of m l modules; flex = f; pending = pending })

@@ -1,3 +1,7 @@
+pub mod Besides
+pub mod FlexStore
 pub mod Laws
 pub mod Meaning
+pub mod Room
 pub mod Rules
+pub mod Turning

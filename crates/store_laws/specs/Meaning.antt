@@ -1,42 +1,53 @@
--- What the stores of a machine mean without the addresses at which flex blocks and blocks of the module area stand: a flex block goes by its anchor, a
--- block of the module area by its place among the live ones, an image by its place among the images, and a private word by its slot (this project's own).
-use Rattle.std.specs.Prelude.{ℕ, suc, ◌+◌, ◌-◌, ◌==◌, Bool, map, List, [], ◌∷◌, Option, Some, None, if◌then◌else◌}
+-- What the stores of a machine mean without the addresses at which flex blocks and blocks of the module area stand: a
+-- flex block goes by its anchor, a block of the module area by its place among the live ones, an image by its place
+-- among the images, and a private word by its slot (this project's own).
+use Rattle.std.specs.Prelude.{ℕ, suc, ◌≡◌, ◌≤◌, ◌<◌, ◌+◌, ◌-◌, ◌^◌, ◌==◌, Bool, true, map, length, List, [], ◌∷◌}
+use Rattle.std.specs.Prelude.{Option, Some, None, is_some, if◌then◌else◌}
 use Rattle.std.specs.List.{range_with_len}
 use Rattle.std.specs.Option.{option_map}
-use Rattle.address_map.specs.Bytes.{bytes_between}
+use Rattle.address_map.specs.Bytes.{Bytes, bytes_between, in_range, word_start}
 use Rattle.address_map.specs.declared.item.Item.{Item}
 use Rattle.address_map.specs.declared.item.Item.TheVariants.{Free, Live}
-use Rattle.address_map.specs.declared.map.AddressMap.{AddressMap}
 use Rattle.address_map.specs.declared.region.Region.{Region}
 use Rattle.os_heap_lists.specs.Heap.{HeapList}
 use Rattle.os_heap.specs.Store.{Store, find_heap, is_image}
-use Rattle.dynamic_areas.specs.Areas.{Land}
 use Rattle.flex_store.specs.Laws.{contents_in}
-use Rattle.flex_store.specs.State.{flex_in}
 use Rattle.flex_store.specs.declared.flex.Flex.{Flex}
-use Rattle.flex_ground.specs.Ground.{HasFlex}
+use Rattle.flex_ground.specs.Ground.{spelled_store}
 use Rattle.instances_table.specs.Changes.{is_held}
-use Rattle.instances_table.specs.Modules.{AreModules, Module}
+use Rattle.instances_table.specs.declared.parts.Image.{Image}
+use Rattle.instances_table.specs.Modules.{AreModules}
 use Rattle.instances_ground.specs.Sound.{IsWorld}
-use Rattle.instances_ground.specs.World.{World, private_word, world_of}
+use Rattle.instances_ground.specs.World.{World, private_word}
+use Rattle.instances_slide.specs.Laws.{AreBytes}
+use Rattle.store_laws.specs.FlexStore.{HasFlexStore}
 
--- a machine's memory with its flex store, its areas and its modules
+-- A machine's memory with its areas and its modules, and where its flex store is; and the images that a call under way
+-- has recorded and not added to the modules yet: one while a load, an insert or a copy is under way, else none.
 pub record Stores : Type 0 where
-  pub memory : AddressMap
+  pub world : World
   pub flex : Flex
-  pub areas : Land
-  pub modules : List Module
+  pub pending : List Image
 
-abbrev pub world_in : Stores → World
-world_in x = world_of x.memory x.areas x.modules
+abbrev pub store_in : Stores → Store
+store_in x = x.world.estate.store
 
--- what holds of them between calls
+-- memory holds bytes, and lies in whole words below 2 ^ 26
+pub record IsMemory (b : Bytes) : Type 0 where
+  pub bytes : AreBytes b.at
+  pub low : (a : ℕ) → b.mapped a ≡ true → a < 2 ^ 26
+  pub words : (a : ℕ) → b.mapped a ≡ b.mapped (word_start a)
+
+-- what holds of them between calls, and while one is under way
 pub record AreStores (x : Stores) : Type 0 where
-  pub world : IsWorld (world_in x) []
-  pub flex : HasFlex x.memory x.flex
-  pub modules : AreModules x.modules
+  pub world : IsWorld x.world x.pending
+  pub flex : HasFlexStore (store_in x) x.flex
+  pub modules : AreModules x.world.modules
+  pub memory : IsMemory (store_in x).bytes
+  pub one : length x.pending ≤ 1
 
--- A byte as a block of the module area holds it. Those of a word that is an anchor are an address of the flex store, and are left out.
+-- A byte as a block of the module area holds it. Those of a word that is an anchor are an address of the flex store,
+-- and are left out.
 abbrev pub seen : (ℕ → Bool) → (ℕ → ℕ) → ℕ → Option ℕ
 seen anchor bytes a = if anchor a then None else Some (bytes a)
 
@@ -46,10 +57,27 @@ payloads byte at [] = []
 payloads byte at (Live t ∷ xs) = map byte (range_with_len (at + 4) (t - 4)) ∷ payloads byte (at + t) xs
 payloads byte at (Free t ∷ xs) = payloads byte (at + t) xs
 
+-- A place among what the live items hold: which of these, by how many are before it, and which of its bytes.
+pub record Place : Type 0 where
+  pub block : ℕ
+  pub offset : ℕ
+
+abbrev pub one_further : Place → Place
+one_further p = record { block = suc p.block; offset = p.offset }
+
+-- where the byte at `a` is among what the live items hold, if one of them holds it
+abbrev pub place_among : ℕ → ℕ → List Item → Option Place
+place_among a at [] = None
+place_among a at (Live t ∷ xs) =
+    if in_range (at + 4) (t - 4) a then Some (record { block = 0; offset = a - (at + 4) })
+    else option_map one_further (place_among a (at + t) xs)
+place_among a at (Free t ∷ xs) = place_among a (at + t) xs
+
 -- how many live items are before the one whose bytes begin at `block`, if there is such a live item
 abbrev pub block_number : ℕ → ℕ → List Item → Option ℕ
 block_number block at [] = None
-block_number block at (Live t ∷ xs) = if at + 4 == block then Some 0 else option_map suc (block_number block (at + t) xs)
+block_number block at (Live t ∷ xs) =
+    if at + 4 == block then Some 0 else option_map suc (block_number block (at + t) xs)
 block_number block at (Free t ∷ xs) = block_number block (at + t) xs
 
 -- the same of the heap of the module area, if it is there
@@ -57,38 +85,66 @@ abbrev pub blocks_in : Store → Option HeapList → List (List (Option ℕ))
 blocks_in s None = []
 blocks_in s (Some h) = payloads (seen s.anchor s.bytes.at) (h.start + 16) h.items
 
-abbrev pub named_in : ℕ → Option HeapList → Option ℕ
-named_in word None = None
-named_in word (Some h) = block_number word (h.start + 16) h.items
+abbrev pub number_in : ℕ → Option HeapList → Option ℕ
+number_in word None = None
+number_in word (Some h) = block_number word (h.start + 16) h.items
+
+abbrev pub place_in : ℕ → Option HeapList → Option Place
+place_in a None = None
+place_in a (Some h) = place_among a (h.start + 16) h.items
+
+-- What a private word says: which live block of the module area it names, by how many are before that one; or its
+-- value, where it names none.
+pub data PrivateWord : Type 0 where
+  BlockNumber : ℕ → PrivateWord
+  Value : ℕ → PrivateWord
+
+abbrev pub word_said : ℕ → Option ℕ → PrivateWord
+word_said word None = Value word
+word_said word (Some number) = BlockNumber number
 
 -- the bytes that are recorded as the images of modules, in the order of the modules
 abbrev pub images_in : (ℕ → ℕ) → List Region → List (List ℕ)
 images_in bytes [] = []
-images_in bytes (r ∷ rs) = if is_image r.kind then bytes_between bytes r.at r.len ∷ images_in bytes rs else images_in bytes rs
+images_in bytes (r ∷ rs) =
+    if is_image r.kind then bytes_between bytes r.at r.len ∷ images_in bytes rs else images_in bytes rs
 
--- `flex` has the contents of each anchor's block, `blocks` what the live blocks of the module area hold, `images` the images of modules, and `names` for
--- each slot the place among `blocks` of the one that the instance's private word names, if there is such an instance and it names one.
+-- `flex` has the contents of each anchor's block, `places` where among `blocks` each anchor is that lies in one,
+-- `blocks` what the live blocks of the module area hold, `images` the images of modules, and `names` for each slot
+-- what the instance's private word says, if there is such an instance: which of `blocks` it names, or its value, where
+-- it names none.
 pub record Meaning : Type 0 where
   pub flex : ℕ → Option (List ℕ)
+  pub places : ℕ → Option Place
   pub blocks : List (List (Option ℕ))
   pub images : List (List ℕ)
-  pub names : ℕ → Option ℕ
+  pub names : ℕ → Option PrivateWord
 
 abbrev pub area_blocks : World → List (List (Option ℕ))
 area_blocks w = blocks_in w.estate.store (find_heap 0x01800000 w.estate.store.heaps)
 
+-- the place of an anchor, of those that have contents
+abbrev pub area_places : (ℕ → Option (List ℕ)) → World → ℕ → Option Place
+area_places flex w a = if is_some (flex a) then place_in a (find_heap 0x01800000 w.estate.store.heaps) else None
+
 abbrev pub area_images : World → List (List ℕ)
 area_images w = images_in w.estate.store.bytes.at w.estate.store.others
 
-abbrev pub area_names : World → ℕ → Option ℕ
-area_names w slot = if is_held slot w.modules
-    then named_in (private_word w.estate slot) (find_heap 0x01800000 w.estate.store.heaps)
-    else None
+abbrev pub area_word : World → ℕ → PrivateWord
+area_word w word = word_said word (number_in word (find_heap 0x01800000 w.estate.store.heaps))
+
+abbrev pub area_names : World → ℕ → Option PrivateWord
+area_names w slot = if is_held slot w.modules then Some (area_word w (private_word w.estate slot)) else None
+
+-- the contents of each anchor's block, if it has one
+abbrev pub contents_of : Stores → ℕ → Option (List ℕ)
+contents_of x = contents_in (spelled_store (store_in x).bytes.at x.flex.extent)
 
 unfoldable pub meaning_of : Stores → Meaning
 meaning_of x = record {
-  flex = contents_in (flex_in x.memory x.flex.extent);
-  blocks = area_blocks (world_in x);
-  images = area_images (world_in x);
-  names = area_names (world_in x);
+  flex = contents_of x;
+  places = area_places (contents_of x) x.world;
+  blocks = area_blocks x.world;
+  images = area_images x.world;
+  names = area_names x.world;
 }

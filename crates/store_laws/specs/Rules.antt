@@ -1,59 +1,89 @@
--- What a flex call and a slide of the module area do to the meaning of a machine's stores: rules in which no address of a block stands (Acorn C manual,
--- "flex"; RISC OS 3 Programmer's Reference Manual, "OS_Module", reason 8).
-use Rattle.std.specs.Prelude.{ℕ, ◌≡◌, ◌⊎◌, Bool, true, false, List, [], ◌∷◌, Option, Some, None}
-use Rattle.flex_store.specs.Runs.{Alloc, Answered, Extend, FlexCall, MidExtend, Release, contents_left}
-use Rattle.store_laws.specs.Meaning.{Meaning}
+-- What a flex call and a slide of the module area do to the meaning of a machine's stores: rules in which no address
+-- of a block stands (Acorn C manual, "flex"; RISC OS 3 Programmer's Reference Manual, "OS_Module", reason 8).
+use Rattle.std.specs.Prelude.{ℕ, zero, suc, ◌+◌, ◌≡◌, ◌⊎◌, Bool, true, false, List, [], ◌∷◌, Option, Some, None}
+use Rattle.std.specs.Prelude.{Result, Ok, Err, if◌then◌else◌}
+use Rattle.address_map.specs.Bytes.{in_range}
+use Rattle.rma.specs.profile.specs.declared.error.ErrorNumber.{ErrorNumber}
+use Rattle.flex_store.specs.Runs.{Alloc, Extend, FlexCall, MidExtend, Release, contents_after}
+use Rattle.store_laws.specs.Meaning.{BlockNumber, Meaning, Place, PrivateWord, Value}
+use Rattle.store_laws.specs.Turning.{Call, Init, Slide, Turn}
 
--- a flex call that was not refused, with its answer, or a slide
-pub data Turn : Type 0 where
-  Call : Answered → Turn
-  Slide : Turn
+-- The bytes of a block, of which the first is its byte `at`, with each of the four from `offset` on seen as told; and
+-- blocks with those of a place.
+abbrev pub with_word_seen : Option ℕ → ℕ → ℕ → List (Option ℕ) → List (Option ℕ)
+with_word_seen byte offset at [] = []
+with_word_seen byte offset at (b ∷ bs) =
+    (if in_range offset 4 at then byte else b) ∷ with_word_seen byte offset (at + 1) bs
 
--- What a flex call, and its answer, leave of a byte of a block of the module area. Where an alloc's anchor comes to lie the bytes are seen no longer;
--- where a released one lay they are seen again, and are 0. All others stay.
-abbrev pub IsByteLeft : Bool → FlexCall → Option ℕ → Option ℕ → Type 0
-IsByteLeft true (Alloc anchor size) old new = (new ≡ old) ⊎ (new ≡ None)
-IsByteLeft true (Release anchor) old new = (new ≡ old) ⊎ ((old ≡ None) × (new ≡ Some 0))
-IsByteLeft true (Extend anchor size) old new = new ≡ old
-IsByteLeft true (MidExtend anchor at by) old new = new ≡ old
-IsByteLeft false call old new = new ≡ old
+abbrev pub with_block_seen : Option ℕ → ℕ → ℕ → List (List (Option ℕ)) → List (List (Option ℕ))
+with_block_seen byte number offset [] = []
+with_block_seen byte zero offset (b ∷ bs) = with_word_seen byte offset 0 b ∷ bs
+with_block_seen byte (suc number) offset (b ∷ bs) = b ∷ with_block_seen byte number offset bs
 
--- the same of each byte of a block, and of each of as many blocks
-abbrev pub AreBytesLeft : Answered → List (Option ℕ) → List (Option ℕ) → Type 0
-AreBytesLeft d [] news = news ≡ []
-AreBytesLeft d (old ∷ olds) [] = ⊥
-AreBytesLeft d (old ∷ olds) (new ∷ news) = IsByteLeft d.answer d.call old new × AreBytesLeft d olds news
+abbrev pub with_place_seen : Option ℕ → Option Place → List (List (Option ℕ)) → List (List (Option ℕ))
+with_place_seen byte None blocks = blocks
+with_place_seen byte (Some p) blocks = with_block_seen byte p.block p.offset blocks
 
-abbrev pub AreBlocksLeft : Answered → List (List (Option ℕ)) → List (List (Option ℕ)) → Type 0
-AreBlocksLeft d [] news = news ≡ []
-AreBlocksLeft d (old ∷ olds) [] = ⊥
-AreBlocksLeft d (old ∷ olds) (new ∷ news) = AreBytesLeft d old new × AreBlocksLeft d olds news
+-- An anchor came: the four bytes where it lies now are seen no longer, if it lies in a block; all other bytes and
+-- anchors stay.
+pub record IsAnchored (anchor : ℕ) (p q : Meaning) : Type 0 where
+  pub none : p.places anchor ≡ None
+  pub others : (a : ℕ) → (a ≡ anchor → ⊥) → q.places a ≡ p.places a
+  pub blocks : q.blocks ≡ with_place_seen None (q.places anchor) p.blocks
 
--- A flex call changes the contents of its own anchor alone, by the call's rule. The blocks of the module area are as many as before, each with as many
--- bytes, and hold what they held but for words of anchors. Images are what they were, and a private word names the block that it named.
-pub record IsCalled (d : Answered) (p q : Meaning) : Type 0 where
-  pub flex : (a : ℕ) → q.flex a ≡ contents_left d p.flex a
-  pub blocks : AreBlocksLeft d p.blocks q.blocks
+-- An anchor went: the four bytes where it lay, which were not seen, are 0 now, if it lay in a block; all other bytes
+-- and anchors stay.
+pub record IsUnanchored (anchor : ℕ) (p q : Meaning) : Type 0 where
+  pub none : q.places anchor ≡ None
+  pub others : (a : ℕ) → (a ≡ anchor → ⊥) → q.places a ≡ p.places a
+  pub unseen : p.blocks ≡ with_place_seen None (p.places anchor) p.blocks
+  pub blocks : q.blocks ≡ with_place_seen (Some 0) (p.places anchor) p.blocks
+
+-- all anchors and all bytes stay
+pub record IsAnchoredAlike (p q : Meaning) : Type 0 where
+  pub places : (a : ℕ) → q.places a ≡ p.places a
+  pub blocks : q.blocks ≡ p.blocks
+
+-- what a flex call that finds room leaves of anchors, and of the blocks of the module area that they lie in
+abbrev pub AreAnchorsLeft : FlexCall → Meaning → Meaning → Type 0
+AreAnchorsLeft (Alloc anchor size) p q = IsAnchored anchor p q
+AreAnchorsLeft (Release anchor) p q = IsUnanchored anchor p q
+AreAnchorsLeft (Extend anchor size) p q = IsAnchoredAlike p q
+AreAnchorsLeft (MidExtend anchor at by) p q = IsAnchoredAlike p q
+
+-- A flex call that finds room changes the contents of its own anchor alone, by the call's rule. The blocks of the
+-- module area hold what they held, but for the word of an anchor that came or went. Images are what they were, and a
+-- private word says what it said.
+pub record IsCalled (call : FlexCall) (p q : Meaning) : Type 0 where
+  pub flex : (a : ℕ) → q.flex a ≡ contents_after call p.flex a
+  pub anchors : AreAnchorsLeft call p q
   pub images : q.images ≡ p.images
   pub names : (slot : ℕ) → q.names slot ≡ p.names slot
 
--- a private word that named a block still names that one
-abbrev pub IsStillNamed : Option ℕ → Option ℕ → Type 0
-IsStillNamed None new = Unit {0}
-IsStillNamed (Some place) new = new ≡ Some place
+-- Init makes a store without blocks, where there was none.
+pub record IsBegun (p q : Meaning) : Type 0 where
+  pub none : (a : ℕ) → p.flex a ≡ None
+  pub same : q ≡ p
 
--- A slide keeps all that there is. A private word that named no block keeps its value, so by chance it may name one afterwards.
+-- A private word that named a block still names that one. One that named none has its value still, so by chance it may
+-- name one now; and where there was no such instance there is none.
+abbrev pub IsStillNamed : Option PrivateWord → Option PrivateWord → Type 0
+IsStillNamed None new = new ≡ None
+IsStillNamed (Some (BlockNumber number)) new = new ≡ Some (BlockNumber number)
+IsStillNamed (Some (Value word)) new = (new ≡ Some (Value word)) ⊎ ((number : ℕ) × (new ≡ Some (BlockNumber number)))
+
+-- A slide keeps all that there is.
 pub record IsSlid (p q : Meaning) : Type 0 where
   pub flex : (a : ℕ) → q.flex a ≡ p.flex a
+  pub places : (a : ℕ) → q.places a ≡ p.places a
   pub blocks : q.blocks ≡ p.blocks
   pub images : q.images ≡ p.images
   pub names : (slot : ℕ) → IsStillNamed (p.names slot) (q.names slot)
 
-abbrev pub IsTurned : Turn → Meaning → Meaning → Type 0
-IsTurned (Call d) p q = IsCalled d p q
-IsTurned Slide p q = IsSlid p q
-
--- turns one after another, each by its rule
-abbrev pub Follows : Meaning → List Turn → Meaning → Type 0
-Follows p [] q = q ≡ p
-Follows p (turn ∷ turns) q = (r : Meaning) × (IsTurned turn p r × Follows r turns q)
+-- A call that was refused leaves all as it is, and so does one that finds no room.
+abbrev pub IsTurned : Turn → Result Bool ErrorNumber → Meaning → Meaning → Type 0
+IsTurned turn (Err e) p q = q ≡ p
+IsTurned turn (Ok false) p q = q ≡ p
+IsTurned (Init start end) (Ok true) p q = IsBegun p q
+IsTurned (Call call) (Ok true) p q = IsCalled call p q
+IsTurned (Slide return_address) (Ok true) p q = IsSlid p q

@@ -1,5 +1,5 @@
 -- OS_ChangeDynamicArea: what it answers, and that without the X bit it is a fault before anything moves.
-use Rattle.std.proofs.Common.{◌≡◌, ℕ, true, false, List, [], length, Option, Some, None, Result, Ok, Err, refl, sym, ◌∙◌, ap}
+use Rattle.std.proofs.Common.{◌≡◌, ℕ, true, false, length, Option, Some, None, Result, Ok, Err, refl, sym, ◌∙◌, ap}
 use Rattle.std.proofs.lemmas.List.{length-set}
 use Rattle.std.specs.Prelude.{OnErr, option_map}
 use Rattle.profile.specs.declared.error.ErrorNumber.{ErrorNumber}
@@ -7,10 +7,9 @@ use Rattle.profile.specs.declared.fault.Fault.TheVariants.{ErrorStop}
 use Rattle.profile.specs.declared.swi.SwiName.{SwiName}
 use Rattle.profile.specs.declared.swi.SwiName.TheVariants as swi
 use Rattle.profile.specs.ErrorNames.{error_code}
-use Rattle.arm_step.specs.State.{State, register_of, slot_of, with_register, with_register_in}
+use Rattle.arm_step.specs.State.{State, register_of, slot_of, with_register}
 use Rattle.dynamic_areas.specs.declared.area.Area.{Area}
-use Rattle.dynamic_areas.specs.Areas.{area_in, find_area}
-use Rattle.dynamic_areas.specs.Changing.{change_answer}
+use Rattle.dynamic_areas.specs.Areas.{find_area}
 use Rattle.dynamic_areas.specs.Ground.{AreAreas}
 use Rattle.dynamic_areas.proofs.HeapCalls.{system_mapped}
 use Rattle.dynamic_areas.proofs.SystemPages.{change_keeps_system}

@@ -1,27 +1,27 @@
 -- A call that does something at once, and then goes on or is refused, is the call that begins.
-use Rattle.std.proofs.Common.{◌≡◌, ℕ, Bool, Ok, Err, ap, ◌∙◌}
+use Rattle.std.proofs.Common.{◌≡◌, ℕ, Bool, Option, Ok, Err, ap, subst, ◌∙◌}
 use Rattle.std.specs.Prelude.{Result}
 use Rattle.profile.specs.declared.error.ErrorNumber.{ErrorNumber}
+use Rattle.instances_plans.specs.Plans.{Plan}
 use Rattle.swi_dispatch_frames.specs.declared.call.Call.{Call}
-use Rattle.swi_dispatch.specs.declared.module_steps.Next.{Next}
 use Rattle.swi_dispatch.specs.Additions.{Planned, Starts}
-use Rattle.swi_dispatch.specs.Gates.{carried_on, went_to}
+use Rattle.swi_dispatch.specs.Gates.{finished}
 use Rattle.swi_dispatch.specs.MachineState.{MachineState, Outcome, quiet}
 use Rattle.swi_dispatch.specs.Step.{begun, begun_by, call_of, call_refused}
 
 begins_by : (s t : MachineState) (x : Bool) (next : ℕ) (enters : Bool) (r : Result Planned ErrorNumber)
-    (n : Result Next ErrorNumber) → Starts s r n t
-    → begun_by t (call_of s x next enters) n ≡ begun s x next enters r
+    (ended : Result (Option Plan) ErrorNumber) → Starts s (call_of s x next enters) r ended t
+    → begun_by t (call_of s x next enters) ended ≡ begun s x next enters r
 unfolding begun
-begins_by s t x next enters (Ok w) (Ok n) starts = λ i. quiet
-    (went_to (starts.0 i) (call_of s x next enters) (starts.1 i))
+begins_by s t x next enters (Ok w) (Ok ended) starts = λ i. quiet
+    (finished (starts.0 i) (call_of s x next enters) (starts.1 i))
 begins_by s t x next enters (Err e) (Err f) starts = λ i. call_refused (starts.1 i) x next (starts.0 i)
 begins_by s t x next enters (Ok w) (Err f) starts = absurd starts
-begins_by s t x next enters (Err e) (Ok n) starts = absurd starts
+begins_by s t x next enters (Err e) (Ok ended) starts = absurd starts
 
 pub begins : (s t : MachineState) (x : Bool) (next : ℕ) (enters : Bool) (r : Result Planned ErrorNumber)
-    (n : Result Next ErrorNumber) (call : Call)
-    (end : Outcome) → call ≡ call_of s x next enters → Starts s r n t → end ≡ begun_by t call n
+    (ended : Result (Option Plan) ErrorNumber) (call : Call)
+    (end : Outcome) → call ≡ call_of s x next enters → Starts s call r ended t → end ≡ begun_by t call ended
     → end ≡ begun s x next enters r
-begins s t x next enters r n call end is starts after = after ∙ ap (λ (c : Call). begun_by t c n) is
-    ∙ begins_by s t x next enters r n starts
+begins s t x next enters r ended call end is starts after = after ∙ ap (λ (c : Call). begun_by t c ended) is
+    ∙ begins_by s t x next enters r ended (subst (λ (c : Call). Starts s c r ended t) is starts)

@@ -1,36 +1,31 @@
 -- Calls on modules that are carried on: what they keep, and that the steps of the code are those of the definitions.
-use Rattle.std.proofs.Common.{inl, inr, ◌≡◌, ◌<◌, length, ℕ, true, false, Some, None, Ok, Err, List, [], ◌∷◌, refl, sym}
+use Rattle.std.proofs.Common.{◌≡◌, ℕ, true, false, Some, None, Ok, Err, List, [], ◌∷◌, refl, sym}
 use Rattle.std.proofs.Common.{ap, subst, ◌∙◌}
-use Rattle.std.specs.Prelude.{◌⊎◌, IfOk, Option, Result, is_some, option_map}
-use Rattle.std.proofs.lemmas.Bool.{false≢true, true≢false}
-use Rattle.address_map.specs.declared.map.AddressMap.{AddressMap}
-use Rattle.address_map.specs.Memory.{byte_at, bytes_of, class_of, layout}
-use Rattle.dynamic_areas.specs.Areas.{Land}
+use Rattle.std.specs.Prelude.{Option, Result}
+use Rattle.std.proofs.lemmas.Bool.{true≢false}
 use Rattle.dynamic_areas.specs.Ground.{IsEstate, IsRecorded, system_pages}
 use Rattle.instances_table.specs.declared.parts.Image.{Image}
-use Rattle.instances_table.specs.Modules.{Module, slots_of}
-use Rattle.os_heap.specs.Store.{AreClasses, IsSound, store_of}
+use Rattle.instances_table.specs.Modules.{slots_of}
+use Rattle.os_heap.specs.Store.{AreClasses, store_of}
 use Rattle.profile.specs.Outcome.{Gives}
 use Rattle.profile.specs.declared.error.ErrorNumber.{ErrorNumber}
 use Rattle.instances_plans.specs.declared.action.Action.{Action}
 use Rattle.instances_plans.specs.declared.code.Code.{Code}
-use Rattle.instances_plans.specs.declared.code.Ended.{Ended}
-use Rattle.instances_plans.specs.declared.code.Ended.TheVariants as ended
 use Rattle.instances_plans.specs.declared.code.Outcome.{Outcome as CodeOutcome}
 use Rattle.instances_plans.specs.declared.code.Outcome.TheVariants.{Well}
 use Rattle.instances_plans.specs.Carrying.{Carried, Doing, carried, carried_by, carried_from}
-use Rattle.instances_plans.specs.Plans.{Plan, end_by, settled}
+use Rattle.instances_plans.specs.Plans.{Plan, settled}
 use Rattle.flex_ground.specs.instances_ground.specs.Sound.{IsWorld}
-use Rattle.flex_ground.specs.instances_ground.specs.World.{World, world_of}
+use Rattle.flex_ground.specs.instances_ground.specs.World.{World}
 use Rattle.swi_dispatch_plans.specs.instances.specs.Turns.{IsUnderWay, MayGoOn, module_doing}
 use Rattle.swi_dispatch_plans.specs.instances.specs.instances_actions.specs.Pending.{pending_of}
+use Rattle.arm_step.specs.State.{State}
+use Rattle.swi_dispatch_frames.specs.declared.call.Call.{Call}
 use Rattle.swi_dispatch_frames.specs.declared.frame.Frame.{Frame}
-use Rattle.profile.specs.declared.fault.Fault.TheVariants.{ErrorStop, FetchUnmapped}
+use Rattle.profile.specs.declared.fault.Fault.TheVariants.{ErrorStop}
 use Rattle.swi_dispatch.specs.declared.halt.Halt.TheVariants as halt
-use Rattle.swi_dispatch.specs.declared.module_steps.Next.{Next}
-use Rattle.swi_dispatch_answers.specs.Errors.{error_at}
-use Rattle.swi_dispatch.specs.Gates.{Resumes, carried_on, come_back, fault_kept, kept_by}
-use Rattle.swi_dispatch.specs.Gates.{next_by, next_of, outcome_left, plan_left, went_to, with_carried, with_plan}
+use Rattle.swi_dispatch.specs.Gates.{Resumes, come_back, core_by, ended_by, ended_of, fault_kept, finished}
+use Rattle.swi_dispatch.specs.Gates.{frames_by, kept_by, opened, outcome_left, plan_left, with_code}
 use Rattle.swi_dispatch_plans.specs.Trials.{world_carried}
 use Rattle.swi_dispatch.specs.MachineState.{MachineState, Outcome, machine_world, quiet, with_world}
 use Rattle.swi_dispatch.specs.Additions.{Starts, planned}
@@ -39,7 +34,7 @@ use Rattle.swi_dispatch.specs.Parts.{IsWellFormed, Parts, parts_world}
 use Rattle.swi_dispatch.specs.Returns.{halted}
 use Rattle.flex_ground.specs.Ground.{HasFlex}
 use Rattle.flex_ground.specs.flex_kept.specs.Keeping.{KeepsFlex}
-use Rattle.swi_dispatch.proofs.Kept.{flex_by, kept_all, kept_classes, same_kept, same_pool}
+use Rattle.swi_dispatch.proofs.Kept.{flex_by}
 use Rattle.swi_dispatch.proofs.OpenFrames.{frames_kept}
 
 -- where code is entered, it runs
@@ -98,26 +93,26 @@ pub first_carried : (w : World) (p : Plan) (c : Carried World) → p.runs ≡ fa
 first_carried w p c rests is = sym is ∙ ap (carried module_doing w) (rests_settled p Well rests)
 
 -- the entry of a call comes back
-pub entry_goes_on : (s t : MachineState) (f : Frame) (kept : Option Plan) (n : Next)
+pub entry_goes_on : (s t : MachineState) (f : Frame) (kept ended : Option Plan)
     → fault_kept f.call (machine_world s) (outcome_left s.cpu) kept ≡ None
-    → Resumes s f (outcome_left s.cpu) kept (Some n) t → quiet (went_to t f.call n) ≡ plan_left s f kept
-entry_goes_on s t f None n well resumes = absurd resumes
-entry_goes_on s t f (Some p) n well resumes = rw well (λ i. quiet (went_to (resumes.0 i) f.call (resumes.1 i)))
+    → Resumes s f (outcome_left s.cpu) kept ended t → quiet (finished t f.call ended) ≡ plan_left s f kept
+entry_goes_on s t f None ended well resumes = absurd resumes
+entry_goes_on s t f (Some p) ended well resumes = rw well (λ i. quiet (finished (resumes.0 i) f.call (resumes.1 i)))
 
 pub none_else : {A : Type 0} (o : Option A) → ((x : A) → o ≡ Some x → ⊥) → o ≡ None
 none_else None never = refl
 none_else (Some x) never = absurd (never x refl)
 
-pub entry_went_on : (s t : MachineState) (f : Frame) (kept : Option Plan) (n : Next) (o : CodeOutcome)
+pub entry_went_on : (s t : MachineState) (f : Frame) (kept ended : Option Plan) (o : CodeOutcome)
     (fault : Option ℕ) (end : Outcome)
     → fault ≡ fault_kept f.call (machine_world s) o kept → fault ≡ None → o ≡ outcome_left s.cpu
-    → Resumes s f o kept (Some n) t
-    → end.now ≡ went_to t f.call n → end.printed ≡ [] → end ≡ plan_left s f kept
-entry_went_on s t f kept n o fault end is none left resumes now printed =
+    → Resumes s f o kept ended t
+    → end.now ≡ finished t f.call ended → end.printed ≡ [] → end ≡ plan_left s f kept
+entry_went_on s t f kept ended o fault end is none left resumes now printed =
     let none : fault_kept f.call (machine_world s) (outcome_left s.cpu) kept ≡ None =
     ap (λ (x : CodeOutcome). fault_kept f.call (machine_world s) x kept) (sym left) ∙ sym is ∙ none in
     (λ i. record { now = now i; printed = printed i })
-    ∙ entry_goes_on s t f kept n none (subst (λ (x : CodeOutcome). Resumes s f x kept (Some n) t) left resumes)
+    ∙ entry_goes_on s t f kept ended none (subst (λ (x : CodeOutcome). Resumes s f x kept ended t) left resumes)
 
 pub entry_stops : (s : MachineState) (f : Frame) (kept : Option Plan) (number : ℕ)
     → fault_kept f.call (machine_world s) (outcome_left s.cpu) kept ≡ Some number
@@ -125,36 +120,38 @@ pub entry_stops : (s : MachineState) (f : Frame) (kept : Option Plan) (number : 
 entry_stops s f None number is = cc
 entry_stops s f (Some p) number is = rw is refl
 
-pub entry_without_plan : (s t : MachineState) (f : Frame) (kept : Option Plan)
-    → Resumes s f (outcome_left s.cpu) kept None t
-    → halted t (halt.Fault FetchUnmapped) ≡ plan_left s f kept
-entry_without_plan s t f None resumes = ap (λ (u : MachineState). halted u (halt.Fault FetchUnmapped)) resumes
-entry_without_plan s t f (Some p) resumes = absurd resumes
-
--- a leaf of the machine that carries a call on: its invariant, its state, and what is next
-pub carried_well : (old new : Parts) (w : World) (p q : Plan) (code : Option Code) (kept : Option Plan × Next)
-    → kept ≡ (kept_by q code, next_by q code)
-    → new.tables.plan ≡ kept.0 → carried module_doing w p ≡ record { world = parts_world new; rest = q; code = code }
+-- a leaf of the machine that carries a call on: its invariant, its state, and the plan if that has ended
+pub carried_well : (old new : Parts) (w : World) (p q : Plan) (code : Option Code) (plans : Option Plan × Option Plan)
+    → plans ≡ (kept_by q code, ended_by q code)
+    → new.tables.plan ≡ plans.0 → carried module_doing w p ≡ record { world = parts_world new; rest = q; code = code }
     → (code ≡ None → IsWorld (parts_world new) []) → IsUnderWay (parts_world new) q → AreClasses new.map
     → AreFrames new.tables
     → IsWellFormed old → KeepsFlex (store_of old.map) (store_of new.map) → new.tables.flex ≡ old.tables.flex
     → new.is_fresh ≡ false → IsWellFormed new
-carried_well old new w p q code kept is plan carries ended going classes frames well keeps flex stepped =
+carried_well old new w p q code plans is plan carries ended going classes frames well keeps flex stepped =
     well_carried new (pending_of q) going.world
-    (subst (MayGoOn (parts_world new)) (sym (plan ∙ ap (λ (r : Option Plan × Next). r.0) is))
+    (subst (MayGoOn (parts_world new)) (sym (plan ∙ ap (λ (r : Option Plan × Option Plan). r.0) is))
     (may_go_on w (parts_world new) p q code carries ended going))
     classes frames (flex_by old new well going.world.estate keeps flex) stepped
 
-pub state_carried : (s : MachineState) (w : World) (q : Plan) (code : Option Code) (kept : Option Plan × Next)
-    (c : Carried World)
-    → kept ≡ (kept_by q code, next_by q code) → record { world = w; rest = q; code = code } ≡ c
-    → with_plan (with_world s w) kept.0 ≡ with_carried s c
-state_carried s w q code kept c is carries =
-    ap (λ (r : Option Plan × Next). with_plan (with_world s w) r.0) is ∙ ap (with_carried s) carries
+pub state_opened : (s : MachineState) (w : World) (q : Plan) (code : Option Code) (call : Call) (cpu : State)
+    (frames : List Frame) (plans : Option Plan × Option Plan) (c : Carried World)
+    → cpu ≡ core_by s.cpu code → frames ≡ frames_by s.tables.frames s.cpu call code
+    → plans ≡ (kept_by q code, ended_by q code) → record { world = w; rest = q; code = code } ≡ c
+    → with_code (with_world s w) cpu frames plans.0 ≡ opened s call c
+state_opened s w q code call cpu frames plans c core opens is carries =
+    (λ i. with_code (with_world s w) (core i) (opens i) ((is i).0)) ∙ ap (opened s call) carries
 
-pub next_carried : (w : World) (q : Plan) (code : Option Code) (kept : Option Plan × Next) (c : Carried World)
-    → kept ≡ (kept_by q code, next_by q code) → record { world = w; rest = q; code = code } ≡ c → kept.1 ≡ next_of c
-next_carried w q code kept c is carries = ap (λ (r : Option Plan × Next). r.1) is ∙ ap next_of carries
+pub ended_carried : (w : World) (q : Plan) (code : Option Code) (plans : Option Plan × Option Plan) (c : Carried World)
+    → plans ≡ (kept_by q code, ended_by q code) → record { world = w; rest = q; code = code } ≡ c
+    → plans.1 ≡ ended_of c
+ended_carried w q code plans c is carries =
+    ap (λ (r : Option Plan × Option Plan). r.1) is ∙ ap ended_of carries
+
+pub resumes_by : (s t : MachineState) (f : Frame) (o : CodeOutcome) (kept ended : Option Plan) (p : Plan)
+    → kept ≡ Some p → (let c = world_carried (machine_world s) (settled p o) in
+    (t ≡ opened (come_back s f) f.call c) × (ended ≡ ended_of c)) → Resumes s f o kept ended t
+resumes_by s t f o kept ended p is resumes = rw is resumes
 
 -- a call that does something at once
 pub refused_world : {W P E : Type 0} (w v : W) (r : Result (W × P) E) (e : E) → Gives w r (Err e) v → v ≡ w
@@ -176,13 +173,14 @@ refused_well old new well world plan frames classes keeps flex stepped = record 
   fresh = λ e. absurd (true≢false (sym e ∙ stepped));
 }
 
-pub starts_by : (s t : MachineState) (old w : World) (r : Result (World × Plan) ErrorNumber) (p : Plan) (n : Next)
-    → Gives old r (Ok p) w
-    → t ≡ with_carried s (world_carried w p) → n ≡ next_of (world_carried w p) → Starts s (planned r) (Ok n) t
-starts_by s t old w (Err f) p n gives state next = absurd gives
-starts_by s t old w (Ok r) p n gives state next = (
-  state ∙ ap (λ (v : World). with_carried s (world_carried v p)) gives.0
-      ∙ ap (λ (q : Plan). with_carried s (world_carried r.0 q)) gives.1,
-  next ∙ ap (λ (v : World). next_of (world_carried v p)) gives.0
-      ∙ ap (λ (q : Plan). next_of (world_carried r.0 q)) gives.1,
+pub starts_by : (s t : MachineState) (call : Call) (old w : World) (r : Result (World × Plan) ErrorNumber) (p : Plan)
+    (ended : Option Plan) → Gives old r (Ok p) w
+    → t ≡ opened s call (world_carried w p) → ended ≡ ended_of (world_carried w p)
+    → Starts s call (planned r) (Ok ended) t
+starts_by s t call old w (Err f) p ended gives state ends = absurd gives
+starts_by s t call old w (Ok r) p ended gives state ends = (
+  state ∙ ap (λ (v : World). opened s call (world_carried v p)) gives.0
+      ∙ ap (λ (q : Plan). opened s call (world_carried r.0 q)) gives.1,
+  ends ∙ ap (λ (v : World). ended_of (world_carried v p)) gives.0
+      ∙ ap (λ (q : Plan). ended_of (world_carried r.0 q)) gives.1,
 )

@@ -1,6 +1,5 @@
 -- What writes to memory leave of the store: every heap keeps its list.
-use Rattle.std.proofs.Common.{inl, inr, ◌≡◌, ℕ, ◌+◌, ◌-◌, ◌*◌, ◌%◌, ◌^◌, ◌≤◌, Bool, true, false, cond, nat_le, nat_eq, List, [], ◌∷◌, length, ◌++◌, Option, Some, None, Result, Ok, Err, refl, sym, ◌∙◌, ap, subst, arith, lit<, length-append, rules}
-use Rattle.std.proofs.lemmas.List.{places}
+use Rattle.std.proofs.Common.{inl, inr, ◌≡◌, ℕ, ◌+◌, ◌-◌, ◌*◌, ◌%◌, ◌^◌, ◌≤◌, Bool, true, false, cond, nat_le, nat_eq, List, [], ◌∷◌, length, ◌++◌, Option, Some, None, Result, Ok, Err, refl, sym, ◌∙◌, ap, subst, arith, lit<, rules}
 use Rattle.std.proofs.lemmas.Bool.{true≢false, le-leb}
 use Rattle.profile.specs.declared.error.ErrorNumber.{ErrorNumber}
 use Rattle.profile.specs.ErrorNames.{error_name}
@@ -11,8 +10,8 @@ use Rattle.profile.specs.declared.fault.Fault.{Fault}
 use Rattle.profile.specs.declared.fault.Fault.TheVariants.{AddressException, DataUnmapped, OwnedWord}
 use Rattle.address_map.specs.declared.map.AddressMap.{AddressMap}
 use Rattle.address_map.specs.Bytes.{Bytes, in_range, unless, store_fault, word_stored, with_word, with_word_at, with_bytes_at, with_bytes}
-use Rattle.address_map.specs.Memory.{bytes_of, byte_at, is_mapped, free_pages, Layout, layout, class_of, is_owned}
-use Rattle.address_map.proofs.Equations.{stored_word, stored_bytes}
+use Rattle.address_map.specs.Memory.{bytes_of, byte_at, free_pages, Layout, layout, class_of, is_owned}
+use Rattle.address_map.proofs.Equations.{stored_bytes}
 use Rattle.arm_step.specs.State.{State}
 use Rattle.arm_step.specs.OwnedBytes.{IsByWords, Keeps}
 use Rattle.address_map.specs.declared.region.Kind.TheVariants.{Rma}
@@ -26,7 +25,6 @@ use Rattle.dynamic_areas.specs.Ground.{AreAreas, IsRecorded, system_pages}
 use Rattle.dynamic_areas.proofs.HeapCalls.{areas_written}
 use Rattle.swi_dispatch.specs.declared.halt.Halt.{Halt}
 use Rattle.swi_dispatch.specs.MachineState.{MachineState, Tables, with_memory, start_of}
-use Rattle.swi_dispatch_answers.specs.Errors.{error_block}
 use Rattle.swi_dispatch.specs.Boot.{booted, poked}
 use Rattle.flex_ground.proofs.Kept.{flex_kept, flex_stored}
 use Rattle.flex_ground.specs.Ground.{HasFlex}

@@ -1,14 +1,14 @@
 -- What holds of the frames of module code that is under way: that it is kept.
-use Rattle.std.proofs.Common.{◌≡◌, ◌≤◌, ◌+◌, ◌-◌, ◌==◌, ◌||◌, ◌&&◌, length, take, drop, ℕ, zero, suc, Bool, true, false}
-use Rattle.std.proofs.Common.{Some, List, [], ◌∷◌, ◌++◌, refl, sym, ◌∙◌, ap, inl, inr, append_assoc, length-append}
+use Rattle.std.proofs.Common.{◌≡◌, ◌+◌, ◌-◌, ◌==◌, ◌&&◌, length, take, drop, ℕ, zero, suc, Bool, true, false}
+use Rattle.std.proofs.Common.{Option, Some, None, List, [], ◌∷◌, ◌++◌, refl, sym, ◌∙◌, ap, inl, inr, append_assoc, length-append}
 use Rattle.std.proofs.Common.{arith}
-use Rattle.std.specs.Prelude.{◌⊎◌, slice_get, if◌then◌else◌}
+use Rattle.std.specs.Prelude.{◌⊎◌, is_some, slice_get, if◌then◌else◌}
 use Rattle.std.specs.List.{All, list_any}
 use Rattle.std.proofs.lemmas.Bool.{false≢true, or_parts}
 use Rattle.std.proofs.lemmas.List.{take-append-drop}
 use Rattle.std.proofs.lemmas.List.Elements.{All-cons, All-head, All-nil, All-push, All-tail, All-take}
-use Rattle.swi_dispatch_plans.specs.instances.specs.Naming.{slots_of_kept}
-use Rattle.instances_plans.specs.declared.code.Code.{Code}
+use Rattle.swi_dispatch_plans.specs.instances.specs.Naming.{slots_of_kept, slots_of_plan}
+use Rattle.instances_plans.specs.Plans.{Plan}
 use Rattle.instances_plans.specs.Doable.{is_used}
 use Rattle.instances_table.specs.Modules.{Module, slots_of}
 use Rattle.swi_dispatch_frames.specs.declared.frame.Frame.{Frame}
@@ -16,24 +16,19 @@ use Rattle.swi_dispatch_frames.specs.Busy.{has_swi_of, is_swi}
 use Rattle.swi_dispatch_frames.specs.Frames.{closed, innermost}
 use Rattle.swi_dispatch_plans.proofs.Sparing.{among, none_of}
 use Rattle.swi_dispatch.specs.MachineState.{Tables}
-use Rattle.swi_dispatch.specs.OpenFrames.{AreFrames, AreHeld, AreSpared, MayEnter, entries}
+use Rattle.swi_dispatch.specs.OpenFrames.{AreFrames, AreHeld, AreSpared, entries}
 
 -- the same frames and the same plan, of modules with the same slots
 pub frames_kept : (old new : Tables) → AreFrames old → new.frames ≡ old.frames → new.plan ≡ old.plan
     → slots_of new.modules ≡ slots_of old.modules
     → AreFrames new
 frames_kept old new are frames plan slots = record {
-  one = rw frames are.one;
-  kept = λ none. rw frames (are.kept (sym plan ∙ none));
+  kept = rw (frames, plan) are.kept;
   held = rw (frames, slots) are.held;
   spared = rw (frames, plan) are.spared;
 }
 
 -- how many entries there are
-less : (swi : Bool) (m n : ℕ) → m ≤ n → (if swi then m else 1 + m) ≤ (if swi then n else 1 + n)
-less true m n le = le
-less false m n le = omega (arith, le)
-
 more : (swi : Bool) (m n k : ℕ) → m ≡ n + k → (if swi then m else 1 + m) ≡ (if swi then n else 1 + n) + k
 more true m n k e = e
 more false m n k e = omega (arith, e)
@@ -41,12 +36,6 @@ more false m n k e = omega (arith, e)
 entries-append : (xs ys : List Frame) → entries (xs ++ ys) ≡ entries xs + entries ys
 entries-append [] ys = omega arith
 entries-append (x ∷ xs) ys = more (is_swi x.kind) _ _ _ (entries-append xs ys)
-
-entries-take : (n : ℕ) (xs : List Frame) → entries (take n xs) ≤ entries xs
-entries-take zero [] = omega arith
-entries-take zero (x ∷ xs) = omega arith
-entries-take (suc n) [] = omega arith
-entries-take (suc n) (x ∷ xs) = less (is_swi x.kind) _ _ (entries-take n xs)
 
 -- where there is none, a list has no entry in it
 idle_parts : (swi : Bool) (n : ℕ) → (if swi then n else 1 + n) ≡ 0 → (swi ≡ true) × (n ≡ 0)
@@ -61,18 +50,17 @@ no_entry below above f idle entry =
 pub idle_spared : (slots : List ℕ) (fs : List Frame) → entries fs ≡ 0 → AreSpared slots fs
 idle_spared slots fs idle below above f is entry = absurd (no_entry below above f (ap entries (sym is) ∙ idle) entry)
 
--- no entry, whatever plan is kept
-pub frames_idle : (t : Tables) → entries t.frames ≡ 0 → AreHeld t.modules t.frames → AreFrames t
-frames_idle t none held = record {
-  one = omega (arith, none);
-  kept = λ _. none;
+-- no entry, and no plan that is kept
+pub frames_idle : (t : Tables) → t.plan ≡ None → entries t.frames ≡ 0 → AreHeld t.modules t.frames → AreFrames t
+frames_idle t plan none held = record {
+  kept = rw plan none;
   held = held;
   spared = idle_spared (slots_of_kept t.plan) t.frames none;
 }
 
 -- no frame at all
-pub frames_none : (t : Tables) → t.frames ≡ [] → AreFrames t
-frames_none t none = frames_idle t (ap entries none) (rw none
+pub frames_none : (t : Tables) → t.plan ≡ None → t.frames ≡ [] → AreFrames t
+frames_none t plan none = frames_idle t plan (ap entries none) (rw none
     (All-nil (λ (f : Frame). is_used f.slot (slots_of t.modules) ≡ true)))
 
 -- where slots change that no SWI under way is of, the frames' instances are there still
@@ -134,8 +122,7 @@ swi_opened old new f are plan modules opened swi there =
     let same : entries new.frames ≡ entries old.frames = ap entries opened ∙ entries-append old.frames (f ∷ [])
     ∙ rw swi (omega arith) in
     record {
-      one = rw same are.one;
-      kept = λ none. rw same (are.kept (sym plan ∙ none));
+      kept = rw (same, plan) are.kept;
       held = rw (modules, opened) (All-push (λ (g : Frame). is_used g.slot (slots_of old.modules) ≡ true) old.frames f
           are.held there);
       spared = rw (plan, opened) (swi_spared (slots_of_kept old.plan) old.frames f swi are.spared);
@@ -149,42 +136,19 @@ entry_spared slots fs f idle none below above g is entry = elim (parted fs below
   | inr before ↦ absurd (no_entry below before.0 g (ap entries (sym before.1) ∙ idle) entry)
 ]
 
-pub entry_opens : (old new : Tables) (f : Frame) (code : Code) → AreFrames old → entries old.frames ≡ 0
-    → MayEnter code old → f.slot ≡ code.slot
-    → is_swi f.kind ≡ false → new.plan ≡ old.plan → new.modules ≡ old.modules → new.frames ≡ old.frames ++ f ∷ []
-    → AreFrames new
-entry_opens old new f code are idle may slot entry plan modules opened =
-    let same : entries new.frames ≡ entries old.frames + 1 = ap entries opened ∙ entries-append old.frames (f ∷ [])
-    ∙ rw entry (omega arith) in
+pub entry_opened : (t : Tables) (fs : List Frame) (f : Frame) (p : Plan) → entries fs ≡ 0 → AreHeld t.modules fs
+    → is_used f.slot (slots_of t.modules) ≡ true → has_swi_of (f.slot ∷ slots_of_plan p) fs ≡ false
+    → is_swi f.kind ≡ false → t.plan ≡ Some p → t.frames ≡ fs ++ f ∷ [] → AreFrames t
+entry_opened t fs f p idle held there none entry plan opened =
+    let counted : entries (f ∷ []) ≡ 1 = rw entry refl in
+    let one : entries t.frames ≡ 1 = omega (arith, ap entries opened, entries-append fs (f ∷ []), counted, idle) in
     record {
-      one = omega (arith, same, idle);
-      kept = λ none. absurd (false≢true (rw (sym plan ∙ none) at may.kept));
-      held = rw (modules, opened) (All-push (λ (g : Frame). is_used g.slot (slots_of old.modules) ≡ true) old.frames f
-          are.held (rw slot may.held));
-      spared = rw (plan, opened) (entry_spared (slots_of_kept old.plan) old.frames f idle (rw slot may.spared));
+      kept = rw plan one;
+      held = rw opened (All-push (λ (g : Frame). is_used g.slot (slots_of t.modules) ≡ true) fs f held there);
+      spared = rw (plan, opened) (entry_spared (slots_of_plan p) fs f idle none);
     }
 
--- a frame is closed
-closed_spared : (slots : List ℕ) (n : ℕ) (fs : List Frame) → AreSpared slots fs → AreSpared slots (take n fs)
-closed_spared slots n fs spared below above f is entry =
-    let whole : fs ≡ below ++ f ∷ (above ++ drop n fs) =
-    sym (take-append-drop n fs) ∙ ap (λ (xs : List Frame). xs ++ drop n fs) is
-    ∙ append_assoc below (f ∷ above) (drop n fs) in
-    spared below (above ++ drop n fs) f whole entry
-
-pub frame_closes : (old new : Tables) → AreFrames old → new.plan ≡ old.plan → new.modules ≡ old.modules
-    → new.frames ≡ closed old.frames → AreFrames new
-frame_closes old new are plan modules closes =
-    let fewer : entries new.frames ≤ entries old.frames = rw closes (entries-take (length old.frames - 1) old.frames) in
-    record {
-      one = omega (arith, fewer, are.one);
-      kept = λ none. omega (arith, fewer, are.kept (sym plan ∙ none));
-      held = rw (modules, closes) (All-take (λ (f : Frame). is_used f.slot (slots_of old.modules) ≡ true)
-          (length old.frames - 1) old.frames are.held);
-      spared = rw (plan, closes) (closed_spared (slots_of_kept old.plan) (length old.frames - 1) old.frames are.spared);
-    }
-
--- An entry's frame is closed: none is left, and no SWI under way is of an instance that its plan names.
+-- the innermost frame is the last
 last_of : (n : ℕ) (xs : List Frame) (f : Frame) → slice_get xs n ≡ Some f → n + 1 ≡ length xs → xs ≡ take n xs ++ f ∷ []
 last_of n [] f there len = absurd (omega (arith, len))
 last_of zero (x ∷ []) f there len = let same : x ≡ f = cc in ap (λ (g : Frame). g ∷ []) same
@@ -195,7 +159,36 @@ innermost_last : (xs : List Frame) (f : Frame) → innermost xs ≡ Some f → x
 innermost_last [] f there = cc
 innermost_last (x ∷ xs) f there = last_of (length (x ∷ xs) - 1) (x ∷ xs) f there (omega arith)
 
-pub entry_closes : (xs : List Frame) (f : Frame) → entries xs ≤ 1 → innermost xs ≡ Some f → is_swi f.kind ≡ false
+-- a frame is closed
+closed_spared : (slots : List ℕ) (n : ℕ) (fs : List Frame) → AreSpared slots fs → AreSpared slots (take n fs)
+closed_spared slots n fs spared below above f is entry =
+    let whole : fs ≡ below ++ f ∷ (above ++ drop n fs) =
+    sym (take-append-drop n fs) ∙ ap (λ (xs : List Frame). xs ++ drop n fs) is
+    ∙ append_assoc below (f ∷ above) (drop n fs) in
+    spared below (above ++ drop n fs) f whole entry
+
+pub swi_closes : (old new : Tables) (f : Frame) → AreFrames old → innermost old.frames ≡ Some f → is_swi f.kind ≡ true
+    → new.plan ≡ old.plan → new.modules ≡ old.modules → new.frames ≡ closed old.frames → AreFrames new
+swi_closes old new f are last swi plan modules closes =
+    let none : entries (f ∷ []) ≡ 0 = rw swi refl in
+    let same : entries (closed old.frames) ≡ entries old.frames =
+    omega (arith, ap entries (innermost_last old.frames f last), entries-append (closed old.frames) (f ∷ []), none) in
+    record {
+      kept = ap entries closes ∙ same ∙ are.kept ∙ ap (λ (p : Option Plan). if is_some p then 1 else 0) (sym plan);
+      held = rw (modules, closes) (All-take (λ (f : Frame). is_used f.slot (slots_of old.modules) ≡ true)
+          (length old.frames - 1) old.frames are.held);
+      spared = rw (plan, closes) (closed_spared (slots_of_kept old.plan) (length old.frames - 1) old.frames are.spared);
+    }
+
+-- While an entry's frame is open, a plan is kept.
+pub plan_there : (t : Tables) (f : Frame) → AreFrames t → t.plan ≡ None → innermost t.frames ≡ Some f
+    → is_swi f.kind ≡ false → ⊥
+plan_there t f are none last entry =
+    let idle : entries t.frames ≡ 0 = are.kept ∙ ap (λ (p : Option Plan). if is_some p then 1 else 0) none in
+    no_entry (closed t.frames) [] f (ap entries (sym (innermost_last t.frames f last)) ∙ idle) entry
+
+-- An entry's frame is closed: none is left, and no SWI under way is of an instance that its plan names.
+pub entry_closes : (xs : List Frame) (f : Frame) → entries xs ≡ 1 → innermost xs ≡ Some f → is_swi f.kind ≡ false
     → entries (closed xs) ≡ 0
 entry_closes xs f one there entry =
     let counted : entries (f ∷ []) ≡ 1 = rw entry refl in

@@ -1,22 +1,21 @@
 -- What the families of store calls leave of the machine, by what they leave of its parts.
-use Rattle.std.proofs.Common.{◌≡◌, ℕ, Bool, false, Option, Result, Ok, Err, refl, sym, ◌∙◌, ap}
+use Rattle.std.proofs.Common.{◌≡◌, false, Option, Result, Ok, Err, sym, ◌∙◌, ap}
 use Rattle.profile.specs.Outcome.{Leaves}
 use Rattle.address_map.specs.declared.map.AddressMap.{AddressMap}
 use Rattle.address_map.specs.Memory.{free_pages}
 use Rattle.arm_step.specs.State.{State}
 use Rattle.os_heap.specs.Store.{Store, store_of}
 use Rattle.dynamic_areas.specs.Areas.{Land}
-use Rattle.dynamic_areas.specs.Ground.{AreAreas, Estate, IsEstate, estate_of}
+use Rattle.dynamic_areas.specs.Ground.{Estate, IsEstate, estate_of}
 use Rattle.dynamic_areas.proofs.HeapCalls.{pool_is}
-use Rattle.flex_ground.specs.instances_ground.specs.World.{World, world_of}
-use Rattle.instances_table.specs.Modules.{Module, slots_of}
+use Rattle.flex_ground.specs.instances_ground.specs.World.{World}
 use Rattle.swi_dispatch_answers.specs.declared.refusal.Refusal.{Refusal}
-use Rattle.swi_dispatch_plans.specs.swi_dispatch_store.specs.Leaving.{LeavesAreas, LeavesSound}
+use Rattle.swi_dispatch_plans.specs.swi_dispatch_store.specs.Leaving.{LeavesSound}
 use Rattle.swi_dispatch_plans.specs.swi_dispatch_modules.specs.Leaving.{LeavesWorld}
 use Rattle.swi_dispatch.specs.declared.halt.Halt.{Halt}
 use Rattle.swi_dispatch.specs.Calls.{on_estate, on_store, on_world, with_guest}
 use Rattle.swi_dispatch.specs.MachineState.{MachineState, Tables}
-use Rattle.swi_dispatch.specs.Parts.{IsWellFormed, Parts, parts_world, state_of}
+use Rattle.swi_dispatch.specs.Parts.{IsWellFormed, Parts}
 use Rattle.swi_dispatch.proofs.Kept.{flex_by, over, well_called, with_core}
 use Rattle.swi_dispatch.proofs.OpenFrames.{frames_kept}
 use Rattle.std.proofs.lemmas.Bool.{true≢false}

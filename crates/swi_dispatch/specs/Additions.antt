@@ -1,14 +1,14 @@
 -- OS_Module, the reasons that add a module: what each does at once, and the plan of the rest (RISC OS 3 Programmer's
 -- Reference Manual, "OS_Module", reasons 0, 1, 10 and 11).
-use Rattle.std.specs.Prelude.{◌≡◌, ℕ, Bool, List, Result, Ok, Err}
+use Rattle.std.specs.Prelude.{◌≡◌, ℕ, Bool, List, Option, Result, Ok, Err}
 use Rattle.profile.specs.Outcome.{bind}
 use Rattle.profile.specs.declared.error.ErrorNumber.{ErrorNumber}
 use Rattle.image_loader.specs.Entries.{Entry}
 use Rattle.instances_plans.specs.Plans.{Plan}
 use Rattle.flex_ground.specs.instances_ground.specs.World.{World}
 use Rattle.swi_dispatch_plans.specs.instances.specs.Adding.{copying, inserting, loading}
-use Rattle.swi_dispatch.specs.declared.module_steps.Next.{Next}
-use Rattle.swi_dispatch.specs.Gates.{next_of, with_carried}
+use Rattle.swi_dispatch_frames.specs.declared.call.Call.{Call}
+use Rattle.swi_dispatch.specs.Gates.{ended_of, opened}
 use Rattle.swi_dispatch_plans.specs.Trials.{world_carried}
 use Rattle.swi_dispatch_plans.specs.Setting.{string_asked}
 use Rattle.swi_dispatch_plans.specs.ImagePlans.{copy_asked, insertion_asked, load_asked}
@@ -52,8 +52,10 @@ copied_range_planned s at len = planned (copying (machine_world s) at len)
 unfoldable pub copy_planned : MachineState → Result Planned ErrorNumber
 copy_planned s = bind (copy_asked (setting_of s)) (λ range. copied_range_planned s range.at range.len)
 
--- what a call has come to that does something at once, before it goes on
-abbrev pub Starts : MachineState → Result Planned ErrorNumber → Result Next ErrorNumber → MachineState → Type 0
-Starts s (Ok w) (Ok n) t = (let c = world_carried w.world w.plan in (t ≡ with_carried s c) × (n ≡ next_of c))
-Starts s (Err e) (Err f) t = (f ≡ e) × (t ≡ s)
-Starts s r n t = ⊥
+-- what a call comes to that does something at once, before it goes back if it has ended
+abbrev pub Starts : MachineState → Call → Result Planned ErrorNumber → Result (Option Plan) ErrorNumber → MachineState
+    → Type 0
+Starts s call (Ok w) (Ok ended) t =
+    (let c = world_carried w.world w.plan in (t ≡ opened s call c) × (ended ≡ ended_of c))
+Starts s call (Err e) (Err f) t = (f ≡ e) × (t ≡ s)
+Starts s call r ended t = ⊥

@@ -25,24 +25,12 @@ use Rattle.swi_dispatch_frames.specs.Entering.{code_entered}
 use Rattle.swi_dispatch_frames.specs.Frames.{closed, frame_of, innermost}
 use Rattle.swi_dispatch_frames.specs.Leaving.{left}
 use Rattle.swi_dispatch.specs.declared.halt.Halt.TheVariants as halt
-use Rattle.swi_dispatch.specs.declared.module_steps.Next.{Next}
-use Rattle.swi_dispatch.specs.declared.module_steps.Next.TheVariants as next
 use Rattle.swi_dispatch.specs.Answers.{with_answer}
 use Rattle.swi_dispatch.specs.MachineState.{MachineState, Outcome, machine_world, quiet, with_world}
 use Rattle.swi_dispatch.specs.ModuleStart.{opened_at}
 use Rattle.swi_dispatch.specs.Returns.{erred, gone_back, halted}
 use Rattle.swi_dispatch_answers.specs.Returns.{returned}
 use Rattle.swi_dispatch_plans.specs.Trials.{error_ahead, world_carried}
-
-abbrev pub with_plan : MachineState → Option Plan → MachineState
-with_plan s p = record s { tables = record s.tables { plan = p } }
-
--- An entry of a module is called in a frame of the call.
-abbrev pub entry_opened : MachineState → Call → Code → MachineState
-entry_opened s call code = record s {
-  cpu = code_entered s.cpu code;
-  tables = record s.tables { frames = s.tables.frames ++ frame_of s.cpu call (Entry code.kind) code.slot ∷ [] };
-}
 
 -- A module that was loaded to be run is entered with the text of the call, as OS_Module 2 does.
 abbrev pub entered_with : MachineState → List ℕ → Result Start ErrorNumber → MachineState
@@ -64,28 +52,42 @@ call_ended_by s call g None = entered_if call.enters (gone_back call.caller s fa
 abbrev pub call_ended : MachineState → Call → Plan → MachineState
 call_ended s call p = call_ended_by s call p.given p.first
 
--- What is next for a call that was carried on: its code, and the plan is kept while that runs; or its end.
-abbrev pub next_by : Plan → Option Code → Next
-next_by p (Some code) = next.Code code
-next_by p None = next.End p
+-- What a call that was carried on comes to. Its next code, if any is left, is entered in a frame of the call, and the
+-- plan is kept while that runs; else the plan has ended.
+abbrev pub core_by : State → Option Code → State
+core_by cpu (Some code) = code_entered cpu code
+core_by cpu None = cpu
+
+abbrev pub frames_by : List Frame → State → Call → Option Code → List Frame
+frames_by frames cpu call (Some code) = frames ++ frame_of cpu call (Entry code.kind) code.slot ∷ []
+frames_by frames cpu call None = frames
 
 abbrev pub kept_by : Plan → Option Code → Option Plan
 kept_by p (Some code) = Some p
 kept_by p None = None
 
-abbrev pub next_of : Carried World → Next
-next_of c = next_by c.rest c.code
+abbrev pub ended_by : Plan → Option Code → Option Plan
+ended_by p (Some code) = None
+ended_by p None = Some p
 
-abbrev pub with_carried : MachineState → Carried World → MachineState
-with_carried s c = with_plan (with_world s c.world) (kept_by c.rest c.code)
+abbrev pub with_code : MachineState → State → List Frame → Option Plan → MachineState
+with_code s cpu frames plan = record s { cpu = cpu; tables = record s.tables { frames = frames; plan = plan } }
 
-abbrev pub went_to : MachineState → Call → Next → MachineState
-went_to s call (next.Code code) = entry_opened s call code
-went_to s call (next.End p) = call_ended s call p
+abbrev pub opened : MachineState → Call → Carried World → MachineState
+opened s call c = with_code (with_world s c.world) (core_by s.cpu c.code)
+    (frames_by s.tables.frames s.cpu call c.code) (kept_by c.rest c.code)
+
+abbrev pub ended_of : Carried World → Option Plan
+ended_of c = ended_by c.rest c.code
+
+-- A call whose plan has ended goes back; one whose code is under way does so when that is done.
+abbrev pub finished : MachineState → Call → Option Plan → MachineState
+finished s call (Some p) = call_ended s call p
+finished s call None = s
 
 -- A call is carried on with what its plan has left to do.
 abbrev pub carried_on : MachineState → Call → Plan → MachineState
-carried_on s call p = (let c = world_carried (machine_world s) p in went_to (with_carried s c) call (next_of c))
+carried_on s call p = (let c = world_carried (machine_world s) p in finished (opened s call c) call (ended_of c))
 
 -- Module code has come back: the core is the caller's again, but for what a SWI leaves, and the frame is closed.
 abbrev pub come_back : MachineState → Frame → MachineState
@@ -120,7 +122,8 @@ unless_fault s (Some number) t = halted s (halt.Fault (ErrorStop number))
 abbrev pub entry_left : MachineState → Frame → Plan → Outcome
 entry_left s f p = unless_fault s (fault_ahead f.call (machine_world s) p) (carried_on (come_back s f) f.call p)
 
--- A plan is kept while the code of an entry runs; where no code was entered there is nothing at the gate to be fetched.
+-- A plan is kept while the code of an entry runs, so the first of these is for no machine; it is as where no frame is
+-- open.
 abbrev pub plan_left : MachineState → Frame → Option Plan → Outcome
 plan_left s f None = halted s (halt.Fault FetchUnmapped)
 plan_left s f (Some p) = entry_left s f (settled p (outcome_left s.cpu))
@@ -139,12 +142,12 @@ gated_by s (Some f) =
 abbrev pub gated : MachineState → Outcome
 gated s = gated_by s (innermost s.tables.frames)
 
--- what a call has come to once its entry came back with an outcome, before it goes on; without a plan nothing is done
-abbrev pub Resumes : MachineState → Frame → CodeOutcome → Option Plan → Option Next → MachineState → Type 0
-Resumes s f o (Some p) (Some n) t =
-    (let c = world_carried (machine_world s) (settled p o) in (t ≡ with_carried (come_back s f) c) × (n ≡ next_of c))
-Resumes s f o None None t = t ≡ s
-Resumes s f o p n t = ⊥
+-- what a call comes to once its entry came back with an outcome, before it goes back if it has ended; a plan is kept
+abbrev pub Resumes : MachineState → Frame → CodeOutcome → Option Plan → Option Plan → MachineState → Type 0
+Resumes s f o (Some p) ended t =
+    (let c = world_carried (machine_world s) (settled p o) in
+    (t ≡ opened (come_back s f) f.call c) × (ended ≡ ended_of c))
+Resumes s f o None ended t = ⊥
 
 abbrev pub fault_kept : Call → World → CodeOutcome → Option Plan → Option ℕ
 fault_kept call w o None = None

@@ -1,14 +1,18 @@
 -- The parts of the real machine, and the written machine that they stand for.
-use Rattle.std.specs.Prelude.{◌≡◌, ◌<◌, length, ℕ, Bool, true, false, Option, Some, None, Result, Ok, Err, List, []}
+use Rattle.std.specs.Prelude.{◌≡◌, ◌≤◌, ◌<◌, ◌%◌, ◌^◌, length, ℕ, Bool, true, false, IfSome, Option, Some, None, Result, Ok, Err}
+use Rattle.std.specs.Prelude.{List, []}
 use Rattle.profile.specs.Sizes.{Sizes}
 use Rattle.address_map.specs.declared.map.AddressMap.{AddressMap}
 use Rattle.address_map.specs.Memory.{free_pages}
 use Rattle.os_heap.specs.Store.{AreClasses, store_of}
 use Rattle.dynamic_areas.specs.Ground.{AreAreas, IsRecorded, system_pages}
+use Rattle.dynamic_areas.specs.Rooms.{IsAreaTable}
 use Rattle.flex_ground.specs.Ground.{HasFlex}
 use Rattle.arm_step.specs.declared.turn.Turn.{Turn}
 use Rattle.arm_step.specs.State.{State}
 use Rattle.flex_ground.specs.instances_ground.specs.World.{World, world_of}
+use Rattle.instances_plans.specs.Plans.{Plan}
+use Rattle.instances_table.specs.Modules.{AreModules}
 use Rattle.swi_dispatch_plans.specs.instances.specs.Turns.{MayGoOn}
 use Rattle.swi_dispatch.specs.declared.halt.Halt.{Halt}
 use Rattle.swi_dispatch_answers.specs.declared.refusal.Refusal.{Refusal}
@@ -44,8 +48,8 @@ parts_world p = world_of p.map p.tables.land p.tables.modules
 
 -- What holds of every machine, whatever its guest does: the areas stand on its memory, so that memory spells the lists
 -- of all heaps; the words that these lists spell are those that are marked; the system pages are recorded; the
--- recorded images are the modules', and the plan that is kept while module code runs finds all that it asks for; at
--- most one initialisation or finalisation is under way, and none where no plan is kept; each frame is of an instance
+-- recorded images are the modules', and the plan that is kept while module code runs finds all that it asks for; one
+-- initialisation or finalisation is under way while a plan is kept, and else none; each frame is of an instance
 -- that is there, and no SWI that waits for an initialisation or a finalisation is of its instance, nor of one that the
 -- plan names; memory spells the flex store, if there is one; and a machine that can still be booted stands as at the
 -- start.
@@ -57,6 +61,24 @@ pub record IsWellFormed (p : Parts) : Type 0 where
   pub frames : AreFrames p.tables
   pub flex : HasFlex p.map p.tables.flex
   pub fresh : p.is_fresh ≡ true → state_of p ≡ start_of p.sizes
+
+-- All that holds of every machine, whatever its guest does. Beside what its steps keep: the core has 26 registers, those
+-- of all banks, and its program counter is a multiple of 4 below 2^26; bytes are below 256; the areas are a good table
+-- of at most 32; titles, names and slots of modules differ, slots are below 64, and each module has a preferred
+-- instance; at most 32 frames are open; and the text of a call that is under way has at most 255 bytes. (The slots that
+-- its plan names are those of instances, or below 64 where it is to add one: that is said with the plan, in `modules` of
+-- `IsWellFormed`.)
+pub record IsMachine (p : Parts) : Type 0 where
+  pub well_formed : IsWellFormed p
+  pub registers : length p.cpu.file ≡ 26
+  pub counter : p.cpu.pc < 2 ^ 26
+  pub aligned : p.cpu.pc % 4 ≡ 0
+  pub bytes : (a : ℕ) → (store_of p.map).bytes.at a < 256
+  pub areas : IsAreaTable p.tables.land.areas
+  pub few_areas : length p.tables.land.areas ≤ 32
+  pub modules : AreModules p.tables.modules
+  pub frames : length p.tables.frames ≤ 32
+  pub text : IfSome p.tables.plan (λ (plan : Plan). length plan.given.text.items ≤ 255)
 
 -- a step is under way, and has printed nothing yet
 pub record IsInStep (p : Parts) : Type 0 where

@@ -37,12 +37,11 @@ use Rattle.swi_dispatch_plans.specs.ImagePlans.{instantiation_planned}
 use Rattle.swi_dispatch_plans.specs.Openings.{opening_asked}
 use Rattle.swi_dispatch.specs.ModuleStart.{module_opened}
 use Rattle.swi_dispatch_answers.specs.Words.{host_string}
-use Rattle.swi_dispatch.specs.declared.module_steps.Next.{Next}
 use Rattle.swi_dispatch.specs.Additions.{Planned, copy_planned, insertion_planned, load_planned, named_load_planned}
 use Rattle.swi_dispatch.specs.Additions.{plan_alone}
 use Rattle.swi_dispatch.specs.Answers.{Answer, refused}
 use Rattle.swi_dispatch.specs.Calls.{call_answer}
-use Rattle.swi_dispatch.specs.Gates.{carried_on, gated, went_to}
+use Rattle.swi_dispatch.specs.Gates.{carried_on, finished, gated}
 use Rattle.swi_dispatch.specs.Returns.{erred, error_answered, gone_back, halted}
 
 -- An instruction changes memory, and no list.
@@ -97,9 +96,9 @@ begun s x next enters (Err e) = call_refused s x next e
 begun s x next enters (Ok w) = quiet (carried_on (with_world s w.world) (call_of s x next enters) w.plan)
 
 -- a call that has done something at once, or is refused
-abbrev pub begun_by : MachineState → Call → Result Next ErrorNumber → Outcome
+abbrev pub begun_by : MachineState → Call → Result (Option Plan) ErrorNumber → Outcome
 begun_by s call (Err e) = call_refused s call.is_x call.next e
-begun_by s call (Ok n) = quiet (went_to s call n)
+begun_by s call (Ok ended) = quiet (finished s call ended)
 
 -- with what a call on instances that are there is to do
 abbrev pub begun_alone : MachineState → Bool → ℕ → Result Plan ErrorNumber → Outcome

@@ -72,11 +72,11 @@ impl Machine {
                 self.begin(is_x, next, planned)
             }
             Some(ModuleReason::Insert) => {
-                let started = self.start_insertion();
+                let started = self.start_insertion(call);
                 self.go_on(call, started)
             }
             Some(ModuleReason::InsertCopy) => {
-                let started = self.start_copy();
+                let started = self.start_copy(call);
                 self.go_on(call, started)
             }
             Some(ModuleReason::Instantiate) => {

@@ -1,15 +1,15 @@
 //! The return gate: module code has come back.
 
-ghost use Rattle.std.specs.Prelude.{◌≡◌, false, Some, IfSome};
+ghost use Rattle.std.specs.Prelude.{◌≡◌, false, true, Some};
 ghost use Rattle.swi_dispatch_frames.specs.Busy.{is_swi};
 ghost use Rattle.swi_dispatch_frames.specs.Frames.{innermost};
 ghost use Rattle.swi_dispatch.specs.Gates.{Resumes, fault_kept, frame_left, gated, outcome_left, plan_left, swi_left};
 
 use crate::halt::Halt;
 use crate::machine::Machine;
-use crate::module_steps::{Next, next_of};
+use crate::module_steps::open_code;
 use arm_step::Cpu;
-use instances_plans::Outcome;
+use instances_plans::{Outcome, Plan};
 use profile::Fault;
 use swi_dispatch_answers::errors::error_at;
 use swi_dispatch_answers::returns::return_to;
@@ -17,7 +17,6 @@ use swi_dispatch_frames::{Call, Frame, FrameKind};
 
 impl Machine {
     ghost use Rattle.swi_dispatch.specs.MachineState.{machine_world};
-    ghost use Rattle.swi_dispatch.specs.OpenFrames.{GoesTo};
     ghost use Rattle.swi_dispatch.specs.Parts.{state_of, outcome_of, IsInStep, OnlySteps, OnlyState};
 
     /// What a step does at the gate. Where no frame is open, there is nothing to be fetched.
@@ -50,6 +49,8 @@ impl Machine {
     #[tactic(auto, unfolding(os_heap::specs::Store::store_of))]
     fn leave_swi(&mut self, frame: Frame)
         requires step { IsInStep self.old }
+        requires last { innermost (state_of self.old).tables.frames ≡ Some frame }
+        requires swi { is_swi frame.kind ≡ true }
         ensures after { outcome_of self.new ≡ swi_left (state_of self.old) frame }
         ensures others { OnlySteps self.old self.new }
     {
@@ -65,8 +66,7 @@ impl Machine {
         self.frames.close();
     }
 
-    // The call whose entry it was is carried on, if a plan is kept. Where its caller takes no error, and there is one,
-    // nothing is changed.
+    // The call whose entry it was is carried on. Where its caller takes no error, and there is one, nothing is changed.
     #[tactic(auto, using(crate::proofs::GateLemmas::entry_went_on))]
     fn leave_entry(&mut self, frame: Frame)
         requires step { IsInStep self.old }
@@ -79,20 +79,17 @@ impl Machine {
         if let Some(number) = self.fault_ahead(frame.call, outcome) {
             return self.halt_with(Halt::Fault(Fault::ErrorStop(number)));
         }
-        match self.resume(frame, outcome) {
-            Some(next) => self.go_to(frame.call, next),
-            None => self.halt_with(Halt::Fault(Fault::FetchUnmapped)),
-        }
+        let ended = self.resume(frame, outcome);
+        self.finish(frame.call, ended);
     }
 
-    // The core is the caller's again, the frame is closed, and the plan that is kept is carried on. Where none is,
-    // nothing is done.
-    fn resume(&mut self, frame: Frame, outcome: Outcome) -> Option<Next>
+    // The core is the caller's again, the frame is closed, and the plan that is kept, as one is while an entry's frame
+    // is open, is carried on. Answers it if it has ended.
+    fn resume(&mut self, frame: Frame, outcome: Outcome) -> Option<Plan>
         requires stepped { self.old.is_fresh ≡ false }
         requires last { innermost (state_of self.old).tables.frames ≡ Some frame }
         requires entry { is_swi frame.kind ≡ false }
         ensures state { let s = state_of self.old in Resumes s frame outcome s.tables.plan result (state_of self.new) }
-        ensures goes { IfSome result (λ next. GoesTo next (state_of self.new).tables) }
         ensures others { OnlyState self.old self.new }
     {
         let mut plan = self.plan.take()?;
@@ -101,9 +98,9 @@ impl Machine {
         let code = self
             .instances
             .carry(&mut self.memory, &self.areas, &mut plan, outcome);
-        let (kept, next) = next_of(plan, code);
+        let (kept, ended) = open_code(&mut self.cpu, &mut self.frames, frame.call, plan, code);
         self.plan = kept;
-        Some(next)
+        ended
     }
 
     // The number of the error that a call ends with whose entry comes back with this outcome, if it ends with one that

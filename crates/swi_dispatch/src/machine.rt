@@ -1,4 +1,4 @@
-ghost use Rattle.std.specs.Prelude.{◌≡◌, ◌≤◌, ◌%◌, ◌&&◌, true, false, [], Some, None, IfOk, IsSome, is_err, length};
+ghost use Rattle.std.specs.Prelude.{◌≡◌, ◌≤◌, ◌%◌, ◌&&◌, true, false, [], Some, None, IfOk, IfSome, IsSome, is_err, length};
 ghost use Rattle.std.specs.Option.{option_map};
 ghost use Rattle.profile.specs.Outcome.{Leaves};
 ghost use Rattle.address_map.specs.Memory.{free_pages};
@@ -82,7 +82,7 @@ impl Model for Machine {
 impl Machine {
     ghost use Rattle.address_map.specs.Memory.{bytes_of};
     ghost use Rattle.swi_dispatch.specs.Parts.{state_of, outcome_of, IsInStep, OnlySteps, OnlyState};
-    ghost use Rattle.swi_dispatch.specs.Parts.{TakesTurn, IsWellFormed};
+    ghost use Rattle.swi_dispatch.specs.Parts.{TakesTurn, IsMachine, IsWellFormed};
     ghost use Rattle.swi_dispatch.specs.MachineState.{start_of, stop_of, quiet, setting_of};
     ghost use Rattle.swi_dispatch.specs.Boot.{booted, registered, poked};
     ghost use Rattle.swi_dispatch_plans.specs.Setting.{setting_in};
@@ -238,6 +238,29 @@ impl Machine {
         }
         self.is_fresh = false;
         Ok(())
+    }
+
+    /// What holds of every machine, whatever its guest does. The call does nothing but to say so.
+    pub fn known(&self)
+        ensures { IsMachine self.now }
+    {
+        self.cpu.has_all_registers();
+        self.cpu.pc();
+        self.areas.list();
+        self.instances.known();
+        self.frames.len();
+        self.text_of_plan();
+        let _memory = &self.memory;
+    }
+
+    // The text of a call that is under way has at most 255 bytes.
+    fn text_of_plan(&self) -> &[u8]
+        ensures { IfSome self.now.tables.plan (λ plan. length plan.given.text.items ≤ 255) }
+    {
+        match &self.plan {
+            Some(plan) => plan.given().text.as_slice(),
+            None => &[],
+        }
     }
 
     /// The bytes that the last step or store call printed; none before the first.

@@ -2,27 +2,18 @@
 //! Programmer's Reference Manual, "Modules" and "OS_Module").
 
 ghost use Rattle.std.specs.Prelude.{◌≡◌, ◌<◌, false, length, IfOk};
-ghost use Rattle.swi_dispatch.specs.Gates.{call_ended, carried_on, entry_opened, kept_by, loaded_entered, next_by};
-ghost use Rattle.swi_dispatch.specs.Gates.{next_of, went_to, with_carried};
+ghost use Rattle.swi_dispatch.specs.Gates.{call_ended, carried_on, core_by, ended_by, ended_of, finished, frames_by};
+ghost use Rattle.swi_dispatch.specs.Gates.{kept_by, loaded_entered, opened};
 ghost use Rattle.swi_dispatch_plans.specs.Trials.{world_carried};
 
 use crate::machine::Machine;
+use arm_step::Cpu;
 use instances_plans::{Code, Ended, Given, Outcome, Plan};
 use profile::ErrorNumber;
-use swi_dispatch_frames::{Call, Frame, FrameKind, enter_code};
-
-/// What is next for a call that was carried on.
-#[derive(Drop)]
-pub enum Next {
-    /// Its code is entered, and the machine keeps its plan.
-    Code(Code),
-    /// It ends, with what its plan has met.
-    End(Plan),
-}
+use swi_dispatch_frames::{Call, Frame, FrameKind, Frames, enter_code};
 
 impl Machine {
     ghost use Rattle.swi_dispatch.specs.MachineState.{machine_world, quiet, setting_of};
-    ghost use Rattle.swi_dispatch.specs.OpenFrames.{GoesTo, MayEnter, entries};
     ghost use Rattle.swi_dispatch.specs.Parts.{state_of, outcome_of, IsInStep, OnlySteps, OnlyState};
     ghost use Rattle.swi_dispatch_plans.specs.Beginning.{CanBegin};
     ghost use Rattle.swi_dispatch.specs.Step.{begun_alone, call_of};
@@ -49,8 +40,8 @@ impl Machine {
         ensures others { OnlySteps self.old self.new }
     {
         let call = self.call_of(is_x, next, false);
-        let next = self.carry_first(plan);
-        self.go_to(call, next);
+        let ended = self.carry_first(call, plan);
+        self.finish(call, ended);
     }
 
     /// What the end of a call needs to know of its begin; `enters` says whether a module that it loads is entered then.
@@ -65,49 +56,33 @@ impl Machine {
         }
     }
 
-    /// A call goes on where it has come to.
-    pub(crate) fn go_to(&mut self, call: Call, next: Next)
-        requires stepped { self.old.is_fresh ≡ false }
-        requires goes { GoesTo next (state_of self.old).tables }
-        ensures state { state_of self.new ≡ went_to (state_of self.old) call next }
-        ensures others { OnlyState self.old self.new }
-    {
-        match next {
-            Next::Code(code) => self.open_entry(call, code),
-            Next::End(plan) => self.end_call(call, &plan),
-        }
-    }
-
-    // What the plan of a new call does first.
-    fn carry_first(&mut self, plan: Plan) -> Next
+    // What the plan of a new call does first. Answers the plan if it has ended; else it is kept, and its code runs.
+    fn carry_first(&mut self, call: Call, plan: Plan) -> Option<Plan>
         requires stepped { self.old.is_fresh ≡ false }
         requires begins { CanBegin (setting_of (state_of self.old)) plan }
         ensures state { let s = state_of self.old in
-            state_of self.new ≡ with_carried s (world_carried (machine_world s) plan) }
-        ensures next { result ≡ next_of (world_carried (machine_world (state_of self.old)) plan) }
-        ensures goes { GoesTo result (state_of self.new).tables }
+            state_of self.new ≡ opened s call (world_carried (machine_world s) plan) }
+        ensures ended { result ≡ ended_of (world_carried (machine_world (state_of self.old)) plan) }
         ensures others { OnlyState self.old self.new }
     {
         let mut plan = plan;
         let code = self
             .instances
             .carry(&mut self.memory, &self.areas, &mut plan, Outcome::Well);
-        let (kept, next) = next_of(plan, code);
+        let (kept, ended) = open_code(&mut self.cpu, &mut self.frames, call, plan, code);
         self.plan = kept;
-        next
+        ended
     }
 
-    // An entry of a module is called.
-    fn open_entry(&mut self, call: Call, code: Code)
+    /// A call goes back if its plan has ended.
+    pub(crate) fn finish(&mut self, call: Call, ended: Option<Plan>)
         requires stepped { self.old.is_fresh ≡ false }
-        requires room { length (state_of self.old).tables.frames < 32 }
-        requires idle { entries (state_of self.old).tables.frames ≡ 0 }
-        requires may { MayEnter code (state_of self.old).tables }
-        ensures state { state_of self.new ≡ entry_opened (state_of self.old) call code }
+        ensures state { state_of self.new ≡ finished (state_of self.old) call ended }
         ensures others { OnlyState self.old self.new }
     {
-        self.frames.open(Frame::of(&self.cpu, call, FrameKind::Entry(code.kind), code.slot));
-        enter_code(&mut self.cpu, code);
+        if let Some(plan) = ended {
+            self.end_call(call, &plan);
+        }
     }
 
     // Nothing of a call is left: it goes back.
@@ -142,12 +117,24 @@ impl Machine {
     }
 }
 
-// The plan that is kept while code runs, and what is next.
-pub(crate) fn next_of(plan: Plan, code: Option<Code>) -> (Option<Plan>, Next)
-    ensures { result ≡ (kept_by plan code, next_by plan code) }
+/// Enters the next code of a call that was carried on, in a frame of the call. Answers the plan that is kept while that
+/// runs; or, where there is no code, the plan that has ended.
+pub(crate) fn open_code(
+    cpu: &mut Cpu,
+    frames: &mut Frames,
+    call: Call,
+    plan: Plan,
+    code: Option<Code>,
+) -> (Option<Plan>, Option<Plan>)
+    requires { length frames.old < 32 }
+    ensures core { cpu.new ≡ core_by cpu.old code }
+    ensures frames { frames.new ≡ frames_by frames.old cpu.old call code }
+    ensures plans { result ≡ (kept_by plan code, ended_by plan code) }
 {
-    match code {
-        Some(code) => (Some(plan), Next::Code(code)),
-        None => (None, Next::End(plan)),
-    }
+    let Some(code) = code else {
+        return (None, Some(plan));
+    };
+    frames.open(Frame::of(cpu, call, FrameKind::Entry(code.kind), code.slot));
+    enter_code(cpu, code);
+    (Some(plan), None)
 }

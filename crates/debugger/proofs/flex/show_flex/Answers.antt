@@ -1,27 +1,29 @@
-use Rattle.std.proofs.Common.{◌≡◌, ◌∙◌, [], ◌++◌, sym, subst, List, ℕ, Option, Some}
-use Rattle.std.specs.Prelude.{unwrap_or}
-use Rattle.std.specs.Io.KnownBytes.{Appends}
-use Rattle.std.specs.List.{flat_map}
-use Rattle.profile.proofs.OutputLemmas.{Appends-join}
+use Rattle.std.proofs.Common.{◌≡◌, [], Bool, IfOk, List, ℕ, Option, subst, sym}
+use Rattle.std.specs.Prelude.{is_some, unwrap_or}
+use Rattle.profile.specs.Output.{Writes}
 use Rattle.address_map.specs.Memory.{bytes_of}
-use Rattle.debugger.specs.Flex.{block_text, flex_text, range_text}
-use Rattle.debugger.proofs.FlexLemmas.{shown}
+use Rattle.swi_dispatch.specs.Parts.{state_of}
+use Rattle.swi_dispatch.specs.flex_store.specs.State.{IsFlex}
+use Rattle.swi_dispatch.specs.flex_store.specs.declared.flex.Flex.{Flex}
+use Rattle.debugger.specs.Flex.{flex_text}
 use Rattle.debugger.proofs.flex.show_flex.Goals as goal
+
+pub show_store-requires : goal.show_store-requires
+show_store-requires g c =
+    subst (λ (f : Flex). IsFlex c.memory.result.now f) (sym c.flex.ensures.value) c.memory.ensures.flex
+
+pub returns-clause-found : goal.returns-clause-found
+returns-clause-found g c =
+    let s = state_of c.args.machine.now in
+    let same : flex_text (bytes_of c.memory.result.now) c.flex.result.now ≡ flex_text s.store.bytes s.tables.flex =
+    λ i. flex_text (c.memory.ensures.bytes i) (c.flex.ensures.value i) in
+    subst (λ (o : Option (List ℕ)). IfOk c.show_store.result (λ (is_there : Bool). is_there ≡ is_some o)) same
+    c.show_store.ensures.found
 
 pub returns-clause-writes : goal.returns-clause-writes
 returns-clause-writes g c =
-    let m = c.args.memory.now in
-    let f = c.args.flex.now in
-    let line = range_text c.in-Some.start c.in-Some.end c.in-Some.used in
-    let lines = flat_map block_text c.blocks-2.result in
-    let from = g.W.Sink.contents c.args.sink.now in
-    let between = g.W.Sink.contents c.show_range.new.sink in
-    let to = g.W.Sink.contents c.show_all.new.sink in
-    let text : flex_text (bytes_of m) f ≡ Some (line ++ lines) =
-    shown m f c.in-Some.start c.in-Some.end c.in-Some.used c.in-Some.ensures c.blocks-2.result c.blocks-2.ensures in
-    record {
-      text = subst (λ (o : Option (List ℕ)). Appends from to (unwrap_or o [])) (sym text)
-          (Appends-join from between to line lines c.in_ok-show_range.ensures.text c.in_ok-show_all.ensures.text);
-      flag = tt;
-      same_flag = c.in_ok-show_all.ensures.same_flag ∙ c.in_ok-show_range.ensures.same_flag;
-    }
+    let s = state_of c.args.machine.now in
+    let same : flex_text (bytes_of c.memory.result.now) c.flex.result.now ≡ flex_text s.store.bytes s.tables.flex =
+    λ i. flex_text (c.memory.ensures.bytes i) (c.flex.ensures.value i) in
+    subst (λ (o : Option (List ℕ)). Writes g.W.Sink.contents g.W.Sink.has_failed c.args.sink.now c.show_store.new.sink
+    c.show_store.result (unwrap_or o [])) same c.show_store.ensures.writes

@@ -1,38 +1,28 @@
-use Rattle.std.proofs.Common.{◌≡◌, ℕ, false, List, [], sym, ap, ◌∙◌, refl, subst}
+use Rattle.std.proofs.Common.{◌≡◌, false, List, ℕ, [], sym, ◌∙◌, refl, subst}
 use Rattle.std.specs.Prelude.{codes, is_some}
 use Rattle.std.specs.Io.KnownBytes.{Appends}
-use Rattle.debugger.specs.address_map.specs.Memory.{bytes_of}
-use Rattle.debugger.specs.flex_store.specs.State.{IsFlex}
-use Rattle.debugger.specs.flex_store.specs.declared.flex.Flex.{Flex}
 use Rattle.debugger.specs.Flex.{flex_text}
 use Rattle.command_shell.specs.Answers.{refused_text}
 use Rattle.command_shell.specs.Session.{script_state}
 use Rattle.command_shell.specs.State.{answer}
 use Rattle.command_shell.specs.Views.{flex_told}
 use Rattle.command_shell.proofs.AnswerLemmas.{tells_then, tells_same, tells_text}
-use Rattle.command_shell.proofs.ViewLemmas.{flex_missing, nothing, same_text}
+use Rattle.command_shell.proofs.ViewLemmas.{flex_missing, nothing}
 use Rattle.command_shell.proofs.session.Session.flex.Goals as goal
-
-pub show_flex-requires : goal.show_flex-requires
-show_flex-requires g c =
-    subst (λ (f : Flex). IsFlex c.memory.result.now f) (sym c.flex.ensures.value) c.memory.ensures.flex
 
 pub returns-clause-told : goal.returns-clause-told
 returns-clause-told g c images =
     let s = script_state c.args.self.now images in
-    let b = bytes_of c.memory.result.now in
-    let f = c.flex.result.now in
+    let text = flex_text s.machine.store.bytes s.machine.tables.flex in
     let shown = c.in_ok-show_flex.ensures in
     let from = g.W.Sink.contents c.args.sink.now in
     let between = g.W.Sink.contents c.show_flex.new.sink in
     let to = g.W.Sink.contents c.tell_refused.new.sink in
-    let same =
-    same_text flex_text b s.machine.store.bytes f s.machine.tables.flex c.memory.ensures.bytes c.flex.ensures.value in
-    let none : is_some (flex_text b f) ≡ false = sym shown.found ∙ c.if-branch.false in
+    let none : is_some text ≡ false = sym shown.found ∙ c.if-branch.false in
     let empty : Appends from between [] =
-    subst (λ (text : List ℕ). Appends from between text) (nothing (flex_text b f) none) shown.writes.text in
+    subst (λ (shown : List ℕ). Appends from between shown) (nothing text none) shown.writes.text in
     tells_same c.tell_refused.result from to s (answer s (refused_text (codes "NoFlex"))) (flex_told s)
-    (flex_missing s (ap is_some (sym same) ∙ none))
+    (flex_missing s none)
     (tells_then c.tell_refused.result from between to s s (answer s [])
     (λ after. answer after (refused_text (codes "NoFlex"))) empty refl
     (tells_text c.tell_refused.result between to s (refused_text (codes "NoFlex")) c.tell_refused.ensures.text))

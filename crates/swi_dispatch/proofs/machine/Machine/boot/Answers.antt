@@ -3,7 +3,6 @@ use Rattle.os_heap.specs.Store.{Store, store_of}
 use Rattle.dynamic_areas.proofs.Remapped.{here}
 use Rattle.flex_ground.proofs.Kept.{flex_unmade}
 use Rattle.swi_dispatch.specs.MachineState.{MachineState, start_of}
-use Rattle.swi_dispatch.specs.Parts.{state_of}
 use Rattle.swi_dispatch.proofs.Kept.{well_kept, program_kept, boots}
 use Rattle.swi_dispatch.proofs.machine.Machine.boot.Goals as goal
 

@@ -1,6 +1,6 @@
 use Rattle.std.proofs.Common.{ℕ, ◌≤◌, refl, ap, subst, ◌∙◌}
 use Rattle.swi_dispatch.specs.MachineState.{Tables}
-use Rattle.swi_dispatch.specs.Parts.{Parts, state_of}
+use Rattle.swi_dispatch.specs.Parts.{Parts}
 use Rattle.swi_dispatch.proofs.FlexCalls.{can_call, flex_left, same_free, well_flexed}
 use Rattle.swi_dispatch.proofs.machine.Machine.call_flex.Goals as goal
 

@@ -1,5 +1,5 @@
 use Rattle.std.proofs.Common.{refl, ap, ◌∙◌}
-use Rattle.swi_dispatch.specs.Parts.{Parts, state_of}
+use Rattle.swi_dispatch.specs.Parts.{Parts}
 use Rattle.swi_dispatch.proofs.StoreCalls.{same_pages, store_left, well_left}
 use Rattle.swi_dispatch.proofs.machine.Machine.call_heap.Goals as goal
 

@@ -1,6 +1,6 @@
 use Rattle.std.proofs.Common.{refl, ap, ◌∙◌}
 use Rattle.swi_dispatch.specs.MachineState.{MachineState}
-use Rattle.swi_dispatch.specs.Parts.{Parts, state_of}
+use Rattle.swi_dispatch.specs.Parts.{Parts}
 use Rattle.swi_dispatch.proofs.Kept.{over}
 use Rattle.swi_dispatch.proofs.StoreCalls.{world_left, well_after}
 use Rattle.swi_dispatch.proofs.machine.Machine.call_module_reason.Goals as goal

@@ -3,8 +3,8 @@ use Rattle.swi_dispatch_plans.specs.Beginning.{CanBegin}
 use Rattle.swi_dispatch.specs.MachineState.{MachineState, setting_of}
 use Rattle.swi_dispatch.specs.Parts.{Parts, state_of}
 use Rattle.swi_dispatch.proofs.Kept.{over}
-use Rattle.swi_dispatch.proofs.GateLemmas.{carried_well, first_carried, next_carried, state_carried}
-use Rattle.swi_dispatch.proofs.CarriedFrames.{begun_beneath, carried_frames, carries_on}
+use Rattle.swi_dispatch.proofs.GateLemmas.{carried_well, ended_carried, first_carried, state_opened}
+use Rattle.swi_dispatch.proofs.CarriedFrames.{begun_beneath, opened_frames}
 use Rattle.swi_dispatch.proofs.machine.Machine.carry_first.Goals as goal
 
 pub invariant_of-self : goal.invariant_of-self
@@ -21,8 +21,9 @@ invariant_of-self c =
     let carries = c.carry-code.ensures in
     let begins = subst (λ (p : Parts). CanBegin (setting_of (state_of p)) c.args.plan) (sym c.self.view_is)
     c.requires.begins in
-    carried_well _ _ _ _ _ _ _ c.next_of-kept.ensures refl carries.carried carries.ended carries.going carries.classes
-    (carried_frames _ _ _ _ _ _ _ (begun_beneath before _ begins) carries.others refl refl)
+    let opens = c.open_code-kept.ensures in
+    carried_well _ _ _ _ _ _ _ opens.plans refl carries.carried carries.ended carries.going carries.classes
+    (opened_frames _ _ _ _ _ c.self.inside.cpu _ _ _ _ opens.plans refl refl opens.frames (begun_beneath before _ begins) carries.others)
     c.self.invariant carries.flex refl (ap (λ (p : Parts). p.is_fresh) c.self.view_is ∙ c.requires.stepped)
 
 pub returns-clause-state : goal.returns-clause-state
@@ -37,25 +38,11 @@ returns-clause-state c =
     })
     c.self.inside.halt in
     let carries = first_carried _ _ _ c.requires.begins.rests c.carry-code.ensures.carried in
-    rw (← c.self.view_is) (state_carried before _ _ _ _ _ c.next_of-kept.ensures carries)
+    let opens = c.open_code-kept.ensures in
+    rw (← c.self.view_is)
+    (state_opened before _ _ _ c.args.call _ _ _ _ opens.core opens.frames opens.plans carries)
 
-pub returns-clause-next : goal.returns-clause-next
-returns-clause-next c =
-    rw (← c.self.view_is) (next_carried _ _ _ _ _ c.next_of-kept.ensures
+pub returns-clause-ended : goal.returns-clause-ended
+returns-clause-ended c =
+    rw (← c.self.view_is) (ended_carried _ _ _ _ _ c.open_code-kept.ensures.plans
     (first_carried _ _ _ c.requires.begins.rests c.carry-code.ensures.carried))
-
-pub returns-clause-goes : goal.returns-clause-goes
-returns-clause-goes c =
-    let before : MachineState = over c.self.inside.memory c.self.inside.cpu
-    (record {
-      land = c.self.inside.areas;
-      modules = c.self.inside.instances;
-      frames = c.self.inside.frames;
-      plan = c.self.inside.plan;
-      flex = c.self.inside.flex;
-    })
-    c.self.inside.halt in
-    let begins = subst (λ (p : Parts). CanBegin (setting_of (state_of p)) c.args.plan) (sym c.self.view_is)
-    c.requires.begins in
-    carries_on _ _ _ _ _ _ _ _ c.next_of-kept.ensures refl refl refl begins.free.room (begun_beneath before _ begins)
-    c.carry-code.ensures.others

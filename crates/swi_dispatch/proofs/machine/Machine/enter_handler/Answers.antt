@@ -3,7 +3,7 @@ use Rattle.instances_plans.specs.Doable.{is_used}
 use Rattle.instances_table.specs.Modules.{slots_of}
 use Rattle.swi_dispatch_frames.specs.Busy.{is_swi}
 use Rattle.swi_dispatch_frames.specs.declared.frame.Frame.{Frame}
-use Rattle.swi_dispatch.specs.Parts.{Parts, state_of}
+use Rattle.swi_dispatch.specs.Parts.{Parts}
 use Rattle.swi_dispatch.proofs.Kept.{well_framed}
 use Rattle.swi_dispatch.proofs.OpenFrames.{swi_opened}
 use Rattle.swi_dispatch.proofs.machine.Machine.enter_handler.Goals as goal

@@ -1,5 +1,5 @@
 use Rattle.std.proofs.Common.{refl, ap, ◌∙◌}
-use Rattle.swi_dispatch.specs.Parts.{Parts, state_of}
+use Rattle.swi_dispatch.specs.Parts.{Parts}
 use Rattle.swi_dispatch.proofs.Kept.{flex_after, well_kept}
 use Rattle.swi_dispatch.proofs.Turning.{takes_turn}
 use Rattle.swi_dispatch.proofs.machine.Machine.instruction.Goals as goal

@@ -1,16 +1,16 @@
-use Rattle.std.proofs.Common.{◌≡◌, Some, ap, subst, ◌∙◌}
+use Rattle.std.proofs.Common.{◌≡◌, ap, subst, ◌∙◌}
 use Rattle.swi_dispatch.specs.Gates.{Resumes, outcome_left}
 use Rattle.swi_dispatch.specs.Parts.{Parts, outcome_of, state_of}
 use Rattle.swi_dispatch.proofs.GateLemmas.{entry_went_on, none_else}
 use Rattle.swi_dispatch.proofs.machine.Machine.leave_entry.Goals as goal
 
-pub returns-in-Some-resume-clause-after : goal.returns-in-Some-resume-clause-after
-returns-in-Some-resume-clause-after c =
+pub returns-clause-after : goal.returns-clause-after
+returns-clause-after c =
     let same = c.fault_ahead.ensures.same in
     let left : c.outcome_left-outcome.result ≡ outcome_left (state_of c.args.self.now).cpu = c.outcome_left-outcome.ensures ∙ ap outcome_left c.cpu.ensures in
-    entry_went_on (state_of c.args.self.now) (state_of c.resume.new.self) c.args.frame (state_of c.args.self.now).tables.plan c.in-Some-resume.next
-    c.outcome_left-outcome.result c.fault_ahead.result (outcome_of c.go_to.new.self) c.fault_ahead.ensures.value (none_else _ c.in_default.not-Some) left
-    (subst (λ (p : Parts). Resumes (state_of p) c.args.frame c.outcome_left-outcome.result (state_of p).tables.plan (Some c.in-Some-resume.next)
-    (state_of c.resume.new.self)) same c.in-Some-resume.ensures.state)
-    c.go_to.ensures.state
-    (c.go_to.ensures.others.printed ∙ c.resume.ensures.others.printed ∙ ap (λ (p : Parts). p.printed) same ∙ c.requires.step.printed)
+    entry_went_on (state_of c.args.self.now) (state_of c.resume-ended.new.self) c.args.frame (state_of c.args.self.now).tables.plan c.resume-ended.result
+    c.outcome_left-outcome.result c.fault_ahead.result (outcome_of c.finish.new.self) c.fault_ahead.ensures.value (none_else _ c.in_default.not-Some) left
+    (subst (λ (p : Parts). Resumes (state_of p) c.args.frame c.outcome_left-outcome.result (state_of p).tables.plan c.resume-ended.result
+    (state_of c.resume-ended.new.self)) same c.resume-ended.ensures.state)
+    c.finish.ensures.state
+    (c.finish.ensures.others.printed ∙ c.resume-ended.ensures.others.printed ∙ ap (λ (p : Parts). p.printed) same ∙ c.requires.step.printed)

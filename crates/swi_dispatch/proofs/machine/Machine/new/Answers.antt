@@ -1,5 +1,5 @@
+use Rattle.std.proofs.Common.{refl}
 use Rattle.flex_ground.proofs.Kept.{flex_started}
-use Rattle.swi_dispatch.specs.Parts.{state_of}
 use Rattle.swi_dispatch.proofs.OpenFrames.{frames_none}
 use Rattle.swi_dispatch.proofs.Starting.{start_modules, starts, system_recorded}
 use Rattle.swi_dispatch.proofs.machine.Machine.new.Goals as goal
@@ -12,7 +12,7 @@ invariant_of-result c =
       classes = memory.classes;
       system = system_recorded _ c.args.config memory.store;
       modules = rw (c.new-3.ensures.land, c.new-4.ensures) (start_modules _ c.args.config memory.store memory.areas);
-      frames = frames_none _ c.new-5.ensures;
+      frames = frames_none _ refl c.new-5.ensures;
       flex = flex_started _ c.args.config _ memory.store c.new-6.ensures;
       fresh = λ _. rw (c.new.ensures, c.new-3.ensures.land, c.new-4.ensures, c.new-5.ensures, c.new-6.ensures) (starts _ _ memory.store memory.areas);
     }
@@ -30,7 +30,7 @@ returns-clause-well_formed c =
       classes = memory.classes;
       system = system_recorded _ c.args.config memory.store;
       modules = rw (c.new-3.ensures.land, c.new-4.ensures) (start_modules _ c.args.config memory.store memory.areas);
-      frames = frames_none _ c.new-5.ensures;
+      frames = frames_none _ refl c.new-5.ensures;
       flex = flex_started _ c.args.config _ memory.store c.new-6.ensures;
       fresh = λ _. rw (c.new.ensures, c.new-3.ensures.land, c.new-4.ensures, c.new-5.ensures, c.new-6.ensures) (starts _ _ memory.store memory.areas);
     }

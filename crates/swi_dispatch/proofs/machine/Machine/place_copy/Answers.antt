@@ -6,9 +6,9 @@ use Rattle.swi_dispatch_plans.specs.ImagePlans.{SparesRange, header_in}
 use Rattle.swi_dispatch_plans.specs.Beginning.{IsFree}
 use Rattle.swi_dispatch.specs.Parts.{Parts, state_of}
 use Rattle.swi_dispatch.proofs.Kept.{over}
-use Rattle.swi_dispatch.proofs.GateLemmas.{carried_well, first_carried, next_carried, refused_well, refused_world}
-use Rattle.swi_dispatch.proofs.GateLemmas.{starts_by, state_carried}
-use Rattle.swi_dispatch.proofs.CarriedFrames.{carried_frames, carries_on, titled_beneath}
+use Rattle.swi_dispatch.proofs.GateLemmas.{carried_well, ended_carried, first_carried, refused_well, refused_world}
+use Rattle.swi_dispatch.proofs.GateLemmas.{starts_by, state_opened}
+use Rattle.swi_dispatch.proofs.CarriedFrames.{opened_frames, titled_beneath}
 use Rattle.swi_dispatch.proofs.machine.Machine.place_copy.Goals as goal
 
 pub invariant_of-self : goal.invariant_of-self
@@ -36,8 +36,9 @@ invariant_of-self-2 c =
     given.ready in
     let beneath = titled_beneath before _ (header_in (setting_of before) c.args.at c.args.len) free spared names in
     let carries = c.carry-code.ensures in
-    carried_well _ _ _ _ _ _ _ c.next_of-kept.ensures refl carries.carried carries.ended carries.going carries.classes
-    (carried_frames _ _ _ _ _ _ _ beneath carries.others refl refl)
+    let opens = c.open_code-kept.ensures in
+    carried_well _ _ _ _ _ _ _ opens.plans refl carries.carried carries.ended carries.going carries.classes
+    (opened_frames _ _ _ _ _ c.self.inside.cpu _ _ _ _ opens.plans refl refl opens.frames beneath carries.others)
     c.self.invariant (keeps_then _ _ _ c.in_ok-plan.ensures.flex carries.flex) refl
     (ap (λ (p : Parts). p.is_fresh) c.self.view_is ∙ c.requires.stepped)
 
@@ -54,26 +55,7 @@ returns-clause-state c =
     c.self.inside.halt in
     let given = c.in_ok-plan.ensures in
     let carries = first_carried _ _ _ given.rests c.carry-code.ensures.carried in
-    rw (← c.self.view_is) (starts_by before _ _ _ _ _ _ given.world
-    (state_carried before _ _ _ _ _ c.next_of-kept.ensures carries)
-    (next_carried _ _ _ _ _ c.next_of-kept.ensures carries))
-
-pub returns-clause-goes : goal.returns-clause-goes
-returns-clause-goes c =
-    let before : MachineState = over c.self.inside.memory c.self.inside.cpu
-    (record {
-      land = c.self.inside.areas;
-      modules = c.self.inside.instances;
-      frames = c.self.inside.frames;
-      plan = c.self.inside.plan;
-      flex = c.self.inside.flex;
-    })
-    c.self.inside.halt in
-    let given = c.in_ok-plan.ensures in
-    let free = subst (λ (p : Parts). IsFree (setting_of (state_of p))) (sym c.self.view_is) c.requires.free in
-    let spared = subst (λ (p : Parts). SparesRange (setting_of (state_of p)) c.args.at c.args.len) (sym c.self.view_is)
-    c.requires.spared in
-    let names = named_given _ _ _ _ _ _ (copying_names (machine_world before) c.args.at c.args.len) given.world
-    given.ready in
-    let beneath = titled_beneath before _ (header_in (setting_of before) c.args.at c.args.len) free spared names in
-    carries_on _ _ _ _ _ _ _ _ c.next_of-kept.ensures refl refl refl free.room beneath c.carry-code.ensures.others
+    let opens = c.open_code-kept.ensures in
+    rw (← c.self.view_is) (starts_by before _ c.args.call _ _ _ _ _ given.world
+    (state_opened before _ _ _ c.args.call _ _ _ _ opens.core opens.frames opens.plans carries)
+    (ended_carried _ _ _ _ _ opens.plans carries))

@@ -1,4 +1,6 @@
-use Rattle.std.proofs.Common.{ap, ◌∙◌}
+use Rattle.std.proofs.Common.{Option, ap, ◌∙◌}
+use Rattle.std.specs.Prelude.{is_some, if◌then◌else◌}
+use Rattle.instances_plans.specs.Plans.{Plan}
 use Rattle.swi_dispatch_plans.specs.Setting.{setting_in}
 use Rattle.swi_dispatch.specs.MachineState.{setting_of}
 use Rattle.swi_dispatch.specs.Parts.{Parts, state_of}
@@ -7,7 +9,12 @@ use Rattle.swi_dispatch.proofs.machine.Machine.planner.Goals as goal
 pub new-requires : goal.new-requires
 new-requires c =
     let well = c.self.invariant in
-    record { estate = well.areas; modules = well.modules; idle = well.frames.kept; held = well.frames.held }
+    record {
+      estate = well.areas;
+      modules = well.modules;
+      idle = λ none. well.frames.kept ∙ ap (λ (p : Option Plan). if is_some p then 1 else 0) none;
+      held = well.frames.held;
+    }
 
 pub returns : goal.returns
 returns c =

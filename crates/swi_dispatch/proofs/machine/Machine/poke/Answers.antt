@@ -1,5 +1,4 @@
 use Rattle.std.proofs.Common.{refl}
-use Rattle.swi_dispatch.specs.Parts.{state_of}
 use Rattle.swi_dispatch.proofs.Kept.{flex_after, well_kept, well_same, refused_same, pokes}
 use Rattle.swi_dispatch.proofs.machine.Machine.poke.Goals as goal
 

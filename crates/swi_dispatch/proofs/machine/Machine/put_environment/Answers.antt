@@ -3,7 +3,7 @@ use Rattle.os_heap.specs.Store.{store_of}
 use Rattle.os_heap.proofs.Frame.{layout-others}
 use Rattle.dynamic_areas.specs.Ground.{Estate}
 use Rattle.swi_dispatch.specs.MachineState.{Tables, with_estate}
-use Rattle.swi_dispatch.specs.Parts.{Parts, state_of}
+use Rattle.swi_dispatch.specs.Parts.{Parts}
 use Rattle.swi_dispatch.proofs.Kept.{over, well_called}
 use Rattle.swi_dispatch.proofs.SystemRoom.{has_pages}
 use Rattle.swi_dispatch.proofs.machine.Machine.put_environment.Goals as goal

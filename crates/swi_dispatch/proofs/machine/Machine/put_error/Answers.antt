@@ -1,7 +1,7 @@
 use Rattle.std.proofs.Common.{refl, ap, ◌∙◌}
 use Rattle.os_heap.specs.Store.{store_of}
 use Rattle.dynamic_areas.proofs.HeapCalls.{system_room}
-use Rattle.swi_dispatch.specs.Parts.{Parts, state_of}
+use Rattle.swi_dispatch.specs.Parts.{Parts}
 use Rattle.swi_dispatch.proofs.Kept.{well_kept, error_kept, flex_error, kept_memory, short_name, same_pool, with_core}
 use Rattle.swi_dispatch.proofs.machine.Machine.put_error.Goals as goal
 

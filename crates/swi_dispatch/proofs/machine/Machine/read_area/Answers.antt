@@ -1,5 +1,4 @@
 use Rattle.swi_dispatch.specs.MachineState.{MachineState}
-use Rattle.swi_dispatch.specs.Parts.{state_of}
 use Rattle.swi_dispatch.proofs.Kept.{over}
 use Rattle.swi_dispatch.proofs.StoreCalls.{estate_left}
 use Rattle.swi_dispatch.proofs.machine.Machine.read_area.Goals as goal

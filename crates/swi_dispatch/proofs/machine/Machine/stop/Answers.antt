@@ -1,5 +1,4 @@
 use Rattle.std.proofs.Common.{refl, IsSome}
-use Rattle.swi_dispatch.specs.Parts.{state_of}
 use Rattle.swi_dispatch.proofs.Starting.{fresh_awake}
 use Rattle.swi_dispatch.proofs.machine.Machine.stop.Goals as goal
 

@@ -1,6 +1,5 @@
 use Rattle.std.proofs.Common.{sym, ◌∙◌}
 use Rattle.os_heap.specs.Store.{store_of}
-use Rattle.swi_dispatch.specs.Parts.{state_of}
 use Rattle.swi_dispatch.proofs.ErrorNumbers.{system_number}
 use Rattle.swi_dispatch.proofs.machine.Machine.system_number.Goals as goal
 

@@ -1,0 +1,14 @@
+pub mod Counts
+pub mod FirstPass
+pub mod Forms
+pub mod InstructionRests
+pub mod LaidOut
+pub mod Lengths
+pub mod Meanings
+pub mod OperandRests
+pub mod Parts
+pub mod Relabelled
+pub mod Rests
+pub mod SecondPass
+pub mod Splits
+pub mod Tables

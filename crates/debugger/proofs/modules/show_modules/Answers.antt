@@ -1,0 +1,15 @@
+use Rattle.std.proofs.Common.{◌≡◌, List, ℕ, subst}
+use Rattle.profile.specs.Output.{Writes}
+use Rattle.address_map.specs.Memory.{bytes_of}
+use Rattle.swi_dispatch.specs.Parts.{state_of}
+use Rattle.debugger.specs.Modules.{modules_text}
+use Rattle.debugger.proofs.modules.show_modules.Goals as goal
+
+pub returns : goal.returns
+returns g c =
+    let s = state_of c.args.machine.now in
+    let same : modules_text (bytes_of c.memory.result.now) c.instances.result.now
+    ≡ modules_text s.store.bytes s.tables.modules =
+    λ i. modules_text (c.memory.ensures.bytes i) (c.instances.ensures i) in
+    subst (λ (text : List ℕ). Writes g.W.Sink.contents g.W.Sink.has_failed c.args.sink.now c.show_all.new.sink
+    c.show_all.result text) same c.show_all.ensures

@@ -1,0 +1,292 @@
+-- Flex_Init as a turn of the stores.
+use Rattle.std.proofs.Common.{ℕ, Bool, true, false, not, nat_eq, suc, ◌+◌, ◌-◌, ◌%◌, ◌&&◌, ◌≡◌, ◌≤◌, ◌<◌, ◌∙◌, List, [], ◌∷◌, ◌++◌, length, Option, Some, None, Result, Ok, Err, option_map, is_some, refl, sym, ap, subst, inl, inr, arith}
+use Rattle.std.specs.Prelude.{nat_lt, if◌then◌else◌}
+use Rattle.std.specs.List.{list_any}
+use Rattle.std.proofs.lemmas.Bool.{and_parts, cases_Bool, eq-eqb, eqb-true, false≢true, lt-ltb, ltb-true, not-true, or_parts, or_right, true≢false}
+use Rattle.rma.specs.profile.specs.declared.error.ErrorNumber.{ErrorNumber}
+use Rattle.address_map.specs.Bytes.{AreMapped, in_range, meets, word_start}
+use Rattle.address_map.specs.declared.region.Region.{Region}
+use Rattle.os_heap.proofs.Added.{are_mapped_all}
+use Rattle.os_heap.proofs.Apart.{range_parts}
+use Rattle.os_heap.proofs.Recorded.{IsClearOfAll, recorded_sound}
+use Rattle.os_heap.specs.Ranges.{are_mapped}
+use Rattle.os_heap.specs.Store.{AreClear, IsClearOfHeaps, IsSound, Store, find_heap, is_image}
+use Rattle.os_heap_lists.specs.Heap.{HeapList}
+use Rattle.dynamic_areas.specs.Ground.{IsEstate}
+use Rattle.flex_kept.specs.Keeping.{AreAnchorsFree}
+use Rattle.flex_ground.proofs.Worlds.{begun_world, beside_begun}
+use Rattle.flex_ground.specs.Ground.{flex_state, records_with, spelled_store, with_flex_record}
+use Rattle.flex_store.proofs.Starting.{no_blocks}
+use Rattle.flex_store.specs.Blocks.{Block, contents, find_block, has_anchor, is_header, used}
+use Rattle.flex_store.specs.Calls.{FlexState, begun, flex_record, is_flex_range, meets_ranges, with_flex}
+use Rattle.flex_store.specs.Laws.{contents_in}
+use Rattle.flex_store.specs.Memory.{AreAnchored, Holds, text_of}
+use Rattle.flex_store.specs.State.{AreAnchorWords, AreWhole, is_recorded, is_store_record}
+use Rattle.flex_store.specs.declared.flex.Extent.{Extent}
+use Rattle.flex_store.specs.declared.flex.Flex.{Flex}
+use Rattle.rma.proofs.ImageLemmas.{mapped_more}
+use Rattle.instances_ground.proofs.Worlds.{few_records}
+use Rattle.instances_table.proofs.RoomLemmas.{few_modules}
+use Rattle.instances_ground.specs.Sound.{count_beside}
+use Rattle.instances_ground.specs.World.{World}
+use Rattle.store_laws.proofs.Called.{words_said}
+use Rattle.store_laws.proofs.Calling.{IsFollowedBy, stays}
+use Rattle.store_laws.specs.FlexStore.{IsSpelled, IsSpelledAt, IsUnmade, spelled_blocks}
+use Rattle.store_laws.specs.Laws.{IsFollowed}
+use Rattle.store_laws.specs.Meaning.{AreStores, Place, Stores, area_names, blocks_in, contents_of, images_in, meaning_of, payloads, place_in, seen, store_in}
+use Rattle.store_laws.specs.Turning.{Init, answer_of, answered, begun_with, left_by, turned, with_flexed}
+
+-- ranges that share no byte
+range_clear : (at len other other_len : ℕ) → meets at len other other_len ≡ false → AreClear at len other other_len
+range_clear at len other other_len apart a inside = elim (cases_Bool (in_range other other_len a)) [
+  | inr clear ↦ clear
+  | inl there ↦
+      let one = range_parts at len a inside in
+      let two = range_parts other other_len a there in
+      let both : meets at len other other_len ≡ true = rw (
+        lt-ltb 0 len (omega (arith, one.0, one.1)),
+        lt-ltb 0 other_len (omega (arith, two.0, two.1)),
+        lt-ltb at (other + other_len) (omega (arith, one.0, two.1)),
+        lt-ltb other (at + len) (omega (arith, two.0, one.1)),
+      ) refl in
+      absurd (true≢false (sym both ∙ apart))
+]
+
+range_clear_back : (at len other other_len : ℕ) → meets at len other other_len ≡ false → AreClear other other_len at len
+range_clear_back at len other other_len apart a inside = elim (cases_Bool (in_range at len a)) [
+  | inr clear ↦ clear
+  | inl there ↦ absurd (true≢false (sym inside ∙ range_clear at len other other_len apart a there))
+]
+
+heaps_clear : (hs : List HeapList) (at len : ℕ) → list_any (λ h. meets at len h.start h.end) hs ≡ false → IsClearOfHeaps at len hs
+heaps_clear [] at len apart = tt
+heaps_clear (h ∷ hs) at len apart =
+    let parts = or_parts (meets at len h.start h.end) (list_any (λ g. meets at len g.start g.end) hs) apart in
+    (range_clear at len h.start h.end parts.0, heaps_clear hs at len parts.1)
+
+ranges_clear : (rs : List Region) (r : Region) → list_any (λ q. meets r.at r.len q.at q.len) rs ≡ false → IsClearOfAll r rs
+ranges_clear [] r apart = tt
+ranges_clear (q ∷ rs) r apart =
+    let parts = or_parts (meets r.at r.len q.at q.len) (list_any (λ p. meets r.at r.len p.at p.len) rs) apart in
+    (range_clear_back r.at r.len q.at q.len parts.0, ranges_clear rs r parts.1)
+
+last_recorded : (rs : List Region) (start end : ℕ) → is_recorded (rs ++ flex_record start end ∷ []) start end ≡ true
+last_recorded [] start end = rw (eq-eqb start start refl, eq-eqb (end - start) (end - start) refl) refl
+last_recorded (r ∷ rs) start end = or_right (is_store_record start end r) (is_recorded (rs ++ flex_record start end ∷ []) start end) (last_recorded rs start end)
+
+-- a range that may become the store
+record IsRange (s : Store) (start end : ℕ) : Type 0 where
+  start_aligned : start % 4 ≡ 0
+  end_aligned : end % 4 ≡ 0
+  some : start < end
+  there : AreMapped s.bytes.mapped start (end - start)
+  heaps : IsClearOfHeaps start (end - start) s.heaps
+  others : IsClearOfAll (flex_record start end) s.others
+
+range_is : (s : Store) (start end : ℕ) → is_flex_range s start end ≡ true → IsRange s start end
+unfolding is_flex_range
+range_is s start end is =
+    let mapped : Bool = are_mapped s.bytes.mapped start (end - start) in
+    let clear : Bool = not (meets_ranges s start (end - start)) in
+    let one = and_parts (nat_eq (start % 4) 0 && nat_eq (end % 4) 0) (nat_lt start end && (mapped && clear)) is in
+    let two = and_parts (nat_eq (start % 4) 0) (nat_eq (end % 4) 0) one.0 in
+    let three = and_parts (nat_lt start end) (mapped && clear) one.1 in
+    let four = and_parts mapped clear three.1 in
+    let met : Bool = list_any (λ h. meets start (end - start) h.start h.end) s.heaps in
+    let apart = or_parts met (list_any (λ r. meets start (end - start) r.at r.len) s.others) (not-true (meets_ranges s start (end - start)) four.1) in
+    record {
+      start_aligned = eqb-true (start % 4) 0 two.0;
+      end_aligned = eqb-true (end % 4) 0 two.1;
+      some = ltb-true start end three.0;
+      there = are_mapped_all s.bytes.mapped start (end - start) four.0;
+      heaps = heaps_clear s.heaps start (end - start) apart.0;
+      others = ranges_clear s.others (flex_record start end) apart.1;
+    }
+
+-- Init was done: there was no store, and its range may become one
+record IsInit (s : Store) (o : Option Extent) (start end : ℕ) (q : FlexState × Bool) : Type 0 where
+  none : o ≡ None
+  range : is_flex_range s start end ≡ true
+  left : (let f : Flex = record { extent = o } in let p : FlexState × Bool = (with_flex (flex_state s f) start end, true) in q ≡ p)
+
+pair_is : (p q : FlexState × Bool) → (let one : Result (FlexState × Bool) ErrorNumber = Ok p in let two : Result (FlexState × Bool) ErrorNumber = Ok q in one ≡ two)
+    → p ≡ q
+pair_is p q e = cc
+
+begun_range : (s : Store) (start end : ℕ) (may : Bool) (q : FlexState × Bool) → is_flex_range s start end ≡ may
+    → (let f : Flex = record { extent = None } in begun_with s f start end ≡ Ok q) → IsInit s None start end q
+unfolding begun
+begun_range s start end false q may is = let is' = rw may at is in absurd (cc)
+begun_range s start end true q may is =
+    let f : Flex = record { extent = None } in
+    let p : FlexState × Bool = (with_flex (flex_state s f) start end, true) in
+    record { none = refl; range = may; left = pair_is q p (sym (rw may at is)) }
+
+is_init : (s : Store) (o : Option Extent) (start end : ℕ) (q : FlexState × Bool) → (let f : Flex = record { extent = o } in begun_with s f start end ≡ Ok q)
+    → IsInit s o start end q
+unfolding begun
+is_init s None start end q is = begun_range s start end (is_flex_range s start end) q refl is
+is_init s (Some e) start end q is = absurd (cc)
+
+-- the images among records of which one is more
+images_more : (bytes : ℕ → ℕ) (start end : ℕ) (rs : List Region) → images_in bytes (rs ++ flex_record start end ∷ []) ≡ images_in bytes rs
+images_more bytes start end [] = refl
+images_more bytes start end (r ∷ rs) = elim (cases_Bool (is_image r.kind)) [
+  | inl image ↦ rw (image, images_more bytes start end rs) refl
+  | inr other ↦ rw other (images_more bytes start end rs)
+]
+
+no_contents : (s : Store) (o : Option Extent) (a : ℕ) → o ≡ None → contents_in (spelled_store s.bytes.at o) a ≡ None
+no_contents s o a none = ap (λ (p : Option Extent). contents_in (spelled_store s.bytes.at p) a) none
+
+same_blocks : (s t : Store) (o : Option HeapList) → t.anchor ≡ s.anchor → t.bytes ≡ s.bytes → blocks_in t o ≡ blocks_in s o
+same_blocks s t None anchors bytes = refl
+same_blocks s t (Some h) anchors bytes = λ i. payloads (seen (anchors i) (bytes i).at) (h.start + 16) h.items
+
+no_store_at : (s : Store) (o : Option Extent) → o ≡ None → IsSpelledAt s o → IsUnmade s
+no_store_at s o none is = subst (IsSpelledAt s) none is
+
+module _ (x : Stores) (start end : ℕ) (are : AreStores x) (none : x.flex.extent ≡ None) (range : is_flex_range (store_in x) start end ≡ true) where
+  s : Store
+  s = store_in x
+
+  v : FlexState
+  v = with_flex (flex_state (store_in x) x.flex) start end
+
+  y : Stores
+  y = with_flexed x (with_flex_record (store_in x) start end) v
+
+  e : Extent
+  e = record { start = start; end = end; used = 0 }
+
+  r : IsRange (store_in x) start end
+  r = range_is (store_in x) start end range
+
+  unmade : IsUnmade (store_in x)
+  unmade = no_store_at (store_in x) x.flex.extent none are.flex.is
+
+  -- the store is the one before with a record more
+  store : store_in y ≡ with_flex_record (store_in x) start end
+  unfolding y v
+  store = λ i. record {
+    bytes = (store_in x).bytes;
+    heaps = (store_in x).heaps;
+    others = (store_in x).others ++ flex_record start end ∷ [];
+    anchor = λ a. sym (unmade.anchors a) i;
+    header = λ a. sym (unmade.headers a) i;
+  }
+
+  few : length (store_in x).others < 68
+  few = few_records x.world x.pending are.world (few_modules x.world.modules are.modules) are.one
+
+  sound : IsSound (store_in y)
+  sound =
+      subst IsSound (sym store)
+      (recorded_sound (store_in x) (flex_record start end) are.world.estate.ground.sound r.heaps r.others few)
+
+  estate : IsEstate y.world.estate
+  unfolding y v store sound
+  estate =
+      let g = are.world.estate.ground in
+      record {
+        ground = record {
+          sizes = g.sizes;
+          table = g.table;
+          land = g.land;
+          pages = g.pages;
+          ranges = mapped_more (store_in x).bytes.mapped (store_in x).others (flex_record start end) g.ranges r.there;
+          sound = sound;
+        };
+        heap = are.world.estate.heap;
+      }
+
+  blocks : spelled_blocks (store_in y) e ≡ []
+  unfolding y v e
+  blocks = no_blocks (store_in x).bytes.at start
+
+  spelled : IsSpelled (store_in y) e
+  unfolding y v e blocks
+  spelled = record {
+    range = record { start_aligned = r.start_aligned; end_aligned = r.end_aligned; there = r.there };
+    fits = subst (λ (bs : List Block). start + used bs ≤ end) (sym blocks) (omega (arith, r.some));
+    whole = subst AreWhole (sym blocks) tt;
+    words = subst (λ (bs : List Block). AreAnchorWords (store_in x).bytes.mapped start end bs) (sym blocks) tt;
+    text = subst (λ (bs : List Block). Holds (store_in x).bytes.at start (text_of bs)) (sym blocks) (λ k below. absurd (omega (arith, below)));
+    anchored = subst (λ (bs : List Block). AreAnchored (store_in x).bytes.at start bs) (sym blocks) tt;
+    headers = λ a. ap (λ (bs : List Block). is_header start bs (word_start a)) (sym blocks);
+    anchors = λ a. ap (λ (bs : List Block). has_anchor bs (word_start a)) (sym blocks);
+    used_is = ap used blocks;
+    recorded = last_recorded (store_in x).others start end;
+  }
+
+  first : count_beside (store_in x).others ≡ 1
+  first = are.flex.beside ∙ ap records_with none
+
+  free : AreAnchorsFree (store_in y)
+  unfolding AreAnchorsFree y v
+  free = λ a is. absurd (false≢true is)
+
+  stores : AreStores y
+  unfolding y v estate spelled free
+  stores = record {
+    world = begun_world x.world (with_flexed x (with_flex_record (store_in x) start end) (with_flex (flex_state (store_in x) x.flex) start end)).world
+        x.pending start end (record { estate = estate; others = refl; modules = refl; first = first }) are.world;
+    flex = record { is = spelled; free = free; beside = beside_begun start end (store_in x).others ∙ ap suc first };
+    modules = are.modules;
+    memory = are.memory;
+    one = are.one;
+  }
+
+  -- what they mean
+  old : (a : ℕ) → contents_of x a ≡ None
+  old a = no_contents (store_in x) x.flex.extent a none
+
+  new : (a : ℕ) → contents_of y a ≡ None
+  unfolding y v e blocks
+  new a = ap (λ (bs : List Block). option_map contents (find_block a bs)) blocks
+
+  place : (w : World) (o : Option (List ℕ)) (a : ℕ) → o ≡ None
+      → (let p : Option Place = if is_some o then place_in a (find_heap 0x01800000 w.estate.store.heaps) else None in p ≡ None)
+  place w o a gone = ap (λ (q : Option (List ℕ)). let p : Option Place = if is_some q then place_in a (find_heap 0x01800000 w.estate.store.heaps) else None in p) gone
+
+  same : meaning_of y ≡ meaning_of x
+  unfolding meaning_of y v
+  same = λ i. record {
+    flex = λ a. (new a ∙ sym (old a)) i;
+    places = λ a. (place y.world (contents_of y a) a (new a) ∙ sym (place x.world (contents_of x a) a (old a))) i;
+    blocks = same_blocks (store_in x) (store_in y) (find_heap 0x01800000 (store_in x).heaps) (λ j a. sym (unmade.anchors a) j) refl i;
+    images = images_more (store_in x).bytes.at start end (store_in x).others i;
+    names = area_names x.world;
+  }
+
+  pub init_done : IsFollowedBy (Init start end) (Ok true) x (with_flexed x (with_flex_record (store_in x) start end) (with_flex (flex_state (store_in x) x.flex) start end))
+  unfolding meaning_of y v stores same
+  init_done = record {
+    rule = record { none = old; same = same };
+    words = λ slot word says. words_said x.world slot word says;
+    modules = refl;
+    stores = stores;
+    mapped = refl;
+    pool = refl;
+    land = refl;
+    pending = refl;
+  }
+
+init_is : (x : Stores) (start end : ℕ) (q : FlexState × Bool) → AreStores x → IsInit (store_in x) x.flex.extent start end q
+    → IsFollowedBy (Init start end) (Ok q.1) x (with_flexed x (with_flex_record (store_in x) start end) q.0)
+init_is x start end q are is =
+    subst (λ (p : FlexState × Bool). IsFollowedBy (Init start end) (Ok p.1) x (with_flexed x (with_flex_record (store_in x) start end) p.0)) (sym is.left)
+    (init_done x start end are is.none is.range)
+
+init_by : (x : Stores) (start end : ℕ) (r : Result (FlexState × Bool) ErrorNumber) → begun_with (store_in x) x.flex start end ≡ r → AreStores x
+    → IsFollowedBy (Init start end) (answer_of r) x (left_by x (with_flex_record (store_in x) start end) r)
+init_by x start end (Err e) is are = stays (Init start end) (Err e) x are refl
+init_by x start end (Ok q) is are = init_is x start end q are (is_init (store_in x) x.flex.extent start end q is)
+
+pub init_followed : (x : Stores) (start end : ℕ) → AreStores x → IsFollowed (Init start end) x (turned (Init start end) x)
+unfolding turned answered
+init_followed x start end are =
+    let f : IsFollowedBy (Init start end) (answer_of (begun_with (store_in x) x.flex start end)) x
+    (left_by x (with_flex_record (store_in x) start end) (begun_with (store_in x) x.flex start end)) =
+    init_by x start end (begun_with (store_in x) x.flex start end) refl are in
+    record { rule = f.rule; words = f.words; modules = f.modules; stores = f.stores; mapped = f.mapped; pool = f.pool; land = f.land; pending = f.pending }

@@ -1,0 +1,213 @@
+-- A world whose module area was tidied holds all that holds of worlds between calls, and its flex store is kept.
+use Rattle.std.proofs.Common.{ℕ, Bool, true, false, ◌+◌, cond, ◌-◌, ◌^◌, ◌==◌, ◌≡◌, ◌≤◌, ◌<◌, ◌⊎◌, List, [], ◌∷◌, map, length, Some, refl, sym, ap, subst, inl, inr, arith}
+use Rattle.std.proofs.lemmas.Bool.{both_ways, cases_Bool, eq-eqb, false≢true}
+use Rattle.std.proofs.lemmas.List.{length-map}
+use Rattle.address_map.proofs.Stores.{in_range-cases}
+use Rattle.address_map.specs.Bytes.{Bytes, in_range, with_moved_at, with_word_at, word_at}
+use Rattle.address_map.specs.Items.{size_of}
+use Rattle.address_map.specs.Moves.{moved_to}
+use Rattle.address_map.specs.declared.follow.Move.{Move}
+use Rattle.address_map.specs.declared.item.Item.{Item}
+use Rattle.address_map.specs.declared.item.Item.TheVariants.{Free, Live}
+use Rattle.os_heap_lists.specs.Heap.{HeapList, IsHeapIn, next_free, with_heads, with_heap}
+use Rattle.os_heap.proofs.Found.{found_heap, found_start}
+use Rattle.os_heap.proofs.Frame.{store_clear}
+use Rattle.os_heap.specs.Store.{IsClearOfHeaps, IsImageIn, IsSound, Store, find_heap}
+use Rattle.os_heap.proofs.Stores.{image_kind}
+use Rattle.os_heap_slide.specs.Slide.{HoldNoAnchor, MaySlide, is_listed, place_of, slid_bytes, with_slid}
+use Rattle.os_heap_slide.proofs.Records.{moves_in, slid_in}
+use Rattle.dynamic_areas.specs.Ground.{Estate, IsEstate, IsRecorded, system_pages}
+use Rattle.flex_kept.proofs.Keeping.{keeps_same, keeps_then}
+use Rattle.flex_kept.proofs.Slides.{slides_keep}
+use Rattle.flex_kept.proofs.Writes.{system_keeps}
+use Rattle.flex_kept.specs.Keeping.{KeepsFlex}
+use Rattle.rma.specs.Calls.{with_store}
+use Rattle.instances_plans.specs.Code.{private_of}
+use Rattle.instances_table.proofs.RoomLemmas.{few_modules, most_slots}
+use Rattle.instances_table.specs.Modules.{AreModules, EachIsModule, Module, has_slot, has_title, number_of, slot_count, slots_of}
+use Rattle.instances_ground.proofs.Worlds.{world_kept}
+use Rattle.instances_ground.specs.Sound.{IsWorld}
+use Rattle.instances_ground.specs.World.{World, private_word, with_private}
+use Rattle.instances_slide.proofs.Choosing.{are_blocks, few_blocks}
+use Rattle.instances_slide.proofs.LawLemmas.{slid_where}
+use Rattle.instances_slide.proofs.Tidying.{HasHeap, after_blocks, blocks_sound, heap_there}
+use Rattle.instances_slide.specs.Laws.{AreBytes}
+use Rattle.instances_slide.specs.Movable.{can_move, movable_blocks}
+use Rattle.instances_slide.specs.Slid.{image_moved, private_words, words_moved, world_moved, world_slid}
+use Rattle.store_laws.proofs.SlidStores.{sound_slid}
+use Rattle.store_laws.proofs.SlidWorlds.{holds_none, placed_of, slots_below, word_outside}
+use Rattle.store_laws.proofs.Small.{word_small}
+
+-- bytes stay bytes
+moved_small : (f : ℕ → ℕ) (from to len : ℕ) → AreBytes f → AreBytes (with_moved_at f from to len)
+moved_small f from to len small a = elim (cases_Bool (in_range to len a)) [
+  | inl inside ↦ rw inside (small (from + (a - to)))
+  | inr outside ↦ rw outside (small a)
+]
+
+slid_small : (mv : ℕ → Bool) (top at : ℕ) (xs : List Item) (f : ℕ → ℕ) → AreBytes f → AreBytes (slid_bytes mv top at xs f)
+slid_small mv top at [] f small = small
+slid_small mv top at (Free t ∷ xs) f small = slid_small mv top (at + t) xs f small
+slid_small mv top at (Live t ∷ xs) f small =
+    let place : ℕ = place_of (mv (at + 4)) top at in
+    slid_small mv (place + t) (at + t) xs (with_moved_at f at place t) (moved_small f at place t small)
+
+heads_small : (f : ℕ → ℕ) (at : ℕ) (xs : List Item) (other : ℕ) → AreBytes f → AreBytes (with_heads f at xs other)
+heads_small f at [] other small = small
+heads_small f at (Live t ∷ xs) other small = word_small (with_heads f (at + t) xs other) at t (heads_small f (at + t) xs other small)
+heads_small f at (Free t ∷ xs) other small =
+    let rest : ℕ → ℕ = with_heads f (at + t) xs other in
+    word_small (with_word_at rest (at + 4) t) at (next_free (at + t) xs other - at) (word_small rest (at + 4) t (heads_small f (at + t) xs other small))
+
+heap_small : (f : ℕ → ℕ) (start end : ℕ) (items : List Item) → AreBytes f → AreBytes (with_heap f start end items)
+heap_small f start end items small =
+    let h0 : ℕ → ℕ = with_heads f (start + 16) items 0 in
+    let h1 : ℕ → ℕ = with_word_at h0 start 0x70616548 in
+    let h2 : ℕ → ℕ = with_word_at h1 (start + 4) (next_free (start + 16) items 0 - start) in
+    let h3 : ℕ → ℕ = with_word_at h2 (start + 8) (16 + size_of items) in
+    word_small h3 (start + 12) end (word_small h2 (start + 8) (16 + size_of items)
+    (word_small h1 (start + 4) (next_free (start + 16) items 0 - start) (word_small h0 start 0x70616548 (heads_small f (start + 16) items 0 small))))
+
+-- the modules are the same, but for the places of their images
+titles_same : (ms : List Move) (title : List ℕ) (modules : List Module) → number_of (has_title title) (map (image_moved ms) modules) ≡ number_of (has_title title) modules
+titles_same ms title [] = refl
+titles_same ms title (m ∷ modules) = ap (λ (n : ℕ). cond (has_title title m) 1 0 + n) (titles_same ms title modules)
+
+slots_same : (ms : List Move) (slot : ℕ) (modules : List Module) → slot_count slot (map (image_moved ms) modules) ≡ slot_count slot modules
+slots_same ms slot [] = refl
+slots_same ms slot (m ∷ modules) = ap (λ (n : ℕ). number_of (has_slot slot) m.instances + n) (slots_same ms slot modules)
+
+each_same : (ms : List Move) (modules : List Module) → EachIsModule modules → EachIsModule (map (image_moved ms) modules)
+each_same ms [] each = tt
+each_same ms (m ∷ modules) each = (record { names = each.0.names; preferred = each.0.preferred }, each_same ms modules each.1)
+
+modules_same : (ms : List Move) (modules : List Module) → AreModules modules → AreModules (map (image_moved ms) modules)
+modules_same ms modules are = record {
+  titles = λ title. rw (titles_same ms title modules) (are.titles title);
+  slots = λ slot. rw (slots_same ms slot modules) (are.slots slot);
+  each = each_same ms modules are.each;
+}
+
+-- private words are written in the system pages, which no heap has a byte of
+record IsWritable (s : Store) : Type 0 where
+  sound : IsSound s
+  recorded : IsRecorded system_pages s.others
+
+clear_by : (s : Store) → IsClearOfHeaps 0x01C00000 0x3000 s.heaps ⊎ IsImageIn s.heaps system_pages → IsClearOfHeaps 0x01C00000 0x3000 s.heaps
+clear_by s (inl clear) = clear
+clear_by s (inr image) = absurd (false≢true (image_kind s.heaps system_pages image))
+
+page_outside : (f : ℕ → ℕ) (slot value a : ℕ) → slot < 64 → in_range 0x01C00000 0x3000 a ≡ false → with_word_at f (private_of slot) value a ≡ f a
+page_outside f slot value a few out = elim (in_range-cases 0x01C00000 0x3000 a) [
+  | inl r ↦ absurd (both_ways (in_range 0x01C00000 0x3000 a) out r.0)
+  | inr r ↦ word_outside f slot value a few (elim r.1 [ inl low ↦ inl (omega (arith, low)) | inr high ↦ inr (omega (arith, high)) ])
+]
+
+-- what holds of an estate after private words were written
+record IsWordsMoved (e f : Estate) : Type 0 where
+  good : IsEstate e → IsEstate f
+  others : f.store.others ≡ e.store.others
+  mapped : f.store.bytes.mapped ≡ e.store.bytes.mapped
+  pool : f.pool ≡ e.pool
+  land : f.land ≡ e.land
+  small : AreBytes e.store.bytes.at → AreBytes f.store.bytes.at
+  keeps : KeepsFlex e.store f.store
+
+private_good : (e : Estate) (slot value : ℕ) → IsWritable e.store → slot < 64 → IsEstate e → IsEstate (with_private e slot value)
+private_good e slot value w few good =
+    let c : Bytes = record { mapped = e.store.bytes.mapped; at = with_word_at e.store.bytes.at (private_of slot) value } in
+    let clear : IsClearOfHeaps 0x01C00000 0x3000 e.store.heaps =
+    clear_by e.store (placed_of e.store.heaps e.store.others system_pages w.sound.placed w.recorded) in
+    record {
+      ground = record {
+        sizes = good.ground.sizes;
+        table = good.ground.table;
+        land = good.ground.land;
+        pages = good.ground.pages;
+        ranges = good.ground.ranges;
+        sound = store_clear e.store c 0x01C00000 0x3000 refl w.sound clear (λ a out. page_outside e.store.bytes.at slot value a few out);
+      };
+      heap = good.heap;
+    }
+
+words_good : (moves : List Move) (slots : List ℕ) (e : Estate) → ((s : ℕ) → 1 ≤ number_of (λ x. x == s) slots → s < 64) → IsEstate e
+    → IsRecorded system_pages e.store.others → IsWordsMoved e (words_moved moves slots e)
+words_good moves [] e below good recorded = record {
+  good = λ is. is;
+  others = refl;
+  mapped = refl;
+  pool = refl;
+  land = refl;
+  small = λ is. is;
+  keeps = keeps_same e.store;
+}
+words_good moves (slot ∷ slots) e below good recorded =
+    let value : ℕ = moved_to moves (private_word e slot) in
+    let few : slot < 64 = below slot (rw (eq-eqb slot slot refl) (omega arith)) in
+    let next : Estate = with_private e slot value in
+    let w : IsWritable e.store = record { sound = good.ground.sound; recorded = recorded } in
+    let good' : IsEstate next = private_good e slot value w few good in
+    let rest : IsWordsMoved next (words_moved moves slots next) = words_good moves slots next (λ s some. below s (omega (arith, some))) good' recorded in
+    let c : Bytes = record { mapped = e.store.bytes.mapped; at = with_word_at e.store.bytes.at (private_of slot) value } in
+    let here : KeepsFlex e.store next.store =
+    system_keeps e.store c good.ground.sound recorded (λ a out. page_outside e.store.bytes.at slot value a few out) in
+    record {
+      good = λ is. rest.good good';
+      others = rest.others;
+      mapped = rest.mapped;
+      pool = rest.pool;
+      land = rest.land;
+      small = λ is. rest.small (word_small e.store.bytes.at (private_of slot) value is);
+      keeps = keeps_then e.store next.store (words_moved moves slots next).store here rest.keeps;
+    }
+
+-- what holds of a tidied world
+pub record IsTidy (w v : World) : Type 0 where
+  pub world : IsWorld v []
+  pub modules : AreModules v.modules
+  pub mapped : v.estate.store.bytes.mapped ≡ w.estate.store.bytes.mapped
+  pub pool : v.estate.pool ≡ w.estate.pool
+  pub land : v.estate.land ≡ w.estate.land
+  pub small : AreBytes v.estate.store.bytes.at
+  pub keeps : KeepsFlex w.estate.store v.estate.store
+
+module _ (return_address : ℕ) (w : World) (world : IsWorld w []) (are : AreModules w.modules) (small : AreBytes w.estate.store.bytes.at)
+    (low : (a : ℕ) → w.estate.store.bytes.mapped a ≡ true → a < 2 ^ 26) where
+  pub tidy : IsTidy w (world_slid return_address w)
+  tidy =
+      let s : Store = w.estate.store in
+      let there : HasHeap s = heap_there w.estate world.estate in
+      let h : HeapList = there.heap in
+      let found : find_heap 0x01800000 s.heaps ≡ Some h = there.found in
+      let sound : IsSound s = world.estate.ground.sound in
+      let start : h.start ≡ 0x01800000 = found_start 0x01800000 s.heaps h found in
+      let own : find_heap h.start s.heaps ≡ Some h = subst (λ (q : ℕ). find_heap q s.heaps ≡ Some h) (sym start) found in
+      let heap : IsHeapIn s.bytes h.start h.end h.items = found_heap s.bytes 0x01800000 s.heaps h sound.heaps found in
+      let last : ℕ = h.start + h.end - 1 in
+      let ends : h.start + h.end ≤ 2 ^ 26 =
+      omega (arith, heap.inside, low last (heap.mapped last (omega (arith, heap.inside)) (omega (arith, heap.inside)))) in
+      let movable : List ℕ = movable_blocks s w.modules (private_words w) return_address h in
+      let free : HoldNoAnchor s h movable = holds_none w h return_address heap in
+      let after : IsSound (with_slid s h movable) = sound_slid s h movable sound own free ends in
+      let blocks : IsWorld (after_blocks w h movable) [] = blocks_sound w h movable world found after in
+      let moves : List Move = moves_in h movable in
+      let e : Estate = with_store w.estate (with_slid s h movable) in
+      let words : IsWordsMoved e (words_moved moves (slots_of w.modules) e) =
+      words_good moves (slots_of w.modules) e (slots_below w.modules are) blocks.estate blocks.system in
+      let named : length (private_words w) ≤ 64 =
+      rw (length-map (slots_of w.modules) (λ (slot : ℕ). word_at s.bytes.at (private_of slot))) (most_slots w.modules are) in
+      let may : MaySlide s 0x01800000 movable = rw found (
+        are_blocks (can_move s.anchor w.modules (private_words w) return_address) (h.start + 16) h.items heap.totals,
+        (few_blocks s.anchor w.modules (private_words w) return_address (h.start + 16) h.items heap.totals (few_modules w.modules are) named, free),
+      ) in
+      let slides : KeepsFlex s (with_slid s h movable) = slides_keep s (with_slid s h movable) movable moves sound after may (rw found (refl, refl)) in
+      subst (λ (v : World). IsTidy w v) (sym (slid_where return_address w h found)) (record {
+        world = world_kept (after_blocks w h movable) (world_moved w h movable) [] blocks refl words.others (words.good blocks.estate);
+        modules = modules_same moves w.modules are;
+        mapped = words.mapped;
+        pool = words.pool;
+        land = words.land;
+        small = words.small (heap_small (slid_bytes (is_listed movable) (h.start + 16) (h.start + 16) h.items s.bytes.at) h.start h.end (slid_in h movable)
+            (slid_small (is_listed movable) (h.start + 16) (h.start + 16) h.items s.bytes.at small));
+        keeps = keeps_then s (with_slid s h movable) (world_moved w h movable).estate.store slides words.keeps;
+      })

@@ -1,0 +1,87 @@
+-- The flex store as the words of a store spell it.
+use Rattle.std.proofs.Common.{ℕ, ◌≡◌, ◌≤◌, ◌<◌, ◌+◌, ◌-◌, ◌==◌, ◌&&◌, Bool, true, List, [], ◌∷◌, Option, Some, None, refl, ap, inl, inr, arith}
+use Rattle.std.proofs.lemmas.Bool.{and_parts, cases_Bool, eqb-true, false≢true, le-leb, lt-ltb, or_left, or_right}
+use Rattle.address_map.specs.Bytes.{Bytes, in_range}
+use Rattle.address_map.specs.declared.map.AddressMap.{AddressMap}
+use Rattle.address_map.specs.declared.region.Region.{Region}
+use Rattle.os_heap.specs.Store.{Store, is_flex_store, is_in_flex_store, store_of}
+use Rattle.flex_kept.specs.Keeping.{IsFlexKept}
+use Rattle.flex_store.proofs.Texts.{text_kept, text_read, words_within}
+use Rattle.flex_store.specs.Blocks.{Block, FlexStore}
+use Rattle.flex_store.specs.declared.flex.Flex.{Flex}
+use Rattle.flex_store.specs.Laws.{AreDistinct, HasBlocks}
+use Rattle.flex_store.specs.State.{AreAnchorWords, IsFlexAt, IsText, is_recorded, is_store_record}
+use Rattle.flex_store.specs.declared.flex.Extent.{Extent}
+use Rattle.flex_ground.specs.Ground.{HasFlex, spelled_store}
+use Rattle.store_laws.specs.FlexStore.{HasFlexStore, IsSpelled, IsSpelledAt, spelled_blocks}
+
+pub spelled_at : (m : AddressMap) (o : Option Extent) → IsFlexAt m o → IsSpelledAt (store_of m) o
+unfolding store_of
+spelled_at m None is = record { headers = is.headers; anchors = is.anchors }
+spelled_at m (Some e) is =
+    let s = is.held.store in
+    record {
+      range = s.range;
+      fits = s.fits;
+      whole = s.whole;
+      words = s.words;
+      text = s.text;
+      anchored = s.anchored;
+      headers = s.headers;
+      anchors = s.anchors;
+      used_is = is.held.used_is;
+      recorded = is.recorded;
+    }
+
+-- each byte of the range is one of the store's
+in_record : (start end a : ℕ) (r : Region) → is_store_record start end r ≡ true → start ≤ a → a < end → (is_flex_store r.kind && in_range r.at r.len a) ≡ true
+in_record start end a r is low high =
+    let parts = and_parts (is_flex_store r.kind) (r.at == start && r.len == end - start) is in
+    let place = and_parts (r.at == start) (r.len == end - start) parts.1 in
+    let at : r.at ≡ start = eqb-true r.at start place.0 in
+    let len : r.len ≡ end - start = eqb-true r.len (end - start) place.1 in
+    rw (parts.0, le-leb r.at a (omega (arith, at, low)), lt-ltb a (r.at + r.len) (omega (arith, at, len, low, high))) refl
+
+pub in_recorded : (rs : List Region) (start end a : ℕ) → is_recorded rs start end ≡ true → start ≤ a → a < end → is_in_flex_store rs a ≡ true
+in_recorded [] start end a is low high = absurd (false≢true is)
+in_recorded (r ∷ rs) start end a is low high = elim (cases_Bool (is_store_record start end r)) [
+  | inl here ↦ or_left (is_flex_store r.kind && in_range r.at r.len a) (is_in_flex_store rs a) (in_record start end a r here low high)
+  | inr other ↦ or_right (is_flex_store r.kind && in_range r.at r.len a) (is_in_flex_store rs a) (in_recorded rs start end a (rw other at is) low high)
+]
+
+-- the anchors of such blocks differ
+distinct : (mapped : ℕ → Bool) (start end : ℕ) (bs : List Block) → AreAnchorWords mapped start end bs → AreDistinct bs
+distinct mapped start end [] words = tt
+distinct mapped start end (b ∷ bs) words = (words.0.1, distinct mapped start end bs words.1)
+
+pub has_blocks : (s : Store) (o : Option Extent) → IsSpelledAt s o → HasBlocks (spelled_store s.bytes.at o)
+has_blocks s None is = tt
+has_blocks s (Some e) is = (is.whole, distinct s.bytes.mapped e.start e.end (spelled_blocks s e) is.words)
+
+pub has_store : (m : AddressMap) (f : Flex) → HasFlex m f → HasFlexStore (store_of m) f
+has_store m f has = record { is = spelled_at m f.extent has.is; free = has.free; beside = has.beside }
+
+-- The store is the same as long as its bytes are.
+store_text : (s : Store) (e : Extent) → IsSpelled s e → IsText s.bytes e.start (e.start + e.used) (spelled_blocks s e)
+store_text s e is = record {
+  whole = is.whole;
+  words = words_within s.bytes.mapped e.start e.end e.start (e.start + e.used) (spelled_blocks s e) (omega arith) (omega (arith, is.fits, is.used_is)) is.words;
+  text = is.text;
+  length = omega (arith, is.used_is);
+  aligned = is.range.start_aligned;
+  mapped = λ a low high. is.range.there a low (omega (arith, is.fits, high));
+}
+
+pub kept_blocks : (s t : Store) (e : Extent) → IsSpelled s e → IsFlexKept s t → spelled_blocks t e ≡ spelled_blocks s e
+kept_blocks s t e is kept =
+    let bytes : Bytes = record { mapped = s.bytes.mapped; at = t.bytes.at } in
+    let same : (a : ℕ) → e.start ≤ a → a < e.start + e.used → t.bytes.at a ≡ s.bytes.at a = λ a low high.
+    kept.bytes a (or_left (is_in_flex_store s.others a) (s.anchor a)
+    (in_recorded s.others e.start e.end a is.recorded low (omega (arith, is.fits, is.used_is, high)))) in
+    text_read bytes e.start (e.start + e.used) (spelled_blocks s e)
+    (text_kept s.bytes bytes e.start (e.start + e.used) (spelled_blocks s e) refl same (store_text s e is))
+
+pub spelled_kept : (s t : Store) (o : Option Extent) → IsSpelledAt s o → IsFlexKept s t → spelled_store t.bytes.at o ≡ spelled_store s.bytes.at o
+spelled_kept s t None is kept = refl
+spelled_kept s t (Some e) is kept =
+    ap (λ (bs : List Block). let o : Option FlexStore = Some (record { start = e.start; end = e.end; blocks = bs }) in o) (kept_blocks s t e is kept)
