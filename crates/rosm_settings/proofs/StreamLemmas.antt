@@ -19,8 +19,8 @@ stops_with (Ok last) of_file of_reader settings reader script before after e ans
   reader = reader;
   images = answers.images;
   files = answers.files;
-  stop = subst (λ (o : Option (List ℕ)).
-      IfSome o (λ bytes. last ≡ (answers_to settings answers.images bytes).state.last)) e answers.stop;
+  stop = subst (λ (o : Option (List ℕ)). IfSome o (λ bytes. last ≡ (answers_to settings answers.images bytes).state.last))
+      e answers.stop;
 }
 
 -- a file that gives no image

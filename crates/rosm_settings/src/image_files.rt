@@ -1,8 +1,8 @@
 ghost use Rattle.std.specs.Prelude.{◌≡◌, [], ◌∷◌, ◌++◌, false, IfErr, IfOk, IfSome, OnErr, OnOk};
 ghost use Rattle.std.specs.Path.{path_file_name};
 ghost use Rattle.rosm_settings.specs.ImageFiles.{file_error as error_of};
-ghost use Rattle.rosm_settings.specs.ImageFiles.{AddsFile, AddsFiles, AddsImage, RefusesFile, RefusesImage};
-ghost use Rattle.rosm_settings.specs.ImageFiles.{StopsAtFile, front_of, is_host_error, names_for, names_of};
+ghost use Rattle.rosm_settings.specs.ImageFiles.{AddsFile, AddsFiles, AddsImage, RefusesFile, RefusesImage, StopsAtFile};
+ghost use Rattle.rosm_settings.specs.ImageFiles.{front_of, is_host_error, names_for, names_of};
 
 use crate::refusal::Refusal;
 use command_line::Files;
