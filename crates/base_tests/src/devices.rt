@@ -8,37 +8,34 @@ use std::io::{ErrorKind, Read, Write};
 fn a_source_gives_its_bytes(rt: HostRuntime) {
     let mut source = MemorySource::new(b"abcde", 2, 5);
     let mut buffer = [0u8; 3];
-    assert_eq!(rt; source.pull(&mut buffer), Ok(2));
-    assert_eq!(rt; buffer, *b"ab\0");
-    assert_eq!(rt; source.pull(&mut buffer[..1]), Ok(1));
-    assert_eq!(rt; source.pull(&mut buffer), Ok(2));
-    assert_eq!(rt; source.pull(&mut buffer), Ok(0));
-    assert_eq!(rt; source.pull(&mut buffer), Err(ReadFault));
-    assert_eq!(rt; source.pull(&mut buffer), Err(ReadFault));
+    assert!(rt; source.pull(&mut buffer) == Ok(2));
+    assert!(rt; buffer == *b"ab\0");
+    assert!(rt; source.pull(&mut buffer[..1]) == Ok(1));
+    assert!(rt; source.pull(&mut buffer) == Ok(2));
+    assert!(rt; source.pull(&mut buffer) == Ok(0));
+    assert!(rt; source.pull(&mut buffer) == Err(ReadFault));
+    assert!(rt; source.pull(&mut buffer) == Err(ReadFault));
 }
 
 #[test]
 fn a_sink_fills_its_room(rt: HostRuntime) {
     let mut room = [0u8; 5];
     let mut sink = MemorySink::new(&mut room, 2, 9);
-    assert_eq!(rt; sink.push(b"abc"), Ok(2));
-    assert_eq!(rt; push_all(&mut sink, b"cd"), Ok(()));
-    assert_eq!(rt;
-        push_parts(&mut sink, &[b"e".as_slice(), b"fg".as_slice()]),
-        Err(WriteFault)
-    );
-    assert_eq!(rt; sink.written(), b"abcde".as_slice());
-    assert_eq!(rt; sink.push(b"f"), Err(WriteFault));
+    assert!(rt; sink.push(b"abc") == Ok(2));
+    assert!(rt; push_all(&mut sink, b"cd") == Ok(()));
+    assert!(rt; push_parts(&mut sink, &[b"e".as_slice(), b"fg".as_slice()]) == Err(WriteFault));
+    assert!(rt; sink.written() == b"abcde".as_slice());
+    assert!(rt; sink.push(b"f") == Err(WriteFault));
 }
 
 #[test]
 fn a_sink_fails_from_its_call_on(rt: HostRuntime) {
     let mut room = [0u8; 9];
     let mut sink = MemorySink::new(&mut room, 4, 2);
-    assert_eq!(rt; sink.push(b"abc"), Ok(3));
-    assert_eq!(rt; sink.push(b"d"), Err(WriteFault));
-    assert_eq!(rt; sink.push(b"d"), Err(WriteFault));
-    assert_eq!(rt; sink.written(), b"abc".as_slice());
+    assert!(rt; sink.push(b"abc") == Ok(3));
+    assert!(rt; sink.push(b"d") == Err(WriteFault));
+    assert!(rt; sink.push(b"d") == Err(WriteFault));
+    assert!(rt; sink.written() == b"abc".as_slice());
 }
 
 // Answers an interruption, then one byte, then a failure, then bytes again.
@@ -95,9 +92,9 @@ fn a_reader_fails_for_good(rt: HostRuntime) {
     for failure in FAILURES {
         let mut reader = Device::new(Unsteady::new(failure));
         let mut buffer = [0u8; 2];
-        assert_eq!(rt; reader.pull(&mut buffer), Ok(1));
-        assert_eq!(rt; reader.pull(&mut buffer), Err(ReadFault));
-        assert_eq!(rt; reader.pull(&mut buffer), Err(ReadFault));
+        assert!(rt; reader.pull(&mut buffer) == Ok(1));
+        assert!(rt; reader.pull(&mut buffer) == Err(ReadFault));
+        assert!(rt; reader.pull(&mut buffer) == Err(ReadFault));
     }
 }
 
@@ -105,26 +102,26 @@ fn a_reader_fails_for_good(rt: HostRuntime) {
 fn a_writer_fails_for_good(rt: HostRuntime) {
     for failure in FAILURES {
         let mut writer = Device::new(Unsteady::new(failure));
-        assert_eq!(rt; writer.push(b"ab"), Ok(1));
-        assert_eq!(rt; writer.push(b"ab"), Err(WriteFault));
-        assert_eq!(rt; push_all(&mut writer, b"ab"), Err(WriteFault));
-        assert_eq!(rt; writer.flush(), Err(WriteFault));
+        assert!(rt; writer.push(b"ab") == Ok(1));
+        assert!(rt; writer.push(b"ab") == Err(WriteFault));
+        assert!(rt; push_all(&mut writer, b"ab") == Err(WriteFault));
+        assert!(rt; writer.flush() == Err(WriteFault));
     }
 }
 
 #[test]
 fn a_flush_fails_as_a_push_does(rt: HostRuntime) {
     let mut writer = Device::new(Unsteady::new(ErrorKind::StorageFull));
-    assert_eq!(rt; writer.flush(), Ok(()));
-    assert_eq!(rt; writer.flush(), Err(WriteFault));
-    assert_eq!(rt; writer.push(b"ab"), Err(WriteFault));
+    assert!(rt; writer.flush() == Ok(()));
+    assert!(rt; writer.flush() == Err(WriteFault));
+    assert!(rt; writer.push(b"ab") == Err(WriteFault));
 }
 
 #[test]
 fn the_end_is_no_failure(rt: HostRuntime) {
     let mut reader = Device::new(b"a".as_slice());
     let mut buffer = [0u8; 2];
-    assert_eq!(rt; reader.pull(&mut buffer), Ok(1));
-    assert_eq!(rt; reader.pull(&mut buffer), Ok(0));
-    assert_eq!(rt; reader.pull(&mut buffer), Ok(0));
+    assert!(rt; reader.pull(&mut buffer) == Ok(1));
+    assert!(rt; reader.pull(&mut buffer) == Ok(0));
+    assert!(rt; reader.pull(&mut buffer) == Ok(0));
 }

@@ -22,25 +22,19 @@ static STARTING: [u8; 40] =
 #[test]
 fn headers_have_their_words(rt: HostRuntime) -> Result<(), Fail> {
     let bare = Header::read(&BARE)?;
-    assert_eq!(rt; bare.title.as_slice(), b"W".as_slice());
-    assert_eq!(rt; (bare.start, bare.initialise, bare.finalise), (0, 0, 0));
-    assert_eq!(rt; (bare.chunk, bare.handler), (0, 0));
+    assert!(rt; bare.title.as_slice() == b"W".as_slice());
+    assert!(rt; (bare.start, bare.initialise, bare.finalise) == (0, 0, 0));
+    assert!(rt; (bare.chunk, bare.handler) == (0, 0));
     let double = Header::read(&DOUBLE)?;
-    assert_eq!(rt; double.title.as_slice(), b"Dbl".as_slice());
-    assert_eq!(rt; (double.chunk, double.handler), (0x40000, 0x24));
+    assert!(rt; double.title.as_slice() == b"Dbl".as_slice());
+    assert!(rt; (double.chunk, double.handler) == (0x40000, 0x24));
     let refusing = Header::read(&REFUSING)?;
-    assert_eq!(rt; refusing.title.as_slice(), b"Bad".as_slice());
-    assert_eq!(rt;
-        (refusing.start, refusing.initialise, refusing.finalise),
-        (0, 0x20, 0)
-    );
-    assert_eq!(rt; (refusing.chunk, refusing.handler), (0, 0));
+    assert!(rt; refusing.title.as_slice() == b"Bad".as_slice());
+    assert!(rt; (refusing.start, refusing.initialise, refusing.finalise) == (0, 0x20, 0));
+    assert!(rt; (refusing.chunk, refusing.handler) == (0, 0));
     let starting = Header::read_from(&STARTING.as_slice())?;
-    assert_eq!(rt; starting.title.as_slice(), b"E".as_slice());
-    assert_eq!(rt;
-        (starting.start, starting.initialise, starting.finalise),
-        (0x20, 0, 0)
-    );
+    assert!(rt; starting.title.as_slice() == b"E".as_slice());
+    assert!(rt; (starting.start, starting.initialise, starting.finalise) == (0x20, 0, 0));
     Ok(())
 }
 
@@ -57,7 +51,7 @@ fn short_images_are_refused(rt: HostRuntime) {
             28..=35 => Some(HeaderFault::Initialise),
             _ => None,
         };
-        assert_eq!(rt; fault_of(&REFUSING[..len]), fault, "{len}");
+        assert!(rt; fault_of(&REFUSING[..len]) == fault, "{len}");
     }
     for len in 0..31 {
         let fault = match len {
@@ -65,7 +59,7 @@ fn short_images_are_refused(rt: HostRuntime) {
             28 | 29 => Some(HeaderFault::Title),
             _ => None,
         };
-        assert_eq!(rt; fault_of(&BARE[..len]), fault, "{len}");
+        assert!(rt; fault_of(&BARE[..len]) == fault, "{len}");
     }
 }
 
@@ -95,12 +89,12 @@ static CHUNKS: [(u32, u32); 9] = [
 fn chunks_have_good_bases(rt: HostRuntime) -> Result<(), Fail> {
     for (word, chunk) in CHUNKS {
         let header = Header::read(&with_word(0x1C, word))?;
-        assert_eq!(rt; header.chunk, chunk);
-        assert_eq!(rt; header.handler, if chunk == 0 { 0 } else { 0x24 });
+        assert!(rt; header.chunk == chunk);
+        assert!(rt; header.handler == if chunk == 0 { 0 } else { 0x24 });
     }
     for handler in [0, 0x26, 0x30] {
         let header = Header::read(&with_word(0x20, handler))?;
-        assert_eq!(rt; (header.chunk, header.handler), (0, 0));
+        assert!(rt; (header.chunk, header.handler) == (0, 0));
     }
     let header = Header::read(&DOUBLE[..35]);
     assert!(rt; header.is_err());
@@ -109,23 +103,14 @@ fn chunks_have_good_bases(rt: HostRuntime) -> Result<(), Fail> {
 
 #[test]
 fn entries_are_words_of_the_image(rt: HostRuntime) -> Result<(), Fail> {
-    assert_eq!(rt; Header::read(&with_word(0x00, 0x2C))?.start, 0x2C);
-    assert_eq!(rt; Header::read(&with_word(0x00, 0x2D))?.start, 0);
-    assert_eq!(rt; Header::read(&with_word(0x00, 0x30))?.start, 0);
-    assert_eq!(rt; Header::read(&with_word(0x04, 0x2C))?.initialise, 0x2C);
-    assert_eq!(rt;
-        fault_of(&with_word(0x04, 0x30)),
-        Some(HeaderFault::Initialise)
-    );
-    assert_eq!(rt;
-        fault_of(&with_word(0x08, 0x2A)),
-        Some(HeaderFault::Finalise)
-    );
-    assert_eq!(rt; fault_of(&with_word(0x10, 0x30)), Some(HeaderFault::Title));
-    assert_eq!(rt;
-        fault_of(&with_word(0x10, u32::MAX)),
-        Some(HeaderFault::Title)
-    );
+    assert!(rt; Header::read(&with_word(0x00, 0x2C))?.start == 0x2C);
+    assert!(rt; Header::read(&with_word(0x00, 0x2D))?.start == 0);
+    assert!(rt; Header::read(&with_word(0x00, 0x30))?.start == 0);
+    assert!(rt; Header::read(&with_word(0x04, 0x2C))?.initialise == 0x2C);
+    assert!(rt; fault_of(&with_word(0x04, 0x30)) == Some(HeaderFault::Initialise));
+    assert!(rt; fault_of(&with_word(0x08, 0x2A)) == Some(HeaderFault::Finalise));
+    assert!(rt; fault_of(&with_word(0x10, 0x30)) == Some(HeaderFault::Title));
+    assert!(rt; fault_of(&with_word(0x10, u32::MAX)) == Some(HeaderFault::Title));
     Ok(())
 }
 
@@ -142,8 +127,8 @@ fn fault_of_title(len: usize, last: [u8; 2]) -> Option<HeaderFault>
 
 #[test]
 fn titles_have_limits(rt: HostRuntime) {
-    assert_eq!(rt; fault_of_title(31, [0, 0]), None);
-    assert_eq!(rt; fault_of_title(30, [b'~', 0]), None);
+    assert!(rt; fault_of_title(31, [0, 0]) == None);
+    assert!(rt; fault_of_title(30, [b'~', 0]) == None);
     for (len, last) in [
         (0, [0, 0]),
         (32, [0, 0]),
@@ -151,28 +136,19 @@ fn titles_have_limits(rt: HostRuntime) {
         (3, [b' ', 0]),
         (3, [b'!', b'!']),
     ] {
-        assert_eq!(rt; fault_of_title(len, last), Some(HeaderFault::Title));
+        assert!(rt; fault_of_title(len, last) == Some(HeaderFault::Title));
     }
 }
 
 #[test]
 fn faults_have_texts(rt: HostRuntime) -> Result<(), Fail> {
     let text = format!(in rt.alloc(); "{}", HeaderFault::Short)?;
-    assert_eq!(rt;
-        text.as_str(),
-        "the image is shorter than a module's header"
-    );
+    assert!(rt; text.as_str() == "the image is shorter than a module's header");
     let text = format!(in rt.alloc(); "{}", HeaderFault::Initialise)?;
-    assert_eq!(rt;
-        text.as_str(),
-        "the initialisation entry is no word of the image"
-    );
+    assert!(rt; text.as_str() == "the initialisation entry is no word of the image");
     let text = format!(in rt.alloc(); "{}", HeaderFault::Finalise)?;
-    assert_eq!(rt;
-        text.as_str(),
-        "the finalisation entry is no word of the image"
-    );
+    assert!(rt; text.as_str() == "the finalisation entry is no word of the image");
     let text = format!(in rt.alloc(); "{}", HeaderFault::Title)?;
-    assert_eq!(rt; text.as_str(), "the image has no good title");
+    assert!(rt; text.as_str() == "the image has no good title");
     Ok(())
 }

@@ -14,22 +14,6 @@ fn takes_images_and_gives_them_back(rt: HostRuntime) -> Result<(), Fail> {
 }
 
 #[test]
-fn takes_names_of_every_length(rt: HostRuntime) -> Result<(), Fail> {
-    let mut images = Images::new();
-    let longest = [b'n'; 63];
-    for len in 1..64 {
-        images.add(rt.alloc(), &longest[..len], &[len as u8])?;
-    }
-    for len in 1..64 {
-        assert!(rt;
-            images.get(&longest[..len]) == Some([len as u8].as_slice()),
-            "{len}"
-        );
-    }
-    Ok(())
-}
-
-#[test]
 fn refuses_in_order(rt: HostRuntime) -> Result<(), Fail> {
     let mut images = Images::new();
     images.add(rt.alloc(), b"a", b"")?;
@@ -41,19 +25,6 @@ fn refuses_in_order(rt: HostRuntime) -> Result<(), Fail> {
         assert!(rt; images.add(rt.alloc(), name, long.as_slice()) == Err(ImageError::BadName));
     }
     images.add(rt.alloc(), &[b'n'; 63], most.as_slice())?;
-    Ok(())
-}
-
-#[test]
-fn holds_sixty_four(rt: HostRuntime) -> Result<(), Fail> {
-    let mut images = Images::new();
-    for n in 0..64u8 {
-        images.add(rt.alloc(), &[b'!' + n], &[n])?;
-    }
-    assert!(rt; images.add(rt.alloc(), b"one", b"") == Err(ImageError::TableFull));
-    assert!(rt; images.refusal(b"one", 0) == Some(ImageError::TableFull));
-    assert!(rt; images.refusal(b"one", 1_048_577) == Some(ImageError::TooLarge));
-    assert!(rt; images.get(b"`") == Some([63].as_slice()));
     Ok(())
 }
 
@@ -85,9 +56,9 @@ static REFUSALS: [(ImageError, &str); 5] = [
 #[test]
 fn errors_are_named(rt: HostRuntime) -> Result<(), Fail> {
     for (error, name) in REFUSALS {
-        assert_eq!(rt; error.name(), name);
+        assert!(rt; error.name() == name);
         let text = format!(in rt.alloc(); "{error}")?;
-        assert_eq!(rt; text.as_str(), name);
+        assert!(rt; text.as_str() == name);
     }
     Ok(())
 }

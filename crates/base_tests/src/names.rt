@@ -44,8 +44,8 @@ static ERRORS: [(ErrorNumber, u32, &[u8]); 35] = [
 #[test]
 fn errors_have_numbers_and_texts(rt: HostRuntime) {
     for (error, number, text) in ERRORS {
-        assert_eq!(rt; error.number(), number);
-        assert_eq!(rt; error_text(error).as_bytes(), text);
+        assert!(rt; error.number() == number);
+        assert!(rt; error_text(error).as_bytes() == text);
     }
 }
 
@@ -67,32 +67,32 @@ static FAULTS: [(Fault, &str); 11] = [
 #[test]
 fn faults_print_their_names(rt: HostRuntime) -> Result<(), Fail> {
     for (fault, name) in FAULTS {
-        assert_eq!(rt; fault.name(), name);
+        assert!(rt; fault.name() == name);
         let text = format!(in rt.alloc(); "{fault}")?;
-        assert_eq!(rt; text.as_str(), name);
+        assert!(rt; text.as_str() == name);
     }
-    assert_eq!(rt; Fault::ErrorStop(80).name(), "ErrorStop");
+    assert!(rt; Fault::ErrorStop(80).name() == "ErrorStop");
     let text = format!(in rt.alloc(); "{}", Fault::ErrorStop(80))?;
-    assert_eq!(rt; text.as_str(), "ErrorStop 80");
+    assert!(rt; text.as_str() == "ErrorStop 80");
     Ok(())
 }
 
 #[test]
 fn devices_print_their_faults(rt: HostRuntime) -> Result<(), Fail> {
     let text = format!(in rt.alloc(); "{}", ReadFault)?;
-    assert_eq!(rt; text.as_str(), "the input can't be read");
+    assert!(rt; text.as_str() == "the input can't be read");
     let text = format!(in rt.alloc(); "{}", WriteFault)?;
-    assert_eq!(rt; text.as_str(), "the output can't be written");
+    assert!(rt; text.as_str() == "the output can't be written");
     Ok(())
 }
 
 #[test]
 fn calls_have_numbers(rt: HostRuntime) {
-    assert_eq!(rt; SwiName::of(0x1D), Some(SwiName::Heap));
-    assert_eq!(rt; SwiName::of(0x1FF), Some(SwiName::WriteI));
-    assert_eq!(rt; SwiName::of(0x200), None);
-    assert_eq!(rt; SwiName::of(0x99), None);
-    assert_eq!(rt; SwiName::FlexMidExtend.name(), "Flex_MidExtend");
+    assert!(rt; SwiName::of(0x1D) == Some(SwiName::Heap));
+    assert!(rt; SwiName::of(0x1FF) == Some(SwiName::WriteI));
+    assert!(rt; SwiName::of(0x200) == None);
+    assert!(rt; SwiName::of(0x99) == None);
+    assert!(rt; SwiName::FlexMidExtend.name() == "Flex_MidExtend");
 }
 
 /// The memory map, from its lowest address on.
@@ -111,10 +111,10 @@ static MAP: [(u32, u32); 9] = [
 #[test]
 fn the_map_has_its_places_and_limits(rt: HostRuntime) {
     for (place, address) in MAP {
-        assert_eq!(rt; place, address);
+        assert!(rt; place == address);
     }
-    assert_eq!(rt; (ADDRESS_LIMIT, SVC_STACK_END), (1 << 26, PRIVATE_WORDS));
-    assert_eq!(rt; (PAGE_SIZE, SYSTEM_PAGES, MOST_PAGES), (4096, 3, 1024));
-    assert_eq!(rt; (RMA_MAXIMUM, MOST_BYTES), (4_194_304, 1_048_576));
-    assert_eq!(rt; (HEAP_NAME.to_le_bytes(), HEAP_DESCRIPTOR), (*b"Heap", 16));
+    assert!(rt; (ADDRESS_LIMIT, SVC_STACK_END) == (1 << 26, PRIVATE_WORDS));
+    assert!(rt; (PAGE_SIZE, SYSTEM_PAGES, MOST_PAGES) == (4096, 3, 1024));
+    assert!(rt; (RMA_MAXIMUM, MOST_BYTES) == (4_194_304, 1_048_576));
+    assert!(rt; (HEAP_NAME.to_le_bytes(), HEAP_DESCRIPTOR) == (*b"Heap", 16));
 }

@@ -1,11 +1,11 @@
-use profile::{Config, HexText, ImageBytes};
+use profile::{Config, HexText};
 use std::test::Fail;
 
 #[test]
 fn sizes_have_limits(rt: HostRuntime) -> Result<(), Fail> {
     assert!(rt; Config::new(10, 6, 2).is_none());
     let least = Config::new(11, 6, 2).ok_or("sizes")?;
-    assert_eq!(rt; (least.pages(), least.app(), least.rma()), (11, 6, 2));
+    assert!(rt; (least.pages(), least.app(), least.rma()) == (11, 6, 2));
     assert!(rt; Config::new(1024, 1020, 1).is_some());
     for (pages, app, rma) in [(1025, 64, 16), (256, 0, 16), (256, 64, 0), (1024, 1021, 1)] {
         assert!(rt;
@@ -19,22 +19,8 @@ fn sizes_have_limits(rt: HostRuntime) -> Result<(), Fail> {
 
 #[test]
 fn hexadecimal(rt: HostRuntime) {
-    assert_eq!(rt; HexText::word(0x8014).as_slice(), b"00008014".as_slice());
-    assert_eq!(rt; HexText::number(0x8014).as_slice(), b"8014".as_slice());
-    assert_eq!(rt; HexText::number(0).as_slice(), b"0".as_slice());
-    assert_eq!(rt;
-        HexText::number(0xFEDC_BA98).as_slice(),
-        b"FEDCBA98".as_slice()
-    );
-}
-
-fn last_byte<B: ImageBytes>(image: &B) -> Option<u8> {
-    let last = image.len().checked_sub(1)?;
-    Some(image.byte(last))
-}
-
-#[test]
-fn a_slice_is_an_image(rt: HostRuntime) {
-    assert_eq!(rt; last_byte(&b"abc".as_slice()), Some(b'c'));
-    assert_eq!(rt; last_byte(&b"".as_slice()), None);
+    assert!(rt; HexText::word(0x8014).as_slice() == b"00008014".as_slice());
+    assert!(rt; HexText::number(0x8014).as_slice() == b"8014".as_slice());
+    assert!(rt; HexText::number(0).as_slice() == b"0".as_slice());
+    assert!(rt; HexText::number(0xFEDC_BA98).as_slice() == b"FEDCBA98".as_slice());
 }

@@ -1,7 +1,5 @@
-use command_line::{
-    Files, Settings, SettingsError, line_reason, settings, sizes_reason, stop_status,
-};
-use profile::{Config, Fault, Stop};
+use command_line::{Files, Settings, SettingsError, line_reason, settings, sizes_reason};
+use profile::Config;
 use std::alloc::Global;
 use std::process::Abort;
 use std::test::Fail;
@@ -24,8 +22,8 @@ fn name_at<'a>(rt: &impl Abort, files: &'a Files, n: usize) -> &'a str {
 fn the_name_alone_gives_the_defaults(rt: HostRuntime) {
     let settings = taken(&rt, rt.alloc(), &["rosm"]);
     assert!(rt; has_sizes(settings.config, 256, 64, 16));
-    assert_eq!(rt; settings.budget, 1_000_000);
-    assert_eq!(rt; settings.files.len(), 0);
+    assert!(rt; settings.budget == 1_000_000);
+    assert!(rt; settings.files.len() == 0);
 }
 
 #[test]
@@ -41,7 +39,7 @@ fn options_stand_with_a_space_or_an_equals_sign(rt: HostRuntime) {
     ];
     let settings = taken(&rt, rt.alloc(), &words);
     assert!(rt; has_sizes(settings.config, 11, 6, 2));
-    assert_eq!(rt; settings.budget, u64::MAX);
+    assert!(rt; settings.budget == u64::MAX);
 }
 
 #[test]
@@ -49,12 +47,12 @@ fn other_words_are_files_in_order(rt: HostRuntime) {
     let words = ["rosm", "b", "--budget", "5", "-", "--", "--pages", "b"];
     let settings = taken(&rt, rt.alloc(), &words);
     assert!(rt; has_sizes(settings.config, 256, 64, 16));
-    assert_eq!(rt; settings.budget, 5);
-    assert_eq!(rt; settings.files.len(), 4);
-    assert_eq!(rt; name_at(&rt, &settings.files, 0), "b");
-    assert_eq!(rt; name_at(&rt, &settings.files, 1), "-");
-    assert_eq!(rt; name_at(&rt, &settings.files, 2), "--pages");
-    assert_eq!(rt; name_at(&rt, &settings.files, 3), "b");
+    assert!(rt; settings.budget == 5);
+    assert!(rt; settings.files.len() == 4);
+    assert!(rt; name_at(&rt, &settings.files, 0) == "b");
+    assert!(rt; name_at(&rt, &settings.files, 1) == "-");
+    assert!(rt; name_at(&rt, &settings.files, 2) == "--pages");
+    assert!(rt; name_at(&rt, &settings.files, 3) == "b");
 }
 
 // The words after the program's name, and why they are refused.
@@ -80,7 +78,7 @@ static REFUSED: [(&[&str], SettingsError); 9] = [
 fn words_are_refused_and_then_sizes(rt: HostRuntime) {
     for (words, error) in REFUSED {
         let refusal = settings(rt.alloc(), words).expect_err(&rt, "a refusal");
-        assert_eq!(rt; refusal, error);
+        assert!(rt; refusal == error);
     }
 }
 
@@ -117,18 +115,9 @@ static REASONS: [(&[&str], &str); 7] = [
 fn a_refused_line_names_what_was_typed(rt: HostRuntime) -> Result<(), Fail> {
     for (words, expected) in REASONS {
         let reason = line_reason(rt.alloc(), words)?;
-        assert_eq!(rt; reason.as_str(), expected);
+        assert!(rt; reason.as_str() == expected);
     }
     Ok(())
-}
-
-#[test]
-fn the_status_tells_how_a_script_ended(rt: HostRuntime) {
-    assert_eq!(rt; stop_status(Some(Stop::Exit)), 0);
-    assert_eq!(rt; stop_status(Some(Stop::Fault(Fault::ErrorStop(80)))), 1);
-    assert_eq!(rt; stop_status(Some(Stop::Budget)), 3);
-    assert_eq!(rt; stop_status(Some(Stop::Break(0x8000))), 3);
-    assert_eq!(rt; stop_status(None), 3);
 }
 
 // Why no machine can have the sizes of these words, typed or not.
@@ -156,7 +145,7 @@ static SIZES: [(&[&str], &str); 5] = [
 fn refused_sizes_are_named_with_their_rule(rt: HostRuntime) -> Result<(), Fail> {
     for (words, expected) in SIZES {
         let reason = sizes_reason(rt.alloc(), words)?;
-        assert_eq!(rt; reason.as_str(), expected);
+        assert!(rt; reason.as_str() == expected);
     }
     Ok(())
 }

@@ -103,19 +103,6 @@ fn gives_each_marked_word_its_class(rt: HostRuntime) -> Result<(), Fail> {
 }
 
 #[test]
-fn forgets_one_of_two_marked_words(rt: HostRuntime) -> Result<(), Fail> {
-    let mut map = AddressMap::new(rt.alloc(), 1)?;
-    map.map_pages(0x9000, 1);
-    map.own(Kind::HeadWord, 0x9FF8, 4);
-    map.own(Kind::HeadWord, 0x9FFC, 4);
-    map.disown(Kind::HeadWord, 0x9FF8);
-    assert!(rt; map.class(0x9FF8) == Class::Plain);
-    assert!(rt; map.class(0x9FFC) == Class::Heap);
-    assert!(rt; map.regions().is_empty());
-    Ok(())
-}
-
-#[test]
 fn finds_the_anchors_in_a_range(rt: HostRuntime) -> Result<(), Fail> {
     let mut map = AddressMap::new(rt.alloc(), 1)?;
     map.map_pages(0x9000, 1);
@@ -130,21 +117,6 @@ fn finds_the_anchors_in_a_range(rt: HostRuntime) -> Result<(), Fail> {
         (0x9104, 0xFD, true),
     ] {
         assert!(rt; map.anchor_in(at, len) == met, "{len} bytes from {at:x}");
-    }
-    Ok(())
-}
-
-#[test]
-fn leaves_recorded_ranges_to_the_guest(rt: HostRuntime) -> Result<(), Fail> {
-    let mut map = AddressMap::new(rt.alloc(), 1)?;
-    map.map_pages(0x9000, 1);
-    map.own(Kind::Image, 0x9000, 256);
-    map.own(Kind::SystemPage, 0x9100, 256);
-    map.own(Kind::FlexStore, 0x9200, 256);
-    map.own(Kind::Heap, 0x9300, 256);
-    assert!(rt; map.regions().len() == 4);
-    for addr in [0x9000, 0x90FF, 0x9100, 0x91FF, 0x9200, 0x92FF, 0x9300] {
-        assert!(rt; map.class(addr) == Class::Plain, "class of {addr:x}");
     }
     Ok(())
 }
@@ -225,54 +197,6 @@ fn grows_two_ranges_in_turn(rt: HostRuntime) -> Result<(), Fail> {
     assert!(rt; map.load_word(SECOND + 0xFFC) == Ok(0x2222_2222));
     assert!(rt; map.load_word(SECOND + 0x1000) == Ok(0));
     assert!(rt; map.translate(FIRST) == first && map.translate(SECOND) == second);
-    Ok(())
-}
-
-/// A page that one range gives back and another takes: it is zero then, and no other byte moves.
-#[test]
-fn hands_a_page_from_one_range_to_another(rt: HostRuntime) -> Result<(), Fail> {
-    const FIRST: u32 = 0x0200_0000;
-    const SECOND: u32 = 0x0200_3000;
-    let mut map = AddressMap::new(rt.alloc(), 3)?;
-    map.map_pages(FIRST, 2);
-    map.map_pages(SECOND, 1);
-    assert!(rt; map.store_word(FIRST + 0xFFC, 0x1111_1111) == Ok(()));
-    assert!(rt; map.store_word(FIRST + 0x1004, 0x3333_3333) == Ok(()));
-    assert!(rt; map.store_word(SECOND + 0xFFC, 0x2222_2222) == Ok(()));
-    let (first, second) = (map.translate(FIRST), map.translate(SECOND));
-    map.unmap_pages(FIRST + 0x1000, 1);
-    assert!(rt; map.free_pages() == 1);
-    assert!(rt; map.load_word(FIRST + 0x1004) == Err(Fault::DataUnmapped));
-    map.map_pages(SECOND + 0x1000, 1);
-    assert!(rt; map.free_pages() == 0);
-    assert!(rt; map.load_word(SECOND + 0x1004) == Ok(0));
-    assert!(rt; map.load_word(FIRST + 0xFFC) == Ok(0x1111_1111));
-    assert!(rt; map.load_word(SECOND + 0xFFC) == Ok(0x2222_2222));
-    assert!(rt; map.translate(FIRST) == first && map.translate(SECOND) == second);
-    Ok(())
-}
-
-/// 8 bytes that lie across a page's end, moved over another one's end, up and down, all from odd addresses. The two pages of each
-/// pair lie apart in the store.
-#[test]
-fn moves_bytes_across_page_ends_both_ways(rt: HostRuntime) -> Result<(), Fail> {
-    let mut map = AddressMap::new(rt.alloc(), 4)?;
-    map.map_pages(0x8000, 1);
-    map.map_pages(0xB000, 1);
-    map.map_pages(0x9000, 1);
-    map.map_pages(0xC000, 1);
-    assert!(rt; map.maps(0x8FFD, 8));
-    assert!(rt; map.maps(0xBFFB, 8));
-    map.put_bytes(0x8FFD, &[1, 2, 3, 4, 5, 6, 7, 8]);
-    map.move_bytes(0x8FFD, 0xBFFB, 8);
-    assert!(rt; map.load_word(0xBFF8) == Ok(0x0100_0000));
-    assert!(rt; map.load_word(0xBFFC) == Ok(0x0504_0302));
-    assert!(rt; map.load_word(0xC000) == Ok(0x0008_0706));
-    assert!(rt; map.maps(0x8FFF, 8));
-    map.move_bytes(0xBFFB, 0x8FFF, 8);
-    assert!(rt; map.load_word(0x8FFC) == Ok(0x0102_0100));
-    assert!(rt; map.load_word(0x9000) == Ok(0x0504_0302));
-    assert!(rt; map.load_word(0x9004) == Ok(0x0008_0706));
     Ok(())
 }
 

@@ -44,20 +44,6 @@ fn keeps_words_lowest_byte_first(rt: HostRuntime) -> Result<(), Fail> {
 }
 
 #[test]
-fn copies_over_itself_and_makes_zero(rt: HostRuntime) -> Result<(), Fail> {
-    let mut store = RawStore::new(rt.alloc(), 1)?;
-    assert!(rt; store.fits(0, 16));
-    store.write(0, &[1, 2, 3, 4, 5, 6, 7, 8]);
-    store.copy(0, 2, 6);
-    assert!(rt; store.lend(0, 9) == [1, 2, 1, 2, 3, 4, 5, 6, 0].as_slice());
-    store.zero(3, 2);
-    assert!(rt; store.lend(0, 9) == [1, 2, 1, 0, 0, 4, 5, 6, 0].as_slice());
-    store.copy(2, 0, 6);
-    assert!(rt; store.lend(0, 9) == [1, 0, 0, 4, 5, 6, 5, 6, 0].as_slice());
-    Ok(())
-}
-
-#[test]
 fn has_no_region_without_memory(rt: HostRuntime) {
     match RawStore::new(rt.alloc(), 1024) {
         Ok(store) => assert!(rt; store.len() == 4_194_304),
