@@ -17,7 +17,7 @@ use std::alloc::{AllocError, Global};
 /// The most frames of 4096 bytes that the memory has.
 pub(crate) const MOST_FRAMES: usize = MOST_PAGES as usize;
 
-/// The most ranges that can be recorded: 64 heaps, the module area, one flex store and its used part, 65 images, the system pages.
+/// The most ranges that can be recorded. At most 132 are: 64 heaps, the module area, a flex store, 65 images, the system pages.
 pub(crate) const MOST_REGIONS: usize = 133;
 
 /// The address space of a machine: the memory that it has, and the addresses where that is mapped.

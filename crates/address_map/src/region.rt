@@ -20,7 +20,7 @@ pub enum Kind {
     Anchor,
     /// A word that a heap's list spells: one of its descriptor, a length or a link. It is marked, and no record of it is kept.
     HeadWord,
-    /// A module image that was not copied.
+    /// A module image: in the module area all that its block holds, elsewhere just its bytes.
     Image,
     /// The pages of the system: stack, private words, error block, environment text.
     SystemPage,

@@ -6,8 +6,8 @@ use Rattle.std.specs.Prelude.{OnOk, ◌==◌, if◌then◌else◌}
 use Rattle.std.specs.Io.KnownBytes.{Appends}
 use Rattle.profile.specs.declared.stop.Stop.{Stop}
 use Rattle.profile.specs.declared.stop.Stop.TheVariants as stop
-use Rattle.profile.specs.Output.{Completes}
-use Rattle.profile.proofs.OutputLemmas.{Completes-start, Completes-more}
+use Rattle.profile.specs.Output.{AddsAllBut}
+use Rattle.profile.proofs.OutputLemmas.{AddsAllBut-start, AddsAllBut-more}
 use Rattle.debugger.specs.swi_dispatch.specs.declared.halt.Halt.{Halt}
 use Rattle.debugger.specs.swi_dispatch.specs.declared.halt.Halt.TheVariants as halt
 use Rattle.debugger.specs.swi_dispatch.specs.MachineState.{Outcome, stop_of}
@@ -113,13 +113,13 @@ goes_by frames s now (suc n) is some none made =
 
 -- a step of a call: what stands written and what follows are still all that the call tells
 pub call_goes_on : (a b c : Option (List ℕ)) (frames : ℕ) (s now : ScriptState) (all : Answered)
-    → Completes a b (finished frames s.left s).text all.text
+    → AddsAllBut a b (finished frames s.left s).text all.text
     → (finished frames s.left s).state ≡ all.state → call_end s frames ≡ None → now ≡ step_made s (next_step s)
     → Appends b c (next_step s).printed
-    → Completes a c (finished frames now.left now).text all.text × ((finished frames now.left now).state ≡ all.state)
+    → AddsAllBut a c (finished frames now.left now).text all.text × ((finished frames now.left now).state ≡ all.state)
 call_goes_on a b c frames s now all done same none made here =
     let step = goes_by frames s now s.left refl (goes_left s frames none) none made in (
-      Completes-more a b c (finished frames s.left s).text (next_step s).printed (finished frames now.left now).text
+      AddsAllBut-more a b c (finished frames s.left s).text (next_step s).printed (finished frames now.left now).text
           all.text done here step.0,
       sym step.1 ∙ same,
     )
@@ -127,7 +127,7 @@ call_goes_on a b c frames s now all done same none made here =
 -- the end of one
 pub call_ends : {U E : Type 0} (r : Result U E) (a b c : Option (List ℕ)) (frames : ℕ) (s now : ScriptState)
     (e : CallEnd) (all : Answered)
-    → Completes a b (finished frames s.left s).text all.text → (finished frames s.left s).state ≡ all.state
+    → AddsAllBut a b (finished frames s.left s).text all.text → (finished frames s.left s).state ≡ all.state
     → call_end s frames ≡ Some e
     → OnOk r (IsAnswered b c now (end_told s e)) → OnOk r (IsAnswered a c now all)
 call_ends (Ok u) a b c frames s now e all done same over told =
@@ -162,4 +162,4 @@ fewer_steps frames s now none made =
     let awake = awake_by s frames s.machine.halt none in
     rw is (steps_by s.machine.halt (next_step s).now.halt now.left s.left awake (goes_left s frames none) left)
 
-pub ruleset call_steps = (Completes-start, goes_left)
+pub ruleset call_steps = (AddsAllBut-start, goes_left)

@@ -16,7 +16,8 @@ use Rattle.command_shell.specs.Session.{script_state}
 use Rattle.command_shell.specs.Script.{OpenBlock, request_told, on_opened, on_request, in_block, lines_told}
 use Rattle.command_shell.specs.Script.{script_told}
 use Rattle.command_shell.specs.State.{ScriptState, Answered, answer, then_answered, start_state}
-use Rattle.command_shell.proofs.FrontLemmas.{AddsAllBut-start, Appends-from_all_but, AddsFront-from_all_but}
+use Rattle.profile.proofs.OutputLemmas.{AddsAllBut-start, Appends-from_all_but}
+use Rattle.command_shell.proofs.FrontLemmas.{AddsFront-from_all_but}
 use Rattle.command_shell.proofs.FrontLemmas.{AddsFront-start, IsFront-same}
 
 -- an answer, and then the lines that are left

@@ -1,20 +1,7 @@
--- How far a script has come that ends before its last line: how much of its answers stands written, and which of the
--- images that it adds are there.
-use Rattle.std.specs.Prelude.{◌≡◌, ◌++◌, ◌⊎◌, ℕ, List, Option}
-use Rattle.std.specs.Io.KnownBytes.{Appends}
+-- Which of the images that a script adds are there where it ends before its last line.
+use Rattle.std.specs.Prelude.{◌≡◌, ◌++◌, ◌⊎◌, List}
 use Rattle.image_loader.specs.Entries.{Entry}
 use Rattle.command_shell.specs.State.{Answered}
-
--- All of a text but its rest was appended, and what stood before it stands still.
-pub record AddsAllBut (old new : Option (List ℕ)) (rest all : List ℕ) : Type 0 where
-  pub part : List ℕ
-  pub added : Appends old new part
-  pub whole : part ++ rest ≡ all
-
--- A front of a text was appended, and what stood before it stands still.
-pub record AddsFront (old new : Option (List ℕ)) (all : List ℕ) : Type 0 where
-  pub rest : List ℕ
-  pub front : AddsAllBut old new rest all
 
 -- A list begins with a front of it.
 pub record IsFront (front all : List Entry) : Type 0 where

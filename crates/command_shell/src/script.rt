@@ -1,8 +1,10 @@
 ghost use Rattle.std.specs.Prelude.{◌≡◌, ◌≤◌, ◌<◌, true, false, None, length, IfOk, IfErr, IfSome, IsErr, OnOk, OnErr};
 ghost use Rattle.std.specs.Str.Lines.{lines};
 ghost use Rattle.std.specs.Io.KnownBytes.{Appends};
+ghost use Rattle.profile.specs.Pulls.{PullsAtMost};
 ghost use Rattle.command_shell.specs.Error.{IsLineError};
-ghost use Rattle.command_shell.specs.Fronts.{AddsFront, HasSome};
+ghost use Rattle.profile.specs.Output.{AddsFront};
+ghost use Rattle.command_shell.specs.Fronts.{HasSome};
 ghost use Rattle.command_shell.specs.Script.{lines_told, script_told};
 ghost use Rattle.command_shell.specs.Session.{script_state};
 ghost use Rattle.command_shell.specs.State.{IsAnswered};
@@ -62,6 +64,7 @@ pub fn run_script<R: Source, W: Sink>(
         × IfSome (R.remaining reader.old) (λ script. 1048576 < length script) }
     ensures never_long { IfSome (R.remaining reader.old) (λ script. 1048576 < length script → IsErr result) }
     ensures same_flag { OnOk result (W.has_failed writer.new ≡ W.has_failed writer.old) }
+    ensures pulls { PullsAtMost (R.pulls reader.old) (R.pulls reader.new) 1048577 }
 {
     let script = read_script(alloc, reader)?;
     let mut session = Session::new(alloc, config, budget)?;

@@ -2,4 +2,5 @@ pub mod BlockLemmas
 pub mod HexLemmas
 pub mod LineLemmas
 pub mod NumberLemmas
+pub mod PullLemmas
 pub mod ReadLemmas

@@ -4,6 +4,7 @@ use Rattle.std.proofs.Common.{arith, length-append}
 use Rattle.std.proofs.lemmas.List.{append-nil}
 use Rattle.std.specs.Prelude.{IfSome}
 use Rattle.std.specs.Io.KnownBytes.{Consumes, IsAtEnd}
+use Rattle.command_shell_lines.proofs.PullLemmas.{pulls_none, pulls_more, pulls_within}
 
 -- a reader that told `from` has given these bytes, and tells `now`
 pub record HasGiven (from now : Option (List ℕ)) (given : List ℕ) : Type 0 where
@@ -42,4 +43,12 @@ pub gives_too_many : (a b : Option (List ℕ)) (xs : List ℕ) → HasGiven a b 
     → IfSome a (λ told. 1048576 < length told)
 gives_too_many a b xs given long = is_longer a b xs given.consumes long
 
-pub ruleset read_steps = (gives_nothing, gives_more, gives_all, gives_too_many)
+pub ruleset read_steps = (
+  gives_nothing,
+  gives_more,
+  gives_all,
+  gives_too_many,
+  pulls_none,
+  pulls_more,
+  pulls_within,
+)

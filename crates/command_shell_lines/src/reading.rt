@@ -1,4 +1,5 @@
 ghost use Rattle.std.specs.Prelude.{◌≡◌, ◌≤◌, ◌<◌, true, length, IfOk, IfSome};
+ghost use Rattle.profile.specs.Pulls.{PullsAtMost};
 
 use crate::error::ReadingError;
 use profile::Source;
@@ -21,6 +22,7 @@ pub fn read_script<R: Source>(alloc: Global, reader: &mut R) -> Result<Vec<u8>, 
     ensures read_fault { result ≡ Err ReadingError.ReadFault → R.has_failed reader.new ≡ true }
     ensures too_long { result ≡ Err ReadingError.ScriptTooLong
         → IfSome (R.remaining reader.old) (λ told. 1048576 < length told) }
+    ensures pulls { PullsAtMost (R.pulls reader.old) (R.pulls reader.new) 1048577 }
 {
     let mut script = Vec::new(alloc);
     let mut chunk = [0u8; CHUNK];

@@ -1,8 +1,8 @@
 -- The loop over the words that are shown.
 use Rattle.std.proofs.Common.{◌≡◌, ◌<◌, ◌≤◌, ◌+◌, ◌-◌, ◌%◌, ◌^◌, ℕ, suc, List, [], ◌++◌, Option, refl, sym, subst, arith}
 use Rattle.std.specs.Io.KnownBytes.{Appends}
-use Rattle.profile.specs.Output.{Completes}
-use Rattle.profile.proofs.OutputLemmas.{Completes-start, Completes-more, Appends-from_completes}
+use Rattle.profile.specs.Output.{AddsAllBut}
+use Rattle.profile.proofs.OutputLemmas.{AddsAllBut-start, AddsAllBut-more, Appends-from_all_but}
 use Rattle.address_map.specs.Bytes.{Bytes}
 use Rattle.debugger.specs.Code.{code_line, code_text}
 
@@ -13,19 +13,19 @@ one_line b a n k h = let e : n - k ≡ suc (n - (k + 1)) = omega arith in rw e r
 pub no_line : (b : Bytes) (a n k : ℕ) → n ≤ k → code_text b a (n - k) ≡ []
 no_line b a n k h = let e : n - k ≡ 0 = omega arith in rw e refl
 
-pub code_begins : (o : Option (List ℕ)) (b : Bytes) (a n : ℕ) → Completes o o (code_text b a (n - 0)) (code_text b a n)
+pub code_begins : (o : Option (List ℕ)) (b : Bytes) (a n : ℕ) → AddsAllBut o o (code_text b a (n - 0)) (code_text b a n)
 code_begins o b a n = let e : n ≡ n - 0 = omega arith in
-    subst (λ (m : ℕ). Completes o o (code_text b a m) (code_text b a n)) e (Completes-start o (code_text b a n))
+    subst (λ (m : ℕ). AddsAllBut o o (code_text b a m) (code_text b a n)) e (AddsAllBut-start o (code_text b a n))
 
 pub code_more : (o p q : Option (List ℕ)) (b : Bytes) (a next n k : ℕ) (all : List ℕ)
-    → Completes o p (code_text b a (n - k)) all → Appends p q (code_line b a) → k < n → next ≡ (a + 4) % 2 ^ 32
-    → Completes o q (code_text b next (n - (k + 1))) all
+    → AddsAllBut o p (code_text b a (n - k)) all → Appends p q (code_line b a) → k < n → next ≡ (a + 4) % 2 ^ 32
+    → AddsAllBut o q (code_text b next (n - (k + 1))) all
 code_more o p q b a next n k all done here h e =
-    subst (λ (x : ℕ). Completes o q (code_text b x (n - (k + 1))) all) (sym e)
-    (Completes-more o p q _ _ _ all done here (one_line b a n k h))
+    subst (λ (x : ℕ). AddsAllBut o q (code_text b x (n - (k + 1))) all) (sym e)
+    (AddsAllBut-more o p q _ _ _ all done here (one_line b a n k h))
 
 pub code_done : (o p : Option (List ℕ)) (b : Bytes) (a n k : ℕ) (all : List ℕ)
-    → Completes o p (code_text b a (n - k)) all → n ≤ k → Appends o p all
-code_done o p b a n k all done h = Appends-from_completes o p _ all done (no_line b a n k h)
+    → AddsAllBut o p (code_text b a (n - k)) all → n ≤ k → Appends o p all
+code_done o p b a n k all done h = Appends-from_all_but o p _ all done (no_line b a n k h)
 
 pub ruleset code_steps = (code_begins, code_more, code_done)

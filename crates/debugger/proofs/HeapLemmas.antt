@@ -3,7 +3,7 @@ use Rattle.std.proofs.Common.{◌≡◌, ℕ, ◌+◌, ◌-◌, ◌%◌, ◌^◌
 use Rattle.std.proofs.lemmas.Bool.Decides.{nat_tests}
 use Rattle.std.specs.Prelude.{nat_le, IsSome, IfSome}
 use Rattle.std.specs.Option.{option_map}
-use Rattle.profile.proofs.OutputLemmas.{Completes-start, Completes-more, Completes-same, Appends-from_completes}
+use Rattle.profile.proofs.OutputLemmas.{AddsAllBut-start, AddsAllBut-more, AddsAllBut-same, Appends-from_all_but}
 use Rattle.address_map.proofs.Spans.{mapped_below}
 use Rattle.address_map.specs.declared.item.Item.{Item}
 use Rattle.address_map.specs.declared.map.AddressMap.{AddressMap}
@@ -129,4 +129,4 @@ pub next_item : (at next : ℕ) (item : Item) (rest : List Item) → next ≡ at
 unfolding items_text
 next_item at next item rest e = rw e refl
 
-pub ruleset item_steps = (Completes-start, Completes-more, Completes-same, Appends-from_completes, no_items, next_item)
+pub ruleset item_steps = (AddsAllBut-start, AddsAllBut-more, AddsAllBut-same, Appends-from_all_but, no_items, next_item)

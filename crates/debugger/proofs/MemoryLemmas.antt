@@ -1,7 +1,7 @@
 -- How the bytes and the lines of memory go on.
 use Rattle.std.proofs.Common.{◌≡◌, ℕ, suc, ◌+◌, ◌-◌, ◌/◌, ◌<◌, [], ◌++◌, ap, ◌∙◌, arith, refl}
 use Rattle.std.specs.Prelude.{min}
-use Rattle.profile.proofs.OutputLemmas.{Completes-start, Completes-more, Completes-same, Appends-from_completes}
+use Rattle.profile.proofs.OutputLemmas.{AddsAllBut-start, AddsAllBut-more, AddsAllBut-same, Appends-from_all_but}
 use Rattle.address_map.specs.Bytes.{Bytes}
 use Rattle.debugger.specs.Memory.{further, byte_text, bytes_text, line_text, lines_text, memory_text}
 
@@ -39,6 +39,6 @@ next_line b at next left some e =
     let split : (left + 15) / 16 ≡ suc ((left - 16 + 15) / 16) = omega arith in
     rw e (ap (λ (n : ℕ). lines_text n b at left) split ∙ one_line b at left ((left - 16 + 15) / 16))
 
-pub ruleset byte_steps = (Completes-start, Completes-more, Completes-same, Appends-from_completes, no_bytes, next_byte)
+pub ruleset byte_steps = (AddsAllBut-start, AddsAllBut-more, AddsAllBut-same, Appends-from_all_but, no_bytes, next_byte)
 
-pub ruleset line_steps = (Completes-start, Completes-more, Completes-same, Appends-from_completes, no_lines, next_line)
+pub ruleset line_steps = (AddsAllBut-start, AddsAllBut-more, AddsAllBut-same, Appends-from_all_but, no_lines, next_line)

@@ -4,7 +4,7 @@ use Rattle.std.specs.Prelude.{slice_get, option_map}
 use Rattle.std.specs.List.{flat_map}
 use Rattle.std.proofs.lemmas.List.{drop_more, drop_all}
 use Rattle.std.proofs.lemmas.Option.{slice_get-get_or}
-use Rattle.profile.proofs.OutputLemmas.{Completes-start, Completes-more, Completes-same, Appends-from_completes}
+use Rattle.profile.proofs.OutputLemmas.{AddsAllBut-start, AddsAllBut-more, AddsAllBut-same, Appends-from_all_but}
 use Rattle.address_map.specs.Bytes.{Bytes}
 use Rattle.swi_dispatch.specs.instances_table.specs.Lookup.{told_of_instance, told_of_place, instance_count}
 use Rattle.swi_dispatch.specs.instances_table.specs.Modules.{Instance, Module}
@@ -43,6 +43,6 @@ pub first_instance : (b : Bytes) (o : Option Module) → one_text (instances_tex
 first_instance b None = refl
 first_instance b (Some m) = refl
 
-pub ruleset module_steps = (Completes-start, Completes-more, Completes-same, Appends-from_completes, next_shown, all_shown)
+pub ruleset module_steps = (AddsAllBut-start, AddsAllBut-more, AddsAllBut-same, Appends-from_all_but, next_shown, all_shown)
 
-pub ruleset instance_steps = (Completes-start, Completes-more, Completes-same, Appends-from_completes, next_instance, no_instance_more, first_instance)
+pub ruleset instance_steps = (AddsAllBut-start, AddsAllBut-more, AddsAllBut-same, Appends-from_all_but, next_instance, no_instance_more, first_instance)

@@ -3,7 +3,6 @@ use Rattle.std.proofs.Common.{◌≡◌, ◌≢◌, ℕ, ◌+◌, ◌-◌, ◌*�
 use Rattle.std.specs.List.{list_any}
 use Rattle.std.proofs.lemmas.Bool.{cases_Bool, cases_lt, ne_eqb, or_parts}
 use Rattle.os_heap.specs.Store.{Store, IsClearOfHeaps}
-use Rattle.os_heap.specs.Ranges.{meets}
 use Rattle.address_map.proofs.Anchors.{among_none, none_among}
 use Rattle.address_map.specs.Records.{anchor_among}
 use Rattle.os_heap.proofs.Added.{clear_of_heaps, unmet}

@@ -7,11 +7,11 @@ use Rattle.address_map.specs.declared.region.Kind.TheVariants.{Rma}
 use Rattle.address_map.specs.declared.region.Region.{Region}
 use Rattle.address_map.proofs.Anchors.{among_none}
 use Rattle.address_map.specs.Records.{anchor_among}
-use Rattle.address_map.specs.Bytes.{Bytes, in_range, AreMapped, AreUnmapped}
+use Rattle.address_map.specs.Bytes.{Bytes, in_range, meets, AreMapped, AreUnmapped}
 use Rattle.address_map.specs.Items.{size_of}
 use Rattle.os_heap.specs.os_heap_lists.specs.Heap.{HeapList, IsHeapIn}
 use Rattle.os_heap.specs.Store.{Store, IsSound, IsClearOfHeaps, AreClear, find_heap}
-use Rattle.os_heap.specs.Ranges.{is_heap_region, meets_any, MayEnd, meets as meets_range}
+use Rattle.os_heap.specs.Ranges.{is_heap_region, meets_any, MayEnd}
 use Rattle.os_heap.specs.Calls.{ending, with_end, MayEndArea, IsAreaEnded}
 use Rattle.os_heap.proofs.Added.{region_tested}
 use Rattle.os_heap.proofs.Found.{found_heap, found_start}
@@ -62,20 +62,17 @@ module_area_known s free l a areas e =
     ends_there s a (find_heap 0x01800000 s.heaps) areas.ground.sound (eqb-true a.base 0x01800000 parts.0) (eqb-true a.maximum 4194304 parts.1) refl ends
 
 -- ranges that meet no recorded one
-unmet_range : (at len other other_len : ℕ) → 0 < len → AreClear at len other other_len → meets_range at len other other_len ≡ false
-unmet_range at len other other_len some clear = let e = rw (lt-ltb 0 len some) at (unmet at len other other_len clear) in e
+unmet_heaps : (at len : ℕ) (hs : List HeapList) → IsClearOfHeaps at len hs → list_any (λ h. meets at len h.start h.end) hs ≡ false
+unmet_heaps at len [] clear = refl
+unmet_heaps at len (h ∷ hs) clear = rw (unmet at len h.start h.end clear.0, unmet_heaps at len hs clear.1) refl
 
-unmet_heaps : (at len : ℕ) (hs : List HeapList) → 0 < len → IsClearOfHeaps at len hs → list_any (λ h. meets_range at len h.start h.end) hs ≡ false
-unmet_heaps at len [] some clear = refl
-unmet_heaps at len (h ∷ hs) some clear = rw (unmet_range at len h.start h.end some clear.0, unmet_heaps at len hs some clear.1) refl
+unmet_ranges : (at len : ℕ) (rs : List Region) → AreRangesClear at len rs → list_any (λ r. meets at len r.at r.len) rs ≡ false
+unmet_ranges at len [] clear = refl
+unmet_ranges at len (r ∷ rs) clear = rw (unmet at len r.at r.len clear.0, unmet_ranges at len rs clear.1) refl
 
-unmet_ranges : (at len : ℕ) (rs : List Region) → 0 < len → AreRangesClear at len rs → list_any (λ r. meets_range at len r.at r.len) rs ≡ false
-unmet_ranges at len [] some clear = refl
-unmet_ranges at len (r ∷ rs) some clear = rw (unmet_range at len r.at r.len some clear.0, unmet_ranges at len rs some clear.1) refl
-
-unmet_any : (s : Store) (at len : ℕ) → 0 < len → IsClearOfHeaps at len s.heaps → AreRangesClear at len s.others → anchor_among s.anchor at len ≡ false
+unmet_any : (s : Store) (at len : ℕ) → IsClearOfHeaps at len s.heaps → AreRangesClear at len s.others → anchor_among s.anchor at len ≡ false
     → meets_any at len s ≡ false
-unmet_any s at len some heaps ranges anchors = rw (unmet_heaps at len s.heaps some heaps, unmet_ranges at len s.others some ranges, anchors) refl
+unmet_any s at len heaps ranges anchors = rw (unmet_heaps at len s.heaps heaps, unmet_ranges at len s.others ranges, anchors) refl
 
 -- anchors are mapped
 anchors_unmapped : (s : Store) (at len : ℕ) → IsSound s → AreUnmapped s.bytes.mapped at len → anchor_among s.anchor at len ≡ false
@@ -118,7 +115,7 @@ may_grow_heap s free l a count areas e fits pool =
           (λ x low high. mapped_held t (free - count) (with_areas l (with_pages 1 (a.pages + count) l.areas)) 1 (paged (a.pages + count) a) ground
           (find_paged 1 (a.pages + count) l.areas a e) x (omega arith) (omega arith));
       clear = elim (cases_lt h.end (4096 * (a.pages + count))) [
-        | inl grows ↦ rw (lt-ltb h.end (4096 * (a.pages + count)) grows, top, more) (unmet_any t (a.base + 4096 * a.pages) (4096 * count) (omega arith)
+        | inl grows ↦ rw (lt-ltb h.end (4096 * (a.pages + count)) grows, top, more) (unmet_any t (a.base + 4096 * a.pages) (4096 * count)
             (clear_unmapped s.bytes (a.base + 4096 * a.pages) (4096 * count) s.heaps unmapped areas.ground.sound.heaps)
             (ranges_unmapped s.bytes.mapped (a.base + 4096 * a.pages) (4096 * count) s.others unmapped areas.ground.ranges)
             (anchors_unmapped s (a.base + 4096 * a.pages) (4096 * count) areas.ground.sound unmapped))

@@ -7,7 +7,6 @@ use Rattle.address_map.specs.declared.region.Region.{Region}
 use Rattle.address_map.specs.Bytes.{Bytes, meets}
 use Rattle.address_map.specs.Records.{is_heap_kind, meets_record}
 use Rattle.os_heap.specs.Store.{AreClear, IsClearOfHeaps, heaps_in, others_in}
-use Rattle.os_heap.specs.Ranges.{meets as meets_range}
 use Rattle.os_heap.proofs.Added.{clear_unless}
 use Rattle.os_heap.specs.os_heap_lists.specs.Heap.{HeapList}
 use Rattle.dynamic_areas.specs.Changing.{AreRangesClear}
@@ -71,8 +70,8 @@ ranges_by_pages base first count (r ∷ rs) all = (
   ranges_by_pages base first count rs (λ k low high. (all k low high).1),
 )
 
-pub clear_of_ranges : (at len : ℕ) (rs : List Region) → list_any (λ r. meets_range at len r.at r.len) rs ≡ false → AreRangesClear at len rs
+pub clear_of_ranges : (at len : ℕ) (rs : List Region) → list_any (λ r. meets at len r.at r.len) rs ≡ false → AreRangesClear at len rs
 clear_of_ranges at len [] none = tt
 clear_of_ranges at len (r ∷ rs) none =
-    let parts = or_parts (meets_range at len r.at r.len) (list_any (λ r. meets_range at len r.at r.len) rs) none in
+    let parts = or_parts (meets at len r.at r.len) (list_any (λ r. meets at len r.at r.len) rs) none in
     (clear_unless at len r.at r.len parts.0, clear_of_ranges at len rs parts.1)

@@ -1,5 +1,6 @@
 ghost use Rattle.std.specs.Prelude.{ℕ, ◌≡◌, ◌≤◌, ◌+◌, ◌-◌, ◌*◌, Some};
-ghost use Rattle.address_map.specs.Memory.{free_pages, StaysInPlace};
+ghost use Rattle.address_map.specs.Memory.{free_pages, regions, StaysInPlace};
+ghost use Rattle.os_heap.specs.Order.{KeepsOrder};
 ghost use Rattle.os_heap.specs.Store.{store_of, AreClasses};
 ghost use Rattle.dynamic_areas.specs.declared.area.Area.{Area};
 ghost use Rattle.dynamic_areas.specs.Areas.{find_area};
@@ -33,6 +34,7 @@ impl Areas {
             ≡ store_changed (store_of map.old) self.old.areas number amount result.bytes }
         ensures areas { AreAreas (store_of map.new) (free_pages map.new) self.new }
         ensures classes { AreClasses map.new }
+        ensures order { KeepsOrder map.old map.new }
         ensures stays { StaysInPlace map.old map.new }
     {
         let answer = self.measure(map, number, amount);
@@ -57,6 +59,7 @@ impl Areas {
             ≡ store_extended (store_of map.old) number count (find_area number self.old.areas) }
         ensures areas { AreAreas (store_of map.new) (free_pages map.new) self.new }
         ensures classes { AreClasses map.new }
+        ensures order { KeepsOrder map.old map.new }
         ensures stays { StaysInPlace map.old map.new }
     {
         let Some(area) = find(self.list(), number) else {
@@ -80,6 +83,7 @@ impl Areas {
             ≡ store_reduced (store_of map.old) number count (find_area number self.old.areas) }
         ensures areas { AreAreas (store_of map.new) (free_pages map.new) self.new }
         ensures classes { AreClasses map.new }
+        ensures order { KeepsOrder map.old map.new }
         ensures stays { StaysInPlace map.old map.new }
     {
         let Some(area) = find(self.list(), number) else {
@@ -103,6 +107,7 @@ impl Areas {
             ≡ store_more (store_of map.old) count (find_area number self.old.areas) }
         ensures ground { IsGround (store_of map.new) (free_pages map.new) self.new }
         ensures classes { AreClasses map.new }
+        ensures regions { regions map.new ≡ regions map.old }
         ensures stays { StaysInPlace map.old map.new }
     {
         let Some(area) = find(self.list(), number) else {
@@ -124,6 +129,7 @@ impl Areas {
             ≡ store_less (store_of map.old) count (find_area number self.old.areas) }
         ensures ground { IsGround (store_of map.new) (free_pages map.new) self.new }
         ensures classes { AreClasses map.new }
+        ensures regions { regions map.new ≡ regions map.old }
         ensures stays { StaysInPlace map.old map.new }
     {
         let Some(area) = find(self.list(), number) else {

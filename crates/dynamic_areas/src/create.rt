@@ -1,6 +1,6 @@
 ghost use Rattle.std.specs.Prelude.{◌≡◌, ◌≤◌, ◌*◌, length, MatchResult};
 ghost use Rattle.profile.specs.Outcome.{Gives};
-ghost use Rattle.address_map.specs.Memory.{free_pages, StaysInPlace};
+ghost use Rattle.address_map.specs.Memory.{free_pages, regions, StaysInPlace};
 ghost use Rattle.os_heap.specs.Store.{store_of, AreClasses};
 ghost use Rattle.dynamic_areas.specs.Creating.{are_good_sizes, area_wanted, created, is_good, is_good_base, is_good_number, pages_for, wanted_base, wanted_maximum, wanted_number};
 ghost use Rattle.dynamic_areas.specs.Ground.{AreAreas};
@@ -46,6 +46,7 @@ impl Areas {
             (λ _. store_of map.new ≡ store_of map.old) }
         ensures areas { AreAreas (store_of map.new) (free_pages map.new) self.new }
         ensures classes { AreClasses map.new }
+        ensures regions { regions map.new ≡ regions map.old }
         ensures stays { StaysInPlace map.old map.new }
     {
         let mut area = self.area_wanted(map.free_pages(), wanted, name)?;

@@ -1,6 +1,6 @@
 ghost use Rattle.std.specs.Prelude.{◌≡◌, MatchResult};
 ghost use Rattle.profile.specs.Outcome.{Leaves};
-ghost use Rattle.address_map.specs.Memory.{free_pages, StaysInPlace};
+ghost use Rattle.address_map.specs.Memory.{free_pages, regions, StaysInPlace};
 ghost use Rattle.os_heap.specs.Store.{store_of, AreClasses};
 ghost use Rattle.dynamic_areas.specs.Areas.{find_area};
 ghost use Rattle.dynamic_areas.specs.Changing.{removed, store_emptied};
@@ -31,6 +31,7 @@ impl Areas {
             (λ _. store_of map.new ≡ store_of map.old) }
         ensures areas { AreAreas (store_of map.new) (free_pages map.new) self.new }
         ensures classes { AreClasses map.new }
+        ensures regions { regions map.new ≡ regions map.old }
         ensures stays { StaysInPlace map.old map.new }
     {
         let Some(area) = find(self.list(), number) else {

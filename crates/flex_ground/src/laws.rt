@@ -7,8 +7,7 @@ pub fn calls_keep_flex()
     ensures { FlexKept }
 {}
 
-/// It leaves each block of the store as it is, with its anchor, its size and its bytes. So over any list of calls the contents of blocks change by
-/// flex calls and by what guests store alone, wherever blocks of the module area slide.
+/// It leaves each block of the store as it is, with its anchor, its size and its bytes, wherever blocks of the module area slide.
 pub fn calls_keep_blocks()
     ensures { BlocksKept }
 {}

@@ -1,24 +1,29 @@
 -- Calls that add a module: what they read is mapped, and what they leave is a world whose new image is pending.
-use Rattle.std.proofs.Common.{◌≡◌, ◌%◌, ℕ, ◌+◌, ◌==◌, ◌&&◌, ◌<◌, ◌≤◌, true, false, List, [], ◌∷◌, ◌++◌, length, refl, Ok, Err, inl, inr, arith}
+use Rattle.std.proofs.Common.{◌≡◌, ◌%◌, ◌∙◌, ℕ, ◌+◌, ◌-◌, ◌==◌, sym, ap, ◌&&◌, ◌<◌, ◌≤◌, true, false, List, [], ◌∷◌, ◌++◌, length, refl, Ok, Err, inl, inr, arith}
 use Rattle.std.specs.Prelude.{IfOk, Result, nat_lt, not}
 use Rattle.std.proofs.lemmas.Bool.{and_parts, both_ways, cases_Bool, eqb-true, false_from_ne_true, le-leb, lt-ltb, ltb-false, or_from, or_parts}
 use Rattle.address_map.specs.Bytes.{AreMapped, bytes_between, in_range}
 use Rattle.address_map.proofs.Viewing.{bytes_counted}
+use Rattle.address_map.specs.declared.region.Kind.TheVariants as kind
 use Rattle.address_map.specs.declared.region.Region.{Region}
 use Rattle.instances_plans.specs.module_header.specs.Header.{header_of}
 use Rattle.instances_plans.specs.module_header.specs.declared.fault.HeaderFault.{HeaderFault}
 use Rattle.instances_plans.specs.module_header.specs.declared.fault.HeaderFault.TheVariants.{Short}
 use Rattle.instances_plans.specs.module_header.specs.declared.header.Header.{Header}
-use Rattle.instances_slide.specs.os_heap.proofs.Added.{are_mapped_all}
+use Rattle.instances_slide.specs.os_heap_lists.specs.Lists.{total_for}
+use Rattle.instances_slide.specs.os_heap.proofs.Added.{are_mapped_all, clear_of_heaps}
 use Rattle.instances_slide.specs.os_heap.specs.Ranges.{are_mapped}
-use Rattle.instances_slide.specs.os_heap.specs.Store.{has_image, is_image}
+use Rattle.instances_slide.specs.os_heap.specs.Store.{Store, has_image, is_image}
 use Rattle.instances_slide.specs.dynamic_areas.specs.Ground.{Estate, IsEstate}
 use Rattle.instances_slide.specs.rma.specs.Copies.{has_bare, may_be_copied}
 use Rattle.instances_slide.specs.flex_kept.specs.Keeping.{is_in_record}
-use Rattle.instances_slide.specs.rma.specs.NewImages.{image_record}
+use Rattle.instances_slide.specs.rma.specs.NewImages.{image_record, may_be_in_place, with_image_in_place}
+use Rattle.instances_slide.specs.rma.proofs.InPlaceLemmas.{MayBe, may_be}
+use Rattle.instances_table.specs.ModuleArea.{is_in_module_area}
 use Rattle.instances_table.specs.declared.parts.Image.{Image}
-use Rattle.instances_slide.specs.instances_ground.specs.Sound.{AreSolid, IsWorld}
+use Rattle.instances_slide.specs.instances_ground.specs.Sound.{AreSolid, IsWorld, range_of, recorded_len}
 use Rattle.instances_slide.specs.instances_ground.specs.World.{World}
+use Rattle.instances_slide.specs.instances_ground.proofs.AreaLemmas.{stays_outside}
 use Rattle.instances_slide.specs.instances_ground.proofs.Worlds.{world_more}
 use Rattle.instances.specs.Adding.{good_header}
 
@@ -35,16 +40,34 @@ no_image at (r ∷ rs) solid none =
     both_ways (in_range r.at r.len at) parts.0 (rw (le-leb r.at at (omega (arith, here)), lt-ltb at (r.at + r.len) (omega (arith, here, some))) refl)))
     (no_image at rs solid.1 parts.1)
 
--- an image that got a block of the module area
+-- the image that begins at an address
 abbrev pub placed_at : ℕ → ℕ → Image
-placed_at block len = record { at = block; len = len; in_rma = true }
+placed_at block len = record { at = block; len = len }
 
 -- the image of a block that was claimed is pending
-pub world_with_block : (v w : World) (block len : ℕ) → IsWorld v [] → w.modules ≡ v.modules → block % 4 ≡ 0 → is_in_record v.estate.store.others block ≡ false
+pub world_with_block : (v w : World) (block len : ℕ) → IsWorld v [] → w.modules ≡ v.modules → block % 4 ≡ 0 → is_in_module_area block ≡ true → is_in_record v.estate.store.others block ≡ false
     → (has_image block v.estate.store.others ≡ false → w.estate.store.others ≡ v.estate.store.others ++ image_record block len ∷ [])
     → IsEstate w.estate → IsWorld w (placed_at block len ∷ [])
-world_with_block v w block len world modules whole alone others estate =
-    world_more v w (placed_at block len) [] world modules (others (no_image block v.estate.store.others world.solid alone)) (omega arith) whole estate
+world_with_block v w block len world modules whole inside alone others estate =
+    let len_is : recorded_len (placed_at block len) ≡ total_for len - 4 = rw inside refl in
+    let range_is : range_of (placed_at block len) ≡ image_record block len = λ i. record { kind = kind.Image; at = block; len = len_is i } in
+    world_more v w (placed_at block len) [] world modules
+    (others (no_image block v.estate.store.others world.solid alone) ∙ ap (λ (r : Region). v.estate.store.others ++ r ∷ []) (sym range_is))
+    (omega (arith, len_is)) whole estate
+
+-- and so is an image in place, which lies outside the module area
+pub world_in_place : (v w : World) (at len : ℕ) → IsWorld v [] → w.modules ≡ v.modules → may_be_in_place v.estate.store at len ≡ true → 0 < len
+    → w.estate.store ≡ with_image_in_place v.estate.store at len → IsEstate w.estate → IsWorld w (placed_at at len ∷ [])
+world_in_place v w at len world modules may some store estate =
+    let r : Region = record { kind = kind.Image; at = at; len = len } in
+    let is : MayBe v.estate.store at len = may_be v.estate.store at len may in
+    let outside : is_in_module_area at ≡ false =
+    stays_outside v.estate r world.estate some is.mapped (clear_of_heaps at len v.estate.store.heaps is.heaps) in
+    let len_is : recorded_len (placed_at at len) ≡ len = rw outside refl in
+    let range_is : range_of (placed_at at len) ≡ r = λ i. record { kind = kind.Image; at = at; len = len_is i } in
+    world_more v w (placed_at at len) [] world modules
+    (ap (λ (s : Store). s.others) store ∙ ap (λ (q : Region). v.estate.store.others ++ q ∷ []) (sym range_is))
+    (omega (arith, len_is, some)) is.aligned estate
 
 -- an image with a good header isn't empty
 pub header_long : (image : List ℕ) (header : Header) → header_of image ≡ Ok header → 28 ≤ length image

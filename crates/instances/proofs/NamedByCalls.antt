@@ -89,13 +89,13 @@ loading_names w image text =
       by : (h : Result Header HeaderFault) → IfOk (bind (good_header h) (λ header.
           bind (slot_for w.modules header) (λ slot.
           bind (image_made w.estate image) (λ made.
-          let placed : Image = record { at = made.1; len = length image; in_rma = true } in
+          let placed : Image = record { at = made.1; len = length image } in
           let r : Result (World × Plan) ErrorNumber = Ok (record w { estate = made.0 }, adding_plan w.modules header placed text slot) in r)))) (ReadyTitled w.modules h)
       by (Err fault) = tt
       by (Ok header) =
           bound (ReadyTitled w.modules (Ok header)) (slot_for w.modules header) _ (λ slot.
           bound (ReadyTitled w.modules (Ok header)) (image_made w.estate image) _ (λ made ready.
-          adding_names w.modules header (record { at = made.1; len = length image; in_rma = true }) text slot ready.doable))
+          adding_names w.modules header (record { at = made.1; len = length image }) text slot ready.doable))
 
 -- so of the plan that such a call gives
 pub named_given : (ms : List Module) (h : Result Header HeaderFault) (old new : World) (r : Result (World × Plan) ErrorNumber) (p : Plan)
@@ -113,13 +113,13 @@ copying_names w at len =
     by : (h : Result Header HeaderFault) → IfOk (bind (good_header h) (λ header.
         bind (slot_for w.modules header) (λ slot.
         bind (image_copied w.estate at len) (λ made.
-        let placed : Image = record { at = made.1; len = len; in_rma = true } in
+        let placed : Image = record { at = made.1; len = len } in
         let r : Result (World × Plan) ErrorNumber = Ok (record w { estate = made.0 }, adding_plan w.modules header placed [] slot) in r)))) (ReadyTitled w.modules h)
     by (Err fault) = tt
     by (Ok header) =
         bound (ReadyTitled w.modules (Ok header)) (slot_for w.modules header) _ (λ slot.
         bound (ReadyTitled w.modules (Ok header)) (image_copied w.estate at len) _ (λ made ready.
-        adding_names w.modules header (record { at = made.1; len = len; in_rma = true }) [] slot ready.doable))
+        adding_names w.modules header (record { at = made.1; len = len }) [] slot ready.doable))
 
 pub inserting_names : (w : World) (at len : ℕ) → IfOk (inserting w at len) (ReadyTitled w.modules (header_of (bytes_between w.estate.store.bytes.at at len)))
 unfolding inserting
@@ -129,14 +129,14 @@ inserting_names w at len =
   where
     by : (h : Result Header HeaderFault) → IfOk (bind (good_header h) (λ header.
         bind (slot_for w.modules header) (λ slot.
-        let placed : Image = record { at = at; len = len; in_rma = false } in
+        let placed : Image = record { at = at; len = len } in
         let r : Result (World × Plan) ErrorNumber =
         Ok (record w { estate = with_store w.estate (with_image_in_place w.estate.store at len) }, adding_plan w.modules header placed [] slot) in r)))
         (ReadyTitled w.modules h)
     by (Err fault) = tt
     by (Ok header) =
         bound (ReadyTitled w.modules (Ok header)) (slot_for w.modules header) _ (λ slot ready.
-        adding_names w.modules header (record { at = at; len = len; in_rma = false }) [] slot ready.doable)
+        adding_names w.modules header (record { at = at; len = len }) [] slot ready.doable)
 
 -- reasons 3 and 4: the instance that the name means
 abbrev pub NamesOne : List Module → Result Plan ErrorNumber → ℕ → Type 0

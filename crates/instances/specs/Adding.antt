@@ -1,7 +1,7 @@
 -- Calls that add a module or an instance (RISC OS 3 Programmer's Reference Manual, "OS_Module", reasons 1, 10, 11 and 14): what each refuses, in
 -- order; what it does at once, which is to make the image; and the plan of the rest. The order of the refusals, the slots, and that an image in place
 -- meets nothing else that is recorded, are this project's own.
-use Rattle.std.specs.Prelude.{ℕ, true, false, not, List, [], length, ok_or, Result, Ok, Err, if◌then◌else◌}
+use Rattle.std.specs.Prelude.{ℕ, not, List, [], length, ok_or, Result, Ok, Err, if◌then◌else◌}
 use Rattle.profile.specs.Outcome.{bind}
 use Rattle.profile.specs.declared.error.ErrorNumber.{ErrorNumber}
 use Rattle.profile.specs.declared.error.ErrorNumber.TheVariants.{BadPointer, BadString, ModuleBadHeader, InstanceTableFull}
@@ -48,7 +48,7 @@ loading w image text =
     bind (good_header (header_of image)) (λ header.
     bind (slot_for w.modules header) (λ slot.
     bind (image_made w.estate image) (λ made.
-    let placed : Image = record { at = made.1; len = length image; in_rma = true } in
+    let placed : Image = record { at = made.1; len = length image } in
     Ok (record w { estate = made.0 }, adding_plan w.modules header placed text slot))))
 
 -- Reason 10: an image in place keeps its bytes.
@@ -57,7 +57,7 @@ inserting w at len =
     if not (may_be_in_place w.estate.store at len) then Err BadPointer else
     bind (good_header (header_of (bytes_between w.estate.store.bytes.at at len))) (λ header.
     bind (slot_for w.modules header) (λ slot.
-    let placed : Image = record { at = at; len = len; in_rma = false } in
+    let placed : Image = record { at = at; len = len } in
     Ok (record w { estate = with_store w.estate (with_image_in_place w.estate.store at len) }, adding_plan w.modules header placed [] slot)))
 
 -- Reason 11: of an image that stands in memory the module area gets a copy.
@@ -67,5 +67,5 @@ copying w at len =
     bind (good_header (header_of (bytes_between w.estate.store.bytes.at at len))) (λ header.
     bind (slot_for w.modules header) (λ slot.
     bind (image_copied w.estate at len) (λ made.
-    let placed : Image = record { at = made.1; len = len; in_rma = true } in
+    let placed : Image = record { at = made.1; len = len } in
     Ok (record w { estate = made.0 }, adding_plan w.modules header placed [] slot))))

@@ -1,5 +1,5 @@
 -- What a call on modules is given that its actions need. What it isn't given is 0, or empty (this project's own).
-use Rattle.std.specs.Prelude.{ℕ, Bool, false, nat_lt, List, [], length}
+use Rattle.std.specs.Prelude.{ℕ, Bool, nat_lt, List, [], length}
 use Rattle.arrayvec.specs.ArrayVec.{ArrayVec}
 use Rattle.instances_plans.specs.module_header.specs.declared.header.Header.{Header}
 use Rattle.instances_plans.specs.declared.given.Given.{Given}
@@ -19,7 +19,6 @@ given_only text return = record {
   header = no_header;
   image = 0;
   len = 0;
-  in_rma = false;
   name = record { items = [] };
   text = record { items = text };
   return_address = return;
@@ -31,4 +30,4 @@ given_instance title new text = record (given_only text 0) { header = record no_
 
 -- a call that adds a module
 abbrev pub given_module : Header → Image → List ℕ → Given
-given_module header image text = record (given_only text 0) { header = header; image = image.at; len = image.len; in_rma = image.in_rma }
+given_module header image text = record (given_only text 0) { header = header; image = image.at; len = image.len }

@@ -61,7 +61,6 @@ impl Instances {
         let placed = Image {
             at,
             len: image.len() as u32,
-            in_rma: true,
         };
         Ok(self.adding_plan(header, placed, text, slot))
     }

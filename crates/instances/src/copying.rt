@@ -54,11 +54,7 @@ impl Instances {
         let header = header_at(map, at, len)?;
         let slot = self.slot_for(&header)?;
         let copy = rma.copy_image(map, areas, at, len)?;
-        let placed = Image {
-            at: copy,
-            len,
-            in_rma: true,
-        };
+        let placed = Image { at: copy, len };
         Ok(self.adding_plan(header, placed, &[], slot))
     }
 }

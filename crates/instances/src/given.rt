@@ -27,7 +27,6 @@ pub(crate) fn given_only(text: &[u8], return_address: u32) -> Given
         header: Header::default(),
         image: 0,
         len: 0,
-        in_rma: false,
         name: ArrayVec::new(),
         text: kept,
         return_address,
@@ -54,6 +53,5 @@ pub(crate) fn given_module(header: Header, image: Image, text: &[u8]) -> Given
     given.header = header;
     given.image = image.at;
     given.len = image.len;
-    given.in_rma = image.in_rma;
     given
 }

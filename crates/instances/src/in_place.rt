@@ -54,11 +54,7 @@ impl Instances {
         let header = header_at(map, at, len)?;
         let slot = self.slot_for(&header)?;
         rma.record_in_place(map, at, len);
-        let placed = Image {
-            at,
-            len,
-            in_rma: false,
-        };
+        let placed = Image { at, len };
         Ok(self.adding_plan(header, placed, &[], slot))
     }
 }

@@ -15,7 +15,7 @@ use Rattle.instances_ground.specs.World.{World, image_gone, private_freed, remov
 use Rattle.instances_actions.specs.Codes.{code_among}
 
 abbrev pub image_given : Given → Image
-image_given g = record { at = g.image; len = g.len; in_rma = g.in_rma }
+image_given g = record { at = g.image; len = g.len }
 
 -- the modules after a new one is added, or an instance to the one of a title
 abbrev pub with_new : Given → ℕ → List Module → List Module

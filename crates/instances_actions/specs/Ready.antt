@@ -34,7 +34,7 @@ pub record IsReady (modules : List Module) (p : Plan) : Type 0 where
 
 -- a module wherever its image stands: a slide changes no more than that
 abbrev pub outline : Module → Module
-outline m = record m { image = record { at = 0; len = 0; in_rma = false } }
+outline m = record m { image = record { at = 0; len = 0 } }
 
 abbrev pub IsSlid : List Module → List Module → Type 0
 IsSlid old new = map outline new ≡ map outline old

@@ -79,7 +79,6 @@ fn image_given(given: &Given) -> Image
     Image {
         at: given.image,
         len: given.len,
-        in_rma: given.in_rma,
     }
 }
 

@@ -14,7 +14,7 @@ ghost use Rattle.instances_ground.specs.World.{image_gone, private_freed, remove
 use instances_ground::address_map::AddressMap;
 use instances_ground::rma::Rma;
 use instances_ground::{private_value, put_private};
-use instances_table::{Image, InstanceTable};
+use instances_table::{Image, InstanceTable, is_in_module_area};
 
 /// Removes the instance of a slot: the block that its private word names is given back, the word is 0 then, and the instance is gone; with the last
 /// one of a module its image goes.
@@ -72,7 +72,7 @@ pub(crate) fn drop_image(map: &mut AddressMap, image: Image)
     ensures classes { AreClasses map.new }
     ensures flex { KeepsFlex (store_of map.old) (store_of map.new) }
 {
-    if image.in_rma {
+    if is_in_module_area(image.at) {
         Rma::new().free_image(map, image.at);
     } else {
         Rma::new().drop_image(map, image.at);

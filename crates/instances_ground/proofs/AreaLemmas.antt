@@ -1,7 +1,7 @@
 -- A record that begins in the module area is a block there, if it may be one of an image; any other is clear of all heaps.
 use Rattle.std.proofs.Common.{◌≡◌, ◌⊎◌, ◌<◌, ◌≤◌, ◌+◌, ◌-◌, ◌*◌, true, false, None, Some, List, [], ◌∷◌, refl, sym, subst, ◌∙◌, inl, inr, arith}
 use Rattle.std.specs.Prelude.{Option, is_some}
-use Rattle.std.proofs.lemmas.Bool.{both_ways, cases_Bool, false≢true, ltb-false, ltb-true}
+use Rattle.std.proofs.lemmas.Bool.{both_ways, cases_Bool, false≢true, false_from_ne_true, ltb-false, ltb-true}
 use Rattle.std.proofs.Math.Dec.{ltb}
 use Rattle.rma.specs.address_map.specs.Bytes.{AreMapped, Bytes, in_range}
 use Rattle.rma.specs.address_map.specs.declared.region.Region.{Region}
@@ -17,7 +17,7 @@ use Rattle.rma.specs.dynamic_areas.proofs.GroundLemmas.{unmapped_above}
 use Rattle.rma.specs.dynamic_areas.proofs.ModuleArea.{IsModuleArea, module_area_known}
 use Rattle.rma.specs.dynamic_areas.proofs.Remapped.{here, range_high, range_low}
 use Rattle.rma.specs.dynamic_areas.proofs.RoomLemmas.{found_room}
-use Rattle.instances_ground.specs.Laws.{is_in_module_area}
+use Rattle.instances_table.specs.ModuleArea.{is_in_module_area}
 
 -- an image in a heap is a block of the module area's
 image_among : (h : HeapList) (hs : List HeapList) (r : Region) → AreOthers h hs → StandAreas hs → h.start ≡ 0x01800000 → IsImageIn hs r → IsImageBlock h r
@@ -100,3 +100,13 @@ in_place e r good some mapped place = go (find_area 1 e.land.areas) refl good.gr
   go : (found : Option Area) → find_area 1 e.land.areas ≡ found → is_some found ≡ true → IsInPlace e r
   go None is there = absurd (false≢true there)
   go (Some a) is there = by a is
+
+-- a range that is mapped and clear of all heaps does not begin in the module area
+pub stays_outside : (e : Estate) (r : Region) → IsEstate e → 0 < r.len → AreMapped e.store.bytes.mapped r.at r.len
+    → IsClearOfHeaps r.at r.len e.store.heaps → is_in_module_area r.at ≡ false
+stays_outside e r good some mapped clear =
+    false_from_ne_true (is_in_module_area r.at) (λ inside. go inside (find_area 1 e.land.areas) refl good.ground.table.first)
+  where
+    go : is_in_module_area r.at ≡ true → (found : Option Area) → find_area 1 e.land.areas ≡ found → is_some found ≡ true → ⊥
+    go inside None is there = false≢true there
+    go inside (Some a) is there = not_clear e good a is r some inside mapped clear

@@ -8,6 +8,7 @@ use Rattle.rma.specs.os_heap_lists.specs.Heap.{HeapList}
 use Rattle.rma.specs.os_heap.specs.Store.{AreRangesApart, ArePlaced, IsClearOfHeaps, IsClearOfRanges, IsImageIn, is_image}
 use Rattle.rma.specs.dynamic_areas.specs.Ground.{AreRangesMapped, Estate, IsGround, IsRecorded}
 use Rattle.instances_table.specs.declared.parts.Image.{Image}
+use Rattle.instances_table.specs.ModuleArea.{is_in_module_area}
 use Rattle.instances_ground.specs.Laws.{ImagesAreApart, ImagesAreHeld, IsHeld}
 use Rattle.instances_ground.specs.Sound.{AreSolid, IsSolid, image_ranges, images_of, range_of, recorded_len}
 use Rattle.instances_ground.proofs.AreaLemmas.{IsInPlace, in_place}
@@ -32,7 +33,7 @@ each_of P Q (x ∷ xs) leads all = (leads x all.0, each_of P Q xs leads all.1)
 
 -- a block has room for what it was claimed for
 whole_len : (image : Image) → image.len ≤ recorded_len image
-whole_len image = elim (cases_Bool image.in_rma) [
+whole_len image = elim (cases_Bool (is_in_module_area image.at)) [
   | inl area ↦ rw area (omega arith)
   | inr place ↦ rw place (omega arith)
 ]

@@ -18,6 +18,7 @@ use Rattle.rma.specs.dynamic_areas.specs.Ground.{Estate, IsEstate, IsRecorded, s
 use Rattle.rma.specs.Calls.{in_area, rma_freed}
 use Rattle.rma.specs.Images.{image_dropped, image_freed, or_kept}
 use Rattle.instances_table.specs.declared.parts.Image.{Image}
+use Rattle.instances_table.specs.ModuleArea.{is_in_module_area}
 use Rattle.instances_table.specs.Modules.{Instance, Module, has_instance, has_slot}
 use Rattle.instances_table.specs.Changes.{module_without, still, without_first, without_instance}
 use Rattle.instances_ground.specs.Sound.{AreSolid, IsWorld, count_beside, image_ranges, images_of, range_of}
@@ -118,14 +119,14 @@ pub private_freed_others : (e : Estate) (slot : ℕ) → (private_freed e slot).
 unfolding private_freed
 private_freed_others e slot = freed_others e (private_word e slot)
 
-gone_others : (s : Store) (at : ℕ) (in_rma : Bool) → (if in_rma then image_freed s at else image_dropped s at).others ≡ without_region s.others kind.Image at
+gone_others : (s : Store) (at : ℕ) (inside : Bool) → (if inside then image_freed s at else image_dropped s at).others ≡ without_region s.others kind.Image at
 unfolding image_freed image_dropped
 gone_others s at true = given_back_others (image_dropped s at) 0x01800000 at
 gone_others s at false = refl
 
 pub image_gone_others : (e : Estate) (image : Image) → (image_gone e image).store.others ≡ without_region e.store.others kind.Image image.at
 unfolding image_gone
-image_gone_others e image = gone_others e.store image.at image.in_rma
+image_gone_others e image = gone_others e.store image.at (is_in_module_area image.at)
 
 -- what is left of the records and of the images
 record AreLeft (slot : ℕ) (modules : List Module) (old new : List Region) : Type 0 where

@@ -1,17 +1,12 @@
 -- What a world says of the images of modules, and of those that are pending.
-use Rattle.std.specs.Prelude.{◌≡◌, ◌≤◌, ◌%◌, ℕ, Bool, true, false, List, ◌++◌, map}
+use Rattle.std.specs.Prelude.{◌≡◌, ◌≤◌, ◌%◌, true, false, List, ◌++◌, map}
 use Rattle.std.specs.List.{AllByRecursion}
-use Rattle.rma.specs.profile.specs.MemoryMap.{module_area_maximum, module_area_start}
-use Rattle.rma.specs.address_map.specs.Bytes.{in_range}
 use Rattle.rma.specs.os_heap.specs.Store.{AreRangesApart, IsClearOfHeaps, IsImageIn}
 use Rattle.rma.specs.dynamic_areas.specs.Ground.{IsRecorded}
 use Rattle.instances_table.specs.declared.parts.Image.{Image}
+use Rattle.instances_table.specs.ModuleArea.{is_in_module_area}
 use Rattle.instances_ground.specs.Sound.{IsWorld, images_of, range_of, recorded_len}
 use Rattle.instances_ground.specs.World.{World}
-
--- is an address one of the module area, which is area 1?
-abbrev pub is_in_module_area : ℕ → Bool
-is_in_module_area at = in_range module_area_start module_area_maximum at
 
 -- An image begins at a multiple of 4, and is recorded with its whole length. In the module area the record covers just what a live block holds, and elsewhere bytes that are no heap's.
 pub record IsHeld (w : World) (image : Image) : Type 0 where

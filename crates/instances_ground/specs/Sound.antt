@@ -10,6 +10,7 @@ use Rattle.rma.specs.os_heap_lists.specs.Lists.{total_for}
 use Rattle.rma.specs.os_heap.specs.Store.{IsSound, is_image, store_of}
 use Rattle.rma.specs.dynamic_areas.specs.Ground.{IsEstate, IsRecorded, system_pages}
 use Rattle.instances_table.specs.declared.parts.Image.{Image}
+use Rattle.instances_table.specs.ModuleArea.{is_in_module_area}
 use Rattle.instances_table.specs.Modules.{Module}
 use Rattle.instances_ground.specs.World.{World}
 
@@ -31,9 +32,9 @@ abbrev pub AreSolid : List Region → Type 0
 AreSolid [] = Unit {0}
 AreSolid (r ∷ rs) = (is_image r.kind ≡ true → IsSolid r) × AreSolid rs
 
--- How many bytes are recorded for an image: all that a block holds which is claimed for it, or just its own, where it stands in place.
+-- How many bytes are recorded for an image: in the module area all that a block holds which is claimed for it, elsewhere just its own.
 abbrev pub recorded_len : Image → ℕ
-recorded_len image = if image.in_rma then total_for image.len - 4 else image.len
+recorded_len image = if is_in_module_area image.at then total_for image.len - 4 else image.len
 
 abbrev pub range_of : Image → Region
 range_of image = record { kind = kind.Image; at = image.at; len = recorded_len image }

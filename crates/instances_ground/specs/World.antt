@@ -10,6 +10,7 @@ use Rattle.rma.specs.Calls.{rma_freed, with_store}
 use Rattle.rma.specs.Images.{image_dropped, image_freed}
 use Rattle.instances_plans.specs.Code.{private_of}
 use Rattle.instances_table.specs.declared.parts.Image.{Image}
+use Rattle.instances_table.specs.ModuleArea.{is_in_module_area}
 use Rattle.instances_table.specs.Modules.{Module, has_instance}
 use Rattle.instances_table.specs.Changes.{module_without, without_instance}
 
@@ -48,7 +49,7 @@ private_freed e slot = with_private (freed e (private_word e slot)) slot 0
 
 -- An image is no image any more; in the module area its block goes.
 unfoldable pub image_gone : Estate → Image → Estate
-image_gone e image = with_store e (if image.in_rma then image_freed e.store image.at else image_dropped e.store image.at)
+image_gone e image = with_store e (if is_in_module_area image.at then image_freed e.store image.at else image_dropped e.store image.at)
 
 -- With the last instance of a module its image goes: the module that has the slot, if nothing of it is left.
 abbrev pub image_gone_of : Estate → Module → List Module → Estate

@@ -28,7 +28,6 @@ impl Given {
             header: self.header.copied(),
             image: self.image,
             len: self.len,
-            in_rma: self.in_rma,
             name: ArrayVec::try_from(self.name.as_slice()).unwrap(),
             text: ArrayVec::try_from(self.text.as_slice()).unwrap(),
             return_address: self.return_address,

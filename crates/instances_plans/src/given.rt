@@ -16,8 +16,6 @@ pub struct Given {
     pub image: u32,
     /// The bytes of the image.
     pub len: u32,
-    /// Whether the image has a block of the module area.
-    pub in_rma: bool,
     /// The name of the new instance.
     pub name: ArrayVec<u8, MOST_NAME_BYTES>,
     /// The text behind the name, for the environment buffer.

@@ -12,6 +12,7 @@ use Rattle.os_heap_lists.specs.Heap.{AreTotals}
 use Rattle.os_heap_lists.specs.Lists.{live_total}
 use Rattle.instances_ground.specs.os_heap_slide.specs.Slide.{AreBlocks, is_listed, without_first}
 use Rattle.instances_table.specs.Lookup.{has_image_at}
+use Rattle.instances_table.specs.ModuleArea.{is_in_module_area}
 use Rattle.instances_table.specs.Modules.{Module, number_of}
 use Rattle.instances_slide.specs.Movable.{blocks_that, can_move, is_named_once}
 
@@ -145,7 +146,7 @@ image_some : (modules : List Module) (b : ℕ) → has_image_at b modules ≡ tr
 image_some [] b some = some
 image_some (m ∷ ms) b some = elim (cases_Bool (m.image.at == b)) [
   | inl here ↦ rw here refl
-  | inr other ↦ elim (cases_Bool m.image.in_rma) [
+  | inr other ↦ elim (cases_Bool (is_in_module_area m.image.at)) [
     | inl inside ↦ rw other (image_some ms b (rw (inside, other) at some))
     | inr outside ↦ rw other (image_some ms b (rw outside at some))
   ]

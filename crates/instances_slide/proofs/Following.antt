@@ -1,18 +1,22 @@
 -- The records of images after a slide: they are mapped, and follow the images of modules.
-use Rattle.std.proofs.Common.{◌≡◌, ◌<◌, ℕ, Bool, true, ◌+◌, ◌%◌, ◌∙◌, ◌⊎◌, List, [], ◌∷◌, ◌++◌, map, refl, sym, ap, subst, Some, inl, inr, arith}
+use Rattle.std.specs.Prelude.{if◌then◌else◌}
+use Rattle.std.proofs.Common.{◌≡◌, ◌<◌, ℕ, Bool, true, ◌+◌, ◌-◌, ◌%◌, ◌∙◌, ◌⊎◌, List, [], ◌∷◌, ◌++◌, map, refl, sym, ap, subst, Some, inl, inr, arith}
 use Rattle.std.proofs.lemmas.Bool.{cases_Bool, cases_eq, le-leb, lt-ltb}
 use Rattle.address_map.specs.Bytes.{AreMapped, Bytes, in_range}
 use Rattle.address_map.specs.Items.{size_of}
-use Rattle.address_map.specs.Moves.{moved_place, moved_region, moved_regions}
+use Rattle.address_map.specs.Moves.{moved_place, moved_region, moved_regions, moved_to}
 use Rattle.address_map.specs.declared.follow.Move.{Move}
+use Rattle.address_map.specs.declared.region.Kind.TheVariants as kind
 use Rattle.address_map.specs.declared.region.Region.{Region}
 use Rattle.os_heap_lists.proofs.LiveBlocks.{LiveBytes, live_bytes}
 use Rattle.os_heap_lists.specs.Heap.{HeapList}
+use Rattle.os_heap_lists.specs.Lists.{total_for}
 use Rattle.instances_ground.specs.os_heap.proofs.Stores.{AreOthers, clear_of-found}
 use Rattle.instances_ground.specs.os_heap.specs.Calls.{with_items}
 use Rattle.instances_ground.specs.os_heap.specs.Store.{AreClear, AreHeapsIn, ArePlaced, find_heap, is_image, IsClearOfHeaps, IsImageIn}
 use Rattle.instances_ground.specs.os_heap_slide.proofs.Records.{image_in_moved, IsSlide, moves_in, out_still, slid_in, still_place}
 use Rattle.instances_ground.specs.dynamic_areas.specs.Ground.{AreRangesMapped, IsRecorded, system_pages}
+use Rattle.instances_table.specs.ModuleArea.{is_in_module_area}
 use Rattle.instances_table.specs.Modules.{Module}
 use Rattle.instances_ground.specs.Sound.{AreSolid, IsSolid, count_beside, image_ranges, images_of, range_of}
 use Rattle.instances_slide.specs.Slid.{image_moved}
@@ -68,14 +72,27 @@ ranges_moved moves (r ∷ rs) = elim (cases_Bool (is_image r.kind)) [
   | inr other ↦ rw other (ranges_moved moves rs)
 ]
 
-images_moved : (moves : List Move) (modules : List Module)
-    → map range_of (images_of (map (image_moved moves) modules) ++ []) ≡ moved_regions moves (map range_of (images_of modules ++ []))
-images_moved moves [] = refl
-images_moved moves (m ∷ ms) = ap (λ (xs : List Region). moved_region moves (range_of m.image) ∷ xs) (images_moved moves ms)
+-- each image stays on its side of the module area's edge, and so keeps the length that is recorded for it
+image_moved_is : (moves : List Move) (m : Module) → is_in_module_area (moved_to moves m.image.at) ≡ is_in_module_area m.image.at
+    → range_of (image_moved moves m).image ≡ moved_region moves (range_of m.image)
+image_moved_is moves m side = λ i. record {
+  kind = kind.Image;
+  at = moved_to moves m.image.at;
+  len = if side i then total_for m.image.len - 4 else m.image.len;
+}
 
-pub images_follow : (moves : List Move) (rs : List Region) (modules : List Module) → image_ranges rs ≡ map range_of (images_of modules ++ [])
+images_moved : (moves : List Move) (modules : List Module) → ((a : ℕ) → is_in_module_area (moved_to moves a) ≡ is_in_module_area a)
+    → map range_of (images_of (map (image_moved moves) modules) ++ []) ≡ moved_regions moves (map range_of (images_of modules ++ []))
+images_moved moves [] sides = refl
+images_moved moves (m ∷ ms) sides =
+    let first = image_moved_is moves m (sides m.image.at) in
+    let rest = images_moved moves ms sides in
+    λ i. first i ∷ rest i
+
+pub images_follow : (moves : List Move) (rs : List Region) (modules : List Module) → ((a : ℕ) → is_in_module_area (moved_to moves a) ≡ is_in_module_area a)
+    → image_ranges rs ≡ map range_of (images_of modules ++ [])
     → image_ranges (moved_regions moves rs) ≡ map range_of (images_of (map (image_moved moves) modules) ++ [])
-images_follow moves rs modules images = ranges_moved moves rs ∙ ap (moved_regions moves) images ∙ sym (images_moved moves modules)
+images_follow moves rs modules sides images = ranges_moved moves rs ∙ ap (moved_regions moves) images ∙ sym (images_moved moves modules sides)
 
 -- they still begin at multiples of 4
 image_whole : (b : Bytes) (hs : List HeapList) (r : Region) → AreHeapsIn b hs → IsImageIn hs r → r.at % 4 ≡ 0

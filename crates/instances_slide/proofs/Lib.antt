@@ -4,4 +4,5 @@ pub mod FoundBlocks
 pub mod LawLemmas
 pub mod Looping
 pub mod NameLemmas
+pub mod Sides
 pub mod Tidying

@@ -24,6 +24,7 @@ use Rattle.instances_ground.specs.Sound.{IsWorld}
 use Rattle.instances_ground.specs.World.{World, world_of}
 use Rattle.instances_slide.proofs.Choosing.{IsChosen, are_blocks, chosen, few_blocks}
 use Rattle.instances_slide.proofs.Following.{beside_moved, images_follow, ranges_mapped, solid_moved, system_moved}
+use Rattle.instances_slide.proofs.Sides.{sides_kept}
 use Rattle.instances_slide.specs.Movable.{can_move, is_named_once, movable_blocks, movable_in}
 use Rattle.instances_slide.specs.Slid.{image_moved, moves_in, private_words, words_at, words_moved, world_moved, world_slid, world_slid_in}
 
@@ -124,7 +125,7 @@ blocks_sound w h movable world found sound =
         heap = rw there' (ends_same h p _ refl refl (rw found at world.estate.heap));
       };
       system = system_moved (moves_in h movable) s.others world.system;
-      images = images_follow (moves_in h movable) s.others w.modules world.images;
+      images = images_follow (moves_in h movable) s.others w.modules (sides_kept w.estate h movable world.estate found) world.images;
       solid = solid_moved s.bytes t.bytes h s.heaps movable s.others slide g.sound.heaps others own sound.heaps g.sound.placed world.solid;
       few = rw (beside_moved (moves_in h movable) s.others) world.few;
     }

@@ -12,6 +12,7 @@ use Rattle.instances_ground.specs.os_heap_slide.specs.Laws.{AreMovable}
 use Rattle.instances_ground.specs.os_heap_slide.specs.Slide.{is_listed}
 use Rattle.instances_ground.specs.rma.specs.Calls.{rma_described}
 use Rattle.instances_table.specs.Changes.{is_held}
+use Rattle.instances_table.specs.ModuleArea.{is_in_module_area}
 use Rattle.instances_table.specs.Modules.{AreModules}
 use Rattle.instances_ground.specs.Sound.{IsWorld}
 use Rattle.instances_ground.specs.World.{World, private_word}
@@ -55,3 +56,8 @@ abbrev pub TidyKeepsNames : Type 0
 TidyKeepsNames = (return_address : ℕ) (w : World) → IsWorld w [] → AreModules w.modules → AreBytes w.estate.store.bytes.at
     → (slot : ℕ) → is_held slot w.modules ≡ true
     → private_word (world_slid return_address w).estate slot ≡ moved_to (tidy_moves return_address w) (private_word w.estate slot)
+
+-- A block that lay in the module area lies there afterwards, and what lay elsewhere does so still: an image keeps its side.
+abbrev pub TidyKeepsSides : Type 0
+TidyKeepsSides = (return_address : ℕ) (w : World) → IsWorld w [] → (block : ℕ)
+    → is_in_module_area (moved_to (tidy_moves return_address w) block) ≡ is_in_module_area block

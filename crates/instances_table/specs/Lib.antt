@@ -2,6 +2,7 @@ pub mod Additions
 pub mod Changes
 pub mod Images
 pub mod Lookup
+pub mod ModuleArea
 pub mod Modules
 pub mod Names
 pub mod Table

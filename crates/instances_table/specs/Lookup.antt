@@ -10,6 +10,7 @@ use Rattle.instances_table.specs.declared.parts.Place.{Place}
 use Rattle.instances_table.specs.declared.parts.Information.{Information}
 use Rattle.instances_table.specs.declared.parts.ModuleInfo.{ModuleInfo}
 use Rattle.instances_table.specs.declared.parts.InstanceInfo.{InstanceInfo}
+use Rattle.instances_table.specs.ModuleArea.{is_in_module_area}
 use Rattle.instances_table.specs.Modules.{Instance, Module, has_title, has_name, has_slot, has_instance}
 use Rattle.instances_table.specs.Names.{FullName, parted}
 
@@ -120,7 +121,7 @@ instance_count (Some m) = length m.instances
 
 -- the module whose image stands at an address of the module area
 abbrev pub is_image_at : ℕ → Module → Bool
-is_image_at at m = m.image.in_rma && m.image.at == at
+is_image_at at m = is_in_module_area m.image.at && m.image.at == at
 
 abbrev pub has_image_at : ℕ → List Module → Bool
 has_image_at at modules = list_any (is_image_at at) modules

@@ -4,11 +4,13 @@ ghost use Rattle.std.specs.Prelude.{◌≡◌, ◌==◌, ◌&&◌};
 ghost use Rattle.std.specs.List.{list_any};
 ghost use Rattle.instances_table.specs.Images.{last_image};
 ghost use Rattle.instances_table.specs.Lookup.{has_image_at};
+ghost use Rattle.instances_table.specs.ModuleArea.{is_in_module_area};
 ghost use Rattle.instances_table.specs.Table.{Names, modules_of};
 
 use crate::loaded::{Loaded, MOST_INSTANCES, loaded_at, number_of_slot};
 use crate::parts::Image;
 use crate::table::InstanceTable;
+use module_header::profile::memory_map::{RMA_MAXIMUM, RMA_START};
 
 impl InstanceTable {
     /// The image that goes with the instance of a slot, if there is one: its module's, where it has no other instance.
@@ -41,9 +43,14 @@ fn image_of_last(modules: &[Loaded], slot: u32) -> Option<Image>
 }
 
 fn has_image_at(modules: &[Loaded], at: u32) -> bool
-    ensures { result ≡ list_any (λ l. l.image.in_rma && l.image.at == at) modules.now }
+    ensures { result ≡ list_any (λ l. is_in_module_area l.image.at && l.image.at == at) modules.now }
 {
-    modules
-        .iter()
-        .any(|loaded| loaded.image.in_rma && loaded.image.at == at)
+    modules.iter().any(|loaded| is_in_module_area(loaded.image.at) && loaded.image.at == at)
+}
+
+/// Whether an address is one of the module area: an image that begins there is a block of it, and any other was inserted in place.
+pub fn is_in_module_area(at: u32) -> bool
+    ensures { result ≡ is_in_module_area at }
+{
+    (RMA_START..RMA_START + RMA_MAXIMUM).contains(&at)
 }

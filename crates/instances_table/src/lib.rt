@@ -13,6 +13,7 @@ pub mod parts;
 pub mod room;
 pub mod table;
 
+pub use images::is_in_module_area;
 pub use loaded::MOST_INSTANCES;
 pub use parts::{Handler, Image, Information, InstanceInfo, ModuleInfo, Name, NewInstance, Place};
 pub use table::InstanceTable;

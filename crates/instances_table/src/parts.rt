@@ -8,12 +8,11 @@ pub const MOST_NAME_BYTES: usize = 31;
 /// A title, or an instance's name: 1 to 31 characters from `!` to `~`, and no `%`.
 pub type Name = ArrayVec<u8, MOST_NAME_BYTES>;
 
-/// Where a module's image stands: its address, its length in bytes, and whether it stands in a block of the module area or was inserted in place.
+/// Where a module's image stands: its address, and its length in bytes. One in the module area is a block there, and any other was inserted in place.
 #[derive(Clone, Copy, Debug, Default, PartialEq, Eq)]
 pub struct Image {
     pub at: u32,
     pub len: u32,
-    pub in_rma: bool,
 }
 
 /// An instance, as OS_Module tells it: the number of its module, and its own in it, both from 0.

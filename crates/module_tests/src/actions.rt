@@ -16,7 +16,6 @@ fn entries_are_code(rt: HostRuntime) -> Result<(), Fail> {
     let image = Image {
         at: 0x0180_0014,
         len: 30,
-        in_rma: true,
     };
     let mut table = InstanceTable::new();
     assert!(rt; table.insert(header, image, 3));

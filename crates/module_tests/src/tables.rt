@@ -26,7 +26,6 @@ fn two_instances() -> Result<InstanceTable, ErrorNumber> {
         Image {
             at: 0x01800014,
             len: 30,
-            in_rma: true,
         },
         0,
     );

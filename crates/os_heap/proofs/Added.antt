@@ -6,7 +6,7 @@ use Rattle.std.proofs.lemmas.Bool.Decides.{nat_tests}
 use Rattle.std.specs.List.{list_any}
 use Rattle.profile.specs.declared.error.ErrorNumber.TheVariants.{HeapBadRegion, HeapOverlaps, HeapTableFull}
 use Rattle.address_map.proofs.Spans.{mapped_below}
-use Rattle.address_map.specs.Bytes.{AreMapped, in_range, word_start, Bytes, with_word_at, word_at}
+use Rattle.address_map.specs.Bytes.{AreMapped, in_range, meets, word_start, Bytes, with_word_at, word_at}
 use Rattle.address_map.specs.Items.{items_in}
 use Rattle.address_map.specs.Classes.{is_flex_header, is_anchor}
 use Rattle.address_map.proofs.Anchors.{none_among}
@@ -23,7 +23,7 @@ use Rattle.os_heap.proofs.Held.{AreBy, marks_begun}
 use Rattle.os_heap.proofs.Anchored.{place_more}
 use Rattle.os_heap.proofs.FlexWords.{AreSameFlex, IsUnflexed}
 use Rattle.os_heap.proofs.Frame.{clear_parts, heaps_in-spelled}
-use Rattle.os_heap.specs.Ranges.{are_mapped, meets, is_heap_region, meets_any, MayBegin}
+use Rattle.os_heap.specs.Ranges.{are_mapped, is_heap_region, meets_any, MayBegin}
 use Rattle.os_heap.specs.Store.{AreClasses, AreClear, IsClearOfHeaps, AreHeapsIn, ArePlaced, Store, IsSound, heap_in, heaps_in, is_flex_store, is_in_flex_store, others_in, store_of, IsImageIn, guest_count}
 use Rattle.os_heap.specs.Calls.{begun_with, begun}
 use Rattle.address_map.specs.declared.region.Kind.TheVariants as kind
@@ -359,7 +359,7 @@ unmet_flex at size (r ∷ rs) a none low high is =
           let from : r.at ≤ a = range_low r.at r.len a inside in
           let to : a < r.at + r.len = range_high r.at r.len a inside in
           both_ways (meets at size r.at r.len) parts.0
-          (rw (lt-ltb 0 r.len (omega arith), lt-ltb at (r.at + r.len) (omega arith), lt-ltb r.at (at + size) (omega arith)) refl)
+          (rw (lt-ltb 0 size (omega arith), lt-ltb 0 r.len (omega arith), lt-ltb at (r.at + r.len) (omega arith), lt-ltb r.at (at + size) (omega arith)) refl)
     ]
 
 -- no word of the new heap's descriptor is an anchor's or a header's

@@ -6,7 +6,7 @@ use Rattle.address_map.proofs.Bytes.{is_mapped-layout}
 use Rattle.address_map.proofs.Lengths.{record_parts}
 use Rattle.address_map.proofs.Anchors.{none_among}
 use Rattle.address_map.proofs.Stores.{in_range-cases}
-use Rattle.address_map.specs.Bytes.{word_at, Bytes, in_range}
+use Rattle.address_map.specs.Bytes.{word_at, Bytes, in_range, meets}
 use Rattle.address_map.specs.Items.{size_of, items_in, is_head}
 use Rattle.address_map.specs.Memory.{layout, byte_at, bytes_of, regions, is_mapped, class_of}
 use Rattle.address_map.specs.Records.{is_heap_kind, with_len, is_record, are_same}
@@ -28,7 +28,7 @@ use Rattle.os_heap.proofs.Anchored.{place_ended}
 use Rattle.os_heap.proofs.FlexWords.{AreSameFlex, same_flex}
 use Rattle.os_heap.proofs.Stores.{SamePlaces, same_limits, AreOthers, clear_both_ways, clear_of-found, are_others, bytes_held}
 use Rattle.os_heap.specs.Calls.{with_end, has_own_size, ending}
-use Rattle.os_heap.specs.Ranges.{MayEnd, meets, meets_any}
+use Rattle.os_heap.specs.Ranges.{MayEnd, meets_any}
 use Rattle.os_heap.specs.Outcomes.{Becomes, items_at}
 use Rattle.os_heap.specs.Store.{AreClear, IsClearOfHeaps, AreHeapsIn, ArePlaced, IsImageIn, find_heap, Store, others_in, heap_in, heaps_in, IsSound, AreClasses, store_of}
 use Rattle.address_map.specs.declared.region.Kind.TheVariants as kind

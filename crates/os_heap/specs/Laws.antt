@@ -2,10 +2,13 @@
 -- is its claimer's until it is given back).
 use Rattle.std.specs.Prelude.{ℕ, ◌≡◌, ◌+◌, ◌-◌, true, Some, Ok}
 use Rattle.address_map.specs.Bytes.{in_range}
+use Rattle.address_map.specs.Memory.{regions}
+use Rattle.address_map.specs.declared.map.AddressMap.{AddressMap}
 use Rattle.os_heap_lists.specs.Heap.{HeapList}
 use Rattle.os_heap_lists.specs.Lists.{live_total}
 use Rattle.os_heap.specs.Calls.{begun, changed, gave_back, got, resized}
-use Rattle.os_heap.specs.Store.{Store, IsSound, find_heap}
+use Rattle.os_heap.specs.Order.{KeepsOrder}
+use Rattle.os_heap.specs.Store.{Store, IsSound, find_heap, store_of}
 
 -- Two live blocks that share a byte, of their length words or of those that they hold, are one.
 abbrev pub LiveBlocksAreApart : Type 0
@@ -30,3 +33,7 @@ pub record KeepPayloads (s t : Store) (heap : ℕ) : Type 0 where
 
 abbrev pub CallsKeepPayloads : Type 0
 CallsKeepPayloads = (s t : Store) (heap : ℕ) → IsSound s → IsSound t → KeepPayloads s t heap
+
+-- The heaps of a store, its other ranges, and the order tell all records: where a call leaves these three, it leaves the record as it was.
+abbrev pub RecordsAreTold : Type 0
+RecordsAreTold = (m n : AddressMap) → (store_of n).heaps ≡ (store_of m).heaps → (store_of n).others ≡ (store_of m).others → KeepsOrder m n → regions n ≡ regions m

@@ -3,7 +3,7 @@ use Rattle.std.specs.Prelude.{ℕ, ◌≡◌, Bool, true, false, zero, suc, ◌+
 use Rattle.std.specs.List.{list_any}
 use Rattle.address_map.specs.declared.region.Kind.{Kind}
 use Rattle.address_map.specs.declared.region.Kind.TheVariants as kind
-use Rattle.address_map.specs.Bytes.{Bytes}
+use Rattle.address_map.specs.Bytes.{Bytes, meets}
 use Rattle.address_map.specs.Items.{size_of}
 use Rattle.address_map.specs.Records.{anchor_among}
 use Rattle.os_heap_lists.specs.Heap.{HeapList}
@@ -17,11 +17,7 @@ are_mapped mapped at (suc n) = mapped at && are_mapped mapped (at + 1) n
 abbrev pub is_heap_region : Bytes → ℕ → ℕ → Bool
 is_heap_region b at size = (at % 4 == 0 && size % 4 == 0) && ((nat_le 16 size && nat_le size 16777216) && are_mapped b.mapped at size)
 
--- ranges that share an address, the first of them not empty
-abbrev pub meets : ℕ → ℕ → ℕ → ℕ → Bool
-meets at len other other_len = nat_lt 0 other_len && (nat_lt at (other + other_len) && nat_lt other (at + len))
-
--- does a range meet a recorded one, or hold an anchor?
+-- does a range share an address with a recorded one, or hold an anchor? An empty range does neither.
 abbrev pub meets_any : ℕ → ℕ → Store → Bool
 meets_any at len s =
     (list_any (λ h. meets at len h.start h.end) s.heaps || list_any (λ r. meets at len r.at r.len) s.others) || anchor_among s.anchor at len

@@ -4,6 +4,7 @@ ghost use Rattle.address_map.specs.Memory.{byte_at, mapping, bytes_of};
 ghost use Rattle.address_map.specs.Records.{is_heap_kind};
 ghost use Rattle.os_heap_lists.specs.Words.{AreApart};
 ghost use Rattle.os_heap.specs.Calls.{changed, end_changed, ending, has_own_size, MayEndArea, IsAreaEnded};
+ghost use Rattle.os_heap.specs.Order.{KeepsOrder};
 ghost use Rattle.os_heap.specs.Ranges.{MayEnd, meets_any};
 ghost use Rattle.os_heap.specs.Outcomes.{IsHeapAt};
 ghost use Rattle.os_heap.specs.Sound.{IsSoundMap, KeepsOthers};
@@ -38,6 +39,7 @@ impl Heaps {
         ensures classes { AreClasses map.new }
         ensures others { (store_of map.new).others ≡ (store_of map.old).others }
         ensures mapping { mapping map.new ≡ mapping map.old }
+        ensures order { KeepsOrder map.old map.new }
         ensures probes { result.probes ≡ 0 }
     {
         let answer = change_end(map, heap, change);
@@ -54,6 +56,7 @@ impl Heaps {
         ensures classes { AreClasses map.new }
         ensures others { (store_of map.new).others ≡ (store_of map.old).others }
         ensures mapping { mapping map.new ≡ mapping map.old }
+        ensures order { KeepsOrder map.old map.new }
 
         // No byte but those of the word that tells the end is changed.
         ensures bytes { (a : ℕ) → AreApart a 1 0x0180000C 4 → byte_at map.new a ≡ byte_at map.old a }
@@ -76,6 +79,7 @@ fn change_end(map: &mut AddressMap, heap: u32, change: u32) -> Result<(), ErrorN
     requires { IsSoundMap map.old }
     ensures store { Gives (store_of map.old) (changed (store_of map.old) heap change) result (store_of map.new) }
     ensures kept { KeepsOthers map.old map.new }
+    ensures order { KeepsOrder map.old map.new }
 {
     let Some(region) = find(map, heap) else {
         return Err(ErrorNumber::HeapBadDesc);
@@ -129,6 +133,7 @@ fn set_end(map: &mut AddressMap, region: &Region, end: u32)
     requires state { IsSoundMap map.old }
     ensures store { store_of map.new ≡ ending (store_of map.old) (heap_in (bytes_of map.old) region.now) end }
     ensures kept { KeepsOthers map.old map.new }
+    ensures order { KeepsOrder map.old map.new }
     ensures bytes { (a : ℕ) → AreApart a 1 (region.now.at + 12) 4 → byte_at map.new a ≡ byte_at map.old a }
 {
     put(map, region.at + END, end);

@@ -4,7 +4,7 @@ ghost use Rattle.os_heap.specs.Store.{store_of, heap_in, find_heap};
 
 use address_map::{AddressMap, Region};
 
-/// The heaps of a machine. Their starts stand in the record of the address map, and all else of them in the words of memory alone.
+/// The heaps of a machine. Where they start and end stands in the record of the address map, and all else of them in the words of memory alone.
 #[derive(Clone, Copy, Debug, Default)]
 pub struct Heaps;
 

@@ -1,11 +1,11 @@
 ghost use Rattle.std.specs.Prelude.{ℕ, [], true, ◌≡◌, ◌≤◌, ◌%◌, length, IsTrue, MatchResult, Err};
-ghost use Rattle.std.specs.List.{list_any};
 ghost use Rattle.profile.specs.Outcome.{Gives};
 ghost use Rattle.address_map.specs.Bytes.{Bytes, AreMapped};
 ghost use Rattle.address_map.specs.Memory.{mapping, byte_at, is_mapped, bytes_of, layout, class_of};
 ghost use Rattle.address_map.specs.Records.{is_heap_kind};
 ghost use Rattle.address_map.specs.declared.region.Kind.TheVariants.{Heap, Rma};
-ghost use Rattle.os_heap.specs.Ranges.{MayBegin, is_heap_region, meets, meets_any};
+ghost use Rattle.os_heap.specs.Order.{AddsRecord, KeepsOrder};
+ghost use Rattle.os_heap.specs.Ranges.{MayBegin, is_heap_region, meets_any};
 ghost use Rattle.os_heap_lists.specs.Heap.{with_heap};
 ghost use Rattle.os_heap.specs.Sound.{IsSoundMap, KeepsOthers};
 ghost use Rattle.os_heap.specs.Store.{store_of, heaps_in, guest_count, AreClasses, IsSound};
@@ -41,6 +41,8 @@ impl Heaps {
         ensures classes { AreClasses map.new }
         ensures others { (store_of map.new).others ≡ (store_of map.old).others }
         ensures mapping { mapping map.new ≡ mapping map.old }
+        ensures order { MatchResult result.answer
+            (λ _. AddsRecord map.old map.new Heap heap) (λ _. KeepsOrder map.old map.new) }
         ensures probes { result.probes ≡ 0 }
     {
         let answer = begin(map, heap, size);
@@ -57,6 +59,7 @@ impl Heaps {
         ensures classes { AreClasses map.new }
         ensures others { (store_of map.new).others ≡ (store_of map.old).others }
         ensures mapping { mapping map.new ≡ mapping map.old }
+        ensures order { AddsRecord map.old map.new Rma area }
     {
         make(map, Kind::Rma, area, size);
     }
@@ -67,6 +70,7 @@ fn begin(map: &mut AddressMap, heap: u32, size: u32) -> Result<(), ErrorNumber>
     requires { IsSoundMap map.old }
     ensures store { Gives (store_of map.old) (begun (store_of map.old) heap size) result (store_of map.new) }
     ensures kept { KeepsOthers map.old map.new }
+    ensures order { MatchResult result (λ _. AddsRecord map.old map.new Heap heap) (λ _. KeepsOrder map.old map.new) }
 {
     may_begin(map, heap, size)?;
     make(map, Kind::Heap, heap, size);
@@ -80,6 +84,7 @@ fn make(map: &mut AddressMap, kind: Kind, heap: u32, size: u32)
     requires state { IsSoundMap map.old }
     ensures store { store_of map.new ≡ begun_with kind (store_of map.old) heap size }
     ensures kept { KeepsOthers map.old map.new }
+    ensures order { AddsRecord map.old map.new kind heap }
 {
     write_descriptor(map, heap, size);
     mark_descriptor(map, heap);
@@ -135,29 +140,7 @@ pub(crate) fn is_heap_region(map: &AddressMap, heap: u32, size: u32) -> bool
 pub(crate) fn meets_any(map: &AddressMap, heap: u32, size: u32) -> bool
     ensures { result ≡ meets_any heap size (store_of map.now) }
 {
-    meets_regions(map.regions(), heap, size) || map.anchor_in(heap, size)
-}
-
-fn meets_regions(regions: &[Region], heap: u32, size: u32) -> bool
-    ensures { result ≡ list_any (λ r. meets heap size r.at r.len) regions.now }
-{
-    for region in regions {
-        if meets(region, heap, size) {
-            return true;
-        }
-    }
-    false
-}
-
-/// Whether two ranges share an address.
-fn meets(region: &Region, heap: u32, size: u32) -> bool
-    ensures { result ≡ meets heap size region.now.at region.now.len }
-{
-    let end = u64::from(region.at) + u64::from(region.len);
-    if region.len == 0 || u64::from(heap) >= end {
-        return false;
-    }
-    u64::from(region.at) < u64::from(heap) + u64::from(size)
+    map.meets_record(heap, size) || map.anchor_in(heap, size)
 }
 
 /// How many heaps guests have made.

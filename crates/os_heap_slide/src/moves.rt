@@ -1,5 +1,6 @@
 ghost use Rattle.std.specs.Prelude.{◌≡◌, ◌≤◌, length};
-ghost use Rattle.address_map.specs.Memory.{mapping};
+ghost use Rattle.address_map.specs.Memory.{mapping, regions};
+ghost use Rattle.address_map.specs.Moves.{moved_regions};
 ghost use Rattle.os_heap.specs.Store.{store_of, AreClasses, IsSound};
 ghost use Rattle.os_heap_slide.specs.Slide.{MaySlide, IsSlid};
 
@@ -29,6 +30,7 @@ pub fn slide(map: &mut AddressMap, heap: u32, movable: &[u32]) -> Moves
     ensures sound { IsSound (store_of map.new) }
     ensures classes { AreClasses map.new }
     ensures mapping { mapping map.new ≡ mapping map.old }
+    ensures regions { regions map.new ≡ moved_regions result.items (regions map.old) }
 {
     let moves = slide_items(map, heap, movable);
     map.follow(moves.as_slice());

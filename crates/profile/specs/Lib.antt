@@ -6,6 +6,7 @@ pub mod MemoryDevices
 pub mod MemoryMap
 pub mod Outcome
 pub mod Output
+pub mod Pulls
 pub mod Reasons
 pub mod Shift
 pub mod Sizes

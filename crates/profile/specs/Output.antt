@@ -1,21 +1,27 @@
--- What a writer's loop keeps: what stands written, and the rest, once it is written too, is the whole text.
-use Rattle.std.specs.Prelude.{◌≡◌, ◌<◌, ℕ, Bool, true, List, length, Option, Result, OnOk, OnErr}
-use Rattle.std.specs.Io.KnownBytes.{Appends, append_known}
+-- How much of a text stands written, and what a call that writes one leaves.
+use Rattle.std.specs.Prelude.{◌≡◌, ◌<◌, ◌++◌, ℕ, Bool, true, List, length, Option, Some, Result, IfSome, OnOk, OnErr}
+use Rattle.std.specs.Io.KnownBytes.{Appends}
 
--- a writer that held `from` holds `now`, and the rest, once it is written, completes all
-pub record Completes (from now : Option (List ℕ)) (rest all : List ℕ) : Type 0 where
-  pub completes : (after : Option (List ℕ)) → Appends now after rest → Appends from after all
+-- A writer that held `held` holds that, and all of a text but its rest.
+pub record HoldsAllBut (held : List ℕ) (now : Option (List ℕ)) (rest all : List ℕ) : Type 0 where
+  pub part : List ℕ
+  pub holds : now ≡ Some (held ++ part)
+  pub whole : part ++ rest ≡ all
 
--- with some more after it, what stands written is all: a prefix of the text stands there
-pub record AppendsFront (old new : Option (List ℕ)) (all : List ℕ) : Type 0 where
-  pub more : List ℕ
-  pub whole : Appends old (append_known new more) all
+-- All of a text but its rest was appended, and what stood before it stands still.
+pub record AddsAllBut (old new : Option (List ℕ)) (rest all : List ℕ) : Type 0 where
+  pub adds : IfSome old (λ held. HoldsAllBut held new rest all)
 
--- a front of the text was appended, and at least a byte of it is missing
-pub record AppendsPart (old new : Option (List ℕ)) (all : List ℕ) : Type 0 where
+-- A front of a text was appended, and what stood before it stands still.
+pub record AddsFront (old new : Option (List ℕ)) (all : List ℕ) : Type 0 where
+  pub rest : List ℕ
+  pub front : AddsAllBut old new rest all
+
+-- A front of a text was appended, at least a byte of it is missing, and what stood before it stands still.
+pub record AddsPart (old new : Option (List ℕ)) (all : List ℕ) : Type 0 where
   pub missing : List ℕ
   pub some_missing : 0 < length missing
-  pub whole : Appends old (append_known new missing) all
+  pub front : AddsAllBut old new missing all
 
 -- What a call that writes a text does to its sink: all of the text is appended and the flag is as it was, or the call fails and
 -- the flag is up.

@@ -1,7 +1,7 @@
 ghost use Rattle.std.specs.Prelude.{◌≡◌, ◌≤◌, ◌<◌, ◌-◌, ℕ, Bool, true, false, not, [], List, length, take, Option, Some, None, IfOk, OnOk, OnErr, is_err};
 ghost use Rattle.std.specs.List.{flat_map};
 ghost use Rattle.std.specs.Io.KnownBytes.{Appends, WriteAppends};
-ghost use Rattle.profile.specs.Output.{AppendsPart};
+ghost use Rattle.profile.specs.Output.{AddsPart};
 ghost use Rattle.profile.specs.MemoryDevices.{SinkState, can_push, pushed, push_count};
 
 use crate::device::{Device, is_passing};
@@ -150,7 +150,7 @@ impl<'a> Sink for MemorySink<'a> {
 #[tactic(auto, using(crate::proofs::OutputLemmas::output_steps))]
 pub fn push_all<W: Sink>(sink: &mut W, bytes: &[u8]) -> Result<(), WriteFault>
     ensures text { OnOk result (Appends (W.contents sink.old) (W.contents sink.new) bytes.now) }
-    ensures part { OnErr result (AppendsPart (W.contents sink.old) (W.contents sink.new) bytes.now) }
+    ensures part { OnErr result (AddsPart (W.contents sink.old) (W.contents sink.new) bytes.now) }
     ensures flag { OnErr result (W.has_failed sink.new ≡ true) }
     ensures same_flag { OnOk result (W.has_failed sink.new ≡ W.has_failed sink.old) }
 {
@@ -167,7 +167,7 @@ pub fn push_all<W: Sink>(sink: &mut W, bytes: &[u8]) -> Result<(), WriteFault>
 pub fn push_parts<W: Sink>(sink: &mut W, parts: &[&[u8]]) -> Result<(), WriteFault>
     ensures text { OnOk result (Appends (W.contents sink.old) (W.contents sink.new) (flat_map (λ p. p.now) parts.now)) }
     ensures part { OnErr result
-        (AppendsPart (W.contents sink.old) (W.contents sink.new) (flat_map (λ p. p.now) parts.now)) }
+        (AddsPart (W.contents sink.old) (W.contents sink.new) (flat_map (λ p. p.now) parts.now)) }
     ensures flag { OnErr result (W.has_failed sink.new ≡ true) }
     ensures same_flag { OnOk result (W.has_failed sink.new ≡ W.has_failed sink.old) }
 {

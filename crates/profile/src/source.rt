@@ -1,5 +1,6 @@
 ghost use Rattle.std.specs.Prelude.{◌≡◌, ◌≤◌, ◌<◌, ◌-◌, ℕ, Bool, true, false, not, List, length, Option, Some, None, IfOk, is_err};
 ghost use Rattle.std.specs.Io.KnownBytes.{ReadConsumes};
+ghost use Rattle.profile.specs.Pulls.{PullsOnce};
 ghost use Rattle.profile.specs.MemoryDevices.{SourceState, can_pull, pulled, pull_count, filled};
 
 use crate::device::{Device, is_passing};
@@ -22,13 +23,17 @@ pub trait Source {
 
     ghost has_failed: { Self → Bool };
 
+    // How many calls it has had, or `None` where it does not tell.
+    ghost pulls: { Self → Option ℕ } = { λ _. None };
+
     /// Puts the next bytes at the front of the buffer and answers how many; 0 is the end.
     fn pull(&mut self, buffer: &mut [u8]) -> Result<usize, ReadFault>
         requires { 0 < length buffer.old }
         ensures count { IfOk result (λ n. n ≤ length buffer.new) }
         ensures bytes { ReadConsumes (remaining self.old) (remaining self.new) result buffer.new }
         ensures flag { has_failed self.new ≡ is_err result }
-        ensures stays { has_failed self.old ≡ true → has_failed self.new ≡ true };
+        ensures stays { has_failed self.old ≡ true → has_failed self.new ≡ true }
+        ensures counted { PullsOnce (pulls self.old) (pulls self.new) };
 }
 
 /// An interrupted call is taken up again; any other error of the reader raises the flag.

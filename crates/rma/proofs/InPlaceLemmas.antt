@@ -11,15 +11,14 @@ use Rattle.address_map.specs.declared.region.Region.{Region}
 use Rattle.os_heap.proofs.Added.{are_mapped_all, clear_of_heaps, range_end, ranges_split}
 use Rattle.os_heap.proofs.Apart.{range_parts}
 use Rattle.os_heap.proofs.Recorded.{IsClearOfAll, recorded_sound}
-use Rattle.os_heap.specs.Ranges.{are_mapped}
-use Rattle.os_heap.specs.Ranges as range
-use Rattle.os_heap.specs.Store.{IsClearOfHeaps, IsSound, Store, store_of}
-use Rattle.rma.specs.NewImages.{may_be_in_place, meets_store}
+use Rattle.os_heap.specs.Ranges.{are_mapped, meets_any}
+use Rattle.os_heap.specs.Store.{IsSound, Store, store_of}
+use Rattle.rma.specs.NewImages.{may_be_in_place}
 use Rattle.rma.proofs.ImageLemmas.{IsRecorded}
 
 -- the test of the map is that of the store
 pub met_in : (m : AddressMap) (at len : ℕ)
-    → (list_any (λ r. meets at len r.at r.len) (regions m) || anchor_among (anchor_of m) at len) ≡ meets_store at len (store_of m)
+    → (list_any (λ r. meets at len r.at r.len) (regions m) || anchor_among (anchor_of m) at len) ≡ meets_any at len (store_of m)
 unfolding store_of
 met_in m at len = ap (λ (t : Bool). t || anchor_among (anchor_of m) at len) (ranges_split (meets at len) (bytes_of m) (regions m))
 
@@ -33,9 +32,9 @@ pub record MayBe (s : Store) (at len : ℕ) : Type 0 where
 
 pub may_be : (s : Store) (at len : ℕ) → may_be_in_place s at len ≡ true → MayBe s at len
 may_be s at len may =
-    let both = and_parts (at % 4 == 0 && are_mapped s.bytes.mapped at len) (not (meets_store at len s)) may in
+    let both = and_parts (at % 4 == 0 && are_mapped s.bytes.mapped at len) (not (meets_any at len s)) may in
     let front = and_parts (at % 4 == 0) (are_mapped s.bytes.mapped at len) both.0 in
-    let clear : meets_store at len s ≡ false = not-true (meets_store at len s) both.1 in
+    let clear : meets_any at len s ≡ false = not-true (meets_any at len s) both.1 in
     let heaps : Bool = list_any (λ h. meets at len h.start h.end) s.heaps in
     let others : Bool = list_any (λ r. meets at len r.at r.len) s.others in
     let parts = or_parts (heaps || others) (anchor_among s.anchor at len) clear in
@@ -67,21 +66,12 @@ clear_of_all at len (r ∷ rs) some none =
       clear_of_all at len rs some parts.1,
     )
 
-same_meets : (at len other other_len : ℕ) → 0 < len → meets at len other other_len ≡ range.meets at len other other_len
-same_meets at len other other_len some = rw (lt-ltb 0 len some) refl
-
-clear_heaps : (s : Store) (at len : ℕ) → 0 < len → list_any (λ h. meets at len h.start h.end) s.heaps ≡ false → IsClearOfHeaps at len s.heaps
-clear_heaps s at len some none =
-    let same : list_any (λ h. meets at len h.start h.end) s.heaps ≡ list_any (λ h. range.meets at len h.start h.end) s.heaps =
-    λ i. list_any (λ h. same_meets at len h.start h.end some i) s.heaps in
-    clear_of_heaps at len s.heaps (sym same ∙ none)
-
 pub placed : (s : Store) (at len : ℕ) → IsSound s → may_be_in_place s at len ≡ true → 0 < len → length s.others < 68
     → IsRecorded s (record { kind = kind.Image; at = at; len = len })
 placed s at len sound may some room =
     let is : MayBe s at len = may_be s at len may in
     record {
-      sound = recorded_sound s (record { kind = kind.Image; at = at; len = len }) sound (clear_heaps s at len some is.heaps)
+      sound = recorded_sound s (record { kind = kind.Image; at = at; len = len }) sound (clear_of_heaps at len s.heaps is.heaps)
           (clear_of_all at len s.others some is.others) room;
       mapped = is.mapped;
       aligned = is.aligned;

@@ -1,7 +1,8 @@
 -- New images: the block that is claimed for one, the bytes written there, and the record.
 use Rattle.std.proofs.Common.{◌≡◌, ℕ, ◌+◌, ◌%◌, ◌-◌, ◌<◌, ◌≤◌, true, false, List, [], ◌∷◌, ◌++◌, length, refl, sym, ap, subst, ◌∙◌, Some, None, Ok, Err, arith}
-use Rattle.std.specs.Prelude.{Option, Result}
+use Rattle.std.specs.Prelude.{MatchResult, Option, Result}
 use Rattle.std.proofs.lemmas.Bool.{both_ways, false_from_ne_true, le-leb, lt-ltb}
+use Rattle.profile.specs.MemoryMap.{module_area_maximum, module_area_start}
 use Rattle.profile.specs.Outcome.{Gives}
 use Rattle.profile.specs.declared.error.ErrorNumber.{ErrorNumber}
 use Rattle.profile.specs.declared.error.ErrorNumber.TheVariants.{RmaNoRoom}
@@ -10,6 +11,7 @@ use Rattle.address_map.specs.Bytes.{AreMapped, Bytes, in_range, with_bytes, with
 use Rattle.address_map.specs.Items.{is_total, size_of}
 use Rattle.address_map.specs.Memory.{byte_at, bytes_of, class_of, layout}
 use Rattle.address_map.specs.declared.map.AddressMap.{AddressMap}
+use Rattle.address_map.specs.declared.region.Kind.{Kind}
 use Rattle.address_map.specs.declared.region.Kind.TheVariants as kind
 use Rattle.address_map.specs.declared.region.Region.{Region}
 use Rattle.os_heap.specs.os_heap_lists.proofs.LiveBlocks.{LiveBytes, live_bytes}
@@ -21,10 +23,13 @@ use Rattle.os_heap.proofs.ClaimedBlocks.{IsNewBlock, is_new_block}
 use Rattle.os_heap.proofs.Found.{found_heap, found_start}
 use Rattle.os_heap.proofs.Frame.{IsKept, store_bytes}
 use Rattle.os_heap.proofs.KeptPayloads.{IsClaim, is_claim}
+use Rattle.os_heap.proofs.Order.{order_laid}
 use Rattle.os_heap.proofs.PayloadWrites.{payload_kept}
 use Rattle.os_heap.specs.Calls.{OfHeap, block_sized, copied, got}
+use Rattle.os_heap.specs.Order.{AddsRecord, KeepsOrder}
 use Rattle.os_heap.specs.Store.{IsSound, Store, find_heap, has_image, store_of}
 use Rattle.flex_kept.specs.dynamic_areas.specs.Ground.{Estate, IsEstate}
+use Rattle.flex_kept.specs.dynamic_areas.proofs.Remapped.{here}
 use Rattle.rma.specs.Calls.{grown_to, rma_base, rma_claimed}
 use Rattle.rma.specs.Images.{image_recorded}
 use Rattle.rma.specs.NewImages.{IsLiveBlock, filled}
@@ -48,6 +53,16 @@ live_whole s block total sound is =
     let l : IsLiveIn s block total = live_in s block total is in
     let heap : IsHeapIn s.bytes l.heap.start l.heap.end l.heap.items = found_heap s.bytes 0x01800000 s.heaps l.heap sound.heaps l.found in
     (live_bytes block total (l.heap.start + 16) l.heap.items heap.totals l.live).whole (omega (arith, heap.aligned))
+
+-- and lies in the module area
+pub live_inside : (e : Estate) (block total : ℕ) → IsEstate e → IsLiveBlock e.store block total → in_range module_area_start module_area_maximum block ≡ true
+live_inside e block total good is =
+    let h : HasArea e = area_there e good in
+    let g : HeapList = h.known.heap in
+    let live : live_total block (g.start + 16) g.items ≡ Some total = (let l = rw h.known.found at is in l) in
+    let place : LiveBytes block total (g.start + 16) (g.start + 16 + size_of g.items) = live_bytes block total (g.start + 16) g.items h.known.spelled.totals live in
+    here 0x01800000 4194304 block (omega (arith, place.low, h.known.start))
+    (omega (arith, place.high, place.size, h.known.spelled.inside, h.known.start, h.known.end, h.room.within, h.known.maximum))
 
 -- the bytes that it holds are mapped
 pub payload_mapped : (s : Store) (block total len : ℕ) → IsSound s → IsLiveBlock s block total → len + 4 ≤ total → AreMapped s.bytes.mapped block len
@@ -113,6 +128,12 @@ recorded_others s block total is own =
     let l : IsLiveIn s block total = live_in s block total is in
     rw (l.found, own, l.live) refl
 
+sized_block : (s : Store) (block total : ℕ) → IsLiveBlock s block total → has_image block s.others ≡ false → block_sized s 0x01800000 block ≡ Ok (total - 4)
+unfolding block_sized
+sized_block s block total is own =
+    let l : IsLiveIn s block total = live_in s block total is in
+    rw (l.found, own, l.live) refl
+
 pub given_done : (s t : Store) (r : Result (Store × ℕ) ErrorNumber) (block : ℕ) → Gives s r (let done : Result ℕ ErrorNumber = Ok block in done) t
     → r ≡ Ok (t, block)
 given_done s t (Ok x) block given = λ i. Ok (sym given.0 i, sym given.1 i)
@@ -129,6 +150,18 @@ made_others s t u v block total is claimed heaps filled recorded none =
     let own : has_image block u.others ≡ false = ap (has_image block) same ∙ none in
     ap (λ (x : Store). x.others) recorded ∙ recorded_others u block total there own
     ∙ ap (λ (rs : List Region). rs ++ record { kind = kind.Image; at = block; len = total - 4 } ∷ []) same
+
+-- its record comes behind all others: m is the memory before, n after the claim, o with the bytes, p with the record
+pub made_order : (m n o p : AddressMap) (block total : ℕ) → IsLiveBlock (store_of n) block total → (store_of n).others ≡ (store_of m).others
+    → (store_of o).heaps ≡ (store_of n).heaps → (store_of o).others ≡ (store_of n).others → KeepsOrder m n → layout o ≡ layout n
+    → MatchResult (block_sized (store_of o) 0x01800000 block) (λ _. AddsRecord o p kind.Image block) (λ _. KeepsOrder o p)
+    → has_image block (store_of m).others ≡ false → AddsRecord m p kind.Image block
+made_order m n o p block total is claimed heaps filled kept same recorded none =
+    let there : IsLiveBlock (store_of o) block total =
+    subst (λ (hs : List HeapList). OfHeap (λ h. live_total block (h.start + 16) h.items ≡ Some total) (find_heap 0x01800000 hs)) (sym heaps) is in
+    let own : has_image block (store_of o).others ≡ false = ap (has_image block) (filled ∙ claimed) ∙ none in
+    let added = rw (sized_block (store_of o) block total there own) at recorded in
+    added ∙ ap (λ (xs : List (Kind × ℕ)). xs ++ (kind.Image, block) ∷ []) (order_laid n o same ∙ kept)
 
 -- the block that is claimed
 pub block_made : (s t : Store) (size block : ℕ) (answer : Result ℕ ErrorNumber) → IsSound s → answer ≡ Ok block → Gives s (got s 0x01800000 size) answer t

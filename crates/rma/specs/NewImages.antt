@@ -1,16 +1,14 @@
 -- New images in the module area: a block is claimed, the image gets its bytes there, and the block is recorded as an image (RISC OS 3 Programmer's
 -- Reference Manual, "OS_Module", reasons 1 and 11). An image in place keeps its bytes, and is recorded over exactly these (reason 10).
-use Rattle.std.specs.Prelude.{ℕ, ◌≡◌, ◌+◌, ◌-◌, ◌==◌, ◌%◌, ◌||◌, ◌&&◌, not, Bool, List, length, Some, Result, Ok, [], ◌∷◌, ◌++◌}
-use Rattle.std.specs.List.{list_any}
+use Rattle.std.specs.Prelude.{ℕ, ◌≡◌, ◌+◌, ◌-◌, ◌==◌, ◌%◌, ◌&&◌, not, Bool, List, length, Some, Result, Ok, [], ◌∷◌, ◌++◌}
 use Rattle.profile.specs.Outcome.{bind}
 use Rattle.profile.specs.declared.error.ErrorNumber.{ErrorNumber}
 use Rattle.address_map.specs.declared.region.Kind.TheVariants as kind
 use Rattle.address_map.specs.declared.region.Region.{Region}
-use Rattle.address_map.specs.Bytes.{meets, with_bytes}
-use Rattle.address_map.specs.Records.{anchor_among}
+use Rattle.address_map.specs.Bytes.{with_bytes}
 use Rattle.os_heap.specs.os_heap_lists.specs.Lists.{live_total, total_for}
 use Rattle.os_heap.specs.Calls.{OfHeap, copied}
-use Rattle.os_heap.specs.Ranges.{are_mapped}
+use Rattle.os_heap.specs.Ranges.{are_mapped, meets_any}
 use Rattle.os_heap.specs.Store.{Store, find_heap}
 use Rattle.flex_kept.specs.dynamic_areas.specs.Ground.{Estate}
 use Rattle.rma.specs.Calls.{rma_claimed, with_store}
@@ -41,12 +39,8 @@ IsLiveBlock s block total = OfHeap (λ h. live_total block (h.start + 16) h.item
 
 -- Where an image may be in place: from a whole word on, all mapped, and clear of all heaps, of all other recorded ranges, and of anchors. An empty
 -- range meets nothing.
-abbrev pub meets_store : ℕ → ℕ → Store → Bool
-meets_store at len s =
-    (list_any (λ h. meets at len h.start h.end) s.heaps || list_any (λ r. meets at len r.at r.len) s.others) || anchor_among s.anchor at len
-
 abbrev pub may_be_in_place : Store → ℕ → ℕ → Bool
-may_be_in_place s at len = (at % 4 == 0 && are_mapped s.bytes.mapped at len) && not (meets_store at len s)
+may_be_in_place s at len = (at % 4 == 0 && are_mapped s.bytes.mapped at len) && not (meets_any at len s)
 
 abbrev pub with_image_in_place : Store → ℕ → ℕ → Store
 with_image_in_place s at len = record s { others = s.others ++ record { kind = kind.Image; at = at; len = len } ∷ [] }

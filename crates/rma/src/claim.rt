@@ -1,8 +1,11 @@
-ghost use Rattle.std.specs.Prelude.{◌≡◌, ◌+◌, ◌-◌, false, IfOk};
+ghost use Rattle.std.specs.Prelude.{◌≡◌, ◌+◌, ◌-◌, false, true, IfOk};
+ghost use Rattle.profile.specs.MemoryMap.{module_area_maximum, module_area_start};
 ghost use Rattle.profile.specs.Outcome.{Gives};
+ghost use Rattle.address_map.specs.Bytes.{in_range};
 ghost use Rattle.address_map.specs.Memory.{StaysInPlace};
 ghost use Rattle.os_heap.specs.os_heap_lists.specs.Lists.{total_for};
 ghost use Rattle.os_heap.specs.Calls.{got};
+ghost use Rattle.os_heap.specs.Order.{KeepsOrder};
 ghost use Rattle.os_heap.specs.Store.{store_of, AreClasses};
 ghost use Rattle.flex_kept.specs.dynamic_areas.specs.Ground.{estate_of, IsEstate};
 ghost use Rattle.flex_kept.specs.Keeping.{is_in_record, IsUnanchored, KeepsFlex};
@@ -41,9 +44,11 @@ impl Rma {
         ensures estate { IsEstate (estate_of map.new areas.new) }
         ensures classes { AreClasses map.new }
         ensures others { (store_of map.new).others ≡ (store_of map.old).others }
+        ensures order { KeepsOrder map.old map.new }
         ensures stays { StaysInPlace map.old map.new }
         ensures places { KeepsPlaces map.old map.new }
         ensures live { IfOk result (λ block. IsLiveBlock (store_of map.new) block (total_for size)) }
+        ensures inside { IfOk result (λ block. in_range module_area_start module_area_maximum block ≡ true) }
         ensures alone { IfOk result (λ block. is_in_record (store_of map.old).others block ≡ false) }
         ensures flex { KeepsFlex (store_of map.old) (store_of map.new) }
         ensures unanchored { IfOk result (λ block. IsUnanchored (store_of map.new) block (total_for size - 4)) }
@@ -66,8 +71,10 @@ fn claim_grown(map: &mut AddressMap, areas: &mut Areas, size: u32) -> Result<u32
     ensures estate { IsEstate (estate_of map.new areas.new) }
     ensures classes { AreClasses map.new }
     ensures others { (store_of map.new).others ≡ (store_of map.old).others }
+    ensures order { KeepsOrder map.old map.new }
     ensures places { KeepsPlaces map.old map.new }
     ensures live { IfOk result (λ block. IsLiveBlock (store_of map.new) block (total_for size)) }
+    ensures inside { IfOk result (λ block. in_range module_area_start module_area_maximum block ≡ true) }
     ensures alone { IfOk result (λ block. is_in_record (store_of map.old).others block ≡ false) }
     ensures flex { KeepsFlex (store_of map.old) (store_of map.new) }
     ensures unanchored { IfOk result (λ block. IsUnanchored (store_of map.new) block (total_for size - 4)) }

@@ -2,6 +2,7 @@ ghost use Rattle.std.specs.Prelude.{◌≡◌, ◌<◌, ◌+◌, ◌^◌, true};
 ghost use Rattle.profile.specs.Outcome.{Gives};
 ghost use Rattle.address_map.specs.Memory.{StaysInPlace};
 ghost use Rattle.os_heap.specs.Calls.{block_sized, resized};
+ghost use Rattle.os_heap.specs.Order.{KeepsOrder};
 ghost use Rattle.os_heap.specs.Store.{store_of, AreClasses, IsSound};
 ghost use Rattle.flex_kept.specs.dynamic_areas.specs.Ground.{estate_of, IsEstate};
 ghost use Rattle.flex_kept.specs.Keeping.{KeepsFlex};
@@ -43,6 +44,7 @@ impl Rma {
         ensures estate { IsEstate (estate_of map.new areas.new) }
         ensures classes { AreClasses map.new }
         ensures others { (store_of map.new).others ≡ (store_of map.old).others }
+        ensures order { KeepsOrder map.old map.new }
         ensures stays { StaysInPlace map.old map.new }
         ensures flex { KeepsFlex (store_of map.old) (store_of map.new) }
     {
@@ -63,6 +65,7 @@ fn grow_in_place(map: &mut AddressMap, areas: &mut Areas, block: u32, change: u3
     ensures estate { IsEstate (estate_of map.new areas.new) }
     ensures classes { AreClasses map.new }
     ensures others { (store_of map.new).others ≡ (store_of map.old).others }
+    ensures order { KeepsOrder map.old map.new }
     ensures places { KeepsPlaces map.old map.new }
     ensures flex { KeepsFlex (store_of map.old) (store_of map.new) }
 {
@@ -87,6 +90,7 @@ fn move_grown(
     ensures estate { IsEstate (estate_of map.new areas.new) }
     ensures classes { AreClasses map.new }
     ensures others { (store_of map.new).others ≡ (store_of map.old).others }
+    ensures order { KeepsOrder map.old map.new }
     ensures places { KeepsPlaces map.old map.new }
     ensures flex { KeepsFlex (store_of map.old) (store_of map.new) }
 {

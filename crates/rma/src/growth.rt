@@ -1,5 +1,6 @@
 ghost use Rattle.std.specs.Prelude.{◌≡◌, ◌*◌};
 ghost use Rattle.profile.specs.Outcome.{Leaves};
+ghost use Rattle.os_heap.specs.Order.{KeepsOrder};
 ghost use Rattle.os_heap.specs.Store.{store_of, AreClasses};
 ghost use Rattle.flex_kept.specs.dynamic_areas.specs.Areas.{find_area};
 ghost use Rattle.flex_kept.specs.dynamic_areas.specs.Changing.{pages_had};
@@ -28,6 +29,7 @@ pub(crate) fn grow_to(map: &mut AddressMap, areas: &mut Areas, end: u64) -> Resu
     ensures estate { IsEstate (estate_of map.new areas.new) }
     ensures classes { AreClasses map.new }
     ensures others { (store_of map.new).others ≡ (store_of map.old).others }
+    ensures order { KeepsOrder map.old map.new }
     ensures places { KeepsPlaces map.old map.new }
     ensures flex { KeepsFlex (store_of map.old) (store_of map.new) }
 {

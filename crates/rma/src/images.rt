@@ -1,6 +1,9 @@
-ghost use Rattle.std.specs.Prelude.{◌≡◌, IfOk};
-ghost use Rattle.address_map.specs.Memory.{mapping};
+ghost use Rattle.std.specs.Prelude.{◌≡◌, IfOk, MatchResult};
+ghost use Rattle.address_map.specs.Memory.{mapping, regions};
+ghost use Rattle.address_map.specs.Records.{without_region};
+ghost use Rattle.address_map.specs.declared.region.Kind.TheVariants.{Image};
 ghost use Rattle.os_heap.specs.Calls.{block_sized};
+ghost use Rattle.os_heap.specs.Order.{AddsRecord, KeepsOrder};
 ghost use Rattle.os_heap.specs.Store.{store_of, AreClasses, IsSound};
 ghost use Rattle.flex_kept.specs.dynamic_areas.specs.Areas.{Land};
 ghost use Rattle.flex_kept.specs.dynamic_areas.specs.Ground.{estate_of, IsEstate};
@@ -23,6 +26,8 @@ impl Rma {
         ensures estate { (l : Land) → IsEstate (estate_of map.old l) → IsEstate (estate_of map.new l) }
         ensures classes { AreClasses map.old → AreClasses map.new }
         ensures mapping { mapping map.new ≡ mapping map.old }
+        ensures order { MatchResult (block_sized (store_of map.old) 0x01800000 at)
+            (λ _. AddsRecord map.old map.new Image at) (λ _. KeepsOrder map.old map.new) }
         ensures flex { IfOk (block_sized (store_of map.old) 0x01800000 at)
             (λ len. IsUnanchored (store_of map.old) at len)
             → KeepsFlex (store_of map.old) (store_of map.new) }
@@ -41,6 +46,7 @@ impl Rma {
         ensures estate { (l : Land) → IsEstate (estate_of map.old l) → IsEstate (estate_of map.new l) }
         ensures classes { AreClasses map.old → AreClasses map.new }
         ensures mapping { mapping map.new ≡ mapping map.old }
+        ensures regions { regions map.new ≡ without_region (regions map.old) Image at }
         ensures flex { KeepsFlex (store_of map.old) (store_of map.new) }
     {
         map.disown(Kind::Image, at);
@@ -56,6 +62,7 @@ impl Rma {
         ensures estate { (l : Land) → IsEstate (estate_of map.old l) → IsEstate (estate_of map.new l) }
         ensures classes { AreClasses map.new }
         ensures mapping { mapping map.new ≡ mapping map.old }
+        ensures regions { regions map.new ≡ without_region (regions map.old) Image at }
         ensures flex { KeepsFlex (store_of map.old) (store_of map.new) }
     {
         self.drop_image(map, at);

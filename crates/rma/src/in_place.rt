@@ -1,12 +1,14 @@
 ghost use Rattle.std.specs.Prelude.{◌≡◌, ◌<◌, true, length};
 ghost use Rattle.address_map.specs.Memory.{mapping};
-ghost use Rattle.os_heap.specs.Ranges.{are_mapped};
+ghost use Rattle.address_map.specs.declared.region.Kind.TheVariants.{Image};
+ghost use Rattle.os_heap.specs.Order.{AddsRecord};
+ghost use Rattle.os_heap.specs.Ranges.{are_mapped, meets_any};
 ghost use Rattle.os_heap.specs.Store.{store_of, AreClasses, IsSound};
 ghost use Rattle.flex_kept.specs.dynamic_areas.specs.Areas.{Land};
 ghost use Rattle.flex_kept.specs.dynamic_areas.specs.Ground.{estate_of, IsEstate};
 ghost use Rattle.flex_kept.specs.Keeping.{KeepsFlex};
 ghost use Rattle.rma.specs.Calls.{with_store};
-ghost use Rattle.rma.specs.NewImages.{may_be_in_place, meets_store, with_image_in_place};
+ghost use Rattle.rma.specs.NewImages.{may_be_in_place, with_image_in_place};
 
 use crate::area::Rma;
 use address_map::{AddressMap, Kind};
@@ -19,7 +21,7 @@ impl Rma {
     pub fn may_be_in_place(&self, map: &AddressMap, at: u32, len: u32) -> bool
         ensures { result ≡ may_be_in_place (store_of map.now) at len }
     {
-        at % 4 == 0 && are_mapped(map, at, len) && !meets_store(map, at, len)
+        at % 4 == 0 && are_mapped(map, at, len) && !meets_any(map, at, len)
     }
 
     /// Records the `len` bytes from an address on as an image in place, over exactly these bytes.
@@ -34,6 +36,7 @@ impl Rma {
         ensures estate { (l : Land) → IsEstate (estate_of map.old l) → IsEstate (estate_of map.new l) }
         ensures classes { AreClasses map.old → AreClasses map.new }
         ensures mapping { mapping map.new ≡ mapping map.old }
+        ensures order { AddsRecord map.old map.new Image at }
         ensures flex { KeepsFlex (store_of map.old) (store_of map.new) }
     {
         map.own(Kind::Image, at, len);
@@ -48,8 +51,8 @@ pub(crate) fn are_mapped(map: &AddressMap, at: u32, len: u32) -> bool
 }
 
 /// Whether a range meets a recorded one, or holds an anchor.
-fn meets_store(map: &AddressMap, at: u32, len: u32) -> bool
-    ensures { result ≡ meets_store at len (store_of map.now) }
+fn meets_any(map: &AddressMap, at: u32, len: u32) -> bool
+    ensures { result ≡ meets_any at len (store_of map.now) }
 {
     map.meets_record(at, len) || map.anchor_in(at, len)
 }

@@ -1,9 +1,12 @@
-ghost use Rattle.std.specs.Prelude.{◌≡◌, ◌-◌, ◌%◌, ◌≤◌, ◌<◌, ◌++◌, ◌∷◌, [], false, length, IfOk, MatchResult};
+ghost use Rattle.std.specs.Prelude.{◌≡◌, ◌-◌, ◌%◌, ◌≤◌, ◌<◌, ◌++◌, ◌∷◌, [], false, true, length, IfOk, MatchResult};
+ghost use Rattle.profile.specs.MemoryMap.{module_area_maximum, module_area_start};
 ghost use Rattle.profile.specs.Outcome.{Gives};
-ghost use Rattle.address_map.specs.Bytes.{AreMapped};
+ghost use Rattle.address_map.specs.Bytes.{in_range, AreMapped};
 ghost use Rattle.address_map.specs.Memory.{is_mapped, layout};
 ghost use Rattle.os_heap.specs.os_heap_lists.specs.Lists.{total_for};
 ghost use Rattle.os_heap.specs.Calls.{copied};
+ghost use Rattle.address_map.specs.declared.region.Kind.TheVariants.{Image};
+ghost use Rattle.os_heap.specs.Order.{AddsRecord, KeepsOrder};
 ghost use Rattle.os_heap.specs.Store.{store_of, AreClasses, IsSound, has_image};
 ghost use Rattle.flex_kept.specs.dynamic_areas.specs.Areas.{Land};
 ghost use Rattle.flex_kept.specs.dynamic_areas.specs.Ground.{estate_of, IsEstate};
@@ -41,9 +44,13 @@ impl Rma {
         ensures classes { AreClasses map.new }
         ensures flex { KeepsFlex (store_of map.old) (store_of map.new) }
         ensures whole { IfOk result (λ block. block % 4 ≡ 0) }
+        ensures inside { IfOk result (λ block. in_range module_area_start module_area_maximum block ≡ true) }
         ensures alone { IfOk result (λ block. is_in_record (store_of map.old).others block ≡ false) }
         ensures others { IfOk result (λ block. has_image block (store_of map.old).others ≡ false
             → (store_of map.new).others ≡ (store_of map.old).others ++ image_record block (length image.now) ∷ []) }
+        ensures order { MatchResult result
+            (λ block. has_image block (store_of map.old).others ≡ false → AddsRecord map.old map.new Image block)
+            (λ _. KeepsOrder map.old map.new) }
         ensures fits { IfOk result (λ block. length image.now ≤ 4194304) }
     {
         if image.len() > RMA_MAXIMUM as usize {
@@ -81,9 +88,13 @@ impl Rma {
         ensures classes { AreClasses map.new }
         ensures flex { KeepsFlex (store_of map.old) (store_of map.new) }
         ensures whole { IfOk result (λ block. block % 4 ≡ 0) }
+        ensures inside { IfOk result (λ block. in_range module_area_start module_area_maximum block ≡ true) }
         ensures alone { IfOk result (λ block. is_in_record (store_of map.old).others block ≡ false) }
         ensures others { IfOk result (λ block. has_image block (store_of map.old).others ≡ false
             → (store_of map.new).others ≡ (store_of map.old).others ++ image_record block len ∷ []) }
+        ensures order { MatchResult result
+            (λ block. has_image block (store_of map.old).others ≡ false → AddsRecord map.old map.new Image block)
+            (λ _. KeepsOrder map.old map.new) }
     {
         let block = self.claim(map, areas, len)?;
         fill_from(map, block, from, len);

@@ -1,5 +1,6 @@
 ghost use Rattle.std.specs.Prelude.{◌≡◌};
-ghost use Rattle.address_map.specs.Memory.{mapping};
+ghost use Rattle.address_map.specs.Memory.{mapping, regions};
+ghost use Rattle.address_map.specs.Moves.{moved_regions};
 ghost use Rattle.os_heap.specs.Store.{store_of, AreClasses, IsSound};
 ghost use Rattle.flex_kept.specs.os_heap_slide.specs.Slide.{MaySlide, IsSlid};
 ghost use Rattle.flex_kept.specs.Keeping.{KeepsFlex};
@@ -26,6 +27,7 @@ impl Rma {
         ensures sound { IsSound (store_of map.new) }
         ensures classes { AreClasses map.new }
         ensures mapping { mapping map.new ≡ mapping map.old }
+        ensures regions { regions map.new ≡ moved_regions result.items (regions map.old) }
         ensures flex { KeepsFlex (store_of map.old) (store_of map.new) }
     {
         slide(map, RMA_START, movable)

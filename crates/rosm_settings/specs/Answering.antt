@@ -3,7 +3,7 @@ use Rattle.std.specs.Prelude.{◌≡◌, ◌<◌, ℕ, Bool, true, false, List, 
 use Rattle.std.specs.Io.KnownBytes.{Appends}
 use Rattle.profile.specs.declared.stop.Stop.{Stop}
 use Rattle.image_loader.specs.Entries.{Entry}
-use Rattle.command_shell.specs.Fronts.{AddsFront}
+use Rattle.profile.specs.Output.{AddsFront}
 use Rattle.command_shell.specs.Script.{script_told}
 use Rattle.command_shell.specs.State.{Answered}
 use Rattle.command_line.specs.declared.options.Settings.{Settings}

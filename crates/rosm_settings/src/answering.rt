@@ -1,7 +1,9 @@
 ghost use Rattle.std.specs.Prelude.{◌≡◌, ◌<◌, false, true, length, Err, IfErr, IfOk, IfSome, IsErr, OnErr, OnOk};
 ghost use Rattle.std.specs.Io.KnownBytes.{Appends};
 ghost use Rattle.profile.specs.Devices.{device_failed, device_inner};
-ghost use Rattle.command_shell.specs.Fronts.{AddsFront, HasSome};
+ghost use Rattle.profile.specs.Pulls.{PullsAtMost};
+ghost use Rattle.profile.specs.Output.{AddsFront};
+ghost use Rattle.command_shell.specs.Fronts.{HasSome};
 ghost use Rattle.rosm_settings.specs.Answering.{AnswersScript, EndsWithin, RefusesFiles, answers_to, is_of_run};
 
 use crate::image_files::add_files;
@@ -92,6 +94,7 @@ pub fn answer_script<R: Source, W: Sink>(
     ensures never_long { IfSome (R.remaining reader.old) (λ script.
         1048576 < length script → IsErr result) }
     ensures same_flag { OnOk result (W.has_failed writer.new ≡ W.has_failed writer.old) }
+    ensures pulls { PullsAtMost (R.pulls reader.old) (R.pulls reader.new) 1048577 }
 {
     let summary = run_script(
         alloc,

@@ -5,7 +5,7 @@ use Rattle.std.proofs.lemmas.List.{append-nil}
 use Rattle.profile.proofs.OutputLemmas.{Appends-join}
 use Rattle.std.specs.Option.{option_map}
 use Rattle.std.specs.Io.KnownBytes.{Appends}
-use Rattle.profile.specs.Output.{AppendsPart}
+use Rattle.profile.specs.Output.{AddsPart}
 use Rattle.profile.specs.declared.stop.Stop.{Stop}
 use Rattle.profile.specs.declared.stop.Stop.TheVariants as stop
 use Rattle.image_loader.specs.Entries.{Entry}
@@ -132,7 +132,7 @@ ends_early images breaks n budget s0 s o0 o1 c0 c1 k x le other ends =
 
 pub stands_more : (images : List Entry) (breaks : List ℕ) (s0 s s' : MachineState) (n budget : ℕ) (o0 o1 o2 : List ℕ) (c0 c1 c2 : Option (List ℕ)) → n < budget
     → Ends (ran images breaks n s0) s o0 o1 c0 c1 n stop.Budget → s' ≡ (ran images breaks 1 s).now → Some o2 ≡ (ran images breaks 1 s).last
-    → AppendsPart c1 c2 o2 → StandsAfter images breaks budget s0 s' o2 c0 c2
+    → AddsPart c1 c2 o2 → StandsAfter images breaks budget s0 s' o2 c0 c2
 stands_more images breaks s0 s s' n budget o0 o1 o2 c0 c1 c2 lt done one last part =
     let e = steps_more images breaks s0 s n 1 (sym done.stop) done.machine in
     let later_one : Some o2 ≡ later (ran images breaks n s0).last (ran images breaks 1 s).last =

@@ -1,7 +1,7 @@
 -- How a call that runs the machine ends, by the run that it stands for.
 use Rattle.std.specs.Prelude.{◌≡◌, ◌<◌, ◌+◌, ℕ, List, Option, Some}
 use Rattle.std.specs.Io.KnownBytes.{Appends}
-use Rattle.profile.specs.Output.{AppendsPart}
+use Rattle.profile.specs.Output.{AddsPart}
 use Rattle.profile.specs.declared.stop.Stop.{Stop}
 use Rattle.profile.specs.declared.stop.Stop.TheVariants as stop
 use Rattle.image_loader.specs.Entries.{Entry}
@@ -27,4 +27,4 @@ pub record StandsAfter (images : List Entry) (breaks : List ℕ) (budget : ℕ) 
   pub shows : Some output ≡ (ran images breaks (taken + 1) start).last
   pub between : Option (List ℕ)
   pub written : Appends before between (ran images breaks taken start).printed
-  pub part : AppendsPart between after output
+  pub part : AddsPart between after output

@@ -4,7 +4,7 @@ ghost use Rattle.std.specs.Option.{option_map};
 ghost use Rattle.swi_dispatch.specs.Parts.{state_of, IsWellFormed, OnlyState};
 ghost use Rattle.swi_dispatch.specs.Run.{ran, stop_after, count_after, last_or, quiet_run};
 ghost use Rattle.swi_dispatch.specs.MachineState.{stop_of};
-ghost use Rattle.profile.specs.Output.{AppendsPart};
+ghost use Rattle.profile.specs.Output.{AddsPart};
 ghost use Rattle.swi_dispatch.specs.Ending.{Ends, StandsAfter};
 
 use crate::machine::Machine;
@@ -138,7 +138,7 @@ impl Machine {
         ensures well_formed { IsWellFormed self.new }
         ensures stands { OnErr result (state_of self.new ≡ (ran images.now breaks.now 1 (state_of self.old)).now) }
         ensures output { OnErr result (Some self.new.printed ≡ (ran images.now breaks.now 1 (state_of self.old)).last) }
-        ensures part { OnErr result (AppendsPart (W.contents sink.old) (W.contents sink.new) self.new.printed) }
+        ensures part { OnErr result (AddsPart (W.contents sink.old) (W.contents sink.new) self.new.printed) }
         ensures flag { OnErr result (W.has_failed sink.new ≡ true) }
         ensures same_flag { OnOk result (W.has_failed sink.new ≡ W.has_failed sink.old) }
     {

@@ -5,7 +5,7 @@ use Rattle.command_shell_lines.specs.Requests.{request_of_command}
 use Rattle.command_shell.specs.Script.{lines_told, request_told}
 use Rattle.command_shell.specs.Session.{script_state}
 use Rattle.command_shell.specs.State.{ScriptState}
-use Rattle.command_shell.proofs.FrontLemmas.{AddsAllBut-more}
+use Rattle.profile.proofs.OutputLemmas.{AddsAllBut-more}
 use Rattle.command_shell.proofs.ImageLemmas.{at_err, front_more, line_keeps, stops_at}
 use Rattle.command_shell.proofs.ScriptLemmas.{fewer_left, state_step, text_step}
 use Rattle.command_shell.proofs.script.run_lines.Goals as goal

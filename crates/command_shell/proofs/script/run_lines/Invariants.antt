@@ -1,6 +1,7 @@
 use Rattle.std.proofs.Common.{◌≡◌, None, length}
 use Rattle.std.specs.Str.Lines.{lines}
-use Rattle.command_shell.specs.Fronts.{AddsAllBut, IsFront}
+use Rattle.profile.specs.Output.{AddsAllBut}
+use Rattle.command_shell.specs.Fronts.{IsFront}
 use Rattle.command_shell.specs.Script.{lines_told}
 use Rattle.command_shell.specs.Session.{script_state}
 use Rattle.command_shell.proofs.script.run_lines.Given as goal

@@ -1,12 +1,12 @@
 use Rattle.std.proofs.Common.{◌≡◌}
-use Rattle.profile.specs.Output.{Completes}
+use Rattle.profile.specs.Output.{AddsAllBut}
 use Rattle.address_map.specs.Memory.{bytes_of}
 use Rattle.debugger.specs.Memory.{memory_text}
 use Rattle.debugger.proofs.memory.show_memory.Given as goal
 
 abbrev pub invariant-loop-left : goal.invariant-loop-left
 invariant-loop-left g l = record {
-  text : Completes (g.W.Sink.contents l.fn.sink) (g.W.Sink.contents l.sink) (memory_text (bytes_of l.map) l.at l.left)
+  text : AddsAllBut (g.W.Sink.contents l.fn.sink) (g.W.Sink.contents l.sink) (memory_text (bytes_of l.map) l.at l.left)
       (memory_text (bytes_of l.map) l.address l.count);
   same_flag : g.W.Sink.has_failed l.sink ≡ g.W.Sink.has_failed l.fn.sink;
 }

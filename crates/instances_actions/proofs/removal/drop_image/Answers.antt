@@ -1,29 +1,30 @@
+use Rattle.std.proofs.Common.{sym, ◌∙◌}
 use Rattle.instances_ground.specs.os_heap.specs.Store.{store_of}
 use Rattle.instances_ground.specs.rma.specs.Images.{image_dropped, image_freed}
 use Rattle.instances_ground.specs.World.{image_gone}
 use Rattle.instances_actions.proofs.Estates.{estate_with, others_dropped, others_freed, pages_less}
 use Rattle.instances_actions.proofs.removal.drop_image.Goals as goal
 
-pub returns-then-image-clause-estate : goal.returns-then-image-clause-estate
+pub returns-then-is_in_module_area-clause-estate : goal.returns-then-is_in_module_area-clause-estate
 unfolding image_gone
-returns-then-image-clause-estate c = λ l.
-    rw c.if-image.true (estate_with c.args.map.now c.free_image.new.map l (image_freed (store_of c.args.map.now) c.args.image.at)
+returns-then-is_in_module_area-clause-estate c = λ l.
+    rw (sym c.is_in_module_area.ensures ∙ c.if-is_in_module_area.true) (estate_with c.args.map.now c.free_image.new.map l (image_freed (store_of c.args.map.now) c.args.image.at)
     c.free_image.ensures.store c.free_image.ensures.mapping)
 
-pub returns-else-image-clause-estate : goal.returns-else-image-clause-estate
+pub returns-else-is_in_module_area-clause-estate : goal.returns-else-is_in_module_area-clause-estate
 unfolding image_gone
-returns-else-image-clause-estate c = λ l.
-    rw c.if-image.false (estate_with c.args.map.now c.drop_image.new.map l (image_dropped (store_of c.args.map.now) c.args.image.at)
+returns-else-is_in_module_area-clause-estate c = λ l.
+    rw (sym c.is_in_module_area.ensures ∙ c.if-is_in_module_area.false) (estate_with c.args.map.now c.drop_image.new.map l (image_dropped (store_of c.args.map.now) c.args.image.at)
     c.drop_image.ensures.store c.drop_image.ensures.mapping)
 
-pub returns-then-image-clause-pages : goal.returns-then-image-clause-pages
-returns-then-image-clause-pages c =
+pub returns-then-is_in_module_area-clause-pages : goal.returns-then-is_in_module_area-clause-pages
+returns-then-is_in_module_area-clause-pages c =
     pages_less c.args.map.now c.free_image.new.map c.args.image.at
     (others_freed (store_of c.args.map.now) (store_of c.free_image.new.map) c.args.image.at c.free_image.ensures.store)
     c.free_image.ensures.mapping c.free_image.ensures.sound c.requires.system
 
-pub returns-else-image-clause-pages : goal.returns-else-image-clause-pages
-returns-else-image-clause-pages c =
+pub returns-else-is_in_module_area-clause-pages : goal.returns-else-is_in_module_area-clause-pages
+returns-else-is_in_module_area-clause-pages c =
     pages_less c.args.map.now c.drop_image.new.map c.args.image.at
     (others_dropped (store_of c.args.map.now) (store_of c.drop_image.new.map) c.args.image.at c.drop_image.ensures.store)
     c.drop_image.ensures.mapping c.drop_image.ensures.sound c.requires.system

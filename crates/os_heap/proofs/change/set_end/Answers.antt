@@ -8,6 +8,7 @@ use Rattle.os_heap.proofs.Added.{CanHold, can_hold, range_end}
 use Rattle.os_heap.proofs.Ending.{EndsAt, store_ended, sound_ended, classes_ended}
 use Rattle.os_heap.proofs.Found.{found_at}
 use Rattle.os_heap.proofs.Frame.{layout-regions}
+use Rattle.os_heap.proofs.Order.{end_order}
 use Rattle.os_heap.proofs.Tally.{heap_below}
 use Rattle.os_heap.proofs.change.set_end.Goals as goal
 
@@ -83,3 +84,9 @@ returns-clause-kept c =
       others = ap (λ s. s.others) (returns-clause-store c);
       mapping = c.set_len.ensures.mapping ∙ layout-mapping _ _ c.put.ensures.layout;
     }
+
+pub returns-clause-order : goal.returns-clause-order
+returns-clause-order c =
+    let r = c.args.region.now in
+    let records = rw (layout-regions c.args.map.now c.put.new.map c.put.ensures.layout) at c.set_len.ensures.regions in
+    end_order c.args.map.now c.set_len.new.self r.kind r.at c.args.end records

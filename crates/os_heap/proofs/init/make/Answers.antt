@@ -16,6 +16,7 @@ use Rattle.os_heap.proofs.Frame.{layout-regions}
 use Rattle.os_heap.proofs.Added.{begun_unflexed, CanHold, can_hold, range_end, recorded, store_begun, begun_sound, classes_begun}
 use Rattle.os_heap.proofs.Limits.{records_room}
 use Rattle.os_heap.proofs.Marking.{heap_unmarked}
+use Rattle.os_heap.proofs.Order.{order_added}
 use Rattle.os_heap.proofs.Writing.{still_mapped}
 use Rattle.os_heap.proofs.init.make.Goals as goal
 
@@ -90,3 +91,10 @@ returns-clause-kept c =
       others = ap (λ s. s.others) store;
       mapping = c.own.ensures.mapping ∙ layout-mapping _ _ (c.mark_descriptor.ensures.layout ∙ c.write_descriptor.ensures.layout);
     }
+
+pub returns-clause-order : goal.returns-clause-order
+returns-clause-order c =
+    let r : Region = record { kind = c.args.kind; at = c.args.heap; len = c.args.size } in
+    order_added c.args.map.now c.own.new.self r (
+    c.own.ensures.regions ∙ recorded (regions c.mark_descriptor.new.map) c.args.kind c.args.heap c.args.size c.requires.kind
+    ∙ ap (λ rs. rs ++ r ∷ []) (layout-regions _ _ (c.mark_descriptor.ensures.layout ∙ c.write_descriptor.ensures.layout)))

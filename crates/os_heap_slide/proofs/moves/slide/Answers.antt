@@ -2,6 +2,7 @@ use Rattle.std.proofs.Common.{List, ◌∙◌, ap, sym, subst}
 use Rattle.address_map.specs.Memory.{regions}
 use Rattle.address_map.specs.Moves.{AreDown, moved_regions}
 use Rattle.address_map.specs.declared.follow.Move.{Move}
+use Rattle.os_heap.proofs.Frame.{layout-regions}
 use Rattle.os_heap_slide.proofs.Ending.{blocks_here, done_here, down_here, heap_here, here, slid_here}
 use Rattle.os_heap_slide.proofs.moves.slide.Goals as goal
 
@@ -54,3 +55,8 @@ returns-clause-classes c =
       bytes = c.follow.ensures.bytes;
       marks = c.follow.ensures.marks;
     })).classes
+
+pub returns-clause-regions : goal.returns-clause-regions
+returns-clause-regions c =
+    c.follow.ensures.regions ∙ ap (λ (ms : List Move). moved_regions ms (regions c.slide_items-moves.new.map)) c.as_slice.ensures.value
+    ∙ ap (moved_regions c.slide_items-moves.result.items) (layout-regions _ _ c.slide_items-moves.ensures.same)

@@ -1,7 +1,9 @@
 use Rattle.std.proofs.Common.{◌∙◌, ◌≡◌, ◌+◌, Ok, arith}
+use Rattle.os_heap.specs.os_heap_lists.specs.Lists.{total_for}
 use Rattle.os_heap.specs.Calls.{got}
 use Rattle.os_heap.specs.Store.{store_of}
 use Rattle.os_heap.proofs.Frame.{layout-others}
+use Rattle.os_heap.proofs.Order.{order_laid}
 use Rattle.flex_kept.specs.dynamic_areas.specs.Ground.{Estate, estate_of}
 use Rattle.flex_kept.specs.dynamic_areas.proofs.HeapCalls.{areas_written}
 use Rattle.flex_kept.proofs.Heaps.{got_keeps, got_unanchored}
@@ -10,7 +12,7 @@ use Rattle.rma.specs.Calls.{grown_to}
 use Rattle.rma.proofs.Estates.{is_done}
 use Rattle.rma.proofs.ExtendLemmas.{claim_done}
 use Rattle.rma.proofs.GrowthLemmas.{is_grown, leaves_done}
-use Rattle.rma.proofs.NewImageLemmas.{block_made}
+use Rattle.rma.proofs.NewImageLemmas.{block_made, live_inside}
 use Rattle.rma.proofs.claim.claim_grown.Goals as goal
 
 pub returns-in-Ok-clause-estate : goal.returns-in-Ok-clause-estate
@@ -61,3 +63,13 @@ pub returns-in-Ok-clause-unanchored : goal.returns-in-Ok-clause-unanchored
 returns-in-Ok-clause-unanchored c =
     let given = rw c.in-Ok.is at c.get.ensures.store in
     got_unanchored (store_of c.grow_to.new.map) (store_of c.get.new.map) 0x01800000 c.args.size (Ok c.in-Ok.block) c.grow_to.ensures.estate.ground.sound given
+
+pub returns-in-Ok-clause-order : goal.returns-in-Ok-clause-order
+returns-in-Ok-clause-order c = order_laid c.grow_to.new.map c.get.new.map c.get.ensures.layout ∙ c.grow_to.ensures.order
+
+pub returns-in-Err-clause-order : goal.returns-in-Err-clause-order
+returns-in-Err-clause-order c = order_laid c.grow_to.new.map c.get.new.map c.get.ensures.layout ∙ c.grow_to.ensures.order
+
+pub returns-in-Ok-clause-inside : goal.returns-in-Ok-clause-inside
+returns-in-Ok-clause-inside c =
+    live_inside (estate_of c.get.new.map c.grow_to.new.areas) c.in-Ok.block (total_for c.args.size) (returns-in-Ok-clause-estate c) (returns-in-Ok-clause-live c)

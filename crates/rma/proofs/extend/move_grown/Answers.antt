@@ -2,6 +2,7 @@ use Rattle.std.proofs.Common.{◌≡◌, Ok, sym, ap, ◌∙◌}
 use Rattle.os_heap.specs.Calls.{block_sized, resized}
 use Rattle.os_heap.specs.Store.{store_of}
 use Rattle.os_heap.proofs.Frame.{layout-others}
+use Rattle.os_heap.proofs.Order.{order_laid}
 use Rattle.flex_kept.specs.dynamic_areas.specs.Ground.{Estate, estate_of}
 use Rattle.flex_kept.specs.dynamic_areas.proofs.HeapCalls.{areas_written}
 use Rattle.flex_kept.proofs.Heaps.{resized_keeps}
@@ -44,3 +45,9 @@ returns-in-Err-clause-flex c =
     keeps_then (store_of c.args.map.now) (store_of c.grow_to.new.map) (store_of c.resize.new.map) c.grow_to.ensures.flex
     (resized_keeps (store_of c.grow_to.new.map) (store_of c.resize.new.map) 0x01800000 c.args.block c.args.change c.resize.result.answer
     c.grow_to.ensures.estate.ground.sound c.resize.ensures.sound c.resize.ensures.store)
+
+pub returns-in-Ok-clause-order : goal.returns-in-Ok-clause-order
+returns-in-Ok-clause-order c = order_laid c.grow_to.new.map c.resize.new.map c.resize.ensures.layout ∙ c.grow_to.ensures.order
+
+pub returns-in-Err-clause-order : goal.returns-in-Err-clause-order
+returns-in-Err-clause-order c = order_laid c.grow_to.new.map c.resize.new.map c.resize.ensures.layout ∙ c.grow_to.ensures.order

@@ -1,5 +1,5 @@
 use Rattle.std.proofs.Common.{◌≡◌}
-use Rattle.profile.specs.Output.{Completes}
+use Rattle.profile.specs.Output.{AddsAllBut}
 use Rattle.command_shell.specs.Calls.{finished}
 use Rattle.command_shell.specs.Session.{script_state}
 use Rattle.command_shell.proofs.CallLemmas.{steps_left}
@@ -11,7 +11,7 @@ invariant-loop-end g l =
     let start = script_state l.fn.self l.images in
     let now = script_state l.self l.images in
     record {
-      text : Completes (g.W.Sink.contents l.fn.sink) (g.W.Sink.contents l.sink) (finished l.frames now.left now).text
+      text : AddsAllBut (g.W.Sink.contents l.fn.sink) (g.W.Sink.contents l.sink) (finished l.frames now.left now).text
           (finished l.frames start.left start).text;
       state : (finished l.frames now.left now).state ≡ (finished l.frames start.left start).state;
       same_flag : g.W.Sink.has_failed l.sink ≡ g.W.Sink.has_failed l.fn.sink;

@@ -1,6 +1,7 @@
-use Rattle.std.proofs.Common.{◌≡◌, ℕ, ◌+◌, ◌*◌, Some, refl, sym, ap, subst, arith}
+use Rattle.std.proofs.Common.{◌≡◌, ℕ, ◌+◌, ◌*◌, ◌∙◌, Some, refl, sym, ap, subst, arith}
 use Rattle.address_map.specs.Memory.{Mapping, free_pages}
 use Rattle.os_heap.specs.Calls.{ending}
+use Rattle.os_heap.proofs.Order.{order_kept}
 use Rattle.os_heap.specs.Store.{Store, store_of, find_heap, IsSound}
 use Rattle.dynamic_areas.specs.Areas.{find_area, paged, with_pages}
 use Rattle.dynamic_areas.specs.Rooms.{IsRoom}
@@ -80,3 +81,10 @@ returns-else-number-eq-MODULE_AREA-clause-areas c =
       heap = rw (heaps, land, find_paged_other c.args.number (a.pages + c.args.count) 1 c.args.self.now.areas c.if-number-eq-MODULE_AREA.false)
           c.requires.areas.heap;
     }
+
+pub returns-then-number-eq-MODULE_AREA-clause-order : goal.returns-then-number-eq-MODULE_AREA-clause-order
+returns-then-number-eq-MODULE_AREA-clause-order c =
+    c.set_module_area_end.ensures.order ∙ order_kept c.args.map.now c.grow.new.map c.grow.ensures.regions
+
+pub returns-else-number-eq-MODULE_AREA-clause-order : goal.returns-else-number-eq-MODULE_AREA-clause-order
+returns-else-number-eq-MODULE_AREA-clause-order c = order_kept c.args.map.now c.grow.new.map c.grow.ensures.regions

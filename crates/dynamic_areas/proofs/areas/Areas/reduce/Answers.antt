@@ -1,6 +1,8 @@
 use Rattle.std.proofs.Common.{◌≡◌, ℕ, ◌-◌, ◌*◌, ◌≤◌, Some, refl, sym, ap, subst, ◌∙◌, arith}
 use Rattle.address_map.specs.Memory.{free_pages}
 use Rattle.os_heap.specs.Calls.{ending}
+use Rattle.os_heap.specs.Order.{KeepsOrder}
+use Rattle.os_heap.proofs.Order.{order_kept}
 use Rattle.os_heap.specs.Store.{Store, store_of}
 use Rattle.dynamic_areas.specs.declared.area.Area.{Area}
 use Rattle.dynamic_areas.specs.Areas.{find_area, paged, with_pages}
@@ -92,3 +94,11 @@ returns-clause-areas c =
             c.requires.areas.heap
       ];
     }
+
+pub returns-clause-order : goal.returns-clause-order
+returns-clause-order c =
+    let ended : KeepsOrder c.args.map.now c.if-number-eq-MODULE_AREA.map = elim c.if-number-eq-MODULE_AREA.branch [
+      | then-number-eq-MODULE_AREA w ↦ rw w.map-is w.set_module_area_end.ensures.order
+      | else-number-eq-MODULE_AREA w ↦ rw w.map-is refl
+    ] in
+    order_kept c.if-number-eq-MODULE_AREA.map c.shrink.new.map c.shrink.ensures.regions ∙ ended

@@ -24,4 +24,4 @@ pub returns-clause-sound : goal.returns-clause-sound
 returns-clause-sound c =
     rw c.adding_plan.ensures.pending
     (world_with_block (world_of c.args.map.now c.args.areas.now c.args.self.now) (world_of c.copy_image.new.map c.copy_image.new.areas c.args.self.now)
-    c.in_ok-copy.copy c.args.len c.requires.sound refl c.in_ok-copy.ensures.whole c.in_ok-copy.ensures.alone c.in_ok-copy.ensures.others c.copy_image.ensures.estate)
+    c.in_ok-copy.copy c.args.len c.requires.sound refl c.in_ok-copy.ensures.whole c.in_ok-copy.ensures.inside c.in_ok-copy.ensures.alone c.in_ok-copy.ensures.others c.copy_image.ensures.estate)

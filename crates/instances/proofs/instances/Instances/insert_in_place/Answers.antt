@@ -4,8 +4,9 @@ use Rattle.instances_slide.specs.dynamic_areas.specs.Ground.{Estate}
 use Rattle.instances_slide.specs.rma.specs.NewImages.{may_be_in_place}
 use Rattle.instances_slide.specs.rma.proofs.InPlaceLemmas.{may_be}
 use Rattle.instances_slide.specs.instances_ground.specs.World.{world_of}
-use Rattle.instances_slide.specs.instances_ground.proofs.Worlds.{few_records, world_more}
+use Rattle.instances_slide.specs.instances_ground.proofs.Worlds.{few_records}
 use Rattle.instances.specs.Adding.{inserting}
+use Rattle.instances.proofs.AddingLemmas.{world_in_place}
 use Rattle.instances.proofs.instances.Instances.insert_in_place.Goals as goal
 
 pub header_at-requires : goal.header_at-requires
@@ -22,9 +23,9 @@ pub returns-clause-sound : goal.returns-clause-sound
 returns-clause-sound c =
     let may : may_be_in_place (store_of c.args.map.now) c.args.at c.args.len ≡ true = sym c.may_be_in_place.ensures ∙ c.if-not-may_be_in_place.false in
     rw c.adding_plan.ensures.pending
-    (world_more (world_of c.args.map.now c.args.areas.now c.args.self.now) (world_of c.record_in_place.new.map c.args.areas.now c.args.self.now)
-    (record { at = c.args.at; len = c.args.len; in_rma = false }) [] c.requires.sound refl (ap (λ (e : Estate). e.store.others) (c.record_in_place.ensures.placed c.args.areas.now))
-    c.in_ok-header.ensures.some (may_be (store_of c.args.map.now) c.args.at c.args.len may).aligned (c.record_in_place.ensures.estate c.args.areas.now c.requires.sound.estate))
+    (world_in_place (world_of c.args.map.now c.args.areas.now c.args.self.now) (world_of c.record_in_place.new.map c.args.areas.now c.args.self.now)
+    c.args.at c.args.len c.requires.sound refl may c.in_ok-header.ensures.some
+    (ap (λ (e : Estate). e.store) (c.record_in_place.ensures.placed c.args.areas.now)) (c.record_in_place.ensures.estate c.args.areas.now c.requires.sound.estate))
 
 pub returns-clause-world : goal.returns-clause-world
 unfolding inserting

@@ -12,4 +12,4 @@ pub returns-clause-sound : goal.returns-clause-sound
 returns-clause-sound c =
     rw c.adding_plan.ensures.pending
     (world_with_block (world_of c.args.map.now c.args.areas.now c.args.self.now) (world_of c.make_image.new.map c.make_image.new.areas c.args.self.now)
-    c.in_ok-at.at (length c.args.image.now) c.requires.sound refl c.in_ok-at.ensures.whole c.in_ok-at.ensures.alone c.in_ok-at.ensures.others c.make_image.ensures.estate)
+    c.in_ok-at.at (length c.args.image.now) c.requires.sound refl c.in_ok-at.ensures.whole c.in_ok-at.ensures.inside c.in_ok-at.ensures.alone c.in_ok-at.ensures.others c.make_image.ensures.estate)

@@ -4,13 +4,14 @@ use Rattle.os_heap.specs.os_heap_lists.specs.Lists.{total_for}
 use Rattle.os_heap.specs.Calls.{got}
 use Rattle.os_heap.specs.Store.{Store, store_of}
 use Rattle.os_heap.proofs.Frame.{layout-others}
+use Rattle.os_heap.proofs.Order.{order_laid}
 use Rattle.flex_kept.specs.dynamic_areas.specs.Ground.{Estate, estate_of}
 use Rattle.flex_kept.specs.dynamic_areas.proofs.HeapCalls.{areas_written}
 use Rattle.flex_kept.proofs.Heaps.{got_keeps, got_unanchored}
 use Rattle.flex_kept.proofs.Keeping.{keeps_then}
 use Rattle.rma.specs.Calls.{in_grown_area, is_no_room, rma_base, rma_claimed}
 use Rattle.rma.proofs.Estates.{estate_same, full_where, or_done, or_refused, store_kept}
-use Rattle.rma.proofs.NewImageLemmas.{block_made}
+use Rattle.rma.proofs.NewImageLemmas.{block_made, live_inside}
 use Rattle.rma.proofs.area.Rma.claim.Goals as goal
 
 pub returns-in-Ok-clause-claimed : goal.returns-in-Ok-clause-claimed
@@ -84,3 +85,16 @@ pub returns-in-Ok-clause-unanchored : goal.returns-in-Ok-clause-unanchored
 returns-in-Ok-clause-unanchored c =
     let given = rw c.in-Ok.is at c.get.ensures.store in
     got_unanchored (store_of c.args.map.now) (store_of c.get.new.map) 0x01800000 c.args.size (Ok c.in-Ok.block) c.requires.estate.ground.sound given
+
+pub returns-in-Ok-clause-order : goal.returns-in-Ok-clause-order
+returns-in-Ok-clause-order c = order_laid c.args.map.now c.get.new.map c.get.ensures.layout
+
+pub returns-in-Err-clause-order : goal.returns-in-Err-clause-order
+returns-in-Err-clause-order c = c.claim_grown.ensures.order ∙ order_laid c.args.map.now c.get.new.map c.get.ensures.layout
+
+pub returns-in-Err-2-clause-order : goal.returns-in-Err-2-clause-order
+returns-in-Err-2-clause-order c = order_laid c.args.map.now c.get.new.map c.get.ensures.layout
+
+pub returns-in-Ok-clause-inside : goal.returns-in-Ok-clause-inside
+returns-in-Ok-clause-inside c =
+    live_inside (estate_of c.get.new.map c.args.areas.now) c.in-Ok.block (total_for c.args.size) (returns-in-Ok-clause-estate c) (returns-in-Ok-clause-live c)

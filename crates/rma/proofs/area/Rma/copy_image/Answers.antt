@@ -2,7 +2,7 @@ use Rattle.std.proofs.Common.{ap}
 use Rattle.os_heap.specs.os_heap_lists.specs.Lists.{total_for}
 use Rattle.os_heap.specs.Store.{Store, store_of}
 use Rattle.rma.proofs.FlexLemmas.{made_keeps}
-use Rattle.rma.proofs.NewImageLemmas.{live_whole, made_others}
+use Rattle.rma.proofs.NewImageLemmas.{live_whole, made_order, made_others}
 use Rattle.rma.proofs.area.Rma.copy_image.Goals as goal
 
 pub returns-clause-others : goal.returns-clause-others
@@ -20,3 +20,9 @@ returns-clause-flex c =
 pub returns-clause-whole : goal.returns-clause-whole
 returns-clause-whole c =
     live_whole (store_of c.claim.new.map) c.in_ok-block.block (total_for c.args.len) c.claim.ensures.estate.ground.sound c.in_ok-block.ensures.live
+
+pub returns-clause-order : goal.returns-clause-order
+returns-clause-order c =
+    made_order c.args.map.now c.claim.new.map c.fill_from.new.map c.record_image.new.map c.in_ok-block.block
+    (total_for c.args.len) c.in_ok-block.ensures.live c.claim.ensures.others (ap (λ (s : Store). s.heaps) c.fill_from.ensures.store)
+    (ap (λ (s : Store). s.others) c.fill_from.ensures.store) c.claim.ensures.order c.fill_from.ensures.layout c.record_image.ensures.order

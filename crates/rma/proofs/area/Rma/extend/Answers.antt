@@ -4,6 +4,7 @@ use Rattle.profile.specs.Outcome.{Gives}
 use Rattle.os_heap.specs.Calls.{block_sized, resized}
 use Rattle.os_heap.specs.Store.{Store, store_of}
 use Rattle.os_heap.proofs.Frame.{layout-others}
+use Rattle.os_heap.proofs.Order.{order_laid}
 use Rattle.flex_kept.specs.dynamic_areas.specs.Ground.{Estate, estate_of}
 use Rattle.flex_kept.specs.dynamic_areas.proofs.HeapCalls.{areas_written}
 use Rattle.flex_kept.proofs.Heaps.{resized_keeps}
@@ -107,3 +108,15 @@ returns-in-Err-2-clause-flex c =
     keeps_then (store_of c.args.map.now) (store_of c.grow_in_place.new.map) (store_of c.resize.new.map) c.grow_in_place.ensures.flex
     (resized_keeps (store_of c.grow_in_place.new.map) (store_of c.resize.new.map) 0x01800000 c.args.block c.args.change c.resize.result.answer
     c.grow_in_place.ensures.estate.ground.sound c.resize.ensures.sound c.resize.ensures.store)
+
+pub returns-in-Ok-clause-order : goal.returns-in-Ok-clause-order
+returns-in-Ok-clause-order c =
+    order_laid c.grow_in_place.new.map c.resize.new.map c.resize.ensures.layout ∙ c.grow_in_place.ensures.order
+
+pub returns-in-Err-clause-order : goal.returns-in-Err-clause-order
+returns-in-Err-clause-order c =
+    c.move_grown.ensures.order ∙ order_laid c.grow_in_place.new.map c.resize.new.map c.resize.ensures.layout ∙ c.grow_in_place.ensures.order
+
+pub returns-in-Err-2-clause-order : goal.returns-in-Err-2-clause-order
+returns-in-Err-2-clause-order c =
+    order_laid c.grow_in_place.new.map c.resize.new.map c.resize.ensures.layout ∙ c.grow_in_place.ensures.order

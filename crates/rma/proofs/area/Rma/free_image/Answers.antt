@@ -1,6 +1,7 @@
-use Rattle.std.proofs.Common.{◌≡◌, subst}
+use Rattle.std.proofs.Common.{◌≡◌, ◌∙◌, subst}
 use Rattle.os_heap.specs.Calls.{gave_back}
 use Rattle.os_heap.specs.Store.{Store, store_of}
+use Rattle.os_heap.proofs.Frame.{layout-regions}
 use Rattle.flex_kept.specs.dynamic_areas.proofs.HeapCalls.{areas_written}
 use Rattle.flex_kept.proofs.Heaps.{freed_keeps}
 use Rattle.flex_kept.proofs.Keeping.{keeps_then}
@@ -25,3 +26,6 @@ returns-clause-flex c =
     let s : Store = store_of c.drop_image.new.map in
     keeps_then (store_of c.args.map.now) s (store_of c.free.new.map) c.drop_image.ensures.flex
     (freed_keeps s (store_of c.free.new.map) 0x01800000 c.args.at c.free.result.answer c.drop_image.ensures.sound c.free.ensures.sound c.free.ensures.store)
+
+pub returns-clause-regions : goal.returns-clause-regions
+returns-clause-regions c = layout-regions c.drop_image.new.map c.free.new.map c.free.ensures.layout ∙ c.drop_image.ensures.regions

@@ -5,7 +5,7 @@ use Rattle.flex_kept.specs.dynamic_areas.specs.Ground.{estate_of}
 use Rattle.rma.specs.NewImages.{image_made}
 use Rattle.flex_kept.proofs.Keeping.{keeps_same}
 use Rattle.rma.proofs.FlexLemmas.{made_keeps}
-use Rattle.rma.proofs.NewImageLemmas.{claim_refused, live_whole, made_others}
+use Rattle.rma.proofs.NewImageLemmas.{claim_refused, live_whole, made_order, made_others}
 use Rattle.rma.proofs.area.Rma.make_image.Goals as goal
 
 pub returns-then-image-clause-made : goal.returns-then-image-clause-made
@@ -31,3 +31,9 @@ returns-then-image-clause-flex c = keeps_same (store_of c.args.map.now)
 pub returns-clause-whole : goal.returns-clause-whole
 returns-clause-whole c =
     live_whole (store_of c.claim.new.map) c.in_ok-block.block (total_for (length c.args.image.now)) c.claim.ensures.estate.ground.sound c.in_ok-block.ensures.live
+
+pub returns-clause-order : goal.returns-clause-order
+returns-clause-order c =
+    made_order c.args.map.now c.claim.new.map c.fill.new.map c.record_image.new.map c.in_ok-block.block
+    (total_for (length c.args.image.now)) c.in_ok-block.ensures.live c.claim.ensures.others (ap (λ (s : Store). s.heaps) c.fill.ensures.store)
+    (ap (λ (s : Store). s.others) c.fill.ensures.store) c.claim.ensures.order c.fill.ensures.layout c.record_image.ensures.order

@@ -6,6 +6,7 @@ use Rattle.os_heap.specs.Calls.{block_sized}
 use Rattle.os_heap.specs.Store.{IsSound, Store, store_of}
 use Rattle.os_heap.proofs.Limits.{range_room}
 use Rattle.os_heap.proofs.Frame.{classes_same}
+use Rattle.os_heap.proofs.Order.{order_added}
 use Rattle.os_heap.proofs.Recorded.{store_recorded}
 use Rattle.flex_kept.specs.Keeping.{KeepsFlex}
 use Rattle.flex_kept.proofs.Keeping.{keeps_same}
@@ -77,3 +78,12 @@ returns-in-Ok-clause-flex c = λ unanchored.
 
 pub returns-in-Err-clause-flex : goal.returns-in-Err-clause-flex
 returns-in-Err-clause-flex c = λ unanchored. keeps_same (store_of c.args.map.now)
+
+pub returns-in-Ok-clause-order : goal.returns-in-Ok-clause-order
+returns-in-Ok-clause-order c =
+    let sized : block_sized (store_of c.args.map.now) 0x01800000 c.args.at ≡ Ok c.in-Ok.len = sym c.block_size.ensures.answer ∙ c.in-Ok.is in
+    let r : Region = record { kind = kind.Image; at = c.args.at; len = c.in-Ok.len } in
+    rw sized (order_added c.args.map.now c.own.new.self r c.own.ensures.regions)
+
+pub returns-in-Err-clause-order : goal.returns-in-Err-clause-order
+returns-in-Err-clause-order c = rw (sym c.block_size.ensures.answer ∙ c.in-Err.is) refl

@@ -5,6 +5,7 @@ use Rattle.address_map.specs.declared.region.Region.{Region}
 use Rattle.os_heap.specs.Store.{IsSound, Store, store_of}
 use Rattle.os_heap.proofs.Limits.{range_room}
 use Rattle.os_heap.proofs.Frame.{classes_same}
+use Rattle.os_heap.proofs.Order.{order_added}
 use Rattle.os_heap.proofs.Recorded.{store_recorded}
 use Rattle.flex_kept.specs.Keeping.{KeepsFlex}
 use Rattle.flex_kept.proofs.Writes.{recorded_keeps, unanchored_by}
@@ -58,3 +59,8 @@ returns-clause-flex c =
     (same_bytes c.args.map.now c.own.new.self c.own.ensures.mapping c.own.ensures.bytes) c.own.ensures.marks in
     subst (λ (t : Store). KeepsFlex s t) (sym store)
     (recorded_keeps s c.args.at c.args.len (unanchored_by s c.args.at c.args.len (may_be s c.args.at c.args.len c.requires.may).anchors))
+
+pub returns-clause-order : goal.returns-clause-order
+returns-clause-order c =
+    let r : Region = record { kind = kind.Image; at = c.args.at; len = c.args.len } in
+    order_added c.args.map.now c.own.new.self r c.own.ensures.regions

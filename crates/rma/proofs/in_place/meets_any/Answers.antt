@@ -2,7 +2,7 @@ use Rattle.std.proofs.Common.{◌||◌, sym, ◌∙◌, ap, Bool}
 use Rattle.address_map.specs.Memory.{anchor_of}
 use Rattle.address_map.specs.Records.{anchor_among}
 use Rattle.rma.proofs.InPlaceLemmas.{met_in}
-use Rattle.rma.proofs.in_place.meets_store.Goals as goal
+use Rattle.rma.proofs.in_place.meets_any.Goals as goal
 
 pub returns-then-meets_record : goal.returns-then-meets_record
 returns-then-meets_record c =

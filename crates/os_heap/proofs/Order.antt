@@ -1,0 +1,76 @@
+-- The order of records, where one comes, and where one gets another length; with the two lists of a store it tells the records.
+use Rattle.std.proofs.Common.{◌≡◌, ◌∙◌, ℕ, true, false, List, [], ◌∷◌, ◌++◌, ap, refl, inl, inr, map}
+use Rattle.std.proofs.lemmas.Bool.{cases_Bool}
+use Rattle.address_map.specs.Bytes.{Bytes}
+use Rattle.address_map.specs.Memory.{bytes_of, layout, regions}
+use Rattle.address_map.specs.Records.{is_heap_kind, is_record, with_len}
+use Rattle.address_map.specs.declared.map.AddressMap.{AddressMap}
+use Rattle.address_map.specs.declared.region.Kind.{Kind}
+use Rattle.address_map.specs.declared.region.Region.{Region}
+use Rattle.os_heap_lists.specs.Heap.{HeapList}
+use Rattle.os_heap.proofs.Frame.{layout-regions}
+use Rattle.os_heap.specs.Laws.{RecordsAreTold}
+use Rattle.os_heap.specs.Order.{start_of, KeepsOrder, AddsRecord}
+use Rattle.os_heap.specs.Store.{heap_in, heaps_in, others_in, store_of}
+
+pub order_kept : (m n : AddressMap) → regions n ≡ regions m → KeepsOrder m n
+order_kept m n same = ap (λ (rs : List Region). map start_of rs) same
+
+pub order_laid : (m n : AddressMap) → layout n ≡ layout m → KeepsOrder m n
+order_laid m n same = order_kept m n (layout-regions m n same)
+
+order_more : (rs : List Region) (r : Region) → map start_of (rs ++ r ∷ []) ≡ map start_of rs ++ start_of r ∷ []
+order_more [] r = refl
+order_more (q ∷ rs) r = ap (λ (xs : List (Kind × ℕ)). start_of q ∷ xs) (order_more rs r)
+
+pub order_added : (m n : AddressMap) (r : Region) → regions n ≡ regions m ++ r ∷ [] → AddsRecord m n r.kind r.at
+order_added m n r more = ap (λ (rs : List Region). map start_of rs) more ∙ order_more (regions m) r
+
+order_ended : (rs : List Region) (k : Kind) (at len : ℕ) → map start_of (with_len rs k at len) ≡ map start_of rs
+order_ended [] k at len = refl
+order_ended (r ∷ rs) k at len = elim (cases_Bool (is_record k at r)) [
+  | inl here ↦ rw here refl
+  | inr other ↦ rw other (ap (λ (xs : List (Kind × ℕ)). start_of r ∷ xs) (order_ended rs k at len))
+]
+
+pub end_order : (m n : AddressMap) (k : Kind) (at len : ℕ) → regions n ≡ with_len (regions m) k at len → KeepsOrder m n
+end_order m n k at len ended = ap (λ (rs : List Region). map start_of rs) ended ∙ order_ended (regions m) k at len
+
+-- the records are those of the two lists, in that order
+same_record : (q r : Region) → q.kind ≡ r.kind → q.at ≡ r.at → q.len ≡ r.len → q ≡ r
+same_record q r kind at len = λ i. record { kind = kind i; at = at i; len = len i }
+
+told : (b c : Bytes) (rs qs : List Region) → map start_of qs ≡ map start_of rs → heaps_in c qs ≡ heaps_in b rs → others_in qs ≡ others_in rs → qs ≡ rs
+told b c [] [] order heaps others = refl
+told b c [] (q ∷ qs) order heaps others = absurd (let no : start_of q ∷ map start_of qs ≡ [] = order in cc)
+told b c (r ∷ rs) [] order heaps others = absurd (let no : [] ≡ start_of r ∷ map start_of rs = order in cc)
+told b c (r ∷ rs) (q ∷ qs) order heaps others =
+    let order' : start_of q ∷ map start_of qs ≡ start_of r ∷ map start_of rs = order in
+    let start : start_of q ≡ start_of r = cc in
+    let rest : map start_of qs ≡ map start_of rs = cc in
+    let kind : q.kind ≡ r.kind = ap (λ (x : Kind × ℕ). x.0) start in
+    let at : q.at ≡ r.at = ap (λ (x : Kind × ℕ). x.1) start in
+    elim (cases_Bool (is_heap_kind r.kind)) [
+      | inl heap ↦
+          let own : is_heap_kind q.kind ≡ true = ap is_heap_kind kind ∙ heap in
+          let heaps' : heap_in c q ∷ heaps_in c qs ≡ heap_in b r ∷ heaps_in b rs = rw (own, heap) at heaps in
+          let others' : others_in qs ≡ others_in rs = rw (own, heap) at others in
+          let first : heap_in c q ≡ heap_in b r = cc in
+          let left : heaps_in c qs ≡ heaps_in b rs = cc in
+          let len : q.len ≡ r.len = ap (λ (h : HeapList). h.end) first in
+          let here : q ≡ r = same_record q r kind at len in
+          let behind : qs ≡ rs = told b c rs qs rest left others' in
+          cc
+      | inr plain ↦
+          let own : is_heap_kind q.kind ≡ false = ap is_heap_kind kind ∙ plain in
+          let heaps' : heaps_in c qs ≡ heaps_in b rs = rw (own, plain) at heaps in
+          let others' : q ∷ others_in qs ≡ r ∷ others_in rs = rw (own, plain) at others in
+          let here : q ≡ r = cc in
+          let left : others_in qs ≡ others_in rs = cc in
+          let behind : qs ≡ rs = told b c rs qs rest heaps' left in
+          cc
+    ]
+
+pub records_told : RecordsAreTold
+unfolding store_of
+records_told m n heaps others order = told (bytes_of m) (bytes_of n) (regions m) (regions n) order heaps others
