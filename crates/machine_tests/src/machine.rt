@@ -2,13 +2,14 @@
 
 mod areas;
 mod arguments;
-mod cuts;
-mod heaps;
+pub(crate) mod cuts;
 mod modules;
 mod steps;
+mod worlds;
 
 ghost use Rattle.std.specs.Prelude.{◌≤◌};
 
+use assembler::assemble;
 use debugger::arm_step::Mode;
 use debugger::swi_dispatch::swi_dispatch_answers::strings::text_at;
 use debugger::swi_dispatch::{BootError, Breaks, Machine, TextEnd};
@@ -75,6 +76,20 @@ pub(crate) fn usual_machine(alloc: Global) -> Result<Machine, Fail> {
 fn machine_of(alloc: Global, pages: u32, app: u32, rma: u32) -> Result<Machine, Fail> {
     let config = Config::new(pages, app, rma).ok_or("sizes")?;
     Ok(Machine::new(alloc, config)?)
+}
+
+/// Adds the image that a source means.
+pub(crate) fn add(
+    images: &mut Images,
+    alloc: Global,
+    name: &[u8],
+    source: &str,
+) -> Result<(), Fail> {
+    let program = assemble(alloc, source.as_bytes(), 0)?;
+    images
+        .add(alloc, name, program.bytes())
+        .map_err(|_| "an image")?;
+    Ok(())
 }
 
 /// Does what the lines say, in turn, from a machine of 256 pages on.

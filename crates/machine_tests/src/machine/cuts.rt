@@ -1,7 +1,8 @@
 //! Runs cut in two, by a budget, by a break or by a writer that fails, end as runs in one piece do.
 
-mod programs;
+pub(crate) mod programs;
 
+use crate::machine::add;
 use assembler::{Program, assemble};
 use debugger::arm_step::Mode;
 use debugger::swi_dispatch::{Breaks, Machine, Ran};
@@ -189,15 +190,6 @@ fn run_past(
         }
     }
     Ok(taken)
-}
-
-/// Adds the image that a source means.
-fn add(images: &mut Images, alloc: Global, name: &[u8], source: &str) -> Result<(), Fail> {
-    let program = assemble(alloc, source.as_bytes(), 0)?;
-    images
-        .add(alloc, name, program.bytes())
-        .map_err(|_| "an image")?;
-    Ok(())
 }
 
 /// A module is loaded and called.

@@ -1,10 +1,16 @@
 //! Programs whose runs are cut, and the modules that they load.
 
 /// A module with a SWI that doubles R0.
-pub(super) static DOUBLES: &str = " DCD 0,0,0,0,title,0,0,&40000,swi
+pub(crate) static DOUBLES: &str = " DCD 0,0,0,0,title,0,0,&40000,swi
 swi ADD R0,R0,R0
  MOVS PC,R14
 title DCB \"Dbl\",0
+";
+
+/// A module whose SWI calls itself.
+pub(crate) static CALLS_ITSELF: &str = " DCD 0,0,0,0,title,0,0,&40000,swi
+swi SWI &40000
+title DCB \"F\",0
 ";
 
 /// A module that is a header and a title.
