@@ -80,7 +80,8 @@ impl Case {
         self.error_number().is_some()
     }
 
-    /// The digits of the error's number.
+    /// The digits of the error's number, where it is the first answer. A case whose error is a module's own
+    /// looks at the machine before the call: as an instruction that takes more than a step.
     pub fn error_number(&self) -> Option<&[u8]> {
         let first = self
             .session

@@ -2,6 +2,8 @@
 //! values that it is not meant for, and each case that ends in an error once more, as an instruction.
 //!
 //! `hostile_registers BEGIN FILE...`
+//!
+//! BEGIN is what each case of the files behind it begins with, up to the next file that has no cases.
 #![tactic(auto)]
 
 mod cases;
@@ -39,8 +41,8 @@ fn main(rt: HostRuntime) -> ExitCode {
     }
 }
 
-// Runs each file that the command line names behind the first, which is what each case begins with, and
-// tells whether all cases are as they say.
+// Runs each file that the command line names, behind what its cases begin with, and tells whether all
+// cases are as they say.
 fn run_files<R>(rt: &R) -> anyhow::Result<bool>
 where
     R: AllocGlobal + fs::Files + env::Env + Print,
@@ -51,14 +53,13 @@ where
         stepped: 0,
         good: 0,
     };
-    let mut is_first = true;
     for file in env::args(rt)?.skip(1) {
         let text = fs::read(rt, file.as_str())?;
-        if is_first {
-            begin.take_lines(text.as_slice())?;
-            is_first = false;
-        } else {
+        if text.as_slice().starts_with(b"=== ") {
             run_file(rt, &begin, text.as_slice(), &mut tally)?;
+        } else {
+            begin = Session::empty(rt.alloc());
+            begin.take_lines(text.as_slice())?;
         }
     }
     let Tally { run, stepped, good } = tally;
