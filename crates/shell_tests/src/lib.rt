@@ -1,4 +1,4 @@
-//! Tests of the shell where a reader or a writer fails, memory is refused, or a script is too long, cut off or random.
+//! Tests of the shell where a reader or a writer fails, memory is refused, or a script is too long or random.
 //!
 //! What a script is answered with stands in the transcripts of `worked_scripts`. These tests stand apart
 //! from the crates that they test, since a crate with tests is proved once more with them.
@@ -7,4 +7,4 @@
 #[cfg(test)]
 mod failures;
 #[cfg(test)]
-mod malformed;
+mod random;

@@ -1,17 +1,21 @@
 //! Runs transcripts against the shell: what is typed, and the answer under each line.
 //!
-//! `worked_scripts FILE...`
+//! `worked_scripts FILE... [--malformed FILE...]`
+//!
+//! The script of a transcript behind `--malformed` is cut off behind each of its bytes, too, and changed.
 #![tactic(auto)]
 
 mod difference;
 mod error;
 mod escapes;
 mod lines;
+mod malformed;
 mod run;
 mod settings;
 mod transcript;
 
 use crate::error::TranscriptError;
+use crate::malformed::Runs;
 use crate::run::complaint_of;
 use crate::transcript::Transcript;
 use std::alloc::{AllocError, Global};
@@ -21,6 +25,8 @@ use std::{env, fs};
 const DIFFERS: u8 = 1;
 
 const NOT_RUN: u8 = 2;
+
+const MALFORMED: &str = "--malformed";
 
 fn main(rt: HostRuntime) -> ExitCode {
     match run_files(&rt) {
@@ -40,11 +46,16 @@ where
 {
     let mut run = 0u64;
     let mut good = 0u64;
-    for file in env::args(rt)?.skip(1) {
-        run = run.saturating_add(1);
-        match complaint(rt, file.as_str())? {
-            None => good = good.saturating_add(1),
-            Some(text) => println!(rt; "{file}:{text}")?,
+    let mut is_malformed = false;
+    for word in env::args(rt)?.skip(1) {
+        if word.as_str() == MALFORMED {
+            is_malformed = true;
+        } else {
+            run = run.saturating_add(1);
+            match complaint(rt, word.as_str(), is_malformed)? {
+                None => good = good.saturating_add(1),
+                Some(text) => println!(rt; "{word}:{text}")?,
+            }
         }
     }
     if run == good && run > 0 {
@@ -56,14 +67,14 @@ where
 }
 
 // What is wrong with a file, after its name: the line and what is wrong there.
-fn complaint<R>(rt: &R, file: &str) -> Result<Option<String>, AllocError>
+fn complaint<R>(rt: &R, file: &str, is_malformed: bool) -> Result<Option<String>, AllocError>
 where
     R: AllocGlobal + fs::Files,
 {
     let alloc = rt.alloc();
     match fs::read_to_string(rt, file) {
         Err(error) => told(alloc, TranscriptError::Unreadable(error.kind())),
-        Ok(text) => match answer_of(alloc, text.as_str()) {
+        Ok(text) => match answer_of(alloc, text.as_str(), is_malformed) {
             Ok(complaint) => Ok(complaint),
             Err(error) => told(alloc, error),
         },
@@ -77,7 +88,16 @@ fn told(alloc: Global, error: TranscriptError) -> Result<Option<String>, AllocEr
     }
 }
 
-fn answer_of(alloc: Global, text: &str) -> Result<Option<String>, TranscriptError> {
+fn answer_of(
+    alloc: Global,
+    text: &str,
+    is_malformed: bool,
+) -> Result<Option<String>, TranscriptError> {
     let transcript = Transcript::read(alloc, text)?;
-    complaint_of(alloc, transcript)
+    let runs = Runs::of(&transcript.settings)?;
+    let complaint = complaint_of(alloc, transcript)?;
+    if complaint.is_none() && is_malformed {
+        return malformed::complaint_of(alloc, text, runs);
+    }
+    Ok(complaint)
 }
