@@ -1,5 +1,5 @@
-ghost use Rattle.std.specs.Prelude.{◌≡◌, ◌<◌, ◌≤◌, ◌^◌, ◌%◌, length};
-ghost use Rattle.arm_step.specs.State.{slot_of, register_in, with_register_in, register_of, with_register, r15_of, with_psr, with_pc, with_flags, with_overflow, with_mode, start_state};
+ghost use Rattle.std.specs.Prelude.{◌≡◌, ◌<◌, ◌≤◌, ◌^◌, ◌%◌, ℕ, slice_index};
+ghost use Rattle.arm_step.specs.State.{IsCore, slot_of, register_in, with_register_in, register_of, with_register, r15_of, with_psr, with_pc, with_flags, with_overflow, with_mode, start_state};
 
 use crate::psr::{Mode, Psr};
 use profile::memory_map::{ADDRESS_LIMIT, APPLICATION_START, SVC_STACK_END};
@@ -47,6 +47,15 @@ fn slot(mode: Mode, number: u32) -> usize
     }
 }
 
+// Registers are words.
+fn are_words(file: &[u32; 26])
+    ensures { (k : ℕ) → slice_index file.now k < 2 ^ 32 }
+{
+    for number in 0..26 {
+        let _word = file[number];
+    }
+}
+
 impl Cpu {
     /// The core as the machine starts: USR mode, all flags clear, the program counter at the start
     /// of the application space, every register 0 but R13 of SVC mode.
@@ -71,11 +80,12 @@ impl Cpu {
         }
     }
 
-    /// Every core has 26 registers, those of all banks. The call does nothing but to say so.
-    pub fn has_all_registers(&self)
-        ensures { length self.now.file ≡ 26 }
+    /// Every core has 26 registers, those of all banks, each of them a word, and its program
+    /// counter is a multiple of 4 below 2^26. The call does nothing but to say so.
+    pub fn known(&self)
+        ensures { IsCore self.now }
     {
-        let _file = &self.file;
+        are_words(&self.file);
     }
 
     /// R0 to R14 of a mode, whatever the present one.

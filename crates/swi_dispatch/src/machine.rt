@@ -244,8 +244,7 @@ impl Machine {
     pub fn known(&self)
         ensures { IsMachine self.now }
     {
-        self.cpu.has_all_registers();
-        self.cpu.pc();
+        self.cpu.known();
         self.areas.list();
         self.instances.known();
         self.frames.len();
