@@ -1,5 +1,5 @@
 -- Each register is a word.
-use Rattle.std.proofs.Common.{◌<◌, ◌^◌, ℕ, zero, suc, List, [], ◌∷◌, length, slice_index, arith}
+use Rattle.std.proofs.Common.{◌<◌, ◌^◌, ℕ, zero, suc, List, [], ◌∷◌, slice_index, arith}
 use Rattle.std.specs.List.{All}
 
 pub word_at : (xs : List ℕ) → All (λ w. w < 2 ^ 32) xs → (k : ℕ) → slice_index xs k < 2 ^ 32
