@@ -35,12 +35,12 @@ fn slot(mode: Mode, number: u32) -> usize
     ensures bound { result < 26 }
 {
     let shared = number as usize;
-    // Nearly all steps are of user mode, and all modes share R0 to R7.
-    if shared < 8 || mode == Mode::User {
+    // Nearly all steps are of user mode.
+    if mode == Mode::User {
         return shared;
     }
     match mode {
-        Mode::FastInterrupt => shared + 7,
+        Mode::FastInterrupt if shared >= 8 => shared + 7,
         Mode::Interrupt if shared >= 13 => shared + 9,
         Mode::Supervisor if shared >= 13 => shared + 11,
         _ => shared,
