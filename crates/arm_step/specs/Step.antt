@@ -1,5 +1,5 @@
 -- One step of the core over memory. `owned` says which bytes the store calls keep their records in.
-use Rattle.std.specs.Prelude.{◌≡◌, ℕ, Bool, ◌==◌, if◌then◌else◌, Option, Some, None, Result, Ok, Err}
+use Rattle.std.specs.Prelude.{◌≡◌, ℕ, Bool, ◌==◌, if◌then◌else◌, Some, None, Result, Ok, Err}
 use Rattle.profile.specs.declared.fault.Fault.{Fault}
 use Rattle.profile.specs.declared.fault.Fault.TheVariants.{FetchUnmapped}
 use Rattle.address_map.specs.Bytes.{Bytes, word_loaded}
