@@ -1,0 +1,6 @@
+pub mod ChangedSize
+pub mod DoneCalls
+pub mod KeptHeaps
+pub mod Likeness
+pub mod OwnCalls
+pub mod Plain

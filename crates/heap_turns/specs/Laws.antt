@@ -1,0 +1,70 @@
+-- Calls on a guest's heap are turns of that heap alone, and no other call of OS_Heap changes it.
+use Rattle.std.specs.Prelude.{ℕ, ◌≡◌, ◌+◌, ◌==◌, ◌&&◌, Bool, true, false, Some, Ok}
+use Rattle.profile.specs.declared.reason.HeapReason.{HeapReason}
+use Rattle.profile.specs.declared.reason.HeapReason.TheVariants as reason
+use Rattle.address_map.specs.Bytes.{in_range}
+use Rattle.os_heap_lists.specs.Heap.{HeapList}
+use Rattle.os_heap_lists.specs.Lists.{live_total}
+use Rattle.os_heap.specs.Calls.{has_own_size}
+use Rattle.os_heap.specs.Store.{Store, IsSound, find_heap, has_image}
+use Rattle.heap_turns.specs.Alone.{alone_in, call_given}
+use Rattle.heap_turns.specs.Turns.{call_on, replied, turned}
+
+-- no anchor lies in a heap's range
+abbrev pub HasNoAnchor : Store → HeapList → Type 0
+HasNoAnchor s h = (a : ℕ) → in_range h.start h.end a ≡ true → s.anchor a ≡ false
+
+-- a heap that a guest made, with no anchor in its range, and no module image at one of its blocks
+pub record IsGuestHeap (s : Store) (h : HeapList) : Type 0 where
+  pub sound : IsSound s
+  pub found : find_heap h.start s.heaps ≡ Some h
+  pub own : has_own_size h.kind ≡ true
+  pub anchors : HasNoAnchor s h
+  pub images : (block total : ℕ) → live_total block (h.start + 16) h.items ≡ Some total → has_image block s.others ≡ false
+
+-- Is it a call on a heap that is there? All are but the one that makes a heap. And is it one on the heap at `start`?
+abbrev pub is_on_heap : HeapReason → Bool
+is_on_heap reason.Initialise = false
+is_on_heap other = true
+
+abbrev pub is_call_to : ℕ → ℕ → HeapReason → Bool
+is_call_to start heap why = is_on_heap why && heap == start
+
+-- A call on the heap: the reply is that of one turn of the heap alone, and the heap is what that turn leaves.
+abbrev pub OwnCallsAreTurns : Type 0
+OwnCallsAreTurns =
+    (s : Store) (h : HeapList) (why : HeapReason) (block size : ℕ) → IsGuestHeap s h → is_on_heap why ≡ true
+    → replied (alone_in s h) (call_on s h.start why block size) ≡ turned (alone_in s h) (call_given s h why block size)
+
+-- The heap that starts where it did is a guest's, and no anchor lies in it.
+pub record HasHeapStill (t : Store) (start : ℕ) : Type 0 where
+  pub heap : HeapList
+  pub starts : heap.start ≡ start
+  pub found : find_heap start t.heaps ≡ Some heap
+  pub own : has_own_size heap.kind ≡ true
+  pub anchors : HasNoAnchor t heap
+
+-- So it is after each call on it that is done.
+abbrev pub OwnCallsKeepHeap : Type 0
+OwnCallsKeepHeap =
+    (s t : Store) (h : HeapList) (why : HeapReason) (block size : ℕ) (answer : ℕ × ℕ) → IsGuestHeap s h → is_on_heap why ≡ true
+    → call_on s h.start why block size ≡ Ok (t, answer) → HasHeapStill t h.start
+
+-- A heap is as it was: its list, its bytes, and which of them are anchors.
+pub record KeepsHeap (h : HeapList) (s t : Store) : Type 0 where
+  pub found : find_heap h.start t.heaps ≡ Some h
+  pub bytes : (a : ℕ) → in_range h.start h.end a ≡ true → t.bytes.at a ≡ s.bytes.at a
+  pub anchors : (a : ℕ) → in_range h.start h.end a ≡ true → t.anchor a ≡ s.anchor a
+
+-- So it is after each other call that is done: on another heap, or one that makes a heap.
+abbrev pub OtherCallsKeepHeap : Type 0
+OtherCallsKeepHeap =
+    (s t : Store) (h : HeapList) (heap : ℕ) (why : HeapReason) (block size : ℕ) (answer : ℕ × ℕ) → IsSound s → IsSound t
+    → find_heap h.start s.heaps ≡ Some h → is_call_to h.start heap why ≡ false → call_on s heap why block size ≡ Ok (t, answer) → KeepsHeap h s t
+
+-- Two stores where the heap alone is the same, and what is given for a growth too: a call is replied to alike, and leaves the same heap.
+abbrev pub StoresAnswerAlike : Type 0
+StoresAnswerAlike =
+    (s t : Store) (h k : HeapList) (why : HeapReason) (block size : ℕ) → IsGuestHeap s h → IsGuestHeap t k → is_on_heap why ≡ true
+    → alone_in s h ≡ alone_in t k → call_given s h why block size ≡ call_given t k why block size
+    → replied (alone_in s h) (call_on s h.start why block size) ≡ replied (alone_in t k) (call_on t k.start why block size)

@@ -1,0 +1,4 @@
+pub use Rattle.os_heap
+pub mod Alone
+pub mod Laws
+pub mod Turns

@@ -1,0 +1,25 @@
+//! Laws over the definitions, each the contract of a function that does nothing.
+
+ghost use Rattle.heap_turns.specs.Laws.{OtherCallsKeepHeap, OwnCallsAreTurns, OwnCallsKeepHeap, StoresAnswerAlike};
+
+/// A call on a guest's heap in which no anchor lies answers what one turn of the heap alone answers, and leaves it that
+/// list and those bytes.
+pub fn own_calls_are_turns()
+    ensures { OwnCallsAreTurns }
+{}
+
+/// The heap is a guest's after such a call too, and no anchor lies in it.
+pub fn own_calls_keep_heap()
+    ensures { OwnCallsKeepHeap }
+{}
+
+/// A call on another heap, or one that makes a heap anywhere, leaves it its list, its bytes and its anchors.
+pub fn other_calls_keep_heap()
+    ensures { OtherCallsKeepHeap }
+{}
+
+/// Where the heap alone is the same in two stores, and what is given for a growth too, a call answers the same in both,
+/// and leaves the same heap.
+pub fn stores_answer_alike()
+    ensures { StoresAnswerAlike }
+{}
