@@ -1,5 +1,6 @@
 pub mod ChangedSize
 pub mod DoneCalls
+pub mod GuestImages
 pub mod KeptHeaps
 pub mod Likeness
 pub mod OwnCalls

@@ -25,6 +25,7 @@ use Rattle.os_heap.proofs.Moving.{found_held}
 use Rattle.os_heap.specs.Calls.{block_sized, bytes_held, changed, copied, described, gave_back, got, guests_total, handed_over, has_own_size, holding, holds_anchor, moved, resized, resized_or_moved, unless_image}
 use Rattle.os_heap.specs.Store.{Store, find_heap, has_image}
 use Rattle.heap_turns.proofs.ChangedSize.{changed_alike, found_alone}
+use Rattle.heap_turns.proofs.GuestImages.{guest_images}
 use Rattle.heap_turns.proofs.Likeness.{AreAlike, AreLike, IsSameHeap, bound_alike, by_both, alone_alike, heap_like, held_alike, with_list}
 use Rattle.heap_turns.proofs.Plain.{IsBare, IsGuests, block_bare, gave_plain, got_plain, part_bare}
 use Rattle.heap_turns.specs.Alone.{Alone, Growth, alone_in, bytes_in, call_given, growth_given}
@@ -223,12 +224,12 @@ twins s h g guest =
       one = record { found = guest.found; anchors = guest.anchors; totals = heap.totals; inside = heap.inside };
       two = record { found = found_alone (alone_in s h) g; anchors = λ a here. refl; totals = heap.totals; inside = heap.inside };
       heap = heap;
-      guests = λ block. (guest.images block, λ total live. no_image h block g.meets);
+      guests = λ block. (λ total live. guest_images s h block total guest live, λ total live. no_image h block g.meets);
       like = λ a here. rw here refl;
     } where
-  no_image : (h : HeapList) (block : ℕ) (met : Bool) → has_image block (others_met h met) ≡ false
-  no_image h block true = refl
-  no_image h block false = refl
+      no_image : (h : HeapList) (block : ℕ) (met : Bool) → has_image block (others_met h met) ≡ false
+      no_image h block true = refl
+      no_image h block false = refl
 
 own_alike : (s : Store) (h : HeapList) (why : HeapReason) (block size : ℕ) → IsGuestHeap s h → is_on_heap why ≡ true
     → AreAlike (ℕ × ℕ) h (call_on s h.start why block size)

@@ -1,12 +1,12 @@
 -- Calls on a guest's heap are turns of that heap alone, and no other call of OS_Heap changes it.
-use Rattle.std.specs.Prelude.{ℕ, ◌≡◌, ◌+◌, ◌==◌, ◌&&◌, Bool, true, false, Some, Ok}
+use Rattle.std.specs.Prelude.{ℕ, ◌≡◌, ◌<◌, ◌==◌, ◌&&◌, Bool, true, false, Some, Ok, List, [], ◌∷◌}
 use Rattle.profile.specs.declared.reason.HeapReason.{HeapReason}
 use Rattle.profile.specs.declared.reason.HeapReason.TheVariants as reason
 use Rattle.address_map.specs.Bytes.{in_range}
+use Rattle.address_map.specs.declared.region.Region.{Region}
 use Rattle.os_heap_lists.specs.Heap.{HeapList}
-use Rattle.os_heap_lists.specs.Lists.{live_total}
 use Rattle.os_heap.specs.Calls.{has_own_size}
-use Rattle.os_heap.specs.Store.{Store, IsSound, find_heap, has_image}
+use Rattle.os_heap.specs.Store.{Store, IsSound, find_heap, is_image}
 use Rattle.heap_turns.specs.Alone.{alone_in, call_given}
 use Rattle.heap_turns.specs.Turns.{call_on, replied, turned}
 
@@ -14,13 +14,18 @@ use Rattle.heap_turns.specs.Turns.{call_on, replied, turned}
 abbrev pub HasNoAnchor : Store → HeapList → Type 0
 HasNoAnchor s h = (a : ℕ) → in_range h.start h.end a ≡ true → s.anchor a ≡ false
 
--- a heap that a guest made, with no anchor in its range, and no module image at one of its blocks
+-- no module image is recorded that has no bytes
+abbrev pub AreImagesFull : List Region → Type 0
+AreImagesFull [] = Unit {0}
+AreImagesFull (r ∷ rs) = (is_image r.kind ≡ true → 0 < r.len) × AreImagesFull rs
+
+-- a heap that a guest made, with no anchor in its range, in a store as machines have it
 pub record IsGuestHeap (s : Store) (h : HeapList) : Type 0 where
   pub sound : IsSound s
   pub found : find_heap h.start s.heaps ≡ Some h
   pub own : has_own_size h.kind ≡ true
   pub anchors : HasNoAnchor s h
-  pub images : (block total : ℕ) → live_total block (h.start + 16) h.items ≡ Some total → has_image block s.others ≡ false
+  pub images : AreImagesFull s.others
 
 -- Is it a call on a heap that is there? All are but the one that makes a heap. And is it one on the heap at `start`?
 abbrev pub is_on_heap : HeapReason → Bool
