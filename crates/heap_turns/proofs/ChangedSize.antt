@@ -106,12 +106,15 @@ mapped_same m start old end grown mapped is =
 
 -- what the growth of a heap alone meets
 only : (a b c : Bool) → a ≡ false → c ≡ false → ((a || b) || c) ≡ b
-only a true c none none' = rw (none, none') refl
+only a true c none none' = rw none refl
 only a false c none none' = rw (none, none') refl
 
 own_unmet : (h : HeapList) (len : ℕ) → list_any (λ k. meets (h.start + h.end) len k.start k.end) (h ∷ []) ≡ false
 own_unmet h len =
-    or_from (meets (h.start + h.end) len h.start h.end) false (and_right _ _ (rw (le-ltb (h.start + h.end) (h.start + h.end) (omega arith)) refl)) refl
+    let at : ℕ = h.start + h.end in
+    let past : (nat_lt at (h.start + h.end) && nat_lt h.start (at + len)) ≡ false = rw (le-ltb at at (omega arith)) refl in
+    or_from (meets at len h.start h.end) false
+    (and_right (nat_lt 0 len && nat_lt 0 h.end) (nat_lt at (h.start + h.end) && nat_lt h.start (at + len)) past) refl
 
 others_as_told : (h : HeapList) (len : ℕ) (m : Bool) → 0 < len → list_any (λ r. meets (h.start + h.end) len r.at r.len) (others_met h m) ≡ m
 others_as_told h len true some =

@@ -1,10 +1,10 @@
 -- What a call on a heap that is done leaves: the store as it was, or the heap with another list, or with another end.
-use Rattle.std.proofs.Common.{ℕ, ◌≡◌, ◌+◌, ◌-◌, ◌%◌, ◌≤◌, ◌<◌, ◌==◌, ◌&&◌, ◌∙◌, Bool, not, true, false, List, Option, Some, None, ok_or, Result, Ok, Err, refl, sym, ap, subst, inl, inr, arith, if◌then◌else◌}
-use Rattle.std.proofs.lemmas.Bool.{cases_Bool, false≢true, leb-false, not-false}
+use Rattle.std.proofs.Common.{ℕ, ◌≡◌, ◌+◌, ◌-◌, ◌%◌, ◌≤◌, ◌<◌, ◌==◌, ◌&&◌, Bool, true, false, List, Option, Some, None, ok_or, Result, Ok, Err, refl, sym, subst, inl, inr, arith, if◌then◌else◌}
+use Rattle.std.proofs.lemmas.Bool.{cases_Bool, false≢true, leb-false}
 use Rattle.std.specs.Prelude.{nat_le, nat_lt}
 use Rattle.profile.specs.Outcome.{bind}
 use Rattle.profile.specs.declared.error.ErrorNumber.{ErrorNumber}
-use Rattle.profile.specs.declared.error.ErrorNumber.TheVariants.{HeapBadDesc, HeapBadRegion, HeapBadShrink, HeapHoldsAnchor, HeapNoRoom, HeapNotABlock, HeapOverlaps, HeapTableFull}
+use Rattle.profile.specs.declared.error.ErrorNumber.TheVariants.{HeapNotABlock}
 use Rattle.profile.specs.declared.reason.HeapReason.{HeapReason}
 use Rattle.profile.specs.declared.reason.HeapReason.TheVariants as reason
 use Rattle.address_map.specs.Items.{is_total, size_of}
@@ -18,7 +18,7 @@ use Rattle.os_heap.proofs.Calls.{claimed_in, released_in}
 use Rattle.os_heap.proofs.Found.{found_start}
 use Rattle.os_heap.proofs.Moving.{found_held}
 use Rattle.os_heap.proofs.Resizing.{larger_where_none}
-use Rattle.os_heap.specs.Calls.{begun, begun_with, block_sized, changed, copied, described, end_changed, ending, gave_back, got, guests_total, handed_over, has_own_size, holding, holds_anchor, moved, own_size, resized, resized_or_moved, unless_image}
+use Rattle.os_heap.specs.Calls.{begun, begun_with, block_sized, changed, copied, described, end_changed, ending, gave_back, got, has_own_size, holding, holds_anchor, moved, resized, resized_or_moved, unless_image}
 use Rattle.os_heap.specs.Ranges.{is_heap_region, meets_any}
 use Rattle.os_heap.specs.Store.{Store, find_heap, guest_count, has_image}
 use Rattle.heap_turns.proofs.Likeness.{with_list}

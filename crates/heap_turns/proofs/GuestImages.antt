@@ -13,7 +13,7 @@ use Rattle.os_heap.proofs.Apart.{block_inside}
 use Rattle.os_heap.proofs.Found.{found_heap}
 use Rattle.os_heap.proofs.Stores.{AreOthers, are_others, clear_of-found}
 use Rattle.os_heap.specs.Calls.{has_own_size}
-use Rattle.os_heap.specs.Store.{AreClear, AreHeapsIn, ArePlaced, IsImageIn, Store, find_heap, has_image, is_area, is_image}
+use Rattle.os_heap.specs.Store.{AreHeapsIn, ArePlaced, IsImageIn, Store, find_heap, has_image, is_area, is_image}
 use Rattle.heap_turns.specs.Laws.{AreImagesFull, IsGuestHeap}
 
 area_own : (k : Kind) → is_area k ≡ true → has_own_size k ≡ true → ⊥

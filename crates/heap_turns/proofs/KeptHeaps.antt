@@ -1,31 +1,30 @@
 -- A guest's heap after calls: on it, and on others.
-use Rattle.std.proofs.Common.{ℕ, ◌≡◌, ◌≢◌, ◌+◌, ◌-◌, ◌%◌, ◌≤◌, ◌<◌, ◌==◌, ◌&&◌, ◌⊎◌, ◌∙◌, Bool, true, false, List, [], ◌∷◌, ◌++◌, None, Some, Ok, is_some, refl, sym, ap, subst, inl, inr, arith}
-use Rattle.std.proofs.lemmas.Bool.{both_ways, cases_Bool, eq-eqb, eqb-true, false_from_ne_true, false≢true, le-leb, lt-ltb, ne_eqb}
+use Rattle.std.proofs.Common.{ℕ, ◌≡◌, ◌≢◌, ◌+◌, ◌-◌, ◌%◌, ◌≤◌, ◌<◌, ◌==◌, ◌&&◌, ◌⊎◌, ◌∙◌, true, false, List, [], ◌∷◌, ◌++◌, None, Some, refl, sym, ap, subst, inl, inr, arith}
+use Rattle.std.proofs.lemmas.Bool.{both_ways, cases_Bool, eq-eqb, eqb-true, false_from_ne_true, le-leb, lt-ltb, ne_eqb}
 use Rattle.std.specs.Prelude.{nat_lt}
 use Rattle.address_map.proofs.Anchors.{none_among}
 use Rattle.address_map.proofs.Stores.{in_range-cases}
-use Rattle.address_map.specs.Bytes.{Bytes, in_range, with_moved_at, word_start}
-use Rattle.address_map.specs.Items.{is_heap_word, is_total, size_of}
+use Rattle.address_map.specs.Bytes.{in_range, word_start}
+use Rattle.address_map.specs.Items.{is_heap_word, size_of}
 use Rattle.address_map.specs.declared.item.Item.{Item}
 use Rattle.address_map.specs.declared.region.Kind.TheVariants as kind
-use Rattle.os_heap_lists.proofs.LiveBlocks.{LiveBytes, live_apart, live_bytes}
+use Rattle.os_heap_lists.proofs.LiveBlocks.{LiveBytes, live_bytes}
 use Rattle.os_heap_lists.proofs.Payloads.{heap_beside, payload_unspelled, spelled_inside}
 use Rattle.os_heap_lists.specs.Heap.{AreTotals, HeapList, IsHeapIn, with_heap}
-use Rattle.os_heap_lists.specs.Lists.{Claim, claimed, live_total}
+use Rattle.os_heap_lists.specs.Lists.{Claim, live_total}
 use Rattle.os_heap.proofs.Added.{CanHold, can_hold, clear_of_heaps, unmet}
 use Rattle.os_heap.proofs.Apart.{found_other, range_parts}
 use Rattle.os_heap.proofs.Found.{found_heap}
 use Rattle.os_heap.proofs.KeptPayloads.{IsClaim, is_claim}
 use Rattle.os_heap.proofs.Moving.{found_held}
 use Rattle.os_heap.proofs.Stores.{are_others, clear_of-found}
-use Rattle.os_heap.specs.Calls.{begun_with, ending, has_own_size, holding, with_end, with_items}
+use Rattle.os_heap.specs.Calls.{begun_with, ending, holding, with_end, with_items}
 use Rattle.os_heap.specs.Ranges.{is_heap_region, meets_any}
 use Rattle.os_heap.specs.Store.{AreClear, IsSound, Store, find_heap}
 use Rattle.heap_turns.proofs.ChangedSize.{found_ended}
 use Rattle.heap_turns.proofs.DoneCalls.{Leave, OnDone, call_done, heap_done, moved_to}
 use Rattle.heap_turns.proofs.Likeness.{with_last, with_list}
 use Rattle.heap_turns.specs.Laws.{HasHeapStill, HasNoAnchor, IsGuestHeap, KeepsHeap, OtherCallsKeepHeap, OwnCallsKeepHeap, is_on_heap}
-use Rattle.heap_turns.specs.Turns.{call_on}
 
 -- The heap itself: what it grows by has no anchor.
 still_bare : (s : Store) (h : HeapList) (end : ℕ) → IsGuestHeap s h → (nat_lt h.end end && meets_any (h.start + h.end) (end - h.end) s) ≡ false
@@ -71,14 +70,14 @@ own_kept s t h why block size answer guest on is =
     subst (OnDone (ℕ × ℕ) (λ u. HasHeapStill u h.start)) is (heap_done (λ u. HasHeapStill u h.start) s h why block size on guest.found same (own_left s h guest))
 
 -- Other heaps: a byte beside a heap, out of its range or in what a block of it holds, is none of the words that it spells.
-record IsHeld (start : ℕ) (items : List Item) (a : ℕ) : Type 0 where
-  block : ℕ
-  total : ℕ
-  live : live_total block (start + 16) items ≡ Some total
-  low : block ≤ a
-  high : a < block + (total - 4)
+pub record IsHeld (start : ℕ) (items : List Item) (a : ℕ) : Type 0 where
+  pub block : ℕ
+  pub total : ℕ
+  pub live : live_total block (start + 16) items ≡ Some total
+  pub low : block ≤ a
+  pub high : a < block + (total - 4)
 
-abbrev IsBeside : HeapList → List Item → ℕ → Type 0
+abbrev pub IsBeside : HeapList → List Item → ℕ → Type 0
 IsBeside k items a = (in_range k.start k.end a ≡ false) ⊎ IsHeld k.start items a
 
 pub placed_beside : (k : HeapList) (f : ℕ → ℕ) (end : ℕ) (items : List Item) (a : ℕ) → k.start % 4 ≡ 0 → AreTotals items → 16 + size_of items ≤ k.end
@@ -106,10 +105,10 @@ found_beside p start items [] other = refl
 found_beside p start items (g ∷ hs) other = elim (cases_Bool (g.start == start)) [
   | inl here ↦
       let miss : (g.start == p) ≡ false = ne_eqb g.start p (λ (e : g.start ≡ p). other (sym e ∙ eqb-true g.start start here)) in
-      rw (here, miss, miss) (found_beside p start items hs other)
+      rw (here, miss) (found_beside p start items hs other)
   | inr away ↦ rw away (elim (cases_Bool (g.start == p)) [
-    | inl hit ↦ rw (hit, hit) refl
-    | inr miss ↦ rw (miss, miss) (found_beside p start items hs other)
+    | inl hit ↦ rw hit refl
+    | inr miss ↦ rw miss (found_beside p start items hs other)
   ])
 ]
 
@@ -118,10 +117,10 @@ found_past p start end [] other = refl
 found_past p start end (g ∷ hs) other = elim (cases_Bool (g.start == start)) [
   | inl here ↦
       let miss : (g.start == p) ≡ false = ne_eqb g.start p (λ (e : g.start ≡ p). other (sym e ∙ eqb-true g.start start here)) in
-      rw (here, miss, miss) (found_past p start end hs other)
+      rw (here, miss) (found_past p start end hs other)
   | inr away ↦ rw away (elim (cases_Bool (g.start == p)) [
-    | inl hit ↦ rw (hit, hit) refl
-    | inr miss ↦ rw (miss, miss) (found_past p start end hs other)
+    | inl hit ↦ rw hit refl
+    | inr miss ↦ rw miss (found_past p start end hs other)
   ])
 ]
 

@@ -1,5 +1,5 @@
 -- Where the bytes of a heap's range are the same in two memories, they are the same after its words are written in both.
-use Rattle.std.proofs.Common.{ℕ, ◌≡◌, ◌+◌, ◌-◌, ◌∙◌, Bool, true, List, [], ◌∷◌, Some, Result, Ok, Err, refl, sym, ap, subst, inl, inr}
+use Rattle.std.proofs.Common.{ℕ, ◌≡◌, ◌+◌, ◌-◌, ◌∙◌, true, List, [], ◌∷◌, Some, Result, Ok, Err, refl, sym, ap, subst, inl, inr}
 use Rattle.std.proofs.lemmas.Bool.{cases_Bool}
 use Rattle.profile.specs.Outcome.{bind}
 use Rattle.profile.specs.declared.error.ErrorNumber.{ErrorNumber}
@@ -11,7 +11,7 @@ use Rattle.os_heap_lists.specs.Heap.{HeapList, next_free, with_heads, with_heap}
 use Rattle.os_heap.proofs.Moving.{found_held}
 use Rattle.os_heap.specs.Calls.{holding}
 use Rattle.os_heap.specs.Store.{Store, find_heap}
-use Rattle.heap_turns.specs.Alone.{Alone, alone_in, bytes_in}
+use Rattle.heap_turns.specs.Alone.{Alone, bytes_in}
 use Rattle.heap_turns.specs.Turns.{alone_or}
 
 -- the bytes of a range are the same

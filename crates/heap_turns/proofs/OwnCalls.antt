@@ -1,11 +1,11 @@
 -- A call on a guest's heap is a turn of that heap alone.
 use Rattle.std.proofs.Common.{ℕ, ◌≡◌, ◌+◌, ◌-◌, ◌≤◌, ◌<◌, ◌∙◌, Bool, true, false, List, Option, Some, None, ok_or, Result, Ok, Err, refl, sym, ap, subst, inl, inr, arith, if◌then◌else◌}
-use Rattle.std.proofs.lemmas.Bool.{cases_Bool, cases_lt, eq-eqb, false≢true, leb-false, le-leb, lt-ltb}
+use Rattle.std.proofs.lemmas.Bool.{cases_Bool, cases_lt, false≢true, leb-false, le-leb, lt-ltb}
 use Rattle.std.specs.Prelude.{nat_le}
 use Rattle.profile.specs.ErrorNames.{error_code}
 use Rattle.profile.specs.Outcome.{bind}
 use Rattle.profile.specs.declared.error.ErrorNumber.{ErrorNumber}
-use Rattle.profile.specs.declared.error.ErrorNumber.TheVariants.{HeapHoldsAnchor, HeapNotABlock, HeapNoRoom}
+use Rattle.profile.specs.declared.error.ErrorNumber.TheVariants.{HeapNotABlock}
 use Rattle.profile.specs.declared.reason.HeapReason.{HeapReason}
 use Rattle.profile.specs.declared.reason.HeapReason.TheVariants as reason
 use Rattle.address_map.proofs.Anchors.{among_none}
@@ -22,14 +22,14 @@ use Rattle.os_heap.proofs.Calls.{claimed_in, released_in}
 use Rattle.os_heap.proofs.Found.{found_heap}
 use Rattle.os_heap.proofs.KeptPayloads.{IsClaim, is_claim}
 use Rattle.os_heap.proofs.Moving.{found_held}
-use Rattle.os_heap.specs.Calls.{block_sized, bytes_held, changed, copied, described, gave_back, got, guests_total, handed_over, has_own_size, holding, holds_anchor, moved, resized, resized_or_moved, unless_image}
+use Rattle.os_heap.specs.Calls.{block_sized, bytes_held, changed, copied, described, gave_back, got, guests_total, handed_over, holding, moved, resized, resized_or_moved}
 use Rattle.os_heap.specs.Store.{Store, find_heap, has_image}
 use Rattle.heap_turns.proofs.ChangedSize.{changed_alike, found_alone}
 use Rattle.heap_turns.proofs.GuestImages.{guest_images}
 use Rattle.heap_turns.proofs.Likeness.{AreAlike, AreLike, IsSameHeap, bound_alike, by_both, alone_alike, heap_like, held_alike, with_list}
 use Rattle.heap_turns.proofs.Plain.{IsBare, IsGuests, block_bare, gave_plain, got_plain, part_bare}
 use Rattle.heap_turns.specs.Alone.{Alone, Growth, alone_in, bytes_in, call_given, growth_given}
-use Rattle.heap_turns.specs.Laws.{HasNoAnchor, IsGuestHeap, OwnCallsAreTurns, StoresAnswerAlike, is_on_heap}
+use Rattle.heap_turns.specs.Laws.{IsGuestHeap, OwnCallsAreTurns, StoresAnswerAlike, is_on_heap}
 use Rattle.heap_turns.specs.Turns.{Answered, Refused, Turn, alone_or, call_on, growth_or_none, no_growth, others_met, replied, store_with, turned}
 
 -- Two stores that a call on a heap can't tell apart.
@@ -43,9 +43,11 @@ record AreTwins (s u : Store) (h : HeapList) : Type 0 where
 abbrev lone : HeapList → (ℕ → ℕ) → Alone
 lone h b = record { heap = h; bytes = b }
 
-turn_alike : (answer other : ℕ × ℕ) (now then : Alone) → answer ≡ other → now ≡ then
-    → (let one : Turn = record { reply = Answered answer.0 answer.1; now = now } in let two : Turn = record { reply = Answered other.0 other.1; now = then } in one ≡ two)
-turn_alike answer other now then same same' = rw (same, same') refl
+abbrev turn_of : ℕ × ℕ → Alone → Turn
+turn_of answer now = record { reply = Answered answer.0 answer.1; now = now }
+
+turn_alike : (one two : ℕ × ℕ) (now later : Alone) → one ≡ two → now ≡ later → turn_of one now ≡ turn_of two later
+turn_alike one two now later same same' = ap (λ (x : ℕ × ℕ). turn_of x now) same ∙ ap (turn_of two) same'
 
 replied_alike : (h : HeapList) (b : ℕ → ℕ) (r q : Result (Store × (ℕ × ℕ)) ErrorNumber) → AreAlike (ℕ × ℕ) h r q → replied (lone h b) r ≡ replied (lone h b) q
 replied_alike h b (Ok r) (Ok q) alike =

@@ -1,20 +1,16 @@
 -- What a call on a guest's heap does where no anchor lies in it: only its own list decides.
-use Rattle.std.proofs.Common.{ℕ, ◌≡◌, ◌+◌, ◌-◌, ◌≤◌, ◌<◌, ◌∙◌, Bool, true, false, ◌==◌, List, [], ◌∷◌, option_map, Option, Some, None, ok_or, Result, Ok, Err, refl, sym, ap, subst, inl, inr, arith}
+use Rattle.std.proofs.Common.{ℕ, ◌≡◌, ◌+◌, ◌-◌, ◌≤◌, false, ◌==◌, List, [], ◌∷◌, option_map, Option, Some, None, refl, ap, inl, inr, arith}
 use Rattle.std.proofs.lemmas.Bool.{cases_Bool, le-leb, lt-ltb}
-use Rattle.profile.specs.Outcome.{bind}
-use Rattle.profile.specs.declared.error.ErrorNumber.{ErrorNumber}
-use Rattle.profile.specs.declared.error.ErrorNumber.TheVariants.{HeapNotABlock, HeapNoRoom}
 use Rattle.address_map.proofs.Anchors.{among_none}
-use Rattle.address_map.specs.Bytes.{Bytes, in_range}
 use Rattle.address_map.specs.Items.{size_of}
 use Rattle.address_map.specs.Records.{anchor_among}
 use Rattle.address_map.specs.declared.item.Item.{Item}
 use Rattle.address_map.specs.declared.item.Item.TheVariants.{Free, Live}
 use Rattle.os_heap_lists.proofs.LiveBlocks.{LiveBytes, live_bytes}
-use Rattle.os_heap_lists.specs.Heap.{AreTotals, HeapList, IsHeapIn}
+use Rattle.os_heap_lists.specs.Heap.{AreTotals, HeapList}
 use Rattle.os_heap_lists.specs.Lists.{claimed, freed, live_total, released, total_for}
 use Rattle.os_heap.proofs.Calls.{claimed_in, released_in}
-use Rattle.os_heap.specs.Calls.{gave_back, got, holds_anchor, unless_image}
+use Rattle.os_heap.specs.Calls.{gave_back, got, holds_anchor}
 use Rattle.os_heap.specs.Store.{Store, find_heap, has_image}
 use Rattle.heap_turns.specs.Laws.{HasNoAnchor}
 

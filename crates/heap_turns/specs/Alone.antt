@@ -1,6 +1,6 @@
 -- A heap by itself: its list and the bytes of its range, and what a call on it is given (RISC OS 3 Programmer's Reference Manual, "OS_Heap", reasons
 -- 1 to 6; that these calls depend on nothing else is this project's own).
-use Rattle.std.specs.Prelude.{ℕ, ◌+◌, ◌-◌, Bool, true, false, nat_lt, Option, Some, None, if◌then◌else◌}
+use Rattle.std.specs.Prelude.{ℕ, ◌+◌, ◌-◌, Bool, nat_lt, Option, Some, None, if◌then◌else◌}
 use Rattle.profile.specs.declared.reason.HeapReason.{HeapReason}
 use Rattle.profile.specs.declared.reason.HeapReason.TheVariants as reason
 use Rattle.address_map.specs.Bytes.{in_range}
