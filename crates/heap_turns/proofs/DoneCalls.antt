@@ -22,7 +22,8 @@ use Rattle.os_heap.specs.Calls.{begun, begun_with, block_sized, changed, copied,
 use Rattle.os_heap.specs.Ranges.{is_heap_region, meets_any}
 use Rattle.os_heap.specs.Store.{Store, find_heap, guest_count, has_image}
 use Rattle.heap_turns.proofs.Likeness.{with_list}
-use Rattle.heap_turns.specs.Laws.{is_on_heap}
+use Rattle.heap_turns.proofs.Plain.{sized_to}
+use Rattle.heap_turns.specs.Lists.{is_on_heap}
 use Rattle.heap_turns.specs.Turns.{call_on}
 
 -- what a call leaves, if it is done
@@ -89,15 +90,8 @@ refit_done P s k block old new (Some items) found leave total less = elim (cases
   | inr free ↦ rw free (leave.held items)
 ]
 
--- a change of a block's size, by its total
-abbrev sized_by : Store → HeapList → ℕ → ℕ → ℕ → Result (Store × ℕ) ErrorNumber
-sized_by s k block change old =
-    let sum : ℕ = changed_by old change in
-    if nat_le sum 4 then bind (gave_back s k.start block) (λ r. Ok (r.0, 0)) else
-    resized_or_moved s k block old (round_up_8 sum) (resized_in_place block (k.start + k.end) (round_up_8 sum) (k.start + 16) k.items)
-
 sized_done : (P : Store → Type 0) (s : Store) (k : HeapList) (block change old : ℕ) → find_heap k.start s.heaps ≡ Some k → Leave P s k
-    → live_total block (k.start + 16) k.items ≡ Some old → OnDone ℕ P (sized_by s k block change old)
+    → live_total block (k.start + 16) k.items ≡ Some old → OnDone ℕ P (sized_to s k block change old)
 sized_done P s k block change old found leave live = elim (cases_Bool (nat_le (changed_by old change) 4)) [
   | inl few ↦ rw few (done_bound (Unit {0}) ℕ P (λ _. 0) (gave_back s k.start block) (gave_done P s k block found leave.held))
   | inr more ↦
@@ -110,7 +104,7 @@ sized_done P s k block change old found leave live = elim (cases_Bool (nat_le (c
 ]
 
 asked_done : (P : Store → Type 0) (s : Store) (k : HeapList) (block change : ℕ) (image : Bool) (o : Option ℕ) → find_heap k.start s.heaps ≡ Some k → Leave P s k
-    → live_total block (k.start + 16) k.items ≡ o → OnDone ℕ P (bind (ok_or (unless_image image o) HeapNotABlock) (sized_by s k block change))
+    → live_total block (k.start + 16) k.items ≡ o → OnDone ℕ P (bind (ok_or (unless_image image o) HeapNotABlock) (sized_to s k block change))
 asked_done P s k block change true o found leave is = tt
 asked_done P s k block change false None found leave is = tt
 asked_done P s k block change false (Some old) found leave is = sized_done P s k block change old found leave is

@@ -24,7 +24,8 @@ use Rattle.os_heap.specs.Store.{AreClear, IsSound, Store, find_heap}
 use Rattle.heap_turns.proofs.ChangedSize.{found_ended}
 use Rattle.heap_turns.proofs.DoneCalls.{Leave, OnDone, call_done, heap_done, moved_to}
 use Rattle.heap_turns.proofs.Likeness.{with_last, with_list}
-use Rattle.heap_turns.specs.Laws.{HasHeapStill, HasNoAnchor, IsGuestHeap, KeepsHeap, OtherCallsKeepHeap, OwnCallsKeepHeap, is_on_heap}
+use Rattle.heap_turns.specs.Laws.{HasHeapStill, HasNoAnchor, IsGuestHeap, KeepsHeap, OtherCallsKeepHeap, OwnCallsKeepHeap}
+use Rattle.heap_turns.specs.Lists.{is_on_heap}
 
 -- The heap itself: what it grows by has no anchor.
 still_bare : (s : Store) (h : HeapList) (end : ℕ) → IsGuestHeap s h → (nat_lt h.end end && meets_any (h.start + h.end) (end - h.end) s) ≡ false

@@ -4,4 +4,5 @@ pub mod GuestImages
 pub mod KeptHeaps
 pub mod Likeness
 pub mod OwnCalls
+pub mod Lists
 pub mod Plain

@@ -27,9 +27,10 @@ use Rattle.os_heap.specs.Store.{Store, find_heap, has_image}
 use Rattle.heap_turns.proofs.ChangedSize.{changed_alike, found_alone}
 use Rattle.heap_turns.proofs.GuestImages.{guest_images}
 use Rattle.heap_turns.proofs.Likeness.{AreAlike, AreLike, IsSameHeap, bound_alike, by_both, alone_alike, heap_like, held_alike, with_list}
-use Rattle.heap_turns.proofs.Plain.{IsBare, IsGuests, block_bare, gave_plain, got_plain, part_bare}
+use Rattle.heap_turns.proofs.Plain.{IsBare, IsGuests, block_bare, gave_plain, got_plain, part_bare, sized_to}
 use Rattle.heap_turns.specs.Alone.{Alone, Growth, alone_in, bytes_in, call_given, growth_given}
-use Rattle.heap_turns.specs.Laws.{IsGuestHeap, OwnCallsAreTurns, StoresAnswerAlike, is_on_heap}
+use Rattle.heap_turns.specs.Laws.{IsGuestHeap, OwnCallsAreTurns}
+use Rattle.heap_turns.specs.Lists.{is_on_heap}
 use Rattle.heap_turns.specs.Turns.{Answered, Refused, Turn, alone_or, call_on, growth_or_none, no_growth, others_met, replied, store_with, turned}
 
 -- Two stores that a call on a heap can't tell apart.
@@ -159,13 +160,6 @@ in_place_alike s u h block old new (Some items) t live total = elim (cases_lt ne
   among_few : (anchor : ℕ → Bool) (at len : ℕ) → len ≡ 0 → anchor_among anchor at len ≡ false
   among_few anchor at len none = among_none anchor at len (λ a low high. absurd (omega arith))
 
--- what a change of a block's size comes to, where the block has a total
-abbrev sized_to : Store → HeapList → ℕ → ℕ → ℕ → Result (Store × ℕ) ErrorNumber
-sized_to s h block change old =
-    let sum : ℕ = changed_by old change in
-    if nat_le sum 4 then bind (gave_back s h.start block) (λ r. Ok (r.0, 0)) else
-    resized_or_moved s h block old (round_up_8 sum) (resized_in_place block (h.start + h.end) (round_up_8 sum) (h.start + 16) h.items)
-
 resized_plain : (s : Store) (h : HeapList) (block change : ℕ) → IsBare s h → IsGuests s h block
     → resized s h.start block change ≡ bind (ok_or (live_total block (h.start + 16) h.items) HeapNotABlock) (sized_to s h block change)
 unfolding resized
@@ -252,10 +246,3 @@ own_turns s h why block size guest on =
     replied_alike h (bytes_in h.start h.end s.bytes.at) (call_on s h.start why block size)
     (call_on (store_with (alone_in s h) (growth_or_none (growth_given s h why size))) h.start why block size)
     (own_alike s h why block size guest on)
-
-pub answer_alike : StoresAnswerAlike
-answer_alike s t h k why block size guest guest' on same given =
-    own_turns s h why block size guest on
-    ∙ ap (λ (w : Alone). turned w (call_given s h why block size)) same
-    ∙ ap (turned (alone_in t k)) given
-    ∙ sym (own_turns t k why block size guest' on)

@@ -1,6 +1,9 @@
 -- What a call on a guest's heap does where no anchor lies in it: only its own list decides.
-use Rattle.std.proofs.Common.{ℕ, ◌≡◌, ◌+◌, ◌-◌, ◌≤◌, false, ◌==◌, List, [], ◌∷◌, option_map, Option, Some, None, refl, ap, inl, inr, arith}
+use Rattle.std.proofs.Common.{ℕ, ◌≡◌, ◌+◌, ◌-◌, ◌≤◌, false, ◌==◌, List, [], ◌∷◌, option_map, Option, Some, None, Result, Ok, refl, ap, inl, inr, arith, if◌then◌else◌}
 use Rattle.std.proofs.lemmas.Bool.{cases_Bool, le-leb, lt-ltb}
+use Rattle.std.specs.Prelude.{nat_le}
+use Rattle.profile.specs.Outcome.{bind}
+use Rattle.profile.specs.declared.error.ErrorNumber.{ErrorNumber}
 use Rattle.address_map.proofs.Anchors.{among_none}
 use Rattle.address_map.specs.Items.{size_of}
 use Rattle.address_map.specs.Records.{anchor_among}
@@ -8,9 +11,9 @@ use Rattle.address_map.specs.declared.item.Item.{Item}
 use Rattle.address_map.specs.declared.item.Item.TheVariants.{Free, Live}
 use Rattle.os_heap_lists.proofs.LiveBlocks.{LiveBytes, live_bytes}
 use Rattle.os_heap_lists.specs.Heap.{AreTotals, HeapList}
-use Rattle.os_heap_lists.specs.Lists.{claimed, freed, live_total, released, total_for}
+use Rattle.os_heap_lists.specs.Lists.{changed_by, claimed, freed, live_total, released, resized_in_place, round_up_8, total_for}
 use Rattle.os_heap.proofs.Calls.{claimed_in, released_in}
-use Rattle.os_heap.specs.Calls.{gave_back, got, holds_anchor}
+use Rattle.os_heap.specs.Calls.{gave_back, got, holds_anchor, resized_or_moved}
 use Rattle.os_heap.specs.Store.{Store, find_heap, has_image}
 use Rattle.heap_turns.specs.Laws.{HasNoAnchor}
 
@@ -63,3 +66,10 @@ gave_by s h block (Some total) bare own live = rw (bare.found, own total live, l
 pub gave_plain : (s : Store) (h : HeapList) (block : ℕ) → IsBare s h → IsGuests s h block
     → gave_back s h.start block ≡ released_in s h false (released block (h.start + 16) h.items)
 gave_plain s h block bare own = gave_by s h block (live_total block (h.start + 16) h.items) bare own refl
+
+-- what a change of a block's size comes to, where the block has a total
+abbrev pub sized_to : Store → HeapList → ℕ → ℕ → ℕ → Result (Store × ℕ) ErrorNumber
+sized_to s h block change old =
+    let sum : ℕ = changed_by old change in
+    if nat_le sum 4 then bind (gave_back s h.start block) (λ r. Ok (r.0, 0)) else
+    resized_or_moved s h block old (round_up_8 sum) (resized_in_place block (h.start + h.end) (round_up_8 sum) (h.start + 16) h.items)

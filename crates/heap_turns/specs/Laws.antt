@@ -1,14 +1,14 @@
 -- Calls on a guest's heap are turns of that heap alone, and no other call of OS_Heap changes it.
 use Rattle.std.specs.Prelude.{ℕ, ◌≡◌, ◌<◌, ◌==◌, ◌&&◌, Bool, true, false, Some, Ok, List, [], ◌∷◌}
 use Rattle.profile.specs.declared.reason.HeapReason.{HeapReason}
-use Rattle.profile.specs.declared.reason.HeapReason.TheVariants as reason
 use Rattle.address_map.specs.Bytes.{in_range}
 use Rattle.address_map.specs.declared.region.Region.{Region}
 use Rattle.os_heap_lists.specs.Heap.{HeapList}
 use Rattle.os_heap.specs.Calls.{has_own_size}
 use Rattle.os_heap.specs.Store.{Store, IsSound, find_heap, is_image}
-use Rattle.heap_turns.specs.Alone.{alone_in, call_given}
-use Rattle.heap_turns.specs.Turns.{call_on, replied, turned}
+use Rattle.heap_turns.specs.Alone.{Alone, alone_in, call_given}
+use Rattle.heap_turns.specs.Lists.{AreSound, StoreCall, after_all, calls_on, is_call_to, is_on_heap, replies_on}
+use Rattle.heap_turns.specs.Turns.{call_on, left_by, replied, replies, turned}
 
 -- no anchor lies in a heap's range
 abbrev pub HasNoAnchor : Store → HeapList → Type 0
@@ -26,14 +26,6 @@ pub record IsGuestHeap (s : Store) (h : HeapList) : Type 0 where
   pub own : has_own_size h.kind ≡ true
   pub anchors : HasNoAnchor s h
   pub images : AreImagesFull s.others
-
--- Is it a call on a heap that is there? All are but the one that makes a heap. And is it one on the heap at `start`?
-abbrev pub is_on_heap : HeapReason → Bool
-is_on_heap reason.Initialise = false
-is_on_heap other = true
-
-abbrev pub is_call_to : ℕ → ℕ → HeapReason → Bool
-is_call_to start heap why = is_on_heap why && heap == start
 
 -- A call on the heap: the reply is that of one turn of the heap alone, and the heap is what that turn leaves.
 abbrev pub OwnCallsAreTurns : Type 0
@@ -67,9 +59,24 @@ OtherCallsKeepHeap =
     (s t : Store) (h : HeapList) (heap : ℕ) (why : HeapReason) (block size : ℕ) (answer : ℕ × ℕ) → IsSound s → IsSound t
     → find_heap h.start s.heaps ≡ Some h → is_call_to h.start heap why ≡ false → call_on s heap why block size ≡ Ok (t, answer) → KeepsHeap h s t
 
--- Two stores where the heap alone is the same, and what is given for a growth too: a call is replied to alike, and leaves the same heap.
+-- A list of calls on a heap and on others: the replies of those on it are those of a list of turns of the heap alone, which is then what these leave.
+pub record StandsAlone (s : Store) (start : ℕ) (w : Alone) (cs : List StoreCall) : Type 0 where
+  pub replies : replies_on s start cs ≡ replies w (calls_on s start cs)
+  pub still : HasHeapStill (after_all s cs) start
+  pub now : alone_in (after_all s cs) still.heap ≡ left_by w (calls_on s start cs)
+
+-- It is so where each store between is sound.
+abbrev pub HeapsStandAlone : Type 0
+HeapsStandAlone = (s : Store) (h : HeapList) (cs : List StoreCall) → IsGuestHeap s h → AreSound s cs → StandsAlone s h.start (alone_in s h) cs
+
+-- So in two stores where the heap alone is the same, two lists of calls that give it the same have the same replies, and leave the same heap.
+pub record AnswerAlike (s t : Store) (start : ℕ) (cs ds : List StoreCall) : Type 0 where
+  pub replies : replies_on s start cs ≡ replies_on t start ds
+  pub one : HasHeapStill (after_all s cs) start
+  pub two : HasHeapStill (after_all t ds) start
+  pub now : alone_in (after_all s cs) one.heap ≡ alone_in (after_all t ds) two.heap
+
 abbrev pub StoresAnswerAlike : Type 0
 StoresAnswerAlike =
-    (s t : Store) (h k : HeapList) (why : HeapReason) (block size : ℕ) → IsGuestHeap s h → IsGuestHeap t k → is_on_heap why ≡ true
-    → alone_in s h ≡ alone_in t k → call_given s h why block size ≡ call_given t k why block size
-    → replied (alone_in s h) (call_on s h.start why block size) ≡ replied (alone_in t k) (call_on t k.start why block size)
+    (s t : Store) (h : HeapList) (cs ds : List StoreCall) → IsGuestHeap s h → IsGuestHeap t h → AreSound s cs → AreSound t ds
+    → alone_in s h ≡ alone_in t h → calls_on s h.start cs ≡ calls_on t h.start ds → AnswerAlike s t h.start cs ds

@@ -52,18 +52,26 @@ pub data Reply : Type 0 where
   Answered : ℕ → ℕ → Reply
   Refused : ℕ → Reply
 
--- One turn: the reply, and the heap alone as it is then. On an error it is as it was.
-pub record Turn : Type 0 where
-  pub reply : Reply
-  pub now : Alone
+abbrev pub reply_of : Result (Store × (ℕ × ℕ)) ErrorNumber → Reply
+reply_of (Ok r) = Answered r.1.0 r.1.1
+reply_of (Err e) = Refused (error_code e)
 
+-- the heap alone as a call leaves it: on an error as it was
 abbrev pub alone_or : Alone → Store → Option HeapList → Alone
 alone_or w s None = w
 alone_or w s (Some h) = alone_in s h
 
+abbrev pub alone_then : Alone → Result (Store × (ℕ × ℕ)) ErrorNumber → Alone
+alone_then w (Ok r) = alone_or w r.0 (find_heap w.heap.start r.0.heaps)
+alone_then w (Err e) = w
+
+-- one turn: the reply, and the heap then
+pub record Turn : Type 0 where
+  pub reply : Reply
+  pub now : Alone
+
 abbrev pub replied : Alone → Result (Store × (ℕ × ℕ)) ErrorNumber → Turn
-replied w (Ok r) = record { reply = Answered r.1.0 r.1.1; now = alone_or w r.0 (find_heap w.heap.start r.0.heaps) }
-replied w (Err e) = record { reply = Refused (error_code e); now = w }
+replied w r = record { reply = reply_of r; now = alone_then w r }
 
 abbrev pub turned : Alone → HeapCall → Turn
 turned w c = replied w (call_on (store_with w (growth_or_none c.growth)) w.heap.start c.reason c.block c.size)

@@ -1,4 +1,4 @@
-use Rattle.heap_turns.proofs.OwnCalls.{answer_alike}
+use Rattle.heap_turns.proofs.Lists.{answer_alike}
 use Rattle.heap_turns.proofs.laws.stores_answer_alike.Goals as goal
 
 pub returns : goal.returns
