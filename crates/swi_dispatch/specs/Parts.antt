@@ -1,5 +1,5 @@
 -- The parts of the real machine, and the written machine that they stand for.
-use Rattle.std.specs.Prelude.{◌≡◌, ◌≢◌, ◌≤◌, ◌<◌, ◌%◌, ◌^◌, length, ℕ, Bool, true, false, IfSome, Option, Some, None, Result, Ok, Err}
+use Rattle.std.specs.Prelude.{◌≡◌, ◌≢◌, ◌≤◌, ◌<◌, length, ℕ, Bool, true, false, IfSome, Option, Some, None, Result, Ok, Err}
 use Rattle.std.specs.Prelude.{List, []}
 use Rattle.profile.specs.Sizes.{Sizes}
 use Rattle.address_map.specs.declared.map.AddressMap.{AddressMap}

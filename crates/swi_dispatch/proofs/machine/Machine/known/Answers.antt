@@ -1,4 +1,4 @@
-use Rattle.std.proofs.Common.{◌≡◌, ◌<◌, ◌≤◌, ◌%◌, ◌^◌, IfSome, List, ℕ, length, subst, sym}
+use Rattle.std.proofs.Common.{◌≤◌, IfSome, List, ℕ, length, subst, sym}
 use Rattle.address_map.proofs.Bytes.{byte_at-lt}
 use Rattle.dynamic_areas.specs.declared.area.Area.{Area}
 use Rattle.instances_plans.specs.Plans.{Plan}
@@ -17,7 +17,7 @@ returns c =
       bytes = λ a. byte_at-lt c.self.inside.memory a;
       areas = c.self.invariant.areas.ground.table;
       few_areas = subst (λ (xs : List Area). length xs ≤ 32) c.list.ensures.value c.list.ensures.few;
-      modules = c.known.ensures;
+      modules = c.known-2.ensures;
       frames = subst (λ (n : ℕ). n ≤ 32) c.len.ensures.value c.len.ensures.fits;
       text = text;
     })
