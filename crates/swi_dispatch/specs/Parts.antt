@@ -1,5 +1,5 @@
 -- The parts of the real machine, and the written machine that they stand for.
-use Rattle.std.specs.Prelude.{◌≡◌, ◌≤◌, ◌<◌, length, ℕ, Bool, true, false, IfSome, Option, Some, None, Result, Ok, Err}
+use Rattle.std.specs.Prelude.{◌≡◌, ◌≢◌, ◌≤◌, ◌<◌, length, ℕ, Bool, true, false, IfSome, Option, Some, None, Result, Ok, Err}
 use Rattle.std.specs.Prelude.{List, []}
 use Rattle.profile.specs.Sizes.{Sizes}
 use Rattle.address_map.specs.declared.map.AddressMap.{AddressMap}
@@ -9,6 +9,7 @@ use Rattle.dynamic_areas.specs.Ground.{AreAreas, IsRecorded, system_pages}
 use Rattle.dynamic_areas.specs.Rooms.{IsAreaTable}
 use Rattle.flex_ground.specs.Ground.{HasFlex}
 use Rattle.arm_step.specs.declared.turn.Turn.{Turn}
+use Rattle.arm_step.specs.declared.turn.Turn.TheVariants as turn
 use Rattle.arm_step.specs.State.{IsCore, State}
 use Rattle.flex_ground.specs.instances_ground.specs.World.{World, world_of}
 use Rattle.instances_plans.specs.Plans.{Plan}
@@ -97,3 +98,7 @@ pub record OnlyState (old new : Parts) : Type 0 where
 -- the core takes a turn, and the rest of the machine stays
 abbrev pub TakesTurn : MachineState → Turn → MachineState → Type 0
 TakesTurn s t s' = Turned s (instructed s) t s'
+
+-- the turn that comes next, where it isn't one that the core does by itself
+abbrev pub ComesNext : MachineState → Turn → Type 0
+ComesNext s t = t ≢ turn.Done → TakesTurn s t s
