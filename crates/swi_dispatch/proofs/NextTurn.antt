@@ -8,7 +8,7 @@ use Rattle.swi_dispatch.specs.MachineState.{MachineState, Outcome, quiet}
 use Rattle.swi_dispatch.specs.Step.{turned, turn_end, instructed, unless_halted, machine_step}
 use Rattle.swi_dispatch.specs.Parts.{TakesTurn, ComesNext}
 use Rattle.swi_dispatch.specs.Run.{Run, ran, quiet_run}
-use Rattle.swi_dispatch.proofs.RunLoop.{one_step, one_run, ran-none}
+use Rattle.swi_dispatch.proofs.RunLoop.{one_run, ran-none}
 use Rattle.swi_dispatch.proofs.Turning.{turned_by}
 
 awake_step : (images : List Entry) (s : MachineState) → s.halt ≡ None → machine_step images s ≡ turned images s (instructed s)
