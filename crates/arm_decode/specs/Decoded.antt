@@ -1,5 +1,5 @@
 -- What a word is: the form that the table gives it, its fields, and the conditions that refuse it.
-use Rattle.std.specs.Prelude.{◌≡◌, ℕ, Option, Some, None, Result, Ok, Err}
+use Rattle.std.specs.Prelude.{ℕ, Option, Some, None, Result, Ok, Err}
 use Rattle.profile.specs.declared.fault.Fault.{Fault}
 use Rattle.arm_decode.specs.Fields.{condition_in, action_in}
 use Rattle.arm_decode.specs.Refusals.{refusal}
@@ -15,11 +15,6 @@ unless_refused (Some f) i = Err f
 -- the instruction of a condition and an action, if there is one
 abbrev pub checked : Condition × Action → Result (Condition × Action) Fault
 checked i = unless_refused (refusal i.1) i
-
--- the fields of a word of one form, or the fault by which the table refuses what they are `of`
-abbrev pub IsAllowed : {A : Type 0} → (A → Action) → A → Result A Fault → Type 0
-IsAllowed of fields (Ok part) = (part ≡ fields) × (refusal (of fields) ≡ None)
-IsAllowed of fields (Err f) = refusal (of fields) ≡ Some f
 
 abbrev pub decoded_as : Result Form Fault → ℕ → Result (Condition × Action) Fault
 decoded_as (Ok form) w = checked (condition_in w, action_in form w)

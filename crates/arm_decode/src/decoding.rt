@@ -1,6 +1,6 @@
 //! From a word to its instruction.
 ghost use Rattle.std.specs.Prelude.{◌≡◌, IfOk};
-ghost use Rattle.arm_decode.specs.Decoded.{decoded, IsAllowed};
+ghost use Rattle.arm_decode.specs.Decoded.{decoded};
 ghost use Rattle.arm_decode.specs.Diagrams.{word_of};
 ghost use Rattle.arm_decode.specs.Fields.{operand_by_register_in, immediate_in, operate_in, multiply_in, address_in, transfer_at, block_transfer_in, action_in};
 
@@ -95,24 +95,9 @@ impl Operand {
 }
 
 impl Operate {
-    /// The data processing that a word with this second operand stands for.
-    ///
-    /// # Errors
-    ///
-    /// The fault by which the table refuses it.
+    /// The fields of data processing with this second operand, whether the table refuses them or not.
     #[inline(always)]
-    pub fn decoded(operand: Operand, word: u32) -> Result<Operate, Fault>
-        ensures { IsAllowed (λ operate. Action.Operate operate) (operate_in operand word) result }
-    {
-        let operate = Operate::in_word(operand, word);
-        match operate.refusal() {
-            Some(fault) => Err(fault),
-            None => Ok(operate),
-        }
-    }
-
-    #[inline(always)]
-    fn in_word(operand: Operand, word: u32) -> Operate
+    pub fn in_word(operand: Operand, word: u32) -> Operate
         ensures { result ≡ operate_in operand word }
     {
         Operate {
@@ -126,24 +111,9 @@ impl Operate {
 }
 
 impl Multiply {
-    /// The multiplication that a word of that form stands for.
-    ///
-    /// # Errors
-    ///
-    /// The fault by which the table refuses it.
+    /// The fields of a multiplication, whether the table refuses them or not.
     #[inline(always)]
-    pub fn decoded(word: u32) -> Result<Multiply, Fault>
-        ensures { IsAllowed (λ multiply. Action.Multiply multiply) (multiply_in word) result }
-    {
-        let multiply = Multiply::in_word(word);
-        match multiply.refusal() {
-            Some(fault) => Err(fault),
-            None => Ok(multiply),
-        }
-    }
-
-    #[inline(always)]
-    fn in_word(word: u32) -> Multiply
+    pub fn in_word(word: u32) -> Multiply
         ensures { result ≡ multiply_in word }
     {
         Multiply {
@@ -158,24 +128,9 @@ impl Multiply {
 }
 
 impl Transfer {
-    /// The transfer that a word stands for whose address is this.
-    ///
-    /// # Errors
-    ///
-    /// The fault by which the table refuses it.
+    /// The fields of an LDR or STR at this address, whether the table refuses them or not.
     #[inline(always)]
-    pub fn decoded(address: Address, word: u32) -> Result<Transfer, Fault>
-        ensures { IsAllowed (λ transfer. Action.Transfer transfer) (transfer_at address word) result }
-    {
-        let transfer = Transfer::in_word(address, word);
-        match transfer.refusal() {
-            Some(fault) => Err(fault),
-            None => Ok(transfer),
-        }
-    }
-
-    #[inline(always)]
-    fn in_word(address: Address, word: u32) -> Transfer
+    pub fn in_word(address: Address, word: u32) -> Transfer
         ensures { result ≡ transfer_at address word }
     {
         Transfer {
@@ -203,24 +158,9 @@ impl Address {
 }
 
 impl BlockTransfer {
-    /// The block transfer that a word of that form stands for.
-    ///
-    /// # Errors
-    ///
-    /// The fault by which the table refuses it.
+    /// The fields of an LDM or STM, whether the table refuses them or not.
     #[inline(always)]
-    pub fn decoded(word: u32) -> Result<BlockTransfer, Fault>
-        ensures { IsAllowed (λ block. Action.BlockTransfer block) (block_transfer_in word) result }
-    {
-        let block = BlockTransfer::in_word(word);
-        match block.refusal() {
-            Some(fault) => Err(fault),
-            None => Ok(block),
-        }
-    }
-
-    #[inline(always)]
-    fn in_word(word: u32) -> BlockTransfer
+    pub fn in_word(word: u32) -> BlockTransfer
         ensures { result ≡ block_transfer_in word }
     {
         BlockTransfer {

@@ -74,8 +74,9 @@ impl Action {
 }
 
 impl Operate {
+    /// The fault by which the table refuses these fields, if it does.
     #[inline(always)]
-    pub(crate) fn refusal(&self) -> Option<Fault>
+    pub fn refusal(&self) -> Option<Fault>
         ensures { result ≡ refusal (Action.Operate self.now) }
     {
         let Operate {
@@ -99,8 +100,9 @@ impl Operate {
 }
 
 impl Multiply {
+    /// The fault by which the table refuses these fields, if it does.
     #[inline(always)]
-    pub(crate) fn refusal(&self) -> Option<Fault>
+    pub fn refusal(&self) -> Option<Fault>
         ensures { result ≡ refusal (Action.Multiply self.now) }
     {
         let Multiply {
@@ -125,8 +127,9 @@ impl Multiply {
 }
 
 impl Transfer {
+    /// The fault by which the table refuses these fields, if it does.
     #[inline(always)]
-    pub(crate) fn refusal(&self) -> Option<Fault>
+    pub fn refusal(&self) -> Option<Fault>
         ensures { result ≡ refusal (Action.Transfer self.now) }
     {
         let Transfer {
@@ -151,8 +154,9 @@ impl Transfer {
 }
 
 impl BlockTransfer {
+    /// The fault by which the table refuses these fields, if it does.
     #[inline(always)]
-    pub(crate) fn refusal(&self) -> Option<Fault>
+    pub fn refusal(&self) -> Option<Fault>
         ensures { result ≡ refusal (Action.BlockTransfer self.now) }
     {
         if self.rn.is_pc() {

@@ -11,10 +11,10 @@ use Rattle.arm_decode.specs.declared.action.BlockTransfer.{BlockTransfer}
 use Rattle.arm_decode.specs.declared.address.BlockMode.{BlockMode}
 use Rattle.arm_decode.specs.declared.address.BlockMode.TheVariants.{DecrementAfter, IncrementAfter, DecrementBefore, IncrementBefore}
 use Rattle.arm_step.specs.declared.psr.Mode.{Mode}
-use Rattle.arm_step.specs.State.{State, IsCore, register_in, with_pc}
-use Rattle.arm_step.specs.Effect.{advanced, plain_operand, status_operand, with_result}
-use Rattle.arm_step.specs.Words.{words_at, with_words, words_stored, words_loaded}
-use Rattle.arm_step.specs.Blocks.{listed_below, listed, lowest, stepped_base, block_size, block_start, block_base, loads_status, bank_of, with_block_base, with_loaded, with_block_status, block_loaded, stores_new_base, block_value, block_values, block_stored, block_transferred}
+use Rattle.arm_step.specs.State.{State, IsCore, register_in}
+use Rattle.arm_step.specs.Effect.{advanced, plain_operand}
+use Rattle.arm_step.specs.Words.{words_at, with_words}
+use Rattle.arm_step.specs.Blocks.{listed_below, listed, lowest, stepped_base, block_size, block_start, block_base, bank_of, with_block_base, with_loaded, with_block_status, block_loaded, stores_new_base, block_value, block_values, block_stored, block_transferred}
 use Rattle.arm_step.specs.Step.{acted, or_fault}
 use Rattle.arm_step.specs.Back.{PutsAway, opposite, brought_back, ComesBack}
 use Rattle.arm_step.proofs.Listing.{few_of_all}

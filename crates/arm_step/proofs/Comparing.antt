@@ -7,12 +7,11 @@ use Rattle.profile.specs.declared.word.Sum.{Sum}
 use Rattle.arm_decode.specs.declared.action.Operate.{Operate}
 use Rattle.arm_decode.specs.declared.operation.Operation.TheVariants as operation
 use Rattle.arm_step.specs.declared.psr.Psr.{Psr}
-use Rattle.arm_step.specs.Conditions.{holds}
-use Rattle.arm_step.specs.State.{State, with_pc, with_flags}
-use Rattle.arm_step.specs.Effect.{advanced, plain_operand, flagged}
+use Rattle.arm_step.specs.State.{State}
+use Rattle.arm_step.specs.Effect.{plain_operand}
 use Rattle.arm_step.specs.Operand.{operand_of, words_ahead}
 use Rattle.arm_step.proofs.OperandWords.{plain_word, operand_word}
-use Rattle.arm_step.specs.Operate.{computed, tested, finished, operated}
+use Rattle.arm_step.specs.Operate.{operated}
 use Rattle.arm_step.specs.Laws.{PairsDiffer, TellsOrder, CompareTells}
 
 not_not : (b : Bool) → b ≡ not (not b)

@@ -16,10 +16,10 @@ use Rattle.arm_step.specs.declared.turn.Turn.{Turn}
 use Rattle.arm_step.specs.Conditions.{holds}
 use Rattle.arm_step.specs.State.{State}
 use Rattle.arm_step.specs.Effect.{advanced}
-use Rattle.arm_step.specs.Words.{are_free, are_mapped, with_words, words_stored, words_store_fault}
+use Rattle.arm_step.specs.Words.{are_free, are_mapped, with_words, words_stored}
 use Rattle.arm_step.specs.Transfers.{loaded, stored, transferred, value_stored, transfer_address}
 use Rattle.arm_step.specs.Blocks.{block_loaded, block_stored, block_transferred, block_start, block_values}
-use Rattle.arm_step.specs.Step.{or_fault, acted, acted_if_decoded, executed, executed_if_fetched, stepped}
+use Rattle.arm_step.specs.Step.{or_fault, acted, acted_if_decoded, executed_if_fetched, stepped}
 use Rattle.arm_step.specs.OwnedBytes.{IsByWords, Keeps, StepKeeps}
 
 abbrev KeptBy : (ℕ → Bool) → Bytes → Result Bytes Fault → Type 0

@@ -8,8 +8,8 @@ use Rattle.arm_decode.specs.declared.action.BlockTransfer.{BlockTransfer}
 use Rattle.arm_decode.specs.declared.address.BlockMode.{BlockMode}
 use Rattle.arm_decode.specs.declared.address.BlockMode.TheVariants.{DecrementAfter, IncrementAfter, DecrementBefore, IncrementBefore}
 use Rattle.arm_step.specs.declared.psr.Mode.{Mode}
-use Rattle.arm_step.specs.State.{State, IsCore, register_in, with_pc, with_psr}
-use Rattle.arm_step.specs.Effect.{advanced, plain_operand, with_result, with_status}
+use Rattle.arm_step.specs.State.{State, IsCore, register_in}
+use Rattle.arm_step.specs.Effect.{advanced, plain_operand, with_result}
 use Rattle.arm_step.specs.Words.{words_at, with_words}
 use Rattle.arm_step.specs.Blocks.{listed_below, listed, stepped_base, block_size, block_start, block_base, bank_of, with_block_base, with_loaded, with_status_if, with_block_status, block_value, block_values}
 use Rattle.arm_step.specs.BlockOrder.{LoadsInOrder, StoresInOrder}

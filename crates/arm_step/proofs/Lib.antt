@@ -6,6 +6,7 @@ pub mod Framing
 pub mod Listing
 pub mod Lowest
 pub mod PageWords
+pub mod RegisterWords
 pub mod Restoring
 pub mod SeveralWords
 pub mod Turning

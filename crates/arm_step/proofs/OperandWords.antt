@@ -19,7 +19,7 @@ use Rattle.arm_step.specs.declared.psr.Psr.{Psr}
 use Rattle.arm_step.specs.Psr.{psr_bits, mode_number}
 use Rattle.arm_step.specs.State.{State, IsCore, register_in}
 use Rattle.arm_step.specs.Effect.{ahead, plain_operand, status_operand}
-use Rattle.arm_step.specs.Operand.{kept, shifted_by, shifted_by_zero, shifted_by_number, shifted_by_byte, immediate, shifted_register, operand_of}
+use Rattle.arm_step.specs.Operand.{kept, shifted_by, shifted_by_zero, shifted_by_number, shifted_by_byte, immediate, operand_of}
 use Rattle.arm_step.proofs.Turning.{one_below}
 
 pub is_word : (s : State) (m : Mode) (r : ℕ) → IsCore s → register_in m s r < 2 ^ 32

@@ -10,7 +10,7 @@ use Rattle.address_map.specs.declared.map.AddressMap.{AddressMap}
 use Rattle.address_map.proofs.Bytes.{is_mapped-page}
 use Rattle.address_map.proofs.Spans.{mapped_below}
 use Rattle.arm_step.specs.PageWords.{are_in_page, missing, words_in}
-use Rattle.arm_step.specs.Words.{are_mapped, are_free, words_at, words_load_fault, words_store_fault, words_loaded}
+use Rattle.arm_step.specs.Words.{are_mapped, are_free, words_at, words_store_fault, words_loaded}
 use Rattle.arm_step.proofs.SeveralWords.{words_all}
 
 record IsInPage (a n : ℕ) : Type 0 where

@@ -6,7 +6,7 @@ use Rattle.std.proofs.lemmas.List.{drop_all}
 use Rattle.address_map.specs.Bytes.{Bytes, word_at, word_loaded, unless, with_word, with_word_at}
 use Rattle.address_map.specs.Memory.{bytes_of, byte_at, layout}
 use Rattle.address_map.specs.declared.map.AddressMap.{AddressMap}
-use Rattle.arm_step.specs.Words.{are_mapped, are_free, words_at, with_words, words_load_fault, words_loaded}
+use Rattle.arm_step.specs.Words.{are_mapped, are_free, words_at, with_words, words_loaded}
 use Rattle.profile.specs.declared.fault.Fault.{Fault}
 use Rattle.profile.specs.declared.fault.Fault.TheVariants.{AddressException, DataUnmapped}
 

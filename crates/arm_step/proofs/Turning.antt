@@ -6,7 +6,7 @@ use Rattle.std.proofs.lemmas.Nat.{pow-add, shl-shr, shr-shr, mod-pow-add}
 use Rattle.std.proofs.Math.Nat.{mul-mod_left}
 use Rattle.profile.specs.Shift.{rotated_through}
 use Rattle.profile.specs.declared.shift.Shifted.{Shifted}
-use Rattle.arm_step.specs.Operand.{shifted_by, shifted_by_number, shifted_by_zero, kept}
+use Rattle.arm_step.specs.Operand.{kept}
 use Rattle.arm_step.specs.Laws.{turned_times, RotatesByShifting, TurnsRound}
 
 left_part : (x n : ℕ) → n < 32 → x * 2 ^ (32 - n) % 2 ^ 32 ≡ x % 2 ^ n * 2 ^ (32 - n)

@@ -237,17 +237,17 @@ impl Cpu {
     pub(crate) fn transfer_block(
         &mut self,
         memory: &mut AddressMap,
-        block: BlockTransfer,
+        block: &BlockTransfer,
     ) -> Result<(), Fault>
-        ensures state { let moved = block_transferred (is_owned memory.old) self.old (bytes_of memory.old) block in
+        ensures state { let moved = block_transferred (is_owned memory.old) self.old (bytes_of memory.old) block.now in
             Leaves (self.old, bytes_of memory.old) moved result (self.new, bytes_of memory.new) }
         ensures layout { layout memory.new ≡ layout memory.old }
         ensures marks { class_of memory.new ≡ class_of memory.old }
     {
         if block.loads {
-            self.load_block(memory, &block)
+            self.load_block(memory, block)
         } else {
-            self.store_block(memory, &block)
+            self.store_block(memory, block)
         }
     }
 }

@@ -1,5 +1,5 @@
-ghost use Rattle.std.specs.Prelude.{◌≡◌, ◌<◌, ◌≤◌, ◌^◌, ◌%◌, length};
-ghost use Rattle.arm_step.specs.State.{slot_of, register_in, with_register_in, register_of, with_register, r15_of, with_psr, with_pc, with_flags, with_overflow, with_mode, start_state};
+ghost use Rattle.std.specs.Prelude.{◌≡◌, ◌<◌, ◌≤◌, ◌^◌, ◌%◌, ℕ, slice_index};
+ghost use Rattle.arm_step.specs.State.{IsCore, slot_of, register_in, with_register_in, register_of, with_register, r15_of, with_psr, with_pc, with_flags, with_overflow, with_mode, start_state};
 
 use crate::psr::{Mode, Psr};
 use profile::memory_map::{ADDRESS_LIMIT, APPLICATION_START, SVC_STACK_END};
@@ -35,15 +35,24 @@ fn slot(mode: Mode, number: u32) -> usize
     ensures bound { result < 26 }
 {
     let shared = number as usize;
-    // Nearly all steps are of user mode, and all modes share R0 to R7.
-    if shared < 8 || mode == Mode::User {
+    // Nearly all steps are of user mode.
+    if mode == Mode::User {
         return shared;
     }
     match mode {
-        Mode::FastInterrupt => shared + 7,
+        Mode::FastInterrupt if shared >= 8 => shared + 7,
         Mode::Interrupt if shared >= 13 => shared + 9,
         Mode::Supervisor if shared >= 13 => shared + 11,
         _ => shared,
+    }
+}
+
+// Registers are words.
+fn are_words(file: &[u32; 26])
+    ensures { (k : ℕ) → slice_index file.now k < 2 ^ 32 }
+{
+    for number in 0..26 {
+        let _word = file[number];
     }
 }
 
@@ -71,11 +80,12 @@ impl Cpu {
         }
     }
 
-    /// Every core has 26 registers, those of all banks. The call does nothing but to say so.
-    pub fn has_all_registers(&self)
-        ensures { length self.now.file ≡ 26 }
+    /// Every core has 26 registers, those of all banks, each of them a word, and its program
+    /// counter is a multiple of 4 below 2^26. The call does nothing but to say so.
+    pub fn known(&self)
+        ensures { IsCore self.now }
     {
-        let _file = &self.file;
+        are_words(&self.file);
     }
 
     /// R0 to R14 of a mode, whatever the present one.

@@ -4,7 +4,8 @@ ghost use Rattle.std.specs.Prelude.{◌≡◌, ◌≢◌, ◌<◌, ◌≤◌, �
 ghost use Rattle.address_map.specs.Memory.{bytes_of, is_owned, layout, class_of};
 ghost use Rattle.arm_step.specs.Turns.{Turns};
 ghost use Rattle.arm_decode.specs.Decoded.{decoded};
-ghost use Rattle.arm_step.specs.Step.{acted_if_decoded, executed, stepped};
+ghost use Rattle.arm_decode.specs.Fields.{operate_in, multiply_in};
+ghost use Rattle.arm_step.specs.Step.{or_fault, acted_if_decoded, Operates, Multiplies, acted_at, acted_on_block, executed, stepped};
 ghost use Rattle.profile.specs.Outcome.{Leaves};
 
 use crate::condition::is_met;
@@ -75,28 +76,22 @@ impl Cpu {
         ensures marks { class_of memory.new ≡ class_of memory.old }
     {
         match row_of(word)? {
-            Form::Multiply => self.multiply(Multiply::decoded(word)?),
+            Form::Multiply => self.multiply_word(word)?,
             Form::ShiftByNumber => {
                 let second = Operand::Shifted(ShiftedRegister::in_word(word));
-                self.operate(Operate::decoded(second, word)?);
+                self.operate_word(second, word)?;
             }
-            Form::ShiftByRegister => {
-                self.operate(Operate::decoded(Operand::by_register_in(word), word)?);
-            }
-            Form::Immediate => self.operate(Operate::decoded(Operand::immediate_in(word), word)?),
+            Form::ShiftByRegister => self.operate_word(Operand::by_register_in(word), word)?,
+            Form::Immediate => self.operate_word(Operand::immediate_in(word), word)?,
             Form::OffsetByNumber => {
                 let offset = Offset::Immediate(Bits::in_word(word, 0));
-                let address = Address::in_word(offset, word);
-                self.transfer(memory, Transfer::decoded(address, word)?)?;
+                self.transfer_word(memory, Address::in_word(offset, word), word)?;
             }
             Form::OffsetByRegister => {
                 let offset = Offset::Shifted(ShiftedRegister::in_word(word));
-                let address = Address::in_word(offset, word);
-                self.transfer(memory, Transfer::decoded(address, word)?)?;
+                self.transfer_word(memory, Address::in_word(offset, word), word)?;
             }
-            Form::BlockTransfer => {
-                self.transfer_block(memory, BlockTransfer::decoded(word)?)?;
-            }
+            Form::BlockTransfer => self.transfer_block_word(memory, word)?,
             Form::Branch => {
                 let distance: Bits<24> = Bits::in_word(word, 0);
                 self.branch(is_bit_set(word, 24), distance.number());
@@ -107,5 +102,86 @@ impl Cpu {
             }
         }
         Ok(())
+    }
+
+    /// Data processing, by the fields of a word and this second operand.
+    ///
+    /// # Errors
+    ///
+    /// The fault by which the table refuses the word. The core is then as before.
+    #[inline(always)]
+    fn operate_word(&mut self, second: Operand, word: u32) -> Result<(), Fault>
+        ensures { Operates self.old (operate_in second word) result self.new }
+    {
+        let operate = Operate::in_word(second, word);
+        if let Some(fault) = operate.refusal() {
+            return Err(fault);
+        }
+        self.operate(&operate);
+        Ok(())
+    }
+
+    /// MUL and MLA, by the fields of a word.
+    ///
+    /// # Errors
+    ///
+    /// The fault by which the table refuses the word. The core is then as before.
+    #[inline(always)]
+    fn multiply_word(&mut self, word: u32) -> Result<(), Fault>
+        ensures { Multiplies self.old (multiply_in word) result self.new }
+    {
+        let multiply = Multiply::in_word(word);
+        if let Some(fault) = multiply.refusal() {
+            return Err(fault);
+        }
+        self.multiply(&multiply);
+        Ok(())
+    }
+
+    /// LDR and STR at this address, by the fields of a word.
+    ///
+    /// # Errors
+    ///
+    /// The fault by which the table refuses the word, or else that of the transfer. Core and
+    /// memory are then as before.
+    #[tactic(auto, unfolding(crate::specs::Step::acted))]
+    #[inline(always)]
+    fn transfer_word(
+        &mut self,
+        memory: &mut AddressMap,
+        address: Address,
+        word: u32,
+    ) -> Result<(), Fault>
+        ensures state { let acted = acted_at (is_owned memory.old) self.old (bytes_of memory.old) address word in
+            Leaves (self.old, bytes_of memory.old) acted (or_fault result) (self.new, bytes_of memory.new) }
+        ensures layout { layout memory.new ≡ layout memory.old }
+        ensures marks { class_of memory.new ≡ class_of memory.old }
+    {
+        let transfer = Transfer::in_word(address, word);
+        match transfer.refusal() {
+            Some(fault) => Err(fault),
+            None => self.transfer(memory, &transfer),
+        }
+    }
+
+    /// LDM and STM, by the fields of a word.
+    ///
+    /// # Errors
+    ///
+    /// The fault by which the table refuses the word, or else that of the transfer. Core and
+    /// memory are then as before.
+    #[tactic(auto, unfolding(crate::specs::Step::acted))]
+    #[inline(always)]
+    fn transfer_block_word(&mut self, memory: &mut AddressMap, word: u32) -> Result<(), Fault>
+        ensures state { let acted = acted_on_block (is_owned memory.old) self.old (bytes_of memory.old) word in
+            Leaves (self.old, bytes_of memory.old) acted (or_fault result) (self.new, bytes_of memory.new) }
+        ensures layout { layout memory.new ≡ layout memory.old }
+        ensures marks { class_of memory.new ≡ class_of memory.old }
+    {
+        let block = BlockTransfer::in_word(word);
+        match block.refusal() {
+            Some(fault) => Err(fault),
+            None => self.transfer_block(memory, &block),
+        }
     }
 }

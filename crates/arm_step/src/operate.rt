@@ -41,14 +41,14 @@ impl Cpu {
     /// Data processing: AND to MVN.
     #[tactic(auto, unfolding(crate::specs::Operate::operated))]
     #[inline(always)]
-    pub(crate) fn operate(&mut self, operate: Operate)
-        ensures { self.new ≡ operated self.old operate }
+    pub(crate) fn operate(&mut self, operate: &Operate)
+        ensures { self.new ≡ operated self.old operate.now }
     {
         let second = self.operand(&operate.operand);
         let first = self.plain_operand(operate.rn, words_ahead(&operate.operand));
         let computed = compute(operate.operation, first, second, self.psr());
         self.advance();
-        self.finish(&operate, computed);
+        self.finish(operate, computed);
     }
 
     /// What data processing does with its result.
@@ -108,10 +108,10 @@ impl Cpu {
 
     /// MUL and MLA.
     #[inline(always)]
-    pub(crate) fn multiply(&mut self, multiply: Multiply)
-        ensures { self.new ≡ multiplied self.old multiply }
+    pub(crate) fn multiply(&mut self, multiply: &Multiply)
+        ensures { self.new ≡ multiplied self.old multiply.now }
     {
-        let value = self.product(&multiply);
+        let value = self.product(multiply);
         self.advance();
         self.set_result(multiply.rd, value);
         if multiply.sets_flags {

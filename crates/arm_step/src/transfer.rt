@@ -141,17 +141,17 @@ impl Cpu {
     pub(crate) fn transfer(
         &mut self,
         memory: &mut AddressMap,
-        transfer: Transfer,
+        transfer: &Transfer,
     ) -> Result<(), Fault>
-        ensures state { let moved = transferred (is_owned memory.old) self.old (bytes_of memory.old) transfer in
+        ensures state { let moved = transferred (is_owned memory.old) self.old (bytes_of memory.old) transfer.now in
             Leaves (self.old, bytes_of memory.old) moved result (self.new, bytes_of memory.new) }
         ensures layout { layout memory.new ≡ layout memory.old }
         ensures marks { class_of memory.new ≡ class_of memory.old }
     {
         if transfer.loads {
-            self.load(memory, &transfer)
+            self.load(memory, transfer)
         } else {
-            self.store(memory, &transfer)
+            self.store(memory, transfer)
         }
     }
 }

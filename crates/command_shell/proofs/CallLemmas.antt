@@ -1,13 +1,14 @@
 -- How a call goes on from one step to the next, and how it ends.
 use Rattle.std.proofs.Common.{◌≡◌, ℕ, zero, suc, ◌<◌, ◌-◌, ◌++◌, false, List, Option, Some, None, Result, Ok, Err, sym}
-use Rattle.std.proofs.Common.{ap, arith, refl, subst, ◌∙◌, Bool, true, length}
+use Rattle.std.proofs.Common.{ap, arith, refl, subst, ◌∙◌, Bool, true, length, []}
+use Rattle.std.proofs.lemmas.List.{append-nil}
 use Rattle.std.proofs.lemmas.Bool.Decides.{nat_tests}
 use Rattle.std.specs.Prelude.{OnOk, ◌==◌, if◌then◌else◌}
 use Rattle.std.specs.Io.KnownBytes.{Appends}
 use Rattle.profile.specs.declared.stop.Stop.{Stop}
 use Rattle.profile.specs.declared.stop.Stop.TheVariants as stop
 use Rattle.profile.specs.Output.{AddsAllBut}
-use Rattle.profile.proofs.OutputLemmas.{AddsAllBut-start, AddsAllBut-more}
+use Rattle.profile.proofs.OutputLemmas.{AddsAllBut-start, AddsAllBut-more, Appends-from_all_but}
 use Rattle.debugger.specs.swi_dispatch.specs.declared.halt.Halt.{Halt}
 use Rattle.debugger.specs.swi_dispatch.specs.declared.halt.Halt.TheVariants as halt
 use Rattle.debugger.specs.swi_dispatch.specs.MachineState.{Outcome, stop_of}
@@ -132,8 +133,10 @@ pub call_ends : {U E : Type 0} (r : Result U E) (a b c : Option (List ℕ)) (fra
     → OnOk r (IsAnswered b c now (end_told s e)) → OnOk r (IsAnswered a c now all)
 call_ends (Ok u) a b c frames s now e all done same over told =
     let whole : finished frames s.left s ≡ end_told s e = finished_ends frames s.left s e over in
+    let rest : List ℕ = (finished frames s.left s).text in
+    let here : Appends b c rest = subst (λ (t : Answered). Appends b c t.text) (sym whole) told.text in
     record {
-      text = done.completes c (subst (λ (t : Answered). Appends b c t.text) (sym whole) told.text);
+      text = Appends-from_all_but a c [] all.text (AddsAllBut-more a b c rest rest [] all.text done here (sym (append-nil rest))) refl;
       state = told.state ∙ ap (λ (t : Answered). t.state) (sym whole) ∙ same;
     }
 call_ends (Err f) a b c frames s now e all done same over told = tt

@@ -1,7 +1,6 @@
 -- Fronts of a script's answers, written one after another, and of the images that it adds.
-use Rattle.std.proofs.Common.{◌≡◌, ◌∙◌, ℕ, List, [], ◌++◌, Option, sym, ap, append_assoc, refl, subst}
+use Rattle.std.proofs.Common.{◌≡◌, ◌∙◌, ℕ, List, [], ◌++◌, Option, sym, ap, append_assoc, subst}
 use Rattle.std.proofs.lemmas.List.{append-nil}
-use Rattle.std.specs.Io.KnownBytes.{Appends}
 use Rattle.profile.proofs.OutputLemmas.{AddsAllBut-start}
 use Rattle.profile.specs.Output.{AddsAllBut, AddsFront}
 use Rattle.image_loader.specs.Entries.{Entry}

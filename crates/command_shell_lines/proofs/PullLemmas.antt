@@ -13,7 +13,7 @@ pulls_none (Some n) =
 
 pub pulls_more : (a b c : Option ℕ) (most : ℕ) → HasPulled a b most → PullsOnce b c → HasPulled a c (most + 1)
 pulls_more None b c most pulled once = record { pulls = tt }
-pulls_more (Some n) None c most pulled once = absurd (grind (pulled.pulls.tells))
+pulls_more (Some n) None c most pulled once = absurd (grind (arith, pulled.pulls.tells))
 pulls_more (Some n) (Some m) c most pulled once =
     let at : Some m ≡ Some pulled.pulls.count = pulled.pulls.tells in
     let more = pulled.pulls.no_fewer in

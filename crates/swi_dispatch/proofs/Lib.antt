@@ -6,6 +6,7 @@ pub mod ErrorNumbers
 pub mod FlexCalls
 pub mod GateLemmas
 pub mod Kept
+pub mod NextTurn
 pub mod OpenFrames
 pub mod Quiet
 pub mod RunLoop

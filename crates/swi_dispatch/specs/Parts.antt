@@ -1,5 +1,5 @@
 -- The parts of the real machine, and the written machine that they stand for.
-use Rattle.std.specs.Prelude.{◌≡◌, ◌≤◌, ◌<◌, ◌%◌, ◌^◌, length, ℕ, Bool, true, false, IfSome, Option, Some, None, Result, Ok, Err}
+use Rattle.std.specs.Prelude.{◌≡◌, ◌≢◌, ◌≤◌, ◌<◌, length, ℕ, Bool, true, false, IfSome, Option, Some, None, Result, Ok, Err}
 use Rattle.std.specs.Prelude.{List, []}
 use Rattle.profile.specs.Sizes.{Sizes}
 use Rattle.address_map.specs.declared.map.AddressMap.{AddressMap}
@@ -9,7 +9,8 @@ use Rattle.dynamic_areas.specs.Ground.{AreAreas, IsRecorded, system_pages}
 use Rattle.dynamic_areas.specs.Rooms.{IsAreaTable}
 use Rattle.flex_ground.specs.Ground.{HasFlex}
 use Rattle.arm_step.specs.declared.turn.Turn.{Turn}
-use Rattle.arm_step.specs.State.{State}
+use Rattle.arm_step.specs.declared.turn.Turn.TheVariants as turn
+use Rattle.arm_step.specs.State.{IsCore, State}
 use Rattle.flex_ground.specs.instances_ground.specs.World.{World, world_of}
 use Rattle.instances_plans.specs.Plans.{Plan}
 use Rattle.instances_table.specs.Modules.{AreModules}
@@ -63,16 +64,14 @@ pub record IsWellFormed (p : Parts) : Type 0 where
   pub fresh : p.is_fresh ≡ true → state_of p ≡ start_of p.sizes
 
 -- All that holds of every machine, whatever its guest does. Beside what its steps keep: the core has 26 registers, those
--- of all banks, and its program counter is a multiple of 4 below 2^26; bytes are below 256; the areas are a good table
+-- of all banks, each a word, and its program counter is a multiple of 4 below 2^26; bytes are below 256; the areas are a good table
 -- of at most 32; titles, names and slots of modules differ, slots are below 64, and each module has a preferred
 -- instance; at most 32 frames are open; and the text of a call that is under way has at most 255 bytes. (The slots that
 -- its plan names are those of instances, or below 64 where it is to add one: that is said with the plan, in `modules` of
 -- `IsWellFormed`.)
 pub record IsMachine (p : Parts) : Type 0 where
   pub well_formed : IsWellFormed p
-  pub registers : length p.cpu.file ≡ 26
-  pub counter : p.cpu.pc < 2 ^ 26
-  pub aligned : p.cpu.pc % 4 ≡ 0
+  pub core : IsCore p.cpu
   pub bytes : (a : ℕ) → (store_of p.map).bytes.at a < 256
   pub areas : IsAreaTable p.tables.land.areas
   pub few_areas : length p.tables.land.areas ≤ 32
@@ -99,3 +98,7 @@ pub record OnlyState (old new : Parts) : Type 0 where
 -- the core takes a turn, and the rest of the machine stays
 abbrev pub TakesTurn : MachineState → Turn → MachineState → Type 0
 TakesTurn s t s' = Turned s (instructed s) t s'
+
+-- the turn that comes next, where it isn't one that the core does by itself
+abbrev pub ComesNext : MachineState → Turn → Type 0
+ComesNext s t = t ≢ turn.Done → TakesTurn s t s

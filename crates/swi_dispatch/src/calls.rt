@@ -44,6 +44,7 @@ impl Machine {
 
     // OS_Module, by its reason in R0.
     #[tactic(auto, using(crate::proofs::Beginning::begins), unfolding(crate::specs::Step::os_module_called))]
+    #[inline(never)]
     fn call_os_module(&mut self, images: &Images, is_x: bool, next: u32, number: u32)
         requires step { IsInStep self.old }
         requires next { next < 2 ^ 26 }

@@ -59,7 +59,7 @@ impl Machine {
         ensures { (caller : Psr) (next : ℕ) → result
             ≡ error_number (gone_back caller (with_error (state_of self.now) (Refusal.System error)) true next) }
     {
-        self.cpu.has_all_registers();
+        self.cpu.known();
         error.number()
     }
 

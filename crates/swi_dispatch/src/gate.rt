@@ -68,6 +68,7 @@ impl Machine {
 
     // The call whose entry it was is carried on. Where its caller takes no error, and there is one, nothing is changed.
     #[tactic(auto, using(crate::proofs::GateLemmas::entry_went_on))]
+    #[inline(never)]
     fn leave_entry(&mut self, frame: Frame)
         requires step { IsInStep self.old }
         requires last { innermost (state_of self.old).tables.frames ≡ Some frame }

@@ -144,7 +144,7 @@ impl Machine {
 
     /// Takes one step: an instruction or a store call. Answers why the machine is halted, if it is;
     /// a halted machine stays as it is.
-    #[tactic(auto, using(crate::proofs::Turning::turned_by), unfolding(crate::specs::Step::machine_step))]
+    #[tactic(auto, unfolding(crate::specs::Step::machine_step))]
     pub fn step(&mut self, images: &Images) -> Option<Stop>
         ensures after { outcome_of self.new ≡ machine_step images.now (state_of self.old) }
         ensures stop { result ≡ option_map stop_of (state_of self.new).halt }
@@ -152,13 +152,11 @@ impl Machine {
         ensures sizes { self.new.sizes ≡ self.old.sizes }
         ensures well_formed { IsWellFormed self.new }
     {
-        self.begin_step();
         if self.stop().is_some() {
+            self.begin_step();
             return self.stop();
         }
-        let turn = self.instruction();
-        self.after_turn(images, turn);
-        self.stop()
+        self.step_from(images, Turn::Done)
     }
 
     /// Makes a store call as a guest would by an instruction with the X bit that stands before the
@@ -244,8 +242,7 @@ impl Machine {
     pub fn known(&self)
         ensures { IsMachine self.now }
     {
-        self.cpu.has_all_registers();
-        self.cpu.pc();
+        self.cpu.known();
         self.areas.list();
         self.instances.known();
         self.frames.len();
@@ -352,12 +349,13 @@ impl Machine {
     }
 
     // A step prints into an empty list, and a machine that has been stepped can't be booted.
-    fn begin_step(&mut self)
+    pub(crate) fn begin_step(&mut self)
         ensures after { outcome_of self.new ≡ quiet (state_of self.old) }
         ensures state { state_of self.new ≡ state_of self.old }
         ensures printed { self.new.printed ≡ [] }
         ensures fresh { self.new.is_fresh ≡ false }
         ensures sizes { self.new.sizes ≡ self.old.sizes }
+        ensures well_formed { IsWellFormed self.new }
     {
         self.mark_stepped();
         self.forget_output();
@@ -395,7 +393,7 @@ impl Machine {
     }
 
     // What a turn of the core leaves to the machine.
-    fn after_turn(&mut self, images: &Images, turn: Turn)
+    pub(crate) fn after_turn(&mut self, images: &Images, turn: Turn)
         requires step { IsInStep self.old }
         ensures after { outcome_of self.new ≡ turn_end images.now (state_of self.old) turn }
         ensures others { OnlySteps self.old self.new }

@@ -16,6 +16,7 @@ impl Machine {
     ghost use Rattle.swi_dispatch.specs.Step.{call_refused, handler_entered, module_called};
 
     /// A call that isn't the system's own.
+    #[inline(never)]
     pub(crate) fn call_module(&mut self, is_x: bool, next: u32, number: u32)
         requires step { IsInStep self.old }
         requires next { next < 2 ^ 26 }

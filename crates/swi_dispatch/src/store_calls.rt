@@ -117,7 +117,7 @@ impl Machine {
             → ended (state_of self.now) false (call_answer (state_of self.now) next number name)
             ≡ halted (state_of self.now) (Halt.Fault (ErrorStop (error_code e))) }
     {
-        self.cpu.has_all_registers();
+        self.cpu.known();
         match name {
             Some(SwiName::ChangeDynamicArea) => change_error(&self.cpu, &self.memory, &self.areas),
             _ => None,

@@ -72,7 +72,7 @@ impl Frame {
 fn shared_registers(cpu: &Cpu) -> [u32; SAVED_REGISTERS]
     ensures { result ≡ shared_registers cpu.now }
 {
-    cpu.has_all_registers();
+    cpu.known();
     let mut saved = [0; SAVED_REGISTERS];
     for number in 0..SAVED_REGISTERS {
         saved[number] = cpu.register_in(Mode::User, number as u32);

@@ -1,7 +1,7 @@
 use Rattle.std.proofs.Common.{◌<◌, ◌+◌, ◌%◌, ap, sym, ◌∙◌, arith}
 use Rattle.address_map.proofs.Lending.{page_fits, place_ahead}
 use Rattle.address_map.specs.Memory.{bytes_of}
-use Rattle.arm_step.specs.Blocks.{block_size, block_value, block_values}
+use Rattle.arm_step.specs.Blocks.{block_size, block_value}
 use Rattle.arm_step.proofs.Listing.{few_of_all}
 use Rattle.arm_step.proofs.Lowest.{length_next, stored_as, put_next, put_end}
 use Rattle.arm_step.proofs.PageWords.{page_within}

@@ -1,4 +1,4 @@
-use Rattle.std.proofs.Common.{◌≡◌, ◌<◌, ◌≤◌, ◌%◌, ◌^◌, IfSome, List, ℕ, length, subst, sym}
+use Rattle.std.proofs.Common.{◌≤◌, IfSome, List, ℕ, length, subst, sym}
 use Rattle.address_map.proofs.Bytes.{byte_at-lt}
 use Rattle.dynamic_areas.specs.declared.area.Area.{Area}
 use Rattle.instances_plans.specs.Plans.{Plan}
@@ -13,13 +13,11 @@ returns c =
     (sym c.self.view_is) c.text_of_plan.ensures in
     subst IsMachine c.self.view_is (record {
       well_formed = c.self.invariant;
-      registers = c.has_all_registers.ensures;
-      counter = subst (λ (n : ℕ). n < 2 ^ 26) c.pc.ensures.value c.pc.ensures.below;
-      aligned = subst (λ (n : ℕ). n % 4 ≡ 0) c.pc.ensures.value c.pc.ensures.aligned;
+      core = c.known.ensures;
       bytes = λ a. byte_at-lt c.self.inside.memory a;
       areas = c.self.invariant.areas.ground.table;
       few_areas = subst (λ (xs : List Area). length xs ≤ 32) c.list.ensures.value c.list.ensures.few;
-      modules = c.known.ensures;
+      modules = c.known-2.ensures;
       frames = subst (λ (n : ℕ). n ≤ 32) c.len.ensures.value c.len.ensures.fits;
       text = text;
     })

@@ -6,4 +6,4 @@ use Rattle.swi_dispatch.proofs.machine.Machine.system_number.Goals as goal
 pub returns : goal.returns
 unfolding store_of
 returns c = λ caller next.
-    rw (← c.self.view_is) (c.number.ensures ∙ sym (system_number _ caller next _ c.self.invariant c.has_all_registers.ensures))
+    rw (← c.self.view_is) (c.number.ensures ∙ sym (system_number _ caller next _ c.self.invariant c.known.ensures.size))

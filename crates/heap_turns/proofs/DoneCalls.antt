@@ -1,0 +1,208 @@
+-- What a call on a heap that is done leaves: the store as it was, or the heap with another list, or with another end.
+use Rattle.std.proofs.Common.{ℕ, ◌≡◌, ◌+◌, ◌-◌, ◌%◌, ◌≤◌, ◌<◌, ◌==◌, ◌&&◌, Bool, true, false, List, Option, Some, None, ok_or, Result, Ok, Err, refl, sym, subst, inl, inr, arith, if◌then◌else◌}
+use Rattle.std.proofs.lemmas.Bool.{cases_Bool, false≢true, leb-false}
+use Rattle.std.specs.Prelude.{nat_le, nat_lt}
+use Rattle.profile.specs.Outcome.{bind}
+use Rattle.profile.specs.declared.error.ErrorNumber.{ErrorNumber}
+use Rattle.profile.specs.declared.error.ErrorNumber.TheVariants.{HeapNotABlock}
+use Rattle.profile.specs.declared.reason.HeapReason.{HeapReason}
+use Rattle.profile.specs.declared.reason.HeapReason.TheVariants as reason
+use Rattle.address_map.specs.Items.{is_total, size_of}
+use Rattle.address_map.specs.Records.{anchor_among}
+use Rattle.address_map.specs.declared.item.Item.{Item}
+use Rattle.address_map.specs.declared.region.Kind.TheVariants as kind
+use Rattle.os_heap_lists.proofs.Spelling.{total_of-numbers}
+use Rattle.os_heap_lists.specs.Heap.{HeapList}
+use Rattle.os_heap_lists.specs.Lists.{Claim, changed_by, claimed, live_total, released, resized_in_place, round_up_8, total_for}
+use Rattle.os_heap.proofs.Calls.{claimed_in, released_in}
+use Rattle.os_heap.proofs.Found.{found_start}
+use Rattle.os_heap.proofs.Moving.{found_held}
+use Rattle.os_heap.proofs.Resizing.{larger_where_none}
+use Rattle.os_heap.specs.Calls.{begun, begun_with, block_sized, changed, copied, described, end_changed, ending, gave_back, got, has_own_size, holding, holds_anchor, moved, resized, resized_or_moved, unless_image}
+use Rattle.os_heap.specs.Ranges.{is_heap_region, meets_any}
+use Rattle.os_heap.specs.Store.{Store, find_heap, guest_count, has_image}
+use Rattle.heap_turns.proofs.Likeness.{with_list}
+use Rattle.heap_turns.proofs.Plain.{sized_to}
+use Rattle.heap_turns.specs.Lists.{is_on_heap}
+use Rattle.heap_turns.specs.Turns.{call_on}
+
+-- what a call leaves, if it is done
+abbrev pub OnDone : (A : Type 0) → (Store → Type 0) → Result (Store × A) ErrorNumber → Type 0
+OnDone A P (Ok r) = P r.0
+OnDone A P (Err e) = Unit {0}
+
+done_bound : (A B : Type 0) (P : Store → Type 0) (k : A → B) (r : Result (Store × A) ErrorNumber) → OnDone A P r → OnDone B P (bind r (λ x. Ok (x.0, k x.1)))
+done_bound A B P k (Ok r) done = done
+done_bound A B P k (Err e) done = tt
+
+done_told : (A B : Type 0) (P : Store → Type 0) (s : Store) (k : A → B) (r : Result A ErrorNumber) → P s → OnDone B P (bind r (λ x. Ok (s, k x)))
+done_told A B P s k (Ok x) same = same
+done_told A B P s k (Err e) same = tt
+
+-- a block that is moved from `block`, with what is left of its heap then
+abbrev pub moved_to : Store → HeapList → Claim → ℕ → ℕ → Store
+moved_to s k c block old = copied (holding s k c.items) block (k.start + 16 + c.offset + 4) (old - 4)
+
+-- what holds of each store that a call on a heap can leave
+pub record Leave (P : Store → Type 0) (s : Store) (k : HeapList) : Type 0 where
+  pub held : (items : List Item) → P (holding s k items)
+  pub moved : (c : Claim) (block old new : ℕ) (items : List Item) → is_total new ≡ true → old ≤ new
+      → claimed new (k.end - 16) k.items ≡ Some c → P (holding (moved_to s k c block old) (with_list k c.items) items)
+  pub ended : (end : ℕ) → (nat_lt k.end end && meets_any (k.start + k.end) (end - k.end) s) ≡ false → P (ending s k end)
+
+claim_done : (P : Store → Type 0) (s : Store) (k : HeapList) (o : Option Claim) → ((items : List Item) → P (holding s k items)) → OnDone ℕ P (claimed_in s k o)
+claim_done P s k None held = tt
+claim_done P s k (Some c) held = held c.items
+
+got_done : (P : Store → Type 0) (s : Store) (k : HeapList) (size : ℕ) → find_heap k.start s.heaps ≡ Some k → Leave P s k → OnDone ℕ P (got s k.start size)
+unfolding got
+got_done P s k size found leave = rw found (claim_done P s k (claimed (total_for size) (k.end - 16) k.items) leave.held)
+
+release_done : (P : Store → Type 0) (s : Store) (k : HeapList) (holds : Bool) (o : Option (List Item)) → ((items : List Item) → P (holding s k items))
+    → OnDone (Unit {0}) P (released_in s k holds o)
+release_done P s k holds None held = tt
+release_done P s k true (Some items) held = tt
+release_done P s k false (Some items) held = held items
+
+gave_done : (P : Store → Type 0) (s : Store) (k : HeapList) (block : ℕ) → find_heap k.start s.heaps ≡ Some k → ((items : List Item) → P (holding s k items))
+    → OnDone (Unit {0}) P (gave_back s k.start block)
+unfolding gave_back
+gave_done P s k block found held =
+    rw found (release_done P s k (holds_anchor s.anchor block (live_total block (k.start + 16) k.items))
+    (unless_image (has_image block s.others) (released block (k.start + 16) k.items)) held)
+
+move_done : (P : Store → Type 0) (s : Store) (k : HeapList) (block old new : ℕ) (o : Option Claim) → find_heap k.start s.heaps ≡ Some k → Leave P s k
+    → is_total new ≡ true → old ≤ new → claimed new (k.end - 16) k.items ≡ o → OnDone ℕ P (moved s k block old new)
+move_done P s k block old new None found leave total less none = rw none tt
+move_done P s k block old new (Some c) found leave total less some =
+    rw some (done_bound (Unit {0}) ℕ P (λ _. k.start + 16 + c.offset + 4) (gave_back (moved_to s k c block old) k.start block)
+    (gave_done P (moved_to s k c block old) (with_list k c.items) block (found_held k.start c.items s.heaps k found)
+    (λ items. leave.moved c block old new items total less some)))
+
+refit_done : (P : Store → Type 0) (s : Store) (k : HeapList) (block old new : ℕ) (o : Option (List Item)) → find_heap k.start s.heaps ≡ Some k → Leave P s k
+    → is_total new ≡ true → (o ≡ None → old ≤ new) → OnDone ℕ P (resized_or_moved s k block old new o)
+refit_done P s k block old new None found leave total less = elim (cases_Bool (holds_anchor s.anchor block (Some old))) [
+  | inl held ↦ rw held tt
+  | inr free ↦ rw free (move_done P s k block old new (claimed new (k.end - 16) k.items) found leave total (less refl) refl)
+]
+refit_done P s k block old new (Some items) found leave total less = elim (cases_Bool (anchor_among s.anchor (block - 4 + new) (old - new))) [
+  | inl held ↦ rw held tt
+  | inr free ↦ rw free (leave.held items)
+]
+
+sized_done : (P : Store → Type 0) (s : Store) (k : HeapList) (block change old : ℕ) → find_heap k.start s.heaps ≡ Some k → Leave P s k
+    → live_total block (k.start + 16) k.items ≡ Some old → OnDone ℕ P (sized_to s k block change old)
+sized_done P s k block change old found leave live = elim (cases_Bool (nat_le (changed_by old change) 4)) [
+  | inl few ↦ rw few (done_bound (Unit {0}) ℕ P (λ _. 0) (gave_back s k.start block) (gave_done P s k block found leave.held))
+  | inr more ↦
+      let sum : ℕ = changed_by old change in
+      let many : 4 < sum = leb-false sum 4 more in
+      let new : ℕ = round_up_8 sum in
+      rw more (refit_done P s k block old new (resized_in_place block (k.start + k.end) new (k.start + 16) k.items) found leave
+      (total_of-numbers new (omega (arith, many)) (omega arith))
+      (λ none. omega (arith, larger_where_none block (k.start + k.end) new (k.start + 16) old k.items live none)))
+]
+
+asked_done : (P : Store → Type 0) (s : Store) (k : HeapList) (block change : ℕ) (image : Bool) (o : Option ℕ) → find_heap k.start s.heaps ≡ Some k → Leave P s k
+    → live_total block (k.start + 16) k.items ≡ o → OnDone ℕ P (bind (ok_or (unless_image image o) HeapNotABlock) (sized_to s k block change))
+asked_done P s k block change true o found leave is = tt
+asked_done P s k block change false None found leave is = tt
+asked_done P s k block change false (Some old) found leave is = sized_done P s k block change old found leave is
+
+resized_done : (P : Store → Type 0) (s : Store) (k : HeapList) (block change : ℕ) → find_heap k.start s.heaps ≡ Some k → Leave P s k
+    → OnDone ℕ P (resized s k.start block change)
+unfolding resized
+resized_done P s k block change found leave =
+    rw found (asked_done P s k block change (has_image block s.others) (live_total block (k.start + 16) k.items) found leave refl)
+
+end_done : (P : Store → Type 0) (s : Store) (k : HeapList) (change end : ℕ) → Leave P s k → OnDone (Unit {0}) P (end_changed s k change end)
+end_done P s k change end leave = elim (cases_Bool (change % 4 == 0 && is_heap_region s.bytes k.start end)) [
+  | inr bad ↦ rw bad tt
+  | inl good ↦ elim (cases_Bool (nat_lt k.end end && meets_any (k.start + k.end) (end - k.end) s)) [
+    | inl over ↦ rw (good, over) tt
+    | inr clear ↦ elim (cases_Bool (nat_lt end (16 + size_of k.items))) [
+      | inl short ↦ rw (good, clear, short) tt
+      | inr fits ↦ rw (good, clear, fits) (leave.ended end clear)
+    ]
+  ]
+]
+
+changed_done : (P : Store → Type 0) (s : Store) (k : HeapList) (change : ℕ) → find_heap k.start s.heaps ≡ Some k → Leave P s k
+    → OnDone (Unit {0}) P (changed s k.start change)
+unfolding changed
+changed_done P s k change found leave = elim (cases_Bool (has_own_size k.kind)) [
+  | inl own ↦ rw (found, own) (end_done P s k change (changed_by k.end change) leave)
+  | inr area ↦ rw (found, area) tt
+]
+
+-- a call on the heap that starts there, or on none
+abbrev Answers : (Store → Type 0) → Store → ℕ → HeapReason → ℕ → ℕ → Type 0
+Answers P s heap why block size = OnDone (ℕ × ℕ) P (call_on s heap why block size)
+
+none_done : (P : Store → Type 0) (s : Store) (heap : ℕ) (why : HeapReason) (block size : ℕ) → is_on_heap why ≡ true → find_heap heap s.heaps ≡ None
+    → Answers P s heap why block size
+unfolding described got gave_back resized changed block_sized
+none_done P s heap reason.Initialise block size on none = absurd (false≢true on)
+none_done P s heap reason.Describe block size on none = rw none tt
+none_done P s heap reason.Get block size on none = rw none tt
+none_done P s heap reason.Free block size on none = rw none tt
+none_done P s heap reason.Resize block size on none = rw none tt
+none_done P s heap reason.ChangeSize block size on none = rw none tt
+none_done P s heap reason.BlockSize block size on none = rw none tt
+
+pub heap_done : (P : Store → Type 0) (s : Store) (k : HeapList) (why : HeapReason) (block size : ℕ) → is_on_heap why ≡ true
+    → find_heap k.start s.heaps ≡ Some k → P s → Leave P s k → Answers P s k.start why block size
+heap_done P s k reason.Initialise block size on found same leave = absurd (false≢true on)
+heap_done P s k reason.Describe block size on found same leave = done_told (ℕ × ℕ) (ℕ × ℕ) P s (λ r. r) (described s k.start) same
+heap_done P s k reason.Get block size on found same leave =
+    done_bound ℕ (ℕ × ℕ) P (λ n. (n, size)) (got s k.start size) (got_done P s k size found leave)
+heap_done P s k reason.Free block size on found same leave =
+    done_bound (Unit {0}) (ℕ × ℕ) P (λ _. (block, size)) (gave_back s k.start block) (gave_done P s k block found leave.held)
+heap_done P s k reason.Resize block size on found same leave =
+    done_bound ℕ (ℕ × ℕ) P (λ n. (n, size)) (resized s k.start block size) (resized_done P s k block size found leave)
+heap_done P s k reason.ChangeSize block size on found same leave =
+    done_bound (Unit {0}) (ℕ × ℕ) P (λ _. (block, size)) (changed s k.start size) (changed_done P s k size found leave)
+heap_done P s k reason.BlockSize block size on found same leave =
+    done_told ℕ (ℕ × ℕ) P s (λ n. (block, n)) (block_sized s k.start block) same
+
+found_done : (P : Store → Type 0) (s : Store) (heap : ℕ) (why : HeapReason) (block size : ℕ) (o : Option HeapList) → is_on_heap why ≡ true
+    → find_heap heap s.heaps ≡ o → P s → ((k : HeapList) → k.start ≡ heap → find_heap k.start s.heaps ≡ Some k → Leave P s k) → Answers P s heap why block size
+found_done P s heap why block size None on none same leave = none_done P s heap why block size on none
+found_done P s heap why block size (Some k) on found same leave =
+    let start : k.start ≡ heap = found_start heap s.heaps k found in
+    let own : find_heap k.start s.heaps ≡ Some k = subst (λ (p : ℕ). find_heap p s.heaps ≡ Some k) (sym start) found in
+    subst (λ (p : ℕ). Answers P s p why block size) start (heap_done P s k why block size on own same (leave k start own))
+
+-- one that makes a heap
+pub begun_done : (P : Store → Type 0) (s : Store) (at block size : ℕ)
+    → (is_heap_region s.bytes at size ≡ true → meets_any at size s ≡ false → P (begun_with kind.Heap s at size))
+    → Answers P s at reason.Initialise block size
+unfolding begun
+begun_done P s at block size begins = elim (cases_Bool (is_heap_region s.bytes at size)) [
+  | inr bad ↦ rw bad tt
+  | inl good ↦ elim (cases_Bool (meets_any at size s)) [
+    | inl over ↦ rw (good, over) tt
+    | inr clear ↦ elim (cases_Bool (nat_le 64 (guest_count s.heaps))) [
+      | inl full ↦ rw (good, clear, full) tt
+      | inr room ↦ rw (good, clear, room) (begins good clear)
+    ]
+  ]
+]
+
+-- any
+pub call_done : (P : Store → Type 0) (s : Store) (heap : ℕ) (why : HeapReason) (block size : ℕ) → P s
+    → (is_on_heap why ≡ true → (k : HeapList) → k.start ≡ heap → find_heap k.start s.heaps ≡ Some k → Leave P s k)
+    → (is_heap_region s.bytes heap size ≡ true → meets_any heap size s ≡ false → P (begun_with kind.Heap s heap size))
+    → Answers P s heap why block size
+call_done P s heap why block size same leave begins = elim (cases_Bool (is_on_heap why)) [
+  | inl on ↦ found_done P s heap why block size (find_heap heap s.heaps) on refl same (leave on)
+  | inr made ↦ subst (λ (x : HeapReason). Answers P s heap x block size) (initialise why made) (begun_done P s heap block size begins)
+] where
+  initialise : (why : HeapReason) → is_on_heap why ≡ false → reason.Initialise ≡ why
+  initialise reason.Initialise made = refl
+  initialise reason.Describe made = absurd (false≢true (sym made))
+  initialise reason.Get made = absurd (false≢true (sym made))
+  initialise reason.Free made = absurd (false≢true (sym made))
+  initialise reason.Resize made = absurd (false≢true (sym made))
+  initialise reason.ChangeSize made = absurd (false≢true (sym made))
+  initialise reason.BlockSize made = absurd (false≢true (sym made))

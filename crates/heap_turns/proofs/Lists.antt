@@ -1,0 +1,158 @@
+-- Lists of calls, on a heap and on others.
+use Rattle.std.proofs.Common.{ℕ, ◌≡◌, ◌==◌, ◌&&◌, ◌∙◌, Bool, true, false, List, [], ◌∷◌, ◌++◌, Option, None, Some, Result, Ok, Err, refl, sym, ap, subst, inl, inr, if◌then◌else◌}
+use Rattle.std.proofs.lemmas.Bool.{and_parts, cases_Bool, eqb-true}
+use Rattle.profile.specs.declared.error.ErrorNumber.{ErrorNumber}
+use Rattle.profile.specs.declared.reason.HeapReason.{HeapReason}
+use Rattle.address_map.specs.declared.region.Region.{Region}
+use Rattle.os_heap_lists.specs.Heap.{HeapList}
+use Rattle.os_heap.specs.Store.{Store, IsSound, find_heap}
+use Rattle.heap_turns.proofs.DoneCalls.{OnDone, call_done}
+use Rattle.heap_turns.proofs.KeptHeaps.{others_kept, own_kept}
+use Rattle.heap_turns.proofs.Likeness.{bytes_like}
+use Rattle.heap_turns.proofs.OwnCalls.{own_turns}
+use Rattle.heap_turns.specs.Alone.{Alone, HeapCall, alone_in, call_given}
+use Rattle.heap_turns.specs.Laws.{AnswerAlike, AreImagesFull, HasHeapStill, HeapsStandAlone, IsGuestHeap, KeepsHeap, StandsAlone, StoresAnswerAlike}
+use Rattle.heap_turns.specs.Lists.{AreSound, StoreCall, after, after_all, calls_on, given_in, is_call_to, is_on_heap, outcome, replies_on, store_or}
+use Rattle.heap_turns.specs.Turns.{Reply, Turn, alone_or, alone_then, call_on, left_by, replied, replies, reply_of, turned}
+
+-- a call leaves the other records
+others_same : (s : Store) (c : StoreCall) → OnDone (ℕ × ℕ) (λ t. t.others ≡ s.others) (outcome s c)
+others_same s c = call_done (λ t. t.others ≡ s.others) s c.heap c.why c.block c.size refl
+    (λ on k start found. record { held = λ items. refl; moved = λ c block old new items total less is. refl; ended = λ end clear. refl })
+    (λ region none. refl)
+
+-- where a heap is found that is the guest's, and alone is the one given
+record IsNow (t : Store) (start : ℕ) (w : Alone) : Type 0 where
+  heap : HeapList
+  starts : heap.start ≡ start
+  guest : IsGuestHeap t heap
+  is : alone_in t heap ≡ w
+
+-- after a call on the heap
+now_own : (s : Store) (h : HeapList) (why : HeapReason) (block size : ℕ) (r : Result (Store × (ℕ × ℕ)) ErrorNumber) → IsGuestHeap s h → is_on_heap why ≡ true
+    → call_on s h.start why block size ≡ r → OnDone (ℕ × ℕ) (λ t. t.others ≡ s.others) r → IsSound (store_or s r)
+    → IsNow (store_or s r) h.start (alone_then (alone_in s h) r)
+now_own s h why block size (Err e) guest on is others sound = record { heap = h; starts = refl; guest = guest; is = refl }
+now_own s h why block size (Ok r) guest on is others sound =
+    let still : HasHeapStill r.0 h.start = own_kept s r.0 h why block size r.1 guest on is in
+    record {
+      heap = still.heap;
+      starts = still.starts;
+      guest = record {
+        sound = sound;
+        found = subst (λ (p : ℕ). find_heap p r.0.heaps ≡ Some still.heap) (sym still.starts) still.found;
+        own = still.own;
+        anchors = still.anchors;
+        images = subst AreImagesFull (sym others) guest.images;
+      };
+      is = sym (ap (alone_or (alone_in s h) r.0) still.found);
+    }
+
+-- and after another
+now_other : (s : Store) (h : HeapList) (c : StoreCall) (r : Result (Store × (ℕ × ℕ)) ErrorNumber) → IsGuestHeap s h → is_call_to h.start c.heap c.why ≡ false
+    → outcome s c ≡ r → OnDone (ℕ × ℕ) (λ t. t.others ≡ s.others) r → IsSound (store_or s r) → IsNow (store_or s r) h.start (alone_in s h)
+now_other s h c (Err e) guest other is others sound = record { heap = h; starts = refl; guest = guest; is = refl }
+now_other s h c (Ok r) guest other is others sound =
+    let kept : KeepsHeap h s r.0 = others_kept s r.0 h c.heap c.why c.block c.size r.1 guest.sound sound guest.found other is in
+    record {
+      heap = h;
+      starts = refl;
+      guest = record {
+        sound = sound;
+        found = kept.found;
+        own = guest.own;
+        anchors = λ a here. kept.anchors a here ∙ guest.anchors a here;
+        images = subst AreImagesFull (sym others) guest.images;
+      };
+      is = ap (λ (b : ℕ → ℕ). let w : Alone = record { heap = h; bytes = b } in w) (bytes_like h.start h.end r.0.bytes.at s.bytes.at kept.bytes);
+    }
+
+-- the call's own part of the lists
+call_step : (s : Store) (h : HeapList) (c : StoreCall) → IsGuestHeap s h
+    → given_in s c (find_heap h.start s.heaps) ≡ call_given s h c.why c.block c.size ∷ []
+call_step s h c guest = ap (given_in s c) guest.found
+
+stands_first : (s : Store) (h : HeapList) (c : StoreCall) (cs : List StoreCall) → IsGuestHeap s h → is_call_to h.start c.heap c.why ≡ true
+    → (let g : HeapCall = call_given s h c.why c.block c.size in let w : Alone = alone_in s h in
+    reply_of (outcome s c) ≡ (turned w g).reply → StandsAlone (after s c) h.start (turned w g).now cs → StandsAlone s h.start w (c ∷ cs))
+stands_first s h c cs guest own reply rest =
+    let w : Alone = alone_in s h in
+    let g : HeapCall = call_given s h c.why c.block c.size in
+    let calls : calls_on s h.start (c ∷ cs) ≡ g ∷ calls_on (after s c) h.start cs =
+    rw own (ap (λ (gs : List HeapCall). gs ++ calls_on (after s c) h.start cs) (call_step s h c guest)) in
+    let answers : replies_on s h.start (c ∷ cs) ≡ reply_of (outcome s c) ∷ replies_on (after s c) h.start cs = rw own refl in
+    record {
+      replies = answers
+          ∙ ap (λ (x : Reply). x ∷ replies_on (after s c) h.start cs) reply
+          ∙ ap (λ (xs : List Reply). (turned w g).reply ∷ xs) rest.replies
+          ∙ sym (ap (replies w) calls);
+      still = rest.still;
+      now = rest.now ∙ sym (ap (left_by w) calls);
+    }
+
+stands_past : (s : Store) (h : HeapList) (c : StoreCall) (cs : List StoreCall) → is_call_to h.start c.heap c.why ≡ false
+    → StandsAlone (after s c) h.start (alone_in s h) cs → StandsAlone s h.start (alone_in s h) (c ∷ cs)
+stands_past s h c cs other rest =
+    let w : Alone = alone_in s h in
+    let calls : calls_on s h.start (c ∷ cs) ≡ calls_on (after s c) h.start cs = rw other refl in
+    let answers : replies_on s h.start (c ∷ cs) ≡ replies_on (after s c) h.start cs = rw other refl in
+    record {
+      replies = answers ∙ rest.replies ∙ sym (ap (replies w) calls);
+      still = rest.still;
+      now = rest.now ∙ sym (ap (left_by w) calls);
+    }
+
+one_step : (s : Store) (h : HeapList) (c : StoreCall) (cs : List StoreCall) → IsGuestHeap s h → IsSound (after s c)
+    → ((w : Alone) → IsNow (after s c) h.start w → StandsAlone (after s c) h.start w cs) → StandsAlone s h.start (alone_in s h) (c ∷ cs)
+one_step s h c cs guest sound rest = elim (cases_Bool (is_call_to h.start c.heap c.why)) [
+  | inr other ↦ stands_past s h c cs other
+      (rest (alone_in s h) (now_other s h c (outcome s c) guest other refl (others_same s c) sound))
+  | inl own ↦
+      let parts = and_parts (is_on_heap c.why) (c.heap == h.start) own in
+      let here : c.heap ≡ h.start = eqb-true c.heap h.start parts.1 in
+      let w : Alone = alone_in s h in
+      let g : HeapCall = call_given s h c.why c.block c.size in
+      let turn : replied w (outcome s c) ≡ turned w g =
+      ap (λ (p : ℕ). replied w (call_on s p c.why c.block c.size)) here ∙ own_turns s h c.why c.block c.size guest parts.0 in
+      let now : IsNow (after s c) h.start (alone_then w (outcome s c)) =
+      now_own s h c.why c.block c.size (outcome s c) guest parts.0 (ap (λ (p : ℕ). call_on s p c.why c.block c.size) (sym here)) (others_same s c) sound in
+      stands_first s h c cs guest own (ap (λ (x : Turn). x.reply) turn)
+      (rest (turned w g).now (subst (IsNow (after s c) h.start) (ap (λ (x : Turn). x.now) turn) now))
+]
+
+-- all of them
+stands : (cs : List StoreCall) (s : Store) (h : HeapList) (start : ℕ) (w : Alone) → h.start ≡ start → IsGuestHeap s h → AreSound s cs → alone_in s h ≡ w
+    → StandsAlone s start w cs
+stands [] s h start w starts guest sound is = record {
+  replies = refl;
+  still = record {
+    heap = h;
+    starts = starts;
+    found = subst (λ (p : ℕ). find_heap p s.heaps ≡ Some h) starts guest.found;
+    own = guest.own;
+    anchors = guest.anchors;
+  };
+  now = is;
+}
+stands (c ∷ cs) s h start w starts guest sound is =
+    let own : StandsAlone s h.start (alone_in s h) (c ∷ cs) =
+    one_step s h c cs guest sound.0 (λ v now. stands cs (after s c) now.heap h.start v now.starts now.guest sound.1 now.is) in
+    subst (λ (p : ℕ). StandsAlone s p w (c ∷ cs)) starts (subst (λ (v : Alone). StandsAlone s h.start v (c ∷ cs)) is own)
+
+pub stand_alone : HeapsStandAlone
+stand_alone s h cs guest sound = stands cs s h h.start (alone_in s h) refl guest sound refl
+
+pub answer_alike : StoresAnswerAlike
+answer_alike s t h cs ds guest guest' sound sound' same given =
+    let one : StandsAlone s h.start (alone_in s h) cs = stand_alone s h cs guest sound in
+    let two : StandsAlone t h.start (alone_in t h) ds = stand_alone t h ds guest' sound' in
+    let both : replies (alone_in s h) (calls_on s h.start cs) ≡ replies (alone_in t h) (calls_on t h.start ds) =
+    ap (λ (w : Alone). replies w (calls_on s h.start cs)) same ∙ ap (replies (alone_in t h)) given in
+    let left : left_by (alone_in s h) (calls_on s h.start cs) ≡ left_by (alone_in t h) (calls_on t h.start ds) =
+    ap (λ (w : Alone). left_by w (calls_on s h.start cs)) same ∙ ap (left_by (alone_in t h)) given in
+    record {
+      replies = one.replies ∙ both ∙ sym two.replies;
+      one = one.still;
+      two = two.still;
+      now = one.now ∙ left ∙ sym two.now;
+    }

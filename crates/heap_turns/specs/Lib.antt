@@ -1,0 +1,5 @@
+pub use Rattle.os_heap
+pub mod Alone
+pub mod Laws
+pub mod Lists
+pub mod Turns
