@@ -60,7 +60,7 @@ other_held at start items (h ∷ hs) other = elim (cases_Bool (h.start == start)
   ]
 ]
 
-other_ended : (at start end : ℕ) (hs : List HeapList) → at ≢ start → find_heap at (with_end start end hs) ≡ find_heap at hs
+pub other_ended : (at start end : ℕ) (hs : List HeapList) → at ≢ start → find_heap at (with_end start end hs) ≡ find_heap at hs
 other_ended at start end [] other = refl
 other_ended at start end (h ∷ hs) other = elim (cases_Bool (h.start == start)) [
   | inl here ↦

@@ -99,7 +99,7 @@ module _ (A : Type 0) (B : A → Type 0) where
     | inr found ↦ rw found (in_fit e (call e.store) f (each (4096 * f.area.pages) e.store f.store))
   ]
 
-abbrev IsAny : {A : Type 0} → A → Type 0
+abbrev pub IsAny : {A : Type 0} → A → Type 0
 IsAny x = Unit {0}
 
 any_left : (A : Type 0) (limit : ℕ) (s : Store) (r : Result (Store × A) ErrorNumber) → OnDone (LeavesFit limit s) r → OnDone (LeavesIn IsAny limit s) r
