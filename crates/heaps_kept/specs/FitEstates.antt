@@ -5,7 +5,8 @@ use Rattle.dynamic_areas.specs.Areas.{find_area}
 use Rattle.dynamic_areas.specs.Ground.{Estate}
 use Rattle.heaps_kept.specs.Fits.{IsFitStore, KeepsOutside}
 
--- the module area's heap ends where area 1, the module area, has its last page, and that area can't have more than its 4 MB
+-- the module area's heap ends where area 1, the module area, has its last page, and that area can't have more than its
+-- 4 MB
 pub record IsFitEstate (e : Estate) : Type 0 where
   pub area : Area
   pub found : find_area 1 e.land.areas ≡ Some area

@@ -1,6 +1,6 @@
--- What holds of the module area's heap in the midst of a step too, when it isn't known that the store is sound; and what a change within the module
--- area and the system pages leaves of all else (RISC OS 3 Programmer's Reference Manual, "OS_Heap" and "The relocatable module area"; the places are
--- this project's own).
+-- What holds of the module area's heap in the midst of a step too, when it isn't known that the store is sound; and
+-- what a change within the module area and the system pages leaves of all else (RISC OS 3 Programmer's Reference Manual,
+-- "OS_Heap" and "The relocatable module area"; the places are this project's own).
 use Rattle.std.specs.Prelude.{ℕ, ◌≡◌, ◌≢◌, ◌≤◌, ◌+◌, Bool, false, Some}
 use Rattle.address_map.specs.Bytes.{in_range}
 use Rattle.address_map.specs.Items.{size_of}
@@ -11,7 +11,8 @@ use Rattle.os_heap.specs.Store.{Store, find_heap}
 abbrev pub is_module_byte : ℕ → Bool
 is_module_byte a = in_range 0x01800000 0x403000 a
 
--- The module area's heap is there and ends at `limit`, counted from its start. Its items have lengths of items, and room up to there.
+-- The module area's heap is there and ends at `limit`, counted from its start. Its items have lengths of items, and
+-- room up to there.
 pub record IsFitStore (limit : ℕ) (s : Store) : Type 0 where
   pub heap : HeapList
   pub found : find_heap 0x01800000 s.heaps ≡ Some heap

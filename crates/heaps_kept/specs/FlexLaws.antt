@@ -1,4 +1,5 @@
--- The flex calls keep each heap in which no anchor lies, where an alloc names none there: they write the store's own range and the words of anchors.
+-- The flex calls keep each heap in which no anchor lies, where an alloc names none there: they write the store's own
+-- range and the words of anchors (Acorn C manual, "flex").
 use Rattle.std.specs.Prelude.{ℕ, ◌≡◌, Bool, true, false, Some, Ok}
 use Rattle.address_map.specs.Bytes.{in_range}
 use Rattle.os_heap_lists.specs.Heap.{HeapList}
@@ -30,10 +31,13 @@ pub record IsFlexDone (s t : Store) (f g : Flex) (call : FlexCall) (answer : Boo
   pub others : t.others ≡ s.others
 
 abbrev pub FlexCallsKeepHeap : Type 0
-FlexCallsKeepHeap = (s t : Store) (f g : Flex) (call : FlexCall) (answer : Bool) (h : HeapList) → IsFlexDone s t f g call answer
+FlexCallsKeepHeap =
+    (s t : Store) (f g : Flex) (call : FlexCall) (answer : Bool) (h : HeapList) → IsFlexDone s t f g call answer
     → IsFreeOfAnchors h s → NamesOutside h call → KeepsHeap h s t
 
 -- Init changes no byte.
 abbrev pub FlexInitKeepsHeap : Type 0
-FlexInitKeepsHeap = (s : Store) (f : Flex) (start end : ℕ) (v : FlexState) (h : HeapList) → IsFreeOfAnchors h s
-    → begun s (flex_state s f) start end ≡ Ok (v, tt) → KeepsHeap h s (store_flexed (with_flex_record s start end) v)
+FlexInitKeepsHeap =
+    (s : Store) (f : Flex) (start end : ℕ) (v : FlexState) (h : HeapList) → IsFreeOfAnchors h s
+    → begun s (flex_state s f) start end ≡ Ok (v, tt)
+    → KeepsHeap h s (store_flexed (with_flex_record s start end) v)

@@ -21,7 +21,10 @@ abbrev pub EstatesAreFit : Type 0
 EstatesAreFit = (e : Estate) → IsEstate e → IsFitEstate e
 
 abbrev pub GuestHeapsLieOutside : Type 0
-GuestHeapsLieOutside = (e : Estate) (h : HeapList) (a : ℕ) → HasGuestHeap e h → in_range h.start h.end a ≡ true → is_module_byte a ≡ false
+GuestHeapsLieOutside =
+    (e : Estate) (h : HeapList) (a : ℕ) → HasGuestHeap e h → in_range h.start h.end a ≡ true
+    → is_module_byte a ≡ false
 
 abbrev pub OutsideKeepsHeap : Type 0
-OutsideKeepsHeap = (e : Estate) (t : Store) (h : HeapList) → HasGuestHeap e h → KeepsOutside e.store t → KeepsHeap h e.store t
+OutsideKeepsHeap =
+    (e : Estate) (t : Store) (h : HeapList) → HasGuestHeap e h → KeepsOutside e.store t → KeepsHeap h e.store t

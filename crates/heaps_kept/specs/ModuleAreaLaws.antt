@@ -1,4 +1,5 @@
--- The calls on the module area stay within it, and so does all that makes a module image there, fills it, or gives it back.
+-- The calls on the module area stay within it, with its growth, and so do new module images there, with the bytes that
+-- they get.
 use Rattle.std.specs.Prelude.{ℕ, ◌≡◌, List, Ok}
 use Rattle.dynamic_areas.specs.Ground.{Estate}
 use Rattle.rma.specs.Calls.{rma_claimed, rma_extended, rma_freed}

@@ -1,4 +1,5 @@
--- The actions of module calls stay in the module area and the system pages: private words, the environment text, images, removals, and the slide.
+-- The actions of module calls stay in the module area and the system pages: private words, the environment text,
+-- images, removals, and the slide.
 use Rattle.std.specs.Prelude.{ℕ, ◌≡◌, ◌≤◌, ◌<◌, false, List, [], ◌∷◌, length}
 use Rattle.address_map.specs.Bytes.{Bytes}
 use Rattle.address_map.specs.declared.region.Region.{Region}
@@ -54,10 +55,12 @@ slot_named (act.Instantiate slot) = slot ∷ []
 slot_named other = []
 
 abbrev pub ActsStayFit : Type 0
-ActsStayFit = (w : World) (g : Given) (a : Action) → IsFitWorld w → AreBelow (slot_named a) → length g.text.items ≤ 255
+ActsStayFit =
+    (w : World) (g : Given) (a : Action) → IsFitWorld w → AreBelow (slot_named a) → length g.text.items ≤ 255
     → WorldStaysFit w (acted world_slid g w a)
 
 -- A plan that finds the instances that it names is carried on to its next code, or to its end.
 abbrev pub PlansStayFit : Type 0
-PlansStayFit = (w : World) (p : Plan) → IsFitEstate w.estate → AreModules w.modules → IsDoable (slots_of w.modules) p → length p.given.text.items ≤ 255
-    → EstateStaysFit w.estate (carried module_doing w p).world.estate
+PlansStayFit =
+    (w : World) (p : Plan) → IsFitEstate w.estate → AreModules w.modules → IsDoable (slots_of w.modules) p
+    → length p.given.text.items ≤ 255 → EstateStaysFit w.estate (carried module_doing w p).world.estate

@@ -6,5 +6,6 @@ use Rattle.os_heap_slide.specs.Slide.{with_slid}
 use Rattle.heaps_kept.specs.Fits.{IsFitStore, StaysFit}
 
 abbrev pub SlidesStayFit : Type 0
-SlidesStayFit = (limit : ℕ) (s : Store) (h : HeapList) (movable : List ℕ) → IsFitStore limit s → find_heap 0x01800000 s.heaps ≡ Some h
-    → StaysFit limit s (with_slid s h movable)
+SlidesStayFit =
+    (limit : ℕ) (s : Store) (h : HeapList) (movable : List ℕ) → IsFitStore limit s
+    → find_heap 0x01800000 s.heaps ≡ Some h → StaysFit limit s (with_slid s h movable)

@@ -1,4 +1,5 @@
--- Each turn of a machine's stores keeps a heap that a guest made and in which no anchor lies: a flex call, or a slide of the module area.
+-- Each turn of a machine's stores, a flex call or a slide of the module area, keeps a heap that a guest made and in
+-- which no anchor lies.
 use Rattle.std.specs.Prelude.{ℕ, ◌≡◌, true}
 use Rattle.os_heap_lists.specs.Heap.{HeapList}
 use Rattle.os_heap.specs.Calls.{has_own_size}
@@ -13,5 +14,6 @@ TurnsOutside h (Call call) = NamesOutside h call
 TurnsOutside h (Slide return_address) = Unit {0}
 
 abbrev pub TurnsKeepHeap : Type 0
-TurnsKeepHeap = (x : Stores) (turn : Turn) (h : HeapList) → AreStores x → IsFreeOfAnchors h (store_in x) → has_own_size h.kind ≡ true
-    → TurnsOutside h turn → KeepsHeap h (store_in x) (store_in (turned turn x))
+TurnsKeepHeap =
+    (x : Stores) (turn : Turn) (h : HeapList) → AreStores x → IsFreeOfAnchors h (store_in x)
+    → has_own_size h.kind ≡ true → TurnsOutside h turn → KeepsHeap h (store_in x) (store_in (turned turn x))
