@@ -181,4 +181,6 @@ heap_calls_fit limit s t f = record {
   free = λ block is. done_then (Unit {0}) (LeavesFit limit s) (gave_back s 0x01800000 block) (t, tt) (gave_fit limit 0x01800000 block s refl f) is;
   resize = λ block change new is.
       done_then ℕ (LeavesFit limit s) (resized s 0x01800000 block change) (t, new) (resized_fit limit block change s f) is;
+  move = λ h block old new answer found total less is.
+      done_then ℕ (LeavesFit limit s) (moved s h block old new) (t, answer) (moved_fit limit s h block old new f found total less) is;
 }

@@ -68,6 +68,10 @@ to_fit e end f = elim (cases_Bool (nat_le end (4096 * area_pages e))) [
   | inr short ↦ rw short (by_fit e (pages_short e end) f)
 ]
 
+grown_then : (d e : Estate) (o : Result Estate ErrorNumber) → OnGrown d o → o ≡ Ok e → EstateStaysFit d e
+grown_then d e (Ok g) grown is = let same : g ≡ e = cc in subst (λ (x : Estate). EstateStaysFit d x) same grown
+grown_then d e (Err f) grown is = absurd (cc)
+
 module _ (A : Type 0) (B : A → Type 0) where
   in_fit : (e : Estate) (r : Result (Store × A) ErrorNumber) (f : IsFitEstate e) → OnDone (LeavesIn B (4096 * f.area.pages) e.store) r
       → OnEstate (Leaves B e) (in_area e r)
@@ -180,6 +184,7 @@ copied_fit e from len f =
 
 pub module_area_calls_fit : ModuleAreaCallsStayFit
 module_area_calls_fit d e f = record {
+  grow = λ end is. grown_then d e (grown_to d end) (to_fit d end f) is;
   claim = λ size block is. (done_in ℕ (Leaves (IsInside size) d) (rma_claimed d size) (e, block) (claimed_fit d size f) is).0;
   free = λ block is. (done_in (Unit {0}) (Leaves IsAny d) (rma_freed d block) (e, tt) (freed_fit d block f) is).0;
   extend = λ block change new is. (done_in ℕ (Leaves IsAny d) (rma_extended d block change) (e, new) (extended_fit d block change f) is).0;

@@ -23,10 +23,10 @@ use Rattle.instances_actions.specs.Actions.{acted, code_of, image_given}
 use Rattle.instances.specs.Turns.{module_doing}
 use Rattle.heaps_kept.proofs.ModuleArea.{fit_both, fit_same, store_fit}
 use Rattle.heaps_kept.proofs.Sliding.{slid_fit}
-use Rattle.heaps_kept.proofs.Slots.{AreActionsBelow, another_below, doable_below, modules_below, moved_below, new_below, removed_below}
+use Rattle.heaps_kept.proofs.Slots.{another_below, moved_below, new_below, removed_below}
 use Rattle.heaps_kept.proofs.Words.{block_fit, image_gone_fit, text_fit, word_fit}
 use Rattle.heaps_kept.specs.FitEstates.{EstateStaysFit, IsFitEstate}
-use Rattle.heaps_kept.specs.PlanLaws.{ActsStayFit, AreBelow, IsFitWorld, PlansStayFit, WorldStaysFit, slot_named}
+use Rattle.heaps_kept.specs.PlanLaws.{ActsStayFit, AreActionsBelow, AreBelow, IsFitWorld, PlansStayFit, WorldStaysFit, slot_named}
 
 -- with the last instance of a module its image goes
 image_of_fit : (e : Estate) (m : Module) (left : List Module) → IsFitEstate e → EstateStaysFit e (image_gone_of e m left)
@@ -99,25 +99,26 @@ acts_fit w g (act.Initialise slot) f below few = record { estate = text_fit w.es
 -- one after another, up to the next code
 abbrev GoOn : List Action → Type 0
 GoOn actions = (w : World) (p : Plan) → IsFitWorld w → length p.given.text.items ≤ 255
-    → EstateStaysFit w.estate (carried_from module_doing actions w p).world.estate
+    → WorldStaysFit w (carried_from module_doing actions w p).world
 
 by_code : (w : World) (p : Plan) (a : Action) (actions : List Action) (o : Option Code) → IsFitWorld w → AreBelow (slot_named a)
     → length p.given.text.items ≤ 255 → GoOn actions
-    → EstateStaysFit w.estate (carried_by module_doing w p a actions o (carried_from module_doing actions)).world.estate
-by_code w p a actions (Some code) f below few on = (acts_fit w p.given a f below few).estate
+    → WorldStaysFit w (carried_by module_doing w p a actions o (carried_from module_doing actions)).world
+by_code w p a actions (Some code) f below few on = acts_fit w p.given a f below few
 by_code w p a actions None f below few on =
     let v : World = acted world_slid p.given w a in
     let q : Plan = record p { actions = actions; instead = owed p.instead a; runs = false } in
     let one : WorldStaysFit w v = acts_fit w p.given a f below few in
-    fit_both w.estate v.estate (carried_from module_doing actions v q).world.estate one.estate
-    (on v q (record { estate = one.estate.fit; slots = one.slots }) few)
+    let rest : WorldStaysFit v (carried_from module_doing actions v q).world = on v q (record { estate = one.estate.fit; slots = one.slots }) few in
+    record {
+      estate = fit_both w.estate v.estate (carried_from module_doing actions v q).world.estate one.estate rest.estate;
+      slots = rest.slots;
+    }
 
 from_fit : (actions : List Action) → AreActionsBelow actions → GoOn actions
-from_fit [] below w p f few = fit_same w.estate f.estate
+from_fit [] below w p f few = world_same w f
 from_fit (a ∷ actions) below w p f few = by_code w p a actions (code_of w a) f below.0 few (from_fit actions below.1)
 
 pub plans_fit : PlansStayFit
 unfolding carried
-plans_fit w p f are can few =
-    let below : AreBelow (slots_of w.modules) = modules_below w.modules are in
-    from_fit p.actions (doable_below (slots_of w.modules) p.instead p.actions below can) w p (record { estate = f; slots = below }) few
+plans_fit w p f below few = from_fit p.actions below w p f few

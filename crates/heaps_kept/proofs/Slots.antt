@@ -14,7 +14,7 @@ use Rattle.instances_actions.specs.Actions.{image_given, with_another, with_new}
 use Rattle.instances_slide.specs.Slid.{image_moved}
 use Rattle.address_map.specs.declared.follow.Move.{Move}
 use Rattle.store_laws.proofs.SlidWorlds.{slots_below}
-use Rattle.heaps_kept.specs.PlanLaws.{AreBelow, slot_named}
+use Rattle.heaps_kept.specs.PlanLaws.{AreActionsBelow, AreBelow, DoablePlansAreBelow, ModulesAreBelow, slot_named}
 
 joined_below : (xs ys : List ℕ) → AreBelow xs → AreBelow ys → AreBelow (xs ++ ys)
 joined_below [] ys one two = two
@@ -33,7 +33,7 @@ counted_below : (xs : List ℕ) → ((s : ℕ) → 1 ≤ number_of (λ x. x == s
 counted_below [] few = tt
 counted_below (x ∷ xs) few = (few x (rw (eq-eqb x x refl) (omega arith)), counted_below xs (λ s some. few s (omega (arith, some))))
 
-pub modules_below : (modules : List Module) → AreModules modules → AreBelow (slots_of modules)
+pub modules_below : ModulesAreBelow
 modules_below modules are = counted_below (slots_of modules) (slots_below modules are)
 
 abbrev slots_in : List Instance → List ℕ
@@ -109,10 +109,6 @@ moved_below moves (m ∷ modules) below =
     (moved_below moves modules (back_below (slots_in m.instances) (slots_of modules) below))
 
 -- the slots of a plan's actions
-abbrev pub AreActionsBelow : List Action → Type 0
-AreActionsBelow [] = Unit {0}
-AreActionsBelow (a ∷ actions) = AreBelow (slot_named a) × AreActionsBelow actions
-
 used_below : (slot : ℕ) (used : List ℕ) → AreBelow used → is_used slot used ≡ true → slot < 64
 used_below slot [] below is = absurd (false≢true is)
 used_below slot (s ∷ used) below is = elim (or_cases (s == slot) (is_used slot used) is) [
@@ -127,18 +123,21 @@ without_below slot (s ∷ used) below = elim (cases_Bool (s == slot)) [
   | inr other ↦ rw other (below.0, without_below slot used below.1)
 ]
 
-pub doable_below : (used : List ℕ) (instead actions : List Action) → AreBelow used → CanDo used instead actions → AreActionsBelow actions
-doable_below used instead [] below can = tt
-doable_below used instead (act.Finalise slot fatal ∷ actions) below can =
-    (tt, doable_below used (owed instead (act.Finalise slot fatal)) actions below can.1.1)
-doable_below used instead (act.Remove slot ∷ actions) below can =
-    ((used_below slot used below can.0, tt), doable_below (without slot used) instead actions (without_below slot used below) can.1)
-doable_below used instead (act.FreePrivate slot ∷ actions) below can =
-    ((used_below slot used below can.0, tt), doable_below used instead actions below can.1)
-doable_below used instead (act.Insert slot ∷ actions) below can =
-    ((can.1.0, tt), doable_below (used ++ slot ∷ []) instead actions (joined_below used (slot ∷ []) below (can.1.0, tt)) can.1.1)
-doable_below used instead (act.Instantiate slot ∷ actions) below can =
-    ((can.1.0, tt), doable_below (used ++ slot ∷ []) instead actions (joined_below used (slot ∷ []) below (can.1.0, tt)) can.1.1)
-doable_below used instead (act.GiveUp ∷ actions) below can = (tt, doable_below used instead actions below can)
-doable_below used instead (act.Slide ∷ actions) below can = (tt, doable_below used instead actions below can)
-doable_below used instead (act.Initialise slot ∷ actions) below can = (tt, doable_below used instead actions below can.1.0)
+doable : (used : List ℕ) (instead actions : List Action) → AreBelow used → CanDo used instead actions → AreActionsBelow actions
+doable used instead [] below can = tt
+doable used instead (act.Finalise slot fatal ∷ actions) below can =
+    (tt, doable used (owed instead (act.Finalise slot fatal)) actions below can.1.1)
+doable used instead (act.Remove slot ∷ actions) below can =
+    ((used_below slot used below can.0, tt), doable (without slot used) instead actions (without_below slot used below) can.1)
+doable used instead (act.FreePrivate slot ∷ actions) below can =
+    ((used_below slot used below can.0, tt), doable used instead actions below can.1)
+doable used instead (act.Insert slot ∷ actions) below can =
+    ((can.1.0, tt), doable (used ++ slot ∷ []) instead actions (joined_below used (slot ∷ []) below (can.1.0, tt)) can.1.1)
+doable used instead (act.Instantiate slot ∷ actions) below can =
+    ((can.1.0, tt), doable (used ++ slot ∷ []) instead actions (joined_below used (slot ∷ []) below (can.1.0, tt)) can.1.1)
+doable used instead (act.GiveUp ∷ actions) below can = (tt, doable used instead actions below can)
+doable used instead (act.Slide ∷ actions) below can = (tt, doable used instead actions below can)
+doable used instead (act.Initialise slot ∷ actions) below can = (tt, doable used instead actions below can.1.0)
+
+pub doable_below : DoablePlansAreBelow
+doable_below modules p are can = doable (slots_of modules) p.instead p.actions (modules_below modules are) can

@@ -2,11 +2,12 @@
 -- they get.
 use Rattle.std.specs.Prelude.{ℕ, ◌≡◌, List, Ok}
 use Rattle.dynamic_areas.specs.Ground.{Estate}
-use Rattle.rma.specs.Calls.{rma_claimed, rma_extended, rma_freed}
+use Rattle.rma.specs.Calls.{grown_to, rma_claimed, rma_extended, rma_freed}
 use Rattle.rma.specs.NewImages.{image_copied, image_made}
 use Rattle.heaps_kept.specs.FitEstates.{EstateStaysFit, IsFitEstate}
 
 pub record ModuleAreaCallStaysFit (d e : Estate) : Type 0 where
+  pub grow : (end : ℕ) → grown_to d end ≡ Ok e → EstateStaysFit d e
   pub claim : (size block : ℕ) → rma_claimed d size ≡ Ok (e, block) → EstateStaysFit d e
   pub free : (block : ℕ) → rma_freed d block ≡ Ok (e, tt) → EstateStaysFit d e
   pub extend : (block change new : ℕ) → rma_extended d block change ≡ Ok (e, new) → EstateStaysFit d e

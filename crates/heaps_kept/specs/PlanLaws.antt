@@ -6,7 +6,7 @@ use Rattle.address_map.specs.declared.region.Region.{Region}
 use Rattle.dynamic_areas.specs.Ground.{Estate}
 use Rattle.rma.specs.Calls.{with_store}
 use Rattle.instances_table.specs.declared.parts.Image.{Image}
-use Rattle.instances_table.specs.Modules.{AreModules, slots_of}
+use Rattle.instances_table.specs.Modules.{AreModules, Module, slots_of}
 use Rattle.instances_plans.specs.declared.action.Action.{Action}
 use Rattle.instances_plans.specs.declared.action.Action.TheVariants as act
 use Rattle.instances_plans.specs.declared.given.Given.{Given}
@@ -59,8 +59,21 @@ ActsStayFit =
     (w : World) (g : Given) (a : Action) → IsFitWorld w → AreBelow (slot_named a) → length g.text.items ≤ 255
     → WorldStaysFit w (acted world_slid g w a)
 
--- A plan that finds the instances that it names is carried on to its next code, or to its end.
+-- and a plan's
+abbrev pub AreActionsBelow : List Action → Type 0
+AreActionsBelow [] = Unit {0}
+AreActionsBelow (a ∷ actions) = AreBelow (slot_named a) × AreActionsBelow actions
+
+-- Good modules have such slots, and a plan that finds the instances that it names names no others.
+abbrev pub ModulesAreBelow : Type 0
+ModulesAreBelow = (modules : List Module) → AreModules modules → AreBelow (slots_of modules)
+
+abbrev pub DoablePlansAreBelow : Type 0
+DoablePlansAreBelow =
+    (modules : List Module) (p : Plan) → AreModules modules → IsDoable (slots_of modules) p → AreActionsBelow p.actions
+
+-- A plan is carried on to its next code, or to its end.
 abbrev pub PlansStayFit : Type 0
 PlansStayFit =
-    (w : World) (p : Plan) → IsFitEstate w.estate → AreModules w.modules → IsDoable (slots_of w.modules) p
-    → length p.given.text.items ≤ 255 → EstateStaysFit w.estate (carried module_doing w p).world.estate
+    (w : World) (p : Plan) → IsFitWorld w → AreActionsBelow p.actions → length p.given.text.items ≤ 255
+    → WorldStaysFit w (carried module_doing w p).world

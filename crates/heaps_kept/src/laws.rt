@@ -5,7 +5,9 @@ ghost use Rattle.heaps_kept.specs.FlexLaws.{FlexCallsKeepHeap, FlexInitKeepsHeap
 ghost use Rattle.heaps_kept.specs.GuestLaws.{EstatesAreFit, GuestHeapsLieOutside, OutsideKeepsHeap};
 ghost use Rattle.heaps_kept.specs.HeapLaws.{HeapCallsStayFit};
 ghost use Rattle.heaps_kept.specs.ModuleAreaLaws.{ModuleAreaCallsStayFit};
-ghost use Rattle.heaps_kept.specs.PlanLaws.{ActsStayFit, PlansStayFit, WritesStayFit};
+ghost use Rattle.heaps_kept.specs.PlanLaws.{
+    ActsStayFit, DoablePlansAreBelow, ModulesAreBelow, PlansStayFit, WritesStayFit,
+};
 ghost use Rattle.heaps_kept.specs.SlideLaws.{SlidesStayFit};
 ghost use Rattle.heaps_kept.specs.TurnLaws.{TurnsKeepHeap};
 
@@ -56,9 +58,12 @@ pub fn acts_stay_fit()
     ensures { ActsStayFit }
 {}
 
-/// So does a plan that is carried on to its next code, or to its end.
+/// So does a plan that is carried on to its next code, or to its end, where the slots that it names are below 64. A
+/// plan that finds the instances that it names has no others.
 pub fn plans_stay_fit()
-    ensures { PlansStayFit }
+    ensures fit { PlansStayFit }
+    ensures modules { ModulesAreBelow }
+    ensures plans { DoablePlansAreBelow }
 {}
 
 /// A flex call keeps each heap in which no anchor lies, where an alloc names none there.
