@@ -1,5 +1,5 @@
 -- The calls on dynamic areas keep a guest's heap.
-use Rattle.std.proofs.Common.{if◌then◌else◌, ℕ, ◌+◌, ◌-◌, ◌*◌, ◌/◌, ◌==◌, ◌||◌, ◌≡◌, ◌≢◌, ◌≤◌, ◌<◌, ◌∙◌, true, false, Option, Some, None, Ok, Err, List, [], ◌∷◌, refl, sym, ap, subst, inl, inr, arith}
+use Rattle.std.proofs.Common.{if◌then◌else◌, ℕ, ◌+◌, ◌-◌, ◌*◌, ◌/◌, ◌==◌, ◌||◌, ◌≡◌, ◌≢◌, ◌≤◌, ◌∙◌, false, Option, Some, None, Ok, Err, refl, sym, ap, subst, inl, inr, arith}
 use Rattle.std.proofs.Math.Nat.{min-le_right}
 use Rattle.std.proofs.lemmas.Bool.{both_ways, cases_Bool, eqb-false, eqb-true, false_from_ne_true, ltb-false, or_parts}
 use Rattle.std.specs.Prelude.{min, nat_lt, ok_or}
@@ -22,10 +22,8 @@ use Rattle.dynamic_areas.specs.Ground.{Estate}
 use Rattle.dynamic_areas.specs.Remapped.{with_pages_at, without_pages_at}
 use Rattle.heaps_kept.proofs.Growing.{ended_outside}
 use Rattle.heaps_kept.proofs.Guests.{estates_fit, outside_keeps}
-use Rattle.heaps_kept.proofs.Holding.{keeps_all}
 use Rattle.heaps_kept.specs.AreaLaws.{AreaCallsKeepHeap}
 use Rattle.heaps_kept.specs.FitEstates.{IsFitEstate}
-use Rattle.heaps_kept.specs.Fits.{KeepsOutside}
 use Rattle.heaps_kept.specs.GuestLaws.{HasGuestHeap}
 use Rattle.heaps_kept.specs.KeepsHeap.{KeepsHeap}
 

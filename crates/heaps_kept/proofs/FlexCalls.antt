@@ -1,6 +1,6 @@
 -- The flex calls keep a heap in which no anchor lies.
-use Rattle.std.proofs.Common.{if◌then◌else◌, ℕ, ◌+◌, ◌-◌, ◌%◌, ◌≡◌, ◌≤◌, ◌<◌, ◌∙◌, Bool, true, false, List, [], ◌∷◌, Option, Some, None, Result, Ok, Err, refl, sym, ap, subst, inl, inr, arith}
-use Rattle.std.proofs.lemmas.Bool.{both_ways, cases_Bool, cases_eq, false_from_ne_true, false≢true, le-leb, lt-ltb}
+use Rattle.std.proofs.Common.{ℕ, ◌+◌, ◌%◌, ◌≡◌, ◌≤◌, ◌<◌, ◌∙◌, Bool, true, false, List, Option, Some, None, Result, Ok, refl, sym, ap, subst, inl, inr, arith}
+use Rattle.std.proofs.lemmas.Bool.{both_ways, cases_Bool, cases_eq, false_from_ne_true, le-leb, lt-ltb}
 use Rattle.address_map.specs.Bytes.{Bytes, in_range, word_start}
 use Rattle.address_map.specs.declared.region.Region.{Region}
 use Rattle.os_heap_lists.specs.Heap.{HeapList, IsHeapIn}
@@ -9,19 +9,16 @@ use Rattle.os_heap.proofs.Apart.{range_parts}
 use Rattle.os_heap.proofs.Found.{found_heap}
 use Rattle.os_heap.specs.Store.{Store, find_heap, is_in_flex_store}
 use Rattle.profile.specs.declared.error.ErrorNumber.{ErrorNumber}
-use Rattle.profile.specs.declared.error.ErrorNumber.TheVariants.{FlexAlready, FlexBadRange}
 use Rattle.flex_store.specs.Blocks.{FlexStore}
 use Rattle.flex_store.specs.Calls.{FlexState, begun, begun_by, is_flex_range, with_flex}
 use Rattle.flex_store.specs.Laws.{HasBlocks}
 use Rattle.flex_store.specs.Runs.{Alloc, Extend, FlexCall, IsDone, MidExtend, Release}
-use Rattle.flex_store.specs.declared.flex.Flex.{Flex}
 use Rattle.flex_ground.specs.Ground.{anchors_in, flex_state, spelled_store, store_flexed, with_flex_record}
 use Rattle.store_laws.proofs.CalledAnchors.{Grows, IsShrunk, alloc_anchor, alloc_anchors, extend_anchors, mid_anchors, release_anchors}
 use Rattle.store_laws.proofs.CalledBytes.{byte_stays}
 use Rattle.store_laws.proofs.CalledSeen.{anchors_are}
 use Rattle.store_laws.proofs.Spelled.{has_blocks}
-use Rattle.store_laws.specs.FlexStore.{IsSpelledAt}
-use Rattle.heaps_kept.specs.FlexLaws.{FlexCallsKeepHeap, FlexInitKeepsHeap, IsFlexDone, IsFreeOfAnchors, NamesOutside}
+use Rattle.heaps_kept.specs.FlexLaws.{FlexCallsKeepHeap, FlexInitKeepsHeap, IsFreeOfAnchors, NamesOutside}
 use Rattle.heaps_kept.specs.KeepsHeap.{KeepsHeap}
 
 -- a byte of a heap is in the word of another anchor than one that stands out of it

@@ -1,8 +1,8 @@
 -- Area 1, the module area, grows, and its heap with it.
-use Rattle.std.proofs.Common.{if◌then◌else◌, ℕ, ◌+◌, ◌-◌, ◌*◌, ◌/◌, ◌≡◌, ◌≤◌, ◌∙◌, Bool, true, false, List, Option, Some, None, refl, sym, ap, subst, inl, inr, arith}
+use Rattle.std.proofs.Common.{ℕ, ◌+◌, ◌-◌, ◌*◌, ◌/◌, ◌≡◌, ◌≤◌, ◌∙◌, false, Option, Some, refl, sym, ap, subst, arith}
 use Rattle.std.specs.Prelude.{min, nat_lt}
 use Rattle.std.proofs.Math.Nat.{min-le_left}
-use Rattle.std.proofs.lemmas.Bool.{cases_Bool, ltb-false}
+use Rattle.std.proofs.lemmas.Bool.{ltb-false}
 use Rattle.address_map.specs.Items.{size_of}
 use Rattle.os_heap_lists.specs.Heap.{AreTotals, HeapList}
 use Rattle.os_heap.proofs.Found.{found_start}
@@ -12,7 +12,7 @@ use Rattle.dynamic_areas.proofs.GroundLemmas.{find_paged}
 use Rattle.dynamic_areas.proofs.ModuleArea.{find_ended}
 use Rattle.dynamic_areas.specs.declared.area.Area.{Area}
 use Rattle.dynamic_areas.specs.Areas.{find_area, paged, with_pages}
-use Rattle.dynamic_areas.specs.Changing.{growth_room, land_more, pages_had, store_extended, store_more, with_heap_end}
+use Rattle.dynamic_areas.specs.Changing.{growth_room, land_more, pages_had, store_extended, store_more}
 use Rattle.dynamic_areas.specs.Ground.{Estate}
 use Rattle.heaps_kept.proofs.Holding.{other_ended, stays_both, words_within, written_fit}
 use Rattle.heaps_kept.specs.Fits.{IsFitStore, KeepsOutside, StaysFit}

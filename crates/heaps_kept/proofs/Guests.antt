@@ -1,6 +1,6 @@
 -- Where a guest's heap lies: in the application space, or in an area that was created.
-use Rattle.std.proofs.Common.{ℕ, ◌+◌, ◌*◌, ◌==◌, ◌||◌, ◌≡◌, ◌≢◌, ◌≤◌, ◌<◌, ◌∙◌, Bool, true, false, List, [], ◌∷◌, Option, Some, None, is_some, refl, sym, ap, subst, inl, inr, arith}
-use Rattle.std.proofs.lemmas.Bool.{and_parts, both_ways, cases_Bool, cases_eq, eq-eqb, false_from_ne_true, false≢true, leb-true, ne_eqb, or_cases}
+use Rattle.std.proofs.Common.{ℕ, ◌+◌, ◌*◌, ◌==◌, ◌≡◌, ◌≢◌, ◌≤◌, ◌<◌, ◌∙◌, true, false, List, [], ◌∷◌, Option, Some, None, is_some, refl, sym, ap, subst, inl, inr, arith}
+use Rattle.std.proofs.lemmas.Bool.{and_parts, both_ways, cases_eq, eq-eqb, false_from_ne_true, false≢true, leb-true, ne_eqb, or_cases}
 use Rattle.std.specs.Prelude.{nat_le}
 use Rattle.std.specs.List.{list_any}
 use Rattle.address_map.specs.Bytes.{in_range}
@@ -17,10 +17,8 @@ use Rattle.dynamic_areas.specs.declared.area.Area.{Area}
 use Rattle.dynamic_areas.specs.Areas.{find_area}
 use Rattle.dynamic_areas.specs.Ground.{Estate, IsEstate, IsRecorded, is_fixed, is_held, is_land, system_pages}
 use Rattle.dynamic_areas.specs.Rooms.{AreRooms, IsRoom}
-use Rattle.heaps_kept.specs.FitEstates.{IsFitEstate}
-use Rattle.heaps_kept.specs.Fits.{KeepsOutside, is_module_byte}
+use Rattle.heaps_kept.specs.Fits.{is_module_byte}
 use Rattle.heaps_kept.specs.GuestLaws.{EstatesAreFit, GuestHeapsLieOutside, HasGuestHeap, OutsideKeepsHeap}
-use Rattle.heaps_kept.specs.KeepsHeap.{KeepsHeap}
 
 -- area 1 of an estate, which is there
 record HasModuleArea (e : Estate) : Type 0 where

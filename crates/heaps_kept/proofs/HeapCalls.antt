@@ -1,5 +1,5 @@
 -- Get, free and resize in the module area, and a move that a resize makes.
-use Rattle.std.proofs.Common.{if◌then◌else◌, Bool, List, ℕ, [], ◌≡◌, ◌+◌, ◌-◌, ◌%◌, ◌≤◌, ◌<◌, Option, Some, None, ok_or, Result, Ok, Err, true, false, refl, sym, ap, subst, ◌∙◌, inl, inr, arith}
+use Rattle.std.proofs.Common.{if◌then◌else◌, Bool, List, ℕ, ◌≡◌, ◌+◌, ◌-◌, ◌≤◌, ◌<◌, Option, Some, None, ok_or, Result, Ok, Err, true, false, refl, sym, subst, ◌∙◌, inl, inr, arith}
 use Rattle.std.proofs.lemmas.Bool.{cases_Bool, leb-false}
 use Rattle.std.specs.Prelude.{nat_le}
 use Rattle.profile.specs.Outcome.{bind}
@@ -16,11 +16,11 @@ use Rattle.os_heap_lists.specs.Heap.{AreTotals, HeapList}
 use Rattle.os_heap_lists.specs.Lists.{Claim, changed_by, claimed, live_total, released, resized_in_place, round_up_8, total_for}
 use Rattle.os_heap.proofs.Found.{found_start}
 use Rattle.os_heap.proofs.Resizing.{larger_where_none}
-use Rattle.os_heap.specs.Calls.{copied, gave_back, got, handed_over, holding, holds_anchor, moved, resized, resized_or_moved, unless_image}
+use Rattle.os_heap.specs.Calls.{copied, gave_back, got, holding, holds_anchor, moved, resized, resized_or_moved, unless_image}
 use Rattle.os_heap.specs.Store.{Store, find_heap, has_image}
 use Rattle.heaps_kept.proofs.Holding.{held_fit, range_within, stays_both, written_fit}
 use Rattle.heaps_kept.proofs.Lists.{HasRoomFor, HasRoomIfSome, released_room, resized_room}
-use Rattle.heaps_kept.specs.Fits.{IsFitStore, StaysFit, is_module_byte}
+use Rattle.heaps_kept.specs.Fits.{IsFitStore, StaysFit}
 use Rattle.heaps_kept.specs.HeapLaws.{HeapCallsStayFit}
 
 -- what a call that is done leaves, with its answer, has a property; of a refusal there is nothing to say

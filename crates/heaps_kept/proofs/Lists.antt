@@ -1,6 +1,6 @@
 -- Lists that releases and changes of size leave: their lengths are those of items, and they have no more bytes than there is room.
 use Rattle.std.proofs.Common.{ℕ, ◌+◌, ◌-◌, ◌%◌, ◌==◌, ◌≡◌, ◌≤◌, ◌++◌, true, List, [], ◌∷◌, Option, Some, None, nat_le, inl, inr, arith}
-use Rattle.std.proofs.lemmas.Bool.{cases_Bool, eqb-true, eqb-false, leb-true}
+use Rattle.std.proofs.lemmas.Bool.{cases_Bool, eqb-false, leb-true}
 use Rattle.std.specs.Option.{option_map}
 use Rattle.address_map.specs.Items.{is_total, size_of}
 use Rattle.address_map.specs.declared.item.Item.{Item}
@@ -91,22 +91,22 @@ refitted_room room new old xs total own totals fits =
           (glued_room (old - new) (room - new) xs (omega (arith, first.1, second.1, fewer)) totals (omega (arith, fewer, fits))))
       | inr more ↦ rw more (grown_room xs totals fits)
     ] where
-  grown_room : (ys : List Item) → AreTotals ys → old + size_of ys ≤ room → HasRoomIfSome room (grown room new old ys)
-  grown_room [] totals fits = elim (cases_Bool (nat_le new room)) [
-    | inl enough ↦ rw enough ((total, tt), omega (arith, leb-true new room enough))
-    | inr short ↦ rw short tt
-  ]
-  grown_room (Live t ∷ ys) totals fits = tt
-  grown_room (Free t ∷ ys) totals fits = elim (cases_Bool (nat_le new (old + t))) [
-    | inr short ↦ rw short tt
-    | inl enough ↦
-        let first = total_facts new total in
-        let second = total_facts old own in
-        let third = total_facts t totals.0 in
-        let less : new ≤ old + t = leb-true new (old + t) enough in
-        rw enough (block_room new room (left_free (old + t - new) ++ ys) total (omega (arith, less, fits))
-        (left_room (old + t - new) (room - new) ys (omega (arith, first.1, second.1, third.1, less)) totals.1 (omega (arith, less, fits))))
-  ]
+      grown_room : (ys : List Item) → AreTotals ys → old + size_of ys ≤ room → HasRoomIfSome room (grown room new old ys)
+      grown_room [] totals fits = elim (cases_Bool (nat_le new room)) [
+        | inl enough ↦ rw enough ((total, tt), omega (arith, leb-true new room enough))
+        | inr short ↦ rw short tt
+      ]
+      grown_room (Live t ∷ ys) totals fits = tt
+      grown_room (Free t ∷ ys) totals fits = elim (cases_Bool (nat_le new (old + t))) [
+        | inr short ↦ rw short tt
+        | inl enough ↦
+            let first = total_facts new total in
+            let second = total_facts old own in
+            let third = total_facts t totals.0 in
+            let less : new ≤ old + t = leb-true new (old + t) enough in
+            rw enough (block_room new room (left_free (old + t - new) ++ ys) total (omega (arith, less, fits))
+            (left_room (old + t - new) (room - new) ys (omega (arith, first.1, second.1, third.1, less)) totals.1 (omega (arith, less, fits))))
+      ]
 
 pub resized_room : (block end new at : ℕ) (xs : List Item) → is_total new ≡ true → AreTotals xs → at + size_of xs ≤ end
     → HasRoomIfSome (end - at) (resized_in_place block end new at xs)

@@ -1,24 +1,23 @@
 -- The calls on the module area, and new images there.
-use Rattle.std.proofs.Common.{if◌then◌else◌, ℕ, ◌+◌, ◌-◌, ◌*◌, ◌≡◌, ◌≤◌, ◌∙◌, ◌++◌, [], ◌∷◌, Bool, true, false, List, length, Option, Some, None, Result, Ok, Err, refl, sym, ap, subst, inl, inr, arith}
+use Rattle.std.proofs.Common.{ℕ, ◌+◌, ◌*◌, ◌≡◌, ◌∙◌, false, List, length, Option, Some, Result, Ok, Err, refl, sym, ap, subst, inl, inr, arith}
 use Rattle.std.specs.Prelude.{nat_le, nat_lt}
 use Rattle.std.proofs.lemmas.Bool.{cases_Bool}
 use Rattle.profile.specs.Outcome.{bind}
 use Rattle.profile.specs.declared.error.ErrorNumber.{ErrorNumber}
 use Rattle.address_map.specs.Bytes.{Bytes, in_range, with_bytes, with_moved}
 use Rattle.address_map.specs.declared.region.Region.{Region}
-use Rattle.os_heap.specs.Calls.{block_sized, copied, gave_back, got, resized}
+use Rattle.os_heap.specs.Calls.{block_sized, gave_back, got, resized}
 use Rattle.os_heap.specs.Store.{Store}
 use Rattle.dynamic_areas.specs.declared.area.Area.{Area}
-use Rattle.dynamic_areas.specs.Areas.{find_area}
 use Rattle.dynamic_areas.specs.Ground.{Estate}
-use Rattle.rma.specs.Calls.{area_pages, area_room, end_if_moved, end_in_place, grown_by, grown_in_place, grown_to, in_area, in_grown_area, is_full, or_as_before, or_grown, pages_short, resized_or_grown, rma_base, rma_claimed, rma_extended, rma_freed, room_in, with_pages_more, with_store}
+use Rattle.rma.specs.Calls.{area_pages, area_room, end_if_moved, end_in_place, grown_by, grown_in_place, grown_to, in_area, is_full, or_as_before, or_grown, pages_short, resized_or_grown, rma_base, rma_claimed, rma_extended, rma_freed, room_in, with_pages_more, with_store}
 use Rattle.rma.specs.Images.{image_recorded, with_image}
-use Rattle.rma.specs.NewImages.{filled, image_copied, image_made}
+use Rattle.rma.specs.NewImages.{image_copied, image_made}
 use Rattle.os_heap_lists.specs.Lists.{total_for}
 use Rattle.heaps_kept.proofs.Growing.{pages_fit, room_fits}
-use Rattle.heaps_kept.proofs.HeapCalls.{IsInside, LeavesBlock, LeavesFit, OnDone, gave_fit, got_fit, resized_fit}
+use Rattle.heaps_kept.proofs.HeapCalls.{IsInside, LeavesFit, OnDone, gave_fit, got_fit, resized_fit}
 use Rattle.heaps_kept.proofs.Holding.{keeps_all, keeps_both, range_within, written_fit}
-use Rattle.heaps_kept.specs.Fits.{IsFitStore, KeepsOutside, StaysFit}
+use Rattle.heaps_kept.specs.Fits.{IsFitStore, StaysFit}
 use Rattle.heaps_kept.specs.FitEstates.{EstateStaysFit, IsFitEstate}
 use Rattle.heaps_kept.specs.ModuleAreaLaws.{ModuleAreaCallsStayFit}
 

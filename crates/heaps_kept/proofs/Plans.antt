@@ -1,5 +1,5 @@
 -- The actions of plans, one after another.
-use Rattle.std.proofs.Common.{if◌then◌else◌, ℕ, ◌*◌, ◌≡◌, ◌≤◌, ◌<◌, Bool, true, false, List, [], ◌∷◌, map, length, Option, Some, None, refl, ap, subst, inl, inr, arith}
+use Rattle.std.proofs.Common.{ℕ, ◌*◌, ◌≡◌, ◌≤◌, ◌<◌, false, List, [], ◌∷◌, length, Option, Some, None, refl, inl, inr}
 use Rattle.std.proofs.lemmas.Bool.{cases_Bool}
 use Rattle.address_map.specs.Moves.{moved_to}
 use Rattle.address_map.specs.declared.follow.Move.{Move}
@@ -13,7 +13,6 @@ use Rattle.instances_table.specs.Modules.{Module, has_instance, slots_of}
 use Rattle.instances_plans.specs.declared.action.Action.{Action}
 use Rattle.instances_plans.specs.declared.action.Action.TheVariants as act
 use Rattle.instances_plans.specs.declared.code.Code.{Code}
-use Rattle.instances_plans.specs.declared.given.Given.{Given}
 use Rattle.instances_plans.specs.Carrying.{carried, carried_by, carried_from}
 use Rattle.instances_plans.specs.Plans.{Plan, owed}
 use Rattle.instances_ground.specs.World.{World, image_gone_of, image_gone_with, private_freed, private_word, removed, with_private}

@@ -1,17 +1,16 @@
 -- The module area's heap slides.
-use Rattle.std.proofs.Common.{ℕ, ◌+◌, ◌-◌, ◌%◌, ◌≡◌, ◌≤◌, ◌<◌, ◌∙◌, Bool, false, List, Some, refl, sym, ap, subst, inl, inr, arith}
+use Rattle.std.proofs.Common.{ℕ, ◌+◌, ◌-◌, ◌%◌, ◌≡◌, ◌≤◌, ◌∙◌, Bool, false, List, Some, refl, sym, subst, inl, inr, arith}
 use Rattle.std.proofs.lemmas.Bool.{both_ways}
 use Rattle.address_map.proofs.Stores.{in_range-cases}
 use Rattle.address_map.specs.Items.{size_of}
 use Rattle.address_map.specs.declared.item.Item.{Item}
 use Rattle.os_heap_lists.specs.Heap.{AreTotals, HeapList}
 use Rattle.os_heap.proofs.Found.{found_start}
-use Rattle.os_heap.specs.Store.{Store, find_heap}
 use Rattle.os_heap_slide.proofs.LawLemmas.{slid_totals, slide_fits}
 use Rattle.os_heap_slide.proofs.Places.{bytes_low, bytes_past}
-use Rattle.os_heap_slide.specs.Slide.{is_listed, slid, slid_bytes, with_slid}
+use Rattle.os_heap_slide.specs.Slide.{is_listed, slid, slid_bytes}
 use Rattle.heaps_kept.proofs.Holding.{held_fit, words_within}
-use Rattle.heaps_kept.specs.Fits.{IsFitStore, StaysFit, is_module_byte}
+use Rattle.heaps_kept.specs.Fits.{is_module_byte}
 use Rattle.heaps_kept.specs.SlideLaws.{SlidesStayFit}
 
 -- the bytes of its items are copied within its range

@@ -1,5 +1,5 @@
 -- Slots below 64, of instances that are added and removed, and of the actions of a plan.
-use Rattle.std.proofs.Common.{if◌then◌else◌, ℕ, ◌+◌, ◌==◌, ◌≡◌, ◌≤◌, ◌<◌, ◌++◌, cond, nat_lt, Bool, true, false, List, [], ◌∷◌, map, zero, suc, Option, Some, None, refl, sym, subst, inl, inr, arith}
+use Rattle.std.proofs.Common.{ℕ, ◌==◌, ◌≡◌, ◌≤◌, ◌<◌, ◌++◌, true, List, [], ◌∷◌, map, zero, suc, Option, Some, None, refl, subst, inl, inr, arith}
 use Rattle.std.proofs.lemmas.Bool.{cases_Bool, eq-eqb, eqb-true, false≢true, or_cases}
 use Rattle.instances_plans.specs.declared.action.Action.{Action}
 use Rattle.instances_plans.specs.declared.action.Action.TheVariants as act
@@ -7,14 +7,14 @@ use Rattle.instances_plans.specs.declared.given.Given.{Given}
 use Rattle.instances_plans.specs.Doable.{CanDo, is_used, without}
 use Rattle.instances_plans.specs.Plans.{owed}
 use Rattle.instances_table.specs.Additions.{added_to}
-use Rattle.instances_table.specs.Changes.{module_without, still, with_instance, with_module, without_first, without_instance, is_new, new_module, with_image_at}
+use Rattle.instances_table.specs.Changes.{still, with_instance, with_module, without_first, without_instance, is_new, new_module}
 use Rattle.instances_table.specs.Lookup.{number_of_title}
-use Rattle.instances_table.specs.Modules.{AreModules, Instance, Module, changed_at, has_instance, has_slot, number_of, slots_of}
+use Rattle.instances_table.specs.Modules.{Instance, Module, changed_at, has_instance, has_slot, number_of, slots_of}
 use Rattle.instances_actions.specs.Actions.{image_given, with_another, with_new}
 use Rattle.instances_slide.specs.Slid.{image_moved}
 use Rattle.address_map.specs.declared.follow.Move.{Move}
 use Rattle.store_laws.proofs.SlidWorlds.{slots_below}
-use Rattle.heaps_kept.specs.PlanLaws.{AreActionsBelow, AreBelow, DoablePlansAreBelow, ModulesAreBelow, slot_named}
+use Rattle.heaps_kept.specs.PlanLaws.{AreActionsBelow, AreBelow, DoablePlansAreBelow, ModulesAreBelow}
 
 joined_below : (xs ys : List ℕ) → AreBelow xs → AreBelow ys → AreBelow (xs ++ ys)
 joined_below [] ys one two = two

@@ -1,12 +1,12 @@
 -- Flex calls and slides, as turns of the stores.
-use Rattle.std.proofs.Common.{ℕ, Bool, true, false, ◌≡◌, ◌∙◌, Option, Some, None, Result, Ok, Err, refl, sym, ap, subst, inl, inr}
+use Rattle.std.proofs.Common.{ℕ, Bool, true, ◌≡◌, ◌∙◌, Option, Some, None, Result, Ok, Err, refl, sym, ap, subst, inr}
 use Rattle.profile.specs.Outcome.{bind}
 use Rattle.profile.specs.declared.error.ErrorNumber.{ErrorNumber}
 use Rattle.os_heap_lists.specs.Heap.{HeapList}
 use Rattle.os_heap.specs.Calls.{has_own_size}
 use Rattle.os_heap.specs.Store.{Store}
 use Rattle.instances_slide.specs.Slid.{world_slid}
-use Rattle.flex_ground.specs.Ground.{flex_of, flex_state, records_with, spelled_store, store_flexed, with_flex_record}
+use Rattle.flex_ground.specs.Ground.{flex_of, flex_state, records_with, store_flexed, with_flex_record}
 use Rattle.flex_store.specs.Blocks.{FlexStore}
 use Rattle.flex_store.specs.Calls.{FlexState, allocated, begun, extended, mid_extended, released}
 use Rattle.flex_store.specs.Runs.{Alloc, Extend, FlexCall, IsDone, MidExtend, Release}
@@ -16,12 +16,12 @@ use Rattle.store_laws.proofs.Leaving.{IsAfter, IsBefore, after_left}
 use Rattle.store_laws.proofs.Relaying.{IsLeft, IsReady, alloc_left, extend_left, mid_left, release_left, state_at}
 use Rattle.store_laws.specs.FlexStore.{IsSpelledAt}
 use Rattle.store_laws.specs.Meaning.{AreStores, Stores, store_in}
-use Rattle.store_laws.specs.Turning.{Call, Init, Slide, begun_with, called, left_by, turned}
+use Rattle.store_laws.specs.Turning.{Call, Init, Slide, called, left_by, turned}
 use Rattle.heaps_kept.proofs.FlexCalls.{flex_calls_keep, flex_init_keeps}
 use Rattle.heaps_kept.proofs.Guests.{estates_fit, outside_keeps}
 use Rattle.heaps_kept.proofs.Plans.{slid_world_fit}
 use Rattle.heaps_kept.proofs.Slots.{modules_below}
-use Rattle.heaps_kept.specs.FlexLaws.{IsFlexDone, IsFreeOfAnchors, NamesOutside}
+use Rattle.heaps_kept.specs.FlexLaws.{IsFreeOfAnchors, NamesOutside}
 use Rattle.heaps_kept.specs.GuestLaws.{HasGuestHeap}
 use Rattle.heaps_kept.specs.KeepsHeap.{KeepsHeap}
 use Rattle.heaps_kept.specs.PlanLaws.{IsFitWorld, WorldStaysFit}

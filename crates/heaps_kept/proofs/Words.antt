@@ -1,5 +1,5 @@
 -- Private words, the environment text, and blocks and images that are given back.
-use Rattle.std.proofs.Common.{if◌then◌else◌, ℕ, ◌+◌, ◌*◌, ◌==◌, ◌≡◌, ◌≤◌, ◌<◌, ◌++◌, Bool, true, false, List, [], ◌∷◌, length, Option, Some, None, Result, Ok, Err, refl, inl, inr, arith}
+use Rattle.std.proofs.Common.{ℕ, ◌+◌, ◌*◌, ◌≡◌, ◌≤◌, ◌<◌, ◌++◌, false, List, [], ◌∷◌, length, Result, Ok, Err, refl, inl, inr, arith}
 use Rattle.std.proofs.lemmas.Bool.{both_ways, cases_Bool, ne_eqb}
 use Rattle.std.proofs.Common.{length-append}
 use Rattle.profile.specs.declared.error.ErrorNumber.{ErrorNumber}
@@ -30,10 +30,18 @@ word_apart : (f : ℕ → ℕ) (at value a : ℕ) → 0x01800000 ≤ at → at +
 word_apart f at value a low high out = elim (in_range-cases at 4 a) [
   | inl r ↦ absurd (both_ways (in_range at 4 a) (range_within at 4 a low high out) r.0)
   | inr r ↦ elim r.1 [
-    | inl less ↦ rw (ne_eqb a at (λ e. omega (arith, less, e)), ne_eqb a (at + 1) (λ e. omega (arith, less, e)),
-        ne_eqb a (at + 2) (λ e. omega (arith, less, e)), ne_eqb a (at + 3) (λ e. omega (arith, less, e))) refl
-    | inr past ↦ rw (ne_eqb a at (λ e. omega (arith, past, e)), ne_eqb a (at + 1) (λ e. omega (arith, past, e)),
-        ne_eqb a (at + 2) (λ e. omega (arith, past, e)), ne_eqb a (at + 3) (λ e. omega (arith, past, e))) refl
+    | inl less ↦ rw (
+      ne_eqb a at (λ e. omega (arith, less, e)),
+      ne_eqb a (at + 1) (λ e. omega (arith, less, e)),
+      ne_eqb a (at + 2) (λ e. omega (arith, less, e)),
+      ne_eqb a (at + 3) (λ e. omega (arith, less, e)),
+    ) refl
+    | inr past ↦ rw (
+      ne_eqb a at (λ e. omega (arith, past, e)),
+      ne_eqb a (at + 1) (λ e. omega (arith, past, e)),
+      ne_eqb a (at + 2) (λ e. omega (arith, past, e)),
+      ne_eqb a (at + 3) (λ e. omega (arith, past, e)),
+    ) refl
   ]
 ]
 

@@ -6,7 +6,11 @@ ghost use Rattle.heaps_kept.specs.GuestLaws.{EstatesAreFit, GuestHeapsLieOutside
 ghost use Rattle.heaps_kept.specs.HeapLaws.{HeapCallsStayFit};
 ghost use Rattle.heaps_kept.specs.ModuleAreaLaws.{ModuleAreaCallsStayFit};
 ghost use Rattle.heaps_kept.specs.PlanLaws.{
-    ActsStayFit, DoablePlansAreBelow, ModulesAreBelow, PlansStayFit, WritesStayFit,
+  ActsStayFit,
+  DoablePlansAreBelow,
+  ModulesAreBelow,
+  PlansStayFit,
+  WritesStayFit,
 };
 ghost use Rattle.heaps_kept.specs.SlideLaws.{SlidesStayFit};
 ghost use Rattle.heaps_kept.specs.TurnLaws.{TurnsKeepHeap};
