@@ -38,12 +38,12 @@ IsInside len block = (0x01800000 ≤ block) × (block + len ≤ 0x01C00000)
 abbrev pub LeavesBlock : ℕ → ℕ → Store → Store × ℕ → Type 0
 LeavesBlock len limit s x = StaysFit limit s x.0 × IsInside len x.1
 
-on_some : (A B : Type 0) (P : Store × B → Type 0) (o : Option A) (e : ErrorNumber) (next : A → Result (Store × B) ErrorNumber)
+pub on_some : (A B : Type 0) (P : Store × B → Type 0) (o : Option A) (e : ErrorNumber) (next : A → Result (Store × B) ErrorNumber)
     → ((x : A) → o ≡ Some x → OnDone P (next x)) → OnDone P (bind (ok_or o e) next)
 on_some A B P None e next each = tt
 on_some A B P (Some x) e next each = each x refl
 
-on_if : (B : Type 0) (P : Store × B → Type 0) (b : Bool) (e : ErrorNumber) (r : Result (Store × B) ErrorNumber) → (b ≡ false → OnDone P r)
+pub on_if : (B : Type 0) (P : Store × B → Type 0) (b : Bool) (e : ErrorNumber) (r : Result (Store × B) ErrorNumber) → (b ≡ false → OnDone P r)
     → OnDone P (if b then Err e else r)
 on_if B P true e r passed = tt
 on_if B P false e r passed = passed refl
@@ -62,7 +62,7 @@ done_then A P (Ok y) x done is = let same : y ≡ x = cc in subst P same done
 done_then A P (Err e) x done is = absurd (cc)
 
 -- the heap is the one that the call finds
-items_of_fit : (limit : ℕ) (s : Store) (h : HeapList) (f : IsFitStore limit s) → find_heap 0x01800000 s.heaps ≡ Some h
+pub items_of_fit : (limit : ℕ) (s : Store) (h : HeapList) (f : IsFitStore limit s) → find_heap 0x01800000 s.heaps ≡ Some h
     → AreTotals h.items × ((16 + size_of h.items ≤ limit) × (h.end ≡ limit))
 items_of_fit limit s h f found =
     let both : Some f.heap ≡ Some h = sym f.found ∙ found in
@@ -101,7 +101,7 @@ got_fit limit size s f =
     (held_fit limit s h c.items f found r.totals r.inside, (omega (arith, start, r.low), omega (arith, start, r.high, f.room)))))
 
 -- a block was given back
-unless_some : {A : Type 0} (b : Bool) (o : Option A) (x : A) → unless_image b o ≡ Some x → o ≡ Some x
+pub unless_some : {A : Type 0} (b : Bool) (o : Option A) (x : A) → unless_image b o ≡ Some x → o ≡ Some x
 unless_some true o x e = absurd (let none : None ≡ Some x = e in cc)
 unless_some false o x e = e
 

@@ -1,4 +1,7 @@
 pub mod Areas
+pub mod BlockCalls
+pub mod BlockPlans
+pub mod Blocks
 pub mod FlexCalls
 pub mod Growing
 pub mod Guests

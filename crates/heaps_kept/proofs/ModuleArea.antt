@@ -48,7 +48,7 @@ done_in A P (Ok y) x done is = let same : y ≡ x = cc in subst P same done
 done_in A P (Err e) x done is = absurd (cc)
 
 -- the area grows, where it can
-abbrev OnGrown : Estate → Result Estate ErrorNumber → Type 0
+abbrev pub OnGrown : Estate → Result Estate ErrorNumber → Type 0
 OnGrown e (Ok g) = EstateStaysFit e g
 OnGrown e (Err f) = Unit {0}
 
@@ -60,7 +60,7 @@ by_fit e count f = elim (cases_Bool (nat_lt (area_room e) count)) [
       rw enough (pages_fit e count f (with_pages_more e count) (room_fits e.pool count f.area f.store.room f.most room) refl refl)
 ]
 
-to_fit : (e : Estate) (end : ℕ) → IsFitEstate e → OnGrown e (grown_to e end)
+pub to_fit : (e : Estate) (end : ℕ) → IsFitEstate e → OnGrown e (grown_to e end)
 unfolding grown_to
 to_fit e end f = elim (cases_Bool (nat_le end (4096 * area_pages e))) [
   | inl enough ↦ rw enough (fit_same e f)

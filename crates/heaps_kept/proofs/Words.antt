@@ -59,7 +59,7 @@ text_fit e text f few =
     rw apart refl)
 
 -- a block goes where it can be given back
-or_same_fit : (A : Type 0) (e : Estate) (r : Result (Estate × A) ErrorNumber) → IsFitEstate e → OnEstate (Leaves IsAny e) r → EstateStaysFit e (or_same e r)
+pub or_same_fit : (A : Type 0) (e : Estate) (r : Result (Estate × A) ErrorNumber) → IsFitEstate e → OnEstate (Leaves IsAny e) r → EstateStaysFit e (or_same e r)
 or_same_fit A e (Ok x) f done = done.0
 or_same_fit A e (Err g) f done = fit_same e f
 

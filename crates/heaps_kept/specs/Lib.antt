@@ -1,4 +1,5 @@
 pub mod AreaLaws
+pub mod BlockLaws
 pub mod FitEstates
 pub mod Fits
 pub mod FlexLaws

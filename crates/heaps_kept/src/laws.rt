@@ -1,6 +1,7 @@
 //! Laws over the definitions of calls, each the contract of a function that does nothing.
 
 ghost use Rattle.heaps_kept.specs.AreaLaws.{AreaCallsKeepHeap};
+ghost use Rattle.heaps_kept.specs.BlockLaws.{BlockCallsKeep, PlansKeepBlocks};
 ghost use Rattle.heaps_kept.specs.FlexLaws.{FlexCallsKeepHeap, FlexInitKeepsHeap};
 ghost use Rattle.heaps_kept.specs.GuestLaws.{EstatesAreFit, GuestHeapsLieOutside, OutsideKeepsHeap};
 ghost use Rattle.heaps_kept.specs.HeapLaws.{HeapCallsStayFit};
@@ -79,4 +80,15 @@ pub fn flex_calls_keep_heap()
 /// So does each turn of a machine's stores: a flex call as the machine makes it, or a slide of the module area.
 pub fn turns_keep_heap()
     ensures { TurnsKeepHeap }
+{}
+
+/// A claim in the module area, or a new image there, leaves each block that was live with what it held; after a release
+/// each block that is live was so, and holds what it held.
+pub fn block_calls_keep()
+    ensures { BlockCallsKeep }
+{}
+
+/// So it is after a plan in which nothing slides.
+pub fn plans_keep_blocks()
+    ensures { PlansKeepBlocks }
 {}
