@@ -29,16 +29,19 @@ block_total s block = total_in block (find_heap 0x01800000 s.heaps)
 abbrev pub HoldsSame : Store → Store → ℕ → ℕ → Type 0
 HoldsSame s t block total = (a : ℕ) → in_range block (total - 4) a ≡ true → t.bytes.at a ≡ s.bytes.at a
 
--- Each block that was live is so still, and holds what it held; and each that is live was so, and holds what it held.
+-- each block that was live is so still, and holds what it held
 abbrev pub StayLive : Store → Store → Type 0
 StayLive s t =
-    (block total : ℕ) → block_total s block ≡ Some total → (block_total t block ≡ Some total) × HoldsSame s t block total
+    (block total : ℕ) → block_total s block ≡ Some total
+    → (block_total t block ≡ Some total) × HoldsSame s t block total
 
+-- each block that is live was so before, and holds what it held
 abbrev pub WereLive : Store → Store → Type 0
 WereLive s t =
-    (block total : ℕ) → block_total t block ≡ Some total → (block_total s block ≡ Some total) × HoldsSame s t block total
+    (block total : ℕ) → block_total t block ≡ Some total
+    → (block_total s block ≡ Some total) × HoldsSame s t block total
 
--- A claim leaves all blocks that were live, and a release brings none. So it is whatever the area grows by.
+-- A claim leaves all blocks that were live, whatever the area grows by, and a release brings none.
 pub record BlockCallKeeps (d e : Estate) : Type 0 where
   pub claim : (size block : ℕ) → rma_claimed d size ≡ Ok (e, block) → StayLive d.store e.store
   pub make_image : (image : List ℕ) (at : ℕ) → image_made d image ≡ Ok (e, at) → StayLive d.store e.store
@@ -54,7 +57,7 @@ HaveNoSlide [] = Unit {0}
 HaveNoSlide (act.Slide ∷ actions) = ⊥
 HaveNoSlide (other ∷ actions) = HaveNoSlide actions
 
--- A plan brings no block, and where nothing slides each that is live after it holds what it held.
+-- A plan in which nothing slides brings no block, and each that is live after it holds what it held.
 abbrev pub PlansKeepBlocks : Type 0
 PlansKeepBlocks =
     (w : World) (p : Plan) → IsFitWorld w → AreActionsBelow p.actions → length p.given.text.items ≤ 255

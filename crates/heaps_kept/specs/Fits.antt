@@ -1,6 +1,6 @@
 -- What holds of the module area's heap in the midst of a step too, when it isn't known that the store is sound; and
--- what a change within the module area and the system pages leaves of all else (RISC OS 3 Programmer's Reference Manual,
--- "OS_Heap" and "The relocatable module area"; the places are this project's own).
+-- what a change within the module area and the system pages leaves of all else (RISC OS 3 Programmer's Reference
+-- Manual, "OS_Heap" and "The relocatable module area"; the places are this project's own).
 use Rattle.std.specs.Prelude.{ℕ, ◌≡◌, ◌≢◌, ◌≤◌, ◌+◌, Bool, false, Some}
 use Rattle.address_map.specs.Bytes.{in_range}
 use Rattle.address_map.specs.Items.{size_of}
