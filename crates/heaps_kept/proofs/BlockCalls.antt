@@ -1,5 +1,5 @@
 -- Blocks of the module area, over claims, releases and new images.
-use Rattle.std.proofs.Common.{if◌then◌else◌, ℕ, ◌+◌, ◌-◌, ◌*◌, ◌≡◌, ◌≢◌, ◌≤◌, ◌<◌, ◌∙◌, true, false, List, length, Option, Some, None, is_some, Result, Ok, Err, refl, sym, ap, subst, inl, inr, arith}
+use Rattle.std.proofs.Common.{ℕ, ◌+◌, ◌-◌, ◌*◌, ◌≡◌, ◌≢◌, ◌≤◌, ◌<◌, ◌∙◌, true, false, List, length, Option, Some, is_some, Result, Ok, Err, refl, sym, ap, subst, inl, inr, arith}
 use Rattle.std.specs.Prelude.{nat_le, nat_lt}
 use Rattle.std.proofs.lemmas.Bool.{cases_Bool, false_from_ne_true, false≢true, le-leb, lt-ltb}
 use Rattle.profile.specs.Outcome.{bind}
@@ -19,7 +19,6 @@ use Rattle.os_heap.specs.Calls.{block_sized, ending, gave_back, got, holding, ho
 use Rattle.os_heap.specs.Store.{Store, find_heap, has_image}
 use Rattle.dynamic_areas.proofs.ModuleArea.{find_ended}
 use Rattle.dynamic_areas.specs.declared.area.Area.{Area}
-use Rattle.dynamic_areas.specs.Areas.{find_area}
 use Rattle.dynamic_areas.specs.Changing.{store_extended, store_more}
 use Rattle.dynamic_areas.specs.Ground.{Estate}
 use Rattle.rma.specs.Calls.{area_pages, area_room, grown_by, grown_to, in_area, is_full, pages_short, rma_base, rma_claimed, rma_freed, with_store}
@@ -29,8 +28,8 @@ use Rattle.heaps_kept.proofs.Blocks.{AreSame, beside_same, held_total, release_w
 use Rattle.heaps_kept.proofs.HeapCalls.{OnDone, items_of_fit, on_if, on_some, unless_some}
 use Rattle.heaps_kept.proofs.Lists.{HasRoomFor, HasRoomIfSome, released_room}
 use Rattle.heaps_kept.proofs.ModuleArea.{OnEstate, OnGrown, to_fit}
-use Rattle.heaps_kept.specs.BlockLaws.{BlockCallsKeep, HoldsSame, StayLive, WereLive, block_total, total_in}
-use Rattle.heaps_kept.specs.FitEstates.{EstateStaysFit, IsFitEstate}
+use Rattle.heaps_kept.specs.BlockLaws.{BlockCallsKeep, StayLive, WereLive, block_total, total_in}
+use Rattle.heaps_kept.specs.FitEstates.{IsFitEstate}
 use Rattle.heaps_kept.specs.Fits.{IsFitStore}
 
 -- a claim leaves all blocks, and makes one that was none

@@ -1,9 +1,8 @@
 -- Blocks of the module area, over the actions of plans in which nothing slides.
-use Rattle.std.proofs.Common.{if◌then◌else◌, ℕ, ◌+◌, ◌*◌, ◌≡◌, ◌≤◌, ◌<◌, ◌++◌, true, false, List, [], ◌∷◌, length, Option, Some, None, Result, Ok, Err, refl, inl, inr, arith}
+use Rattle.std.proofs.Common.{ℕ, ◌+◌, ◌*◌, ◌≡◌, ◌≤◌, ◌<◌, ◌++◌, false, List, [], ◌∷◌, length, Option, Some, None, Result, Ok, Err, refl, inl, inr, arith}
 use Rattle.std.proofs.lemmas.Bool.{cases_Bool, lt-leb, ne_eqb}
 use Rattle.profile.specs.declared.error.ErrorNumber.{ErrorNumber}
 use Rattle.address_map.specs.Bytes.{with_bytes_at, with_word_at}
-use Rattle.address_map.specs.declared.region.Region.{Region}
 use Rattle.os_heap.specs.Calls.{gave_back}
 use Rattle.os_heap.specs.Store.{Store}
 use Rattle.dynamic_areas.specs.Ground.{Estate}
