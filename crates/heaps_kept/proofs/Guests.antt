@@ -1,0 +1,169 @@
+-- Where a guest's heap lies: in the application space, or in an area that was created.
+use Rattle.std.proofs.Common.{ℕ, ◌+◌, ◌*◌, ◌==◌, ◌≡◌, ◌≢◌, ◌≤◌, ◌<◌, ◌∙◌, true, false, List, [], ◌∷◌, Option, Some, None, is_some, refl, sym, ap, subst, inl, inr, arith}
+use Rattle.std.proofs.lemmas.Bool.{and_parts, both_ways, cases_eq, eq-eqb, false_from_ne_true, false≢true, leb-true, ne_eqb, or_cases}
+use Rattle.std.specs.Prelude.{nat_le}
+use Rattle.std.specs.List.{list_any}
+use Rattle.address_map.specs.Bytes.{in_range}
+use Rattle.address_map.specs.declared.region.Region.{Region}
+use Rattle.os_heap_lists.specs.Heap.{HeapList, IsHeapIn}
+use Rattle.os_heap.proofs.Apart.{found_other, range_parts}
+use Rattle.os_heap.proofs.Found.{found_heap}
+use Rattle.os_heap.proofs.Stores.{are_others, clear_of-found, image_kind}
+use Rattle.os_heap.specs.Calls.{has_own_size}
+use Rattle.os_heap.specs.Store.{ArePlaced, IsClearOfHeaps, IsSound, Store, find_heap, is_image}
+use Rattle.dynamic_areas.proofs.ModuleArea.{IsModuleArea, module_area_known}
+use Rattle.dynamic_areas.proofs.RoomLemmas.{found_behind, found_room, in_window}
+use Rattle.dynamic_areas.specs.declared.area.Area.{Area}
+use Rattle.dynamic_areas.specs.Areas.{find_area}
+use Rattle.dynamic_areas.specs.Ground.{Estate, IsEstate, IsRecorded, is_fixed, is_held, is_land, system_pages}
+use Rattle.dynamic_areas.specs.Rooms.{AreRooms, IsRoom}
+use Rattle.heaps_kept.specs.Fits.{is_module_byte}
+use Rattle.heaps_kept.specs.GuestLaws.{EstatesAreFit, GuestHeapsLieOutside, HasGuestHeap, OutsideKeepsHeap}
+
+-- area 1 of an estate, which is there
+record HasModuleArea (e : Estate) : Type 0 where
+  area : Area
+  found : find_area 1 e.land.areas ≡ Some area
+  known : IsModuleArea e.store area
+  room : IsRoom area
+
+module_area : (e : Estate) → IsEstate e → HasModuleArea e
+module_area e estate = of_area (find_area 1 e.land.areas) refl estate.ground.table.first where
+  of_area : (o : Option Area) → find_area 1 e.land.areas ≡ o → is_some o ≡ true → HasModuleArea e
+  of_area None none some = absurd (false≢true some)
+  of_area (Some a) found some = record {
+    area = a;
+    found = found;
+    known = module_area_known e.store e.pool e.land a estate found;
+    room = found_room 1 e.land.areas a estate.ground.table.rooms found;
+  }
+
+pub estates_fit : EstatesAreFit
+estates_fit e estate =
+    let m : HasModuleArea e = module_area e estate in
+    let maximum : m.area.maximum ≡ 4194304 = m.known.maximum in
+    let within : 4096 * m.area.pages ≤ m.area.maximum = m.room.within in
+    record {
+      area = m.area;
+      found = m.found;
+      most = omega (arith, maximum);
+      store = record {
+        heap = m.known.heap;
+        found = m.known.found;
+        totals = m.known.spelled.totals;
+        inside = omega (arith, m.known.spelled.inside, m.known.end);
+        end = m.known.end;
+        room = omega (arith, within, maximum);
+      };
+    }
+
+-- the system pages are clear of all heaps
+pub system_clear : (hs : List HeapList) (rs : List Region) → ArePlaced hs rs → IsRecorded system_pages rs → IsClearOfHeaps 0x01C00000 0x3000 hs
+system_clear hs [] placed recorded = absurd recorded
+system_clear hs (r ∷ rs) placed recorded = elim recorded [
+  | inr later ↦ system_clear hs rs placed.1 later
+  | inl same ↦ elim placed.0 [
+    | inl clear ↦ subst (λ (x : Region). IsClearOfHeaps x.at x.len hs) same clear
+    | inr image ↦ absurd (false≢true (ap (λ (x : Region). is_image x.kind) (sym same) ∙ image_kind hs r image))
+  ]
+]
+
+-- an area that was created lies behind the system pages
+created_low : (a : Area) → IsRoom a → a.number ≢ 1 → 0x02000000 ≤ a.base
+created_low a room other = leb-true 0x02000000 a.base (and_parts (nat_le 0x02000000 a.base) (nat_le (a.base + a.maximum) 0x03000000)
+    (in_window a.number a.base a.maximum other room.place)).0
+
+-- the area that has a byte
+record IsHeldBy (areas : List Area) (a : ℕ) : Type 0 where
+  area : Area
+  found : find_area area.number areas ≡ Some area
+  room : IsRoom area
+  held : in_range area.base (4096 * area.pages) a ≡ true
+
+held_by : (areas : List Area) (a : ℕ) → AreRooms areas → list_any (is_held a) areas ≡ true → IsHeldBy areas a
+held_by [] a rooms is = absurd (false≢true is)
+held_by (g ∷ areas) a rooms is = elim (or_cases (is_held a g) (list_any (is_held a) areas) is) [
+  | inl here ↦ record { area = g; found = rw (eq-eqb g.number g.number refl) refl; room = rooms.0; held = here }
+  | inr later ↦
+      let rest : IsHeldBy areas a = held_by areas a rooms.1.1 later in
+      let less : g.number < rest.area.number = (found_behind g rest.area rest.area.number areas rooms.1.0 rest.found).0 in
+      let other : (g.number == rest.area.number) ≡ false = ne_eqb g.number rest.area.number (λ same. omega (arith, less, same)) in
+      record { area = rest.area; found = rw other rest.found; room = rest.room; held = rest.held }
+]
+
+module _ (e : Estate) (h : HeapList) (a : ℕ) (g : HasGuestHeap e h) (inside : in_range h.start h.end a ≡ true) where
+  s : Store
+  s = e.store
+
+  sound : IsSound s
+  unfolding s
+  sound = g.estate.ground.sound
+
+  -- a guest's heap is clear of the module area's
+  in_module_area : (area : Area) → IsModuleArea s area → in_range 0x01800000 (4096 * area.pages) a ≡ true → ⊥
+  unfolding s sound
+  in_module_area area m there =
+      let k : HeapList = m.heap in
+      let here : in_range k.start k.end a ≡ true = rw (m.start, m.end) there in
+      let own : find_heap k.start s.heaps ≡ Some k = subst (λ (p : ℕ). find_heap p s.heaps ≡ Some k) (sym m.start) m.found in
+      elim (found_other k h.start s.heaps h (are_others s.bytes k.start s.heaps k sound.heaps own) g.found) [
+        | inl same ↦ false≢true (sym (ap (λ (x : HeapList). has_own_size x.kind) same ∙ ap has_own_size m.kind) ∙ g.own)
+        | inr apart ↦ both_ways (in_range h.start h.end a) (apart.1 a here) inside
+      ]
+
+  in_area : IsHeldBy e.land.areas a → is_module_byte a ≡ true → ⊥
+  unfolding s
+  in_area held is = elim (cases_eq held.area.number 1) [
+    | inl first ↦
+        let found : find_area 1 e.land.areas ≡ Some held.area = subst (λ (n : ℕ). find_area n e.land.areas ≡ Some held.area) first held.found in
+        let m : IsModuleArea s held.area = module_area_known s e.pool e.land held.area g.estate found in
+        in_module_area held.area m (subst (λ (p : ℕ). in_range p (4096 * held.area.pages) a ≡ true) m.base held.held)
+    | inr other ↦
+        let parts : (held.area.base ≤ a) × (a < held.area.base + 4096 * held.area.pages) = range_parts held.area.base (4096 * held.area.pages) a held.held in
+        let byte : (0x01800000 ≤ a) × (a < 0x01C03000) = range_parts 0x01800000 0x403000 a is in
+        omega (arith, created_low held.area held.room other, parts.0, byte.1)
+  ]
+
+  in_fixed : is_fixed e.land.sizes a ≡ true → is_module_byte a ≡ true → ⊥
+  unfolding s sound
+  in_fixed fixed is =
+      let good = g.estate.ground.sizes in
+      let byte : (0x01800000 ≤ a) × (a < 0x01C03000) = range_parts 0x01800000 0x403000 a is in
+      elim (or_cases (in_range 0x8000 (4096 * e.land.sizes.app) a) (in_range 0x01C00000 0x3000 a) fixed) [
+        | inl low ↦
+            let parts : (0x8000 ≤ a) × (a < 0x8000 + 4096 * e.land.sizes.app) = range_parts 0x8000 (4096 * e.land.sizes.app) a low in
+            omega (arith, parts.1, byte.0, good.in_limit, good.has_room)
+        | inr system ↦ both_ways (in_range h.start h.end a)
+            (clear_of-found 0x01C00000 0x3000 h.start s.heaps h (system_clear s.heaps s.others sound.placed g.system) g.found a system) inside
+      ]
+
+  outside : is_module_byte a ≡ false
+  unfolding s sound
+  outside =
+      let heap : IsHeapIn s.bytes h.start h.end h.items = found_heap s.bytes h.start s.heaps h sound.heaps g.found in
+      let parts : (h.start ≤ a) × (a < h.start + h.end) = range_parts h.start h.end a inside in
+      let land : is_land e.land a ≡ true = sym (g.estate.ground.land a) ∙ heap.mapped a parts.0 parts.1 in
+      false_from_ne_true (is_module_byte a) (λ is.
+      elim (or_cases (is_fixed e.land.sizes a) (list_any (is_held a) e.land.areas) land) [
+        | inl fixed ↦ in_fixed fixed is
+        | inr held ↦ in_area (held_by e.land.areas a g.estate.ground.table.rooms held) is
+      ])
+
+pub guests_outside : GuestHeapsLieOutside
+guests_outside e h a g inside = outside e h a g inside
+
+-- it doesn't start where the module area does
+pub guest_elsewhere : (e : Estate) (h : HeapList) → HasGuestHeap e h → h.start ≢ 0x01800000
+guest_elsewhere e h g same =
+    let m : HasModuleArea e = module_area e g.estate in
+    let there : find_heap 0x01800000 e.store.heaps ≡ Some h = subst (λ (p : ℕ). find_heap p e.store.heaps ≡ Some h) same g.found in
+    let both : Some m.known.heap ≡ Some h = sym m.known.found ∙ there in
+    let is : m.known.heap ≡ h = cc in
+    false≢true (sym (ap (λ (x : HeapList). has_own_size x.kind) (sym is) ∙ ap has_own_size m.known.kind) ∙ g.own)
+
+pub outside_keeps : OutsideKeepsHeap
+outside_keeps e t h g kept = record {
+  found = kept.heaps h.start (guest_elsewhere e h g) ∙ g.found;
+  bytes = λ a inside. kept.bytes a (guests_outside e h a g inside);
+  anchors = λ a inside. kept.anchors a;
+}

@@ -1,0 +1,16 @@
+pub mod Areas
+pub mod BlockCalls
+pub mod BlockPlans
+pub mod Blocks
+pub mod FlexCalls
+pub mod Growing
+pub mod Guests
+pub mod HeapCalls
+pub mod Holding
+pub mod Lists
+pub mod ModuleArea
+pub mod Plans
+pub mod Sliding
+pub mod Slots
+pub mod Turns
+pub mod Words

@@ -1,0 +1,123 @@
+-- The actions of plans, one after another.
+use Rattle.std.proofs.Common.{ℕ, ◌*◌, ◌≡◌, ◌≤◌, ◌<◌, false, List, [], ◌∷◌, length, Option, Some, None, refl, inl, inr}
+use Rattle.std.proofs.lemmas.Bool.{cases_Bool}
+use Rattle.address_map.specs.Moves.{moved_to}
+use Rattle.address_map.specs.declared.follow.Move.{Move}
+use Rattle.os_heap_lists.specs.Heap.{HeapList}
+use Rattle.os_heap.specs.Store.{Store, find_heap}
+use Rattle.os_heap_slide.specs.Slide.{with_slid}
+use Rattle.dynamic_areas.specs.Ground.{Estate}
+use Rattle.rma.specs.Calls.{with_store}
+use Rattle.instances_table.specs.Changes.{module_without}
+use Rattle.instances_table.specs.Modules.{Module, has_instance, slots_of}
+use Rattle.instances_plans.specs.declared.action.Action.{Action}
+use Rattle.instances_plans.specs.declared.action.Action.TheVariants as act
+use Rattle.instances_plans.specs.declared.code.Code.{Code}
+use Rattle.instances_plans.specs.Carrying.{carried, carried_by, carried_from}
+use Rattle.instances_plans.specs.Plans.{Plan, owed}
+use Rattle.instances_ground.specs.World.{World, image_gone_of, image_gone_with, private_freed, private_word, removed, with_private}
+use Rattle.instances_slide.specs.Movable.{movable_blocks}
+use Rattle.instances_slide.specs.Slid.{moves_in, private_words, words_moved, world_moved, world_slid, world_slid_in}
+use Rattle.instances_actions.specs.Actions.{acted, code_of, image_given}
+use Rattle.instances.specs.Turns.{module_doing}
+use Rattle.heaps_kept.proofs.ModuleArea.{fit_both, fit_same, store_fit}
+use Rattle.heaps_kept.proofs.Sliding.{slid_fit}
+use Rattle.heaps_kept.proofs.Slots.{another_below, moved_below, new_below, removed_below}
+use Rattle.heaps_kept.proofs.Words.{block_fit, image_gone_fit, text_fit, word_fit}
+use Rattle.heaps_kept.specs.FitEstates.{EstateStaysFit, IsFitEstate}
+use Rattle.heaps_kept.specs.PlanLaws.{ActsStayFit, AreActionsBelow, AreBelow, IsFitWorld, PlansStayFit, WorldStaysFit, slot_named}
+
+-- with the last instance of a module its image goes
+image_of_fit : (e : Estate) (m : Module) (left : List Module) → IsFitEstate e → EstateStaysFit e (image_gone_of e m left)
+image_of_fit e m [] f = image_gone_fit e m.image f
+image_of_fit e m (k ∷ left) f = fit_same e f
+
+image_with_fit : (e : Estate) (slot : ℕ) (modules : List Module) → IsFitEstate e → EstateStaysFit e (image_gone_with e slot modules)
+image_with_fit e slot [] f = fit_same e f
+image_with_fit e slot (m ∷ modules) f = elim (cases_Bool (has_instance slot m)) [
+  | inl here ↦ rw here (image_of_fit e m (module_without slot m) f)
+  | inr other ↦ rw other (image_with_fit e slot modules f)
+]
+
+removed_fit : (w : World) (slot : ℕ) → IsFitWorld w → slot < 64 → WorldStaysFit w (removed w slot)
+unfolding removed
+removed_fit w slot f few =
+    let e : Estate = private_freed w.estate slot in
+    let one : EstateStaysFit w.estate e = block_fit w.estate slot f.estate few in
+    record {
+      estate = fit_both w.estate e (image_gone_with e slot w.modules) one (image_with_fit e slot w.modules one.fit);
+      slots = removed_below slot w.modules f.slots;
+    }
+
+-- the slide: the heap's, and then the private words, each in its place
+words_fit : (moves : List Move) (slots : List ℕ) (e : Estate) → AreBelow slots → IsFitEstate e → EstateStaysFit e (words_moved moves slots e)
+words_fit moves [] e below f = fit_same e f
+words_fit moves (slot ∷ slots) e below f =
+    let g : Estate = with_private e slot (moved_to moves (private_word e slot)) in
+    let one : EstateStaysFit e g = word_fit e slot (moved_to moves (private_word e slot)) f below.0 in
+    fit_both e g (words_moved moves slots g) one (words_fit moves slots g below.1 one.fit)
+
+moved_fit : (w : World) (h : HeapList) (movable : List ℕ) → IsFitWorld w → find_heap 0x01800000 w.estate.store.heaps ≡ Some h
+    → WorldStaysFit w (world_moved w h movable)
+moved_fit w h movable f found =
+    let t : Store = with_slid w.estate.store h movable in
+    let e : Estate = with_store w.estate t in
+    let one : EstateStaysFit w.estate e = store_fit w.estate t f.estate (slid_fit (4096 * f.estate.area.pages) w.estate.store h movable f.estate.store found) in
+    record {
+      estate = fit_both w.estate e (words_moved (moves_in h movable) (slots_of w.modules) e) one
+          (words_fit (moves_in h movable) (slots_of w.modules) e f.slots one.fit);
+      slots = moved_below (moves_in h movable) w.modules f.slots;
+    }
+
+world_same : (w : World) → IsFitWorld w → WorldStaysFit w w
+world_same w f = record { estate = fit_same w.estate f.estate; slots = f.slots }
+
+pub slid_world_fit : (return_address : ℕ) (w : World) → IsFitWorld w → WorldStaysFit w (world_slid return_address w)
+unfolding world_slid
+slid_world_fit return_address w f = of_heap (find_heap 0x01800000 w.estate.store.heaps) refl where
+  of_heap : (o : Option HeapList) → find_heap 0x01800000 w.estate.store.heaps ≡ o → WorldStaysFit w (world_slid_in return_address w o)
+  of_heap None found = world_same w f
+  of_heap (Some h) found = moved_fit w h (movable_blocks w.estate.store w.modules (private_words w) return_address h) f found
+
+pub acts_fit : ActsStayFit
+acts_fit w g (act.Finalise slot fatal) f below few = world_same w f
+acts_fit w g (act.Remove slot) f below few = removed_fit w slot f below.0
+acts_fit w g (act.FreePrivate slot) f below few = record { estate = block_fit w.estate slot f.estate below.0; slots = f.slots }
+acts_fit w g (act.Insert slot) f below few = record {
+  estate = word_fit w.estate slot 0 f.estate below.0;
+  slots = new_below g slot w.modules below.0 f.slots;
+}
+acts_fit w g (act.Instantiate slot) f below few = record {
+  estate = word_fit w.estate slot 0 f.estate below.0;
+  slots = another_below g slot w.modules below.0 f.slots;
+}
+acts_fit w g act.GiveUp f below few = record { estate = image_gone_fit w.estate (image_given g) f.estate; slots = f.slots }
+acts_fit w g act.Slide f below few = slid_world_fit g.return_address w f
+acts_fit w g (act.Initialise slot) f below few = record { estate = text_fit w.estate g.text.items f.estate few; slots = f.slots }
+
+-- one after another, up to the next code
+abbrev GoOn : List Action → Type 0
+GoOn actions = (w : World) (p : Plan) → IsFitWorld w → length p.given.text.items ≤ 255
+    → WorldStaysFit w (carried_from module_doing actions w p).world
+
+by_code : (w : World) (p : Plan) (a : Action) (actions : List Action) (o : Option Code) → IsFitWorld w → AreBelow (slot_named a)
+    → length p.given.text.items ≤ 255 → GoOn actions
+    → WorldStaysFit w (carried_by module_doing w p a actions o (carried_from module_doing actions)).world
+by_code w p a actions (Some code) f below few on = acts_fit w p.given a f below few
+by_code w p a actions None f below few on =
+    let v : World = acted world_slid p.given w a in
+    let q : Plan = record p { actions = actions; instead = owed p.instead a; runs = false } in
+    let one : WorldStaysFit w v = acts_fit w p.given a f below few in
+    let rest : WorldStaysFit v (carried_from module_doing actions v q).world = on v q (record { estate = one.estate.fit; slots = one.slots }) few in
+    record {
+      estate = fit_both w.estate v.estate (carried_from module_doing actions v q).world.estate one.estate rest.estate;
+      slots = rest.slots;
+    }
+
+from_fit : (actions : List Action) → AreActionsBelow actions → GoOn actions
+from_fit [] below w p f few = world_same w f
+from_fit (a ∷ actions) below w p f few = by_code w p a actions (code_of w a) f below.0 few (from_fit actions below.1)
+
+pub plans_fit : PlansStayFit
+unfolding carried
+plans_fit w p f below few = from_fit p.actions below w p f few

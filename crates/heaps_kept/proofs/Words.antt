@@ -1,0 +1,106 @@
+-- Private words, the environment text, and blocks and images that are given back.
+use Rattle.std.proofs.Common.{ℕ, ◌+◌, ◌*◌, ◌≡◌, ◌≤◌, ◌<◌, ◌++◌, false, List, [], ◌∷◌, length, Result, Ok, Err, refl, inl, inr, arith}
+use Rattle.std.proofs.lemmas.Bool.{both_ways, cases_Bool, ne_eqb}
+use Rattle.std.proofs.Common.{length-append}
+use Rattle.profile.specs.declared.error.ErrorNumber.{ErrorNumber}
+use Rattle.address_map.proofs.Stores.{in_range-cases}
+use Rattle.address_map.specs.Bytes.{Bytes, in_range, with_bytes_at, with_word_at}
+use Rattle.os_heap.specs.Calls.{gave_back}
+use Rattle.os_heap.specs.Store.{Store}
+use Rattle.dynamic_areas.specs.Ground.{Estate}
+use Rattle.rma.specs.Calls.{rma_freed, with_store}
+use Rattle.rma.specs.Images.{image_dropped, image_freed, or_kept}
+use Rattle.instances_table.specs.ModuleArea.{is_in_module_area}
+use Rattle.instances_table.specs.declared.parts.Image.{Image}
+use Rattle.instances_plans.specs.Code.{private_of}
+use Rattle.instances_ground.specs.World.{freed, image_gone, or_same, private_freed, private_word, with_private, with_text}
+use Rattle.heaps_kept.proofs.HeapCalls.{LeavesFit, OnDone, gave_fit}
+use Rattle.heaps_kept.proofs.Holding.{keeps_all, range_within, stays_both, written_fit}
+use Rattle.heaps_kept.proofs.ModuleArea.{IsAny, Leaves, OnEstate, fit_both, fit_same, freed_fit, records_fit, store_fit}
+use Rattle.heaps_kept.specs.FitEstates.{EstateStaysFit, IsFitEstate}
+use Rattle.heaps_kept.specs.Fits.{IsFitStore, StaysFit, is_module_byte}
+use Rattle.heaps_kept.specs.PlanLaws.{WritesStayFit}
+
+-- bytes that are written in the module area or the system pages
+bytes_fit : (e : Estate) (c : Bytes) → IsFitEstate e → ((a : ℕ) → is_module_byte a ≡ false → c.at a ≡ e.store.bytes.at a)
+    → EstateStaysFit e (with_store e (record e.store { bytes = c }))
+bytes_fit e c f kept = store_fit e (record e.store { bytes = c }) f (written_fit (4096 * f.area.pages) e.store c f.store kept)
+
+word_apart : (f : ℕ → ℕ) (at value a : ℕ) → 0x01800000 ≤ at → at + 4 ≤ 0x01C03000 → is_module_byte a ≡ false → with_word_at f at value a ≡ f a
+word_apart f at value a low high out = elim (in_range-cases at 4 a) [
+  | inl r ↦ absurd (both_ways (in_range at 4 a) (range_within at 4 a low high out) r.0)
+  | inr r ↦ elim r.1 [
+    | inl less ↦ rw (
+      ne_eqb a at (λ e. omega (arith, less, e)),
+      ne_eqb a (at + 1) (λ e. omega (arith, less, e)),
+      ne_eqb a (at + 2) (λ e. omega (arith, less, e)),
+      ne_eqb a (at + 3) (λ e. omega (arith, less, e)),
+    ) refl
+    | inr past ↦ rw (
+      ne_eqb a at (λ e. omega (arith, past, e)),
+      ne_eqb a (at + 1) (λ e. omega (arith, past, e)),
+      ne_eqb a (at + 2) (λ e. omega (arith, past, e)),
+      ne_eqb a (at + 3) (λ e. omega (arith, past, e)),
+    ) refl
+  ]
+]
+
+pub word_fit : (e : Estate) (slot value : ℕ) → IsFitEstate e → slot < 64 → EstateStaysFit e (with_private e slot value)
+word_fit e slot value f few =
+    bytes_fit e (record { mapped = e.store.bytes.mapped; at = with_word_at e.store.bytes.at (private_of slot) value }) f
+    (λ a out. word_apart e.store.bytes.at (private_of slot) value a (omega arith) (omega (arith, few)) out)
+
+pub text_fit : (e : Estate) (text : List ℕ) → IsFitEstate e → length text ≤ 255 → EstateStaysFit e (with_text e text)
+text_fit e text f few =
+    let all : List ℕ = text ++ 0 ∷ [] in
+    let size : length all ≤ 256 = omega (arith, few, length-append text (0 ∷ [])) in
+    bytes_fit e (record { mapped = e.store.bytes.mapped; at = with_bytes_at e.store.bytes.at 0x01C02200 all }) f (λ a out.
+    let apart : in_range 0x01C02200 (length all) a ≡ false = range_within 0x01C02200 (length all) a (omega arith) (omega (arith, size)) out in
+    rw apart refl)
+
+-- a block goes where it can be given back
+pub or_same_fit : (A : Type 0) (e : Estate) (r : Result (Estate × A) ErrorNumber) → IsFitEstate e → OnEstate (Leaves IsAny e) r → EstateStaysFit e (or_same e r)
+or_same_fit A e (Ok x) f done = done.0
+or_same_fit A e (Err g) f done = fit_same e f
+
+pub block_fit : (e : Estate) (slot : ℕ) → IsFitEstate e → slot < 64 → EstateStaysFit e (private_freed e slot)
+unfolding private_freed
+block_fit e slot f few =
+    let g : Estate = freed e (private_word e slot) in
+    let one : EstateStaysFit e g = or_same_fit (Unit {0}) e (rma_freed e (private_word e slot)) f (freed_fit e (private_word e slot) f) in
+    fit_both e g (with_private g slot 0) one (word_fit g slot 0 one.fit few)
+
+-- an image is none any more
+dropped_fit : (limit : ℕ) (s : Store) (at : ℕ) → IsFitStore limit s → StaysFit limit s (image_dropped s at)
+unfolding image_dropped
+dropped_fit limit s at f = records_fit limit s _ f
+
+or_kept_fit : (limit : ℕ) (s : Store) (r : Result (Store × Unit {0}) ErrorNumber) → IsFitStore limit s → OnDone (LeavesFit limit s) r
+    → StaysFit limit s (or_kept s r)
+or_kept_fit limit s (Ok x) f done = done
+or_kept_fit limit s (Err e) f done = record { fit = f; outside = keeps_all s }
+
+gone_fit : (limit : ℕ) (s : Store) (at : ℕ) → IsFitStore limit s → StaysFit limit s (image_freed s at)
+unfolding image_freed
+gone_fit limit s at f =
+    let t : Store = image_dropped s at in
+    let one : StaysFit limit s t = dropped_fit limit s at f in
+    stays_both limit limit s t (or_kept t (gave_back t 0x01800000 at)) one
+    (or_kept_fit limit t (gave_back t 0x01800000 at) one.fit (gave_fit limit 0x01800000 at t refl one.fit))
+
+pub image_gone_fit : (e : Estate) (image : Image) → IsFitEstate e → EstateStaysFit e (image_gone e image)
+unfolding image_gone
+image_gone_fit e image f = elim (cases_Bool (is_in_module_area image.at)) [
+  | inl inside ↦ rw inside (store_fit e (image_freed e.store image.at) f (gone_fit (4096 * f.area.pages) e.store image.at f.store))
+  | inr beside ↦ rw beside (store_fit e (image_dropped e.store image.at) f (dropped_fit (4096 * f.area.pages) e.store image.at f.store))
+]
+
+pub writes_fit : WritesStayFit
+writes_fit e f = record {
+  bytes = λ c kept. bytes_fit e c f kept;
+  records = λ others. store_fit e (record e.store { others = others }) f (records_fit (4096 * f.area.pages) e.store others f.store);
+  word = λ slot value few. word_fit e slot value f few;
+  text = λ text few. text_fit e text f few;
+  block = λ slot few. block_fit e slot f few;
+  image = λ image. image_gone_fit e image f;
+}

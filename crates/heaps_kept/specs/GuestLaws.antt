@@ -1,0 +1,30 @@
+-- A heap that a guest made has no byte in the module area, nor in the system pages: what changes there alone keeps it.
+use Rattle.std.specs.Prelude.{ℕ, ◌≡◌, true, false, Some}
+use Rattle.address_map.specs.Bytes.{in_range}
+use Rattle.os_heap_lists.specs.Heap.{HeapList}
+use Rattle.os_heap.specs.Calls.{has_own_size}
+use Rattle.os_heap.specs.Store.{Store, find_heap}
+use Rattle.dynamic_areas.specs.Ground.{Estate, IsEstate, IsRecorded, system_pages}
+use Rattle.heaps_kept.specs.FitEstates.{IsFitEstate}
+use Rattle.heaps_kept.specs.Fits.{KeepsOutside, is_module_byte}
+use Rattle.heaps_kept.specs.KeepsHeap.{KeepsHeap}
+
+-- a heap that a guest made, between calls
+pub record HasGuestHeap (e : Estate) (h : HeapList) : Type 0 where
+  pub estate : IsEstate e
+  pub system : IsRecorded system_pages e.store.others
+  pub found : find_heap h.start e.store.heaps ≡ Some h
+  pub own : has_own_size h.kind ≡ true
+
+-- What holds of an estate between calls says enough of the module area for the midst of a step.
+abbrev pub EstatesAreFit : Type 0
+EstatesAreFit = (e : Estate) → IsEstate e → IsFitEstate e
+
+abbrev pub GuestHeapsLieOutside : Type 0
+GuestHeapsLieOutside =
+    (e : Estate) (h : HeapList) (a : ℕ) → HasGuestHeap e h → in_range h.start h.end a ≡ true
+    → is_module_byte a ≡ false
+
+abbrev pub OutsideKeepsHeap : Type 0
+OutsideKeepsHeap =
+    (e : Estate) (t : Store) (h : HeapList) → HasGuestHeap e h → KeepsOutside e.store t → KeepsHeap h e.store t

@@ -1,0 +1,12 @@
+pub mod AreaLaws
+pub mod BlockLaws
+pub mod FitEstates
+pub mod Fits
+pub mod FlexLaws
+pub mod GuestLaws
+pub mod HeapLaws
+pub mod KeepsHeap
+pub mod ModuleAreaLaws
+pub mod PlanLaws
+pub mod SlideLaws
+pub mod TurnLaws

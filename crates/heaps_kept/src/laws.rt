@@ -1,0 +1,94 @@
+//! Laws over the definitions of calls, each the contract of a function that does nothing.
+
+ghost use Rattle.heaps_kept.specs.AreaLaws.{AreaCallsKeepHeap};
+ghost use Rattle.heaps_kept.specs.BlockLaws.{BlockCallsKeep, PlansKeepBlocks};
+ghost use Rattle.heaps_kept.specs.FlexLaws.{FlexCallsKeepHeap, FlexInitKeepsHeap};
+ghost use Rattle.heaps_kept.specs.GuestLaws.{EstatesAreFit, GuestHeapsLieOutside, OutsideKeepsHeap};
+ghost use Rattle.heaps_kept.specs.HeapLaws.{HeapCallsStayFit};
+ghost use Rattle.heaps_kept.specs.ModuleAreaLaws.{ModuleAreaCallsStayFit};
+ghost use Rattle.heaps_kept.specs.PlanLaws.{
+  ActsStayFit,
+  DoablePlansAreBelow,
+  ModulesAreBelow,
+  PlansStayFit,
+  WritesStayFit,
+};
+ghost use Rattle.heaps_kept.specs.SlideLaws.{SlidesStayFit};
+ghost use Rattle.heaps_kept.specs.TurnLaws.{TurnsKeepHeap};
+
+/// Get, free and resize in the module area, and a move that a resize makes, stay there.
+pub fn heap_calls_stay_fit()
+    ensures { HeapCallsStayFit }
+{}
+
+/// A slide of the module area stays there.
+pub fn slides_stay_fit()
+    ensures { SlidesStayFit }
+{}
+
+/// Claims, releases and changes of size in the module area stay there, with the growth of the area that they make; so
+/// do new images, with the bytes that they get.
+pub fn module_area_calls_stay_fit()
+    ensures { ModuleAreaCallsStayFit }
+{}
+
+/// What holds of an estate between calls says enough of the module area for the midst of a step.
+pub fn estates_are_fit()
+    ensures { EstatesAreFit }
+{}
+
+/// A heap that a guest made has no byte in the module area or in the system pages.
+pub fn guest_heaps_lie_outside()
+    ensures { GuestHeapsLieOutside }
+{}
+
+/// What changes in the module area and the system pages alone keeps each heap that a guest made.
+pub fn outside_keeps_heap()
+    ensures { OutsideKeepsHeap }
+{}
+
+/// A call on a dynamic area keeps each heap that a guest made.
+pub fn area_calls_keep_heap()
+    ensures { AreaCallsKeepHeap }
+{}
+
+/// Private words, the environment text, and blocks and images that are given back, stay in the module area and the
+/// system pages.
+pub fn writes_stay_fit()
+    ensures { WritesStayFit }
+{}
+
+/// So does each action of a plan, the slide among them.
+pub fn acts_stay_fit()
+    ensures { ActsStayFit }
+{}
+
+/// So does a plan that is carried on to its next code, or to its end, where the slots that it names are below 64. A
+/// plan that finds the instances that it names has no others.
+pub fn plans_stay_fit()
+    ensures fit { PlansStayFit }
+    ensures modules { ModulesAreBelow }
+    ensures plans { DoablePlansAreBelow }
+{}
+
+/// A flex call keeps each heap in which no anchor lies, where an alloc names none there.
+pub fn flex_calls_keep_heap()
+    ensures called { FlexCallsKeepHeap }
+    ensures init { FlexInitKeepsHeap }
+{}
+
+/// So does each turn of a machine's stores: a flex call as the machine makes it, or a slide of the module area.
+pub fn turns_keep_heap()
+    ensures { TurnsKeepHeap }
+{}
+
+/// A claim in the module area, or a new image there, leaves each block that was live with what it held; after a release
+/// each block that is live was so, and holds what it held.
+pub fn block_calls_keep()
+    ensures { BlockCallsKeep }
+{}
+
+/// So it is after a plan in which nothing slides.
+pub fn plans_keep_blocks()
+    ensures { PlansKeepBlocks }
+{}
