@@ -25,7 +25,7 @@ use Rattle.heaps_kept.proofs.Guests.{estates_fit, outside_keeps}
 use Rattle.heaps_kept.specs.AreaLaws.{AreaCallsKeepHeap}
 use Rattle.heaps_kept.specs.FitEstates.{IsFitEstate}
 use Rattle.heaps_kept.specs.GuestLaws.{HasGuestHeap}
-use Rattle.heaps_kept.specs.KeepsHeap.{KeepsHeap}
+use Rattle.heap_turns.specs.Laws.{KeepsHeap}
 
 -- nothing is changed, or one change after another
 pub heap_same : (h : HeapList) (s : Store) → find_heap h.start s.heaps ≡ Some h → KeepsHeap h s s

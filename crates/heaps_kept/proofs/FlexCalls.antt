@@ -19,7 +19,7 @@ use Rattle.store_laws.proofs.CalledBytes.{byte_stays}
 use Rattle.store_laws.proofs.CalledSeen.{anchors_are}
 use Rattle.store_laws.proofs.Spelled.{has_blocks}
 use Rattle.heaps_kept.specs.FlexLaws.{FlexCallsKeepHeap, FlexInitKeepsHeap, IsFreeOfAnchors, NamesOutside}
-use Rattle.heaps_kept.specs.KeepsHeap.{KeepsHeap}
+use Rattle.heap_turns.specs.Laws.{KeepsHeap}
 
 -- a byte of a heap is in the word of another anchor than one that stands out of it
 other_anchor : (b : Bytes) (h : HeapList) (a anchor : ℕ) → IsHeapIn b h.start h.end h.items → anchor % 4 ≡ 0 → in_range h.start h.end anchor ≡ false

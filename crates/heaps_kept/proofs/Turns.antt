@@ -23,7 +23,7 @@ use Rattle.heaps_kept.proofs.Plans.{slid_world_fit}
 use Rattle.heaps_kept.proofs.Slots.{modules_below}
 use Rattle.heaps_kept.specs.FlexLaws.{IsFreeOfAnchors, NamesOutside}
 use Rattle.heaps_kept.specs.GuestLaws.{HasGuestHeap}
-use Rattle.heaps_kept.specs.KeepsHeap.{KeepsHeap}
+use Rattle.heap_turns.specs.Laws.{KeepsHeap}
 use Rattle.heaps_kept.specs.PlanLaws.{IsFitWorld, WorldStaysFit}
 use Rattle.heaps_kept.specs.TurnLaws.{TurnsKeepHeap}
 

@@ -9,7 +9,7 @@ use Rattle.dynamic_areas.specs.Creating.{created, pages_for}
 use Rattle.dynamic_areas.specs.Ground.{Estate}
 use Rattle.dynamic_areas.specs.Remapped.{with_pages_at}
 use Rattle.heaps_kept.specs.GuestLaws.{HasGuestHeap}
-use Rattle.heaps_kept.specs.KeepsHeap.{KeepsHeap}
+use Rattle.heap_turns.specs.Laws.{KeepsHeap}
 
 pub record AreaCallKeepsHeap (h : HeapList) (d e : Estate) : Type 0 where
   pub create : (w : Wanted) (name : List ℕ) (made : Created) → created d.land d.pool w name ≡ Ok (e.land, made)

@@ -9,7 +9,7 @@ use Rattle.flex_store.specs.Runs.{Alloc, FlexCall, IsDone}
 use Rattle.flex_store.specs.declared.flex.Flex.{Flex}
 use Rattle.flex_ground.specs.Ground.{flex_state, store_flexed, with_flex_record}
 use Rattle.store_laws.specs.FlexStore.{IsSpelledAt}
-use Rattle.heaps_kept.specs.KeepsHeap.{KeepsHeap}
+use Rattle.heap_turns.specs.Laws.{KeepsHeap}
 
 -- a heap that is there, and in whose range no anchor lies
 pub record IsFreeOfAnchors (h : HeapList) (s : Store) : Type 0 where

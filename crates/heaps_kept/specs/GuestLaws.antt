@@ -7,7 +7,7 @@ use Rattle.os_heap.specs.Store.{Store, find_heap}
 use Rattle.dynamic_areas.specs.Ground.{Estate, IsEstate, IsRecorded, system_pages}
 use Rattle.heaps_kept.specs.FitEstates.{IsFitEstate}
 use Rattle.heaps_kept.specs.Fits.{KeepsOutside, is_module_byte}
-use Rattle.heaps_kept.specs.KeepsHeap.{KeepsHeap}
+use Rattle.heap_turns.specs.Laws.{KeepsHeap}
 
 -- a heap that a guest made, between calls
 pub record HasGuestHeap (e : Estate) (h : HeapList) : Type 0 where

@@ -5,7 +5,6 @@ pub mod Fits
 pub mod FlexLaws
 pub mod GuestLaws
 pub mod HeapLaws
-pub mod KeepsHeap
 pub mod ModuleAreaLaws
 pub mod PlanLaws
 pub mod SlideLaws

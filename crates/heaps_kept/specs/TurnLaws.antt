@@ -6,7 +6,7 @@ use Rattle.os_heap.specs.Calls.{has_own_size}
 use Rattle.store_laws.specs.Meaning.{AreStores, Stores, store_in}
 use Rattle.store_laws.specs.Turning.{Call, Init, Slide, Turn, turned}
 use Rattle.heaps_kept.specs.FlexLaws.{IsFreeOfAnchors, NamesOutside}
-use Rattle.heaps_kept.specs.KeepsHeap.{KeepsHeap}
+use Rattle.heap_turns.specs.Laws.{KeepsHeap}
 
 abbrev pub TurnsOutside : HeapList → Turn → Type 0
 TurnsOutside h (Init start end) = Unit {0}
