@@ -97,7 +97,7 @@ fn answer_of(
     let runs = Runs::of(&transcript.settings)?;
     let complaint = complaint_of(alloc, transcript)?;
     if complaint.is_none() && is_malformed {
-        return malformed::complaint_of(alloc, text, runs);
+        return malformed::complaint_of(alloc, text, &runs);
     }
     Ok(complaint)
 }

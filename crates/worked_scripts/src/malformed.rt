@@ -11,7 +11,7 @@ use script_outcomes::{Outcome, outcome_of};
 use std::alloc::Global;
 
 /// What malformed scripts run with; no image is handed in.
-#[derive(Clone, Copy)]
+#[derive(Drop)]
 pub struct Runs {
     config: Config,
     budget: u64,
@@ -29,7 +29,7 @@ impl Runs {
         }
     }
 
-    fn outcome(self, alloc: Global, script: &[u8]) -> Result<Outcome, TranscriptError> {
+    fn outcome(&self, alloc: Global, script: &[u8]) -> Result<Outcome, TranscriptError> {
         let mut images = Images::new();
         Ok(outcome_of(alloc, script, &mut images, self.config, self.budget)?)
     }
@@ -43,7 +43,7 @@ impl Runs {
 pub fn complaint_of(
     alloc: Global,
     text: &str,
-    runs: Runs,
+    runs: &Runs,
 ) -> Result<Option<String>, TranscriptError> {
     if let Some(line) = cuts::wrong_line(alloc, text, runs)? {
         let told = format!(in alloc; "{line}: cut off near here it is answered otherwise")?;

@@ -28,7 +28,7 @@ struct Script {
 pub(super) fn wrong_change(
     alloc: Global,
     text: &str,
-    runs: Runs,
+    runs: &Runs,
 ) -> Result<Option<u32>, TranscriptError> {
     let mut numbers = Numbers { last: 1 };
     for number in 0..CHANGES {

@@ -21,7 +21,7 @@ struct Typed {
 pub(super) fn wrong_line(
     alloc: Global,
     text: &str,
-    runs: Runs,
+    runs: &Runs,
 ) -> Result<Option<usize>, TranscriptError> {
     let mut typed = Typed::new(alloc);
     let mut number = 0usize;
@@ -49,7 +49,7 @@ impl Typed {
     fn take_line(
         &mut self,
         alloc: Global,
-        runs: Runs,
+        runs: &Runs,
         number: usize,
         text: &str,
     ) -> Result<bool, TranscriptError> {
@@ -72,7 +72,7 @@ impl Typed {
 
     /// Whether what a script is answered with behind the answers to its whole lines is as it must be: one line for a
     /// block that has no end, and nothing else.
-    fn holds(&self, alloc: Global, runs: Runs, script: &[u8]) -> Result<bool, TranscriptError> {
+    fn holds(&self, alloc: Global, runs: &Runs, script: &[u8]) -> Result<bool, TranscriptError> {
         let outcome = runs.outcome(alloc, script)?;
         Ok(
             match outcome.answer.as_slice().strip_prefix(self.told.as_slice()) {
@@ -84,7 +84,7 @@ impl Typed {
     }
 
     /// Whether the answers hold between two lines: with the end of the first, and without it.
-    fn holds_between_lines(&self, alloc: Global, runs: Runs) -> Result<bool, TranscriptError> {
+    fn holds_between_lines(&self, alloc: Global, runs: &Runs) -> Result<bool, TranscriptError> {
         let script = self.script.as_slice();
         Ok(
             self.holds(alloc, runs, script)?
@@ -99,7 +99,7 @@ impl Typed {
     fn holds_within(
         &self,
         alloc: Global,
-        runs: Runs,
+        runs: &Runs,
         is_outside: bool,
     ) -> Result<bool, TranscriptError> {
         if self.is_block {
@@ -121,7 +121,7 @@ impl Typed {
     fn type_line(
         &mut self,
         alloc: Global,
-        runs: Runs,
+        runs: &Runs,
         line: &[u8],
     ) -> Result<bool, TranscriptError> {
         self.line = self.line.saturating_add(1);
