@@ -1,0 +1,114 @@
+-- What a machine's state says of its store and its core.
+use Rattle.std.proofs.Common.{ℕ, ◌≡◌, ◌≤◌, ◌+◌, Bool, true, false, lit≤, List, [], ◌∷◌, length, Option, Some, None, refl, sym, ap, subst}
+use Rattle.address_map.specs.declared.region.Region.{Region}
+use Rattle.arm_step.specs.State.{State}
+use Rattle.os_heap_lists.specs.Heap.{HeapList}
+use Rattle.os_heap.specs.Store.{IsSound, store_of}
+use Rattle.dynamic_areas.proofs.HeapCalls.{system_mapped}
+use Rattle.dynamic_areas.specs.Ground.{IsEstate, IsRecorded, system_pages}
+use Rattle.instances_plans.specs.declared.given.Given.{Given}
+use Rattle.instances_plans.specs.Plans.{Plan}
+use Rattle.instances_table.specs.Modules.{AreModules}
+use Rattle.flex_ground.specs.Ground.{HasFlex}
+use Rattle.flex_ground.specs.instances_ground.specs.Sound.{AreSolid}
+use Rattle.flex_ground.specs.instances_ground.specs.World.{World}
+use Rattle.store_laws.proofs.Spelled.{has_store as has_flex}
+use Rattle.store_laws.proofs.Turns.{machines_have}
+use Rattle.store_laws.specs.FlexStore.{HasFlexStore}
+use Rattle.store_laws.specs.Meaning.{IsMemory}
+use Rattle.swi_dispatch_plans.specs.instances.specs.Turns.{MayGoOn}
+use Rattle.swi_dispatch_plans.specs.instances.specs.instances_actions.specs.Pending.{is_pending, pending_by, pending_of}
+use Rattle.heap_turns.specs.Laws.{AreImagesFull, IsGuestHeap}
+use Rattle.swi_dispatch.specs.Boot.{registered}
+use Rattle.swi_dispatch.specs.MachineState.{MachineState, machine_estate}
+use Rattle.swi_dispatch.specs.Parts.{IsMachine, Parts, parts_world, state_of}
+use Rattle.heap_alone.proofs.HeapAnswers.{set_length}
+use Rattle.heap_alone.specs.Laws.{HasHeap, IsState}
+use Rattle.heap_alone.specs.Moves.{with_registers}
+
+pub record HasStore (s : MachineState) : Type 0 where
+  pub estate : IsEstate (machine_estate s)
+  pub system : IsRecorded system_pages s.store.others
+  pub images : AreImagesFull s.store.others
+  pub flex : HasFlexStore s.store s.tables.flex
+  pub memory : IsMemory s.store.bytes
+  pub size : length s.cpu.file ≡ 26
+
+pub sound_store : (s : MachineState) → HasStore s → IsSound s.store
+sound_store s has = has.estate.ground.sound
+
+-- the block of the system's errors is there
+pub mapped_block : (s : MachineState) → HasStore s → s.store.bytes.mapped 0x01C02100 ≡ true
+mapped_block s has = system_mapped s.store s.pool s.tables.land has.estate 0x01C02100 refl
+
+images_full : (rs : List Region) → AreSolid rs → AreImagesFull rs
+images_full [] solid = tt
+images_full (r ∷ rs) solid = ((λ image. (solid.0 image).some), images_full rs solid.1)
+
+going_solid : (w : World) (plan : Option Plan) → MayGoOn w plan → AreSolid w.estate.store.others
+going_solid w None going = going.solid
+going_solid w (Some p) going = going.1.world.solid
+
+pending_one : (b : Bool) (g : Given) → length (pending_by b g []) ≤ 1
+pending_one true g = lit≤ tt
+pending_one false g = lit≤ tt
+
+memory_by : (p : Parts) (plan : Option Plan) → MayGoOn (parts_world p) plan → HasFlex p.map p.tables.flex → AreModules p.tables.modules
+    → IsMemory (store_of p.map).bytes
+memory_by p None going flex modules = (machines_have p.map p.tables.land p.tables.modules [] p.tables.flex going flex modules (lit≤ tt)).memory
+memory_by p (Some q) going flex modules =
+    (machines_have p.map p.tables.land p.tables.modules (pending_of q) p.tables.flex going.1.world flex modules
+    (pending_one (is_pending q.actions) q.given)).memory
+
+parts_store : (p : Parts) → IsMachine p → HasStore (state_of p)
+parts_store p machine = record {
+  estate = machine.well_formed.areas;
+  system = machine.well_formed.system;
+  images = images_full (store_of p.map).others (going_solid (parts_world p) p.tables.plan machine.well_formed.modules);
+  flex = has_flex p.map p.tables.flex machine.well_formed.flex;
+  memory = memory_by p p.tables.plan machine.well_formed.modules machine.well_formed.flex machine.modules;
+  size = machine.core.size;
+}
+
+pub has_store : (s : MachineState) → IsState s → HasStore s
+has_store s state = subst HasStore state.is (parts_store state.parts state.machine)
+
+-- the machine on which a call from outside is made differs in its core alone
+abbrev pub with_cpu : MachineState → State → MachineState
+with_cpu s cpu = record s { cpu = cpu }
+
+pub record IsGiven (s t : MachineState) : Type 0 where
+  pub cpu : State
+  pub is : t ≡ with_cpu s cpu
+  pub size : length cpu.file ≡ 26
+
+pub given_same : (s : MachineState) (n : ℕ) (words : List ℕ) → length s.cpu.file ≡ 26 → IsGiven s (with_registers s n words)
+unfolding registered
+given_same s n [] size = record { cpu = s.cpu; is = refl; size = size }
+given_same s n (v ∷ vs) size =
+    let on : MachineState = registered s n v in
+    let more : IsGiven on (with_registers on (n + 1) vs) = given_same on (n + 1) vs (set_length s.cpu n v size) in
+    record { cpu = more.cpu; is = more.is; size = more.size }
+
+pub given_store : (s t : MachineState) → HasStore s → IsGiven s t → HasStore t
+given_store s t has same =
+    let on : HasStore (with_cpu s same.cpu) = record {
+      estate = has.estate;
+      system = has.system;
+      images = has.images;
+      flex = has.flex;
+      memory = has.memory;
+      size = same.size;
+    } in
+    subst HasStore (sym same.is) on
+
+pub given_stays : (s t : MachineState) → IsGiven s t → t.store ≡ s.store
+given_stays s t same = ap (λ (u : MachineState). u.store) same.is
+
+pub given_goes : (s t : MachineState) → IsGiven s t → t.halt ≡ s.halt
+given_goes s t same = ap (λ (u : MachineState). u.halt) same.is
+
+pub guest_heap : (s : MachineState) (h : HeapList) → HasHeap s h → IsGuestHeap s.store h
+guest_heap s h has =
+    let store : HasStore s = has_store s has.state in
+    record { sound = sound_store s store; found = has.found; own = has.own; anchors = has.anchors; images = store.images }

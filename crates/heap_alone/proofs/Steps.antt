@@ -1,0 +1,132 @@
+-- What a move of a plain kind that isn't a call on a heap leaves of it: all of it.
+use Rattle.std.proofs.Common.{ℕ, ◌≡◌, ◌≢◌, ◌+◌, ◌%◌, ◌^◌, ◌==◌, ◌&&◌, ◌∙◌, Bool, true, false, List, Option, Some, None, Result, Ok, Err, refl, sym, ap, subst, if◌then◌else◌}
+use Rattle.std.proofs.lemmas.Bool.{and_parts, eqb-true, false_from_ne_true, false≢true}
+use Rattle.profile.specs.Reasons.{heap_reason}
+use Rattle.profile.specs.SwiNames.{swi_of}
+use Rattle.profile.specs.Word.{bit_of}
+use Rattle.profile.specs.declared.reason.HeapReason.{HeapReason}
+use Rattle.profile.specs.declared.swi.SwiName.{SwiName}
+use Rattle.profile.specs.declared.swi.SwiName.TheVariants as swi
+use Rattle.profile.specs.declared.fault.Fault.TheVariants.{StackChanged}
+use Rattle.address_map.specs.Bytes.{Bytes, in_range}
+use Rattle.arm_step.specs.State.{State, register_of, register_in}
+use Rattle.arm_step.specs.declared.psr.Mode.TheVariants.{Supervisor}
+use Rattle.arm_step.specs.declared.turn.Turn.{Turn}
+use Rattle.arm_step.specs.declared.turn.Turn.TheVariants as turn
+use Rattle.image_loader.specs.Entries.{Entry}
+use Rattle.os_heap_lists.specs.Heap.{HeapList}
+use Rattle.os_heap.specs.Store.{IsSound, Store, find_heap, owned_in}
+use Rattle.heap_turns.specs.Laws.{KeepsHeap}
+use Rattle.swi_dispatch_frames.specs.Frames.{innermost}
+use Rattle.swi_dispatch_frames.specs.declared.frame.Frame.{Frame}
+use Rattle.swi_dispatch_frames.specs.declared.frame.FrameKind.{FrameKind}
+use Rattle.swi_dispatch_frames.specs.declared.frame.FrameKind.TheVariants as frame_kind
+use Rattle.swi_dispatch.specs.declared.halt.Halt.{Halt}
+use Rattle.swi_dispatch.specs.declared.halt.Halt.TheVariants as halt
+use Rattle.swi_dispatch.specs.Gates.{frame_closed, frame_left, gated_by}
+use Rattle.swi_dispatch.specs.MachineState.{MachineState, Outcome, quiet}
+use Rattle.swi_dispatch.specs.Returns.{erred, halted}
+use Rattle.swi_dispatch.specs.Step.{called, instructed, machine_step, store_called, turned, unless_halted, without_x}
+use Rattle.heap_alone.proofs.Called.{IsElsewhere, IsHeapElsewhere, called_keeps}
+use Rattle.heap_alone.proofs.Keeping.{kept_same}
+use Rattle.heap_alone.proofs.States.{HasStore, IsGiven, given_goes, given_same, given_stays, given_store, has_store, sound_store}
+use Rattle.heap_alone.proofs.Storing.{step_past}
+use Rattle.heap_alone.specs.Laws.{HasHeap, IsAside, IsMoveDone, is_plain, is_plain_frame, is_plain_kind, is_plain_name, is_plain_turn}
+use Rattle.heap_alone.specs.Moves.{Call, Move, Step, given, is_call_to as is_core_call_to, is_for_heap, is_heap_swi, is_own, moved, outside_name, swi_of_turn}
+use Rattle.heap_alone.specs.Storing.{is_stored}
+
+-- where OS_Heap isn't called on the heap at a place
+elsewhere_by : (o : Option HeapReason) (s : MachineState) (h : HeapList) → (is_for_heap o && register_of s.cpu 1 == h.start) ≡ false → IsElsewhere s h o
+elsewhere_by None s h other = tt
+elsewhere_by (Some why) s h other = other
+
+from_outside : (name : Option SwiName) (s : MachineState) (h : HeapList) → (is_heap_swi name && is_core_call_to h.start s.cpu) ≡ false
+    → IsHeapElsewhere s h name
+from_outside (Some swi.Heap) s h other = elsewhere_by (heap_reason (register_of s.cpu 0)) s h other
+from_outside None s h other = tt
+from_outside (Some name) s h other = tt
+
+apart : (why : Bool) (at start : ℕ) → at ≢ start → (why && at == start) ≡ false
+apart why at start differ = false_from_ne_true (why && at == start) (λ is. differ (eqb-true at start (and_parts why (at == start) is).1))
+
+from_inside : (name : Option SwiName) (s : MachineState) (h : HeapList) → (name ≡ Some swi.Heap → register_of s.cpu 1 ≢ h.start)
+    → IsHeapElsewhere s h name
+from_inside (Some swi.Heap) s h other =
+    elsewhere_by (heap_reason (register_of s.cpu 0)) s h (apart (is_for_heap (heap_reason (register_of s.cpu 0))) (register_of s.cpu 1) h.start (other refl))
+from_inside None s h other = tt
+from_inside (Some name) s h other = tt
+
+module _ (images : List Entry) (s : MachineState) (h : HeapList) (has : HasStore s) (found : find_heap h.start s.store.heaps ≡ Some h) where
+  same : KeepsHeap h s.store s.store
+  same = kept_same h s.store found
+
+  -- a SWI of a module goes back
+  left_keeps : (f : Frame) (overflow x : Bool)
+      → KeepsHeap h s.store (if overflow then erred s x (quiet (frame_closed s f)) else quiet (frame_closed s f)).now.store
+  left_keeps f false x = same
+  left_keeps f true true = same
+  left_keeps f true false = same
+
+  frame_keeps : (f : Frame) (kind : FrameKind) → is_plain_kind kind ≡ true → KeepsHeap h s.store (frame_left s f kind s.tables.plan).now.store
+  frame_keeps f frame_kind.Swi plain = left_keeps f s.cpu.psr.overflow f.call.is_x
+  frame_keeps f (frame_kind.Entry kind) plain = absurd (false≢true plain)
+
+  stack_keeps : (f : Frame) (well : Bool) → is_plain_kind f.kind ≡ true
+      → KeepsHeap h s.store (if well then frame_left s f f.kind s.tables.plan else halted s (halt.Fault StackChanged)).now.store
+  stack_keeps f true plain = frame_keeps f f.kind plain
+  stack_keeps f false plain = same
+
+  gate_by : (o : Option Frame) → is_plain_frame o ≡ true → KeepsHeap h s.store (gated_by s o).now.store
+  gate_by None plain = same
+  gate_by (Some f) plain = stack_keeps f (register_in Supervisor s.cpu 13 == f.stack) plain
+
+  -- what the instruction does, or what it asks for
+  turn_keeps : (r : Result (State × Bytes) Turn) → instructed s ≡ r
+      → ((a : ℕ) → in_range h.start h.end a ≡ true → is_stored s.cpu s.store.bytes a ≡ false)
+      → (swi_of_turn r ≡ Some swi.Heap → register_of s.cpu 1 ≢ h.start)
+      → is_plain_name (swi_of_turn r) ≡ true → is_plain_turn s r ≡ true
+      → IsSound (turned images s r).now.store → KeepsHeap h s.store (turned images s r).now.store
+  turn_keeps (Ok w) is stores calls plain turn sound = record {
+    found = found;
+    bytes = λ a here. step_past (owned_in s.store) s.cpu w.0 s.store.bytes w.1 a is (stores a here);
+    anchors = λ a here. refl;
+  }
+  turn_keeps (Err turn.Done) is stores calls plain turn sound = same
+  turn_keeps (Err (turn.Swi n)) is stores calls plain turn sound =
+      called_keeps images s h has found (bit_of n 17) ((s.cpu.pc + 4) % 2 ^ 26) (without_x n) plain (from_inside (swi_of (without_x n)) s h calls) sound
+  turn_keeps (Err turn.Gate) is stores calls plain turn sound = gate_by (innermost s.tables.frames) turn
+  turn_keeps (Err (turn.Fault f)) is stores calls plain turn sound = same
+
+step_is : (images : List Entry) (s : MachineState) → s.halt ≡ None → machine_step images s ≡ turned images s (instructed s)
+unfolding machine_step
+step_is images s goes = ap (λ (o : Option Halt). unless_halted s o (turned images s (instructed s))) goes
+
+pub call_is : (images : List Entry) (s : MachineState) (number : ℕ) → s.halt ≡ None
+    → store_called images s number ≡ called images s true s.cpu.pc (without_x (number % 2 ^ 24))
+unfolding store_called
+call_is images s number goes =
+    ap (λ (o : Option Halt). unless_halted s o (called images s true s.cpu.pc (without_x (number % 2 ^ 24)))) goes
+
+pub move_keeps : (images : List Entry) (s : MachineState) (h : HeapList) (m : Move) → HasHeap s h → IsMoveDone images h.start s m → is_plain s m ≡ true
+    → is_own h.start s m ≡ false → KeepsHeap h s.store (moved images s m).store
+move_keeps images s h Step has move plain other =
+    let step : machine_step images s ≡ turned images s (instructed s) = step_is images s has.goes in
+    let aside : IsAside s h Step = move.aside h has.found in
+    let parts = and_parts (is_plain_name (swi_of_turn (instructed s))) (is_plain_turn s (instructed s)) plain in
+    let sound : IsSound (turned images s (instructed s)).now.store =
+    subst (λ (o : Outcome). IsSound o.now.store) step (sound_store (moved images s Step) (has_store (moved images s Step) move.state)) in
+    subst (λ (o : Outcome). KeepsHeap h s.store o.now.store) (sym step)
+    (turn_keeps images s h (has_store s has.state) has.found (instructed s) refl (aside.stores refl) (aside.calls refl) parts.0 parts.1 sound)
+move_keeps images s h (Call number words) has move plain other =
+    let u : MachineState = given s words in
+    let store : HasStore s = has_store s has.state in
+    let same : IsGiven s u = given_same s 0 words store.size in
+    let call : store_called images u number ≡ called images u true u.cpu.pc (without_x (number % 2 ^ 24)) = call_is images u number (given_goes s u same ∙ has.goes) in
+    let sound : IsSound (called images u true u.cpu.pc (without_x (number % 2 ^ 24))).now.store =
+    subst (λ (o : Outcome). IsSound o.now.store) call (sound_store (moved images s (Call number words)) (has_store (moved images s (Call number words)) move.state)) in
+    let found : find_heap h.start u.store.heaps ≡ Some h = ap (λ (t : Store). find_heap h.start t.heaps) (given_stays s u same) ∙ has.found in
+    let kept : KeepsHeap h u.store (called images u true u.cpu.pc (without_x (number % 2 ^ 24))).now.store =
+    called_keeps images u h (given_store s u store same) found true u.cpu.pc (without_x (number % 2 ^ 24)) plain
+    (from_outside (outside_name number) u h other) sound in
+    subst (λ (t : Store). KeepsHeap h t (store_called images u number).now.store) (given_stays s u same)
+    (subst (λ (o : Outcome). KeepsHeap h u.store o.now.store) (sym call) kept)

@@ -1,0 +1,101 @@
+-- Moves of a machine: store calls that a user makes from outside, and steps. Which of them are calls on one heap, what they ask and what they answer
+-- (RISC OS 3 Programmer's Reference Manual, "OS_Heap", reasons 1 to 6: the heap in R1, a block in R2, a size in R3).
+use Rattle.std.specs.Prelude.{ℕ, ◌+◌, ◌%◌, ◌^◌, ◌==◌, ◌&&◌, ◌++◌, Bool, true, false, Option, Some, None, Result, Err, List, [], ◌∷◌, if◌then◌else◌}
+use Rattle.profile.specs.Reasons.{heap_reason}
+use Rattle.profile.specs.SwiNames.{swi_of}
+use Rattle.profile.specs.declared.reason.HeapReason.{HeapReason}
+use Rattle.profile.specs.declared.swi.SwiName.{SwiName}
+use Rattle.profile.specs.declared.swi.SwiName.TheVariants as swi
+use Rattle.address_map.specs.Bytes.{Bytes}
+use Rattle.arm_step.specs.State.{State, register_of}
+use Rattle.arm_step.specs.declared.turn.Turn.{Turn}
+use Rattle.arm_step.specs.declared.turn.Turn.TheVariants as turn
+use Rattle.image_loader.specs.Entries.{Entry}
+use Rattle.os_heap_lists.specs.Heap.{HeapList}
+use Rattle.os_heap.specs.Store.{Store, find_heap}
+use Rattle.heap_turns.specs.Alone.{HeapCall, call_given}
+use Rattle.heap_turns.specs.Lists.{is_on_heap}
+use Rattle.heap_turns.specs.Turns.{Answered, Refused, Reply}
+use Rattle.swi_dispatch.specs.Boot.{registered}
+use Rattle.swi_dispatch.specs.Errors.{error_number}
+use Rattle.swi_dispatch.specs.MachineState.{MachineState}
+use Rattle.swi_dispatch.specs.Step.{instructed, machine_step, store_called, without_x}
+
+-- A call by its number and the words of R0 and the registers behind it; or a step: an instruction, a SWI or a gate action of the guest.
+pub data Move : Type 0 where
+  Call : ℕ → List ℕ → Move
+  Step : Move
+
+abbrev pub with_registers : MachineState → ℕ → List ℕ → MachineState
+with_registers s n [] = s
+with_registers s n (v ∷ vs) = with_registers (registered s n v) (n + 1) vs
+
+-- the machine on which a call from outside is made
+abbrev pub given : MachineState → List ℕ → MachineState
+given s words = with_registers s 0 words
+
+abbrev pub moved : List Entry → MachineState → Move → MachineState
+moved images s (Call number words) = (store_called images (given s words) number).now
+moved images s Step = (machine_step images s).now
+
+abbrev pub moved_all : List Entry → MachineState → List Move → MachineState
+moved_all images s [] = s
+moved_all images s (m ∷ ms) = moved_all images (moved images s m) ms
+
+-- the name of a call from outside: bits 31 to 24 of its number and its X bit are left out
+abbrev pub outside_name : ℕ → Option SwiName
+outside_name number = swi_of (without_x (number % 2 ^ 24))
+
+abbrev pub is_heap_swi : Option SwiName → Bool
+is_heap_swi (Some swi.Heap) = true
+is_heap_swi other = false
+
+-- Is OS_Heap called on the heap at `start`? Reason 0 makes a heap, and is none of these calls.
+abbrev pub is_for_heap : Option HeapReason → Bool
+is_for_heap None = false
+is_for_heap (Some why) = is_on_heap why
+
+abbrev pub is_call_to : ℕ → State → Bool
+is_call_to start cpu = is_for_heap (heap_reason (register_of cpu 0)) && register_of cpu 1 == start
+
+-- such a call from outside is the heap's own
+abbrev pub is_own : ℕ → MachineState → Move → Bool
+is_own start s (Call number words) = is_heap_swi (outside_name number) && is_call_to start (given s words).cpu
+is_own start s Step = false
+
+-- What it asks of the heap that is found there, and what it answers: R2 and R3, or with V set the error's number.
+abbrev pub asked : Store → State → Option HeapReason → Option HeapList → List HeapCall
+asked s cpu (Some why) (Some h) = call_given s h why (register_of cpu 2) (register_of cpu 3) ∷ []
+asked s cpu why found = []
+
+abbrev pub asked_by : ℕ → MachineState → Move → List HeapCall
+asked_by start s (Call number words) =
+    asked s.store (given s words).cpu (heap_reason (register_of (given s words).cpu 0)) (find_heap start s.store.heaps)
+asked_by start s Step = []
+
+abbrev pub reply_of : MachineState → Reply
+reply_of s = if s.cpu.psr.overflow then Refused (error_number s) else Answered (register_of s.cpu 2) (register_of s.cpu 3)
+
+-- the own calls of a list of moves, and the answers to them
+abbrev pub calls_in : List Entry → ℕ → MachineState → List Move → List HeapCall
+calls_in images start s [] = []
+calls_in images start s (m ∷ ms) =
+    (if is_own start s m then asked_by start s m else []) ++ calls_in images start (moved images s m) ms
+
+abbrev pub answers_in : List Entry → ℕ → MachineState → List Move → List Reply
+answers_in images start s [] = []
+answers_in images start s (m ∷ ms) =
+    (if is_own start s m then reply_of (moved images s m) ∷ [] else []) ++ answers_in images start (moved images s m) ms
+
+-- The SWI that a move makes, if it makes one, and the core that makes it.
+abbrev pub swi_of_turn : Result (State × Bytes) Turn → Option SwiName
+swi_of_turn (Err (turn.Swi n)) = swi_of (without_x n)
+swi_of_turn other = None
+
+abbrev pub swi_made : MachineState → Move → Option SwiName
+swi_made s (Call number words) = outside_name number
+swi_made s Step = swi_of_turn (instructed s)
+
+abbrev pub core_of : MachineState → Move → State
+core_of s (Call number words) = (given s words).cpu
+core_of s Step = s.cpu
