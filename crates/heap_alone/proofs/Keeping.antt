@@ -1,5 +1,5 @@
 -- What keeps a heap: nothing that happens to its store, or an error of the system, whose block no heap has a byte of.
-use Rattle.std.proofs.Common.{ℕ, ◌≡◌, ◌≤◌, ◌∙◌, Bool, true, false, List, [], ◌∷◌, ◌++◌, length, option_map, Option, Some, None, refl, sym, ap, inl, inr, arith}
+use Rattle.std.proofs.Common.{ℕ, ◌≡◌, ◌≤◌, ◌∙◌, Bool, true, false, List, [], ◌∷◌, ◌++◌, length, option_map, Option, Some, None, Result, Ok, Err, refl, sym, ap, inl, inr, arith}
 use Rattle.std.proofs.lemmas.Bool.{both_ways, false_from_ne_true, true≢false}
 use Rattle.std.proofs.lemmas.Bool.Decides.{nat_tests}
 use Rattle.profile.specs.ErrorNames.{error_code, error_name}
@@ -78,6 +78,11 @@ error_kept h s t (refusal.System e) off kept = record {
   bytes = λ a here. block_off t.store.bytes e a (off a here) ∙ kept.bytes a here;
   anchors = λ a here. kept.anchors a here;
 }
+
+-- what a call leaves that is done; its error changes nothing
+abbrev pub Went : HeapList → Store → Result MachineState Refusal → Type 0
+Went h s (Ok t) = IsSound t.store → KeepsHeap h s t.store
+Went h s (Err e) = Unit {0}
 
 -- A call's answer keeps the heap: where there is no error, in a store that is sound again.
 abbrev pub AnswerKeeps : HeapList → Store → Store → Option Refusal → Type 0

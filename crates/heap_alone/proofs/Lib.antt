@@ -1,8 +1,16 @@
 pub mod Called
+pub mod Gates
 pub mod HeapAnswers
 pub mod Keeping
 pub mod Lists
+pub mod ModuleCalls
+pub mod ModuleHosts
+pub mod ModuleLaws
+pub mod ModuleMoves
+pub mod ModulePlans
 pub mod OwnCalls
+pub mod PlansMade
+pub mod Rows
 pub mod States
 pub mod Steps
 pub mod Storing

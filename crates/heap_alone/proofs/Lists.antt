@@ -10,7 +10,7 @@ use Rattle.swi_dispatch.specs.MachineState.{MachineState}
 use Rattle.heap_alone.proofs.Keeping.{found_alone, kept_alone}
 use Rattle.heap_alone.proofs.OwnCalls.{OwnCall, Stands, own_call}
 use Rattle.heap_alone.proofs.Steps.{move_keeps}
-use Rattle.heap_alone.specs.Laws.{AreMovesDone, ArePlain, HasHeap, HeapsStandAloneAmongPlainMoves, IsMoveDone, StandsAlone, WorldsAnswerAlikeAmongPlainMoves, alone_at}
+use Rattle.heap_alone.specs.Laws.{AreMovesDone, HasHeap, HeapsStandAlone, IsMoveDone, StandsAlone, WorldsAnswerAlike, alone_at}
 use Rattle.heap_alone.specs.Moves.{Move, answers_in, asked_by, calls_in, is_own, moved, moved_all, reply_of}
 
 -- what is told of a list, from any heap alone
@@ -77,34 +77,34 @@ done_at : (images : List Entry) (moves : List Move) (s : MachineState) (start : 
 done_at images moves s start w stands done = subst (λ (a : ℕ). AreMovesDone images a s moves) (sym stands.starts) done
 
 told : (images : List Entry) (moves : List Move) (s : MachineState) (h : HeapList) → HasHeap s h → AreMovesDone images h.start s moves
-    → ArePlain images s moves → IsTold images s h.start (alone_in s.store h) moves
-told images [] s h has done plain = record { answers = refl; heap = found_alone h s.store has.found }
-told images (m ∷ ms) s h has done plain = elim (cases_Bool (is_own h.start s m)) [
+    → IsTold images s h.start (alone_in s.store h) moves
+told images [] s h has done = record { answers = refl; heap = found_alone h s.store has.found }
+told images (m ∷ ms) s h has done = elim (cases_Bool (is_own h.start s m)) [
   | inl own ↦
       let t : MachineState = moved images s m in
       let one : OwnCall images s h m = own_call images s h m has done.0 own in
       let left : Alone = (turned (alone_in s.store h) one.call).now in
       own_told images s h m ms one.call own one.asked one.reply
       (told_at images ms t h.start left one.stands
-      (told images ms t one.stands.heap one.stands.has (done_at images ms t h.start left one.stands done.1) plain.1))
+      (told images ms t one.stands.heap one.stands.has (done_at images ms t h.start left one.stands done.1)))
   | inr other ↦
       let t : MachineState = moved images s m in
-      let kept : KeepsHeap h s.store (moved images s m).store = move_keeps images s h m has done.0 plain.0 other in
+      let kept : KeepsHeap h s.store (moved images s m).store = move_keeps images s h m has done.0 other in
       let stands : Stands t h.start (alone_in s.store h) = kept_stands images s h m has done.0 kept in
       other_told images s h m ms other
       (told_at images ms t h.start (alone_in s.store h) stands
-      (told images ms t stands.heap stands.has (done_at images ms t h.start (alone_in s.store h) stands done.1) plain.1))
+      (told images ms t stands.heap stands.has (done_at images ms t h.start (alone_in s.store h) stands done.1)))
 ]
 
-pub stand_alone : HeapsStandAloneAmongPlainMoves
-stand_alone images s h moves has done plain =
-    let is : IsTold images s h.start (alone_in s.store h) moves = told images moves s h has done plain in
+pub stand_alone : HeapsStandAlone
+stand_alone images s h moves has done =
+    let is : IsTold images s h.start (alone_in s.store h) moves = told images moves s h has done in
     record { answers = is.answers; heap = is.heap }
 
-pub worlds_alike : WorldsAnswerAlikeAmongPlainMoves
-worlds_alike images images' s t h k moves moves' has done plain has' done' plain' same calls =
-    let one : StandsAlone images s h moves = stand_alone images s h moves has done plain in
-    let two : StandsAlone images' t k moves' = stand_alone images' t k moves' has' done' plain' in
+pub worlds_alike : WorldsAnswerAlike
+worlds_alike images images' s t h k moves moves' has done has' done' same calls =
+    let one : StandsAlone images s h moves = stand_alone images s h moves has done in
+    let two : StandsAlone images' t k moves' = stand_alone images' t k moves' has' done' in
     record {
       answers = one.answers ∙ ap (λ (w : Alone). replies w (calls_in images h.start s moves)) same ∙ ap (replies (alone_in t.store k)) calls ∙ sym two.answers;
       heap =

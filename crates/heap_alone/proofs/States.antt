@@ -9,29 +9,32 @@ use Rattle.dynamic_areas.specs.Ground.{IsEstate, IsRecorded, system_pages}
 use Rattle.instances_plans.specs.declared.given.Given.{Given}
 use Rattle.instances_plans.specs.Plans.{Plan}
 use Rattle.instances_table.specs.Modules.{AreModules}
+use Rattle.instances_table.specs.declared.parts.Image.{Image}
 use Rattle.flex_ground.specs.Ground.{HasFlex}
 use Rattle.flex_ground.specs.instances_ground.specs.Sound.{AreSolid}
 use Rattle.flex_ground.specs.instances_ground.specs.World.{World}
-use Rattle.store_laws.proofs.Spelled.{has_store as has_flex}
 use Rattle.store_laws.proofs.Turns.{machines_have}
-use Rattle.store_laws.specs.FlexStore.{HasFlexStore}
-use Rattle.store_laws.specs.Meaning.{IsMemory}
+use Rattle.store_laws.specs.Meaning.{AreStores, Stores}
 use Rattle.swi_dispatch_plans.specs.instances.specs.Turns.{MayGoOn}
 use Rattle.swi_dispatch_plans.specs.instances.specs.instances_actions.specs.Pending.{is_pending, pending_by, pending_of}
 use Rattle.heap_turns.specs.Laws.{AreImagesFull, IsGuestHeap}
 use Rattle.swi_dispatch.specs.Boot.{registered}
-use Rattle.swi_dispatch.specs.MachineState.{MachineState, machine_estate}
+use Rattle.swi_dispatch.specs.MachineState.{MachineState, machine_estate, machine_world}
 use Rattle.swi_dispatch.specs.Parts.{IsMachine, Parts, parts_world, state_of}
 use Rattle.heap_alone.proofs.HeapAnswers.{set_length}
 use Rattle.heap_alone.specs.Laws.{HasHeap, IsState}
 use Rattle.heap_alone.specs.Moves.{with_registers}
 
+-- what flex calls act on
+abbrev pub stores_in : MachineState → List Image → Stores
+stores_in s pending = record { world = machine_world s; flex = s.tables.flex; pending = pending }
+
 pub record HasStore (s : MachineState) : Type 0 where
   pub estate : IsEstate (machine_estate s)
   pub system : IsRecorded system_pages s.store.others
   pub images : AreImagesFull s.store.others
-  pub flex : HasFlexStore s.store s.tables.flex
-  pub memory : IsMemory s.store.bytes
+  pub pending : List Image
+  pub stores : AreStores (stores_in s pending)
   pub size : length s.cpu.file ≡ 26
 
 pub sound_store : (s : MachineState) → HasStore s → IsSound s.store
@@ -53,20 +56,25 @@ pending_one : (b : Bool) (g : Given) → length (pending_by b g []) ≤ 1
 pending_one true g = lit≤ tt
 pending_one false g = lit≤ tt
 
-memory_by : (p : Parts) (plan : Option Plan) → MayGoOn (parts_world p) plan → HasFlex p.map p.tables.flex → AreModules p.tables.modules
-    → IsMemory (store_of p.map).bytes
-memory_by p None going flex modules = (machines_have p.map p.tables.land p.tables.modules [] p.tables.flex going flex modules (lit≤ tt)).memory
-memory_by p (Some q) going flex modules =
-    (machines_have p.map p.tables.land p.tables.modules (pending_of q) p.tables.flex going.1.world flex modules
-    (pending_one (is_pending q.actions) q.given)).memory
+pending_in : Option Plan → List Image
+pending_in None = []
+pending_in (Some q) = pending_of q
+
+stores_by : (p : Parts) (plan : Option Plan) → MayGoOn (parts_world p) plan → HasFlex p.map p.tables.flex → AreModules p.tables.modules
+    → AreStores (stores_in (state_of p) (pending_in plan))
+unfolding pending_in
+stores_by p None going flex modules = machines_have p.map p.tables.land p.tables.modules [] p.tables.flex going flex modules (lit≤ tt)
+stores_by p (Some q) going flex modules =
+    machines_have p.map p.tables.land p.tables.modules (pending_of q) p.tables.flex going.1.world flex modules
+    (pending_one (is_pending q.actions) q.given)
 
 parts_store : (p : Parts) → IsMachine p → HasStore (state_of p)
 parts_store p machine = record {
   estate = machine.well_formed.areas;
   system = machine.well_formed.system;
   images = images_full (store_of p.map).others (going_solid (parts_world p) p.tables.plan machine.well_formed.modules);
-  flex = has_flex p.map p.tables.flex machine.well_formed.flex;
-  memory = memory_by p p.tables.plan machine.well_formed.modules machine.well_formed.flex machine.modules;
+  pending = pending_in p.tables.plan;
+  stores = stores_by p p.tables.plan machine.well_formed.modules machine.well_formed.flex machine.modules;
   size = machine.core.size;
 }
 
@@ -96,8 +104,8 @@ given_store s t has same =
       estate = has.estate;
       system = has.system;
       images = has.images;
-      flex = has.flex;
-      memory = has.memory;
+      pending = has.pending;
+      stores = has.stores;
       size = same.size;
     } in
     subst HasStore (sym same.is) on

@@ -1,37 +1,35 @@
--- What a move of a plain kind that isn't a call on a heap leaves of it: all of it.
-use Rattle.std.proofs.Common.{ℕ, ◌≡◌, ◌≢◌, ◌+◌, ◌%◌, ◌^◌, ◌==◌, ◌&&◌, ◌∙◌, Bool, true, false, List, Option, Some, None, Result, Ok, Err, refl, sym, ap, subst, if◌then◌else◌}
-use Rattle.std.proofs.lemmas.Bool.{and_parts, eqb-true, false_from_ne_true, false≢true}
+-- What a move that isn't a call on a heap leaves of it: all of it.
+use Rattle.std.proofs.Common.{ℕ, ◌≡◌, ◌≢◌, ◌+◌, ◌%◌, ◌^◌, ◌==◌, ◌&&◌, ◌∙◌, Bool, true, false, List, Option, Some, None, Result, Ok, Err, refl, sym, ap, subst, inl, inr}
+use Rattle.std.proofs.lemmas.Bool.{and_parts, cases_Bool, eqb-true, false_from_ne_true}
 use Rattle.profile.specs.Reasons.{heap_reason}
 use Rattle.profile.specs.SwiNames.{swi_of}
 use Rattle.profile.specs.Word.{bit_of}
 use Rattle.profile.specs.declared.reason.HeapReason.{HeapReason}
 use Rattle.profile.specs.declared.swi.SwiName.{SwiName}
 use Rattle.profile.specs.declared.swi.SwiName.TheVariants as swi
-use Rattle.profile.specs.declared.fault.Fault.TheVariants.{StackChanged}
 use Rattle.address_map.specs.Bytes.{Bytes, in_range}
-use Rattle.arm_step.specs.State.{State, register_of, register_in}
-use Rattle.arm_step.specs.declared.psr.Mode.TheVariants.{Supervisor}
+use Rattle.arm_step.specs.State.{State, register_of}
 use Rattle.arm_step.specs.declared.turn.Turn.{Turn}
 use Rattle.arm_step.specs.declared.turn.Turn.TheVariants as turn
 use Rattle.image_loader.specs.Entries.{Entry}
 use Rattle.os_heap_lists.specs.Heap.{HeapList}
+use Rattle.os_heap.specs.Calls.{has_own_size}
 use Rattle.os_heap.specs.Store.{IsSound, Store, find_heap, owned_in}
-use Rattle.heap_turns.specs.Laws.{KeepsHeap}
-use Rattle.swi_dispatch_frames.specs.Frames.{innermost}
-use Rattle.swi_dispatch_frames.specs.declared.frame.Frame.{Frame}
-use Rattle.swi_dispatch_frames.specs.declared.frame.FrameKind.{FrameKind}
-use Rattle.swi_dispatch_frames.specs.declared.frame.FrameKind.TheVariants as frame_kind
+use Rattle.heap_turns.specs.Laws.{HasNoAnchor, KeepsHeap}
 use Rattle.swi_dispatch.specs.declared.halt.Halt.{Halt}
-use Rattle.swi_dispatch.specs.declared.halt.Halt.TheVariants as halt
-use Rattle.swi_dispatch.specs.Gates.{frame_closed, frame_left, gated_by}
-use Rattle.swi_dispatch.specs.MachineState.{MachineState, Outcome, quiet}
-use Rattle.swi_dispatch.specs.Returns.{erred, halted}
+use Rattle.swi_dispatch.specs.MachineState.{MachineState, Outcome}
 use Rattle.swi_dispatch.specs.Step.{called, instructed, machine_step, store_called, turned, unless_halted, without_x}
 use Rattle.heap_alone.proofs.Called.{IsElsewhere, IsHeapElsewhere, called_keeps}
+use Rattle.heap_alone.proofs.Gates.{gate_keeps}
 use Rattle.heap_alone.proofs.Keeping.{kept_same}
+use Rattle.heap_alone.proofs.ModuleHosts.{IsHost}
+use Rattle.heap_alone.proofs.ModuleLaws.{asked, host as host_of}
+use Rattle.heap_alone.proofs.ModuleMoves.{module_called_keeps}
+use Rattle.heap_alone.proofs.Rows.{NamesNone}
 use Rattle.heap_alone.proofs.States.{HasStore, IsGiven, given_goes, given_same, given_stays, given_store, has_store, sound_store}
 use Rattle.heap_alone.proofs.Storing.{step_past}
-use Rattle.heap_alone.specs.Laws.{HasHeap, IsAside, IsMoveDone, is_plain, is_plain_frame, is_plain_kind, is_plain_name, is_plain_turn}
+use Rattle.heap_alone.specs.Laws.{HasHeap, IsAside, IsMoveDone}
+use Rattle.heap_alone.specs.ModuleMoves.{is_module_name}
 use Rattle.heap_alone.specs.Moves.{Call, Move, Step, given, is_call_to as is_core_call_to, is_for_heap, is_heap_swi, is_own, moved, outside_name, swi_of_turn}
 use Rattle.heap_alone.specs.Storing.{is_stored}
 
@@ -56,46 +54,42 @@ from_inside (Some swi.Heap) s h other =
 from_inside None s h other = tt
 from_inside (Some name) s h other = tt
 
-module _ (images : List Entry) (s : MachineState) (h : HeapList) (has : HasStore s) (found : find_heap h.start s.store.heaps ≡ Some h) where
+names_none : (name : Option SwiName) (s : MachineState) (h : HeapList)
+    → (name ≡ Some swi.FlexAlloc → in_range h.start h.end (register_of s.cpu 0) ≡ false) → NamesNone s h name
+names_none (Some swi.FlexAlloc) s h named = named refl
+names_none None s h named = tt
+names_none (Some name) s h named = tt
+
+module _ (images : List Entry) (s : MachineState) (h : HeapList) (has : HasStore s) (found : find_heap h.start s.store.heaps ≡ Some h)
+    (own : has_own_size h.kind ≡ true) (anchors : HasNoAnchor s.store h) (host : IsHost s h) where
   same : KeepsHeap h s.store s.store
   same = kept_same h s.store found
 
-  -- a SWI of a module goes back
-  left_keeps : (f : Frame) (overflow x : Bool)
-      → KeepsHeap h s.store (if overflow then erred s x (quiet (frame_closed s f)) else quiet (frame_closed s f)).now.store
-  left_keeps f false x = same
-  left_keeps f true true = same
-  left_keeps f true false = same
-
-  frame_keeps : (f : Frame) (kind : FrameKind) → is_plain_kind kind ≡ true → KeepsHeap h s.store (frame_left s f kind s.tables.plan).now.store
-  frame_keeps f frame_kind.Swi plain = left_keeps f s.cpu.psr.overflow f.call.is_x
-  frame_keeps f (frame_kind.Entry kind) plain = absurd (false≢true plain)
-
-  stack_keeps : (f : Frame) (well : Bool) → is_plain_kind f.kind ≡ true
-      → KeepsHeap h s.store (if well then frame_left s f f.kind s.tables.plan else halted s (halt.Fault StackChanged)).now.store
-  stack_keeps f true plain = frame_keeps f f.kind plain
-  stack_keeps f false plain = same
-
-  gate_by : (o : Option Frame) → is_plain_frame o ≡ true → KeepsHeap h s.store (gated_by s o).now.store
-  gate_by None plain = same
-  gate_by (Some f) plain = stack_keeps f (register_in Supervisor s.cpu 13 == f.stack) plain
+  -- a call, of OS_Module or another
+  swi_keeps : (x : Bool) (next number : ℕ) → IsHeapElsewhere s h (swi_of number) → NamesNone s h (swi_of number)
+      → IsSound (called images s x next number).now.store → KeepsHeap h s.store (called images s x next number).now.store
+  swi_keeps x next number other outside sound = elim (cases_Bool (is_module_name (swi_of number))) [
+    | inl module_swi ↦ module_called_keeps images s h host x next number module_swi
+    | inr another ↦ called_keeps images s h has found own anchors x next number another other outside sound
+  ]
 
   -- what the instruction does, or what it asks for
   turn_keeps : (r : Result (State × Bytes) Turn) → instructed s ≡ r
       → ((a : ℕ) → in_range h.start h.end a ≡ true → is_stored s.cpu s.store.bytes a ≡ false)
       → (swi_of_turn r ≡ Some swi.Heap → register_of s.cpu 1 ≢ h.start)
-      → is_plain_name (swi_of_turn r) ≡ true → is_plain_turn s r ≡ true
+      → (swi_of_turn r ≡ Some swi.FlexAlloc → in_range h.start h.end (register_of s.cpu 0) ≡ false)
       → IsSound (turned images s r).now.store → KeepsHeap h s.store (turned images s r).now.store
-  turn_keeps (Ok w) is stores calls plain turn sound = record {
+  turn_keeps (Ok w) is stores calls named sound = record {
     found = found;
     bytes = λ a here. step_past (owned_in s.store) s.cpu w.0 s.store.bytes w.1 a is (stores a here);
     anchors = λ a here. refl;
   }
-  turn_keeps (Err turn.Done) is stores calls plain turn sound = same
-  turn_keeps (Err (turn.Swi n)) is stores calls plain turn sound =
-      called_keeps images s h has found (bit_of n 17) ((s.cpu.pc + 4) % 2 ^ 26) (without_x n) plain (from_inside (swi_of (without_x n)) s h calls) sound
-  turn_keeps (Err turn.Gate) is stores calls plain turn sound = gate_by (innermost s.tables.frames) turn
-  turn_keeps (Err (turn.Fault f)) is stores calls plain turn sound = same
+  turn_keeps (Err turn.Done) is stores calls named sound = same
+  turn_keeps (Err (turn.Swi n)) is stores calls named sound =
+      swi_keeps (bit_of n 17) ((s.cpu.pc + 4) % 2 ^ 26) (without_x n)
+      (from_inside (swi_of (without_x n)) s h calls) (names_none (swi_of (without_x n)) s h named) sound
+  turn_keeps (Err turn.Gate) is stores calls named sound = gate_keeps s h host
+  turn_keeps (Err (turn.Fault f)) is stores calls named sound = same
 
 step_is : (images : List Entry) (s : MachineState) → s.halt ≡ None → machine_step images s ≡ turned images s (instructed s)
 unfolding machine_step
@@ -107,17 +101,17 @@ unfolding store_called
 call_is images s number goes =
     ap (λ (o : Option Halt). unless_halted s o (called images s true s.cpu.pc (without_x (number % 2 ^ 24)))) goes
 
-pub move_keeps : (images : List Entry) (s : MachineState) (h : HeapList) (m : Move) → HasHeap s h → IsMoveDone images h.start s m → is_plain s m ≡ true
+pub move_keeps : (images : List Entry) (s : MachineState) (h : HeapList) (m : Move) → HasHeap s h → IsMoveDone images h.start s m
     → is_own h.start s m ≡ false → KeepsHeap h s.store (moved images s m).store
-move_keeps images s h Step has move plain other =
+move_keeps images s h Step has move other =
     let step : machine_step images s ≡ turned images s (instructed s) = step_is images s has.goes in
     let aside : IsAside s h Step = move.aside h has.found in
-    let parts = and_parts (is_plain_name (swi_of_turn (instructed s))) (is_plain_turn s (instructed s)) plain in
     let sound : IsSound (turned images s (instructed s)).now.store =
     subst (λ (o : Outcome). IsSound o.now.store) step (sound_store (moved images s Step) (has_store (moved images s Step) move.state)) in
     subst (λ (o : Outcome). KeepsHeap h s.store o.now.store) (sym step)
-    (turn_keeps images s h (has_store s has.state) has.found (instructed s) refl (aside.stores refl) (aside.calls refl) parts.0 parts.1 sound)
-move_keeps images s h (Call number words) has move plain other =
+    (turn_keeps images s h (has_store s has.state) has.found has.own has.anchors (host_of s h has) (instructed s) refl (aside.stores refl)
+    (aside.calls refl) aside.anchors sound)
+move_keeps images s h (Call number words) has move other =
     let u : MachineState = given s words in
     let store : HasStore s = has_store s has.state in
     let same : IsGiven s u = given_same s 0 words store.size in
@@ -125,8 +119,9 @@ move_keeps images s h (Call number words) has move plain other =
     let sound : IsSound (called images u true u.cpu.pc (without_x (number % 2 ^ 24))).now.store =
     subst (λ (o : Outcome). IsSound o.now.store) call (sound_store (moved images s (Call number words)) (has_store (moved images s (Call number words)) move.state)) in
     let found : find_heap h.start u.store.heaps ≡ Some h = ap (λ (t : Store). find_heap h.start t.heaps) (given_stays s u same) ∙ has.found in
+    let anchors : HasNoAnchor u.store h = subst (λ (t : Store). HasNoAnchor t h) (sym (given_stays s u same)) has.anchors in
     let kept : KeepsHeap h u.store (called images u true u.cpu.pc (without_x (number % 2 ^ 24))).now.store =
-    called_keeps images u h (given_store s u store same) found true u.cpu.pc (without_x (number % 2 ^ 24)) plain
-    (from_outside (outside_name number) u h other) sound in
+    swi_keeps images u h (given_store s u store same) found has.own anchors (asked s h words has).host true u.cpu.pc (without_x (number % 2 ^ 24))
+    (from_outside (outside_name number) u h other) (names_none (outside_name number) u h (move.aside h has.found).anchors) sound in
     subst (λ (t : Store). KeepsHeap h t (store_called images u number).now.store) (given_stays s u same)
     (subst (λ (o : Outcome). KeepsHeap h u.store o.now.store) (sym call) kept)

@@ -1,11 +1,8 @@
 -- A guest's heap stands alone: whatever else a machine does, calls on the heap answer by the heap's own list and bytes.
-use Rattle.std.specs.Prelude.{ℕ, ◌≡◌, ◌≢◌, ◌&&◌, Bool, true, false, Option, Some, None, option_map, Result, Err, List, [], ◌∷◌}
-use Rattle.profile.specs.declared.swi.SwiName.{SwiName}
+use Rattle.std.specs.Prelude.{ℕ, ◌≡◌, ◌≢◌, true, false, Option, Some, None, option_map, List, [], ◌∷◌}
 use Rattle.profile.specs.declared.swi.SwiName.TheVariants as swi
-use Rattle.address_map.specs.Bytes.{Bytes, in_range}
-use Rattle.arm_step.specs.State.{State, register_of}
-use Rattle.arm_step.specs.declared.turn.Turn.{Turn}
-use Rattle.arm_step.specs.declared.turn.Turn.TheVariants as turn
+use Rattle.address_map.specs.Bytes.{in_range}
+use Rattle.arm_step.specs.State.{register_of}
 use Rattle.image_loader.specs.Entries.{Entry}
 use Rattle.os_heap_lists.specs.Heap.{HeapList}
 use Rattle.os_heap.specs.Calls.{has_own_size}
@@ -15,12 +12,7 @@ use Rattle.heap_turns.specs.Laws.{HasNoAnchor}
 use Rattle.heap_turns.specs.Turns.{left_by, replies}
 use Rattle.swi_dispatch.specs.MachineState.{MachineState}
 use Rattle.swi_dispatch.specs.Parts.{IsMachine, Parts, state_of}
-use Rattle.swi_dispatch.specs.Step.{instructed}
-use Rattle.swi_dispatch_frames.specs.Frames.{innermost}
-use Rattle.swi_dispatch_frames.specs.declared.frame.Frame.{Frame}
-use Rattle.swi_dispatch_frames.specs.declared.frame.FrameKind.{FrameKind}
-use Rattle.swi_dispatch_frames.specs.declared.frame.FrameKind.TheVariants as frame_kind
-use Rattle.heap_alone.specs.Moves.{Call, Move, Step, answers_in, calls_in, core_of, moved, moved_all, swi_made}
+use Rattle.heap_alone.specs.Moves.{Move, Step, answers_in, calls_in, core_of, moved, moved_all, swi_made}
 use Rattle.heap_alone.specs.Storing.{is_stored}
 
 -- a machine's state
@@ -62,44 +54,11 @@ pub record StandsAlone (images : List Entry) (s : MachineState) (h : HeapList) (
   pub answers : answers_in images h.start s moves ≡ replies (alone_in s.store h) (calls_in images h.start s moves)
   pub heap : alone_at h.start (moved_all images s moves).store ≡ Some (left_by (alone_in s.store h) (calls_in images h.start s moves))
 
--- Moves of the kinds for which the law is proved: all but the calls that change areas, modules or the flex store, and steps in which the code of a
--- module's initialisation or finalisation comes back.
-abbrev pub is_plain_name : Option SwiName → Bool
-is_plain_name (Some swi.Module) = false
-is_plain_name (Some swi.ChangeDynamicArea) = false
-is_plain_name (Some swi.DynamicArea) = false
-is_plain_name (Some swi.FlexInit) = false
-is_plain_name (Some swi.FlexAlloc) = false
-is_plain_name (Some swi.FlexFree) = false
-is_plain_name (Some swi.FlexExtend) = false
-is_plain_name (Some swi.FlexMidExtend) = false
-is_plain_name other = true
-
-abbrev pub is_plain_kind : FrameKind → Bool
-is_plain_kind frame_kind.Swi = true
-is_plain_kind (frame_kind.Entry kind) = false
-
-abbrev pub is_plain_frame : Option Frame → Bool
-is_plain_frame None = true
-is_plain_frame (Some f) = is_plain_kind f.kind
-
-abbrev pub is_plain_turn : MachineState → Result (State × Bytes) Turn → Bool
-is_plain_turn s (Err turn.Gate) = is_plain_frame (innermost s.tables.frames)
-is_plain_turn s other = true
-
-abbrev pub is_plain : MachineState → Move → Bool
-is_plain s (Call number words) = is_plain_name (swi_made s (Call number words))
-is_plain s Step = is_plain_name (swi_made s Step) && is_plain_turn s (instructed s)
-
-abbrev pub ArePlain : List Entry → MachineState → List Move → Type 0
-ArePlain images s [] = Unit {0}
-ArePlain images s (m ∷ ms) = (is_plain s m ≡ true) × ArePlain images (moved images s m) ms
-
--- A guest's heap stands alone among such moves.
-abbrev pub HeapsStandAloneAmongPlainMoves : Type 0
-HeapsStandAloneAmongPlainMoves =
+-- A guest's heap stands alone, whatever else is called and done.
+abbrev pub HeapsStandAlone : Type 0
+HeapsStandAlone =
     (images : List Entry) (s : MachineState) (h : HeapList) (moves : List Move) → HasHeap s h → AreMovesDone images h.start s moves
-    → ArePlain images s moves → StandsAlone images s h moves
+    → StandsAlone images s h moves
 
 -- So two machines in which the heap alone is the same, and is asked the same, with other moves between: their answers are the same, and so is the heap
 -- at the end.
@@ -107,10 +66,9 @@ pub record AnswerAlike (images images' : List Entry) (s t : MachineState) (h k :
   pub answers : answers_in images h.start s moves ≡ answers_in images' k.start t moves'
   pub heap : alone_at h.start (moved_all images s moves).store ≡ alone_at k.start (moved_all images' t moves').store
 
-abbrev pub WorldsAnswerAlikeAmongPlainMoves : Type 0
-WorldsAnswerAlikeAmongPlainMoves =
+abbrev pub WorldsAnswerAlike : Type 0
+WorldsAnswerAlike =
     (images images' : List Entry) (s t : MachineState) (h k : HeapList) (moves moves' : List Move)
-    → HasHeap s h → AreMovesDone images h.start s moves → ArePlain images s moves
-    → HasHeap t k → AreMovesDone images' k.start t moves' → ArePlain images' t moves'
+    → HasHeap s h → AreMovesDone images h.start s moves → HasHeap t k → AreMovesDone images' k.start t moves'
     → alone_in s.store h ≡ alone_in t.store k → calls_in images h.start s moves ≡ calls_in images' k.start t moves'
     → AnswerAlike images images' s t h k moves moves'

@@ -3,5 +3,7 @@ pub use Rattle.os_heap
 pub use Rattle.heap_turns
 pub use Rattle.swi_dispatch
 pub mod Laws
+pub mod ModuleLaws
+pub mod ModuleMoves
 pub mod Moves
 pub mod Storing

@@ -1,0 +1,107 @@
+-- A step at the return gate, where module code comes back, keeps each guest's heap.
+use Rattle.std.proofs.Common.{ℕ, ◌≡◌, ◌≤◌, ◌==◌, Bool, true, false, length, Option, Some, None, refl, sym, subst}
+use Rattle.std.specs.Prelude.{IfSome, if◌then◌else◌}
+use Rattle.profile.specs.declared.fault.Fault.TheVariants.{StackChanged}
+use Rattle.arm_step.specs.State.{register_in}
+use Rattle.arm_step.specs.declared.psr.Mode.TheVariants.{Supervisor}
+use Rattle.os_heap_lists.specs.Heap.{HeapList}
+use Rattle.instances.proofs.Turning.{going_back}
+use Rattle.instances.specs.Turns.{IsUnderWay, MayGoOn}
+use Rattle.instances_plans.specs.declared.action.Action.{Action}
+use Rattle.instances_plans.specs.declared.action.Action.TheVariants as act
+use Rattle.instances_plans.specs.declared.code.Outcome.{Outcome as CodeOutcome}
+use Rattle.instances_plans.specs.declared.code.Outcome.TheVariants.{Refused, Well}
+use Rattle.instances_plans.specs.declared.given.Given.{Given}
+use Rattle.instances_plans.specs.Plans.{Plan, first_of, refused, settled, settled_by}
+use Rattle.swi_dispatch_frames.specs.declared.frame.Frame.{Frame}
+use Rattle.swi_dispatch_frames.specs.declared.frame.FrameKind.{FrameKind}
+use Rattle.swi_dispatch_frames.specs.declared.frame.FrameKind.TheVariants as frame_kind
+use Rattle.swi_dispatch_frames.specs.Frames.{innermost}
+use Rattle.swi_dispatch.specs.declared.halt.Halt.TheVariants as halt
+use Rattle.swi_dispatch.specs.Gates.{carried_on, come_back, entry_left, fault_ahead, frame_closed, frame_left, gated, gated_by, outcome_left, plan_left, unless_fault}
+use Rattle.swi_dispatch.specs.MachineState.{MachineState, machine_world, quiet}
+use Rattle.swi_dispatch.specs.Returns.{erred, halted}
+use Rattle.heaps_kept.proofs.Slots.{doable_below}
+use Rattle.heaps_kept.specs.PlanLaws.{IsFitWorld}
+use Rattle.heap_turns.specs.Laws.{KeepsHeap}
+use Rattle.heap_alone.proofs.Keeping.{kept_same}
+use Rattle.heap_alone.proofs.ModuleHosts.{IsHost, carried_out, fit_world, outside_stays}
+use Rattle.heap_alone.proofs.ModulePlans.{IsFitPlan}
+
+-- code that comes back leaves what its plan was given
+refused_given : (p : Plan) (a : Action) (r0 : ℕ) → (refused p a r0).given ≡ p.given
+refused_given p (act.Finalise slot fatal) r0 = refl
+refused_given p (act.Initialise slot) r0 = refl
+refused_given p (act.Remove slot) r0 = refl
+refused_given p (act.FreePrivate slot) r0 = refl
+refused_given p (act.Insert slot) r0 = refl
+refused_given p (act.Instantiate slot) r0 = refl
+refused_given p act.GiveUp r0 = refl
+refused_given p act.Slide r0 = refl
+
+given_by : (p : Plan) (o : CodeOutcome) (a : Option Action) → (settled_by p o a).given ≡ p.given
+given_by p Well None = refl
+given_by p (Refused r0) None = refl
+given_by p Well (Some a) = refl
+given_by p (Refused r0) (Some a) = refused_given p a r0
+
+given_if : (runs : Bool) (p q : Plan) → q.given ≡ p.given → (if runs then q else p).given ≡ p.given
+given_if true p q same = same
+given_if false p q same = refl
+
+settled_given : (p : Plan) (o : CodeOutcome) → (settled p o).given ≡ p.given
+unfolding settled
+settled_given p o = given_if p.runs p (settled_by p o (first_of p.actions)) (given_by p o (first_of p.actions))
+
+module _ (s : MachineState) (h : HeapList) (host : IsHost s h) where
+  same : KeepsHeap h s.store s.store
+  same = kept_same h s.store host.found
+
+  fit : IsFitWorld (machine_world s)
+  fit = fit_world s host.modules
+
+  -- the plan that is carried on
+  settled_fit : (p : Plan) (o : CodeOutcome) → MayGoOn (machine_world s) (Some p) → length p.given.text.items ≤ 255 → IsFitPlan (settled p o)
+  settled_fit p o going few =
+      let on : IsUnderWay (machine_world s) (settled p o) = going_back (machine_world s) p o host.modules.modules going.1 in
+      record {
+        below = doable_below s.tables.modules (settled p o) host.modules.modules on.ready.doable;
+        text = subst (λ (g : Given). length g.text.items ≤ 255) (sym (settled_given p o)) few;
+      }
+
+  fault_keeps : (t : MachineState) (o : Option ℕ) → KeepsHeap h s.store t.store → KeepsHeap h s.store (unless_fault s o t).now.store
+  fault_keeps t None kept = kept
+  fault_keeps t (Some number) kept = same
+
+  entry_keeps : (f : Frame) (p : Plan) → IsFitPlan p → KeepsHeap h s.store (entry_left s f p).now.store
+  entry_keeps f p plan =
+      let t : MachineState = carried_on (come_back s f) f.call p in
+      fault_keeps t (fault_ahead f.call (machine_world s) p) (outside_stays s h t.store host (carried_out (come_back s f) f.call p fit plan))
+
+  plan_keeps : (f : Frame) (o : Option Plan) → MayGoOn (machine_world s) o → IfSome o (λ (plan : Plan). length plan.given.text.items ≤ 255)
+      → KeepsHeap h s.store (plan_left s f o).now.store
+  plan_keeps f None going few = same
+  plan_keeps f (Some p) going few = entry_keeps f (settled p (outcome_left s.cpu)) (settled_fit p (outcome_left s.cpu) going few)
+
+  -- a SWI of a module
+  left_keeps : (f : Frame) (overflow x : Bool)
+      → KeepsHeap h s.store (if overflow then erred s x (quiet (frame_closed s f)) else quiet (frame_closed s f)).now.store
+  left_keeps f false x = same
+  left_keeps f true true = same
+  left_keeps f true false = same
+
+  frame_keeps : (f : Frame) (kind : FrameKind) → KeepsHeap h s.store (frame_left s f kind s.tables.plan).now.store
+  frame_keeps f frame_kind.Swi = left_keeps f s.cpu.psr.overflow f.call.is_x
+  frame_keeps f (frame_kind.Entry kind) = plan_keeps f s.tables.plan host.modules.going host.modules.text
+
+  stack_keeps : (f : Frame) (well : Bool)
+      → KeepsHeap h s.store (if well then frame_left s f f.kind s.tables.plan else halted s (halt.Fault StackChanged)).now.store
+  stack_keeps f true = frame_keeps f f.kind
+  stack_keeps f false = same
+
+  innermost_keeps : (o : Option Frame) → KeepsHeap h s.store (gated_by s o).now.store
+  innermost_keeps None = same
+  innermost_keeps (Some f) = stack_keeps f (register_in Supervisor s.cpu 13 == f.stack)
+
+  pub gate_keeps : KeepsHeap h s.store (gated s).now.store
+  gate_keeps = innermost_keeps (innermost s.tables.frames)
