@@ -3,6 +3,9 @@ pub mod Gates
 pub mod HeapAnswers
 pub mod Keeping
 pub mod Lists
+pub mod LiveBytes
+pub mod LiveClaims
+pub mod LiveMoves
 pub mod ModuleCalls
 pub mod ModuleHosts
 pub mod ModuleLaws

@@ -145,7 +145,7 @@ unfolding heap_called
 heap_is cpu s why reason = ap (heap_called_for cpu s) reason
 
 -- as own calls are told
-heap_swi : (o : Option SwiName) → is_heap_swi o ≡ true → o ≡ Some swi.Heap
+pub heap_swi : (o : Option SwiName) → is_heap_swi o ≡ true → o ≡ Some swi.Heap
 heap_swi (Some swi.Heap) is = refl
 heap_swi None is = absurd (false≢true is)
 heap_swi (Some name) is = absurd (false≢true is)

@@ -47,14 +47,14 @@ from_outside (Some name) s h other = tt
 apart : (why : Bool) (at start : ℕ) → at ≢ start → (why && at == start) ≡ false
 apart why at start differ = false_from_ne_true (why && at == start) (λ is. differ (eqb-true at start (and_parts why (at == start) is).1))
 
-from_inside : (name : Option SwiName) (s : MachineState) (h : HeapList) → (name ≡ Some swi.Heap → register_of s.cpu 1 ≢ h.start)
+pub from_inside : (name : Option SwiName) (s : MachineState) (h : HeapList) → (name ≡ Some swi.Heap → register_of s.cpu 1 ≢ h.start)
     → IsHeapElsewhere s h name
 from_inside (Some swi.Heap) s h other =
     elsewhere_by (heap_reason (register_of s.cpu 0)) s h (apart (is_for_heap (heap_reason (register_of s.cpu 0))) (register_of s.cpu 1) h.start (other refl))
 from_inside None s h other = tt
 from_inside (Some name) s h other = tt
 
-names_none : (name : Option SwiName) (s : MachineState) (h : HeapList)
+pub names_none : (name : Option SwiName) (s : MachineState) (h : HeapList)
     → (name ≡ Some swi.FlexAlloc → in_range h.start h.end (register_of s.cpu 0) ≡ false) → NamesNone s h name
 names_none (Some swi.FlexAlloc) s h named = named refl
 names_none None s h named = tt
@@ -66,7 +66,7 @@ module _ (images : List Entry) (s : MachineState) (h : HeapList) (has : HasStore
   same = kept_same h s.store found
 
   -- a call, of OS_Module or another
-  swi_keeps : (x : Bool) (next number : ℕ) → IsHeapElsewhere s h (swi_of number) → NamesNone s h (swi_of number)
+  pub swi_keeps : (x : Bool) (next number : ℕ) → IsHeapElsewhere s h (swi_of number) → NamesNone s h (swi_of number)
       → IsSound (called images s x next number).now.store → KeepsHeap h s.store (called images s x next number).now.store
   swi_keeps x next number other outside sound = elim (cases_Bool (is_module_name (swi_of number))) [
     | inl module_swi ↦ module_called_keeps images s h host x next number module_swi
@@ -91,7 +91,7 @@ module _ (images : List Entry) (s : MachineState) (h : HeapList) (has : HasStore
   turn_keeps (Err turn.Gate) is stores calls named sound = gate_keeps s h host
   turn_keeps (Err (turn.Fault f)) is stores calls named sound = same
 
-step_is : (images : List Entry) (s : MachineState) → s.halt ≡ None → machine_step images s ≡ turned images s (instructed s)
+pub step_is : (images : List Entry) (s : MachineState) → s.halt ≡ None → machine_step images s ≡ turned images s (instructed s)
 unfolding machine_step
 step_is images s goes = ap (λ (o : Option Halt). unless_halted s o (turned images s (instructed s))) goes
 

@@ -2,6 +2,8 @@ pub use Rattle.arm_step
 pub use Rattle.os_heap
 pub use Rattle.heap_turns
 pub use Rattle.swi_dispatch
+pub mod AreaByteLaws
+pub mod ByteLaws
 pub mod Laws
 pub mod ModuleLaws
 pub mod ModuleMoves

@@ -1,5 +1,7 @@
 //! Laws over the definitions, each the contract of a function that does nothing.
 
+ghost use Rattle.heap_alone.specs.AreaByteLaws.{ClaimsKeepLiveBytes};
+ghost use Rattle.heap_alone.specs.ByteLaws.{HeapCallsKeepLiveBytes, InstructionsChangeStored, MovesKeepLiveBytes};
 ghost use Rattle.heap_alone.specs.Laws.{HeapsStandAlone, WorldsAnswerAlike};
 ghost use Rattle.heap_alone.specs.ModuleLaws.{
   GatesKeepHeap,
@@ -42,4 +44,28 @@ pub fn gates_keep_heap()
 /// So does each move that calls OS_Module, from outside or by an instruction, or in which module code comes back.
 pub fn module_moves_keep_heap()
     ensures { ModuleMovesKeepHeap }
+{}
+
+/// A step that does an instruction changes no byte but those that the instruction stores to, and of these none in a
+/// word that store calls keep a record in.
+pub fn instructions_change_stored_bytes()
+    ensures { InstructionsChangeStored }
+{}
+
+/// A call of OS_Heap, by any caller and on any heap, done or refused: each block of each heap that was live and is so
+/// still holds what it held.
+pub fn heap_calls_keep_live_bytes()
+    ensures { HeapCallsKeepLiveBytes }
+{}
+
+/// So over any move, each block of a heap that a guest made and in which no anchor lies or is named: if it was live and
+/// is so still, it holds what it held, but for what the move's instruction stored.
+pub fn moves_keep_live_bytes()
+    ensures { MovesKeepLiveBytes }
+{}
+
+/// A claim or a release in the module area, done or refused: each block there that was live and is so still holds what
+/// it held.
+pub fn claims_keep_live_bytes()
+    ensures { ClaimsKeepLiveBytes }
 {}

@@ -1,0 +1,180 @@
+-- Instructions change the bytes that they store to, and calls of OS_Heap none that live blocks hold.
+use Rattle.std.proofs.Common.{ℕ, ◌≡◌, ◌≤◌, ◌<◌, ◌-◌, ◌+◌, ◌%◌, ◌^◌, ◌∙◌, ◌⊎◌, Bool, true, false, List, Option, Some, None, Result, Ok, Err, refl, sym, ap, subst, inl, inr, arith, if◌then◌else◌}
+use Rattle.std.proofs.lemmas.Bool.{cases_Bool, false≢true, le-leb, lt-ltb}
+use Rattle.profile.specs.Outcome.{bind}
+use Rattle.profile.specs.Reasons.{heap_reason}
+use Rattle.profile.specs.SwiNames.{swi_of}
+use Rattle.profile.specs.Word.{bit_of}
+use Rattle.profile.specs.declared.error.ErrorNumber.{ErrorNumber}
+use Rattle.profile.specs.declared.reason.HeapReason.{HeapReason}
+use Rattle.profile.specs.declared.reason.HeapReason.TheVariants as reason
+use Rattle.profile.specs.declared.swi.SwiName.{SwiName}
+use Rattle.profile.specs.declared.swi.SwiName.TheVariants as swi
+use Rattle.address_map.specs.Bytes.{Bytes, in_range}
+use Rattle.arm_step.proofs.Framing.{step_keeps}
+use Rattle.arm_step.specs.State.{State, register_of}
+use Rattle.arm_step.specs.declared.turn.Turn.{Turn}
+use Rattle.arm_step.specs.declared.turn.Turn.TheVariants as turn
+use Rattle.image_loader.specs.Entries.{Entry}
+use Rattle.os_heap_lists.proofs.LiveBlocks.{LiveBytes, live_bytes}
+use Rattle.os_heap_lists.specs.Heap.{HeapList, IsHeapIn}
+use Rattle.os_heap_lists.specs.Lists.{live_total}
+use Rattle.address_map.specs.Items.{size_of}
+use Rattle.os_heap.proofs.Apart.{block_inside, range_parts}
+use Rattle.os_heap.proofs.Found.{found_heap}
+use Rattle.os_heap.proofs.KeptPayloads.{calls_keep}
+use Rattle.os_heap.specs.Calls.{begun, block_sized, changed, described, gave_back, got, resized}
+use Rattle.os_heap.specs.Laws.{KeepsPayloads}
+use Rattle.os_heap.specs.Store.{IsSound, Store, find_heap, owned_in}
+use Rattle.heap_turns.proofs.DoneCalls.{OnDone}
+use Rattle.heap_turns.specs.Turns.{call_on}
+use Rattle.swi_dispatch_answers.specs.declared.refusal.Refusal.{Refusal}
+use Rattle.swi_dispatch_store.specs.Heaps.{heap_called, heap_called_for}
+use Rattle.swi_dispatch.proofs.Kept.{by_words}
+use Rattle.swi_dispatch.specs.declared.halt.Halt.TheVariants as halt
+use Rattle.swi_dispatch.specs.Answers.{went_on}
+use Rattle.swi_dispatch.specs.Calls.{call_answer, on_store}
+use Rattle.swi_dispatch.specs.Errors.{with_error}
+use Rattle.swi_dispatch.specs.MachineState.{MachineState, Outcome}
+use Rattle.swi_dispatch.specs.Returns.{halted}
+use Rattle.swi_dispatch.specs.Step.{called, called_by, ended, instructed, is_exit, machine_step, store_called, turned, without_x}
+use Rattle.heap_alone.proofs.HeapAnswers.{Agree, heap_agrees}
+use Rattle.heap_alone.proofs.Keeping.{error_kept, kept_same, off_system}
+use Rattle.heap_alone.proofs.States.{HasStore, IsGiven, given_goes, given_same, given_stays, given_store, has_store, sound_store}
+use Rattle.heap_alone.proofs.Steps.{call_is, step_is}
+use Rattle.heap_alone.proofs.Storing.{step_past}
+use Rattle.heap_alone.specs.ByteLaws.{HeapCallsKeepLiveBytes, InstructionsChangeStored, IsStoredPlain}
+use Rattle.heap_alone.specs.Moves.{Call, Step, given, is_heap_swi, moved, swi_of_turn}
+use Rattle.heap_alone.specs.Storing.{is_stored}
+
+-- an instruction
+pub byte_done : (s : MachineState) (w : State × Bytes) (a : ℕ) → instructed s ≡ Ok w → (w.1.at a ≡ s.store.bytes.at a) ⊎ IsStoredPlain s a
+byte_done s w a is = elim (cases_Bool (is_stored s.cpu s.store.bytes a)) [
+  | inr past ↦ inl (step_past (owned_in s.store) s.cpu w.0 s.store.bytes w.1 a is past)
+  | inl stored ↦ elim (cases_Bool (owned_in s.store a)) [
+    | inl owned ↦ inl ((step_keeps (owned_in s.store) s.cpu s.store.bytes (by_words s.store) w.0 w.1 is).bytes a owned)
+    | inr plain ↦ inr (stored, plain)
+  ]
+]
+
+pub instructions_change_stored : InstructionsChangeStored
+instructions_change_stored images s w a goes is =
+    let step : machine_step images s ≡ turned images s (Ok w) = step_is images s goes ∙ ap (turned images s) is in
+    subst (λ (o : Outcome). (o.now.store.bytes.at a ≡ s.store.bytes.at a) ⊎ IsStoredPlain s a) (sym step) (byte_done s w a is)
+
+-- a byte of a block, in its heap's range
+pub payload_inside : (s : Store) (h : HeapList) (block total a : ℕ) → IsSound s → find_heap h.start s.heaps ≡ Some h
+    → live_total block (h.start + 16) h.items ≡ Some total → in_range block (total - 4) a ≡ true → in_range h.start h.end a ≡ true
+payload_inside s h block total a sound found live here =
+    let heap : IsHeapIn s.bytes h.start h.end h.items = found_heap s.bytes h.start s.heaps h sound.heaps found in
+    let place : LiveBytes block total (h.start + 16) (h.start + 16 + size_of h.items) = live_bytes block total (h.start + 16) h.items heap.totals live in
+    let parts : (block ≤ a) × (a < block + (total - 4)) = range_parts block (total - 4) a here in
+    block_inside s.bytes h block total a heap live
+    (rw (le-leb (block - 4) a (omega (arith, parts.0)), lt-ltb a (block - 4 + total) (omega (arith, parts.1, place.size, place.low))) refl)
+
+same_payloads : (s : Store) → KeepsPayloads s s
+same_payloads s h g block total new_total a found found' live live' here there = refl
+
+-- calls on heaps
+abbrev Kept : Store → Store → Type 0
+Kept s t = IsSound t → KeepsPayloads s t
+
+by_done : (A : Type 0) (P : Store → Type 0) (k : A → ℕ × ℕ) (r : Result (Store × A) ErrorNumber) → ((x : Store × A) → r ≡ Ok x → P x.0)
+    → OnDone (ℕ × ℕ) P (bind r (λ x. Ok (x.0, k x.1)))
+by_done A P k (Ok x) keeps = keeps x refl
+by_done A P k (Err e) keeps = tt
+
+by_told : (A : Type 0) (P : Store → Type 0) (s : Store) (k : A → ℕ × ℕ) (r : Result A ErrorNumber) → P s → OnDone (ℕ × ℕ) P (bind r (λ x. Ok (s, k x)))
+by_told A P s k (Ok x) same = same
+by_told A P s k (Err e) same = tt
+
+call_keeps : (s : Store) (heap : ℕ) (why : HeapReason) (block size : ℕ) → IsSound s → OnDone (ℕ × ℕ) (Kept s) (call_on s heap why block size)
+call_keeps s heap reason.Initialise block size sound =
+    by_done (Unit {0}) (Kept s) (λ _. (block, size)) (begun s heap size) (λ x is sound'. (calls_keep s x.0 heap sound sound').init size is)
+call_keeps s heap reason.Describe block size sound = by_told (ℕ × ℕ) (Kept s) s (λ r. r) (described s heap) (λ _. same_payloads s)
+call_keeps s heap reason.Get block size sound =
+    by_done ℕ (Kept s) (λ n. (n, size)) (got s heap size) (λ x is sound'. (calls_keep s x.0 heap sound sound').get size x.1 is)
+call_keeps s heap reason.Free block size sound =
+    by_done (Unit {0}) (Kept s) (λ _. (block, size)) (gave_back s heap block) (λ x is sound'. (calls_keep s x.0 heap sound sound').free block is)
+call_keeps s heap reason.Resize block size sound =
+    by_done ℕ (Kept s) (λ n. (n, size)) (resized s heap block size) (λ x is sound'. (calls_keep s x.0 heap sound sound').resize block size x.1 is)
+call_keeps s heap reason.ChangeSize block size sound =
+    by_done (Unit {0}) (Kept s) (λ _. (block, size)) (changed s heap size) (λ x is sound'. (calls_keep s x.0 heap sound sound').change_size size is)
+call_keeps s heap reason.BlockSize block size sound = by_told ℕ (Kept s) s (λ n. (block, n)) (block_sized s heap block) (λ _. same_payloads s)
+
+module _ (s : MachineState) (has : HasStore s) where
+  abbrev Goes : Result MachineState Refusal → Type 0
+  Goes (Ok t) = Kept s.store t.store
+  Goes (Err e) = Unit {0}
+
+  error_keeps : (e : Refusal) → KeepsPayloads s.store (with_error s e).store
+  error_keeps e h g block total new_total a found found' live live' here there =
+      (error_kept h s.store s e (off_system s h has found) (kept_same h s.store found)).bytes a
+      (payload_inside s.store h block total a (sound_store s has) found live here)
+
+  ended_keeps : (x : Bool) (next : ℕ) (r : Result MachineState Refusal) → Goes r → IsSound (ended s x (went_on s next r)).now.store
+      → KeepsPayloads s.store (ended s x (went_on s next r)).now.store
+  ended_keeps x next (Ok t) goes sound = goes sound
+  ended_keeps true next (Err e) goes sound = error_keeps e
+  ended_keeps false next (Err e) goes sound = same_payloads s.store
+
+  heap_by : (q : Result (State × Store) Refusal) (r : Result (Store × (ℕ × ℕ)) ErrorNumber) → Agree q r → OnDone (ℕ × ℕ) (Kept s.store) r
+      → Goes (on_store s q)
+  heap_by (Ok q) (Ok r) agree kept = subst (Kept s.store) (sym agree.0) kept
+  heap_by (Err e) (Err number) agree kept = tt
+  heap_by (Ok q) (Err number) agree kept = absurd agree
+  heap_by (Err e) (Ok r) agree kept = absurd agree
+
+  heap_goes : (o : Option HeapReason) → Goes (on_store s (heap_called_for s.cpu s.store o))
+  heap_goes None = tt
+  heap_goes (Some why) =
+      heap_by (heap_called_for s.cpu s.store (Some why)) (call_on s.store (register_of s.cpu 1) why (register_of s.cpu 2) (register_of s.cpu 3))
+      (heap_agrees s.cpu has.size s.store why)
+      (call_keeps s.store (register_of s.cpu 1) why (register_of s.cpu 2) (register_of s.cpu 3) (sound_store s has))
+
+  heap_keeps : (x : Bool) (next : ℕ) → IsSound (ended s x (went_on s next (on_store s (heap_called s.cpu s.store)))).now.store
+      → KeepsPayloads s.store (ended s x (went_on s next (on_store s (heap_called s.cpu s.store)))).now.store
+  unfolding heap_called
+  heap_keeps x next sound = ended_keeps x next (on_store s (heap_called s.cpu s.store)) (heap_goes (heap_reason (register_of s.cpu 0))) sound
+
+  call_goes : (images : List Entry) (x : Bool) (next number : ℕ) → swi_of number ≡ Some swi.Heap
+      → called images s x next number ≡ ended s x (went_on s next (on_store s (heap_called s.cpu s.store)))
+  unfolding called call_answer
+  call_goes images x next number name =
+      ap (λ (o : Option SwiName). if is_exit o then halted s halt.Exit else called_by images s x next number o) name
+
+  pub heap_call_keeps : (images : List Entry) (x : Bool) (next number : ℕ) → swi_of number ≡ Some swi.Heap
+      → IsSound (called images s x next number).now.store → KeepsPayloads s.store (called images s x next number).now.store
+  heap_call_keeps images x next number name sound =
+      let call = call_goes images x next number name in
+      subst (λ (o : Outcome). KeepsPayloads s.store o.now.store) (sym call)
+      (heap_keeps x next (subst (λ (o : Outcome). IsSound o.now.store) call sound))
+
+  no_swi : (t : Store) → None ≡ Some swi.Heap → KeepsPayloads s.store t
+  no_swi t is = absurd (false≢true (ap is_heap_swi is))
+
+  turn_keeps : (images : List Entry) (r : Result (State × Bytes) Turn) → swi_of_turn r ≡ Some swi.Heap → IsSound (turned images s r).now.store
+      → KeepsPayloads s.store (turned images s r).now.store
+  turn_keeps images (Ok w) is sound = no_swi (turned images s (Ok w)).now.store is
+  turn_keeps images (Err turn.Done) is sound = no_swi (turned images s (Err turn.Done)).now.store is
+  turn_keeps images (Err (turn.Swi n)) is sound = heap_call_keeps images (bit_of n 17) ((s.cpu.pc + 4) % 2 ^ 26) (without_x n) is sound
+  turn_keeps images (Err turn.Gate) is sound = no_swi (turned images s (Err turn.Gate)).now.store is
+  turn_keeps images (Err (turn.Fault f)) is sound = no_swi (turned images s (Err (turn.Fault f))).now.store is
+
+pub heap_calls_keep : HeapCallsKeepLiveBytes
+heap_calls_keep images s Step state goes name after =
+    let step : machine_step images s ≡ turned images s (instructed s) = step_is images s goes in
+    let sound : IsSound (turned images s (instructed s)).now.store =
+    subst (λ (o : Outcome). IsSound o.now.store) step (sound_store (moved images s Step) (has_store (moved images s Step) after)) in
+    subst (λ (o : Outcome). KeepsPayloads s.store o.now.store) (sym step) (turn_keeps s (has_store s state) images (instructed s) name sound)
+heap_calls_keep images s (Call number words) state goes name after =
+    let u : MachineState = given s words in
+    let store : HasStore s = has_store s state in
+    let same : IsGiven s u = given_same s 0 words store.size in
+    let call : store_called images u number ≡ called images u true u.cpu.pc (without_x (number % 2 ^ 24)) = call_is images u number (given_goes s u same ∙ goes) in
+    let sound : IsSound (called images u true u.cpu.pc (without_x (number % 2 ^ 24))).now.store =
+    subst (λ (o : Outcome). IsSound o.now.store) call (sound_store (moved images s (Call number words)) (has_store (moved images s (Call number words)) after)) in
+    let kept : KeepsPayloads u.store (called images u true u.cpu.pc (without_x (number % 2 ^ 24))).now.store =
+    heap_call_keeps u (given_store s u store same) images true u.cpu.pc (without_x (number % 2 ^ 24)) name sound in
+    subst (λ (t : Store). KeepsPayloads t (store_called images u number).now.store) (given_stays s u same)
+    (subst (λ (o : Outcome). KeepsPayloads u.store o.now.store) (sym call) kept)

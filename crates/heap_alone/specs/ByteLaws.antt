@@ -1,0 +1,45 @@
+-- Which bytes of live blocks change: those that an instruction stores to, where no store call keeps records, and no others by any call of OS_Heap, on any
+-- heap; and for a heap that a guest made, no others by any move (RISC OS 3 Programmer's Reference Manual, "OS_Heap": a block is its claimer's until it is
+-- given back).
+use Rattle.std.specs.Prelude.{ℕ, ◌≡◌, ◌-◌, ◌+◌, ◌⊎◌, true, false, List, Some, None, Ok}
+use Rattle.profile.specs.declared.swi.SwiName.TheVariants as swi
+use Rattle.address_map.specs.Bytes.{Bytes, in_range}
+use Rattle.arm_step.specs.State.{State, register_of}
+use Rattle.image_loader.specs.Entries.{Entry}
+use Rattle.os_heap_lists.specs.Heap.{HeapList}
+use Rattle.os_heap_lists.specs.Lists.{live_total}
+use Rattle.os_heap.specs.Laws.{KeepsPayloads}
+use Rattle.os_heap.specs.Store.{find_heap, owned_in}
+use Rattle.swi_dispatch.specs.MachineState.{MachineState}
+use Rattle.swi_dispatch.specs.Step.{instructed}
+use Rattle.heap_alone.specs.Laws.{HasHeap, IsState}
+use Rattle.heap_alone.specs.Moves.{Move, Step, core_of, moved, swi_made}
+use Rattle.heap_alone.specs.Storing.{is_stored}
+
+-- the instruction at the program counter stores to a byte, and the byte belongs to no record that store calls keep
+abbrev pub IsStoredPlain : MachineState → ℕ → Type 0
+IsStoredPlain s a = (is_stored s.cpu s.store.bytes a ≡ true) × (owned_in s.store a ≡ false)
+
+-- A step that does an instruction changes a byte only where the instruction stores, and only in a word that isn't owned.
+abbrev pub InstructionsChangeStored : Type 0
+InstructionsChangeStored =
+    (images : List Entry) (s : MachineState) (w : State × Bytes) (a : ℕ) → s.halt ≡ None → instructed s ≡ Ok w
+    → ((moved images s Step).store.bytes.at a ≡ s.store.bytes.at a) ⊎ IsStoredPlain s a
+
+-- A call of OS_Heap, from outside or by an instruction, done or refused: whichever heap it is on, each block of each heap that was live and is so still
+-- holds what it held.
+abbrev pub HeapCallsKeepLiveBytes : Type 0
+HeapCallsKeepLiveBytes =
+    (images : List Entry) (s : MachineState) (m : Move) → IsState s → s.halt ≡ None → swi_made s m ≡ Some swi.Heap → IsState (moved images s m)
+    → KeepsPayloads s.store (moved images s m).store
+
+-- Of a heap that a guest made, in which no anchor lies or is named: over each move, a block that was live and is so still holds what it held, but for
+-- bytes that the move's instruction stores to.
+abbrev pub MovesKeepLiveBytes : Type 0
+MovesKeepLiveBytes =
+    (images : List Entry) (s : MachineState) (h g : HeapList) (m : Move) (block total new_total a : ℕ) → HasHeap s h → IsState (moved images s m)
+    → (swi_made s m ≡ Some swi.FlexAlloc → in_range h.start h.end (register_of (core_of s m) 0) ≡ false)
+    → find_heap h.start (moved images s m).store.heaps ≡ Some g
+    → live_total block (h.start + 16) h.items ≡ Some total → live_total block (h.start + 16) g.items ≡ Some new_total
+    → in_range block (total - 4) a ≡ true → in_range block (new_total - 4) a ≡ true
+    → ((moved images s m).store.bytes.at a ≡ s.store.bytes.at a) ⊎ ((m ≡ Step) × IsStoredPlain s a)
