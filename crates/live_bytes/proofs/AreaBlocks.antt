@@ -1,0 +1,173 @@
+-- The module area's blocks over the calls that change areas.
+use Rattle.std.proofs.Common.{if◌then◌else◌, ℕ, ◌+◌, ◌-◌, ◌*◌, ◌/◌, ◌==◌, ◌||◌, ◌≡◌, ◌≢◌, ◌≤◌, ◌<◌, ◌∙◌, true, false, Option, Some, None, Ok, Err, refl, sym, ap, subst, inl, inr, arith}
+use Rattle.std.proofs.Math.Nat.{min-le_right}
+use Rattle.std.proofs.lemmas.Bool.{both_ways, cases_Bool, eqb-false, eqb-true, false_from_ne_true, le-leb, lt-ltb, ltb-false, or_parts}
+use Rattle.std.specs.Prelude.{min, nat_lt, ok_or}
+use Rattle.profile.specs.Outcome.{bind}
+use Rattle.profile.specs.declared.error.ErrorNumber.TheVariants.{AreaInUse, AreaUnknown}
+use Rattle.address_map.specs.Bytes.{in_range}
+use Rattle.address_map.specs.Items.{size_of}
+use Rattle.os_heap_lists.proofs.LiveBlocks.{LiveBytes, live_bytes}
+use Rattle.os_heap_lists.specs.Heap.{AreTotals, HeapList}
+use Rattle.os_heap_lists.specs.Lists.{live_total}
+use Rattle.os_heap.proofs.Apart.{range_parts}
+use Rattle.os_heap.proofs.Stores.{clear_of-found}
+use Rattle.os_heap.specs.Calls.{ending}
+use Rattle.os_heap.specs.Store.{Store, find_heap}
+use Rattle.dynamic_areas.proofs.LooseLemmas.{loose_created}
+use Rattle.dynamic_areas.proofs.ModuleArea.{IsModuleArea, find_ended, heap_below, module_area_known}
+use Rattle.dynamic_areas.proofs.RoomLemmas.{found_number}
+use Rattle.dynamic_areas.specs.declared.area.Area.{Area}
+use Rattle.dynamic_areas.specs.Areas.{Land, find_area, with_areas, without_area}
+use Rattle.dynamic_areas.specs.Changing.{AreLoose, change_answer, change_of, ended_by, is_growth, loose_pages, pages_asked, removed, store_changed, store_emptied, store_extended, store_less, store_reduced, with_heap_end}
+use Rattle.dynamic_areas.specs.Ground.{Estate, IsEstate}
+use Rattle.dynamic_areas.specs.Remapped.{without_pages_at}
+use Rattle.heaps_kept.proofs.Blocks.{AreSame}
+use Rattle.heaps_kept.proofs.Guests.{estates_fit}
+use Rattle.heaps_kept.specs.BlockLaws.{total_in}
+use Rattle.heaps_kept.specs.FitEstates.{IsFitEstate}
+use Rattle.live_bytes.proofs.Growing.{ended_same, extended_same, same_kept, same_then}
+use Rattle.live_bytes.specs.AreaLaws.{AreaCallsKeepBoth, KeepsBoth}
+
+nothing_kept : (s : Store) → KeepsBoth s s
+nothing_kept s block total new_total a live live' here there = refl
+
+-- pages are taken away that have no byte of the heap's words and blocks
+out_kept : (s : Store) (h : HeapList) (at len : ℕ) → find_heap 0x01800000 s.heaps ≡ Some h → AreTotals h.items
+    → ((a : ℕ) → h.start ≤ a → a < h.start + (16 + size_of h.items) → in_range at len a ≡ false) → KeepsBoth s (without_pages_at s at len)
+out_kept s h at len found totals clear block total new_total a live live' here there =
+    let was : live_total block (h.start + 16) h.items ≡ Some total = sym (ap (total_in block) found) ∙ live in
+    let place : LiveBytes block total (h.start + 16) (h.start + 16 + size_of h.items) = live_bytes block total (h.start + 16) h.items totals was in
+    let parts : (block ≤ a) × (a < block + (total - 4)) = range_parts block (total - 4) a here in
+    let out : in_range at len a ≡ false = clear a (omega (arith, place.low, parts.0)) (omega (arith, place.high, place.size, parts.1)) in
+    rw out refl
+
+module _ (d : Estate) (good : IsEstate d) where
+  fit : IsFitEstate d
+  fit = estates_fit d good
+
+  known : IsModuleArea d.store fit.area
+  known = module_area_known d.store d.pool d.land fit.area good fit.found
+
+  -- pages of another area
+  loose_kept : (area : Area) (count : ℕ) → AreLoose d.store area count
+      → KeepsBoth d.store (without_pages_at d.store (area.base + 4096 * (area.pages - count)) (4096 * count))
+  loose_kept area count loose =
+      let m : IsModuleArea d.store fit.area = known in
+      let at : ℕ = area.base + 4096 * (area.pages - count) in
+      out_kept d.store m.heap at (4096 * count) m.found m.spelled.totals (λ a low high.
+      false_from_ne_true (in_range at (4096 * count) a) (λ is.
+      both_ways (in_range m.heap.start m.heap.end a)
+      (clear_of-found at (4096 * count) 0x01800000 d.store.heaps m.heap loose.heaps m.found a is)
+      (rw (le-leb m.heap.start a low, lt-ltb a (m.heap.start + m.heap.end) (omega (arith, high, m.spelled.inside))) refl)))
+
+  extended_kept : (number count : ℕ) (o : Option Area) → find_area number d.land.areas ≡ o → KeepsBoth d.store (store_extended d.store number count o)
+  extended_kept number count None found = elim (cases_Bool (number == 1)) [
+    | inr other ↦ rw other (nothing_kept d.store)
+    | inl area ↦
+        let first : find_area 1 d.land.areas ≡ None = subst (λ (n : ℕ). find_area n d.land.areas ≡ None) (eqb-true number 1 area) found in
+        let no : Some fit.area ≡ None = sym fit.found ∙ first in
+        absurd (cc)
+  ]
+  extended_kept number count (Some a) found = elim (cases_Bool (number == 1)) [
+    | inr other ↦ rw other (λ block total new_total x live live' here there. refl)
+    | inl area ↦ rw area (same_kept d.store (store_extended d.store 1 count (Some a)) (extended_same (4096 * fit.area.pages) count d.store a fit.store))
+  ]
+
+  -- pages of the module area go once its heap ends below them
+  module_reduced : (count : ℕ) (a : Area) → find_area 1 d.land.areas ≡ Some a → count ≤ loose_pages d.store a
+      → KeepsBoth d.store (store_less (with_heap_end d.store (4096 * (a.pages - count))) count (Some a))
+  module_reduced count a found fits =
+      let s : Store = d.store in
+      let end : ℕ = 4096 * (a.pages - count) in
+      let m : IsModuleArea s a = module_area_known s d.pool d.land a good found in
+      let h : HeapList = m.heap in
+      let t : Store = ending s h end in
+      let is : with_heap_end s end ≡ t = ap (λ (o : Option HeapList). ended_by s end o) m.found in
+      let below : 16 + size_of h.items ≤ end = heap_below s d.pool d.land a count m (found_number 1 d.land.areas a found) fits in
+      let at : ℕ = a.base + 4096 * (a.pages - count) in
+      let same : AreSame s t = ended_same (4096 * fit.area.pages) end s h fit.store m.found in
+      let left : HeapList = record { kind = h.kind; start = h.start; end = end; items = h.items } in
+      let gone : KeepsBoth t (without_pages_at t at (4096 * count)) =
+      out_kept t left at (4096 * count) (find_ended s.heaps h 0x01800000 end m.found) m.spelled.totals (λ x low high.
+      false_from_ne_true (in_range at (4096 * count) x) (λ inside.
+      let parts : (at ≤ x) × (x < at + 4096 * count) = range_parts at (4096 * count) x inside in
+      omega (arith, parts.0, high, below, m.start, m.base))) in
+      subst (λ (u : Store). KeepsBoth s (store_less u count (Some a))) (sym is)
+      (same_then s t (without_pages_at t at (4096 * count)) same gone)
+
+  reduced_kept : (number count : ℕ) (a : Area) → find_area number d.land.areas ≡ Some a → count ≤ loose_pages d.store a
+      → KeepsBoth d.store (store_reduced d.store number count (Some a))
+  reduced_kept number count a found fits = elim (cases_Bool (number == 1)) [
+    | inr other ↦
+        let own : a.number ≡ number = found_number number d.land.areas a found in
+        rw other (loose_kept a count (loose_created d.store a count (λ is. eqb-false number 1 other (sym own ∙ is)) fits))
+    | inl area ↦
+        let first : find_area 1 d.land.areas ≡ Some a = subst (λ (n : ℕ). find_area n d.land.areas ≡ Some a) (eqb-true number 1 area) found in
+        rw area (module_reduced count a first fits)
+  ]
+
+  -- no area has the number: no page goes
+  none_reduced : (number count : ℕ) → find_area number d.land.areas ≡ None → KeepsBoth d.store (store_reduced d.store number count None)
+  none_reduced number count found = elim (cases_Bool (number == 1)) [
+    | inr other ↦ rw other (nothing_kept d.store)
+    | inl area ↦
+        let first : find_area 1 d.land.areas ≡ None = subst (λ (n : ℕ). find_area n d.land.areas ≡ None) (eqb-true number 1 area) found in
+        let no : Some fit.area ≡ None = sym fit.found ∙ first in
+        absurd (cc)
+  ]
+
+  changed_by_found : (number amount : ℕ) (o : Option Area) → find_area number d.land.areas ≡ o → is_growth amount ≡ false
+      → KeepsBoth d.store (store_reduced d.store number ((change_of d.store d.pool amount o).bytes / 4096) o)
+  changed_by_found number amount None found shrinks = none_reduced number ((change_of d.store d.pool amount None).bytes / 4096) found
+  changed_by_found number amount (Some a) found shrinks =
+      let count : ℕ = min (pages_asked amount) (loose_pages d.store a) in
+      let gone : (change_of d.store d.pool amount (Some a)).bytes ≡ 4096 * count = rw shrinks refl in
+      let whole : 4096 * count / 4096 ≡ count = omega arith in
+      subst (λ (n : ℕ). KeepsBoth d.store (store_reduced d.store number n (Some a))) (sym (ap (λ (b : ℕ). b / 4096) gone ∙ whole))
+      (reduced_kept number count a found (min-le_right (pages_asked amount) (loose_pages d.store a)))
+
+  changed_kept : (e : Estate) (number amount : ℕ)
+      → e.store ≡ store_changed d.store d.land.areas number amount (change_answer d.land.areas d.store d.pool number amount).bytes
+      → KeepsBoth d.store e.store
+  unfolding change_answer
+  changed_kept e number amount store =
+      let found : Option Area = find_area number d.land.areas in
+      subst (λ (t : Store). KeepsBoth d.store t) (sym store) (elim (cases_Bool (is_growth amount)) [
+        | inl grows ↦ rw grows (extended_kept number ((change_of d.store d.pool amount found).bytes / 4096) found refl)
+        | inr shrinks ↦ rw shrinks (changed_by_found number amount found refl shrinks)
+      ])
+
+  -- an area that went is not the module area, and all its pages could go
+  emptied_kept : (number : ℕ) (a : Area) → find_area number d.land.areas ≡ Some a → (number == 1 || nat_lt (loose_pages d.store a) a.pages) ≡ false
+      → KeepsBoth d.store (without_pages_at d.store a.base (4096 * a.pages))
+  emptied_kept number a found passed =
+      let parts = or_parts (number == 1) (nat_lt (loose_pages d.store a) a.pages) passed in
+      let own : a.number ≡ number = found_number number d.land.areas a found in
+      let other : a.number ≢ 1 = λ is. eqb-false number 1 parts.0 (sym own ∙ is) in
+      let loose : AreLoose d.store a a.pages = loose_created d.store a a.pages other (ltb-false (loose_pages d.store a) a.pages parts.1) in
+      let first : a.base + 4096 * (a.pages - a.pages) ≡ a.base = omega arith in
+      subst (λ (at : ℕ). KeepsBoth d.store (without_pages_at d.store at (4096 * a.pages))) first (loose_kept a a.pages loose)
+
+  removed_by : (number : ℕ) (left : Land) (o : Option Area) → find_area number d.land.areas ≡ o
+      → bind (ok_or o AreaUnknown) (λ a.
+      if number == 1 || nat_lt (loose_pages d.store a) a.pages then Err AreaInUse else Ok (with_areas d.land (without_area number d.land.areas))) ≡ Ok left
+      → KeepsBoth d.store (store_emptied d.store o)
+  removed_by number left None found done = nothing_kept d.store
+  removed_by number left (Some a) found done = elim (cases_Bool (number == 1 || nat_lt (loose_pages d.store a) a.pages)) [
+    | inl refused ↦ absurd (let no : Err AreaInUse ≡ Ok left = (let no = rw refused at done in no) in cc)
+    | inr passed ↦ emptied_kept number a found passed
+  ]
+
+  removed_kept : (e : Estate) (number : ℕ) → removed d.land d.store number ≡ Ok e.land
+      → e.store ≡ store_emptied d.store (find_area number d.land.areas) → KeepsBoth d.store e.store
+  unfolding removed
+  removed_kept e number done store =
+      subst (λ (t : Store). KeepsBoth d.store t) (sym store) (removed_by number e.land (find_area number d.land.areas) refl done)
+
+pub area_calls_keep_both : AreaCallsKeepBoth
+area_calls_keep_both d e good = record {
+  create = λ w name made done store. subst (λ (t : Store). KeepsBoth d.store t) (sym store) (λ block total new_total a live live' here there. refl);
+  remove = λ number done store. removed_kept d good e number done store;
+  change = λ number amount store. changed_kept d good e number amount store;
+}

@@ -1,0 +1,176 @@
+-- What a call on modules that is carried on leaves of the module area's blocks, and a step in which module code comes back, where nothing slides.
+use Rattle.std.proofs.Common.{ℕ, ◌+◌, ◌*◌, ◌≡◌, ◌≤◌, ◌==◌, ◌++◌, Bool, true, false, length, List, [], ◌∷◌, Option, Some, None, Result, Ok, Err, refl, sym, subst, arith}
+use Rattle.std.specs.Prelude.{IfSome, if◌then◌else◌}
+use Rattle.std.proofs.lemmas.Bool.{lt-leb, true≢false}
+use Rattle.profile.specs.declared.error.ErrorNumber.{ErrorNumber}
+use Rattle.profile.specs.declared.fault.Fault.TheVariants.{StackChanged}
+use Rattle.address_map.specs.Bytes.{with_bytes_at}
+use Rattle.arm_step.specs.State.{register_in}
+use Rattle.arm_step.specs.declared.psr.Mode.TheVariants.{Supervisor}
+use Rattle.os_heap.specs.Store.{Store}
+use Rattle.dynamic_areas.specs.Ground.{Estate}
+use Rattle.instances.proofs.Turning.{going_back}
+use Rattle.instances.specs.Reading.{start_found}
+use Rattle.instances.specs.Turns.{IsUnderWay, MayGoOn}
+use Rattle.instances.specs.declared.answers.Start.{Start}
+use Rattle.instances_ground.specs.World.{World, with_text}
+use Rattle.instances_plans.specs.Carrying.{Carried}
+use Rattle.instances_plans.specs.Plans.{Plan, first_of, refused, settled, settled_by}
+use Rattle.instances_plans.specs.declared.action.Action.{Action}
+use Rattle.instances_plans.specs.declared.action.Action.TheVariants as act
+use Rattle.instances_plans.specs.declared.code.Code.{Code}
+use Rattle.instances_plans.specs.declared.code.Outcome.{Outcome as CodeOutcome}
+use Rattle.instances_plans.specs.declared.code.Outcome.TheVariants.{Refused, Well}
+use Rattle.instances_plans.specs.declared.given.Given.{Given}
+use Rattle.swi_dispatch_frames.specs.declared.call.Call.{Call}
+use Rattle.swi_dispatch_frames.specs.declared.frame.Frame.{Frame}
+use Rattle.swi_dispatch_frames.specs.declared.frame.FrameKind.{FrameKind}
+use Rattle.swi_dispatch_frames.specs.declared.frame.FrameKind.TheVariants as frame_kind
+use Rattle.swi_dispatch_frames.specs.Frames.{innermost}
+use Rattle.swi_dispatch_plans.specs.Trials.{world_carried}
+use Rattle.swi_dispatch.specs.declared.halt.Halt.TheVariants as halt
+use Rattle.swi_dispatch.specs.Gates.{call_ended_by, carried_on, come_back, ended_of, entered_if, entered_with, entry_left, fault_ahead, finished, frame_closed, frame_left, gated, gated_by, opened, outcome_left, plan_left, unless_fault}
+use Rattle.swi_dispatch.specs.MachineState.{MachineState, machine_estate, machine_world, quiet}
+use Rattle.swi_dispatch.specs.ModuleStart.{opened_at}
+use Rattle.swi_dispatch.specs.Returns.{erred, gone_back, halted}
+use Rattle.heaps_kept.proofs.BlockPlans.{plans_keep_blocks}
+use Rattle.heaps_kept.proofs.Blocks.{AreSame, beside_same, same_all, same_were, were_both}
+use Rattle.heaps_kept.proofs.Plans.{plans_fit}
+use Rattle.heaps_kept.proofs.Slots.{doable_below}
+use Rattle.heaps_kept.specs.BlockLaws.{HaveNoSlide, WereLive}
+use Rattle.heaps_kept.specs.FitEstates.{IsFitEstate}
+use Rattle.heaps_kept.specs.PlanLaws.{IsFitWorld, WorldStaysFit}
+use Rattle.heap_alone.proofs.ModuleHosts.{HasModules, fit_world}
+use Rattle.heap_alone.proofs.ModulePlans.{IsFitPlan}
+use Rattle.live_bytes.specs.Changes.{has_slide, slides_on}
+
+-- the environment text
+text_same : (e : Estate) (text : List ℕ) → IsFitEstate e → AreSame e.store (with_text e text).store
+text_same e text f =
+    beside_same (4096 * f.area.pages) e.store (record { mapped = e.store.bytes.mapped; at = with_bytes_at e.store.bytes.at 0x01C02200 (text ++ 0 ∷ []) }) f.store
+    (λ a low high. rw (lt-leb 0x01C02200 a (omega (arith, high))) refl)
+
+pub opened_same : (s : MachineState) (text : List ℕ) (slot : ℕ) (o : Option ℕ) → IsFitEstate (machine_estate s)
+    → AreSame s.store (opened_at s text slot o).store
+opened_same s text slot None fit = same_all s.store
+opened_same s text slot (Some at) fit = text_same (machine_estate s) text fit
+
+entered_same : (s : MachineState) (text : List ℕ) (r : Result Start ErrorNumber) → IsFitEstate (machine_estate s) → AreSame s.store (entered_with s text r).store
+entered_same s text (Ok start) fit = opened_same s text start.slot start.at fit
+entered_same s text (Err e) fit = same_all s.store
+
+if_same : (s : MachineState) (enters : Bool) (g : Given) → IsFitEstate (machine_estate s) → AreSame s.store (entered_if enters s g).store
+if_same s true g fit = entered_same s g.text.items (start_found s.tables.modules g.header.title.items) fit
+if_same s false g fit = same_all s.store
+
+ended_same : (s : MachineState) (call : Call) (g : Given) (first : Option ℕ) → IsFitEstate (machine_estate s)
+    → AreSame s.store (call_ended_by s call g first).store
+ended_same s call g (Some r0) fit = same_all s.store
+ended_same s call g None fit = if_same (gone_back call.caller s false call.next) call.enters g fit
+
+-- a call that is carried on
+abbrev gone : MachineState → Call → Carried World → MachineState
+gone s call c = finished (opened s call c) call (ended_of c)
+
+gone_same : (s : MachineState) (call : Call) (w : World) (q : Plan) (o : Option Code) → IsFitEstate w.estate
+    → AreSame w.estate.store (gone s call (record { world = w; rest = q; code = o })).store
+gone_same s call w q (Some code) fit = same_all w.estate.store
+gone_same s call w q None fit = ended_same (opened s call (record { world = w; rest = q; code = None })) call q.given q.first fit
+
+pub carried_were : (s : MachineState) (call : Call) (p : Plan) → IsFitWorld (machine_world s) → IsFitPlan p → HaveNoSlide p.actions
+    → WereLive s.store (carried_on s call p).store
+carried_were s call p fit plan none =
+    let c : Carried World = world_carried (machine_world s) p in
+    let stays : WorldStaysFit (machine_world s) c.world = plans_fit (machine_world s) p fit plan.below plan.text in
+    were_both s.store c.world.estate.store (carried_on s call p).store
+    (plans_keep_blocks (machine_world s) p fit plan.below plan.text none)
+    (same_were c.world.estate.store (carried_on s call p).store (gone_same s call c.world c.rest c.code stays.estate.fit))
+
+-- code that comes back leaves what its plan was given
+refused_given : (p : Plan) (a : Action) (r0 : ℕ) → (refused p a r0).given ≡ p.given
+refused_given p (act.Finalise slot fatal) r0 = refl
+refused_given p (act.Initialise slot) r0 = refl
+refused_given p (act.Remove slot) r0 = refl
+refused_given p (act.FreePrivate slot) r0 = refl
+refused_given p (act.Insert slot) r0 = refl
+refused_given p (act.Instantiate slot) r0 = refl
+refused_given p act.GiveUp r0 = refl
+refused_given p act.Slide r0 = refl
+
+given_by : (p : Plan) (o : CodeOutcome) (a : Option Action) → (settled_by p o a).given ≡ p.given
+given_by p Well None = refl
+given_by p (Refused r0) None = refl
+given_by p Well (Some a) = refl
+given_by p (Refused r0) (Some a) = refused_given p a r0
+
+given_if : (runs : Bool) (p q : Plan) → q.given ≡ p.given → (if runs then q else p).given ≡ p.given
+given_if true p q same = same
+given_if false p q same = refl
+
+settled_given : (p : Plan) (o : CodeOutcome) → (settled p o).given ≡ p.given
+unfolding settled
+settled_given p o = given_if p.runs p (settled_by p o (first_of p.actions)) (given_by p o (first_of p.actions))
+
+-- a plan that has no slide
+no_slide : (actions : List Action) → has_slide actions ≡ false → HaveNoSlide actions
+no_slide [] none = tt
+no_slide (act.Slide ∷ actions) none = absurd (true≢false none)
+no_slide (act.Finalise slot fatal ∷ actions) none = no_slide actions none
+no_slide (act.Initialise slot ∷ actions) none = no_slide actions none
+no_slide (act.Remove slot ∷ actions) none = no_slide actions none
+no_slide (act.FreePrivate slot ∷ actions) none = no_slide actions none
+no_slide (act.Insert slot ∷ actions) none = no_slide actions none
+no_slide (act.Instantiate slot ∷ actions) none = no_slide actions none
+no_slide (act.GiveUp ∷ actions) none = no_slide actions none
+
+module _ (s : MachineState) (has : HasModules s) where
+  same : WereLive s.store s.store
+  same = same_were s.store s.store (same_all s.store)
+
+  settled_fit : (p : Plan) (o : CodeOutcome) → MayGoOn (machine_world s) (Some p) → length p.given.text.items ≤ 255 → IsFitPlan (settled p o)
+  settled_fit p o going few =
+      let on : IsUnderWay (machine_world s) (settled p o) = going_back (machine_world s) p o has.modules going.1 in
+      record {
+        below = doable_below s.tables.modules (settled p o) has.modules on.ready.doable;
+        text = subst (λ (g : Given). length g.text.items ≤ 255) (sym (settled_given p o)) few;
+      }
+
+  fault_were : (t : MachineState) (o : Option ℕ) → WereLive s.store t.store → WereLive s.store (unless_fault s o t).now.store
+  fault_were t None were = were
+  fault_were t (Some number) were = same
+
+  entry_were : (f : Frame) (p : Plan) → IsFitPlan p → HaveNoSlide p.actions → WereLive s.store (entry_left s f p).now.store
+  entry_were f p plan none =
+      let t : MachineState = carried_on (come_back s f) f.call p in
+      fault_were t (fault_ahead f.call (machine_world s) p) (carried_were (come_back s f) f.call p (fit_world s has) plan none)
+
+  plan_were : (f : Frame) (o : Option Plan) → MayGoOn (machine_world s) o → IfSome o (λ (plan : Plan). length plan.given.text.items ≤ 255)
+      → slides_on s.cpu o ≡ false → WereLive s.store (plan_left s f o).now.store
+  plan_were f None going few calm = same
+  plan_were f (Some p) going few calm =
+      let q : Plan = settled p (outcome_left s.cpu) in
+      entry_were f q (settled_fit p (outcome_left s.cpu) going few) (no_slide q.actions calm)
+
+  -- a SWI of a module
+  left_were : (f : Frame) (overflow x : Bool)
+      → WereLive s.store (if overflow then erred s x (quiet (frame_closed s f)) else quiet (frame_closed s f)).now.store
+  left_were f false x = same
+  left_were f true true = same
+  left_were f true false = same
+
+  module _ (calm : slides_on s.cpu s.tables.plan ≡ false) where
+    frame_were : (f : Frame) (kind : FrameKind) → WereLive s.store (frame_left s f kind s.tables.plan).now.store
+    frame_were f frame_kind.Swi = left_were f s.cpu.psr.overflow f.call.is_x
+    frame_were f (frame_kind.Entry kind) = plan_were f s.tables.plan has.going has.text calm
+
+    stack_were : (f : Frame) (well : Bool)
+        → WereLive s.store (if well then frame_left s f f.kind s.tables.plan else halted s (halt.Fault StackChanged)).now.store
+    stack_were f true = frame_were f f.kind
+    stack_were f false = same
+
+    innermost_were : (o : Option Frame) → WereLive s.store (gated_by s o).now.store
+    innermost_were None = same
+    innermost_were (Some f) = stack_were f (register_in Supervisor s.cpu 13 == f.stack)
+
+    pub gate_were : WereLive s.store (gated s).now.store
+    gate_were = innermost_were (innermost s.tables.frames)

@@ -1,0 +1,220 @@
+-- The module area's blocks where one of them changes its size, in its place or elsewhere.
+use Rattle.std.proofs.Common.{if◌then◌else◌, Bool, ℕ, ◌+◌, ◌-◌, ◌*◌, ◌≡◌, ◌≢◌, ◌≤◌, ◌<◌, ◌∙◌, true, false, List, Option, Some, None, is_some, Result, Ok, Err, refl, sym, ap, subst, inl, inr, arith}
+use Rattle.std.specs.Prelude.{nat_le}
+use Rattle.std.proofs.lemmas.Bool.{cases_Bool, false_from_ne_true, false≢true, leb-false}
+use Rattle.profile.specs.Outcome.{bind}
+use Rattle.profile.specs.declared.error.ErrorNumber.{ErrorNumber}
+use Rattle.profile.specs.declared.error.ErrorNumber.TheVariants.{HeapBadDesc, HeapHoldsAnchor, HeapNoRoom, HeapNotABlock}
+use Rattle.address_map.specs.Bytes.{in_range, with_moved}
+use Rattle.address_map.specs.Items.{is_total, size_of}
+use Rattle.address_map.specs.Records.{anchor_among}
+use Rattle.address_map.specs.declared.item.Item.{Item}
+use Rattle.os_heap_lists.proofs.ClaimedLists.{HasTotals, IsUnheld, IsWithin, claim_totals, claim_unheld, claim_within}
+use Rattle.os_heap_lists.proofs.LiveBlocks.{IsFresh, IsStill, LiveBytes, claim_fresh, claim_still, live_apart, live_bytes}
+use Rattle.os_heap_lists.proofs.Spelling.{total_of-numbers}
+use Rattle.os_heap_lists.specs.Heap.{AreTotals, HeapList}
+use Rattle.os_heap_lists.specs.Lists.{Claim, changed_by, claimed, live_total, resized_in_place, round_up_8}
+use Rattle.os_heap.proofs.Apart.{range_parts}
+use Rattle.os_heap.proofs.Found.{found_start}
+use Rattle.os_heap.proofs.Resizing.{larger_where_none}
+use Rattle.os_heap.specs.Calls.{block_sized, copied, gave_back, holding, holds_anchor, moved, resized, resized_or_moved, unless_image}
+use Rattle.os_heap.specs.Store.{Store, find_heap, has_image}
+use Rattle.dynamic_areas.specs.Ground.{Estate}
+use Rattle.rma.specs.Calls.{end_if_moved, end_in_place, grown_in_place, grown_to, in_area, is_full, or_as_before, or_grown, resized_or_grown, rma_base, rma_extended}
+use Rattle.heaps_kept.proofs.BlockCalls.{WereLiveIn, gave_were}
+use Rattle.heaps_kept.proofs.Blocks.{AreSame, held_total, same_all, unspelled}
+use Rattle.heaps_kept.proofs.HeapCalls.{OnDone, items_of_fit, on_if, on_some, unless_some}
+use Rattle.heaps_kept.proofs.Holding.{held_fit, range_within, stays_both, written_fit}
+use Rattle.heaps_kept.proofs.Lists.{HasRoomIfSome, resized_room}
+use Rattle.heaps_kept.proofs.ModuleArea.{OnEstate, OnGrown, fit_same, to_fit}
+use Rattle.heaps_kept.specs.BlockLaws.{StayLive, WereLive, block_total, total_in}
+use Rattle.heaps_kept.specs.FitEstates.{EstateStaysFit, IsFitEstate}
+use Rattle.heaps_kept.specs.Fits.{IsFitStore, StaysFit}
+use Rattle.live_bytes.proofs.Growing.{SameGrown, same_then, to_same}
+use Rattle.live_bytes.specs.AreaLaws.{ExtendsKeepBlocks, KeepsBoth}
+
+-- blocks that stay, and then blocks that were there
+pub stay_were : (s t u : Store) → StayLive s t → WereLive t u → KeepsBoth s u
+stay_were s t u stay were block total new_total a live live' here there =
+    (were block new_total live').1 a there ∙ (stay block total live).1 a here
+
+pub were_kept : (s t : Store) → WereLive s t → KeepsBoth s t
+were_kept s t were block total new_total a live live' here there = (were block new_total live').1 a there
+
+pub stay_kept : (s t : Store) → StayLive s t → KeepsBoth s t
+stay_kept s t stay block total new_total a live live' here there = (stay block total live).1 a here
+
+abbrev KeepsIn : {A : Type 0} → Store → Store × A → Type 0
+KeepsIn s x = KeepsBoth s x.0
+
+-- the heap got another list
+held_kept : (s : Store) (h : HeapList) (items : List Item) → find_heap 0x01800000 s.heaps ≡ Some h → AreTotals items → KeepsBoth s (holding s h items)
+held_kept s h items found totals block total new_total a live live' here there =
+    let start : h.start ≡ 0x01800000 = found_start 0x01800000 s.heaps h found in
+    unspelled s.bytes.at h.start h.end items block new_total a start totals (sym (held_total s h items block found) ∙ live') there
+
+-- what a claim leaves
+record IsMade (limit new : ℕ) (h : HeapList) (c : Claim) : Type 0 where
+  totals : AreTotals c.items
+  inside : 16 + size_of c.items ≤ limit
+  high : h.start + 16 + c.offset + 4 + (new - 4) ≤ h.start + limit
+  fresh : live_total (h.start + 16 + c.offset + 4) (h.start + 16) c.items ≡ Some new
+  none : is_some (live_total (h.start + 16 + c.offset + 4) (h.start + 16) h.items) ≡ false
+  still : (block n : ℕ) → live_total block (h.start + 16) h.items ≡ Some n → live_total block (h.start + 16) c.items ≡ Some n
+
+is_made : (limit new : ℕ) (s : Store) (h : HeapList) (c : Claim) (f : IsFitStore limit s) → find_heap 0x01800000 s.heaps ≡ Some h → is_total new ≡ true
+    → claimed new (h.end - 16) h.items ≡ Some c → IsMade limit new h c
+is_made limit new s h c f found total is =
+    let own = items_of_fit limit s h f found in
+    let totals : AreTotals c.items = subst HasTotals is (claim_totals new (h.end - 16) h.items total own.0) in
+    let within : size_of c.items ≤ h.end - 16 = subst (IsWithin (h.end - 16)) is (claim_within new (h.end - 16) h.items (omega (arith, own.1.0, own.1.1))) in
+    let at : ℕ = h.start + 16 + c.offset + 4 in
+    let fresh : live_total at (h.start + 16) c.items ≡ Some new =
+    subst (IsFresh new (h.start + 16)) is (claim_fresh new (h.end - 16) (h.start + 16) h.items own.0) in
+    let place : LiveBytes at new (h.start + 16) (h.start + 16 + size_of c.items) = live_bytes at new (h.start + 16) c.items totals fresh in
+    let inside : 16 + size_of c.items ≤ limit = omega (arith, within, own.1.0, own.1.1) in
+    record {
+      totals = totals;
+      inside = inside;
+      high = omega (arith, inside, place.high, place.size);
+      fresh = fresh;
+      none = subst (IsUnheld (h.start + 16) h.items) is (claim_unheld new (h.end - 16) (h.start + 16) h.items own.0);
+      still = λ block n live. subst (IsStill block n (h.start + 16)) is (claim_still new (h.end - 16) block n (h.start + 16) h.items live own.0);
+    }
+
+-- a claimed block gets the bytes of another: each block that was there stays
+copied_stay : (limit old new from : ℕ) (s : Store) (h : HeapList) (c : Claim) → find_heap 0x01800000 s.heaps ≡ Some h → IsMade limit new h c → old ≤ new
+    → StayLive s (copied (holding s h c.items) from (h.start + 16 + c.offset + 4) (old - 4))
+copied_stay limit old new from s h c found made less block n live =
+    let at : ℕ = h.start + 16 + c.offset + 4 in
+    let start : h.start ≡ 0x01800000 = found_start 0x01800000 s.heaps h found in
+    let was : live_total block (h.start + 16) h.items ≡ Some n = sym (ap (total_in block) found) ∙ live in
+    let still : live_total block (h.start + 16) c.items ≡ Some n = made.still block n was in
+    let differs : block ≢ at = λ same.
+    false≢true (sym made.none ∙ ap is_some (subst (λ (b : ℕ). live_total b (h.start + 16) h.items ≡ Some n) same was)) in (
+      held_total s h c.items block found ∙ still,
+      λ a inside.
+          let byte : (block ≤ a) × (a < block + (n - 4)) = range_parts block (n - 4) a inside in
+          let out : in_range at (old - 4) a ≡ false = false_from_ne_true (in_range at (old - 4) a) (λ there.
+          let target : (at ≤ a) × (a < at + (old - 4)) = range_parts at (old - 4) a there in
+          elim (live_apart block n at new (h.start + 16) c.items made.totals still made.fresh differs) [
+            | inl low ↦ omega (arith, low, byte.1, target.0)
+            | inr high ↦ omega (arith, high, byte.0, target.1, less)
+          ]) in
+          rw out (unspelled s.bytes.at h.start h.end c.items block n a start made.totals still inside),
+    )
+
+gave_then : (A B : Type 0) (s u : Store) (r : Result (Store × A) ErrorNumber) (answer : B) → StayLive s u → OnDone (WereLiveIn u) r
+    → OnDone (KeepsIn s) (bind r (λ x. Ok (x.0, answer)))
+gave_then A B s u (Ok x) answer stay were = stay_were s u x.0 stay were
+gave_then A B s u (Err e) answer stay were = tt
+
+-- a block was moved
+moved_kept : (limit : ℕ) (s : Store) (h : HeapList) (block old new : ℕ) → IsFitStore limit s → find_heap 0x01800000 s.heaps ≡ Some h → is_total new ≡ true
+    → old ≤ new → OnDone (KeepsIn s) (moved s h block old new)
+moved_kept limit s h block old new f found total less =
+    on_some Claim ℕ (KeepsIn s) (claimed new (h.end - 16) h.items) HeapNoRoom _ (λ c is.
+    let start : h.start ≡ 0x01800000 = found_start 0x01800000 s.heaps h found in
+    let made : IsMade limit new h c = is_made limit new s h c f found total is in
+    let at : ℕ = h.start + 16 + c.offset + 4 in
+    let t : Store = holding s h c.items in
+    let u : Store = copied t block at (old - 4) in
+    let one : StaysFit limit s t = held_fit limit s h c.items f found made.totals made.inside in
+    let two : StaysFit limit t u = written_fit limit t (with_moved t.bytes block at (old - 4)) one.fit (λ a out.
+    let apart : in_range at (old - 4) a ≡ false = range_within at (old - 4) a (omega (arith, start)) (omega (arith, start, made.high, f.room, less)) out in
+    rw apart refl) in
+    gave_then (Unit {0}) ℕ s u (gave_back u h.start block) at (copied_stay limit old new block s h c found made less)
+    (subst (λ (p : ℕ). OnDone (WereLiveIn u) (gave_back u p block)) (sym start) (gave_were limit block u two.fit)))
+
+in_place_kept : (limit : ℕ) (s : Store) (h : HeapList) (block old new : ℕ) (o : Option (List Item)) → IsFitStore limit s → find_heap 0x01800000 s.heaps ≡ Some h
+    → is_total new ≡ true → (o ≡ None → old ≤ new) → HasRoomIfSome (limit - 16) o → OnDone (KeepsIn s) (resized_or_moved s h block old new o)
+in_place_kept limit s h block old new None f found total less room =
+    on_if ℕ (KeepsIn s) (holds_anchor s.anchor block (Some old)) HeapHoldsAnchor (moved s h block old new)
+    (λ none. moved_kept limit s h block old new f found total (less refl))
+in_place_kept limit s h block old new (Some items) f found total less room =
+    on_if ℕ (KeepsIn s) (anchor_among s.anchor (block - 4 + new) (old - new)) HeapHoldsAnchor (Ok (holding s h items, block)) (λ none.
+    held_kept s h items found room.0)
+
+same_stays : (s : Store) → StayLive s s
+same_stays s block total live = (live, λ a inside. refl)
+
+sized_kept : (limit : ℕ) (s : Store) (h : HeapList) (block change old : ℕ) → IsFitStore limit s → find_heap 0x01800000 s.heaps ≡ Some h
+    → live_total block (h.start + 16) h.items ≡ Some old
+    → (let sum : ℕ = changed_by old change in
+    OnDone (KeepsIn s) (if nat_le sum 4 then bind (gave_back s 0x01800000 block) (λ r. Ok (r.0, 0)) else
+    resized_or_moved s h block old (round_up_8 sum) (resized_in_place block (h.start + h.end) (round_up_8 sum) (h.start + 16) h.items)))
+sized_kept limit s h block change old f found live =
+    let sum : ℕ = changed_by old change in
+    let new : ℕ = round_up_8 sum in
+    let own = items_of_fit limit s h f found in
+    elim (cases_Bool (nat_le sum 4)) [
+      | inl few ↦ rw few (gave_then (Unit {0}) ℕ s s (gave_back s 0x01800000 block) 0 (same_stays s) (gave_were limit block s f))
+      | inr more ↦
+          let many : 4 < sum = leb-false sum 4 more in
+          let total : is_total new ≡ true = total_of-numbers new (omega (arith, many)) (omega arith) in
+          let room : HasRoomIfSome (h.start + h.end - (h.start + 16)) (resized_in_place block (h.start + h.end) new (h.start + 16) h.items) =
+          resized_room block (h.start + h.end) new (h.start + 16) h.items total own.0 (omega (arith, own.1.0, own.1.1)) in
+          let same : h.start + h.end - (h.start + 16) ≡ limit - 16 = omega (arith, own.1.1) in
+          rw more (in_place_kept limit s h block old new (resized_in_place block (h.start + h.end) new (h.start + 16) h.items) f found total
+          (λ none. omega (arith, larger_where_none block (h.start + h.end) new (h.start + 16) old h.items live none))
+          (subst (λ (n : ℕ). HasRoomIfSome n (resized_in_place block (h.start + h.end) new (h.start + 16) h.items)) same room))
+    ]
+
+pub resized_kept : (limit block change : ℕ) (s : Store) → IsFitStore limit s → OnDone (KeepsIn s) (resized s 0x01800000 block change)
+unfolding resized
+resized_kept limit block change s f =
+    on_some HeapList ℕ (KeepsIn s) (find_heap 0x01800000 s.heaps) HeapBadDesc _ (λ h found.
+    on_some ℕ ℕ (KeepsIn s) (unless_image (has_image block s.others) (live_total block (h.start + 16) h.items)) HeapNotABlock _ (λ old is.
+    sized_kept limit s h block change old f found (unless_some (has_image block s.others) (live_total block (h.start + 16) h.items) old is)))
+
+-- with the growth of the area
+abbrev KeepsFrom : Store → Estate × ℕ → Type 0
+KeepsFrom s x = KeepsBoth s x.0.store
+
+in_kept : (s : Store) (e : Estate) (r : Result (Store × ℕ) ErrorNumber) → AreSame s e.store → OnDone (KeepsIn e.store) r → OnEstate (KeepsFrom s) (in_area e r)
+in_kept s e (Ok x) same done = same_then s e.store x.0 same done
+in_kept s e (Err f) same done = tt
+
+grown_kept : (s : Store) (e : Estate) (block change : ℕ) (o : Result Estate ErrorNumber) → AreSame s e.store → OnGrown e o → SameGrown e o
+    → OnEstate (KeepsFrom s) (bind o (λ g. in_area g (resized g.store 0x01800000 block change)))
+grown_kept s e block change (Err f) same fit grown = tt
+grown_kept s e block change (Ok g) same fit grown =
+    in_kept s g (resized g.store 0x01800000 block change) (both s e.store g.store same grown)
+    (resized_kept (4096 * fit.fit.area.pages) block change g.store fit.fit.store) where
+      both : (s t u : Store) → AreSame s t → AreSame t u → AreSame s u
+      both s t u one two = record {
+        totals = λ block. two.totals block ∙ one.totals block;
+        bytes = λ block total live a inside. two.bytes block total (one.totals block ∙ live) a inside ∙ one.bytes block total live a inside;
+      }
+
+or_grown_kept : (s : Store) (e : Estate) (block change : ℕ) → AreSame s e.store → IsFitEstate e → OnEstate (KeepsFrom s) (resized_or_grown e block change)
+or_grown_kept s e block change same f = elim (cases_Bool (is_full (resized e.store 0x01800000 block change))) [
+  | inl full ↦
+      let end : ℕ = end_if_moved (rma_base e.store) change (block_sized e.store 0x01800000 block) in
+      rw full (grown_kept s e block change (grown_to e end) same (to_fit e end f) (to_same e end f))
+  | inr found ↦ rw found (in_kept s e (resized e.store 0x01800000 block change) same (resized_kept (4096 * f.area.pages) block change e.store f.store))
+]
+
+-- the estate in which the block's own place has grown, where it could
+before_same : (e : Estate) (o : Result Estate ErrorNumber) → SameGrown e o → AreSame e.store (or_as_before e o).store
+before_same e (Ok g) grown = grown
+before_same e (Err f) grown = same_all e.store
+
+before_fit : (e : Estate) (o : Result Estate ErrorNumber) → IsFitEstate e → OnGrown e o → IsFitEstate (or_as_before e o)
+before_fit e (Ok g) f grown = grown.fit
+before_fit e (Err g) f grown = f
+
+extended_kept : (e : Estate) (block change : ℕ) → IsFitEstate e → OnEstate (KeepsFrom e.store) (rma_extended e block change)
+unfolding rma_extended
+extended_kept e block change f =
+    let end : ℕ = end_in_place (rma_base e.store) block change (block_sized e.store 0x01800000 block) in
+    or_grown_kept e.store (grown_in_place e block change) block change (before_same e (grown_to e end) (to_same e end f))
+    (before_fit e (grown_to e end) f (to_fit e end f))
+
+done_in : (P : Estate × ℕ → Type 0) (r : Result (Estate × ℕ) ErrorNumber) (x : Estate × ℕ) → OnEstate P r → r ≡ Ok x → P x
+done_in P (Ok y) x done is = let same : y ≡ x = cc in subst P same done
+done_in P (Err e) x done is = absurd (cc)
+
+pub extends_keep : ExtendsKeepBlocks
+extends_keep d e block change new f is =
+    done_in (KeepsFrom d.store) (rma_extended d block change) (e, new) (extended_kept d block change f) is

@@ -1,0 +1,12 @@
+pub mod AreaBlocks
+pub mod Carried
+pub mod Extending
+pub mod FlexBytes
+pub mod FlexRows
+pub mod Growing
+pub mod Heaps
+pub mod ModuleRows
+pub mod Moves
+pub mod Outside
+pub mod Planned
+pub mod Rows

@@ -1,0 +1,231 @@
+-- What a call of OS_Module that moves no blocks leaves of the module area's blocks: what they hold.
+use Rattle.std.proofs.Common.{ℕ, ◌≡◌, ◌+◌, ◌-◌, ◌==◌, ◌∙◌, Bool, true, false, length, List, Option, Some, None, Result, Ok, Err, refl, sym, ap, subst}
+use Rattle.std.specs.Prelude.{IfOk, if◌then◌else◌, ok_or}
+use Rattle.std.proofs.lemmas.Bool.{true≢false}
+use Rattle.profile.specs.Outcome.{bind}
+use Rattle.profile.specs.Reasons.{module_reason}
+use Rattle.profile.specs.declared.error.ErrorNumber.{ErrorNumber}
+use Rattle.profile.specs.declared.error.ErrorNumber.TheVariants.{BadString}
+use Rattle.profile.specs.declared.reason.ModuleReason.{ModuleReason}
+use Rattle.profile.specs.declared.reason.ModuleReason.TheVariants as reason
+use Rattle.profile.specs.declared.swi.SwiName.TheVariants as swi
+use Rattle.arm_step.specs.State.{State, register_of, with_register}
+use Rattle.image_loader.specs.Entries.{Entry}
+use Rattle.os_heap_lists.specs.Heap.{HeapList}
+use Rattle.os_heap_lists.specs.Lists.{live_total}
+use Rattle.os_heap.proofs.Found.{found_start}
+use Rattle.os_heap.specs.Store.{Store, find_heap}
+use Rattle.dynamic_areas.specs.Ground.{Estate}
+use Rattle.rma.specs.Calls.{rma_claimed, rma_extended, rma_freed}
+use Rattle.instances.specs.Reading.{told}
+use Rattle.instances_ground.specs.World.{World}
+use Rattle.instances_plans.specs.Plans.{Plan}
+use Rattle.instances_table.specs.Changes.{preferring, renamed}
+use Rattle.instances_table.specs.Modules.{Module}
+use Rattle.swi_dispatch_answers.specs.Refusals.{or_error}
+use Rattle.swi_dispatch_answers.specs.Strings.{string_in}
+use Rattle.swi_dispatch_answers.specs.Words.{host_string}
+use Rattle.swi_dispatch_answers.specs.declared.refusal.Refusal.{Refusal}
+use Rattle.swi_dispatch_answers.specs.declared.refusal.Refusal.TheVariants as refusal
+use Rattle.swi_dispatch_modules.specs.Calls.{module_called as area_called, module_called_for as area_called_for}
+use Rattle.swi_dispatch_modules.specs.Naming.{instance_found, instance_preferred, instance_renamed, place_asked, with_told}
+use Rattle.swi_dispatch_plans.specs.Openings.{opening_asked}
+use Rattle.swi_dispatch_plans.specs.declared.openings.Opening.{Opening}
+use Rattle.swi_dispatch_plans.specs.ImagePlans.{instantiation_planned}
+use Rattle.swi_dispatch_plans.specs.ModulePlans.{clear_planned, delete_planned, reinit_planned}
+use Rattle.swi_dispatch.specs.Additions.{Planned, copy_planned, insertion_planned, load_planned, named_load_planned, plan_alone}
+use Rattle.swi_dispatch.specs.Answers.{refused, went_on}
+use Rattle.swi_dispatch.specs.Calls.{call_answer, on_world}
+use Rattle.swi_dispatch.specs.Errors.{with_error}
+use Rattle.swi_dispatch.specs.Gates.{carried_on}
+use Rattle.swi_dispatch.specs.MachineState.{MachineState, Outcome, machine_estate, machine_world, setting_of, with_world}
+use Rattle.swi_dispatch.specs.ModuleStart.{module_opened}
+use Rattle.swi_dispatch.specs.Returns.{gone_back}
+use Rattle.swi_dispatch.specs.Step.{begun, begun_alone, call_of, call_refused, ended, module_entered, os_module_called, os_module_called_for}
+use Rattle.heaps_kept.proofs.BlockCalls.{block_calls_keep}
+use Rattle.heaps_kept.proofs.Guests.{estates_fit}
+use Rattle.heaps_kept.specs.BlockLaws.{block_total, total_in}
+use Rattle.heaps_kept.specs.FitEstates.{IsFitEstate}
+use Rattle.heaps_kept.specs.PlanLaws.{IsFitWorld}
+use Rattle.heap_alone.proofs.Keeping.{error_kept, kept_same, off_system}
+use Rattle.heap_alone.proofs.LiveBytes.{payload_inside}
+use Rattle.heap_alone.proofs.ModuleHosts.{HasModules, fit_world}
+use Rattle.heap_alone.proofs.ModulePlans.{IsFitPlan, bound_any}
+use Rattle.heap_alone.proofs.PlansMade.{IsFitPlanned, alone_planned, clear_made, copy_made, delete_made, insertion_made, instantiation_made, load_made, named_load_made, reinit_made}
+use Rattle.heap_alone.proofs.States.{HasStore, sound_store}
+use Rattle.live_bytes.proofs.Carried.{carried_were, opened_same}
+use Rattle.live_bytes.proofs.Extending.{extends_keep, stay_kept, stay_were, were_kept}
+use Rattle.live_bytes.proofs.Growing.{same_kept}
+use Rattle.live_bytes.proofs.Planned.{IsPlannedStill, NeverSlides, alone_still, clear_none, copy_still, delete_none, insertion_still, instantiation_calm, load_still, named_load_still, reinit_none}
+use Rattle.live_bytes.specs.AreaLaws.{KeepsBoth}
+use Rattle.live_bytes.specs.Changes.{is_tidy}
+
+pub nothing_kept : (s : Store) → KeepsBoth s s
+nothing_kept s block total new_total a live live' here there = refl
+
+-- an error's block lies in the system pages
+pub error_both : (s : MachineState) (e : Refusal) → HasStore s → KeepsBoth s.store (with_error s e).store
+error_both s e has block total new_total a live live' here there =
+    let fit : IsFitEstate (machine_estate s) = estates_fit (machine_estate s) has.estate in
+    let h : HeapList = fit.store.heap in
+    let own : find_heap h.start s.store.heaps ≡ Some h =
+    subst (λ (p : ℕ). find_heap p s.store.heaps ≡ Some h) (sym (found_start 0x01800000 s.store.heaps h fit.store.found)) fit.store.found in
+    let was : live_total block (h.start + 16) h.items ≡ Some total = sym (ap (total_in block) fit.store.found) ∙ live in
+    (error_kept h s.store s e (off_system s h has own) (kept_same h s.store own)).bytes a
+    (payload_inside s.store h block total a (sound_store s has) own was here)
+
+-- calls that run no module code: what they leave of the world
+abbrev LeavesBoth : World → State × World → Type 0
+LeavesBoth w q = KeepsBoth w.estate.store q.1.estate.store
+
+told_both : (A : Type 0) (w : World) (r : Result A ErrorNumber) (f : A → State) → IfOk (bind (or_error r) (λ a. Ok (f a, w))) (LeavesBoth w)
+told_both A w (Ok a) f = nothing_kept w.estate.store
+told_both A w (Err e) f = tt
+
+names_both : (cpu : State) (w : World) (r : Result (List Module) ErrorNumber)
+    → IfOk (or_error (bind r (λ modules. Ok (cpu, record w { modules = modules })))) (LeavesBoth w)
+names_both cpu w (Ok modules) = nothing_kept w.estate.store
+names_both cpu w (Err e) = tt
+
+found_both : (A : Type 0) (w : World) (r : Result A ErrorNumber) (f : A → State) → IfOk (or_error (bind r (λ a. Ok (f a, w)))) (LeavesBoth w)
+found_both A w (Ok a) f = nothing_kept w.estate.store
+found_both A w (Err e) f = tt
+
+module _ (cpu : State) (w : World) (fit : IsFitEstate w.estate) where
+  claimed_both : (r : Result (Estate × ℕ) ErrorNumber) → rma_claimed w.estate (register_of cpu 3) ≡ r
+      → IfOk (bind (or_error r) (λ x. Ok (with_register cpu 2 x.1, record w { estate = x.0 }))) (LeavesBoth w)
+  claimed_both (Ok x) is = stay_kept w.estate.store x.0.store ((block_calls_keep w.estate x.0 fit).claim (register_of cpu 3) x.1 is)
+  claimed_both (Err e) is = tt
+
+  freed_both : (r : Result (Estate × Unit {0}) ErrorNumber) → rma_freed w.estate (register_of cpu 2) ≡ r
+      → IfOk (bind (or_error r) (λ x. Ok (cpu, record w { estate = x.0 }))) (LeavesBoth w)
+  freed_both (Ok x) is = were_kept w.estate.store x.0.store ((block_calls_keep w.estate x.0 fit).free (register_of cpu 2) is)
+  freed_both (Err e) is = tt
+
+  extended_both : (r : Result (Estate × ℕ) ErrorNumber) → rma_extended w.estate (register_of cpu 2) (register_of cpu 3) ≡ r
+      → IfOk (bind (or_error r) (λ x. Ok (with_register cpu 2 x.1, record w { estate = x.0 }))) (LeavesBoth w)
+  extended_both (Ok x) is = extends_keep w.estate x.0 (register_of cpu 2) (register_of cpu 3) x.1 fit is
+  extended_both (Err e) is = tt
+
+  renamed_both : IfOk (instance_renamed cpu w) (LeavesBoth w)
+  renamed_both =
+      bound_any (LeavesBoth w) (or_error (string_in w.estate.store.bytes cpu 1)) _ (λ full.
+      bound_any (LeavesBoth w) (or_error (string_in w.estate.store.bytes cpu 2)) _ (λ new.
+      names_both cpu w (renamed w.modules full new)))
+
+  preferred_both : IfOk (instance_preferred cpu w) (LeavesBoth w)
+  preferred_both =
+      bound_any (LeavesBoth w) (or_error (string_in w.estate.store.bytes cpu 1)) _ (λ full. names_both cpu w (preferring w.modules full))
+
+  looked_both : IfOk (instance_found cpu w) (LeavesBoth w)
+  looked_both = bound_any (LeavesBoth w) (or_error (string_in w.estate.store.bytes cpu 1)) _ (λ full. found_both _ w _ _)
+
+  by_reason : (why : Option ModuleReason) → IfOk (area_called_for cpu w why) (LeavesBoth w)
+  by_reason (Some reason.DescribeArea) = nothing_kept w.estate.store
+  by_reason (Some reason.Claim) = claimed_both (rma_claimed w.estate (register_of cpu 3)) refl
+  by_reason (Some reason.Free) = freed_both (rma_freed w.estate (register_of cpu 2)) refl
+  by_reason (Some reason.Info) = told_both _ w (told w.estate.store.bytes.at w.modules (place_asked cpu)) (with_told cpu)
+  by_reason (Some reason.Extend) = extended_both (rma_extended w.estate (register_of cpu 2) (register_of cpu 3)) refl
+  by_reason (Some reason.Rename) = renamed_both
+  by_reason (Some reason.Prefer) = preferred_both
+  by_reason (Some reason.Lookup) = looked_both
+  by_reason (Some reason.Run) = tt
+  by_reason (Some reason.Load) = tt
+  by_reason (Some reason.Enter) = tt
+  by_reason (Some reason.Reinit) = tt
+  by_reason (Some reason.Delete) = tt
+  by_reason (Some reason.Tidy) = tt
+  by_reason (Some reason.Clear) = tt
+  by_reason (Some reason.Insert) = tt
+  by_reason (Some reason.InsertCopy) = tt
+  by_reason (Some reason.Instantiate) = tt
+  by_reason None = tt
+
+  area_call_both : IfOk (area_called cpu w) (LeavesBoth w)
+  unfolding area_called
+  area_call_both = by_reason (module_reason (register_of cpu 0))
+
+module _ (s : MachineState) (has : HasModules s) where
+  fit : IsFitWorld (machine_world s)
+  fit = fit_world s has
+
+  abbrev Keeps : Outcome → Type 0
+  Keeps o = KeepsBoth s.store o.now.store
+
+  error_keeps : (x : Bool) (next : ℕ) (e : Refusal) → Keeps (ended s x (refused s next e))
+  error_keeps true next e = error_both s e has.store
+  error_keeps false next e = nothing_kept s.store
+
+  refused_keeps : (x : Bool) (next : ℕ) (e : ErrorNumber) → Keeps (call_refused s x next e)
+  refused_keeps x next e = error_keeps x next (refusal.System e)
+
+  world_keeps : (x : Bool) (next : ℕ) (r : Result (State × World) Refusal) → IfOk r (LeavesBoth (machine_world s)) → Keeps (ended s x (went_on s next (on_world s r)))
+  world_keeps x next (Ok q) kept = kept
+  world_keeps x next (Err e) kept = error_keeps x next e
+
+  area_keeps : (x : Bool) (next number : ℕ) → Keeps (ended s x (call_answer s next number (Some swi.Module)))
+  unfolding call_answer
+  area_keeps x next number = world_keeps x next (area_called s.cpu (machine_world s)) (area_call_both s.cpu (machine_world s) fit.estate)
+
+  -- calls that may run module code
+  begun_keeps : (x : Bool) (next : ℕ) (enters : Bool) (r : Result Planned ErrorNumber) → IfOk r (IsFitPlanned s) → IfOk r (IsPlannedStill s)
+      → Keeps (begun s x next enters r)
+  unfolding begun
+  begun_keeps x next enters (Err e) made still = refused_keeps x next e
+  begun_keeps x next enters (Ok w) made still =
+      let t : MachineState = with_world s w.world in
+      let u : MachineState = carried_on t (call_of s x next enters) w.plan in
+      stay_were s.store t.store u.store still.stay
+      (carried_were t (call_of s x next enters) w.plan (record { estate = made.world.estate.fit; slots = made.world.slots }) made.plan still.none)
+
+  alone_keeps : (x : Bool) (next : ℕ) (r : Result Plan ErrorNumber) → IfOk r IsFitPlan → IfOk r NeverSlides → Keeps (begun_alone s x next r)
+  alone_keeps x next r made none =
+      begun_keeps x next false (bind r (λ p. Ok (plan_alone s p))) (alone_planned s r fit made) (alone_still s r none)
+
+  entered_keeps : (x : Bool) (next : ℕ) (r : Result Opening ErrorNumber) → Keeps (module_entered s x next r)
+  entered_keeps x next (Err e) = refused_keeps x next e
+  entered_keeps x next (Ok o) =
+      let t : MachineState = module_opened (gone_back s.cpu.psr s false next) o in
+      same_kept s.store t.store (opened_same (gone_back s.cpu.psr s false next) o.text.items o.start.slot o.start.at fit.estate)
+
+  module _ (images : List Entry) (x : Bool) (next number : ℕ) where
+    reason_keeps : (why : Option ModuleReason) → is_tidy why ≡ false → Keeps (os_module_called_for images s x next number why)
+    reason_keeps (Some reason.Run) calm =
+        begun_keeps x next true (named_load_planned images s true) (named_load_made images s true fit) (named_load_still images s true fit)
+    reason_keeps (Some reason.Load) calm =
+        begun_keeps x next false (named_load_planned images s false) (named_load_made images s false fit) (named_load_still images s false fit)
+    reason_keeps (Some reason.Enter) calm = entered_keeps x next (opening_asked (setting_of s))
+    reason_keeps (Some reason.Reinit) calm =
+        alone_keeps x next (reinit_planned (setting_of s)) (reinit_made (setting_of s) fit.slots) (reinit_none (setting_of s))
+    reason_keeps (Some reason.Delete) calm =
+        alone_keeps x next (delete_planned (setting_of s)) (delete_made (setting_of s) fit.slots) (delete_none (setting_of s))
+    reason_keeps (Some reason.Tidy) calm = absurd (true≢false calm)
+    reason_keeps (Some reason.Clear) calm =
+        alone_keeps x next (clear_planned (setting_of s)) (clear_made (setting_of s) fit.slots) (clear_none (setting_of s))
+    reason_keeps (Some reason.Insert) calm = begun_keeps x next false (insertion_planned s) (insertion_made s fit) (insertion_still s)
+    reason_keeps (Some reason.InsertCopy) calm = begun_keeps x next false (copy_planned s) (copy_made s fit) (copy_still s fit)
+    reason_keeps (Some reason.Instantiate) calm =
+        alone_keeps x next (instantiation_planned (setting_of s)) (instantiation_made (setting_of s)) (instantiation_calm (setting_of s))
+    reason_keeps (Some reason.DescribeArea) calm = area_keeps x next number
+    reason_keeps (Some reason.Claim) calm = area_keeps x next number
+    reason_keeps (Some reason.Free) calm = area_keeps x next number
+    reason_keeps (Some reason.Info) calm = area_keeps x next number
+    reason_keeps (Some reason.Extend) calm = area_keeps x next number
+    reason_keeps (Some reason.Rename) calm = area_keeps x next number
+    reason_keeps (Some reason.Prefer) calm = area_keeps x next number
+    reason_keeps (Some reason.Lookup) calm = area_keeps x next number
+    reason_keeps None calm = area_keeps x next number
+
+    pub os_module_both : is_tidy (module_reason (register_of s.cpu 0)) ≡ false → KeepsBoth s.store (os_module_called images s x next number).now.store
+    unfolding os_module_called
+    os_module_both calm = reason_keeps (module_reason (register_of s.cpu 0)) calm
+
+  -- a module that is loaded from outside
+  pub loaded_both : (images : List Entry) (x : Bool) (next : ℕ) (text : List ℕ)
+      → KeepsBoth s.store (begun s x next false (bind (ok_or (host_string text) BadString) (λ words. load_planned images s words false))).now.store
+  loaded_both images x next text =
+      begun_keeps x next false (bind (ok_or (host_string text) BadString) (λ words. load_planned images s words false))
+      (bound_any (IsFitPlanned s) (ok_or (host_string text) BadString) (λ words. load_planned images s words false)
+      (λ words. load_made images s words false fit))
+      (bound_any (IsPlannedStill s) (ok_or (host_string text) BadString) (λ words. load_planned images s words false)
+      (λ words. load_still images s words false fit))

@@ -1,0 +1,285 @@
+-- Over any move, what live blocks hold stays, but for what the table says.
+use Rattle.std.proofs.Common.{ℕ, ◌≡◌, ◌+◌, ◌%◌, ◌^◌, ◌&&◌, ◌||◌, ◌∙◌, ◌⊎◌, Bool, true, false, List, Option, Some, None, Result, Ok, Err, refl, sym, ap, subst, inl, inr}
+use Rattle.std.specs.Prelude.{if◌then◌else◌}
+use Rattle.std.proofs.lemmas.Bool.{both_ways, cases_Bool, false_from_ne_true, false≢true, or_left, or_right}
+use Rattle.profile.specs.Reasons.{module_reason}
+use Rattle.profile.specs.SwiNames.{swi_of}
+use Rattle.profile.specs.Word.{bit_of}
+use Rattle.profile.specs.declared.swi.SwiName.{SwiName}
+use Rattle.profile.specs.declared.swi.SwiName.TheVariants as swi
+use Rattle.address_map.specs.Bytes.{Bytes, in_range}
+use Rattle.arm_step.specs.State.{State, register_of}
+use Rattle.arm_step.specs.declared.turn.Turn.{Turn}
+use Rattle.arm_step.specs.declared.turn.Turn.TheVariants as turn
+use Rattle.image_loader.specs.Entries.{Entry}
+use Rattle.os_heap_lists.specs.Heap.{HeapList}
+use Rattle.os_heap.proofs.Anchored.{header_outside}
+use Rattle.os_heap.specs.Store.{IsSound, Store, find_heap, is_in_flex_store}
+use Rattle.swi_dispatch.specs.declared.halt.Halt.{Halt}
+use Rattle.swi_dispatch.specs.declared.halt.Halt.TheVariants as halt
+use Rattle.swi_dispatch.specs.MachineState.{MachineState, Outcome, quiet}
+use Rattle.swi_dispatch.specs.Returns.{halted}
+use Rattle.swi_dispatch.specs.Step.{called, called_by, instructed, is_exit, machine_step, store_called, turned, unless_halted, without_x}
+use Rattle.heap_alone.proofs.Gates.{gate_keeps}
+use Rattle.heap_alone.proofs.Keeping.{off_system}
+use Rattle.heap_alone.proofs.LiveBytes.{byte_done, heap_call_keeps}
+use Rattle.heap_alone.proofs.ModuleHosts.{IsHost}
+use Rattle.heap_alone.proofs.ModuleMoves.{module_called_keeps}
+use Rattle.heap_alone.proofs.OwnCalls.{heap_swi}
+use Rattle.heap_alone.proofs.Rows.{is_flex_call}
+use Rattle.heap_alone.proofs.States.{IsGiven, given_goes, given_same, given_stays, has_store, sound_store}
+use Rattle.heap_alone.proofs.Steps.{call_is, step_is}
+use Rattle.heap_alone.specs.ByteLaws.{IsStoredPlain}
+use Rattle.heap_alone.specs.ModuleMoves.{is_at_gate, is_module_name}
+use Rattle.heap_alone.specs.Laws.{IsState}
+use Rattle.heap_alone.specs.Moves.{Call, Step, given, is_heap_swi, moved, outside_name, swi_of_turn}
+use Rattle.live_bytes.proofs.Carried.{gate_were}
+use Rattle.live_bytes.proofs.Extending.{were_kept}
+use Rattle.live_bytes.proofs.FlexRows.{flex_byte}
+use Rattle.live_bytes.proofs.Heaps.{HasHeaps, given_heaps, has_heaps, held_all, held_both, held_inside, own_found}
+use Rattle.live_bytes.proofs.ModuleRows.{os_module_both}
+use Rattle.live_bytes.proofs.Rows.{other_keeps}
+use Rattle.live_bytes.specs.AreaLaws.{KeepsBoth}
+use Rattle.live_bytes.specs.Changes.{IsHeld, LiveBytesStay, MayChange, is_flex_name, is_tidy, slides_on}
+use Rattle.live_bytes.specs.FlexLaws.{IsAnchorByte}
+
+module _ (images : List Entry) (s : MachineState) (has : HasHeaps s) (start a : ℕ) where
+  -- what a call leaves of the byte; `slides` says whether it may move blocks of the module area together
+  abbrev CallChanges : Option SwiName → Bool → Store → Type 0
+  CallChanges name slides t =
+      (t.bytes.at a ≡ s.store.bytes.at a)
+      ⊎ (((is_flex_name name ≡ true) × IsAnchorByte s.store t a) ⊎ ((start ≡ 0x01800000) × (slides ≡ true)))
+
+  host : (t : Store) (held : IsHeld s.store t start a) → (find_heap held.old.start s.store.heaps ≡ Some held.old) × (in_range held.old.start held.old.end a ≡ true)
+  host t held = (own_found s.store t start a held, held_inside s t start a has held)
+
+  -- outside the flex store, and the system pages
+  out_of : (t : Store) → IsHeld s.store t start a → is_in_flex_store s.store.others a ≡ false
+  out_of t held =
+      let own = host t held in
+      false_from_ne_true (is_in_flex_store s.store.others a) (λ is.
+      both_ways (in_range held.old.start held.old.end a)
+      (header_outside held.old.start s.store.heaps s.store.others held.old a (sound_store s has.modules.store).placed own.0 is) own.1)
+
+  off_of : (t : Store) → IsHeld s.store t start a → in_range 0x01C00000 0x3000 a ≡ false
+  off_of t held =
+      let own = host t held in
+      off_system s held.old has.modules.store own.0 a own.1
+
+  in_area : (t : Store) → start ≡ 0x01800000 → KeepsBoth s.store t → IsHeld s.store t start a → t.bytes.at a ≡ s.store.bytes.at a
+  in_area t at kept held = held_both s.store t a kept (subst (λ (p : ℕ). IsHeld s.store t p a) at held)
+
+  -- OS_Module
+  abbrev named : Bool → ℕ → ℕ → Option SwiName → Outcome
+  named x next number name = if is_exit name then halted s halt.Exit else called_by images s x next number name
+
+  named_both : (x : Bool) (next number : ℕ) (name : Option SwiName) → is_module_name name ≡ true → is_tidy (module_reason (register_of s.cpu 0)) ≡ false
+      → KeepsBoth s.store (named x next number name).now.store
+  named_both x next number (Some swi.Module) is calm = os_module_both s has.modules images x next number calm
+  named_both x next number None is calm = absurd (false≢true is)
+  named_both x next number (Some name) is calm = absurd (false≢true is)
+
+  called_both : (x : Bool) (next number : ℕ) → is_module_name (swi_of number) ≡ true → is_tidy (module_reason (register_of s.cpu 0)) ≡ false
+      → KeepsBoth s.store (called images s x next number).now.store
+  unfolding called
+  called_both x next number is calm = named_both x next number (swi_of number) is calm
+
+  module_byte : (x : Bool) (next number : ℕ) (tidy : Bool) → is_module_name (swi_of number) ≡ true → is_tidy (module_reason (register_of s.cpu 0)) ≡ tidy
+      → IsHeld s.store (called images s x next number).now.store start a
+      → ((called images s x next number).now.store.bytes.at a ≡ s.store.bytes.at a) ⊎ ((start ≡ 0x01800000) × (tidy ≡ true))
+  module_byte x next number tidy is same held = elim (has.kinds start held.old held.found) [
+    | inl own ↦
+        let mine = host (called images s x next number).now.store held in
+        let h : IsHost s held.old = record { modules = has.modules; found = mine.0; own = own } in
+        inl ((module_called_keeps images s held.old h x next number is).bytes a mine.1)
+    | inr at ↦ elim (cases_Bool tidy) [
+      | inl slides ↦ inr (at, slides)
+      | inr calm ↦ inl (in_area (called images s x next number).now.store at (called_both x next number is (same ∙ calm)) held)
+    ]
+  ]
+
+  -- flex calls, and all others
+  flex_named : (x : Bool) (next number : ℕ) (name : Option SwiName) → is_flex_call name ≡ true → (held : IsHeld s.store (named x next number name).now.store start a)
+      → ((named x next number name).now.store.bytes.at a ≡ s.store.bytes.at a)
+      ⊎ ((is_flex_name name ≡ true) × IsAnchorByte s.store (named x next number name).now.store a)
+  flex_named x next number (Some swi.FlexInit) is held =
+      flex_byte s has.modules.store a (out_of (named x next number (Some swi.FlexInit)).now.store held)
+      (off_of (named x next number (Some swi.FlexInit)).now.store held) x next number (Some swi.FlexInit) refl
+  flex_named x next number (Some swi.FlexAlloc) is held =
+      flex_byte s has.modules.store a (out_of (named x next number (Some swi.FlexAlloc)).now.store held)
+      (off_of (named x next number (Some swi.FlexAlloc)).now.store held) x next number (Some swi.FlexAlloc) refl
+  flex_named x next number (Some swi.FlexFree) is held =
+      flex_byte s has.modules.store a (out_of (named x next number (Some swi.FlexFree)).now.store held)
+      (off_of (named x next number (Some swi.FlexFree)).now.store held) x next number (Some swi.FlexFree) refl
+  flex_named x next number (Some swi.FlexExtend) is held =
+      flex_byte s has.modules.store a (out_of (named x next number (Some swi.FlexExtend)).now.store held)
+      (off_of (named x next number (Some swi.FlexExtend)).now.store held) x next number (Some swi.FlexExtend) refl
+  flex_named x next number (Some swi.FlexMidExtend) is held =
+      flex_byte s has.modules.store a (out_of (named x next number (Some swi.FlexMidExtend)).now.store held)
+      (off_of (named x next number (Some swi.FlexMidExtend)).now.store held) x next number (Some swi.FlexMidExtend) refl
+  flex_named x next number other is held = absurd (false≢true is)
+
+  other_by : (x : Bool) (next number : ℕ) (name : Option SwiName) (exits : Bool) → is_module_name name ≡ false → is_heap_swi name ≡ false → is_flex_call name ≡ false
+      → (let o : Outcome = if exits then halted s halt.Exit else called_by images s x next number name in
+      IsSound o.now.store → IsHeld s.store o.now.store start a → o.now.store.bytes.at a ≡ s.store.bytes.at a)
+  other_by x next number name true module_swi heap flex sound held = refl
+  other_by x next number name false module_swi heap flex sound held =
+      held_all s.store (called_by images s x next number name).now.store start a
+      (other_keeps s has images x next number name (module_swi, (heap, flex)) sound) held
+
+  named_byte : (x : Bool) (next number : ℕ) (name : Option SwiName) → is_module_name name ≡ false → is_heap_swi name ≡ false
+      → IsSound (named x next number name).now.store → IsHeld s.store (named x next number name).now.store start a
+      → ((named x next number name).now.store.bytes.at a ≡ s.store.bytes.at a)
+      ⊎ ((is_flex_name name ≡ true) × IsAnchorByte s.store (named x next number name).now.store a)
+  named_byte x next number name module_swi heap sound held = elim (cases_Bool (is_flex_call name)) [
+    | inl flex ↦ flex_named x next number name flex held
+    | inr other ↦ inl (other_by x next number name (is_exit name) module_swi heap other sound held)
+  ]
+
+  rest_byte : (x : Bool) (next number : ℕ) → is_module_name (swi_of number) ≡ false → is_heap_swi (swi_of number) ≡ false
+      → IsSound (called images s x next number).now.store → IsHeld s.store (called images s x next number).now.store start a
+      → ((called images s x next number).now.store.bytes.at a ≡ s.store.bytes.at a)
+      ⊎ ((is_flex_name (swi_of number) ≡ true) × IsAnchorByte s.store (called images s x next number).now.store a)
+  unfolding called
+  rest_byte x next number module_swi heap sound held = named_byte x next number (swi_of number) module_swi heap sound held
+
+  abbrev tidies : ℕ → Bool
+  tidies number = is_module_name (swi_of number) && is_tidy (module_reason (register_of s.cpu 0))
+
+  from_rest : (name : Option SwiName) (slides : Bool) (t : Store) → (t.bytes.at a ≡ s.store.bytes.at a) ⊎ ((is_flex_name name ≡ true) × IsAnchorByte s.store t a)
+      → CallChanges name slides t
+  from_rest name slides t (inl same) = inl same
+  from_rest name slides t (inr anchor) = inr (inl anchor)
+
+  from_module : (name : Option SwiName) (tidy slides : Bool) (t : Store) → (tidy ≡ true → slides ≡ true)
+      → (t.bytes.at a ≡ s.store.bytes.at a) ⊎ ((start ≡ 0x01800000) × (tidy ≡ true)) → CallChanges name slides t
+  from_module name tidy slides t more (inl same) = inl same
+  from_module name tidy slides t more (inr slid) = inr (inr (slid.0, more slid.1))
+
+  both_true : (p q : Bool) → p ≡ true → q ≡ true → (p && q) ≡ true
+  both_true true true one two = refl
+  both_true true false one two = absurd (false≢true two)
+  both_true false q one two = absurd (false≢true one)
+
+  pub call_byte : (x : Bool) (next number : ℕ) → IsSound (called images s x next number).now.store
+      → IsHeld s.store (called images s x next number).now.store start a
+      → CallChanges (swi_of number) (tidies number) (called images s x next number).now.store
+  call_byte x next number sound held =
+      let t : Store = (called images s x next number).now.store in
+      elim (cases_Bool (is_heap_swi (swi_of number))) [
+        | inl heap ↦ inl (held_all s.store t start a (heap_call_keeps s has.modules.store images x next number (heap_swi (swi_of number) heap) sound) held)
+        | inr no_heap ↦ elim (cases_Bool (is_module_name (swi_of number))) [
+          | inl is ↦
+              let tidy : Bool = is_tidy (module_reason (register_of s.cpu 0)) in
+              from_module (swi_of number) tidy (tidies number) t (both_true (is_module_name (swi_of number)) tidy is)
+              (module_byte x next number tidy is refl held)
+          | inr other ↦ from_rest (swi_of number) (tidies number) t (rest_byte x next number other no_heap sound held)
+        ]
+      ]
+
+  -- a step
+  abbrev turn_slides : Result (State × Bytes) Turn → Bool
+  turn_slides r = (is_module_name (swi_of_turn r) && is_tidy (module_reason (register_of s.cpu 0))) || (is_at_gate r && slides_on s.cpu s.tables.plan)
+
+  abbrev TurnChanges : Result (State × Bytes) Turn → Store → Type 0
+  TurnChanges r t =
+      (t.bytes.at a ≡ s.store.bytes.at a)
+      ⊎ (IsStoredPlain s a ⊎ (((is_flex_name (swi_of_turn r) ≡ true) × IsAnchorByte s.store t a) ⊎ ((start ≡ 0x01800000) × (turn_slides r ≡ true))))
+
+  from_call : (n : ℕ) (t : Store) → CallChanges (swi_of (without_x n)) (tidies (without_x n)) t → TurnChanges (Err (turn.Swi n)) t
+  from_call n t (inl same) = inl same
+  from_call n t (inr (inl anchor)) = inr (inr (inl anchor))
+  from_call n t (inr (inr slid)) = inr (inr (inr (slid.0, or_left (tidies (without_x n)) false slid.1)))
+
+  from_stored : (r : Result (State × Bytes) Turn) (t : Store) → (t.bytes.at a ≡ s.store.bytes.at a) ⊎ IsStoredPlain s a → TurnChanges r t
+  from_stored r t (inl same) = inl same
+  from_stored r t (inr stored) = inr (inl stored)
+
+  gate_byte : (slides : Bool) → slides_on s.cpu s.tables.plan ≡ slides → IsHeld s.store (turned images s (Err turn.Gate)).now.store start a
+      → ((turned images s (Err turn.Gate)).now.store.bytes.at a ≡ s.store.bytes.at a) ⊎ ((start ≡ 0x01800000) × (slides ≡ true))
+  gate_byte slides same held = elim (has.kinds start held.old held.found) [
+    | inl own ↦
+        let mine = host (turned images s (Err turn.Gate)).now.store held in
+        inl ((gate_keeps s held.old (record { modules = has.modules; found = mine.0; own = own })).bytes a mine.1)
+    | inr at ↦ elim (cases_Bool slides) [
+      | inl slid ↦ inr (at, slid)
+      | inr calm ↦
+          let t : Store = (turned images s (Err turn.Gate)).now.store in
+          inl (in_area t at (were_kept s.store t (gate_were s has.modules (same ∙ calm))) held)
+    ]
+  ]
+
+  from_gate : (t : Store) → (t.bytes.at a ≡ s.store.bytes.at a) ⊎ ((start ≡ 0x01800000) × (slides_on s.cpu s.tables.plan ≡ true))
+      → TurnChanges (Err turn.Gate) t
+  from_gate t (inl same) = inl same
+  from_gate t (inr slid) = inr (inr (inr (slid.0, slid.1)))
+
+  pub turn_byte : (r : Result (State × Bytes) Turn) → instructed s ≡ r → IsSound (turned images s r).now.store
+      → IsHeld s.store (turned images s r).now.store start a → TurnChanges r (turned images s r).now.store
+  turn_byte (Ok w) is sound held = from_stored (Ok w) (turned images s (Ok w)).now.store (byte_done s w a is)
+  turn_byte (Err turn.Done) is sound held = inl refl
+  turn_byte (Err (turn.Swi n)) is sound held =
+      from_call n (turned images s (Err (turn.Swi n))).now.store
+      (call_byte (bit_of n 17) ((s.cpu.pc + 4) % 2 ^ 26) (without_x n) sound held)
+  turn_byte (Err turn.Gate) is sound held =
+      from_gate (turned images s (Err turn.Gate)).now.store (gate_byte (slides_on s.cpu s.tables.plan) refl held)
+  turn_byte (Err (turn.Fault f)) is sound held = inl refl
+
+-- where the machine is halted nothing happens
+step_halted : (images : List Entry) (s : MachineState) (h : Halt) → s.halt ≡ Some h → machine_step images s ≡ quiet s
+unfolding machine_step
+step_halted images s h is = ap (λ (o : Option Halt). unless_halted s o (turned images s (instructed s))) is
+
+call_halted : (images : List Entry) (s : MachineState) (number : ℕ) (h : Halt) → s.halt ≡ Some h → store_called images s number ≡ quiet s
+unfolding store_called
+call_halted images s number h is =
+    ap (λ (o : Option Halt). unless_halted s o (called images s true s.cpu.pc (without_x (number % 2 ^ 24)))) is
+
+named_step : (A B C : Type 0) → A ⊎ (B ⊎ C) → A ⊎ (((Step ≡ Step) × B) ⊎ C)
+named_step A B C (inl same) = inl same
+named_step A B C (inr (inl stored)) = inr (inl (refl, stored))
+named_step A B C (inr (inr other)) = inr (inr other)
+
+named_call : (A B C : Type 0) → A ⊎ C → A ⊎ (B ⊎ C)
+named_call A B C (inl same) = inl same
+named_call A B C (inr other) = inr (inr other)
+
+step_stays : (images : List Entry) (s : MachineState) (start a : ℕ) (o : Option Halt) → s.halt ≡ o → IsState s → IsState (moved images s Step)
+    → IsHeld s.store (moved images s Step).store start a
+    → ((moved images s Step).store.bytes.at a ≡ s.store.bytes.at a) ⊎ MayChange s (moved images s Step) Step start a
+step_stays images s start a (Some h) is state after held = inl (ap (λ (o : Outcome). o.now.store.bytes.at a) (step_halted images s h is))
+step_stays images s start a None goes state after held =
+    let step : machine_step images s ≡ turned images s (instructed s) = step_is images s goes in
+    let sound : IsSound (turned images s (instructed s)).now.store =
+    subst (λ (o : Outcome). IsSound o.now.store) step (sound_store (moved images s Step) (has_store (moved images s Step) after)) in
+    let held' : IsHeld s.store (turned images s (instructed s)).now.store start a =
+    subst (λ (o : Outcome). IsHeld s.store o.now.store start a) step held in
+    subst (λ (o : Outcome). (o.now.store.bytes.at a ≡ s.store.bytes.at a) ⊎ MayChange s o.now Step start a) (sym step)
+    (named_step _ _ _ (turn_byte images s (has_heaps s state) start a (instructed s) refl sound held'))
+
+call_stays : (images : List Entry) (s : MachineState) (number : ℕ) (words : List ℕ) (start a : ℕ) (o : Option Halt) → s.halt ≡ o → IsState s
+    → IsState (moved images s (Call number words)) → IsHeld s.store (moved images s (Call number words)).store start a
+    → ((moved images s (Call number words)).store.bytes.at a ≡ s.store.bytes.at a) ⊎ MayChange s (moved images s (Call number words)) (Call number words) start a
+call_stays images s number words start a (Some h) is state after held =
+    let u : MachineState = given s words in
+    let same : IsGiven s u = given_same s 0 words (has_store s state).size in
+    inl (ap (λ (o : Outcome). o.now.store.bytes.at a) (call_halted images u number h (given_goes s u same ∙ is)) ∙ ap (λ (t : Store). t.bytes.at a) (given_stays s u same))
+call_stays images s number words start a None goes state after held =
+    let u : MachineState = given s words in
+    let same : IsGiven s u = given_same s 0 words (has_store s state).size in
+    let stays : u.store ≡ s.store = given_stays s u same in
+    let o : Outcome = called images u true u.cpu.pc (without_x (number % 2 ^ 24)) in
+    let call : store_called images u number ≡ o = call_is images u number (given_goes s u same ∙ goes) in
+    let sound : IsSound o.now.store =
+    subst (λ (o : Outcome). IsSound o.now.store) call (sound_store (moved images s (Call number words)) (has_store (moved images s (Call number words)) after)) in
+    let held' : IsHeld u.store o.now.store start a =
+    subst (λ (t : Store). IsHeld t o.now.store start a) (sym stays) (subst (λ (o : Outcome). IsHeld s.store o.now.store start a) call held) in
+    let byte = call_byte images u (given_heaps s u (has_heaps s state) same) start a true u.cpu.pc (without_x (number % 2 ^ 24)) sound held' in
+    subst (λ (p : Outcome). (p.now.store.bytes.at a ≡ s.store.bytes.at a) ⊎ MayChange s p.now (Call number words) start a) (sym call)
+    (named_call _ _ _ (subst (λ (t : Store). (o.now.store.bytes.at a ≡ t.bytes.at a)
+    ⊎ (((is_flex_name (outside_name number) ≡ true) × IsAnchorByte t o.now.store a)
+    ⊎ ((start ≡ 0x01800000) × ((is_module_name (outside_name number) && is_tidy (module_reason (register_of u.cpu 0))) ≡ true)))) stays byte))
+
+pub live_bytes_stay : LiveBytesStay
+live_bytes_stay images s Step start a state after held = step_stays images s start a s.halt refl state after held
+live_bytes_stay images s (Call number words) start a state after held = call_stays images s number words start a s.halt refl state after held

@@ -1,0 +1,88 @@
+-- What a user does from outside: modules that are loaded, and words that are stored.
+use Rattle.std.proofs.Common.{ℕ, ◌≡◌, ◌∙◌, ◌-◌, ◌+◌, ◌%◌, ◌^◌, ◌⊎◌, Bool, true, false, List, Option, Some, None, Result, Ok, Err, refl, sym, ap, subst, inl, inr, arith}
+use Rattle.std.specs.Prelude.{nat_le, ok_or, if◌then◌else◌}
+use Rattle.std.proofs.lemmas.Bool.{cases_Bool}
+use Rattle.std.proofs.lemmas.Bool.Decides.{nat_tests}
+use Rattle.profile.specs.Outcome.{bind}
+use Rattle.profile.specs.declared.error.ErrorNumber.TheVariants.{BadString}
+use Rattle.profile.specs.declared.fault.Fault.{Fault}
+use Rattle.address_map.specs.Bytes.{Bytes, in_range, store_fault, unless, with_word, with_word_at, word_start, word_stored}
+use Rattle.image_loader.specs.Entries.{Entry}
+use Rattle.os_heap.specs.Laws.{KeepsPayloads}
+use Rattle.os_heap.specs.Store.{Store, owned_in}
+use Rattle.swi_dispatch_answers.specs.Words.{host_string}
+use Rattle.swi_dispatch.proofs.Kept.{by_words}
+use Rattle.swi_dispatch.specs.declared.halt.Halt.{Halt}
+use Rattle.swi_dispatch.specs.Additions.{load_planned}
+use Rattle.swi_dispatch.specs.Boot.{poked}
+use Rattle.swi_dispatch.specs.MachineState.{MachineState, Outcome, with_memory}
+use Rattle.swi_dispatch.specs.Step.{begun, module_loaded, unless_halted}
+use Rattle.heap_alone.proofs.ModuleCalls.{loaded_keeps}
+use Rattle.live_bytes.proofs.Heaps.{all_kept, has_heaps}
+use Rattle.live_bytes.proofs.ModuleRows.{loaded_both}
+use Rattle.live_bytes.proofs.Rows.{all_same}
+use Rattle.live_bytes.specs.Changes.{LoadsKeepLiveBytes, PokesChangeOneWord}
+
+awake : (s : MachineState) (o : Option Halt) (a : Outcome) → KeepsPayloads s.store a.now.store → KeepsPayloads s.store (unless_halted s o a).now.store
+awake s None a kept = kept
+awake s (Some why) a kept = all_same s.store
+
+pub loads_keep : LoadsKeepLiveBytes
+unfolding module_loaded
+loads_keep images s text state =
+    let o : Outcome = begun s true s.cpu.pc false (bind (ok_or (host_string text) BadString) (λ words. load_planned images s words false)) in
+    awake s s.halt o
+    (all_kept s o.now.store (has_heaps s state) (λ h host. loaded_keeps s h host images true s.cpu.pc text)
+    (loaded_both s (has_heaps s state).modules images true s.cpu.pc text))
+
+-- a store
+abbrev OneWord : (ℕ → Bool) → Bytes → ℕ → ℕ → Result Bytes Fault → Type 0
+OneWord owned b at a (Ok c) = (c.at a ≡ b.at a) ⊎ ((in_range (word_start at) 4 a ≡ true) × (owned (word_start at) ≡ false))
+OneWord owned b at a (Err f) = Unit {0}
+
+word_past : (f : ℕ → ℕ) (at word a : ℕ) → in_range at 4 a ≡ false → with_word_at f at word a ≡ f a
+word_past f at word a out = grind (arith, nat_tests)
+
+stored : (owned : ℕ → Bool) (b : Bytes) (at word a : ℕ) → OneWord owned b at a (word_stored owned b at word)
+unfolding word_stored
+stored owned b at word a = elim (cases_Bool (nat_le (2 ^ 26) (word_start at))) [
+  | inl high ↦ rw high tt
+  | inr low ↦ elim (cases_Bool (b.mapped (word_start at))) [
+    | inr none ↦ rw (low, none) tt
+    | inl there ↦ elim (cases_Bool (owned (word_start at))) [
+      | inl taken ↦ rw (low, there, taken) tt
+      | inr plain ↦ elim (cases_Bool (in_range (word_start at) 4 a)) [
+        | inl here ↦ rw (low, there, plain) (inr (here, plain))
+        | inr out ↦ rw (low, there, plain) (inl (word_past b.at (word_start at) word a out))
+      ]
+    ]
+  ]
+]
+
+word_of : (at a : ℕ) → in_range (word_start at) 4 a ≡ true → word_start a ≡ word_start at
+word_of at a here = grind (arith, nat_tests)
+
+-- a poke is a store
+PokedIs : MachineState → MachineState → Result Bytes Fault → Type 0
+PokedIs s t r = bind r (λ b. let q : Result MachineState Fault = Ok (record s { store = with_memory s.store b }) in q) ≡ Ok t
+
+poked_byte : (s t : MachineState) (at a : ℕ) (r : Result Bytes Fault) → OneWord (owned_in s.store) s.store.bytes at a r → PokedIs s t r
+    → (t.store.bytes.at a ≡ s.store.bytes.at a) ⊎ ((in_range (word_start at) 4 a ≡ true) × (owned_in s.store (word_start at) ≡ false))
+unfolding PokedIs
+poked_byte s t at a (Ok b) one is =
+    let same : record s { store = with_memory s.store b } ≡ t = cc in
+    subst (λ (u : MachineState). (u.store.bytes.at a ≡ s.store.bytes.at a) ⊎ ((in_range (word_start at) 4 a ≡ true) × (owned_in s.store (word_start at) ≡ false)))
+    same one
+poked_byte s t at a (Err f) one is = absurd (cc)
+
+its_word : (s : Store) (at a : ℕ) (A : Type 0) → A ⊎ ((in_range (word_start at) 4 a ≡ true) × (owned_in s (word_start at) ≡ false))
+    → A ⊎ ((in_range (word_start at) 4 a ≡ true) × (owned_in s a ≡ false))
+its_word s at a A (inl same) = inl same
+its_word s at a A (inr stored) =
+    inr (stored.0, by_words s a ∙ ap (owned_in s) (word_of at a stored.0) ∙ stored.1)
+
+pub pokes_change : PokesChangeOneWord
+unfolding poked PokedIs
+pokes_change s t at word a is =
+    its_word s.store at a (t.store.bytes.at a ≡ s.store.bytes.at a)
+    (poked_byte s t at a (word_stored (owned_in s.store) s.store.bytes at word) (stored (owned_in s.store) s.store.bytes at word a) is)

@@ -1,0 +1,96 @@
+-- Which bytes that live blocks hold may change over a move of a machine, a store call from outside or a step: those that
+-- its instruction stores to; words of anchors, by flex calls; and those of the module area where its blocks are moved
+-- together (RISC OS 3 Programmer's Reference Manual, "OS_Heap" and "OS_Module"; Acorn C manual, "flex").
+use Rattle.std.specs.Prelude.{ℕ, ◌≡◌, ◌-◌, ◌+◌, ◌&&◌, ◌||◌, ◌⊎◌, Bool, true, false, List, [], ◌∷◌, Option, Some, None, Ok}
+use Rattle.profile.specs.Reasons.{module_reason}
+use Rattle.profile.specs.declared.reason.ModuleReason.{ModuleReason}
+use Rattle.profile.specs.declared.reason.ModuleReason.TheVariants as reason
+use Rattle.profile.specs.declared.swi.SwiName.{SwiName}
+use Rattle.profile.specs.declared.swi.SwiName.TheVariants as swi
+use Rattle.address_map.specs.Bytes.{in_range, word_start}
+use Rattle.arm_step.specs.State.{State, register_of}
+use Rattle.image_loader.specs.Entries.{Entry}
+use Rattle.instances_plans.specs.declared.action.Action.{Action}
+use Rattle.instances_plans.specs.declared.action.Action.TheVariants as act
+use Rattle.instances_plans.specs.Plans.{Plan, settled}
+use Rattle.os_heap_lists.specs.Heap.{HeapList}
+use Rattle.os_heap_lists.specs.Lists.{live_total}
+use Rattle.os_heap.specs.Laws.{KeepsPayloads}
+use Rattle.os_heap.specs.Store.{Store, find_heap, owned_in}
+use Rattle.swi_dispatch.specs.Boot.{poked}
+use Rattle.swi_dispatch.specs.Gates.{outcome_left}
+use Rattle.swi_dispatch.specs.MachineState.{MachineState}
+use Rattle.swi_dispatch.specs.Step.{instructed, module_loaded}
+use Rattle.heap_alone.specs.ByteLaws.{IsStoredPlain}
+use Rattle.heap_alone.specs.Laws.{IsState}
+use Rattle.heap_alone.specs.ModuleMoves.{is_at_gate, is_module_name}
+use Rattle.heap_alone.specs.Moves.{Call, Move, Step, core_of, moved, swi_made}
+use Rattle.live_bytes.specs.FlexLaws.{IsAnchorByte}
+
+-- A byte that a block of the heap at `start` holds in two stores: the block is live in both, with its bytes at one address, and of any size.
+pub record IsHeld (s t : Store) (start a : ℕ) : Type 0 where
+  pub old : HeapList
+  pub new : HeapList
+  pub found : find_heap start s.heaps ≡ Some old
+  pub left : find_heap start t.heaps ≡ Some new
+  pub block : ℕ
+  pub total : ℕ
+  pub new_total : ℕ
+  pub live : live_total block (start + 16) old.items ≡ Some total
+  pub stays : live_total block (start + 16) new.items ≡ Some new_total
+  pub here : in_range block (total - 4) a ≡ true
+  pub there : in_range block (new_total - 4) a ≡ true
+
+-- the flex calls that may write
+abbrev pub is_flex_name : Option SwiName → Bool
+is_flex_name (Some swi.FlexAlloc) = true
+is_flex_name (Some swi.FlexFree) = true
+is_flex_name (Some swi.FlexExtend) = true
+is_flex_name (Some swi.FlexMidExtend) = true
+is_flex_name other = false
+
+-- A tidy moves the blocks of the module area together. It may do so in the call of OS_Module, or where module code comes back that it had entered.
+abbrev pub has_slide : List Action → Bool
+has_slide [] = false
+has_slide (act.Slide ∷ actions) = true
+has_slide (other ∷ actions) = has_slide actions
+
+abbrev pub slides_on : State → Option Plan → Bool
+slides_on cpu None = false
+slides_on cpu (Some p) = has_slide (settled p (outcome_left cpu)).actions
+
+abbrev pub is_tidy : Option ModuleReason → Bool
+is_tidy (Some reason.Tidy) = true
+is_tidy other = false
+
+abbrev pub calls_tidy : MachineState → Move → Bool
+calls_tidy s m = is_module_name (swi_made s m) && is_tidy (module_reason (register_of (core_of s m) 0))
+
+abbrev pub may_slide : MachineState → Move → Bool
+may_slide s (Call number words) = calls_tidy s (Call number words)
+may_slide s Step = calls_tidy s Step || (is_at_gate (instructed s) && slides_on s.cpu s.tables.plan)
+
+-- what may change a byte of a block of the heap at `start`
+abbrev pub MayChange : MachineState → MachineState → Move → ℕ → ℕ → Type 0
+MayChange s t m start a =
+    ((m ≡ Step) × IsStoredPlain s a)
+    ⊎ (((is_flex_name (swi_made s m) ≡ true) × IsAnchorByte s.store t.store a)
+    ⊎ ((start ≡ 0x01800000) × (may_slide s m ≡ true)))
+
+-- Over each move, of blocks of all heaps and of the module area, no other byte changes.
+abbrev pub LiveBytesStay : Type 0
+LiveBytesStay =
+    (images : List Entry) (s : MachineState) (m : Move) (start a : ℕ) → IsState s → IsState (moved images s m)
+    → IsHeld s.store (moved images s m).store start a
+    → ((moved images s m).store.bytes.at a ≡ s.store.bytes.at a) ⊎ MayChange s (moved images s m) m start a
+
+-- A module that is loaded from outside changes none at all.
+abbrev pub LoadsKeepLiveBytes : Type 0
+LoadsKeepLiveBytes =
+    (images : List Entry) (s : MachineState) (text : List ℕ) → IsState s → KeepsPayloads s.store (module_loaded images s text).now.store
+
+-- A word that a user stores from outside is one that isn't owned, and no other byte changes.
+abbrev pub PokesChangeOneWord : Type 0
+PokesChangeOneWord =
+    (s t : MachineState) (at word a : ℕ) → poked s at word ≡ Ok t
+    → (t.store.bytes.at a ≡ s.store.bytes.at a) ⊎ ((in_range (word_start at) 4 a ≡ true) × (owned_in s.store a ≡ false))

@@ -1,0 +1,5 @@
+pub use Rattle.heap_alone
+pub use Rattle.heaps_kept
+pub mod AreaLaws
+pub mod Changes
+pub mod FlexLaws
