@@ -37,7 +37,7 @@ ended_same limit end s h f found =
           unspelled s.bytes.at h.start end h.items block total a start own.0 (sym (ap (total_in block) found) ∙ live) inside;
     }
 
-extended_same : (limit count : ℕ) (s : Store) (a : Area) → IsFitStore limit s → AreSame s (store_extended s 1 count (Some a))
+pub extended_same : (limit count : ℕ) (s : Store) (a : Area) → IsFitStore limit s → AreSame s (store_extended s 1 count (Some a))
 extended_same limit count s a f =
     let t : Store = store_more s count (Some a) in
     let one : AreSame s t = beside_same limit s t.bytes f (λ x low high. refl) in

@@ -1,17 +1,18 @@
 -- What a user does from outside: modules that are loaded, and words that are stored.
-use Rattle.std.proofs.Common.{ℕ, ◌≡◌, ◌∙◌, ◌-◌, ◌+◌, ◌%◌, ◌^◌, ◌⊎◌, Bool, true, false, List, Option, Some, None, Result, Ok, Err, refl, sym, ap, subst, inl, inr, arith}
+use Rattle.std.proofs.Common.{ℕ, ◌≡◌, ◌∙◌, ◌-◌, ◌+◌, ◌%◌, ◌^◌, ◌||◌, ◌⊎◌, Bool, true, false, List, Option, Some, None, Result, Ok, Err, refl, sym, ap, subst, inl, inr, arith}
+use Rattle.std.specs.List.{list_any}
 use Rattle.std.specs.Prelude.{nat_le, ok_or, if◌then◌else◌}
 use Rattle.std.proofs.lemmas.Bool.{cases_Bool}
 use Rattle.std.proofs.lemmas.Bool.Decides.{nat_tests}
 use Rattle.profile.specs.Outcome.{bind}
 use Rattle.profile.specs.declared.error.ErrorNumber.TheVariants.{BadString}
 use Rattle.profile.specs.declared.fault.Fault.{Fault}
+use Rattle.address_map.specs.Items.{is_heap_word}
 use Rattle.address_map.specs.Bytes.{Bytes, in_range, store_fault, unless, with_word, with_word_at, word_start, word_stored}
 use Rattle.image_loader.specs.Entries.{Entry}
 use Rattle.os_heap.specs.Laws.{KeepsPayloads}
-use Rattle.os_heap.specs.Store.{Store, owned_in}
+use Rattle.os_heap.specs.Store.{Store, is_flex_word, owned_in}
 use Rattle.swi_dispatch_answers.specs.Words.{host_string}
-use Rattle.swi_dispatch.proofs.Kept.{by_words}
 use Rattle.swi_dispatch.specs.declared.halt.Halt.{Halt}
 use Rattle.swi_dispatch.specs.Additions.{load_planned}
 use Rattle.swi_dispatch.specs.Boot.{poked}
@@ -75,11 +76,19 @@ poked_byte s t at a (Ok b) one is =
     same one
 poked_byte s t at a (Err f) one is = absurd (cc)
 
+word_twice : (at : ℕ) → word_start (word_start at) ≡ word_start at
+word_twice at = omega arith
+
+own_word : (s : Store) (a at : ℕ) → word_start a ≡ word_start at → owned_in s a ≡ owned_in s (word_start at)
+unfolding owned_in
+own_word s a at same =
+    ap (λ (w : ℕ). list_any (λ h. is_heap_word h.start h.items w) s.heaps || is_flex_word s w) (same ∙ sym (word_twice at))
+
 its_word : (s : Store) (at a : ℕ) (A : Type 0) → A ⊎ ((in_range (word_start at) 4 a ≡ true) × (owned_in s (word_start at) ≡ false))
     → A ⊎ ((in_range (word_start at) 4 a ≡ true) × (owned_in s a ≡ false))
 its_word s at a A (inl same) = inl same
 its_word s at a A (inr stored) =
-    inr (stored.0, by_words s a ∙ ap (owned_in s) (word_of at a stored.0) ∙ stored.1)
+    inr (stored.0, own_word s a at (word_of at a stored.0) ∙ stored.1)
 
 pub pokes_change : PokesChangeOneWord
 unfolding poked PokedIs

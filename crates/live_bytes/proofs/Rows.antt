@@ -69,7 +69,7 @@ error_off t (refusal.System e) a out =
     bytes_off (with_word_at t.store.bytes.at 0x01C02100 (error_code e)) a (error_name e ++ 0 ∷ []) (short_name e) out
     ∙ word_off t.store.bytes.at a (error_code e) out
 
-all_same : (s : Store) → KeepsPayloads s s
+pub all_same : (s : Store) → KeepsPayloads s s
 all_same s h g block total new_total a found found' live live' here there = refl
 
 module _ (s : MachineState) (has : HasHeaps s) where
@@ -83,7 +83,7 @@ module _ (s : MachineState) (has : HasHeaps s) where
 
   error_all : (t : MachineState) (e : Refusal) → KeepsPayloads s.store t.store → KeepsPayloads s.store (with_error t e).store
   error_all t refusal.Own kept = kept
-  error_all t (refusal.System e) kept h g block total new_total a found found' live live' here there =
+  error_all t (refusal.System e) kept = λ h g block total new_total a found found' live live' here there.
       error_off t (refusal.System e) a
       (off_system s h has.modules.store found a (payload_inside s.store h block total a (sound_store s has.modules.store) found live here))
       ∙ kept h g block total new_total a found found' live live' here there
@@ -250,16 +250,19 @@ module _ (s : MachineState) (has : HasHeaps s) where
   refused_all : (x : Bool) (next : ℕ) (f : ErrorNumber) → IsSound (call_refused s x next f).now.store → KeepsPayloads s.store (call_refused s x next f).now.store
   refused_all x next f sound = ended_all x (refused s next (refusal.System f)) same sound
 
+  abbrev entered : Bool → ℕ → ℕ → Handler → Bool → Outcome
+  entered x next number handler full =
+      if full then call_refused s x next FrameLimit else quiet (handler_entered s (call_of s x next false) number handler)
+
+  entered_all : (x : Bool) (next number : ℕ) (handler : Handler) (full : Bool) → IsSound (entered x next number handler full).now.store
+      → KeepsPayloads s.store (entered x next number handler full).now.store
+  entered_all x next number handler true sound = refused_all x next FrameLimit sound
+  entered_all x next number handler false sound = same
+
   handler_all : (x : Bool) (next number : ℕ) (o : Option Handler) → IsSound (handler_called s x next number o).now.store
       → KeepsPayloads s.store (handler_called s x next number o).now.store
   handler_all x next number None sound = refused_all x next SwiUnknown sound
-  handler_all x next number (Some handler) sound = frames_by (length s.tables.frames == 32) sound where
-    abbrev entered : Bool → Outcome
-    entered full = if full then call_refused s x next FrameLimit else quiet (handler_entered s (call_of s x next false) number handler)
-
-    frames_by : (full : Bool) → IsSound (entered full).now.store → KeepsPayloads s.store (entered full).now.store
-    frames_by true sound = refused_all x next FrameLimit sound
-    frames_by false sound = same
+  handler_all x next number (Some handler) sound = entered_all x next number handler (length s.tables.frames == 32) sound
 
   module _ (images : List Entry) where
     pub other_keeps : (x : Bool) (next number : ℕ) (name : Option SwiName) → IsOther name
