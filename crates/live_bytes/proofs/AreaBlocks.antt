@@ -1,5 +1,5 @@
 -- The module area's blocks over the calls that change areas.
-use Rattle.std.proofs.Common.{if◌then◌else◌, ℕ, ◌+◌, ◌-◌, ◌*◌, ◌/◌, ◌==◌, ◌||◌, ◌≡◌, ◌≢◌, ◌≤◌, ◌<◌, ◌∙◌, true, false, Option, Some, None, Ok, Err, refl, sym, ap, subst, inl, inr, arith}
+use Rattle.std.proofs.Common.{if◌then◌else◌, ℕ, ◌+◌, ◌-◌, ◌*◌, ◌/◌, ◌==◌, ◌||◌, ◌≡◌, ◌≢◌, ◌≤◌, ◌<◌, ◌∙◌, false, Option, Some, None, Ok, Err, refl, sym, ap, subst, inl, inr, arith}
 use Rattle.std.proofs.Math.Nat.{min-le_right}
 use Rattle.std.proofs.lemmas.Bool.{both_ways, cases_Bool, eqb-false, eqb-true, false_from_ne_true, le-leb, lt-ltb, ltb-false, or_parts}
 use Rattle.std.specs.Prelude.{min, nat_lt, ok_or}

@@ -1,5 +1,5 @@
 -- What a call on modules that is carried on leaves of the module area's blocks, and a step in which module code comes back, where nothing slides.
-use Rattle.std.proofs.Common.{ℕ, ◌+◌, ◌*◌, ◌≡◌, ◌≤◌, ◌==◌, ◌++◌, Bool, true, false, length, List, [], ◌∷◌, Option, Some, None, Result, Ok, Err, refl, sym, subst, arith}
+use Rattle.std.proofs.Common.{ℕ, ◌*◌, ◌≡◌, ◌≤◌, ◌==◌, ◌++◌, Bool, true, false, length, List, [], ◌∷◌, Option, Some, None, Result, Ok, Err, refl, sym, subst, arith}
 use Rattle.std.specs.Prelude.{IfSome, if◌then◌else◌}
 use Rattle.std.proofs.lemmas.Bool.{lt-leb, true≢false}
 use Rattle.profile.specs.declared.error.ErrorNumber.{ErrorNumber}
@@ -7,7 +7,6 @@ use Rattle.profile.specs.declared.fault.Fault.TheVariants.{StackChanged}
 use Rattle.address_map.specs.Bytes.{with_bytes_at}
 use Rattle.arm_step.specs.State.{register_in}
 use Rattle.arm_step.specs.declared.psr.Mode.TheVariants.{Supervisor}
-use Rattle.os_heap.specs.Store.{Store}
 use Rattle.dynamic_areas.specs.Ground.{Estate}
 use Rattle.instances.proofs.Turning.{going_back}
 use Rattle.instances.specs.Reading.{start_found}

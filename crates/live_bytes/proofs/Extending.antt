@@ -1,5 +1,5 @@
 -- The module area's blocks where one of them changes its size, in its place or elsewhere.
-use Rattle.std.proofs.Common.{if◌then◌else◌, Bool, ℕ, ◌+◌, ◌-◌, ◌*◌, ◌≡◌, ◌≢◌, ◌≤◌, ◌<◌, ◌∙◌, true, false, List, Option, Some, None, is_some, Result, Ok, Err, refl, sym, ap, subst, inl, inr, arith}
+use Rattle.std.proofs.Common.{if◌then◌else◌, ℕ, ◌+◌, ◌-◌, ◌*◌, ◌≡◌, ◌≢◌, ◌≤◌, ◌<◌, ◌∙◌, true, false, List, Option, Some, None, is_some, Result, Ok, Err, refl, sym, ap, subst, inl, inr, arith}
 use Rattle.std.specs.Prelude.{nat_le}
 use Rattle.std.proofs.lemmas.Bool.{cases_Bool, false_from_ne_true, false≢true, leb-false}
 use Rattle.profile.specs.Outcome.{bind}
@@ -20,15 +20,15 @@ use Rattle.os_heap.proofs.Resizing.{larger_where_none}
 use Rattle.os_heap.specs.Calls.{block_sized, copied, gave_back, holding, holds_anchor, moved, resized, resized_or_moved, unless_image}
 use Rattle.os_heap.specs.Store.{Store, find_heap, has_image}
 use Rattle.dynamic_areas.specs.Ground.{Estate}
-use Rattle.rma.specs.Calls.{end_if_moved, end_in_place, grown_in_place, grown_to, in_area, is_full, or_as_before, or_grown, resized_or_grown, rma_base, rma_extended}
+use Rattle.rma.specs.Calls.{end_if_moved, end_in_place, grown_in_place, grown_to, in_area, is_full, or_as_before, resized_or_grown, rma_base, rma_extended}
 use Rattle.heaps_kept.proofs.BlockCalls.{WereLiveIn, gave_were}
 use Rattle.heaps_kept.proofs.Blocks.{AreSame, held_total, same_all, unspelled}
 use Rattle.heaps_kept.proofs.HeapCalls.{OnDone, items_of_fit, on_if, on_some, unless_some}
-use Rattle.heaps_kept.proofs.Holding.{held_fit, range_within, stays_both, written_fit}
+use Rattle.heaps_kept.proofs.Holding.{held_fit, range_within, written_fit}
 use Rattle.heaps_kept.proofs.Lists.{HasRoomIfSome, resized_room}
-use Rattle.heaps_kept.proofs.ModuleArea.{OnEstate, OnGrown, fit_same, to_fit}
-use Rattle.heaps_kept.specs.BlockLaws.{StayLive, WereLive, block_total, total_in}
-use Rattle.heaps_kept.specs.FitEstates.{EstateStaysFit, IsFitEstate}
+use Rattle.heaps_kept.proofs.ModuleArea.{OnEstate, OnGrown, to_fit}
+use Rattle.heaps_kept.specs.BlockLaws.{StayLive, WereLive, total_in}
+use Rattle.heaps_kept.specs.FitEstates.{IsFitEstate}
 use Rattle.heaps_kept.specs.Fits.{IsFitStore, StaysFit}
 use Rattle.live_bytes.proofs.Growing.{SameGrown, same_then, to_same}
 use Rattle.live_bytes.specs.AreaLaws.{ExtendsKeepBlocks, KeepsBoth}

@@ -7,7 +7,7 @@ use Rattle.address_map.specs.Bytes.{Bytes}
 use Rattle.os_heap.specs.Store.{Store, is_in_flex_store}
 use Rattle.flex_ground.specs.Ground.{flex_of, flex_state, records_with, spelled_store, store_flexed, with_flex_record}
 use Rattle.flex_store.specs.Blocks.{FlexStore}
-use Rattle.flex_store.specs.Calls.{FlexState, allocated, begun, begun_by, extended, is_flex_range, mid_extended, released, with_flex}
+use Rattle.flex_store.specs.Calls.{FlexState, allocated, begun, begun_by, extended, is_flex_range, mid_extended, released}
 use Rattle.flex_store.specs.Runs.{Alloc, Extend, FlexCall, IsDone, MidExtend, Release}
 use Rattle.flex_store.specs.declared.flex.Extent.{Extent}
 use Rattle.flex_store.specs.declared.flex.Flex.{Flex}
@@ -16,7 +16,7 @@ use Rattle.store_laws.proofs.Leaving.{IsAfter, IsBefore, after_left}
 use Rattle.store_laws.proofs.Relaying.{IsLeft, IsReady, alloc_left, extend_left, mid_left, release_left, state_at}
 use Rattle.store_laws.specs.FlexStore.{IsSpelledAt}
 use Rattle.store_laws.specs.Meaning.{AreStores, Stores, store_in}
-use Rattle.store_laws.specs.Turning.{Call, Init, called, left_by, turned}
+use Rattle.store_laws.specs.Turning.{called, left_by, turned}
 use Rattle.live_bytes.specs.FlexLaws.{FlexCallsChangeAnchors, IsAnchorByte}
 
 -- without a store every call is refused

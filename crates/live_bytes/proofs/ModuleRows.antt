@@ -1,6 +1,6 @@
 -- What a call of OS_Module that moves no blocks leaves of the module area's blocks: what they hold.
-use Rattle.std.proofs.Common.{ℕ, ◌≡◌, ◌+◌, ◌-◌, ◌==◌, ◌∙◌, Bool, true, false, length, List, Option, Some, None, Result, Ok, Err, refl, sym, ap, subst}
-use Rattle.std.specs.Prelude.{IfOk, if◌then◌else◌, ok_or}
+use Rattle.std.proofs.Common.{ℕ, ◌≡◌, ◌+◌, ◌∙◌, Bool, true, false, List, Option, Some, None, Result, Ok, Err, refl, sym, ap, subst}
+use Rattle.std.specs.Prelude.{IfOk, ok_or}
 use Rattle.std.proofs.lemmas.Bool.{true≢false}
 use Rattle.profile.specs.Outcome.{bind}
 use Rattle.profile.specs.Reasons.{module_reason}
@@ -44,7 +44,7 @@ use Rattle.swi_dispatch.specs.Returns.{gone_back}
 use Rattle.swi_dispatch.specs.Step.{begun, begun_alone, call_of, call_refused, ended, module_entered, os_module_called, os_module_called_for}
 use Rattle.heaps_kept.proofs.BlockCalls.{block_calls_keep}
 use Rattle.heaps_kept.proofs.Guests.{estates_fit}
-use Rattle.heaps_kept.specs.BlockLaws.{block_total, total_in}
+use Rattle.heaps_kept.specs.BlockLaws.{total_in}
 use Rattle.heaps_kept.specs.FitEstates.{IsFitEstate}
 use Rattle.heaps_kept.specs.PlanLaws.{IsFitWorld}
 use Rattle.heap_alone.proofs.Keeping.{error_kept, kept_same, off_system}

@@ -1,7 +1,7 @@
 -- Over any move, what live blocks hold stays, but for what the table says.
 use Rattle.std.proofs.Common.{ℕ, ◌≡◌, ◌+◌, ◌%◌, ◌^◌, ◌&&◌, ◌||◌, ◌∙◌, ◌⊎◌, Bool, true, false, List, Option, Some, None, Result, Ok, Err, refl, sym, ap, subst, inl, inr}
 use Rattle.std.specs.Prelude.{if◌then◌else◌}
-use Rattle.std.proofs.lemmas.Bool.{both_ways, cases_Bool, false_from_ne_true, false≢true, or_left, or_right}
+use Rattle.std.proofs.lemmas.Bool.{both_ways, cases_Bool, false_from_ne_true, false≢true, or_left}
 use Rattle.profile.specs.Reasons.{module_reason}
 use Rattle.profile.specs.SwiNames.{swi_of}
 use Rattle.profile.specs.Word.{bit_of}
@@ -12,7 +12,6 @@ use Rattle.arm_step.specs.State.{State, register_of}
 use Rattle.arm_step.specs.declared.turn.Turn.{Turn}
 use Rattle.arm_step.specs.declared.turn.Turn.TheVariants as turn
 use Rattle.image_loader.specs.Entries.{Entry}
-use Rattle.os_heap_lists.specs.Heap.{HeapList}
 use Rattle.os_heap.proofs.Anchored.{header_outside}
 use Rattle.os_heap.specs.Store.{IsSound, Store, find_heap, is_in_flex_store}
 use Rattle.swi_dispatch.specs.declared.halt.Halt.{Halt}

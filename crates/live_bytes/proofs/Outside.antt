@@ -1,15 +1,14 @@
 -- What a user does from outside: modules that are loaded, and words that are stored.
-use Rattle.std.proofs.Common.{ℕ, ◌≡◌, ◌∙◌, ◌-◌, ◌+◌, ◌%◌, ◌^◌, ◌||◌, ◌⊎◌, Bool, true, false, List, Option, Some, None, Result, Ok, Err, refl, sym, ap, subst, inl, inr, arith}
+use Rattle.std.proofs.Common.{ℕ, ◌≡◌, ◌∙◌, ◌^◌, ◌||◌, ◌⊎◌, Bool, true, false, Option, Some, None, Result, Ok, Err, sym, ap, subst, inl, inr, arith}
 use Rattle.std.specs.List.{list_any}
-use Rattle.std.specs.Prelude.{nat_le, ok_or, if◌then◌else◌}
+use Rattle.std.specs.Prelude.{nat_le, ok_or}
 use Rattle.std.proofs.lemmas.Bool.{cases_Bool}
 use Rattle.std.proofs.lemmas.Bool.Decides.{nat_tests}
 use Rattle.profile.specs.Outcome.{bind}
 use Rattle.profile.specs.declared.error.ErrorNumber.TheVariants.{BadString}
 use Rattle.profile.specs.declared.fault.Fault.{Fault}
 use Rattle.address_map.specs.Items.{is_heap_word}
-use Rattle.address_map.specs.Bytes.{Bytes, in_range, store_fault, unless, with_word, with_word_at, word_start, word_stored}
-use Rattle.image_loader.specs.Entries.{Entry}
+use Rattle.address_map.specs.Bytes.{Bytes, in_range, with_word_at, word_start, word_stored}
 use Rattle.os_heap.specs.Laws.{KeepsPayloads}
 use Rattle.os_heap.specs.Store.{Store, is_flex_word, owned_in}
 use Rattle.swi_dispatch_answers.specs.Words.{host_string}

@@ -1,18 +1,17 @@
 -- What the calls that may run module code do at once leaves all blocks of the module area, and no plan but that of a tidy has a slide.
-use Rattle.std.proofs.Common.{ℕ, ◌≡◌, ◌++◌, not, nat_lt, Bool, List, [], ◌∷◌, length, Option, Some, Result, Ok, Err, refl}
-use Rattle.std.specs.Prelude.{IfOk, ok_or}
+use Rattle.std.proofs.Common.{ℕ, ◌≡◌, ◌++◌, not, Bool, List, [], ◌∷◌, length, Result, Ok, Err, refl}
+use Rattle.std.specs.Prelude.{IfOk}
 use Rattle.profile.specs.Outcome.{bind}
 use Rattle.profile.specs.declared.error.ErrorNumber.{ErrorNumber}
 use Rattle.address_map.specs.Bytes.{bytes_between}
 use Rattle.image_loader.specs.Entries.{Entry}
-use Rattle.os_heap.specs.Store.{Store}
 use Rattle.dynamic_areas.specs.Ground.{Estate}
 use Rattle.rma.specs.Copies.{may_be_copied}
 use Rattle.rma.specs.NewImages.{image_copied, image_made, may_be_in_place}
 use Rattle.module_header.specs.Header.{header_of}
 use Rattle.module_header.specs.declared.header.Header.{Header}
 use Rattle.instances.specs.Adding.{adding_plan, copying, good_header, inserting, instantiation, loading, slot_for}
-use Rattle.instances.specs.Plans.{clearing, deletion, reinitialisation}
+use Rattle.instances.specs.Plans.{deletion, reinitialisation}
 use Rattle.instances.specs.Reading.{slot_meant}
 use Rattle.instances_ground.specs.World.{World}
 use Rattle.instances_plans.specs.Calls.{clear_actions}

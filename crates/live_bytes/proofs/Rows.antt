@@ -1,5 +1,5 @@
 -- What the calls that are none of OS_Heap, of OS_Module or of flex leave of what live blocks hold: all of it.
-use Rattle.std.proofs.Common.{ℕ, ◌≡◌, ◌≤◌, ◌+◌, ◌-◌, ◌*◌, ◌==◌, ◌∙◌, Bool, true, false, codes, length, List, [], ◌∷◌, ◌++◌, option_map, Option, Some, None, Result, Ok, Err, refl, sym, ap, subst, arith}
+use Rattle.std.proofs.Common.{ℕ, ◌≡◌, ◌≤◌, ◌*◌, ◌==◌, ◌∙◌, Bool, true, false, codes, length, List, [], ◌∷◌, ◌++◌, option_map, Option, Some, None, Result, Ok, Err, refl, arith}
 use Rattle.std.specs.Prelude.{if◌then◌else◌}
 use Rattle.std.proofs.lemmas.Bool.{true≢false}
 use Rattle.std.proofs.lemmas.Bool.Decides.{nat_tests}
@@ -12,12 +12,11 @@ use Rattle.profile.specs.declared.reason.AreaReason.{AreaReason}
 use Rattle.profile.specs.declared.reason.AreaReason.TheVariants as area
 use Rattle.profile.specs.declared.swi.SwiName.{SwiName}
 use Rattle.profile.specs.declared.swi.SwiName.TheVariants as swi
-use Rattle.address_map.specs.Bytes.{Bytes, in_range, with_bytes_at, with_word_at}
+use Rattle.address_map.specs.Bytes.{in_range, with_bytes_at, with_word_at}
 use Rattle.arm_step.specs.State.{State, register_of, with_register}
 use Rattle.os_heap_lists.specs.Heap.{HeapList}
-use Rattle.os_heap_lists.specs.Lists.{live_total}
 use Rattle.os_heap.specs.Laws.{KeepsPayloads}
-use Rattle.os_heap.specs.Store.{IsSound, Store, find_heap}
+use Rattle.os_heap.specs.Store.{IsSound, Store}
 use Rattle.dynamic_areas.specs.Areas.{Land, area_in, extent_asked, find_area, next_number, renumbered, with_areas}
 use Rattle.dynamic_areas.specs.Changing.{removed, store_emptied}
 use Rattle.dynamic_areas.specs.Creating.{area_wanted, created, pages_for}
@@ -31,7 +30,6 @@ use Rattle.flex_ground.specs.flex_store.specs.Calls.{sized}
 use Rattle.image_loader.specs.Entries.{Entry}
 use Rattle.instances_table.specs.Lookup.{handler_of}
 use Rattle.instances_table.specs.declared.parts.Handler.{Handler}
-use Rattle.swi_dispatch_answers.specs.Errors.{error_block}
 use Rattle.swi_dispatch_answers.specs.Refusals.{or_error, system_error}
 use Rattle.swi_dispatch_answers.specs.Strings.{name_at}
 use Rattle.swi_dispatch_answers.specs.declared.refusal.Refusal.{Refusal}
