@@ -26,10 +26,11 @@ use Rattle.heaps_kept.proofs.Blocks.{AreSame}
 use Rattle.heaps_kept.proofs.Guests.{estates_fit}
 use Rattle.heaps_kept.specs.BlockLaws.{total_in}
 use Rattle.heaps_kept.specs.FitEstates.{IsFitEstate}
+use Rattle.live_bytes.proofs.AreaCases.{AreaCallHas, HoldsAfter, area_call_has}
 use Rattle.live_bytes.proofs.Growing.{ended_same, extended_same, same_kept, same_then}
 use Rattle.live_bytes.specs.AreaLaws.{AreaCallsKeepBoth, KeepsBoth}
 
-nothing_kept : (s : Store) → KeepsBoth s s
+pub nothing_kept : (s : Store) → KeepsBoth s s
 nothing_kept s block total new_total a live live' here there = refl
 
 -- pages are taken away that have no byte of the heap's words and blocks
@@ -61,19 +62,6 @@ module _ (d : Estate) (good : IsEstate d) where
       (clear_of-found at (4096 * count) 0x01800000 d.store.heaps m.heap loose.heaps m.found a is)
       (rw (le-leb m.heap.start a low, lt-ltb a (m.heap.start + m.heap.end) (omega (arith, high, m.spelled.inside))) refl)))
 
-  extended_kept : (number count : ℕ) (o : Option Area) → find_area number d.land.areas ≡ o → KeepsBoth d.store (store_extended d.store number count o)
-  extended_kept number count None found = elim (cases_Bool (number == 1)) [
-    | inr other ↦ rw other (nothing_kept d.store)
-    | inl area ↦
-        let first : find_area 1 d.land.areas ≡ None = subst (λ (n : ℕ). find_area n d.land.areas ≡ None) (eqb-true number 1 area) found in
-        let no : Some fit.area ≡ None = sym fit.found ∙ first in
-        absurd (cc)
-  ]
-  extended_kept number count (Some a) found = elim (cases_Bool (number == 1)) [
-    | inr other ↦ rw other (λ block total new_total x live live' here there. refl)
-    | inl area ↦ rw area (same_kept d.store (store_extended d.store 1 count (Some a)) (extended_same (4096 * fit.area.pages) count d.store a fit.store))
-  ]
-
   -- pages of the module area go once its heap ends below them
   module_reduced : (count : ℕ) (a : Area) → find_area 1 d.land.areas ≡ Some a → count ≤ loose_pages d.store a
       → KeepsBoth d.store (store_less (with_heap_end d.store (4096 * (a.pages - count))) count (Some a))
@@ -96,78 +84,17 @@ module _ (d : Estate) (good : IsEstate d) where
       subst (λ (u : Store). KeepsBoth s (store_less u count (Some a))) (sym is)
       (same_then s t (without_pages_at t at (4096 * count)) same gone)
 
-  reduced_kept : (number count : ℕ) (a : Area) → find_area number d.land.areas ≡ Some a → count ≤ loose_pages d.store a
-      → KeepsBoth d.store (store_reduced d.store number count (Some a))
-  reduced_kept number count a found fits = elim (cases_Bool (number == 1)) [
-    | inr other ↦
-        let own : a.number ≡ number = found_number number d.land.areas a found in
-        rw other (loose_kept a count (loose_created d.store a count (λ is. eqb-false number 1 other (sym own ∙ is)) fits))
-    | inl area ↦
-        let first : find_area 1 d.land.areas ≡ Some a = subst (λ (n : ℕ). find_area n d.land.areas ≡ Some a) (eqb-true number 1 area) found in
-        rw area (module_reduced count a first fits)
-  ]
-
-  -- no area has the number: no page goes
-  none_reduced : (number count : ℕ) → find_area number d.land.areas ≡ None → KeepsBoth d.store (store_reduced d.store number count None)
-  none_reduced number count found = elim (cases_Bool (number == 1)) [
-    | inr other ↦ rw other (nothing_kept d.store)
-    | inl area ↦
-        let first : find_area 1 d.land.areas ≡ None = subst (λ (n : ℕ). find_area n d.land.areas ≡ None) (eqb-true number 1 area) found in
-        let no : Some fit.area ≡ None = sym fit.found ∙ first in
-        absurd (cc)
-  ]
-
-  changed_by_found : (number amount : ℕ) (o : Option Area) → find_area number d.land.areas ≡ o → is_growth amount ≡ false
-      → KeepsBoth d.store (store_reduced d.store number ((change_of d.store d.pool amount o).bytes / 4096) o)
-  changed_by_found number amount None found shrinks = none_reduced number ((change_of d.store d.pool amount None).bytes / 4096) found
-  changed_by_found number amount (Some a) found shrinks =
-      let count : ℕ = min (pages_asked amount) (loose_pages d.store a) in
-      let gone : (change_of d.store d.pool amount (Some a)).bytes ≡ 4096 * count = rw shrinks refl in
-      let whole : 4096 * count / 4096 ≡ count = omega arith in
-      subst (λ (n : ℕ). KeepsBoth d.store (store_reduced d.store number n (Some a))) (sym (ap (λ (b : ℕ). b / 4096) gone ∙ whole))
-      (reduced_kept number count a found (min-le_right (pages_asked amount) (loose_pages d.store a)))
-
-  changed_kept : (e : Estate) (number amount : ℕ)
-      → e.store ≡ store_changed d.store d.land.areas number amount (change_answer d.land.areas d.store d.pool number amount).bytes
-      → KeepsBoth d.store e.store
-  unfolding change_answer
-  changed_kept e number amount store =
-      let found : Option Area = find_area number d.land.areas in
-      subst (λ (t : Store). KeepsBoth d.store t) (sym store) (elim (cases_Bool (is_growth amount)) [
-        | inl grows ↦ rw grows (extended_kept number ((change_of d.store d.pool amount found).bytes / 4096) found refl)
-        | inr shrinks ↦ rw shrinks (changed_by_found number amount found refl shrinks)
-      ])
-
-  -- an area that went is not the module area, and all its pages could go
-  emptied_kept : (number : ℕ) (a : Area) → find_area number d.land.areas ≡ Some a → (number == 1 || nat_lt (loose_pages d.store a) a.pages) ≡ false
-      → KeepsBoth d.store (without_pages_at d.store a.base (4096 * a.pages))
-  emptied_kept number a found passed =
-      let parts = or_parts (number == 1) (nat_lt (loose_pages d.store a) a.pages) passed in
-      let own : a.number ≡ number = found_number number d.land.areas a found in
-      let other : a.number ≢ 1 = λ is. eqb-false number 1 parts.0 (sym own ∙ is) in
-      let loose : AreLoose d.store a a.pages = loose_created d.store a a.pages other (ltb-false (loose_pages d.store a) a.pages parts.1) in
-      let first : a.base + 4096 * (a.pages - a.pages) ≡ a.base = omega arith in
-      subst (λ (at : ℕ). KeepsBoth d.store (without_pages_at d.store at (4096 * a.pages))) first (loose_kept a a.pages loose)
-
-  removed_by : (number : ℕ) (left : Land) (o : Option Area) → find_area number d.land.areas ≡ o
-      → bind (ok_or o AreaUnknown) (λ a.
-      if number == 1 || nat_lt (loose_pages d.store a) a.pages then Err AreaInUse else Ok (with_areas d.land (without_area number d.land.areas))) ≡ Ok left
-      → KeepsBoth d.store (store_emptied d.store o)
-  removed_by number left None found done = nothing_kept d.store
-  removed_by number left (Some a) found done = elim (cases_Bool (number == 1 || nat_lt (loose_pages d.store a) a.pages)) [
-    | inl refused ↦ absurd (let no : Err AreaInUse ≡ Ok left = (let no = rw refused at done in no) in cc)
-    | inr passed ↦ emptied_kept number a found passed
-  ]
-
-  removed_kept : (e : Estate) (number : ℕ) → removed d.land d.store number ≡ Ok e.land
-      → e.store ≡ store_emptied d.store (find_area number d.land.areas) → KeepsBoth d.store e.store
-  unfolding removed
-  removed_kept e number done store =
-      subst (λ (t : Store). KeepsBoth d.store t) (sym store) (removed_by number e.land (find_area number d.land.areas) refl done)
+  both_after : HoldsAfter d (KeepsBoth d.store)
+  both_after = record {
+    same = nothing_kept d.store;
+    more = λ at len block total new_total a live live' here there. refl;
+    grown = λ count a found.
+        same_kept d.store (store_extended d.store 1 count (Some a)) (extended_same (4096 * fit.area.pages) count d.store a fit.store);
+    loose = loose_kept;
+    shrunk = module_reduced;
+  }
 
 pub area_calls_keep_both : AreaCallsKeepBoth
-area_calls_keep_both d e good = record {
-  create = λ w name made done store. subst (λ (t : Store). KeepsBoth d.store t) (sym store) (λ block total new_total a live live' here there. refl);
-  remove = λ number done store. removed_kept d good e number done store;
-  change = λ number amount store. changed_kept d good e number amount store;
-}
+area_calls_keep_both d e good =
+    let all : AreaCallHas d (KeepsBoth d.store) e = area_call_has d good (KeepsBoth d.store) (both_after d good) e in
+    record { create = all.create; remove = all.remove; change = all.change }

@@ -41,6 +41,7 @@ use Rattle.heaps_kept.specs.FitEstates.{IsFitEstate}
 use Rattle.heaps_kept.specs.PlanLaws.{IsFitWorld, WorldStaysFit}
 use Rattle.heap_alone.proofs.ModuleHosts.{HasModules, fit_world}
 use Rattle.heap_alone.proofs.ModulePlans.{IsFitPlan}
+use Rattle.live_bytes.proofs.Gates.{Goes, gate_has}
 use Rattle.live_bytes.specs.Changes.{has_slide, slides_on}
 
 -- the environment text
@@ -85,31 +86,6 @@ carried_were s call p fit plan none =
     (plans_keep_blocks (machine_world s) p fit plan.below plan.text none)
     (same_were c.world.estate.store (carried_on s call p).store (gone_same s call c.world c.rest c.code stays.estate.fit))
 
--- code that comes back leaves what its plan was given
-refused_given : (p : Plan) (a : Action) (r0 : ℕ) → (refused p a r0).given ≡ p.given
-refused_given p (act.Finalise slot fatal) r0 = refl
-refused_given p (act.Initialise slot) r0 = refl
-refused_given p (act.Remove slot) r0 = refl
-refused_given p (act.FreePrivate slot) r0 = refl
-refused_given p (act.Insert slot) r0 = refl
-refused_given p (act.Instantiate slot) r0 = refl
-refused_given p act.GiveUp r0 = refl
-refused_given p act.Slide r0 = refl
-
-given_by : (p : Plan) (o : CodeOutcome) (a : Option Action) → (settled_by p o a).given ≡ p.given
-given_by p Well None = refl
-given_by p (Refused r0) None = refl
-given_by p Well (Some a) = refl
-given_by p (Refused r0) (Some a) = refused_given p a r0
-
-given_if : (runs : Bool) (p q : Plan) → q.given ≡ p.given → (if runs then q else p).given ≡ p.given
-given_if true p q same = same
-given_if false p q same = refl
-
-settled_given : (p : Plan) (o : CodeOutcome) → (settled p o).given ≡ p.given
-unfolding settled
-settled_given p o = given_if p.runs p (settled_by p o (first_of p.actions)) (given_by p o (first_of p.actions))
-
 -- a plan that has no slide
 no_slide : (actions : List Action) → has_slide actions ≡ false → HaveNoSlide actions
 no_slide [] none = tt
@@ -122,54 +98,14 @@ no_slide (act.Insert slot ∷ actions) none = no_slide actions none
 no_slide (act.Instantiate slot ∷ actions) none = no_slide actions none
 no_slide (act.GiveUp ∷ actions) none = no_slide actions none
 
-module _ (s : MachineState) (has : HasModules s) where
-  same : WereLive s.store s.store
-  same = same_were s.store s.store (same_all s.store)
+-- a step in which module code comes back
+goes_on : (s : MachineState) (has : HasModules s) (same : WereLive s.store s.store) (o : Option Plan) → slides_on s.cpu o ≡ false
+    → Goes s has (WereLive s.store) same o
+goes_on s has same None calm = tt
+goes_on s has same (Some p) calm = λ f plan.
+    carried_were (come_back s f) f.call (settled p (outcome_left s.cpu)) (fit_world s has) plan (no_slide (settled p (outcome_left s.cpu)).actions calm)
 
-  settled_fit : (p : Plan) (o : CodeOutcome) → MayGoOn (machine_world s) (Some p) → length p.given.text.items ≤ 255 → IsFitPlan (settled p o)
-  settled_fit p o going few =
-      let on : IsUnderWay (machine_world s) (settled p o) = going_back (machine_world s) p o has.modules going.1 in
-      record {
-        below = doable_below s.tables.modules (settled p o) has.modules on.ready.doable;
-        text = subst (λ (g : Given). length g.text.items ≤ 255) (sym (settled_given p o)) few;
-      }
-
-  fault_were : (t : MachineState) (o : Option ℕ) → WereLive s.store t.store → WereLive s.store (unless_fault s o t).now.store
-  fault_were t None were = were
-  fault_were t (Some number) were = same
-
-  entry_were : (f : Frame) (p : Plan) → IsFitPlan p → HaveNoSlide p.actions → WereLive s.store (entry_left s f p).now.store
-  entry_were f p plan none =
-      let t : MachineState = carried_on (come_back s f) f.call p in
-      fault_were t (fault_ahead f.call (machine_world s) p) (carried_were (come_back s f) f.call p (fit_world s has) plan none)
-
-  plan_were : (f : Frame) (o : Option Plan) → MayGoOn (machine_world s) o → IfSome o (λ (plan : Plan). length plan.given.text.items ≤ 255)
-      → slides_on s.cpu o ≡ false → WereLive s.store (plan_left s f o).now.store
-  plan_were f None going few calm = same
-  plan_were f (Some p) going few calm =
-      let q : Plan = settled p (outcome_left s.cpu) in
-      entry_were f q (settled_fit p (outcome_left s.cpu) going few) (no_slide q.actions calm)
-
-  -- a SWI of a module
-  left_were : (f : Frame) (overflow x : Bool)
-      → WereLive s.store (if overflow then erred s x (quiet (frame_closed s f)) else quiet (frame_closed s f)).now.store
-  left_were f false x = same
-  left_were f true true = same
-  left_were f true false = same
-
-  module _ (calm : slides_on s.cpu s.tables.plan ≡ false) where
-    frame_were : (f : Frame) (kind : FrameKind) → WereLive s.store (frame_left s f kind s.tables.plan).now.store
-    frame_were f frame_kind.Swi = left_were f s.cpu.psr.overflow f.call.is_x
-    frame_were f (frame_kind.Entry kind) = plan_were f s.tables.plan has.going has.text calm
-
-    stack_were : (f : Frame) (well : Bool)
-        → WereLive s.store (if well then frame_left s f f.kind s.tables.plan else halted s (halt.Fault StackChanged)).now.store
-    stack_were f true = frame_were f f.kind
-    stack_were f false = same
-
-    innermost_were : (o : Option Frame) → WereLive s.store (gated_by s o).now.store
-    innermost_were None = same
-    innermost_were (Some f) = stack_were f (register_in Supervisor s.cpu 13 == f.stack)
-
-    pub gate_were : WereLive s.store (gated s).now.store
-    gate_were = innermost_were (innermost s.tables.frames)
+pub gate_were : (s : MachineState) → HasModules s → slides_on s.cpu s.tables.plan ≡ false → WereLive s.store (gated s).now.store
+gate_were s has calm =
+    let same : WereLive s.store s.store = same_were s.store s.store (same_all s.store) in
+    gate_has s has (WereLive s.store) same (goes_on s has same s.tables.plan calm)

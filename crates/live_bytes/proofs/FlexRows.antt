@@ -22,10 +22,38 @@ use Rattle.swi_dispatch.specs.MachineState.{MachineState}
 use Rattle.swi_dispatch.specs.Step.{ended}
 use Rattle.heap_alone.proofs.Rows.{is_flex_call}
 use Rattle.heap_alone.proofs.States.{HasStore, stores_in}
+use Rattle.live_bytes.proofs.AreaRows.{HasWent}
 use Rattle.live_bytes.proofs.FlexBytes.{flex_calls_change}
 use Rattle.live_bytes.proofs.Rows.{error_off}
 use Rattle.live_bytes.specs.Changes.{is_flex_name}
 use Rattle.live_bytes.specs.FlexLaws.{IsAnchorByte}
+
+-- init writes nothing outside the system pages
+module _ (s : MachineState) (has : HasStore s) (a : ℕ) (off : in_range 0x01C00000 0x3000 a ≡ false) where
+  abbrev Same : Store → Type 0
+  Same t = t.bytes.at a ≡ s.store.bytes.at a
+
+  init_went : (start end : ℕ) (r : Result (FlexState × Unit {0}) ErrorNumber)
+      → turned (Init start end) (stores_in s has.pending) ≡ left_by (stores_in s has.pending) (with_flex_record s.store start end) (bind r (λ q. Ok (q.0, true)))
+      → HasWent Same (on_flex s (bind (or_error (memory_left (with_flex_record s.store start end) r)) (λ q. Ok (s.cpu, q.0))))
+  init_went start end (Ok q) same =
+      subst (λ (y : Stores). Same (store_in y)) same ((flex_calls_change (stores_in s has.pending) a has.stores).init start end)
+  init_went start end (Err f) same = tt
+
+  init_made : HasWent Same (on_flex s (flex_called s.cpu (machine_flex s) (Some swi.FlexInit)))
+  unfolding flex_called turned
+  init_made =
+      init_went (register_of s.cpu 0) (register_of s.cpu 1)
+      (begun s.store (flex_state s.store s.tables.flex) (register_of s.cpu 0) (register_of s.cpu 1)) refl
+
+  init_ended : (x : Bool) (next : ℕ) (r : Result MachineState Refusal) → HasWent Same r → Same (ended s x (went_on s next r)).now.store
+  init_ended x next (Ok t) went = went
+  init_ended true next (Err e) went = error_off s e a off
+  init_ended false next (Err e) went = refl
+
+  pub init_byte : (x : Bool) (next number : ℕ) → Same (ended s x (call_answer s next number (Some swi.FlexInit))).now.store
+  unfolding call_answer
+  init_byte x next number = init_ended x next (on_flex s (flex_called s.cpu (machine_flex s) (Some swi.FlexInit))) init_made
 
 module _ (s : MachineState) (has : HasStore s) (a : ℕ) (out : is_in_flex_store s.store.others a ≡ false) (off : in_range 0x01C00000 0x3000 a ≡ false) where
   -- the byte stays, unless it is an anchor's and the call one that may write anchors
@@ -57,19 +85,8 @@ module _ (s : MachineState) (has : HasStore s) (a : ℕ) (out : is_in_flex_store
   release_went name anchor (Ok q) is same = subst (λ (y : Stores). MayAnchor name (store_in y)) same (call_may name (Release anchor) is)
   release_went name anchor (Err f) is same = tt
 
-  init_went : (start end : ℕ) (r : Result (FlexState × Unit {0}) ErrorNumber)
-      → turned (Init start end) (stores_in s has.pending) ≡ left_by (stores_in s has.pending) (with_flex_record s.store start end) (bind r (λ q. Ok (q.0, true)))
-      → FlexWent (Some swi.FlexInit) (on_flex s (bind (or_error (memory_left (with_flex_record s.store start end) r)) (λ q. Ok (s.cpu, q.0))))
-  init_went start end (Ok q) same =
-      inl (subst (λ (y : Stores). (store_in y).bytes.at a ≡ s.store.bytes.at a) same
-      ((flex_calls_change (stores_in s has.pending) a has.stores).init start end))
-  init_went start end (Err f) same = tt
-
-  flex_went : (name : Option SwiName) → is_flex_call name ≡ true → FlexWent name (on_flex s (flex_called s.cpu (machine_flex s) name))
+  flex_went : (name : Option SwiName) → is_flex_name name ≡ true → FlexWent name (on_flex s (flex_called s.cpu (machine_flex s) name))
   unfolding flex_called turned
-  flex_went (Some swi.FlexInit) flex =
-      init_went (register_of s.cpu 0) (register_of s.cpu 1)
-      (begun s.store (flex_state s.store s.tables.flex) (register_of s.cpu 0) (register_of s.cpu 1)) refl
   flex_went (Some swi.FlexAlloc) flex =
       fit_went (Some swi.FlexAlloc) (Alloc (register_of s.cpu 0) (register_of s.cpu 1))
       (allocated s.store (flex_state s.store s.tables.flex) (register_of s.cpu 0) (register_of s.cpu 1)) refl refl
@@ -89,14 +106,14 @@ module _ (s : MachineState) (has : HasStore s) (a : ℕ) (out : is_in_flex_store
   ended_may true next name (Err e) went = inl (error_off s e a off)
   ended_may false next name (Err e) went = inl refl
 
-  flex_may : (x : Bool) (next : ℕ) (name : Option SwiName) → is_flex_call name ≡ true
+  flex_may : (x : Bool) (next : ℕ) (name : Option SwiName) → is_flex_name name ≡ true
       → MayAnchor name (ended s x (went_on s next (on_flex s (flex_called s.cpu (machine_flex s) name)))).now.store
   flex_may x next name is = ended_may x next name (on_flex s (flex_called s.cpu (machine_flex s) name)) (flex_went name is)
 
   pub flex_byte : (x : Bool) (next number : ℕ) (name : Option SwiName) → is_flex_call name ≡ true
       → MayAnchor name (ended s x (call_answer s next number name)).now.store
   unfolding call_answer
-  flex_byte x next number (Some swi.FlexInit) is = flex_may x next (Some swi.FlexInit) refl
+  flex_byte x next number (Some swi.FlexInit) is = inl (init_byte s has a off x next number)
   flex_byte x next number (Some swi.FlexAlloc) is = flex_may x next (Some swi.FlexAlloc) refl
   flex_byte x next number (Some swi.FlexFree) is = flex_may x next (Some swi.FlexFree) refl
   flex_byte x next number (Some swi.FlexExtend) is = flex_may x next (Some swi.FlexExtend) refl

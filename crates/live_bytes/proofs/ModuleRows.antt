@@ -53,15 +53,14 @@ use Rattle.heap_alone.proofs.ModuleHosts.{HasModules, fit_world}
 use Rattle.heap_alone.proofs.ModulePlans.{IsFitPlan, bound_any}
 use Rattle.heap_alone.proofs.PlansMade.{IsFitPlanned, alone_planned, clear_made, copy_made, delete_made, insertion_made, instantiation_made, load_made, named_load_made, reinit_made}
 use Rattle.heap_alone.proofs.States.{HasStore, sound_store}
+use Rattle.live_bytes.proofs.AreaBlocks.{nothing_kept}
 use Rattle.live_bytes.proofs.Carried.{carried_were, opened_same}
 use Rattle.live_bytes.proofs.Extending.{extends_keep, stay_kept, stay_were, were_kept}
 use Rattle.live_bytes.proofs.Growing.{same_kept}
+use Rattle.live_bytes.proofs.ModuleCalls.{HoldsOver, Planning, begun_has, os_module_has, plan_by}
 use Rattle.live_bytes.proofs.Planned.{IsPlannedStill, NeverSlides, alone_still, clear_none, copy_still, delete_none, insertion_still, instantiation_calm, load_still, named_load_still, reinit_none}
 use Rattle.live_bytes.specs.AreaLaws.{KeepsBoth}
 use Rattle.live_bytes.specs.Changes.{is_tidy}
-
-pub nothing_kept : (s : Store) → KeepsBoth s s
-nothing_kept s block total new_total a live live' here there = refl
 
 -- an error's block lies in the system pages
 pub error_both : (s : MachineState) (e : Refusal) → HasStore s → KeepsBoth s.store (with_error s e).store
@@ -149,82 +148,45 @@ module _ (s : MachineState) (has : HasModules s) where
   fit : IsFitWorld (machine_world s)
   fit = fit_world s has
 
-  abbrev Keeps : Outcome → Type 0
-  Keeps o = KeepsBoth s.store o.now.store
+  both_over : HoldsOver s (KeepsBoth s.store) (IsPlannedStill s)
+  both_over = record {
+    same = nothing_kept s.store;
+    error = λ e. error_both s e has.store;
+    area = area_call_both s.cpu (machine_world s) fit.estate;
+    carried = λ call w made still.
+        let t : MachineState = with_world s w.world in
+        stay_were s.store t.store (carried_on t call w.plan).store still.stay
+        (carried_were t call w.plan (record { estate = made.world.estate.fit; slots = made.world.slots }) made.plan still.none);
+    opened = λ next o few.
+        same_kept s.store (module_opened (gone_back s.cpu.psr s false next) o).store
+        (opened_same (gone_back s.cpu.psr s false next) o.text.items o.start.slot o.start.at fit.estate);
+  }
 
-  error_keeps : (x : Bool) (next : ℕ) (e : Refusal) → Keeps (ended s x (refused s next e))
-  error_keeps true next e = error_both s e has.store
-  error_keeps false next e = nothing_kept s.store
+  -- all plans but that of a tidy
+  still_by : (images : List Entry) (next : ℕ) (why : Option ModuleReason) → is_tidy why ≡ false → Planning (IsPlannedStill s) (plan_by images s next why)
+  still_by images next (Some reason.Run) calm = named_load_still images s true fit
+  still_by images next (Some reason.Load) calm = named_load_still images s false fit
+  still_by images next (Some reason.Reinit) calm = alone_still s (reinit_planned (setting_of s)) (reinit_none (setting_of s))
+  still_by images next (Some reason.Delete) calm = alone_still s (delete_planned (setting_of s)) (delete_none (setting_of s))
+  still_by images next (Some reason.Tidy) calm = absurd (true≢false calm)
+  still_by images next (Some reason.Clear) calm = alone_still s (clear_planned (setting_of s)) (clear_none (setting_of s))
+  still_by images next (Some reason.Insert) calm = insertion_still s
+  still_by images next (Some reason.InsertCopy) calm = copy_still s fit
+  still_by images next (Some reason.Instantiate) calm = alone_still s (instantiation_planned (setting_of s)) (instantiation_calm (setting_of s))
+  still_by images next other calm = tt
 
-  refused_keeps : (x : Bool) (next : ℕ) (e : ErrorNumber) → Keeps (call_refused s x next e)
-  refused_keeps x next e = error_keeps x next (refusal.System e)
-
-  world_keeps : (x : Bool) (next : ℕ) (r : Result (State × World) Refusal) → IfOk r (LeavesBoth (machine_world s)) → Keeps (ended s x (went_on s next (on_world s r)))
-  world_keeps x next (Ok q) kept = kept
-  world_keeps x next (Err e) kept = error_keeps x next e
-
-  area_keeps : (x : Bool) (next number : ℕ) → Keeps (ended s x (call_answer s next number (Some swi.Module)))
-  unfolding call_answer
-  area_keeps x next number = world_keeps x next (area_called s.cpu (machine_world s)) (area_call_both s.cpu (machine_world s) fit.estate)
-
-  -- calls that may run module code
-  begun_keeps : (x : Bool) (next : ℕ) (enters : Bool) (r : Result Planned ErrorNumber) → IfOk r (IsFitPlanned s) → IfOk r (IsPlannedStill s)
-      → Keeps (begun s x next enters r)
-  unfolding begun
-  begun_keeps x next enters (Err e) made still = refused_keeps x next e
-  begun_keeps x next enters (Ok w) made still =
-      let t : MachineState = with_world s w.world in
-      let u : MachineState = carried_on t (call_of s x next enters) w.plan in
-      stay_were s.store t.store u.store still.stay
-      (carried_were t (call_of s x next enters) w.plan (record { estate = made.world.estate.fit; slots = made.world.slots }) made.plan still.none)
-
-  alone_keeps : (x : Bool) (next : ℕ) (r : Result Plan ErrorNumber) → IfOk r IsFitPlan → IfOk r NeverSlides → Keeps (begun_alone s x next r)
-  alone_keeps x next r made none =
-      begun_keeps x next false (bind r (λ p. Ok (plan_alone s p))) (alone_planned s r fit made) (alone_still s r none)
-
-  entered_keeps : (x : Bool) (next : ℕ) (r : Result Opening ErrorNumber) → Keeps (module_entered s x next r)
-  entered_keeps x next (Err e) = refused_keeps x next e
-  entered_keeps x next (Ok o) =
-      let t : MachineState = module_opened (gone_back s.cpu.psr s false next) o in
-      same_kept s.store t.store (opened_same (gone_back s.cpu.psr s false next) o.text.items o.start.slot o.start.at fit.estate)
-
-  module _ (images : List Entry) (x : Bool) (next number : ℕ) where
-    reason_keeps : (why : Option ModuleReason) → is_tidy why ≡ false → Keeps (os_module_called_for images s x next number why)
-    reason_keeps (Some reason.Run) calm =
-        begun_keeps x next true (named_load_planned images s true) (named_load_made images s true fit) (named_load_still images s true fit)
-    reason_keeps (Some reason.Load) calm =
-        begun_keeps x next false (named_load_planned images s false) (named_load_made images s false fit) (named_load_still images s false fit)
-    reason_keeps (Some reason.Enter) calm = entered_keeps x next (opening_asked (setting_of s))
-    reason_keeps (Some reason.Reinit) calm =
-        alone_keeps x next (reinit_planned (setting_of s)) (reinit_made (setting_of s) fit.slots) (reinit_none (setting_of s))
-    reason_keeps (Some reason.Delete) calm =
-        alone_keeps x next (delete_planned (setting_of s)) (delete_made (setting_of s) fit.slots) (delete_none (setting_of s))
-    reason_keeps (Some reason.Tidy) calm = absurd (true≢false calm)
-    reason_keeps (Some reason.Clear) calm =
-        alone_keeps x next (clear_planned (setting_of s)) (clear_made (setting_of s) fit.slots) (clear_none (setting_of s))
-    reason_keeps (Some reason.Insert) calm = begun_keeps x next false (insertion_planned s) (insertion_made s fit) (insertion_still s)
-    reason_keeps (Some reason.InsertCopy) calm = begun_keeps x next false (copy_planned s) (copy_made s fit) (copy_still s fit)
-    reason_keeps (Some reason.Instantiate) calm =
-        alone_keeps x next (instantiation_planned (setting_of s)) (instantiation_made (setting_of s)) (instantiation_calm (setting_of s))
-    reason_keeps (Some reason.DescribeArea) calm = area_keeps x next number
-    reason_keeps (Some reason.Claim) calm = area_keeps x next number
-    reason_keeps (Some reason.Free) calm = area_keeps x next number
-    reason_keeps (Some reason.Info) calm = area_keeps x next number
-    reason_keeps (Some reason.Extend) calm = area_keeps x next number
-    reason_keeps (Some reason.Rename) calm = area_keeps x next number
-    reason_keeps (Some reason.Prefer) calm = area_keeps x next number
-    reason_keeps (Some reason.Lookup) calm = area_keeps x next number
-    reason_keeps None calm = area_keeps x next number
-
-    pub os_module_both : is_tidy (module_reason (register_of s.cpu 0)) ≡ false → KeepsBoth s.store (os_module_called images s x next number).now.store
-    unfolding os_module_called
-    os_module_both calm = reason_keeps (module_reason (register_of s.cpu 0)) calm
+  pub os_module_both : (images : List Entry) (x : Bool) (next number : ℕ) → is_tidy (module_reason (register_of s.cpu 0)) ≡ false
+      → KeepsBoth s.store (os_module_called images s x next number).now.store
+  os_module_both images x next number calm =
+      os_module_has s has (KeepsBoth s.store) (IsPlannedStill s) both_over images x next number
+      (still_by images next (module_reason (register_of s.cpu 0)) calm)
 
   -- a module that is loaded from outside
   pub loaded_both : (images : List Entry) (x : Bool) (next : ℕ) (text : List ℕ)
       → KeepsBoth s.store (begun s x next false (bind (ok_or (host_string text) BadString) (λ words. load_planned images s words false))).now.store
   loaded_both images x next text =
-      begun_keeps x next false (bind (ok_or (host_string text) BadString) (λ words. load_planned images s words false))
+      begun_has s has (KeepsBoth s.store) (IsPlannedStill s) both_over x next false
+      (bind (ok_or (host_string text) BadString) (λ words. load_planned images s words false))
       (bound_any (IsFitPlanned s) (ok_or (host_string text) BadString) (λ words. load_planned images s words false)
       (λ words. load_made images s words false fit))
       (bound_any (IsPlannedStill s) (ok_or (host_string text) BadString) (λ words. load_planned images s words false)

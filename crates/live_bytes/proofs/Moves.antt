@@ -118,29 +118,21 @@ module _ (images : List Entry) (s : MachineState) (has : HasHeaps s) (start a : 
       (off_of (named x next number (Some swi.FlexMidExtend)).now.store held) x next number (Some swi.FlexMidExtend) refl
   flex_named x next number other is held = absurd (false≢true is)
 
-  other_by : (x : Bool) (next number : ℕ) (name : Option SwiName) (exits : Bool) → is_module_name name ≡ false → is_heap_swi name ≡ false → is_flex_call name ≡ false
-      → (let o : Outcome = if exits then halted s halt.Exit else called_by images s x next number name in
-      IsSound o.now.store → IsHeld s.store o.now.store start a → o.now.store.bytes.at a ≡ s.store.bytes.at a)
-  other_by x next number name true module_swi heap flex sound held = refl
-  other_by x next number name false module_swi heap flex sound held =
-      held_all s.store (called_by images s x next number name).now.store start a
-      (other_keeps s has images x next number name (module_swi, (heap, flex)) sound) held
-
-  named_byte : (x : Bool) (next number : ℕ) (name : Option SwiName) → is_module_name name ≡ false → is_heap_swi name ≡ false
-      → IsSound (named x next number name).now.store → IsHeld s.store (named x next number name).now.store start a
-      → ((named x next number name).now.store.bytes.at a ≡ s.store.bytes.at a)
-      ⊎ ((is_flex_name name ≡ true) × IsAnchorByte s.store (named x next number name).now.store a)
-  named_byte x next number name module_swi heap sound held = elim (cases_Bool (is_flex_call name)) [
-    | inl flex ↦ flex_named x next number name flex held
-    | inr other ↦ inl (other_by x next number name (is_exit name) module_swi heap other sound held)
-  ]
-
-  rest_byte : (x : Bool) (next number : ℕ) → is_module_name (swi_of number) ≡ false → is_heap_swi (swi_of number) ≡ false
-      → IsSound (called images s x next number).now.store → IsHeld s.store (called images s x next number).now.store start a
+  flex_called : (x : Bool) (next number : ℕ) → is_flex_call (swi_of number) ≡ true → (held : IsHeld s.store (called images s x next number).now.store start a)
       → ((called images s x next number).now.store.bytes.at a ≡ s.store.bytes.at a)
       ⊎ ((is_flex_name (swi_of number) ≡ true) × IsAnchorByte s.store (called images s x next number).now.store a)
   unfolding called
-  rest_byte x next number module_swi heap sound held = named_byte x next number (swi_of number) module_swi heap sound held
+  flex_called x next number is held = flex_named x next number (swi_of number) is held
+
+  rest_byte : (x : Bool) (next number : ℕ) → is_module_name (swi_of number) ≡ false → is_heap_swi (swi_of number) ≡ false
+      → IsHeld s.store (called images s x next number).now.store start a
+      → ((called images s x next number).now.store.bytes.at a ≡ s.store.bytes.at a)
+      ⊎ ((is_flex_name (swi_of number) ≡ true) × IsAnchorByte s.store (called images s x next number).now.store a)
+  rest_byte x next number module_swi heap held = elim (cases_Bool (is_flex_call (swi_of number))) [
+    | inl flex ↦ flex_called x next number flex held
+    | inr other ↦ inl (held_all s.store (called images s x next number).now.store start a
+        (other_keeps s has images x next number (module_swi, (heap, other))) held)
+  ]
 
   abbrev tidies : ℕ → Bool
   tidies number = is_module_name (swi_of number) && is_tidy (module_reason (register_of s.cpu 0))
@@ -172,7 +164,7 @@ module _ (images : List Entry) (s : MachineState) (has : HasHeaps s) (start a : 
               let tidy : Bool = is_tidy (module_reason (register_of s.cpu 0)) in
               from_module (swi_of number) tidy (tidies number) t (both_true (is_module_name (swi_of number)) tidy is)
               (module_byte x next number tidy is refl held)
-          | inr other ↦ from_rest (swi_of number) (tidies number) t (rest_byte x next number other no_heap sound held)
+          | inr other ↦ from_rest (swi_of number) (tidies number) t (rest_byte x next number other no_heap held)
         ]
       ]
 
@@ -225,11 +217,11 @@ module _ (images : List Entry) (s : MachineState) (has : HasHeaps s) (start a : 
   turn_byte (Err (turn.Fault f)) is sound held = inl refl
 
 -- where the machine is halted nothing happens
-step_halted : (images : List Entry) (s : MachineState) (h : Halt) → s.halt ≡ Some h → machine_step images s ≡ quiet s
+pub step_halted : (images : List Entry) (s : MachineState) (h : Halt) → s.halt ≡ Some h → machine_step images s ≡ quiet s
 unfolding machine_step
 step_halted images s h is = ap (λ (o : Option Halt). unless_halted s o (turned images s (instructed s))) is
 
-call_halted : (images : List Entry) (s : MachineState) (number : ℕ) (h : Halt) → s.halt ≡ Some h → store_called images s number ≡ quiet s
+pub call_halted : (images : List Entry) (s : MachineState) (number : ℕ) (h : Halt) → s.halt ≡ Some h → store_called images s number ≡ quiet s
 unfolding store_called
 call_halted images s number h is =
     ap (λ (o : Option Halt). unless_halted s o (called images s true s.cpu.pc (without_x (number % 2 ^ 24)))) is

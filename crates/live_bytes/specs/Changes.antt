@@ -16,7 +16,7 @@ use Rattle.instances_plans.specs.Plans.{Plan, settled}
 use Rattle.os_heap_lists.specs.Heap.{HeapList}
 use Rattle.os_heap_lists.specs.Lists.{live_total}
 use Rattle.os_heap.specs.Laws.{KeepsPayloads}
-use Rattle.os_heap.specs.Store.{Store, find_heap, owned_in}
+use Rattle.os_heap.specs.Store.{Store, find_heap, is_in_flex_store, owned_in}
 use Rattle.swi_dispatch.specs.Boot.{poked}
 use Rattle.swi_dispatch.specs.Gates.{outcome_left}
 use Rattle.swi_dispatch.specs.MachineState.{MachineState}
@@ -83,6 +83,13 @@ LiveBytesStay =
     (images : List Entry) (s : MachineState) (m : Move) (start a : ℕ) → IsState s → IsState (moved images s m)
     → IsHeld s.store (moved images s m).store start a
     → ((moved images s m).store.bytes.at a ≡ s.store.bytes.at a) ⊎ MayChange s (moved images s m) m start a
+
+-- Of the bytes of the flex store none changes over any move but these calls, a tidy neither, unless an instruction stores there.
+abbrev pub FlexBytesStay : Type 0
+FlexBytesStay =
+    (images : List Entry) (s : MachineState) (m : Move) (a : ℕ) → IsState s → IsState (moved images s m)
+    → is_in_flex_store s.store.others a ≡ true
+    → ((moved images s m).store.bytes.at a ≡ s.store.bytes.at a) ⊎ (((m ≡ Step) × IsStoredPlain s a) ⊎ (is_flex_name (swi_made s m) ≡ true))
 
 -- A module that is loaded from outside changes none at all.
 abbrev pub LoadsKeepLiveBytes : Type 0

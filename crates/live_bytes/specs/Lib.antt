@@ -3,3 +3,4 @@ pub use Rattle.heaps_kept
 pub mod AreaLaws
 pub mod Changes
 pub mod FlexLaws
+pub mod Runs

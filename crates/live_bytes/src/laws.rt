@@ -1,8 +1,9 @@
 //! Laws over the definitions, each the contract of a function that does nothing.
 
 ghost use Rattle.live_bytes.specs.AreaLaws.{AreaCallsKeepBoth, ExtendsKeepBlocks};
-ghost use Rattle.live_bytes.specs.Changes.{LiveBytesStay, LoadsKeepLiveBytes, PokesChangeOneWord};
+ghost use Rattle.live_bytes.specs.Changes.{FlexBytesStay, LiveBytesStay, LoadsKeepLiveBytes, PokesChangeOneWord};
 ghost use Rattle.live_bytes.specs.FlexLaws.{FlexCallsChangeAnchors};
+ghost use Rattle.live_bytes.specs.Runs.{LiveBytesStayOver, RunsAreSteps};
 
 /// A change of size in the module area, with the growth of the area that it makes: each block there that was live and
 /// is so still holds what it held.
@@ -25,6 +26,19 @@ pub fn flex_calls_change_anchors()
 /// flex call may write the word of an anchor; and a tidy may move the blocks of the module area.
 pub fn live_bytes_stay()
     ensures { LiveBytesStay }
+{}
+
+/// So it is over a list of moves through which the byte is held: it stays, or one of the moves may have changed it. A
+/// run is a list of steps.
+pub fn live_bytes_stay_over()
+    ensures moves { LiveBytesStayOver }
+    ensures runs { RunsAreSteps }
+{}
+
+/// A byte of the flex store stays what it is over each move that isn't a flex call, a tidy too, unless the move's
+/// instruction stores there.
+pub fn flex_bytes_stay()
+    ensures { FlexBytesStay }
 {}
 
 /// A module that is loaded from outside changes no byte that live blocks hold before it and after it.

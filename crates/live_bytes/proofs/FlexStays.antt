@@ -1,0 +1,179 @@
+-- A byte of the flex store's range: what the calls on areas leave of it, and that it lies outside the module area and the system pages.
+use Rattle.std.proofs.Common.{ℕ, ◌+◌, ◌-◌, ◌*◌, ◌==◌, ◌&&◌, ◌≡◌, ◌≢◌, ◌≤◌, ◌<◌, ◌∙◌, Bool, true, false, List, [], ◌∷◌, Option, Some, None, refl, sym, ap, subst, inl, inr, arith}
+use Rattle.std.proofs.lemmas.Bool.{and_parts, both_ways, cases_Bool, cases_eq, eq-eqb, false_from_ne_true, false≢true, leb-true, ne_eqb, or_cases}
+use Rattle.std.specs.List.{list_any}
+use Rattle.std.specs.Prelude.{nat_le}
+use Rattle.address_map.specs.Bytes.{in_range}
+use Rattle.address_map.specs.Items.{is_heap_word}
+use Rattle.address_map.specs.Bytes.{word_start}
+use Rattle.address_map.specs.declared.region.Region.{Region}
+use Rattle.os_heap_lists.proofs.Payloads.{heap_beside, spelled_inside}
+use Rattle.os_heap_lists.specs.Heap.{HeapList, with_heap}
+use Rattle.os_heap.proofs.Anchored.{header_outside}
+use Rattle.os_heap.proofs.Apart.{range_parts}
+use Rattle.os_heap.specs.Calls.{ending}
+use Rattle.os_heap.specs.Store.{AreClear, AreRangesApart, IsClearOfRanges, Store, find_heap, is_flex_store, is_in_flex_store}
+use Rattle.dynamic_areas.proofs.Loosened.{loose_ended}
+use Rattle.dynamic_areas.proofs.ModuleArea.{IsModuleArea, module_area_known}
+use Rattle.dynamic_areas.proofs.RoomLemmas.{found_behind, in_window}
+use Rattle.dynamic_areas.specs.declared.area.Area.{Area}
+use Rattle.dynamic_areas.specs.Areas.{find_area}
+use Rattle.dynamic_areas.specs.Changing.{AreLoose, AreRangesClear, ended_by, loose_pages, store_extended, store_less, with_heap_end}
+use Rattle.dynamic_areas.specs.Ground.{AreRangesMapped, Estate, IsEstate, IsRecorded, is_fixed, is_held, is_land, system_pages}
+use Rattle.dynamic_areas.specs.Rooms.{AreRooms, IsRoom}
+use Rattle.heaps_kept.specs.Fits.{is_module_byte}
+use Rattle.live_bytes.proofs.AreaCases.{HoldsAfter}
+
+-- ranges that are clear of all that is recorded have no byte of the flex store
+flex_clear : (at len : ℕ) (rs : List Region) (a : ℕ) → AreRangesClear at len rs → is_in_flex_store rs a ≡ true → in_range at len a ≡ false
+flex_clear at len [] a clear is = absurd (false≢true is)
+flex_clear at len (r ∷ rs) a clear is = elim (or_cases (is_flex_store r.kind && in_range r.at r.len a) (is_in_flex_store rs a) is) [
+  | inr later ↦ flex_clear at len rs a clear.1 later
+  | inl here ↦
+      let parts = and_parts (is_flex_store r.kind) (in_range r.at r.len a) here in
+      false_from_ne_true (in_range at len a) (λ inside. both_ways (in_range r.at r.len a) (clear.0 a inside) parts.1)
+]
+
+-- nor have the system pages
+flex_beside : (r : Region) (rs : List Region) (a : ℕ) → IsClearOfRanges r rs → is_in_flex_store rs a ≡ true → in_range r.at r.len a ≡ false
+flex_beside r [] a clear is = absurd (false≢true is)
+flex_beside r (q ∷ rs) a clear is = elim (or_cases (is_flex_store q.kind && in_range q.at q.len a) (is_in_flex_store rs a) is) [
+  | inr later ↦ flex_beside r rs a clear.1 later
+  | inl here ↦
+      let parts = and_parts (is_flex_store q.kind) (in_range q.at q.len a) here in
+      false_from_ne_true (in_range r.at r.len a) (λ inside. both_ways (in_range q.at q.len a) (clear.0 a inside) parts.1)
+]
+
+system_beside : (r : Region) (rs : List Region) → IsClearOfRanges r rs → IsRecorded system_pages rs → AreClear r.at r.len 0x01C00000 0x3000
+system_beside r [] clear recorded = absurd recorded
+system_beside r (q ∷ rs) clear recorded = elim recorded [
+  | inl same ↦ subst (λ (x : Region). AreClear r.at r.len x.at x.len) same clear.0
+  | inr later ↦ system_beside r rs clear.1 later
+]
+
+off_system : (rs : List Region) (a : ℕ) → AreRangesApart rs → IsRecorded system_pages rs → is_in_flex_store rs a ≡ true → in_range 0x01C00000 0x3000 a ≡ false
+off_system [] a apart recorded is = absurd recorded
+off_system (r ∷ rs) a apart recorded is = elim (or_cases (is_flex_store r.kind && in_range r.at r.len a) (is_in_flex_store rs a) is) [
+  | inl here ↦
+      let parts = and_parts (is_flex_store r.kind) (in_range r.at r.len a) here in
+      elim recorded [
+        | inl same ↦ absurd (false≢true (ap (λ (x : Region). is_flex_store x.kind) (sym same) ∙ parts.0))
+        | inr later ↦ system_beside r rs apart.0 later a parts.1
+      ]
+  | inr later ↦ elim recorded [
+    | inl same ↦ subst (λ (x : Region). in_range x.at x.len a ≡ false) same (flex_beside r rs a apart.0 later)
+    | inr behind ↦ off_system rs a apart.1 behind later
+  ]
+]
+
+flex_mapped : (mapped : ℕ → Bool) (rs : List Region) (a : ℕ) → AreRangesMapped mapped rs → is_in_flex_store rs a ≡ true → mapped a ≡ true
+flex_mapped mapped [] a all is = absurd (false≢true is)
+flex_mapped mapped (r ∷ rs) a all is = elim (or_cases (is_flex_store r.kind && in_range r.at r.len a) (is_in_flex_store rs a) is) [
+  | inr later ↦ flex_mapped mapped rs a all.1 later
+  | inl here ↦
+      let parts = and_parts (is_flex_store r.kind) (in_range r.at r.len a) here in
+      let byte : (r.at ≤ a) × (a < r.at + r.len) = range_parts r.at r.len a parts.1 in
+      all.0 a byte.0 byte.1
+]
+
+-- an area that was created lies behind the system pages
+created_low : (a : Area) → IsRoom a → a.number ≢ 1 → 0x02000000 ≤ a.base
+created_low a room other = leb-true 0x02000000 a.base (and_parts (nat_le 0x02000000 a.base) (nat_le (a.base + a.maximum) 0x03000000)
+    (in_window a.number a.base a.maximum other room.place)).0
+
+record IsHeldBy (areas : List Area) (a : ℕ) : Type 0 where
+  area : Area
+  found : find_area area.number areas ≡ Some area
+  room : IsRoom area
+  held : in_range area.base (4096 * area.pages) a ≡ true
+
+held_by : (areas : List Area) (a : ℕ) → AreRooms areas → list_any (is_held a) areas ≡ true → IsHeldBy areas a
+held_by [] a rooms is = absurd (false≢true is)
+held_by (g ∷ areas) a rooms is = elim (or_cases (is_held a g) (list_any (is_held a) areas) is) [
+  | inl here ↦ record { area = g; found = rw (eq-eqb g.number g.number refl) refl; room = rooms.0; held = here }
+  | inr later ↦
+      let rest : IsHeldBy areas a = held_by areas a rooms.1.1 later in
+      let less : g.number < rest.area.number = (found_behind g rest.area rest.area.number areas rooms.1.0 rest.found).0 in
+      let other : (g.number == rest.area.number) ≡ false = ne_eqb g.number rest.area.number (λ same. omega (arith, less, same)) in
+      record { area = rest.area; found = rw other rest.found; room = rest.room; held = rest.held }
+]
+
+module _ (e : Estate) (good : IsEstate e) (system : IsRecorded system_pages e.store.others) (a : ℕ) (flex : is_in_flex_store e.store.others a ≡ true) where
+  pub flex_off : in_range 0x01C00000 0x3000 a ≡ false
+  flex_off = off_system e.store.others a good.ground.sound.apart system flex
+
+  -- no byte of the module area's heap
+  out_of_heap : (area : Area) → find_area 1 e.land.areas ≡ Some area → in_range 0x01800000 (4096 * area.pages) a ≡ true → ⊥
+  out_of_heap area found there =
+      let m : IsModuleArea e.store area = module_area_known e.store e.pool e.land area good found in
+      both_ways (in_range m.heap.start m.heap.end a)
+      (header_outside 0x01800000 e.store.heaps e.store.others m.heap a good.ground.sound.placed m.found flex) (rw (m.start, m.end) there)
+
+  in_area : IsHeldBy e.land.areas a → is_module_byte a ≡ true → ⊥
+  in_area held is = elim (cases_eq held.area.number 1) [
+    | inl first ↦
+        let found : find_area 1 e.land.areas ≡ Some held.area = subst (λ (n : ℕ). find_area n e.land.areas ≡ Some held.area) first held.found in
+        let m : IsModuleArea e.store held.area = module_area_known e.store e.pool e.land held.area good found in
+        out_of_heap held.area found (subst (λ (p : ℕ). in_range p (4096 * held.area.pages) a ≡ true) m.base held.held)
+    | inr other ↦
+        let parts : (held.area.base ≤ a) × (a < held.area.base + 4096 * held.area.pages) = range_parts held.area.base (4096 * held.area.pages) a held.held in
+        let byte : (0x01800000 ≤ a) × (a < 0x01C03000) = range_parts 0x01800000 0x403000 a is in
+        omega (arith, created_low held.area held.room other, parts.0, byte.1)
+  ]
+
+  in_fixed : is_fixed e.land.sizes a ≡ true → is_module_byte a ≡ true → ⊥
+  in_fixed fixed is =
+      let sizes = good.ground.sizes in
+      let byte : (0x01800000 ≤ a) × (a < 0x01C03000) = range_parts 0x01800000 0x403000 a is in
+      elim (or_cases (in_range 0x8000 (4096 * e.land.sizes.app) a) (in_range 0x01C00000 0x3000 a) fixed) [
+        | inl low ↦
+            let parts : (0x8000 ≤ a) × (a < 0x8000 + 4096 * e.land.sizes.app) = range_parts 0x8000 (4096 * e.land.sizes.app) a low in
+            omega (arith, parts.1, byte.0, sizes.in_limit, sizes.has_room)
+        | inr there ↦ both_ways (in_range 0x01C00000 0x3000 a) flex_off there
+      ]
+
+  pub flex_outside : is_module_byte a ≡ false
+  flex_outside =
+      let land : is_land e.land a ≡ true = sym (good.ground.land a) ∙ flex_mapped e.store.bytes.mapped e.store.others a good.ground.ranges flex in
+      false_from_ne_true (is_module_byte a) (λ is.
+      elim (or_cases (is_fixed e.land.sizes a) (list_any (is_held a) e.land.areas) land) [
+        | inl fixed ↦ in_fixed fixed is
+        | inr held ↦ in_area (held_by e.land.areas a good.ground.table.rooms held) is
+      ])
+
+  -- the words of the module area's heap are written
+  words_same : (area : Area) (m : IsModuleArea e.store area) (end : ℕ) → with_heap e.store.bytes.at m.heap.start end m.heap.items a ≡ e.store.bytes.at a
+  words_same area m end =
+      heap_beside e.store.bytes.at m.heap.start end m.heap.items a m.spelled.aligned m.spelled.totals
+      (false_from_ne_true (is_heap_word m.heap.start m.heap.items (word_start a)) (λ is.
+      both_ways (in_range m.heap.start m.heap.end a)
+      (header_outside 0x01800000 e.store.heaps e.store.others m.heap a good.ground.sound.placed m.found flex)
+      (spelled_inside m.heap.start m.heap.end m.heap.items a m.spelled.aligned m.spelled.totals m.spelled.inside is)))
+
+  abbrev Stays : Store → Type 0
+  Stays t = t.bytes.at a ≡ e.store.bytes.at a
+
+  shrunk_stays : (count : ℕ) (area : Area) → find_area 1 e.land.areas ≡ Some area → count ≤ loose_pages e.store area
+      → Stays (store_less (with_heap_end e.store (4096 * (area.pages - count))) count (Some area))
+  shrunk_stays count area found fits =
+      let s : Store = e.store in
+      let end : ℕ = 4096 * (area.pages - count) in
+      let m : IsModuleArea s area = module_area_known s e.pool e.land area good found in
+      let t : Store = ending s m.heap end in
+      let is : with_heap_end s end ≡ t = ap (λ (o : Option HeapList). ended_by s end o) m.found in
+      let loose : AreLoose t area count = loose_ended s t e.pool e.land area count m good found fits refl refl refl in
+      let out : in_range (area.base + 4096 * (area.pages - count)) (4096 * count) a ≡ false =
+      flex_clear (area.base + 4096 * (area.pages - count)) (4096 * count) s.others a loose.ranges flex in
+      subst (λ (u : Store). Stays (store_less u count (Some area))) (sym is) (rw out (words_same area m end))
+
+  pub flex_after : HoldsAfter e Stays
+  flex_after = record {
+    same = refl;
+    more = λ at len. refl;
+    grown = λ count area found.
+        let m : IsModuleArea e.store area = module_area_known e.store e.pool e.land area good found in
+        rw m.found (words_same area m (4096 * (area.pages + count)));
+    loose = λ area count loose.
+        rw (flex_clear (area.base + 4096 * (area.pages - count)) (4096 * count) e.store.others a loose.ranges flex) refl;
+    shrunk = shrunk_stays;
+  }
