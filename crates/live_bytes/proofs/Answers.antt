@@ -1,5 +1,5 @@
 -- What the calls leave that are none of OS_Heap, of OS_Module or of flex: nothing is changed, or areas are, or an error's block is written.
-use Rattle.std.proofs.Common.{ℕ, ◌≡◌, ◌==◌, Bool, true, false, length, List, option_map, Option, Some, None, Result, Ok, Err}
+use Rattle.std.proofs.Common.{ℕ, ◌≡◌, ◌==◌, Bool, true, false, length, List, Option, Some, None, Result, Ok, Err}
 use Rattle.std.specs.Prelude.{if◌then◌else◌}
 use Rattle.std.proofs.lemmas.Bool.{true≢false}
 use Rattle.profile.specs.Outcome.{bind}

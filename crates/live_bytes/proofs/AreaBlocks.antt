@@ -1,10 +1,6 @@
 -- The module area's blocks over the calls that change areas.
-use Rattle.std.proofs.Common.{if◌then◌else◌, ℕ, ◌+◌, ◌-◌, ◌*◌, ◌/◌, ◌==◌, ◌||◌, ◌≡◌, ◌≢◌, ◌≤◌, ◌<◌, ◌∙◌, false, Option, Some, None, Ok, Err, refl, sym, ap, subst, inl, inr, arith}
-use Rattle.std.proofs.Math.Nat.{min-le_right}
-use Rattle.std.proofs.lemmas.Bool.{both_ways, cases_Bool, eqb-false, eqb-true, false_from_ne_true, le-leb, lt-ltb, ltb-false, or_parts}
-use Rattle.std.specs.Prelude.{min, nat_lt, ok_or}
-use Rattle.profile.specs.Outcome.{bind}
-use Rattle.profile.specs.declared.error.ErrorNumber.TheVariants.{AreaInUse, AreaUnknown}
+use Rattle.std.proofs.Common.{ℕ, ◌+◌, ◌-◌, ◌*◌, ◌≡◌, ◌≤◌, ◌<◌, ◌∙◌, false, Option, Some, refl, sym, ap, subst, arith}
+use Rattle.std.proofs.lemmas.Bool.{both_ways, false_from_ne_true, le-leb, lt-ltb}
 use Rattle.address_map.specs.Bytes.{in_range}
 use Rattle.address_map.specs.Items.{size_of}
 use Rattle.os_heap_lists.proofs.LiveBlocks.{LiveBytes, live_bytes}
@@ -14,12 +10,11 @@ use Rattle.os_heap.proofs.Apart.{range_parts}
 use Rattle.os_heap.proofs.Stores.{clear_of-found}
 use Rattle.os_heap.specs.Calls.{ending}
 use Rattle.os_heap.specs.Store.{Store, find_heap}
-use Rattle.dynamic_areas.proofs.LooseLemmas.{loose_created}
 use Rattle.dynamic_areas.proofs.ModuleArea.{IsModuleArea, find_ended, heap_below, module_area_known}
 use Rattle.dynamic_areas.proofs.RoomLemmas.{found_number}
 use Rattle.dynamic_areas.specs.declared.area.Area.{Area}
-use Rattle.dynamic_areas.specs.Areas.{Land, find_area, with_areas, without_area}
-use Rattle.dynamic_areas.specs.Changing.{AreLoose, change_answer, change_of, ended_by, is_growth, loose_pages, pages_asked, removed, store_changed, store_emptied, store_extended, store_less, store_reduced, with_heap_end}
+use Rattle.dynamic_areas.specs.Areas.{find_area}
+use Rattle.dynamic_areas.specs.Changing.{AreLoose, ended_by, loose_pages, store_extended, store_less, with_heap_end}
 use Rattle.dynamic_areas.specs.Ground.{Estate, IsEstate}
 use Rattle.dynamic_areas.specs.Remapped.{without_pages_at}
 use Rattle.heaps_kept.proofs.Blocks.{AreSame}

@@ -1,41 +1,27 @@
 -- What a call on modules that is carried on leaves of the module area's blocks, and a step in which module code comes back, where nothing slides.
-use Rattle.std.proofs.Common.{ℕ, ◌*◌, ◌≡◌, ◌≤◌, ◌==◌, ◌++◌, Bool, true, false, length, List, [], ◌∷◌, Option, Some, None, Result, Ok, Err, refl, sym, subst, arith}
-use Rattle.std.specs.Prelude.{IfSome, if◌then◌else◌}
+use Rattle.std.proofs.Common.{ℕ, ◌*◌, ◌≡◌, ◌++◌, Bool, true, false, List, [], ◌∷◌, Option, Some, None, Result, Ok, Err, refl, arith}
 use Rattle.std.proofs.lemmas.Bool.{lt-leb, true≢false}
 use Rattle.profile.specs.declared.error.ErrorNumber.{ErrorNumber}
-use Rattle.profile.specs.declared.fault.Fault.TheVariants.{StackChanged}
 use Rattle.address_map.specs.Bytes.{with_bytes_at}
-use Rattle.arm_step.specs.State.{register_in}
-use Rattle.arm_step.specs.declared.psr.Mode.TheVariants.{Supervisor}
 use Rattle.dynamic_areas.specs.Ground.{Estate}
-use Rattle.instances.proofs.Turning.{going_back}
 use Rattle.instances.specs.Reading.{start_found}
-use Rattle.instances.specs.Turns.{IsUnderWay, MayGoOn}
 use Rattle.instances.specs.declared.answers.Start.{Start}
 use Rattle.instances_ground.specs.World.{World, with_text}
 use Rattle.instances_plans.specs.Carrying.{Carried}
-use Rattle.instances_plans.specs.Plans.{Plan, first_of, refused, settled, settled_by}
+use Rattle.instances_plans.specs.Plans.{Plan, settled}
 use Rattle.instances_plans.specs.declared.action.Action.{Action}
 use Rattle.instances_plans.specs.declared.action.Action.TheVariants as act
 use Rattle.instances_plans.specs.declared.code.Code.{Code}
-use Rattle.instances_plans.specs.declared.code.Outcome.{Outcome as CodeOutcome}
-use Rattle.instances_plans.specs.declared.code.Outcome.TheVariants.{Refused, Well}
 use Rattle.instances_plans.specs.declared.given.Given.{Given}
 use Rattle.swi_dispatch_frames.specs.declared.call.Call.{Call}
-use Rattle.swi_dispatch_frames.specs.declared.frame.Frame.{Frame}
-use Rattle.swi_dispatch_frames.specs.declared.frame.FrameKind.{FrameKind}
-use Rattle.swi_dispatch_frames.specs.declared.frame.FrameKind.TheVariants as frame_kind
-use Rattle.swi_dispatch_frames.specs.Frames.{innermost}
 use Rattle.swi_dispatch_plans.specs.Trials.{world_carried}
-use Rattle.swi_dispatch.specs.declared.halt.Halt.TheVariants as halt
-use Rattle.swi_dispatch.specs.Gates.{call_ended_by, carried_on, come_back, ended_of, entered_if, entered_with, entry_left, fault_ahead, finished, frame_closed, frame_left, gated, gated_by, opened, outcome_left, plan_left, unless_fault}
-use Rattle.swi_dispatch.specs.MachineState.{MachineState, machine_estate, machine_world, quiet}
+use Rattle.swi_dispatch.specs.Gates.{call_ended_by, carried_on, come_back, ended_of, entered_if, entered_with, finished, gated, opened, outcome_left}
+use Rattle.swi_dispatch.specs.MachineState.{MachineState, machine_estate, machine_world}
 use Rattle.swi_dispatch.specs.ModuleStart.{opened_at}
-use Rattle.swi_dispatch.specs.Returns.{erred, gone_back, halted}
+use Rattle.swi_dispatch.specs.Returns.{gone_back}
 use Rattle.heaps_kept.proofs.BlockPlans.{plans_keep_blocks}
 use Rattle.heaps_kept.proofs.Blocks.{AreSame, beside_same, same_all, same_were, were_both}
 use Rattle.heaps_kept.proofs.Plans.{plans_fit}
-use Rattle.heaps_kept.proofs.Slots.{doable_below}
 use Rattle.heaps_kept.specs.BlockLaws.{HaveNoSlide, WereLive}
 use Rattle.heaps_kept.specs.FitEstates.{IsFitEstate}
 use Rattle.heaps_kept.specs.PlanLaws.{IsFitWorld, WorldStaysFit}

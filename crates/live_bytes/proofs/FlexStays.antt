@@ -1,6 +1,6 @@
 -- A byte of the flex store's range: what the calls on areas leave of it, and that it lies outside the module area and the system pages.
-use Rattle.std.proofs.Common.{ℕ, ◌+◌, ◌-◌, ◌*◌, ◌==◌, ◌&&◌, ◌≡◌, ◌≢◌, ◌≤◌, ◌<◌, ◌∙◌, Bool, true, false, List, [], ◌∷◌, Option, Some, None, refl, sym, ap, subst, inl, inr, arith}
-use Rattle.std.proofs.lemmas.Bool.{and_parts, both_ways, cases_Bool, cases_eq, eq-eqb, false_from_ne_true, false≢true, leb-true, ne_eqb, or_cases}
+use Rattle.std.proofs.Common.{ℕ, ◌+◌, ◌-◌, ◌*◌, ◌==◌, ◌&&◌, ◌≡◌, ◌≢◌, ◌≤◌, ◌<◌, ◌∙◌, Bool, true, false, List, [], ◌∷◌, Option, Some, refl, sym, ap, subst, inl, inr, arith}
+use Rattle.std.proofs.lemmas.Bool.{and_parts, both_ways, cases_eq, eq-eqb, false_from_ne_true, false≢true, leb-true, ne_eqb, or_cases}
 use Rattle.std.specs.List.{list_any}
 use Rattle.std.specs.Prelude.{nat_le}
 use Rattle.address_map.specs.Bytes.{in_range}
@@ -12,13 +12,13 @@ use Rattle.os_heap_lists.specs.Heap.{HeapList, with_heap}
 use Rattle.os_heap.proofs.Anchored.{header_outside}
 use Rattle.os_heap.proofs.Apart.{range_parts}
 use Rattle.os_heap.specs.Calls.{ending}
-use Rattle.os_heap.specs.Store.{AreClear, AreRangesApart, IsClearOfRanges, Store, find_heap, is_flex_store, is_in_flex_store}
+use Rattle.os_heap.specs.Store.{AreClear, AreRangesApart, IsClearOfRanges, Store, is_flex_store, is_in_flex_store}
 use Rattle.dynamic_areas.proofs.Loosened.{loose_ended}
 use Rattle.dynamic_areas.proofs.ModuleArea.{IsModuleArea, module_area_known}
 use Rattle.dynamic_areas.proofs.RoomLemmas.{found_behind, in_window}
 use Rattle.dynamic_areas.specs.declared.area.Area.{Area}
 use Rattle.dynamic_areas.specs.Areas.{find_area}
-use Rattle.dynamic_areas.specs.Changing.{AreLoose, AreRangesClear, ended_by, loose_pages, store_extended, store_less, with_heap_end}
+use Rattle.dynamic_areas.specs.Changing.{AreLoose, AreRangesClear, ended_by, loose_pages, store_less, with_heap_end}
 use Rattle.dynamic_areas.specs.Ground.{AreRangesMapped, Estate, IsEstate, IsRecorded, is_fixed, is_held, is_land, system_pages}
 use Rattle.dynamic_areas.specs.Rooms.{AreRooms, IsRoom}
 use Rattle.heaps_kept.specs.Fits.{is_module_byte}

@@ -18,7 +18,7 @@ use Rattle.swi_dispatch_frames.specs.declared.frame.FrameKind.{FrameKind}
 use Rattle.swi_dispatch_frames.specs.declared.frame.FrameKind.TheVariants as frame_kind
 use Rattle.swi_dispatch_frames.specs.Frames.{innermost}
 use Rattle.swi_dispatch.specs.declared.halt.Halt.TheVariants as halt
-use Rattle.swi_dispatch.specs.Gates.{carried_on, come_back, entry_left, fault_ahead, frame_closed, frame_left, gated, gated_by, outcome_left, plan_left, unless_fault}
+use Rattle.swi_dispatch.specs.Gates.{carried_on, come_back, fault_ahead, frame_closed, frame_left, gated, gated_by, outcome_left, plan_left, unless_fault}
 use Rattle.swi_dispatch.specs.MachineState.{MachineState, machine_world, quiet}
 use Rattle.swi_dispatch.specs.Returns.{erred, halted}
 use Rattle.heaps_kept.proofs.Slots.{doable_below}

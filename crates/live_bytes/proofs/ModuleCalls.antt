@@ -1,5 +1,5 @@
 -- What a call of OS_Module leaves: nothing is changed, or an error's block is written, or what its reason does.
-use Rattle.std.proofs.Common.{ℕ, ◌≡◌, ◌≤◌, Bool, true, false, length, List, Option, Some, None, Result, Ok, Err}
+use Rattle.std.proofs.Common.{ℕ, ◌≤◌, Bool, true, false, length, List, Option, Some, None, Result, Ok, Err}
 use Rattle.std.specs.Prelude.{IfOk}
 use Rattle.profile.specs.Outcome.{bind}
 use Rattle.profile.specs.Reasons.{module_reason}
@@ -25,7 +25,7 @@ use Rattle.swi_dispatch.specs.Answers.{refused, went_on}
 use Rattle.swi_dispatch.specs.Calls.{call_answer, on_world}
 use Rattle.swi_dispatch.specs.Errors.{with_error}
 use Rattle.swi_dispatch.specs.Gates.{carried_on}
-use Rattle.swi_dispatch.specs.MachineState.{MachineState, Outcome, machine_world, setting_of, with_world}
+use Rattle.swi_dispatch.specs.MachineState.{MachineState, machine_world, setting_of, with_world}
 use Rattle.swi_dispatch.specs.ModuleStart.{module_opened}
 use Rattle.swi_dispatch.specs.Returns.{gone_back}
 use Rattle.swi_dispatch.specs.Step.{begun, begun_alone, call_of, call_refused, ended, module_entered, os_module_called, os_module_called_for}

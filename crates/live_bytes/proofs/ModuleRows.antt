@@ -8,40 +8,33 @@ use Rattle.profile.specs.declared.error.ErrorNumber.{ErrorNumber}
 use Rattle.profile.specs.declared.error.ErrorNumber.TheVariants.{BadString}
 use Rattle.profile.specs.declared.reason.ModuleReason.{ModuleReason}
 use Rattle.profile.specs.declared.reason.ModuleReason.TheVariants as reason
-use Rattle.profile.specs.declared.swi.SwiName.TheVariants as swi
 use Rattle.arm_step.specs.State.{State, register_of, with_register}
 use Rattle.image_loader.specs.Entries.{Entry}
 use Rattle.os_heap_lists.specs.Heap.{HeapList}
 use Rattle.os_heap_lists.specs.Lists.{live_total}
 use Rattle.os_heap.proofs.Found.{found_start}
-use Rattle.os_heap.specs.Store.{Store, find_heap}
+use Rattle.os_heap.specs.Store.{find_heap}
 use Rattle.dynamic_areas.specs.Ground.{Estate}
 use Rattle.rma.specs.Calls.{rma_claimed, rma_extended, rma_freed}
 use Rattle.instances.specs.Reading.{told}
 use Rattle.instances_ground.specs.World.{World}
-use Rattle.instances_plans.specs.Plans.{Plan}
 use Rattle.instances_table.specs.Changes.{preferring, renamed}
 use Rattle.instances_table.specs.Modules.{Module}
 use Rattle.swi_dispatch_answers.specs.Refusals.{or_error}
 use Rattle.swi_dispatch_answers.specs.Strings.{string_in}
 use Rattle.swi_dispatch_answers.specs.Words.{host_string}
 use Rattle.swi_dispatch_answers.specs.declared.refusal.Refusal.{Refusal}
-use Rattle.swi_dispatch_answers.specs.declared.refusal.Refusal.TheVariants as refusal
 use Rattle.swi_dispatch_modules.specs.Calls.{module_called as area_called, module_called_for as area_called_for}
 use Rattle.swi_dispatch_modules.specs.Naming.{instance_found, instance_preferred, instance_renamed, place_asked, with_told}
-use Rattle.swi_dispatch_plans.specs.Openings.{opening_asked}
-use Rattle.swi_dispatch_plans.specs.declared.openings.Opening.{Opening}
 use Rattle.swi_dispatch_plans.specs.ImagePlans.{instantiation_planned}
 use Rattle.swi_dispatch_plans.specs.ModulePlans.{clear_planned, delete_planned, reinit_planned}
-use Rattle.swi_dispatch.specs.Additions.{Planned, copy_planned, insertion_planned, load_planned, named_load_planned, plan_alone}
-use Rattle.swi_dispatch.specs.Answers.{refused, went_on}
-use Rattle.swi_dispatch.specs.Calls.{call_answer, on_world}
+use Rattle.swi_dispatch.specs.Additions.{load_planned}
 use Rattle.swi_dispatch.specs.Errors.{with_error}
 use Rattle.swi_dispatch.specs.Gates.{carried_on}
-use Rattle.swi_dispatch.specs.MachineState.{MachineState, Outcome, machine_estate, machine_world, setting_of, with_world}
+use Rattle.swi_dispatch.specs.MachineState.{MachineState, machine_estate, machine_world, setting_of, with_world}
 use Rattle.swi_dispatch.specs.ModuleStart.{module_opened}
 use Rattle.swi_dispatch.specs.Returns.{gone_back}
-use Rattle.swi_dispatch.specs.Step.{begun, begun_alone, call_of, call_refused, ended, module_entered, os_module_called, os_module_called_for}
+use Rattle.swi_dispatch.specs.Step.{begun, os_module_called}
 use Rattle.heaps_kept.proofs.BlockCalls.{block_calls_keep}
 use Rattle.heaps_kept.proofs.Guests.{estates_fit}
 use Rattle.heaps_kept.specs.BlockLaws.{total_in}
@@ -50,15 +43,15 @@ use Rattle.heaps_kept.specs.PlanLaws.{IsFitWorld}
 use Rattle.heap_alone.proofs.Keeping.{error_kept, kept_same, off_system}
 use Rattle.heap_alone.proofs.LiveBytes.{payload_inside}
 use Rattle.heap_alone.proofs.ModuleHosts.{HasModules, fit_world}
-use Rattle.heap_alone.proofs.ModulePlans.{IsFitPlan, bound_any}
-use Rattle.heap_alone.proofs.PlansMade.{IsFitPlanned, alone_planned, clear_made, copy_made, delete_made, insertion_made, instantiation_made, load_made, named_load_made, reinit_made}
+use Rattle.heap_alone.proofs.ModulePlans.{bound_any}
+use Rattle.heap_alone.proofs.PlansMade.{IsFitPlanned, load_made}
 use Rattle.heap_alone.proofs.States.{HasStore, sound_store}
 use Rattle.live_bytes.proofs.AreaBlocks.{nothing_kept}
 use Rattle.live_bytes.proofs.Carried.{carried_were, opened_same}
 use Rattle.live_bytes.proofs.Extending.{extends_keep, stay_kept, stay_were, were_kept}
 use Rattle.live_bytes.proofs.Growing.{same_kept}
 use Rattle.live_bytes.proofs.ModuleCalls.{HoldsOver, Planning, begun_has, os_module_has, plan_by}
-use Rattle.live_bytes.proofs.Planned.{IsPlannedStill, NeverSlides, alone_still, clear_none, copy_still, delete_none, insertion_still, instantiation_calm, load_still, named_load_still, reinit_none}
+use Rattle.live_bytes.proofs.Planned.{IsPlannedStill, alone_still, clear_none, copy_still, delete_none, insertion_still, instantiation_calm, load_still, named_load_still, reinit_none}
 use Rattle.live_bytes.specs.AreaLaws.{KeepsBoth}
 use Rattle.live_bytes.specs.Changes.{is_tidy}
 

@@ -1,15 +1,14 @@
 -- Lists of moves, and runs.
-use Rattle.std.proofs.Common.{ℕ, zero, suc, ◌≡◌, ◌∙◌, ◌⊎◌, Bool, List, [], ◌∷◌, Option, Some, None, refl, inl, inr}
+use Rattle.std.proofs.Common.{ℕ, zero, suc, ◌∙◌, List, [], ◌∷◌, Option, Some, None, refl, inl, inr}
 use Rattle.std.proofs.lemmas.Bool.{cases_Bool}
 use Rattle.image_loader.specs.Entries.{Entry}
 use Rattle.swi_dispatch.specs.declared.halt.Halt.{Halt}
 use Rattle.swi_dispatch.specs.MachineState.{MachineState}
 use Rattle.swi_dispatch.specs.Run.{Run, go_on, is_among, ran, run_unless_halted}
 use Rattle.swi_dispatch.specs.Step.{machine_step}
-use Rattle.heap_alone.specs.Laws.{IsState}
-use Rattle.heap_alone.specs.Moves.{Move, Step, moved}
+use Rattle.heap_alone.specs.Moves.{Step, moved}
 use Rattle.live_bytes.proofs.Moves.{live_bytes_stay}
-use Rattle.live_bytes.specs.Runs.{IsHeldOver, IsStepped, LiveBytesStayOver, MayChangeOver, RunsAreSteps}
+use Rattle.live_bytes.specs.Runs.{IsStepped, LiveBytesStayOver, RunsAreSteps}
 
 pub stay_over : LiveBytesStayOver
 stay_over images s [] start a state held = inl refl
