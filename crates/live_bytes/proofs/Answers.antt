@@ -32,8 +32,8 @@ use Rattle.swi_dispatch.specs.Step.{call_of, call_refused, called, called_by, en
 use Rattle.heap_alone.proofs.Rows.{is_flex_call}
 use Rattle.heap_alone.specs.ModuleMoves.{is_module_name}
 use Rattle.heap_alone.specs.Moves.{is_heap_swi}
-use Rattle.live_bytes.proofs.AreaCases.{AreaCallHas}
 use Rattle.live_bytes.proofs.AreaRows.{HasWent, area_has, change_has}
+use Rattle.live_bytes.specs.AreaLaws.{AreaCallHas}
 
 -- is it another call than those?
 abbrev pub IsOther : Option SwiName → Type 0

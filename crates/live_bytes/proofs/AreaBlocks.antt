@@ -21,7 +21,7 @@ use Rattle.heaps_kept.proofs.Blocks.{AreSame}
 use Rattle.heaps_kept.proofs.Guests.{estates_fit}
 use Rattle.heaps_kept.specs.BlockLaws.{total_in}
 use Rattle.heaps_kept.specs.FitEstates.{IsFitEstate}
-use Rattle.live_bytes.proofs.AreaCases.{AreaCallHas, HoldsAfter, area_call_has}
+use Rattle.live_bytes.proofs.AreaCases.{HoldsAfter, area_call_has}
 use Rattle.live_bytes.proofs.Growing.{ended_same, extended_same, same_kept, same_then}
 use Rattle.live_bytes.specs.AreaLaws.{AreaCallsKeepBoth, KeepsBoth}
 
@@ -90,6 +90,4 @@ module _ (d : Estate) (good : IsEstate d) where
   }
 
 pub area_calls_keep_both : AreaCallsKeepBoth
-area_calls_keep_both d e good =
-    let all : AreaCallHas d (KeepsBoth d.store) e = area_call_has d good (KeepsBoth d.store) (both_after d good) e in
-    record { create = all.create; remove = all.remove; change = all.change }
+area_calls_keep_both d e good = area_call_has d good (KeepsBoth d.store) (both_after d good) e

@@ -17,6 +17,7 @@ use Rattle.dynamic_areas.specs.Creating.{created, pages_for}
 use Rattle.dynamic_areas.specs.Ground.{Estate, IsEstate}
 use Rattle.dynamic_areas.specs.Remapped.{with_pages_at, without_pages_at}
 use Rattle.heaps_kept.proofs.Guests.{estates_fit}
+use Rattle.live_bytes.specs.AreaLaws.{AreaCallHas}
 
 -- nothing is changed; pages are mapped; the module area grows; pages go that can; the module area shrinks
 pub record HoldsAfter (d : Estate) (P : Store → Type 0) : Type 0 where
@@ -27,15 +28,6 @@ pub record HoldsAfter (d : Estate) (P : Store → Type 0) : Type 0 where
       → P (without_pages_at d.store (area.base + 4096 * (area.pages - count)) (4096 * count))
   pub shrunk : (count : ℕ) (a : Area) → find_area 1 d.land.areas ≡ Some a → count ≤ loose_pages d.store a
       → P (store_less (with_heap_end d.store (4096 * (a.pages - count))) count (Some a))
-
-pub record AreaCallHas (d : Estate) (P : Store → Type 0) (e : Estate) : Type 0 where
-  pub create : (w : Wanted) (name : List ℕ) (made : Created) → created d.land d.pool w name ≡ Ok (e.land, made)
-      → e.store ≡ with_pages_at d.store made.base (4096 * pages_for w.size) → P e.store
-  pub remove : (number : ℕ) → removed d.land d.store number ≡ Ok e.land
-      → e.store ≡ store_emptied d.store (find_area number d.land.areas) → P e.store
-  pub change : (number amount : ℕ)
-      → (let bytes : ℕ = (change_answer d.land.areas d.store d.pool number amount).bytes in
-      e.store ≡ store_changed d.store d.land.areas number amount bytes) → P e.store
 
 module _ (d : Estate) (good : IsEstate d) (P : Store → Type 0) (holds : HoldsAfter d P) where
   none_first : (number : ℕ) → (number == 1) ≡ true → find_area number d.land.areas ≡ None → ⊥

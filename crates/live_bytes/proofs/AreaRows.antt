@@ -22,7 +22,7 @@ use Rattle.swi_dispatch_answers.specs.declared.refusal.Refusal.{Refusal}
 use Rattle.swi_dispatch_store.specs.Areas.{area_called, area_called_for, area_changed, area_made, area_named, area_resized, change_asked, change_left, wanted_of, with_land}
 use Rattle.swi_dispatch.specs.Calls.{on_estate, with_guest}
 use Rattle.swi_dispatch.specs.MachineState.{MachineState, machine_estate}
-use Rattle.live_bytes.proofs.AreaCases.{AreaCallHas}
+use Rattle.live_bytes.specs.AreaLaws.{AreaCallHas}
 
 -- what is left where there is no error
 abbrev pub HasWent : (Store → Type 0) → Result MachineState Refusal → Type 0

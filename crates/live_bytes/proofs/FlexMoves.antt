@@ -54,15 +54,16 @@ use Rattle.heap_alone.specs.Laws.{IsState}
 use Rattle.heap_alone.specs.ModuleMoves.{is_module_name}
 use Rattle.heap_alone.specs.Moves.{Call, Step, given, is_heap_swi, moved, outside_name, swi_of_turn}
 use Rattle.live_bytes.proofs.Answers.{other_has}
-use Rattle.live_bytes.proofs.AreaCases.{AreaCallHas, area_call_has}
+use Rattle.live_bytes.proofs.AreaCases.{area_call_has}
 use Rattle.live_bytes.proofs.FlexRows.{init_byte}
 use Rattle.live_bytes.proofs.FlexStays.{flex_after, flex_off, flex_outside}
 use Rattle.live_bytes.proofs.Gates.{Goes, gate_has}
 use Rattle.live_bytes.proofs.Heaps.{HasHeaps, given_heaps, has_heaps}
 use Rattle.live_bytes.proofs.ModuleCalls.{HoldsOver, Planning, os_module_has, plan_by}
-use Rattle.live_bytes.proofs.Moves.{call_halted, step_halted}
+use Rattle.live_bytes.proofs.Moves.{call_halted, named_call, named_step, step_halted}
 use Rattle.live_bytes.proofs.Rows.{error_off}
 use Rattle.live_bytes.specs.Changes.{FlexBytesStay, is_flex_name}
+use Rattle.live_bytes.specs.AreaLaws.{AreaCallHas}
 
 -- an error's block lies in the system pages
 error_out : (s : MachineState) (e : Refusal) → KeepsOutside s.store (with_error s e).store
@@ -271,15 +272,6 @@ module _ (images : List Entry) (s : MachineState) (has : HasHeaps s) (a : ℕ) (
       from_call n (turned images s (Err (turn.Swi n))).now.store (call_stays (bit_of n 17) ((s.cpu.pc + 4) % 2 ^ 26) (without_x n) sound)
   turn_stays (Err turn.Gate) is sound = inl ((gate_out s has.modules).bytes a out)
   turn_stays (Err (turn.Fault f)) is sound = inl refl
-
-named_step : (A B C : Type 0) → A ⊎ (B ⊎ C) → A ⊎ (((Step ≡ Step) × B) ⊎ C)
-named_step A B C (inl same) = inl same
-named_step A B C (inr (inl stored)) = inr (inl (refl, stored))
-named_step A B C (inr (inr other)) = inr (inr other)
-
-named_call : (A B C : Type 0) → A ⊎ C → A ⊎ (B ⊎ C)
-named_call A B C (inl same) = inl same
-named_call A B C (inr other) = inr (inr other)
 
 step_stays : (images : List Entry) (s : MachineState) (a : ℕ) (o : Option Halt) → s.halt ≡ o → IsState s → IsState (moved images s Step)
     → is_in_flex_store s.store.others a ≡ true

@@ -226,12 +226,12 @@ unfolding store_called
 call_halted images s number h is =
     ap (λ (o : Option Halt). unless_halted s o (called images s true s.cpu.pc (without_x (number % 2 ^ 24)))) is
 
-named_step : (A B C : Type 0) → A ⊎ (B ⊎ C) → A ⊎ (((Step ≡ Step) × B) ⊎ C)
+pub named_step : (A B C : Type 0) → A ⊎ (B ⊎ C) → A ⊎ (((Step ≡ Step) × B) ⊎ C)
 named_step A B C (inl same) = inl same
 named_step A B C (inr (inl stored)) = inr (inl (refl, stored))
 named_step A B C (inr (inr other)) = inr (inr other)
 
-named_call : (A B C : Type 0) → A ⊎ C → A ⊎ (B ⊎ C)
+pub named_call : (A B C : Type 0) → A ⊎ C → A ⊎ (B ⊎ C)
 named_call A B C (inl same) = inl same
 named_call A B C (inr other) = inr (inr other)
 

@@ -23,9 +23,8 @@ use Rattle.heap_alone.proofs.ModuleHosts.{IsHost}
 use Rattle.heap_alone.proofs.States.{sound_store}
 use Rattle.live_bytes.proofs.Answers.{IsOther, other_has}
 use Rattle.live_bytes.proofs.AreaBlocks.{area_calls_keep_both}
-use Rattle.live_bytes.proofs.AreaCases.{AreaCallHas}
 use Rattle.live_bytes.proofs.Heaps.{HasHeaps, all_kept}
-use Rattle.live_bytes.specs.AreaLaws.{AreaCallKeepsBoth}
+use Rattle.live_bytes.specs.AreaLaws.{AreaCallHas, KeepsBoth}
 
 -- an error's block lies in the system pages
 word_off : (f : ℕ → ℕ) (a number : ℕ) → in_range 0x01C00000 0x3000 a ≡ false → with_word_at f 0x01C02100 number a ≡ f a
@@ -60,7 +59,7 @@ module _ (s : MachineState) (has : HasHeaps s) where
     own = host.own;
   })
 
-  both : (e : Estate) → AreaCallKeepsBoth (machine_estate s) e
+  both : (e : Estate) → AreaCallHas (machine_estate s) (KeepsBoth s.store) e
   both e = area_calls_keep_both (machine_estate s) e has.modules.store.estate
 
   areas_all : (e : Estate) → AreaCallHas (machine_estate s) (KeepsPayloads s.store) e

@@ -25,15 +25,15 @@ abbrev pub ExtendsKeepBlocks : Type 0
 ExtendsKeepBlocks =
     (d e : Estate) (block change new : ℕ) → IsFitEstate d → rma_extended d block change ≡ Ok (e, new) → KeepsBoth d.store e.store
 
--- A call on a dynamic area, the module area's own among them.
-pub record AreaCallKeepsBoth (d e : Estate) : Type 0 where
+-- What each call on a dynamic area leaves that is done, the module area's own calls among them, has a property of stores.
+pub record AreaCallHas (d : Estate) (P : Store → Type 0) (e : Estate) : Type 0 where
   pub create : (w : Wanted) (name : List ℕ) (made : Created) → created d.land d.pool w name ≡ Ok (e.land, made)
-      → e.store ≡ with_pages_at d.store made.base (4096 * pages_for w.size) → KeepsBoth d.store e.store
+      → e.store ≡ with_pages_at d.store made.base (4096 * pages_for w.size) → P e.store
   pub remove : (number : ℕ) → removed d.land d.store number ≡ Ok e.land
-      → e.store ≡ store_emptied d.store (find_area number d.land.areas) → KeepsBoth d.store e.store
+      → e.store ≡ store_emptied d.store (find_area number d.land.areas) → P e.store
   pub change : (number amount : ℕ)
       → (let bytes : ℕ = (change_answer d.land.areas d.store d.pool number amount).bytes in
-      e.store ≡ store_changed d.store d.land.areas number amount bytes) → KeepsBoth d.store e.store
+      e.store ≡ store_changed d.store d.land.areas number amount bytes) → P e.store
 
 abbrev pub AreaCallsKeepBoth : Type 0
-AreaCallsKeepBoth = (d e : Estate) → IsEstate d → AreaCallKeepsBoth d e
+AreaCallsKeepBoth = (d e : Estate) → IsEstate d → AreaCallHas d (KeepsBoth d.store) e
