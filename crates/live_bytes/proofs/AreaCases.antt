@@ -1,5 +1,5 @@
 -- The calls that change areas, case by case: a property of stores that holds after each of their parts holds after each call.
-use Rattle.std.proofs.Common.{if◌then◌else◌, ℕ, ◌+◌, ◌-◌, ◌*◌, ◌/◌, ◌==◌, ◌||◌, ◌≡◌, ◌≢◌, ◌≤◌, ◌∙◌, true, false, List, Option, Some, None, Ok, Err, refl, sym, ap, subst, inl, inr, arith}
+use Rattle.std.proofs.Common.{if◌then◌else◌, ℕ, ◌+◌, ◌-◌, ◌*◌, ◌/◌, ◌==◌, ◌||◌, ◌≡◌, ◌≢◌, ◌≤◌, ◌∙◌, true, false, Option, Some, None, Ok, Err, refl, sym, ap, subst, inl, inr, arith}
 use Rattle.std.proofs.Math.Nat.{min-le_right}
 use Rattle.std.proofs.lemmas.Bool.{cases_Bool, eqb-false, eqb-true, ltb-false, or_parts}
 use Rattle.std.specs.Prelude.{min, nat_lt, ok_or}
@@ -9,11 +9,9 @@ use Rattle.os_heap.specs.Store.{Store}
 use Rattle.dynamic_areas.proofs.LooseLemmas.{loose_created}
 use Rattle.dynamic_areas.proofs.RoomLemmas.{found_number}
 use Rattle.dynamic_areas.specs.declared.area.Area.{Area}
-use Rattle.dynamic_areas.specs.declared.area.Created.{Created}
-use Rattle.dynamic_areas.specs.declared.area.Wanted.{Wanted}
 use Rattle.dynamic_areas.specs.Areas.{Land, find_area, with_areas, without_area}
 use Rattle.dynamic_areas.specs.Changing.{AreLoose, change_answer, change_of, is_growth, loose_pages, pages_asked, removed, store_changed, store_emptied, store_extended, store_less, store_reduced, with_heap_end}
-use Rattle.dynamic_areas.specs.Creating.{created, pages_for}
+use Rattle.dynamic_areas.specs.Creating.{pages_for}
 use Rattle.dynamic_areas.specs.Ground.{Estate, IsEstate}
 use Rattle.dynamic_areas.specs.Remapped.{with_pages_at, without_pages_at}
 use Rattle.heaps_kept.proofs.Guests.{estates_fit}

@@ -22,7 +22,7 @@ use Rattle.os_heap.specs.Store.{Store, find_heap, has_image}
 use Rattle.dynamic_areas.specs.Ground.{Estate}
 use Rattle.rma.specs.Calls.{end_if_moved, end_in_place, grown_in_place, grown_to, in_area, is_full, or_as_before, resized_or_grown, rma_base, rma_extended}
 use Rattle.heaps_kept.proofs.BlockCalls.{WereLiveIn, gave_were}
-use Rattle.heaps_kept.proofs.Blocks.{AreSame, held_total, same_all, unspelled}
+use Rattle.heaps_kept.proofs.Blocks.{AreSame, held_total, same_all, same_both, unspelled}
 use Rattle.heaps_kept.proofs.HeapCalls.{OnDone, items_of_fit, on_if, on_some, unless_some}
 use Rattle.heaps_kept.proofs.Holding.{held_fit, range_within, written_fit}
 use Rattle.heaps_kept.proofs.Lists.{HasRoomIfSome, resized_room}
@@ -179,13 +179,8 @@ grown_kept : (s : Store) (e : Estate) (block change : ℕ) (o : Result Estate Er
     → OnEstate (KeepsFrom s) (bind o (λ g. in_area g (resized g.store 0x01800000 block change)))
 grown_kept s e block change (Err f) same fit grown = tt
 grown_kept s e block change (Ok g) same fit grown =
-    in_kept s g (resized g.store 0x01800000 block change) (both s e.store g.store same grown)
-    (resized_kept (4096 * fit.fit.area.pages) block change g.store fit.fit.store) where
-      both : (s t u : Store) → AreSame s t → AreSame t u → AreSame s u
-      both s t u one two = record {
-        totals = λ block. two.totals block ∙ one.totals block;
-        bytes = λ block total live a inside. two.bytes block total (one.totals block ∙ live) a inside ∙ one.bytes block total live a inside;
-      }
+    in_kept s g (resized g.store 0x01800000 block change) (same_both s e.store g.store same grown)
+    (resized_kept (4096 * fit.fit.area.pages) block change g.store fit.fit.store)
 
 or_grown_kept : (s : Store) (e : Estate) (block change : ℕ) → AreSame s e.store → IsFitEstate e → OnEstate (KeepsFrom s) (resized_or_grown e block change)
 or_grown_kept s e block change same f = elim (cases_Bool (is_full (resized e.store 0x01800000 block change))) [

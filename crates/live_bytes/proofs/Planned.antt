@@ -32,7 +32,7 @@ use Rattle.heaps_kept.proofs.BlockCalls.{block_calls_keep}
 use Rattle.heaps_kept.specs.BlockLaws.{HaveNoSlide, StayLive}
 use Rattle.heaps_kept.specs.FitEstates.{IsFitEstate}
 use Rattle.heaps_kept.specs.PlanLaws.{IsFitWorld}
-use Rattle.heap_alone.proofs.ModulePlans.{bound_any, bound_if, bound_short}
+use Rattle.heap_alone.proofs.ModulePlans.{bound, bound_any, bound_if, bound_short}
 
 -- plans without a slide
 abbrev pub NeverSlides : Plan → Type 0
@@ -113,18 +113,13 @@ copied_stay : (e : Estate) (at len : ℕ) (r : Result (Estate × ℕ) ErrorNumbe
 copied_stay e at len (Ok made) fit is = (block_calls_keep e made.0 fit).copy_image at len made.1 is
 copied_stay e at len (Err f) fit is = tt
 
-placed : {A : Type 0} (Q : A → Type 0) (P : World × Plan → Type 0) (r : Result A ErrorNumber) (next : A → Result (World × Plan) ErrorNumber) → IfOk r Q
-    → ((a : A) → Q a → IfOk (next a) P) → IfOk (bind r next) P
-placed Q P (Ok a) next found each = each a found
-placed Q P (Err e) next found each = tt
-
 loading_stays : (w : World) (image text : List ℕ) → IsFitWorld w → IfOk (loading w image text) (StaysAdded w)
 unfolding loading
 loading_stays w image text fit =
     bound_short (StaysAdded w) text _ (λ few.
     bound_any (StaysAdded w) (good_header (header_of image)) _ (λ header.
     bound_any (StaysAdded w) (slot_for w.modules header) _ (λ slot.
-    placed (λ (made : Estate × ℕ). StayLive w.estate.store made.0.store) (StaysAdded w) (image_made w.estate image) _
+    bound (λ (made : Estate × ℕ). StayLive w.estate.store made.0.store) (StaysAdded w) (image_made w.estate image) _
     (made_stay w.estate image (image_made w.estate image) fit.estate refl) (λ made stay. record {
       stay = stay;
       none = adding_none w.modules header (record { at = made.1; len = length image }) text slot;
@@ -146,7 +141,7 @@ copying_stays w at len fit =
     bound_if (StaysAdded w) (not (may_be_copied w.estate at len)) _ _
     (bound_any (StaysAdded w) (good_header (header_of (bytes_between w.estate.store.bytes.at at len))) _ (λ header.
     bound_any (StaysAdded w) (slot_for w.modules header) _ (λ slot.
-    placed (λ (made : Estate × ℕ). StayLive w.estate.store made.0.store) (StaysAdded w) (image_copied w.estate at len) _
+    bound (λ (made : Estate × ℕ). StayLive w.estate.store made.0.store) (StaysAdded w) (image_copied w.estate at len) _
     (copied_stay w.estate at len (image_copied w.estate at len) fit.estate refl) (λ made stay. record {
       stay = stay;
       none = adding_none w.modules header (record { at = made.1; len = len }) [] slot;

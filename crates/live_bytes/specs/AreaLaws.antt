@@ -23,9 +23,10 @@ KeepsBoth s t =
 -- whatever the area grows by, and wherever the block that changes gets its bytes
 abbrev pub ExtendsKeepBlocks : Type 0
 ExtendsKeepBlocks =
-    (d e : Estate) (block change new : ℕ) → IsFitEstate d → rma_extended d block change ≡ Ok (e, new) → KeepsBoth d.store e.store
+    (d e : Estate) (block change new : ℕ) → IsFitEstate d → rma_extended d block change ≡ Ok (e, new)
+    → KeepsBoth d.store e.store
 
--- What each call on a dynamic area leaves that is done, the module area's own calls among them, has a property of stores.
+-- What each call on a dynamic area leaves that is done, one on the module area too, has a property of stores.
 pub record AreaCallHas (d : Estate) (P : Store → Type 0) (e : Estate) : Type 0 where
   pub create : (w : Wanted) (name : List ℕ) (made : Created) → created d.land d.pool w name ≡ Ok (e.land, made)
       → e.store ≡ with_pages_at d.store made.base (4096 * pages_for w.size) → P e.store

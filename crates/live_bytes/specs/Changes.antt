@@ -1,6 +1,6 @@
--- Which bytes that live blocks hold may change over a move of a machine, a store call from outside or a step: those that
--- its instruction stores to; words of anchors, by flex calls; and those of the module area where its blocks are moved
--- together (RISC OS 3 Programmer's Reference Manual, "OS_Heap" and "OS_Module"; Acorn C manual, "flex").
+-- Which bytes that live blocks hold may change over a move of a machine, a store call from outside or a step: those
+-- that its instruction stores to; words of anchors, by flex calls; and those of the module area where its blocks are
+-- moved together (RISC OS 3 Programmer's Reference Manual, "OS_Heap" and "OS_Module"; Acorn C manual, "flex").
 use Rattle.std.specs.Prelude.{ℕ, ◌≡◌, ◌-◌, ◌+◌, ◌&&◌, ◌||◌, ◌⊎◌, Bool, true, false, List, [], ◌∷◌, Option, Some, None, Ok}
 use Rattle.profile.specs.Reasons.{module_reason}
 use Rattle.profile.specs.declared.reason.ModuleReason.{ModuleReason}
@@ -27,7 +27,8 @@ use Rattle.heap_alone.specs.ModuleMoves.{is_at_gate, is_module_name}
 use Rattle.heap_alone.specs.Moves.{Call, Move, Step, core_of, moved, swi_made}
 use Rattle.live_bytes.specs.FlexLaws.{IsAnchorByte}
 
--- A byte that a block of the heap at `start` holds in two stores: the block is live in both, with its bytes at one address, and of any size.
+-- A byte that a block of the heap at `start` holds in two stores: the block is live in both, with its bytes at one
+-- address, and of any size.
 pub record IsHeld (s t : Store) (start a : ℕ) : Type 0 where
   pub old : HeapList
   pub new : HeapList
@@ -49,7 +50,8 @@ is_flex_name (Some swi.FlexExtend) = true
 is_flex_name (Some swi.FlexMidExtend) = true
 is_flex_name other = false
 
--- A tidy moves the blocks of the module area together. It may do so in the call of OS_Module, or where module code comes back that it had entered.
+-- A tidy moves the blocks of the module area together. It may do so in the call of OS_Module, or where module code comes
+-- back that it had entered.
 abbrev pub has_slide : List Action → Bool
 has_slide [] = false
 has_slide (act.Slide ∷ actions) = true
@@ -84,17 +86,20 @@ LiveBytesStay =
     → IsHeld s.store (moved images s m).store start a
     → ((moved images s m).store.bytes.at a ≡ s.store.bytes.at a) ⊎ MayChange s (moved images s m) m start a
 
--- Of the bytes of the flex store none changes over any move but these calls, a tidy neither, unless an instruction stores there.
+-- Of the bytes of the flex store none changes over any move but these calls, a tidy neither, unless an instruction
+-- stores there.
 abbrev pub FlexBytesStay : Type 0
 FlexBytesStay =
     (images : List Entry) (s : MachineState) (m : Move) (a : ℕ) → IsState s → IsState (moved images s m)
     → is_in_flex_store s.store.others a ≡ true
-    → ((moved images s m).store.bytes.at a ≡ s.store.bytes.at a) ⊎ (((m ≡ Step) × IsStoredPlain s a) ⊎ (is_flex_name (swi_made s m) ≡ true))
+    → ((moved images s m).store.bytes.at a ≡ s.store.bytes.at a)
+    ⊎ (((m ≡ Step) × IsStoredPlain s a) ⊎ (is_flex_name (swi_made s m) ≡ true))
 
 -- A module that is loaded from outside changes none at all.
 abbrev pub LoadsKeepLiveBytes : Type 0
 LoadsKeepLiveBytes =
-    (images : List Entry) (s : MachineState) (text : List ℕ) → IsState s → KeepsPayloads s.store (module_loaded images s text).now.store
+    (images : List Entry) (s : MachineState) (text : List ℕ) → IsState s
+    → KeepsPayloads s.store (module_loaded images s text).now.store
 
 -- A word that a user stores from outside is one that isn't owned, and no other byte changes.
 abbrev pub PokesChangeOneWord : Type 0

@@ -12,7 +12,8 @@ IsAnchorByte s t a = (s.anchor a ≡ true) ⊎ (t.anchor a ≡ true)
 -- Calls move blocks, and so write the anchors of other blocks too; init writes nothing.
 pub record FlexCallChangesAnchors (x : Stores) (a : ℕ) : Type 0 where
   pub calls : (call : FlexCall) → is_in_flex_store (store_in x).others a ≡ false
-      → ((store_in (turned (Call call) x)).bytes.at a ≡ (store_in x).bytes.at a) ⊎ IsAnchorByte (store_in x) (store_in (turned (Call call) x)) a
+      → ((store_in (turned (Call call) x)).bytes.at a ≡ (store_in x).bytes.at a)
+      ⊎ IsAnchorByte (store_in x) (store_in (turned (Call call) x)) a
   pub init : (start end : ℕ) → (store_in (turned (Init start end) x)).bytes.at a ≡ (store_in x).bytes.at a
 
 abbrev pub FlexCallsChangeAnchors : Type 0

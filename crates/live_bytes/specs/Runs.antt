@@ -11,16 +11,19 @@ use Rattle.live_bytes.specs.Changes.{IsHeld, MayChange}
 abbrev pub IsHeldOver : List Entry → MachineState → List Move → ℕ → ℕ → Type 0
 IsHeldOver images s [] start a = Unit {0}
 IsHeldOver images s (m ∷ ms) start a =
-    (IsState (moved images s m) × IsHeld s.store (moved images s m).store start a) × IsHeldOver images (moved images s m) ms start a
+    (IsState (moved images s m) × IsHeld s.store (moved images s m).store start a)
+    × IsHeldOver images (moved images s m) ms start a
 
 -- one of the moves may change it
 abbrev pub MayChangeOver : List Entry → MachineState → List Move → ℕ → ℕ → Type 0
 MayChangeOver images s [] start a = ⊥
-MayChangeOver images s (m ∷ ms) start a = MayChange s (moved images s m) m start a ⊎ MayChangeOver images (moved images s m) ms start a
+MayChangeOver images s (m ∷ ms) start a =
+    MayChange s (moved images s m) m start a ⊎ MayChangeOver images (moved images s m) ms start a
 
 abbrev pub LiveBytesStayOver : Type 0
 LiveBytesStayOver =
-    (images : List Entry) (s : MachineState) (moves : List Move) (start a : ℕ) → IsState s → IsHeldOver images s moves start a
+    (images : List Entry) (s : MachineState) (moves : List Move) (start a : ℕ) → IsState s
+    → IsHeldOver images s moves start a
     → ((moved_all images s moves).store.bytes.at a ≡ s.store.bytes.at a) ⊎ MayChangeOver images s moves start a
 
 -- a number of steps
