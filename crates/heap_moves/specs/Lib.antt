@@ -1,0 +1,4 @@
+pub use Rattle.heap_alone
+pub mod Making
+pub mod Moves
+pub mod Pairs

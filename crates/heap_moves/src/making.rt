@@ -1,0 +1,73 @@
+//! A list of moves on one machine.
+
+ghost use Rattle.std.specs.Prelude.{◌≡◌, ◌==◌, ◌≤◌, ◌&&◌, length};
+ghost use Rattle.swi_dispatch.specs.Parts.{IsMachine, state_of};
+ghost use Rattle.heap_alone.specs.Moves.{given, is_own, moved};
+ghost use Rattle.heap_moves.specs.Making.{AreMade};
+ghost use Rattle.heap_moves.specs.Moves.{written, written_all};
+
+use crate::moves::{End, Made, Move, Moves};
+use crate::own_calls::{is_own_call, reply_of};
+use arrayvec::ArrayVec;
+use image_loader::Images;
+use swi_dispatch::Machine;
+
+/// Makes the moves in turn, until the machine is halted or there is no room for an answer. If a guest's heap with no
+/// anchor in it stands at `start`, and the moves leave it to itself, then what it answers is what it answers alone.
+pub fn make_moves<const MOST: usize>(machine: &mut Machine, moves: &Moves) -> Made<MOST>
+    ensures made { AreMade moves.now.images.now moves.now.start (state_of machine.old) (state_of machine.new)
+        (written_all moves.now.list.now) MOST result.count result.end result.answers.items }
+    ensures fresh { machine.new.is_fresh ≡ (machine.old.is_fresh && (result.count == 0)) }
+    ensures sizes { machine.new.sizes ≡ machine.old.sizes }
+    ensures machine { IsMachine machine.new }
+{
+    let mut answers = ArrayVec::new();
+    machine.known();
+    if let Some(stop) = machine.stop() {
+        return Made { count: 0, end: End::Halted(stop), answers };
+    }
+    for (count, next) in moves.list.iter().enumerate() {
+        let is_own = make_move(machine, moves.images, moves.start, next);
+        if let Some(stop) = machine.stop() {
+            return Made { count: count + 1, end: End::Halted(stop), answers };
+        }
+        if is_own && answers.try_push(reply_of(machine)).is_err() {
+            return Made { count: count + 1, end: End::Full, answers };
+        }
+    }
+    Made { count: moves.list.len(), end: End::All, answers }
+}
+
+/// Makes one move, and answers whether it is a call on the heap at `start`.
+fn make_move(machine: &mut Machine, images: &Images, start: u32, next: &Move) -> bool
+    ensures state { state_of machine.new ≡ moved images.now (state_of machine.old) (written next.now) }
+    ensures own { result ≡ is_own start (state_of machine.old) (written next.now) }
+    ensures fresh { machine.new.is_fresh ≡ false }
+    ensures sizes { machine.new.sizes ≡ machine.old.sizes }
+    ensures machine { IsMachine machine.new }
+{
+    let mut is_own = false;
+    match next {
+        Move::Call(number, words) => {
+            set_registers(machine, words);
+            is_own = is_own_call(machine.cpu(), *number, start);
+            machine.store_call(images, *number);
+        }
+        Move::Step => {
+            machine.step(images);
+        }
+    }
+    machine.known();
+    is_own
+}
+
+/// Sets R0 and the registers behind it.
+fn set_registers(machine: &mut Machine, words: &[u32])
+    requires { length words.now ≤ 15 }
+    ensures state { state_of machine.new ≡ given (state_of machine.old) words.now }
+    ensures sizes { machine.new.sizes ≡ machine.old.sizes }
+{
+    for (number, word) in words.iter().enumerate() {
+        machine.set_register(number as u32, *word);
+    }
+}
