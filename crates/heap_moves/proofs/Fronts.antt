@@ -6,7 +6,7 @@ use Rattle.heap_turns.specs.Turns.{Reply as WrittenReply}
 use Rattle.swi_dispatch.specs.MachineState.{MachineState}
 use Rattle.heap_alone.specs.Moves.{Move as WrittenMove, answers_in, is_own, moved, moved_all, reply_of}
 use Rattle.heap_moves.specs.Making.{AreGoing, GoesOn}
-use Rattle.heap_moves.specs.Moves.{noted, noted_all, written, written_all}
+use Rattle.heap_moves.specs.Moves.{noted, noted_all, reply_if, written, written_all}
 use Rattle.heap_moves.specs.declared.moves.Move.{Move}
 use Rattle.heap_moves.specs.declared.moves.Reply.{Reply}
 
@@ -48,34 +48,31 @@ next_front xs i d below =
     ∙ ap (λ (ms : List WrittenMove). ms ++ written (get_or xs i d) ∷ []) (sym (take-map written i xs))
 
 -- So many moves were made and done, from one state to another, and so the answers stand.
-pub record IsUnder (images : List Entry) (start : ℕ) (s t : MachineState) (moves : List WrittenMove) (answers : List Reply) : Type 0 where
+pub record IsUnder (images : List Entry) (start : ℕ) (s t : MachineState) (moves : List WrittenMove) (told : List Reply) : Type 0 where
   pub machine : t ≡ moved_all images s moves
   pub goes : AreGoing images s moves
-  pub answers : answers ≡ noted_all (answers_in images start s moves)
-
-abbrev pub with_reply : Bool → MachineState → List Reply
-with_reply own t = if own then noted (reply_of t) ∷ [] else []
+  pub answers : told ≡ noted_all (answers_in images start s moves)
 
 noted_if : (own : Bool) (r : WrittenReply) → noted_all (if own then r ∷ [] else []) ≡ (if own then noted r ∷ [] else [])
 noted_if true r = refl
 noted_if false r = refl
 
-pub under_more : (images : List Entry) (start : ℕ) (s t u : MachineState) (moves front : List WrittenMove) (m : WrittenMove) (answers : List Reply)
-    → IsUnder images start s t moves answers → front ≡ moves ++ m ∷ [] → u ≡ moved images t m → GoesOn u
-    → IsUnder images start s u front (answers ++ with_reply (is_own start t m) u)
-under_more images start s t u moves front m answers under longer is goes =
+pub under_more : (images : List Entry) (start : ℕ) (s t u : MachineState) (moves front : List WrittenMove) (m : WrittenMove) (told : List Reply)
+    → IsUnder images start s t moves told → front ≡ moves ++ m ∷ [] → u ≡ moved images t m → GoesOn u
+    → IsUnder images start s u front (told ++ reply_if (is_own start t m) u)
+under_more images start s t u moves front m told under longer is goes =
     let at : MachineState = moved_all images s moves in
     let here : u ≡ moved images at m = is ∙ ap (λ (x : MachineState). moved images x m) under.machine in
     let own : Bool = is_own start t m in
-    let added : noted_all (answered images start at m) ≡ with_reply own u =
+    let added : noted_all (answered images start at m) ≡ reply_if own u =
     ap (λ (x : MachineState). noted_all (answered images start x m)) (sym under.machine)
-    ∙ noted_if own (reply_of (moved images t m)) ∙ ap (with_reply own) (sym is) in
-    let whole : noted_all (answers_in images start s front) ≡ answers ++ with_reply own u =
+    ∙ noted_if own (reply_of (moved images t m)) ∙ ap (reply_if own) (sym is) in
+    let whole : noted_all (answers_in images start s front) ≡ told ++ reply_if own u =
     ap (λ (ms : List WrittenMove). noted_all (answers_in images start s ms)) longer
     ∙ ap noted_all (answers_more images start s moves m)
     ∙ noted_more (answers_in images start s moves) (answered images start at m)
     ∙ ap (λ (rs : List Reply). rs ++ noted_all (answered images start at m)) (sym under.answers)
-    ∙ ap (λ (rs : List Reply). answers ++ rs) added in
+    ∙ ap (λ (rs : List Reply). told ++ rs) added in
     record {
       machine = here ∙ sym (moved_more images s moves m) ∙ ap (moved_all images s) (sym longer);
       goes = subst (AreGoing images s) (sym longer) (going_more images s moves m under.goes (subst GoesOn here goes));

@@ -10,7 +10,7 @@ use Rattle.heap_alone.proofs.Keeping.{found_alone}
 use Rattle.heap_alone.proofs.Lists.{stand_alone}
 use Rattle.heap_alone.specs.Laws.{AreMovesDone, HasHeap, StandsAlone}
 use Rattle.heap_alone.specs.Moves.{Move, answers_in, calls_in, moved}
-use Rattle.heap_moves.specs.Making.{AreAside, AreGoing, GoesOn, HasHeapAt, StandsByItself}
+use Rattle.heap_moves.specs.Making.{AreAside, AreGoing, GoesOn, HasHeapAt, IsByItself, StandsByItself}
 use Rattle.heap_moves.specs.Moves.{noted_all}
 use Rattle.heap_moves.specs.Pairs.{AreAlike, Side}
 use Rattle.heap_moves.specs.declared.moves.Reply.{Reply}
@@ -55,8 +55,8 @@ still_by_itself images start s = λ h has aside.
 pub are_alike : (one two : Side) → StandsByItself one.images one.start one.state one.moves one.answers
     → StandsByItself two.images two.start two.state two.moves two.answers → AreAlike one two
 are_alike one two first second = λ h k here there same.
-    let a = first h here.here here.aside in
-    let b = second k there.here there.aside in
+    let a : IsByItself one.images one.state h one.moves one.answers = first h here.here here.aside in
+    let b : IsByItself two.images two.state k two.moves two.answers = second k there.here there.aside in
     let w : Alone = alone_in one.state.store h in
     let v : Alone = alone_in two.state.store k in
     let cs : List HeapCall = calls_in one.images h.start one.state one.moves in

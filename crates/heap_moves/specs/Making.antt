@@ -53,13 +53,13 @@ AreAside images start s (m ∷ ms) =
     ((h : HeapList) → find_heap start s.store.heaps ≡ Some h → IsAside s h m) × AreAside images start (moved images s m) ms
 
 -- The heap answered what it answers by itself, and is what its own calls alone leave of it.
-pub record IsByItself (images : List Entry) (s : MachineState) (h : HeapList) (moves : List Move) (answers : List Reply) : Type 0 where
+pub record IsByItself (images : List Entry) (s : MachineState) (h : HeapList) (moves : List Move) (told : List Reply) : Type 0 where
   pub stands : StandsAlone images s h moves
-  pub answers : answers ≡ noted_all (replies (alone_in s.store h) (calls_in images h.start s moves))
+  pub answers : told ≡ noted_all (replies (alone_in s.store h) (calls_in images h.start s moves))
 
 abbrev pub StandsByItself : List Entry → ℕ → MachineState → List Move → List Reply → Type 0
-StandsByItself images start s moves answers =
-    (h : HeapList) → HasHeapAt s start h → AreAside images start s moves → IsByItself images s h moves answers
+StandsByItself images start s moves told =
+    (h : HeapList) → HasHeapAt s start h → AreAside images start s moves → IsByItself images s h moves told
 
 -- Why it ended, after so many of all moves: the last of these asked for one answer more than there is room for, or the machine is halted.
 abbrev pub EndsBy : End → (count all asked most : ℕ) → Option Halt → Type 0
@@ -68,10 +68,10 @@ EndsBy end.Full count all asked most halt = (count ≤ all) × (asked ≡ most +
 EndsBy (end.Halted stop) count all asked most halt = (count ≤ all) × (option_map stop_of halt ≡ Some stop)
 
 -- A list of moves, made from one state on as far as it was, to another.
-pub record AreMade (images : List Entry) (start : ℕ) (s t : MachineState) (moves : List Move) (most count : ℕ) (end : End) (answers : List Reply) : Type 0 where
+pub record AreMade (images : List Entry) (start : ℕ) (s t : MachineState) (moves : List Move) (most count : ℕ) (end : End) (told : List Reply) : Type 0 where
   pub begins : 0 < count → s.halt ≡ None
   pub goes : AreGoing images s (done_of end count moves)
   pub machine : t ≡ moved_all images s (made_of end count moves)
-  pub answers : answers ≡ noted_all (answers_in images start s (done_of end count moves))
-  pub alone : StandsByItself images start s (done_of end count moves) answers
+  pub answers : told ≡ noted_all (answers_in images start s (done_of end count moves))
+  pub alone : StandsByItself images start s (done_of end count moves) told
   pub ends : EndsBy end count (length moves) (length (answers_in images start s (made_of end count moves))) most t.halt

@@ -1,7 +1,8 @@
 -- Moves and replies as programs have them, and as the written machine has them.
-use Rattle.std.specs.Prelude.{ℕ, List, map}
+use Rattle.std.specs.Prelude.{ℕ, Bool, List, [], ◌∷◌, map, if◌then◌else◌}
 use Rattle.heap_turns.specs.Turns.{Answered, Refused, Reply as WrittenReply}
-use Rattle.heap_alone.specs.Moves.{Call, Move as WrittenMove, Step}
+use Rattle.swi_dispatch.specs.MachineState.{MachineState}
+use Rattle.heap_alone.specs.Moves.{Call, Move as WrittenMove, Step, reply_of}
 use Rattle.heap_moves.specs.declared.moves.Move.{Move}
 use Rattle.heap_moves.specs.declared.moves.Move.TheVariants as move
 use Rattle.heap_moves.specs.declared.moves.Reply.{Reply}
@@ -20,3 +21,7 @@ noted (Refused number) = reply.Refused number
 
 abbrev pub noted_all : List WrittenReply → List Reply
 noted_all replies = map noted replies
+
+-- what a machine answers, as a list: of a call that isn't the heap's own nothing
+abbrev pub reply_if : Bool → MachineState → List Reply
+reply_if own s = if own then noted (reply_of s) ∷ [] else []

@@ -1,6 +1,7 @@
 //! Lists of moves on real machines: what a guest's heap answers to the calls on it is what it answers alone.
 #![tactic(auto)]
 
+pub mod laws;
 pub mod making;
 pub mod moves;
 pub mod own_calls;

@@ -39,8 +39,8 @@ pub fn make_in_two<const MOST: usize>(
         }) }
     ensures one_sizes { one.new.sizes ≡ one.old.sizes }
     ensures two_sizes { two.new.sizes ≡ two.old.sizes }
-    ensures one_machine { IsMachine one.new }
-    ensures two_machine { IsMachine two.new }
+    ensures one_known { IsMachine one.new }
+    ensures two_known { IsMachine two.new }
 {
     let first = make_moves(one, moves);
     (first, make_moves(two, others))

@@ -62,8 +62,8 @@ static OTHERS: [Other; 22] = [
 /// A header, whose title is "Dbl" and whose SWIs are from &40000 on, and a handler of two instructions: ADD R0,R0,R0 and
 /// MOVS PC,R14.
 static DOUBLES: [u8; 48] = [
-    0, 0, 0, 0, 0, 0, 0, 0, 0, 0, 0, 0, 0, 0, 0, 0, 0x2C, 0, 0, 0, 0, 0, 0, 0, 0, 0, 0, 0, 0, 0, 4, 0,
-    0x24, 0, 0, 0, 0, 0, 0x80, 0xE0, 0x0E, 0xF0, 0xB0, 0xE1, b'D', b'b', b'l', 0,
+    0, 0, 0, 0, 0, 0, 0, 0, 0, 0, 0, 0, 0, 0, 0, 0, 0x2C, 0, 0, 0, 0, 0, 0, 0, 0, 0, 0, 0, 0, 0, 4,
+    0, 0x24, 0, 0, 0, 0, 0, 0x80, 0xE0, 0x0E, 0xF0, 0xB0, 0xE1, b'D', b'b', b'l', 0,
 ];
 
 /// A store call; R5 is the maximum of an area, and R8 points to the name of one.
@@ -103,7 +103,7 @@ fn machine_with_heaps(rt: &impl Abort, alloc: Global) -> Result<Machine, Fail> {
     Ok(machine)
 }
 
-// In the second machine the module has come down to where the first claim was, and doubled 21.
+// In the second machine the module has come down to where the first claim was.
 #[test]
 fn a_heap_answers_alike_in_two_machines(rt: HostRuntime) -> Result<(), Fail> {
     let alloc = rt.alloc();
@@ -117,9 +117,17 @@ fn a_heap_answers_alike_in_two_machines(rt: HostRuntime) -> Result<(), Fail> {
     let start = 0x9000;
     let (first, second) = make_in_two::<14>(
         &mut one,
-        &Moves { images, start, list: alone.as_slice() },
+        &Moves {
+            images,
+            start,
+            list: alone.as_slice(),
+        },
         &mut two,
-        &Moves { images, start, list: beside.as_slice() },
+        &Moves {
+            images,
+            start,
+            list: beside.as_slice(),
+        },
     );
     assert!(rt; first.end == End::All && second.end == End::All);
     assert!(rt; first.answers.as_slice() == second.answers.as_slice());

@@ -8,7 +8,8 @@ use Rattle.heap_moves.proofs.making.make_moves.Given as goal
 -- so many moves are done, and the machine goes on
 abbrev pub invariant-loop-count : goal.invariant-loop-count
 invariant-loop-count g l = record {
-  under : IsUnder l.moves.images l.moves.start (state_of l.fn.machine) (state_of l.machine) (take l.count (written_all l.moves.list)) l.answers.items;
+  under : IsUnder l.moves.images.now l.moves.start (state_of l.fn.machine) (state_of l.machine)
+      (take l.count (written_all l.moves.list.now)) l.answers.items;
   begins : GoesOn (state_of l.fn.machine);
   machine : IsMachine l.machine;
   goes : (state_of l.machine).halt ≡ None;
