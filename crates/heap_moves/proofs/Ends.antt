@@ -1,5 +1,6 @@
 -- How a list of moves ends: at its end, by a move that halts the machine, or by one whose answer has no room.
-use Rattle.std.proofs.Common.{ℕ, ◌≡◌, ◌≤◌, ◌<◌, ◌+◌, ◌-◌, ◌++◌, ◌∙◌, Bool, true, List, [], ◌∷◌, length, take, option_map, Some, None, refl, sym, ap, subst, arith, length-append, if◌then◌else◌}
+use Rattle.std.proofs.Common.{ℕ, ◌≡◌, ◌≤◌, ◌<◌, ◌+◌, ◌-◌, ◌++◌, ◌∙◌, Bool, true, List, [], ◌∷◌, length, take, option_map, Some, None, get_or, refl, sym, ap, subst, arith, length-append, if◌then◌else◌}
+use Rattle.std.proofs.Math.Seq.{take-length}
 use Rattle.std.proofs.lemmas.List.{length-map}
 use Rattle.profile.specs.declared.stop.Stop.{Stop}
 use Rattle.image_loader.specs.Entries.{Entry}
@@ -7,11 +8,12 @@ use Rattle.heap_turns.specs.Turns.{Reply as WrittenReply}
 use Rattle.swi_dispatch.specs.MachineState.{MachineState, stop_of}
 use Rattle.swi_dispatch.specs.Parts.{IsMachine, Parts, state_of}
 use Rattle.heap_alone.specs.Moves.{Move as WrittenMove, answers_in, is_own, moved, moved_all, reply_of}
-use Rattle.heap_moves.proofs.Fronts.{IsUnder, answered, answers_more, moved_more}
+use Rattle.heap_moves.proofs.Fronts.{IsUnder, answered, answers_more, moved_more, next_front, under_more}
 use Rattle.heap_moves.proofs.Halves.{by_itself, still_by_itself}
 use Rattle.heap_moves.specs.Making.{AreGoing, AreMade, GoesOn, StandsByItself}
-use Rattle.heap_moves.specs.Moves.{noted, noted_all}
+use Rattle.heap_moves.specs.Moves.{noted, noted_all, reply_if, written, written_all}
 use Rattle.heap_moves.specs.declared.moves.End.TheVariants as end
+use Rattle.heap_moves.specs.declared.moves.Move.{Move}
 use Rattle.heap_moves.specs.declared.moves.Reply.{Reply}
 
 pub ends_all : (images : List Entry) (start : ℕ) (s t : MachineState) (moves : List WrittenMove) (most count : ℕ) (told : List Reply)
@@ -100,12 +102,44 @@ module _ (images : List Entry) (start : ℕ) (s t u : MachineState) (moves : Lis
       ap length whole ∙ length-append (answers_in images start s front) (reply_of (moved images at m) ∷ []) in
       long ∙ ap (λ (n : ℕ). n + 1) (sym same)
 
-  pub ends_full : is_own start t m ≡ true → length told ≡ most → u.halt ≡ None → AreMade images start s u moves most (count + 1) end.Full told
-  ends_full own full goes = record {
-    begins = λ some. last.begins.goes;
-    goes = last_going;
-    machine = last_machine;
-    answers = last_told;
-    alone = last_alone;
-    ends = (last.within, answered_last own ∙ ap (λ (n : ℕ). n + 1) full, goes);
-  }
+  pub ends_full : is_own start t m ≡ true → length told ≡ most → u.halt ≡ None → (now : List Reply) → now ≡ told
+      → AreMade images start s u moves most (count + 1) end.Full now
+  ends_full own full goes now same =
+      let made : AreMade images start s u moves most (count + 1) end.Full told = record {
+        begins = λ some. last.begins.goes;
+        goes = last_going;
+        machine = last_machine;
+        answers = last_told;
+        alone = last_alone;
+        ends = (last.within, answered_last own ∙ ap (λ (n : ℕ). n + 1) full, goes);
+      } in
+      subst (λ (rs : List Reply). AreMade images start s u moves most (count + 1) end.Full rs) (sym same) made
+
+  -- where it goes on
+  pub under_last : (own : Bool) → own ≡ is_own start t m → GoesOn u → (now : List Reply) → now ≡ told ++ reply_if own u
+      → IsUnder images start s u (take (count + 1) moves) now
+  under_last own owned goes now noted_now =
+      let same : now ≡ told ++ reply_if (is_own start t m) u = noted_now ∙ ap (λ (b : Bool). told ++ reply_if b u) owned in
+      subst (λ (rs : List Reply). IsUnder images start s u (take (count + 1) moves) rs) (sym same)
+      (under_more images start s t u (take count moves) (take (count + 1) moves) m told last.under last.longer last.is goes)
+
+pub last_of : (images : List Entry) (start : ℕ) (s t u : MachineState) (xs : List Move) (count : ℕ) (d : Move) (told : List Reply) → GoesOn s
+    → IsUnder images start s t (take count (written_all xs)) told → count < length xs → u ≡ moved images t (written (get_or xs count d))
+    → IsLast images start s t u (written_all xs) count (written (get_or xs count d)) told
+last_of images start s t u xs count d told begins under below is = record {
+  begins = begins;
+  under = under;
+  longer = next_front xs count d below;
+  is = is;
+  within = let same : length (written_all xs) ≡ length xs = length-map xs written in omega (arith, same, below);
+}
+
+pub ends_whole : (images : List Entry) (start : ℕ) (s t : MachineState) (xs : List Move) (most count : ℕ) (told : List Reply) → GoesOn s
+    → IsUnder images start s t (take count (written_all xs)) told → count ≡ length xs → t.halt ≡ None
+    → AreMade images start s t (written_all xs) most (length xs) end.All told
+ends_whole images start s t xs most count told begins under all goes =
+    let same : length (written_all xs) ≡ length xs = length-map xs written in
+    let whole : take count (written_all xs) ≡ written_all xs =
+    ap (λ (n : ℕ). take n (written_all xs)) (all ∙ sym same) ∙ take-length (written_all xs) in
+    ends_all images start s t (written_all xs) most (length xs) told begins
+    (subst (λ (ms : List WrittenMove). IsUnder images start s t ms told) whole under) (sym same) goes
