@@ -1,0 +1,4 @@
+pub mod Asides
+pub mod Ends
+pub mod Fronts
+pub mod Halves

@@ -1,0 +1,11 @@
+use Rattle.std.proofs.Common.{◌≡◌, drop}
+use Rattle.swi_dispatch.specs.Parts.{state_of}
+use Rattle.heap_alone.specs.Moves.{given, with_registers}
+use Rattle.heap_moves.proofs.making.set_registers.Given as goal
+
+-- what is left to be set makes of the machine what all of it would make of the one at first
+abbrev pub invariant-loop-number : goal.invariant-loop-number
+invariant-loop-number l = record {
+  rest : with_registers (state_of l.machine) l.number (drop l.number l.words) ≡ given (state_of l.fn.machine) l.words;
+  sizes : l.machine.sizes ≡ l.fn.machine.sizes;
+}

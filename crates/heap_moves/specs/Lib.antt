@@ -1,0 +1,5 @@
+pub use Rattle.heap_alone
+pub mod Calls
+pub mod Making
+pub mod Moves
+pub mod Pairs

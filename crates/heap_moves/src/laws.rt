@@ -1,0 +1,9 @@
+//! Which moves leave a heap to itself, as the contract of a function that does nothing.
+
+ghost use Rattle.heap_moves.specs.Calls.{CallsStandAside};
+
+/// Store calls from outside leave each heap to itself, whatever they are and whatever machine they are made on, but for
+/// Flex_Alloc, which may put an anchor in it.
+pub fn calls_stand_aside()
+    ensures { CallsStandAside }
+{}

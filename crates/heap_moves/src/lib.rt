@@ -1,0 +1,15 @@
+//! Lists of moves on real machines: what a guest's heap answers to the calls on it is what it answers alone.
+#![tactic(auto)]
+
+pub mod laws;
+pub mod making;
+pub mod moves;
+pub mod own_calls;
+pub mod pairs;
+
+pub use making::make_moves;
+pub use moves::{End, Made, Move, Moves, Reply};
+pub use pairs::make_in_two;
+
+#[cfg(test)]
+mod tests;
