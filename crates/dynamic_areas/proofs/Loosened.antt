@@ -12,7 +12,7 @@ use Rattle.address_map.proofs.Anchors.{among_none}
 use Rattle.address_map.specs.Records.{anchor_among}
 use Rattle.os_heap.proofs.Anchored.{place_in}
 use Rattle.os_heap.specs.Calls.{with_end}
-use Rattle.os_heap.proofs.Stores.{AreOthers, are_others, clear_of-found, clear_both_ways}
+use Rattle.os_heap.proofs.Stores.{AreClearOthers, are_clear_others, clear_of-found, clear_both_ways}
 use Rattle.dynamic_areas.specs.declared.area.Area.{Area}
 use Rattle.dynamic_areas.specs.Areas.{Land, find_area}
 use Rattle.dynamic_areas.specs.Changing.{AreLoose, AreRangesClear, loose_pages}
@@ -22,7 +22,7 @@ use Rattle.dynamic_areas.proofs.Remapped.{here, range_low, range_high}
 use Rattle.dynamic_areas.proofs.RoomLemmas.{found_number}
 
 -- a part of a heap's range that lies behind its new end
-heaps_ended : (top len end : ℕ) (h : HeapList) (hs : List HeapList) → AreOthers h hs → h.start + end ≤ top → top + len ≤ h.start + h.end
+heaps_ended : (top len end : ℕ) (h : HeapList) (hs : List HeapList) → AreClearOthers h hs → h.start + end ≤ top → top + len ≤ h.start + h.end
     → IsClearOfHeaps top len (with_end h.start end hs)
 heaps_ended top len end h [] others low high = tt
 heaps_ended top len end h (g ∷ hs) others low high =
@@ -48,7 +48,7 @@ heaps_ended top len end h (g ∷ hs) others low high =
           here start size x (omega arith) (omega arith)
 
 -- a module image in the heap is a block of its list
-image_of : (h : HeapList) (hs : List HeapList) (r : Region) → AreOthers h hs → StandAreas hs → h.start ≡ 0x01800000 → IsImageIn hs r
+image_of : (h : HeapList) (hs : List HeapList) (r : Region) → AreClearOthers h hs → StandAreas hs → h.start ≡ 0x01800000 → IsImageIn hs r
     → live_total r.at (h.start + 16) h.items ≡ Some (r.len + 4)
 image_of h [] r others stand start image = absurd image
 image_of h (g ∷ hs) r others stand start image =
@@ -60,7 +60,7 @@ image_of h (g ∷ hs) r others stand start image =
       ]
     ]
 
-ranges_behind : (top len : ℕ) (h : HeapList) (hs : List HeapList) (rs : List Region) (b : Bytes) → AreOthers h hs → StandAreas hs → h.start ≡ 0x01800000
+ranges_behind : (top len : ℕ) (h : HeapList) (hs : List HeapList) (rs : List Region) (b : Bytes) → AreClearOthers h hs → StandAreas hs → h.start ≡ 0x01800000
     → find_heap 0x01800000 hs ≡ Some h → IsHeapIn b h.start h.end h.items → h.start + (16 + size_of h.items) ≤ top → top + len ≤ h.start + h.end
     → ArePlaced hs rs → AreRangesClear top len rs
 ranges_behind top len h hs [] b others stand start found spelled low high placed = tt
@@ -108,7 +108,7 @@ loose_ended s t free l a count m areas e loose heaps others anchors =
     let end : h.end ≡ 4096 * a.pages = m.end in
     let base : a.base ≡ 0x01800000 = m.base in
     let sound : IsSound s = areas.ground.sound in
-    let beside : AreOthers h s.heaps = are_others s.bytes 0x01800000 s.heaps h sound.heaps m.found in
+    let beside : AreClearOthers h s.heaps = are_clear_others s.bytes 0x01800000 s.heaps h sound.heaps sound.unnested m.found in
     let below : 16 + size_of h.items ≤ 4096 * (a.pages - count) = heap_below s free l a count m (found_number 1 l.areas a e) loose in
     let inside : 16 + size_of h.items ≤ h.end = m.spelled.inside in
     let top : ℕ = a.base + 4096 * (a.pages - count) in

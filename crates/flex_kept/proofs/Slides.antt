@@ -19,7 +19,7 @@ use Rattle.os_heap_slide.specs.os_heap.proofs.Anchored.{header_outside, place_in
 use Rattle.os_heap_slide.specs.os_heap.proofs.Apart.{block_inside, one_block, range_parts}
 use Rattle.os_heap_slide.specs.os_heap.proofs.Found.{found_heap, found_start}
 use Rattle.os_heap_slide.specs.os_heap.proofs.Moving.{found_held}
-use Rattle.os_heap_slide.specs.os_heap.proofs.Stores.{AreOthers, are_others, clear_of-found}
+use Rattle.os_heap_slide.specs.os_heap.proofs.Stores.{AreClearOthers, are_clear_others, clear_of-found}
 use Rattle.os_heap_slide.specs.os_heap.specs.Calls.{OfHeap, holds_anchor}
 use Rattle.os_heap_slide.specs.os_heap.specs.Store.{AreHeapsIn, ArePlaced, find_heap, is_image, is_in_flex_store, IsClearOfHeaps, IsImageBlock, IsImageIn, IsInBlock, IsSound, Store}
 use Rattle.os_heap_slide.proofs.KeptBlocks.{slide_keeps_blocks}
@@ -118,7 +118,7 @@ first_inside b g r heap own =
     live_bytes r.at (r.len + 4) (g.start + 16) g.items heap.totals own.live in
     rw (le-leb g.start r.at (omega (arith, place.low)), lt-ltb r.at (g.start + g.end) (omega (arith, place.high, place.size, heap.inside))) refl
 
-image_here : (b : Bytes) (h : HeapList) (hs : List HeapList) (r : Region) → AreHeapsIn b hs → AreOthers h hs → IsImageIn hs r
+image_here : (b : Bytes) (h : HeapList) (hs : List HeapList) (r : Region) → AreHeapsIn b hs → AreClearOthers h hs → IsImageIn hs r
     → in_range h.start h.end r.at ≡ true → IsImageBlock h r
 image_here b h [] r heaps others image here = absurd image
 image_here b h (g ∷ hs) r heaps others image here = elim image [
@@ -182,7 +182,8 @@ record_unmoved s h movable r a k anchored place inside = elim (cases_Bool (in_ra
         let first : in_range r.at r.len r.at ≡ true = rw (le-leb r.at r.at (omega arith), lt-ltb r.at (r.at + r.len) some) refl in
         absurd (both_ways (in_range h.start h.end r.at) (clear_of-found r.at r.len h.start s.heaps h clear k.found r.at first) here)
     | inr image ↦
-        let own : IsImageBlock h r = image_here s.bytes h s.heaps r k.sound.heaps (are_others s.bytes h.start s.heaps h k.sound.heaps k.found) image here in
+        let own : IsImageBlock h r =
+        image_here s.bytes h s.heaps r k.sound.heaps (are_clear_others s.bytes h.start s.heaps h k.sound.heaps k.sound.unnested k.found) image here in
         let moves : moved_place (moves_in h movable) r.kind r.at ≡ moved_to (moves_in h movable) r.at =
         image_place (moves_in h movable) r.kind r.at own.image in
         moves ∙ image_unmoved s h movable r a k anchored own (subst (λ (x : ℕ). in_range x r.len a ≡ true) moves inside)

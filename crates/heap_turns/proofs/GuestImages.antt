@@ -11,7 +11,7 @@ use Rattle.os_heap_lists.specs.Heap.{HeapList, IsHeapIn}
 use Rattle.os_heap_lists.specs.Lists.{live_total}
 use Rattle.os_heap.proofs.Apart.{block_inside}
 use Rattle.os_heap.proofs.Found.{found_heap}
-use Rattle.os_heap.proofs.Stores.{AreOthers, are_others, clear_of-found}
+use Rattle.os_heap.proofs.Stores.{AreClearOthers, are_clear_others, clear_of-found}
 use Rattle.os_heap.specs.Calls.{has_own_size}
 use Rattle.os_heap.specs.Store.{AreHeapsIn, ArePlaced, IsImageIn, Store, find_heap, has_image, is_area, is_image}
 use Rattle.heap_turns.specs.Laws.{AreImagesFull, IsGuestHeap}
@@ -29,7 +29,7 @@ first_inside b h block total heap live =
     (rw (le-leb (block - 4) block (omega arith), lt-ltb block (block - 4 + total) (omega (arith, place.size, place.low))) refl)
 
 -- an image of the module area begins in no guest's heap
-image_elsewhere : (b : Bytes) (h : HeapList) (hs : List HeapList) (r : Region) → AreHeapsIn b hs → AreOthers h hs → has_own_size h.kind ≡ true
+image_elsewhere : (b : Bytes) (h : HeapList) (hs : List HeapList) (r : Region) → AreHeapsIn b hs → AreClearOthers h hs → has_own_size h.kind ≡ true
     → in_range h.start h.end r.at ≡ true → IsImageIn hs r → ⊥
 image_elsewhere b h [] r parts others own here image = image
 image_elsewhere b h (g ∷ hs) r parts others own here image = elim image [
@@ -40,7 +40,7 @@ image_elsewhere b h (g ∷ hs) r parts others own here image = elim image [
   | inr later ↦ image_elsewhere b h hs r parts.1.1 others.1 own here later
 ]
 
-none_there : (b : Bytes) (h : HeapList) (hs : List HeapList) (rs : List Region) (block : ℕ) → AreHeapsIn b hs → AreOthers h hs → find_heap h.start hs ≡ Some h
+none_there : (b : Bytes) (h : HeapList) (hs : List HeapList) (rs : List Region) (block : ℕ) → AreHeapsIn b hs → AreClearOthers h hs → find_heap h.start hs ≡ Some h
     → has_own_size h.kind ≡ true → ArePlaced hs rs → AreImagesFull rs → in_range h.start h.end block ≡ true → has_image block rs ≡ false
 none_there b h hs [] block parts others found own placed full here = refl
 none_there b h hs (r ∷ rs) block parts others found own placed full here =
@@ -62,5 +62,5 @@ pub guest_images : (s : Store) (h : HeapList) (block total : ℕ) → IsGuestHea
     → has_image block s.others ≡ false
 guest_images s h block total guest live =
     let heap : IsHeapIn s.bytes h.start h.end h.items = found_heap s.bytes h.start s.heaps h guest.sound.heaps guest.found in
-    none_there s.bytes h s.heaps s.others block guest.sound.heaps (are_others s.bytes h.start s.heaps h guest.sound.heaps guest.found) guest.found guest.own
+    none_there s.bytes h s.heaps s.others block guest.sound.heaps (are_clear_others s.bytes h.start s.heaps h guest.sound.heaps guest.sound.unnested guest.found) guest.found guest.own
     guest.sound.placed guest.images (first_inside s.bytes h block total heap live)

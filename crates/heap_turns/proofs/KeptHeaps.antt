@@ -17,7 +17,7 @@ use Rattle.os_heap.proofs.Apart.{found_other, range_parts}
 use Rattle.os_heap.proofs.Found.{found_heap}
 use Rattle.os_heap.proofs.KeptPayloads.{IsClaim, is_claim}
 use Rattle.os_heap.proofs.Moving.{found_held}
-use Rattle.os_heap.proofs.Stores.{are_others, clear_of-found}
+use Rattle.os_heap.proofs.Stores.{are_clear_others, clear_of-found}
 use Rattle.os_heap.specs.Calls.{begun_with, ending, holding, with_end, with_items}
 use Rattle.os_heap.specs.Ranges.{is_heap_region, meets_any}
 use Rattle.os_heap.specs.Store.{AreClear, IsSound, Store, find_heap}
@@ -146,7 +146,7 @@ are_two s h k sound one two apart = record {
   two = two;
   apart = apart;
   heap = found_heap s.bytes k.start s.heaps k sound.heaps two;
-  clear = λ a here. elim (found_other k h.start s.heaps h (are_others s.bytes k.start s.heaps k sound.heaps two) one) [
+  clear = λ a here. elim (found_other k h.start s.heaps h (are_clear_others s.bytes k.start s.heaps k sound.heaps sound.unnested two) one) [
     | inl same ↦ absurd (apart (ap (λ (x : HeapList). x.start) same))
     | inr other ↦ false_from_ne_true (in_range k.start k.end a) (λ there. both_ways (in_range h.start h.end a) (other.1 a there) here)
   ];

@@ -8,7 +8,7 @@ use Rattle.address_map.specs.declared.region.Region.{Region}
 use Rattle.os_heap_lists.specs.Heap.{HeapList, IsHeapIn}
 use Rattle.os_heap.proofs.Apart.{found_other, range_parts}
 use Rattle.os_heap.proofs.Found.{found_heap}
-use Rattle.os_heap.proofs.Stores.{are_others, clear_of-found, image_kind}
+use Rattle.os_heap.proofs.Stores.{are_clear_others, clear_of-found, image_kind}
 use Rattle.os_heap.specs.Calls.{has_own_size}
 use Rattle.os_heap.specs.Store.{ArePlaced, IsClearOfHeaps, IsSound, Store, find_heap, is_image}
 use Rattle.dynamic_areas.proofs.ModuleArea.{IsModuleArea, module_area_known}
@@ -106,7 +106,7 @@ module _ (e : Estate) (h : HeapList) (a : ℕ) (g : HasGuestHeap e h) (inside : 
       let k : HeapList = m.heap in
       let here : in_range k.start k.end a ≡ true = rw (m.start, m.end) there in
       let own : find_heap k.start s.heaps ≡ Some k = subst (λ (p : ℕ). find_heap p s.heaps ≡ Some k) (sym m.start) m.found in
-      elim (found_other k h.start s.heaps h (are_others s.bytes k.start s.heaps k sound.heaps own) g.found) [
+      elim (found_other k h.start s.heaps h (are_clear_others s.bytes k.start s.heaps k sound.heaps sound.unnested own) g.found) [
         | inl same ↦ false≢true (sym (ap (λ (x : HeapList). has_own_size x.kind) same ∙ ap has_own_size m.kind) ∙ g.own)
         | inr apart ↦ both_ways (in_range h.start h.end a) (apart.1 a here) inside
       ]

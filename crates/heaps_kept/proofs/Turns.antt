@@ -1,20 +1,19 @@
 -- Flex calls and slides, as turns of the stores.
-use Rattle.std.proofs.Common.{ℕ, Bool, true, ◌≡◌, ◌∙◌, Option, Some, None, Result, Ok, Err, refl, sym, ap, subst, inr}
+use Rattle.std.proofs.Common.{ℕ, Bool, true, ◌≡◌, Option, Some, None, Result, Ok, Err, refl, sym, ap, subst}
 use Rattle.profile.specs.Outcome.{bind}
 use Rattle.profile.specs.declared.error.ErrorNumber.{ErrorNumber}
 use Rattle.os_heap_lists.specs.Heap.{HeapList}
 use Rattle.os_heap.specs.Calls.{has_own_size}
 use Rattle.os_heap.specs.Store.{Store}
 use Rattle.instances_slide.specs.Slid.{world_slid}
-use Rattle.flex_ground.specs.Ground.{flex_of, flex_state, records_with, store_flexed, with_flex_record}
+use Rattle.flex_ground.specs.Ground.{flex_of, flex_state, store_flexed, with_flex_record}
 use Rattle.flex_store.specs.Blocks.{FlexStore}
-use Rattle.flex_store.specs.Calls.{FlexState, allocated, begun, extended, mid_extended, released}
-use Rattle.flex_store.specs.Runs.{Alloc, Extend, FlexCall, IsDone, MidExtend, Release}
+use Rattle.flex_store.specs.Calls.{FlexState, begun}
+use Rattle.flex_store.specs.Runs.{FlexCall, IsDone}
 use Rattle.flex_store.specs.declared.flex.Extent.{Extent}
 use Rattle.flex_store.specs.declared.flex.Flex.{Flex}
+use Rattle.store_laws.proofs.Calling.{before, call_done, call_left, none_done}
 use Rattle.store_laws.proofs.Leaving.{IsAfter, IsBefore, after_left}
-use Rattle.store_laws.proofs.Relaying.{IsLeft, IsReady, alloc_left, extend_left, mid_left, release_left, state_at}
-use Rattle.store_laws.specs.FlexStore.{IsSpelledAt}
 use Rattle.store_laws.specs.Meaning.{AreStores, Stores, store_in}
 use Rattle.store_laws.specs.Turning.{Call, Init, Slide, called, left_by, turned}
 use Rattle.heaps_kept.proofs.FlexCalls.{flex_calls_keep, flex_init_keeps}
@@ -29,69 +28,6 @@ use Rattle.heaps_kept.specs.TurnLaws.{TurnsKeepHeap}
 
 heap_same : (h : HeapList) (s : Store) → IsFreeOfAnchors h s → KeepsHeap h s s
 heap_same h s free = record { found = free.found; bytes = λ a inside. refl; anchors = λ a inside. refl }
-
--- without a store every call is refused
-none_done : (s : Store) (call : FlexCall) (r : FlexState × Bool) → (let f : Flex = record { extent = None } in called s f call ≡ Ok r) → ⊥
-unfolding allocated released extended mid_extended
-none_done s (Alloc anchor size) r is = absurd (cc)
-none_done s (Release anchor) r is = absurd (cc)
-none_done s (Extend anchor size) r is = absurd (cc)
-none_done s (MidExtend anchor at by) r is = absurd (cc)
-
--- a release that was done
-record IsReleased (r : Result (FlexState × Unit {0}) ErrorNumber) (v : FlexState) (answer : Bool) : Type 0 where
-  done : r ≡ Ok (v, tt)
-  room : answer ≡ true
-
-SameAnswer : FlexState × Bool → FlexState × Bool → Type 0
-SameAnswer p q =
-    let one : Result (FlexState × Bool) ErrorNumber = Ok p in
-    let two : Result (FlexState × Bool) ErrorNumber = Ok q in
-    one ≡ two
-
-pair_is : (p q : FlexState × Bool) → SameAnswer p q → p ≡ q
-unfolding SameAnswer
-pair_is p q e = cc
-
-was_released : (r : Result (FlexState × Unit {0}) ErrorNumber) (v : FlexState) (answer : Bool)
-    → (let q : Result (FlexState × Bool) ErrorNumber = bind r (λ p. Ok (p.0, true)) in q ≡ Ok (v, answer)) → IsReleased r v answer
-unfolding SameAnswer
-was_released (Err e) v answer is = absurd (cc)
-was_released (Ok p) v answer is =
-    let pair : FlexState × Bool = (p.0, true) in
-    let given : FlexState × Bool = (v, answer) in
-    let same : pair ≡ given = pair_is pair given is in
-    record {
-      done = ap (λ (w : FlexState). let q : Result (FlexState × Unit {0}) ErrorNumber = Ok (w, tt) in q) (ap (λ (q : FlexState × Bool). q.0) same);
-      room = sym (ap (λ (q : FlexState × Bool). q.1) same);
-    }
-
-call_left : (s : Store) (e : Extent) (call : FlexCall) (v : FlexState) (answer : Bool) → IsReady s e
-    → (let f : Flex = record { extent = Some e } in called s f call ≡ Ok (v, answer)) → IsLeft s e v answer
-call_left s e (Alloc anchor size) v answer r is = alloc_left s e r anchor size v answer is
-call_left s e (Release anchor) v answer r is =
-    let d : IsReleased (released (state_at s e) anchor) v answer = was_released (released (state_at s e) anchor) v answer is in
-    inr (release_left s e r anchor v d.done, d.room)
-call_left s e (Extend anchor size) v answer r is = extend_left s e r anchor size v answer is
-call_left s e (MidExtend anchor at by) v answer r is = mid_left s e r anchor at by v answer is
-
-call_done : (s : Store) (f : Flex) (call : FlexCall) (v : FlexState) (answer : Bool) → called s f call ≡ Ok (v, answer)
-    → IsDone (flex_state s f) call answer v
-call_done s f (Alloc anchor size) v answer is = (s, is)
-call_done s f (Release anchor) v answer is =
-    let d : IsReleased (released (flex_state s f) anchor) v answer = was_released (released (flex_state s f) anchor) v answer is in
-    (d.room, d.done)
-call_done s f (Extend anchor size) v answer is = is
-call_done s f (MidExtend anchor at by) v answer is = is
-
--- what a call on a store asks of it
-before : (x : Stores) (e : Extent) → AreStores x → x.flex.extent ≡ Some e → IsBefore (store_in x) e
-before x e are is = record {
-  ready = record { spelled = subst (IsSpelledAt (store_in x)) is are.flex.is; memory = are.memory };
-  sound = are.world.estate.ground.sound;
-  free = are.flex.free;
-  beside = are.flex.beside ∙ ap records_with is;
-}
 
 module _ (x : Stores) (h : HeapList) (are : AreStores x) (free : IsFreeOfAnchors h (store_in x)) where
   -- what a call leaves that was done

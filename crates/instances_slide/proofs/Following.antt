@@ -11,7 +11,7 @@ use Rattle.address_map.specs.declared.region.Region.{Region}
 use Rattle.os_heap_lists.proofs.LiveBlocks.{LiveBytes, live_bytes}
 use Rattle.os_heap_lists.specs.Heap.{HeapList}
 use Rattle.os_heap_lists.specs.Lists.{total_for}
-use Rattle.instances_ground.specs.os_heap.proofs.Stores.{AreOthers, clear_of-found}
+use Rattle.instances_ground.specs.os_heap.proofs.Stores.{AreClearOthers, clear_of-found}
 use Rattle.instances_ground.specs.os_heap.specs.Calls.{with_items}
 use Rattle.instances_ground.specs.os_heap.specs.Store.{AreClear, AreHeapsIn, ArePlaced, find_heap, is_image, IsClearOfHeaps, IsImageIn}
 use Rattle.instances_ground.specs.os_heap_slide.proofs.Records.{image_in_moved, IsSlide, moves_in, out_still, slid_in, still_place}
@@ -38,7 +38,7 @@ place_kept b c h hs movable r s found clear some =
     let inside : in_range r.at r.len r.at ≡ true = rw (le-leb r.at r.at (omega arith), lt-ltb r.at (r.at + r.len) (omega (arith, some))) refl in
     still_place (moves_in h movable) r.kind r.at (out_still b c h movable r.at s (own r.at inside))
 
-one_mapped : (b c : Bytes) (h : HeapList) (hs : List HeapList) (movable : List ℕ) (r : Region) → IsSlide b c h movable → AreHeapsIn b hs → AreOthers h hs
+one_mapped : (b c : Bytes) (h : HeapList) (hs : List HeapList) (movable : List ℕ) (r : Region) → IsSlide b c h movable → AreHeapsIn b hs → AreClearOthers h hs
     → find_heap h.start hs ≡ Some h → AreHeapsIn c (with_items h.start (slid_in h movable) hs) → c.mapped ≡ b.mapped
     → IsClearOfHeaps r.at r.len hs ⊎ IsImageIn hs r → AreMapped b.mapped r.at r.len
     → AreMapped b.mapped (moved_place (moves_in h movable) r.kind r.at) r.len
@@ -51,7 +51,7 @@ one_mapped b c h hs movable r s heaps others found now same (inr image) mapped =
     (image_mapped c (with_items h.start (slid_in h movable) hs) (moved_region (moves_in h movable) r) now
     (image_in_moved b c h hs movable r s heaps others image))
 
-pub ranges_mapped : (b c : Bytes) (h : HeapList) (hs : List HeapList) (movable : List ℕ) (rs : List Region) → IsSlide b c h movable → AreHeapsIn b hs → AreOthers h hs
+pub ranges_mapped : (b c : Bytes) (h : HeapList) (hs : List HeapList) (movable : List ℕ) (rs : List Region) → IsSlide b c h movable → AreHeapsIn b hs → AreClearOthers h hs
     → find_heap h.start hs ≡ Some h → AreHeapsIn c (with_items h.start (slid_in h movable) hs) → c.mapped ≡ b.mapped → ArePlaced hs rs
     → AreRangesMapped b.mapped rs → AreRangesMapped b.mapped (moved_regions (moves_in h movable) rs)
 ranges_mapped b c h hs movable [] s heaps others found now same placed mapped = tt
@@ -101,7 +101,7 @@ image_whole b (g ∷ hs) r heaps (inr later) = image_whole b hs r heaps.1.1 late
 image_whole b (g ∷ hs) r heaps (inl own) =
     (live_bytes r.at (r.len + 4) (g.start + 16) g.items heaps.0.totals own.live).whole (omega (arith, heaps.0.aligned))
 
-one_whole : (b c : Bytes) (h : HeapList) (hs : List HeapList) (movable : List ℕ) (r : Region) → IsSlide b c h movable → AreHeapsIn b hs → AreOthers h hs
+one_whole : (b c : Bytes) (h : HeapList) (hs : List HeapList) (movable : List ℕ) (r : Region) → IsSlide b c h movable → AreHeapsIn b hs → AreClearOthers h hs
     → find_heap h.start hs ≡ Some h → AreHeapsIn c (with_items h.start (slid_in h movable) hs) → IsClearOfHeaps r.at r.len hs ⊎ IsImageIn hs r → IsSolid r
     → moved_place (moves_in h movable) r.kind r.at % 4 ≡ 0
 one_whole b c h hs movable r s heaps others found now (inl clear) solid =
@@ -111,7 +111,7 @@ one_whole b c h hs movable r s heaps others found now (inr image) solid =
     (image_in_moved b c h hs movable r s heaps others image)
 
 pub solid_moved : (b c : Bytes) (h : HeapList) (hs : List HeapList) (movable : List ℕ) (rs : List Region) → IsSlide b c h movable → AreHeapsIn b hs
-    → AreOthers h hs → find_heap h.start hs ≡ Some h → AreHeapsIn c (with_items h.start (slid_in h movable) hs) → ArePlaced hs rs → AreSolid rs
+    → AreClearOthers h hs → find_heap h.start hs ≡ Some h → AreHeapsIn c (with_items h.start (slid_in h movable) hs) → ArePlaced hs rs → AreSolid rs
     → AreSolid (moved_regions (moves_in h movable) rs)
 solid_moved b c h hs movable [] s heaps others found now placed solid = tt
 solid_moved b c h hs movable (r ∷ rs) s heaps others found now placed solid = (

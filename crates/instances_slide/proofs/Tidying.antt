@@ -9,7 +9,7 @@ use Rattle.address_map.specs.declared.map.AddressMap.{AddressMap}
 use Rattle.os_heap_lists.specs.Heap.{HeapList, IsHeapIn}
 use Rattle.instances_ground.specs.os_heap.proofs.Found.{found_heap, found_start}
 use Rattle.instances_ground.specs.os_heap.proofs.Moving.{found_held}
-use Rattle.instances_ground.specs.os_heap.proofs.Stores.{AreOthers, are_others}
+use Rattle.instances_ground.specs.os_heap.proofs.Stores.{AreClearOthers, are_clear_others}
 use Rattle.instances_ground.specs.os_heap.specs.Calls.{OfHeap}
 use Rattle.instances_ground.specs.os_heap.specs.Store.{IsSound, Store, find_heap, store_of}
 use Rattle.instances_ground.specs.os_heap_slide.proofs.Records.{IsSlide, slid_in}
@@ -106,7 +106,7 @@ blocks_sound w h movable world found sound =
     let start : h.start ≡ 0x01800000 = found_start 0x01800000 s.heaps h found in
     let own : find_heap h.start s.heaps ≡ Some h = subst (λ (q : ℕ). find_heap q s.heaps ≡ Some h) (sym start) found in
     let there : find_heap h.start t.heaps ≡ Some p = found_held h.start (slid_in h movable) s.heaps h own in
-    let others : AreOthers h s.heaps = are_others s.bytes h.start s.heaps h g.sound.heaps own in
+    let others : AreClearOthers h s.heaps = are_clear_others s.bytes h.start s.heaps h g.sound.heaps g.sound.unnested own in
     let slide : IsSlide s.bytes t.bytes h movable = record {
       old = found_heap s.bytes 0x01800000 s.heaps h g.sound.heaps found;
       new = found_heap t.bytes h.start t.heaps p sound.heaps there;

@@ -24,6 +24,8 @@ use Rattle.os_heap.proofs.Anchored.{place_more}
 use Rattle.os_heap.proofs.FlexWords.{AreSameFlex, IsUnflexed}
 use Rattle.os_heap.proofs.Frame.{clear_parts, heaps_in-spelled}
 use Rattle.os_heap.specs.Ranges.{are_mapped, is_heap_region, meets_any, MayBegin}
+use Rattle.os_heap.proofs.Nesting.{apart_turned, clear_stands, stand_more}
+use Rattle.os_heap.specs.Nesting.{AreUnnested, StandApart}
 use Rattle.os_heap.specs.Store.{AreClasses, AreClear, IsClearOfHeaps, AreHeapsIn, ArePlaced, Store, IsSound, heap_in, heaps_in, is_flex_store, is_in_flex_store, others_in, store_of, IsImageIn, guest_count}
 use Rattle.os_heap.specs.Calls.{begun_with, begun}
 use Rattle.address_map.specs.declared.region.Kind.TheVariants as kind
@@ -61,11 +63,16 @@ clear_more : (at len : ℕ) (hs : List HeapList) (h : HeapList) → IsClearOfHea
 clear_more at len [] h clear last = (last, tt)
 clear_more at len (g ∷ hs) h clear last = (clear.0, clear_more at len hs h clear.1 last)
 
-parts_more : (b : Bytes) (hs : List HeapList) (h : HeapList) → AreHeapsIn b hs → IsClearOfHeaps h.start h.end hs → IsHeapIn b h.start h.end h.items
+parts_more : (b : Bytes) (hs : List HeapList) (h : HeapList) → AreHeapsIn b hs → StandApart h hs → IsHeapIn b h.start h.end h.items
     → AreHeapsIn b (hs ++ h ∷ [])
-parts_more b [] h parts clear last = (last, (tt, tt))
-parts_more b (g ∷ hs) h parts clear last =
-    (parts.0, (clear_more g.start g.end hs h parts.1.0 (clear_turned h.start h.end g.start g.end clear.0), parts_more b hs h parts.1.1 clear.1 last))
+parts_more b [] h parts stand last = (last, (tt, tt))
+parts_more b (g ∷ hs) h parts stand last =
+    (parts.0, (stand_more g hs h parts.1.0 (apart_turned h g stand.0), parts_more b hs h parts.1.1 stand.1 last))
+
+unnested_more : (hs : List HeapList) (h : HeapList) → AreUnnested hs → IsClearOfHeaps h.start h.end hs → AreUnnested (hs ++ h ∷ [])
+unnested_more [] h parts clear = (tt, tt)
+unnested_more (g ∷ hs) h parts clear =
+    (clear_more g.start g.end hs h parts.0 (clear_turned h.start h.end g.start g.end clear.0), unnested_more hs h parts.1 clear.1)
 
 image_more : (hs : List HeapList) (h : HeapList) (r : Region) → IsImageIn hs r → IsImageIn (hs ++ h ∷ []) r
 image_more [] h r image = absurd image
@@ -210,7 +217,8 @@ begun_sound k s at size may sound =
     let none = (unmet at size s may.clear).0 in
     record {
       heaps = parts_more (begun_with k s at size).bytes s.heaps (empty k at size) (begun_old k s at size may sound)
-          (clear_of_heaps at size s.heaps none.0) (empty_heap s.bytes at size can);
+          (clear_stands (empty k at size) s.heaps (clear_of_heaps at size s.heaps none.0)) (empty_heap s.bytes at size can);
+      unnested = unnested_more s.heaps (empty k at size) sound.unnested (clear_of_heaps at size s.heaps none.0);
       limits = limits_more k s at size may.room sound.limits;
       placed = others_more s.heaps (empty k at size) s.others sound.placed none.1;
       apart = sound.apart;
@@ -339,6 +347,7 @@ pub sound_empty : (m : AddressMap) → regions m ≡ [] → ((a : ℕ) → class
 unfolding store_of
 sound_empty m none plain = rw none (record {
   heaps = tt;
+  unnested = tt;
   limits = record { guests = omega arith; areas = omega arith; place = tt };
   placed = tt;
   apart = tt;

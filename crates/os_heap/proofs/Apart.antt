@@ -7,17 +7,17 @@ use Rattle.os_heap_lists.proofs.LiveBlocks.{LiveBytes, live_bytes, live_apart}
 use Rattle.os_heap_lists.specs.Heap.{HeapList, IsHeapIn}
 use Rattle.os_heap_lists.specs.Lists.{live_total}
 use Rattle.os_heap.proofs.Found.{found_heap}
-use Rattle.os_heap.proofs.Stores.{IsOther, AreOthers, are_others}
+use Rattle.os_heap.proofs.Stores.{IsClearOther, AreClearOthers, are_clear_others}
 use Rattle.os_heap.specs.Store.{Store, IsSound, find_heap}
 
 -- a heap that is found is the one, or shares no byte with it
-pub found_other : (h : HeapList) (start : ℕ) (hs : List HeapList) (g : HeapList) → AreOthers h hs → find_heap start hs ≡ Some g → IsOther h g
+pub found_other : (h : HeapList) (start : ℕ) (hs : List HeapList) (g : HeapList) → AreClearOthers h hs → find_heap start hs ≡ Some g → IsClearOther h g
 found_other h start [] g others e = absurd (let none : None ≡ Some g = e in cc)
 found_other h start (k ∷ hs) g others e = elim (cases_Bool (k.start == start)) [
   | inl here ↦
       let e' = rw here at e in
       let same : k ≡ g = cc in
-      subst (λ (x : HeapList). IsOther h x) same others.0
+      subst (λ (x : HeapList). IsClearOther h x) same others.0
   | inr later ↦ found_other h start hs g others.1 (rw later at e)
 ]
 
@@ -57,7 +57,7 @@ pub blocks_apart : (s : Store) (h g : HeapList) (block total other other_total a
 blocks_apart s h g block total other other_total a sound found found' first second here there =
     let heap : IsHeapIn s.bytes h.start h.end h.items = found_heap s.bytes h.start s.heaps h sound.heaps found in
     let heap' : IsHeapIn s.bytes g.start g.end g.items = found_heap s.bytes g.start s.heaps g sound.heaps found' in
-    elim (found_other h g.start s.heaps g (are_others s.bytes h.start s.heaps h sound.heaps found) found') [
+    elim (found_other h g.start s.heaps g (are_clear_others s.bytes h.start s.heaps h sound.heaps sound.unnested found) found') [
       | inl same ↦
           let second' : live_total other (h.start + 16) h.items ≡ Some other_total =
           subst (λ (x : HeapList). live_total other (x.start + 16) x.items ≡ Some other_total) same second in

@@ -1,12 +1,12 @@
 -- Heaps and ranges beside a heap that gets another end.
-use Rattle.std.proofs.Common.{◌≡◌, arith, ℕ, List, ◌∙◌, inr, ◌-◌, inl, ◌+◌, refl, ◌≢◌, sym, ◌<◌, ◌⊎◌, [], ◌∷◌, true, subst, ◌==◌}
-use Rattle.std.proofs.lemmas.Bool.{le-leb, false≢true, cases_lt, lt-ltb, eqb-true, cases_Bool, ne_eqb}
+use Rattle.std.proofs.Common.{ap, ◌≡◌, arith, ℕ, List, ◌∙◌, inr, ◌-◌, inl, ◌+◌, refl, ◌≢◌, sym, ◌<◌, ◌⊎◌, [], ◌∷◌, true, subst, ◌==◌}
+use Rattle.std.proofs.lemmas.Bool.{le-leb, false≢true, cases_lt, lt-ltb, eq-eqb, eqb-true, cases_Bool, ne_eqb}
 use Rattle.address_map.proofs.Stores.{in_range-cases}
 use Rattle.address_map.specs.Bytes.{in_range}
 use Rattle.os_heap_lists.specs.Heap.{HeapList}
-use Rattle.os_heap.proofs.Stores.{AreOthers}
+use Rattle.os_heap.proofs.Stores.{AreClearOthers, clear_both_ways}
 use Rattle.os_heap.specs.Calls.{with_end}
-use Rattle.os_heap.specs.Store.{AreClear, IsClearOfHeaps}
+use Rattle.os_heap.specs.Store.{AreClear, AreUnnested, IsClearOfHeaps}
 
 -- a range that meets neither the heap nor what it grows by does not meet the heap with its other end
 pub clear_grown : (start end other at len : ℕ) → AreClear start end at len → (end < other → AreClear (start + end) (other - end) at len)
@@ -28,7 +28,7 @@ abbrev pub AreBeside : HeapList → ℕ → List HeapList → Type 0
 AreBeside h end [] = Unit {0}
 AreBeside h end (g ∷ gs) = IsBeside h end g × AreBeside h end gs
 
-pub are_beside : (h : HeapList) (end : ℕ) (hs : List HeapList) → AreOthers h hs → (h.end < end → IsClearOfHeaps (h.start + h.end) (end - h.end) hs)
+pub are_beside : (h : HeapList) (end : ℕ) (hs : List HeapList) → AreClearOthers h hs → (h.end < end → IsClearOfHeaps (h.start + h.end) (end - h.end) hs)
     → AreBeside h end hs
 are_beside h end [] others grown = tt
 are_beside h end (g ∷ hs) others grown = (
@@ -82,4 +82,23 @@ clear_head h end (g ∷ hs) some clear beside =
           let own : AreClear h.start h.end h.start h.end = subst (λ (x : HeapList). AreClear h.start h.end x.start x.end) same clear.0 in
           absurd (not_clear h.start h.end some own)
       | inr apart ↦ rw (ne_eqb g.start h.start apart.0) (apart.1.1, clear_head h end hs some clear.1 beside.1)
+    ]
+
+-- no heap lies in another still
+pub unnested_ended : (h : HeapList) (end : ℕ) (hs : List HeapList) → 0 < h.end → AreUnnested hs → AreBeside h end hs → AreUnnested (with_end h.start end hs)
+unnested_ended h end [] some clear beside = tt
+unnested_ended h end (g ∷ hs) some clear beside =
+    elim beside.0 [
+      | inl same ↦
+          let start : g.start ≡ h.start = ap (λ (x : HeapList). x.start) same in
+          let own : IsClearOfHeaps h.start h.end hs = subst (λ (x : HeapList). IsClearOfHeaps x.start x.end hs) same clear.0 in
+          rw (eq-eqb g.start h.start start) (
+            subst (λ (a : ℕ). IsClearOfHeaps a end (with_end h.start end hs)) (sym start) (clear_head h end hs some own beside.1),
+            unnested_ended h end hs some clear.1 beside.1,
+          )
+      | inr apart ↦
+          rw (ne_eqb g.start h.start apart.0) (
+            clear-ended g.start g.end h.start end hs clear.0 (clear_both_ways h.start end g.start g.end apart.1.1),
+            unnested_ended h end hs some clear.1 beside.1,
+          )
     ]

@@ -22,7 +22,8 @@ use Rattle.os_heap.proofs.Anchored.{KeepsAnchors, heads_unflexed, place_held, re
 use Rattle.os_heap.proofs.FlexWords.{AreSameFlex, flex_held}
 use Rattle.os_heap.proofs.Found.{found_heap}
 use Rattle.os_heap.proofs.Held.{AreBy, heads_marked, marks_held}
-use Rattle.os_heap.proofs.Stores.{AreOthers, KeepsImages, are_others, sound_held, store_held}
+use Rattle.os_heap.proofs.Nesting.{KeepsHeaps, keeps_by_blocks}
+use Rattle.os_heap.proofs.Stores.{AreOthers, KeepsImages, are_others, keeps_alone, sound_held, store_held}
 use Rattle.os_heap.specs.Outcomes.{Becomes, items_at, HasHeapAt, Claims, end_at, Releases, Frees, has_anchor_in}
 use Rattle.os_heap.specs.Store.{heap_in, find_heap, store_of, IsSound, AreClasses, heaps_in, others_in, has_image, is_image, Store}
 use Rattle.os_heap.specs.Calls.{got, gave_back, holding, holds_anchor, unless_image}
@@ -63,18 +64,18 @@ pub record IsHeld (m n : AddressMap) (h : HeapList) (items : List Item) : Type 0
 
 pub is_held : (m n : AddressMap) (h : HeapList) (items : List Item) → IsSound (store_of m) → AreClasses m → find_heap h.start (store_of m).heaps ≡ Some h
     → h.items ≡ items_at m h.start → KeepsImages (store_of m).others h.start h.items items
-    → KeepsAnchors (store_of m).anchor (h.start + 16) h.items items → Becomes m n h.start h.end items → IsHeld m n h items
-is_held m n h items sound classes found list kept keeps b =
+    → KeepsAnchors (store_of m).anchor (h.start + 16) h.items items → KeepsHeaps h items (store_of m).heaps → Becomes m n h.start h.end items → IsHeld m n h items
+is_held m n h items sound classes found list kept keeps within b =
     let s : Store = store_of m in
     let change : Remarks (class_of m) (class_of n) (h.start + 16) h.items items = marks_changed m n h items found list b classes in
     let flex : AreSameFlex (class_of m) (class_of n) =
     flex_held (class_of m) (class_of n) (h.start + 16) h.items items (heads_marked (class_of m) s.heaps h classes found) change
     (heads_unflexed m (bytes_of n) h items sound found b.heap keeps) in
     let others : AreOthers h s.heaps = are_others s.bytes h.start s.heaps h sound.heaps found in
-    let store : store_of n ≡ holding s h items = store_held m n h items sound found b flex in
+    let store : store_of n ≡ holding s h items = store_held m n h items sound found within b flex in
     record {
       store = store;
-      sound = sound_held m n h items sound found kept b flex
+      sound = sound_held m n h items sound found kept within b flex
           (λ a is. place_held h items s.heaps a others (keeps a is) (sound.anchors a is).1);
       classes = subst (λ (t : Store). AreBy (class_of n) t.heaps) (sym store)
           (marks_held s.bytes (class_of m) (class_of n) h items s.heaps sound.heaps found classes change);
@@ -108,7 +109,8 @@ gives_claim kind m n heap end answer None sound classes found still claims = giv
 gives_claim kind m n heap end answer (Some c) sound classes found still claims =
     let held : IsHeld m n (part_at kind m heap end) c.items =
     is_held m n (part_at kind m heap end) c.items sound classes found refl (λ b t is live. still b t live)
-    (λ a _ held. record { block = held.block; total = held.total; live = still held.block held.total held.live; low = held.low; high = held.high }) claims.1 in
+    (λ a _ held. record { block = held.block; total = held.total; live = still held.block held.total held.live; low = held.low; high = held.high })
+    (keeps_by_blocks (part_at kind m heap end) c.items (store_of m).heaps still) claims.1 in
     record {
       store = rw claims.0 (held.store, refl);
       sound = held.sound;
@@ -187,7 +189,8 @@ gives_release kind m n heap end answer true (Some items) sound classes found sti
     gives_none (Unit {0}) m n HeapHoldsAnchor answer sound classes releases.0 releases.1
 gives_release kind m n heap end answer false (Some items) sound classes found still keeps releases =
     let held : IsHeld m n (part_at kind m heap end) items =
-    is_held m n (part_at kind m heap end) items sound classes found refl still keeps releases.1 in
+    is_held m n (part_at kind m heap end) items sound classes found refl still keeps
+    (keeps_alone (store_of m) (part_at kind m heap end) items sound found) releases.1 in
     record {
       store = rw releases.0 (held.store, refl);
       sound = held.sound;

@@ -1,10 +1,9 @@
 -- The block that a claim makes: it is live then, and lies in no recorded range that isn't a heap.
-use Rattle.std.proofs.Common.{◌≡◌, ◌≢◌, ℕ, ◌+◌, ◌-◌, ◌<◌, ◌≤◌, Bool, true, false, List, [], ◌∷◌, refl, sym, ap, subst, ◌∙◌, Some, None, Ok, Err, inl, inr, arith}
+use Rattle.std.proofs.Common.{◌≡◌, ◌≢◌, ℕ, ◌+◌, ◌-◌, ◌<◌, ◌≤◌, true, false, List, [], ◌∷◌, refl, sym, ap, subst, ◌∙◌, Some, None, Ok, Err, inl, inr, arith}
 use Rattle.std.specs.Prelude.{Option, Result, is_some}
 use Rattle.std.specs.List.{list_any}
 use Rattle.std.proofs.lemmas.Bool.{both_ways, false_from_ne_true, false≢true, le-leb, lt-ltb, or_from}
 use Rattle.profile.specs.declared.error.ErrorNumber.{ErrorNumber}
-use Rattle.profile.specs.declared.error.ErrorNumber.TheVariants.{HeapBadDesc, HeapNoRoom}
 use Rattle.address_map.specs.Bytes.{Bytes, in_range}
 use Rattle.address_map.specs.Items.{is_total, size_of}
 use Rattle.address_map.specs.declared.region.Region.{Region}
@@ -17,7 +16,7 @@ use Rattle.os_heap.proofs.Calls.{claimed_in}
 use Rattle.os_heap.proofs.Found.{found_heap, found_start}
 use Rattle.os_heap.proofs.KeptPayloads.{IsClaim, is_claim}
 use Rattle.os_heap.proofs.Moving.{found_held}
-use Rattle.os_heap.proofs.Stores.{AreOthers, IsOther, are_others, clear_of-found}
+use Rattle.os_heap.proofs.Stores.{AreClearOthers, are_clear_others, clear_of-found}
 use Rattle.os_heap.specs.Calls.{OfHeap, got, holding}
 use Rattle.os_heap.specs.Store.{AreHeapsIn, ArePlaced, IsImageBlock, IsImageIn, IsSound, Store, find_heap}
 
@@ -47,7 +46,7 @@ beside_image h total c r claim live is =
     ]
 
 image_apart : (b : Bytes) (h : HeapList) (total : ℕ) (c : Claim) (r : Region) (gs : List HeapList) → IsClaim h total c → AreHeapsIn b gs
-    → AreOthers h gs → in_range h.start h.end (h.start + 16 + c.offset + 4) ≡ true → IsImageIn gs r
+    → AreClearOthers h gs → in_range h.start h.end (h.start + 16 + c.offset + 4) ≡ true → IsImageIn gs r
     → in_range r.at r.len (h.start + 16 + c.offset + 4) ≡ true → ⊥
 image_apart b h total c r [] claim parts others inside image is = image
 image_apart b h total c r (g ∷ gs) claim parts others inside (inr later) is = image_apart b h total c r gs claim parts.1.1 others.1 inside later is
@@ -67,7 +66,7 @@ records_apart s h total c (r ∷ rs) sound found claim inside placed =
     or_from (in_range r.at r.len (h.start + 16 + c.offset + 4)) (list_any (λ q. in_range q.at q.len (h.start + 16 + c.offset + 4)) rs)
     (false_from_ne_true (in_range r.at r.len (h.start + 16 + c.offset + 4)) (λ is. elim placed.0 [
       | inl clear ↦ both_ways (in_range h.start h.end (h.start + 16 + c.offset + 4)) (clear_of-found r.at r.len h.start s.heaps h clear found new is) inside
-      | inr image ↦ image_apart s.bytes h total c r s.heaps claim sound.heaps (are_others s.bytes h.start s.heaps h sound.heaps found) inside image is
+      | inr image ↦ image_apart s.bytes h total c r s.heaps claim sound.heaps (are_clear_others s.bytes h.start s.heaps h sound.heaps sound.unnested found) inside image is
     ]))
     (records_apart s h total c rs sound found claim inside placed.1)
 

@@ -26,13 +26,14 @@ use Rattle.os_heap.proofs.Found.{found_heap}
 use Rattle.os_heap.proofs.Held.{AreBy, marks_ended}
 use Rattle.os_heap.proofs.Anchored.{place_ended}
 use Rattle.os_heap.proofs.FlexWords.{AreSameFlex, same_flex}
-use Rattle.os_heap.proofs.Stores.{SamePlaces, same_limits, AreOthers, clear_both_ways, clear_of-found, are_others, bytes_held}
+use Rattle.os_heap.proofs.Stores.{SamePlaces, same_limits, AreOthers, clear_both_ways, clear_of-found, are_others, are_clear_others, bytes_held}
 use Rattle.os_heap.specs.Calls.{with_end, has_own_size, ending}
 use Rattle.os_heap.specs.Ranges.{MayEnd, meets_any}
 use Rattle.os_heap.specs.Outcomes.{Becomes, items_at}
-use Rattle.os_heap.specs.Store.{AreClear, IsClearOfHeaps, AreHeapsIn, ArePlaced, IsImageIn, find_heap, Store, others_in, heap_in, heaps_in, IsSound, AreClasses, store_of}
+use Rattle.os_heap.specs.Store.{AreClear, AreUnnested, IsClearOfHeaps, AreHeapsIn, ArePlaced, IsImageIn, find_heap, Store, others_in, heap_in, heaps_in, IsSound, AreClasses, store_of}
 use Rattle.address_map.specs.declared.region.Kind.TheVariants as kind
-use Rattle.os_heap.proofs.Beside.{AreBeside, AreElsewhere, IsBeside, are_beside, clear-ended, clear_grown, clear_head, elsewhere}
+use Rattle.os_heap.proofs.Beside.{AreBeside, AreElsewhere, IsBeside, are_beside, clear-ended, clear_grown, elsewhere, unnested_ended}
+use Rattle.os_heap.proofs.Nesting.{clear_stands}
 
 -- the heap with the other end, spelled by the bytes after the word was written
 pub end_written : (b c : Bytes) (start end other : ℕ) (items : List Item) → IsHeapIn b start end items → CanHold b start other → 16 + size_of items ≤ other
@@ -68,25 +69,26 @@ heap_beside b c h g long mapped kept clear heap =
 
 parts_ended : (b c : Bytes) (h : HeapList) (end : ℕ) (hs : List HeapList) → 16 ≤ h.end → c.mapped ≡ b.mapped
     → ((a : ℕ) → AreApart a 1 (h.start + 12) 4 → c.at a ≡ b.at a) → IsHeapIn c h.start end h.items
-    → AreBeside h end hs → AreHeapsIn b hs → AreHeapsIn c (with_end h.start end hs)
-parts_ended b c h end [] long mapped kept heap beside parts = tt
-parts_ended b c h end (g ∷ hs) long mapped kept heap beside parts =
+    → AreBeside h end hs → AreUnnested (with_end h.start end hs) → AreHeapsIn b hs → AreHeapsIn c (with_end h.start end hs)
+parts_ended b c h end [] long mapped kept heap beside clear parts = tt
+parts_ended b c h end (g ∷ hs) long mapped kept heap beside clear parts =
     elim beside.0 [
       | inl same ↦
           let start : g.start ≡ h.start = ap (λ (x : HeapList). x.start) same in
           let items : g.items ≡ h.items = ap (λ (x : HeapList). x.items) same in
-          let clear : IsClearOfHeaps h.start h.end hs = subst (λ (x : HeapList). IsClearOfHeaps x.start x.end hs) same parts.1.0 in
-          rw (eq-eqb g.start h.start start) (
+          let test : (g.start == h.start) ≡ true = eq-eqb g.start h.start start in
+          let clear' = rw test at clear in
+          let own : HeapList = record { kind = g.kind; start = g.start; end = end; items = g.items } in
+          rw test (
             rw (start, items) heap,
-            (rw start (clear_head h end hs (omega arith) clear beside.1), parts_ended b c h end hs long mapped kept heap beside.1 parts.1.1),
+            (clear_stands own (with_end h.start end hs) clear'.0, parts_ended b c h end hs long mapped kept heap beside.1 clear'.1 parts.1.1),
           )
       | inr apart ↦
-          rw (ne_eqb g.start h.start apart.0) (
+          let test : (g.start == h.start) ≡ false = ne_eqb g.start h.start apart.0 in
+          let clear' = rw test at clear in
+          rw test (
             heap_beside b c h g long mapped kept apart.1.0 parts.0,
-            (
-              clear-ended g.start g.end h.start end hs parts.1.0 (clear_both_ways h.start end g.start g.end apart.1.1),
-              parts_ended b c h end hs long mapped kept heap beside.1 parts.1.1,
-            ),
+            (clear_stands g (with_end h.start end hs) clear'.0, parts_ended b c h end hs long mapped kept heap beside.1 clear'.1 parts.1.1),
           )
     ]
 
@@ -229,21 +231,22 @@ read_elsewhere b c h end (r ∷ rs) ended others parts =
     ]
 
 read_ended : (b c : Bytes) (h : HeapList) (end : ℕ) (rs : List Region) → is_heap_kind h.kind ≡ true → IsEnded b c h end
-    → AreBeside h end (heaps_in b rs) → AreHeapsIn b (heaps_in b rs)
+    → AreBeside h end (heaps_in b rs) → AreUnnested (heaps_in b rs) → AreHeapsIn b (heaps_in b rs)
     → heaps_in c (with_len rs h.kind h.start end) ≡ with_end h.start end (heaps_in b rs)
-read_ended b c h end [] own ended beside parts = refl
-read_ended b c h end (r ∷ rs) own ended beside parts =
+read_ended b c h end [] own ended beside clear parts = refl
+read_ended b c h end (r ∷ rs) own ended beside clear parts =
     elim (cases_Bool (is_heap_kind r.kind)) [
       | inl heap ↦
           let beside' = rw heap at beside in
+          let clear' = rw heap at clear in
           let parts' = rw heap at parts in
           rw heap (elim (cases_Bool (is_record h.kind h.start r)) [
-            | inl here ↦ read_here here heap beside'.0 beside'.1 parts'.1.0 parts'.1.1
-            | inr other ↦ read_other other heap beside'.0 parts'.0 (read_ended b c h end rs own ended beside'.1 parts'.1.1)
+            | inl here ↦ read_here here heap beside'.0 beside'.1 clear'.0 parts'.1.1
+            | inr other ↦ read_other other heap beside'.0 parts'.0 (read_ended b c h end rs own ended beside'.1 clear'.1 parts'.1.1)
           ])
       | inr plain ↦
           let other : is_record h.kind h.start r ≡ false = not_record plain in
-          rw (other, plain) (read_ended b c h end rs own ended (rw plain at beside) (rw plain at parts))
+          rw (other, plain) (read_ended b c h end rs own ended (rw plain at beside) (rw plain at clear) (rw plain at parts))
     ] where
       not_record : is_heap_kind r.kind ≡ false → is_record h.kind h.start r ≡ false
       not_record plain = elim (cases_Bool (is_record h.kind h.start r)) [
@@ -321,7 +324,7 @@ all_beside : (m n : AddressMap) (h : HeapList) (end : ℕ) → EndsAt m n h end 
 unfolding store_of
 all_beside m n h end e =
     are_beside h end (heaps_in (bytes_of m) (regions m))
-    (are_others (bytes_of m) h.start (heaps_in (bytes_of m) (regions m)) h e.sound.heaps e.found) (heaps_clear (store_of m) h end e.may)
+    (are_clear_others (bytes_of m) h.start (heaps_in (bytes_of m) (regions m)) h e.sound.heaps e.sound.unnested e.found) (heaps_clear (store_of m) h end e.may)
 
 pub store_ended : (m n o : AddressMap) (h : HeapList) (end : ℕ) → EndsAt m n h end → bytes_of o ≡ bytes_of n
     → regions o ≡ with_len (regions m) h.kind h.start end → class_of o ≡ class_of n → store_of o ≡ ending (store_of m) h end
@@ -330,7 +333,7 @@ store_ended m n o h end e bytes records marks =
     let c : Bytes = bytes_of n in
     let rs : List Region = with_len (regions m) h.kind h.start end in
     let heaps : heaps_in c rs ≡ with_end h.start end (heaps_in (bytes_of m) (regions m)) =
-    read_ended (bytes_of m) c h end (regions m) e.own (ended_bytes m n h end e) (all_beside m n h end e) e.sound.heaps in
+    read_ended (bytes_of m) c h end (regions m) e.own (ended_bytes m n h end e) (all_beside m n h end e) e.sound.unnested e.sound.heaps in
     let others : others_in rs ≡ others_in (regions m) = others_in-ended h.kind h.start end (regions m) e.own in
     let written : c ≡ record { mapped = is_mapped m; at = with_heap (byte_at m) h.start end h.items } = bytes_held m n h.start end h.items (becomes_ended m n h end e) in
     let flex : AreSameFlex (class_of m) (class_of o) = same_flex (class_of m) (class_of o) (marks ∙ e.marks) in
@@ -349,13 +352,16 @@ sound_ended m n o h end e bytes records marks =
     let c : Bytes = bytes_of n in
     let hs : List HeapList = heaps_in (bytes_of m) (regions m) in
     let heaps : heaps_in c (with_len (regions m) h.kind h.start end) ≡ with_end h.start end hs =
-    read_ended (bytes_of m) c h end (regions m) e.own (ended_bytes m n h end e) (all_beside m n h end e) e.sound.heaps in
+    read_ended (bytes_of m) c h end (regions m) e.own (ended_bytes m n h end e) (all_beside m n h end e) e.sound.unnested e.sound.heaps in
     let others : others_in (with_len (regions m) h.kind h.start end) ≡ others_in (regions m) = others_in-ended h.kind h.start end (regions m) e.own in
     let ended : IsEnded (bytes_of m) c h end = ended_bytes m n h end e in
+    let clear : AreUnnested (with_end h.start end hs) =
+    unnested_ended h end hs (omega (arith, ended.long)) e.sound.unnested (all_beside m n h end e) in
     let others_beside : AreOthers h hs = are_others (bytes_of m) h.start hs h e.sound.heaps e.found in
     let flex : AreSameFlex (class_of m) (class_of o) = same_flex (class_of m) (class_of o) (marks ∙ e.marks) in
     rw (bytes, records, heaps, others) (record {
-      heaps = parts_ended (bytes_of m) c h end hs ended.long ended.mapped ended.kept ended.heap (all_beside m n h end e) e.sound.heaps;
+      heaps = parts_ended (bytes_of m) c h end hs ended.long ended.mapped ended.kept ended.heap (all_beside m n h end e) clear e.sound.heaps;
+      unnested = clear;
       limits = same_limits hs _ (places-ended h.start end hs) e.sound.limits;
       placed = others_ended h end hs (others_in (regions m)) e.found (ranges_clear (store_of m) h end e.may) e.sound.placed;
       apart = e.sound.apart;

@@ -1,5 +1,5 @@
 -- A sound store after the flex store's words changed: no word of a heap did, each anchor lies where one may, and each header in the flex store.
-use Rattle.std.proofs.Common.{◌≡◌, ◌⊎◌, ℕ, ◌+◌, ◌%◌, ◌≤◌, ◌<◌, ◌&&◌, Bool, true, false, List, [], ◌∷◌, refl, sym, ap, subst, ◌∙◌, arith, inl, inr}
+use Rattle.std.proofs.Common.{◌≡◌, ℕ, ◌+◌, ◌%◌, ◌≤◌, ◌<◌, ◌&&◌, true, false, List, [], ◌∷◌, refl, sym, ap, ◌∙◌, arith, inl, inr}
 use Rattle.std.proofs.lemmas.Bool.{and_parts, both_ways, cases_Bool, false_from_ne_true, false≢true, ltb-true, or_from}
 use Rattle.address_map.proofs.Bytes.{is_mapped-layout}
 use Rattle.address_map.specs.Bytes.{Bytes, in_range, word_start}
@@ -11,7 +11,7 @@ use Rattle.address_map.specs.declared.region.Region.{Region}
 use Rattle.os_heap.proofs.Anchored.{IsPlacedBy, not_flex}
 use Rattle.os_heap.proofs.Frame.{clear_unowned, heaps_in-spelled, layout-regions, parts_kept}
 use Rattle.os_heap.proofs.Stores.{image_kind}
-use Rattle.os_heap.specs.Store.{AreClasses, AreHeapsIn, ArePlaced, heaps_in, IsAnchorPlace, is_flex_store, is_in_flex_store, IsSound, others_in, store_of}
+use Rattle.os_heap.specs.Store.{AreClasses, AreHeapsIn, ArePlaced, heaps_in, IsAnchorPlace, is_flex_store, is_in_flex_store, IsSound, store_of}
 use Rattle.os_heap_lists.proofs.HeadWords.{byte_inside}
 use Rattle.os_heap_lists.proofs.LiveBlocks.{LiveBytes, live_bytes, live_unspelled}
 use Rattle.os_heap_lists.specs.Heap.{HeapList, IsHeapIn}
@@ -45,6 +45,7 @@ sound_flexed m n sound classes f =
       heaps = rw records heaps;
       sound = rw (records, heaps) (record {
         heaps = parts;
+        unnested = sound.unnested;
         limits = sound.limits;
         placed = sound.placed;
         apart = sound.apart;

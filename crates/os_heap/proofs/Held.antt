@@ -1,16 +1,17 @@
 -- The class of each word by the lists of all heaps: after one of them got another list or another end, and after a heap more was made.
-use Rattle.std.proofs.Common.{Bool, List, ℕ, [], ◌∷◌, ◌++◌, ◌≡◌, ◌==◌, ◌||◌, ◌+◌, ◌≤◌, ◌%◌, true, false, refl, sym, ap, subst, ◌∙◌, inl, inr, arith, Some, None, cond}
-use Rattle.std.proofs.lemmas.Bool.{cases_Bool, or_left, or_right, or_from, and_right, eqb-true, eq-eqb, ne_eqb, le-leb, lt-ltb, le-ltb, both_ways, false_from_ne_true, false≢true}
+use Rattle.std.proofs.Common.{Bool, List, ℕ, [], ◌∷◌, ◌++◌, ◌≡◌, ◌==◌, ◌||◌, ◌+◌, ◌≤◌, true, false, refl, sym, ap, subst, ◌∙◌, inl, inr, Some, None, cond}
+use Rattle.std.proofs.lemmas.Bool.{cases_Bool, or_left, or_right, or_from, and_right, eqb-true, eq-eqb, ne_eqb, le-ltb, false≢true}
 use Rattle.address_map.specs.Bytes.{Bytes, in_range, word_start}
 use Rattle.address_map.specs.Classes.{is_heap_class}
 use Rattle.address_map.specs.Items.{is_head, is_heap_word, size_of}
 use Rattle.address_map.specs.declared.class.Class.{Class}
 use Rattle.address_map.specs.declared.class.Class.TheVariants as class
 use Rattle.address_map.specs.declared.item.Item.{Item}
-use Rattle.os_heap_lists.proofs.HeadWords.{head_inside, word_inside}
+use Rattle.os_heap_lists.proofs.HeadWords.{head_inside}
 use Rattle.os_heap_lists.specs.Heap.{HeapList, IsHeapIn}
 use Rattle.os_heap_lists.specs.Marks.{marked, Remarks, AreMarked, spells_any}
 use Rattle.os_heap.proofs.Found.{found_heap}
+use Rattle.os_heap.proofs.Nesting.{words_apart}
 use Rattle.os_heap.proofs.Stores.{AreOthers, are_others}
 use Rattle.os_heap.specs.Calls.{with_items, with_end}
 use Rattle.os_heap.specs.Store.{AreHeapsIn, find_heap}
@@ -56,21 +57,20 @@ made_spelled h items (g ∷ hs) p found is =
           rw other (or_right (is_heap_word g.start g.items p) (spells_any (with_items h.start items hs) p) (made_spelled h items hs p (rw other at found) is))
     ]
 
-given_unspelled : (b : Bytes) (h : HeapList) (items : List Item) (hs : List HeapList) (p : ℕ) → p % 4 ≡ 0 → AreHeapsIn b hs → AreOthers h hs
-    → is_heap_word h.start items p ≡ false → in_range h.start h.end p ≡ true → spells_any (with_items h.start items hs) p ≡ false
-given_unspelled b h items [] p aligned heaps others none inside = refl
-given_unspelled b h items (g ∷ hs) p aligned heaps others none inside =
-    let rest : spells_any (with_items h.start items hs) p ≡ false = given_unspelled b h items hs p aligned heaps.1.1 others.1 none inside in
+given_unspelled : (b : Bytes) (h : HeapList) (items : List Item) (hs : List HeapList) (a : ℕ) → IsHeapIn b h.start h.end h.items → AreHeapsIn b hs
+    → AreOthers h hs → is_heap_word h.start items (word_start a) ≡ false → is_heap_word h.start h.items (word_start a) ≡ true
+    → spells_any (with_items h.start items hs) (word_start a) ≡ false
+given_unspelled b h items [] a heap heaps others none was = refl
+given_unspelled b h items (g ∷ hs) a heap heaps others none was =
+    let p : ℕ = word_start a in
+    let rest : spells_any (with_items h.start items hs) p ≡ false = given_unspelled b h items hs a heap heaps.1.1 others.1 none was in
     elim others.0 [
       | inl own ↦
           let start : g.start ≡ h.start = ap (λ (x : HeapList). x.start) own in
           rw (eq-eqb g.start h.start start) (or_from (is_heap_word g.start items p) (spells_any (with_items h.start items hs) p) (rw start none) rest)
       | inr apart ↦
           rw (ne_eqb g.start h.start apart.0)
-          (or_from (is_heap_word g.start g.items p) (spells_any (with_items h.start items hs) p) (false_from_ne_true _ (λ is.
-          let low : (g.start ≤ p) × (p + 4 ≤ g.start + g.end) = word_inside b g.start g.end g.items p heaps.0 aligned is in
-          both_ways (in_range g.start g.end p) (apart.1 p inside) (rw (le-leb g.start p low.0, lt-ltb p (g.start + g.end) (omega (arith, low.1))) refl)))
-          rest)
+          (or_from (is_heap_word g.start g.items p) (spells_any (with_items h.start items hs) p) (words_apart b b h g a heap heaps.0 apart.1 was) rest)
     ]
 
 same_spelled : (h : HeapList) (items : List Item) (hs : List HeapList) (p : ℕ) → AreOthers h hs
@@ -111,8 +111,7 @@ marks_held b c d h items hs heaps found same change a =
     (λ not is.
     let inside : (h.start + 16 ≤ p) × (p + 4 ≤ h.start + 16 + size_of h.items) = head_inside (h.start + 16) h.items p heap.totals is in
     let past : descriptor ≡ false = and_right _ _ (le-ltb p (h.start + 16) inside.0) in
-    given_unspelled b h items hs p (omega arith) heaps others (or_from descriptor now past not)
-    (rw (le-leb h.start p (omega (arith, inside.0)), lt-ltb p (h.start + h.end) (omega (arith, inside.1, heap.inside))) refl))
+    given_unspelled b h items hs a heap heaps others (or_from descriptor now past not) (or_right descriptor was is))
     (λ not nor. same_spelled h items hs p others (ap (λ (t : Bool). descriptor || t) (not ∙ sym nor)))
 
 -- a heap got another end

@@ -22,7 +22,7 @@ use Rattle.os_heap.proofs.Calls.{claimed_in, released_in}
 use Rattle.os_heap.proofs.Found.{found_heap, found_start}
 use Rattle.os_heap.proofs.Moving.{found_held}
 use Rattle.os_heap.proofs.Resizing.{larger_where_none}
-use Rattle.os_heap.proofs.Stores.{are_others, clear_of-found}
+use Rattle.os_heap.proofs.Stores.{are_clear_others, clear_of-found}
 use Rattle.os_heap.specs.Calls.{holds_anchor, copied, handed_over, moved, resized_or_moved, begun, begun_with, got, gave_back, resized, changed, own_size, has_own_size, end_changed, ending, holding, with_items, unless_image}
 use Rattle.os_heap.specs.Laws.{KeepPayloads, KeepsPayloads}
 use Rattle.os_heap.specs.Ranges.{is_heap_region, meets_any}
@@ -68,7 +68,7 @@ heap_written : (s : Store) (k h : HeapList) (f : ℕ → ℕ) (end : ℕ) (items
 heap_written s k h f end items block total a sound found found' totals fits live here own =
     let heap : IsHeapIn s.bytes k.start k.end k.items = found_heap s.bytes k.start s.heaps k sound.heaps found in
     heap_beside f k.start end items a heap.aligned totals
-    (elim (found_other k h.start s.heaps h (are_others s.bytes k.start s.heaps k sound.heaps found) found') [
+    (elim (found_other k h.start s.heaps h (are_clear_others s.bytes k.start s.heaps k sound.heaps sound.unnested found) found') [
       | inl same ↦ own same
       | inr apart ↦ false_from_ne_true _ (λ is. both_ways (in_range h.start h.end a)
           (apart.1 a (spelled_inside k.start k.end items a heap.aligned totals fits is)) (payload_inside s h block total a sound found' live here))
@@ -233,7 +233,7 @@ copy_apart s k h c old new block total a sound found found' claim less live here
     let byte : (block ≤ a) × (a < block + (total - 4)) = range_parts block (total - 4) a here in
     false_from_ne_true _ (λ copied.
     let target : (at ≤ a) × (a < at + (old - 4)) = range_parts at (old - 4) a copied in
-    elim (found_other k h.start s.heaps h (are_others s.bytes k.start s.heaps k sound.heaps found) found') [
+    elim (found_other k h.start s.heaps h (are_clear_others s.bytes k.start s.heaps k sound.heaps sound.unnested found) found') [
       | inl same ↦
           let live' : live_total block (k.start + 16) k.items ≡ Some total =
           subst (λ (x : HeapList). live_total block (x.start + 16) x.items ≡ Some total) same live in

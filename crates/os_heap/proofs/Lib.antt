@@ -18,6 +18,7 @@ pub mod Limits
 pub mod Linking
 pub mod Marking
 pub mod Moving
+pub mod Nesting
 pub mod Order
 pub mod Owned
 pub mod PayloadLemmas

@@ -24,7 +24,8 @@ use Rattle.os_heap.proofs.Found.{found_heap, found_start}
 use Rattle.os_heap.proofs.Frame.{store_bytes, heads_kept, IsKept, classes_same}
 use Rattle.os_heap.proofs.Replace.{heap_below}
 use Rattle.os_heap.proofs.Searching.{looked-below}
-use Rattle.os_heap.proofs.Stores.{IsOther, AreOthers, are_others}
+use Rattle.os_heap.proofs.Nesting.{keeps_by_blocks}
+use Rattle.os_heap.proofs.Stores.{IsClearOther, AreClearOthers, are_clear_others}
 use Rattle.os_heap.specs.Calls.{holds_anchor, copied, moved, handed_over, holding, with_items, gave_back}
 use Rattle.os_heap.specs.Probes.{move_probes}
 use Rattle.os_heap.specs.Outcomes.{has_anchor_in, items_at, end_at, Becomes, Claims, HasHeapAt, Releases}
@@ -106,7 +107,8 @@ is_claimed m n heap block total needed new answer p sound classes live claims ok
     λ a t there'. subst (IsStill a t (heap + 16)) b.is (claim_still needed (end - 16) a t (heap + 16) items there' there.totals) in
     let held : IsHeld m n (part_at kind m heap end) b.claim.items = is_held m n (part_at kind m heap end) b.claim.items sound classes found refl
     (λ a t is. keeps a t)
-    (λ a _ in'. record { block = in'.block; total = in'.total; live = keeps in'.block in'.total in'.live; low = in'.low; high = in'.high }) b.becomes in
+    (λ a _ in'. record { block = in'.block; total = in'.total; live = keeps in'.block in'.total in'.live; low = in'.low; high = in'.high })
+    (keeps_by_blocks (part_at kind m heap end) b.claim.items (store_of m).heaps keeps) b.becomes in
     record {
       claim = b.claim;
       found = found;
@@ -148,14 +150,14 @@ are_inside m n kind heap block total needed new larger c =
       whole = to.whole (omega (arith, c.heap_then.aligned));
     }
 
--- no byte of a heap's range is spelled by another heap
-unowned : (b : Bytes) (hs : List HeapList) (h : HeapList) (a : ℕ) → AreHeapsIn b hs → AreOthers h hs → is_heap_word h.start h.items (word_start a) ≡ false
+-- no byte of a heap's range is spelled by another heap, while none lies in it
+unowned : (b : Bytes) (hs : List HeapList) (h : HeapList) (a : ℕ) → AreHeapsIn b hs → AreClearOthers h hs → is_heap_word h.start h.items (word_start a) ≡ false
     → in_range h.start h.end a ≡ true → are_owned hs a ≡ false
 unowned b [] h a parts others free inside = refl
 unowned b (g ∷ hs) h a parts others free inside =
     or_from (is_heap_word g.start g.items (word_start a)) (are_owned hs a) (head_free others.0)
     (unowned b hs h a parts.1.1 others.1 free inside) where
-      head_free : IsOther h g → is_heap_word g.start g.items (word_start a) ≡ false
+      head_free : IsClearOther h g → is_heap_word g.start g.items (word_start a) ≡ false
       head_free (inl same) = ap (λ (x : HeapList). is_heap_word x.start x.items (word_start a)) same ∙ free
       head_free (inr apart) =
           false_from_ne_true _ (λ is. both_ways (in_range g.start g.end a) (apart.1 a inside) (byte_inside b g.start g.end g.items a parts.0 is))
@@ -164,7 +166,7 @@ pub unowned_in : (m : AddressMap) (h : HeapList) (a : ℕ) → IsSound (store_of
     → is_heap_word h.start h.items (word_start a) ≡ false → in_range h.start h.end a ≡ true → are_owned (store_of m).heaps a ≡ false
 unfolding store_of
 unowned_in m h a sound found free inside =
-    unowned (bytes_of m) (store_of m).heaps h a sound.heaps (are_others (bytes_of m) h.start (store_of m).heaps h sound.heaps found) free inside
+    unowned (bytes_of m) (store_of m).heaps h a sound.heaps (are_clear_others (bytes_of m) h.start (store_of m).heaps h sound.heaps sound.unnested found) free inside
 
 -- the same heap is found after it got another list
 pub found_held : (start : ℕ) (items : List Item) (hs : List HeapList) (h : HeapList) → find_heap start hs ≡ Some h

@@ -1,7 +1,7 @@
 -- Writes to what a live block holds change no list.
 use Rattle.std.proofs.Common.{ℕ, ◌≡◌, ◌+◌, ◌-◌, ◌≤◌, ◌<◌, true, false, Some, refl, arith}
 use Rattle.std.proofs.lemmas.Bool.{both_ways, false_from_ne_true, le-leb, lt-ltb}
-use Rattle.address_map.specs.Bytes.{in_range, word_start}
+use Rattle.address_map.specs.Bytes.{in_range}
 use Rattle.address_map.specs.Items.{size_of}
 use Rattle.address_map.specs.Memory.{byte_at, class_of, layout}
 use Rattle.address_map.specs.declared.map.AddressMap.{AddressMap}

@@ -70,6 +70,7 @@ pub recorded_sound : (s : Store) (r : Region) → IsSound s → IsClearOfHeaps r
     → IsSound (record s { others = s.others ++ r ∷ [] })
 recorded_sound s r sound clear apart room = record {
   heaps = sound.heaps;
+  unnested = sound.unnested;
   limits = sound.limits;
   placed = placed_other s.heaps s.others r sound.placed clear;
   apart = apart_other s.others r sound.apart apart;

@@ -30,6 +30,7 @@ use Rattle.os_heap.proofs.Freeing.{block_facts}
 use Rattle.os_heap.proofs.Moving.{part_there, HasPart}
 use Rattle.os_heap.proofs.Replace.{heap_mapped, heap_below}
 use Rattle.os_heap.proofs.Sized.{block_total}
+use Rattle.os_heap.proofs.Stores.{keeps_alone}
 use Rattle.os_heap.specs.Calls.{gave_back, holds_anchor, unless_image, resized, resized_or_moved, moved}
 use Rattle.os_heap.specs.Probes.{resize_probes, probes_after_walk, refit_probes, move_probes}
 use Rattle.os_heap.specs.Outcomes.{IsGuestBlock, has_anchor_in, items_at, end_at, Releases, Refits}
@@ -180,7 +181,8 @@ in_place_given : (m n : AddressMap) (kind : Kind) (heap end block old new : ℕ)
 in_place_given m n kind heap end block old new None sound classes found still uncut keeps refits = absurd (false≢true (sym refits.0))
 in_place_given m n kind heap end block old new (Some items) sound classes found still uncut keeps refits =
     let held : IsHeld m n (part_at kind m heap end) items =
-    is_held m n (part_at kind m heap end) items sound classes found refl still keeps refits.1 in
+    is_held m n (part_at kind m heap end) items sound classes found refl still keeps
+    (keeps_alone (store_of m) (part_at kind m heap end) items sound found) refits.1 in
     record {
       store = rw uncut (held.store, refl);
       sound = held.sound;

@@ -1,24 +1,27 @@
 -- What a call on one heap leaves of all heaps and of memory as a whole.
-use Rattle.std.proofs.Common.{Bool, ◌&&◌, ◌≡◌, List, ℕ, false, arith, inl, ◌+◌, ◌≢◌, ◌∙◌, sym, inr, ◌==◌, None, [], subst, Some, ◌∷◌, ◌⊎◌, ◌<◌, true, ap, refl}
+use Rattle.std.proofs.Common.{Bool, ◌&&◌, ◌≡◌, List, ℕ, false, arith, inl, ◌+◌, ◌≢◌, ◌∙◌, sym, inr, ◌==◌, None, [], subst, Some, ◌∷◌, ◌⊎◌, true, ap, refl}
 use Rattle.std.proofs.lemmas.Bool.{false≢true, cases_Bool, ne_eqb, eq-eqb, eqb-true, or_left, or_right}
 use Rattle.address_map.proofs.Bytes.{byte_at-lt, is_mapped-layout}
 use Rattle.address_map.proofs.Equations.{same_bytes}
-use Rattle.address_map.proofs.Stores.{in_range-cases}
-use Rattle.address_map.specs.Bytes.{in_range, Bytes, word_at}
+use Rattle.address_map.specs.Bytes.{in_range, Bytes, word_at, word_start}
 use Rattle.address_map.specs.Classes.{is_flex_header, is_anchor}
-use Rattle.address_map.specs.Items.{items_in}
+use Rattle.address_map.specs.Items.{is_heap_word, items_in}
 use Rattle.address_map.specs.Memory.{is_mapped, bytes_of, byte_at, layout, regions, class_of}
 use Rattle.address_map.specs.Records.{is_heap_kind}
 use Rattle.address_map.specs.declared.class.Class.{Class}
 use Rattle.address_map.specs.declared.item.Item.{Item}
 use Rattle.address_map.specs.declared.map.AddressMap.{AddressMap}
 use Rattle.address_map.specs.declared.region.Region.{Region}
-use Rattle.os_heap_lists.proofs.HeapWords.{part_back, outside_before, outside_past, heap_kept, cons_part}
+use Rattle.os_heap_lists.proofs.HeapWords.{part_back, cons_part}
+use Rattle.os_heap_lists.proofs.HeadWords.{heaps_kept}
+use Rattle.os_heap_lists.proofs.Payloads.{heap_beside}
 use Rattle.os_heap_lists.proofs.Reading.{items_in-heap}
 use Rattle.os_heap_lists.specs.Heap.{with_heap, HeapList, IsHeapIn}
 use Rattle.os_heap_lists.specs.Lists.{live_total}
 use Rattle.os_heap.proofs.FlexWords.{AreSameFlex}
 use Rattle.os_heap.proofs.Found.{found_heap}
+use Rattle.os_heap.proofs.Nesting.{KeepsHeaps, KeepsWithin, apart_starts, apart_turned, listed, not_itself, not_within, stands_own, words_apart}
+use Rattle.os_heap.specs.Nesting.{AreUnnested, IsWithin, StandApart, StandsApart}
 use Rattle.os_heap.specs.Outcomes.{Becomes}
 use Rattle.os_heap.specs.Store.{AreClear, IsClearOfHeaps, find_heap, AreHeapsIn, ArePlaced, Store, heap_in, heaps_in, others_in, IsSound, store_of, has_image, is_image, is_area, IsImageIn, IsAnchorPlace, guest_count, area_count, StandAreas, AreInLimits}
 use Rattle.os_heap.specs.Calls.{with_items, holding}
@@ -28,17 +31,6 @@ pub bytes_held : (m n : AddressMap) (start end : ℕ) (items : List Item) → Be
 bytes_held m n start end items b =
     same_bytes m n (with_heap (byte_at m) start end items) b.same
     (λ a. part_back (byte_at m) (bytes_of n) start end items b.heap (byte_at-lt n) a (b.others a))
-
--- nothing changed past the heap's own bytes
-kept_beyond : (m n : AddressMap) (start end : ℕ) (items : List Item) → Becomes m n start end items → (a : ℕ) → in_range start end a ≡ false → byte_at n a ≡ byte_at m a
-kept_beyond m n start end items b a clear =
-    elim (in_range-cases start end a) [
-      | inl r ↦ absurd (false≢true (sym clear ∙ r.0))
-      | inr r ↦ elim r.1 [
-        | inl low ↦ b.others a (inl (omega arith)) (outside_before (start + 16) items a (omega arith))
-        | inr past ↦ b.others a (inr (omega (arith, b.heap.inside))) (outside_past (start + 16) items a (start + end) (omega (arith, b.heap.inside)) past b.heap.totals)
-      ]
-    ]
 
 pub clear_both_ways : (at len other other_len : ℕ) → AreClear at len other other_len → AreClear other other_len at len
 clear_both_ways at len other other_len clear a h =
@@ -55,28 +47,28 @@ clear_of-found at len start (g ∷ hs) h clear e =
       | inr other ↦ clear_of-found at len start hs h clear.1 (rw other at e)
     ]
 
--- each heap is the one, or shares no byte with it
+-- each heap is the one, or stands apart from it
 abbrev pub IsOther : HeapList → HeapList → Type 0
-IsOther h g = (g ≡ h) ⊎ ((g.start ≢ h.start) × AreClear h.start h.end g.start g.end)
+IsOther h g = (g ≡ h) ⊎ ((g.start ≢ h.start) × StandsApart h g)
 
 abbrev pub AreOthers : HeapList → List HeapList → Type 0
 AreOthers h [] = Unit {0}
 AreOthers h (g ∷ gs) = IsOther h g × AreOthers h gs
 
-other_start : (b : Bytes) (g h : HeapList) → IsHeapIn b g.start g.end g.items → AreClear h.start h.end g.start g.end → 0 < h.end → g.start ≢ h.start
-other_start b g h heap clear some e =
-    elim (in_range-cases g.start g.end g.start) [
-      | inl r ↦ elim (in_range-cases h.start h.end g.start) [
-        | inl q ↦ false≢true (sym (clear g.start q.0) ∙ r.0)
-        | inr q ↦ elim q.1 [ inl low ↦ omega arith | inr past ↦ omega arith ]
-      ]
-      | inr r ↦ elim r.1 [ inl low ↦ omega arith | inr past ↦ omega (arith, heap.inside) ]
-    ]
+stands_found : (g : HeapList) (start : ℕ) (hs : List HeapList) (h : HeapList) → StandApart g hs → find_heap start hs ≡ Some h → StandsApart g h
+stands_found g start [] h stand e = absurd (let none : None ≡ Some h = e in cc)
+stands_found g start (k ∷ hs) h stand e = elim (cases_Bool (k.start == start)) [
+  | inl here ↦
+      let e' = rw here at e in
+      let same : k ≡ h = cc in
+      subst (λ (x : HeapList). StandsApart g x) same stand.0
+  | inr other ↦ stands_found g start hs h stand.1 (rw other at e)
+]
 
-others_clear : (b : Bytes) (h : HeapList) (gs : List HeapList) → 0 < h.end → IsClearOfHeaps h.start h.end gs → AreHeapsIn b gs → AreOthers h gs
-others_clear b h [] some clear parts = tt
-others_clear b h (g ∷ gs) some clear parts =
-    (inr (other_start b g h parts.0 clear.0 some, clear.0), others_clear b h gs some clear.1 parts.1.1)
+others_apart : (b : Bytes) (h : HeapList) (gs : List HeapList) → IsHeapIn b h.start h.end h.items → StandApart h gs → AreHeapsIn b gs → AreOthers h gs
+others_apart b h [] heap stand parts = tt
+others_apart b h (g ∷ gs) heap stand parts =
+    (inr (apart_starts b b h g heap parts.0 stand.0, stand.0), others_apart b h gs heap stand.1 parts.1.1)
 
 pub are_others : (b : Bytes) (start : ℕ) (hs : List HeapList) (h : HeapList) → AreHeapsIn b hs → find_heap start hs ≡ Some h → AreOthers h hs
 are_others b start [] h parts e = tt
@@ -85,13 +77,60 @@ are_others b start (g ∷ hs) h parts e =
       | inl here ↦
           let e' = rw here at e in
           let same : g ≡ h = cc in
-          (inl same, subst (λ (x : HeapList). AreOthers x hs) same (others_clear b g hs (omega (arith, parts.0.inside)) parts.1.0 parts.1.1))
+          (inl same, subst (λ (x : HeapList). AreOthers x hs) same (others_apart b g hs parts.0 parts.1.0 parts.1.1))
       | inr other ↦
           let e' = rw other at e in
           let there : IsHeapIn b h.start h.end h.items = found_heap b start hs h parts.1.1 e' in
-          let clear : AreClear h.start h.end g.start g.end = clear_both_ways _ _ _ _ (clear_of-found g.start g.end start hs h parts.1.0 e') in
-          (inr (other_start b g h parts.0 clear (omega (arith, there.inside)), clear), are_others b start hs h parts.1.1 e')
+          let apart : StandsApart h g = apart_turned g h (stands_found g start hs h parts.1.0 e') in
+          (inr (apart_starts b b h g there parts.0 apart, apart), are_others b start hs h parts.1.1 e')
     ]
+
+-- while no heap lies in another, each is the one, or shares no byte with it
+abbrev pub IsClearOther : HeapList → HeapList → Type 0
+IsClearOther h g = (g ≡ h) ⊎ ((g.start ≢ h.start) × AreClear h.start h.end g.start g.end)
+
+abbrev pub AreClearOthers : HeapList → List HeapList → Type 0
+AreClearOthers h [] = Unit {0}
+AreClearOthers h (g ∷ gs) = IsClearOther h g × AreClearOthers h gs
+
+others_clear : (b : Bytes) (h : HeapList) (gs : List HeapList) → IsHeapIn b h.start h.end h.items → IsClearOfHeaps h.start h.end gs → AreHeapsIn b gs
+    → AreClearOthers h gs
+others_clear b h [] heap clear parts = tt
+others_clear b h (g ∷ gs) heap clear parts =
+    (inr (apart_starts b b h g heap parts.0 (inl clear.0), clear.0), others_clear b h gs heap clear.1 parts.1.1)
+
+pub are_clear_others : (b : Bytes) (start : ℕ) (hs : List HeapList) (h : HeapList) → AreHeapsIn b hs → AreUnnested hs → find_heap start hs ≡ Some h
+    → AreClearOthers h hs
+are_clear_others b start [] h parts clear e = tt
+are_clear_others b start (g ∷ hs) h parts clear e =
+    elim (cases_Bool (g.start == start)) [
+      | inl here ↦
+          let e' = rw here at e in
+          let same : g ≡ h = cc in
+          (inl same, subst (λ (x : HeapList). AreClearOthers x hs) same (others_clear b g hs parts.0 clear.0 parts.1.1))
+      | inr other ↦
+          let e' = rw other at e in
+          let there : IsHeapIn b h.start h.end h.items = found_heap b start hs h parts.1.1 e' in
+          let apart : AreClear h.start h.end g.start g.end = clear_both_ways _ _ _ _ (clear_of-found g.start g.end start hs h clear.0 e') in
+          (inr (apart_starts b b h g there parts.0 (inl apart), apart), are_clear_others b start hs h parts.1.1 clear.1 e')
+    ]
+
+-- then there is nothing in its blocks to be kept
+pub none_within : (b : Bytes) (h : HeapList) (items : List Item) (gs : List HeapList) → IsHeapIn b h.start h.end h.items → AreClearOthers h gs → AreHeapsIn b gs
+    → KeepsHeaps h items gs
+none_within b h items [] heap others parts = tt
+none_within b h items (g ∷ gs) heap others parts = (
+  λ within. absurd (elim others.0 [
+    | inl same ↦ not_itself b h heap (inr (inl (subst (λ (x : HeapList). IsWithin h x) same within)))
+    | inr apart ↦ not_within b h g heap (omega (arith, parts.0.inside)) apart.1 within
+  ]),
+  none_within b h items gs heap others.1 parts.1.1,
+)
+
+pub keeps_alone : (s : Store) (h : HeapList) (items : List Item) → IsSound s → find_heap h.start s.heaps ≡ Some h → KeepsHeaps h items s.heaps
+keeps_alone s h items sound found =
+    none_within s.bytes h items s.heaps (found_heap s.bytes h.start s.heaps h sound.heaps found)
+    (are_clear_others s.bytes h.start s.heaps h sound.heaps sound.unnested found) sound.heaps
 
 pub clear-held : (at len start : ℕ) (items : List Item) (hs : List HeapList) → IsClearOfHeaps at len hs → IsClearOfHeaps at len (with_items start items hs)
 clear-held at len start items [] clear = tt
@@ -99,6 +138,37 @@ clear-held at len start items (g ∷ hs) clear =
     elim (cases_Bool (g.start == start)) [
       | inl here ↦ rw here (clear.0, clear-held at len start items hs clear.1)
       | inr other ↦ rw other (clear.0, clear-held at len start items hs clear.1)
+    ]
+
+pub unnested_held : (start : ℕ) (items : List Item) (hs : List HeapList) → AreUnnested hs → AreUnnested (with_items start items hs)
+unnested_held start items [] clear = tt
+unnested_held start items (g ∷ hs) clear = elim (cases_Bool (g.start == start)) [
+  | inl here ↦ rw here (clear-held g.start g.end start items hs clear.0, unnested_held start items hs clear.1)
+  | inr other ↦ rw other (clear-held g.start g.end start items hs clear.0, unnested_held start items hs clear.1)
+]
+
+-- the heap with its new list stands apart from the others, and they from it
+own_held : (b : Bytes) (h : HeapList) (items : List Item) (hs : List HeapList) → IsHeapIn b h.start h.end h.items → AreOthers h hs → KeepsHeaps h items hs
+    → StandApart h hs → StandApart (listed h items) (with_items h.start items hs)
+own_held b h items [] heap others keeps stand = tt
+own_held b h items (k ∷ hs) heap others keeps stand = elim others.0 [
+  | inl same ↦ absurd (not_itself b h heap (subst (λ (x : HeapList). StandsApart h x) same stand.0))
+  | inr apart ↦ rw (ne_eqb k.start h.start apart.0) (stands_own h k items keeps.0 stand.0, own_held b h items hs heap others.1 keeps.1 stand.1)
+]
+
+stand_held : (g h : HeapList) (items : List Item) (hs : List HeapList) → KeepsWithin h items g → AreOthers h hs → StandApart g hs
+    → StandApart g (with_items h.start items hs)
+stand_held g h items [] keeps others stand = tt
+stand_held g h items (k ∷ hs) keeps others stand =
+    let rest : StandApart g (with_items h.start items hs) = stand_held g h items hs keeps others.1 stand.1 in
+    elim others.0 [
+      | inl same ↦
+          let start : k.start ≡ h.start = ap (λ (x : HeapList). x.start) same in
+          let own : StandsApart (listed h items) g = stands_own h g items keeps (apart_turned g h (subst (λ (x : HeapList). StandsApart g x) same stand.0)) in
+          let here : StandsApart g (listed k items) =
+          subst (λ (x : HeapList). StandsApart g (listed x items)) (sym same) (apart_turned (listed h items) g own) in
+          rw (eq-eqb k.start h.start start) (here, rest)
+      | inr apart ↦ rw (ne_eqb k.start h.start apart.0) (stand.0, rest)
     ]
 
 -- the module images in the area stay blocks of its list
@@ -188,65 +258,77 @@ places-held start items (h ∷ hs) = elim (cases_Bool (h.start == start)) [
   | inr other ↦ rw other ((refl, refl), places-held start items hs)
 ]
 
--- The heap has another list, the records are the same, and no byte past its own range changed.
+-- The heap has another list, the records are the same, and no byte changed but those of the words that it spells.
 pub record IsHeld (m n : AddressMap) (start end : ℕ) (items : List Item) : Type 0 where
   pub heap : IsHeapIn (bytes_of n) start end items
   pub mapped : is_mapped n ≡ is_mapped m
-  pub beyond : (a : ℕ) → in_range start end a ≡ false → byte_at n a ≡ byte_at m a
+  pub others : (a : ℕ) → is_heap_word start items (word_start a) ≡ false → byte_at n a ≡ byte_at m a
 
 held : (m n : AddressMap) (start end : ℕ) (items : List Item) → Becomes m n start end items → IsHeld m n start end items
-held m n start end items b = record { heap = b.heap; mapped = is_mapped-layout m n b.same; beyond = kept_beyond m n start end items b }
+held m n start end items b = record {
+  heap = b.heap;
+  mapped = is_mapped-layout m n b.same;
+  others = λ a none. ap (λ (x : Bytes). x.at a) (bytes_held m n start end items b)
+      ∙ heap_beside (byte_at m) start end items a b.heap.aligned b.heap.totals none;
+}
 
-other_kept : (m n : AddressMap) (h g : HeapList) (items : List Item) → IsHeld m n h.start h.end items → AreClear h.start h.end g.start g.end
+other_kept : (m n : AddressMap) (h g : HeapList) (items : List Item) → IsHeld m n h.start h.end items → StandsApart (listed h items) g
     → IsHeapIn (bytes_of m) g.start g.end g.items → IsHeapIn (bytes_of n) g.start g.end g.items
-other_kept m n h g items b clear heap =
-    heap_kept (bytes_of m) (bytes_of n) g.start g.end g.items heap b.mapped
-    (λ a low high. b.beyond a
-    (elim (in_range-cases g.start g.end a) [
-      | inl r ↦ clear_both_ways _ _ _ _ clear a r.0
-      | inr r ↦ elim r.1 [ inl less ↦ absurd (omega arith) | inr past ↦ absurd (omega arith) ]
-    ]))
+other_kept m n h g items b apart heap =
+    heaps_kept (bytes_of m) (bytes_of n) g.start g.end g.items b.mapped
+    (λ a is. b.others a (words_apart (bytes_of m) (bytes_of n) g (listed h items) a heap b.heap (apart_turned (listed h items) g apart) is)) heap
 
 -- all heaps after the call are spelled, each apart from the others
 pub parts_held : (m n : AddressMap) (h : HeapList) (items : List Item) (hs : List HeapList) → IsHeld m n h.start h.end items → AreOthers h hs
-    → AreHeapsIn (bytes_of m) hs → AreHeapsIn (bytes_of n) (with_items h.start items hs)
-parts_held m n h items [] b others parts = tt
-parts_held m n h items (g ∷ hs) b others parts =
+    → KeepsHeaps h items hs → AreHeapsIn (bytes_of m) hs → AreHeapsIn (bytes_of n) (with_items h.start items hs)
+parts_held m n h items [] b others keeps parts = tt
+parts_held m n h items (g ∷ hs) b others keeps parts =
+    let rest : AreHeapsIn (bytes_of n) (with_items h.start items hs) = parts_held m n h items hs b others.1 keeps.1 parts.1.1 in
     elim others.0 [
       | inl same ↦
           let start : g.start ≡ h.start = ap (λ (x : HeapList). x.start) same in
           let end : g.end ≡ h.end = ap (λ (x : HeapList). x.end) same in
           let test : (g.start == h.start) ≡ true = eq-eqb g.start h.start start in
-          rw test (rw (start, end) b.heap, (clear-held g.start g.end h.start items hs parts.1.0, parts_held m n h items hs b others.1 parts.1.1))
+          let heap : IsHeapIn (bytes_of m) h.start h.end h.items =
+          subst (λ (x : HeapList). IsHeapIn (bytes_of m) x.start x.end x.items) same parts.0 in
+          let own : StandApart (listed h items) (with_items h.start items hs) =
+          own_held (bytes_of m) h items hs heap others.1 keeps.1 (subst (λ (x : HeapList). StandApart x hs) same parts.1.0) in
+          let stand : StandApart (listed g items) (with_items h.start items hs) =
+          subst (λ (x : HeapList). StandApart (listed x items) (with_items h.start items hs)) (sym same) own in
+          rw test (rw (start, end) b.heap, (stand, rest))
       | inr apart ↦
           let test : (g.start == h.start) ≡ false = ne_eqb g.start h.start apart.0 in
-          rw test (other_kept m n h g items b apart.1 parts.0, (clear-held g.start g.end h.start items hs parts.1.0, parts_held m n h items hs b others.1 parts.1.1))
+          rw test (
+            other_kept m n h g items b (stands_own h g items keeps.0 apart.1) parts.0,
+            (stand_held g h items hs keeps.0 others.1 parts.1.0, rest),
+          )
     ]
 
 pub read_parts : (m n : AddressMap) (h : HeapList) (items : List Item) (rs : List Region) → IsHeld m n h.start h.end items
-    → AreOthers h (heaps_in (bytes_of m) rs) → AreHeapsIn (bytes_of m) (heaps_in (bytes_of m) rs)
+    → AreOthers h (heaps_in (bytes_of m) rs) → KeepsHeaps h items (heaps_in (bytes_of m) rs) → AreHeapsIn (bytes_of m) (heaps_in (bytes_of m) rs)
     → heaps_in (bytes_of n) rs ≡ with_items h.start items (heaps_in (bytes_of m) rs)
-read_parts m n h items [] b others parts = refl
-read_parts m n h items (r ∷ rs) b others parts =
+read_parts m n h items [] b others keeps parts = refl
+read_parts m n h items (r ∷ rs) b others keeps parts =
     elim (cases_Bool (is_heap_kind r.kind)) [
       | inl is_heap ↦
           let others' = rw is_heap at others in
+          let keeps' = rw is_heap at keeps in
           let parts' = rw is_heap at parts in
-          rw is_heap (read_part others'.0 parts'.0 (read_parts m n h items rs b others'.1 parts'.1.1))
-      | inr other ↦ rw other (read_parts m n h items rs b (rw other at others) (rw other at parts))
+          rw is_heap (read_part others'.0 keeps'.0 parts'.0 (read_parts m n h items rs b others'.1 keeps'.1 parts'.1.1))
+      | inr other ↦ rw other (read_parts m n h items rs b (rw other at others) (rw other at keeps) (rw other at parts))
     ] where
-      read_part : IsOther h (heap_in (bytes_of m) r) → IsHeapIn (bytes_of m) r.at r.len (items_in (word_at (byte_at m)) r.at)
+      read_part : IsOther h (heap_in (bytes_of m) r) → KeepsWithin h items (heap_in (bytes_of m) r) → IsHeapIn (bytes_of m) r.at r.len (items_in (word_at (byte_at m)) r.at)
           → heaps_in (bytes_of n) rs ≡ with_items h.start items (heaps_in (bytes_of m) rs)
           → heap_in (bytes_of n) r ∷ heaps_in (bytes_of n) rs ≡ with_items h.start items (heap_in (bytes_of m) r ∷ heaps_in (bytes_of m) rs)
-      read_part (inl same) heap rest =
+      read_part (inl same) keeps heap rest =
           let start : r.at ≡ h.start = ap (λ (x : HeapList). x.start) same in
           let test : (r.at == h.start) ≡ true = eq-eqb r.at h.start start in
           let list : items_in (word_at (byte_at n)) r.at ≡ items = rw start (items_in-heap (bytes_of n) h.start h.end items b.heap) in
           rw test (cons_part _ _ _ _ (ap (λ (xs : List Item). let p : HeapList = record { kind = r.kind; start = r.at; end = r.len; items = xs } in p) list) rest)
-      read_part (inr apart) heap rest =
+      read_part (inr apart) keeps heap rest =
           let test : (r.at == h.start) ≡ false = ne_eqb r.at h.start apart.0 in
           let list : items_in (word_at (byte_at n)) r.at ≡ items_in (word_at (byte_at m)) r.at =
-          items_in-heap (bytes_of n) r.at r.len (items_in (word_at (byte_at m)) r.at) (other_kept m n h (heap_in (bytes_of m) r) items b apart.1 heap) in
+          items_in-heap (bytes_of n) r.at r.len (items_in (word_at (byte_at m)) r.at) (other_kept m n h (heap_in (bytes_of m) r) items b (stands_own h (heap_in (bytes_of m) r) items keeps apart.1) heap) in
           rw test (cons_part _ _ _ _ (ap (λ (xs : List Item). let p : HeapList = record { kind = r.kind; start = r.at; end = r.len; items = xs } in p) list) rest)
 
 store_parts : (b c : Bytes) (hs gs : List HeapList) (rs : List Region) (k l : ℕ → Class) → b ≡ c → hs ≡ gs → AreSameFlex l k
@@ -259,23 +341,24 @@ pub layout-regions : (m n : AddressMap) → layout n ≡ layout m → regions n 
 layout-regions m n same = ap (λ l. l.regions) same
 
 pub store_held : (m n : AddressMap) (h : HeapList) (items : List Item) → IsSound (store_of m) → find_heap h.start (store_of m).heaps ≡ Some h
-    → Becomes m n h.start h.end items → AreSameFlex (class_of m) (class_of n) → store_of n ≡ holding (store_of m) h items
+    → KeepsHeaps h items (store_of m).heaps → Becomes m n h.start h.end items → AreSameFlex (class_of m) (class_of n) → store_of n ≡ holding (store_of m) h items
 unfolding store_of
-store_held m n h items sound found b flex =
+store_held m n h items sound found keeps b flex =
     let others : AreOthers h (heaps_in (bytes_of m) (regions m)) = are_others (bytes_of m) h.start (heaps_in (bytes_of m) (regions m)) h sound.heaps found in
     rw (layout-regions m n b.same) (store_parts _ _ _ _ (others_in (regions m)) (class_of n) (class_of m) (bytes_held m n h.start h.end items b)
-    (read_parts m n h items (regions m) (held m n h.start h.end items b) others sound.heaps) flex)
+    (read_parts m n h items (regions m) (held m n h.start h.end items b) others keeps sound.heaps) flex)
 
 pub sound_held : (m n : AddressMap) (h : HeapList) (items : List Item) → IsSound (store_of m) → find_heap h.start (store_of m).heaps ≡ Some h
-    → KeepsImages (store_of m).others h.start h.items items → Becomes m n h.start h.end items → AreSameFlex (class_of m) (class_of n)
+    → KeepsImages (store_of m).others h.start h.items items → KeepsHeaps h items (store_of m).heaps → Becomes m n h.start h.end items → AreSameFlex (class_of m) (class_of n)
     → ((a : ℕ) → (store_of m).anchor a ≡ true → IsAnchorPlace (with_items h.start items (store_of m).heaps) a) → IsSound (store_of n)
 unfolding store_of
-sound_held m n h items sound found kept b flex places =
+sound_held m n h items sound found kept keeps b flex places =
     let others : AreOthers h (heaps_in (bytes_of m) (regions m)) = are_others (bytes_of m) h.start (heaps_in (bytes_of m) (regions m)) h sound.heaps found in
     let now : IsHeld m n h.start h.end items = held m n h.start h.end items b in
-    let list : heaps_in (bytes_of n) (regions m) ≡ with_items h.start items (heaps_in (bytes_of m) (regions m)) = read_parts m n h items (regions m) now others sound.heaps in
+    let list : heaps_in (bytes_of n) (regions m) ≡ with_items h.start items (heaps_in (bytes_of m) (regions m)) = read_parts m n h items (regions m) now others keeps sound.heaps in
     rw (layout-regions m n b.same, list) (record {
-      heaps = parts_held m n h items (heaps_in (bytes_of m) (regions m)) now others sound.heaps;
+      heaps = parts_held m n h items (heaps_in (bytes_of m) (regions m)) now others keeps sound.heaps;
+      unnested = unnested_held h.start items (heaps_in (bytes_of m) (regions m)) sound.unnested;
       limits = same_limits _ _ (places-held h.start items (heaps_in (bytes_of m) (regions m))) sound.limits;
       placed = placed-held h items (heaps_in (bytes_of m) (regions m)) (others_in (regions m)) others kept sound.placed;
       apart = sound.apart;

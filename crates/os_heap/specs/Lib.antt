@@ -3,6 +3,7 @@ pub mod Calls
 pub mod Cursors
 pub mod Laws
 pub mod Marks
+pub mod Nesting
 pub mod Order
 pub mod Outcomes
 pub mod Payloads

@@ -12,6 +12,7 @@ use Rattle.address_map.specs.Items.{items_in, is_heap_word}
 use Rattle.address_map.specs.declared.item.Item.{Item}
 use Rattle.address_map.specs.Records.{is_heap_kind}
 use Rattle.address_map.specs.Memory.{bytes_of, class_of, regions}
+pub use Rattle.os_heap.specs.Nesting.{AreClear, AreUnnested, IsClearOfHeaps, StandApart, is_area}
 use Rattle.os_heap_lists.specs.Heap.{HeapList, IsHeapIn}
 use Rattle.os_heap_lists.specs.Lists.{live_total}
 use Rattle.os_heap_lists.specs.Marks.{spells_any}
@@ -46,23 +47,10 @@ store_of m = record {
   header = λ a. is_flex_header (class_of m a);
 }
 
--- ranges that share no address
-abbrev pub AreClear : ℕ → ℕ → ℕ → ℕ → Type 0
-AreClear at len other other_len = (a : ℕ) → in_range at len a ≡ true → in_range other other_len a ≡ false
-
-abbrev pub IsClearOfHeaps : ℕ → ℕ → List HeapList → Type 0
-IsClearOfHeaps at len [] = Unit {0}
-IsClearOfHeaps at len (h ∷ hs) = AreClear at len h.start h.end × IsClearOfHeaps at len hs
-
--- memory spells each heap, and no two share a byte
+-- memory spells each heap, and each two stand apart
 abbrev pub AreHeapsIn : Bytes → List HeapList → Type 0
 AreHeapsIn b [] = Unit {0}
-AreHeapsIn b (h ∷ hs) = IsHeapIn b h.start h.end h.items × (IsClearOfHeaps h.start h.end hs × AreHeapsIn b hs)
-
--- the module area is a heap too, and not one of those that guests make
-abbrev pub is_area : Kind → Bool
-is_area kind.Rma = true
-is_area other = false
+AreHeapsIn b (h ∷ hs) = IsHeapIn b h.start h.end h.items × (StandApart h hs × AreHeapsIn b hs)
 
 abbrev pub guest_count : List HeapList → ℕ
 guest_count [] = 0
@@ -134,9 +122,10 @@ is_flex_store other = false
 abbrev pub is_in_flex_store : List Region → ℕ → Bool
 is_in_flex_store rs a = list_any (λ r. is_flex_store r.kind && in_range r.at r.len a) rs
 
--- What holds of every store. The other records are so few that all heaps find room beside them.
+-- What holds of every store. No heap lies in a block of another yet. The other records are so few that all heaps find room beside them.
 pub record IsSound (s : Store) : Type 0 where
   pub heaps : AreHeapsIn s.bytes s.heaps
+  pub unnested : AreUnnested s.heaps
   pub limits : AreInLimits s.heaps
   pub placed : ArePlaced s.heaps s.others
   pub apart : AreRangesApart s.others

@@ -26,10 +26,11 @@ use Rattle.os_heap.proofs.Found.{found_heap, found_start}
 use Rattle.os_heap.proofs.Anchored.{KeepsAnchors, heads_unflexed, place_held}
 use Rattle.os_heap.proofs.FlexWords.{AreSameFlex, flex_held, flex_on, same_flex}
 use Rattle.os_heap.proofs.Held.{heads_marked, marks_held}
-use Rattle.os_heap.proofs.Stores.{are_others, AreOthers, IsHeld, layout-regions, parts_held, places-held, read_parts, same_limits}
+use Rattle.os_heap.proofs.Stores.{are_clear_others, are_others, AreClearOthers, AreOthers, layout-regions, places-held, same_limits, unnested_held}
 use Rattle.os_heap.specs.Calls.{OfHeap, holds_anchor, with_items}
 use Rattle.os_heap.specs.Outcomes.{end_at, HasHeapAt, items_at}
-use Rattle.os_heap.specs.Store.{AreClasses, AreHeapsIn, find_heap, heaps_in, IsSound, is_flex_store, is_in_flex_store, others_in, store_of}
+use Rattle.os_heap.specs.Store.{AreClasses, AreHeapsIn, AreUnnested, find_heap, heaps_in, IsSound, is_flex_store, is_in_flex_store, others_in, store_of}
+use Rattle.os_heap_slide.proofs.Beside.{AreBeside, clear_beside, parts_beside, read_beside}
 use Rattle.os_heap_slide.proofs.Laying.{IsRead, read}
 use Rattle.os_heap_slide.proofs.Places.{bytes_low, bytes_past, moved_live, moved_stays, moves_down}
 use Rattle.os_heap_slide.proofs.Records.{all_placed, heaps_moved, IsSlide, moves_in, others_moved, ranges_apart, slid_in}
@@ -120,25 +121,21 @@ list_slid m n q h movable moves is a d =
     }
 
 -- no byte out of the heap's range changed
-list_held : (m n q : AddressMap) (h : HeapList) (movable : List ℕ) → IsHeapIn (bytes_of m) h.start h.end h.items → IsListSlid m n q h movable
-    → IsHeld m q h.start h.end (slid_in h movable)
-list_held m n q h movable old l =
+slid_beyond : (m n q : AddressMap) (h : HeapList) (movable : List ℕ) (a : ℕ) → IsHeapIn (bytes_of m) h.start h.end h.items → IsListSlid m n q h movable
+    → in_range h.start h.end a ≡ false → byte_at q a ≡ byte_at m a
+slid_beyond m n q h movable a old l out =
     let mv : ℕ → Bool = is_listed movable in
     let first : ℕ = h.start + 16 in
-    record {
-      heap = l.heap;
-      mapped = l.mapped;
-      beyond = λ a out. elim (in_range-cases h.start h.end a) [
-        | inl r ↦ absurd (false≢true (sym out ∙ r.0))
-        | inr r ↦ elim r.1 [
-          | inl low ↦ l.others a (inl (omega arith)) (outside_before first (slid_in h movable) a (omega arith))
-              ∙ bytes_low mv first first h.items (byte_at m) a (omega arith) (omega arith)
-          | inr past ↦ l.others a (inr (omega (arith, l.heap.inside)))
-              (outside_past first (slid_in h movable) a (h.start + h.end) (omega (arith, l.heap.inside)) past l.heap.totals)
-              ∙ bytes_past mv first first h.items (byte_at m) a (omega arith) (omega (arith, old.inside))
-        ]
-      ];
-    }
+    elim (in_range-cases h.start h.end a) [
+      | inl r ↦ absurd (false≢true (sym out ∙ r.0))
+      | inr r ↦ elim r.1 [
+        | inl low ↦ l.others a (inl (omega arith)) (outside_before first (slid_in h movable) a (omega arith))
+            ∙ bytes_low mv first first h.items (byte_at m) a (omega arith) (omega arith)
+        | inr past ↦ l.others a (inr (omega (arith, l.heap.inside)))
+            (outside_past first (slid_in h movable) a (h.start + h.end) (omega (arith, l.heap.inside)) past l.heap.totals)
+            ∙ bytes_past mv first first h.items (byte_at m) a (omega arith) (omega (arith, old.inside))
+      ]
+    ]
 
 pub record IsSlidStore (m q : AddressMap) (h : HeapList) (movable : List ℕ) : Type 0 where
   pub store : store_of q ≡ with_slid (store_of m) h movable
@@ -197,8 +194,11 @@ slid_store m n q h movable moves sound classes found old is free a d =
     let hs : List HeapList = heaps_in (bytes_of m) (regions m) in
     let rs : List Region = others_in (regions m) in
     let l : IsListSlid m n q h movable = list_slid m n q h movable moves is a d in
-    let held : IsHeld m q h.start h.end (slid_in h movable) = list_held m n q h movable old l in
     let others : AreOthers h hs = are_others (bytes_of m) h.start hs h sound.heaps found in
+    let clear : AreClearOthers h hs = are_clear_others (bytes_of m) h.start hs h sound.heaps sound.unnested found in
+    let beside : AreBeside (bytes_of q) h hs =
+    clear_beside (bytes_of m) (bytes_of q) h hs l.mapped (λ x out. slid_beyond m n q h movable x old l out) clear sound.heaps in
+    let unnested : AreUnnested (with_items h.start (slid_in h movable) hs) = unnested_held h.start (slid_in h movable) hs sound.unnested in
     let s : IsSlide (bytes_of m) (bytes_of q) h movable = record { old = old; new = l.heap } in
     let new : Bytes = record { mapped = is_mapped m; at = with_heap (slid_bytes mv first first h.items (byte_at m)) h.start h.end (slid_in h movable) } in
     let bytes : bytes_of q ≡ new = λ i. record {
@@ -207,7 +207,7 @@ slid_store m n q h movable moves sound classes found old is free a d =
     } in
     let heaps : heaps_in (bytes_of q) (regions q) ≡ with_items h.start (slid_in h movable) hs =
     ap (λ (ys : List Region). heaps_in (bytes_of q) ys) l.records ∙ heaps_moved (bytes_of q) (moves_in h movable) (regions m)
-    ∙ read_parts m q h (slid_in h movable) (regions m) held others sound.heaps in
+    ∙ read_beside (bytes_of m) (bytes_of q) h (slid_in h movable) (regions m) l.heap beside in
     let records : others_in (regions q) ≡ moved_regions (moves_in h movable) rs = ap others_in l.records ∙ others_moved (moves_in h movable) (regions m) in
     let keeps : KeepsAnchors (anchor_of m) first h.items (slid_in h movable) = slide_keeps (anchor_of m) mv first h.items old.totals free in
     let flex : AreSameFlex (class_of m) (class_of n) =
@@ -221,12 +221,14 @@ slid_store m n q h movable moves sound classes found old is free a d =
       anchor = λ a. same.anchors a i;
       header = λ a. same.headers a i;
     } in
-    let parts : AreHeapsIn (bytes_of q) (with_items h.start (slid_in h movable) hs) = parts_held m q h (slid_in h movable) hs held others sound.heaps in
+    let parts : AreHeapsIn (bytes_of q) (with_items h.start (slid_in h movable) hs) =
+    parts_beside (bytes_of q) h (slid_in h movable) hs l.heap beside unnested in
     let now : IsSound (with_slid (store_of m) h movable) = record {
       heaps = subst (λ (b : Bytes). AreHeapsIn b (with_items h.start (slid_in h movable) hs)) bytes parts;
+      unnested = unnested;
       limits = same_limits hs _ (places-held h.start (slid_in h movable) hs) sound.limits;
-      placed = all_placed (bytes_of m) (bytes_of q) h hs movable rs s sound.heaps others found sound.placed;
-      apart = ranges_apart (bytes_of m) (bytes_of q) h hs movable rs s sound.heaps others found sound.placed sound.apart;
+      placed = all_placed (bytes_of m) (bytes_of q) h hs movable rs s sound.heaps clear found sound.placed;
+      apart = ranges_apart (bytes_of m) (bytes_of q) h hs movable rs s sound.heaps clear found sound.placed sound.apart;
       few = rw (length-map rs (λ (r : Region). moved_region (moves_in h movable) r)) sound.few;
       anchors = λ a is. ((sound.anchors a is).0, place_held h (slid_in h movable) hs a others (keeps a is) (sound.anchors a is).1);
       headers = λ a is. moved_flex (moves_in h movable) rs a (sound.headers a is);

@@ -1,4 +1,5 @@
 pub mod Beginning
+pub mod Beside
 pub mod Ending
 pub mod KeptBlocks
 pub mod LawLemmas

@@ -15,7 +15,7 @@ use Rattle.os_heap_lists.proofs.LiveBlocks.{LiveBytes, live_apart, live_bytes}
 use Rattle.os_heap_lists.specs.Heap.{HeapList, IsHeapIn}
 use Rattle.os_heap_lists.specs.Lists.{live_total}
 use Rattle.os_heap.proofs.Apart.{range_parts}
-use Rattle.os_heap.proofs.Stores.{AreOthers, clear-held, clear_of-found}
+use Rattle.os_heap.proofs.Stores.{AreClearOthers, clear-held, clear_of-found}
 use Rattle.os_heap.specs.Calls.{with_items}
 use Rattle.os_heap.specs.Store.{AreClear, AreHeapsIn, ArePlaced, AreRangesApart, find_heap, heaps_in, is_image, IsClearOfHeaps, IsClearOfRanges, IsImageBlock, IsImageIn, others_in}
 use Rattle.os_heap_slide.proofs.Places.{low_still, moved_live, past_still, stay_distinct}
@@ -160,7 +160,7 @@ other_image b c h g movable r s heap clear image =
       clear = turned r.at r.len h.start h.end away;
     }
 
-image_known : (b c : Bytes) (h : HeapList) (hs : List HeapList) (movable : List ℕ) (r : Region) → IsSlide b c h movable → AreHeapsIn b hs → AreOthers h hs
+image_known : (b c : Bytes) (h : HeapList) (hs : List HeapList) (movable : List ℕ) (r : Region) → IsSlide b c h movable → AreHeapsIn b hs → AreClearOthers h hs
     → IsImageIn hs r → IsKnown h (moves_in h movable) r
 image_known b c h [] movable r s heaps others image = absurd image
 image_known b c h (g ∷ hs) movable r s heaps others image = elim image [
@@ -171,7 +171,7 @@ image_known b c h (g ∷ hs) movable r s heaps others image = elim image [
   ]
 ]
 
-known : (b c : Bytes) (h : HeapList) (hs : List HeapList) (movable : List ℕ) (r : Region) → IsSlide b c h movable → AreHeapsIn b hs → AreOthers h hs
+known : (b c : Bytes) (h : HeapList) (hs : List HeapList) (movable : List ℕ) (r : Region) → IsSlide b c h movable → AreHeapsIn b hs → AreClearOthers h hs
     → find_heap h.start hs ≡ Some h → IsClearOfHeaps r.at r.len hs ⊎ IsImageIn hs r → IsKnown h (moves_in h movable) r
 known b c h hs movable r s heaps others found (inl clear) = clear_still b c h movable r s (clear_of-found r.at r.len h.start hs h clear found)
 known b c h hs movable r s heaps others found (inr image) = image_known b c h hs movable r s heaps others image
@@ -239,7 +239,7 @@ abbrev AreKnown : HeapList → List Move → List Region → Type 0
 AreKnown h moves [] = Unit {0}
 AreKnown h moves (r ∷ rs) = IsKnown h moves r × AreKnown h moves rs
 
-all_known : (b c : Bytes) (h : HeapList) (hs : List HeapList) (movable : List ℕ) (rs : List Region) → IsSlide b c h movable → AreHeapsIn b hs → AreOthers h hs
+all_known : (b c : Bytes) (h : HeapList) (hs : List HeapList) (movable : List ℕ) (rs : List Region) → IsSlide b c h movable → AreHeapsIn b hs → AreClearOthers h hs
     → find_heap h.start hs ≡ Some h → ArePlaced hs rs → AreKnown h (moves_in h movable) rs
 all_known b c h hs movable [] s heaps others found placed = tt
 all_known b c h hs movable (r ∷ rs) s heaps others found placed =
@@ -258,7 +258,7 @@ all_apart b c h movable [] s all apart = tt
 all_apart b c h movable (r ∷ rs) s all apart =
     (one_apart b c h movable r rs s all.0 all.1 apart.0, all_apart b c h movable rs s all.1 apart.1)
 
-pub ranges_apart : (b c : Bytes) (h : HeapList) (hs : List HeapList) (movable : List ℕ) (rs : List Region) → IsSlide b c h movable → AreHeapsIn b hs → AreOthers h hs
+pub ranges_apart : (b c : Bytes) (h : HeapList) (hs : List HeapList) (movable : List ℕ) (rs : List Region) → IsSlide b c h movable → AreHeapsIn b hs → AreClearOthers h hs
     → find_heap h.start hs ≡ Some h → ArePlaced hs rs → AreRangesApart rs → AreRangesApart (moved_regions (moves_in h movable) rs)
 ranges_apart b c h hs movable rs s heaps others found placed apart = all_apart b c h movable rs s (all_known b c h hs movable rs s heaps others found placed) apart
 
@@ -279,7 +279,7 @@ clear_moved b c h hs movable r s found clear = elim (cases_eq r.len 0) [
       rw still (clear-held r.at r.len h.start (slid_in h movable) hs clear)
 ]
 
-pub image_in_moved : (b c : Bytes) (h : HeapList) (hs : List HeapList) (movable : List ℕ) (r : Region) → IsSlide b c h movable → AreHeapsIn b hs → AreOthers h hs
+pub image_in_moved : (b c : Bytes) (h : HeapList) (hs : List HeapList) (movable : List ℕ) (r : Region) → IsSlide b c h movable → AreHeapsIn b hs → AreClearOthers h hs
     → IsImageIn hs r → IsImageIn (with_items h.start (slid_in h movable) hs) (moved_region (moves_in h movable) r)
 image_in_moved b c h [] movable r s heaps others image = image
 image_in_moved b c h (g ∷ hs) movable r s heaps others image = elim others.0 [
@@ -299,7 +299,7 @@ image_in_moved b c h (g ∷ hs) movable r s heaps others image = elim others.0 [
   ])
 ]
 
-pub all_placed : (b c : Bytes) (h : HeapList) (hs : List HeapList) (movable : List ℕ) (rs : List Region) → IsSlide b c h movable → AreHeapsIn b hs → AreOthers h hs
+pub all_placed : (b c : Bytes) (h : HeapList) (hs : List HeapList) (movable : List ℕ) (rs : List Region) → IsSlide b c h movable → AreHeapsIn b hs → AreClearOthers h hs
     → find_heap h.start hs ≡ Some h → ArePlaced hs rs
     → ArePlaced (with_items h.start (slid_in h movable) hs) (moved_regions (moves_in h movable) rs)
 all_placed b c h hs movable [] s heaps others found placed = tt

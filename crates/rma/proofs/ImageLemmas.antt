@@ -16,11 +16,11 @@ use Rattle.os_heap.specs.os_heap_lists.specs.Heap.{HeapList, IsHeapIn}
 use Rattle.os_heap.specs.os_heap_lists.specs.Lists.{live_total}
 use Rattle.os_heap.specs.os_heap_lists.proofs.LiveBlocks.{LiveBytes, live_bytes}
 use Rattle.os_heap.specs.Calls.{OfHeap, block_sized}
-use Rattle.os_heap.specs.Store.{AreClear, AreHeapsIn, ArePlaced, AreRangesApart, IsClearOfHeaps, IsClearOfRanges, IsImageBlock, IsImageIn, IsSound, Store, find_heap, has_image, heaps_in, is_area, is_flex_store, is_image, is_in_flex_store, others_in, store_of}
+use Rattle.os_heap.specs.Store.{AreClear, AreHeapsIn, ArePlaced, AreRangesApart, AreUnnested, IsClearOfHeaps, IsClearOfRanges, IsImageBlock, IsImageIn, IsSound, Store, find_heap, has_image, heaps_in, is_area, is_flex_store, is_image, is_in_flex_store, others_in, store_of}
 use Rattle.os_heap.proofs.Apart.{block_inside, one_block, range_parts}
 use Rattle.os_heap.proofs.Found.{found_heap, found_start}
 use Rattle.os_heap.proofs.Recorded.{IsClearOfAll, apart_other}
-use Rattle.os_heap.proofs.Stores.{AreOthers, are_others, clear_of-found}
+use Rattle.os_heap.proofs.Stores.{AreClearOthers, are_clear_others, clear_of-found}
 use Rattle.flex_kept.specs.dynamic_areas.specs.Areas.{Land}
 use Rattle.flex_kept.specs.dynamic_areas.specs.Ground.{AreAreas, AreRangesMapped, Estate, IsEstate}
 use Rattle.rma.specs.Images.{CanRecord}
@@ -45,7 +45,7 @@ payload_in b h at len a heap live inside =
 
 -- an image is apart from another block
 image_apart : (b : Bytes) (h : HeapList) (at len : ℕ) (q : Region) (hs : List HeapList) → IsHeapIn b h.start h.end h.items → AreHeapsIn b hs
-    → AreOthers h hs → live_total at (h.start + 16) h.items ≡ Some (len + 4) → (is_image q.kind ≡ true → q.at ≢ at) → IsImageIn hs q
+    → AreClearOthers h hs → live_total at (h.start + 16) h.items ≡ Some (len + 4) → (is_image q.kind ≡ true → q.at ≢ at) → IsImageIn hs q
     → AreClear q.at q.len at len
 image_apart b h at len q [] heap parts others live other image = absurd image
 image_apart b h at len q (g ∷ hs) heap parts others live other (inr later) = image_apart b h at len q hs heap parts.1.1 others.1 live other later
@@ -67,17 +67,17 @@ clear_apart b h at len q hs heap found live clear a there = false_from_ne_true (
     both_ways (in_range h.start h.end a) (clear_of-found q.at q.len h.start hs h clear found a there) (payload_in b h at len a heap live here).1)
 
 others_apart : (b : Bytes) (h : HeapList) (at len : ℕ) (hs : List HeapList) (rs : List Region) → IsHeapIn b h.start h.end h.items → AreHeapsIn b hs
-    → find_heap h.start hs ≡ Some h → live_total at (h.start + 16) h.items ≡ Some (len + 4) → has_image at rs ≡ false → ArePlaced hs rs
+    → AreUnnested hs → find_heap h.start hs ≡ Some h → live_total at (h.start + 16) h.items ≡ Some (len + 4) → has_image at rs ≡ false → ArePlaced hs rs
     → IsClearOfAll (record { kind = kind.Image; at = at; len = len }) rs
-others_apart b h at len hs [] heap parts found live none placed = tt
-others_apart b h at len hs (q ∷ rs) heap parts found live none placed =
+others_apart b h at len hs [] heap parts unnested found live none placed = tt
+others_apart b h at len hs (q ∷ rs) heap parts unnested found live none placed =
     let tests = or_parts (is_image q.kind && q.at == at) (has_image at rs) none in (
       elim placed.0 [
         | inl clear ↦ clear_apart b h at len q hs heap found live clear
-        | inr image ↦ image_apart b h at len q hs heap parts (are_others b h.start hs h parts found) live
+        | inr image ↦ image_apart b h at len q hs heap parts (are_clear_others b h.start hs h parts unnested found) live
             (λ is same. false≢true (sym tests.0 ∙ (rw (is, eq-eqb q.at at same) refl))) image
       ],
-      others_apart b h at len hs rs heap parts found live tests.1 placed.1,
+      others_apart b h at len hs rs heap parts unnested found live tests.1 placed.1,
     )
 
 image_in : (start : ℕ) (hs : List HeapList) (h : HeapList) (r : Region) → find_heap start hs ≡ Some h → IsImageBlock h r → IsImageIn hs r
@@ -125,10 +125,12 @@ recorded_in s h at len sound can found sized =
     let live : live_total at (h.start + 16) h.items ≡ Some (len + 4) = is.guests.live ∙ ap Some total in
     let area : is_area h.kind ≡ true = (let t = rw found at can.area in t) in
     let image : IsImageIn s.heaps r = image_in 0x01800000 s.heaps h r found (record { image = refl; area = area; live = live }) in
-    let apart : IsClearOfAll r s.others = others_apart s.bytes h at len s.heaps s.others heap sound.heaps own live is.guests.own sound.placed in
+    let apart : IsClearOfAll r s.others =
+    others_apart s.bytes h at len s.heaps s.others heap sound.heaps sound.unnested own live is.guests.own sound.placed in
     record {
       sound = record {
         heaps = sound.heaps;
+        unnested = sound.unnested;
         limits = sound.limits;
         placed = placed_more s.heaps s.others r sound.placed image;
         apart = apart_other s.others r sound.apart apart;
@@ -265,6 +267,7 @@ flex_less at (r ∷ rs) a is = elim (cases_Bool (is_record kind.Image at r)) [
 pub sound_less : (s : Store) (at : ℕ) → IsSound s → IsSound (record s { others = without_region s.others kind.Image at })
 sound_less s at sound = record {
   heaps = sound.heaps;
+  unnested = sound.unnested;
   limits = sound.limits;
   placed = placed_less s.heaps at s.others sound.placed;
   apart = apart_less at s.others sound.apart;

@@ -67,7 +67,7 @@ estate_after e t good mapped heaps others sound = record {
 }
 
 -- without a store every call is refused
-none_done : (s : Store) (call : FlexCall) (r : FlexState × Bool) → (let f : Flex = record { extent = None } in called s f call ≡ Ok r) → ⊥
+pub none_done : (s : Store) (call : FlexCall) (r : FlexState × Bool) → (let f : Flex = record { extent = None } in called s f call ≡ Ok r) → ⊥
 unfolding allocated released extended mid_extended
 none_done s (Alloc anchor size) r is = absurd (cc)
 none_done s (Release anchor) r is = absurd (cc)
@@ -94,7 +94,7 @@ was_released (Ok p) v answer is =
           → p ≡ q
       pair_is p q e = cc
 
-call_left : (s : Store) (e : Extent) (call : FlexCall) (v : FlexState) (answer : Bool) → IsReady s e
+pub call_left : (s : Store) (e : Extent) (call : FlexCall) (v : FlexState) (answer : Bool) → IsReady s e
     → (let f : Flex = record { extent = Some e } in called s f call ≡ Ok (v, answer)) → IsLeft s e v answer
 call_left s e (Alloc anchor size) v answer r is = alloc_left s e r anchor size v answer is
 call_left s e (Release anchor) v answer r is =
@@ -103,7 +103,7 @@ call_left s e (Release anchor) v answer r is =
 call_left s e (Extend anchor size) v answer r is = extend_left s e r anchor size v answer is
 call_left s e (MidExtend anchor at by) v answer r is = mid_left s e r anchor at by v answer is
 
-call_done : (s : Store) (f : Flex) (call : FlexCall) (v : FlexState) (answer : Bool) → called s f call ≡ Ok (v, answer)
+pub call_done : (s : Store) (f : Flex) (call : FlexCall) (v : FlexState) (answer : Bool) → called s f call ≡ Ok (v, answer)
     → IsDone (flex_state s f) call answer v
 call_done s f (Alloc anchor size) v answer is = (s, is)
 call_done s f (Release anchor) v answer is =
@@ -113,7 +113,7 @@ call_done s f (Extend anchor size) v answer is = is
 call_done s f (MidExtend anchor at by) v answer is = is
 
 -- what a call on a store asks of it
-before : (x : Stores) (e : Extent) → AreStores x → x.flex.extent ≡ Some e → IsBefore (store_in x) e
+pub before : (x : Stores) (e : Extent) → AreStores x → x.flex.extent ≡ Some e → IsBefore (store_in x) e
 before x e are is = record {
   ready = record { spelled = subst (IsSpelledAt (store_in x)) is are.flex.is; memory = are.memory };
   sound = are.world.estate.ground.sound;

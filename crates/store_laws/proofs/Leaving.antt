@@ -176,6 +176,7 @@ module _ (s : Store) (e : Extent) (b : IsBefore s e) (bs : List Block) (lie : Ca
   unfolding t
   sound beside = record {
     heaps = heaps beside;
+    unnested = b.sound.unnested;
     limits = b.sound.limits;
     placed = b.sound.placed;
     apart = b.sound.apart;

@@ -17,9 +17,10 @@ use Rattle.os_heap_lists.specs.Heap.{AreTotals, HeapList, IsHeapIn}
 use Rattle.os_heap_lists.specs.Lists.{live_total}
 use Rattle.os_heap.proofs.Anchored.{KeepsAnchors, place_held}
 use Rattle.os_heap.proofs.Found.{found_heap}
-use Rattle.os_heap.proofs.Stores.{AreOthers, are_others, clear-held, clear_both_ways, places-held, same_limits}
+use Rattle.os_heap.proofs.Stores.{AreClearOthers, are_clear_others, are_others, places-held, same_limits, unnested_held}
 use Rattle.os_heap.specs.Calls.{holds_anchor, with_items}
-use Rattle.os_heap.specs.Store.{AreClear, AreHeapsIn, IsSound, Store, find_heap, is_flex_store, is_in_flex_store}
+use Rattle.os_heap.specs.Store.{AreUnnested, IsSound, Store, find_heap, is_flex_store, is_in_flex_store}
+use Rattle.os_heap_slide.proofs.Beside.{AreBeside, clear_beside, parts_beside}
 use Rattle.os_heap_slide.proofs.LawLemmas.{slid_totals, slide_fits}
 use Rattle.os_heap_slide.proofs.Places.{moved_live, moved_stays}
 use Rattle.os_heap_slide.proofs.Records.{IsSlide, all_placed, moves_in, ranges_apart, slid_in}
@@ -70,31 +71,6 @@ store_stays moves (r ∷ rs) a is = elim (cases_Bool (is_flex_store r.kind && in
   | inr other ↦ or_right _ (is_in_flex_store (moved_regions moves rs) a) (store_stays moves rs a (rw other at is))
 ]
 
--- heaps apart from the one whose words were written
-apart_kept : (b c : Bytes) (h g : HeapList) → c.mapped ≡ b.mapped → ((a : ℕ) → in_range h.start h.end a ≡ false → c.at a ≡ b.at a)
-    → AreClear h.start h.end g.start g.end → IsHeapIn b g.start g.end g.items → IsHeapIn c g.start g.end g.items
-apart_kept b c h g mapped beyond clear heap =
-    heap_kept b c g.start g.end g.items heap mapped (λ a low high. beyond a (elim (in_range-cases g.start g.end a) [
-      | inl r ↦ clear_both_ways h.start h.end g.start g.end clear a r.0
-      | inr r ↦ elim r.1 [ inl less ↦ absurd (omega (arith, low, less)) | inr past ↦ absurd (omega (arith, high, past)) ]
-    ]))
-
-heaps_written : (b c : Bytes) (h : HeapList) (items : List Item) (hs : List HeapList) → IsHeapIn c h.start h.end items → c.mapped ≡ b.mapped
-    → ((a : ℕ) → in_range h.start h.end a ≡ false → c.at a ≡ b.at a) → AreOthers h hs → AreHeapsIn b hs → AreHeapsIn c (with_items h.start items hs)
-heaps_written b c h items [] heap mapped beyond others parts = tt
-heaps_written b c h items (g ∷ hs) heap mapped beyond others parts =
-    let rest = heaps_written b c h items hs heap mapped beyond others.1 parts.1.1 in
-    elim others.0 [
-      | inl same ↦
-          let start : g.start ≡ h.start = ap (λ (x : HeapList). x.start) same in
-          let end : g.end ≡ h.end = ap (λ (x : HeapList). x.end) same in
-          let test : (g.start == h.start) ≡ true = eq-eqb g.start h.start start in
-          rw test (rw (start, end) heap, (clear-held g.start g.end h.start items hs parts.1.0, rest))
-      | inr apart ↦
-          let test : (g.start == h.start) ≡ false = ne_eqb g.start h.start apart.0 in
-          rw test (apart_kept b c h g mapped beyond apart.1 parts.0, (clear-held g.start g.end h.start items hs parts.1.0, rest))
-    ]
-
 module _ (s : Store) (h : HeapList) (movable : List ℕ) (sound : IsSound s) (found : find_heap h.start s.heaps ≡ Some h) (free : HoldNoAnchor s h movable)
     (low : h.start + h.end ≤ 2 ^ 26) where
   mv : ℕ → Bool
@@ -118,8 +94,8 @@ module _ (s : Store) (h : HeapList) (movable : List ℕ) (sound : IsSound s) (fo
   slide : IsSlide s.bytes after h movable
   slide = record { old = old; new = new }
 
-  others : AreOthers h s.heaps
-  others = are_others s.bytes h.start s.heaps h sound.heaps found
+  clear : AreClearOthers h s.heaps
+  clear = are_clear_others s.bytes h.start s.heaps h sound.heaps sound.unnested found
 
   beyond : (a : ℕ) → in_range h.start h.end a ≡ false → after.at a ≡ s.bytes.at a
   unfolding after old
@@ -128,17 +104,25 @@ module _ (s : Store) (h : HeapList) (movable : List ℕ) (sound : IsSound s) (fo
     | inr r ↦ r.1
   ])
 
+  beside : AreBeside after h s.heaps
+  unfolding after
+  beside = clear_beside s.bytes after h s.heaps refl beyond clear sound.heaps
+
+  unnested : AreUnnested (with_items h.start (slid_in h movable) s.heaps)
+  unnested = unnested_held h.start (slid_in h movable) s.heaps sound.unnested
+
   pub sound_slid : IsSound (with_slid s h movable)
   unfolding mv old after
   sound_slid = record {
-    heaps = heaps_written s.bytes after h (slid_in h movable) s.heaps new refl beyond others sound.heaps;
+    heaps = parts_beside after h (slid_in h movable) s.heaps new beside unnested;
+    unnested = unnested;
     limits = same_limits s.heaps _ (places-held h.start (slid_in h movable) s.heaps) sound.limits;
-    placed = all_placed s.bytes after h s.heaps movable s.others slide sound.heaps others found sound.placed;
-    apart = ranges_apart s.bytes after h s.heaps movable s.others slide sound.heaps others found sound.placed sound.apart;
+    placed = all_placed s.bytes after h s.heaps movable s.others slide sound.heaps clear found sound.placed;
+    apart = ranges_apart s.bytes after h s.heaps movable s.others slide sound.heaps clear found sound.placed sound.apart;
     few = rw (length-map s.others (λ (r : Region). moved_region (moves_in h movable) r)) sound.few;
     anchors = λ a is. (
       (sound.anchors a is).0,
-      place_held h (slid_in h movable) s.heaps a others
+      place_held h (slid_in h movable) s.heaps a (are_others s.bytes h.start s.heaps h sound.heaps found)
           (anchors_stay s.anchor (is_listed movable) (h.start + 16) h.items old.totals free a is) (sound.anchors a is).1,
     );
     headers = λ a is. store_stays (moves_in h movable) s.others a (sound.headers a is);
