@@ -1,10 +1,11 @@
 -- The lowest register of a list, which is its lowest set bit, and the list without it.
 use Rattle.std.proofs.Common.{◌≡◌, ◌≢◌, ℕ, zero, suc, ◌&&◌, length, map, slice_index, slice_get, Option, Some, None, Ok, Err, ◌+◌, ◌-◌, ◌*◌, ◌/◌, ◌%◌, ◌^◌, ◌<◌, Bool, true, false, cond, nat_eq, List, [], ◌∷◌, ◌++◌, ap, sym, ◌∙◌, refl, arith, inl, inr, bit_and}
-use Rattle.std.specs.Int.{w32, bit_not, trailing_zeros}
+use Rattle.std.specs.Int.{w64, bit_at, trailing_zeros}
 use Rattle.std.proofs.lemmas.Bool.{cases_lt}
+use Rattle.std.proofs.lemmas.Bool.Decides.{nat_tests}
 use Rattle.std.proofs.lemmas.List.{length-map}
 use Rattle.std.proofs.lemmas.Nat.{and_le_l}
-use Rattle.std.proofs.lemmas.Nat.Bits.{bit_at-trailing_zeros, bit_at_clear_same, bit_at_clear_other, bit_at_above}
+use Rattle.std.proofs.lemmas.Nat.Bits.{bit_at-suc, bit_at-trailing_zeros, bit_at-zero, bit_at_above, bit_at_and, bit_at_lowest}
 use Rattle.profile.specs.Word.{bit_of}
 use Rattle.profile.specs.declared.fault.Fault.{Fault}
 use Rattle.address_map.specs.Bytes.{Bytes, word_at, with_word, with_word_at, unless}
@@ -14,10 +15,11 @@ use Rattle.arm_decode.specs.declared.action.BlockTransfer.{BlockTransfer}
 use Rattle.arm_step.specs.Blocks.{listed_below, listed, with_loaded, stores_new_base, block_size, block_start, block_base, bank_of, with_block_base, block_value, block_values, block_stored}
 use Rattle.arm_step.specs.Effect.{advanced, with_result_in, status_operand}
 use Rattle.arm_step.specs.PageWords.{words_in}
-use Rattle.arm_step.specs.State.{State}
+use Rattle.arm_step.specs.State.{State, register_in, with_register_in}
 use Rattle.arm_step.specs.StoredBase.{changed_base, value_by}
 use Rattle.arm_step.specs.Words.{with_words, words_store_fault, words_stored}
 use Rattle.arm_step.specs.declared.psr.Mode.{Mode}
+use Rattle.arm_step.specs.declared.psr.Mode.TheVariants.{User}
 use Rattle.arm_step.proofs.SeveralWords.{words_put}
 
 none_below : (n x : ℕ) → ((i : ℕ) → i < n → bit_of x i ≡ false) → listed_below n x ≡ []
@@ -30,9 +32,9 @@ record IsSplit (x y k : ℕ) : Type 0 where
   has : bit_of x k ≡ true
   lowest : (i : ℕ) → i < k → bit_of x i ≡ false
   without : bit_of y k ≡ false
-  others : (i : ℕ) → i < 32 → i ≢ k → bit_of y i ≡ bit_of x i
+  others : (i : ℕ) → i < 64 → i ≢ k → bit_of y i ≡ bit_of x i
 
-split_below : (x y k d : ℕ) → IsSplit x y k → d + k < 32 → listed_below (suc (d + k)) x ≡ k ∷ listed_below (suc (d + k)) y
+split_below : (x y k d : ℕ) → IsSplit x y k → d + k < 64 → listed_below (suc (d + k)) x ≡ k ∷ listed_below (suc (d + k)) y
 unfolding listed_below
 split_below x y k zero is within =
     let same : 0 + k ≡ k = omega arith in
@@ -50,39 +52,93 @@ bit_set x i h = ap (λ (b : ℕ). nat_eq b 1) h
 bit_clear : (x i : ℕ) → x / 2 ^ i % 2 ≡ 0 → bit_of x i ≡ false
 bit_clear x i h = ap (λ (b : ℕ). nat_eq b 1) h
 
-abbrev pub without : ℕ → ℕ → ℕ
-without x k = bit_and x (bit_not w32 (1 * 2 ^ k % 2 ^ 32))
+some_half : (k y : ℕ) → bit_at (y / 2) k ≡ 1 → 0 < y / 2
+some_half k y one = elim (cases_lt 0 (y / 2)) [
+  | inl some ↦ some
+  | inr none ↦ let e : y / 2 ≡ 0 = omega arith in absurd (omega (arith, one, ap (λ z. bit_at z k) e, bit_at-zero k))
+]
 
-pub lowest_below : (x : ℕ) → 0 < x → x < 2 ^ 16 → trailing_zeros w32 x < 16
+-- the bits of a number less one: at its lowest set bit, and above that
+pred_at : (k x : ℕ) → bit_at x k ≡ 1 → ((i : ℕ) → i < k → bit_at x i ≡ 0) → bit_at (x - 1) k ≡ 0
+pred_at zero x one low = omega (arith, bit_at_lowest x, bit_at_lowest (x - 1))
+pred_at (suc k) x one low =
+    let even : x % 2 ≡ 0 = sym (bit_at_lowest x) ∙ low 0 (omega arith) in
+    let some : 0 < x / 2 = some_half k x (sym (bit_at-suc x k) ∙ one) in
+    let half : (x - 1) / 2 ≡ x / 2 - 1 = omega arith in
+    bit_at-suc (x - 1) k ∙ ap (λ y. bit_at y k) half
+    ∙ pred_at k (x / 2) (sym (bit_at-suc x k) ∙ one) (λ i below. sym (bit_at-suc x i) ∙ low (suc i) (omega arith))
+
+pred_above : (k x i : ℕ) → bit_at x k ≡ 1 → ((i : ℕ) → i < k → bit_at x i ≡ 0) → k < i → bit_at (x - 1) i ≡ bit_at x i
+pred_above k x zero one low above = absurd (omega arith)
+pred_above zero x (suc i) one low above =
+    let odd : x % 2 ≡ 1 = sym (bit_at_lowest x) ∙ one in
+    let half : (x - 1) / 2 ≡ x / 2 = omega arith in
+    bit_at-suc (x - 1) i ∙ ap (λ y. bit_at y i) half ∙ sym (bit_at-suc x i)
+pred_above (suc k) x (suc i) one low above =
+    let even : x % 2 ≡ 0 = sym (bit_at_lowest x) ∙ low 0 (omega arith) in
+    let some : 0 < x / 2 = some_half k x (sym (bit_at-suc x k) ∙ one) in
+    let half : (x - 1) / 2 ≡ x / 2 - 1 = omega arith in
+    bit_at-suc (x - 1) i ∙ ap (λ y. bit_at y i) half
+    ∙ pred_above k (x / 2) i (sym (bit_at-suc x k) ∙ one) (λ j below. sym (bit_at-suc x j) ∙ low (suc j) (omega arith)) (omega arith)
+    ∙ sym (bit_at-suc x i)
+
+abbrev pub without : ℕ → ℕ
+without x = bit_and x (x - 1)
+
+without_at : (k x : ℕ) → bit_at x k ≡ 1 → ((i : ℕ) → i < k → bit_at x i ≡ 0) → bit_at (without x) k ≡ 0
+without_at k x one low = omega (arith, bit_at_and x (x - 1) k, pred_at k x one low)
+
+without_other : (k x i : ℕ) → bit_at x k ≡ 1 → ((i : ℕ) → i < k → bit_at x i ≡ 0) → i ≢ k → bit_at (without x) i ≡ bit_at x i
+without_other k x i one low other = elim (cases_lt i k) [
+  | inl below ↦ omega (arith, bit_at_and x (x - 1) i, low i below)
+  | inr from ↦ omega (arith, bit_at_and x (x - 1) i, pred_above k x i one low (omega arith))
+]
+
+pub lowest_below : (x : ℕ) → 0 < x → x < 2 ^ 16 → trailing_zeros w64 x < 16
 lowest_below x some few =
-    let found = bit_at-trailing_zeros w32 x some (omega arith) in
-    elim (cases_lt (trailing_zeros w32 x) 16) [
+    let found = bit_at-trailing_zeros w64 x some (omega arith) in
+    elim (cases_lt (trailing_zeros w64 x) 16) [
       | inl below ↦ below
-      | inr past ↦ absurd (omega (arith, found.1, bit_at_above x 16 (trailing_zeros w32 x) few past))
+      | inr past ↦ absurd (omega (arith, found.1, bit_at_above x 16 (trailing_zeros w64 x) few past))
     ]
 
-pub without_below : (x k : ℕ) → x < 2 ^ 16 → without x k < 2 ^ 16
-without_below x k few = omega (arith, and_le_l x (bit_not w32 (1 * 2 ^ k % 2 ^ 32)))
+-- a list without R15
+pub low_list : (x : ℕ) → x < 2 ^ 16 → bit_of x 15 ≡ false → x < 2 ^ 15
+low_list x few clear = grind (arith, nat_tests)
 
-is_split : (x : ℕ) → 0 < x → x < 2 ^ 16 → IsSplit x (without x (trailing_zeros w32 x)) (trailing_zeros w32 x)
+pub lowest_low : (x : ℕ) → 0 < x → x < 2 ^ 15 → trailing_zeros w64 x < 15
+lowest_low x some few =
+    let found = bit_at-trailing_zeros w64 x some (omega arith) in
+    elim (cases_lt (trailing_zeros w64 x) 15) [
+      | inl below ↦ below
+      | inr past ↦ absurd (omega (arith, found.1, bit_at_above x 15 (trailing_zeros w64 x) few past))
+    ]
+
+pub without_low : (x : ℕ) → x < 2 ^ 15 → without x < 2 ^ 15
+without_low x few = omega (arith, and_le_l x (x - 1))
+
+pub without_below : (x : ℕ) → x < 2 ^ 16 → without x < 2 ^ 16
+without_below x few = omega (arith, and_le_l x (x - 1))
+
+is_split : (x : ℕ) → 0 < x → x < 2 ^ 16 → IsSplit x (without x) (trailing_zeros w64 x)
 is_split x some few =
-    let k = trailing_zeros w32 x in
-    let found = bit_at-trailing_zeros w32 x some (omega arith) in
-    let within : k < 32 = omega (arith, lowest_below x some few) in
+    let k = trailing_zeros w64 x in
+    let found = bit_at-trailing_zeros w64 x some (omega arith) in
+    let within : k < 64 = omega (arith, lowest_below x some few) in
     record {
       has = bit_set x k found.1;
       lowest = λ i below. bit_clear x i (found.2 i below);
-      without = bit_clear (without x k) k (bit_at_clear_same w32 x k within);
-      others = λ i below other. ap (λ (b : ℕ). nat_eq b 1) (bit_at_clear_other w32 x k within i below other);
+      without = bit_clear (without x) k (without_at k x found.1 found.2);
+      others = λ i below other. ap (λ (b : ℕ). nat_eq b 1) (without_other k x i found.1 found.2 other);
     }
 
-pub listed_split : (x : ℕ) → 0 < x → x < 2 ^ 16 → listed x ≡ trailing_zeros w32 x ∷ listed (without x (trailing_zeros w32 x))
+pub listed_split : (x : ℕ) → 0 < x → x < 2 ^ 16 → listed x ≡ trailing_zeros w64 x ∷ listed (without x)
 unfolding listed
 listed_split x some few =
-    let k = trailing_zeros w32 x in
+    let k = trailing_zeros w64 x in
     let below : k < 16 = lowest_below x some few in
     let all : suc ((15 - k) + k) ≡ 16 = omega arith in
-    rw (sym all) (split_below x (without x k) k (15 - k) (is_split x some few) (omega arith))
+    rw (sym all) (split_below x (without x) k (15 - k) (is_split x some few) (omega arith))
 
 pub listed_empty : listed 0 ≡ []
 unfolding listed
@@ -90,7 +146,7 @@ listed_empty = none_below 16 0 (λ i below. refl_bit i) where
   refl_bit : (i : ℕ) → bit_of 0 i ≡ false
   refl_bit i = let e : 0 / 2 ^ i % 2 ≡ 0 = omega arith in bit_clear 0 i e
 
-pub ruleset splitting = (lowest_below, without_below, listed_split)
+pub ruleset splitting = (lowest_below, lowest_low, without_below, without_low, listed_split)
 
 -- one register more
 pub length_next : (x y r : ℕ) → listed x ≡ r ∷ listed y → length (listed x) ≡ length (listed y) + 1
@@ -103,11 +159,23 @@ unfolding with_loaded words_in
 loaded_next m s t x y r w at bytes e word new =
     rw (e, ← word) (ap (λ u. with_loaded m u (listed y) (words_in bytes (at + 4) (length (listed y)))) (sym new))
 
+result_below_pc : (m : Mode) (s : State) (r w : ℕ) → r < 15 → with_result_in m s r w ≡ with_register_in m s r w
+result_below_pc m s r w below = let other : nat_eq r 15 ≡ false = grind (arith, nat_tests) in rw other refl
+
+pub loaded_low : (m : Mode) (s t : State) (x y r w at : ℕ) (bytes : List ℕ) → listed x ≡ r ∷ listed y → w ≡ word_at (slice_index bytes) at
+    → r < 15 → t ≡ with_register_in m s r w
+    → with_loaded m s (listed x) (words_in bytes at (length (listed x))) ≡ with_loaded m t (listed y) (words_in bytes (at + 4) (length (listed y)))
+loaded_low m s t x y r w at bytes e word below new = loaded_next m s t x y r w at bytes e word (new ∙ sym (result_below_pc m s r w below))
+
 pub loaded_end : (m : Mode) (s : State) (x : ℕ) (ws : List ℕ) → x ≡ 0 → with_loaded m s (listed x) ws ≡ s
 unfolding with_loaded
 loaded_end m s x ws e = let none : listed x ≡ [] = ap listed e ∙ listed_empty in rw none refl
 
 pub ruleset placing = (length_next, loaded_next, loaded_end)
+
+pub ruleset placing_low = (low_list, length_next, loaded_low, loaded_end)
+
+pub ruleset putting_low = (low_list, length_next)
 
 -- the last of some words
 length_in : (bytes : List ℕ) (at n : ℕ) → length (words_in bytes at n) ≡ n
@@ -140,6 +208,13 @@ pub stored_as : (s : State) (t : BlockTransfer) (bank : Mode) (r : ℕ) (changed
     → value ≡ value_by changed (nat_eq r t.rn) (status_operand bank s r 3) → value ≡ block_value s t r
 stored_as s t bank r changed value ec ek ev =
     rw (ev, ec, ek) (value_is (stores_new_base t) (nat_eq r t.rn) (block_base s t) (status_operand (bank_of s t) s r 3))
+
+operand_below_pc : (m : Mode) (s : State) (r words : ℕ) → r < 15 → status_operand m s r words ≡ register_in m s r
+operand_below_pc m s r words below = let other : nat_eq r 15 ≡ false = grind (arith, nat_tests) in rw other refl
+
+pub stored_low : (s : State) (t : BlockTransfer) (r value : ℕ) → bank_of s t ≡ User → stores_new_base t ≡ false → r < 15
+    → value ≡ register_in User s r → value ≡ block_value s t r
+stored_low s t r value user same below is = rw (same, user) (is ∙ sym (operand_below_pc User s r 3 below))
 
 pub put_next : (m n : AddressMap) (f : ℕ → ℕ) (first offset x y r w : ℕ) → layout n ≡ layout m
     → ((a : ℕ) → byte_at n a ≡ with_word_at (byte_at m) (first + offset) w a) → listed x ≡ r ∷ listed y → w ≡ f r

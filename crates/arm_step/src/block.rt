@@ -4,6 +4,7 @@ ghost use Rattle.std.specs.Prelude.{◌≡◌, ◌<◌, ◌≤◌, ◌^◌, ◌%
 ghost use Rattle.arrayvec.specs.ArrayVec.{array_vec_len};
 ghost use Rattle.profile.specs.Outcome.{Leaves};
 ghost use Rattle.address_map.specs.Memory.{bytes_of, is_owned, layout, class_of};
+ghost use Rattle.arm_decode.specs.Fields.{block_transfer_in};
 ghost use Rattle.arm_step.specs.PageWords.{are_in_page};
 ghost use Rattle.arm_step.specs.Blocks.{listed, lowest, stepped_base, block_size, block_start, block_base, loads_status, bank_of, with_block_base, with_loaded, with_block_status, block_loaded, stores_new_base, block_values, block_stored, block_transferred};
 
@@ -33,13 +34,18 @@ fn reach(mode: BlockMode, base: u32, count: u32) -> (u32, u32)
     ensures lowest { result.0 ≡ lowest mode base count }
     ensures base { result.1 ≡ stepped_base mode base count }
 {
-    let above = base.wrapping_add(4 * count);
-    let below = base.wrapping_sub(4 * count);
-    match mode {
-        BlockMode::IncrementAfter => (base, above),
-        BlockMode::IncrementBefore => (base.wrapping_add(4), above),
-        BlockMode::DecrementAfter => (base.wrapping_add(4).wrapping_sub(4 * count), below),
-        BlockMode::DecrementBefore => (below, below),
+    let goes_up = matches!(mode, BlockMode::IncrementAfter | BlockMode::IncrementBefore);
+    let begins_above = matches!(mode, BlockMode::IncrementBefore | BlockMode::DecrementAfter);
+    let end = if goes_up {
+        base.wrapping_add(4 * count)
+    } else {
+        base.wrapping_sub(4 * count)
+    };
+    let start = if goes_up { base } else { end };
+    if begins_above {
+        (start.wrapping_add(4), end)
+    } else {
+        (start, end)
     }
 }
 
@@ -146,23 +152,7 @@ impl Cpu {
         (lowest - lowest % 4, base)
     }
 
-    /// LDM: the base is written first, so a loaded base wins.
-    #[inline(always)]
-    fn load_block(&mut self, memory: &AddressMap, block: &BlockTransfer) -> Result<(), Fault>
-        ensures { let loaded = block_loaded self.old (bytes_of memory.now) block.now in
-            Leaves (self.old, bytes_of memory.now) loaded result (self.new, bytes_of memory.now) }
-    {
-        let count = size_of(block.list);
-        let (first, base) = self.block_reach(block, count);
-        if are_in_page(first, count) {
-            self.load_from_page(memory, block, first, base)
-        } else {
-            self.load_from_pages(memory, block, first, base)
-        }
-    }
-
-    /// LDM of words that may lie in two pages.
-    #[inline(never)]
+    /// LDM of words that may lie in two pages: the base is written first, so a loaded base wins.
     fn load_from_pages(
         &mut self,
         memory: &AddressMap,
@@ -185,25 +175,7 @@ impl Cpu {
         Ok(())
     }
 
-    /// STM: all words are tested before the first is stored.
-    #[inline(always)]
-    fn store_block(&mut self, memory: &mut AddressMap, block: &BlockTransfer) -> Result<(), Fault>
-        ensures state { let stored = block_stored (is_owned memory.old) self.old (bytes_of memory.old) block.now in
-            Leaves (self.old, bytes_of memory.old) stored result (self.new, bytes_of memory.new) }
-        ensures layout { layout memory.new ≡ layout memory.old }
-        ensures marks { class_of memory.new ≡ class_of memory.old }
-    {
-        let count = size_of(block.list);
-        let (first, base) = self.block_reach(block, count);
-        if are_in_page(first, count) {
-            self.store_to_page(memory, block, first, base)
-        } else {
-            self.store_to_pages(memory, block, first, base)
-        }
-    }
-
-    /// STM of words that may lie in two pages.
-    #[inline(never)]
+    /// STM of words that may lie in two pages: all words are tested before the first is stored.
     fn store_to_pages(
         &mut self,
         memory: &mut AddressMap,
@@ -226,7 +198,56 @@ impl Cpu {
         Ok(())
     }
 
-    /// LDM and STM.
+    /// LDM and STM of words that may lie in two pages, by the word. Its fields are read once more
+    /// here, so that where all lies in one page, as mostly, they need not lie in memory.
+    #[tactic(auto, unfolding(crate::specs::Blocks::block_transferred))]
+    #[inline(never)]
+    fn transfer_in_pages(
+        &mut self,
+        memory: &mut AddressMap,
+        word: u32,
+        first: u32,
+        base: u32,
+    ) -> Result<(), Fault>
+        requires first { first ≡ block_start self.old (block_transfer_in word) }
+        requires aligned { first % 4 ≡ 0 }
+        requires base { base ≡ block_base self.old (block_transfer_in word) }
+        ensures state { let moved = block_transferred (is_owned memory.old) self.old (bytes_of memory.old)
+            (block_transfer_in word) in
+            Leaves (self.old, bytes_of memory.old) moved result (self.new, bytes_of memory.new) }
+        ensures layout { layout memory.new ≡ layout memory.old }
+        ensures marks { class_of memory.new ≡ class_of memory.old }
+    {
+        let block = BlockTransfer::in_word(word);
+        if block.loads {
+            self.load_from_pages(memory, &block, first, base)
+        } else {
+            self.store_to_pages(memory, &block, first, base)
+        }
+    }
+
+    /// The same, with the place in memory for the answer of that call, which so is made only here.
+    #[inline(always)]
+    fn transfer_beyond_page(
+        &mut self,
+        memory: &mut AddressMap,
+        word: u32,
+        first: u32,
+        base: u32,
+    ) -> Result<(), Fault>
+        requires first { first ≡ block_start self.old (block_transfer_in word) }
+        requires aligned { first % 4 ≡ 0 }
+        requires base { base ≡ block_base self.old (block_transfer_in word) }
+        ensures state { let moved = block_transferred (is_owned memory.old) self.old (bytes_of memory.old)
+            (block_transfer_in word) in
+            Leaves (self.old, bytes_of memory.old) moved result (self.new, bytes_of memory.new) }
+        ensures layout { layout memory.new ≡ layout memory.old }
+        ensures marks { class_of memory.new ≡ class_of memory.old }
+    {
+        self.transfer_in_pages(memory, word, first, base)
+    }
+
+    /// LDM and STM, by a word and its fields.
     ///
     /// # Errors
     ///
@@ -237,17 +258,23 @@ impl Cpu {
     pub(crate) fn transfer_block(
         &mut self,
         memory: &mut AddressMap,
+        word: u32,
         block: &BlockTransfer,
     ) -> Result<(), Fault>
+        requires { block.now ≡ block_transfer_in word }
         ensures state { let moved = block_transferred (is_owned memory.old) self.old (bytes_of memory.old) block.now in
             Leaves (self.old, bytes_of memory.old) moved result (self.new, bytes_of memory.new) }
         ensures layout { layout memory.new ≡ layout memory.old }
         ensures marks { class_of memory.new ≡ class_of memory.old }
     {
-        if block.loads {
-            self.load_block(memory, block)
+        let count = size_of(block.list);
+        let (first, base) = self.block_reach(block, count);
+        if !are_in_page(first, count) {
+            self.transfer_beyond_page(memory, word, first, base)
+        } else if block.loads {
+            self.load_from_page(memory, block, first, base)
         } else {
-            self.store_block(memory, block)
+            self.store_to_page(memory, block, first, base)
         }
     }
 }

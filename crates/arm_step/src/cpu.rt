@@ -39,11 +39,12 @@ fn slot(mode: Mode, number: u32) -> usize
     if mode == Mode::User {
         return shared;
     }
-    match mode {
-        Mode::FastInterrupt if shared >= 8 => shared + 7,
-        Mode::Interrupt if shared >= 13 => shared + 9,
-        Mode::Supervisor if shared >= 13 => shared + 11,
-        _ => shared,
+    // Counted rather than matched: a match would take the test for user mode into its jump table.
+    let first_of_bank = if mode == Mode::FastInterrupt { 8 } else { 13 };
+    if shared >= first_of_bank {
+        shared + 2 * mode.number() as usize + 5
+    } else {
+        shared
     }
 }
 

@@ -181,7 +181,7 @@ impl Cpu {
         let block = BlockTransfer::in_word(word);
         match block.refusal() {
             Some(fault) => Err(fault),
-            None => self.transfer_block(memory, &block),
+            None => self.transfer_block(memory, word, &block),
         }
     }
 }

@@ -1,13 +1,15 @@
 //! LDM and STM of words in one page, as nearly all are: the page is looked up once for all of them.
 
-ghost use Rattle.std.specs.Prelude.{◌≡◌, ◌<◌, ◌%◌, ◌*◌, ◌==◌, true, Some, length};
+ghost use Rattle.std.specs.Prelude.{◌≡◌, ◌<◌, ◌%◌, ◌*◌, ◌==◌, true, false, Some, length};
+ghost use Rattle.profile.specs.Word.{bit_of};
 ghost use Rattle.profile.specs.Outcome.{Leaves};
 ghost use Rattle.address_map.specs.Memory.{bytes_of, is_owned, layout, class_of, place};
 ghost use Rattle.arm_step.specs.Effect.{status_operand};
+ghost use Rattle.arm_step.specs.declared.psr.Mode.TheVariants.{User};
 ghost use Rattle.arm_step.specs.PageWords.{are_in_page, words_in};
 ghost use Rattle.arm_step.specs.Words.{with_words};
 ghost use Rattle.arm_step.specs.StoredBase.{changed_base, value_by};
-ghost use Rattle.arm_step.specs.Blocks.{listed, block_size, block_start, block_base, bank_of, with_loaded, with_block_status, block_loaded, block_values, block_stored};
+ghost use Rattle.arm_step.specs.Blocks.{listed, block_size, block_start, block_base, bank_of, with_loaded, with_block_status, block_loaded, stores_new_base, block_values, block_stored};
 
 use crate::block::{loads_status, size_of, stores_new_base};
 use crate::cpu::Cpu;
@@ -51,6 +53,7 @@ impl Cpu {
     {
         match bank {
             // Where the bank is known, so is the place of each register.
+            Mode::User if !list.contains_pc() => self.place_low(list, bytes),
             Mode::User => self.place_each(Mode::User, list, bytes),
             _ => self.place_each(bank, list, bytes),
         }
@@ -64,10 +67,28 @@ impl Cpu {
         ensures { self.new ≡ with_loaded bank self.old (listed list) (words_in bytes.now 0 (length (listed list))) }
     {
         let mut at = 0;
-        let mut rest = list.bits();
+        let mut rest = u64::from(list.bits());
         while rest != 0 {
             let (register, others) = split_lowest(rest);
             self.set_result_in(bank, register, word_in(bytes, at));
+            at += 4;
+            rest = others;
+        }
+    }
+
+    /// The same in user mode for a list without R15, of which no register is asked whether it is that.
+    #[tactic(auto, using(crate::proofs::Lowest::placing_low))]
+    #[inline(always)]
+    fn place_low(&mut self, list: RegisterList, bytes: &[u8])
+        requires size { length bytes.now ≡ 4 * length (listed list) }
+        requires low { bit_of list 15 ≡ false }
+        ensures { self.new ≡ with_loaded User self.old (listed list) (words_in bytes.now 0 (length (listed list))) }
+    {
+        let mut at = 0;
+        let mut rest = u64::from(list.bits());
+        while rest != 0 {
+            let (register, others) = split_lowest(rest);
+            self.set_register_in(Mode::User, register.number(), word_in(bytes, at));
             at += 4;
             rest = others;
         }
@@ -151,6 +172,9 @@ impl Cpu {
         let changed = stores_new_base(block).then_some(base);
         // Where these are known, so is the place of each register.
         match (self.bank(block), changed) {
+            (Mode::User, None) if !block.list.contains_pc() => self.put_low(
+                memory, block, first, at,
+            ),
             (Mode::User, None) => self.put_each(memory, block, Mode::User, None, first, at),
             (Mode::User, _) => self.put_each(memory, block, Mode::User, changed, first, at),
             (bank, _) => self.put_each(memory, block, bank, changed, first, at),
@@ -179,11 +203,36 @@ impl Cpu {
         ensures marks { class_of memory.new ≡ class_of memory.old }
     {
         let mut offset = 0;
-        let mut rest = block.list.bits();
+        let mut rest = u64::from(block.list.bits());
         while rest != 0 {
             let (register, others) = split_lowest(rest);
             let value = self.stored_value(block, bank, changed, register);
-            memory.put_word_at(first + offset, at + offset as usize, value);
+            memory.put_word_at(first + offset as u32, at + offset, value);
+            offset += 4;
+            rest = others;
+        }
+    }
+
+    /// The same in user mode for a list without R15, where the base is stored as it was.
+    #[tactic(auto, using(crate::proofs::Lowest::putting_low))]
+    #[inline(always)]
+    fn put_low(&self, memory: &mut AddressMap, block: &BlockTransfer, first: u32, at: usize)
+        requires bank { bank_of self.now block.now ≡ User }
+        requires unchanged { stores_new_base block.now ≡ false }
+        requires low { bit_of block.now.list 15 ≡ false }
+        requires aligned { first % 4 ≡ 0 }
+        requires page { are_in_page first (block_size block.now) ≡ true }
+        requires place { place memory.old first ≡ Some at }
+        ensures bytes { bytes_of memory.new ≡ with_words (bytes_of memory.old) first (block_values self.now block.now) }
+        ensures layout { layout memory.new ≡ layout memory.old }
+        ensures marks { class_of memory.new ≡ class_of memory.old }
+    {
+        let mut offset = 0;
+        let mut rest = u64::from(block.list.bits());
+        while rest != 0 {
+            let (register, others) = split_lowest(rest);
+            let value = self.register_in(Mode::User, register.number());
+            memory.put_word_at(first + offset as u32, at + offset, value);
             offset += 4;
             rest = others;
         }
