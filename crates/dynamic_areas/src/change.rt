@@ -36,6 +36,7 @@ impl Areas {
         ensures classes { AreClasses map.new }
         ensures order { KeepsOrder map.old map.new }
         ensures stays { StaysInPlace map.old map.new }
+        ensures sizes { self.new.sizes ≡ self.old.sizes }
     {
         let answer = self.measure(map, number, amount);
         let count = answer.bytes / PAGE_SIZE;
@@ -61,6 +62,7 @@ impl Areas {
         ensures classes { AreClasses map.new }
         ensures order { KeepsOrder map.old map.new }
         ensures stays { StaysInPlace map.old map.new }
+        ensures sizes { self.new.sizes ≡ self.old.sizes }
     {
         let Some(area) = find(self.list(), number) else {
             return;
@@ -85,6 +87,7 @@ impl Areas {
         ensures classes { AreClasses map.new }
         ensures order { KeepsOrder map.old map.new }
         ensures stays { StaysInPlace map.old map.new }
+        ensures sizes { self.new.sizes ≡ self.old.sizes }
     {
         let Some(area) = find(self.list(), number) else {
             return;
@@ -109,6 +112,7 @@ impl Areas {
         ensures classes { AreClasses map.new }
         ensures regions { regions map.new ≡ regions map.old }
         ensures stays { StaysInPlace map.old map.new }
+        ensures sizes { self.new.sizes ≡ self.old.sizes }
     {
         let Some(area) = find(self.list(), number) else {
             return;
@@ -131,6 +135,7 @@ impl Areas {
         ensures classes { AreClasses map.new }
         ensures regions { regions map.new ≡ regions map.old }
         ensures stays { StaysInPlace map.old map.new }
+        ensures sizes { self.new.sizes ≡ self.old.sizes }
     {
         let Some(area) = find(self.list(), number) else {
             return;

@@ -48,6 +48,7 @@ impl Areas {
         ensures classes { AreClasses map.new }
         ensures regions { regions map.new ≡ regions map.old }
         ensures stays { StaysInPlace map.old map.new }
+        ensures sizes { self.new.sizes ≡ self.old.sizes }
     {
         let mut area = self.area_wanted(map.free_pages(), wanted, name)?;
         let made = Created {

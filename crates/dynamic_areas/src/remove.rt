@@ -33,6 +33,7 @@ impl Areas {
         ensures classes { AreClasses map.new }
         ensures regions { regions map.new ≡ regions map.old }
         ensures stays { StaysInPlace map.old map.new }
+        ensures sizes { self.new.sizes ≡ self.old.sizes }
     {
         let Some(area) = find(self.list(), number) else {
             return Err(ErrorNumber::AreaUnknown);

@@ -46,6 +46,7 @@ impl Instances {
         ensures flex { KeepsFlex (store_of map.old) (store_of map.new) }
         ensures ready { IfOk result (λ plan. IsReady self.now plan) }
         ensures rests { IfOk result (λ plan. plan.runs ≡ false) }
+        ensures sizes { areas.new.sizes ≡ areas.old.sizes }
     {
         let rma = Rma::new();
         if !rma.may_be_copied(map, areas, at, len) {

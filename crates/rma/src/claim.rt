@@ -52,6 +52,7 @@ impl Rma {
         ensures alone { IfOk result (λ block. is_in_record (store_of map.old).others block ≡ false) }
         ensures flex { KeepsFlex (store_of map.old) (store_of map.new) }
         ensures unanchored { IfOk result (λ block. IsUnanchored (store_of map.new) block (total_for size - 4)) }
+        ensures sizes { areas.new.sizes ≡ areas.old.sizes }
     {
         match Heaps::new().get(map, RMA_START, size).answer {
             Ok(block) => Ok(block),
@@ -78,6 +79,7 @@ fn claim_grown(map: &mut AddressMap, areas: &mut Areas, size: u32) -> Result<u32
     ensures alone { IfOk result (λ block. is_in_record (store_of map.old).others block ≡ false) }
     ensures flex { KeepsFlex (store_of map.old) (store_of map.new) }
     ensures unanchored { IfOk result (λ block. IsUnanchored (store_of map.new) block (total_for size - 4)) }
+    ensures sizes { areas.new.sizes ≡ areas.old.sizes }
 {
     let heaps = Heaps::new();
     let end = u64::from(heaps.base(map, RMA_START)) + total_for(size);

@@ -47,6 +47,7 @@ impl Rma {
         ensures order { KeepsOrder map.old map.new }
         ensures stays { StaysInPlace map.old map.new }
         ensures flex { KeepsFlex (store_of map.old) (store_of map.new) }
+        ensures sizes { areas.new.sizes ≡ areas.old.sizes }
     {
         grow_in_place(map, areas, block, change);
         match Heaps::new().resize(map, RMA_START, block, change).answer {
@@ -68,6 +69,7 @@ fn grow_in_place(map: &mut AddressMap, areas: &mut Areas, block: u32, change: u3
     ensures order { KeepsOrder map.old map.new }
     ensures places { KeepsPlaces map.old map.new }
     ensures flex { KeepsFlex (store_of map.old) (store_of map.new) }
+    ensures sizes { areas.new.sizes ≡ areas.old.sizes }
 {
     let end = end_in_place(map, block, change);
     let _ = grow_to(map, areas, end);
@@ -93,6 +95,7 @@ fn move_grown(
     ensures order { KeepsOrder map.old map.new }
     ensures places { KeepsPlaces map.old map.new }
     ensures flex { KeepsFlex (store_of map.old) (store_of map.new) }
+    ensures sizes { areas.new.sizes ≡ areas.old.sizes }
 {
     let end = end_if_moved(map, block, change);
     grow_to(map, areas, end)?;

@@ -32,6 +32,7 @@ pub(crate) fn grow_to(map: &mut AddressMap, areas: &mut Areas, end: u64) -> Resu
     ensures order { KeepsOrder map.old map.new }
     ensures places { KeepsPlaces map.old map.new }
     ensures flex { KeepsFlex (store_of map.old) (store_of map.new) }
+    ensures sizes { areas.new.sizes ≡ areas.old.sizes }
 {
     let size = area_size(areas);
     if end <= u64::from(size) {

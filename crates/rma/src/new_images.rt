@@ -52,6 +52,7 @@ impl Rma {
             (λ block. has_image block (store_of map.old).others ≡ false → AddsRecord map.old map.new Image block)
             (λ _. KeepsOrder map.old map.new) }
         ensures fits { IfOk result (λ block. length image.now ≤ 4194304) }
+        ensures sizes { areas.new.sizes ≡ areas.old.sizes }
     {
         if image.len() > RMA_MAXIMUM as usize {
             return Err(ErrorNumber::RmaNoRoom);
@@ -95,6 +96,7 @@ impl Rma {
         ensures order { MatchResult result
             (λ block. has_image block (store_of map.old).others ≡ false → AddsRecord map.old map.new Image block)
             (λ _. KeepsOrder map.old map.new) }
+        ensures sizes { areas.new.sizes ≡ areas.old.sizes }
     {
         let block = self.claim(map, areas, len)?;
         fill_from(map, block, from, len);

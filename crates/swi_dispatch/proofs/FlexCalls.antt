@@ -82,8 +82,8 @@ same_free p n g well left =
 
 -- the parts of the machine then
 pub well_flexed : (old new : Parts) → IsWellFormed old → LeavesFlex old.map new.map new.tables.flex
-    → new.tables ≡ record old.tables { flex = new.tables.flex } → new.is_fresh ≡ false → IsWellFormed new
-well_flexed old new well left tables stepped =
+    → new.tables ≡ record old.tables { flex = new.tables.flex } → new.is_fresh ≡ false → new.sizes ≡ old.sizes → IsWellFormed new
+well_flexed old new well left tables stepped sizes =
     let land : new.tables.land ≡ old.tables.land = ap (λ (t : Tables). t.land) tables in
     let modules : new.tables.modules ≡ old.tables.modules = ap (λ (t : Tables). t.modules) tables in
     let plan : new.tables.plan ≡ old.tables.plan = ap (λ (t : Tables). t.plan) tables in
@@ -99,6 +99,7 @@ well_flexed old new well left tables stepped =
           (ap slots_of modules);
       flex = left.flex;
       fresh = λ e. absurd (true≢false (sym e ∙ stepped));
+      sized = rw land (well.sized ∙ sym sizes);
     }
 
 -- the written machine then

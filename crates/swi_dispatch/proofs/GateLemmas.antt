@@ -72,8 +72,8 @@ may_go_on w v p q (Some code) is ended going = (
 -- the parts of a machine after a call was carried on
 pub well_carried : (new : Parts) (pending : List Image) → IsWorld (parts_world new) pending
     → MayGoOn (parts_world new) new.tables.plan → AreClasses new.map
-    → AreFrames new.tables → HasFlex new.map new.tables.flex → new.is_fresh ≡ false → IsWellFormed new
-well_carried new pending world modules classes frames flex stepped = record {
+    → AreFrames new.tables → HasFlex new.map new.tables.flex → new.is_fresh ≡ false → new.tables.land.sizes ≡ new.sizes → IsWellFormed new
+well_carried new pending world modules classes frames flex stepped sized = record {
   areas = world.estate;
   classes = classes;
   system = world.system;
@@ -81,6 +81,7 @@ well_carried new pending world modules classes frames flex stepped = record {
   frames = frames;
   flex = flex;
   fresh = λ e. absurd (true≢false (sym e ∙ stepped));
+  sized = sized;
 }
 
 -- a plan whose code isn't under way
@@ -127,12 +128,12 @@ pub carried_well : (old new : Parts) (w : World) (p q : Plan) (code : Option Cod
     → (code ≡ None → IsWorld (parts_world new) []) → IsUnderWay (parts_world new) q → AreClasses new.map
     → AreFrames new.tables
     → IsWellFormed old → KeepsFlex (store_of old.map) (store_of new.map) → new.tables.flex ≡ old.tables.flex
-    → new.is_fresh ≡ false → IsWellFormed new
-carried_well old new w p q code plans is plan carries ended going classes frames well keeps flex stepped =
+    → new.is_fresh ≡ false → new.tables.land.sizes ≡ new.sizes → IsWellFormed new
+carried_well old new w p q code plans is plan carries ended going classes frames well keeps flex stepped sized =
     well_carried new (pending_of q) going.world
     (subst (MayGoOn (parts_world new)) (sym (plan ∙ ap (λ (r : Option Plan × Option Plan). r.0) is))
     (may_go_on w (parts_world new) p q code carries ended going))
-    classes frames (flex_by old new well going.world.estate keeps flex) stepped
+    classes frames (flex_by old new well going.world.estate keeps flex) stepped sized
 
 pub state_opened : (s : MachineState) (w : World) (q : Plan) (code : Option Code) (call : Call) (cpu : State)
     (frames : List Frame) (plans : Option Plan × Option Plan) (c : Carried World)
@@ -162,8 +163,8 @@ pub refused_well : (old new : Parts) → IsWellFormed old → parts_world new �
     → new.tables.plan ≡ old.tables.plan
     → new.tables.frames ≡ old.tables.frames → AreClasses new.map → KeepsFlex (store_of old.map) (store_of new.map)
     → new.tables.flex ≡ old.tables.flex
-    → new.is_fresh ≡ false → IsWellFormed new
-refused_well old new well world plan frames classes keeps flex stepped = record {
+    → new.is_fresh ≡ false → new.sizes ≡ old.sizes → IsWellFormed new
+refused_well old new well world plan frames classes keeps flex stepped sizes = record {
   areas = subst (λ (w : World). IsEstate w.estate) (sym world) well.areas;
   classes = classes;
   system = subst (λ (w : World). IsRecorded system_pages w.estate.store.others) (sym world) well.system;
@@ -171,6 +172,7 @@ refused_well old new well world plan frames classes keeps flex stepped = record 
   frames = frames_kept old.tables new.tables well.frames frames plan (ap (λ (w : World). slots_of w.modules) world);
   flex = flex_by old new well (subst (λ (w : World). IsEstate w.estate) (sym world) well.areas) keeps flex;
   fresh = λ e. absurd (true≢false (sym e ∙ stepped));
+  sized = subst (λ (w : World). w.estate.land.sizes ≡ new.sizes) (sym world) (well.sized ∙ sym sizes);
 }
 
 pub starts_by : (s t : MachineState) (call : Call) (old w : World) (r : Result (World × Plan) ErrorNumber) (p : Plan)

@@ -202,8 +202,8 @@ flex_by old new well areas keeps flex =
 pub well_by : (old new : Parts) → IsWellFormed old → AreAreas (store_of new.map) (free_pages new.map) new.tables.land → AreClasses new.map
     → (store_of new.map).others ≡ (store_of old.map).others → new.tables.modules ≡ old.tables.modules → new.tables.plan ≡ old.tables.plan
     → new.tables.frames ≡ old.tables.frames → HasFlex new.map new.tables.flex
-    → (new.is_fresh ≡ true → state_of new ≡ start_of new.sizes) → IsWellFormed new
-well_by old new well areas classes others modules plan frames flex fresh = record {
+    → (new.is_fresh ≡ true → state_of new ≡ start_of new.sizes) → new.tables.land.sizes ≡ new.sizes → IsWellFormed new
+well_by old new well areas classes others modules plan frames flex fresh sized = record {
   areas = areas;
   classes = classes;
   system = rw others well.system;
@@ -211,21 +211,23 @@ well_by old new well areas classes others modules plan frames flex fresh = recor
   frames = frames_kept old.tables new.tables well.frames frames plan (ap slots_of modules);
   flex = flex;
   fresh = fresh;
+  sized = sized;
 }
 
 -- the same of a machine that isn't as it was made
 pub well_called : (old new : Parts) → IsWellFormed old → AreAreas (store_of new.map) (free_pages new.map) new.tables.land → AreClasses new.map
     → (store_of new.map).others ≡ (store_of old.map).others → new.tables.modules ≡ old.tables.modules → new.tables.plan ≡ old.tables.plan
     → new.tables.frames ≡ old.tables.frames → KeepsFlex (store_of old.map) (store_of new.map) → new.tables.flex ≡ old.tables.flex
-    → new.is_fresh ≡ false → IsWellFormed new
-well_called old new well areas classes others modules plan frames keeps flex stepped =
+    → new.is_fresh ≡ false → new.tables.land.sizes ≡ new.sizes → IsWellFormed new
+well_called old new well areas classes others modules plan frames keeps flex stepped sized =
     well_by old new well areas classes others modules plan frames (flex_by old new well areas keeps flex) (λ e. absurd (true≢false (sym e ∙ stepped)))
+    sized
 
 -- the same after a call that changed the modules alone
 pub well_named : (old new : Parts) → IsWellFormed old → new.map ≡ old.map → new.tables.land ≡ old.tables.land
     → MayGoOn (parts_world new) new.tables.plan → slots_of new.tables.modules ≡ slots_of old.tables.modules → new.tables.plan ≡ old.tables.plan
-    → new.tables.frames ≡ old.tables.frames → new.tables.flex ≡ old.tables.flex → new.is_fresh ≡ false → IsWellFormed new
-well_named old new well map land modules slots plan frames flex stepped = record {
+    → new.tables.frames ≡ old.tables.frames → new.tables.flex ≡ old.tables.flex → new.is_fresh ≡ false → new.sizes ≡ old.sizes → IsWellFormed new
+well_named old new well map land modules slots plan frames flex stepped sizes = record {
   areas = rw (map, land) well.areas;
   classes = rw map well.classes;
   system = rw map well.system;
@@ -233,12 +235,13 @@ well_named old new well map land modules slots plan frames flex stepped = record
   frames = frames_kept old.tables new.tables well.frames frames plan slots;
   flex = rw (map, flex) well.flex;
   fresh = λ e. absurd (true≢false (sym e ∙ stepped));
+  sized = rw land (well.sized ∙ sym sizes);
 }
 
 -- the same after a call that changed the frames alone
 pub well_framed : (old new : Parts) → IsWellFormed old → new.map ≡ old.map → new.tables.land ≡ old.tables.land → new.tables.modules ≡ old.tables.modules
-    → new.tables.plan ≡ old.tables.plan → AreFrames new.tables → new.tables.flex ≡ old.tables.flex → new.is_fresh ≡ false → IsWellFormed new
-well_framed old new well map land modules plan frames flex stepped = record {
+    → new.tables.plan ≡ old.tables.plan → AreFrames new.tables → new.tables.flex ≡ old.tables.flex → new.is_fresh ≡ false → new.sizes ≡ old.sizes → IsWellFormed new
+well_framed old new well map land modules plan frames flex stepped sizes = record {
   areas = rw (map, land) well.areas;
   classes = rw map well.classes;
   system = rw map well.system;
@@ -246,6 +249,7 @@ well_framed old new well map land modules plan frames flex stepped = record {
   frames = frames;
   flex = rw (map, flex) well.flex;
   fresh = λ e. absurd (true≢false (sym e ∙ stepped));
+  sized = rw land (well.sized ∙ sym sizes);
 }
 
 -- the flex store lies in no system page
@@ -267,11 +271,11 @@ kept_areas old new well kept same tables =
 
 -- the same after a call that kept every list, of a machine that isn't as it was made
 pub well_kept : (old new : Parts) → IsWellFormed old → IsKept old.map new.map → layout new.map ≡ layout old.map → class_of new.map ≡ class_of old.map
-    → new.tables ≡ old.tables → HasFlex new.map old.tables.flex → new.is_fresh ≡ false → IsWellFormed new
-well_kept old new well kept same marks tables flex stepped =
+    → new.tables ≡ old.tables → HasFlex new.map old.tables.flex → new.is_fresh ≡ false → new.sizes ≡ old.sizes → IsWellFormed new
+well_kept old new well kept same marks tables flex stepped sizes =
     well_by old new well (kept_areas old new well kept same tables) (kept_classes old.map new.map kept marks well.classes)
     (ap (λ (s : Store). s.others) kept.store) (ap (λ (t : Tables). t.modules) tables) (ap (λ (t : Tables). t.plan) tables)
-    (ap (λ (t : Tables). t.frames) tables) (rw tables flex) (λ e. absurd (true≢false (sym e ∙ stepped)))
+    (ap (λ (t : Tables). t.frames) tables) (rw tables flex) (λ e. absurd (true≢false (sym e ∙ stepped))) (rw tables (well.sized ∙ sym sizes))
 
 -- the application space holds the program of the written machine
 pub boots : (m n : AddressMap) (cpu : State) (tables : Tables) (halt : Option Halt) (s : Sizes) (is_fresh : Bool) (program : List ℕ) → is_fresh ≡ true
@@ -297,7 +301,7 @@ well_same old new well kept same marks state tables flex fresh sizes =
     well_by old new well (kept_areas old new well kept same tables) (kept_classes old.map new.map kept marks well.classes)
     (ap (λ (s : Store). s.others) kept.store) (ap (λ (t : Tables). t.modules) tables) (ap (λ (t : Tables). t.plan) tables)
     (ap (λ (t : Tables). t.frames) tables) (rw tables flex)
-    (λ e. state ∙ well.fresh (sym fresh ∙ e) ∙ ap start_of (sym sizes))
+    (λ e. state ∙ well.fresh (sym fresh ∙ e) ∙ ap start_of (sym sizes)) (rw tables (well.sized ∙ sym sizes))
 
 pub refused_same : {S E : Type 0} (old new : S) (r : Result S E) (e : E) → Leaves {U = Unit {0}} old r (Err e) new → new ≡ old
 refused_same old new (Ok s) e left = absurd left

@@ -58,15 +58,16 @@ world_left s old new (Err f) (Ok u) left = absurd left
 
 -- the parts of the machine then
 pub well_left : (old new : Parts) → IsWellFormed old → LeavesSound old.map new.map new.tables.land
-    → new.tables ≡ record old.tables { land = new.tables.land } → new.is_fresh ≡ false → IsWellFormed new
-well_left old new well left tables stepped =
+    → new.tables ≡ record old.tables { land = new.tables.land } → new.is_fresh ≡ false → new.tables.land.sizes ≡ new.sizes → IsWellFormed new
+well_left old new well left tables stepped sized =
     well_called old new well left.estate left.classes left.others (ap (λ (t : Tables). t.modules) tables) (ap (λ (t : Tables). t.plan) tables)
-    (ap (λ (t : Tables). t.frames) tables) left.flex (ap (λ (t : Tables). t.flex) tables) stepped
+    (ap (λ (t : Tables). t.frames) tables) left.flex (ap (λ (t : Tables). t.flex) tables) stepped sized
 
 pub well_after : (old new : Parts) → IsWellFormed old
     → LeavesWorld old.map new.map old.tables.land new.tables.land old.tables.modules new.tables.modules
-    → new.tables ≡ record old.tables { land = new.tables.land; modules = new.tables.modules } → new.is_fresh ≡ false → IsWellFormed new
-well_after old new well left tables stepped =
+    → new.tables ≡ record old.tables { land = new.tables.land; modules = new.tables.modules } → new.is_fresh ≡ false → new.tables.land.sizes ≡ new.sizes
+    → IsWellFormed new
+well_after old new well left tables stepped sized =
     let plan : new.tables.plan ≡ old.tables.plan = ap (λ (t : Tables). t.plan) tables in
     record {
       areas = left.memory.estate;
@@ -76,4 +77,5 @@ well_after old new well left tables stepped =
       frames = frames_kept old.tables new.tables well.frames (ap (λ (t : Tables). t.frames) tables) plan left.slots;
       flex = flex_by old new well left.memory.estate left.memory.flex (ap (λ (t : Tables). t.flex) tables);
       fresh = λ e. absurd (true≢false (sym e ∙ stepped));
+      sized = sized;
     }

@@ -52,8 +52,8 @@ parts_world p = world_of p.map p.tables.land p.tables.modules
 -- recorded images are the modules', and the plan that is kept while module code runs finds all that it asks for; one
 -- initialisation or finalisation is under way while a plan is kept, and else none; each frame is of an instance
 -- that is there, and no SWI that waits for an initialisation or a finalisation is of its instance, nor of one that the
--- plan names; memory spells the flex store, if there is one; and a machine that can still be booted stands as at the
--- start.
+-- plan names; memory spells the flex store, if there is one; a machine that can still be booted stands as at the
+-- start; and the areas are those of a machine of its sizes.
 pub record IsWellFormed (p : Parts) : Type 0 where
   pub areas : AreAreas (store_of p.map) (free_pages p.map) p.tables.land
   pub classes : AreClasses p.map
@@ -62,6 +62,7 @@ pub record IsWellFormed (p : Parts) : Type 0 where
   pub frames : AreFrames p.tables
   pub flex : HasFlex p.map p.tables.flex
   pub fresh : p.is_fresh ≡ true → state_of p ≡ start_of p.sizes
+  pub sized : p.tables.land.sizes ≡ p.sizes
 
 -- All that holds of every machine, whatever its guest does. Beside what its steps keep: the core has 26 registers, those
 -- of all banks, each a word, and its program counter is a multiple of 4 below 2^26; bytes are below 256; the areas are a good table

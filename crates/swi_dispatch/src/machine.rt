@@ -44,10 +44,9 @@ pub struct Machine {
     pub(crate) frames: Frames,
     pub(crate) plan: Option<Plan>,
     pub(crate) flex: Flex,
-    /// What a call is tried on whose caller takes no error.
+    /// What a call is tried on whose caller takes no error; it knows the machine's sizes.
     pub(crate) spare: Spare,
     pub(crate) halt: Option<Halt>,
-    config: Config,
     is_fresh: bool,
     pub(crate) printed: ArrayVec<u8, MOST_PRINTED>,
 }
@@ -62,7 +61,7 @@ impl Model for Machine {
       map = m.memory;
       tables = record { land = m.areas; modules = m.instances; frames = m.frames; plan = m.plan; flex = m.flex };
       halt = m.halt;
-      sizes = m.config;
+      sizes = m.spare;
       is_fresh = m.is_fresh;
       printed = m.printed.items;
     } };
@@ -73,7 +72,7 @@ impl Model for Machine {
           map = m.memory;
           tables = record { land = m.areas; modules = m.instances; frames = m.frames; plan = m.plan; flex = m.flex };
           halt = m.halt;
-          sizes = m.config;
+          sizes = m.spare;
           is_fresh = m.is_fresh;
           printed = m.printed.items;
         }) };
@@ -109,7 +108,6 @@ impl Machine {
             flex: Flex::new(),
             spare: Spare::new(alloc, config)?,
             halt: None,
-            config,
             is_fresh: true,
             printed: ArrayVec::new(),
         })
@@ -134,7 +132,7 @@ impl Machine {
         if !self.is_fresh {
             return Err(BootError::Booted);
         }
-        if program.len() > (PAGE_SIZE * self.config.app()) as usize {
+        if program.len() > (PAGE_SIZE * self.spare.sizes().app()) as usize {
             return Err(BootError::TooLarge);
         }
         self.memory.put_bytes(APPLICATION_START, program);

@@ -40,6 +40,7 @@ pub(crate) fn claim_block(
         (block_claimed cpu.old (world_of memory.old areas.old modules)) result
         (cpu.new, world_of memory.new areas.new modules) }
     ensures leaves { LeavesSound memory.old memory.new areas.new }
+    ensures sizes { areas.new.sizes ≡ areas.old.sizes }
 {
     let size = cpu.register(3);
     let block = Rma::new().claim(memory, areas, size)?;
@@ -77,6 +78,7 @@ pub(crate) fn extend_block(
         (block_extended cpu.old (world_of memory.old areas.old modules)) result
         (cpu.new, world_of memory.new areas.new modules) }
     ensures leaves { LeavesSound memory.old memory.new areas.new }
+    ensures sizes { areas.new.sizes ≡ areas.old.sizes }
 {
     let block = cpu.register(2);
     let change = cpu.register(3);

@@ -35,6 +35,7 @@ pub fn call_module(
         (module_called cpu.old (world_of memory.old areas.old instances.old)) result
         (cpu.new, world_of memory.new areas.new instances.new) }
     ensures leaves { LeavesWorld memory.old memory.new areas.old areas.new instances.old instances.new }
+    ensures sizes { areas.new.sizes ≡ areas.old.sizes }
 {
     match ModuleReason::of(cpu.register(0)) {
         Some(ModuleReason::DescribeArea) => describe_area(cpu, memory),

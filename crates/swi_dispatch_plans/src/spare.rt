@@ -1,7 +1,8 @@
 //! A second memory and list of modules, on which a call is tried before it is carried on, where its caller takes no
 //! error.
 
-ghost use Rattle.std.specs.Prelude.{◌≡◌};
+ghost use Rattle.std.specs.Prelude.{◌≡◌, IfOk};
+ghost use Rattle.address_map.specs.Memory.{page_total};
 ghost use Rattle.os_heap.specs.Store.{AreClasses};
 ghost use Rattle.instances_plans.specs.Plans.{settled};
 ghost use Rattle.instances_ground.specs.World.{world_of};
@@ -13,14 +14,26 @@ use instances_ground::dynamic_areas::Areas;
 use instances_plans::{Ended, Outcome, Plan};
 use profile::Config;
 use std::alloc::{AllocError, Global};
+use std::marker::Model;
 use swi_dispatch_answers::errors::error_at;
 use swi_dispatch_modules::instances::Instances;
 
-/// What a call is tried on.
+/// What a call is tried on: a memory as large as the machine's, and a list of modules.
 #[derive(Drop)]
 pub struct Spare {
     memory: AddressMap,
     instances: Instances,
+    sizes: Config,
+}
+
+impl Model for Spare {
+    ghost use Rattle.profile.specs.Sizes.{Sizes};
+
+    ghost Value = { Sizes };
+
+    ghost view = { λ s. s.sizes };
+
+    ghost invariant = { λ s. page_total s.memory ≡ s.sizes.pages };
 }
 
 impl Spare {
@@ -29,11 +42,21 @@ impl Spare {
     /// # Errors
     ///
     /// Where memory is missing.
-    pub fn new(alloc: Global, config: Config) -> Result<Spare, AllocError> {
+    pub fn new(alloc: Global, config: Config) -> Result<Spare, AllocError>
+        ensures { IfOk result (λ s. s ≡ config) }
+    {
         Ok(Spare {
             memory: AddressMap::new(alloc, config.pages())?,
             instances: Instances::new(),
+            sizes: config,
         })
+    }
+
+    /// The sizes of the machine that it is for.
+    pub fn sizes(&self) -> Config
+        ensures { result ≡ self.now }
+    {
+        self.sizes
     }
 
     /// The number of the error that a call ends with whose entry comes back with an outcome, if it ends so before more
@@ -48,7 +71,9 @@ impl Spare {
     ) -> Option<u32>
         requires going { IsUnderWay (world_of memory.now areas.now instances.now) plan.now }
         requires classes { AreClasses memory.now }
-        ensures { result ≡ error_ahead (world_of memory.now areas.now instances.now) (settled plan.now outcome) }
+        requires sizes { areas.now.sizes ≡ self.old }
+        ensures error { result ≡ error_ahead (world_of memory.now areas.now instances.now) (settled plan.now outcome) }
+        ensures same { self.new ≡ self.old }
     {
         self.memory.copy_from(memory);
         self.instances.copy_from(instances);

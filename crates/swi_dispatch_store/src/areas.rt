@@ -52,6 +52,7 @@ pub fn call_area(cpu: &mut Cpu, memory: &mut AddressMap, areas: &mut Areas) -> R
     ensures state { Leaves (cpu.old, estate_of memory.old areas.old)
         (area_called cpu.old (estate_of memory.old areas.old)) result (cpu.new, estate_of memory.new areas.new) }
     ensures leaves { LeavesSound memory.old memory.new areas.new }
+    ensures sizes { areas.new.sizes ≡ areas.old.sizes }
 {
     match AreaReason::of(cpu.register(0)) {
         Some(AreaReason::Create) => create_area(cpu, memory, areas),
@@ -71,6 +72,7 @@ fn create_area(cpu: &mut Cpu, memory: &mut AddressMap, areas: &mut Areas) -> Res
     ensures state { Leaves (cpu.old, estate_of memory.old areas.old)
         (area_created cpu.old (estate_of memory.old areas.old)) result (cpu.new, estate_of memory.new areas.new) }
     ensures leaves { LeavesSound memory.old memory.new areas.new }
+    ensures sizes { areas.new.sizes ≡ areas.old.sizes }
 {
     let wanted = wanted_area(cpu);
     let name_at = cpu.register(8);
@@ -108,6 +110,7 @@ fn make_area(
         (area_named cpu.old (estate_of memory.old areas.old) wanted.now (Some name.now)) result
         (cpu.new, estate_of memory.new areas.new) }
     ensures leaves { LeavesSound memory.old memory.new areas.new }
+    ensures sizes { areas.new.sizes ≡ areas.old.sizes }
 {
     let made = areas.create(memory, wanted, name)?;
     cpu.set_register(1, made.number);
@@ -132,6 +135,7 @@ fn remove_area(cpu: &mut Cpu, memory: &mut AddressMap, areas: &mut Areas) -> Res
     ensures state { Leaves (cpu.old, estate_of memory.old areas.old)
         (area_removed cpu.old (estate_of memory.old areas.old)) result (cpu.new, estate_of memory.new areas.new) }
     ensures leaves { LeavesSound memory.old memory.new areas.new }
+    ensures sizes { areas.new.sizes ≡ areas.old.sizes }
 {
     let number = cpu.register(1);
     areas.remove(memory, number)?;
@@ -169,6 +173,7 @@ fn renumber_area(cpu: &mut Cpu, memory: &AddressMap, areas: &mut Areas) -> Resul
     ensures state { Leaves (cpu.old, estate_of memory.now areas.old)
         (area_renumbered cpu.old (estate_of memory.now areas.old)) result (cpu.new, estate_of memory.now areas.new) }
     ensures estate { IsEstate (estate_of memory.now areas.new) }
+    ensures sizes { areas.new.sizes ≡ areas.old.sizes }
 {
     let old = cpu.register(1);
     let new = cpu.register(2);
@@ -184,6 +189,7 @@ pub fn change_area(cpu: &mut Cpu, memory: &mut AddressMap, areas: &mut Areas) ->
     ensures error { result ≡ (change_asked cpu.old (estate_of memory.old areas.old)).error }
     ensures state { (cpu.new, estate_of memory.new areas.new) ≡ area_changed cpu.old (estate_of memory.old areas.old) }
     ensures leaves { LeavesSound memory.old memory.new areas.new }
+    ensures sizes { areas.new.sizes ≡ areas.old.sizes }
 {
     let number = cpu.register(0);
     let amount = cpu.register(1);
@@ -204,6 +210,7 @@ fn resize_area(memory: &mut AddressMap, areas: &mut Areas, number: u32, amount: 
         estate_of memory.new areas.new ≡ with_land (store_changed e.store e.land.areas number amount result.bytes)
         (land_changed e.land number amount result.bytes) }
     ensures leaves { LeavesSound memory.old memory.new areas.new }
+    ensures sizes { areas.new.sizes ≡ areas.old.sizes }
 {
     areas.change(memory, number, amount)
 }

@@ -6,7 +6,7 @@ use Rattle.swi_dispatch.proofs.StoreCalls.{estate_left, well_left}
 use Rattle.swi_dispatch.proofs.machine.Machine.call_area.Goals as goal
 
 pub invariant_of-self : goal.invariant_of-self
-invariant_of-self c = well_left _ _ c.self.invariant c.call_area.ensures.leaves refl (ap (λ (p : Parts). p.is_fresh) c.self.view_is ∙ c.requires.stepped)
+invariant_of-self c = well_left _ _ c.self.invariant c.call_area.ensures.leaves refl (ap (λ (p : Parts). p.is_fresh) c.self.view_is ∙ c.requires.stepped) (c.call_area.ensures.sizes ∙ c.self.invariant.sized)
 
 pub returns-clause-state : goal.returns-clause-state
 returns-clause-state c =

@@ -11,7 +11,7 @@ call_flex-requires c =
 pub invariant_of-self : goal.invariant_of-self
 invariant_of-self c =
     well_flexed _ _ c.self.invariant c.call_flex.ensures.leaves refl
-    (ap (λ (p : Parts). p.is_fresh) c.self.view_is ∙ c.requires.stepped)
+    (ap (λ (p : Parts). p.is_fresh) c.self.view_is ∙ c.requires.stepped) refl
 
 pub returns-clause-state : goal.returns-clause-state
 returns-clause-state c =

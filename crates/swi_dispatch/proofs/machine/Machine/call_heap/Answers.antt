@@ -8,7 +8,7 @@ call_heap-requires-clause-sound c = c.self.invariant.areas.ground.sound
 
 pub invariant_of-self : goal.invariant_of-self
 invariant_of-self c =
-    well_left _ _ c.self.invariant (c.call_heap.ensures.leaves _ c.self.invariant.areas) refl (ap (λ (p : Parts). p.is_fresh) c.self.view_is ∙ c.requires.stepped)
+    well_left _ _ c.self.invariant (c.call_heap.ensures.leaves _ c.self.invariant.areas) refl (ap (λ (p : Parts). p.is_fresh) c.self.view_is ∙ c.requires.stepped) c.self.invariant.sized
 
 pub returns-clause-state : goal.returns-clause-state
 returns-clause-state c =

@@ -6,7 +6,7 @@ use Rattle.swi_dispatch.proofs.StoreCalls.{world_left, well_after}
 use Rattle.swi_dispatch.proofs.machine.Machine.call_module_reason.Goals as goal
 
 pub invariant_of-self : goal.invariant_of-self
-invariant_of-self c = well_after _ _ c.self.invariant c.call_module.ensures.leaves refl (ap (λ (p : Parts). p.is_fresh) c.self.view_is ∙ c.requires.stepped)
+invariant_of-self c = well_after _ _ c.self.invariant c.call_module.ensures.leaves refl (ap (λ (p : Parts). p.is_fresh) c.self.view_is ∙ c.requires.stepped) (c.call_module.ensures.sizes ∙ c.self.invariant.sized)
 
 pub returns-clause-state : goal.returns-clause-state
 returns-clause-state c =

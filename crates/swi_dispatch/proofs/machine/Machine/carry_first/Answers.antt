@@ -24,7 +24,7 @@ invariant_of-self c =
     let opens = c.open_code-kept.ensures in
     carried_well _ _ _ _ _ _ _ opens.plans refl carries.carried carries.ended carries.going carries.classes
     (opened_frames _ _ _ _ _ c.self.inside.cpu _ _ _ _ opens.plans refl refl opens.frames (begun_beneath before _ begins) carries.others)
-    c.self.invariant carries.flex refl (ap (λ (p : Parts). p.is_fresh) c.self.view_is ∙ c.requires.stepped)
+    c.self.invariant carries.flex refl (ap (λ (p : Parts). p.is_fresh) c.self.view_is ∙ c.requires.stepped) c.self.invariant.sized
 
 pub returns-clause-state : goal.returns-clause-state
 returns-clause-state c =

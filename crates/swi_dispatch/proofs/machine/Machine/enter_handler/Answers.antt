@@ -14,4 +14,4 @@ invariant_of-self c =
     let there = ap (λ (f : Frame). is_used f.slot (slots_of c.self.inside.instances)) c.of.ensures
     ∙ ap (λ (p : Parts). is_used c.args.handler.slot (slots_of p.tables.modules)) c.self.view_is ∙ c.requires.held in
     let opened = swi_opened _ _ _ well.frames refl refl c.open.ensures (ap (λ (f : Frame). is_swi f.kind) c.of.ensures) there in
-    well_framed _ _ well refl refl refl refl opened refl (ap (λ (p : Parts). p.is_fresh) c.self.view_is ∙ c.requires.stepped)
+    well_framed _ _ well refl refl refl refl opened refl (ap (λ (p : Parts). p.is_fresh) c.self.view_is ∙ c.requires.stepped) refl

@@ -8,7 +8,7 @@ pub invariant_of-self : goal.invariant_of-self
 invariant_of-self c =
     let well = c.self.invariant in
     let turn = takes_turn _ _ _ _ (record { land = c.self.inside.areas; modules = c.self.inside.instances; frames = c.self.inside.frames; plan = c.self.inside.plan; flex = c.self.inside.flex }) c.self.inside.halt _ c.step.ensures.layout c.step.ensures.marks well.areas.ground.sound well.classes c.step.ensures.turn in
-    well_kept _ _ well turn.0.kept c.step.ensures.layout c.step.ensures.marks refl (flex_after _ _ _ well.flex c.step.ensures.layout c.step.ensures.marks turn.0) (ap (λ (p : Parts). p.is_fresh) c.self.view_is ∙ c.requires)
+    well_kept _ _ well turn.0.kept c.step.ensures.layout c.step.ensures.marks refl (flex_after _ _ _ well.flex c.step.ensures.layout c.step.ensures.marks turn.0) (ap (λ (p : Parts). p.is_fresh) c.self.view_is ∙ c.requires) refl
 
 pub returns-clause-turn : goal.returns-clause-turn
 returns-clause-turn c =
@@ -19,4 +19,4 @@ pub returns-clause-well_formed : goal.returns-clause-well_formed
 returns-clause-well_formed c =
     let well = c.self.invariant in
     let turn = takes_turn _ _ _ _ (record { land = c.self.inside.areas; modules = c.self.inside.instances; frames = c.self.inside.frames; plan = c.self.inside.plan; flex = c.self.inside.flex }) c.self.inside.halt _ c.step.ensures.layout c.step.ensures.marks well.areas.ground.sound well.classes c.step.ensures.turn in
-    well_kept _ _ well turn.0.kept c.step.ensures.layout c.step.ensures.marks refl (flex_after _ _ _ well.flex c.step.ensures.layout c.step.ensures.marks turn.0) (ap (λ (p : Parts). p.is_fresh) c.self.view_is ∙ c.requires)
+    well_kept _ _ well turn.0.kept c.step.ensures.layout c.step.ensures.marks refl (flex_after _ _ _ well.flex c.step.ensures.layout c.step.ensures.marks turn.0) (ap (λ (p : Parts). p.is_fresh) c.self.view_is ∙ c.requires) refl

@@ -10,4 +10,4 @@ invariant_of-self c =
     let well = c.self.invariant in
     let last = ap (λ (p : Parts). innermost p.tables.frames) c.self.view_is ∙ c.requires.last in
     let closes = swi_closes _ _ c.args.frame well.frames last c.requires.swi refl refl c.close.ensures.value in
-    well_framed _ _ well refl refl refl refl closes refl (ap (λ (p : Parts). p.is_fresh) c.self.view_is ∙ c.requires.step.stepped)
+    well_framed _ _ well refl refl refl refl closes refl (ap (λ (p : Parts). p.is_fresh) c.self.view_is ∙ c.requires.step.stepped) refl

@@ -23,7 +23,7 @@ pub invariant_of-self-2 : goal.invariant_of-self-2
 invariant_of-self-2 c =
     let well = c.self.invariant in
     let left = pokes _ _ c.self.inside.cpu (record { land = c.self.inside.areas; modules = c.self.inside.instances; frames = c.self.inside.frames; plan = c.self.inside.plan; flex = c.self.inside.flex }) c.self.inside.halt _ _ _ c.store_word.ensures.layout c.store_word.ensures.marks well.areas.ground.sound well.classes c.in_default.ensures.bytes in
-    well_kept _ _ well left.0.kept c.store_word.ensures.layout c.store_word.ensures.marks refl (flex_after _ _ _ well.flex c.store_word.ensures.layout c.store_word.ensures.marks left.0) refl
+    well_kept _ _ well left.0.kept c.store_word.ensures.layout c.store_word.ensures.marks refl (flex_after _ _ _ well.flex c.store_word.ensures.layout c.store_word.ensures.marks left.0) refl refl
 
 pub returns-clause-state : goal.returns-clause-state
 returns-clause-state c =
@@ -34,4 +34,4 @@ pub returns-clause-well_formed : goal.returns-clause-well_formed
 returns-clause-well_formed c =
     let well = c.self.invariant in
     let left = pokes _ _ c.self.inside.cpu (record { land = c.self.inside.areas; modules = c.self.inside.instances; frames = c.self.inside.frames; plan = c.self.inside.plan; flex = c.self.inside.flex }) c.self.inside.halt _ _ _ c.store_word.ensures.layout c.store_word.ensures.marks well.areas.ground.sound well.classes c.in_default.ensures.bytes in
-    well_kept _ _ well left.0.kept c.store_word.ensures.layout c.store_word.ensures.marks refl (flex_after _ _ _ well.flex c.store_word.ensures.layout c.store_word.ensures.marks left.0) refl
+    well_kept _ _ well left.0.kept c.store_word.ensures.layout c.store_word.ensures.marks refl (flex_after _ _ _ well.flex c.store_word.ensures.layout c.store_word.ensures.marks left.0) refl refl

@@ -13,7 +13,7 @@ invariant_of-self c =
     let well = c.self.invariant in
     let put = c.put_text.ensures in
     well_called _ _ well (put.areas c.self.inside.areas well.areas) (put.classes well.classes) (layout-others _ _ put.layout)
-    refl refl refl put.flex refl (ap (λ (p : Parts). p.is_fresh) c.self.view_is ∙ c.requires.stepped)
+    refl refl refl put.flex refl (ap (λ (p : Parts). p.is_fresh) c.self.view_is ∙ c.requires.stepped) well.sized
 
 pub returns-clause-state : goal.returns-clause-state
 unfolding store_of

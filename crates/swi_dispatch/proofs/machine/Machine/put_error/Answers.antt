@@ -10,7 +10,7 @@ invariant_of-self c =
     let well = c.self.invariant in
     let kept = error_kept _ _ _ _ c.write_error.ensures.layout c.write_error.ensures.marks well.areas.ground.sound well.system (short_name c.args.error) c.write_error.ensures.bytes in
     let flex = flex_error _ _ _ _ _ _ well.flex well.areas well.system (short_name c.args.error) kept c.write_error.ensures.layout c.write_error.ensures.bytes in
-    well_kept _ _ well kept c.write_error.ensures.layout c.write_error.ensures.marks refl flex (ap (λ (p : Parts). p.is_fresh) c.self.view_is ∙ c.requires.stepped)
+    well_kept _ _ well kept c.write_error.ensures.layout c.write_error.ensures.marks refl flex (ap (λ (p : Parts). p.is_fresh) c.self.view_is ∙ c.requires.stepped) refl
 
 pub returns-clause-state : goal.returns-clause-state
 unfolding store_of

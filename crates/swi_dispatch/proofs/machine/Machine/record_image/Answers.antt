@@ -15,7 +15,7 @@ pub invariant_of-self : goal.invariant_of-self
 invariant_of-self c =
     let given = c.in_err-plan.ensures in
     refused_well _ _ c.self.invariant (refused_world _ _ _ _ given.world) refl refl given.classes given.flex refl
-    (ap (λ (p : Parts). p.is_fresh) c.self.view_is ∙ c.requires.stepped)
+    (ap (λ (p : Parts). p.is_fresh) c.self.view_is ∙ c.requires.stepped) refl
 
 pub invariant_of-self-2 : goal.invariant_of-self-2
 invariant_of-self-2 c =
@@ -40,7 +40,7 @@ invariant_of-self-2 c =
     carried_well _ _ _ _ _ _ _ opens.plans refl carries.carried carries.ended carries.going carries.classes
     (opened_frames _ _ _ _ _ c.self.inside.cpu _ _ _ _ opens.plans refl refl opens.frames beneath carries.others)
     c.self.invariant (keeps_then _ _ _ c.in_ok-plan.ensures.flex carries.flex) refl
-    (ap (λ (p : Parts). p.is_fresh) c.self.view_is ∙ c.requires.stepped)
+    (ap (λ (p : Parts). p.is_fresh) c.self.view_is ∙ c.requires.stepped) c.self.invariant.sized
 
 pub returns-clause-state : goal.returns-clause-state
 returns-clause-state c =

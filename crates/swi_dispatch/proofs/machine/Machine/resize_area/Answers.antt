@@ -7,7 +7,7 @@ use Rattle.swi_dispatch.proofs.StoreCalls.{well_left}
 use Rattle.swi_dispatch.proofs.machine.Machine.resize_area.Goals as goal
 
 pub invariant_of-self : goal.invariant_of-self
-invariant_of-self c = well_left _ _ c.self.invariant c.change_area.ensures.leaves refl (ap (λ (p : Parts). p.is_fresh) c.self.view_is ∙ c.requires.stepped)
+invariant_of-self c = well_left _ _ c.self.invariant c.change_area.ensures.leaves refl (ap (λ (p : Parts). p.is_fresh) c.self.view_is ∙ c.requires.stepped) (c.change_area.ensures.sizes ∙ c.self.invariant.sized)
 
 pub returns-clause-error : goal.returns-clause-error
 returns-clause-error c = rw (← c.self.view_is) c.change_area.ensures.error

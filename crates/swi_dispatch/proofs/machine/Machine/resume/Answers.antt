@@ -21,7 +21,7 @@ invariant_of-self-2 c =
     (opened_frames _ _ _ _ _ c.leave.new.cpu _ _ _ _ opens.plans refl refl
     (opens.frames ∙ (λ i. frames_by (c.close.ensures.value i) c.leave.new.cpu c.args.frame.call c.carry-code.result))
     beneath carries.others)
-    c.self.invariant carries.flex refl (ap (λ (p : Parts). p.is_fresh) c.self.view_is ∙ c.requires.stepped)
+    c.self.invariant carries.flex refl (ap (λ (p : Parts). p.is_fresh) c.self.view_is ∙ c.requires.stepped) c.self.invariant.sized
 
 pub returns-clause-state : goal.returns-clause-state
 returns-clause-state c =
