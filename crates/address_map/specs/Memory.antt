@@ -8,7 +8,7 @@ use Rattle.address_map.specs.declared.map.AddressMap.{AddressMap}
 use Rattle.address_map.specs.Bytes.{Bytes}
 use Rattle.address_map.specs.Classes.{is_anchor}
 use Rattle.address_map.specs.Marks.{mark_in}
-use Rattle.address_map.specs.Pages.{place_in}
+use Rattle.address_map.specs.Pages.{frame_count, place_in}
 
 -- where in the store the byte of an address lies, if the address is mapped
 unfoldable pub place : AddressMap → ℕ → Option ℕ
@@ -37,6 +37,10 @@ pub record IsSpan (m : AddressMap) (a k len : ℕ) : Type 0 where
 -- the pages of the store that are not mapped
 unfoldable pub free_pages : AddressMap → ℕ
 free_pages m = length m.free.items
+
+-- all pages of the store, mapped or not
+unfoldable pub page_total : AddressMap → ℕ
+page_total m = frame_count m.frames.items m.free.items
 
 -- what is mapped, and where: all that calls on records leave as it is
 pub record Mapping : Type 0 where

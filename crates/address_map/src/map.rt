@@ -6,7 +6,7 @@ ghost use Rattle.address_map.specs.Pages.{IsPageTable, frame_count};
 ghost use Rattle.address_map.specs.Records.{IsRegion};
 
 use crate::marks::Marks;
-use crate::pages::{MARKS_IN_PAGE, all_frames, most_frames, page_count};
+use crate::pages::{MARKS_IN_PAGE, all_frames, page_count};
 use crate::region::Region;
 use arrayvec::ArrayVec;
 use raw_store::RawStore;
@@ -23,8 +23,8 @@ pub(crate) const MOST_REGIONS: usize = 133;
 /// The address space of a machine: the memory that it has, and the addresses where that is mapped.
 ///
 /// Each page of the address space that is mapped has a frame of the store, where its bytes lie; the
-/// other frames are free. The store is always as large as that of the largest memory, so that each memory can become a copy of any other. Addresses that are not mapped read as 0 in the contracts; a load or a
-/// store there is a fault. Each word of the store has a mark, which says what store calls use it for. A word lies at a multiple of 4 and never meets two pages. No call but
+/// other frames are free. The store has as many frames as the memory has pages, so that a memory can become a copy of any other that has
+/// as many. Addresses that are not mapped read as 0 in the contracts; a load or a store there is a fault. Each word of the store has a mark, which says what store calls use it for. A word lies at a multiple of 4 and never meets two pages. No call but
 /// `new` takes host memory.
 #[derive(Drop)]
 pub struct AddressMap {
@@ -34,9 +34,9 @@ pub struct AddressMap {
     pub(crate) free: ArrayVec<u16, MOST_FRAMES>,
     pub(crate) regions: ArrayVec<Region, MOST_REGIONS>,
     pub ghost bytes_fit: { All (λ b. b < 256) store },
-    pub ghost in_limit: { length store ≡ 4194304 },
+    pub ghost in_limit: { frame_count frames.items free.items ≤ 1024 },
     pub ghost marks_fit: { 16 * length marks.bytes.items ≡ length store },
-    pub ghost frames_fit: { 4096 * frame_count frames.items free.items ≤ length store },
+    pub ghost frames_fit: { 4096 * frame_count frames.items free.items ≡ length store },
     pub ghost table: { IsPageTable frames.items free.items },
     pub ghost recorded: { All IsRegion regions.items },
 }
@@ -50,7 +50,7 @@ pub(crate) struct Span {
 }
 
 impl AddressMap {
-    ghost use Rattle.address_map.specs.Memory.{IsSpan, place, is_mapped, byte_at, bytes_of, free_pages, regions, layout, class_of, is_owned};
+    ghost use Rattle.address_map.specs.Memory.{IsSpan, place, is_mapped, byte_at, bytes_of, free_pages, page_total, regions, layout, class_of, is_owned};
 
     /// A memory of that many pages of 4096 bytes, none of which is mapped.
     ///
@@ -61,13 +61,13 @@ impl AddressMap {
         requires { pages ≤ 1024 }
         ensures mapping { IfOk result (λ m. (a : ℕ) → is_mapped m a ≡ false) }
         ensures pages { IfOk result (λ m. free_pages m ≡ pages) }
+        ensures total { IfOk result (λ m. page_total m ≡ pages) }
         ensures regions { IfOk result (λ m. regions m ≡ []) }
         ensures marks { IfOk result (λ m. (a : ℕ) → class_of m a ≡ Class.Plain) }
         ensures owned { IfOk result (λ m. (a : ℕ) → is_owned m a ≡ false) }
     {
-        let most = most_frames();
-        let store = RawStore::new(alloc, most)?;
-        let marks = Marks::new(alloc, MARKS_IN_PAGE * most as usize)?;
+        let store = RawStore::new(alloc, pages)?;
+        let marks = Marks::new(alloc, MARKS_IN_PAGE * pages as usize)?;
         let frames = vec![in alloc; None; page_count()]?;
         Ok(AddressMap {
             store,
@@ -78,12 +78,14 @@ impl AddressMap {
         })
     }
 
-    /// Becomes a copy of another memory: its bytes, what is mapped and where, what is recorded, and how words are marked.
-    #[tactic(auto, unfolding(crate::specs::Memory::place, crate::specs::Memory::byte_at, crate::specs::Memory::regions, crate::specs::Memory::free_pages, crate::specs::Memory::class_of))]
+    /// Becomes a copy of another memory of as many pages: its bytes, what is mapped and where, what is recorded, and how words are marked.
+    #[tactic(auto, unfolding(crate::specs::Memory::place, crate::specs::Memory::byte_at, crate::specs::Memory::regions, crate::specs::Memory::free_pages, crate::specs::Memory::page_total, crate::specs::Memory::class_of))]
     pub fn copy_from(&mut self, other: &AddressMap)
+        requires { page_total self.old ≡ page_total other.now }
         ensures bytes { byte_at self.new ≡ byte_at other.now }
         ensures layout { layout self.new ≡ layout other.now }
         ensures marks { class_of self.new ≡ class_of other.now }
+        ensures total { page_total self.new ≡ page_total self.old }
     {
         let bytes = other.store.lend(0, other.store.len());
         self.store.write(0, bytes);

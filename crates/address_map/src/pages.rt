@@ -5,7 +5,7 @@ ghost use Rattle.address_map.specs.Records.{meets_record, HasNoAnchor, with_plai
 
 use crate::map::{AddressMap, MOST_FRAMES, Span};
 use arrayvec::ArrayVec;
-use raw_store::profile::memory_map::{ADDRESS_LIMIT, MOST_PAGES, PAGE_SIZE};
+use raw_store::profile::memory_map::{ADDRESS_LIMIT, PAGE_SIZE};
 
 /// How many bytes the marks of a page take, two bits for each word.
 pub(crate) const MARKS_IN_PAGE: usize = 256;
@@ -131,13 +131,6 @@ pub(crate) fn page_count() -> usize
     ensures { 4096 * result ≡ 2 ^ 26 }
 {
     (ADDRESS_LIMIT / PAGE_SIZE) as usize
-}
-
-/// How many frames a store has, whatever the memory's size: as many as the largest memory.
-pub(crate) fn most_frames() -> u32
-    ensures { result ≡ 1024 }
-{
-    MOST_PAGES
 }
 
 /// The frames of a store of that many pages, all free. The last of the list is given first, so the list goes down.

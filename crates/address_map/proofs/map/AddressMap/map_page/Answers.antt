@@ -40,7 +40,7 @@ invariant_of-self c =
     let kept = store_zeroed m c.zero.new.self (4096 * f) 4096 c.zero.ensures (omega (arith, m.frames_fit, inside, long)) in
     record {
       bytes_fit = kept.0;
-      in_limit = omega (arith, kept.1, m.in_limit);
+      in_limit = omega (arith, m.in_limit, count, long);
       marks_fit = omega (arith, kept.1, m.marks_fit, c.clear.ensures.len);
       frames_fit = omega (arith, kept.1, m.frames_fit, count, long);
       table = table_given m.frames.items free (c.args.addr / 4096) f table below none;

@@ -1,5 +1,5 @@
 use Rattle.std.proofs.Common.{◌*◌, ap, is_some, not, arith, rules}
-use Rattle.address_map.specs.Memory.{place, free_pages, regions, class_of}
+use Rattle.address_map.specs.Memory.{place, free_pages, page_total, regions, class_of}
 use Rattle.address_map.specs.Marks.{mark_in}
 use Rattle.address_map.proofs.PageTable.{no_count, no_place, table_none, zeros_fit, zeros_size}
 use Rattle.address_map.specs.Memory.{is_owned, is_plain}
@@ -8,14 +8,14 @@ use Rattle.address_map.proofs.map.AddressMap.new.Goals as goal
 pub invariant_of-result : goal.invariant_of-result
 invariant_of-result c =
     let none = c.in_ok-frames.ensures.items_if_clones_equal (search rules) in
-    let size = zeros_size c.in_ok-store.store (4096 * c.most_frames-most.result) c.in_ok-store.ensures in
+    let size = zeros_size c.in_ok-store.store (4096 * c.args.pages) c.in_ok-store.ensures in
     let free = c.all_frames.ensures in
     let few = no_count c.page_count.result in
     record {
-      bytes_fit = zeros_fit c.in_ok-store.store (4096 * c.most_frames-most.result) c.in_ok-store.ensures;
-      in_limit = omega (arith, size, c.most_frames-most.ensures);
-      marks_fit = omega (arith, size, c.in_ok-marks.ensures.count, c.most_frames-most.ensures);
-      frames_fit = rw none (omega (arith, size, free.len, few, c.requires, c.most_frames-most.ensures));
+      bytes_fit = zeros_fit c.in_ok-store.store (4096 * c.args.pages) c.in_ok-store.ensures;
+      in_limit = rw none (omega (arith, free.len, few, c.requires));
+      marks_fit = omega (arith, size, c.in_ok-marks.ensures.count);
+      frames_fit = rw none (omega (arith, size, free.len, few));
       table = table_none c.page_count.result _ _ none c.page_count.ensures (λ k d less. let fits = free.within k d less in omega (arith, fits, free.len)) free.apart;
       recorded = search rules;
     }
@@ -31,6 +31,11 @@ returns-clause-marks c a = ap (mark_in c.in_ok-marks.marks) (no_place c.page_cou
 pub returns-clause-pages : goal.returns-clause-pages
 unfolding free_pages
 returns-clause-pages c = c.all_frames.ensures.len
+
+pub returns-clause-total : goal.returns-clause-total
+unfolding page_total
+returns-clause-total c =
+    rw (c.in_ok-frames.ensures.items_if_clones_equal (search rules)) (omega (arith, c.all_frames.ensures.len, no_count c.page_count.result))
 
 pub returns-clause-regions : goal.returns-clause-regions
 unfolding regions

@@ -15,7 +15,7 @@ invariant_of-self c =
     let kept = store_written m c.write_word.new.self (word_bytes c.args.word) c.unwrap-place.result c.write_word.ensures fits (All-word_bytes c.args.word) in
     record {
       bytes_fit = kept.0;
-      in_limit = omega (arith, kept.1, m.in_limit);
+      in_limit = m.in_limit;
       marks_fit = omega (arith, kept.1, m.marks_fit);
       frames_fit = omega (arith, kept.1, m.frames_fit);
       table = m.table;

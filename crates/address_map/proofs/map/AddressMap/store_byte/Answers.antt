@@ -23,7 +23,7 @@ invariant_of-self c =
     let kept = store_written m c.write_byte.new.self (c.args.byte ∷ []) c.in_ok-place.place (c.write_byte.ensures ∙ slice_set-written m.store c.in_ok-place.place c.args.byte fits) fits (All-byte c.args.byte (omega arith)) in
     record {
       bytes_fit = kept.0;
-      in_limit = omega (arith, kept.1, m.in_limit);
+      in_limit = m.in_limit;
       marks_fit = omega (arith, kept.1, m.marks_fit);
       frames_fit = omega (arith, kept.1, m.frames_fit);
       table = m.table;

@@ -43,7 +43,7 @@ invariant_of-self c =
     let count = count_left m.frames.items m.free.items page f m.table is in
     record {
       bytes_fit = m.bytes_fit;
-      in_limit = m.in_limit;
+      in_limit = rw c.push.ensures.items (omega (arith, count, m.in_limit));
       marks_fit = m.marks_fit;
       frames_fit = rw c.push.ensures.items (omega (arith, count, m.frames_fit));
       table = rw c.push.ensures.items (table_left m.frames.items m.free.items page f m.table is);

@@ -14,7 +14,7 @@ invariant_of-self c =
     let kept = store_written m c.write.new.self c.args.bytes.now c.args.span.place c.write.ensures fits (λ k d below. rw (get_or_default c.args.bytes.now k d 0 below) (omega (arith, c.type_inv.bytes k))) in
     record {
       bytes_fit = kept.0;
-      in_limit = omega (arith, kept.1, m.in_limit);
+      in_limit = m.in_limit;
       marks_fit = omega (arith, kept.1, m.marks_fit);
       frames_fit = omega (arith, kept.1, m.frames_fit);
       table = m.table;

@@ -14,7 +14,7 @@ invariant_of-self c =
     let kept = store_zeroed m c.zero.new.self c.args.span.place c.args.len c.zero.ensures fits in
     record {
       bytes_fit = kept.0;
-      in_limit = omega (arith, kept.1, m.in_limit);
+      in_limit = m.in_limit;
       marks_fit = omega (arith, kept.1, m.marks_fit);
       frames_fit = omega (arith, kept.1, m.frames_fit);
       table = m.table;
