@@ -1,5 +1,6 @@
 pub mod Anchors
 pub mod Bytes
+pub mod Counting
 pub mod Equations
 pub mod Following
 pub mod Lanes

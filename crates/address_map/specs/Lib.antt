@@ -1,6 +1,7 @@
 pub use Rattle.raw_store
 pub mod Bytes
 pub mod Classes
+pub mod Counts
 pub mod Items
 pub mod Lent
 pub mod Marks

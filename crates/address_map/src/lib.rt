@@ -4,6 +4,7 @@
 pub mod class;
 pub mod follow;
 pub mod item;
+pub mod laws;
 pub mod lent;
 pub mod map;
 pub mod marks;
@@ -17,6 +18,7 @@ pub mod view;
 pub use class::Class;
 pub use follow::{Move, moved_to};
 pub use item::Item;
+pub use laws::pages_are_counted;
 pub use map::AddressMap;
 pub use region::{Kind, Region, do_meet};
 pub use view::View;
