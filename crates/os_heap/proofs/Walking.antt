@@ -160,3 +160,9 @@ live_passed m start end block from at free gap probes w low = record {
   rest = w.rest;
   walk = live_walked start (items_at m start) block from at free gap probes w.before w.rest w.total w.walk low;
 }
+
+-- behind a live item the last free one is the one that it was
+pub from_kept : (start block from at before free gap probes : ℕ) (items : List Item) → gap ≡ 0
+    → IsWalked start items block (last_link from before gap) at free 0 probes → IsWalked start items block from at free gap probes
+from_kept start block from at before free gap probes items none walk =
+    rw none (subst (λ (g : ℕ). IsWalked start items block (last_link from before g) at free 0 probes) none walk)

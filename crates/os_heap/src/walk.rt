@@ -1,4 +1,4 @@
-ghost use Rattle.std.specs.Prelude.{◌≡◌, ◌≤◌, ◌<◌, ◌-◌, ◌+◌};
+ghost use Rattle.std.specs.Prelude.{ℕ, ◌≡◌, ◌≤◌, ◌<◌, ◌-◌, ◌+◌};
 ghost use Rattle.address_map.specs.Bytes.{word_at};
 ghost use Rattle.address_map.specs.Memory.{byte_at};
 ghost use Rattle.os_heap_lists.specs.Counts.{begun_below};
@@ -79,6 +79,31 @@ fn pass(map: &AddressMap, heap: u32, block: u32, cursor: &Cursor) -> Cursor
     }
 }
 
+/// The walk after the live items that come next, up to a free one or to `limit`. Behind a free item it stays where it is.
+fn pass_lives(map: &AddressMap, heap: u32, block: u32, limit: u32, cursor: &Cursor) -> Cursor
+    requires heap { HasHeapAt map.now heap }
+    requires walk { HasWalked map.now heap block cursor.now }
+    requires more { limit ≤ heap + word_at (byte_at map.now) (heap + 8) }
+    requires before { (at : ℕ) → at < limit → at + 4 < block }
+    ensures walk { HasWalked map.now heap block result }
+    ensures grows { cursor.now.at ≤ result.at }
+{
+    if cursor.gap != 0 {
+        return *cursor;
+    }
+    let mut at = cursor.at;
+    let mut probes = cursor.probes;
+    while at < limit && at != cursor.free {
+        at += word(map, at);
+        probes += 1;
+    }
+    Cursor {
+        at,
+        probes,
+        ..*cursor
+    }
+}
+
 /// A walk to the item that begins at most 4 bytes before `block`, or to the base.
 fn approach(map: &AddressMap, heap: u32, block: u32) -> Cursor
     requires { HasHeapAt map.now heap }
@@ -97,6 +122,7 @@ fn approach(map: &AddressMap, heap: u32, block: u32) -> Cursor
     };
     while cursor.at < limit {
         cursor = pass(map, heap, block, &cursor);
+        cursor = pass_lives(map, heap, block, limit, &cursor);
     }
     cursor
 }
