@@ -5,6 +5,7 @@ pub mod CarriedFrames
 pub mod ErrorNumbers
 pub mod FlexCalls
 pub mod GateLemmas
+pub mod GateReturns
 pub mod Kept
 pub mod NextTurn
 pub mod OpenFrames

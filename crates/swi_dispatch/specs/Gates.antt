@@ -2,11 +2,12 @@
 -- the next, and ends; and the return gate, where module code comes back (RISC OS 3 Programmer's Reference Manual,
 -- "Modules" and "OS_Module"; frames, the gate, and that a call that gives its caller no error does nothing where there
 -- is one, are this project's own).
-use Rattle.std.specs.Prelude.{◌≡◌, ℕ, Bool, true, false, ◌==◌, ◌++◌, ◌∷◌, [], List, Option, Some, None}
+use Rattle.std.specs.Prelude.{◌≡◌, ℕ, Bool, true, false, ◌==◌, ◌&&◌, not, ◌++◌, ◌∷◌, [], List, Option, Some, None}
 use Rattle.std.specs.Prelude.{Result, Ok, Err, if◌then◌else◌}
 use Rattle.profile.specs.declared.error.ErrorNumber.{ErrorNumber}
 use Rattle.profile.specs.declared.fault.Fault.TheVariants.{FetchUnmapped, ErrorStop, StackChanged}
 use Rattle.arm_step.specs.declared.psr.Mode.TheVariants.{Supervisor}
+use Rattle.address_map.specs.Bytes.{Bytes}
 use Rattle.arm_step.specs.State.{State, register_in, register_of}
 use Rattle.instances_plans.specs.declared.code.Code.{Code}
 use Rattle.instances_plans.specs.declared.code.Outcome.{Outcome as CodeOutcome}
@@ -29,6 +30,7 @@ use Rattle.swi_dispatch.specs.Answers.{with_answer}
 use Rattle.swi_dispatch.specs.MachineState.{MachineState, Outcome, machine_world, quiet, with_world}
 use Rattle.swi_dispatch.specs.ModuleStart.{opened_at}
 use Rattle.swi_dispatch.specs.Returns.{erred, gone_back, halted}
+use Rattle.swi_dispatch_answers.specs.Errors.{error_at}
 use Rattle.swi_dispatch_answers.specs.Returns.{returned}
 use Rattle.swi_dispatch_plans.specs.Trials.{error_ahead, world_carried}
 
@@ -95,9 +97,12 @@ come_back s f = record s { cpu = left s.cpu f; tables = record s.tables { frames
 
 -- A SWI of a module goes back. Where V is set it was refused: the error is the module's own, which stands where R0
 -- points.
+abbrev pub returned_from : State → Frame → State
+returned_from cpu f = returned f.call.caller (left cpu f) cpu.psr.overflow f.call.next
+
 abbrev pub frame_closed : MachineState → Frame → MachineState
 frame_closed s f = record s {
-  cpu = returned f.call.caller (left s.cpu f) s.cpu.psr.overflow f.call.next;
+  cpu = returned_from s.cpu f;
   tables = record s.tables { frames = closed s.tables.frames };
 }
 
@@ -105,6 +110,16 @@ abbrev pub swi_left : MachineState → Frame → Outcome
 swi_left s f =
     let answered : Outcome = quiet (frame_closed s f) in
     if s.cpu.psr.overflow then erred s f.call.is_x answered else answered
+
+-- The two ways in which a SWI of a module can go back: the core is the caller's again, or its caller takes no error and
+-- there is one, of this number.
+pub record GoesBack (cpu : State) (f : Frame) (back : State) : Type 0 where
+  pub taken : (cpu.psr.overflow && not f.call.is_x) ≡ false
+  pub core : back ≡ returned_from cpu f
+
+pub record IsUntaken (cpu : State) (b : Bytes) (f : Frame) (number : ℕ) : Type 0 where
+  pub refused : (cpu.psr.overflow && not f.call.is_x) ≡ true
+  pub error : number ≡ error_at b (register_of (returned_from cpu f) 0)
 
 -- An initialisation or a finalisation with V set has refused, and its error is the R0 that it left.
 abbrev pub outcome_left : State → CodeOutcome

@@ -1,13 +1,15 @@
 //! The return gate: module code has come back.
 
-ghost use Rattle.std.specs.Prelude.{◌≡◌, false, true, Some};
+ghost use Rattle.std.specs.Prelude.{◌≡◌, false, true, Some, MatchResult};
+ghost use Rattle.address_map.specs.Memory.{bytes_of};
 ghost use Rattle.swi_dispatch_frames.specs.Busy.{is_swi};
 ghost use Rattle.swi_dispatch_frames.specs.Frames.{innermost};
-ghost use Rattle.swi_dispatch.specs.Gates.{Resumes, fault_kept, frame_left, gated, outcome_left, plan_left, swi_left};
+ghost use Rattle.swi_dispatch.specs.Gates.{GoesBack, IsUntaken, Resumes, fault_kept, gated, outcome_left, plan_left};
 
 use crate::halt::Halt;
 use crate::machine::Machine;
 use crate::module_steps::open_code;
+use address_map::AddressMap;
 use arm_step::Cpu;
 use instances_plans::{Outcome, Plan};
 use profile::Fault;
@@ -25,45 +27,20 @@ impl Machine {
         ensures after { outcome_of self.new ≡ gated (state_of self.old) }
         ensures others { OnlySteps self.old self.new }
     {
-        match self.frames.innermost() {
-            None => self.halt_with(Halt::Fault(Fault::FetchUnmapped)),
-            Some(frame) if frame.has_its_stack(&self.cpu) => self.leave_frame(frame),
-            Some(_) => self.halt_with(Halt::Fault(Fault::StackChanged)),
+        let Some(frame) = self.frames.innermost() else {
+            return self.halt_with(Halt::Fault(Fault::FetchUnmapped));
+        };
+        if !frame.has_its_stack(&self.cpu) {
+            return self.halt_with(Halt::Fault(Fault::StackChanged));
         }
-    }
-
-    fn leave_frame(&mut self, frame: Frame)
-        requires step { IsInStep self.old }
-        requires last { innermost (state_of self.old).tables.frames ≡ Some frame }
-        ensures after { let s = state_of self.old in outcome_of self.new ≡ frame_left s frame frame.kind s.tables.plan }
-        ensures others { OnlySteps self.old self.new }
-    {
-        match frame.kind {
-            FrameKind::Swi => self.leave_swi(frame),
-            FrameKind::Entry(_) => self.leave_entry(frame),
+        if let FrameKind::Entry(_) = frame.kind {
+            let frame = *frame;
+            return self.leave_entry(frame);
         }
-    }
-
-    // The innermost frame is closed, and its call goes back. Where the call was refused and its caller takes no error,
-    // nothing is changed.
-    #[tactic(auto, unfolding(os_heap::specs::Store::store_of))]
-    fn leave_swi(&mut self, frame: Frame)
-        requires step { IsInStep self.old }
-        requires last { innermost (state_of self.old).tables.frames ≡ Some frame }
-        requires swi { is_swi frame.kind ≡ true }
-        ensures after { outcome_of self.new ≡ swi_left (state_of self.old) frame }
-        ensures others { OnlySteps self.old self.new }
-    {
-        let mut cpu = self.cpu;
-        let is_refused = cpu.psr().overflow;
-        frame.leave(&mut cpu);
-        return_to(&mut cpu, frame.call.caller, is_refused, frame.call.next);
-        if is_refused && !frame.call.is_x {
-            let number = error_at(&self.memory, cpu.register(0));
-            return self.halt_with(Halt::Fault(Fault::ErrorStop(number)));
+        match leave_swi(&mut self.cpu, &self.memory, frame) {
+            Ok(()) => self.frames.close(),
+            Err(number) => self.halt_with(Halt::Fault(Fault::ErrorStop(number))),
         }
-        self.cpu = cpu;
-        self.frames.close();
     }
 
     // The call whose entry it was is carried on. Where its caller takes no error, and there is one, nothing is changed.
@@ -117,6 +94,23 @@ impl Machine {
         self.spare
             .error_after(&self.memory, &self.areas, &self.instances, plan, outcome)
     }
+}
+
+// The core goes back from a SWI of a module to its caller. Where that was refused and its caller takes no error, nothing
+// is changed, and the answer is the error's number.
+#[tactic(auto, using(crate::proofs::GateReturns::r0_kept))]
+fn leave_swi(cpu: &mut Cpu, memory: &AddressMap, frame: &Frame) -> Result<(), u32>
+    requires { is_swi frame.now.kind ≡ true }
+    ensures { MatchResult result (λ _. GoesBack cpu.old frame.now cpu.new)
+        (λ number. IsUntaken cpu.old (bytes_of memory.now) frame.now number × (cpu.new ≡ cpu.old)) }
+{
+    let is_refused = cpu.psr().overflow;
+    if is_refused && !frame.call.is_x {
+        return Err(error_at(memory, cpu.register(0)));
+    }
+    frame.leave(cpu);
+    return_to(cpu, frame.call.caller, is_refused, frame.call.next);
+    Ok(())
 }
 
 // What an entry of a module has left.

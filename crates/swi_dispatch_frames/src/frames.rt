@@ -1,4 +1,4 @@
-ghost use Rattle.std.specs.Prelude.{◌≡◌, ◌<◌, ◌≤◌, [], ◌∷◌, ◌++◌, length};
+ghost use Rattle.std.specs.Prelude.{◌≡◌, ◌<◌, ◌≤◌, [], ◌∷◌, ◌++◌, None, Some, MatchOption, length};
 ghost use Rattle.swi_dispatch_frames.specs.Frames.{innermost, closed};
 
 use crate::frame::Frame;
@@ -58,10 +58,10 @@ impl Frames {
     }
 
     /// The frame that was opened last, if one is open.
-    pub fn innermost(&self) -> Option<Frame>
-        ensures { result ≡ innermost self.now }
+    pub fn innermost(&self) -> Option<&Frame>
+        ensures { MatchOption result (innermost self.now ≡ None) (λ frame. innermost self.now ≡ Some frame.now) }
     {
-        self.table.as_slice().last().copied()
+        self.table.as_slice().last()
     }
 
     /// Closes the innermost frame, if one is open.
