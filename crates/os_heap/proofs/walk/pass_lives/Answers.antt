@@ -35,8 +35,7 @@ pub loop-at-preserved : goal.loop-at-preserved
 loop-at-preserved c =
     let f = walk_live c.args.map.now c.args.heap (end_at c.args.map.now c.args.heap) c.args.block _ _ _ _ _ c.requires.heap c.loop-at.invariant.0 (omega (arith, c.loop-at-test.true, c.requires.more)) c.if-at-cursor.true in
     let total = c.word-at.ensures ∙ f.facts.total_word in
-    let low = c.requires.before c.loop-at.at c.loop-at-test.true in
-    (
+    let low = c.requires.before c.loop-at.at c.loop-at-test.true in (
       rw total (from_kept _ _ _ _ _ _ _ _ _ c.if-cursor-ne0.false
           (live_passed c.args.map.now c.args.heap (end_at c.args.map.now c.args.heap) c.args.block _ _ _ _ _ f low)),
       omega (arith, c.loop-at.invariant.1),

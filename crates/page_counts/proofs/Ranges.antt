@@ -1,0 +1,73 @@
+-- Counts of the numbers in a range, and of those that pass one of two tests.
+use Rattle.std.proofs.Common.{◌≡◌, ℕ, zero, suc, ◌+◌, ◌*◌, ◌<◌, ◌≤◌, ◌⊎◌, true, false, refl, sym, ap, ◌∙◌, arith, inl, inr}
+use Rattle.std.specs.Prelude.{Bool, ◌||◌, if◌then◌else◌, nat_le, nat_lt}
+use Rattle.std.proofs.lemmas.Bool.{cases_lt}
+use Rattle.std.proofs.lemmas.Bool.Decides.{nat_tests}
+use Rattle.address_map.specs.Bytes.{in_range}
+use Rattle.address_map.specs.Counts.{counted}
+
+-- of two tests that no number passes both
+pub counted_either : (f g : ℕ → Bool) (n : ℕ) → ((k : ℕ) → k < n → f k ≡ true → g k ≡ false)
+    → counted (λ k. f k || g k) n ≡ counted f n + counted g n
+unfolding counted
+counted_either f g zero apart = refl
+counted_either f g (suc n) apart =
+    let first = counted_either f g n (λ k below is. apart k (omega (arith, below)) is) in
+    let last = sum (f n) (g n) (λ is. apart n (omega arith) is) in
+    omega (arith, first, last) where
+      one : Bool → ℕ
+      one b = if b then 1 else 0
+
+      sum : (a b : Bool) → (a ≡ true → b ≡ false) → (if a || b then 1 else 0) ≡ (if a then 1 else 0) + (if b then 1 else 0)
+      sum false b apart = omega arith
+      sum true b apart = rw (apart refl) refl
+
+-- below a range, within it, and above
+below : (at len k : ℕ) → k < at → in_range at len k ≡ false
+below at len k low = grind (arith, nat_tests)
+
+inside : (at len k : ℕ) → at ≤ k → k < at + len → in_range at len k ≡ true
+inside at len k low high = grind (arith, nat_tests)
+
+above : (at len k : ℕ) → at + len ≤ k → in_range at len k ≡ false
+above at len k high = grind (arith, nat_tests)
+
+counted_below : (at len n : ℕ) → n ≤ at → counted (in_range at len) n ≡ 0
+unfolding counted
+counted_below at len zero low = refl
+counted_below at len (suc n) low = rw (counted_below at len n (omega (arith, low)), below at len n (omega (arith, low))) refl
+
+at_or_below : (a n : ℕ) → a ≤ suc n → (a ≡ suc n) ⊎ (a ≤ n)
+at_or_below a n low =
+    elim (cases_lt n a) [
+      | inl less ↦ inl (omega (arith, low, less))
+      | inr more ↦ inr more
+    ]
+
+counted_inside : (at len n : ℕ) → at ≤ n → n ≤ at + len → counted (in_range at len) n + at ≡ n
+unfolding counted
+counted_inside at len zero low high = omega (arith, low)
+counted_inside at len (suc n) low high =
+    elim (at_or_below at n low) [
+      | inl is ↦
+          let none = counted_below at len n (omega (arith, is)) in
+          let last = below at len n (omega (arith, is)) in
+          rw (none, last) (omega (arith, is))
+      | inr there ↦
+          let some = counted_inside at len n there (omega (arith, high)) in
+          let last = inside at len n there (omega (arith, high)) in
+          rw last (omega (arith, some))
+    ]
+
+pub counted_range : (at len n : ℕ) → at + len ≤ n → counted (in_range at len) n ≡ len
+unfolding counted
+counted_range at len zero high = omega (arith, high)
+counted_range at len (suc n) high =
+    elim (at_or_below (at + len) n high) [
+      | inl is ↦ omega (arith, counted_inside at len (suc n) (omega (arith, is)) (omega (arith, is)), is)
+      | inr there ↦ rw (above at len n there) (omega (arith, counted_range at len n there))
+    ]
+
+-- pages of a range of whole pages
+pub page_in_range : (base count page : ℕ) → in_range (4096 * base) (4096 * count) (4096 * page) ≡ in_range base count page
+page_in_range base count page = grind (arith, nat_tests)
