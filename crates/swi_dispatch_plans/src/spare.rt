@@ -12,6 +12,7 @@ ghost use Rattle.swi_dispatch_plans.specs.Trials.{error_ahead};
 use address_map::AddressMap;
 use instances_ground::dynamic_areas::Areas;
 use instances_plans::{Ended, Outcome, Plan};
+use page_counts::areas_count_pages;
 use profile::Config;
 use std::alloc::{AllocError, Global};
 use std::marker::Model;
@@ -75,6 +76,7 @@ impl Spare {
         ensures error { result ≡ error_ahead (world_of memory.now areas.now instances.now) (settled plan.now outcome) }
         ensures same { self.new ≡ self.old }
     {
+        areas_count_pages();
         self.memory.copy_from(memory);
         self.instances.copy_from(instances);
         let mut plan = plan.copied();

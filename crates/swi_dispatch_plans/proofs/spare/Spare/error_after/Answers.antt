@@ -17,24 +17,24 @@ carry-code-requires-clause-classes c =
     let copy = c.copy_from.ensures in
     copied_classes c.args.memory.now c.copy_from.new.self copy.bytes copy.layout copy.marks c.requires.going.world.estate.ground.sound c.requires.classes
 
-pub returns-then-is_some : goal.returns-then-is_some
-returns-then-is_some c =
+pub returns-then-is_some-clause-error : goal.returns-then-is_some-clause-error
+returns-then-is_some-clause-error c =
     let copy = c.copy_from.ensures in
     let world = copied_world c.args.memory.now c.copy_from.new.self c.args.areas.now c.args.instances.now c.copy_from-2.new.self copy.bytes copy.layout copy.marks
     c.requires.going.world.estate.ground.sound c.copy_from-2.ensures in
     error_in_code _ _ _ _ _ (tried _ _ _ _ _ _ world c.copied-plan.ensures c.carry-code.ensures.carried) (sym c.is_some.ensures ∙ c.if-is_some.true)
 
-pub returns-in-Own : goal.returns-in-Own
+pub returns-in-Own-clause-error : goal.returns-in-Own-clause-error
 unfolding store_of
-returns-in-Own c =
+returns-in-Own-clause-error c =
     let copy = c.copy_from.ensures in
     let world = copied_world c.args.memory.now c.copy_from.new.self c.args.areas.now c.args.instances.now c.copy_from-2.new.self copy.bytes copy.layout copy.marks
     c.requires.going.world.estate.ground.sound c.copy_from-2.ensures in
     error_at_end _ _ _ _ _ _ _ (tried _ _ _ _ _ _ world c.copied-plan.ensures c.carry-code.ensures.carried) (sym c.is_some.ensures ∙ c.if-is_some.false)
     (sym c.end.ensures ∙ c.in-Own.is) c.error_at.ensures
 
-pub returns-in-Well : goal.returns-in-Well
-returns-in-Well c =
+pub returns-in-Well-clause-error : goal.returns-in-Well-clause-error
+returns-in-Well-clause-error c =
     let copy = c.copy_from.ensures in
     let world = copied_world c.args.memory.now c.copy_from.new.self c.args.areas.now c.args.instances.now c.copy_from-2.new.self copy.bytes copy.layout copy.marks
     c.requires.going.world.estate.ground.sound c.copy_from-2.ensures in
