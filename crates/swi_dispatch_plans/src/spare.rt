@@ -2,7 +2,6 @@
 //! error.
 
 ghost use Rattle.std.specs.Prelude.{◌≡◌, IfOk};
-ghost use Rattle.address_map.specs.Memory.{page_total};
 ghost use Rattle.os_heap.specs.Store.{AreClasses};
 ghost use Rattle.instances_plans.specs.Plans.{settled};
 ghost use Rattle.instances_ground.specs.World.{world_of};
@@ -28,7 +27,9 @@ pub struct Spare {
 }
 
 impl Model for Spare {
+    ghost use Rattle.std.specs.Prelude.{◌≡◌};
     ghost use Rattle.profile.specs.Sizes.{Sizes};
+    ghost use Rattle.address_map.specs.Memory.{page_total};
 
     ghost Value = { Sizes };
 

@@ -4,6 +4,7 @@ use Rattle.instances_ground.specs.World.{World}
 use Rattle.swi_dispatch_modules.specs.instances.specs.Turns.{IsUnderWay}
 use Rattle.swi_dispatch_plans.proofs.Trials.{copied_classes, copied_world, error_at_end, error_in_code, no_error_at_end, tried}
 use Rattle.swi_dispatch_plans.proofs.spare.Spare.error_after.Goals as goal
+use Rattle.swi_dispatch_plans.proofs.spare.Spare.error_after.Goals.{in-Own, in-Well}
 
 pub carry-code-requires-clause-going : goal.carry-code-requires-clause-going
 carry-code-requires-clause-going c =
@@ -24,19 +25,15 @@ returns-then-is_some-clause-error c =
     c.requires.going.world.estate.ground.sound c.copy_from-2.ensures in
     error_in_code _ _ _ _ _ (tried _ _ _ _ _ _ world c.copied-plan.ensures c.carry-code.ensures.carried) (sym c.is_some.ensures ∙ c.if-is_some.true)
 
-pub returns-in-Own-clause-error : goal.returns-in-Own-clause-error
+pub returns-clause-error : goal.returns-clause-error
 unfolding store_of
-returns-in-Own-clause-error c =
+returns-clause-error c =
     let copy = c.copy_from.ensures in
     let world = copied_world c.args.memory.now c.copy_from.new.self c.args.areas.now c.args.instances.now c.copy_from-2.new.self copy.bytes copy.layout copy.marks
     c.requires.going.world.estate.ground.sound c.copy_from-2.ensures in
-    error_at_end _ _ _ _ _ _ _ (tried _ _ _ _ _ _ world c.copied-plan.ensures c.carry-code.ensures.carried) (sym c.is_some.ensures ∙ c.if-is_some.false)
-    (sym c.end.ensures ∙ c.in-Own.is) c.error_at.ensures
-
-pub returns-in-Well-clause-error : goal.returns-in-Well-clause-error
-returns-in-Well-clause-error c =
-    let copy = c.copy_from.ensures in
-    let world = copied_world c.args.memory.now c.copy_from.new.self c.args.areas.now c.args.instances.now c.copy_from-2.new.self copy.bytes copy.layout copy.marks
-    c.requires.going.world.estate.ground.sound c.copy_from-2.ensures in
-    no_error_at_end _ _ _ _ _ _ (tried _ _ _ _ _ _ world c.copied-plan.ensures c.carry-code.ensures.carried) (sym c.is_some.ensures ∙ c.if-is_some.false)
-    c.end.ensures c.in-Well.is
+    let tried = tried _ _ _ _ _ _ world c.copied-plan.ensures c.carry-code.ensures.carried in
+    let none = sym c.is_some.ensures ∙ c.if-is_some.false in
+    elim c.match-end.branch [
+      | in-Own w ↦ w.result-is ∙ error_at_end _ _ _ _ _ _ _ tried none (sym c.end.ensures ∙ w.in-Own.is) w.error_at.ensures
+      | in-Well w ↦ w.result-is ∙ no_error_at_end _ _ _ _ _ _ tried none c.end.ensures w.in-Well.is
+    ]
