@@ -132,7 +132,7 @@ impl Machine {
         if !self.is_fresh {
             return Err(BootError::Booted);
         }
-        if program.len() > (PAGE_SIZE * self.spare.sizes().app()) as usize {
+        if program.len() > (PAGE_SIZE * self.spare.app()) as usize {
             return Err(BootError::TooLarge);
         }
         self.memory.put_bytes(APPLICATION_START, program);

@@ -2,6 +2,7 @@
 //! error.
 
 ghost use Rattle.std.specs.Prelude.{◌≡◌, IfOk};
+ghost use Rattle.profile.specs.Sizes.{AreGood};
 ghost use Rattle.os_heap.specs.Store.{AreClasses};
 ghost use Rattle.instances_plans.specs.Plans.{settled};
 ghost use Rattle.instances_ground.specs.World.{world_of};
@@ -54,11 +55,12 @@ impl Spare {
         })
     }
 
-    /// The sizes of the machine that it is for.
-    pub fn sizes(&self) -> Config
-        ensures { result ≡ self.now }
+    /// The pages of the application space of the machine that it is for.
+    pub fn app(&self) -> u32
+        ensures value { result ≡ self.now.app }
+        ensures sizes { AreGood self.now }
     {
-        self.sizes
+        self.sizes.app()
     }
 
     /// The number of the error that a call ends with whose entry comes back with an outcome, if it ends so before more

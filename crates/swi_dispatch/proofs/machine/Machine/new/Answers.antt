@@ -1,4 +1,5 @@
-use Rattle.std.proofs.Common.{refl}
+use Rattle.std.proofs.Common.{refl, ap, sym, ◌∙◌}
+use Rattle.dynamic_areas.specs.Areas.{Land}
 use Rattle.flex_ground.proofs.Kept.{flex_started}
 use Rattle.swi_dispatch.proofs.OpenFrames.{frames_none}
 use Rattle.swi_dispatch.proofs.Starting.{start_modules, starts, system_recorded}
@@ -14,7 +15,8 @@ invariant_of-result c =
       modules = rw (c.new-3.ensures.land, c.new-4.ensures) (start_modules _ c.args.config memory.store memory.areas);
       frames = frames_none _ refl c.new-5.ensures;
       flex = flex_started _ c.args.config _ memory.store c.new-6.ensures;
-      fresh = λ _. rw (c.new.ensures, c.new-3.ensures.land, c.new-4.ensures, c.new-5.ensures, c.new-6.ensures) (starts _ _ memory.store memory.areas);
+      fresh = λ _. rw (c.in_ok-new.ensures, c.new.ensures, c.new-3.ensures.land, c.new-4.ensures, c.new-5.ensures, c.new-6.ensures) (starts _ _ memory.store memory.areas);
+      sized = ap (λ (l : Land). l.sizes) c.new-3.ensures.land ∙ sym c.in_ok-new.ensures;
     }
 
 pub returns-clause-start : goal.returns-clause-start
@@ -32,5 +34,6 @@ returns-clause-well_formed c =
       modules = rw (c.new-3.ensures.land, c.new-4.ensures) (start_modules _ c.args.config memory.store memory.areas);
       frames = frames_none _ refl c.new-5.ensures;
       flex = flex_started _ c.args.config _ memory.store c.new-6.ensures;
-      fresh = λ _. rw (c.new.ensures, c.new-3.ensures.land, c.new-4.ensures, c.new-5.ensures, c.new-6.ensures) (starts _ _ memory.store memory.areas);
+      fresh = λ _. rw (c.in_ok-new.ensures, c.new.ensures, c.new-3.ensures.land, c.new-4.ensures, c.new-5.ensures, c.new-6.ensures) (starts _ _ memory.store memory.areas);
+      sized = ap (λ (l : Land). l.sizes) c.new-3.ensures.land ∙ sym c.in_ok-new.ensures;
     }
