@@ -1,6 +1,6 @@
 -- How a page goes on, and what its first line stands on.
 use Rattle.std.proofs.Common.{◌≡◌, ◌≤◌, ◌<◌, ◌+◌, ◌-◌, ℕ, ◌⊎◌, zero, suc, List, [], ◌∷◌, ◌++◌, length, take, drop, get_or, Bool, true, false, Option, Some, None, eqb}
-use Rattle.std.proofs.Common.{refl, ap, sym, ◌∙◌, subst, arith, length-append, inl, inr}
+use Rattle.std.proofs.Common.{refl, ap, sym, ◌∙◌, subst, arith, length-append, length-drop, inl, inr}
 use Rattle.std.proofs.lemmas.List.{append-nil, take-append-drop, take-append-le, take_all, at_drop_more, at_drop_all}
 use denote.Ref.{Bor}
 use Rattle.std.proofs.lemmas.Bool.{cases_lt}
@@ -70,14 +70,18 @@ page_more text old new front rest lines before after answer one split more page 
     (one_more text old one.entry front lines (split ∙ ap (λ (xs : List ℕ). front ++ xs) (sym one.own_lines))
     (sym now ∙ more ∙ ap (λ (xs : List ℕ). xs ++ answer) is ∙ ap (λ (xs : List ℕ). text front ++ xs) (sym one.own_answer)) page)
 
+behind_place : (end : ℕ) (lines : List ℕ) → take (length lines - end) (drop end lines) ≡ drop end lines
+behind_place end lines = take_all (length lines - end) (drop end lines) (omega (arith, length-drop end lines))
+
 -- the lines behind a place, and what is answered behind
-pub goes_by_one : (old new : List Entry) (end : ℕ) (rest lines before after answer : List ℕ)
-    → OneMore old new rest answer → rest ≡ drop end lines → after ≡ before ++ answer
+pub goes_by_one : (old new : List Entry) (end : ℕ) (lines before after answer : List ℕ)
+    → OneMore old new (take (length lines - end) (drop end lines)) answer → after ≡ before ++ answer
     → GoesOn old new (take end lines) lines before after
 unfolding GoesOn
-goes_by_one old new end rest lines before after answer one behind more =
+goes_by_one old new end lines before after answer one more =
+    let rest = take (length lines - end) (drop end lines) in
     let split : lines ≡ take end lines ++ rest =
-    sym (take-append-drop end lines) ∙ ap (λ (xs : List ℕ). take end lines ++ xs) (sym behind) in
+    sym (take-append-drop end lines) ∙ ap (λ (xs : List ℕ). take end lines ++ xs) (sym (behind_place end lines)) in
     λ text page is now. page_more text old new (take end lines) rest lines before after answer one split more page is now
 
 -- all of it in one
@@ -156,7 +160,7 @@ pub numbers_end : (number : ℕ) (entries : List Entry) (place : ℕ) → length
     → numbers_from number (drop place entries) ≡ []
 numbers_end number entries place all = at_drop_all (numbers_from number) entries place all
 
-pub ruleset entry_steps = (goes_by_one, goes_at_once)
+pub ruleset entry_steps = (goes_at_once)
 
 pub ruleset page_steps = (page_of_none, goes_on, page_whole)
 

@@ -53,7 +53,6 @@ fn has_picture(shown: &Shown<'_>) -> bool
     !shown.picture.is_empty()
 }
 
-#[tactic(auto, unfolding(crate::specs::TextPage::legend))]
 fn push_legend<W: Sink>(sink: &mut W) -> Result<(), WriteFault>
     ensures { Writes W.contents W.has_failed sink.old sink.new result legend }
 {
@@ -64,7 +63,8 @@ fn push_legend<W: Sink>(sink: &mut W) -> Result<(), WriteFault>
     push_all(
         sink,
         b"       p page pool, w private word, ^ under what has changed\n",
-    )
+    )?;
+    Ok(())
 }
 
 fn push_entry<W: Sink>(sink: &mut W, shown: &Shown<'_>) -> Result<(), WriteFault>
