@@ -1,13 +1,15 @@
 -- The images of the files one after another, and the whole run.
-use Rattle.std.proofs.Common.{◌≡◌, ◌++◌, ◌∷◌, [], ◌+◌, ℕ, List, take, slice_get, Option, None, Some, IfSome, refl, sym, ◌∙◌, ap, rw, subst}
+use Rattle.std.proofs.Common.{◌≡◌, ◌++◌, ◌∷◌, [], ◌+◌, ℕ, List, take, slice_get, Option, None, Some, IfSome, refl, sym, ◌∙◌, ap, subst}
 use Rattle.std.proofs.lemmas.List.{map-append, take_more}
 use Rattle.std.proofs.lemmas.Option.{get_or_from_slice_get, slice_get_within}
+use Rattle.std.specs.Io.KnownBytes.{Appends, Keeps}
 use Rattle.std.specs.Path.{path_file_name}
 use Rattle.profile.specs.declared.stop.Stop.{Stop}
 use Rattle.rosm_settings.specs.ImageFiles.{names_for}
-use Rattle.script_page.specs.Page.{IsPage}
+use Rattle.script_page.specs.Page.{AreShown, IsPage}
 use Rattle.script_page.specs.Setting.{told_by}
-use Rattle.script_page.specs.Writing.{IsWritten}
+use Rattle.script_page.specs.Writing.{page_text, IsWritten}
+use Rattle.script_page.specs.declared.form.Form.{Form}
 use Rattle.script_page.specs.declared.entry.Entry.{Entry}
 use Rattle.script_page.specs.declared.setting.Setting.{Setting}
 use Rattle.rosm_show.specs.Showing.{names_in, ShowsPage}
@@ -38,6 +40,26 @@ known_stop : (setting : Setting) (bytes : List ℕ) (last : Option Stop) (script
     → IfSome script (λ told. last ≡ (told_by setting told).state.last)
 known_stop setting bytes last None is stop = tt
 known_stop setting bytes last (Some told) is stop = stop ∙ ap (λ b. (told_by setting b).state.last) is
+
+-- a writer that hands on what it holds back
+appends_kept : (a b c : Option (List ℕ)) (xs : List ℕ) → Appends a b xs → Keeps b c → Appends a c xs
+appends_kept None b c xs h k = tt
+appends_kept (Some a) None c xs h k = absurd h
+appends_kept (Some a) (Some b) None xs h k = absurd k
+appends_kept (Some a) (Some b) (Some c) xs h k = k ∙ h
+
+-- the page of the entries that were lent is that of the entries
+pub written_kept : (front back : List ℕ) (form : Form) (lent entries : List Entry) (before between after : Option (List ℕ))
+    → lent ≡ entries → IsWritten front back form lent before between → Keeps between after
+    → IsWritten front back form entries before after
+written_kept front back form lent entries before between after same written kept =
+    let P : List Entry → Type 0 = λ es. AreShown form es written.shown in
+    record {
+      shown = written.shown;
+      of_entries = subst P same written.of_entries;
+      text = appends_kept before between after (page_text front back form entries written.shown)
+          (subst (λ (es : List Entry). Appends before between (page_text front back form es written.shown)) same written.text) kept;
+    }
 
 pub shows_page : (front back : List ℕ) (wanted : Wanted) (script before after : Option (List ℕ)) (last : Option Stop)
     (setting : Setting) (bytes : List ℕ) (entries : List Entry)

@@ -1,6 +1,6 @@
 //! The words that ask for the form of a page.
 
-ghost use Rattle.std.specs.Prelude.{◌≡◌, map, IfOk};
+ghost use Rattle.std.specs.Prelude.{◌≡◌, false, map, IfOk};
 ghost use Rattle.rosm_show.specs.Words.{ends_options, form_asked, forms_from, others_from};
 ghost use Rattle.rosm_show.specs.Words.{form_at as form_asked_at};
 ghost use Rattle.rosm_show.specs.Words.{form_of as form_told};

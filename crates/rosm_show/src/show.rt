@@ -1,6 +1,6 @@
 //! The page of a script: from a reader to a writer.
 
-ghost use Rattle.std.specs.Prelude.{◌≡◌, ◌<◌, false, true, Err, Some, IfOk, OnOk, map};
+ghost use Rattle.std.specs.Prelude.{◌≡◌, ◌<◌, false, true, Err, Some, IfOk, IfSome, OnOk, map};
 ghost use Rattle.std.specs.Path.{path_file_name};
 ghost use Rattle.profile.specs.Devices.{device_failed, device_inner};
 ghost use Rattle.rosm_settings.specs.ImageFiles.{names_for};
@@ -27,7 +27,6 @@ use std::path::Path;
 /// # Errors
 ///
 /// As of the program `rosm`; nothing is written before the last line is answered.
-#[tactic(auto, using(crate::proofs::ShowLemmas::shows_page))]
 pub fn show<'a, F, R, W>(
     files: &F,
     wanted: &'a Wanted,
@@ -51,13 +50,20 @@ where
         config: wanted.settings.config,
         budget: wanted.settings.budget,
     };
-    let script = read_script(alloc, reader).map_err(RunError::from)?;
+    let script = script_of(alloc, reader)?;
     let page = page_of(alloc, script.as_slice(), &setting)?;
     push_page(alloc, writer, page.entries.as_slice(), wanted.form)?;
     match writer.flush() {
         Ok(()) => Ok(page.last),
         Err(_) => Err(Refusal::Script(RunError::WriteFault)),
     }
+}
+
+// The script, read whole.
+fn script_of<R: Source>(alloc: Global, reader: &mut R) -> Result<Vec<u8>, RunError>
+    ensures { IfOk result (λ script. IfSome (R.remaining reader.old) (λ told. script.items ≡ told)) }
+{
+    Ok(read_script(alloc, reader)?)
 }
 
 fn take_files<'a, F>(files: &F, wanted: &'a Wanted, images: &mut Images) -> Result<(), Refusal<'a>>
@@ -72,7 +78,6 @@ where
 }
 
 // The images of the files, each under the last part of its path.
-#[tactic(auto, using(crate::proofs::ShowLemmas::named_more))]
 fn named_images<'a, 'f: 'a>(
     alloc: Global,
     files: &'f Files,

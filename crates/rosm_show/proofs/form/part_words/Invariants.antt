@@ -1,4 +1,4 @@
-use Rattle.std.proofs.Common.{◌≡◌, ◌++◌, drop, map}
+use Rattle.std.proofs.Common.{◌≡◌, ◌++◌, drop, false, map}
 use Rattle.rosm_show.specs.Words.{forms_from, others_from}
 use Rattle.rosm_show.proofs.form.part_words.Given as goal
 
