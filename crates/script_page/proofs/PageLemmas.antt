@@ -1,5 +1,5 @@
 -- How a page goes on, and what its first line stands on.
-use Rattle.std.proofs.Common.{◌≡◌, ◌≤◌, ◌<◌, ◌+◌, ◌-◌, ℕ, ◌⊎◌, zero, suc, List, [], ◌∷◌, ◌++◌, length, take, drop, get_or, Bool, true, false, Option, Some, None, eqb}
+use Rattle.std.proofs.Common.{◌≡◌, ◌≤◌, ◌<◌, ◌+◌, ◌-◌, ℕ, ◌⊎◌, zero, suc, List, [], ◌∷◌, ◌++◌, length, take, drop, get_or, true, false, Option, Some, None, eqb}
 use Rattle.std.proofs.Common.{refl, ap, sym, ◌∙◌, subst, arith, length-append, length-drop, inl, inr}
 use Rattle.std.proofs.lemmas.List.{append-nil, take-append-drop, take-append-le, take_all, at_drop_more, at_drop_all}
 use denote.Ref.{Bor}
@@ -9,10 +9,8 @@ use Rattle.std.proofs.lemmas.Slice.Eq.{strip_prefix_is}
 use Rattle.std.proofs.lemmas.Grind.{flat_map-append}
 use Rattle.std.specs.Prelude.{IfSome, MatchOption}
 use Rattle.std.specs.Cmp.Lexicographic.{pointwise}
-use Rattle.std.specs.List.{flat_map}
 use Rattle.std.specs.Str.Lines.{lines}
 use Rattle.command_shell.specs.Script.{lines_told, script_told}
-use Rattle.command_shell.proofs.ScriptLemmas.{text_end}
 use Rattle.script_page.specs.Page.{answers_of, lines_of, number_after, numbers_from, GoesOn, IsPageBy, IsPage, OneMore}
 use Rattle.script_page.specs.Setting.{told_by}
 use Rattle.script_page.specs.declared.entry.Entry.{Entry}

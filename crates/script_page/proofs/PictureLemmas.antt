@@ -1,5 +1,5 @@
 -- A picture of what an answer tells.
-use Rattle.std.proofs.Common.{◌≡◌, ◌⊎◌, ◌++◌, ℕ, List, [], map, inl, inr, sym, subst, Option}
+use Rattle.std.proofs.Common.{◌≡◌, ◌++◌, ℕ, List, [], map, inl, inr, sym, subst, Option}
 use Rattle.std.specs.Io.KnownBytes.{Appends}
 use Rattle.view_pictures.specs.Boxes.{place_of, places_told}
 use Rattle.view_pictures.specs.Items.{items_text}
@@ -10,7 +10,7 @@ use Rattle.view_pictures.specs.declared.items.Item.{Item}
 use Rattle.view_pictures.specs.declared.layout.Drawn.{Drawn}
 use Rattle.view_pictures.specs.declared.layout.Layout.{Layout}
 use Rattle.view_pictures.specs.declared.rows.GridRow.{GridRow}
-use Rattle.script_page.specs.Pictures.{boxes_text, rows_text, IsOfBoxes, IsOfRows, IsPicture}
+use Rattle.script_page.specs.Pictures.{boxes_text, rows_text, IsPicture}
 use Rattle.script_page.specs.Page.{AreShown, ShowsItsAnswer}
 use Rattle.script_page.specs.Writing.{page_text, IsWritten}
 use Rattle.script_page.specs.declared.entry.Entry.{Entry}

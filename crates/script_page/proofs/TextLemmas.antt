@@ -1,5 +1,5 @@
 -- How a loop writes a text, and how the meaning of the signs is written in two parts.
-use Rattle.std.proofs.Common.{ℕ, List, ◌++◌, Option}
+use Rattle.std.proofs.Common.{ℕ, List, Option}
 use Rattle.std.specs.Prelude.{codes}
 use Rattle.std.specs.Io.KnownBytes.{Appends}
 use Rattle.profile.proofs.OutputLemmas.{Appends-join}

@@ -1,5 +1,5 @@
 -- A page as a transcript, which a program can run again and compare.
-use Rattle.std.specs.Prelude.{ℕ, ◌==◌, ◌||◌, Bool, true, false, List, [], ◌∷◌, ◌++◌, codes, if◌then◌else◌}
+use Rattle.std.specs.Prelude.{ℕ, ◌==◌, ◌||◌, Bool, true, List, [], ◌∷◌, ◌++◌, codes, if◌then◌else◌}
 use Rattle.std.specs.List.{flat_map}
 use Rattle.view_pictures.specs.Spelt.{spelt}
 use Rattle.script_page.specs.declared.entry.Entry.{Entry}
