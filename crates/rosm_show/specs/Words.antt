@@ -1,5 +1,5 @@
 -- The words of the program: those that ask for a form of the page, and all others, which are the words of `rosm`.
-use Rattle.std.specs.Prelude.{ℕ, ◌||◌, Bool, true, false, List, [], ◌∷◌, Option, Some, None, codes, if◌then◌else◌}
+use Rattle.std.specs.Prelude.{ℕ, ◌||◌, Bool, List, [], ◌∷◌, Option, Some, None, codes, if◌then◌else◌}
 use Rattle.std.specs.Str.{bytes_eq}
 use Rattle.script_page.specs.declared.form.Form.{Form}
 use Rattle.script_page.specs.declared.form.Form.TheVariants as form
