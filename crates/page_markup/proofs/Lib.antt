@@ -1,0 +1,3 @@
+pub mod EscapeLemmas
+pub mod GridLemmas
+pub mod SvgLemmas

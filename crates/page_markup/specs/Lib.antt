@@ -1,0 +1,4 @@
+pub mod Escape
+pub mod Grid
+pub mod Markup
+pub mod Svg

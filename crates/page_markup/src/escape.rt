@@ -1,0 +1,40 @@
+//! Bytes as they stand in HTML.
+
+ghost use Rattle.std.specs.Prelude.{◌≡◌, true};
+ghost use Rattle.profile.specs.Output.{Writes};
+ghost use Rattle.page_markup.specs.Escape.{are_bytes, escaped, escaped_byte, has_no_tag, shown};
+
+use profile::{Sink, WriteFault, push_all};
+use view_pictures::digit;
+
+/// Writes bytes so that HTML shows them and takes nothing in them for its own. `<`, `>`, `&` and `"`
+/// become references by their number; a byte that is no character to show, its two digits in
+/// hexadecimal between `⟨` and `⟩`. Line feeds stay.
+#[tactic(auto, using(crate::proofs::EscapeLemmas::escape_steps))]
+pub fn push_escaped<W: Sink>(sink: &mut W, bytes: &[u8]) -> Result<(), WriteFault>
+    ensures writes { Writes W.contents W.has_failed sink.old sink.new result (escaped bytes.now) }
+    ensures no_tag { are_bytes bytes.now ≡ true → has_no_tag (escaped bytes.now) ≡ true }
+    ensures back { are_bytes bytes.now ≡ true → shown (escaped bytes.now) ≡ bytes.now }
+{
+    for byte in bytes {
+        push_byte(sink, *byte)?;
+    }
+    Ok(())
+}
+
+fn push_byte<W: Sink>(sink: &mut W, byte: u8) -> Result<(), WriteFault>
+    ensures { Writes W.contents W.has_failed sink.old sink.new result (escaped_byte byte) }
+{
+    let high = digit(byte / 16);
+    let low = digit(byte % 16);
+    match byte {
+        b'<' | b'>' | b'&' | b'"' => push_all(sink, &[b'&', b'#', b'x', high, low, b';']),
+        b'\n' | b' '..=b'~' => push_all(sink, &[byte]),
+        _ => push_all(
+            sink,
+            &[
+                b'&', b'l', b'a', b'n', b'g', b';', high, low, b'&', b'r', b'a', b'n', b'g', b';',
+            ],
+        ),
+    }
+}

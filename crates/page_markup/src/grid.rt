@@ -1,0 +1,89 @@
+//! A view of memory as SVG: a grid of bytes.
+
+ghost use Rattle.std.specs.Prelude.{◌≡◌, ◌<◌};
+ghost use Rattle.std.specs.List.{flat_map};
+ghost use Rattle.profile.specs.Output.{Writes};
+ghost use Rattle.page_markup.specs.Grid.{cell_class, cell_svg, cells, grid_svg, row_svg, shown_svg};
+
+use crate::markup::{push_rectangle, push_text};
+use crate::svg::{push_address, push_head};
+use profile::{Sink, WriteFault, push_all};
+use view_pictures::{GridRow, is_changed, shown_byte, top_of};
+
+const CELL_WIDTH: u64 = 19;
+
+/// Writes the rows as SVG.
+pub fn push_grid<W: Sink>(sink: &mut W, rows: &[GridRow<'_>]) -> Result<(), WriteFault>
+    ensures { Writes W.contents W.has_failed sink.old sink.new result (grid_svg rows.now) }
+{
+    push_head(sink, u64::from(top_of(rows.len())) + 8)?;
+    push_rows(sink, rows)?;
+    push_all(sink, b"</svg>")
+}
+
+#[tactic(auto, using(crate::proofs::EscapeLemmas::escape_steps))]
+fn push_rows<W: Sink>(sink: &mut W, rows: &[GridRow<'_>]) -> Result<(), WriteFault>
+    ensures { Writes W.contents W.has_failed sink.old sink.new result (flat_map row_svg rows.now) }
+{
+    for row in rows {
+        push_row(sink, row)?;
+    }
+    Ok(())
+}
+
+fn push_row<W: Sink>(sink: &mut W, row: &GridRow<'_>) -> Result<(), WriteFault>
+    ensures { Writes W.contents W.has_failed sink.old sink.new result (row_svg row.now) }
+{
+    push_address(sink, row.address, u64::from(row.top) + 16)?;
+    push_cells(sink, row)?;
+    push_all(sink, b"\n")
+}
+
+#[tactic(auto, using(crate::proofs::GridLemmas::cell_steps))]
+fn push_cells<W: Sink>(sink: &mut W, row: &GridRow<'_>) -> Result<(), WriteFault>
+    ensures { Writes W.contents W.has_failed sink.old sink.new result (cells 16 (cell_svg row.now) 0) }
+{
+    for number in 0..16usize {
+        push_cell(sink, row, number)?;
+    }
+    Ok(())
+}
+
+fn push_cell<W: Sink>(sink: &mut W, row: &GridRow<'_>, number: usize) -> Result<(), WriteFault>
+    requires { number < 16 }
+    ensures { Writes W.contents W.has_failed sink.old sink.new result (cell_svg row.now number) }
+{
+    match shown_byte(number, row.bytes) {
+        Some(byte) => push_shown(sink, row, number, byte),
+        None => Ok(()),
+    }
+}
+
+fn push_shown<W: Sink>(
+    sink: &mut W,
+    row: &GridRow<'_>,
+    number: usize,
+    byte: &[u8],
+) -> Result<(), WriteFault>
+    requires { number < 16 }
+    ensures { Writes W.contents W.has_failed sink.old sink.new result (shown_svg row.now number byte.now) }
+{
+    let left = 74 + CELL_WIDTH * number as u64;
+    let top = u64::from(row.top);
+    push_rectangle(sink, cell_class(byte), left, top, CELL_WIDTH, 24)?;
+    push_text(sink, b"byte", left + 9, top + 16, byte)?;
+    if is_changed(number, row) {
+        push_rectangle(sink, b"change", left + 2, top + 2, 15, 20)?;
+    }
+    Ok(())
+}
+
+fn cell_class(byte: &[u8]) -> &'static [u8]
+    ensures { result.now ≡ cell_class byte.now }
+{
+    if byte == b"--".as_slice() {
+        b"unmapped"
+    } else {
+        b"byte"
+    }
+}

@@ -1,0 +1,11 @@
+//! Bytes and pictures as they stand in an HTML file: bytes escaped, boxes and rows of memory as SVG.
+#![tactic(auto)]
+
+pub mod escape;
+pub mod grid;
+pub mod markup;
+pub mod svg;
+
+pub use escape::push_escaped;
+pub use grid::push_grid;
+pub use svg::push_svg;

@@ -1,0 +1,45 @@
+-- The words that are left, one after another.
+use Rattle.std.proofs.Common.{◌≡◌, ◌≤◌, ◌<◌, ◌+◌, ℕ, Bool, false, List, [], length, get_or, drop, map, Option, None, Result, sym, ap, subst, ◌∙◌}
+use Rattle.std.specs.Prelude.{◌||◌}
+use Rattle.std.proofs.lemmas.List.{at_drop_more, at_drop_all}
+use denote.Ref.{Bor}
+use Rattle.script_page.specs.declared.form.Form.{Form}
+use Rattle.command_line.specs.Settings.{settings_for}
+use Rattle.command_line.specs.declared.options.Settings.{Settings}
+use Rattle.command_line.specs.declared.options.SettingsError.{SettingsError}
+use Rattle.rosm_show.specs.Endings.{IsRefusalBy, IsRefusalOf}
+use Rattle.rosm_show.specs.Words.{and_form, and_other, ends_options, form_at, form_of, forms_from, others_from}
+use Rattle.rosm_show.specs.declared.refusal.Refusal.{Refusal}
+
+abbrev texts : List (Bor (List ℕ)) → List (List ℕ)
+texts words = map (λ (w : Bor (List ℕ)). w.now) words
+
+pub forms_more : (are : Bool) (words : List (Bor (List ℕ))) (place : ℕ) (d : Bor (List ℕ)) → place < length words
+    → forms_from are (texts (drop place words))
+    ≡ and_form (form_at (are || ends_options (get_or words place d).now) (get_or words place d).now)
+    (forms_from (are || ends_options (get_or words place d).now) (texts (drop (place + 1) words)))
+forms_more are words place d within = at_drop_more (λ (ws : List (Bor (List ℕ))). forms_from are (texts ws)) words place d within
+
+pub forms_end : (are : Bool) (words : List (Bor (List ℕ))) (place : ℕ) → length words ≤ place
+    → forms_from are (texts (drop place words)) ≡ []
+forms_end are words place all = at_drop_all (λ (ws : List (Bor (List ℕ))). forms_from are (texts ws)) words place all
+
+pub others_more : (are : Bool) (words : List (Bor (List ℕ))) (place : ℕ) (d : Bor (List ℕ)) → place < length words
+    → others_from are (texts (drop place words))
+    ≡ and_other (form_at (are || ends_options (get_or words place d).now) (get_or words place d).now) (get_or words place d).now
+    (others_from (are || ends_options (get_or words place d).now) (texts (drop (place + 1) words)))
+others_more are words place d within = at_drop_more (λ (ws : List (Bor (List ℕ))). others_from are (texts ws)) words place d within
+
+pub others_end : (are : Bool) (words : List (Bor (List ℕ))) (place : ℕ) → length words ≤ place
+    → others_from are (texts (drop place words)) ≡ []
+others_end are words place all = at_drop_all (λ (ws : List (Bor (List ℕ))). others_from are (texts ws)) words place all
+
+pub ruleset word_steps = (forms_more, forms_end, others_more, others_end)
+
+-- a second form is refused, whatever the other words are
+pub refused_by_forms : (words : List (List ℕ)) (forms lent : List Form) (told : Refusal) → form_of lent ≡ None → lent ≡ forms
+    → forms ≡ forms_from false words → ((answer : Result Settings SettingsError) → IsRefusalBy None answer told)
+    → IsRefusalOf words told
+refused_by_forms words forms lent told none same asked refused =
+    let P : Option Form → Type 0 = λ o. IsRefusalBy o (settings_for (others_from false words)) told in
+    subst P (sym none ∙ ap form_of (same ∙ asked)) (refused (settings_for (others_from false words)))

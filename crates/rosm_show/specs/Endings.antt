@@ -1,0 +1,47 @@
+-- What words ask for, why they are refused, and the exit status: 2 for a command line that can't be, 4 for anything else that
+-- keeps a page from being written whole, and else that of the script's last stop.
+use Rattle.std.specs.Prelude.{◌≡◌, ℕ, false, List, Option, Some, None, Result, Ok, Err}
+use Rattle.profile.specs.declared.stop.Stop.{Stop}
+use Rattle.command_line.specs.Settings.{settings_for}
+use Rattle.command_line.specs.Status.{status_after}
+use Rattle.command_line.specs.declared.options.Settings.{Settings}
+use Rattle.command_line.specs.declared.options.SettingsError.{SettingsError}
+use Rattle.command_line.specs.declared.options.SettingsError.TheVariants as refused
+use Rattle.script_page.specs.declared.form.Form.{Form}
+use Rattle.rosm_show.specs.Words.{form_of, forms_from, others_from}
+use Rattle.rosm_show.specs.declared.refusal.Refusal.{Refusal}
+use Rattle.rosm_show.specs.declared.refusal.Refusal.TheVariants as refusal
+use Rattle.rosm_show.specs.declared.words.Wanted.{Wanted}
+
+-- What the words ask for: one form at most, and the rest are words of `rosm`.
+pub record Asks (words : List (List ℕ)) (wanted : Wanted) : Type 0 where
+  pub form : form_of (forms_from false words) ≡ Some wanted.form
+  pub settings : settings_for (others_from false words) ≡ Ok wanted.settings
+
+-- The refusal is this one of the words of `rosm`; want of memory may come at any words.
+abbrev pub IsRefusedBy : Result Settings SettingsError → Refusal → Type 0
+IsRefusedBy answer refusal.Memory = Unit {0}
+IsRefusedBy answer (refusal.Line reason) = answer ≡ Err refused.Line
+IsRefusedBy answer (refusal.Sizes reason) = answer ≡ Err refused.Sizes
+IsRefusedBy answer _ = ⊥
+
+-- More than one form is a line that can't be; else the refusal is that of the other words.
+abbrev pub IsRefusalBy : Option Form → Result Settings SettingsError → Refusal → Type 0
+IsRefusalBy None answer refusal.Memory = Unit {0}
+IsRefusalBy None answer (refusal.Line reason) = Unit {0}
+IsRefusalBy None answer _ = ⊥
+IsRefusalBy (Some form) answer told = IsRefusedBy answer told
+
+abbrev pub IsRefusalOf : List (List ℕ) → Refusal → Type 0
+IsRefusalOf words told = IsRefusalBy (form_of (forms_from false words)) (settings_for (others_from false words)) told
+
+abbrev pub refusal_status : Refusal → ℕ
+refusal_status refusal.Memory = 4
+refusal_status (refusal.Line reason) = 2
+refusal_status (refusal.Sizes reason) = 2
+refusal_status (refusal.File path error) = 4
+refusal_status (refusal.Script error) = 4
+
+abbrev pub status_of : Result (Option Stop) Refusal → ℕ
+status_of (Ok last) = status_after last
+status_of (Err refused) = refusal_status refused

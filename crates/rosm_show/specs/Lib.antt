@@ -1,0 +1,3 @@
+pub mod Endings
+pub mod Showing
+pub mod Words

@@ -1,0 +1,65 @@
+ghost use Rattle.std.specs.Prelude.{◌≡◌};
+
+use command_line::SettingsError;
+use command_shell::RunError;
+use rosm_settings::image_files::FileError;
+use std::alloc::AllocError;
+use thiserror::Error;
+
+/// The form of a command line, in one line.
+pub const USAGE: &str = "usage: rosm_show [--text | --html | --transcript] \
+[--pages N] [--app N] [--rma N] [--budget N] [FILE...] <SCRIPT";
+
+/// Why the program ends without a page. The text is one line.
+#[derive(Debug, PartialEq, Eq, Drop, Error)]
+pub enum Refusal<'a> {
+    /// Memory ran out while the command line was read.
+    #[error("{}", SettingsError::Memory)]
+    Memory,
+    /// The words are no command line; the text says what is wrong with them.
+    #[error("{0}; {usage}", usage = USAGE)]
+    Line(String),
+    /// No machine can have the sizes of the command line; the text says which, and by what rule.
+    #[error("{0}; {usage}", usage = USAGE)]
+    Sizes(String),
+    /// The file of this path is no image, for this reason.
+    #[error("{0:?}: {1}")]
+    File(&'a str, FileError),
+    /// The script can't be run whole, or the page can't be written, for this reason.
+    #[error("{0}")]
+    Script(RunError),
+}
+
+impl Refusal<'_> {
+    ghost use Rattle.rosm_show.specs.Endings.{refusal_status};
+
+    /// The exit status: 2 for a command line that can't be, else 4.
+    pub fn status(&self) -> u8
+        ensures { result ≡ refusal_status self.now }
+    {
+        match self {
+            Refusal::Line(_) | Refusal::Sizes(_) => 2,
+            Refusal::Memory | Refusal::File(_, _) | Refusal::Script(_) => 4,
+        }
+    }
+}
+
+impl<'a> From<AllocError> for Refusal<'a> {
+    ghost use Rattle.rosm_show.specs.declared.refusal.Refusal.TheVariants.{Memory};
+
+    ghost from_gives = { λ _ refused. refused ≡ Memory };
+
+    fn from(_error: AllocError) -> Refusal<'a> {
+        Refusal::Memory
+    }
+}
+
+impl<'a> From<RunError> for Refusal<'a> {
+    ghost use Rattle.rosm_show.specs.declared.refusal.Refusal.TheVariants.{Script};
+
+    ghost from_gives = { λ error refused. refused ≡ Script error };
+
+    fn from(error: RunError) -> Refusal<'a> {
+        Refusal::Script(error)
+    }
+}

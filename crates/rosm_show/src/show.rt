@@ -1,0 +1,110 @@
+//! The page of a script: from a reader to a writer.
+
+ghost use Rattle.std.specs.Prelude.{◌≡◌, ◌<◌, false, true, Err, Some, IfOk, IfSome, OnOk, map};
+ghost use Rattle.std.specs.Path.{path_file_name};
+ghost use Rattle.profile.specs.Devices.{device_failed, device_inner};
+ghost use Rattle.rosm_settings.specs.ImageFiles.{names_for};
+ghost use Rattle.rosm_show.specs.Showing.{names_in, ShowsPage};
+
+use crate::refusal::Refusal;
+use crate::words::Wanted;
+use command_line::Files;
+use command_shell::RunError;
+use command_shell_lines::read_script;
+use image_loader::Images;
+use profile::{Device, Source, Stop};
+use rosm_settings::image_files::{FileError, add_files};
+use script_page::style::{BACK, FRONT};
+use script_page::{NamedImage, Setting, page_of, push_page};
+use std::alloc::Global;
+use std::fs;
+use std::io::Write;
+use std::path::Path;
+
+/// Takes in the files, answers the script of `reader`, writes its page to `writer`, and gives the last
+/// stop. What the writer holds back is handed on before that.
+///
+/// # Errors
+///
+/// As of the program `rosm`; nothing is written before the last line is answered.
+pub fn show<'a, F, R, W>(
+    files: &F,
+    wanted: &'a Wanted,
+    reader: &mut R,
+    writer: &mut Device<W>,
+) -> Result<Option<Stop>, Refusal<'a>>
+where
+    F: AllocGlobal + fs::Files,
+    R: Source,
+    W: Write,
+    ensures page { IfOk result (ShowsPage FRONT.now BACK.now wanted.entry.now (R.remaining reader.old)
+        (W.contents (device_inner writer.old)) (W.contents (device_inner writer.new))) }
+    ensures well { OnOk result (device_failed writer.new ≡ false) }
+{
+    let alloc = files.alloc();
+    let mut images = Images::new();
+    take_files(files, wanted, &mut images)?;
+    let named = named_images(alloc, &wanted.settings.files, &images)?;
+    let setting = Setting {
+        images: named.as_slice(),
+        config: wanted.settings.config,
+        budget: wanted.settings.budget,
+    };
+    let script = script_of(alloc, reader)?;
+    let page = page_of(alloc, script.as_slice(), &setting)?;
+    push_page(alloc, writer, page.entries.as_slice(), wanted.form)?;
+    match writer.flush() {
+        Ok(()) => Ok(page.last),
+        Err(_) => Err(Refusal::Script(RunError::WriteFault)),
+    }
+}
+
+// The script, read whole.
+fn script_of<R: Source>(alloc: Global, reader: &mut R) -> Result<Vec<u8>, RunError>
+    ensures { IfOk result (λ script. IfSome (R.remaining reader.old) (λ told. script.items ≡ told)) }
+{
+    Ok(read_script(alloc, reader)?)
+}
+
+fn take_files<'a, F>(files: &F, wanted: &'a Wanted, images: &mut Images) -> Result<(), Refusal<'a>>
+where
+    F: AllocGlobal + fs::Files,
+{
+    match add_files(files, &wanted.settings.files, images) {
+        Ok(()) => Ok(()),
+        Err(rosm_settings::refusal::Refusal::File(path, error)) => Err(Refusal::File(path, error)),
+        Err(_) => Err(Refusal::Memory),
+    }
+}
+
+// The images of the files, each under the last part of its path.
+fn named_images<'a, 'f: 'a>(
+    alloc: Global,
+    files: &'f Files,
+    images: &'a Images,
+) -> Result<Vec<NamedImage<'a>>, Refusal<'f>>
+    ensures { IfOk result (λ named. names_in named.items ≡ names_for files.entry.now) }
+{
+    let mut named = Vec::new(alloc);
+    for n in 0..files.len() {
+        let image = image_of(files.get(n), images)?;
+        let Ok(()) = named.push(image) else {
+            return Err(Refusal::Memory);
+        };
+    }
+    Ok(named)
+}
+
+// The image of a file that was taken in; each has a name, and stands in the table under it.
+fn image_of<'a, 'f: 'a>(path: &'f str, images: &'a Images) -> Result<NamedImage<'a>, Refusal<'f>>
+    ensures { IfOk result (λ image. path_file_name path.entry.now ≡ Some image.name.now) }
+{
+    let Some(file_name) = Path::new(path).file_name() else {
+        return Err(Refusal::File(path, FileError::Nameless));
+    };
+    let name = file_name.as_bytes();
+    match images.get(name) {
+        Some(bytes) => Ok(NamedImage { name, bytes }),
+        None => Err(Refusal::File(path, FileError::Nameless)),
+    }
+}

@@ -1,0 +1,84 @@
+//! The words of the program: the form of the page, and what `rosm` takes too.
+
+ghost use Rattle.std.specs.Prelude.{◌≡◌, IfErr, IfOk, None, Ok, Result, map, string_bytes};
+ghost use Rattle.command_line.specs.Settings.{settings_for};
+ghost use Rattle.rosm_show.specs.Endings.{Asks, IsRefusalBy, IsRefusalOf, IsRefusedBy};
+
+use crate::form::{form_of, part_words};
+use crate::refusal::Refusal;
+use command_line::{Settings, SettingsError, line_reason, settings, sizes_reason};
+use script_page::Form;
+use std::alloc::{AllocError, Global};
+use std::env;
+use std::env::Env;
+use std::io::ErrorKind;
+
+/// What the words ask for.
+#[derive(Drop)]
+pub struct Wanted {
+    /// The form of the page.
+    pub form: Form,
+    /// The machine and the files.
+    pub settings: Settings,
+}
+
+/// What the words of this process ask for.
+///
+/// # Errors
+///
+/// `Line`, `Sizes` and `Memory`, as of the program `rosm`; a second form is `Line` too.
+pub fn read_words<R: Env + AllocGlobal>(rt: &R) -> Result<Wanted, Refusal<'static>> {
+    let alloc = rt.alloc();
+    let args = match env::args(rt) {
+        Ok(args) => args,
+        Err(error) if error.kind() == ErrorKind::OutOfMemory => return Err(Refusal::Memory),
+        Err(_) => return Err(refused_line(alloc, "a word is not text in UTF-8")),
+    };
+    let words: Vec<String> = args.collect(alloc)?;
+    wanted_of(alloc, words.as_slice())
+}
+
+// A line that can't be, for this reason, whatever else is asked for.
+fn refused_line(alloc: Global, reason: &str) -> Refusal<'static>
+    ensures { (answer : Result Settings SettingsError) → IsRefusalBy None answer result }
+{
+    match String::from_str(alloc, reason) {
+        Ok(reason) => Refusal::Line(reason),
+        Err(_) => Refusal::Memory,
+    }
+}
+
+fn wanted_of(alloc: Global, words: &[String]) -> Result<Wanted, Refusal<'static>>
+    ensures asks { IfOk result (Asks (map string_bytes words.now)) }
+    ensures refused { IfErr result (IsRefusalOf (map string_bytes words.now)) }
+{
+    let texts = texts_of(alloc, words)?;
+    let parted = part_words(alloc, texts.as_slice())?;
+    let Some(form) = form_of(parted.forms.as_slice()) else {
+        return Err(refused_line(alloc, "one form of the page at most"));
+    };
+    let settings = settings_of(alloc, parted.others.as_slice())?;
+    Ok(Wanted { form, settings })
+}
+
+fn settings_of(alloc: Global, words: &[&str]) -> Result<Settings, Refusal<'static>>
+    ensures ok { IfOk result (λ s. settings_for (map (λ w. w.now) words.now) ≡ Ok s) }
+    ensures refused { IfErr result (IsRefusedBy (settings_for (map (λ w. w.now) words.now))) }
+{
+    match settings(alloc, words) {
+        Ok(settings) => Ok(settings),
+        Err(SettingsError::Memory) => Err(Refusal::Memory),
+        Err(SettingsError::Line) => Err(Refusal::Line(line_reason(alloc, words)?)),
+        Err(SettingsError::Sizes) => Err(Refusal::Sizes(sizes_reason(alloc, words)?)),
+    }
+}
+
+fn texts_of<'a>(alloc: Global, words: &'a [String]) -> Result<Vec<&'a str>, AllocError>
+    ensures { IfOk result (λ texts. map (λ t. t.now) texts.items ≡ map string_bytes words.entry.now) }
+{
+    let mut texts = Vec::new(alloc);
+    for word in words {
+        texts.push(word.as_str())?;
+    }
+    Ok(texts)
+}

@@ -1,0 +1,165 @@
+-- How a page goes on, and what its first line stands on.
+use Rattle.std.proofs.Common.{◌≡◌, ◌≤◌, ◌<◌, ◌+◌, ◌-◌, ℕ, ◌⊎◌, zero, suc, List, [], ◌∷◌, ◌++◌, length, take, drop, get_or, true, false, Option, Some, None, eqb}
+use Rattle.std.proofs.Common.{refl, ap, sym, ◌∙◌, subst, arith, length-append, length-drop, inl, inr}
+use Rattle.std.proofs.lemmas.List.{append-nil, take-append-drop, take-append-le, take_all, at_drop_more, at_drop_all}
+use denote.Ref.{Bor}
+use Rattle.std.proofs.lemmas.Bool.{cases_lt}
+use Rattle.std.proofs.lemmas.Bool.Decides.{Decides-eqb}
+use Rattle.std.proofs.lemmas.Slice.Eq.{strip_prefix_is}
+use Rattle.std.proofs.lemmas.Grind.{flat_map-append}
+use Rattle.std.specs.Prelude.{IfSome, MatchOption}
+use Rattle.std.specs.Cmp.Lexicographic.{pointwise}
+use Rattle.std.specs.Str.Lines.{lines}
+use Rattle.command_shell.specs.Script.{lines_told, script_told}
+use Rattle.script_page.specs.Page.{answers_of, lines_of, number_after, numbers_from, GoesOn, IsPageBy, IsPage, OneMore}
+use Rattle.script_page.specs.Setting.{told_by}
+use Rattle.script_page.specs.declared.entry.Entry.{Entry}
+use Rattle.script_page.specs.declared.setting.Setting.{Setting}
+
+lines_more : (entries : List Entry) (e : Entry) → lines_of (entries ++ e ∷ []) ≡ lines_of entries ++ e.lines.now
+lines_more entries e =
+    flat_map-append (λ (x : Entry). x.lines.now) entries (e ∷ [])
+    ∙ ap (λ (xs : List ℕ). lines_of entries ++ xs) (append-nil e.lines.now)
+
+answers_more : (entries : List Entry) (e : Entry) → answers_of (entries ++ e ∷ []) ≡ answers_of entries ++ e.answer.items
+answers_more entries e =
+    flat_map-append (λ (x : Entry). x.answer.items) entries (e ∷ [])
+    ∙ ap (λ (xs : List ℕ). answers_of entries ++ xs) (append-nil e.answer.items)
+
+taken : (text : List ℕ → List ℕ) (old : List Entry) (e : Entry) (count : ℕ)
+    → ((n : ℕ) → answers_of (take n old) ≡ text (lines_of (take n old)))
+    → answers_of (old ++ e ∷ []) ≡ text (lines_of (old ++ e ∷ []))
+    → (count ≤ length old) ⊎ (length old < count)
+    → answers_of (take count (old ++ e ∷ [])) ≡ text (lines_of (take count (old ++ e ∷ [])))
+taken text old e count each all (inl within) = rw (take-append-le count old (e ∷ []) within) (each count)
+taken text old e count each all (inr behind) =
+    let most : length (old ++ e ∷ []) ≤ count = omega (arith, behind, length-append old (e ∷ [])) in
+    rw (take_all count (old ++ e ∷ []) most) all
+
+either : (n m : ℕ) → (m < n) ⊎ (n ≤ m) → (n ≤ m) ⊎ (m < n)
+either n m (inl more) = inr more
+either n m (inr most) = inl most
+
+one_more : (text : List ℕ → List ℕ) (old : List Entry) (e : Entry) (front lines : List ℕ)
+    → lines ≡ front ++ e.lines.now → text lines ≡ text front ++ e.answer.items → IsPageBy text front old
+    → IsPageBy text lines (old ++ e ∷ [])
+one_more text old e front lines split told page =
+    let own : lines_of (old ++ e ∷ []) ≡ lines = lines_more old e ∙ ap (λ (xs : List ℕ). xs ++ e.lines.now) page.lines ∙ sym split in
+    let so_far : answers_of old ≡ text front =
+    ap answers_of (sym (take_all (length old) old (omega arith))) ∙ page.answers (length old)
+    ∙ ap (λ (es : List Entry). text (lines_of es)) (take_all (length old) old (omega arith)) ∙ ap text page.lines in
+    let all : answers_of (old ++ e ∷ []) ≡ text (lines_of (old ++ e ∷ [])) =
+    answers_more old e ∙ ap (λ (xs : List ℕ). xs ++ e.answer.items) so_far ∙ sym told ∙ ap text (sym own) in
+    record {
+      lines = own;
+      answers = λ count. taken text old e count page.answers all (either count (length old) (cases_lt (length old) count));
+    }
+
+pub pushed : (old new : List Entry) (e : Entry) (lines answer : List ℕ) → new ≡ old ++ e ∷ [] → e.lines.now ≡ lines
+    → e.answer.items ≡ answer → OneMore old new lines answer
+pushed old new e lines answer whole own told = record { entry = e; whole = whole; own_lines = own; own_answer = told }
+
+page_more : (text : List ℕ → List ℕ) (old new : List Entry) (front rest lines before after answer : List ℕ)
+    → OneMore old new rest answer → lines ≡ front ++ rest → after ≡ before ++ answer
+    → IsPageBy text front old → before ≡ text front → after ≡ text lines → IsPageBy text lines new
+page_more text old new front rest lines before after answer one split more page is now =
+    let P : List Entry → Type 0 = λ es. IsPageBy text lines es in
+    subst P (sym one.whole)
+    (one_more text old one.entry front lines (split ∙ ap (λ (xs : List ℕ). front ++ xs) (sym one.own_lines))
+    (sym now ∙ more ∙ ap (λ (xs : List ℕ). xs ++ answer) is ∙ ap (λ (xs : List ℕ). text front ++ xs) (sym one.own_answer)) page)
+
+behind_place : (end : ℕ) (lines : List ℕ) → take (length lines - end) (drop end lines) ≡ drop end lines
+behind_place end lines = take_all (length lines - end) (drop end lines) (omega (arith, length-drop end lines))
+
+-- the lines behind a place, and what is answered behind
+pub goes_by_one : (old new : List Entry) (end : ℕ) (lines before after answer : List ℕ)
+    → OneMore old new (take (length lines - end) (drop end lines)) answer → after ≡ before ++ answer
+    → GoesOn old new (take end lines) lines before after
+unfolding GoesOn
+goes_by_one old new end lines before after answer one more =
+    let rest = take (length lines - end) (drop end lines) in
+    let split : lines ≡ take end lines ++ rest =
+    sym (take-append-drop end lines) ∙ ap (λ (xs : List ℕ). take end lines ++ xs) (sym (behind_place end lines)) in
+    λ text page is now. page_more text old new (take end lines) rest lines before after answer one split more page is now
+
+-- all of it in one
+pub goes_at_once : (old empty new : List Entry) (front lines before after : List ℕ)
+    → OneMore empty new lines after → empty ≡ [] → GoesOn old new front lines before after
+unfolding GoesOn
+goes_at_once old empty new front lines before after one none =
+    λ text page is now.
+    let nothing : [] ≡ text [] = page.answers 0 in
+    let first : IsPageBy text [] [] =
+    record { lines = refl; answers = λ count. rw (take_all {A = Entry} count [] (omega arith)) nothing } in
+    let P : List Entry → Type 0 = λ es. IsPageBy text [] es in
+    page_more text empty new [] lines lines [] after after one refl refl (subst P (sym none) first) nothing now
+
+-- what follows a front
+pub front_taken : (s p : List ℕ) (r : Option (Bor (List ℕ)))
+    → MatchOption r (pointwise eqb (take (length p) s) p ≡ false)
+    (λ x. (pointwise eqb (take (length p) s) p ≡ true) × (x.now ≡ drop (length p) s) × (length x.now + length p ≡ length s))
+    → IfSome r (λ x. s ≡ p ++ x.now)
+front_taken s p None h = tt
+front_taken s p (Some x) h = strip_prefix_is Decides-eqb s p (Some x) h
+
+-- no line is answered with nothing
+nothing_told : (setting : Setting) → (told_by setting []).text ≡ []
+unfolding script_told lines_told
+nothing_told setting = refl
+
+none_at_all : (setting : Setting) → IsPage setting [] []
+unfolding IsPage
+none_at_all setting = record {
+  lines = refl;
+  answers = λ count. rw (take_all {A = Entry} count [] (omega arith)) (sym (nothing_told setting));
+}
+
+pub page_of_none : (setting : Setting) (front : List ℕ) (entries : List Entry) → front ≡ [] → entries ≡ []
+    → IsPage setting front entries
+page_of_none setting front entries no_lines none =
+    let P : List ℕ → Type 0 = λ xs. IsPage setting xs entries in
+    let Q : List Entry → Type 0 = λ es. IsPage setting [] es in
+    subst P (sym no_lines) (subst Q (sym none) (none_at_all setting))
+
+pub told_none : (setting : Setting) (front : List ℕ) → front ≡ [] → (told_by setting front).text ≡ []
+told_none setting front none = ap (λ (xs : List ℕ). (told_by setting xs).text) none ∙ nothing_told setting
+
+-- the page of all lines
+pub page_whole : (setting : Setting) (script : List ℕ) (end : ℕ) (entries : List Entry) → length script ≤ end
+    → IsPage setting (take end script) entries → IsPage setting script entries
+page_whole setting script end entries all page =
+    let P : List ℕ → Type 0 = λ xs. IsPage setting xs entries in
+    subst P (take_all end script all) page
+
+take_take : (end next : ℕ) (script : List ℕ) → end ≤ next → take end (take next script) ≡ take end script
+take_take zero next script most = refl
+take_take (suc end) zero script most = absurd (omega arith)
+take_take (suc end) (suc next) [] most = refl
+take_take (suc end) (suc next) (byte ∷ script) most =
+    ap (λ (xs : List ℕ). byte ∷ xs) (take_take end next script (omega arith))
+
+-- the page of the lines up to one place, by that of those up to one before it
+pub goes_on : (setting : Setting) (old new : List Entry) (end next : ℕ) (script before after : List ℕ)
+    → GoesOn old new (take end (take next script)) (take next script) before after → end ≤ next
+    → IsPage setting (take end script) old → before ≡ (told_by setting (take end script)).text
+    → after ≡ (told_by setting (take next script)).text → IsPage setting (take next script) new
+unfolding IsPage GoesOn
+goes_on setting old new end next script before after goes most page is now =
+    goes (λ lines. (told_by setting lines).text) (rw (take_take end next script most) page)
+    (rw (take_take end next script most) is) now
+
+-- the numbers of the entries that are left
+pub numbers_more : (number : ℕ) (entries : List Entry) (place : ℕ) (d : Entry) → place < length entries
+    → numbers_from number (drop place entries)
+    ≡ number ∷ numbers_from (number_after number (length (lines (get_or entries place d).lines.now))) (drop (place + 1) entries)
+numbers_more number entries place d within = at_drop_more (numbers_from number) entries place d within
+
+pub numbers_end : (number : ℕ) (entries : List Entry) (place : ℕ) → length entries ≤ place
+    → numbers_from number (drop place entries) ≡ []
+numbers_end number entries place all = at_drop_all (numbers_from number) entries place all
+
+pub ruleset entry_steps = (goes_at_once)
+
+pub ruleset page_steps = (page_of_none, goes_on, page_whole)
+
+pub ruleset number_steps = (numbers_more, numbers_end)

@@ -1,0 +1,16 @@
+use Rattle.std.proofs.Common.{◌≡◌, ◌≤◌, ◌-◌, length, take}
+use Rattle.script_page.specs.Page.{IsPage}
+use Rattle.script_page.specs.Setting.{told_by}
+use Rattle.script_page.proofs.page.page_of.Given as goal
+
+-- the entries so far are a page of the lines so far, and these are answered so
+abbrev pub invariant-loop-end : goal.invariant-loop-end
+invariant-loop-end l = record {
+  page : IsPage l.setting (take l.end l.script) l.entries.items;
+  text : l.told.text.items ≡ (told_by l.setting (take l.end l.script)).text;
+  last : l.told.last ≡ (told_by l.setting (take l.end l.script)).state.last;
+  within : l.end ≤ length l.script;
+}
+
+abbrev pub decreases-loop-end : goal.decreases-loop-end
+decreases-loop-end l = length l.script - l.end

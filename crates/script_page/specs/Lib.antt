@@ -1,0 +1,7 @@
+pub mod HtmlPage
+pub mod Page
+pub mod Pictures
+pub mod Setting
+pub mod TextPage
+pub mod Transcript
+pub mod Writing

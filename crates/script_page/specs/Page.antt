@@ -1,0 +1,61 @@
+-- What a page is: the lines of a script, and under them what they are answered.
+use Rattle.std.specs.Prelude.{◌≡◌, ℕ, ◌+◌, ◌-◌, ◌^◌, min, All, List, [], ◌∷◌, ◌++◌, length, map, take}
+use Rattle.std.specs.List.{flat_map}
+use Rattle.std.specs.Str.Lines.{lines}
+use Rattle.script_page.specs.Setting.{told_by}
+use Rattle.script_page.specs.Pictures.{IsPicture}
+use Rattle.script_page.specs.declared.form.Form.{Form}
+use Rattle.script_page.specs.declared.setting.Setting.{Setting}
+use Rattle.script_page.specs.declared.entry.Entry.{Entry}
+use Rattle.script_page.specs.declared.shown.Shown.{Shown}
+
+-- the lines of the entries, one after another
+abbrev pub lines_of : List Entry → List ℕ
+lines_of entries = flat_map (λ (e : Entry). e.lines.now) entries
+
+-- their answers, one after another
+abbrev pub answers_of : List Entry → List ℕ
+answers_of entries = flat_map (λ (e : Entry). e.answer.items) entries
+
+-- The entries have all lines of the script, in order, and however many of them are taken from the first on, their answers are
+-- the text of just their lines: so each has its own.
+pub record IsPageBy (text : List ℕ → List ℕ) (script : List ℕ) (entries : List Entry) : Type 0 where
+  pub lines : lines_of entries ≡ script
+  pub answers : (count : ℕ) → answers_of (take count entries) ≡ text (lines_of (take count entries))
+
+-- a page whose answers are those of the shell
+unfoldable pub IsPage : Setting → List ℕ → List Entry → Type 0
+IsPage setting script entries = IsPageBy (λ lines. (told_by setting lines).text) script entries
+
+-- one entry more, of these lines and with this answer
+pub record OneMore (old new : List Entry) (lines answer : List ℕ) : Type 0 where
+  pub entry : Entry
+  pub whole : new ≡ old ++ entry ∷ []
+  pub own_lines : entry.lines.now ≡ lines
+  pub own_answer : entry.answer.items ≡ answer
+
+-- From a page of the lines up to a place to one of all lines, where both are answered so, by whatever rule.
+unfoldable pub GoesOn : List Entry → List Entry → List ℕ → List ℕ → List ℕ → List ℕ → Type 0
+GoesOn old new front lines before after =
+    (text : List ℕ → List ℕ) → IsPageBy text front old → before ≡ text front → after ≡ text lines → IsPageBy text lines new
+
+-- the number of a line so many lines after another
+abbrev pub number_after : ℕ → ℕ → ℕ
+number_after number count = min (number + count) (2 ^ 64 - 1)
+
+-- the number of the first line of each entry
+abbrev pub numbers_from : ℕ → List Entry → List ℕ
+numbers_from number [] = []
+numbers_from number (e ∷ rest) = number ∷ numbers_from (number_after number (length (lines e.lines.now))) rest
+
+-- the picture of an entry is one of its answer
+unfoldable pub ShowsItsAnswer : Form → Shown → Type 0
+ShowsItsAnswer form s = IsPicture form (s.printed.now ++ s.answer.now) s.picture.items
+
+-- What is shown of each entry, in order: its lines by their numbers, what the guest printed, and the answer behind that;
+-- and the picture of what that tells.
+pub record AreShown (form : Form) (entries : List Entry) (shown : List Shown) : Type 0 where
+  pub numbers : map (λ (s : Shown). s.number) shown ≡ numbers_from 1 entries
+  pub lines : map (λ (s : Shown). s.lines.now) shown ≡ map (λ (e : Entry). e.lines.now) entries
+  pub answers : map (λ (s : Shown). s.printed.now ++ s.answer.now) shown ≡ map (λ (e : Entry). e.answer.items) entries
+  pub pictures : All (ShowsItsAnswer form) shown

@@ -1,0 +1,59 @@
+-- A page as text for a terminal.
+use Rattle.std.specs.Prelude.{ℕ, ◌==◌, min, Bool, not, List, [], ◌∷◌, ◌++◌, length, drop, codes, if◌then◌else◌}
+use Rattle.std.specs.List.{flat_map, list_any}
+use Rattle.std.specs.Fmt.{decimal}
+use Rattle.std.specs.Str.Lines.{lines}
+use Rattle.view_pictures.specs.Spelt.{spelt}
+use Rattle.script_page.specs.Page.{number_after}
+use Rattle.script_page.specs.declared.shown.Shown.{Shown}
+
+-- what stands before a number of so many digits in a column of five
+abbrev pub blanks_before : ℕ → List ℕ
+blanks_before digits = drop (min digits 5) (codes "     ")
+
+-- a number in a column of five, and two spaces
+abbrev pub column : ℕ → List ℕ
+column number = blanks_before (length (decimal number)) ++ (decimal number ++ codes "  ")
+
+-- a line and its end
+abbrev pub whole_line : List ℕ → List ℕ
+whole_line line = spelt line ++ codes "\n"
+
+abbrev pub numbered_line : ℕ → List ℕ → List ℕ
+numbered_line number line = column number ++ whole_line line
+
+-- lines, each under its number
+abbrev pub numbered : ℕ → List (List ℕ) → List ℕ
+numbered number [] = []
+numbered number (line ∷ rest) = numbered_line number line ++ numbered (number_after number 1) rest
+
+abbrev pub line_behind : List ℕ → List ℕ → List ℕ
+line_behind front line = front ++ whole_line line
+
+-- lines, each behind these signs
+abbrev pub behind : List ℕ → List (List ℕ) → List ℕ
+behind front lines = flat_map (line_behind front) lines
+
+abbrev pub text_entry : Shown → List ℕ
+text_entry s =
+    numbered s.number (lines s.lines.now) ++ (behind (codes "     : ") (lines s.printed.now)
+    ++ (behind (codes "       ") (lines s.answer.now) ++ s.picture.items))
+
+abbrev pub text_entries : List Shown → List ℕ
+text_entries shown = flat_map text_entry shown
+
+abbrev pub has_picture : Shown → Bool
+has_picture s = not (length s.picture.items == 0)
+
+-- what the signs of pictures mean
+unfoldable pub legend : List ℕ
+legend =
+    codes "\n       signs: d descriptor, # block, area or module, . free, ~ what an area may grow by, not to scale,\n"
+    ++ codes "       p page pool, w private word, ^ under what has changed\n"
+
+-- it stands once, at the end, where there is a picture
+abbrev pub legend_below : List Shown → List ℕ
+legend_below shown = if list_any has_picture shown then legend else []
+
+abbrev pub text_page : List Shown → List ℕ
+text_page shown = text_entries shown ++ legend_below shown

@@ -1,0 +1,10 @@
+/// What a page is written as.
+#[derive(Clone, Copy, Debug, PartialEq, Eq)]
+pub enum Form {
+    /// Text for a terminal.
+    Text,
+    /// One HTML file.
+    Html,
+    /// A transcript.
+    Transcript,
+}

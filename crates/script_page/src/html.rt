@@ -1,0 +1,130 @@
+//! The page as HTML, in one file that needs no other.
+#![tactic(auto, using(crate::proofs::TextLemmas::text_steps))]
+
+ghost use Rattle.std.specs.Prelude.{◌++◌};
+ghost use Rattle.std.specs.Str.Lines.{lines};
+ghost use Rattle.profile.specs.Output.{Writes};
+ghost use Rattle.script_page.specs.HtmlPage.{answer_part, answers_html, entries_html, entry_html};
+ghost use Rattle.script_page.specs.HtmlPage.{figure, figure_html, opening, part_html, typed_line, typed_lines};
+
+use crate::shown::Shown;
+use command_shell_lines::text_lines::Lines;
+use page_markup::markup::push_decimal;
+use page_markup::push_escaped;
+use profile::{Sink, WriteFault, push_all};
+
+/// Writes the page between what it begins and ends with: each line with its number, its answer, what
+/// the guest printed apart, and beside each view its picture. Nothing of a script or of a guest is
+/// taken for HTML's own.
+pub fn push_html<W: Sink>(
+    sink: &mut W,
+    front: &[u8],
+    shown: &[Shown<'_>],
+    back: &[u8],
+) -> Result<(), WriteFault>
+    ensures { Writes W.contents W.has_failed sink.old sink.new result
+        (front.now ++ (entries_html shown.now ++ back.now)) }
+{
+    push_all(sink, front)?;
+    push_entries(sink, shown)?;
+    push_all(sink, back)
+}
+
+fn push_entries<W: Sink>(sink: &mut W, shown: &[Shown<'_>]) -> Result<(), WriteFault>
+    ensures { Writes W.contents W.has_failed sink.old sink.new result (entries_html shown.now) }
+{
+    for entry in shown {
+        push_entry(sink, entry)?;
+    }
+    Ok(())
+}
+
+fn push_entry<W: Sink>(sink: &mut W, shown: &Shown<'_>) -> Result<(), WriteFault>
+    ensures { Writes W.contents W.has_failed sink.old sink.new result (entry_html shown.now) }
+{
+    push_opening(sink, shown.number)?;
+    push_typed(sink, shown.lines)?;
+    push_all(sink, b"</pre><div class=\"answers\">")?;
+    push_answers(sink, shown)?;
+    push_figure(sink, shown)?;
+    push_all(sink, b"</div></div></li>\n")?;
+    Ok(())
+}
+
+fn push_opening<W: Sink>(sink: &mut W, number: usize) -> Result<(), WriteFault>
+    ensures { Writes W.contents W.has_failed sink.old sink.new result (opening number) }
+{
+    push_all(sink, b"<li id=\"line-")?;
+    push_decimal(sink, number as u64)?;
+    push_all(sink, b"\"><span class=\"number\">")?;
+    push_decimal(sink, number as u64)?;
+    push_all(sink, b"</span><div class=\"entry\"><pre class=\"typed\">\n")?;
+    Ok(())
+}
+
+fn push_typed<W: Sink>(sink: &mut W, text: &[u8]) -> Result<(), WriteFault>
+    ensures { Writes W.contents W.has_failed sink.old sink.new result (typed_lines (lines text.now)) }
+{
+    let mut lines = Lines::new(text);
+    while let Some(line) = lines.next_line() {
+        push_typed_line(sink, line)?;
+    }
+    Ok(())
+}
+
+fn push_typed_line<W: Sink>(sink: &mut W, line: &[u8]) -> Result<(), WriteFault>
+    ensures { Writes W.contents W.has_failed sink.old sink.new result (typed_line line.now) }
+{
+    push_escaped(sink, line)?;
+    push_all(sink, b"\n")
+}
+
+fn push_answers<W: Sink>(sink: &mut W, shown: &Shown<'_>) -> Result<(), WriteFault>
+    ensures { Writes W.contents W.has_failed sink.old sink.new result (answers_html shown.now) }
+{
+    push_all(sink, b"<div class=\"told\">")?;
+    push_part(sink, b"guest", shown.printed)?;
+    push_part(sink, b"answer", shown.answer)?;
+    push_all(sink, b"</div>")?;
+    Ok(())
+}
+
+fn push_part<W: Sink>(sink: &mut W, class: &[u8], part: &[u8]) -> Result<(), WriteFault>
+    ensures { Writes W.contents W.has_failed sink.old sink.new result (answer_part class.now part.now) }
+{
+    if part.is_empty() {
+        return Ok(());
+    }
+    push_filled_part(sink, class, part)
+}
+
+// A part of an answer. HTML takes away a line feed that comes first, so there is one more.
+fn push_filled_part<W: Sink>(sink: &mut W, class: &[u8], part: &[u8]) -> Result<(), WriteFault>
+    ensures { Writes W.contents W.has_failed sink.old sink.new result (part_html class.now part.now) }
+{
+    push_all(sink, b"<pre class=\"")?;
+    push_all(sink, class)?;
+    push_all(sink, b"\">\n")?;
+    push_escaped(sink, part)?;
+    push_all(sink, b"</pre>")?;
+    Ok(())
+}
+
+fn push_figure<W: Sink>(sink: &mut W, shown: &Shown<'_>) -> Result<(), WriteFault>
+    ensures { Writes W.contents W.has_failed sink.old sink.new result (figure shown.now.picture.items) }
+{
+    let picture = shown.picture.as_slice();
+    if picture.is_empty() {
+        return Ok(());
+    }
+    push_drawn_figure(sink, picture)
+}
+
+fn push_drawn_figure<W: Sink>(sink: &mut W, picture: &[u8]) -> Result<(), WriteFault>
+    ensures { Writes W.contents W.has_failed sink.old sink.new result (figure_html picture.now) }
+{
+    push_all(sink, b"<figure>")?;
+    push_all(sink, picture)?;
+    push_all(sink, b"</figure>")?;
+    Ok(())
+}

@@ -1,0 +1,73 @@
+//! What an HTML page begins and ends with: its style, light and dark, and the patterns of its pictures.
+
+/// Up to the first line of the script.
+pub const FRONT: &[u8] = br##"<!DOCTYPE html>
+<html lang="en">
+<head>
+<meta charset="utf-8">
+<meta name="viewport" content="width=device-width, initial-scale=1">
+<title>A script and its answers</title>
+<style>
+:root {
+  color-scheme: light dark;
+  --paper: #fbfaf7; --ink: #1c1b18; --soft: #66635c; --line: #d9d5cb; --panel: #f1eee6;
+  --live: #b9d3ee; --head: #ddd8cc; --edge: #3a3832; --hatch: #8a8578; --change: #a33a00; --guest: #2f6b3a;
+}
+@media (prefers-color-scheme: dark) {
+  :root {
+    --paper: #171715; --ink: #e9e6df; --soft: #a29e94; --line: #3a3833; --panel: #22211e;
+    --live: #244a70; --head: #413e37; --edge: #b9b5aa; --hatch: #7d796e; --change: #ff9a5c; --guest: #8fd19b;
+  }
+}
+* { box-sizing: border-box; }
+body { margin: 0; background: var(--paper); color: var(--ink);
+  font: 15px/1.5 ui-monospace, "DejaVu Sans Mono", Menlo, Consolas, monospace; }
+main { max-width: 74rem; margin: 0 auto; padding: 1rem 0.75rem 3rem; }
+ol { list-style: none; margin: 0; padding: 0; }
+li { display: grid; grid-template-columns: 2.6rem minmax(0, 1fr); border-top: 1px solid var(--line);
+  padding: 0.2rem 0; }
+.number { color: var(--soft); text-align: right; padding-right: 0.7rem; user-select: none; }
+.typed { margin: 0; font: inherit; font-weight: 600; white-space: pre; overflow-x: auto; }
+.answers { display: flex; flex-wrap: wrap; gap: 0.5rem 1.5rem; align-items: flex-start; }
+.told { flex: 1 1 18rem; min-width: 0; }
+pre.answer, pre.guest { margin: 0.15rem 0 0.3rem; padding: 0.3rem 0.6rem; background: var(--panel);
+  font: inherit; font-size: 0.9em; white-space: pre; overflow-x: auto; border-radius: 4px; }
+pre.guest { border-left: 4px double var(--guest); white-space: pre-wrap; overflow-wrap: anywhere; }
+pre.guest::before { content: "the guest prints"; display: block; color: var(--guest); font-size: 0.85em; }
+figure { margin: 0.15rem 0 0.5rem; flex: 0 1 380px; min-width: 0; }
+figure svg { display: block; width: 380px; max-width: 100%; height: auto; }
+svg.patterns { position: absolute; width: 0; height: 0; }
+svg text { font: 12px ui-monospace, "DejaVu Sans Mono", Menlo, Consolas, monospace; fill: var(--ink); }
+svg text.address { text-anchor: end; fill: var(--soft); }
+svg text.word { font-weight: 700; }
+svg text.byte { text-anchor: middle; }
+svg text.change { font-weight: 700; fill: var(--change); }
+svg text.word, svg text.size { paint-order: stroke; stroke: var(--paper); stroke-width: 3px; stroke-linejoin: round; }
+svg rect { stroke: var(--edge); stroke-width: 1; fill: var(--paper); }
+svg rect.live, svg rect.block, svg rect.area, svg rect.module { fill: var(--live); }
+svg rect.descriptor, svg rect.word { fill: var(--head); }
+svg rect.free, svg rect.unmapped { fill: url(#hatch); }
+svg rect.room, svg rect.unused, svg rect.pool { stroke-dasharray: 4 3; }
+svg rect.byte { stroke: var(--line); }
+svg rect.change { fill: none; stroke: var(--change); stroke-width: 2; }
+.chain { fill: none; stroke: var(--edge); stroke-width: 1.5; marker-end: url(#arrow); }
+.hatch-back { fill: var(--paper); stroke: none; }
+.hatch-line { stroke: var(--hatch); stroke-width: 1.5; }
+.arrow-head { fill: var(--edge); }
+</style>
+</head>
+<body>
+<svg class="patterns" aria-hidden="true"><defs>
+<pattern id="hatch" width="7" height="7" patternUnits="userSpaceOnUse" patternTransform="rotate(45)">
+<rect class="hatch-back" width="7" height="7"/><line class="hatch-line" x1="0" y1="0" x2="0" y2="7"/>
+</pattern>
+<marker id="arrow" viewBox="0 0 8 8" refX="7" refY="4" markerWidth="8" markerHeight="8" orient="auto">
+<path class="arrow-head" d="M 0 0 L 8 4 L 0 8 z"/>
+</marker>
+</defs></svg>
+<main>
+<ol>
+"##;
+
+/// Behind the last line of the script.
+pub const BACK: &[u8] = b"</ol>\n</main>\n</body>\n</html>\n";

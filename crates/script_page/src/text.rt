@@ -1,0 +1,141 @@
+//! The page as text for a terminal.
+#![tactic(auto, using(crate::proofs::TextLemmas::text_steps))]
+
+ghost use Rattle.std.specs.Prelude.{◌≡◌, length};
+ghost use Rattle.std.specs.List.{list_any};
+ghost use Rattle.std.specs.Str.Lines.{lines};
+ghost use Rattle.profile.specs.Output.{Writes};
+ghost use Rattle.script_page.specs.TextPage.{behind, blanks_before, column, line_behind, numbered};
+ghost use Rattle.script_page.specs.TextPage.{has_picture, legend, numbered_line, text_entries, text_entry, text_page, whole_line};
+
+use crate::shown::Shown;
+use command_shell_lines::text_lines::Lines;
+use itoa::Buffer;
+use profile::{Sink, WriteFault, push_all};
+use view_pictures::push_spelt;
+
+// What stands before what isn't typed: an answer, and what the guest printed.
+const ANSWER: &[u8] = b"       ";
+
+const GUEST: &[u8] = b"     : ";
+
+/// Writes the page: each line under its number, its answer under it, what the guest printed behind a
+/// colon. Bytes that are no characters to show stand as `\x1B`. Where there is a picture, the page ends
+/// with what the signs of pictures mean.
+pub fn push_text_page<W: Sink>(sink: &mut W, shown: &[Shown<'_>]) -> Result<(), WriteFault>
+    ensures { Writes W.contents W.has_failed sink.old sink.new result (text_page shown.now) }
+{
+    push_entries(sink, shown)?;
+    if is_any_drawn(shown) {
+        push_legend(sink)?;
+    }
+    Ok(())
+}
+
+fn push_entries<W: Sink>(sink: &mut W, shown: &[Shown<'_>]) -> Result<(), WriteFault>
+    ensures { Writes W.contents W.has_failed sink.old sink.new result (text_entries shown.now) }
+{
+    for entry in shown {
+        push_entry(sink, entry)?;
+    }
+    Ok(())
+}
+
+fn is_any_drawn(shown: &[Shown<'_>]) -> bool
+    ensures { result ≡ list_any has_picture shown.now }
+{
+    shown.iter().any(|entry| has_picture(entry))
+}
+
+fn has_picture(shown: &Shown<'_>) -> bool
+    ensures { result ≡ has_picture shown.now }
+{
+    !shown.picture.is_empty()
+}
+
+fn push_legend<W: Sink>(sink: &mut W) -> Result<(), WriteFault>
+    ensures { Writes W.contents W.has_failed sink.old sink.new result legend }
+{
+    push_all(
+        sink,
+        b"\n       signs: d descriptor, # block, area or module, . free, ~ what an area may grow by, not to scale,\n",
+    )?;
+    push_all(
+        sink,
+        b"       p page pool, w private word, ^ under what has changed\n",
+    )?;
+    Ok(())
+}
+
+fn push_entry<W: Sink>(sink: &mut W, shown: &Shown<'_>) -> Result<(), WriteFault>
+    ensures { Writes W.contents W.has_failed sink.old sink.new result (text_entry shown.now) }
+{
+    push_numbered(sink, shown.number, shown.lines)?;
+    push_behind(sink, GUEST, shown.printed)?;
+    push_behind(sink, ANSWER, shown.answer)?;
+    push_all(sink, shown.picture.as_slice())
+}
+
+// The lines of a text, each under its number.
+fn push_numbered<W: Sink>(sink: &mut W, first: usize, text: &[u8]) -> Result<(), WriteFault>
+    ensures { Writes W.contents W.has_failed sink.old sink.new result (numbered first (lines text.now)) }
+{
+    let mut number = first;
+    let mut lines = Lines::new(text);
+    while let Some(line) = lines.next_line() {
+        push_numbered_line(sink, number, line)?;
+        number = number.saturating_add(1);
+    }
+    Ok(())
+}
+
+fn push_numbered_line<W: Sink>(sink: &mut W, number: usize, line: &[u8]) -> Result<(), WriteFault>
+    ensures { Writes W.contents W.has_failed sink.old sink.new result (numbered_line number line.now) }
+{
+    push_column(sink, number)?;
+    push_line(sink, line)
+}
+
+// A line, as a transcript spells it, and its end.
+fn push_line<W: Sink>(sink: &mut W, line: &[u8]) -> Result<(), WriteFault>
+    ensures { Writes W.contents W.has_failed sink.old sink.new result (whole_line line.now) }
+{
+    push_spelt(sink, line)?;
+    push_all(sink, b"\n")
+}
+
+// A number in a column of five, and two spaces.
+fn push_column<W: Sink>(sink: &mut W, number: usize) -> Result<(), WriteFault>
+    ensures { Writes W.contents W.has_failed sink.old sink.new result (column number) }
+{
+    let mut digits = Buffer::new();
+    let text = digits.format(number).as_bytes();
+    push_all(sink, blanks_before(text))?;
+    push_all(sink, text)?;
+    push_all(sink, b"  ")
+}
+
+// What stands before the digits of a number in its column.
+fn blanks_before(digits: &[u8]) -> &'static [u8]
+    ensures { result.now ≡ blanks_before (length digits.now) }
+{
+    &b"     "[digits.len().min(5)..]
+}
+
+// The lines of a text, each behind these signs.
+fn push_behind<W: Sink>(sink: &mut W, front: &[u8], text: &[u8]) -> Result<(), WriteFault>
+    ensures { Writes W.contents W.has_failed sink.old sink.new result (behind front.now (lines text.now)) }
+{
+    let mut lines = Lines::new(text);
+    while let Some(line) = lines.next_line() {
+        push_behind_front(sink, front, line)?;
+    }
+    Ok(())
+}
+
+fn push_behind_front<W: Sink>(sink: &mut W, front: &[u8], line: &[u8]) -> Result<(), WriteFault>
+    ensures { Writes W.contents W.has_failed sink.old sink.new result (line_behind front.now line.now) }
+{
+    push_all(sink, front)?;
+    push_line(sink, line)
+}

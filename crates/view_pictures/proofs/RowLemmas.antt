@@ -1,0 +1,57 @@
+-- Numbers from 0 to 15 one after another, and bytes that are all alike.
+use Rattle.std.proofs.Common.{◌≡◌, ◌≤◌, ◌<◌, ◌+◌, ◌-◌, ℕ, suc, zero, Bool, false, [], ◌∷◌, ◌++◌, replicate}
+use Rattle.std.proofs.Common.{refl, ap, arith}
+use Rattle.std.specs.Prelude.{◌||◌}
+use Rattle.profile.proofs.OutputLemmas.{AddsAllBut-start, AddsAllBut-more, AddsAllBut-same, Appends-from_all_but}
+use Rattle.view_pictures.specs.RowMarks.{any_from, blanks_after, mark_of, marks}
+use Rattle.view_pictures.specs.Rows.{is_changed}
+use Rattle.view_pictures.specs.declared.rows.GridRow.{GridRow}
+
+any_next : (left : ℕ) (is : ℕ → Bool) (number : ℕ) → any_from (suc left) is number ≡ (is number || any_from left is (number + 1))
+unfolding any_from
+any_next left is number = refl
+
+pub any_more : (is : ℕ → Bool) (number : ℕ) → number < 16
+    → any_from (16 - number) is number ≡ (is number || any_from (16 - (number + 1)) is (number + 1))
+any_more is number below =
+    let next : 16 - number ≡ suc (16 - (number + 1)) = omega (arith, below) in
+    rw next (any_next (16 - (number + 1)) is number)
+
+pub any_end : (is : ℕ → Bool) (number : ℕ) → 16 ≤ number → any_from (16 - number) is number ≡ false
+unfolding any_from
+any_end is number all = let none : 16 - number ≡ 0 = omega (arith, all) in rw none refl
+
+marks_next : (left : ℕ) (r : GridRow) (number blanks : ℕ)
+    → marks (suc left) r number blanks
+    ≡ mark_of (is_changed number r) blanks ++ marks left r (number + 1) (blanks_after (is_changed number r) blanks)
+unfolding marks
+marks_next left r number blanks = refl
+
+pub marks_more : (r : GridRow) (number blanks : ℕ) → number < 16
+    → marks (16 - number) r number blanks
+    ≡ mark_of (is_changed number r) blanks
+    ++ marks (16 - (number + 1)) r (number + 1) (blanks_after (is_changed number r) blanks)
+marks_more r number blanks below =
+    let next : 16 - number ≡ suc (16 - (number + 1)) = omega (arith, below) in
+    rw next (marks_next (16 - (number + 1)) r number blanks)
+
+pub marks_end : (r : GridRow) (number blanks : ℕ) → 16 ≤ number → marks (16 - number) r number blanks ≡ []
+unfolding marks
+marks_end r number blanks all = let none : 16 - number ≡ 0 = omega (arith, all) in rw none refl
+
+many_next : (left : ℕ) (byte : ℕ) → replicate (suc left) byte ≡ byte ∷ replicate left byte
+many_next left byte = refl
+
+pub many_more : (left byte : ℕ) → 0 < left → replicate left byte ≡ (byte ∷ []) ++ replicate (left - 1) byte
+many_more zero byte some = absurd (omega arith)
+many_more (suc left) byte some = ap (λ (n : ℕ). byte ∷ replicate n byte) (omega arith)
+
+pub many_end : (left byte : ℕ) → left ≤ 0 → replicate left byte ≡ []
+many_end zero byte none = refl
+many_end (suc left) byte none = absurd (omega arith)
+
+pub ruleset any_steps = (any_more, any_end)
+
+pub ruleset mark_steps = (AddsAllBut-start, AddsAllBut-more, AddsAllBut-same, Appends-from_all_but, marks_more, marks_end)
+
+pub ruleset many_steps = (AddsAllBut-start, AddsAllBut-more, AddsAllBut-same, Appends-from_all_but, many_more, many_end)

@@ -1,0 +1,6 @@
+-- What a sink over memory has taken.
+use Rattle.std.specs.Prelude.{ℕ, List}
+use Rattle.view_pictures.specs.declared.text_sink.TextSink.{TextSink}
+
+abbrev pub text_of : TextSink → List ℕ
+text_of s = s.bytes.items

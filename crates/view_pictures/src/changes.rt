@@ -1,0 +1,94 @@
+//! What has changed since the last picture of the same thing.
+
+use crate::boxes::{Kind, PictureBox};
+use crate::views::View;
+
+/// What has become of a box, in a word, where it isn't as it was; nothing where there is no picture
+/// from before, and of boxes that tell of no memory, or always the same.
+pub fn change_of(own: &PictureBox<'_>, before: Option<&View<'_>>) -> Option<&'static [u8]> {
+    let boxes = before?.boxes.as_slice();
+    match own.kind {
+        Kind::Descriptor | Kind::Unused => None,
+        Kind::Room | Kind::Pool => size_change(own, boxes),
+        _ if boxes.iter().any(|old| old.is_same(own)) => None,
+        Kind::Block
+            if boxes
+                .iter()
+                .any(|old| old.kind == Kind::Block && old.detail == own.detail) => {
+            Some(block_change(own, boxes))
+        }
+        Kind::Free => Some(free_change(own, boxes)),
+        Kind::Module
+            if boxes.iter().any(|old| old.kind == Kind::Module
+                && old.name == own.name
+                && old.address != own.address) => { Some(b"moved") }
+        kind
+            if boxes
+                .iter()
+                .any(|old| old.kind == kind && old.address == own.address) => {
+            Some(same_place_change(own, boxes))
+        }
+        _ => Some(b"new"),
+    }
+}
+
+// Of room that is left, and of the pool, how much there was tells.
+fn size_change(own: &PictureBox<'_>, boxes: &[PictureBox<'_>]) -> Option<&'static [u8]> {
+    for old in boxes {
+        if old.kind == own.kind {
+            return if own.size > old.size {
+                Some(b"grown")
+            } else if own.size < old.size {
+                Some(b"shrunk")
+            } else {
+                None
+            };
+        }
+    }
+    Some(b"new")
+}
+
+// Free room is what is left of older room, or has some of that in it, or was none.
+fn free_change(own: &PictureBox<'_>, boxes: &[PictureBox<'_>]) -> &'static [u8] {
+    if boxes
+        .iter()
+        .any(|old| old.kind == Kind::Free && is_within(own, old))
+    {
+        b"cut"
+    } else if boxes
+        .iter()
+        .any(|old| old.kind == Kind::Free && is_within(old, own))
+    {
+        b"joined"
+    } else {
+        b"freed"
+    }
+}
+
+fn is_within(inner: &PictureBox<'_>, outer: &PictureBox<'_>) -> bool {
+    outer.address <= inner.address && end_of(inner) <= end_of(outer)
+}
+
+fn end_of(own: &PictureBox<'_>) -> u64 {
+    u64::from(own.address) + u64::from(own.size)
+}
+
+// A block of the flex store that has its anchor still.
+fn block_change(own: &PictureBox<'_>, boxes: &[PictureBox<'_>]) -> &'static [u8] {
+    if boxes.iter().any(|old| old.detail == own.detail && old.address == own.address) {
+        b"resized"
+    } else {
+        b"slid"
+    }
+}
+
+fn same_place_change(own: &PictureBox<'_>, boxes: &[PictureBox<'_>]) -> &'static [u8] {
+    if boxes
+        .iter()
+        .any(|old| old.address == own.address && old.size == own.size)
+    {
+        b"changed"
+    } else {
+        b"resized"
+    }
+}

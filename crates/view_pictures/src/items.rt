@@ -1,0 +1,315 @@
+//! A line of a view as data, and back.
+
+ghost use Rattle.std.specs.Prelude.{◌≡◌, codes};
+ghost use Rattle.profile.specs.Output.{Writes};
+ghost use Rattle.view_pictures.specs.Items.{address_then, item_text, number_then, preferred_text};
+
+use crate::words::{Words, cut_last};
+use itoa::Buffer;
+use profile::{HexText, Sink, WriteFault, push_all, push_parts};
+
+/// What a line of a view tells.
+#[derive(Clone, Copy, Debug)]
+pub enum Item<'a> {
+    /// `heap 00009000 base 64 end 256`; base and end are bytes from its start.
+    Heap(u32, u32, u32),
+    /// `live 00009010 24`: the address and the length.
+    Live(u32, u32),
+    /// `free 00009010 24`.
+    Free(u32, u32),
+    /// `flex 0000A000 0000A400 used 20`: where the range starts and ends, and how much is used.
+    Flex(u32, u32, u32),
+    /// `block anchor 00009000 at 0000A008 size 10`.
+    Block(u32, u32, u32),
+    /// `area 1 base 01800000 size 65536 max 4194304 RMA`.
+    Area(u32, u32, u32, u32, &'a [u8]),
+    /// `pool 173 pages`.
+    Pool(u32),
+    /// `module W at 01800014 length 30`.
+    Module(&'a [u8], u32, u32),
+    /// `  Base word 01C02000 00000000 preferred`: whether it is preferred comes last.
+    Instance(&'a [u8], u32, u32, bool),
+    /// `00009010: 00 --`: the address, and the bytes as they are shown.
+    Row(u32, &'a [u8]),
+}
+
+/// What a line tells, if it is a line of a view. What it gives may be another line's than this one:
+/// its text decides.
+pub fn item_of(line: &[u8]) -> Option<Item<'_>> {
+    let mut words = Words::new(line);
+    let first = words.next()?;
+    match first {
+        b"heap" => heap_item(words),
+        b"live" => Some(Item::Live(words.address()?, words.number()?)),
+        b"free" => Some(Item::Free(words.address()?, words.number()?)),
+        b"flex" => flex_item(words),
+        b"block" => block_item(words),
+        b"area" => area_item(words),
+        b"pool" => Some(Item::Pool(words.number()?)),
+        b"module" => module_item(words.rest()?),
+        b"" => instance_item(line),
+        _ => row_item(line),
+    }
+}
+
+fn heap_item(mut words: Words<'_>) -> Option<Item<'_>> {
+    let start = words.address()?;
+    words.pass(b"base")?;
+    let base = words.number()?;
+    words.pass(b"end")?;
+    Some(Item::Heap(start, base, words.number()?))
+}
+
+fn flex_item(mut words: Words<'_>) -> Option<Item<'_>> {
+    let start = words.address()?;
+    let end = words.address()?;
+    words.pass(b"used")?;
+    Some(Item::Flex(start, end, words.number()?))
+}
+
+fn block_item(mut words: Words<'_>) -> Option<Item<'_>> {
+    words.pass(b"anchor")?;
+    let anchor = words.address()?;
+    words.pass(b"at")?;
+    let address = words.address()?;
+    words.pass(b"size")?;
+    Some(Item::Block(anchor, address, words.number()?))
+}
+
+fn area_item(mut words: Words<'_>) -> Option<Item<'_>> {
+    let number = words.number()?;
+    words.pass(b"base")?;
+    let base = words.address()?;
+    words.pass(b"size")?;
+    let size = words.number()?;
+    words.pass(b"max")?;
+    let max = words.number()?;
+    Some(Item::Area(number, base, size, max, words.rest()?))
+}
+
+// A title may have any bytes, so what is known stands behind it.
+fn module_item(rest: &[u8]) -> Option<Item<'_>> {
+    let (title, place) = cut_last(rest, b" at ")?;
+    let mut words = Words::new(place);
+    let address = words.address()?;
+    words.pass(b"length")?;
+    Some(Item::Module(title, address, words.number()?))
+}
+
+fn instance_item(line: &[u8]) -> Option<Item<'_>> {
+    let (name, place) = cut_last(line.strip_prefix(b"  ")?, b" word ")?;
+    let mut words = Words::new(place);
+    let word = words.address()?;
+    let value = words.address()?;
+    Some(Item::Instance(name, word, value, words.rest().is_some()))
+}
+
+fn row_item(line: &[u8]) -> Option<Item<'_>> {
+    let (digits, bytes) = cut_last(line, b": ")?;
+    Some(Item::Row(Words::new(digits).address()?, bytes))
+}
+
+/// Writes the line that an item is, with its line feed.
+pub fn push_item<W: Sink>(sink: &mut W, item: &Item<'_>) -> Result<(), WriteFault>
+    ensures { Writes W.contents W.has_failed sink.old sink.new result (item_text item.now) }
+{
+    match *item {
+        Item::Heap(start, base, end) => push_heap(sink, start, base, end),
+        Item::Live(address, size) => push_part(sink, b"live ", address, size),
+        Item::Free(address, size) => push_part(sink, b"free ", address, size),
+        Item::Flex(start, end, used) => push_flex(sink, start, end, used),
+        Item::Block(anchor, address, size) => push_block(sink, anchor, address, size),
+        Item::Area(number, base, size, max, name) => push_area(sink, number, base, size, max, name),
+        Item::Pool(pages) => push_pool(sink, pages),
+        Item::Module(title, address, size) => push_module(sink, title, address, size),
+        Item::Instance(name, word, value, preferred) => push_instance(
+            sink, name, word, value, preferred,
+        ),
+        Item::Row(address, bytes) => push_row(sink, address, bytes),
+    }
+}
+
+fn push_heap<W: Sink>(sink: &mut W, start: u32, base: u32, end: u32) -> Result<(), WriteFault>
+    ensures { Writes W.contents W.has_failed sink.old sink.new result (item_text (Item.Heap start base end)) }
+{
+    let mut base_digits = Buffer::new();
+    let mut end_digits = Buffer::new();
+    push_parts(
+        sink,
+        &[
+            b"heap ".as_slice(),
+            HexText::word(start).as_slice(),
+            b" base ".as_slice(),
+            base_digits.format(base).as_bytes(),
+            b" end ".as_slice(),
+            end_digits.format(end).as_bytes(),
+            b"\n".as_slice(),
+        ],
+    )
+}
+
+fn push_part<W: Sink>(sink: &mut W, word: &[u8], address: u32, size: u32) -> Result<(), WriteFault>
+    ensures { Writes W.contents W.has_failed sink.old sink.new result
+        (address_then word.now address (number_then (codes " ") size (codes "\n"))) }
+{
+    let mut digits = Buffer::new();
+    push_parts(
+        sink,
+        &[
+            word,
+            HexText::word(address).as_slice(),
+            b" ".as_slice(),
+            digits.format(size).as_bytes(),
+            b"\n".as_slice(),
+        ],
+    )
+}
+
+fn push_flex<W: Sink>(sink: &mut W, start: u32, end: u32, used: u32) -> Result<(), WriteFault>
+    ensures { Writes W.contents W.has_failed sink.old sink.new result (item_text (Item.Flex start end used)) }
+{
+    let mut digits = Buffer::new();
+    push_parts(
+        sink,
+        &[
+            b"flex ".as_slice(),
+            HexText::word(start).as_slice(),
+            b" ".as_slice(),
+            HexText::word(end).as_slice(),
+            b" used ".as_slice(),
+            digits.format(used).as_bytes(),
+            b"\n".as_slice(),
+        ],
+    )
+}
+
+fn push_block<W: Sink>(sink: &mut W, anchor: u32, address: u32, size: u32) -> Result<(), WriteFault>
+    ensures { Writes W.contents W.has_failed sink.old sink.new result (item_text (Item.Block anchor address size)) }
+{
+    let mut digits = Buffer::new();
+    push_parts(
+        sink,
+        &[
+            b"block anchor ".as_slice(),
+            HexText::word(anchor).as_slice(),
+            b" at ".as_slice(),
+            HexText::word(address).as_slice(),
+            b" size ".as_slice(),
+            digits.format(size).as_bytes(),
+            b"\n".as_slice(),
+        ],
+    )
+}
+
+fn push_area<W: Sink>(
+    sink: &mut W,
+    number: u32,
+    base: u32,
+    size: u32,
+    max: u32,
+    name: &[u8],
+) -> Result<(), WriteFault>
+    ensures { Writes W.contents W.has_failed sink.old sink.new result
+        (item_text (Item.Area number base size max name.entry)) }
+{
+    let mut number_digits = Buffer::new();
+    let mut size_digits = Buffer::new();
+    let mut max_digits = Buffer::new();
+    push_parts(
+        sink,
+        &[
+            b"area ".as_slice(),
+            number_digits.format(number).as_bytes(),
+            b" base ".as_slice(),
+            HexText::word(base).as_slice(),
+            b" size ".as_slice(),
+            size_digits.format(size).as_bytes(),
+            b" max ".as_slice(),
+            max_digits.format(max).as_bytes(),
+            b" ".as_slice(),
+            name,
+            b"\n".as_slice(),
+        ],
+    )
+}
+
+fn push_pool<W: Sink>(sink: &mut W, pages: u32) -> Result<(), WriteFault>
+    ensures { Writes W.contents W.has_failed sink.old sink.new result (item_text (Item.Pool pages)) }
+{
+    let mut digits = Buffer::new();
+    push_parts(
+        sink,
+        &[
+            b"pool ".as_slice(),
+            digits.format(pages).as_bytes(),
+            b" pages\n".as_slice(),
+        ],
+    )
+}
+
+fn push_module<W: Sink>(
+    sink: &mut W,
+    title: &[u8],
+    address: u32,
+    size: u32,
+) -> Result<(), WriteFault>
+    ensures { Writes W.contents W.has_failed sink.old sink.new result (item_text (Item.Module title.entry address size)) }
+{
+    let mut digits = Buffer::new();
+    push_parts(
+        sink,
+        &[
+            b"module ".as_slice(),
+            title,
+            b" at ".as_slice(),
+            HexText::word(address).as_slice(),
+            b" length ".as_slice(),
+            digits.format(size).as_bytes(),
+            b"\n".as_slice(),
+        ],
+    )
+}
+
+fn push_instance<W: Sink>(
+    sink: &mut W,
+    name: &[u8],
+    word: u32,
+    value: u32,
+    is_preferred: bool,
+) -> Result<(), WriteFault>
+    ensures { Writes W.contents W.has_failed sink.old sink.new result
+        (item_text (Item.Instance name.entry word value is_preferred)) }
+{
+    push_parts(
+        sink,
+        &[
+            b"  ".as_slice(),
+            name,
+            b" word ".as_slice(),
+            HexText::word(word).as_slice(),
+            b" ".as_slice(),
+            HexText::word(value).as_slice(),
+        ],
+    )?;
+    push_all(sink, line_end(is_preferred))
+}
+
+fn line_end(is_preferred: bool) -> &'static [u8]
+    ensures { result.now ≡ preferred_text is_preferred }
+{
+    if is_preferred { b" preferred\n" } else { b"\n" }
+}
+
+fn push_row<W: Sink>(sink: &mut W, address: u32, bytes: &[u8]) -> Result<(), WriteFault>
+    ensures { Writes W.contents W.has_failed sink.old sink.new result (item_text (Item.Row address bytes.entry)) }
+{
+    push_parts(
+        sink,
+        &[
+            HexText::word(address).as_slice(),
+            b": ".as_slice(),
+            bytes,
+            b"\n".as_slice(),
+        ],
+    )
+}

@@ -1,0 +1,28 @@
+//! What the views of a script show, read from their text as data, where its boxes stand, and how they
+//! are drawn for a terminal, as a bar of characters. It knows no machine.
+#![tactic(auto)]
+
+pub mod bars;
+pub mod boxes;
+mod changes;
+pub mod gone;
+pub mod items;
+pub mod layout;
+pub mod row_marks;
+pub mod rows;
+mod signs;
+pub mod spelt;
+pub mod text_sink;
+pub mod views;
+mod words;
+
+pub use bars::push_bars;
+pub use boxes::{Kind, PictureBox, boxes_of};
+pub use gone::gone_of;
+pub use items::Item;
+pub use layout::{Drawn, Layout, layout_of};
+pub use row_marks::push_marks;
+pub use rows::{GridRow, is_changed, rows_of, shown_byte, top_of};
+pub use spelt::{digit, push_spelt};
+pub use text_sink::TextSink;
+pub use views::{View, view_of};

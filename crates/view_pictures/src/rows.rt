@@ -1,0 +1,111 @@
+//! A view of memory as rows of bytes.
+
+ghost use Rattle.std.specs.Prelude.{◌≡◌, ◌<◌, ◌++◌, IfOk, OnOk, map, option_map};
+ghost use Rattle.view_pictures.specs.Rows.{bytes_of, is_changed, row_told, rows_told, shown_byte, top_of};
+
+use crate::items::Item;
+use crate::views::View;
+use std::alloc::{AllocError, Global};
+
+const ROW_HEIGHT: u32 = 24;
+
+const MARGIN: u32 = 8;
+
+/// A row of memory, and what was shown at its address before.
+#[derive(Clone, Copy, Debug)]
+pub struct GridRow<'a> {
+    /// Its upper edge.
+    pub top: u32,
+    /// The address of its first byte.
+    pub address: u32,
+    /// The bytes as they are shown.
+    pub bytes: &'a [u8],
+    /// Those that a view from before has; none where there is no such view.
+    pub before: &'a [u8],
+}
+
+/// The rows of a view of memory.
+///
+/// # Errors
+///
+/// Memory ran out.
+pub fn rows_of<'a>(
+    alloc: Global,
+    items: &[Item<'a>],
+    before: Option<&View<'a>>,
+) -> Result<Vec<GridRow<'a>>, AllocError>
+    ensures { IfOk result (λ rows. map bytes_of rows.items ≡ rows_told items.entry.now) }
+{
+    let mut rows = Vec::new(alloc);
+    for item in items {
+        push_row_of(&mut rows, item, before)?;
+    }
+    Ok(rows)
+}
+
+fn push_row_of<'a>(
+    rows: &mut Vec<GridRow<'a>>,
+    item: &Item<'a>,
+    before: Option<&View<'a>>,
+) -> Result<(), AllocError>
+    ensures { OnOk result (map bytes_of rows.new.items ≡ map bytes_of rows.old.items ++ row_told item.now) }
+{
+    if let Item::Row(address, bytes) = *item {
+        rows.push(GridRow {
+            top: top_of(rows.len()),
+            address,
+            bytes,
+            before: row_before(address, before),
+        })?;
+    }
+    Ok(())
+}
+
+/// The upper edge of a row with so many above it.
+pub fn top_of(count: usize) -> u32
+    ensures { result ≡ top_of count }
+{
+    let down = (count as u64).saturating_mul(u64::from(ROW_HEIGHT));
+    MARGIN.saturating_add(down.min(u64::from(u32::MAX)) as u32)
+}
+
+// The bytes that were shown at an address.
+fn row_before<'a>(address: u32, before: Option<&View<'a>>) -> &'a [u8] {
+    if let Some(view) = before {
+        for item in view.items.iter() {
+            if let Item::Row(start, bytes) = *item {
+                if start == address {
+                    return bytes;
+                }
+            }
+        }
+    }
+    &[]
+}
+
+/// The two characters of a byte of a row, if there are so many.
+pub fn shown_byte(number: usize, bytes: &[u8]) -> Option<&[u8]>
+    requires { number < 16 }
+    ensures { option_map (λ byte. byte.now) result ≡ shown_byte number bytes.now }
+{
+    let place = 3 * number;
+    if place + 1 < bytes.len() {
+        Some(&bytes[place..place + 2])
+    } else {
+        None
+    }
+}
+
+/// Whether a byte is shown otherwise than before; not where it wasn't shown.
+pub fn is_changed(number: usize, row: &GridRow<'_>) -> bool
+    requires { number < 16 }
+    ensures { result ≡ is_changed number row.now }
+{
+    match (
+        shown_byte(number, row.bytes),
+        shown_byte(number, row.before),
+    ) {
+        (Some(new), Some(old)) => new != old,
+        _ => false,
+    }
+}

@@ -1,0 +1,88 @@
+//! The answer of a view as its items.
+
+ghost use Rattle.std.specs.Prelude.{◌≡◌, true, IfOk, IfSome, map};
+ghost use Rattle.view_pictures.specs.Boxes.{place_of, places_told};
+ghost use Rattle.view_pictures.specs.Items.{items_text};
+
+use crate::boxes::{PictureBox, boxes_of};
+use crate::items::{Item, item_of, push_item};
+use crate::text_sink::TextSink;
+use std::alloc::{AllocError, Global};
+use text_lines::Lines;
+
+/// What the answer of a view tells, line by line.
+#[derive(Drop)]
+pub struct View<'a> {
+    /// An item for each line.
+    pub items: Vec<Item<'a>>,
+    /// The boxes of its picture.
+    pub boxes: Vec<PictureBox<'a>>,
+}
+
+impl View<'_> {
+    /// Whether it is a view of memory.
+    pub fn is_memory(&self) -> bool {
+        matches!(self.items.first(), Some(Item::Row(_, _)))
+    }
+
+    /// Whether both look at the same thing: the heap or the memory of one address, or the one store,
+    /// all areas or all modules.
+    pub fn is_of(&self, other: &View<'_>) -> bool {
+        match (self.items.first(), other.items.first()) {
+            (Some(Item::Heap(start, _, _)), Some(Item::Heap(other, _, _))) => start == other,
+            (Some(Item::Row(start, _)), Some(Item::Row(other, _))) => start == other,
+            (Some(Item::Flex(_, _, _)), Some(Item::Flex(_, _, _))) => true,
+            (Some(Item::Area(_, _, _, _, _)), Some(Item::Area(_, _, _, _, _))) => true,
+            (Some(Item::Module(_, _, _)), Some(Item::Module(_, _, _))) => true,
+            _ => false,
+        }
+    }
+}
+
+/// The items that an answer tells, line by line; `None` where it isn't the very text of some items,
+/// or is empty.
+///
+/// # Errors
+///
+/// Memory ran out.
+pub fn view_of<'a>(alloc: Global, answer: &'a [u8]) -> Result<Option<View<'a>>, AllocError>
+    ensures text { IfOk result (λ found. IfSome found (λ view. items_text view.items.items ≡ answer.now)) }
+    ensures boxes { IfOk result (λ found. IfSome found (λ view.
+        map place_of view.boxes.items ≡ places_told view.items.items)) }
+{
+    let mut items = Vec::new(alloc);
+    let mut lines = Lines::new(answer);
+    while let Some(line) = lines.next_line() {
+        match item_of(line) {
+            Some(item) => items.push(item)?,
+            None => return Ok(None),
+        }
+    }
+    let text = written_text(alloc, items.as_slice())?;
+    if items.is_empty() || !is_same(text.as_slice(), answer) {
+        return Ok(None);
+    }
+    let boxes = boxes_of(alloc, items.as_slice())?;
+    Ok(Some(View { items, boxes }))
+}
+
+// The items, written out.
+#[tactic(auto, using(crate::proofs::TextLemmas::written_steps))]
+fn written_text(alloc: Global, items: &[Item<'_>]) -> Result<Vec<u8>, AllocError>
+    ensures { IfOk result (λ text. text.items ≡ items_text items.now) }
+{
+    let mut written = TextSink::new(alloc);
+    for item in items {
+        if push_item(&mut written, item).is_err() {
+            return Err(AllocError);
+        }
+    }
+    Ok(written.into_bytes())
+}
+
+#[tactic(auto, using(crate::proofs::TextLemmas::same_bytes))]
+fn is_same(one: &[u8], other: &[u8]) -> bool
+    ensures { result ≡ true → one.now ≡ other.now }
+{
+    one == other
+}
