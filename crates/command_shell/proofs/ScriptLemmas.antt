@@ -177,18 +177,17 @@ fewer_left line all rest left r first stays =
 pub state_images : (session : Session) (images : List Entry) → (script_state session images).images ≡ images
 state_images session images = refl
 
--- the last stop of a script that was read, by that of the state after its lines
-pub last_told : (o : Option (List ℕ)) (sizes : Sizes) (images : List Entry) (budget : ℕ) (read text : List ℕ)
-    (first now : ScriptState) (last : Option Stop)
+-- what is told of a script that was read, by what its state has after its lines
+pub told_after : {A : Type 0} (part : ScriptState → A) (o : Option (List ℕ)) (sizes : Sizes) (images : List Entry) (budget : ℕ)
+    (read text : List ℕ) (first now : ScriptState) (told : A)
     → IfSome o (λ script. read ≡ script) → text ≡ read → first ≡ start_state sizes images budget
-    → now ≡ (lines_told 0 first None (lines text)).state → last ≡ now.last
-    → IfSome o (λ script. last ≡ (script_told sizes images budget script).state.last)
+    → now ≡ (lines_told 0 first None (lines text)).state → told ≡ part now
+    → IfSome o (λ script. told ≡ part (script_told sizes images budget script).state)
 unfolding script_told
-last_told None sizes images budget read text first now last is same start after ends = tt
-last_told (Some script) sizes images budget read text first now last is same start after ends =
-    ends ∙ ap (λ (w : ScriptState). w.last) after
-    ∙ ap (λ (w : ScriptState). (lines_told 0 w None (lines text)).state.last) start
-    ∙ ap (λ (xs : List ℕ). (lines_told 0 (start_state sizes images budget) None (lines xs)).state.last) (same ∙ is)
+told_after part None sizes images budget read text first now told is same start after ends = tt
+told_after part (Some script) sizes images budget read text first now told is same start after ends =
+    ends ∙ ap part after ∙ ap (λ (w : ScriptState). part (lines_told 0 w None (lines text)).state) start
+    ∙ ap (λ (xs : List ℕ). part (lines_told 0 (start_state sizes images budget) None (lines xs)).state) (same ∙ is)
 
 pub ruleset line_steps = (
   AddsAllBut-start,

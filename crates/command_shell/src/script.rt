@@ -22,6 +22,8 @@ use std::alloc::Global;
 pub struct Summary {
     /// The last stop that a line was answered with.
     pub last: Option<Stop>,
+    /// How many steps are left of the budget.
+    pub left: u64,
 }
 
 /// Reads a script whole, and then answers its lines one after another on a fresh machine of these
@@ -46,6 +48,8 @@ pub fn run_script<R: Source, W: Sink>(
         (script_told config images.old budget script).text)) }
     ensures last { IfOk result (λ summary. IfSome (R.remaining reader.old) (λ script.
         summary.last ≡ (script_told config images.old budget script).state.last)) }
+    ensures left { IfOk result (λ summary. IfSome (R.remaining reader.old) (λ script.
+        summary.left ≡ (script_told config images.old budget script).state.left)) }
     ensures images { IfOk result (λ _. IfSome (R.remaining reader.old) (λ script.
         images.new ≡ (script_told config images.old budget script).state.images)) }
     ensures added { OnErr result (IfSome (R.remaining reader.old) (λ script.
@@ -71,6 +75,7 @@ pub fn run_script<R: Source, W: Sink>(
     run_lines(&mut session, images, writer, script.as_slice())?;
     Ok(Summary {
         last: session.last(),
+        left: session.left(),
     })
 }
 

@@ -54,6 +54,13 @@ impl Session {
         self.last
     }
 
+    /// How many steps are left of the budget.
+    pub fn left(&self) -> u64
+        ensures { (images : List Entry) → result ≡ (script_state self.now images).left }
+    {
+        self.left
+    }
+
     /// Answers a request; of a HEX or an ASM line, reads its block from the lines that follow.
     ///
     /// # Errors

@@ -34,11 +34,12 @@ unfolding part_html
 part_written a b c d e f class part first second third fourth fifth =
     five a b c d e f (codes "<pre class=\"") class (codes "\">\n") (escaped part) (codes "</pre>") first second third fourth fifth
 
-pub told_written : (a b c d e : Option (List ℕ)) (guest answer : List ℕ) → Appends a b (codes "<div class=\"told\">")
-    → Appends b c guest → Appends c d answer → Appends d e (codes "</div>") → Appends a e (told_html guest answer)
+pub told_written : (a b c d e f : Option (List ℕ)) (guest answer steps : List ℕ) → Appends a b (codes "<div class=\"told\">")
+    → Appends b c guest → Appends c d answer → Appends d e steps → Appends e f (codes "</div>")
+    → Appends a f (told_html guest answer steps)
 unfolding told_html
-told_written a b c d e guest answer first second third fourth =
-    four a b c d e (codes "<div class=\"told\">") guest answer (codes "</div>") first second third fourth
+told_written a b c d e f guest answer steps first second third fourth fifth =
+    five a b c d e f (codes "<div class=\"told\">") guest answer steps (codes "</div>") first second third fourth fifth
 
 pub figure_written : (a b c d : Option (List ℕ)) (picture : List ℕ) → Appends a b (codes "<figure>") → Appends b c picture
     → Appends c d (codes "</figure>") → Appends a d (figure_html picture)

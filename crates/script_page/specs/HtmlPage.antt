@@ -25,12 +25,14 @@ part_html class part = codes "<pre class=\"" ++ (class ++ (codes "\">\n" ++ (esc
 abbrev pub answer_part : List ℕ → List ℕ → List ℕ
 answer_part class part = if length part == 0 then [] else part_html class part
 
--- what the guest printed, and the answer behind that
-unfoldable pub told_html : List ℕ → List ℕ → List ℕ
-told_html guest answer = codes "<div class=\"told\">" ++ (guest ++ (answer ++ codes "</div>"))
+-- what the guest printed, the answer behind that, and the steps
+unfoldable pub told_html : List ℕ → List ℕ → List ℕ → List ℕ
+told_html guest answer steps = codes "<div class=\"told\">" ++ (guest ++ (answer ++ (steps ++ codes "</div>")))
 
 abbrev pub answers_html : Shown → List ℕ
-answers_html s = told_html (answer_part (codes "guest") s.printed.now) (answer_part (codes "answer") s.answer.now)
+answers_html s =
+    told_html (answer_part (codes "guest") s.printed.now) (answer_part (codes "answer") s.answer.now)
+    (answer_part (codes "steps") s.steps.items)
 
 unfoldable pub figure_html : List ℕ → List ℕ
 figure_html picture = codes "<figure>" ++ (picture ++ codes "</figure>")

@@ -1,5 +1,6 @@
 -- What a page is: the lines of a script, and under them what they are answered.
-use Rattle.std.specs.Prelude.{◌≡◌, ℕ, ◌+◌, ◌-◌, ◌^◌, min, All, List, [], ◌∷◌, ◌++◌, length, map, take}
+use Rattle.std.specs.Prelude.{◌≡◌, ℕ, zero, suc, ◌+◌, ◌-◌, ◌^◌, min, All, List, [], ◌∷◌, ◌++◌, codes, length, map, take}
+use Rattle.std.specs.Fmt.{decimal}
 use Rattle.std.specs.List.{flat_map}
 use Rattle.std.specs.Str.Lines.{lines}
 use Rattle.script_page.specs.Setting.{told_by}
@@ -7,6 +8,8 @@ use Rattle.script_page.specs.Pictures.{IsPicture}
 use Rattle.script_page.specs.declared.form.Form.{Form}
 use Rattle.script_page.specs.declared.setting.Setting.{Setting}
 use Rattle.script_page.specs.declared.entry.Entry.{Entry}
+use Rattle.script_page.specs.declared.entry.LineKind.{LineKind}
+use Rattle.script_page.specs.declared.entry.LineKind.TheVariants as kind
 use Rattle.script_page.specs.declared.shown.Shown.{Shown}
 
 -- the lines of the entries, one after another
@@ -27,12 +30,32 @@ pub record IsPageBy (text : List ℕ → List ℕ) (script : List ℕ) (entries 
 unfoldable pub IsPage : Setting → List ℕ → List Entry → Type 0
 IsPage setting script entries = IsPageBy (λ lines. (told_by setting lines).text) script entries
 
--- one entry more, of these lines and with this answer
-pub record OneMore (old new : List Entry) (lines answer : List ℕ) : Type 0 where
+-- what is left of the budget after lines
+abbrev pub left_behind : Setting → List ℕ → ℕ
+left_behind setting lines = (told_by setting lines).state.left
+
+-- how many steps each entry takes: what is left after it less than before it
+abbrev pub steps_behind : (List ℕ → ℕ) → List ℕ → List Entry → List ℕ
+steps_behind left front [] = []
+steps_behind left front (e ∷ rest) = (left front - left (front ++ e.lines.now)) ∷ steps_behind left (front ++ e.lines.now) rest
+
+abbrev pub HasSteps : (List ℕ → ℕ) → List Entry → Type 0
+HasSteps left entries = map (λ (e : Entry). e.steps) entries ≡ steps_behind left [] entries
+
+-- From entries up to a place to those of all lines, where so many steps are left before the first line, before these lines
+-- and after them.
+unfoldable pub AddsSteps : List Entry → List Entry → List ℕ → List ℕ → ℕ → ℕ → ℕ → Type 0
+AddsSteps old new front lines most before after =
+    (left : List ℕ → ℕ) → HasSteps left old → lines_of old ≡ front → most ≡ left [] → before ≡ left front → after ≡ left lines
+    → HasSteps left new
+
+-- one entry more, of these lines, with this answer and so many steps
+pub record OneMore (old new : List Entry) (lines answer : List ℕ) (steps : ℕ) : Type 0 where
   pub entry : Entry
   pub whole : new ≡ old ++ entry ∷ []
   pub own_lines : entry.lines.now ≡ lines
   pub own_answer : entry.answer.items ≡ answer
+  pub own_steps : entry.steps ≡ steps
 
 -- From a page of the lines up to a place to one of all lines, where both are answered so, by whatever rule.
 unfoldable pub GoesOn : List Entry → List Entry → List ℕ → List ℕ → List ℕ → List ℕ → Type 0
@@ -52,10 +75,18 @@ numbers_from number (e ∷ rest) = number ∷ numbers_from (number_after number 
 unfoldable pub ShowsItsAnswer : Form → Shown → Type 0
 ShowsItsAnswer form s = IsPicture form (s.printed.now ++ s.answer.now) s.picture.items
 
+-- how many steps a line took that takes some
+abbrev pub steps_text : LineKind → ℕ → List ℕ
+steps_text kind.Steps zero = []
+steps_text kind.Steps (suc n) = decimal (suc n) ++ codes " steps"
+steps_text kind.View n = []
+steps_text kind.Other n = []
+
 -- What is shown of each entry, in order: its lines by their numbers, what the guest printed, and the answer behind that;
--- and the picture of what that tells.
+-- its steps; and the picture of what that tells.
 pub record AreShown (form : Form) (entries : List Entry) (shown : List Shown) : Type 0 where
   pub numbers : map (λ (s : Shown). s.number) shown ≡ numbers_from 1 entries
   pub lines : map (λ (s : Shown). s.lines.now) shown ≡ map (λ (e : Entry). e.lines.now) entries
   pub answers : map (λ (s : Shown). s.printed.now ++ s.answer.now) shown ≡ map (λ (e : Entry). e.answer.items) entries
+  pub steps : map (λ (s : Shown). s.steps.items) shown ≡ map (λ (e : Entry). steps_text e.kind e.steps) entries
   pub pictures : All (ShowsItsAnswer form) shown

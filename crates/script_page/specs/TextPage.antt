@@ -37,7 +37,7 @@ behind front lines = flat_map (line_behind front) lines
 abbrev pub text_entry : Shown → List ℕ
 text_entry s =
     numbered s.number (lines s.lines.now) ++ (behind (codes "     : ") (lines s.printed.now)
-    ++ (behind (codes "       ") (lines s.answer.now) ++ s.picture.items))
+    ++ (behind (codes "       ") (lines s.answer.now) ++ (behind (codes "     = ") (lines s.steps.items) ++ s.picture.items)))
 
 abbrev pub text_entries : List Shown → List ℕ
 text_entries shown = flat_map text_entry shown

@@ -25,6 +25,8 @@ pub struct Entry<'a> {
     pub kind: LineKind,
     /// What it is answered.
     pub answer: Vec<u8>,
+    /// How many steps of the budget it takes.
+    pub steps: u64,
 }
 
 impl<'a> Entry<'a> {
@@ -33,14 +35,21 @@ impl<'a> Entry<'a> {
     /// # Errors
     ///
     /// Memory ran out.
-    pub fn new(alloc: Global, lines: &'a [u8], answer: &[u8]) -> Result<Entry<'a>, AllocError>
+    pub fn new(
+        alloc: Global,
+        lines: &'a [u8],
+        answer: &[u8],
+        steps: u64,
+    ) -> Result<Entry<'a>, AllocError>
         ensures lines { IfOk result (λ entry. entry.lines.now ≡ lines.entry.now) }
         ensures answer { IfOk result (λ entry. entry.answer.items ≡ answer.now) }
+        ensures steps { IfOk result (λ entry. entry.steps ≡ steps) }
     {
         Ok(Entry {
             lines,
             kind: kind_of(lines),
             answer: Vec::from_slice(alloc, answer)?,
+            steps,
         })
     }
 }

@@ -85,6 +85,7 @@ fn push_answers<W: Sink>(sink: &mut W, shown: &Shown<'_>) -> Result<(), WriteFau
     push_all(sink, b"<div class=\"told\">")?;
     push_part(sink, b"guest", shown.printed)?;
     push_part(sink, b"answer", shown.answer)?;
+    push_part(sink, b"steps", shown.steps.as_slice())?;
     push_all(sink, b"</div>")?;
     Ok(())
 }

@@ -1,6 +1,6 @@
 //! The page as data.
 ghost use Rattle.std.specs.Prelude.{◌≡◌, ◌≤◌, ◌++◌, length, take, IfOk, IfSome, OnOk};
-ghost use Rattle.script_page.specs.Page.{GoesOn, IsPage, OneMore};
+ghost use Rattle.script_page.specs.Page.{AddsSteps, GoesOn, HasSteps, IsPage, OneMore, left_behind};
 ghost use Rattle.script_page.specs.Setting.{told_by};
 
 use crate::entry::{Entry, size_of_request};
@@ -33,15 +33,25 @@ pub fn page_of<'a>(
     setting: &Setting<'_>,
 ) -> Result<Page<'a>, RunError>
     ensures page { IfOk result (λ page. IsPage setting.now script.entry.now page.entries.items) }
+    ensures steps { IfOk result (λ page. HasSteps (left_behind setting.now) page.entries.items) }
     ensures last { IfOk result (λ page. page.last ≡ (told_by setting.now script.entry.now).state.last) }
 {
     let mut entries = Vec::new(alloc);
     let mut told = setting.told(alloc, b"")?;
+    let most = told.left;
     let mut end = 0;
     while end < script.len() {
         let next = end + size_of_request(&script[end..]);
         let after = setting.told(alloc, &script[..next])?;
-        add_entry(alloc, &mut entries, &script[..next], end, &told, &after)?;
+        add_entry(
+            alloc,
+            &mut entries,
+            &script[..next],
+            end,
+            most,
+            &told,
+            &after,
+        )?;
         told = after;
         end = next;
     }
@@ -52,25 +62,33 @@ pub fn page_of<'a>(
 }
 
 // Adds the lines behind those that end there, by what both are answered. What a line is answered never
-// changes what those before it are; if it did, all of them would stand together.
+// changes what those before it are; if it did, all of them would stand together. Before the first line
+// `most` steps are left.
 #[tactic(auto, using(crate::proofs::PageLemmas::entry_steps))]
 fn add_entry<'a>(
     alloc: Global,
     entries: &mut Vec<Entry<'a>>,
     lines: &'a [u8],
     end: usize,
+    most: u64,
     before: &Told,
     after: &Told,
 ) -> Result<(), AllocError>
     requires { end ≤ length lines.now }
-    ensures { OnOk result (GoesOn entries.old.items entries.new.items (take end lines.entry.now)
+    ensures answers { OnOk result (GoesOn entries.old.items entries.new.items (take end lines.entry.now)
         lines.entry.now before.now.text.items after.now.text.items) }
+    ensures steps { OnOk result (AddsSteps entries.old.items entries.new.items (take end lines.entry.now)
+        lines.entry.now most before.now.left after.now.left) }
 {
     match behind_front(after.text.as_slice(), before.text.as_slice()) {
-        Some(answer) => push_entry(alloc, entries, &lines[end..], answer),
+        Some(answer) => {
+            let steps = before.left.saturating_sub(after.left);
+            push_entry(alloc, entries, &lines[end..], answer, steps)
+        }
         None => {
             entries.clear();
-            push_entry(alloc, entries, lines, after.text.as_slice())
+            let steps = most.saturating_sub(after.left);
+            push_entry(alloc, entries, lines, after.text.as_slice(), steps)
         }
     }
 }
@@ -87,10 +105,11 @@ fn push_entry<'a>(
     entries: &mut Vec<Entry<'a>>,
     lines: &'a [u8],
     answer: &[u8],
+    steps: u64,
 ) -> Result<(), AllocError>
-    ensures { OnOk result (OneMore entries.old.items entries.new.items lines.entry.now answer.now) }
+    ensures { OnOk result (OneMore entries.old.items entries.new.items lines.entry.now answer.now steps) }
 {
-    let entry = Entry::new(alloc, lines, answer)?;
+    let entry = Entry::new(alloc, lines, answer, steps)?;
     entries.push(entry)?;
     Ok(())
 }

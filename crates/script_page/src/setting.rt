@@ -36,6 +36,8 @@ pub struct Told {
     pub text: Vec<u8>,
     /// The last stop that a line was answered with.
     pub last: Option<Stop>,
+    /// How many steps are left of the budget.
+    pub left: u64,
 }
 
 impl Setting<'_> {
@@ -47,6 +49,7 @@ impl Setting<'_> {
     pub fn told(&self, alloc: Global, script: &[u8]) -> Result<Told, RunError>
         ensures text { IfOk result (λ told. told.text.items ≡ (told_by self.now script.now).text) }
         ensures last { IfOk result (λ told. told.last ≡ (told_by self.now script.now).state.last) }
+        ensures left { IfOk result (λ told. told.left ≡ (told_by self.now script.now).state.left) }
     {
         let mut images = images_of(alloc, self.images)?;
         let mut answers = TextSink::new(alloc);
@@ -62,6 +65,7 @@ impl Setting<'_> {
         Ok(Told {
             text: answers.into_bytes(),
             last: summary.last,
+            left: summary.left,
         })
     }
 }

@@ -1,13 +1,14 @@
 //! What a page shows of each entry: its parts, and its picture.
 ghost use Rattle.std.specs.Prelude.{◌≡◌, ◌++◌, IfOk, length};
 ghost use Rattle.std.specs.Str.Lines.{lines};
-ghost use Rattle.script_page.specs.Page.{AreShown, ShowsItsAnswer, number_after};
+ghost use Rattle.script_page.specs.Page.{AreShown, ShowsItsAnswer, number_after, steps_text};
 
 use crate::answers::parts_of;
 use crate::entry::{Entry, LineKind};
 use crate::form::Form;
 use crate::pictures::picture_of;
 use command_shell_lines::text_lines::Lines;
+use itoa::Buffer;
 use std::alloc::{AllocError, Global};
 
 /// What a page shows of an entry.
@@ -21,6 +22,8 @@ pub struct Shown<'a> {
     pub printed: &'a [u8],
     /// The answer behind that.
     pub answer: &'a [u8],
+    /// How many steps it took, as `12 steps`, where it took some.
+    pub steps: Vec<u8>,
     /// The picture, if there is one.
     pub picture: Vec<u8>,
 }
@@ -67,8 +70,10 @@ fn shown_entry<'a>(
     ensures number { IfOk result (λ s. s.number ≡ number) }
     ensures lines { IfOk result (λ s. s.lines.now ≡ entry.entry.now.lines.now) }
     ensures answer { IfOk result (λ s. s.printed.now ++ s.answer.now ≡ entry.entry.now.answer.items) }
+    ensures steps { IfOk result (λ s. s.steps.items ≡ steps_text entry.entry.now.kind entry.entry.now.steps) }
     ensures picture { IfOk result (λ s. ShowsItsAnswer form s) }
 {
+    let steps = steps_of(alloc, entry)?;
     let picture = picture_of(alloc, entry, earlier, form)?;
     let (printed, answer) = parts_of_answer(entry);
     Ok(Shown {
@@ -76,8 +81,21 @@ fn shown_entry<'a>(
         lines: entry.lines,
         printed,
         answer,
+        steps,
         picture,
     })
+}
+
+fn steps_of(alloc: Global, entry: &Entry<'_>) -> Result<Vec<u8>, AllocError>
+    ensures { IfOk result (λ text. text.items ≡ steps_text entry.now.kind entry.now.steps) }
+{
+    let mut text = Vec::new(alloc);
+    if entry.kind == LineKind::Steps && entry.steps > 0 {
+        let mut digits = Buffer::new();
+        text.extend_from_slice(digits.format(entry.steps).as_bytes())?;
+        text.extend_from_slice(b" steps")?;
+    }
+    Ok(text)
 }
 
 fn parts_of_answer<'a>(entry: &'a Entry<'_>) -> (&'a [u8], &'a [u8])

@@ -32,6 +32,7 @@ li { display: grid; grid-template-columns: 2.6rem minmax(0, 1fr); border-top: 1p
 .told { flex: 1 1 18rem; min-width: 0; }
 pre.answer, pre.guest { margin: 0.15rem 0 0.3rem; padding: 0.3rem 0.6rem; background: var(--panel);
   font: inherit; font-size: 0.9em; white-space: pre; overflow-x: auto; border-radius: 4px; }
+pre.steps { margin: 0 0 0.3rem; padding: 0 0.6rem; color: var(--soft); font: inherit; font-size: 0.85em; }
 pre.guest { border-left: 4px double var(--guest); white-space: pre-wrap; overflow-wrap: anywhere; }
 pre.guest::before { content: "the guest prints"; display: block; color: var(--guest); font-size: 0.85em; }
 figure { margin: 0.15rem 0 0.5rem; flex: 0 1 380px; min-width: 0; }

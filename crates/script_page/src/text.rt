@@ -19,8 +19,10 @@ const ANSWER: &[u8] = b"       ";
 
 const GUEST: &[u8] = b"     : ";
 
+const STEPS: &[u8] = b"     = ";
+
 /// Writes the page: each line under its number, its answer under it, what the guest printed behind a
-/// colon. Bytes that are no characters to show stand as `\x1B`. Where there is a picture, the page ends
+/// colon, and how many steps it took behind an equals sign. Bytes that are no characters to show stand as `\x1B`. Where there is a picture, the page ends
 /// with what the signs of pictures mean.
 pub fn push_text_page<W: Sink>(sink: &mut W, shown: &[Shown<'_>]) -> Result<(), WriteFault>
     ensures { Writes W.contents W.has_failed sink.old sink.new result (text_page shown.now) }
@@ -73,6 +75,7 @@ fn push_entry<W: Sink>(sink: &mut W, shown: &Shown<'_>) -> Result<(), WriteFault
     push_numbered(sink, shown.number, shown.lines)?;
     push_behind(sink, GUEST, shown.printed)?;
     push_behind(sink, ANSWER, shown.answer)?;
+    push_behind(sink, STEPS, shown.steps.as_slice())?;
     push_all(sink, shown.picture.as_slice())
 }
 
