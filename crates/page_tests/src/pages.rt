@@ -113,6 +113,7 @@ const GUEST_PAGE: &str = "    1  HEX p
     5  RUN
      : A
        stop Exit
+     = 3 steps
 ";
 
 const REFUSED_PAGE: &str = "    1  HEAP &9000
@@ -167,6 +168,22 @@ fn what_the_guest_prints_stands_apart(rt: HostRuntime) {
     let script = "HEX p\n41 00 A0 E3 00 00 00 EF 11 00 00 EF\nEND\nBOOT p\nRUN\n";
     let written = page(&rt, script, Form::Text);
     assert!(rt; written.bytes() == GUEST_PAGE.as_bytes());
+}
+
+#[test]
+fn html_tells_steps_apart(rt: HostRuntime) {
+    let script = "HEX p\n41 00 A0 E3 00 00 00 EF 11 00 00 EF\nEND\nBOOT p\nRUN\n";
+    let written = page(&rt, script, Form::Html);
+    let told =
+        b"<pre class=\"answer\">\nstop Exit\n</pre><pre class=\"steps\">\n3 steps</pre></div>";
+    assert!(rt; has(written.bytes(), told.as_slice()));
+}
+
+#[test]
+fn one_step_is_not_told(rt: HostRuntime) {
+    let written = page(&rt, "STEP 1\nSTEP 2\n", Form::Text);
+    let wanted = "    1  STEP 1\n       at &8004\n    2  STEP 2\n       at &800C\n     = 2 steps\n";
+    assert!(rt; written.bytes() == wanted.as_bytes());
 }
 
 #[test]

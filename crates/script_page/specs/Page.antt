@@ -75,10 +75,11 @@ numbers_from number (e ∷ rest) = number ∷ numbers_from (number_after number 
 unfoldable pub ShowsItsAnswer : Form → Shown → Type 0
 ShowsItsAnswer form s = IsPicture form (s.printed.now ++ s.answer.now) s.picture.items
 
--- how many steps a line took that takes some
+-- how many steps a line took, where it took more than one
 abbrev pub steps_text : LineKind → ℕ → List ℕ
 steps_text kind.Steps zero = []
-steps_text kind.Steps (suc n) = decimal (suc n) ++ codes " steps"
+steps_text kind.Steps (suc zero) = []
+steps_text kind.Steps (suc (suc n)) = decimal (suc (suc n)) ++ codes " steps"
 steps_text kind.View n = []
 steps_text kind.Other n = []
 

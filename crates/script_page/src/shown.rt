@@ -22,7 +22,7 @@ pub struct Shown<'a> {
     pub printed: &'a [u8],
     /// The answer behind that.
     pub answer: &'a [u8],
-    /// How many steps it took, as `12 steps`, where it took some.
+    /// How many steps it took, as `12 steps`, where it took more than one.
     pub steps: Vec<u8>,
     /// The picture, if there is one.
     pub picture: Vec<u8>,
@@ -90,7 +90,7 @@ fn steps_of(alloc: Global, entry: &Entry<'_>) -> Result<Vec<u8>, AllocError>
     ensures { IfOk result (λ text. text.items ≡ steps_text entry.now.kind entry.now.steps) }
 {
     let mut text = Vec::new(alloc);
-    if entry.kind == LineKind::Steps && entry.steps > 0 {
+    if entry.kind == LineKind::Steps && entry.steps > 1 {
         let mut digits = Buffer::new();
         text.extend_from_slice(digits.format(entry.steps).as_bytes())?;
         text.extend_from_slice(b" steps")?;
