@@ -6,7 +6,7 @@ use Rattle.std.specs.Io.KnownBytes.{Appends, Keeps}
 use Rattle.std.specs.Path.{path_file_name}
 use Rattle.profile.specs.declared.stop.Stop.{Stop}
 use Rattle.rosm_settings.specs.ImageFiles.{names_for}
-use Rattle.script_page.specs.Page.{AreShown, IsPage}
+use Rattle.script_page.specs.Page.{AreShown, HasSteps, IsPage, left_behind}
 use Rattle.script_page.specs.Setting.{told_by}
 use Rattle.script_page.specs.Writing.{page_text, IsWritten}
 use Rattle.script_page.specs.declared.form.Form.{Form}
@@ -65,9 +65,9 @@ pub shows_page : (front back : List ℕ) (wanted : Wanted) (script before after 
     (setting : Setting) (bytes : List ℕ) (entries : List Entry)
     → setting.config ≡ wanted.settings.config → setting.budget ≡ wanted.settings.budget
     → names_in setting.images.now ≡ names_for wanted.settings.files → IfSome script (λ told. bytes ≡ told)
-    → IsPage setting bytes entries → IsWritten front back wanted.form entries before after
+    → IsPage setting bytes entries → HasSteps (left_behind setting) entries → IsWritten front back wanted.form entries before after
     → last ≡ (told_by setting bytes).state.last → ShowsPage front back wanted script before after last
-shows_page front back wanted script before after last setting bytes entries sizes budget named read page written stop =
+shows_page front back wanted script before after last setting bytes entries sizes budget named read page steps written stop =
     record {
       setting = setting;
       entries = entries;
@@ -75,6 +75,7 @@ shows_page front back wanted script before after last setting bytes entries size
       budget = budget;
       named = named;
       page = known_page setting bytes entries script read page;
+      steps = steps;
       written = written;
       stop = known_stop setting bytes last script read stop;
     }

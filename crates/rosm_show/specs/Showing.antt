@@ -2,7 +2,7 @@
 use Rattle.std.specs.Prelude.{◌≡◌, ℕ, List, Option, Some, IfSome, map}
 use Rattle.profile.specs.declared.stop.Stop.{Stop}
 use Rattle.rosm_settings.specs.ImageFiles.{names_for}
-use Rattle.script_page.specs.Page.{IsPage}
+use Rattle.script_page.specs.Page.{HasSteps, IsPage, left_behind}
 use Rattle.script_page.specs.Setting.{told_by}
 use Rattle.script_page.specs.Writing.{IsWritten}
 use Rattle.script_page.specs.declared.entry.Entry.{Entry}
@@ -15,7 +15,7 @@ abbrev pub names_in : List NamedImage → List (Option (List ℕ))
 names_in images = map (λ (i : NamedImage). Some i.name.now) images
 
 -- With the files' images there from the start, the page of the script, in the form that is asked for, is appended to what was
--- written before, all of it, and the last stop is the script's.
+-- written before, all of it; the steps of its entries are those that they took; and the last stop is the script's.
 pub record ShowsPage (front back : List ℕ) (wanted : Wanted) (script before after : Option (List ℕ)) (last : Option Stop) : Type 0 where
   pub setting : Setting
   pub entries : List Entry
@@ -23,5 +23,6 @@ pub record ShowsPage (front back : List ℕ) (wanted : Wanted) (script before af
   pub budget : setting.budget ≡ wanted.settings.budget
   pub named : names_in setting.images.now ≡ names_for wanted.settings.files
   pub page : IfSome script (λ bytes. IsPage setting bytes entries)
+  pub steps : HasSteps (left_behind setting) entries
   pub written : IsWritten front back wanted.form entries before after
   pub stop : IfSome script (λ bytes. last ≡ (told_by setting bytes).state.last)

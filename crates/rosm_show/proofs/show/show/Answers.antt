@@ -16,5 +16,6 @@ returns-in-Ok-clause-page g c =
     (ap names_in c.as_slice.ensures.value ∙ c.in_ok-named.ensures)
     c.in_ok-script.ensures
     (subst (λ (bytes : List ℕ). IsPage setting bytes entries) c.as_slice-2.ensures.value c.in_ok-page.ensures.page)
+    c.in_ok-page.ensures.steps
     (written_kept _ _ wanted.form _ entries _ _ _ c.as_slice-3.ensures.value c.in_ok-push_page.ensures.written c.in-Ok.ensures.bytes)
     (c.in_ok-page.ensures.last ∙ ap (λ (bytes : List ℕ). (told_by setting bytes).state.last) c.as_slice-2.ensures.value)
