@@ -11,14 +11,14 @@ use Rattle.address_map.proofs.Stores.{layout-place}
 pub byte_at-lt : (m : AddressMap) (a : ℕ) → byte_at m a < 256
 unfolding byte_at
 byte_at-lt m a = below (place m a) refl where
-  below : (there : Option ℕ) → place m a ≡ there → byte_in m.store there < 256
+  below : (there : Option ℕ) → place m a ≡ there → byte_in m.store.items there < 256
   below None none = omega arith
   below (Some k) some = m.bytes_fit k 0 (omega (arith, place_fits m a k some))
 
 pub byte_at-unmapped : (m : AddressMap) (a : ℕ) → is_mapped m a ≡ false → byte_at m a ≡ 0
 unfolding byte_at
 byte_at-unmapped m a h = zero_at (place m a) h where
-  zero_at : (there : Option ℕ) → is_some there ≡ false → byte_in m.store there ≡ 0
+  zero_at : (there : Option ℕ) → is_some there ≡ false → byte_in m.store.items there ≡ 0
   zero_at None none = refl
   zero_at (Some k) some = absurd (false≢true (sym some))
 

@@ -9,7 +9,7 @@ use Rattle.address_map.specs.Memory.{place, bytes_of, is_owned, is_plain}
 use Rattle.address_map.proofs.Loads.{byte_found}
 use Rattle.address_map.proofs.Marking.{place_lane}
 use Rattle.address_map.proofs.Words.{class_found}
-use Rattle.address_map.proofs.PageTable.{place_within, place_near}
+use Rattle.address_map.proofs.PageTable.{place_within, place_written, place_near}
 
 -- the bytes of a page lie one after another
 pub place_ahead : (m : AddressMap) (a j k : ℕ) → place m a ≡ Some k → a % 4096 + j < 4096 → place m (a + j) ≡ Some (k + j)
@@ -19,11 +19,11 @@ place_ahead m a j k h below =
     let e : k - a % 4096 + (a + j) % 4096 ≡ k + j = omega arith in
     place_near m.frames.items a (a + j) k (omega arith) h ∙ ap Some e
 
-pub page_fits : (m : AddressMap) (a k len : ℕ) → place m a ≡ Some k → a % 4096 + len ≤ 4096 → k + len ≤ length m.store
+pub page_fits : (m : AddressMap) (a k len : ℕ) → place m a ≡ Some k → a % 4096 + len ≤ 4096 → k + len ≤ length m.store.items
 unfolding place
 page_fits m a k len h within =
-    let low = place_within m.frames.items m.free.items a k m.table h in
-    omega (arith, low.0, low.1, m.frames_fit)
+    let low = place_written m.frames.items (length m.store.items) a k m.written h in
+    omega (arith, low.0, low.1)
 
 length-lent : (store : List ℕ) (k len : ℕ) → k + len ≤ length store → length (slice_range store k (k + len)) ≡ len
 length-lent store k len fits = grind (arith, places)
@@ -31,14 +31,14 @@ length-lent store k len fits = grind (arith, places)
 get_or-lent : (store : List ℕ) (k len j : ℕ) → k + len ≤ length store → j < len → get_or (slice_range store k (k + len)) j 0 ≡ get_or store (k + j) 0
 get_or-lent store k len j fits below = grind (arith, places)
 
-pub is_lent : (m : AddressMap) (a k len : ℕ) (lent : List ℕ) → place m a ≡ Some k → a % 4096 + len ≤ 4096 → lent ≡ slice_range m.store k (k + len)
+pub is_lent : (m : AddressMap) (a k len : ℕ) (lent : List ℕ) → place m a ≡ Some k → a % 4096 + len ≤ 4096 → lent ≡ slice_range m.store.items k (k + len)
     → IsLent (bytes_of m) a len lent
 is_lent m a k len lent h within is =
-    let fits : k + len ≤ length m.store = page_fits m a k len h within in
+    let fits : k + len ≤ length m.store.items = page_fits m a k len h within in
     record {
-      size = ap length is ∙ length-lent m.store k len fits;
+      size = ap length is ∙ length-lent m.store.items k len fits;
       mapped = λ j below. ap is_some (place_ahead m a j k h (omega arith));
-      bytes = λ j below. ap (λ (xs : List ℕ). get_or xs j 0) is ∙ get_or-lent m.store k len j fits below
+      bytes = λ j below. ap (λ (xs : List ℕ). get_or xs j 0) is ∙ get_or-lent m.store.items k len j fits below
           ∙ sym (byte_found m (a + j) (k + j) (place_ahead m a j k h (omega arith)));
     }
 

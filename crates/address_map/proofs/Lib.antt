@@ -1,5 +1,6 @@
 pub mod Anchors
 pub mod Bytes
+pub mod Copying
 pub mod Counting
 pub mod Equations
 pub mod Following

@@ -8,11 +8,11 @@ use Rattle.address_map.specs.declared.map.AddressMap.{AddressMap}
 use Rattle.address_map.specs.Bytes.{Bytes, load_fault, word_start, word_at, byte_loaded, word_loaded}
 use Rattle.address_map.specs.Memory.{place, is_mapped, byte_in, byte_at, bytes_of}
 use Rattle.address_map.specs.Pages.{frame_at, place_by}
-use Rattle.address_map.proofs.PageTable.{place_within, place_same, place_near, place_limit}
+use Rattle.address_map.proofs.PageTable.{place_within, place_written, place_same, place_near, place_limit}
 
-pub place_fits : (m : AddressMap) (a k : ℕ) → place m a ≡ Some k → k + 1 ≤ length m.store
+pub place_fits : (m : AddressMap) (a k : ℕ) → place m a ≡ Some k → k + 1 ≤ length m.store.items
 unfolding place
-place_fits m a k h = omega (arith, (place_within m.frames.items m.free.items a k m.table h).1, m.frames_fit)
+place_fits m a k h = omega (arith, (place_written m.frames.items (length m.store.items) a k m.written h).1)
 
 pub place_next : (m : AddressMap) (a j k : ℕ) → a % 4 ≡ 0 → j < 4 → place m a ≡ Some k → place m (a + j) ≡ Some (k + j)
 unfolding place
@@ -59,14 +59,14 @@ mapped_page m a h = some (frame_at m.frames.items (a / 4096)) h where
   some None e = e
   some (Some frame) e = refl
 
-pub place_fits_word : (m : AddressMap) (a k : ℕ) → a % 4 ≡ 0 → place m a ≡ Some k → k + 4 ≤ length m.store
+pub place_fits_word : (m : AddressMap) (a k : ℕ) → a % 4 ≡ 0 → place m a ≡ Some k → k + 4 ≤ length m.store.items
 place_fits_word m a k aligned h = omega (arith, place_fits m (a + 3) (k + 3) (place_next m a 3 k aligned (omega arith) h))
 
-pub byte_found : (m : AddressMap) (a k : ℕ) → place m a ≡ Some k → byte_at m a ≡ slice_index m.store k
+pub byte_found : (m : AddressMap) (a k : ℕ) → place m a ≡ Some k → byte_at m a ≡ slice_index m.store.items k
 unfolding byte_at
-byte_found m a k h = ap (byte_in m.store) h
+byte_found m a k h = ap (byte_in m.store.items) h
 
-pub word_found : (m : AddressMap) (a k : ℕ) → a % 4 ≡ 0 → place m a ≡ Some k → word_in m.store k ≡ word_at (byte_at m) a
+pub word_found : (m : AddressMap) (a k : ℕ) → a % 4 ≡ 0 → place m a ≡ Some k → word_in m.store.items k ≡ word_at (byte_at m) a
 word_found m a k aligned h =
     let b0 = byte_found m a k h in
     let b1 = byte_found m (a + 1) (k + 1) (place_next m a 1 k aligned (omega arith) h) in
@@ -75,12 +75,12 @@ word_found m a k aligned h =
     cc
 
 pub byte_read : (m : AddressMap) (a k : ℕ) → load_fault (bytes_of m) a ≡ None → place m a ≡ Some k
-    → Ok (slice_index m.store k) ≡ byte_loaded (bytes_of m) a
+    → Ok (slice_index m.store.items k) ≡ byte_loaded (bytes_of m) a
 unfolding byte_loaded
 byte_read m a k clear h = rw clear (ap Ok (sym (byte_found m a k h)))
 
 pub word_read : (m : AddressMap) (a k : ℕ) → load_fault (bytes_of m) (word_start a) ≡ None → place m (word_start a) ≡ Some k
-    → Ok (word_in m.store k) ≡ word_loaded (bytes_of m) a
+    → Ok (word_in m.store.items k) ≡ word_loaded (bytes_of m) a
 unfolding word_loaded
 word_read m a k clear h = rw clear (ap Ok (word_found m (word_start a) k (omega arith) h))
 

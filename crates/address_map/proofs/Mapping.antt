@@ -1,13 +1,13 @@
 -- What a page that is mapped or taken away leaves: which addresses are mapped, where they lie, and their bytes.
-use Rattle.std.proofs.Common.{◌≡◌, ◌≢◌, ℕ, ◌+◌, ◌*◌, ◌/◌, ◌%◌, ◌<◌, ◌≤◌, Bool, true, false, ◌||◌, ◌&&◌, not, List, length, set, Option, Some, None, is_some, arith, refl, sym, ◌∙◌, ap, inl, inr}
+use Rattle.std.proofs.Common.{◌≡◌, ◌≢◌, ℕ, ◌+◌, ◌-◌, ◌*◌, ◌/◌, ◌%◌, ◌<◌, ◌≤◌, Bool, true, false, ◌||◌, ◌&&◌, not, List, length, replicate, set, Option, Some, None, is_some, arith, refl, sym, ◌∙◌, ap, inl, inr}
 use Rattle.std.proofs.lemmas.Bool.{false≢true, cases_lt}
-use Rattle.std.proofs.lemmas.List.{get_or-replicate}
-use Rattle.raw_store.specs.Region.{zeroed}
+use Rattle.std.proofs.lemmas.List.{get_or-replicate, get_or_append_left}
+use Rattle.raw_store.specs.Region.{zeroed, grown}
 use Rattle.raw_store.proofs.Written.{written_inside, written_before, written_past}
 use Rattle.address_map.specs.Bytes.{in_range, with_zeros_at}
 use Rattle.address_map.specs.Memory.{byte_in}
-use Rattle.address_map.specs.Pages.{frame_at, place_by, place_in, IsUnused}
-use Rattle.address_map.proofs.PageTable.{frame_found, place_set, place_set_other}
+use Rattle.address_map.specs.Pages.{AreWritten, frame_at, place_by, place_in, IsUnused}
+use Rattle.address_map.proofs.PageTable.{frame_found, place_set, place_set_other, place_written}
 use Rattle.address_map.proofs.Stores.{in_range-cases, zeros, length-zeros}
 
 module _ (frames : List (Option ℕ)) (addr frame : ℕ) (aligned : addr % 4096 ≡ 0) (below : addr / 4096 < length frames) (none : frame_at frames (addr / 4096) ≡ None) where
@@ -57,6 +57,16 @@ module _ (frames : List (Option ℕ)) (addr frame : ℕ) (aligned : addr % 4096 
               ∙ get_or-replicate size (a % 4096) 0 0 inside)
           | inr r ↦ rw (place_set_other frames (addr / 4096) a (Some frame) (omega (arith, r.1))) (byte_kept a (place_in frames a) refl)
         ]
+
+-- bytes behind the others change none of a page that is mapped
+pub bytes_grown : (frames : List (Option ℕ)) (store : List ℕ) (n a : ℕ) → AreWritten frames (length store)
+    → byte_in (grown store n) (place_in frames a) ≡ byte_in store (place_in frames a)
+bytes_grown frames store n a written = kept (place_in frames a) refl where
+  kept : (there : Option ℕ) → place_in frames a ≡ there → byte_in (grown store n) there ≡ byte_in store there
+  kept None h = refl
+  kept (Some k) h =
+      let fits : k < length store = omega (arith, (place_written frames (length store) a k written h).1) in
+      get_or_append_left store (replicate (n - length store) 0) 0 k fits
 
 and_no : (x : Bool) → false ≡ (x && false)
 and_no true = refl

@@ -17,27 +17,27 @@ pub get_or-piece : (store : List ℕ) (from len k d : ℕ) → from + len ≤ le
 get_or-piece store from len k d fits below = grind (arith, places)
 
 pub bytes_copied : (m n : AddressMap) (from k span to at other len : ℕ) → IsSpan m from k span → IsSpan m to at other → len ≤ span → len ≤ other
-    → layout n ≡ layout m → n.store ≡ copied m.store k at len
+    → layout n ≡ layout m → n.store.items ≡ copied m.store.items k at len
     → (a : ℕ) → byte_at n a ≡ with_moved_at (byte_at m) from to len a
 bytes_copied m n from k span to at other len source target within inside same store a =
-    let fits : k + len ≤ length m.store = omega (arith, source.within) in
-    let e : length (take len (drop k m.store)) ≡ len = length-piece m.store k len fits in
-    let room : at + length (take len (drop k m.store)) ≤ length m.store = rw e (omega (arith, target.within)) in
-    bytes_written m n to at (take len (drop k m.store)) (layout-place m n same) store room
+    let fits : k + len ≤ length m.store.items = omega (arith, source.within) in
+    let e : length (take len (drop k m.store.items)) ≡ len = length-piece m.store.items k len fits in
+    let room : at + length (take len (drop k m.store.items)) ≤ length m.store.items = rw e (omega (arith, target.within)) in
+    bytes_written m n to at (take len (drop k m.store.items)) (layout-place m n same) store room
     (λ j below. let less : j < len = rw e at below in target.places j (omega arith)) a
     ∙ elim (in_range-cases to len a) [
-      | inl r ↦ rw (e, r.0) (get_or-piece m.store k len (a - to) 0 fits (omega arith)
+      | inl r ↦ rw (e, r.0) (get_or-piece m.store.items k len (a - to) 0 fits (omega arith)
           ∙ sym (byte_found m (from + (a - to)) (k + (a - to)) (source.places (a - to) (omega arith))))
       | inr r ↦ rw (e, r.0) refl
     ]
 
-pub store_copied : (m : AddressMap) (store : List ℕ) (k at len : ℕ) → store ≡ copied m.store k at len
-    → k + len ≤ length m.store → at + len ≤ length m.store → All (λ b. b < 256) store × (length store ≡ length m.store)
+pub store_copied : (m : AddressMap) (store : List ℕ) (k at len : ℕ) → store ≡ copied m.store.items k at len
+    → k + len ≤ length m.store.items → at + len ≤ length m.store.items → All (λ b. b < 256) store × (length store ≡ length m.store.items)
 store_copied m store k at len is fits room =
-    let e : length (take len (drop k m.store)) ≡ len = length-piece m.store k len fits in
-    store_written m store (take len (drop k m.store)) at is (rw e room)
+    let e : length (take len (drop k m.store.items)) ≡ len = length-piece m.store.items k len fits in
+    store_written m store (take len (drop k m.store.items)) at is (rw e room)
     (λ j d below. let less : j < len = rw e at below in
-    rw (get_or-piece m.store k len j d fits less) (m.bytes_fit (k + j) d (omega arith)))
+    rw (get_or-piece m.store.items k len j d fits less) (m.bytes_fit (k + j) d (omega arith)))
 
 -- a piece more, going up and going down
 pub moved_up : (bytes : ℕ → ℕ) (from to done more a : ℕ) → to ≤ from

@@ -7,7 +7,7 @@ use Rattle.std.proofs.lemmas.List.Elements.{All-pop, All-push, All-replicate}
 use Rattle.std.proofs.lemmas.List.Folds.{sum_by-replicate}
 use Rattle.std.proofs.lemmas.List.Quantifiers.{all_pairs_push}
 use Rattle.std.proofs.lemmas.List.Sums.{sum_by-set}
-use Rattle.address_map.specs.Pages.{frame_at, place_by, place_in, frame_count, IsUnused, IsPageTable}
+use Rattle.address_map.specs.Pages.{AreWritten, frame_at, place_by, place_in, frame_count, IsUnused, IsPageTable}
 
 -- the frame that an address lies in
 pub frame_found : (a k : ℕ) (there : Option ℕ) → place_by a there ≡ Some k → (frame : ℕ) × ((there ≡ Some frame) × (k ≡ 4096 * frame + a % 4096))
@@ -29,6 +29,15 @@ place_within frames free a k table h =
     let below : f.0 < frame_count frames free = table.within (a / 4096) f.0 f.1.0 in
     let is : k ≡ 4096 * f.0 + a % 4096 = f.1.1 in
     (omega arith, omega arith)
+
+-- the page of a mapped address lies in the bytes that were written
+pub place_written : (frames : List (Option ℕ)) (len a k : ℕ) → AreWritten frames len → place_in frames a ≡ Some k
+    → (k % 4096 ≡ a % 4096) × (k - k % 4096 + 4096 ≤ len)
+place_written frames len a k written h =
+    let f = frame_found a k (frame_at frames (a / 4096)) h in
+    let fits : 4096 * f.0 + 4096 ≤ len = written (a / 4096) f.0 f.1.0 in
+    let is : k ≡ 4096 * f.0 + a % 4096 = f.1.1 in
+    (omega (arith, is), omega (arith, fits, is))
 
 -- one address lies at a place
 pub place_same : (frames : List (Option ℕ)) (free : List ℕ) (a b k : ℕ) → IsPageTable frames free → place_in frames a ≡ Some k → place_in frames b ≡ Some k → a ≡ b
@@ -201,9 +210,30 @@ table_none n frames free is size within apart =
 pub no_place : (n : ℕ) (frames : List (Option ℕ)) (a : ℕ) → frames ≡ replicate n None → place_in frames a ≡ None
 no_place n frames a is = rw is (ap (place_by a) (no_frame n (a / 4096)))
 
--- a store of zeros
-pub zeros_size : (store : List ℕ) (n : ℕ) → store ≡ replicate n 0 → length store ≡ n
-zeros_size store n zeros = ap length zeros ∙ length-replicate n 0
+-- where the frames of mapped pages lie once a page got a frame, gave it back, or none has one
+pub written_more : (frames : List (Option ℕ)) (page frame len less : ℕ) → page < length frames → AreWritten frames less → less ≤ len → 4096 * frame + 4096 ≤ len
+    → AreWritten (set frames page (Some frame)) len
+written_more frames page frame len less below written longer fits p f h =
+    elim (cases_eq p page) [
+      | inl same ↦
+          let here : frame_at (set frames page (Some frame)) p ≡ Some frame =
+          ap (frame_at (set frames page (Some frame))) same ∙ get_or-set_same frames page (Some frame) None below in
+          let e : Some f ≡ Some frame = sym h ∙ here in
+          let e' : f ≡ frame = cc in
+          omega (arith, e', fits)
+      | inr other ↦
+          let there : frame_at frames p ≡ Some f = sym (get_or-set_other frames page p (Some frame) None other) ∙ h in
+          omega (arith, written p f there, longer)
+    ]
 
-pub zeros_fit : (store : List ℕ) (n : ℕ) → store ≡ replicate n 0 → All (λ b. b < 256) store
-zeros_fit store n zeros = subst (All (λ b. b < 256)) (sym zeros) (All-replicate (λ b. b < 256) n 0 (lit< tt))
+pub written_less : (frames : List (Option ℕ)) (page len : ℕ) → page < length frames → AreWritten frames len → AreWritten (set frames page None) len
+written_less frames page len below written p f h =
+    elim (cases_eq p page) [
+      | inl same ↦
+          let here : frame_at (set frames page None) p ≡ None = ap (frame_at (set frames page None)) same ∙ get_or-set_same frames page None None below in
+          let e : Some f ≡ None = sym h ∙ here in cc
+      | inr other ↦ written p f (sym (get_or-set_other frames page p None None other) ∙ h)
+    ]
+
+pub written_none : (n : ℕ) (frames : List (Option ℕ)) (len : ℕ) → frames ≡ replicate n None → AreWritten frames len
+written_none n frames len is = rw is (λ page f h. let e : None ≡ Some f = sym (no_frame n page) ∙ h in cc)

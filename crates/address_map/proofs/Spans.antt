@@ -8,17 +8,17 @@ use Rattle.address_map.specs.declared.map.AddressMap.{AddressMap}
 use Rattle.address_map.specs.Bytes.{AreMapped, with_bytes_at, with_zeros_at}
 use Rattle.address_map.specs.Memory.{place, is_mapped, byte_at, layout, IsSpan}
 use Rattle.address_map.proofs.Loads.{place_below}
-use Rattle.address_map.proofs.PageTable.{place_within, place_near}
+use Rattle.address_map.proofs.PageTable.{place_within, place_written, place_near}
 use Rattle.address_map.proofs.Stores.{in_range-cases, bytes_written, layout-place, zeros, length-zeros}
 
 -- the page that an address lies in
 pub page_span : (m : AddressMap) (a k : ℕ) → place m a ≡ Some k → IsSpan m (a - a % 4096) (k - a % 4096) 4096
 unfolding place
 page_span m a k h =
-    let low = place_within m.frames.items m.free.items a k m.table h in
+    let low = place_written m.frames.items (length m.store.items) a k m.written h in
     record {
       some = omega arith;
-      within = omega (arith, low.0, low.1, m.frames_fit);
+      within = omega (arith, low.0, low.1);
       places = λ j more.
           let e : k - a % 4096 + (a - a % 4096 + j) % 4096 ≡ k - a % 4096 + j = omega arith in
           place_near m.frames.items a (a - a % 4096 + j) k (omega arith) h ∙ ap Some e;
@@ -101,9 +101,9 @@ with_bytes-zeros bytes at len a =
       | inr r ↦ rw (length-zeros len, r.0) refl
     ]
 
-pub bytes_zeroed : (m n : AddressMap) (a k span len : ℕ) → IsSpan m a k span → len ≤ span → layout n ≡ layout m → n.store ≡ zeroed m.store k len
+pub bytes_zeroed : (m n : AddressMap) (a k span len : ℕ) → IsSpan m a k span → len ≤ span → layout n ≡ layout m → n.store.items ≡ zeroed m.store.items k len
     → (b : ℕ) → byte_at n b ≡ with_zeros_at (byte_at m) a len b
 bytes_zeroed m n a k span len is within same store b =
-    let fits : k + length (zeros len) ≤ length m.store = rw (length-zeros len) (omega (arith, is.within)) in
+    let fits : k + length (zeros len) ≤ length m.store.items = rw (length-zeros len) (omega (arith, is.within)) in
     bytes_written m n a k (zeros len) (layout-place m n same) store fits
     (λ j below. let more : j < len = rw (length-zeros len) at below in is.places j (omega arith)) b ∙ with_bytes-zeros (byte_at m) a len b

@@ -2,9 +2,9 @@
 use Rattle.std.proofs.Common.{◌≡◌, ℕ, ◌+◌, ◌-◌, ◌/◌, ◌%◌, ◌<◌, ◌≤◌, ◌⊎◌, true, false, List, [], ◌∷◌, length, replicate, slice_set, Option, Some, None, arith, refl, ◌∙◌, ap, inl, inr, add-zero}
 use Rattle.std.specs.List.{All}
 use Rattle.std.proofs.lemmas.Bool.{cases_lt, le-leb, lt-ltb, lt-leb, le-ltb}
-use Rattle.std.proofs.lemmas.List.Elements.{All-cons, All-nil}
-use Rattle.std.proofs.lemmas.List.{set_split, places, length-replicate, get_or-replicate}
-use Rattle.raw_store.specs.Region.{written, word_bytes, zeroed}
+use Rattle.std.proofs.lemmas.List.Elements.{All-cons, All-nil, All-append, All-replicate}
+use Rattle.std.proofs.lemmas.List.{set_split, places, length-append, length-replicate, get_or-replicate}
+use Rattle.raw_store.specs.Region.{written, word_bytes, zeroed, grown}
 use Rattle.raw_store.proofs.Written.{length-written, written_inside, written_before, written_past}
 use Rattle.std.proofs.lemmas.Bool.Decides.{nat_tests}
 use Rattle.address_map.specs.declared.map.AddressMap.{AddressMap}
@@ -63,13 +63,13 @@ written_over place old new at k fits run only a (Some p) h =
     ]
 
 pub bytes_written : (m n : AddressMap) (at k : ℕ) (new : List ℕ)
-    → place n ≡ place m → n.store ≡ written m.store k new → k + length new ≤ length m.store
+    → place n ≡ place m → n.store.items ≡ written m.store.items k new → k + length new ≤ length m.store.items
     → ((j : ℕ) → j < length new → place m (at + j) ≡ Some (k + j))
     → (a : ℕ) → byte_at n a ≡ with_bytes_at (byte_at m) at new a
 unfolding byte_at
 bytes_written m n at k new same store fits run a =
     let e : place n a ≡ place m a = ap (λ f. f a) same in
-    rw (e, store) (written_over (place m) m.store new at k fits run (place_only m) a (place m a) refl)
+    rw (e, store) (written_over (place m) m.store.items new at k fits run (place_only m) a (place m a) refl)
 
 -- the four bytes of a word, and one byte
 pub with_bytes-word : (bytes : ℕ → ℕ) (at word a : ℕ) → with_bytes_at bytes at (word_bytes word) a ≡ with_word_at bytes at word a
@@ -90,7 +90,7 @@ pub layout-mapping : (m n : AddressMap) → layout n ≡ layout m → mapping n 
 layout-mapping m n same = ap (λ (l : Layout). let kept : Mapping = record { place = l.place; free_pages = l.free_pages } in kept) same
 
 pub word_put : (m n : AddressMap) (a k word : ℕ) → a % 4 ≡ 0 → place m a ≡ Some k → layout n ≡ layout m
-    → n.store ≡ written m.store k (word_bytes word)
+    → n.store.items ≡ written m.store.items k (word_bytes word)
     → (b : ℕ) → byte_at n b ≡ with_word_at (byte_at m) a word b
 word_put m n a k word aligned h same store b =
     bytes_written m n a k (word_bytes word) (layout-place m n same) store (place_fits_word m a k aligned h)
@@ -127,17 +127,17 @@ pub All-byte : (byte : ℕ) → byte < 256 → All (λ b. b < 256) (byte ∷ [])
 All-byte byte fits = let P : ℕ → Type 0 = λ b. b < 256 in All-cons P byte [] fits (All-nil P)
 
 -- so the store keeps its length, and its bytes
-pub store_written : (m : AddressMap) (store new : List ℕ) (k : ℕ) → store ≡ written m.store k new → k + length new ≤ length m.store
-    → All (λ b. b < 256) new → All (λ b. b < 256) store × (length store ≡ length m.store)
+pub store_written : (m : AddressMap) (store new : List ℕ) (k : ℕ) → store ≡ written m.store.items k new → k + length new ≤ length m.store.items
+    → All (λ b. b < 256) new → All (λ b. b < 256) store × (length store ≡ length m.store.items)
 store_written m store new k is fits fresh =
-    rw is (All-written m.store new k fits m.bytes_fit fresh, length-written m.store new k fits)
+    rw is (All-written m.store.items new k fits m.bytes_fit fresh, length-written m.store.items new k fits)
 
 pub byte_put : (m n : AddressMap) (a k byte : ℕ) → place m a ≡ Some k → layout n ≡ layout m
-    → n.store ≡ slice_set m.store k byte
+    → n.store.items ≡ slice_set m.store.items k byte
     → (b : ℕ) → byte_at n b ≡ with_byte_at (byte_at m) a byte b
 byte_put m n a k byte h same store b =
-    let fits : k + 1 ≤ length m.store = place_fits m a k h in
-    bytes_written m n a k (byte ∷ []) (layout-place m n same) (store ∙ slice_set-written m.store k byte fits) fits
+    let fits : k + 1 ≤ length m.store.items = place_fits m a k h in
+    bytes_written m n a k (byte ∷ []) (layout-place m n same) (store ∙ slice_set-written m.store.items k byte fits) fits
     (λ j below. let e : j ≡ 0 = omega arith in rw (e, add-zero a, add-zero k) h) b ∙ with_bytes-byte (byte_at m) a byte b
 
 abbrev pub zeros : ℕ → List ℕ
@@ -146,9 +146,31 @@ zeros len = replicate len 0
 pub length-zeros : (len : ℕ) → length (zeros len) ≡ len
 length-zeros len = length-replicate {A = ℕ} len 0
 
-pub store_zeroed : (m : AddressMap) (store : List ℕ) (at len : ℕ) → store ≡ zeroed m.store at len → at + len ≤ length m.store
-    → All (λ b. b < 256) store × (length store ≡ length m.store)
+pub store_zeroed : (m : AddressMap) (store : List ℕ) (at len : ℕ) → store ≡ zeroed m.store.items at len → at + len ≤ length m.store.items
+    → All (λ b. b < 256) store × (length store ≡ length m.store.items)
 store_zeroed m store at len is fits =
-    let fits' : at + length (zeros len) ≤ length m.store = rw (length-zeros len) fits in
+    let fits' : at + length (zeros len) ≤ length m.store.items = rw (length-zeros len) fits in
     store_written m store (zeros len) at is fits'
     (λ k d below. let b : k < len = rw (length-zeros len) at below in rw (get_or-replicate len k 0 d b) (omega arith))
+
+-- zeros written in a store, behind its bytes too
+pub All-grown : (bytes : List ℕ) (n : ℕ) → All (λ b. b < 256) bytes → All (λ b. b < 256) (grown bytes n)
+All-grown bytes n fit =
+    let P : ℕ → Type 0 = λ b. b < 256 in
+    All-append P bytes (zeros (n - length bytes)) fit (All-replicate P (n - length bytes) 0 (omega arith))
+
+pub length-grown : (bytes : List ℕ) (n : ℕ) → (n ≤ length (grown bytes n)) × (length bytes ≤ length (grown bytes n))
+length-grown bytes n =
+    let e = length-append bytes (zeros (n - length bytes)) in
+    let z = length-zeros (n - length bytes) in
+    (omega (arith, e, z), omega (arith, e))
+
+pub zeros_written : (bytes store : List ℕ) (at len : ℕ) → store ≡ zeroed (grown bytes (at + len)) at len → All (λ b. b < 256) bytes
+    → All (λ b. b < 256) store × (length store ≡ length (grown bytes (at + len)))
+zeros_written bytes store at len is fit =
+    let long = length-grown bytes (at + len) in
+    let fits : at + length (zeros len) ≤ length (grown bytes (at + len)) = rw (length-zeros len) long.0 in
+    rw is (
+      All-written (grown bytes (at + len)) (zeros len) at fits (All-grown bytes (at + len) fit) (All-replicate (λ b. b < 256) len 0 (omega arith)),
+      length-written (grown bytes (at + len)) (zeros len) at fits,
+    )

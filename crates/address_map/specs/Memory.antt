@@ -23,7 +23,7 @@ byte_in store (Some k) = slice_index store k
 
 -- the byte at an address, 0 where none is mapped
 unfoldable pub byte_at : AddressMap → ℕ → ℕ
-byte_at m a = byte_in m.store (place m a)
+byte_at m a = byte_in m.store.items (place m a)
 
 abbrev pub bytes_of : AddressMap → Bytes
 bytes_of m = record { mapped = is_mapped m; at = byte_at m }
@@ -31,7 +31,7 @@ bytes_of m = record { mapped = is_mapped m; at = byte_at m }
 -- the `len` bytes from the address `a` on lie in the store one after another, from the place `k` on
 pub record IsSpan (m : AddressMap) (a k len : ℕ) : Type 0 where
   pub some : 0 < len
-  pub within : k + len ≤ length m.store
+  pub within : k + len ≤ length m.store.items
   pub places : (j : ℕ) → j < len → place m (a + j) ≡ Some (k + j)
 
 -- the pages of the store that are not mapped

@@ -1,7 +1,7 @@
 -- The page table: for each of the 2^14 pages of the address space the frame of the store that its bytes lie in, or none. Pages and frames
 -- have 4096 bytes (RISC OS 3 Programmer's Reference Manual, "Memory management": memory is mapped by pages; that the pages have
 -- this size is this project's own).
-use Rattle.std.specs.Prelude.{◌≡◌, ◌≢◌, ◌<◌, ℕ, ◌+◌, ◌*◌, ◌/◌, ◌%◌, ◌^◌, List, length, slice_index_or, Option, Some, None, is_some}
+use Rattle.std.specs.Prelude.{◌≡◌, ◌≢◌, ◌≤◌, ◌<◌, ℕ, ◌+◌, ◌*◌, ◌/◌, ◌%◌, ◌^◌, List, length, slice_index_or, Option, Some, None, is_some}
 use Rattle.std.specs.List.{All, AllPairs, count_by}
 
 -- the frame of a page, if it is mapped
@@ -19,6 +19,10 @@ place_in frames a = place_by a (frame_at frames (a / 4096))
 -- how many frames there are: those of the mapped pages, and the free ones
 abbrev pub frame_count : List (Option ℕ) → List ℕ → ℕ
 frame_count frames free = count_by is_some frames + length free
+
+-- the frame of each mapped page lies among the first `len` bytes of the store
+abbrev pub AreWritten : List (Option ℕ) → ℕ → Type 0
+AreWritten frames len = (page frame : ℕ) → frame_at frames page ≡ Some frame → 4096 * frame + 4096 ≤ len
 
 -- no page has this frame
 abbrev pub IsUnused : List (Option ℕ) → ℕ → Type 0

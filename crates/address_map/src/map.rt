@@ -2,7 +2,7 @@ ghost use Rattle.std.specs.Prelude.{ℕ, [], ◌≡◌, ◌≤◌, ◌<◌, ◌+
 ghost use Rattle.raw_store.specs.profile.specs.Outcome.{Leaves};
 ghost use Rattle.address_map.specs.declared.class.Class.{Class};
 ghost use Rattle.address_map.specs.Bytes.{AreMapped, byte_loaded, word_loaded, byte_stored, word_stored, with_word_at, with_bytes_at, with_zeros_at, load_fault, store_fault};
-ghost use Rattle.address_map.specs.Pages.{IsPageTable, frame_count};
+ghost use Rattle.address_map.specs.Pages.{AreWritten, IsPageTable, frame_count};
 ghost use Rattle.address_map.specs.Records.{IsRegion};
 
 use crate::marks::Marks;
@@ -23,8 +23,8 @@ pub(crate) const MOST_REGIONS: usize = 133;
 /// The address space of a machine: the memory that it has, and the addresses where that is mapped.
 ///
 /// Each page of the address space that is mapped has a frame of the store, where its bytes lie; the
-/// other frames are free. The store has as many frames as the memory has pages, so that a memory can become a copy of any other that has
-/// as many. Addresses that are not mapped read as 0 in the contracts; a load or a store there is a fault. Each word of the store has a mark, which says what store calls use it for. A word lies at a multiple of 4 and never meets two pages. No call but
+/// other frames are free. The store has room for as many frames as the memory has pages, so that a memory can become a copy of any other
+/// that has as many; its bytes are written as far as frames were used. Addresses that are not mapped read as 0 in the contracts; a load or a store there is a fault. Each word of the store has a mark, which says what store calls use it for. A word lies at a multiple of 4 and never meets two pages. No call but
 /// `new` takes host memory.
 #[derive(Drop)]
 pub struct AddressMap {
@@ -33,11 +33,12 @@ pub struct AddressMap {
     pub(crate) frames: Vec<Option<u16>>,
     pub(crate) free: ArrayVec<u16, MOST_FRAMES>,
     pub(crate) regions: ArrayVec<Region, MOST_REGIONS>,
-    pub ghost bytes_fit: { All (λ b. b < 256) store },
+    pub ghost bytes_fit: { All (λ b. b < 256) store.items },
     pub ghost in_limit: { frame_count frames.items free.items ≤ 1024 },
-    pub ghost marks_fit: { 16 * length marks.bytes.items ≡ length store },
-    pub ghost frames_fit: { 4096 * frame_count frames.items free.items ≡ length store },
+    pub ghost marks_fit: { 16 * length marks.bytes.items ≡ length store.items + store.spare },
+    pub ghost frames_fit: { 4096 * frame_count frames.items free.items ≡ length store.items + store.spare },
     pub ghost table: { IsPageTable frames.items free.items },
+    pub ghost written: { AreWritten frames.items (length store.items) },
     pub ghost recorded: { All IsRegion regions.items },
 }
 
@@ -66,7 +67,7 @@ impl AddressMap {
         ensures marks { IfOk result (λ m. (a : ℕ) → class_of m a ≡ Class.Plain) }
         ensures owned { IfOk result (λ m. (a : ℕ) → is_owned m a ≡ false) }
     {
-        let store = RawStore::new(alloc, pages)?;
+        let store = RawStore::with_room(alloc, pages)?;
         let marks = Marks::new(alloc, MARKS_IN_PAGE * pages as usize)?;
         let frames = vec![in alloc; None; page_count()]?;
         Ok(AddressMap {
@@ -88,6 +89,7 @@ impl AddressMap {
         ensures total { page_total self.new ≡ page_total self.old }
     {
         let bytes = other.store.lend(0, other.store.len());
+        self.store.grow(bytes.len());
         self.store.write(0, bytes);
         self.marks.copy_from(&other.marks);
         self.frames.copy_from_slice(&other.frames);

@@ -32,7 +32,7 @@ impl AddressMap {
     /// What the store calls use the byte at a place in the store for.
     #[inline(always)]
     pub(crate) fn class_at(&self, place: usize) -> Class
-        requires { place + 1 ≤ length self.now.store }
+        requires { place + 1 ≤ length self.now.store.items }
         ensures { result ≡ class_at self.now.marks (place / 4) }
     {
         self.marks.class(place / 4)

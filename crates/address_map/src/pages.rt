@@ -83,7 +83,7 @@ impl AddressMap {
     {
         let frame = self.free.pop().unwrap();
         let place = (PAGE_SIZE * frame as u32) as usize;
-        self.store.zero(place, PAGE_SIZE as usize);
+        self.store.write_zeros(place, PAGE_SIZE as usize);
         self.marks
             .clear(MARKS_IN_PAGE * frame as usize, MARKS_IN_PAGE);
         self.frames[(addr / PAGE_SIZE) as usize] = Some(frame);

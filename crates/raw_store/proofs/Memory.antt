@@ -104,9 +104,15 @@ module _ {M : Type 1} {𝓤 : Ura M} (𝓛 : Logic 𝓤) (b : ℕ) where
     pub run_seen : (o : ℕ) (xs : List ℕ) (i n : ℕ) → i ≤ length xs → ent 𝓤 (sem 𝓛 (Seen o xs)) (sem 𝓛 (Seen (i + o) (take n (drop i xs))))
     run_seen o xs i n le = via 𝓤 (sem 𝓛 (Seen (i + o) (drop i xs))) (from_on xs i o (i + o) le refl) (up_to (drop i xs) n (i + o))
 
-  -- bytes that nothing reads any more are room
-  pub to_room : (xs : List ℕ) (o : ℕ) → ent 𝓤 (sem 𝓛 (Row o xs)) (𝓛.H.room (bytes_type (length xs)) b o)
-  to_room [] o = 𝓛.laws.room_nil (ty_int w8) b o
-  to_room (x ∷ xs) o = qed 𝓛 (‵ (part_at u8 full_share x b o) ∷ ‵ (Row (o + 1) xs) ∷ []) ∵
-      use1 𝓛 (‵ (fat full_share (ty_int w8) b o (vint w8 x))) (uint_out 𝓛 full_share w8 x b o) $ use1 𝓛 (‵ (froom (ty_int w8) b o)) (𝓛.laws.at_room (ty_int w8) b o (vint w8 x)) $ move ! (1 ∷ []) $
-      use1 𝓛 (‵ (froom (bytes_type (length xs)) b (o + 1))) (to_room xs (o + 1)) $ move ! (1 ∷ []) $ by ! (𝓛.laws.room_cons (ty_int w8) (length xs) b o)
+  -- bytes that nothing reads any more are room, with the room behind them
+  pub to_room : (xs : List ℕ) (o m : ℕ)
+      → ent 𝓤 (sep 𝓤 (sem 𝓛 (Row o xs)) (𝓛.H.room (bytes_type m) b (length xs + o))) (𝓛.H.room (bytes_type (length xs + m)) b o)
+  to_room [] o m = qed 𝓛 (‵ ftrue ∷ ‵ (froom (bytes_type m) b (length {A = ℕ} [] + o)) ∷ []) ∵ skip ! $
+      rewrite ! 0 (λ (k : ℕ). ‵ (froom (bytes_type m) b k)) {x = o} (omega arith) refl $
+      rewrite ! 0 (λ (k : ℕ). ‵ (froom (bytes_type k) b o)) {x = length {A = ℕ} [] + m} (omega arith) refl $ done !
+  to_room (x ∷ xs) o m = qed 𝓛 (‵ (Row o (x ∷ xs)) ∷ ‵ (froom (bytes_type m) b (length (x ∷ xs) + o)) ∷ []) ∵ fsplit ! $
+      use1 𝓛 (‵ (fat full_share (ty_int w8) b o (vint w8 x))) (uint_out 𝓛 full_share w8 x b o) $ use1 𝓛 (‵ (froom (ty_int w8) b o)) (𝓛.laws.at_room (ty_int w8) b o (vint w8 x)) $ move ! (1 ∷ 2 ∷ []) $
+      rewrite ! 1 (λ (k : ℕ). ‵ (froom (bytes_type m) b k)) {x = length xs + (o + 1)} (omega arith) refl $
+      use2 𝓛 (‵ (froom (bytes_type (length xs + m)) b (o + 1))) (to_room xs (o + 1) m) $ move ! (1 ∷ []) $
+      use2 𝓛 (‵ (froom (bytes_type (suc (length xs + m))) b o)) (𝓛.laws.room_cons (ty_int w8) (length xs + m) b o) $
+      rewrite ! 0 (λ (k : ℕ). ‵ (froom (bytes_type k) b o)) {x = length (x ∷ xs) + m} (omega arith) refl $ done !

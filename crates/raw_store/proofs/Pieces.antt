@@ -1,9 +1,9 @@
 -- Copies and fills made of pieces: one byte, one lane, and two pieces one after the other.
-use Rattle.std.proofs.Common.{◌≡◌, ℕ, ◌+◌, ◌<◌, ◌≤◌, List, ◌∷◌, ◌++◌, suc, length, take, drop, set, get_or, replicate, ◌∙◌, ap, arith, drop-cons, drop-drop, take-append-drop}
+use Rattle.std.proofs.Common.{◌≡◌, ℕ, ◌+◌, ◌<◌, ◌≤◌, ◌⊎◌, List, ◌∷◌, ◌++◌, suc, length, take, drop, set, get_or, replicate, ◌∙◌, ap, arith, drop-cons, drop-drop, take-append-drop}
 use Rattle.std.proofs.lemmas.List.{places, same_lists, set_split}
 use Rattle.std.proofs.lemmas.Simd.{length-chunk, put_chunk_is}
 use lib.Lanes.{chunk, put_chunk}
-use Rattle.raw_store.specs.Region.{written, copied, zeroed}
+use Rattle.raw_store.specs.Region.{written, copied, zeroed, grown}
 
 pub put_is_written : (bytes lane : List ℕ) (at : ℕ) → at + length lane ≤ length bytes → put_chunk at bytes lane ≡ written bytes at lane
 put_is_written bytes lane at fits = put_chunk_is at bytes lane fits ∙ ap (λ rest. take at bytes ++ (lane ++ rest)) (drop-drop (length lane) at bytes)
@@ -48,5 +48,13 @@ zeroed_front bytes k n m both fits = zeroed_more bytes 0 k n k m (omega arith) b
 
 pub zeroed_whole : (bytes : List ℕ) (k n : ℕ) → length bytes ≡ k + n → zeroed (zeroed bytes 0 k) k n ≡ replicate (length bytes) 0
 zeroed_whole bytes k n whole = same_lists _ _ (grind (arith, places)) (λ x d h. grind (arith, places))
+
+-- bytes made zero, some of which were not written yet
+pub cleared_inside : (bytes : List ℕ) (at len inside : ℕ) → at + inside ≤ length bytes → inside ≤ len → (inside ≡ len) ⊎ (at + inside ≡ length bytes)
+    → grown (zeroed bytes at inside) (at + len) ≡ zeroed (grown bytes (at + len)) at len
+cleared_inside bytes at len inside fits below ends = same_lists _ _ (grind (arith, places)) (λ x d h. grind (arith, places))
+
+pub cleared_past : (bytes : List ℕ) (at len : ℕ) → length bytes ≤ at → grown bytes (at + len) ≡ zeroed (grown bytes (at + len)) at len
+cleared_past bytes at len past = same_lists _ _ (grind (arith, places)) (λ x d h. grind (arith, places))
 
 pub ruleset pieces = (copied_none, copied_down, copied_up, zeroed_none, zeroed_more, zeroed_front, zeroed_whole)

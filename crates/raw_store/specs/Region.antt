@@ -1,5 +1,13 @@
--- A region of memory as the list of its bytes: what a read gives and what a write leaves.
-use Rattle.std.specs.Prelude.{ℕ, List, [], ◌∷◌, ◌++◌, ◌+◌, ◌*◌, ◌/◌, ◌%◌, take, drop, length, replicate, slice_index}
+-- A region of memory: the bytes that were written, as a list; what a read gives and what a write leaves.
+use Rattle.std.specs.Prelude.{ℕ, List, [], ◌∷◌, ◌++◌, ◌+◌, ◌-◌, ◌*◌, ◌/◌, ◌%◌, take, drop, length, replicate, slice_index}
+
+-- a region: the bytes that were written so far, and how many more there is room for behind them
+pub record Region : Type 0 where
+  pub items : List ℕ
+  pub spare : ℕ
+
+abbrev pub with_items : Region → List ℕ → Region
+with_items r xs = record { items = xs; spare = r.spare }
 
 -- the word whose lowest byte stands at `at`: the byte at the lowest address is the least significant one (ARM2 data
 -- sheet, "Memory interface", little-endian)
@@ -21,3 +29,7 @@ copied bytes from to len = written bytes to (take len (drop from bytes))
 -- `bytes` with zeros in the `len` places from `at` on
 abbrev pub zeroed : List ℕ → ℕ → ℕ → List ℕ
 zeroed bytes at len = written bytes at (replicate len 0)
+
+-- zeros behind the bytes, as many as make them `len` in all; none where there are as many
+abbrev pub grown : List ℕ → ℕ → List ℕ
+grown bytes len = bytes ++ replicate (len - length bytes) 0

@@ -71,7 +71,7 @@ pub(crate) fn allocate<A: Allocator>(
     }
 }
 
-/// Gives the block back.
+/// Gives the block back, with what lies in it and the room behind.
 pub(crate) fn deallocate<A: Allocator>(
     alloc: &A,
     base: Base,
@@ -79,7 +79,7 @@ pub(crate) fn deallocate<A: Allocator>(
     bytes: Bytes,
     deed: Deed<A>,
 )
-    requires { (bytes.at ≡ base.ptr) × (length bytes.items ≡ len) × (bytes.spare ≡ 0) × (deed.at ≡ base.ptr)
+    requires { (bytes.at ≡ base.ptr) × (length bytes.items + bytes.spare ≡ len) × (deed.at ≡ base.ptr)
         × (deed.len ≡ len) × (deed.alloc ≡ alloc.now) }
 {
     let Bytes {} = bytes;

@@ -1,5 +1,5 @@
 -- `deallocate` makes room of the bytes, and hands the block back with the right to do so. Assumes `Logic`.
-use Rattle.std.proofs.Common.{◌≡◌, ℕ, ◌*◌, List, [], ◌∷◌, ◌++◌, length, refl, sym, ap, ◌∙◌, arith, lit<, w64}
+use Rattle.std.proofs.Common.{◌≡◌, ℕ, ◌+◌, ◌*◌, List, [], ◌∷◌, ◌++◌, length, refl, sym, ap, ◌∙◌, arith, lit<, w64}
 use Rattle.std.proofs.alloc.Calls.{Al, seen, Goes-blank, Gives, at_gives, Gives-goes, Gives-Gives}
 use Rattle.std.proofs.alloc.Shapes.{after}
 use Rattle.std.proofs.raw_atomic.Walks.{proved_at, leaves}
@@ -13,7 +13,7 @@ use prog.Wp.{Env, WpFn}
 use contract.BorrowLft.{◌⊑◌, ⊑_trans}
 use contract.Monad.{fact}
 use contract.Running.{tables}
-use types.Kit.{‵, raw, ◌⊛◌, given, later, prop, settles, at_ret, ◌$◌, ◌∵◌, !, qed, by, move, keep, drop, use1, split, join, group, learn, rewrite, regoal, fsplit, fsplit3, fjoin, feq_i, await}
+use types.Kit.{‵, raw, ◌⊛◌, given, later, prop, settles, at_ret, ◌$◌, ◌∵◌, !, qed, by, move, keep, drop, use1, use2, split, join, group, learn, rewrite, regoal, fsplit, fsplit3, fjoin, feq_i, await}
 use types.Part.{whole, sub}
 use types.Run.{stop, fld, lit, unit_lit, of_opd, no_more, and_then, first, blocks, exec, returns, enter}
 use types.ByLocal.{alloc_all, pass_all, free_all, look_at, get, get_in, sets, lands_last, env}
@@ -59,14 +59,14 @@ deallocate_spec 𝓤 𝓛 𝓜 𝓡 wired A L g d dd met md =
     let κ : Lft = z.0.0.0 in let q : Share = z.0.1.0 in
     let handle = a.0.ref_ptr in let h = a.0.now in let base = a.1.0 in let n = a.1.1.0 in let x = a.1.1.1.0 in let deed = a.1.1.1.1.0 in let τ : Ty = bytes_type n in
     let fits = are.1.1.0.1 in
-    let Asked : Type 0 = (x.at ≡ base.ptr) × (length x.items ≡ n) × (x.spare ≡ 0) × (deed.at ≡ base.ptr) × (deed.len ≡ n) × (deed.alloc ≡ h) in
+    let Asked : Type 0 = (x.at ≡ base.ptr) × (length x.items + x.spare ≡ n) × (deed.at ≡ base.ptr) × (deed.len ≡ n) × (deed.alloc ≡ h) in
     qed 𝓛 ((raw (alive 𝓛 En₀.signature z.0.0 z.0.1) ⊛ ‵ (owns (types_at S z.0.0) a vss)) ∷ (raw (fact 𝓤 (z.0.0.1.0 ⊑ A.lives)) ⊛ raw (fact 𝓤 Asked)) ∷ []) ∵
     move ! (1 ∷ []) $ split ! $ heard ! (z.0.0.1.0 ⊑ A.lives) (λ le. heard ! Asked (λ asked. split ! $ move ! (1 ∷ []) $
     fsplit ! $ fsplit ! $ drop ! $ use1 𝓛 (‵ (seen Y κ handle h)) (id⊢ 𝓤 _) $ move ! (1 ∷ []) $ fsplit3 ! $ drop ! $ drop ! $ fsplit3 ! $
     -- [the bytes' owner; the deed; nothing; the `&` to the handle; the tokens]
-    fsplit ! $ drop ! $ in_a_block ! x.at (λ p. block_owns p x.items x.spare) (id⊢ 𝓤 (never 𝓤)) (λ b o e. fsplit ! $ drop ! $ fsplit ! $ move ! (1 ∷ []) $ drop ! $
-    use1 𝓛 (‵ (froom (bytes_type (length x.items)) b o)) (to_room 𝓛 b x.items o) $ rewrite ! 0 (λ (k : ℕ). ‵ (froom (bytes_type k) b o)) asked.1 refl $
-    move ! (1 ∷ []) $ fsplit ! $ drop ! $ rewrite ! 0 (λ (u : A.Denot × Ptr × ℕ). ‵ (deed_owns (g.dealloc_token u.0) u.1 u.2)) (λ j. (asked.5 j, (asked.3 ∙ sym asked.0 ∙ e) j, asked.4 j)) refl $
+    fsplit ! $ drop ! $ in_a_block ! x.at (λ p. block_owns p x.items x.spare) (id⊢ 𝓤 (never 𝓤)) (λ b o e. fsplit ! $ drop ! $ fsplit ! $
+    use2 𝓛 (‵ (froom (bytes_type (length x.items + x.spare)) b o)) (to_room 𝓛 b x.items o x.spare) $ rewrite ! 0 (λ (k : ℕ). ‵ (froom (bytes_type k) b o)) asked.1 refl $
+    move ! (1 ∷ []) $ fsplit ! $ drop ! $ rewrite ! 0 (λ (u : A.Denot × Ptr × ℕ). ‵ (deed_owns (g.dealloc_token u.0) u.1 u.2)) (λ j. (asked.4 j, (asked.2 ∙ sym asked.0 ∙ e) j, asked.3 j)) refl $
     -- [the deed; the room; nothing; the `&`; the tokens]
     move ! (4 ∷ []) $ use1 𝓛 (‵ (flft κ q) ⊛ ‵ (flft z.0.0.1.0 z.0.1.1.0) ⊛ ‵ ftrue) (id⊢ 𝓤 _) $ split ! $ move ! (3 ∷ 2 ∷ 5 ∷ 0 ∷ 1 ∷ []) $
     regoal ! (λ (us : List Val). prop (WpFn 𝓤 H C Λ fn us Post)) (λ i. are.0.0 i ++ ((base_told base.ptr vss.1.0 are.1.0 ∙ ap (λ (p : Ptr). base_val p ∷ []) (sym asked.0 ∙ e)) i ++ (are.1.1.0.0 i ++ (none_told vss.1.1.1.0 are.1.1.1.0.0 i ++ (mark_told vss.1.1.1.1.0 are.1.1.1.1.0.0 i ++ []))))) refl $

@@ -10,5 +10,6 @@ invariant_of-self c =
       marks_fit = m.marks_fit;
       frames_fit = m.frames_fit;
       table = m.table;
+      written = m.written;
       recorded = recorded_less m c.remove.new.self.items c.in-Some.index c.remove.ensures.items;
     }

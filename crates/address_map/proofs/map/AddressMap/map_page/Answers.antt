@@ -1,10 +1,11 @@
-use Rattle.std.proofs.Common.{◌≡◌, ◌*◌, ◌/◌, ◌<◌, ◌++◌, ◌∷◌, [], ℕ, List, None, length, arith, ap, subst, refl}
+use Rattle.std.proofs.Common.{◌≡◌, ◌∙◌, ◌+◌, ◌*◌, ◌/◌, ◌<◌, ◌++◌, ◌∷◌, [], ℕ, List, None, length, arith, ap, subst, refl}
+use Rattle.raw_store.specs.Region.{grown}
 use Rattle.address_map.specs.Memory.{place, byte_at, free_pages, regions, class_of}
 use Rattle.address_map.specs.Pages.{frame_at, IsPageTable}
 use Rattle.address_map.proofs.Loads.{unmapped_page}
-use Rattle.address_map.proofs.Mapping.{mapped_more, stays_more, bytes_more}
-use Rattle.address_map.proofs.PageTable.{table_given, count_given, unused_frame, fits_frame, length-last}
-use Rattle.address_map.proofs.Stores.{store_zeroed}
+use Rattle.address_map.proofs.Mapping.{mapped_more, stays_more, bytes_more, bytes_grown}
+use Rattle.address_map.proofs.PageTable.{table_given, count_given, unused_frame, fits_frame, length-last, written_more}
+use Rattle.address_map.proofs.Stores.{zeros_written, length-grown}
 use Rattle.address_map.proofs.Marking.{marks_more}
 use Rattle.address_map.proofs.map.AddressMap.map_page.Goals as goal
 
@@ -37,13 +38,16 @@ invariant_of-self c =
     let count = count_given m.frames.items free (c.args.addr / 4096) f table below none in
     let inside = fits_frame m.frames.items free (c.args.addr / 4096) f table below none in
     let long : length m.free.items ≡ length (free ++ f ∷ []) = ap length split in
-    let kept = store_zeroed m c.zero.new.self (4096 * f) 4096 c.zero.ensures (omega (arith, m.frames_fit, inside, long)) in
+    let kept = zeros_written m.store.items c.write_zeros.new.self.items (4096 * f) 4096 c.write_zeros.ensures.bytes m.bytes_fit in
+    let size = length-grown m.store.items (4096 * f + 4096) in
     record {
       bytes_fit = kept.0;
       in_limit = omega (arith, m.in_limit, count, long);
-      marks_fit = omega (arith, kept.1, m.marks_fit, c.clear.ensures.len);
-      frames_fit = omega (arith, kept.1, m.frames_fit, count, long);
+      marks_fit = omega (arith, c.write_zeros.ensures.room, m.marks_fit, c.clear.ensures.len);
+      frames_fit = omega (arith, c.write_zeros.ensures.room, m.frames_fit, count, long);
       table = table_given m.frames.items free (c.args.addr / 4096) f table below none;
+      written = written_more m.frames.items (c.args.addr / 4096) f (length c.write_zeros.new.self.items) (length m.store.items) below m.written
+          (omega (arith, kept.1, size.1)) (omega (arith, kept.1, size.0));
       recorded = m.recorded;
     }
 
@@ -69,11 +73,10 @@ returns-clause-bytes c a =
     let table : IsPageTable m.frames.items (free ++ f ∷ []) = subst (IsPageTable m.frames.items) split m.table in
     let below : c.args.addr / 4096 < length m.frames.items = omega (arith, m.table.size) in
     let none : frame_at m.frames.items (c.args.addr / 4096) ≡ None = unmapped_page m c.args.addr c.requires.unmapped in
-    let inside = fits_frame m.frames.items free (c.args.addr / 4096) f table below none in
-    let long : length m.free.items ≡ length (free ++ f ∷ []) = ap length split in
-    rw c.zero.ensures
-    (bytes_more m.frames.items c.args.addr f c.requires.aligned below none m.store 4096 refl
-    (unused_frame m.frames.items free (c.args.addr / 4096) f table below none) (omega (arith, m.frames_fit, inside, long)) a)
+    rw c.write_zeros.ensures.bytes
+    (bytes_more m.frames.items c.args.addr f c.requires.aligned below none (grown m.store.items (4096 * f + 4096)) 4096 refl
+    (unused_frame m.frames.items free (c.args.addr / 4096) f table below none) (length-grown m.store.items (4096 * f + 4096)).0 a
+    ∙ bytes_grown m.frames.items m.store.items (4096 * f + 4096) a m.written)
 
 pub returns-clause-pages : goal.returns-clause-pages
 unfolding free_pages

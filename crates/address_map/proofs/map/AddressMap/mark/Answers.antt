@@ -15,6 +15,7 @@ invariant_of-self c =
       marks_fit = omega (arith, c.set.ensures.len, m.marks_fit);
       frames_fit = m.frames_fit;
       table = m.table;
+      written = m.written;
       recorded = m.recorded;
     }
 

@@ -1,22 +1,25 @@
-use Rattle.std.proofs.Common.{◌*◌, ap, is_some, not, arith, rules}
+use Rattle.std.proofs.Common.{◌≡◌, ◌<◌, ◌*◌, ap, is_some, length, not, arith, rules}
+use Rattle.std.proofs.lemmas.List.Elements.{All-nil}
 use Rattle.address_map.specs.Memory.{place, free_pages, page_total, regions, class_of}
 use Rattle.address_map.specs.Marks.{mark_in}
-use Rattle.address_map.proofs.PageTable.{no_count, no_place, table_none, zeros_fit, zeros_size}
+use Rattle.address_map.proofs.PageTable.{no_count, no_place, table_none, written_none}
 use Rattle.address_map.specs.Memory.{is_owned, is_plain}
 use Rattle.address_map.proofs.map.AddressMap.new.Goals as goal
 
 pub invariant_of-result : goal.invariant_of-result
 invariant_of-result c =
     let none = c.in_ok-frames.ensures.items_if_clones_equal (search rules) in
-    let size = zeros_size c.in_ok-store.store (4096 * c.args.pages) c.in_ok-store.ensures in
+    let size : length c.in_ok-store.store.items ≡ 0 = ap length c.in_ok-store.ensures.bytes in
+    let room = c.in_ok-store.ensures.room in
     let free = c.all_frames.ensures in
     let few = no_count c.page_count.result in
     record {
-      bytes_fit = zeros_fit c.in_ok-store.store (4096 * c.args.pages) c.in_ok-store.ensures;
+      bytes_fit = rw c.in_ok-store.ensures.bytes (All-nil (λ b. b < 256));
       in_limit = rw none (omega (arith, free.len, few, c.requires));
-      marks_fit = omega (arith, size, c.in_ok-marks.ensures.count);
-      frames_fit = rw none (omega (arith, size, free.len, few));
+      marks_fit = omega (arith, size, room, c.in_ok-marks.ensures.count);
+      frames_fit = rw none (omega (arith, size, room, free.len, few));
       table = table_none c.page_count.result _ _ none c.page_count.ensures (λ k d less. let fits = free.within k d less in omega (arith, fits, free.len)) free.apart;
+      written = written_none c.page_count.result _ _ none;
       recorded = search rules;
     }
 
@@ -39,7 +42,7 @@ returns-clause-total c =
 
 pub returns-clause-regions : goal.returns-clause-regions
 unfolding regions
-returns-clause-regions c = c.new-3.ensures
+returns-clause-regions c = c.new-2.ensures
 
 pub returns-clause-owned : goal.returns-clause-owned
 unfolding is_owned

@@ -1,10 +1,11 @@
-use Rattle.std.proofs.Common.{◌+◌, ◌≤◌, ◌∙◌, length, arith, refl, [], ◌∷◌}
+use Rattle.std.proofs.Common.{◌+◌, ◌≤◌, ◌∙◌, length, arith, refl, [], ◌∷◌, subst, sym}
 use Rattle.std.proofs.lemmas.Result.{err_from_is_err_and}
 use Rattle.address_map.specs.Memory.{bytes_of, is_owned}
 use Rattle.address_map.proofs.Loads.{place_fits}
 use Rattle.address_map.proofs.Stores.{byte_put, same_layout, store_written, slice_set-written, All-byte}
 use Rattle.address_map.proofs.Equations.{stored_byte, byte_stored-refused, byte_stored-done}
 use Rattle.address_map.proofs.Marking.{same_marks}
+use Rattle.address_map.specs.Pages.{AreWritten}
 use Rattle.address_map.proofs.map.AddressMap.store_byte.Goals as goal
 
 pub returns-in_err-place-clause-bytes : goal.returns-in_err-place-clause-bytes
@@ -19,14 +20,15 @@ write_byte-requires c = place_fits c.args.self.now c.args.addr _ c.in_ok-place.e
 pub invariant_of-self : goal.invariant_of-self
 invariant_of-self c =
     let m = c.args.self.now in
-    let fits : c.in_ok-place.place + 1 ≤ length m.store = place_fits c.args.self.now c.args.addr _ c.in_ok-place.ensures.1 in
-    let kept = store_written m c.write_byte.new.self (c.args.byte ∷ []) c.in_ok-place.place (c.write_byte.ensures ∙ slice_set-written m.store c.in_ok-place.place c.args.byte fits) fits (All-byte c.args.byte (omega arith)) in
+    let fits : c.in_ok-place.place + 1 ≤ length m.store.items = place_fits c.args.self.now c.args.addr _ c.in_ok-place.ensures.1 in
+    let kept = store_written m c.write_byte.new.self.items (c.args.byte ∷ []) c.in_ok-place.place (c.write_byte.ensures.bytes ∙ slice_set-written m.store.items c.in_ok-place.place c.args.byte fits) fits (All-byte c.args.byte (omega arith)) in
     record {
       bytes_fit = kept.0;
       in_limit = m.in_limit;
-      marks_fit = omega (arith, kept.1, m.marks_fit);
-      frames_fit = omega (arith, kept.1, m.frames_fit);
+      marks_fit = omega (arith, kept.1, c.write_byte.ensures.room, m.marks_fit);
+      frames_fit = omega (arith, kept.1, c.write_byte.ensures.room, m.frames_fit);
       table = m.table;
+      written = subst (AreWritten m.frames.items) (sym kept.1) m.written;
       recorded = m.recorded;
     }
 
@@ -35,7 +37,7 @@ returns-clause-bytes c =
     let m = c.args.self.now in
     rw (byte_stored-done (is_owned m) (bytes_of m) c.args.addr c.args.byte c.in_ok-place.ensures.0)
     (stored_byte m _ c.args.addr c.args.byte (same_layout _ _ refl refl refl)
-    (byte_put m _ c.args.addr c.in_ok-place.place c.args.byte c.in_ok-place.ensures.1 (same_layout _ _ refl refl refl) c.write_byte.ensures))
+    (byte_put m _ c.args.addr c.in_ok-place.place c.args.byte c.in_ok-place.ensures.1 (same_layout _ _ refl refl refl) c.write_byte.ensures.bytes))
 
 pub returns-clause-layout : goal.returns-clause-layout
 returns-clause-layout c = same_layout _ _ refl refl refl

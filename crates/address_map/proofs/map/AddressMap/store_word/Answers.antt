@@ -1,4 +1,4 @@
-use Rattle.std.proofs.Common.{◌+◌, ◌≤◌, length, arith, refl}
+use Rattle.std.proofs.Common.{◌+◌, ◌≤◌, length, arith, refl, subst, sym}
 use Rattle.std.proofs.lemmas.Result.{err_from_is_err_and}
 use Rattle.raw_store.specs.Region.{word_bytes}
 use Rattle.address_map.specs.Bytes.{word_start}
@@ -7,6 +7,7 @@ use Rattle.address_map.proofs.Loads.{place_fits_word}
 use Rattle.address_map.proofs.Stores.{word_put, same_layout, store_written, All-word_bytes}
 use Rattle.address_map.proofs.Equations.{stored_word, word_stored-refused, word_stored-done}
 use Rattle.address_map.proofs.Marking.{same_marks}
+use Rattle.address_map.specs.Pages.{AreWritten}
 use Rattle.address_map.proofs.map.AddressMap.store_word.Goals as goal
 
 pub returns-in_err-place-clause-bytes : goal.returns-in_err-place-clause-bytes
@@ -21,14 +22,15 @@ write_word-requires c = place_fits_word c.args.self.now (word_start c.args.addr)
 pub invariant_of-self : goal.invariant_of-self
 invariant_of-self c =
     let m = c.args.self.now in
-    let fits : c.in_ok-place.place + 4 ≤ length m.store = place_fits_word c.args.self.now (word_start c.args.addr) _ (omega arith) c.in_ok-place.ensures.1 in
-    let kept = store_written m c.write_word.new.self (word_bytes c.args.word) c.in_ok-place.place c.write_word.ensures fits (All-word_bytes c.args.word) in
+    let fits : c.in_ok-place.place + 4 ≤ length m.store.items = place_fits_word c.args.self.now (word_start c.args.addr) _ (omega arith) c.in_ok-place.ensures.1 in
+    let kept = store_written m c.write_word.new.self.items (word_bytes c.args.word) c.in_ok-place.place c.write_word.ensures.bytes fits (All-word_bytes c.args.word) in
     record {
       bytes_fit = kept.0;
       in_limit = m.in_limit;
-      marks_fit = omega (arith, kept.1, m.marks_fit);
-      frames_fit = omega (arith, kept.1, m.frames_fit);
+      marks_fit = omega (arith, kept.1, c.write_word.ensures.room, m.marks_fit);
+      frames_fit = omega (arith, kept.1, c.write_word.ensures.room, m.frames_fit);
       table = m.table;
+      written = subst (AreWritten m.frames.items) (sym kept.1) m.written;
       recorded = m.recorded;
     }
 
@@ -37,7 +39,7 @@ returns-clause-bytes c =
     let m = c.args.self.now in
     rw (word_stored-done (is_owned m) (bytes_of m) c.args.addr c.args.word c.in_ok-place.ensures.0)
     (stored_word m _ (word_start c.args.addr) c.args.word (same_layout _ _ refl refl refl)
-    (word_put m _ (word_start c.args.addr) c.in_ok-place.place c.args.word (omega arith) c.in_ok-place.ensures.1 (same_layout _ _ refl refl refl) c.write_word.ensures))
+    (word_put m _ (word_start c.args.addr) c.in_ok-place.place c.args.word (omega arith) c.in_ok-place.ensures.1 (same_layout _ _ refl refl refl) c.write_word.ensures.bytes))
 
 pub returns-clause-layout : goal.returns-clause-layout
 returns-clause-layout c = same_layout _ _ refl refl refl

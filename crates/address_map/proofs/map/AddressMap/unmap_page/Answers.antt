@@ -1,4 +1,4 @@
-use Rattle.std.proofs.Common.{◌≡◌, ◌/◌, ℕ, Some, None, ◌∙◌, is_some, Option, true, lit<, arith, rules, ap, sym, refl}
+use Rattle.std.proofs.Common.{◌≡◌, ◌/◌, ℕ, Some, None, ◌∙◌, is_some, Option, true, lit<, arith, length, rules, ap, sym, refl}
 use Rattle.std.specs.Option.{IsSome}
 use Rattle.std.proofs.lemmas.Bool.{false≢true}
 use Rattle.address_map.specs.Memory.{place, byte_at, free_pages, regions, class_of}
@@ -6,7 +6,7 @@ use Rattle.address_map.specs.Pages.{frame_at}
 use Rattle.address_map.proofs.Loads.{mapped_page, frame_read}
 use Rattle.address_map.proofs.Spans.{mapped_below}
 use Rattle.address_map.proofs.Mapping.{mapped_less, stays_less, bytes_less}
-use Rattle.address_map.proofs.PageTable.{table_left, count_left, room_left}
+use Rattle.address_map.proofs.PageTable.{table_left, count_left, room_left, written_less}
 use Rattle.address_map.proofs.Marking.{marks_less}
 use Rattle.address_map.proofs.map.AddressMap.unmap_page.Goals as goal
 
@@ -47,6 +47,7 @@ invariant_of-self c =
       marks_fit = m.marks_fit;
       frames_fit = rw c.push.ensures.items (omega (arith, count, m.frames_fit));
       table = rw c.push.ensures.items (table_left m.frames.items m.free.items page f m.table is);
+      written = written_less m.frames.items page (length m.store.items) (omega (arith, mapped_below m c.args.addr c.requires.mapped, m.table.size)) m.written;
       recorded = m.recorded;
     }
 
@@ -66,7 +67,7 @@ pub returns-clause-bytes : goal.returns-clause-bytes
 unfolding byte_at place
 returns-clause-bytes c a =
     let m = c.args.self.now in
-    bytes_less m.frames.items c.args.addr c.requires.aligned (omega (arith, mapped_below m c.args.addr c.requires.mapped, m.table.size)) m.store a
+    bytes_less m.frames.items c.args.addr c.requires.aligned (omega (arith, mapped_below m c.args.addr c.requires.mapped, m.table.size)) m.store.items a
 
 pub returns-clause-pages : goal.returns-clause-pages
 unfolding free_pages

@@ -37,7 +37,8 @@ use denote.Triple.Entry.{alive}
 use denote.Triple.Walked.{Stays, stay_dropped, walk_of, Goes-dropped, Goes-spent_ref}
 use Rattle.raw_store.specs.Lends.{with_items}
 use Rattle.raw_store.specs.Ownership.{bytes_type, bytes_at, block_owns}
-use Rattle.raw_store.specs.Region.{written}
+use Rattle.raw_store.specs.Region.{Region, written}
+use Rattle.raw_store.specs.Region.{with_items as with_written}
 use Rattle.raw_store.proofs.Memory.{to_cells, of_cells}
 use Rattle.raw_store.proofs.Two.{Others, two_out, two_in}
 use Rattle.raw_store.proofs.Values.{base_val, base_told, none_own, two_val, two_of}
@@ -68,7 +69,7 @@ Deeds = rest_of (rest_of Later)
 
 -- what comes after the base in a store's machine value
 abbrev others_of : Valss Fields → List Val
-others_of vss = vss.1.0 ++ (vss.1.1.0 ++ (vss.1.1.1.0 ++ (vss.1.1.1.1.0 ++ [])))
+others_of vss = vss.1.0 ++ (vss.1.1.0 ++ (vss.1.1.1.0 ++ (vss.1.1.1.1.0 ++ (vss.1.1.1.1.1.0 ++ []))))
 
 -- a store whose bytes are others
 abbrev with_bytes : Inside → List ℕ → Inside
@@ -78,6 +79,9 @@ module _ {M : Type 1} {𝓤 : Ura M} (𝓛 : Logic 𝓤) (s : Inside) (i n k m r
   abbrev after_loan : List ℕ → List ℕ → List ℕ
   after_loan ws zs = written (written s.bytes.items i (take n ws)) k (take m zs)
 
+  abbrev region_after : List ℕ → List ℕ → Region
+  region_after ws zs = record { items = after_loan ws zs; spare = s.bytes.spare }
+
   module _ (vs : List Val) (vss : Valss Fields) (b o : ℕ) (apart : (i + n ≤ k) ⊎ (k + m ≤ i)) where
     -- all but the two runs: the room, what the fields own, and the store's cell
     abbrev Rest : Fml
@@ -86,7 +90,7 @@ module _ {M : Type 1} {𝓤 : Ura M} (𝓛 : Logic 𝓤) (s : Inside) (i n k m r
 
     back : vs ≡ vstruct (of_list (vss.0 ++ others_of vss)) ∷ [] → the_invariant s → s.bytes.at ≡ block_ptr b o → i + n ≤ length s.bytes.items → k + m ≤ length s.bytes.items → length s.bytes.items + s.bytes.spare < 2 ^ 63
         → (xs ys : List ℕ) → length xs ≡ n → length ys ≡ m → (ws zs : List ℕ)
-        → ent 𝓤 (sep 𝓤 (sem 𝓛 ((Arr (mem u8) (length xs)).own_at ws b (i + o))) (sep 𝓤 (sem 𝓛 ((Arr (mem u8) (length ys)).own_at zs b (k + o))) (sem 𝓛 Rest))) (sem 𝓛 ((mem R).own_at (after_loan ws zs) rb ro))
+        → ent 𝓤 (sep 𝓤 (sem 𝓛 ((Arr (mem u8) (length xs)).own_at ws b (i + o))) (sep 𝓤 (sem 𝓛 ((Arr (mem u8) (length ys)).own_at zs b (k + o))) (sem 𝓛 Rest))) (sem 𝓛 ((mem R).own_at (region_after ws zs) rb ro))
     unfolding part_of
     back spelt holds e within_n within_m small xs ys count_n count_m ws zs =
         let items = s.bytes.items in let spare = s.bytes.spare in let new = after_loan ws zs in let t : Inside = with_bytes s new in
@@ -96,7 +100,7 @@ module _ {M : Type 1} {𝓤 : Ura M} (𝓛 : Logic 𝓤) (s : Inside) (i n k m r
         let long_n : n ≡ length (take n ws) = omega (arith, same_n, count_n, ap length all_n) in let long_m : m ≡ length (take m zs) = omega (arith, same_m, count_m, ap length all_m) in
         let half = written items i (take n ws) in let once : length half ≡ length items = length-written items (take n ws) i (omega (arith, within_n, long_n)) in
         let long : length new ≡ length items = length-written half (take m zs) k (omega (arith, within_m, long_m, once)) ∙ once in
-        let still : the_invariant t = (holds.0, long ∙ holds.1, holds.2, holds.3, holds.4, holds.5) in
+        let still : the_invariant t = (holds.0, long ∙ holds.1, ap (λ j. j + spare) long ∙ holds.2, holds.3, holds.4, holds.5) in let region : Region = region_after ws zs in
         use1 𝓛 (‵ (bytes_at b (k + o) zs)) (of_cells 𝓛 b zs (k + o)) $ rewrite ! 0 (λ (l : List ℕ). ‵ (bytes_at b (k + o) l)) (sym all_m) refl $ move ! (1 ∷ []) $
         use1 𝓛 (‵ (bytes_at b (i + o) ws)) (of_cells 𝓛 b ws (i + o)) $ rewrite ! 0 (λ (l : List ℕ). ‵ (bytes_at b (i + o) l)) (sym all_n) refl $
         -- [the first run; the second; the rest]
@@ -109,8 +113,8 @@ module _ {M : Type 1} {𝓤 : Ura M} (𝓛 : Logic 𝓤) (s : Inside) (i n k m r
         -- [the deed and the allocator; the cell; the base; the length; the owner]
         move ! (4 ∷ 0 ∷ []) $ fjoin ! $ move ! (3 ∷ 0 ∷ []) $ fjoin ! $ move ! (2 ∷ 0 ∷ []) $ fjoin ! $
         feq_i ! (List Val) vs (vstruct (of_list (vss.0 ++ others_of vss)) ∷ []) spelt $ fjoin ! $ fpack ! (Valss Fields) (within (shape I) (I.to t) vs) vss $
-        nothing ! $ move ! (1 ∷ 0 ∷ []) $ fjoin ! $ fpack ! ((u : Inside) × ((the_view u ≡ new) × the_invariant u)) (λ u. fsep (inside.own_val u.0 vs) ftrue) (t, (refl, still)) $ move ! (1 ∷ 0 ∷ []) $ fjoin ! $
-        fpack ! (List Val) (λ us. fsep (cell_at full_share R.mir us rb ro) (R.own_val new us)) vs $ done !))
+        nothing ! $ move ! (1 ∷ 0 ∷ []) $ fjoin ! $ fpack ! ((u : Inside) × ((the_view u ≡ region) × the_invariant u)) (λ u. fsep (inside.own_val u.0 vs) ftrue) (t, (refl, still)) $ move ! (1 ∷ 0 ∷ []) $ fjoin ! $
+        fpack ! (List Val) (λ us. fsep (cell_at full_share R.mir us rb ro) (R.own_val region us)) vs $ done !))
 
 pub lend_two_spec : {M : Type 1} → statement M
 unfolding both_by
@@ -139,8 +143,8 @@ lend_two_spec 𝓤 𝓛 𝓜 𝓡 wired =
     let rb = a.0.ref_ptr.0 in let ro = a.0.ref_ptr.1 in let γ = a.0.ghost_name in let xs = a.0.now in
     let i = a.1.0 in let n = a.1.1.0 in let k = a.1.1.1.0 in let m = a.1.1.1.1.0 in
     let fits : i < 2 ^ 64 = are.1.0.1 in let fits_n : n < 2 ^ 64 = are.1.1.0.1 in let fits_k : k < 2 ^ 64 = are.1.1.1.0.1 in let fits_m : m < 2 ^ 64 = are.1.1.1.1.0.1 in
-    qed 𝓛 ((raw (alive 𝓛 ended.signature z.0.0 z.0.1) ⊛ ‵ (owns (types_at S z.0.0) a vss)) ∷ (raw (fact 𝓤 (i + n ≤ length xs)) ⊛ raw (fact 𝓤 (k + m ≤ length xs)) ⊛ raw (fact 𝓤 ((i + n ≤ k) ⊎ (k + m ≤ i)))) ∷ []) ∵
-    move ! (1 ∷ []) $ split3 ! $ heard ! (i + n ≤ length xs) (λ within_n. heard ! (k + m ≤ length xs) (λ within_m. heard ! ((i + n ≤ k) ⊎ (k + m ≤ i)) (λ apart. split ! $ use1 𝓛 (‵ (flft κ q) ⊛ ‵ ftrue) (id⊢ 𝓤 _) $ split ! $ move ! (2 ∷ []) $
+    qed 𝓛 ((raw (alive 𝓛 ended.signature z.0.0 z.0.1) ⊛ ‵ (owns (types_at S z.0.0) a vss)) ∷ (raw (fact 𝓤 (i + n ≤ length xs.items)) ⊛ raw (fact 𝓤 (k + m ≤ length xs.items)) ⊛ raw (fact 𝓤 ((i + n ≤ k) ⊎ (k + m ≤ i)))) ∷ []) ∵
+    move ! (1 ∷ []) $ split3 ! $ heard ! (i + n ≤ length xs.items) (λ within_n. heard ! (k + m ≤ length xs.items) (λ within_m. heard ! ((i + n ≤ k) ⊎ (k + m ≤ i)) (λ apart. split ! $ use1 𝓛 (‵ (flft κ q) ⊛ ‵ ftrue) (id⊢ 𝓤 _) $ split ! $ move ! (2 ∷ []) $
     fsplit ! $ fsplit3 ! $ drop ! $ keep ! (0 ∷ 1 ∷ 3 ∷ []) $
     regoal ! (λ (us : List Val). prop (WpFn 𝓤 H C Λ fn us Post)) (λ j. are.0.0 j ++ (are.1.0.0 j ++ (are.1.1.0.0 j ++ (are.1.1.1.0.0 j ++ (are.1.1.1.1.0.0 j ++ []))))) refl $
     enter ! C Λ fn (vptr rb ro ∷ vint w64 i ∷ vint w64 n ∷ vint w64 k ∷ vint w64 m ∷ []) Post $
@@ -150,12 +154,12 @@ lend_two_spec 𝓤 𝓛 𝓜 𝓡 wired =
     move ! (1 ∷ []) $ fsplit ! $ move ! (1 ∷ []) $ fsplit ! $ fsplit ! $ move ! (1 ∷ []) $ in_a_block ! s.bytes.at (λ p. block_owns p s.bytes.items s.bytes.spare) (id⊢ 𝓤 (never 𝓤)) (λ b o e. fsplit ! $ flt_l ! (λ small. fsplit ! $
     -- [the bytes; the room; the owner's fields; the deed and the allocator; the length; the base; the store's cell; the open borrow, in three entries]
     let spelt_out : vs ≡ vstruct (of_list (base_val (block_ptr b o) ∷ others_of us)) ∷ [] = spelt ∙ (λ j. vstruct (of_list ((base_told s.base.ptr us.0 told ∙ ap (λ (p : Ptr). base_val p ∷ []) (holds.0 ∙ e)) j ++ others_of us)) ∷ []) in
-    let ys = s.bytes.items in let in_n : i + n ≤ length ys = omega (arith, within_n, ap length view_is) in let in_m : k + m ≤ length ys = omega (arith, within_m, ap length view_is) in
+    let ys = s.bytes.items in let items_are : ys ≡ xs.items = ap (λ (r : Region). r.items) view_is in let in_n : i + n ≤ length ys = omega (arith, within_n, ap length items_are) in let in_m : k + m ≤ length ys = omega (arith, within_m, ap length items_are) in
     let one = take n (drop_l i ys) in let two = take m (drop_l k ys) in
     let long : length one ≡ n = omega (arith, in_n, length-take n (drop_l i ys), length-drop i ys) in let long_m : length two ≡ m = omega (arith, in_m, length-take m (drop_l k ys), length-drop k ys) in
     let size : n ≡ i + n - i = omega arith in let size_m : m ≡ k + m - k = omega arith in
-    let First : Type 0 = one ≡ slice_range xs i (i + n) in let Second : Type 0 = two ≡ slice_range xs k (k + m) in
-    let first_is : First = (λ j. take (size j) (drop_l i (view_is j))) in let second_is : Second = (λ j. take (size_m j) (drop_l k (view_is j))) in
+    let First : Type 0 = one ≡ slice_range xs.items i (i + n) in let Second : Type 0 = two ≡ slice_range xs.items k (k + m) in
+    let first_is : First = (λ j. take (size j) (drop_l i (items_are j))) in let second_is : Second = (λ j. take (size_m j) (drop_l k (items_are j))) in
     let Cell = λ (ws : List Val). ‵ (cell_at full_share R.mir ws rb ro) in
     rewrite ! 6 Cell spelt_out refl $ first ! $ blocks ! $
     sets ! (of_opd ! (load ! (through ! refl (fld ! refl (fld ! refl (stop !)))) (look_in ! 6 (sub ! 0 refl (sub ! 0 refl (whole !)))))) refl (tt, tt) $ sets ! (bin ! (get ! refl) (get ! refl) tt) refl (tt, tt) $
@@ -165,7 +169,7 @@ lend_two_spec 𝓤 𝓛 𝓜 𝓡 wired =
     sets_last ! (agg ! (and_then ! (get ! refl) (and_then ! (get ! refl) (no_more !)))) refl (tt, ((tt, (record { fits = fits_n }, tt)), ((tt, (record { fits = fits_m }, tt)), tt))) $
     exec ! C Λ En (after 1 fn.body) (at_ret En Post) $ sets ! (of_opd ! (get ! refl)) refl (tt, ((tt, (record { fits = fits_n }, tt)), ((tt, (record { fits = fits_m }, tt)), tt))) $
     rewrite ! 6 Cell (sym spelt_out) refl $
-    let at : ℕ = i + o in let at_m : ℕ = k + o in let new = after_loan 𝓛 s i n k m rb ro in
+    let at : ℕ = i + o in let at_m : ℕ = k + o in let new = region_after 𝓛 s i n k m rb ro in
     let T = Arr (mem u8) (length one) in let U = Arr (mem u8) (length two) in let around = Rest 𝓛 s i n k m rb ro vs us b o apart in
     let way = back 𝓛 s i n k m rb ro vs us b o apart spelt holds e in_n in_m small one two long long_m in
     let roomy : (length one < 2 ^ 64) × (length one * 1 < 2 ^ 63) = (omega (arith, long), omega (arith, long, in_n, small)) in
@@ -188,7 +192,7 @@ lend_two_spec 𝓤 𝓛 𝓜 𝓡 wired =
     move ! (1 ∷ 0 ∷ []) $ use2 𝓛 (‵ ((Tuple (Part ∷ Part ∷ [])).own_val (r, r_m) (v ∷ []))) (two_of 𝓛 Part Part r r_m (slice_val (b, at) n) (slice_val (b, at_m) m)) $
     -- [the pair; the token and what the store follows]
     move ! (1 ∷ []) $ split ! $ nothing ! $ move ! (1 ∷ 0 ∷ []) $ join ! $ move ! (1 ∷ []) $
-    rewrite ! 0 (λ (l : List ℕ). ‵ (after₂ (mem R) T U γ γs.0 γs.1 (λ ws zs. written (written l i (take n ws)) k (take m zs)))) view_is refl $
+    rewrite ! 0 (λ (l : Region). ‵ (after₂ (mem R) T U γ γs.0 γs.1 (λ ws zs. with_written l (written (written l.items i (take n ws)) k (take m zs))))) view_is refl $
     use0 𝓛 (raw (fact 𝓤 Second)) (fact_i 𝓤 Second (emp 𝓤) second_is) $ use0 𝓛 (raw (fact 𝓤 First)) (fact_i 𝓤 First (emp 𝓤) first_is) $ join ! $ move ! (1 ∷ 0 ∷ []) $ join ! $
     nothing ! $ nothing ! $ fjoin ! $ nothing ! $ fjoin ! $ nothing ! $ fjoin ! $ nothing ! $ fjoin ! $ nothing ! $ fjoin ! $ move ! (2 ∷ 0 ∷ 3 ∷ 1 ∷ []) $
     by ! (leaves 𝓛 ended stays c z v (r, r_m) (tt, (tt, (tt, (tt, (tt, tt))))) (tt, (tt, (tt, (tt, (tt, tt)))))))))))))))))))
