@@ -114,7 +114,7 @@ none_zero store (Some k) e = cc
 -- an address that is not mapped counts as 0
 pub unmapped_zero : (m : AddressMap) (a : ℕ) → is_mapped m a ≡ false → byte_at m a ≡ 0
 unfolding byte_at
-unmapped_zero m a e = none_zero m.store (place m a) e
+unmapped_zero m a e = none_zero m.store.items (place m a) e
 
 -- the memory of a machine before anything is recorded
 bare : (m : AddressMap) (s : Sizes) → ((a : ℕ) → is_mapped m a ≡ is_land (start_land s) a) → ((a : ℕ) → byte_at m a ≡ 0) → regions m ≡ []
