@@ -1,5 +1,6 @@
 -- Steps that the core does by itself print nothing and halt nothing: so many of them are a run.
-use Rattle.std.proofs.Common.{◌≡◌, ◌≢◌, ℕ, zero, suc, ◌+◌, Option, Some, None, List, [], Result, Ok, Err, refl, sym, ◌∙◌, ap, subst, arith}
+use Rattle.std.proofs.Common.{◌≡◌, ◌≢◌, ℕ, zero, suc, ◌+◌, Option, Some, None, List, [], Result, Ok, Err, refl, sym, ◌∙◌, ap, subst, arith, Bool, if◌then◌else◌}
+use Rattle.profile.specs.declared.stop.Stop.{Stop}
 use Rattle.profile.specs.declared.stop.Stop.TheVariants as stop
 use Rattle.address_map.specs.Bytes.{Bytes}
 use Rattle.arm_step.specs.declared.turn.Turn.{Turn}
@@ -10,7 +11,7 @@ use Rattle.swi_dispatch.specs.declared.halt.Halt.{Halt}
 use Rattle.swi_dispatch.specs.MachineState.{MachineState, Outcome, quiet}
 use Rattle.swi_dispatch.specs.Step.{turned, Turned, instructed, unless_halted, machine_step}
 use Rattle.swi_dispatch.specs.Parts.{TakesTurn}
-use Rattle.swi_dispatch.specs.Run.{Run, is_among, ran, then_run, quiet_run}
+use Rattle.swi_dispatch.specs.Run.{Run, is_among, ran, then_run, quiet_run, stop_after}
 use Rattle.swi_dispatch.proofs.RunLoop.{one_step, one_run, ran-none, steps_more}
 
 done_by : (images : List Entry) (s : MachineState) (r : Result (State × Bytes) Turn) (s' : MachineState) → Turned s r turn.Done s'
@@ -34,32 +35,46 @@ unfolding machine_step
 done_step images s s' awake h =
     ap (λ (o : Option Halt). unless_halted s o (turned images s (instructed s))) awake ∙ (done_by images s (instructed s) s' h).0
 
-quiet_one : (images : List Entry) (s s' : MachineState) → s.halt ≡ None → TakesTurn s turn.Done s' → ran images [] 1 s ≡ quiet_run s' 1
+-- where a run of one such step ends
+pub ends_by : (breaks : List ℕ) (s : MachineState) (b : Bool) → is_among breaks s.cpu.pc ≡ b
+    → stop_after breaks s None ≡ (if b then stop.Break s.cpu.pc else stop.Budget)
+ends_by breaks s b h = ap (λ (c : Bool). if c then stop.Break s.cpu.pc else stop.Budget) h
+
+pub ends_unwatched : (breaks : List ℕ) (s : MachineState) → breaks ≡ [] → stop_after breaks s None ≡ stop.Budget
 unfolding is_among
-quiet_one images s s' awake h =
-    one_run images [] s awake ∙ ap (λ (a : Outcome). one_step [] a a.now.halt) (done_step images s s' awake h)
-    ∙ ap (one_step [] (quiet s')) (done_awake s s' turn.Done refl awake h)
+ends_unwatched breaks s none = ap (λ (bs : List ℕ). stop_after bs s None) none
 
-quiet_stop : (s : MachineState) (n : ℕ) → (quiet_run s n).stop ≡ stop.Budget
-quiet_stop s zero = refl
-quiet_stop s (suc n) = refl
+quiet_one : (images : List Entry) (breaks : List ℕ) (s s' : MachineState) (x : Stop) → s.halt ≡ None → stop_after breaks s' None ≡ x → TakesTurn s turn.Done s'
+    → ran images breaks 1 s ≡ quiet_run s' 1 x
+quiet_one images breaks s s' x awake end h =
+    one_run images breaks s awake ∙ ap (λ (a : Outcome). one_step breaks a a.now.halt) (done_step images s s' awake h)
+    ∙ ap (one_step breaks (quiet s')) (done_awake s s' turn.Done refl awake h) ∙ ap (quiet_run s' 1) end
 
-quiet_now : (s : MachineState) (n : ℕ) → (quiet_run s n).now ≡ s
-quiet_now s zero = refl
-quiet_now s (suc n) = refl
+quiet_goes_on : (s : MachineState) (n : ℕ) → (quiet_run s n stop.Budget).stop ≡ stop.Budget
+quiet_goes_on s zero = refl
+quiet_goes_on s (suc n) = refl
 
-quiet_joins : (s s' : MachineState) (n : ℕ) → then_run (quiet_run s n) (quiet_run s' 1) ≡ quiet_run s' (n + 1)
-quiet_joins s s' zero = refl
-quiet_joins s s' (suc n) = let e : suc n + 1 ≡ suc (suc n) = omega arith in
-    ap (λ (k : ℕ). let r : Run = record { now = s'; printed = []; last = Some []; taken = k; stop = stop.Budget } in r) e
-    ∙ ap (quiet_run s') (sym e)
+pub quiet_now : (s : MachineState) (n : ℕ) (x : Stop) → (quiet_run s n x).now ≡ s
+quiet_now s zero x = refl
+quiet_now s (suc n) x = refl
+
+quiet_joins : (s s' : MachineState) (n : ℕ) (x : Stop) → then_run (quiet_run s n stop.Budget) (quiet_run s' 1 x) ≡ quiet_run s' (n + 1) x
+quiet_joins s s' zero x = refl
+quiet_joins s s' (suc n) x = let e : suc n + 1 ≡ suc (suc n) = omega arith in
+    ap (λ (k : ℕ). let r : Run = record { now = s'; printed = []; last = Some []; taken = k; stop = x } in r) e
+    ∙ ap (λ (k : ℕ). quiet_run s' k x) (sym e)
 
 -- none, and one more
-pub quiet_start : (images : List Entry) (s : MachineState) → s.halt ≡ None → ran images [] 0 s ≡ quiet_run s 0
-quiet_start images s awake = ran-none images [] s awake
+pub quiet_start : (images : List Entry) (breaks : List ℕ) (s : MachineState) → s.halt ≡ None → ran images breaks 0 s ≡ quiet_run s 0 stop.Budget
+quiet_start images breaks s awake = ran-none images breaks s awake
 
-pub quiet_more : (images : List Entry) (s0 s s' : MachineState) (n : ℕ) (t : Turn) → t ≡ turn.Done → ran images [] n s0 ≡ quiet_run s n → s.halt ≡ None → TakesTurn s t s'
-    → ran images [] (n + 1) s0 ≡ quiet_run s' (n + 1)
-quiet_more images s0 s s' n t done so_far awake h =
-    steps_more images [] s0 s n 1 (ap (λ (r : Run). r.stop) so_far ∙ quiet_stop s n) (sym (ap (λ (r : Run). r.now) so_far ∙ quiet_now s n))
-    ∙ ap (λ (r : Run). then_run r (ran images [] 1 s)) so_far ∙ ap (then_run (quiet_run s n)) (quiet_one images s s' awake (subst (λ (x : Turn). TakesTurn s x s') done h)) ∙ quiet_joins s s' n
+pub quiet_more : (images : List Entry) (breaks : List ℕ) (s0 s s' : MachineState) (n : ℕ) (t : Turn) (x : Stop) → t ≡ turn.Done
+    → ran images breaks n s0 ≡ quiet_run s n stop.Budget → s.halt ≡ None → stop_after breaks s' None ≡ x → TakesTurn s t s'
+    → ran images breaks (n + 1) s0 ≡ quiet_run s' (n + 1) x
+quiet_more images breaks s0 s s' n t x done so_far awake end h =
+    steps_more images breaks s0 s n 1 (ap (λ (r : Run). r.stop) so_far ∙ quiet_goes_on s n)
+    (sym (ap (λ (r : Run). r.now) so_far ∙ quiet_now s n stop.Budget))
+    ∙ ap (λ (r : Run). then_run r (ran images breaks 1 s)) so_far
+    ∙ ap (then_run (quiet_run s n stop.Budget))
+      (quiet_one images breaks s s' x awake end (subst (λ (u : Turn). TakesTurn s u s') done h))
+    ∙ quiet_joins s s' n x

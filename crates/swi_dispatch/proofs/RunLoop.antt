@@ -12,7 +12,7 @@ use Rattle.image_loader.specs.Entries.{Entry}
 use Rattle.swi_dispatch.specs.declared.halt.Halt.{Halt}
 use Rattle.swi_dispatch.specs.MachineState.{MachineState, Outcome, stop_of}
 use Rattle.swi_dispatch.specs.Step.{machine_step}
-use Rattle.swi_dispatch.specs.Run.{Run, resting, joined, is_among, go_on, run_unless_halted, ran, then_run, later, last_or, quiet_run, stop_after, count_after}
+use Rattle.swi_dispatch.specs.Run.{Run, resting, joined, is_among, go_on, run_unless_halted, ran, then_run, later, last_or, quiet_run, quiet_last, stop_after, count_after}
 use Rattle.swi_dispatch.specs.Ending.{Ends, StandsAfter}
 use Rattle.swi_dispatch.proofs.Runs.{halt-no_budget, runs_on}
 
@@ -195,17 +195,29 @@ ends_on images breaks s0 s s' n o0 o1 o2 c0 c1 c2 k x awake done one budget =
     (subst (λ (j : ℕ). Ends (ran images breaks (n + j) s0) s' o0 o2 c0 c2 (n + k) x) (sym count) all)
 
 -- steps that the core does by itself
-quiet_ends : (s : MachineState) (k : ℕ) (o1 o2 : List ℕ) (c : Option (List ℕ)) → Appends c c [] → o2 ≡ last_or o1 (quiet_run s k).last
-    → Ends (quiet_run s k) s o1 o2 c c k stop.Budget
-quiet_ends s zero o1 o2 c nothing e = record { machine = refl; text = nothing; shows = e; count = refl; stop = refl }
-quiet_ends s (suc m) o1 o2 c nothing e = record { machine = refl; text = nothing; shows = e; count = refl; stop = refl }
+quiet_ends : (s : MachineState) (k : ℕ) (x : Stop) (o1 o2 : List ℕ) (c : Option (List ℕ)) → Appends c c [] → o2 ≡ last_or o1 (quiet_last k)
+    → Ends (quiet_run s k x) s o1 o2 c c k x
+quiet_ends s zero x o1 o2 c nothing e = record { machine = refl; text = nothing; shows = e; count = refl; stop = refl }
+quiet_ends s (suc m) x o1 o2 c nothing e = record { machine = refl; text = nothing; shows = e; count = refl; stop = refl }
 
-pub ends_quiet : (images : List Entry) (breaks : List ℕ) (s0 s s' : MachineState) (n k : ℕ) (o0 o1 o2 : List ℕ) (c0 c1 : Option (List ℕ)) → Appends c1 c1 []
-    → Ends (ran images breaks n s0) s o0 o1 c0 c1 n stop.Budget → ran images breaks k s ≡ quiet_run s' k → o2 ≡ last_or o1 (quiet_run s' k).last
-    → Ends (ran images breaks (n + k) s0) s' o0 o2 c0 c1 (n + k) stop.Budget
-ends_quiet images breaks s0 s s' n k o0 o1 o2 c0 c1 nothing done quiet output =
-    ends_more images breaks s0 s s' n k o0 o1 o2 c0 c1 c1 k stop.Budget done
-    (subst (λ (r : Run). Ends r s' o1 o2 c1 c1 k stop.Budget) (sym quiet) (quiet_ends s' k o1 o2 c1 nothing output))
+pub ends_quiet : (images : List Entry) (breaks : List ℕ) (s0 s s' : MachineState) (n k : ℕ) (x : Stop) (o0 o1 o2 : List ℕ) (c0 c1 : Option (List ℕ)) → Appends c1 c1 []
+    → Ends (ran images breaks n s0) s o0 o1 c0 c1 n stop.Budget → ran images breaks k s ≡ quiet_run s' k x → o2 ≡ last_or o1 (quiet_last k)
+    → Ends (ran images breaks (n + k) s0) s' o0 o2 c0 c1 (n + k) x
+ends_quiet images breaks s0 s s' n k x o0 o1 o2 c0 c1 nothing done quiet output =
+    ends_more images breaks s0 s s' n k o0 o1 o2 c0 c1 c1 k x done
+    (subst (λ (r : Run). Ends r s' o1 o2 c1 c1 k x) (sym quiet) (quiet_ends s' k x o1 o2 c1 nothing output))
+
+-- A run that ended for another reason than its budget, or has used it up, is the whole run.
+pub ends_all : (images : List Entry) (breaks : List ℕ) (s0 s : MachineState) (n budget : ℕ) (x : Stop) (o0 o1 : List ℕ) (c0 c1 : Option (List ℕ)) → n ≤ budget
+    → (x ≡ stop.Budget → n ≡ budget) → Ends (ran images breaks n s0) s o0 o1 c0 c1 n x → Ends (ran images breaks budget s0) s o0 o1 c0 c1 n x
+ends_all images breaks s0 s n budget stop.Budget o0 o1 c0 c1 within all done =
+    subst (λ (k : ℕ). Ends (ran images breaks k s0) s o0 o1 c0 c1 n stop.Budget) (all refl) done
+ends_all images breaks s0 s n budget stop.Exit o0 o1 c0 c1 within all done =
+    let other : stop.Exit ≢ stop.Budget = λ e. cc in ends_early _ _ _ _ _ _ _ _ _ _ _ _ within other done
+ends_all images breaks s0 s n budget (stop.Break a) o0 o1 c0 c1 within all done =
+    let other : stop.Break a ≢ stop.Budget = λ e. cc in ends_early _ _ _ _ _ _ _ _ _ _ _ _ within other done
+ends_all images breaks s0 s n budget (stop.Fault f) o0 o1 c0 c1 within all done =
+    let other : stop.Fault f ≢ stop.Budget = λ e. cc in ends_early _ _ _ _ _ _ _ _ _ _ _ _ within other done
 
 -- whether a machine stands as it was made, before its first step and after
 pub fresh_before : (b : Bool) → b ≡ (b && true)

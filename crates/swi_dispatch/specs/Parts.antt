@@ -99,7 +99,3 @@ pub record OnlyState (old new : Parts) : Type 0 where
 -- the core takes a turn, and the rest of the machine stays
 abbrev pub TakesTurn : MachineState → Turn → MachineState → Type 0
 TakesTurn s t s' = Turned s (instructed s) t s'
-
--- the turn that comes next, where it isn't one that the core does by itself
-abbrev pub ComesNext : MachineState → Turn → Type 0
-ComesNext s t = t ≢ turn.Done → TakesTurn s t s

@@ -1,10 +1,11 @@
 -- A run: steps until the machine is halted, or the new program counter is among the breaks, or the budget is used up,
 -- tested in that order after each step. A start on a break isn't tested. A step that ends in a fault isn't counted;
 -- that of OS_Exit is.
-use Rattle.std.specs.Prelude.{◌≡◌, ℕ, zero, suc, ◌+◌, Option, Some, None, List, [], ◌++◌, if◌then◌else◌}
+use Rattle.std.specs.Prelude.{◌≡◌, ℕ, zero, suc, ◌+◌, Option, Some, None, Result, Ok, Err, List, [], ◌++◌, if◌then◌else◌}
 use Rattle.profile.specs.declared.stop.Stop.{Stop}
 use Rattle.profile.specs.declared.stop.Stop.TheVariants as stop
 use Rattle.image_loader.specs.Entries.{Entry}
+use Rattle.arm_step.specs.declared.turn.Turn.{Turn}
 unfoldable pub use Rattle.swi_dispatch_breaks.specs.Breaks.{is_among}
 use Rattle.swi_dispatch.specs.declared.halt.Halt.{Halt}
 use Rattle.swi_dispatch.specs.declared.halt.Halt.TheVariants as halt
@@ -77,7 +78,17 @@ abbrev pub last_or : List ℕ → Option (List ℕ) → List ℕ
 last_or printed None = printed
 last_or printed (Some last) = last
 
--- a run of so many steps that print nothing and that nothing but the budget ends
-abbrev pub quiet_run : MachineState → ℕ → Run
-quiet_run now zero = resting now stop.Budget
-quiet_run now (suc n) = record { now = now; printed = []; last = Some []; taken = suc n; stop = stop.Budget }
+-- a run of so many steps that print nothing, and why it ended
+abbrev pub quiet_run : MachineState → ℕ → Stop → Run
+quiet_run now zero x = resting now x
+quiet_run now (suc n) x = record { now = now; printed = []; last = Some []; taken = suc n; stop = x }
+
+-- what such a run printed last
+abbrev pub quiet_last : ℕ → Option (List ℕ)
+quiet_last zero = None
+quiet_last (suc n) = Some []
+
+-- why it ended: where another turn comes next that was no break, and so only for the steps that were asked for
+abbrev pub quiet_stop : Result Turn Stop → Stop
+quiet_stop (Ok next) = stop.Budget
+quiet_stop (Err x) = x

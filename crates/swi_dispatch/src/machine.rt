@@ -23,6 +23,7 @@ use profile::{Config, ErrorNumber, Fault, Stop};
 use std::alloc::{AllocError, Global};
 use std::marker::Model;
 use swi_dispatch_answers::words::host_string;
+use swi_dispatch_breaks::Breaks;
 use swi_dispatch_frames::Frames;
 use swi_dispatch_plans::instances::Instances;
 use swi_dispatch_plans::{Planner, Spare};
@@ -150,11 +151,14 @@ impl Machine {
         ensures sizes { self.new.sizes ≡ self.old.sizes }
         ensures well_formed { IsWellFormed self.new }
     {
-        if self.stop().is_some() {
-            self.begin_step();
-            return self.stop();
+        self.begin_step();
+        if let Some(stop) = self.stop() {
+            return Some(stop);
         }
-        self.step_from(images, Turn::Done)
+        if let (_, Ok(turn)) = self.take_instructions(&Breaks::new(), 1) {
+            self.after_turn(images, turn);
+        }
+        self.stop()
     }
 
     /// Makes a store call as a guest would by an instruction with the X bit that stands before the

@@ -1,10 +1,10 @@
-ghost use Rattle.std.specs.Prelude.{◌≡◌, ◌≢◌, ◌<◌, ◌&&◌, ◌==◌, ◌≤◌, ◌↔◌, None, Some, [], List, false, true, IsTrue, IfOk};
+ghost use Rattle.std.specs.Prelude.{◌≡◌, ◌≢◌, ◌<◌, ◌&&◌, ◌==◌, ◌≤◌, ◌↔◌, None, Some, Err, List, false, true, IsTrue, IfOk};
 ghost use Rattle.std.specs.Prelude.{OnOk, OnErr};
 ghost use Rattle.std.specs.Option.{option_map};
-ghost use Rattle.swi_dispatch.specs.Parts.{state_of, outcome_of, ComesNext, IsWellFormed, OnlyState};
-ghost use Rattle.swi_dispatch.specs.Run.{ran, stop_after, count_after, last_or, quiet_run};
+ghost use Rattle.swi_dispatch.specs.Parts.{state_of, outcome_of, TakesTurn, IsWellFormed, OnlyState};
+ghost use Rattle.swi_dispatch.specs.Run.{ran, stop_after, count_after, last_or, quiet_run, quiet_last, quiet_stop};
 ghost use Rattle.swi_dispatch.specs.MachineState.{stop_of};
-ghost use Rattle.swi_dispatch.specs.Step.{machine_step, turn_end};
+ghost use Rattle.swi_dispatch.specs.Step.{machine_step};
 ghost use Rattle.profile.specs.Output.{AddsPart};
 ghost use Rattle.swi_dispatch.specs.Ending.{Ends, StandsAfter};
 
@@ -65,29 +65,32 @@ impl Machine {
         }
         let mut taken = 0;
         while taken < budget {
-            let (quiet, turn) = self.run_quietly(breaks, budget - taken);
+            let (quiet, next) = self.run_quietly(breaks, budget - taken);
             taken += quiet;
-            if taken < budget {
-                let one = self.run_one(images, breaks, sink, turn)?;
-                taken += one.taken;
-                if !one.goes_on() {
-                    return Ok(Ran { taken, ..one });
-                }
+            let turn = match next {
+                Ok(turn) => turn,
+                Err(stop) => return Ok(Ran { stop, taken }),
+            };
+            let one = self.run_one(images, breaks, sink, turn)?;
+            taken += one.taken;
+            if !one.goes_on() {
+                return Ok(Ran { taken, ..one });
             }
         }
         let stop = Stop::Budget;
         Ok(Ran { stop, taken })
     }
 
-    // Where there are no breaks, takes steps as long as each is an instruction that the core does
-    // by itself, which prints nothing and halts nothing. Answers how many, and the turn that comes
-    // next, or `Done` where it isn't known.
-    fn run_quietly(&mut self, breaks: &Breaks, most: u64) -> (u64, Turn)
+    // Takes steps as long as each is an instruction that the core does by itself, which prints nothing
+    // and halts nothing. Answers how many, and the turn that comes next, or why the run ended before.
+    fn run_quietly(&mut self, breaks: &Breaks, most: u64) -> (u64, Result<Turn, Stop>)
         requires { (state_of self.old).halt ≡ None }
-        ensures ran { (images : List Entry)
-            → ran images breaks.now result.0 (state_of self.old) ≡ quiet_run (state_of self.new) result.0 }
-        ensures output { self.new.printed ≡ last_or self.old.printed (quiet_run (state_of self.new) result.0).last }
-        ensures next { ComesNext (state_of self.new) result.1 }
+        ensures ran { (images : List Entry) → ran images breaks.now result.0 (state_of self.old)
+            ≡ quiet_run (state_of self.new) result.0 (quiet_stop result.1) }
+        ensures output { self.new.printed ≡ last_or self.old.printed (quiet_last result.0) }
+        ensures next { IfOk result.1 (λ turn. TakesTurn (state_of self.new) turn (state_of self.new)) }
+        ensures fewer { OnOk result.1 (result.0 < most) }
+        ensures all { result.1 ≡ Err Stop.Budget → result.0 ≡ most }
         ensures awake { (state_of self.new).halt ≡ None }
         ensures most { result.0 ≤ most }
         ensures fresh { self.new.is_fresh ≡ false }
@@ -95,46 +98,55 @@ impl Machine {
         ensures well_formed { IsWellFormed self.new }
     {
         self.mark_stepped();
-        if !breaks.is_empty() {
-            return (0, Turn::Done);
-        }
-        let (taken, turn) = self.take_instructions(most);
+        let (taken, next) = self.take_instructions(breaks, most);
         if taken > 0 {
             self.forget_output();
         }
-        (taken, turn)
+        (taken, next)
     }
 
-    // Takes up to so many steps, as long as each is an instruction that is done. Answers how many,
-    // and the turn that comes next where that is another. No other function asks the core, so that
-    // its code stands in this loop.
-    fn take_instructions(&mut self, most: u64) -> (u64, Turn)
+    // Takes up to so many steps, as long as each is an instruction that is done, and no further than to
+    // a break. Answers how many, and the turn that comes next where that is another, or why a run of
+    // these steps ends. No other function asks the core, so that its code stands in this loop; where
+    // there is no break nothing is asked after a step.
+    pub(crate) fn take_instructions(
+        &mut self,
+        breaks: &Breaks,
+        most: u64,
+    ) -> (u64, Result<Turn, Stop>)
         requires stepped { self.old.is_fresh ≡ false }
         requires awake { (state_of self.old).halt ≡ None }
         requires well_formed { IsWellFormed self.old }
-        ensures ran { (images : List Entry)
-            → ran images [] result.0 (state_of self.old) ≡ quiet_run (state_of self.new) result.0 }
-        ensures next { ComesNext (state_of self.new) result.1 }
-        ensures all { result.1 ≡ Turn.Done → result.0 ≡ most }
-        ensures fewer { result.1 ≢ Turn.Done → result.0 < most }
+        ensures ran { (images : List Entry) → ran images breaks.now result.0 (state_of self.old)
+            ≡ quiet_run (state_of self.new) result.0 (quiet_stop result.1) }
+        ensures next { IfOk result.1 (λ turn. TakesTurn (state_of self.new) turn (state_of self.new)) }
+        ensures fewer { OnOk result.1 (result.0 < most) }
+        ensures all { result.1 ≡ Err Stop.Budget → result.0 ≡ most }
         ensures awake { (state_of self.new).halt ≡ None }
         ensures most { result.0 ≤ most }
         ensures others { OnlyState self.old self.new }
         ensures well_formed { IsWellFormed self.new }
     {
+        let is_watched = !breaks.is_empty();
         for taken in 0..most {
             match self.instruction() {
                 Turn::Done => {}
-                turn => return (taken, turn),
+                turn => return (taken, Ok(turn)),
+            }
+            if is_watched {
+                let at = self.cpu().pc();
+                if breaks.has(at) {
+                    return (taken + 1, Err(Stop::Break(at)));
+                }
             }
         }
-        (most, Turn::Done)
+        (most, Err(Stop::Budget))
     }
 
-    // Takes a step of a machine that isn't halted, by the turn that comes next where that is known.
-    pub(crate) fn step_from(&mut self, images: &Images, known: Turn) -> Option<Stop>
+    // Takes a step of a machine that isn't halted, by the turn that comes next.
+    fn step_from(&mut self, images: &Images, turn: Turn) -> Option<Stop>
         requires awake { (state_of self.old).halt ≡ None }
-        requires next { ComesNext (state_of self.old) known }
+        requires next { TakesTurn (state_of self.old) turn (state_of self.old) }
         ensures after { outcome_of self.new ≡ machine_step images.now (state_of self.old) }
         ensures stop { result ≡ option_map stop_of (state_of self.new).halt }
         ensures fresh { self.new.is_fresh ≡ false }
@@ -142,42 +154,20 @@ impl Machine {
         ensures well_formed { IsWellFormed self.new }
     {
         self.begin_step();
-        let turn = self.next_turn(known);
         self.after_turn(images, turn);
         self.stop()
     }
 
-    // What a step asks of the machine: the turn that is known, or else that of the core's part of it.
-    fn next_turn(&mut self, known: Turn) -> Turn
-        requires stepped { self.old.is_fresh ≡ false }
-        requires awake { (state_of self.old).halt ≡ None }
-        requires next { ComesNext (state_of self.old) known }
-        requires well_formed { IsWellFormed self.old }
-        ensures turn { (images : List Entry)
-            → turn_end images (state_of self.new) result ≡ machine_step images (state_of self.old) }
-        ensures others { OnlyState self.old self.new }
-        ensures well_formed { IsWellFormed self.new }
-    {
-        match known {
-            Turn::Done => {
-                let (_, turn) = self.take_instructions(1);
-                turn
-            }
-            known => known,
-        }
-    }
-
-    // A run of one step of a machine that isn't halted, by the turn that comes next where that is
-    // known.
+    // A run of one step of a machine that isn't halted, by the turn that comes next.
     fn run_one<W: Sink>(
         &mut self,
         images: &Images,
         breaks: &Breaks,
         sink: &mut W,
-        known: Turn,
+        turn: Turn,
     ) -> Result<Ran, WriteFault>
         requires awake { (state_of self.old).halt ≡ None }
-        requires next { ComesNext (state_of self.old) known }
+        requires next { TakesTurn (state_of self.old) turn (state_of self.old) }
         ensures ends { IfOk result (λ r. Ends (ran images.now breaks.now 1 (state_of self.old)) (state_of self.new)
             self.old.printed self.new.printed (W.contents sink.old) (W.contents sink.new) r.taken r.stop) }
         ensures awake { IfOk result (λ r. r.stop ≡ Stop.Budget → (state_of self.new).halt ≡ None) }
@@ -191,7 +181,7 @@ impl Machine {
         ensures flag { OnErr result (W.has_failed sink.new ≡ true) }
         ensures same_flag { OnOk result (W.has_failed sink.new ≡ W.has_failed sink.old) }
     {
-        let halt = self.step_from(images, known);
+        let halt = self.step_from(images, turn);
         push_all(sink, self.output())?;
         Ok(self.ran_one(breaks, halt))
     }

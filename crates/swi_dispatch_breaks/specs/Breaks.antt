@@ -1,7 +1,7 @@
 -- The addresses at which a run stops: multiples of 4, at most 16.
-use Rattle.std.specs.Prelude.{ℕ, Bool, not, ◌+◌, ◌%◌, ◌==◌, nat_le, Option, Some, None, Result, Ok, Err, List, [], ◌∷◌}
+use Rattle.std.specs.Prelude.{ℕ, Bool, not, ◌+◌, ◌%◌, ◌/◌, ◌≡◌, true, false, get_or, ◌==◌, nat_le, Option, Some, None, Result, Ok, Err, List, [], ◌∷◌}
 use Rattle.std.specs.Prelude.{◌++◌, length, take, drop, if◌then◌else◌}
-use Rattle.std.specs.List.{list_any, position}
+use Rattle.std.specs.List.{list_any, position, All}
 use Rattle.swi_dispatch_breaks.specs.declared.breaks.BreakError.{BreakError}
 use Rattle.swi_dispatch_breaks.specs.declared.breaks.BreakError.TheVariants.{Unaligned, BreakTableFull, NoBreak}
 
@@ -23,3 +23,11 @@ without_place breaks (Some k) = Ok (take k breaks ++ drop (k + 1) breaks)
 
 abbrev pub without_break : List ℕ → ℕ → Result (List ℕ) BreakError
 without_break breaks a = without_place breaks (position (λ b. b == a) breaks)
+
+-- the place of the mark of an address
+abbrev pub mark_of : ℕ → ℕ
+mark_of a = a / 4 % 64
+
+-- the mark of each break is set
+abbrev pub AreMarked : List Bool → List ℕ → Type 0
+AreMarked marks breaks = All (λ a. get_or marks (mark_of a) false ≡ true) breaks

@@ -1,6 +1,7 @@
-ghost use Rattle.std.specs.Prelude.{◌≡◌, ◌==◌, ◌↔◌, ℕ, [], List, IsTrue};
+ghost use Rattle.std.specs.Prelude.{◌≡◌, ◌==◌, ◌↔◌, ◌<◌, ℕ, [], List, IsTrue};
 ghost use Rattle.std.specs.List.{position};
 ghost use Rattle.profile.specs.Outcome.{Leaves};
+ghost use Rattle.swi_dispatch_breaks.specs.Breaks.{mark_of};
 
 use arrayvec::ArrayVec;
 use std::marker::Model;
@@ -22,16 +23,27 @@ pub enum BreakError {
 
 const MOST_BREAKS: usize = 16;
 
+/// How many marks there are.
+const MARKS: usize = 64;
+
 /// The addresses at which a run stops, at most 16.
 #[derive(Drop)]
 pub struct Breaks {
     addresses: ArrayVec<u32, MOST_BREAKS>,
+    /// Set for each address that is there, so that most that aren't are known by one look. A mark stays when its
+    /// address is taken away.
+    marks: [bool; MARKS],
 }
 
 impl Model for Breaks {
+    ghost use Rattle.std.specs.Prelude.{ℕ, List};
+    ghost use Rattle.swi_dispatch_breaks.specs.Breaks.{AreMarked};
+
     ghost Value = { List ℕ };
 
     ghost view = { λ b. b.addresses.items };
+
+    ghost invariant = { λ b. AreMarked b.marks b.addresses.items };
 }
 
 impl Breaks {
@@ -43,6 +55,7 @@ impl Breaks {
     {
         Breaks {
             addresses: ArrayVec::new(),
+            marks: [false; MARKS],
         }
     }
 
@@ -65,6 +78,7 @@ impl Breaks {
             return Err(BreakError::BreakTableFull);
         }
         self.addresses.push(address);
+        self.marks[mark_of(address)] = true;
         Ok(())
     }
 
@@ -95,10 +109,27 @@ impl Breaks {
     }
 
     /// Whether a run stops at the address.
-    #[tactic(auto, unfolding(crate::specs::Breaks::is_among))]
+    #[inline(always)]
     pub fn has(&self, address: u32) -> bool
+        ensures { result ≡ is_among self.now address }
+    {
+        self.marks[mark_of(address)] && self.is_listed(address)
+    }
+
+    #[tactic(auto, unfolding(crate::specs::Breaks::is_among))]
+    #[inline(never)]
+    fn is_listed(&self, address: u32) -> bool
         ensures { result ≡ is_among self.now address }
     {
         self.addresses.iter().any(|at| *at == address)
     }
+}
+
+// Which mark an address has; others may have the same.
+#[inline(always)]
+fn mark_of(address: u32) -> usize
+    ensures value { result ≡ mark_of address }
+    ensures inside { result < 64 }
+{
+    (address / 4 % 64) as usize
 }
