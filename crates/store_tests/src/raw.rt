@@ -62,6 +62,30 @@ fn has_no_byte_where_it_has_no_page(rt: HostRuntime) -> Result<(), Fail> {
 }
 
 #[test]
+fn is_written_as_far_as_asked(rt: HostRuntime) -> Result<(), Fail> {
+    let mut store = RawStore::with_room(rt.alloc(), 1)?;
+    assert!(rt; store.len() == 0);
+    assert!(rt; !store.fits(0, 1));
+    store.grow(8);
+    assert!(rt; store.fits(0, 8));
+    assert!(rt; !store.fits(0, 9));
+    store.write(2, b"abcd");
+    store.grow(4);
+    assert!(rt; store.fits(0, 8));
+    assert!(rt; store.lend(0, 8) == b"\0\0abcd\0\0".as_slice());
+    store.write_zeros(4, 8);
+    assert!(rt; store.len() == 12);
+    assert!(rt; store.fits(0, 12));
+    assert!(rt; store.lend(0, 12) == b"\0\0ab\0\0\0\0\0\0\0\0".as_slice());
+    store.write_zeros(4094, 2);
+    assert!(rt; store.fits(4092, 4));
+    assert!(rt; !store.fits(4096, 1));
+    assert!(rt; store.read_byte(3) == b'b');
+    assert!(rt; store.read_word(4092) == 0);
+    Ok(())
+}
+
+#[test]
 fn copies_as_the_definition_says(rt: HostRuntime) -> Result<(), Fail> {
     for len in 0..201 {
         for to in 10..151 {
