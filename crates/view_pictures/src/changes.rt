@@ -18,10 +18,9 @@ pub fn change_of(own: &PictureBox<'_>, before: Option<&View<'_>>) -> Option<&'st
             Some(block_change(own, boxes))
         }
         Kind::Free => Some(free_change(own, boxes)),
-        Kind::Module
-            if boxes.iter().any(|old| old.kind == Kind::Module
-                && old.name == own.name
-                && old.address != own.address) => { Some(b"moved") }
+        Kind::Module if boxes.iter().any(|old| has_title_of(old, own)) => {
+            Some(module_change(own, boxes))
+        }
         kind
             if boxes
                 .iter()
@@ -80,6 +79,27 @@ fn block_change(own: &PictureBox<'_>, boxes: &[PictureBox<'_>]) -> &'static [u8]
     } else {
         b"slid"
     }
+}
+
+// A module of the same title. An image keeps its length as long as it is there.
+fn module_change(own: &PictureBox<'_>, boxes: &[PictureBox<'_>]) -> &'static [u8] {
+    if boxes
+        .iter()
+        .any(|old| has_title_of(old, own) && old.size != own.size)
+    {
+        b"replaced"
+    } else if boxes
+        .iter()
+        .any(|old| has_title_of(old, own) && old.address != own.address)
+    {
+        b"moved"
+    } else {
+        b"changed"
+    }
+}
+
+fn has_title_of(old: &PictureBox<'_>, own: &PictureBox<'_>) -> bool {
+    old.kind == Kind::Module && old.name == own.name
 }
 
 fn same_place_change(own: &PictureBox<'_>, boxes: &[PictureBox<'_>]) -> &'static [u8] {
