@@ -84,7 +84,8 @@ impl Machine {
     // Takes steps as long as each is an instruction that the core does by itself, which prints nothing
     // and halts nothing. Answers how many, and the turn that comes next, or why the run ended before.
     fn run_quietly(&mut self, breaks: &Breaks, most: u64) -> (u64, Result<Turn, Stop>)
-        requires { (state_of self.old).halt ≡ None }
+        requires some { 0 < most }
+        requires awake { (state_of self.old).halt ≡ None }
         ensures ran { (images : List Entry) → ran images breaks.now result.0 (state_of self.old)
             ≡ quiet_run (state_of self.new) result.0 (quiet_stop result.1) }
         ensures output { self.new.printed ≡ last_or self.old.printed (quiet_last result.0) }
@@ -107,13 +108,14 @@ impl Machine {
 
     // Takes up to so many steps, as long as each is an instruction that is done, and no further than to
     // a break. Answers how many, and the turn that comes next where that is another, or why a run of
-    // these steps ends. No other function asks the core, so that its code stands in this loop; where
-    // there is no break nothing is asked after a step.
+    // these steps ends. No other function asks the core, so that its code stands in this loop. One count
+    // says when to look up from it: after each step where there are breaks, else after the last.
     pub(crate) fn take_instructions(
         &mut self,
         breaks: &Breaks,
         most: u64,
     ) -> (u64, Result<Turn, Stop>)
+        requires some { 0 < most }
         requires stepped { self.old.is_fresh ≡ false }
         requires awake { (state_of self.old).halt ≡ None }
         requires well_formed { IsWellFormed self.old }
@@ -127,20 +129,27 @@ impl Machine {
         ensures others { OnlyState self.old self.new }
         ensures well_formed { IsWellFormed self.new }
     {
-        let is_watched = !breaks.is_empty();
-        for taken in 0..most {
+        let stride = if breaks.is_empty() { most } else { 1 };
+        let mut rest = most;
+        let mut left = stride;
+        loop {
             match self.instruction() {
                 Turn::Done => {}
-                turn => return (taken, Ok(turn)),
+                turn => return (most - rest + (stride - left), Ok(turn)),
             }
-            if is_watched {
+            left -= 1;
+            if left == 0 {
                 let at = self.cpu().pc();
                 if breaks.has(at) {
-                    return (taken + 1, Err(Stop::Break(at)));
+                    return (most - rest + stride, Err(Stop::Break(at)));
                 }
+                rest -= stride;
+                if rest == 0 {
+                    return (most, Err(Stop::Budget));
+                }
+                left = stride;
             }
         }
-        (most, Err(Stop::Budget))
     }
 
     // Takes a step of a machine that isn't halted, by the turn that comes next.
