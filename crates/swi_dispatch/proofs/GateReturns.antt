@@ -1,15 +1,12 @@
 -- A SWI of a module goes back: what that leaves is what a step at the gate leaves.
-use Rattle.std.proofs.Common.{◌≡◌, ℕ, true, false, Some, List, [], ◌∷◌, refl, sym, ap, ◌∙◌}
+use Rattle.std.proofs.Common.{◌≡◌, ℕ, true, false, Some, List, [], ◌∷◌, refl, ap, ◌∙◌}
 use Rattle.std.specs.Prelude.{if◌then◌else◌, Bool, Option, ◌==◌, ◌&&◌, not, slice_index, slice_set}
-use Rattle.address_map.specs.Bytes.{Bytes}
 use Rattle.arm_step.specs.declared.psr.Mode.{Mode}
 use Rattle.arm_step.specs.declared.psr.Mode.TheVariants.{User, FastInterrupt, Interrupt, Supervisor}
-use Rattle.arm_step.specs.declared.psr.Psr.{Psr}
 use Rattle.arm_step.specs.State.{State, register_in, register_of, slot_of}
 use Rattle.instances_plans.specs.declared.code.CodeKind.{CodeKind}
 use Rattle.instances_plans.specs.Plans.{Plan}
 use Rattle.profile.specs.declared.fault.Fault.TheVariants.{ErrorStop}
-use Rattle.swi_dispatch_answers.specs.Errors.{error_at}
 use Rattle.swi_dispatch_answers.specs.Returns.{returned}
 use Rattle.swi_dispatch_frames.specs.Busy.{is_swi}
 use Rattle.swi_dispatch_frames.specs.Frames.{innermost}
@@ -19,7 +16,7 @@ use Rattle.swi_dispatch_frames.specs.declared.frame.FrameKind.{FrameKind}
 use Rattle.swi_dispatch_frames.specs.declared.frame.FrameKind.TheVariants.{Swi, Entry}
 use Rattle.swi_dispatch.specs.declared.halt.Halt.TheVariants as halt
 use Rattle.swi_dispatch.specs.Errors.{error_number}
-use Rattle.swi_dispatch.specs.Gates.{GoesBack, IsUntaken, frame_closed, frame_left, gated, gated_by, returned_from}
+use Rattle.swi_dispatch.specs.Gates.{IsUntaken, frame_closed, frame_left, gated, returned_from}
 use Rattle.swi_dispatch.specs.MachineState.{MachineState, Outcome, quiet}
 use Rattle.swi_dispatch.specs.Returns.{erred, halted}
 

@@ -76,5 +76,5 @@ quiet_more images breaks s0 s s' n t x done so_far awake end h =
     (sym (ap (λ (r : Run). r.now) so_far ∙ quiet_now s n stop.Budget))
     ∙ ap (λ (r : Run). then_run r (ran images breaks 1 s)) so_far
     ∙ ap (then_run (quiet_run s n stop.Budget))
-      (quiet_one images breaks s s' x awake end (subst (λ (u : Turn). TakesTurn s u s') done h))
+    (quiet_one images breaks s s' x awake end (subst (λ (u : Turn). TakesTurn s u s') done h))
     ∙ quiet_joins s s' n x

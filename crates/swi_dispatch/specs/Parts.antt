@@ -1,5 +1,5 @@
 -- The parts of the real machine, and the written machine that they stand for.
-use Rattle.std.specs.Prelude.{◌≡◌, ◌≢◌, ◌≤◌, ◌<◌, length, ℕ, Bool, true, false, IfSome, Option, Some, None, Result, Ok, Err}
+use Rattle.std.specs.Prelude.{◌≡◌, ◌≤◌, ◌<◌, length, ℕ, Bool, true, false, IfSome, Option, Some, None, Result, Ok, Err}
 use Rattle.std.specs.Prelude.{List, []}
 use Rattle.profile.specs.Sizes.{Sizes}
 use Rattle.address_map.specs.declared.map.AddressMap.{AddressMap}
@@ -9,7 +9,6 @@ use Rattle.dynamic_areas.specs.Ground.{AreAreas, IsRecorded, system_pages}
 use Rattle.dynamic_areas.specs.Rooms.{IsAreaTable}
 use Rattle.flex_ground.specs.Ground.{HasFlex}
 use Rattle.arm_step.specs.declared.turn.Turn.{Turn}
-use Rattle.arm_step.specs.declared.turn.Turn.TheVariants as turn
 use Rattle.arm_step.specs.State.{IsCore, State}
 use Rattle.flex_ground.specs.instances_ground.specs.World.{World, world_of}
 use Rattle.instances_plans.specs.Plans.{Plan}

@@ -155,8 +155,10 @@ impl Machine {
         if let Some(stop) = self.stop() {
             return Some(stop);
         }
-        if let (_, Ok(turn)) = self.take_instructions(&Breaks::new(), 1) {
-            self.after_turn(images, turn);
+        let (_, next) = self.take_instructions(&Breaks::new(), 1);
+        match next {
+            Ok(turn) => self.after_turn(images, turn),
+            Err(_) => {}
         }
         self.stop()
     }

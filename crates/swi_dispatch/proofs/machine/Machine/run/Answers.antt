@@ -1,9 +1,9 @@
-use Rattle.std.proofs.Common.{◌≡◌, ◌≢◌, false, IsTrue, ◌≤◌, ◌<◌, ◌+◌, refl, sym, ◌∙◌, arith}
+use Rattle.std.proofs.Common.{◌≡◌, ◌≢◌, false, IsTrue, ◌≤◌, ◌<◌, ◌+◌, Err, ap, refl, sym, ◌∙◌, arith}
 use Rattle.std.proofs.lemmas.Result.{err_from_is_err_and}
 use Rattle.profile.specs.declared.stop.Stop.TheVariants as stop
 use Rattle.profile.proofs.OutputLemmas.{Appends-nothing}
 use Rattle.swi_dispatch.specs.Parts.{state_of}
-use Rattle.swi_dispatch.proofs.RunLoop.{ends_stopped, ends_start, ends_quiet, ends_more, ends_on, ends_early, stands_more, one_taken, halt-none, fresh_before, fresh_after}
+use Rattle.swi_dispatch.proofs.RunLoop.{ends_stopped, ends_start, ends_quiet, ends_more, ends_on, ends_early, ends_all, stands_more, one_taken, halt-none, fresh_before, fresh_after}
 use Rattle.swi_dispatch.proofs.machine.Machine.run.Goals as goal
 
 pub returns-in-Some-clause-ends : goal.returns-in-Some-clause-ends
@@ -22,73 +22,71 @@ loop-taken-init g c =
       same_flag = refl;
     }
 
+-- the steps so far and the quiet ones behind them
+pub returns-in-Err-clause-ends : goal.returns-in-Err-clause-ends
+returns-in-Err-clause-ends g c =
+    let quiet = c.run_quietly-quiet.ensures in
+    let before : c.loop-taken.taken < c.args.budget = c.loop-taken-test.true in
+    let ran = rw c.in-Err.is at quiet.ran c.args.images.now in
+    let all : c.in-Err.stop ≡ stop.Budget → c.loop-taken.taken + c.run_quietly-quiet.result.0 ≡ c.args.budget =
+    λ e. (let k = quiet.all (c.in-Err.is ∙ ap Err e) in omega (arith, k, before)) in
+    ends_all _ _ _ _ _ _ _ _ _ _ _ (omega (arith, quiet.most, before)) all
+    (ends_quiet c.args.images.now c.args.breaks.now (state_of c.args.self.now) (state_of c.loop-taken.self) (state_of c.run_quietly-quiet.new.self)
+    c.loop-taken.taken c.run_quietly-quiet.result.0 c.in-Err.stop c.args.self.now.printed c.loop-taken.self.printed c.run_quietly-quiet.new.self.printed
+    (g.W.Sink.contents c.args.sink.now) (g.W.Sink.contents c.loop-taken.sink) (Appends-nothing _) c.loop-taken.invariant.ends ran quiet.output)
+
 pub returns-in_err-one-clause-stands : goal.returns-in_err-one-clause-stands
 returns-in_err-one-clause-stands g c =
     let quiet = c.run_quietly-quiet.ensures in
+    let ran = rw c.in-Ok.is at quiet.ran c.args.images.now in
+    let fewer = rw c.in-Ok.is at quiet.fewer in
     let done = ends_quiet c.args.images.now c.args.breaks.now (state_of c.args.self.now) (state_of c.loop-taken.self)
-    (state_of c.run_quietly-quiet.new.self) c.loop-taken.taken c.run_quietly-quiet.result.0 c.args.self.now.printed c.loop-taken.self.printed
+    (state_of c.run_quietly-quiet.new.self) c.loop-taken.taken c.run_quietly-quiet.result.0 stop.Budget c.args.self.now.printed c.loop-taken.self.printed
     c.run_quietly-quiet.new.self.printed (g.W.Sink.contents c.args.sink.now) (g.W.Sink.contents c.loop-taken.sink) (Appends-nothing _)
-    c.loop-taken.invariant.ends (quiet.ran c.args.images.now) quiet.output in
+    c.loop-taken.invariant.ends ran quiet.output in
     let one = c.in_err-one.ensures in
     let p = err_from_is_err_and c.from_residual.result c.from_residual.ensures.1 in
-    let within : c.loop-taken.taken + c.run_quietly-quiet.result.0 < c.args.budget = c.if-taken-budget.true in
+    let within : c.loop-taken.taken + c.run_quietly-quiet.result.0 < c.args.budget = omega (arith, fewer) in
     rw p.1 (stands_more _ _ _ _ _ _ _ _ _ _ _ _ _ within done one.stands one.output one.part)
 
 pub returns-then-not-goes_on-clause-ends : goal.returns-then-not-goes_on-clause-ends
 returns-then-not-goes_on-clause-ends g c =
     let quiet = c.run_quietly-quiet.ensures in
+    let ran = rw c.in-Ok.is at quiet.ran c.args.images.now in
+    let fewer = rw c.in-Ok.is at quiet.fewer in
     let done = ends_quiet c.args.images.now c.args.breaks.now (state_of c.args.self.now) (state_of c.loop-taken.self)
-    (state_of c.run_quietly-quiet.new.self) c.loop-taken.taken c.run_quietly-quiet.result.0 c.args.self.now.printed c.loop-taken.self.printed
+    (state_of c.run_quietly-quiet.new.self) c.loop-taken.taken c.run_quietly-quiet.result.0 stop.Budget c.args.self.now.printed c.loop-taken.self.printed
     c.run_quietly-quiet.new.self.printed (g.W.Sink.contents c.args.sink.now) (g.W.Sink.contents c.loop-taken.sink) (Appends-nothing _)
-    c.loop-taken.invariant.ends (quiet.ran c.args.images.now) quiet.output in
-    let below : c.loop-taken.taken + c.run_quietly-quiet.result.0 < c.args.budget = c.if-taken-budget.true in
-    let within : c.loop-taken.taken + c.run_quietly-quiet.result.0 + 1 ≤ c.args.budget = omega (arith, below) in
+    c.loop-taken.invariant.ends ran quiet.output in
+    let within : c.loop-taken.taken + c.run_quietly-quiet.result.0 + 1 ≤ c.args.budget = omega (arith, fewer) in
     let other : c.in_ok-one.one.stop ≢ stop.Budget = λ e. (let t : IsTrue false = c.if-not-goes_on.ensures.1 e in cc) in
     ends_early _ _ _ _ _ _ _ _ _ _ _ _ within other (ends_more _ _ _ _ _ _ _ _ _ _ _ _ _ _ _ done c.in_ok-one.ensures.ends)
 
-pub loop-taken-smaller-else-not-goes_on : goal.loop-taken-smaller-else-not-goes_on
-loop-taken-smaller-else-not-goes_on g c =
+pub loop-taken-smaller : goal.loop-taken-smaller
+loop-taken-smaller g c =
     let budget : c.in_ok-one.one.stop ≡ stop.Budget = c.if-not-goes_on.ensures.0 refl in
     let count : c.in_ok-one.one.taken ≡ 1 = one_taken _ _ _ _ _ _ _ _ _ _ c.run_quietly-quiet.ensures.awake c.in_ok-one.ensures.ends budget in
-    let below : c.loop-taken.taken + c.run_quietly-quiet.result.0 < c.args.budget = c.if-taken-budget.true in
-    omega (arith, count, below)
+    let fewer = rw c.in-Ok.is at c.run_quietly-quiet.ensures.fewer in
+    omega (arith, count, fewer)
 
-pub loop-taken-preserved-else-not-goes_on : goal.loop-taken-preserved-else-not-goes_on
-loop-taken-preserved-else-not-goes_on g c =
+pub loop-taken-preserved : goal.loop-taken-preserved
+loop-taken-preserved g c =
     let quiet = c.run_quietly-quiet.ensures in
+    let ran = rw c.in-Ok.is at quiet.ran c.args.images.now in
+    let fewer = rw c.in-Ok.is at quiet.fewer in
     let done = ends_quiet c.args.images.now c.args.breaks.now (state_of c.args.self.now) (state_of c.loop-taken.self)
-    (state_of c.run_quietly-quiet.new.self) c.loop-taken.taken c.run_quietly-quiet.result.0 c.args.self.now.printed c.loop-taken.self.printed
+    (state_of c.run_quietly-quiet.new.self) c.loop-taken.taken c.run_quietly-quiet.result.0 stop.Budget c.args.self.now.printed c.loop-taken.self.printed
     c.run_quietly-quiet.new.self.printed (g.W.Sink.contents c.args.sink.now) (g.W.Sink.contents c.loop-taken.sink) (Appends-nothing _)
-    c.loop-taken.invariant.ends (quiet.ran c.args.images.now) quiet.output in
+    c.loop-taken.invariant.ends ran quiet.output in
     let one = c.in_ok-one.ensures in
     let budget : c.in_ok-one.one.stop ≡ stop.Budget = c.if-not-goes_on.ensures.0 refl in
     let count : c.in_ok-one.one.taken ≡ 1 = one_taken _ _ _ _ _ _ _ _ _ _ quiet.awake one.ends budget in
-    let below : c.loop-taken.taken + c.run_quietly-quiet.result.0 < c.args.budget = c.if-taken-budget.true in
     record {
       ends = ends_on _ _ _ _ _ _ _ _ _ _ _ _ _ _ quiet.awake done one.ends budget;
-      within = omega (arith, count, below);
+      within = omega (arith, count, fewer);
       awake = one.awake budget;
       fresh = fresh_after c.args.self.now.is_fresh c.run_one.new.self.is_fresh (c.loop-taken.taken + c.run_quietly-quiet.result.0 + c.in_ok-one.one.taken) one.fresh (omega (arith, count));
       sizes = one.sizes ∙ quiet.sizes ∙ c.loop-taken.invariant.sizes;
       well_formed = one.well_formed;
       same_flag = one.same_flag ∙ c.loop-taken.invariant.same_flag;
-    }
-
-pub loop-taken-preserved : goal.loop-taken-preserved
-loop-taken-preserved g c =
-    let quiet = c.run_quietly-quiet.ensures in
-    let most = quiet.most in
-    let before = c.loop-taken-test.true in
-    let all = c.if-taken-budget.false in
-    record {
-      ends = ends_quiet c.args.images.now c.args.breaks.now (state_of c.args.self.now) (state_of c.loop-taken.self)
-          (state_of c.run_quietly-quiet.new.self) c.loop-taken.taken c.run_quietly-quiet.result.0 c.args.self.now.printed c.loop-taken.self.printed
-          c.run_quietly-quiet.new.self.printed (g.W.Sink.contents c.args.sink.now) (g.W.Sink.contents c.loop-taken.sink) (Appends-nothing _)
-          c.loop-taken.invariant.ends (quiet.ran c.args.images.now) quiet.output;
-      within = omega (arith, most, c.loop-taken.invariant.within);
-      awake = quiet.awake;
-      fresh = fresh_after c.args.self.now.is_fresh c.run_quietly-quiet.new.self.is_fresh (c.loop-taken.taken + c.run_quietly-quiet.result.0) quiet.fresh (omega (arith, before, all));
-      sizes = quiet.sizes ∙ c.loop-taken.invariant.sizes;
-      well_formed = quiet.well_formed;
-      same_flag = c.loop-taken.invariant.same_flag;
     }

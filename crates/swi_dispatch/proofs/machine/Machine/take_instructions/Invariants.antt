@@ -6,8 +6,8 @@ use Rattle.swi_dispatch.specs.Run.{ran, quiet_run}
 use Rattle.swi_dispatch.proofs.machine.Machine.take_instructions.Given as goal
 
 -- so far each step was an instruction that was done, and none led to a break
-abbrev pub invariant-loop : goal.invariant-loop
-invariant-loop l = record {
+abbrev pub invariant-loop-turn : goal.invariant-loop-turn
+invariant-loop-turn l = record {
   ran : (images : List Entry) → ran images l.breaks (l.most - l.rest + (l.stride - l.left)) (state_of l.fn.self)
       ≡ quiet_run (state_of l.self) (l.most - l.rest + (l.stride - l.left)) stop.Budget;
   looks : (l.stride ≡ 1) ⊎ ((l.breaks ≡ []) × (l.stride ≡ l.most) × (l.rest ≡ l.most));
@@ -19,3 +19,6 @@ invariant-loop l = record {
   others : OnlyState l.fn.self l.self;
   well_formed : IsWellFormed l.self;
 }
+
+abbrev pub decreases-loop-turn : goal.decreases-loop-turn
+decreases-loop-turn l = l.rest - l.stride + l.left
