@@ -5,6 +5,7 @@ ghost use Rattle.swi_dispatch.specs.Parts.{state_of, outcome_of, TakesTurn, IsWe
 ghost use Rattle.swi_dispatch.specs.Run.{ran, stop_after, count_after, last_or, quiet_run, quiet_last, quiet_stop};
 ghost use Rattle.swi_dispatch.specs.MachineState.{stop_of};
 ghost use Rattle.swi_dispatch.specs.Step.{machine_step};
+ghost use Rattle.std.specs.Io.KnownBytes.{Appends};
 ghost use Rattle.profile.specs.Output.{AddsPart};
 ghost use Rattle.swi_dispatch.specs.Ending.{Ends, StandsAfter};
 
@@ -191,8 +192,22 @@ impl Machine {
         ensures same_flag { OnOk result (W.has_failed sink.new ≡ W.has_failed sink.old) }
     {
         let halt = self.step_from(images, turn);
-        push_all(sink, self.output())?;
+        self.write_output(sink)?;
         Ok(self.ran_one(breaks, halt))
+    }
+
+    // Writes what the last step printed. Mostly it is nothing, and then nothing is asked of the sink.
+    fn write_output<W: Sink>(&self, sink: &mut W) -> Result<(), WriteFault>
+        ensures text { OnOk result (Appends (W.contents sink.old) (W.contents sink.new) self.now.printed) }
+        ensures part { OnErr result (AddsPart (W.contents sink.old) (W.contents sink.new) self.now.printed) }
+        ensures flag { OnErr result (W.has_failed sink.new ≡ true) }
+        ensures same_flag { OnOk result (W.has_failed sink.new ≡ W.has_failed sink.old) }
+    {
+        let output = self.output();
+        if output.is_empty() {
+            return Ok(());
+        }
+        push_all(sink, output)
     }
 
     // Why a run of one step ended, and how it counts.
