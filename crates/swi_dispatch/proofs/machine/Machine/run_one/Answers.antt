@@ -1,6 +1,4 @@
 use Rattle.std.proofs.lemmas.Result.{err_from_is_err_and}
-use Rattle.std.proofs.Common.{subst}
-use Rattle.std.specs.Io.KnownBytes.{Appends}
 use Rattle.swi_dispatch.proofs.RunLoop.{ends_one, stands_one}
 use Rattle.swi_dispatch.proofs.machine.Machine.run_one.Goals as goal
 
