@@ -1,8 +1,7 @@
--- A block that comes, whose anchor is marked first.
-use Rattle.std.proofs.Common.{◌≡◌, ℕ, Bool, ◌+◌, ◌-◌, ◌%◌, ◌^◌, ◌<◌, ◌≤◌, ◌||◌, ◌&&◌, not, true, false, nat_eq, nat_lt, cond, Ok, Err, List, [], ◌∷◌, ◌++◌, arith, refl, sym, ◌∙◌, ap, inl, inr, ◌⊎◌, ◌↔◌, subst}
+-- A block that comes.
+use Rattle.std.proofs.Common.{◌≡◌, ℕ, Bool, ◌+◌, ◌-◌, ◌%◌, ◌^◌, ◌<◌, ◌≤◌, ◌||◌, ◌&&◌, not, true, false, nat_eq, nat_lt, Ok, Err, List, [], ◌∷◌, ◌++◌, arith, refl, sym, ◌∙◌, ap, inl, inr, ◌⊎◌, ◌↔◌, subst}
 use Rattle.std.specs.List.{list_any}
-use Rattle.std.proofs.lemmas.Bool.{and_parts, cases_Bool, cases_lt, eqb-true, eqb-false, eq-eqb, lt-ltb, ne_eqb, not-true, or_from, or_parts, true≢false, false≢true}
-use Rattle.address_map.proofs.Bytes.{is_mapped-layout}
+use Rattle.std.proofs.lemmas.Bool.{and_parts, cases_Bool, cases_lt, eqb-true, eqb-false, eq-eqb, lt-ltb, ne_eqb, not-true, or_cases, or_from, or_parts, true≢false, false≢true}
 use Rattle.address_map.proofs.Words.{class_of-word}
 use Rattle.address_map.proofs.Spans.{mapped_below}
 use Rattle.profile.specs.Outcome.{Gives}
@@ -11,103 +10,85 @@ use Rattle.os_heap.specs.Store.{Store, others_in, store_of}
 use Rattle.address_map.specs.declared.region.Region.{Region}
 use Rattle.os_heap.proofs.Frame.{store_bytes}
 use Rattle.address_map.specs.Bytes.{AreMapped, Bytes, meets, word_start}
-use Rattle.address_map.specs.Classes.{is_anchor, is_flex_header, is_heap_class}
-use Rattle.address_map.specs.Memory.{byte_at, class_of, is_mapped, layout, regions}
-use Rattle.address_map.specs.Records.{is_heap_kind, with_class}
-use Rattle.address_map.specs.declared.class.Class.{Class}
-use Rattle.address_map.specs.declared.class.Class.TheVariants as class
+use Rattle.address_map.specs.Classes.{is_anchor, is_heap_class}
+use Rattle.address_map.specs.Memory.{class_of, is_mapped, regions}
+use Rattle.address_map.specs.Records.{is_heap_kind}
 use Rattle.address_map.specs.declared.map.AddressMap.{AddressMap}
 use Rattle.flex_store.specs.declared.flex.Extent.{Extent}
 use Rattle.flex_store.specs.Blocks.{Block, has_anchor, is_header, new_block, taken, used}
 use Rattle.flex_store.specs.Calls.{allocated, is_anchor_place, is_in_store}
 use Rattle.os_heap.specs.Payloads.{is_other, payload_of}
-use Rattle.flex_store.specs.Changes.{Fits, GotBlocks}
-use Rattle.flex_store.specs.Memory.{AreAnchored, Holds, laid_out, text_of}
+use Rattle.flex_store.specs.Changes.{Fits}
 use Rattle.flex_store.specs.Relaid.{MayLie, Relaid}
-use Rattle.flex_store.specs.State.{AreAnchorWords, IsAnchorWord, IsFlexRange, IsStoreAt, KeepsHeads, blocks_of, held_in, store_in}
+use Rattle.flex_store.specs.State.{AreAnchorWords, AreOutside, IsAnchorWord, IsStoreAt, blocks_of, held_in, store_in}
 use Rattle.flex_store.proofs.Answering.{AreAllowed, fits_state}
 use Rattle.flex_store.proofs.Changing.{got}
 use Rattle.flex_store.proofs.Finding.{has_by, store_low}
-use Rattle.flex_store.proofs.Headers.{IsWithin, header_within}
 use Rattle.flex_store.proofs.Lists.{anchor-append, used-append, whole-append}
 use Rattle.flex_store.proofs.Sliding.{new_whole}
 use Rattle.flex_store.proofs.Storing.{IsBefore, used_aligned}
-use Rattle.flex_store.proofs.Texts.{words_within}
+use Rattle.flex_store.proofs.Words.{outside_inner, words_within}
 
--- a word that was marked as an anchor
-pub record IsMarkedAnchor (m n : AddressMap) (anchor : ℕ) : Type 0 where
-  pub bytes : byte_at n ≡ byte_at m
-  pub marks : (a : ℕ) → class_of n a ≡ with_class (class_of m) anchor class.Anchor a
-  pub same : layout n ≡ layout m
-
-words_push : (mapped : ℕ → Bool) (start end : ℕ) (xs : List Block) (b : Block) → AreAnchorWords mapped start end xs → IsAnchorWord mapped start end b.anchor
+words_push : (mapped : ℕ → Bool) (start end : ℕ) (xs : List Block) (b : Block) → AreAnchorWords mapped start end xs → IsAnchorWord mapped (start + used xs) end b.anchor
     → has_anchor xs b.anchor ≡ false → AreAnchorWords mapped start end (xs ++ b ∷ [])
-words_push mapped start end [] b words word none = ((word, refl), tt)
+words_push mapped start end [] b words word none = let e : start + 0 ≡ start = omega arith in ((rw e at word, refl), tt)
 words_push mapped start end (x ∷ xs) b words word none =
     let parts = or_parts (nat_eq b.anchor x.anchor) (has_anchor xs b.anchor) none in
-    let apart : nat_eq x.anchor b.anchor ≡ false = ne_eqb x.anchor b.anchor (λ e. eqb-false b.anchor x.anchor parts.0 (sym e)) in (
+    let apart : nat_eq x.anchor b.anchor ≡ false = ne_eqb x.anchor b.anchor (λ e. eqb-false b.anchor x.anchor parts.0 (sym e)) in
+    let e : start + (taken x.size + used xs) ≡ start + taken x.size + used xs = omega arith in (
       (words.0.0, anchor-append xs (b ∷ []) x.anchor ∙ or_from (has_anchor xs x.anchor) (nat_eq x.anchor b.anchor || false) words.0.1 (or_from (nat_eq x.anchor b.anchor) false apart refl)),
-      words_push mapped start end xs b words.1 word parts.1,
+      words_push mapped (start + taken x.size) end xs b words.1 (rw e at word) parts.1,
     )
 
-fh_marked : (own : Class) (here has : Bool) → (here ≡ true → has ≡ false) → is_flex_header own ≡ has → is_flex_header (cond here class.Anchor own) ≡ (has || false)
-fh_marked own true true clear is = sym (clear refl)
-fh_marked own true false clear is = refl
-fh_marked own false true clear is = is
-fh_marked own false false clear is = is
-
-an_marked : (own : Class) (here has : Bool) → is_anchor own ≡ has → is_anchor (cond here class.Anchor own) ≡ (has || (here || false))
-an_marked own true true is = refl
-an_marked own true false is = refl
-an_marked own false true is = is
-an_marked own false false is = is
-
-heap_marked : (own : Class) (here : Bool) → (here ≡ true → is_heap_class own ≡ false) → is_heap_class (cond here class.Anchor own) ≡ is_heap_class own
-heap_marked own true clear = sym (clear refl)
-heap_marked own false clear = refl
-
-header_clear : (start end anchor p : ℕ) (bs : List Block) → start + used bs ≤ end → (anchor + 4 ≤ start) ⊎ (end ≤ anchor) → p ≡ anchor → is_header start bs p ≡ false
-header_clear start end anchor p bs fits outside here = elim (cases_Bool (is_header start bs p)) [
-  | inr none ↦ none
-  | inl has ↦
-      let i : IsWithin start (used bs) p = header_within start bs p has in
-      absurd (elim outside [ inl low ↦ omega (arith, i.from) | inr high ↦ omega (arith, i.below) ])
+outside_push : (start end : ℕ) (xs : List Block) (b : Block) → AreOutside start end xs → (b.anchor + 4 ≤ start) ⊎ (end ≤ b.anchor) → AreOutside start end (xs ++ b ∷ [])
+outside_push start end xs b out own a has = elim (or_cases (has_anchor xs a) (nat_eq a b.anchor || false) (sym (anchor-append xs (b ∷ []) a) ∙ has)) [
+  | inl was ↦ out a was
+  | inr new ↦ elim (or_cases (nat_eq a b.anchor) false new) [
+    | inl here ↦ let e : a ≡ b.anchor = eqb-true a b.anchor here in rw e own
+    | inr never ↦ absurd (false≢true never)
+  ]
 ]
 
-pub alloc_before : (m m1 : AddressMap) (e : Extent) (anchor size : ℕ) → IsStoreAt m e → IsAnchorWord (is_mapped m) e.start e.end anchor
-    → has_anchor (blocks_of m e) anchor ≡ false → size < 2 ^ 32 → IsMarkedAnchor m m1 anchor → e.start + (e.used + taken size) ≤ e.end
-    → IsBefore m1 e.start e.end (blocks_of m e) [] (new_block anchor size ∷ [])
-alloc_before m m1 e anchor size s word none small k fits =
+or_nothing : (t : Bool) → t ≡ (t || false)
+or_nothing true = refl
+or_nothing false = refl
+
+pub alloc_outside : (m : AddressMap) (e : Extent) (anchor size : ℕ) → IsStoreAt m e → IsAnchorWord (is_mapped m) e.start e.end anchor
+    → AreOutside e.start e.end (blocks_of m e ++ new_block anchor size ∷ [])
+alloc_outside m e anchor size s word = outside_push e.start e.end (blocks_of m e) (new_block anchor size) s.store.outside word.outside
+
+pub alloc_before : (m : AddressMap) (e : Extent) (anchor size : ℕ) → IsStoreAt m e → IsAnchorWord (is_mapped m) e.start e.end anchor
+    → has_anchor (blocks_of m e) anchor ≡ false → size < 2 ^ 32 → e.start + (e.used + taken size) ≤ e.end
+    → IsBefore m e.start e.end (blocks_of m e) [] (new_block anchor size ∷ [])
+alloc_before m e anchor size s word none small fits =
     let bs : List Block = blocks_of m e in
-    let mapped : is_mapped m1 ≡ is_mapped m = is_mapped-layout m m1 k.same in
     let total : used bs ≡ e.used = s.used_is in
     let sum : used (bs ++ new_block anchor size ∷ []) ≡ used bs + (taken size + 0) = used-append bs (new_block anchor size ∷ []) in
     record {
-      range = subst (λ (q : ℕ → Bool). IsFlexRange q e.start e.end) (sym mapped) s.store.range;
+      range = s.store.range;
       fits = omega arith;
       fitted = omega (arith, s.store.fits);
       whole = whole-append bs (new_block anchor size ∷ []) s.store.whole (new_whole m e.start anchor size small);
-      words = subst (λ (q : ℕ → Bool). AreAnchorWords q e.start e.end (bs ++ new_block anchor size ∷ [])) (sym mapped)
-          (words_push (is_mapped m) e.start e.end bs (new_block anchor size) s.store.words word none);
-      text = subst (λ (f : ℕ → ℕ). Holds f e.start (text_of bs)) (sym k.bytes) s.store.text;
-      anchored = subst (λ (f : ℕ → ℕ). AreAnchored f e.start bs) (sym k.bytes) s.store.anchored;
-      headers = λ a. ap is_flex_header (k.marks a) ∙ fh_marked (class_of m a) (nat_eq (word_start a) anchor) (is_header e.start bs (word_start a))
-          (λ here. header_clear e.start e.end anchor (word_start a) bs s.store.fits word.outside (eqb-true (word_start a) anchor here)) (s.store.headers a);
-      anchors = λ a. ap is_anchor (k.marks a) ∙ (an_marked (class_of m a) (nat_eq (word_start a) anchor) (has_anchor bs (word_start a)) (s.store.anchors a)
-          ∙ sym (anchor-append bs (new_block anchor size ∷ []) (word_start a)));
+      words = words_push (is_mapped m) e.start e.end bs (new_block anchor size) s.store.words (record {
+        aligned = word.aligned;
+        there = word.there;
+        low = word.low;
+        outside = elim word.outside [ inl before ↦ inl (omega arith) | inr behind ↦ inr behind ];
+      }) none;
+      inner = outside_inner e.start e.end (bs ++ new_block anchor size ∷ []) (alloc_outside m e anchor size s word);
+      text = s.store.text;
+      anchored = s.store.anchored;
+      headers = λ a. s.store.headers a ∙ or_nothing (is_header e.start bs (word_start a));
+      anchors = λ a. s.store.anchors a ∙ or_nothing (has_anchor bs (word_start a));
+      apart = λ p has. absurd (false≢true has);
     }
 
-pub alloc_may : (m m1 : AddressMap) (e : Extent) (anchor size header : ℕ) → IsStoreAt m e → IsAnchorWord (is_mapped m) e.start e.end anchor
-    → IsMarkedAnchor m m1 anchor → e.start + (e.used + taken size) ≤ e.end → header ≡ e.start + e.used → MayLie m1 header (new_block anchor size ∷ [])
-alloc_may m m1 e anchor size header s word k fits place =
-    let mapped : is_mapped m1 ≡ is_mapped m = is_mapped-layout m m1 k.same in
-    let words : AreAnchorWords (is_mapped m) e.start e.end (new_block anchor size ∷ []) = ((word, refl), tt) in
-    record {
-      words = subst (λ (q : ℕ → Bool). AreAnchorWords q header (header + used (new_block anchor size ∷ [])) (new_block anchor size ∷ [])) (sym mapped)
-          (words_within (is_mapped m) e.start e.end header (header + used (new_block anchor size ∷ [])) (new_block anchor size ∷ []) (omega arith) (omega arith) words);
-      there = subst (λ (q : ℕ → Bool). AreMapped q header (used (new_block anchor size ∷ []))) (sym mapped)
-          (λ a low high. s.store.range.there a (omega arith) (omega arith));
-    }
+pub alloc_may : (m : AddressMap) (e : Extent) (anchor size header : ℕ) → IsStoreAt m e → IsAnchorWord (is_mapped m) e.start e.end anchor
+    → e.start + (e.used + taken size) ≤ e.end → header ≡ e.start + e.used → MayLie m header (new_block anchor size ∷ [])
+alloc_may m e anchor size header s word fits place = record {
+  words = words_within (is_mapped m) e.start e.end header (header + used (new_block anchor size ∷ [])) (new_block anchor size ∷ []) (omega arith) (omega arith) ((word, refl), tt);
+  there = λ a low high. s.store.range.there a (omega arith) (omega arith);
+}
 
 pub record AllocNumbers (m : AddressMap) (e : Extent) (size : ℕ) : Type 0 where
   pub low : e.end ≤ 2 ^ 26
@@ -130,41 +111,30 @@ alloc_none m e anchor size s past =
     let sum : used (blocks_of m e ++ new_block anchor size ∷ []) ≡ used (blocks_of m e) + (taken size + 0) = used-append (blocks_of m e) (new_block anchor size ∷ []) in
     (omega arith, (refl, refl))
 
-pub alloc_done : (m m1 n : AddressMap) (e f : Extent) (anchor size header : ℕ) → IsStoreAt m e → IsAnchorWord (is_mapped m) e.start e.end anchor
-    → has_anchor (blocks_of m e) anchor ≡ false → is_heap_class (class_of m anchor) ≡ false → size < 2 ^ 32 → IsMarkedAnchor m m1 anchor → e.start + (e.used + taken size) ≤ e.end
-    → header ≡ e.start + e.used → Relaid m1 n header [] (new_block anchor size ∷ []) → f.start ≡ e.start → f.end ≡ e.end → f.used ≡ e.used + taken size
+pub alloc_done : (m n : AddressMap) (e f : Extent) (anchor size header : ℕ) → IsStoreAt m e → IsAnchorWord (is_mapped m) e.start e.end anchor
+    → has_anchor (blocks_of m e) anchor ≡ false → is_heap_class (class_of m anchor) ≡ false → size < 2 ^ 32 → e.start + (e.used + taken size) ≤ e.end
+    → header ≡ e.start + e.used → Relaid m n header [] (new_block anchor size ∷ []) → f.start ≡ e.start → f.end ≡ e.end → f.used ≡ e.used + taken size
     → Fits m e (blocks_of m e ++ new_block anchor size ∷ []) true n f
-alloc_done m m1 n e f anchor size header s word none head small k fits place r same_start same_end used_is =
+alloc_done m n e f anchor size header s word none head small fits place r same_start same_end used_is =
     let bs : List Block = blocks_of m e in
     let total : used bs ≡ e.used = s.used_is in
     let sum : used (bs ++ new_block anchor size ∷ []) ≡ used bs + (taken size + 0) = used-append bs (new_block anchor size ∷ []) in
-    let at : header ≡ e.start + used bs = omega arith in
-    let g : GotBlocks m1 e (bs ++ new_block anchor size ∷ []) n f =
-    got m1 n e f bs [] (new_block anchor size ∷ []) (alloc_before m m1 e anchor size s word none small k fits)
-    (subst (λ (q : ℕ). Relaid m1 n q [] (new_block anchor size ∷ [])) at r) same_start same_end (omega arith) in
-    let classes : (a : ℕ) → is_heap_class (class_of m1 a) ≡ is_heap_class (class_of m a) = λ a.
-    ap is_heap_class (k.marks a) ∙ heap_marked (class_of m a) (nat_eq (word_start a) anchor)
-    (λ here. no_head m anchor a word.aligned head (eqb-true (word_start a) anchor here)) in (
+    let at : header ≡ e.start + used bs = omega arith in (
       omega arith,
-      record {
-        bytes = λ a. g.bytes a ∙ ap (λ (h : ℕ → ℕ). laid_out e.start (bs ++ new_block anchor size ∷ []) h a) k.bytes;
-        blocks_are = g.blocks_are;
-        start = g.start;
-        end = g.end;
-        store = g.store;
-        same = g.same ∙ k.same;
-        heads = λ clear.
-            let h : KeepsHeads m1 n = g.heads (λ a low high. classes a ∙ clear a low high) in
-            record {
-              bytes = λ a is. h.bytes a (classes a ∙ is) ∙ ap (λ (x : ℕ → ℕ). x a) k.bytes;
-              classes = λ a. h.classes a ∙ classes a;
-            };
-      },
+      got m n e f bs [] (new_block anchor size ∷ []) (alloc_before m e anchor size s word none small fits)
+          (subst (λ (q : ℕ). Relaid m n q [] (new_block anchor size ∷ [])) at r) (alloc_outside m e anchor size s word)
+          (λ a has. no_head m anchor a word.aligned head (own_word (word_start a) anchor has)) same_start same_end (omega arith),
     ) where
       no_head : (m : AddressMap) (anchor a : ℕ) → anchor % 4 ≡ 0 → is_heap_class (class_of m anchor) ≡ false → word_start a ≡ anchor → is_heap_class (class_of m a) ≡ false
       no_head m anchor a aligned head here =
           let same : word_start a ≡ word_start anchor = omega arith in
           ap is_heap_class (class_of-word m a anchor same) ∙ head
+
+      own_word : (p anchor : ℕ) → (nat_eq p anchor || false) ≡ true → p ≡ anchor
+      own_word p anchor has = elim (or_cases (nat_eq p anchor) false has) [
+        | inl here ↦ eqb-true p anchor here
+        | inr never ↦ absurd (false≢true never)
+      ]
 
 -- what an alloc answers
 pub alloc_gives : (m n : AddressMap) (e f : Extent) (places : Store) (anchor size : ℕ) (done : Bool) → (is_anchor_place places anchor && not (is_in_store (store_in m e) anchor)) ≡ true

@@ -23,7 +23,7 @@ pub anchors_beside : (mapped : ℕ → Bool) (start end at : ℕ) (bs : List Blo
 anchors_beside mapped start end at [] f a words none = refl
 anchors_beside mapped start end at (b ∷ bs) f a words none =
     let parts = or_parts (nat_eq (word_start a) b.anchor) (has_anchor bs (word_start a)) none in
-    anchors_beside mapped start end (at + taken b.size) bs (with_word_at f b.anchor (at + 8)) a words.1 parts.1
+    anchors_beside mapped (start + taken b.size) end (at + taken b.size) bs (with_word_at f b.anchor (at + 8)) a words.1 parts.1
     ∙ word_beside f b.anchor (at + 8) a (other_word b.anchor a words.0.0.aligned (eqb-false _ _ parts.0))
 
 pub anchors_hold : (mapped : ℕ → Bool) (start end at : ℕ) (bs : List Block) (f : ℕ → ℕ) → AreAnchorWords mapped start end bs
@@ -33,10 +33,10 @@ anchors_hold mapped start end at (b ∷ bs) f words =
     let g : ℕ → ℕ = with_word_at f b.anchor (at + 8) in
     let aligned : b.anchor % 4 ≡ 0 = words.0.0.aligned in (
       holds_kept g (with_anchors (at + taken b.size) bs g) b.anchor (word_bytes (at + 8))
-          (λ a low high. anchors_beside mapped start end (at + taken b.size) bs g a words.1
+          (λ a low high. anchors_beside mapped (start + taken b.size) end (at + taken b.size) bs g a words.1
           (let e : word_start a ≡ b.anchor = omega arith in rw e words.0.1))
           (holds_word f b.anchor (at + 8)),
-      anchors_hold mapped start end (at + taken b.size) bs g words.1,
+      anchors_hold mapped (start + taken b.size) end (at + taken b.size) bs g words.1,
     )
 
 pub anchors_again : (at : ℕ) (bs : List Block) (f : ℕ → ℕ) (a : ℕ) → AreAnchored f at bs → with_anchors at bs f a ≡ f a

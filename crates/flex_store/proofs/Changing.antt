@@ -1,6 +1,6 @@
 -- The store after the blocks from a place on were laid out anew, as calls tell it.
 use Rattle.std.proofs.Common.{◌≡◌, ℕ, Bool, ◌+◌, ◌-◌, ◌^◌, ◌<◌, ◌≤◌, ◌||◌, true, false, nat_eq, List, [], ◌∷◌, ◌++◌, length, Some, arith, refl, sym, ◌∙◌, ap, inl, inr, ◌⊎◌, subst}
-use Rattle.std.proofs.lemmas.Bool.{cases_lt, true≢false, false≢true}
+use Rattle.std.proofs.lemmas.Bool.{cases_lt, false_from_ne_true, or_cases, or_right, true≢false, false≢true}
 use Rattle.address_map.specs.Bytes.{with_bytes_at, word_start}
 use Rattle.address_map.specs.Classes.{is_anchor, is_heap_class}
 use Rattle.address_map.specs.Memory.{byte_at, class_of, is_mapped}
@@ -10,22 +10,22 @@ use Rattle.address_map.specs.declared.map.AddressMap.{AddressMap}
 use Rattle.flex_store.specs.declared.flex.Extent.{Extent}
 use Rattle.flex_store.specs.Blocks.{Block, contents, has_anchor, holding, is_header, spliced, taken, used, with_block}
 use Rattle.flex_store.specs.Changes.{GotBlocks, IsChanged}
-use Rattle.flex_store.specs.Marks.{marked, with_headers}
 use Rattle.flex_store.specs.Memory.{Holds, laid_out, text_of}
 use Rattle.flex_store.specs.Relaid.{behind, first_at, MayLie, Relaid}
 use Rattle.flex_store.specs.Splices.{size_after}
 use Rattle.flex_store.specs.declared.splice.Splice.{Splice}
-use Rattle.flex_store.specs.State.{AreAnchorWords, AreWhole, HasNoHead, KeepsHeads, blocks_of}
+use Rattle.flex_store.specs.State.{AreAnchorWords, AreOuterWords, AreOutside, AreWhole, HasNoHead, IsFlexStore, KeepsHeads, blocks_of}
 use Rattle.flex_store.proofs.Anchoring.{anchors_beside}
 use Rattle.flex_store.proofs.Finding.{IsPlaced}
-use Rattle.flex_store.proofs.Headers.{IsWithin, header_within, headers_marked}
+use Rattle.flex_store.proofs.Headers.{heap_by, IsWithin, header_within}
 use Rattle.flex_store.proofs.Holding.{bytes_beside, holds_left}
-use Rattle.flex_store.proofs.Lists.{anchor-append, anchored_left, header-append, text-append, text_used, used-append, whole-append, whole_left}
+use Rattle.flex_store.proofs.Lists.{anchor-append, anchored_left, header-append, text-append, text_used, used-append, whole-append, whole_left, whole_right}
 use Rattle.flex_store.proofs.Reading.{reads}
 use Rattle.flex_store.proofs.Sliding.{new_length}
 use Rattle.flex_store.proofs.Splicing.{filled_length}
-use Rattle.flex_store.proofs.Storing.{IsBefore, IsRelaid, relaid, words_right}
-use Rattle.flex_store.proofs.Texts.{words_within}
+use Rattle.flex_store.proofs.Standing.{standing_same}
+use Rattle.flex_store.proofs.Storing.{IsBefore, IsRelaid, laid_text, relaid, relaid_marks, relaid_store}
+use Rattle.flex_store.proofs.Words.{outer_words, outside_inner, outside_of, words_apart, words_low, words_outer, words_right, words_within}
 
 -- bytes beside the text and the anchors
 laid_beside : (mapped : ℕ → Bool) (start end : ℕ) (bs : List Block) (f : ℕ → ℕ) (a : ℕ) → AreWhole bs → AreAnchorWords mapped start end bs → start + used bs ≤ end
@@ -36,62 +36,71 @@ laid_beside mapped start end bs f a whole words fits out none =
     anchors_beside mapped start end start bs (with_bytes_at f start (text_of bs)) a words none
     ∙ bytes_beside f start (text_of bs) a (elim out [ inl low ↦ inl low | inr high ↦ inr (omega arith) ])
 
-anchor_no_heap : (own : Class) → is_heap_class own ≡ true → is_anchor own ≡ false
-anchor_no_heap class.Heap is = refl
-anchor_no_heap class.Anchor is = absurd (false≢true is)
-anchor_no_heap class.FlexHeader is = absurd (false≢true is)
-anchor_no_heap class.Plain is = absurd (false≢true is)
+pub no_heap_anchor : (own : Class) → is_anchor own ≡ true → is_heap_class own ≡ false
+no_heap_anchor class.Anchor is = refl
+no_heap_anchor class.Heap is = absurd (false≢true is)
+no_heap_anchor class.FlexHeader is = absurd (false≢true is)
+no_heap_anchor class.Plain is = absurd (false≢true is)
 
-heap_by : (own : Class) (new old : Bool) → (new ≡ true → is_heap_class own ≡ false) → (old ≡ true → is_heap_class own ≡ false)
-    → is_heap_class (marked class.FlexHeader new (marked class.Plain old own)) ≡ is_heap_class own
-heap_by own true old clear clear' = sym (clear refl)
-heap_by own false true clear clear' = sym (clear' refl)
-heap_by own false false clear clear' = refl
-
--- the heads of heaps stay
-heads_kept : (m n : AddressMap) (e : Extent) (xs olds news : List Block) → IsBefore m e.start e.end xs olds news → IsRelaid m n e.start e.end (xs ++ news)
-    → Relaid m n (e.start + used xs) olds news → HasNoHead m (Some e) → KeepsHeads m n
-heads_kept m n e xs olds news b k r clear =
+-- the heads of heaps stay, where none of them is to be an anchor
+heads_kept : (m n : AddressMap) (e : Extent) (xs olds news : List Block) → IsBefore m e.start e.end xs olds news
+    → Relaid m n (e.start + used xs) olds news → ((a : ℕ) → has_anchor news (word_start a) ≡ true → is_heap_class (class_of m a) ≡ false)
+    → HasNoHead m (Some e) → KeepsHeads m n
+heads_kept m n e xs olds news b r free clear =
     let at : ℕ = e.start + used xs in
     let fits : at + used news ≤ e.end = omega (arith, b.fits, used-append xs news) in
     let fitted : at + used olds ≤ e.end = b.fitted in
     record {
-      bytes = λ a is. k.bytes a ∙ laid_beside (is_mapped m) e.start e.end (xs ++ news) (byte_at m) a b.whole b.words b.fits
-          (elim (cases_lt a e.start) [
+      bytes = λ a is. r.bytes a ∙ laid_beside (is_mapped m) at e.end news (byte_at m) a (whole_right xs news b.whole) (words_right (is_mapped m) e.start e.end xs news b.words) fits
+          (elim (cases_lt a at) [
             | inl low ↦ inl low
             | inr up ↦ elim (cases_lt a e.end) [
-              | inl inside ↦ absurd (true≢false (sym is ∙ clear a up inside))
+              | inl inside ↦ absurd (true≢false (sym is ∙ clear a (omega arith) inside))
               | inr high ↦ inr high
             ]
           ])
-          (sym (b.anchors a) ∙ anchor_no_heap (class_of m a) is);
+          (false_from_ne_true (has_anchor news (word_start a)) (λ has. true≢false (sym is ∙ free a has)));
       classes = λ a.
-          ap is_heap_class (r.marks a ∙ (headers_marked class.FlexHeader at news (with_headers class.Plain at olds (class_of m)) a
-          ∙ ap (marked class.FlexHeader (is_header at news (word_start a))) (headers_marked class.Plain at olds (class_of m) a)))
-          ∙ heap_by (class_of m a) (is_header at news (word_start a)) (is_header at olds (word_start a))
-          (λ new. let w : IsWithin at (used news) (word_start a) = header_within at news (word_start a) new in
-          clear a (omega (arith, w.from)) (omega (arith, w.below)))
-          (λ old. let w : IsWithin at (used olds) (word_start a) = header_within at olds (word_start a) old in
-          clear a (omega (arith, w.from)) (omega (arith, w.below)));
+          ap is_heap_class (relaid_marks m n e.start e.end xs olds news b r a)
+          ∙ heap_by (class_of m a) (is_header at news (word_start a)) (has_anchor news (word_start a)) (is_header at olds (word_start a)) (has_anchor olds (word_start a))
+          (λ met. elim (or_cases (is_header at news (word_start a)) _ met) [
+            | inl new ↦ let w : IsWithin at (used news) (word_start a) = header_within at news (word_start a) new in
+                clear a (omega (arith, w.from)) (omega (arith, w.below))
+            | inr rest ↦ elim (or_cases (has_anchor news (word_start a)) _ rest) [
+              | inl has ↦ free a has
+              | inr olds_met ↦ elim (or_cases (is_header at olds (word_start a)) (has_anchor olds (word_start a)) olds_met) [
+                | inl old ↦ let w : IsWithin at (used olds) (word_start a) = header_within at olds (word_start a) old in
+                    clear a (omega (arith, w.from)) (omega (arith, w.below))
+                | inr had ↦ no_heap_anchor (class_of m a) (b.anchors a ∙ or_right (has_anchor xs (word_start a)) (has_anchor olds (word_start a)) had)
+              ]
+            ]
+          ]);
     }
 
 pub got : (m n : AddressMap) (e f : Extent) (xs olds news : List Block) → IsBefore m e.start e.end xs olds news
-    → Relaid m n (e.start + used xs) olds news → f.start ≡ e.start → f.end ≡ e.end → f.used ≡ used (xs ++ news) → GotBlocks m e (xs ++ news) n f
-got m n e f xs olds news b r same_start same_end used_is =
-    let k : IsRelaid m n e.start e.end (xs ++ news) = relaid m n e.start e.end xs olds news b r in
-    let read : blocks_of n f ≡ xs ++ news =
-    rw (same_start, used_is) (reads (is_mapped n) e.start e.end (byte_at n) e.start (xs ++ news) k.store.whole k.store.words k.store.text) in
+    → Relaid m n (e.start + used xs) olds news → AreOutside e.start e.end (xs ++ news)
+    → ((a : ℕ) → has_anchor news (word_start a) ≡ true → is_heap_class (class_of m a) ≡ false)
+    → f.start ≡ e.start → f.end ≡ e.end → f.used ≡ used (xs ++ news) → GotBlocks m e (xs ++ news) n f
+got m n e f xs olds news b r out free same_start same_end used_is =
+    let bs : List Block = xs ++ news in
+    let k : IsRelaid m n e.start e.end bs = relaid m n e.start e.end xs olds news b r in
+    let text : Holds (byte_at n) e.start (text_of bs) =
+    laid_text (is_mapped m) e.start e.end (byte_at m) (byte_at n) bs b.range.start_aligned b.whole b.words out b.fits k.bytes in
+    let read : blocks_of n f ≡ bs =
+    rw (same_start, used_is) (reads (byte_at n) e.start bs b.whole (words_low (is_mapped m) e.start e.end bs b.words) text) in
+    let store : IsFlexStore n e.start e.end bs =
+    subst (λ (l : List Block). IsFlexStore n e.start e.end l) (standing_same (byte_at n) e.start bs b.whole text) (relaid_store m n e.start e.end xs olds news b r out) in
     record {
       bytes = k.bytes;
       blocks_are = read;
       start = same_start;
       end = same_end;
       store = record {
-        store = rw (read, same_start, same_end) k.store;
+        store = rw (read, same_start, same_end) store;
         used_is = ap used read ∙ sym used_is;
       };
       same = k.same;
-      heads = heads_kept m n e xs olds news b k r;
+      heads = heads_kept m n e xs olds news b r free;
     }
 
 -- another block of the same anchor
@@ -100,10 +109,21 @@ has_put xs ys b b' p same =
     anchor-append xs (b' ∷ ys) p ∙ (ap (λ (a : ℕ). has_anchor xs p || (nat_eq p a || has_anchor ys p)) same ∙ sym (anchor-append xs (b ∷ ys) p))
 
 pub words_put : (mapped : ℕ → Bool) (start end : ℕ) (xs ys : List Block) (b b' : Block) → b'.anchor ≡ b.anchor
-    → AreAnchorWords mapped start end (xs ++ b ∷ ys) → AreAnchorWords mapped start end (xs ++ b' ∷ ys)
+    → AreOuterWords mapped start end (xs ++ b ∷ ys) → AreOuterWords mapped start end (xs ++ b' ∷ ys)
 words_put mapped start end [] ys b b' same words = ((rw same words.0.0, rw same words.0.1), words.1)
 words_put mapped start end (x ∷ xs) ys b b' same words =
     ((words.0.0, has_put xs ys b b' x.anchor same ∙ words.0.1), words_put mapped start end xs ys b b' same words.1)
+
+pub outer_right : (mapped : ℕ → Bool) (start end : ℕ) (xs ys : List Block) → AreOuterWords mapped start end (xs ++ ys) → AreOuterWords mapped start end ys
+outer_right mapped start end [] ys words = words
+outer_right mapped start end (b ∷ xs) ys words = outer_right mapped start end xs ys words.1
+
+outer_put : (m : AddressMap) (e : Extent) (anchor header : ℕ) (before : List Block) (bytes : List ℕ) → IsPlaced m e anchor header before
+    → AreOuterWords (is_mapped m) e.start e.end (before ++ holding (first_at m header) bytes ∷ behind m header (e.start + e.used))
+outer_put m e anchor header before bytes p =
+    let after : List Block = behind m header (e.start + e.used) in
+    words_put (is_mapped m) e.start e.end before after (first_at m header) (holding (first_at m header) bytes) refl
+    (words_outer (is_mapped m) e.start e.end e.start (before ++ first_at m header ∷ after) p.store.words p.store.outside)
 
 -- the block of an anchor may hold other bytes where the store has room
 pub may_hold : (m : AddressMap) (e : Extent) (anchor header : ℕ) (before : List Block) (bytes : List ℕ) → IsPlaced m e anchor header before
@@ -114,11 +134,24 @@ may_hold m e anchor header before bytes p fits =
     let place : header ≡ e.start + used before = p.place in
     let sum : used (before ++ news) ≡ used before + used news = used-append before news in
     record {
-      words = words_within (is_mapped m) e.start e.end header (header + used news) news (omega arith) (omega arith)
-          (words_right (is_mapped m) e.start e.end before news
-          (words_put (is_mapped m) e.start e.end before (behind m header (e.start + e.used)) (first_at m header) (holding (first_at m header) bytes) refl p.store.words));
+      words = words_within (is_mapped m) header e.end header (header + used news) news (omega arith) (omega arith)
+          (outer_words (is_mapped m) e.start e.end header news (omega arith)
+          (outer_right (is_mapped m) e.start e.end before news (outer_put m e anchor header before bytes p)));
       there = λ a low high. p.store.range.there a (omega arith) (omega arith);
     }
+
+put_outside : (m : AddressMap) (e : Extent) (anchor header : ℕ) (before : List Block) (bytes : List ℕ) → IsPlaced m e anchor header before
+    → AreOutside e.start e.end (before ++ holding (first_at m header) bytes ∷ behind m header (e.start + e.used))
+put_outside m e anchor header before bytes p =
+    outside_of (is_mapped m) e.start e.end (before ++ holding (first_at m header) bytes ∷ behind m header (e.start + e.used)) (outer_put m e anchor header before bytes p)
+
+-- its words are marked as an anchor's, and so are those of the blocks behind it
+still_free : (m : AddressMap) (e : Extent) (anchor header : ℕ) (before : List Block) (bytes : List ℕ) → IsPlaced m e anchor header before
+    → (a : ℕ) → has_anchor (holding (first_at m header) bytes ∷ behind m header (e.start + e.used)) (word_start a) ≡ true → is_heap_class (class_of m a) ≡ false
+still_free m e anchor header before bytes p a has =
+    let after : List Block = behind m header (e.start + e.used) in
+    no_heap_anchor (class_of m a) (p.store.anchors a ∙ (anchor-append before (first_at m header ∷ after) (word_start a)
+    ∙ or_right (has_anchor before (word_start a)) (has_anchor (first_at m header ∷ after) (word_start a)) has))
 
 pub hold_before : (m : AddressMap) (e : Extent) (anchor header : ℕ) (before : List Block) (bytes : List ℕ) → IsPlaced m e anchor header before
     → length bytes < 2 ^ 32
@@ -133,12 +166,14 @@ hold_before m e anchor header before bytes p small fits =
       fitted = omega (arith, p.store.fits);
       whole = whole-append before (holding (first_at m header) bytes ∷ after) (whole_left before (first_at m header ∷ after) p.store.whole)
           ((filled_length bytes, small), p.text.whole.1);
-      words = words_put (is_mapped m) e.start e.end before after (first_at m header) (holding (first_at m header) bytes) refl p.store.words;
+      words = outer_words (is_mapped m) e.start e.end e.start (before ++ holding (first_at m header) bytes ∷ after) (omega arith) (outer_put m e anchor header before bytes p);
+      inner = outside_inner e.start e.end (before ++ holding (first_at m header) bytes ∷ after) (put_outside m e anchor header before bytes p);
       text = holds_left (byte_at m) e.start (text_of before) (text_of (first_at m header ∷ after))
           (subst (λ (t : List ℕ). Holds (byte_at m) e.start t) (text-append before (first_at m header ∷ after)) p.store.text);
       anchored = anchored_left (byte_at m) e.start before (first_at m header ∷ after) p.store.anchored;
       headers = λ a. p.store.headers a ∙ header-append e.start before (first_at m header ∷ after) (word_start a);
-      anchors = λ a. p.store.anchors a ∙ sym (has_put before after (first_at m header) (holding (first_at m header) bytes) (word_start a) refl);
+      anchors = λ a. p.store.anchors a ∙ anchor-append before (first_at m header ∷ after) (word_start a);
+      apart = λ x has. words_apart (is_mapped m) e.start e.end before (first_at m header ∷ after) x p.store.words has;
     }
 
 -- a change of one block
@@ -177,7 +212,8 @@ changed m n e f anchor header before s p inside fits r same_start same_end used_
     rw p.split.found (rw list (
       fits',
       got m n e f before (first_at m header ∷ after) (b' ∷ after) (hold_before m e anchor header before xs p (omega arith) fits')
-          (subst (λ (q : ℕ). Relaid m n q (first_at m header ∷ after) (b' ∷ after)) p.place r) same_start same_end (used_is ∙ sym total'),
+          (subst (λ (q : ℕ). Relaid m n q (first_at m header ∷ after) (b' ∷ after)) p.place r) (put_outside m e anchor header before xs p)
+          (still_free m e anchor header before xs p) same_start same_end (used_is ∙ sym total'),
     ))
 
 pub may_change : (m : AddressMap) (e : Extent) (anchor header : ℕ) (before : List Block) (s : Splice) → IsPlaced m e anchor header before → s.at ≤ (first_at m header).size

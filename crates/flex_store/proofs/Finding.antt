@@ -11,12 +11,13 @@ use Rattle.flex_store.specs.Blocks.{Block, find_block, has_anchor, taken, used}
 use Rattle.flex_store.specs.Memory.{AreAnchored, blocks_in}
 use Rattle.flex_store.specs.Places.{IsHeaderOf, IsSplit, Split}
 use Rattle.flex_store.specs.Relaid.{behind, first_at}
-use Rattle.flex_store.specs.State.{IsAnchorWord, IsFlexStore, IsStoreAt, IsText, blocks_of}
+use Rattle.flex_store.specs.State.{AreAnchorWords, IsFlexStore, IsMappedWord, IsStoreAt, IsText, blocks_of}
 use Rattle.flex_store.proofs.Holding.{word_read}
 use Rattle.flex_store.proofs.Lists.{anchored_right, none_found, split, used-append}
 use Rattle.flex_store.proofs.Reading.{block_read}
-use Rattle.flex_store.proofs.Storing.{tail_text, word_of}
+use Rattle.flex_store.proofs.Storing.{tail_text}
 use Rattle.flex_store.proofs.Texts.{IsFirst, text_first, text_next, text_read}
+use Rattle.flex_store.proofs.Words.{word_of, words_right, words_within}
 
 abbrev pub is_live : AddressMap → ℕ → Bool
 is_live m anchor = nat_eq (anchor % 4) 0 && is_anchor (class_of m anchor)
@@ -30,7 +31,7 @@ pub not_live : (m : AddressMap) (e : Extent) (anchor : ℕ) → IsStoreAt m e �
 not_live m e anchor s dead = none_found anchor (blocks_of m e) (elim (cases_Bool (has_anchor (blocks_of m e) anchor)) [
   | inr none ↦ none
   | inl has ↦
-      let w : IsAnchorWord (is_mapped m) e.start e.end anchor = word_of (is_mapped m) e.start e.end (blocks_of m e) anchor s.store.words has in
+      let w : IsMappedWord (is_mapped m) anchor = word_of (is_mapped m) e.start e.end (blocks_of m e) anchor s.store.words has in
       let both : is_live m anchor ≡ true = and_from (nat_eq (anchor % 4) 0) (is_anchor (class_of m anchor)) (eq-eqb (anchor % 4) 0 w.aligned) (has_by m e anchor s w.aligned ∙ has) in
       absurd (true≢false (sym both ∙ dead))
 ])
@@ -46,7 +47,7 @@ pub record IsFound (m : AddressMap) (e : Extent) (anchor : ℕ) : Type 0 where
   pub above : 8 ≤ word_at (byte_at m) anchor
   pub header : IsHeaderOf e.start anchor (blocks_of m e) (word_at (byte_at m) anchor - 8)
 
-found_by : (m : AddressMap) (e : Extent) (anchor : ℕ) → IsStoreAt m e → IsAnchorWord (is_mapped m) e.start e.end anchor → Split anchor (blocks_of m e) → IsFound m e anchor
+found_by : (m : AddressMap) (e : Extent) (anchor : ℕ) → IsStoreAt m e → IsMappedWord (is_mapped m) anchor → Split anchor (blocks_of m e) → IsFound m e anchor
 found_by m e anchor s w p =
     let list : blocks_of m e ≡ p.before ++ p.block ∷ p.after = p.is.list in
     let store : IsFlexStore m e.start e.end (p.before ++ p.block ∷ p.after) = subst (λ (l : List Block). IsFlexStore m e.start e.end l) list s.store in
@@ -76,6 +77,7 @@ pub record IsPlaced (m : AddressMap) (e : Extent) (anchor header : ℕ) (before 
   pub split : IsSplit anchor (blocks_of m e) before (first_at m header) (behind m header (e.start + e.used))
   pub store : IsFlexStore m e.start e.end (before ++ first_at m header ∷ behind m header (e.start + e.used))
   pub text : IsText (bytes_of m) header (e.start + e.used) (first_at m header ∷ behind m header (e.start + e.used))
+  pub words : AreAnchorWords (is_mapped m) header (e.start + e.used) (first_at m header ∷ behind m header (e.start + e.used))
   pub place : header ≡ e.start + used before
   pub total : e.used ≡ used before + (taken (first_at m header).size + used (behind m header (e.start + e.used)))
   pub low : e.end ≤ 2 ^ 26
@@ -99,6 +101,9 @@ placed_by m e anchor header before b after s place p text is_first is_behind =
       store = store;
       text = subst (λ (x : Block). IsText (bytes_of m) header (e.start + e.used) (x ∷ behind m header (e.start + e.used))) is_first
           (subst (λ (l : List Block). IsText (bytes_of m) header (e.start + e.used) (b ∷ l)) is_behind text);
+      words = words_within (is_mapped m) (e.start + used before) e.end header (e.start + e.used) (first_at m header ∷ behind m header (e.start + e.used))
+          (omega arith) (omega (arith, s.used_is))
+          (words_right (is_mapped m) e.start e.end before (first_at m header ∷ behind m header (e.start + e.used)) store.words);
       place = place;
       total = sym s.used_is ∙ all ∙ sum;
       low = store_low m e.start e.end (before ++ first_at m header ∷ behind m header (e.start + e.used)) store (omega arith);
@@ -117,7 +122,7 @@ placed m e anchor header s h =
     subst (λ (n : ℕ). IsText (bytes_of m) n (e.start + e.used) (p.block ∷ p.after)) (sym h.place)
     (subst (λ (n : ℕ). IsText (bytes_of m) (e.start + used p.before) n (p.block ∷ p.after)) end_is text') in
     let first : IsFirst (bytes_of m) header (e.start + e.used) p.block p.after = text_first (bytes_of m) header (e.start + e.used) p.block p.after text in
-    let low : p.block.anchor < 2 ^ 26 = first.word.low in
+    let low : p.block.anchor < 2 ^ 26 = first.low in
     let is_first : first_at m header ≡ p.block = block_read (byte_at m) header p.block p.after first.whole (omega arith) text.whole.0.1 first.spelled in
     let rest : behind m header (e.start + e.used) ≡ p.after =
     ap (λ (x : Block). blocks_in (byte_at m) (header + taken x.size) (e.start + e.used)) is_first

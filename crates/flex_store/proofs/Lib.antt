@@ -18,6 +18,7 @@ pub mod Releasing
 pub mod Runs
 pub mod Sliding
 pub mod Splicing
+pub mod Standing
 pub mod Starting
 pub mod Staying
 pub mod Stores
@@ -25,3 +26,4 @@ pub mod Storing
 pub mod TestedBlocks
 pub mod Texts
 pub mod Walks
+pub mod Words

@@ -8,7 +8,8 @@ use Rattle.flex_store.specs.Blocks.{Block, taken, used}
 use Rattle.flex_store.specs.Listed.{listed}
 use Rattle.flex_store.specs.Memory.{blocks_in}
 use Rattle.flex_store.specs.State.{blocks_of, IsFlexStore, IsRecordedStore, IsText}
-use Rattle.flex_store.proofs.Texts.{IsFirst, text_first, text_next, text_read, words_within}
+use Rattle.flex_store.proofs.Texts.{IsFirst, text_first, text_next, text_read}
+use Rattle.flex_store.proofs.Words.{words_low}
 
 -- nothing is left
 no_blocks : (f : ℕ → ℕ) (at end : ℕ) → end ≤ at → blocks_in f at end ≡ []
@@ -51,7 +52,7 @@ store_text m e is =
     let total : used (blocks_of m e) ≡ e.used = is.held.used_is in
     record {
       whole = s.whole;
-      words = words_within (is_mapped m) e.start e.end e.start (e.start + e.used) (blocks_of m e) (omega arith) (omega (arith, s.fits)) s.words;
+      low = words_low (is_mapped m) e.start e.end (blocks_of m e) s.words;
       text = s.text;
       length = omega arith;
       aligned = s.range.start_aligned;
@@ -61,7 +62,7 @@ store_text m e is =
 pub no_text : (m : AddressMap) → IsText (bytes_of m) 0 0 (blocks_in (byte_at m) 0 0)
 no_text m = subst (λ (l : List Block). IsText (bytes_of m) 0 0 l) (sym (no_blocks (byte_at m) 0 0 (omega arith))) (record {
   whole = tt;
-  words = tt;
+  low = tt;
   text = λ k below. absurd (omega arith);
   length = refl;
   aligned = refl;

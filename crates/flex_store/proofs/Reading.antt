@@ -1,5 +1,5 @@
 -- Memory that spells blocks is read as just these blocks.
-use Rattle.std.proofs.Common.{◌≡◌, ℕ, Bool, ◌+◌, ◌-◌, ◌^◌, ◌<◌, ◌≤◌, List, [], ◌∷◌, ◌++◌, length, map, arith, refl, sym, ◌∙◌, suc, zero}
+use Rattle.std.proofs.Common.{◌≡◌, ℕ, ◌+◌, ◌-◌, ◌^◌, ◌<◌, ◌≤◌, List, [], ◌∷◌, ◌++◌, length, map, arith, refl, sym, ◌∙◌, suc, zero}
 use Rattle.std.proofs.lemmas.Bool.{le-leb, lt-leb}
 use Rattle.std.proofs.lemmas.Grind.{same_number_lists}
 use Rattle.std.proofs.lemmas.List.FromFn.{get_or-map-range_with_len, length-map-range_with_len}
@@ -8,7 +8,7 @@ use Rattle.address_map.specs.raw_store.specs.Region.{word_bytes}
 use Rattle.address_map.specs.Bytes.{bytes_between, word_at}
 use Rattle.flex_store.specs.Blocks.{Block, used, taken, whole_words}
 use Rattle.flex_store.specs.Memory.{Holds, text_of, block_at, blocks_from, blocks_in}
-use Rattle.flex_store.specs.State.{AreWhole, AreAnchorWords}
+use Rattle.flex_store.specs.State.{AreLow, AreWhole}
 use Rattle.flex_store.proofs.Holding.{holds_left, holds_right, word_read}
 
 -- what memory holds of a block, and of those behind it
@@ -48,22 +48,21 @@ block_read f at b bs whole anchor_fits size_fits is =
     rw size (bytes_read f (at + 8) (whole_words b.size) b.bytes whole is.bytes) in
     λ i. record { anchor = anchor i; size = size i; bytes = bytes i }
 
-reads_from : (mapped : ℕ → Bool) (start end most : ℕ) (f : ℕ → ℕ) (at : ℕ) (bs : List Block) → used bs ≤ most → AreWhole bs
-    → AreAnchorWords mapped start end bs → Holds f at (text_of bs) → blocks_from most f at (at + used bs) ≡ bs
-reads_from mapped start end zero f at [] enough whole words h = refl
-reads_from mapped start end (suc most) f at [] enough whole words h = rw (le-leb (at + 0) at (omega arith)) refl
-reads_from mapped start end zero f at (b ∷ bs) enough whole words h = absurd (omega arith)
-reads_from mapped start end (suc most) f at (b ∷ bs) enough whole words h =
+reads_from : (most : ℕ) (f : ℕ → ℕ) (at : ℕ) (bs : List Block) → used bs ≤ most → AreWhole bs → AreLow bs → Holds f at (text_of bs)
+    → blocks_from most f at (at + used bs) ≡ bs
+reads_from zero f at [] enough whole low h = refl
+reads_from (suc most) f at [] enough whole low h = rw (le-leb (at + 0) at (omega arith)) refl
+reads_from zero f at (b ∷ bs) enough whole low h = absurd (omega arith)
+reads_from (suc most) f at (b ∷ bs) enough whole low h =
     let is : IsSpelled f at b bs = spelled f at b bs whole.0.0 h in
-    let fits : b.anchor < 2 ^ 26 = words.0.0.low in
+    let fits : b.anchor < 2 ^ 26 = low.0 in
     let size : word_at f (at + 4) ≡ b.size = word_read f (at + 4) b.size whole.0.1 is.size in
     let here : block_at f at ≡ b = block_read f at b bs whole.0.0 (omega arith) whole.0.1 is in
     let e : at + (taken b.size + used bs) ≡ at + taken b.size + used bs = omega arith in
     let rest : blocks_from most f (at + taken b.size) (at + taken b.size + used bs) ≡ bs =
-    reads_from mapped start end most f (at + taken b.size) bs (omega arith) whole.1 words.1 is.rest in
+    reads_from most f (at + taken b.size) bs (omega arith) whole.1 low.1 is.rest in
     rw (lt-leb (at + (taken b.size + used bs)) at (omega arith), here, size, e, rest) refl
 
-pub reads : (mapped : ℕ → Bool) (start end : ℕ) (f : ℕ → ℕ) (at : ℕ) (bs : List Block) → AreWhole bs → AreAnchorWords mapped start end bs
-    → Holds f at (text_of bs) → blocks_in f at (at + used bs) ≡ bs
+pub reads : (f : ℕ → ℕ) (at : ℕ) (bs : List Block) → AreWhole bs → AreLow bs → Holds f at (text_of bs) → blocks_in f at (at + used bs) ≡ bs
 unfolding blocks_in
-reads mapped start end f at bs whole words h = reads_from mapped start end (at + used bs - at) f at bs (omega arith) whole words h
+reads f at bs whole low h = reads_from (at + used bs - at) f at bs (omega arith) whole low h

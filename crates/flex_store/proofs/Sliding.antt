@@ -9,7 +9,7 @@ use Rattle.address_map.specs.declared.class.Class.{Class}
 use Rattle.address_map.specs.declared.class.Class.TheVariants as class
 use Rattle.address_map.specs.declared.map.AddressMap.{AddressMap}
 use Rattle.flex_store.specs.Blocks.{Block, contents, filled, holding, new_block, spliced, taken, used, whole_words}
-use Rattle.flex_store.specs.Marks.{with_headers}
+use Rattle.flex_store.specs.Marks.{with_marks}
 use Rattle.flex_store.specs.Memory.{Holds, blocks_in, laid_out, text_of, with_anchors}
 use Rattle.flex_store.specs.Relaid.{behind, first_at, MayLie, Relaid}
 use Rattle.flex_store.specs.Splices.{HasRoom}
@@ -19,7 +19,8 @@ use Rattle.flex_store.proofs.Laying.{appended, closed, contents_between, replace
 use Rattle.flex_store.proofs.Lists.{text_used}
 use Rattle.flex_store.proofs.Reading.{bytes_read}
 use Rattle.flex_store.proofs.Splicing.{between_length, filled_length, spliced_length}
-use Rattle.flex_store.proofs.Texts.{IsFirst, text_first, text_read, words_within}
+use Rattle.flex_store.proofs.Texts.{IsFirst, text_first, text_read}
+use Rattle.flex_store.proofs.Words.{words_low}
 
 -- what lies there lies below 2^26
 pub lie_low : (m : AddressMap) (h : ℕ) (bs : List Block) → MayLie m h bs → 0 < used bs → h + used bs ≤ 2 ^ 26
@@ -30,6 +31,13 @@ lie_low m h bs may some =
 pub as_read : (b : Bytes) (at end : ℕ) (bs : List Block) → IsText b at end bs → IsText b at end (blocks_in b.at at end)
 as_read b at end bs is = subst (λ (l : List Block). IsText b at end l) (sym (text_read b at end bs is)) is
 
+-- the words of anchors, by what memory spells
+pub words_read : (m n : AddressMap) (at end : ℕ) (bs : List Block) → layout n ≡ layout m → IsText (bytes_of n) at end bs → AreAnchorWords (is_mapped m) at end bs
+    → AreAnchorWords (is_mapped n) at end (blocks_in (byte_at n) at end)
+words_read m n at end bs same is words =
+    subst (λ (l : List Block). AreAnchorWords (is_mapped n) at end l) (sym (text_read (bytes_of n) at end bs is))
+    (subst (λ (p : ℕ → Bool). AreAnchorWords p at end bs) (sym (is_mapped-layout m n same)) words)
+
 -- the text is there once its bytes are
 pub settled_text : (m n : AddressMap) (h end : ℕ) (news : List Block) → AreWhole news → MayLie m h news → h % 4 ≡ 0 → layout n ≡ layout m
     → ((a : ℕ) → byte_at n a ≡ with_bytes_at (byte_at m) h (text_of news) a) → end ≡ h + used news → IsText (bytes_of n) h end news
@@ -37,7 +45,7 @@ settled_text m n h end news whole may aligned same bytes length_is =
     let mapped : is_mapped n ≡ is_mapped m = is_mapped-layout m n same in
     record {
       whole = whole;
-      words = rw length_is (subst (λ (p : ℕ → Bool). AreAnchorWords p h (h + used news) news) (sym mapped) may.words);
+      low = words_low (is_mapped m) h (h + used news) news may.words;
       text = λ k below. bytes (h + k) ∙ bytes_held (byte_at m) h (text_of news) k below;
       length = length_is;
       aligned = aligned;
@@ -46,10 +54,10 @@ settled_text m n h end news whole may aligned same bytes length_is =
 
 -- the walk that settles a text leaves it laid out
 pub relaid_from : (m m3 n : AddressMap) (h end : ℕ) (olds news : List Block) → IsText (bytes_of m3) h end news
-    → ((a : ℕ) → class_of m3 a ≡ with_headers class.Plain h olds (class_of m) a) → layout n ≡ layout m
+    → ((a : ℕ) → class_of m3 a ≡ with_marks class.Plain class.Plain h olds (class_of m) a) → layout n ≡ layout m
     → ((a : ℕ) → byte_at m3 a ≡ with_bytes_at (byte_at m) h (text_of news) a)
     → ((a : ℕ) → byte_at n a ≡ with_anchors h (blocks_in (byte_at m3) h end) (byte_at m3) a)
-    → ((a : ℕ) → class_of n a ≡ with_headers class.FlexHeader h (blocks_in (byte_at m3) h end) (class_of m3) a)
+    → ((a : ℕ) → class_of n a ≡ with_marks class.FlexHeader class.Anchor h (blocks_in (byte_at m3) h end) (class_of m3) a)
     → Relaid m n h olds news
 unfolding laid_out
 relaid_from m m3 n h end olds news is marks3 same bytes3 bytes marks =
@@ -58,16 +66,16 @@ relaid_from m m3 n h end olds news is marks3 same bytes3 bytes marks =
       bytes = λ a. bytes a ∙ (ap (λ (l : List Block). with_anchors h l (byte_at m3) a) read
           ∙ ap (λ (f : ℕ → ℕ). with_anchors h news f a) (λ i x. bytes3 x i));
       same = same;
-      marks = λ a. marks a ∙ (ap (λ (l : List Block). with_headers class.FlexHeader h l (class_of m3) a) read
-          ∙ ap (λ (c : ℕ → Class). with_headers class.FlexHeader h news c a) (λ i x. marks3 x i));
+      marks = λ a. marks a ∙ (ap (λ (l : List Block). with_marks class.FlexHeader class.Anchor h l (class_of m3) a) read
+          ∙ ap (λ (c : ℕ → Class). with_marks class.FlexHeader class.Anchor h news c a) (λ i x. marks3 x i));
     }
 
 -- the marks that a walk took away, by what memory spelled
 pub unmarked : (m n : AddressMap) (h end : ℕ) (olds : List Block) → IsText (bytes_of m) h end olds
-    → ((a : ℕ) → class_of n a ≡ with_headers class.Plain h (blocks_in (byte_at m) h end) (class_of m) a)
-    → (a : ℕ) → class_of n a ≡ with_headers class.Plain h olds (class_of m) a
+    → ((a : ℕ) → class_of n a ≡ with_marks class.Plain class.Plain h (blocks_in (byte_at m) h end) (class_of m) a)
+    → (a : ℕ) → class_of n a ≡ with_marks class.Plain class.Plain h olds (class_of m) a
 unmarked m n h end olds is marks a =
-    marks a ∙ ap (λ (l : List Block). with_headers class.Plain h l (class_of m) a) (text_read (bytes_of m) h end olds is)
+    marks a ∙ ap (λ (l : List Block). with_marks class.Plain class.Plain h l (class_of m) a) (text_read (bytes_of m) h end olds is)
 
 -- a block that holds other bytes, with those behind it
 pub record AreNumbers (m : AddressMap) (h end at cut more : ℕ) : Type 0 where
@@ -156,7 +164,6 @@ room_for m n h end size new at cut more same size_is new_is is k may =
 
 -- a block that went, with those behind it in its place
 pub record AreClosed (m : AddressMap) (h end : ℕ) : Type 0 where
-  pub may : MayLie m h (behind m h end)
   pub whole : AreWhole (behind m h end)
   pub fits : h + taken (first_at m h).size ≤ end
   pub low : end ≤ 2 ^ 26
@@ -171,10 +178,6 @@ closing m h end is =
     let last : is_mapped m (end - 1) ≡ true = is.mapped (end - 1) (omega arith) (omega arith) in
     let first : IsFirst (bytes_of m) h end (first_at m h) (behind m h end) = text_first (bytes_of m) h end (first_at m h) (behind m h end) is in
     record {
-      may = record {
-        words = words_within (is_mapped m) h end h (h + used (behind m h end)) (behind m h end) (omega arith) (omega arith) is.words.1;
-        there = λ a low high. is.mapped a (omega arith) (omega arith);
-      };
       whole = is.whole.1;
       fits = omega arith;
       low = omega (arith, mapped_below m (end - 1) last);
@@ -196,17 +199,24 @@ closed_text m m1 m3 h end next c next_is same moved =
 pub record IsWrittenText (m n : AddressMap) (h end : ℕ) (news : List Block) : Type 0 where
   pub bytes : (a : ℕ) → byte_at n a ≡ with_bytes_at (byte_at m) h (text_of news) a
   pub text : IsText (bytes_of n) h end news
+  pub words : AreAnchorWords (is_mapped n) h end (blocks_in (byte_at n) h end)
 
-pub closed_step : (m m1 m3 : AddressMap) (h end total : ℕ) → IsText (bytes_of m) h end (first_at m h ∷ behind m h end)
+written_text : (m n : AddressMap) (h end : ℕ) (news : List Block) → AreWhole news → MayLie m h news → h % 4 ≡ 0 → layout n ≡ layout m
+    → ((a : ℕ) → byte_at n a ≡ with_bytes_at (byte_at m) h (text_of news) a) → end ≡ h + used news → IsWrittenText m n h end news
+written_text m n h end news whole may aligned same bytes length_is =
+    let text : IsText (bytes_of n) h end news = settled_text m n h end news whole may aligned same bytes length_is in
+    record { bytes = bytes; text = text; words = words_read m n h end news same text (rw length_is may.words) }
+
+pub closed_step : (m m1 m3 : AddressMap) (h end total : ℕ) → IsText (bytes_of m) h end (first_at m h ∷ behind m h end) → MayLie m h (behind m h end)
     → total ≡ taken (first_at m h).size → byte_at m1 ≡ byte_at m → layout m3 ≡ layout m
     → ((a : ℕ) → byte_at m3 a ≡ with_moved_at (byte_at m1) (h + total) h (end - (h + total)) a)
     → IsWrittenText m m3 h (h + (end - (h + total))) (behind m h end)
-closed_step m m1 m3 h end total is size same kept moved =
+closed_step m m1 m3 h end total is may size same kept moved =
     let k : AreClosed m h end = closing m h end is in
     let next_is : h + total ≡ h + taken (first_at m h).size = ap (λ (n : ℕ). h + n) size in
     let bytes : (a : ℕ) → byte_at m3 a ≡ with_bytes_at (byte_at m) h (text_of (behind m h end)) a = closed_text m m1 m3 h end (h + total) k next_is same moved in
     let end_is : h + (end - (h + total)) ≡ h + used (behind m h end) = ap (λ (n : ℕ). h + (end - n)) next_is ∙ ap (λ (n : ℕ). h + n) (sym k.used_is) in
-    record { bytes = bytes; text = settled_text m m3 h (h + (end - (h + total))) (behind m h end) k.whole k.may k.aligned kept bytes end_is }
+    written_text m m3 h (h + (end - (h + total))) (behind m h end) k.whole may k.aligned kept bytes end_is
 
 pub replaced_step : (m m1 m2 m3 : AddressMap) (h end size new old_total new_total at cut more : ℕ)
     → IsText (bytes_of m) h end (first_at m h ∷ behind m h end) → at ≤ (first_at m h).size
@@ -229,10 +239,7 @@ replaced_step m m1 m2 m3 h end size new old_total new_total at cut more is insid
     let behind_is : used (behind m h end) ≡ end - (h + taken b.size) = k.used_is in
     let end_is : h + new_total + (end - (h + old_total)) ≡ h + (taken (length xs) + used (behind m h end)) =
     rw (total, old, ← behind_is) (omega arith) in
-    record {
-      bytes = bytes;
-      text = settled_text m m3 h (h + new_total + (end - (h + old_total))) (holding b xs ∷ behind m h end) (replaced_whole m h end at cut more is k) may is.aligned kept bytes end_is;
-    }
+    written_text m m3 h (h + new_total + (end - (h + old_total))) (holding b xs ∷ behind m h end) (replaced_whole m h end at cut more is k) may is.aligned kept bytes end_is
 
 -- a block of zeros behind all others
 pub new_whole : (m : AddressMap) (h anchor size : ℕ) → size < 2 ^ 32 → AreWhole (new_block anchor size ∷ [])
@@ -248,4 +255,4 @@ appended_step m m1 m2 m3 h anchor size words total fits aligned may words_is tot
     appended (byte_at m) (byte_at m1) (byte_at m2) (byte_at m3) h anchor size (whole_words size) h1 h2
     (λ a. h3 a ∙ ap (λ (n : ℕ). with_zeros_at (byte_at m2) (h + 8) n a) words_is) in
     let end_is : h + total ≡ h + (taken size + 0) = omega arith in
-    record { bytes = bytes; text = settled_text m m3 h (h + total) (new_block anchor size ∷ []) (new_whole m h anchor size fits) may aligned kept bytes end_is }
+    written_text m m3 h (h + total) (new_block anchor size ∷ []) (new_whole m h anchor size fits) may aligned kept bytes end_is

@@ -1,6 +1,6 @@
 -- The store as it begins.
 use Rattle.std.proofs.Common.{◌≡◌, ℕ, Bool, ◌+◌, ◌-◌, ◌%◌, ◌^◌, ◌<◌, ◌≤◌, ◌==◌, ◌&&◌, not, true, false, nat_eq, nat_lt, List, [], Some, is_some, arith, refl, sym, ◌∙◌, ap, subst, ◌↔◌}
-use Rattle.std.proofs.lemmas.Bool.{and_parts, eqb-true, eq-eqb, ltb-true, lt-ltb, not-true}
+use Rattle.std.proofs.lemmas.Bool.{and_parts, eqb-true, eq-eqb, false≢true, ltb-true, lt-ltb, not-true}
 use Rattle.os_heap.proofs.Added.{are_mapped_all, are_mapped_from, ranges_split}
 use Rattle.os_heap.specs.Ranges.{are_mapped}
 use Rattle.os_heap.specs.Store.{store_of}
@@ -81,6 +81,8 @@ starts_empty m n start end none is same marks =
         fits = omega arith;
         whole = tt;
         words = tt;
+        inner = λ a has. absurd (false≢true has);
+        outside = λ a has. absurd (false≢true has);
         text = λ k below. absurd (omega arith);
         anchored = tt;
         headers = λ a. ap (λ (c : ℕ → Class). is_flex_header (c a)) marks ∙ none.headers a;

@@ -21,7 +21,7 @@ use Rattle.flex_store.specs.declared.flex.Flex.{Flex}
 use Rattle.flex_store.specs.State.{blocks_of, IsFlexAt, IsRecordedStore}
 use Rattle.flex_store.specs.Tested.{IsBench}
 use Rattle.flex_store.proofs.Held.{flex_left}
-use Rattle.flex_store.proofs.Storing.{word_of}
+use Rattle.flex_store.proofs.Words.{word_of}
 
 -- bytes that the store calls keep stay
 abbrev pub KeepsOwned : AddressMap → AddressMap → Type 0

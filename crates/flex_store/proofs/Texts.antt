@@ -1,31 +1,15 @@
 -- A text of blocks in memory: its first block, what is behind that, and what of it stays.
-use Rattle.std.proofs.Common.{◌≡◌, ℕ, Bool, ◌+◌, ◌%◌, ◌^◌, ◌<◌, ◌≤◌, true, List, [], ◌∷◌, length, arith, sym, inl, inr, subst}
+use Rattle.std.proofs.Common.{◌≡◌, ℕ, Bool, ◌+◌, ◌%◌, ◌^◌, ◌<◌, ◌≤◌, true, List, ◌∷◌, length, arith, sym, subst}
 use Rattle.address_map.specs.Bytes.{AreMapped, Bytes, word_at}
 use Rattle.flex_store.specs.Blocks.{Block, used, taken, whole_words}
 use Rattle.flex_store.specs.Memory.{text_of, blocks_in}
-use Rattle.flex_store.specs.State.{AreAnchorWords, IsAnchorWord, IsText}
+use Rattle.flex_store.specs.State.{IsText}
 use Rattle.flex_store.proofs.Holding.{holds_kept, word_read}
 use Rattle.flex_store.proofs.Lists.{text_used}
 use Rattle.flex_store.proofs.Reading.{IsSpelled, spelled, reads}
 
--- anchors outside a range are outside a part of it
-pub words_within : (mapped : ℕ → Bool) (start end at to : ℕ) (bs : List Block) → start ≤ at → to ≤ end → AreAnchorWords mapped start end bs → AreAnchorWords mapped at to bs
-words_within mapped start end at to [] low high words = tt
-words_within mapped start end at to (b ∷ bs) low high words = (
-  (
-    record {
-      aligned = words.0.0.aligned;
-      there = words.0.0.there;
-      low = words.0.0.low;
-      outside = elim words.0.0.outside [ inl before ↦ inl (omega arith) | inr behind ↦ inr (omega arith) ];
-    },
-    words.0.1,
-  ),
-  words_within mapped start end at to bs low high words.1,
-)
-
 pub text_read : (b : Bytes) (at end : ℕ) (bs : List Block) → IsText b at end bs → blocks_in b.at at end ≡ bs
-text_read b at end bs is = rw is.length (reads b.mapped at end b.at at bs is.whole is.words is.text)
+text_read b at end bs is = rw is.length (reads b.at at bs is.whole is.low is.text)
 
 -- the text behind the first block
 pub text_next : (b : Bytes) (at end : ℕ) (x : Block) (bs : List Block) → IsText b at end (x ∷ bs) → IsText b (at + taken x.size) end bs
@@ -34,7 +18,7 @@ text_next b at end x bs is =
     let aligned : at % 4 ≡ 0 = is.aligned in
     record {
       whole = is.whole.1;
-      words = words_within b.mapped at end (at + taken x.size) end bs (omega arith) (omega arith) is.words.1;
+      low = is.low.1;
       text = (spelled b.at at x bs is.whole.0.0 is.text).rest;
       length = omega arith;
       aligned = omega arith;
@@ -49,7 +33,7 @@ text_kept b c at end bs mapping same is =
     let length_is : end ≡ at + used bs = is.length in
     record {
       whole = is.whole;
-      words = subst (λ (mapped : ℕ → Bool). AreAnchorWords mapped at end bs) (sym mapping) is.words;
+      low = is.low;
       text = holds_kept b.at c.at at (text_of bs) (λ a low high. same a low (omega arith)) is.text;
       length = is.length;
       aligned = is.aligned;
@@ -65,13 +49,13 @@ pub record IsFirst (b : Bytes) (at end : ℕ) (x : Block) (bs : List Block) : Ty
   pub second : b.mapped (at + 4) ≡ true
   pub whole : length x.bytes ≡ whole_words x.size
   pub spelled : IsSpelled b.at at x bs
-  pub word : IsAnchorWord b.mapped at end x.anchor
+  pub low : x.anchor < 2 ^ 26
   pub fits : at + taken x.size ≤ end
 
 pub text_first : (b : Bytes) (at end : ℕ) (x : Block) (bs : List Block) → IsText b at end (x ∷ bs) → IsFirst b at end x bs
 text_first b at end x bs is =
     let s : IsSpelled b.at at x bs = spelled b.at at x bs is.whole.0.0 is.text in
-    let low : x.anchor < 2 ^ 26 = is.words.0.0.low in
+    let low : x.anchor < 2 ^ 26 = is.low.0 in
     let length_is : end ≡ at + (taken x.size + used bs) = is.length in
     record {
       anchor = word_read b.at at x.anchor (omega arith) s.anchor;
@@ -81,6 +65,6 @@ text_first b at end x bs is =
       second = is.mapped (at + 4) (omega arith) (omega arith);
       whole = is.whole.0.0;
       spelled = s;
-      word = is.words.0.0;
+      low = is.low.0;
       fits = omega arith;
     }

@@ -1,7 +1,7 @@
 -- The blocks of the flex store, as one list. They lie one after another from the store's start, without gaps. A block is a header of two words,
 -- the address of its anchor and its size, then its bytes, filled up to a whole number of words. The anchor is a word elsewhere that holds the
 -- address of the block's bytes (Acorn C manual, "flex"; the layout is this project's own).
-use Rattle.std.specs.Prelude.{ℕ, ◌^◌, Bool, false, ◌+◌, ◌-◌, ◌*◌, ◌/◌, ◌==◌, ◌||◌, nat_le, List, [], ◌∷◌, ◌++◌, length, take, drop, replicate, Option, Some, None, if◌then◌else◌}
+use Rattle.std.specs.Prelude.{ℕ, ◌^◌, Bool, false, ◌+◌, ◌-◌, ◌*◌, ◌/◌, ◌==◌, ◌&&◌, ◌||◌, nat_le, List, [], ◌∷◌, ◌++◌, length, take, drop, replicate, Option, Some, None, if◌then◌else◌}
 
 pub record Block : Type 0 where
   pub anchor : ℕ
@@ -79,3 +79,12 @@ more_of by = if nat_le (2 ^ 31) by then 0 else by
 abbrev pub is_header : ℕ → List Block → ℕ → Bool
 is_header at [] a = false
 is_header at (b ∷ bs) a = (a == at || a == at + 4) || is_header (at + taken b.size) bs a
+
+-- Do the four bytes from `a` on lie among those that a block has for its guest, where its header is at `at`?
+abbrev pub is_held_word : ℕ → Block → ℕ → Bool
+is_held_word at b a = nat_le (at + 8) a && nat_le (a + 4) (at + 8 + b.size)
+
+-- among those of one of these blocks, where the first one's header is at `at`?
+abbrev pub is_in_contents : ℕ → List Block → ℕ → Bool
+is_in_contents at [] a = false
+is_in_contents at (b ∷ bs) a = is_held_word at b a || is_in_contents (at + taken b.size) bs a

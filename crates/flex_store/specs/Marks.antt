@@ -1,4 +1,4 @@
--- The classes of memory after the words of headers were marked, or are marked no more.
+-- The classes of memory after the words of headers and anchors were marked, or are marked no more.
 use Rattle.std.specs.Prelude.{ℕ, ◌+◌, Bool, List, [], ◌∷◌, if◌then◌else◌}
 use Rattle.address_map.specs.declared.class.Class.{Class}
 use Rattle.address_map.specs.Records.{with_class}
@@ -7,7 +7,12 @@ use Rattle.flex_store.specs.Blocks.{Block, taken}
 abbrev pub marked : Class → Bool → Class → Class
 marked mark is own = if is then mark else own
 
--- the two words of each header got a class, where the first block's header is at `at`
-abbrev pub with_headers : Class → ℕ → List Block → (ℕ → Class) → ℕ → Class
-with_headers mark at [] classes = classes
-with_headers mark at (b ∷ bs) classes = with_headers mark (at + taken b.size) bs (with_class (with_class classes at mark) (at + 4) mark)
+-- the two words of the header at `at` got one class, and the word at `word`, its block's anchor, another
+abbrev pub with_block_marks : Class → Class → ℕ → ℕ → (ℕ → Class) → ℕ → Class
+with_block_marks of_header of_word at word classes = with_class (with_class (with_class classes at of_header) (at + 4) of_header) word of_word
+
+-- and so those of all these blocks, where the first one's header is at `at`
+abbrev pub with_marks : Class → Class → ℕ → List Block → (ℕ → Class) → ℕ → Class
+with_marks of_header of_word at [] classes = classes
+with_marks of_header of_word at (b ∷ bs) classes =
+    with_marks of_header of_word (at + taken b.size) bs (with_block_marks of_header of_word at b.anchor classes)

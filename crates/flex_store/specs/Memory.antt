@@ -43,3 +43,9 @@ blocks_from (suc most) f at end = if nat_le end at then [] else (block_at f at �
 
 unfoldable pub blocks_in : (ℕ → ℕ) → ℕ → ℕ → List Block
 blocks_in f at end = blocks_from (end - at) f at end
+
+-- the blocks with the bytes that stand there, where the first one's header is at `at`
+abbrev pub standing : (ℕ → ℕ) → ℕ → List Block → List Block
+standing f at [] = []
+standing f at (b ∷ bs) =
+    record { anchor = b.anchor; size = b.size; bytes = bytes_between f (at + 8) (whole_words b.size) } ∷ standing f (at + taken b.size) bs

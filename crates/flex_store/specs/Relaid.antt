@@ -5,7 +5,7 @@ use Rattle.address_map.specs.Memory.{byte_at, class_of, is_mapped, layout}
 use Rattle.address_map.specs.declared.class.Class.TheVariants as class
 use Rattle.address_map.specs.declared.map.AddressMap.{AddressMap}
 use Rattle.flex_store.specs.Blocks.{Block, taken, used}
-use Rattle.flex_store.specs.Marks.{with_headers}
+use Rattle.flex_store.specs.Marks.{with_marks}
 use Rattle.flex_store.specs.Memory.{block_at, blocks_in, laid_out}
 use Rattle.flex_store.specs.State.{AreAnchorWords}
 
@@ -16,13 +16,13 @@ first_at m at = block_at (byte_at m) at
 abbrev pub behind : AddressMap → ℕ → ℕ → List Block
 behind m at end = blocks_in (byte_at m) (at + taken (first_at m at).size) end
 
--- These blocks are laid out from `at` on, and their headers are marked in place of those that stood there.
+-- These blocks are laid out from `at` on, and their headers and anchors are marked in place of those of the blocks that stood there.
 pub record Relaid (old new : AddressMap) (at : ℕ) (olds news : List Block) : Type 0 where
   pub bytes : (a : ℕ) → byte_at new a ≡ laid_out at news (byte_at old) a
   pub same : layout new ≡ layout old
-  pub marks : (a : ℕ) → class_of new a ≡ with_headers class.FlexHeader at news (with_headers class.Plain at olds (class_of old)) a
+  pub marks : (a : ℕ) → class_of new a ≡ with_marks class.FlexHeader class.Anchor at news (with_marks class.Plain class.Plain at olds (class_of old)) a
 
--- Blocks may be laid out from `at` on: the bytes up to their end are mapped, and no anchor lies there.
+-- Blocks may be laid out from `at` on: the bytes up to their end are mapped, and the anchor of each lies outside these from its header on.
 pub record MayLie (m : AddressMap) (at : ℕ) (blocks : List Block) : Type 0 where
   pub words : AreAnchorWords (is_mapped m) at (at + used blocks) blocks
   pub there : AreMapped (is_mapped m) at (used blocks)

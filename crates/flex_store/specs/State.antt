@@ -9,7 +9,7 @@ use Rattle.address_map.specs.Memory.{byte_at, bytes_of, class_of, is_mapped, lay
 use Rattle.os_heap.specs.Store.{is_flex_store, store_of}
 use Rattle.flex_store.specs.declared.flex.Extent.{Extent}
 use Rattle.flex_store.specs.declared.flex.Flex.{Flex}
-use Rattle.flex_store.specs.Blocks.{Block, FlexStore, used, whole_words, has_anchor, is_header}
+use Rattle.flex_store.specs.Blocks.{Block, FlexStore, has_anchor, is_header, is_in_contents, taken, used, whole_words}
 use Rattle.flex_store.specs.Memory.{Holds, AreAnchored, blocks_in, text_of}
 use Rattle.flex_store.specs.Calls.{FlexState, is_anchor_place}
 
@@ -36,22 +36,47 @@ abbrev pub AreWhole : List Block → Type 0
 AreWhole [] = Unit {0}
 AreWhole (b ∷ bs) = ((length b.bytes ≡ whole_words b.size) × (b.size < 2 ^ 32)) × AreWhole bs
 
--- Each anchor is a mapped word outside the range from `start` to `end`, and no two blocks have the same.
+-- An anchor is a word: at a multiple of 4, and mapped.
+pub record IsMappedWord (mapped : ℕ → Bool) (a : ℕ) : Type 0 where
+  pub aligned : a % 4 ≡ 0
+  pub there : mapped a ≡ true
+  pub low : a < 2 ^ 26
+
+-- such a word outside the range from `start` to `end`
 pub record IsAnchorWord (mapped : ℕ → Bool) (start end a : ℕ) : Type 0 where
   pub aligned : a % 4 ≡ 0
   pub there : mapped a ≡ true
   pub low : a < 2 ^ 26
   pub outside : (a + 4 ≤ start) ⊎ (end ≤ a)
 
+-- The anchor of each block lies outside the text from its own header on, and no two blocks have the same. The first block's header is at `at`.
 abbrev pub AreAnchorWords : (ℕ → Bool) → ℕ → ℕ → List Block → Type 0
-AreAnchorWords mapped start end [] = Unit {0}
-AreAnchorWords mapped start end (b ∷ bs) =
-    (IsAnchorWord mapped start end b.anchor × (has_anchor bs b.anchor ≡ false)) × AreAnchorWords mapped start end bs
+AreAnchorWords mapped at end [] = Unit {0}
+AreAnchorWords mapped at end (b ∷ bs) =
+    (IsAnchorWord mapped at end b.anchor × (has_anchor bs b.anchor ≡ false)) × AreAnchorWords mapped (at + taken b.size) end bs
 
--- Memory spells these blocks from `at` up to `end`, and their anchors lie outside this range.
+-- an anchor in the store lies in what a block has for its guest
+abbrev pub AreInner : ℕ → ℕ → List Block → Type 0
+AreInner start end bs = (a : ℕ) → has_anchor bs a ≡ true → start ≤ a → a < end → is_in_contents start bs a ≡ true
+
+-- all anchors lie outside the range from `start` to `end`
+abbrev pub AreOutside : ℕ → ℕ → List Block → Type 0
+AreOutside start end bs = (a : ℕ) → has_anchor bs a ≡ true → (a + 4 ≤ start) ⊎ (end ≤ a)
+
+abbrev pub AreOuterWords : (ℕ → Bool) → ℕ → ℕ → List Block → Type 0
+AreOuterWords mapped start end [] = Unit {0}
+AreOuterWords mapped start end (b ∷ bs) =
+    (IsAnchorWord mapped start end b.anchor × (has_anchor bs b.anchor ≡ false)) × AreOuterWords mapped start end bs
+
+-- the anchors' addresses lie below 2^26
+abbrev pub AreLow : List Block → Type 0
+AreLow [] = Unit {0}
+AreLow (b ∷ bs) = (b.anchor < 2 ^ 26) × AreLow bs
+
+-- Memory spells these blocks from `at` up to `end`.
 pub record IsText (b : Bytes) (at end : ℕ) (blocks : List Block) : Type 0 where
   pub whole : AreWhole blocks
-  pub words : AreAnchorWords b.mapped at end blocks
+  pub low : AreLow blocks
   pub text : Holds b.at at (text_of blocks)
   pub length : end ≡ at + used blocks
   pub aligned : at % 4 ≡ 0
@@ -70,6 +95,8 @@ pub record IsFlexStore (m : AddressMap) (start end : ℕ) (blocks : List Block) 
   pub fits : start + used blocks ≤ end
   pub whole : AreWhole blocks
   pub words : AreAnchorWords (is_mapped m) start end blocks
+  pub inner : AreInner start end blocks
+  pub outside : AreOutside start end blocks
   pub text : Holds (byte_at m) start (text_of blocks)
   pub anchored : AreAnchored (byte_at m) start blocks
   pub headers : (a : ℕ) → is_flex_header (class_of m a) ≡ is_header start blocks (word_start a)

@@ -14,11 +14,10 @@ ghost use Rattle.flex_store.specs.Splices.{IsSplice};
 ghost use Rattle.flex_store.specs.State.{blocks_of, held_in, store_in, IsAnchorWord, IsStoreAt, Keeps};
 
 use crate::flex::Extent;
-use crate::marks::{clear_mark, mark};
 use crate::slide::{append, remove, replace};
 use crate::splice::Splice;
 use crate::walk::{HEADER, SIZE, taken, word};
-use address_map::{AddressMap, Class, Kind, Region};
+use address_map::{AddressMap, Class, Region};
 use os_heap::Heaps;
 use profile::ErrorNumber;
 
@@ -130,7 +129,6 @@ pub(crate) fn release_block(
         return Err(ErrorNumber::FlexBadAnchor);
     };
     let size = word(map, header + SIZE);
-    clear_mark(map, Kind::Anchor, anchor);
     map.put_word(anchor, 0);
     remove(map, header, extent.start + extent.used);
     extent.used -= taken(u64::from(size)) as u32;
@@ -267,7 +265,6 @@ fn append_block(map: &mut AddressMap, extent: &mut Extent, anchor: u32, size: u3
         return false;
     }
     let header = extent.start + extent.used;
-    mark(map, Kind::Anchor, anchor);
     append(map, header, anchor, size);
     extent.used = used as u32;
     true

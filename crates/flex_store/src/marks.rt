@@ -1,14 +1,16 @@
-ghost use Rattle.std.specs.Prelude.{ℕ, ◌≡◌, ◌%◌, true};
+ghost use Rattle.std.specs.Prelude.{ℕ, ◌≡◌, ◌+◌, ◌%◌, ◌<◌, ◌^◌, true};
+ghost use Rattle.address_map.specs.declared.class.Class.TheVariants.{Anchor, FlexHeader, Plain};
 ghost use Rattle.address_map.specs.Memory.{byte_at, class_of, is_mapped, layout};
 ghost use Rattle.address_map.specs.Records.{is_word_kind, with_mark, without_mark};
+ghost use Rattle.flex_store.specs.Marks.{with_block_marks};
 
 use address_map::{AddressMap, Kind};
 
 /// The bytes of a word.
-pub(crate) const WORD: u32 = 4;
+const WORD: u32 = 4;
 
 /// Marks a word of a header or an anchor, which only store calls may write from then on.
-pub(crate) fn mark(map: &mut AddressMap, kind: Kind, at: u32)
+fn mark(map: &mut AddressMap, kind: Kind, at: u32)
     requires kind { is_word_kind kind ≡ true }
     requires aligned { at % 4 ≡ 0 }
     requires mapped { is_mapped map.old at ≡ true }
@@ -20,7 +22,7 @@ pub(crate) fn mark(map: &mut AddressMap, kind: Kind, at: u32)
 }
 
 /// Makes such a word the guest's own again.
-pub(crate) fn clear_mark(map: &mut AddressMap, kind: Kind, at: u32)
+fn clear_mark(map: &mut AddressMap, kind: Kind, at: u32)
     requires kind { is_word_kind kind ≡ true }
     requires aligned { at % 4 ≡ 0 }
     requires mapped { is_mapped map.old at ≡ true }
@@ -29,4 +31,38 @@ pub(crate) fn clear_mark(map: &mut AddressMap, kind: Kind, at: u32)
     ensures layout { layout map.new ≡ layout map.old }
 {
     map.disown(kind, at);
+}
+
+/// Marks the two words of a block's header, and its anchor.
+pub(crate) fn mark_block(map: &mut AddressMap, header: u32, anchor: u32)
+    requires header { header % 4 ≡ 0 }
+    requires first { is_mapped map.old header ≡ true }
+    requires second { is_mapped map.old (header + 4) ≡ true }
+    requires low { header < 2 ^ 26 }
+    requires anchor { anchor % 4 ≡ 0 }
+    requires there { is_mapped map.old anchor ≡ true }
+    ensures marks { (a : ℕ) → class_of map.new a ≡ with_block_marks FlexHeader Anchor header anchor (class_of map.old) a }
+    ensures bytes { byte_at map.new ≡ byte_at map.old }
+    ensures layout { layout map.new ≡ layout map.old }
+{
+    mark(map, Kind::FlexHeader, header);
+    mark(map, Kind::FlexHeader, header + WORD);
+    mark(map, Kind::Anchor, anchor);
+}
+
+/// Makes these words the guest's own again.
+pub(crate) fn clear_block(map: &mut AddressMap, header: u32, anchor: u32)
+    requires header { header % 4 ≡ 0 }
+    requires first { is_mapped map.old header ≡ true }
+    requires second { is_mapped map.old (header + 4) ≡ true }
+    requires low { header < 2 ^ 26 }
+    requires anchor { anchor % 4 ≡ 0 }
+    requires there { is_mapped map.old anchor ≡ true }
+    ensures marks { (a : ℕ) → class_of map.new a ≡ with_block_marks Plain Plain header anchor (class_of map.old) a }
+    ensures bytes { byte_at map.new ≡ byte_at map.old }
+    ensures layout { layout map.new ≡ layout map.old }
+{
+    clear_mark(map, Kind::FlexHeader, header);
+    clear_mark(map, Kind::FlexHeader, header + WORD);
+    clear_mark(map, Kind::Anchor, anchor);
 }

@@ -4,7 +4,7 @@ ghost use Rattle.address_map.specs.Memory.{byte_at, bytes_of, class_of, is_mappe
 ghost use Rattle.flex_store.specs.Blocks.{contents, filled, holding, new_block, spliced, taken, whole_words};
 ghost use Rattle.flex_store.specs.Relaid.{behind, first_at, MayLie, Relaid};
 ghost use Rattle.flex_store.specs.Splices.{size_after, IsRest, IsSplice, HasRoom};
-ghost use Rattle.flex_store.specs.State.{IsText};
+ghost use Rattle.flex_store.specs.State.{AreAnchorWords, IsText};
 
 use crate::splice::{Splice, splice_bytes};
 use crate::walk::{HEADER, SIZE, settle, taken, unmark, whole_words, word};
@@ -37,6 +37,7 @@ fn respace(map: &mut AddressMap, contents: u32, size: u32, splice: &Splice, end:
 /// Changes the bytes of the block whose header is at `header`. Those behind it, up to `end`, slide, and their anchors follow.
 pub(crate) fn replace(map: &mut AddressMap, header: u32, splice: &Splice, end: u32)
     requires text { IsText (bytes_of map.old) header end (first_at map.old header ∷ behind map.old header end) }
+    requires words { AreAnchorWords (is_mapped map.old) header end (first_at map.old header ∷ behind map.old header end) }
     requires splice { IsSplice splice.now (first_at map.old header).size }
     requires room { MayLie map.old header (holding (first_at map.old header)
         (spliced (contents (first_at map.old header)) splice.now.at splice.now.cut splice.now.more)
@@ -58,7 +59,9 @@ pub(crate) fn replace(map: &mut AddressMap, header: u32, splice: &Splice, end: u
 
 /// Takes the block whose header is at `header` out of the text. Those behind it, up to `end`, slide, and their anchors follow.
 pub(crate) fn remove(map: &mut AddressMap, header: u32, end: u32)
-    requires { IsText (bytes_of map.old) header end (first_at map.old header ∷ behind map.old header end) }
+    requires text { IsText (bytes_of map.old) header end (first_at map.old header ∷ behind map.old header end) }
+    requires words { AreAnchorWords (is_mapped map.old) header end (first_at map.old header ∷ behind map.old header end) }
+    requires room { MayLie map.old header (behind map.old header end) }
     ensures { Relaid map.old map.new header (first_at map.old header ∷ behind map.old header end)
         (behind map.old header end) }
 {

@@ -1,14 +1,14 @@
 ghost use Rattle.std.specs.Prelude.{ℕ, ◌≡◌, ◌≤◌, ◌<◌, ◌+◌, ◌%◌, ◌^◌, true};
 ghost use Rattle.address_map.specs.Bytes.{word_at};
 ghost use Rattle.address_map.specs.Memory.{byte_at, bytes_of, class_of, is_mapped, layout};
-ghost use Rattle.address_map.specs.declared.class.Class.TheVariants.{FlexHeader, Plain};
+ghost use Rattle.address_map.specs.declared.class.Class.TheVariants.{Anchor, FlexHeader, Plain};
 ghost use Rattle.flex_store.specs.Blocks.{taken, whole_words};
-ghost use Rattle.flex_store.specs.Marks.{with_headers};
+ghost use Rattle.flex_store.specs.Marks.{with_marks};
 ghost use Rattle.flex_store.specs.Memory.{blocks_in, with_anchors};
-ghost use Rattle.flex_store.specs.State.{IsText};
+ghost use Rattle.flex_store.specs.State.{AreAnchorWords, IsText};
 
-use crate::marks::{clear_mark, mark};
-use address_map::{AddressMap, Kind};
+use crate::marks::{clear_block, mark_block};
+use address_map::AddressMap;
 
 /// The bytes of a block's header: its anchor's address, and its size.
 pub(crate) const HEADER: u32 = 8;
@@ -42,38 +42,39 @@ pub(crate) fn taken(size: u64) -> u64
     u64::from(HEADER) + whole_words(size)
 }
 
-/// Takes the marks off the headers of all blocks from `at` up to `end`.
+/// Takes the marks off the headers and the anchors of all blocks from `at` up to `end`.
 pub(crate) fn unmark(map: &mut AddressMap, at: u32, end: u32)
-    requires { IsText (bytes_of map.old) at end (blocks_in (byte_at map.old) at end) }
+    requires text { IsText (bytes_of map.old) at end (blocks_in (byte_at map.old) at end) }
+    requires words { AreAnchorWords (is_mapped map.old) at end (blocks_in (byte_at map.old) at end) }
     ensures bytes { byte_at map.new ≡ byte_at map.old }
     ensures layout { layout map.new ≡ layout map.old }
     ensures marks { (a : ℕ) → class_of map.new a
-        ≡ with_headers Plain at (blocks_in (byte_at map.old) at end) (class_of map.old) a }
-{
-    let mut header = at;
-    while header < end {
-        let size = word(map, header + SIZE);
-        clear_mark(map, Kind::FlexHeader, header);
-        clear_mark(map, Kind::FlexHeader, header + SIZE);
-        header += taken(u64::from(size)) as u32;
-    }
-}
-
-/// Marks the headers of all blocks from `at` up to `end`, and writes the address of its bytes to each block's anchor.
-pub(crate) fn settle(map: &mut AddressMap, at: u32, end: u32)
-    requires { IsText (bytes_of map.old) at end (blocks_in (byte_at map.old) at end) }
-    ensures bytes { (a : ℕ) → byte_at map.new a
-        ≡ with_anchors at (blocks_in (byte_at map.old) at end) (byte_at map.old) a }
-    ensures layout { layout map.new ≡ layout map.old }
-    ensures marks { (a : ℕ) → class_of map.new a
-        ≡ with_headers FlexHeader at (blocks_in (byte_at map.old) at end) (class_of map.old) a }
+        ≡ with_marks Plain Plain at (blocks_in (byte_at map.old) at end) (class_of map.old) a }
 {
     let mut header = at;
     while header < end {
         let anchor = word(map, header);
         let size = word(map, header + SIZE);
-        mark(map, Kind::FlexHeader, header);
-        mark(map, Kind::FlexHeader, header + SIZE);
+        clear_block(map, header, anchor);
+        header += taken(u64::from(size)) as u32;
+    }
+}
+
+/// Marks the headers and the anchors of all blocks from `at` up to `end`, and writes the address of its bytes to each block's anchor.
+pub(crate) fn settle(map: &mut AddressMap, at: u32, end: u32)
+    requires text { IsText (bytes_of map.old) at end (blocks_in (byte_at map.old) at end) }
+    requires words { AreAnchorWords (is_mapped map.old) at end (blocks_in (byte_at map.old) at end) }
+    ensures bytes { (a : ℕ) → byte_at map.new a
+        ≡ with_anchors at (blocks_in (byte_at map.old) at end) (byte_at map.old) a }
+    ensures layout { layout map.new ≡ layout map.old }
+    ensures marks { (a : ℕ) → class_of map.new a
+        ≡ with_marks FlexHeader Anchor at (blocks_in (byte_at map.old) at end) (class_of map.old) a }
+{
+    let mut header = at;
+    while header < end {
+        let anchor = word(map, header);
+        let size = word(map, header + SIZE);
+        mark_block(map, header, anchor);
         map.put_word(anchor, header + HEADER);
         header += taken(u64::from(size)) as u32;
     }

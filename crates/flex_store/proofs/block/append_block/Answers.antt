@@ -26,6 +26,6 @@ returns c =
     let all : c.from.result ≡ c.args.extent.now.used = c.from.ensures in
     let start : c.from-3.result ≡ c.args.extent.now.start = c.from-3.ensures in
     let end : c.from-4.result ≡ c.args.extent.now.end = c.from-4.ensures in
-    alloc_done c.args.map.now c.mark.new.map c.append.new.map e (record { start = e.start; end = e.end; used = c.from.result + c.taken.result }) c.args.anchor c.args.size (e.start + e.used)
-    c.requires.store c.requires.place c.requires.free c.requires.head (omega arith) (record { bytes = c.mark.ensures.bytes; marks = c.mark.ensures.marks; same = c.mark.ensures.layout })
+    alloc_done c.args.map.now c.append.new.map e (record { start = e.start; end = e.end; used = c.from.result + c.taken.result }) c.args.anchor c.args.size (e.start + e.used)
+    c.requires.store c.requires.place c.requires.free c.requires.head (omega arith)
     (rw (← all, ← new, ← start, ← end) c.if-from-used.false) refl c.append.ensures refl refl (rw (all, new) refl)

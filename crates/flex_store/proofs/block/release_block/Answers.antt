@@ -1,11 +1,8 @@
-use Rattle.std.proofs.Common.{ℕ, Bool, ◌≡◌, ◌-◌, arith, refl, ap, ◌∙◌}
-use Rattle.address_map.proofs.Bytes.{is_mapped-layout}
-use Rattle.address_map.specs.Bytes.{with_word_at}
-use Rattle.address_map.specs.declared.class.Class.{Class}
+use Rattle.std.proofs.Common.{ℕ, ◌≡◌, ◌-◌, arith, refl, ap, ◌∙◌}
 use Rattle.flex_store.specs.Blocks.{taken}
 use Rattle.flex_store.specs.Relaid.{first_at}
 use Rattle.flex_store.proofs.Finding.{header_word, placed}
-use Rattle.flex_store.proofs.Releasing.{IsCleared, anchor_word, release_gets, release_gives, release_keeps, removes_text}
+use Rattle.flex_store.proofs.Releasing.{IsCleared, anchor_word, release_gets, release_gives, release_keeps, removes}
 use Rattle.flex_store.proofs.block.release_block.Goals as goal
 
 pub overflow_add-header : goal.overflow_add-header
@@ -17,23 +14,26 @@ word-size-requires-clause-aligned c = (header_word c.args.map.now c.args.extent.
 pub word-size-requires-clause-mapped : goal.word-size-requires-clause-mapped
 word-size-requires-clause-mapped c = (header_word c.args.map.now c.args.extent.now c.args.anchor c.in-Some.header c.requires c.in-Some.ensures).there
 
-pub clear_mark-requires-clause-aligned : goal.clear_mark-requires-clause-aligned
-clear_mark-requires-clause-aligned c = (anchor_word c.args.map.now c.args.extent.now c.args.anchor c.in-Some.header c.in-Some.ensures.split.before (placed c.args.map.now c.args.extent.now c.args.anchor c.in-Some.header c.requires c.in-Some.ensures)).aligned
-
-pub clear_mark-requires-clause-mapped : goal.clear_mark-requires-clause-mapped
-clear_mark-requires-clause-mapped c = (anchor_word c.args.map.now c.args.extent.now c.args.anchor c.in-Some.header c.in-Some.ensures.split.before (placed c.args.map.now c.args.extent.now c.args.anchor c.in-Some.header c.requires c.in-Some.ensures)).there
-
 pub put_word-requires-clause-aligned : goal.put_word-requires-clause-aligned
 put_word-requires-clause-aligned c = (anchor_word c.args.map.now c.args.extent.now c.args.anchor c.in-Some.header c.in-Some.ensures.split.before (placed c.args.map.now c.args.extent.now c.args.anchor c.in-Some.header c.requires c.in-Some.ensures)).aligned
 
 pub put_word-requires-clause-mapped : goal.put_word-requires-clause-mapped
-put_word-requires-clause-mapped c =
-    ap (λ (p : ℕ → Bool). p c.args.anchor) (is_mapped-layout c.args.map.now c.clear_mark.new.map c.clear_mark.ensures.layout) ∙ (anchor_word c.args.map.now c.args.extent.now c.args.anchor c.in-Some.header c.in-Some.ensures.split.before (placed c.args.map.now c.args.extent.now c.args.anchor c.in-Some.header c.requires c.in-Some.ensures)).there
+put_word-requires-clause-mapped c = (anchor_word c.args.map.now c.args.extent.now c.args.anchor c.in-Some.header c.in-Some.ensures.split.before (placed c.args.map.now c.args.extent.now c.args.anchor c.in-Some.header c.requires c.in-Some.ensures)).there
 
-pub remove-requires : goal.remove-requires
-remove-requires c =
-    let k : IsCleared c.args.map.now c.put_word.new.self c.args.anchor = (record { bytes = λ a. c.put_word.ensures.bytes a ∙ ap (λ (h : ℕ → ℕ). with_word_at h c.args.anchor 0 a) c.clear_mark.ensures.bytes; marks = λ a. ap (λ (h : ℕ → Class). h a) c.put_word.ensures.marks ∙ c.clear_mark.ensures.marks a; same = c.put_word.ensures.layout ∙ c.clear_mark.ensures.layout }) in
-    removes_text c.args.map.now c.put_word.new.self c.args.extent.now c.args.anchor c.in-Some.header c.in-Some.ensures.split.before (placed c.args.map.now c.args.extent.now c.args.anchor c.in-Some.header c.requires c.in-Some.ensures) k
+pub remove-requires-clause-text : goal.remove-requires-clause-text
+remove-requires-clause-text c =
+    let p = placed c.args.map.now c.args.extent.now c.args.anchor c.in-Some.header c.requires c.in-Some.ensures in
+    (removes c.args.map.now c.put_word.new.self c.args.extent.now c.args.anchor c.in-Some.header c.in-Some.ensures.split.before p (record { bytes = c.put_word.ensures.bytes; marks = c.put_word.ensures.marks; same = c.put_word.ensures.layout })).text
+
+pub remove-requires-clause-words : goal.remove-requires-clause-words
+remove-requires-clause-words c =
+    let p = placed c.args.map.now c.args.extent.now c.args.anchor c.in-Some.header c.requires c.in-Some.ensures in
+    (removes c.args.map.now c.put_word.new.self c.args.extent.now c.args.anchor c.in-Some.header c.in-Some.ensures.split.before p (record { bytes = c.put_word.ensures.bytes; marks = c.put_word.ensures.marks; same = c.put_word.ensures.layout })).words
+
+pub remove-requires-clause-room : goal.remove-requires-clause-room
+remove-requires-clause-room c =
+    let p = placed c.args.map.now c.args.extent.now c.args.anchor c.in-Some.header c.requires c.in-Some.ensures in
+    (removes c.args.map.now c.put_word.new.self c.args.extent.now c.args.anchor c.in-Some.header c.in-Some.ensures.split.before p (record { bytes = c.put_word.ensures.bytes; marks = c.put_word.ensures.marks; same = c.put_word.ensures.layout })).room
 
 pub overflow_cast-extent : goal.overflow_cast-extent
 overflow_cast-extent c =
@@ -51,7 +51,7 @@ overflow_sub-extent c =
 pub returns-clause-state : goal.returns-clause-state
 returns-clause-state c =
     let e = c.args.extent.now in
-    let k : IsCleared c.args.map.now c.put_word.new.self c.args.anchor = (record { bytes = λ a. c.put_word.ensures.bytes a ∙ ap (λ (h : ℕ → ℕ). with_word_at h c.args.anchor 0 a) c.clear_mark.ensures.bytes; marks = λ a. ap (λ (h : ℕ → Class). h a) c.put_word.ensures.marks ∙ c.clear_mark.ensures.marks a; same = c.put_word.ensures.layout ∙ c.clear_mark.ensures.layout }) in
+    let k : IsCleared c.args.map.now c.put_word.new.self c.args.anchor = (record { bytes = c.put_word.ensures.bytes; marks = c.put_word.ensures.marks; same = c.put_word.ensures.layout }) in
     let size : c.taken.result ≡ taken (first_at c.args.map.now c.in-Some.header).size = c.taken.ensures ∙ ap taken (c.from.ensures ∙ c.word-size.ensures) in
     release_gives c.args.map.now c.put_word.new.self c.remove.new.map e (record { start = e.start; end = e.end; used = e.used - c.taken.result }) c.args.anchor c.in-Some.header c.in-Some.ensures.split.before (placed c.args.map.now c.args.extent.now c.args.anchor c.in-Some.header c.requires c.in-Some.ensures) k
     (release_gets c.args.map.now c.put_word.new.self c.remove.new.map e (record { start = e.start; end = e.end; used = e.used - c.taken.result }) c.args.anchor c.in-Some.header c.in-Some.ensures.split.before (placed c.args.map.now c.args.extent.now c.args.anchor c.in-Some.header c.requires c.in-Some.ensures) k
@@ -60,7 +60,7 @@ returns-clause-state c =
 pub returns-clause-keeps : goal.returns-clause-keeps
 returns-clause-keeps c =
     let e = c.args.extent.now in
-    let k : IsCleared c.args.map.now c.put_word.new.self c.args.anchor = (record { bytes = λ a. c.put_word.ensures.bytes a ∙ ap (λ (h : ℕ → ℕ). with_word_at h c.args.anchor 0 a) c.clear_mark.ensures.bytes; marks = λ a. ap (λ (h : ℕ → Class). h a) c.put_word.ensures.marks ∙ c.clear_mark.ensures.marks a; same = c.put_word.ensures.layout ∙ c.clear_mark.ensures.layout }) in
+    let k : IsCleared c.args.map.now c.put_word.new.self c.args.anchor = (record { bytes = c.put_word.ensures.bytes; marks = c.put_word.ensures.marks; same = c.put_word.ensures.layout }) in
     let size : c.taken.result ≡ taken (first_at c.args.map.now c.in-Some.header).size = c.taken.ensures ∙ ap taken (c.from.ensures ∙ c.word-size.ensures) in
     release_keeps c.args.map.now c.put_word.new.self c.remove.new.map e (record { start = e.start; end = e.end; used = e.used - c.taken.result }) c.args.anchor c.in-Some.header c.in-Some.ensures.split.before (placed c.args.map.now c.args.extent.now c.args.anchor c.in-Some.header c.requires c.in-Some.ensures) k
     (release_gets c.args.map.now c.put_word.new.self c.remove.new.map e (record { start = e.start; end = e.end; used = e.used - c.taken.result }) c.args.anchor c.in-Some.header c.in-Some.ensures.split.before (placed c.args.map.now c.args.extent.now c.args.anchor c.in-Some.header c.requires c.in-Some.ensures) k

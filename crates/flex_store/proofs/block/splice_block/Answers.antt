@@ -39,6 +39,9 @@ returns-then-from-used c =
 pub replace-requires-clause-text : goal.replace-requires-clause-text
 replace-requires-clause-text c = (placed c.args.map.now c.args.extent.now c.args.anchor c.args.header c.requires.store c.requires.place).text
 
+pub replace-requires-clause-words : goal.replace-requires-clause-words
+replace-requires-clause-words c = (placed c.args.map.now c.args.extent.now c.args.anchor c.args.header c.requires.store c.requires.place).words
+
 pub replace-requires-clause-room : goal.replace-requires-clause-room
 replace-requires-clause-room c =
     let s = c.args.splice.now in

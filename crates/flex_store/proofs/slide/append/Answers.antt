@@ -26,13 +26,21 @@ overflow_add-header-3 c =
     let size : c.taken.result ≡ taken c.args.size = c.taken.ensures ∙ ap taken c.from-2.ensures in
     omega (arith, lie_low c.args.map.now c.args.header (new_block c.args.anchor c.args.size ∷ []) c.requires.room (omega arith))
 
-pub settle-requires : goal.settle-requires
-settle-requires c =
+pub settle-requires-clause-text : goal.settle-requires-clause-text
+settle-requires-clause-text c =
     let w : IsWrittenText c.args.map.now c.zero_bytes.new.self c.args.header (c.args.header + c.taken.result) (new_block c.args.anchor c.args.size ∷ []) =
     appended_step c.args.map.now c.put_word.new.self c.put_word-2.new.self c.zero_bytes.new.self c.args.header c.args.anchor c.args.size
     c.whole_words.result c.taken.result (omega arith) c.requires.aligned c.requires.room (c.whole_words.ensures ∙ ap whole_words c.from.ensures) (c.taken.ensures ∙ ap taken c.from-2.ensures)
     (c.zero_bytes.ensures.layout ∙ (c.put_word-2.ensures.layout ∙ c.put_word.ensures.layout)) c.put_word.ensures.bytes c.put_word-2.ensures.bytes c.zero_bytes.ensures.bytes in
     as_read (bytes_of c.zero_bytes.new.self) c.args.header (c.args.header + c.taken.result) (new_block c.args.anchor c.args.size ∷ []) w.text
+
+pub settle-requires-clause-words : goal.settle-requires-clause-words
+settle-requires-clause-words c =
+    let w : IsWrittenText c.args.map.now c.zero_bytes.new.self c.args.header (c.args.header + c.taken.result) (new_block c.args.anchor c.args.size ∷ []) =
+    appended_step c.args.map.now c.put_word.new.self c.put_word-2.new.self c.zero_bytes.new.self c.args.header c.args.anchor c.args.size
+    c.whole_words.result c.taken.result (omega arith) c.requires.aligned c.requires.room (c.whole_words.ensures ∙ ap whole_words c.from.ensures) (c.taken.ensures ∙ ap taken c.from-2.ensures)
+    (c.zero_bytes.ensures.layout ∙ (c.put_word-2.ensures.layout ∙ c.put_word.ensures.layout)) c.put_word.ensures.bytes c.put_word-2.ensures.bytes c.zero_bytes.ensures.bytes in
+    w.words
 
 pub returns : goal.returns
 returns c =

@@ -4,7 +4,7 @@ use Rattle.address_map.specs.declared.class.Class.{Class}
 use Rattle.flex_store.specs.Blocks.{contents, holding, spliced, taken}
 use Rattle.flex_store.specs.Relaid.{behind, first_at}
 use Rattle.flex_store.specs.Splices.{size_after}
-use Rattle.flex_store.proofs.Sliding.{AreNumbers, IsWrittenText, as_read, numbers, relaid_from, replaced_step, room_for, unmarked}
+use Rattle.flex_store.proofs.Sliding.{AreNumbers, IsWrittenText, as_read, numbers, relaid_from, replaced_step, room_for, unmarked, words_read}
 use Rattle.flex_store.proofs.slide.replace.Goals as goal
 
 pub overflow_cast-new_size : goal.overflow_cast-new_size
@@ -33,8 +33,12 @@ overflow_add-new_next c =
     let total : c.taken-2.result ≡ taken (s.at - s.cut + s.more + ((first_at c.args.map.now c.args.header).size - s.at)) = c.taken-2.ensures ∙ ap taken (c.from-2.ensures ∙ new) in
     omega (arith, k.new_low)
 
-pub unmark-requires : goal.unmark-requires
-unmark-requires c = as_read (bytes_of c.args.map.now) c.args.header c.args.end (first_at c.args.map.now c.args.header ∷ behind c.args.map.now c.args.header c.args.end) c.requires.text
+pub unmark-requires-clause-text : goal.unmark-requires-clause-text
+unmark-requires-clause-text c = as_read (bytes_of c.args.map.now) c.args.header c.args.end (first_at c.args.map.now c.args.header ∷ behind c.args.map.now c.args.header c.args.end) c.requires.text
+
+pub unmark-requires-clause-words : goal.unmark-requires-clause-words
+unmark-requires-clause-words c =
+    words_read c.args.map.now c.args.map.now c.args.header c.args.end (first_at c.args.map.now c.args.header ∷ behind c.args.map.now c.args.header c.args.end) refl c.requires.text c.requires.words
 
 pub respace-requires-clause-room : goal.respace-requires-clause-room
 respace-requires-clause-room c =
@@ -53,14 +57,23 @@ overflow_add-new_next-2 c =
     let old : c.taken.result ≡ taken (first_at c.args.map.now c.args.header).size = c.taken.ensures ∙ ap taken (c.from.ensures ∙ c.word-size.ensures) in
     omega (arith, k.new_low, k.used_is)
 
-pub settle-requires : goal.settle-requires
-settle-requires c =
+pub settle-requires-clause-text : goal.settle-requires-clause-text
+settle-requires-clause-text c =
     let w : IsWrittenText c.args.map.now c.put_word.new.self c.args.header (c.args.header + c.taken-2.result + (c.args.end - (c.args.header + c.taken.result))) (holding (first_at c.args.map.now c.args.header) (spliced (contents (first_at c.args.map.now c.args.header)) c.args.splice.now.at c.args.splice.now.cut c.args.splice.now.more) ∷ behind c.args.map.now c.args.header c.args.end) =
     replaced_step c.args.map.now c.unmark.new.map c.respace.new.map c.put_word.new.self c.args.header c.args.end c.word-size.result c.size_after-new_size.result
     c.taken.result c.taken-2.result c.args.splice.now.at c.args.splice.now.cut c.args.splice.now.more c.requires.text c.requires.splice.at c.requires.room
     c.word-size.ensures c.size_after-new_size.ensures (c.taken.ensures ∙ ap taken c.from.ensures) (c.taken-2.ensures ∙ ap taken c.from-2.ensures)
     c.unmark.ensures.bytes (c.put_word.ensures.layout ∙ (c.respace.ensures.layout ∙ c.unmark.ensures.layout)) c.respace.ensures.bytes c.put_word.ensures.bytes in
     as_read (bytes_of c.put_word.new.self) c.args.header (c.args.header + c.taken-2.result + (c.args.end - (c.args.header + c.taken.result))) (holding (first_at c.args.map.now c.args.header) (spliced (contents (first_at c.args.map.now c.args.header)) c.args.splice.now.at c.args.splice.now.cut c.args.splice.now.more) ∷ behind c.args.map.now c.args.header c.args.end) w.text
+
+pub settle-requires-clause-words : goal.settle-requires-clause-words
+settle-requires-clause-words c =
+    let w : IsWrittenText c.args.map.now c.put_word.new.self c.args.header (c.args.header + c.taken-2.result + (c.args.end - (c.args.header + c.taken.result))) (holding (first_at c.args.map.now c.args.header) (spliced (contents (first_at c.args.map.now c.args.header)) c.args.splice.now.at c.args.splice.now.cut c.args.splice.now.more) ∷ behind c.args.map.now c.args.header c.args.end) =
+    replaced_step c.args.map.now c.unmark.new.map c.respace.new.map c.put_word.new.self c.args.header c.args.end c.word-size.result c.size_after-new_size.result
+    c.taken.result c.taken-2.result c.args.splice.now.at c.args.splice.now.cut c.args.splice.now.more c.requires.text c.requires.splice.at c.requires.room
+    c.word-size.ensures c.size_after-new_size.ensures (c.taken.ensures ∙ ap taken c.from.ensures) (c.taken-2.ensures ∙ ap taken c.from-2.ensures)
+    c.unmark.ensures.bytes (c.put_word.ensures.layout ∙ (c.respace.ensures.layout ∙ c.unmark.ensures.layout)) c.respace.ensures.bytes c.put_word.ensures.bytes in
+    w.words
 
 pub returns : goal.returns
 returns c =
