@@ -21,7 +21,7 @@ use Rattle.flex_store.specs.Blocks.{Block, contents, find_block, has_anchor, is_
 use Rattle.flex_store.specs.Calls.{FlexState, begun, flex_record, is_flex_range, meets_ranges, with_flex}
 use Rattle.flex_store.specs.Laws.{contents_in}
 use Rattle.flex_store.specs.Memory.{AreAnchored, Holds, text_of}
-use Rattle.flex_store.specs.State.{AreAnchorWords, AreWhole, is_recorded, is_store_record}
+use Rattle.flex_store.specs.State.{AreOuterWords, AreWhole, is_recorded, is_store_record}
 use Rattle.flex_store.specs.declared.flex.Extent.{Extent}
 use Rattle.flex_store.specs.declared.flex.Flex.{Flex}
 use Rattle.rma.proofs.ImageLemmas.{mapped_more}
@@ -210,7 +210,7 @@ module _ (x : Stores) (start end : ℕ) (are : AreStores x) (none : x.flex.exten
     range = record { start_aligned = r.start_aligned; end_aligned = r.end_aligned; there = r.there };
     fits = subst (λ (bs : List Block). start + used bs ≤ end) (sym blocks) (omega (arith, r.some));
     whole = subst AreWhole (sym blocks) tt;
-    words = subst (λ (bs : List Block). AreAnchorWords (store_in x).bytes.mapped start end bs) (sym blocks) tt;
+    words = subst (λ (bs : List Block). AreOuterWords (store_in x).bytes.mapped start end bs) (sym blocks) tt;
     text = subst (λ (bs : List Block). Holds (store_in x).bytes.at start (text_of bs)) (sym blocks) (λ k below. absurd (omega (arith, below)));
     anchored = subst (λ (bs : List Block). AreAnchored (store_in x).bytes.at start bs) (sym blocks) tt;
     headers = λ a. ap (λ (bs : List Block). is_header start bs (word_start a)) (sym blocks);

@@ -8,12 +8,12 @@ use Rattle.flex_store.proofs.Anchoring.{anchors_beside, other_word}
 use Rattle.flex_store.proofs.Holding.{bytes_beside, word_beside}
 use Rattle.flex_store.proofs.LawLemmas.{Answers, fit_if, same_answer}
 use Rattle.flex_store.proofs.Lists.{none_found, text_used}
-use Rattle.flex_store.proofs.Storing.{word_of}
+use Rattle.flex_store.proofs.Words.{outer_words, word_of}
 use Rattle.flex_store.specs.Blocks.{Block, FlexStore, contents, cut_of, find_block, has_anchor, holding, more_of, new_block, resized, spliced, used, with_block, without_block}
 use Rattle.flex_store.specs.Calls.{FlexState, allocated, extended, fitted, is_anchor_place, is_in_store, mid_extended, released, with_blocks, without_anchor}
 use Rattle.flex_store.specs.Memory.{laid_out, text_of}
 use Rattle.flex_store.specs.Runs.{Alloc, Extend, FlexCall, IsDone, MidExtend, Release}
-use Rattle.flex_store.specs.State.{AreAnchorWords, AreWhole}
+use Rattle.flex_store.specs.State.{AreOuterWords, AreWhole}
 use Rattle.flex_store.specs.declared.flex.Extent.{Extent}
 use Rattle.flex_store.specs.declared.flex.Flex.{Flex}
 use Rattle.flex_ground.specs.Ground.{flex_state, spelled_store}
@@ -24,7 +24,7 @@ use Rattle.store_laws.specs.FlexStore.{IsSpelledAt}
 pub record IsBesideStore (s : FlexStore) (a : ℕ) : Type 0 where
   pub mapped : ℕ → Bool
   pub whole : AreWhole s.blocks
-  pub words : AreAnchorWords mapped s.start s.end s.blocks
+  pub words : AreOuterWords mapped s.start s.end s.blocks
   pub fits : s.start + used s.blocks ≤ s.end
   pub out : (a < s.start) ⊎ (s.end ≤ a)
   pub none : has_anchor s.blocks (word_start a) ≡ false
@@ -37,7 +37,7 @@ pub laid_beside : (s : FlexStore) (f : ℕ → ℕ) (a : ℕ) → IsBesideStore 
 unfolding laid_out
 laid_beside s f a b =
     let size : length (text_of s.blocks) ≡ used s.blocks = text_used s.blocks b.whole in
-    anchors_beside b.mapped s.start s.end s.start s.blocks _ a b.words b.none
+    anchors_beside b.mapped s.start s.end s.start s.blocks _ a (outer_words b.mapped s.start s.end s.start s.blocks (omega arith) b.words) b.none
     ∙ bytes_beside f s.start (text_of s.blocks) a (elim b.out [ inl low ↦ inl low | inr high ↦ inr (omega (arith, b.fits, size, high)) ])
 
 -- The byte stays, where it is beside the store that is left.
@@ -82,7 +82,7 @@ module _ (a : ℕ) where
   cleared s f anchor x found b = elim (cases_Bool (has_anchor s.blocks anchor)) [
     | inr none ↦ let lost : find_block anchor s.blocks ≡ None = none_found anchor s.blocks none in absurd (cc)
     | inl has ↦
-        let aligned : anchor % 4 ≡ 0 = (word_of b.mapped s.start s.end s.blocks anchor b.words has).aligned in
+        let aligned : anchor % 4 ≡ 0 = (word_of b.mapped s.start s.end s.blocks anchor (outer_words b.mapped s.start s.end s.start s.blocks (omega arith) b.words) has).aligned in
         word_beside f anchor 0 a (other_word anchor a aligned (λ same.
         both_ways (has_anchor s.blocks anchor) (sym (ap (has_anchor s.blocks) same) ∙ b.none) has))
   ]

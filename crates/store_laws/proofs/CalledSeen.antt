@@ -6,7 +6,7 @@ use Rattle.address_map.specs.Bytes.{in_range, word_start}
 use Rattle.os_heap.proofs.Apart.{range_parts}
 use Rattle.os_heap.specs.Store.{Store, is_in_flex_store}
 use Rattle.flex_ground.specs.Ground.{anchors_in, flex_state, spelled_store}
-use Rattle.flex_store.proofs.Storing.{word_of}
+use Rattle.flex_store.proofs.Words.{outer_words, word_of}
 use Rattle.flex_store.specs.Blocks.{has_anchor}
 use Rattle.flex_store.specs.Calls.{FlexState}
 use Rattle.flex_store.specs.Laws.{HasBlocks, contents_in}
@@ -95,7 +95,8 @@ pub anchor_word : (s : Store) (o : Option Extent) (anchor : ℕ) → IsSpelledAt
 anchor_word s None anchor is some = absurd (false≢true some)
 anchor_word s (Some e) anchor is some =
     let has = some_has anchor (spelled_blocks s e) some in
-    let aligned : anchor % 4 ≡ 0 = (word_of s.bytes.mapped e.start e.end (spelled_blocks s e) anchor is.words has).aligned in
+    let aligned : anchor % 4 ≡ 0 = (word_of s.bytes.mapped e.start e.end (spelled_blocks s e) anchor
+    (outer_words s.bytes.mapped e.start e.end e.start (spelled_blocks s e) (omega arith) is.words) has).aligned in
     let here : word_start anchor ≡ anchor = omega (arith, aligned) in
     (aligned, is.anchors anchor ∙ (ap (has_anchor (spelled_blocks s e)) here ∙ has))
 

@@ -10,7 +10,7 @@ use Rattle.flex_store.proofs.Holding.{holds_kept}
 use Rattle.flex_store.proofs.Lists.{text_used}
 use Rattle.flex_store.specs.Blocks.{Block, has_anchor, is_header, taken, used}
 use Rattle.flex_store.specs.Memory.{AreAnchored, Holds, text_of}
-use Rattle.flex_store.specs.State.{AreAnchorWords, AreWhole, IsFlexRange, is_recorded, is_store_record}
+use Rattle.flex_store.specs.State.{AreOuterWords, AreWhole, IsFlexRange, is_recorded, is_store_record}
 use Rattle.flex_store.specs.declared.flex.Extent.{Extent}
 use Rattle.flex_store.specs.declared.flex.Flex.{Flex}
 use Rattle.instances_ground.specs.Sound.{count_beside}
@@ -34,7 +34,7 @@ recorded_beside (r ∷ rs) start end = elim (cases_Bool (is_image r.kind)) [
 ]
 
 -- the words of anchors
-anchored_same : (mapped : ℕ → Bool) (start end : ℕ) (f g : ℕ → ℕ) (at : ℕ) (bs : List Block) → AreAnchorWords mapped start end bs
+anchored_same : (mapped : ℕ → Bool) (start end : ℕ) (f g : ℕ → ℕ) (at : ℕ) (bs : List Block) → AreOuterWords mapped start end bs
     → ((a : ℕ) → has_anchor bs (word_start a) ≡ true → g a ≡ f a) → AreAnchored f at bs → AreAnchored g at bs
 anchored_same mapped start end f g at [] words same anchored = tt
 anchored_same mapped start end f g at (b ∷ bs) words same anchored =
@@ -61,8 +61,8 @@ kept_spelled s t e is kept mapped =
       range = subst (λ (p : ℕ → Bool). IsFlexRange p e.start e.end) (sym mapped) is.range;
       fits = subst (λ (xs : List Block). e.start + used xs ≤ e.end) (sym same) is.fits;
       whole = subst AreWhole (sym same) is.whole;
-      words = subst (λ (xs : List Block). AreAnchorWords t.bytes.mapped e.start e.end xs) (sym same)
-          (subst (λ (p : ℕ → Bool). AreAnchorWords p e.start e.end bs) (sym mapped) is.words);
+      words = subst (λ (xs : List Block). AreOuterWords t.bytes.mapped e.start e.end xs) (sym same)
+          (subst (λ (p : ℕ → Bool). AreOuterWords p e.start e.end bs) (sym mapped) is.words);
       text = subst (λ (xs : List Block). Holds t.bytes.at e.start (text_of xs)) (sym same) text;
       anchored = subst (λ (xs : List Block). AreAnchored t.bytes.at e.start xs) (sym same) anchored;
       headers = λ a. kept.headers a ∙ (is.headers a ∙ ap (λ (xs : List Block). is_header e.start xs (word_start a)) (sym same));

@@ -15,12 +15,13 @@ use Rattle.flex_kept.specs.Keeping.{AreAnchorsFree, is_in_record}
 use Rattle.flex_ground.specs.Ground.{flex_of, spelled_store, store_flexed}
 use Rattle.flex_store.proofs.Headers.{header_within}
 use Rattle.flex_store.proofs.Keeping.{IsPlace, place_parts}
-use Rattle.flex_store.proofs.Storing.{IsLaid, laid}
-use Rattle.flex_store.proofs.Texts.{text_read, words_within}
+use Rattle.flex_store.proofs.Storing.{IsLaid, laid, laid_text}
+use Rattle.flex_store.proofs.Texts.{text_read}
+use Rattle.flex_store.proofs.Words.{outer_words, outside_inner, outside_of, words_low}
 use Rattle.flex_store.specs.Blocks.{Block, FlexStore, has_anchor, is_header, used}
 use Rattle.flex_store.specs.Calls.{FlexState, is_anchor_place}
 use Rattle.flex_store.specs.Memory.{AreAnchored, Holds, laid_out, text_of}
-use Rattle.flex_store.specs.State.{AreAnchorWords, AreWhole, IsText}
+use Rattle.flex_store.specs.State.{AreAnchorWords, AreOuterWords, AreWhole, IsText}
 use Rattle.flex_store.specs.declared.flex.Extent.{Extent}
 use Rattle.flex_store.specs.declared.flex.Flex.{Flex}
 use Rattle.instances_ground.specs.Sound.{count_beside}
@@ -85,14 +86,22 @@ module _ (s : Store) (e : Extent) (b : IsBefore s e) (bs : List Block) (lie : Ca
   f : Extent
   f = record { start = e.start; end = e.end; used = used bs }
 
+  words : AreAnchorWords s.bytes.mapped e.start e.end bs
+  words = outer_words s.bytes.mapped e.start e.end e.start bs (omega arith) lie.words
+
   there : IsLaid (laid_out e.start bs base) e.start bs
-  there = laid s.bytes.mapped e.start e.end base (laid_out e.start bs base) bs b.ready.spelled.range.start_aligned lie.whole lie.words lie.fits (λ a. refl)
+  there = laid s.bytes.mapped e.start e.end base (laid_out e.start bs base) bs b.ready.spelled.range.start_aligned lie.whole words
+      (outside_inner e.start e.end bs (outside_of s.bytes.mapped e.start e.end bs lie.words)) lie.fits (λ a. refl)
+
+  spells : Holds (laid_out e.start bs base) e.start (text_of bs)
+  spells = laid_text s.bytes.mapped e.start e.end base (laid_out e.start bs base) bs b.ready.spelled.range.start_aligned lie.whole words
+      (outside_of s.bytes.mapped e.start e.end bs lie.words) lie.fits (λ a. refl)
 
   text : (let c : Bytes = record { mapped = s.bytes.mapped; at = laid_out e.start bs base } in IsText c e.start (e.start + used bs) bs)
   text = record {
     whole = lie.whole;
-    words = words_within s.bytes.mapped e.start e.end e.start (e.start + used bs) bs (omega arith) lie.fits lie.words;
-    text = there.text;
+    low = words_low s.bytes.mapped e.start e.end bs words;
+    text = spells;
     length = refl;
     aligned = b.ready.spelled.range.start_aligned;
     mapped = λ a low high. b.ready.spelled.range.there a low (omega (arith, lie.fits, high));
@@ -108,8 +117,8 @@ module _ (s : Store) (e : Extent) (b : IsBefore s e) (bs : List Block) (lie : Ca
     range = b.ready.spelled.range;
     fits = subst (λ (xs : List Block). e.start + used xs ≤ e.end) (sym blocks) lie.fits;
     whole = subst AreWhole (sym blocks) lie.whole;
-    words = subst (λ (xs : List Block). AreAnchorWords s.bytes.mapped e.start e.end xs) (sym blocks) lie.words;
-    text = subst (λ (xs : List Block). Holds (laid_out e.start bs base) e.start (text_of xs)) (sym blocks) there.text;
+    words = subst (λ (xs : List Block). AreOuterWords s.bytes.mapped e.start e.end xs) (sym blocks) lie.words;
+    text = subst (λ (xs : List Block). Holds (laid_out e.start bs base) e.start (text_of xs)) (sym blocks) spells;
     anchored = subst (λ (xs : List Block). AreAnchored (laid_out e.start bs base) e.start xs) (sym blocks) there.anchored;
     headers = λ a. ap (λ (xs : List Block). is_header e.start xs (word_start a)) (sym blocks);
     anchors = λ a. ap (λ (xs : List Block). has_anchor xs (word_start a)) (sym blocks);

@@ -13,11 +13,11 @@ use Rattle.flex_store.proofs.Keeping.{IsPlace, place_parts}
 use Rattle.flex_store.proofs.LawLemmas.{Answers, fit_if, found_anchor, same_answer}
 use Rattle.flex_store.proofs.Lists.{anchor-append, used-append}
 use Rattle.flex_store.proofs.Releasing.{has_without}
-use Rattle.flex_store.proofs.Storing.{word_of}
+use Rattle.flex_store.proofs.Words.{outer_words, word_of}
 use Rattle.flex_store.specs.Blocks.{Block, FlexStore, contents, cut_of, find_block, has_anchor, holding, more_of, new_block, resized, spliced, taken, used, whole_words, with_block, without_block}
 use Rattle.flex_store.specs.Calls.{FlexState, allocated, extended, fitted, is_anchor_place, is_in_store, mid_extended, released, with_blocks, without_anchor}
 use Rattle.flex_store.specs.Memory.{laid_out}
-use Rattle.flex_store.specs.State.{AreAnchorWords, AreWhole, IsAnchorWord}
+use Rattle.flex_store.specs.State.{AreOuterWords, AreWhole, IsAnchorWord}
 use Rattle.flex_store.specs.declared.flex.Extent.{Extent}
 use Rattle.instances_slide.specs.Laws.{AreBytes}
 use Rattle.store_laws.proofs.CalledAnchors.{found_has}
@@ -35,7 +35,7 @@ state_at s e = record { bytes = s.bytes; flex = Some (store_at s e) }
 pub record CanLie (s : Store) (e : Extent) (bs : List Block) : Type 0 where
   pub fits : e.start + used bs ≤ e.end
   pub whole : AreWhole bs
-  pub words : AreAnchorWords s.bytes.mapped e.start e.end bs
+  pub words : AreOuterWords s.bytes.mapped e.start e.end bs
   pub anchors : (p : ℕ) → has_anchor bs p ≡ true → (has_anchor (spelled_blocks s e) p ≡ true) ⊎ (is_anchor_place s p ≡ true)
   pub small : AreSmallBlocks bs
 
@@ -103,15 +103,15 @@ small_found anchor (b ∷ bs) x found all = elim (cases_Bool (nat_eq b.anchor an
 
 -- and of blocks with anchors of their own
 module _ (mapped : ℕ → Bool) (start end : ℕ) where
-  words_append : (bs : List Block) (b : Block) → AreAnchorWords mapped start end bs → IsAnchorWord mapped start end b.anchor → has_anchor bs b.anchor ≡ false
-      → AreAnchorWords mapped start end (bs ++ b ∷ [])
+  words_append : (bs : List Block) (b : Block) → AreOuterWords mapped start end bs → IsAnchorWord mapped start end b.anchor → has_anchor bs b.anchor ≡ false
+      → AreOuterWords mapped start end (bs ++ b ∷ [])
   words_append [] b words own none = ((own, refl), tt)
   words_append (x ∷ bs) b words own none =
       let parts = or_parts (nat_eq b.anchor x.anchor) (has_anchor bs b.anchor) none in
       let turned : nat_eq x.anchor b.anchor ≡ false = grind (arith, nat_tests, parts.0) in
       ((words.0.0, rw (anchor-append bs (b ∷ []) x.anchor, words.0.1, turned) refl), words_append bs b words.1 own parts.1)
 
-  words_without : (anchor : ℕ) (bs : List Block) → AreAnchorWords mapped start end bs → AreAnchorWords mapped start end (without_block anchor bs)
+  words_without : (anchor : ℕ) (bs : List Block) → AreOuterWords mapped start end bs → AreOuterWords mapped start end (without_block anchor bs)
   words_without anchor [] words = tt
   words_without anchor (x ∷ bs) words = elim (cases_Bool (nat_eq x.anchor anchor)) [
     | inl here ↦ rw here words.1
@@ -121,8 +121,8 @@ module _ (mapped : ℕ → Bool) (start end : ℕ) where
         rw other ((words.0.0, apart), words_without anchor bs words.1)
   ]
 
-  words_with : (anchor : ℕ) (new : Block) (bs : List Block) → new.anchor ≡ anchor → AreAnchorWords mapped start end bs
-      → AreAnchorWords mapped start end (with_block anchor new bs)
+  words_with : (anchor : ℕ) (new : Block) (bs : List Block) → new.anchor ≡ anchor → AreOuterWords mapped start end bs
+      → AreOuterWords mapped start end (with_block anchor new bs)
   words_with anchor new [] same words = tt
   words_with anchor new (x ∷ bs) same words = elim (cases_Bool (nat_eq x.anchor anchor)) [
     | inl here ↦
@@ -266,7 +266,7 @@ module _ (s : Store) (e : Extent) (r : IsReady s e) where
   away anchor a x found none =
       let bs : List Block = spelled_blocks s e in
       let has : has_anchor bs anchor ≡ true = found_has anchor bs x found in
-      let aligned : anchor % 4 ≡ 0 = (word_of s.bytes.mapped e.start e.end bs anchor r.spelled.words has).aligned in
+      let aligned : anchor % 4 ≡ 0 = (word_of s.bytes.mapped e.start e.end bs anchor (outer_words s.bytes.mapped e.start e.end e.start bs (omega arith) r.spelled.words) has).aligned in
       word_beside s.bytes.at anchor 0 a (other_word anchor a aligned (λ same.
       both_ways (has_anchor bs anchor) (sym (ap (has_anchor bs) same) ∙ none) has))
 
