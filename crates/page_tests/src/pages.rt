@@ -164,6 +164,20 @@ fn a_module_and_its_word(rt: HostRuntime) {
 }
 
 #[test]
+fn a_module_of_another_length_was_replaced(rt: HostRuntime) {
+    let script =
+        "ASM w 0\n        DCD     0,0,0,0,title,0,0\ntitle   DCB     \"W\",0\nEND\nASM v 0\n        DCD     0,0,0,0,title,0,0,0\ntitle   DCB     \"W\",0\nEND\nLOAD w\nMODULES\nLOAD v\nMODULES\n";
+    let written = page(&rt, script, Form::Text);
+    assert!(rt;
+        has(
+            written.bytes(),
+            b"module W at 0180003C length 34\n".as_slice()
+        )
+    );
+    assert!(rt; has(written.bytes(), b"0180003C module replaced\n".as_slice()));
+}
+
+#[test]
 fn what_the_guest_prints_stands_apart(rt: HostRuntime) {
     let script = "HEX p\n41 00 A0 E3 00 00 00 EF 11 00 00 EF\nEND\nBOOT p\nRUN\n";
     let written = page(&rt, script, Form::Text);
