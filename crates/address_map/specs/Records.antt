@@ -1,7 +1,7 @@
 -- The record of the ranges that the store calls use, and the marks of the words that only store calls may write: descriptors, lengths and
 -- links of heaps, headers of flex blocks, and anchors.
-use Rattle.std.specs.Prelude.{ℕ, zero, suc, ◌≡◌, ◌≢◌, ◌≤◌, ◌<◌, Bool, true, false, ◌||◌, ◌+◌, ◌%◌, ◌^◌, ◌&&◌, List, [], ◌∷◌, ◌++◌, if◌then◌else◌, ◌==◌, Option, Some, None, is_some}
-use Rattle.std.specs.List.{list_any}
+use Rattle.std.specs.Prelude.{ℕ, zero, suc, ◌≡◌, ◌≢◌, ◌≤◌, ◌<◌, Bool, true, false, not, ◌||◌, ◌+◌, ◌%◌, ◌^◌, ◌&&◌, List, [], ◌∷◌, ◌++◌, if◌then◌else◌, ◌==◌, Option, Some, None, is_some}
+use Rattle.std.specs.List.{filter, list_any}
 use Rattle.address_map.specs.declared.class.Class.{Class}
 use Rattle.address_map.specs.declared.class.Class.TheVariants as class
 use Rattle.address_map.specs.declared.region.Kind.{Kind}
@@ -85,6 +85,18 @@ with_len [] kind at len = []
 with_len (region ∷ regions) kind at len = if is_record kind at region
     then record { kind = region.kind; at = region.at; len = len } ∷ regions
     else region ∷ with_len regions kind at len
+
+-- is a record that of a heap which a guest has made, and which starts among the `len` bytes from `at` on?
+abbrev pub is_guest_heap : Kind → Bool
+is_guest_heap kind.Heap = true
+is_guest_heap other = false
+
+abbrev pub starts_heap : ℕ → ℕ → Region → Bool
+starts_heap at len region = is_guest_heap region.kind && in_range at len region.at
+
+-- the record without these
+abbrev pub without_heaps : ℕ → ℕ → List Region → List Region
+without_heaps at len regions = filter (λ region. not (starts_heap at len region)) regions
 
 -- Is one of the `len` bytes from `at` on an anchor's? `anchor` tells of each byte whether it is.
 unfoldable pub anchor_among : (ℕ → Bool) → ℕ → ℕ → Bool

@@ -1,10 +1,11 @@
 ghost use Rattle.std.specs.Prelude.{◌≡◌, ◌<◌, ◌%◌, ◌++◌, ◌∷◌, [], ℕ, true, false, IsTrue, length, slice_set, MatchOption};
-ghost use Rattle.address_map.specs.Records.{IsRegion, meets_record, with_region, without_region, with_len, is_word_kind, with_class, with_mark, without_mark};
+ghost use Rattle.address_map.specs.Records.{IsRegion, meets_record, with_region, without_heaps, without_region, with_len, is_word_kind, with_class, with_mark, without_mark};
 ghost use Rattle.std.specs.List.{remove};
 
 use crate::class::Class;
 use crate::map::AddressMap;
 use crate::region::{Kind, Region, do_meet};
+use arrayvec::ArrayVec;
 
 impl AddressMap {
     ghost use Rattle.address_map.specs.Memory.{is_mapped, byte_at, mapping, regions, class_of};
@@ -101,6 +102,24 @@ impl AddressMap {
         if let Some(index) = self.record_index(kind, at) {
             self.regions.remove(index);
         }
+    }
+
+    /// Takes away the records of all heaps of guests that start among the `len` bytes from `at` on. No byte is changed and no mark, and the
+    /// other records keep their order.
+    #[tactic(auto, unfolding(crate::specs::Memory::regions, crate::specs::Memory::place, crate::specs::Memory::byte_at, crate::specs::Memory::free_pages, crate::specs::Memory::class_of))]
+    pub fn forget_heaps(&mut self, at: u32, len: u32)
+        ensures regions { regions self.new ≡ without_heaps at len (regions self.old) }
+        ensures mapping { mapping self.new ≡ mapping self.old }
+        ensures bytes { byte_at self.new ≡ byte_at self.old }
+        ensures marks { class_of self.new ≡ class_of self.old }
+    {
+        let mut left = ArrayVec::new();
+        for region in self.regions.as_slice() {
+            if !region.starts_heap(at, len) {
+                left.push(*region);
+            }
+        }
+        self.regions = left;
     }
 
     /// Gives the first record of that kind that starts at `at`, if there is one, another length. No byte is changed, and the records keep

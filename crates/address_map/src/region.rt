@@ -1,6 +1,6 @@
 ghost use Rattle.std.specs.Prelude.{◌≡◌};
 ghost use Rattle.address_map.specs.Bytes.{meets};
-ghost use Rattle.address_map.specs.Records.{is_heap_kind, is_record, mark_of};
+ghost use Rattle.address_map.specs.Records.{is_heap_kind, is_record, mark_of, starts_heap};
 
 use crate::class::Class;
 
@@ -62,6 +62,13 @@ impl Region {
         ensures { result ≡ is_record kind at self.now }
     {
         kind.mark().is_none() && self.kind == kind && self.at == at
+    }
+
+    /// Whether this is the record of a heap that a guest has made, and which starts among the `len` bytes from `at` on.
+    pub fn starts_heap(&self, at: u32, len: u32) -> bool
+        ensures { result ≡ starts_heap at len self.now }
+    {
+        matches!(self.kind, Kind::Heap) && self.at >= at && self.at - at < len
     }
 }
 

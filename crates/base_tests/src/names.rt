@@ -3,7 +3,7 @@ use profile::{ErrorNumber, Fault, ReadFault, SwiName, WriteFault, error_text};
 use std::test::Fail;
 
 /// The errors of the store calls, each with its number and its text.
-static ERRORS: [(ErrorNumber, u32, &[u8]); 35] = [
+static ERRORS: [(ErrorNumber, u32, &[u8]); 38] = [
     (ErrorNumber::HeapBadReason, 1, b"HeapBadReason"),
     (ErrorNumber::HeapBadDesc, 2, b"HeapBadDesc"),
     (ErrorNumber::HeapBadRegion, 3, b"HeapBadRegion"),
@@ -13,6 +13,7 @@ static ERRORS: [(ErrorNumber, u32, &[u8]); 35] = [
     (ErrorNumber::HeapHoldsAnchor, 7, b"HeapHoldsAnchor"),
     (ErrorNumber::HeapBadShrink, 8, b"HeapBadShrink"),
     (ErrorNumber::HeapNoRoom, 9, b"HeapNoRoom"),
+    (ErrorNumber::BlockHoldsHeap, 10, b"BlockHoldsHeap"),
     (ErrorNumber::AreaBadReason, 16, b"AreaBadReason"),
     (ErrorNumber::AreaUnknown, 17, b"AreaUnknown"),
     (ErrorNumber::AreaBad, 18, b"AreaBad"),
@@ -23,6 +24,7 @@ static ERRORS: [(ErrorNumber, u32, &[u8]); 35] = [
     (ErrorNumber::RmaNotABlock, 32, b"RmaNotABlock"),
     (ErrorNumber::RmaHoldsAnchor, 33, b"RmaHoldsAnchor"),
     (ErrorNumber::RmaNoRoom, 34, b"RmaNoRoom"),
+    (ErrorNumber::RmaBlockHoldsHeap, 35, b"BlockHoldsHeap"),
     (ErrorNumber::ModuleBadHeader, 48, b"ModuleBadHeader"),
     (ErrorNumber::ModuleBadReason, 49, b"ModuleBadReason"),
     (ErrorNumber::ModuleNotFound, 50, b"ModuleNotFound"),
@@ -36,6 +38,7 @@ static ERRORS: [(ErrorNumber, u32, &[u8]); 35] = [
     (ErrorNumber::FlexBadRange, 66, b"FlexBadRange"),
     (ErrorNumber::FlexBadAnchor, 67, b"FlexBadAnchor"),
     (ErrorNumber::FlexAnchorInUse, 68, b"FlexAnchorInUse"),
+    (ErrorNumber::FlexHoldsAnchor, 69, b"FlexHoldsAnchor"),
     (ErrorNumber::SwiUnknown, 80, b"SwiUnknown"),
     (ErrorNumber::BadString, 81, b"BadString"),
     (ErrorNumber::BadPointer, 82, b"BadPointer"),

@@ -71,8 +71,11 @@ pub fn run_script<R: Source, W: Sink>(
     ensures pulls { PullsAtMost (R.pulls reader.old) (R.pulls reader.new) 1048577 }
 {
     let script = read_script(alloc, reader)?;
-    let mut session = Session::new(alloc, config, budget)?;
-    run_lines(&mut session, images, writer, script.as_slice())?;
+    let mut made = Session::new(alloc, config, budget);
+    let Ok(session) = &mut made else {
+        return Err(RunError::Memory);
+    };
+    run_lines(session, images, writer, script.as_slice())?;
     Ok(Summary {
         last: session.last(),
         left: session.left(),

@@ -37,7 +37,9 @@ impl Session {
         ensures { IfOk result (λ session. (images : List Entry)
             → script_state session images ≡ start_state config images budget) }
     {
-        let machine = Machine::new(alloc, config)?;
+        let Ok(machine) = Machine::new(alloc, config) else {
+            return Err(AllocError);
+        };
         Ok(Session {
             alloc,
             machine,

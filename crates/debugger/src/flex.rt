@@ -1,10 +1,10 @@
-ghost use Rattle.std.specs.Prelude.{◌≡◌, [], IfOk, is_some, unwrap_or};
-ghost use Rattle.std.specs.List.{flat_map};
+ghost use Rattle.std.specs.Prelude.{◌≡◌, ◌+◌, ◌&&◌, nat_le, ◌++◌, [], IfOk, is_some, unwrap_or};
 ghost use Rattle.address_map.specs.Memory.{bytes_of};
-ghost use Rattle.swi_dispatch.specs.flex_store.specs.State.{IsFlex};
+ghost use Rattle.swi_dispatch.specs.flex_store.specs.Listed.{all_listed};
+ghost use Rattle.swi_dispatch.specs.flex_store.specs.State.{flex_in, IsFlex};
 ghost use Rattle.profile.specs.Output.{Writes};
 ghost use Rattle.swi_dispatch.specs.Parts.{state_of};
-ghost use Rattle.debugger.specs.Flex.{block_text, flex_text, range_text};
+ghost use Rattle.debugger.specs.Flex.{blocks_text, flex_text, holder_in, holder_text, own_text, range_text};
 
 use address_map::AddressMap;
 use itoa::Buffer;
@@ -13,7 +13,8 @@ use swi_dispatch::Machine;
 use swi_dispatch::flex_store::{Flex, FlexBlock, FlexBlocks};
 
 /// Writes the flex store, `flex 0000A000 0000A400 used 48`, and its blocks by address, as `block anchor
-/// 00009000 at 0000A008 size 10`. Answers whether there is a store; nothing is written where there is none.
+/// 00009000 at 0000A008 size 10`, and ` in 0000A008 offset 8` at the end where the anchor lies in the bytes of a
+/// block. Answers whether there is a store; nothing is written where there is none.
 pub fn show_flex<W: Sink>(machine: &Machine, sink: &mut W) -> Result<bool, WriteFault>
     ensures found { let s = state_of machine.now in
         IfOk result (λ is_there. is_there ≡ is_some (flex_text s.store.bytes s.tables.flex)) }
@@ -34,7 +35,7 @@ fn show_store<W: Sink>(flex: &Flex, memory: &AddressMap, sink: &mut W) -> Result
         return Ok(false);
     };
     show_range(start, end, used, sink)?;
-    show_all(flex.blocks(memory), sink)?;
+    show_all(flex, memory, sink)?;
     Ok(true)
 }
 
@@ -59,18 +60,54 @@ fn show_range<W: Sink>(start: u32, end: u32, used: u32, sink: &mut W) -> Result<
 
 // A line for each block.
 #[tactic(auto, using(profile::proofs::OutputLemmas::output_steps))]
-fn show_all<W: Sink>(blocks: FlexBlocks, sink: &mut W) -> Result<(), WriteFault>
-    ensures { Writes W.contents W.has_failed sink.old sink.new result (flat_map block_text blocks.entry) }
+fn show_all<W: Sink>(flex: &Flex, memory: &AddressMap, sink: &mut W) -> Result<(), WriteFault>
+    requires { IsFlex memory.now flex.now }
+    ensures { Writes W.contents W.has_failed sink.old sink.new result
+        (blocks_text (all_listed (flex_in memory.now flex.now.extent))) }
 {
-    let mut rest = blocks;
+    let mut rest = flex.blocks(memory);
     while let Some(block) = rest.next() {
-        show_block(&block, sink)?;
+        let holder = find_holder(flex.blocks(memory), block.anchor);
+        show_block(&block, holder, sink)?;
     }
     Ok(())
 }
 
-fn show_block<W: Sink>(block: &FlexBlock, sink: &mut W) -> Result<(), WriteFault>
-    ensures { Writes W.contents W.has_failed sink.old sink.new result (block_text block.now) }
+// The block whose bytes hold the word at an address.
+fn find_holder(blocks: FlexBlocks, address: u32) -> Option<FlexBlock>
+    ensures { result ≡ holder_in address blocks.entry }
+{
+    let mut rest = blocks;
+    while let Some(block) = rest.next() {
+        if holds(&block, address) {
+            return Some(block);
+        }
+    }
+    None
+}
+
+fn holds(block: &FlexBlock, address: u32) -> bool
+    ensures { result ≡ (nat_le block.now.at address
+        && nat_le (address + 4) (block.now.at + block.now.size)) }
+{
+    let end = u64::from(block.at) + u64::from(block.size);
+    block.at <= address && u64::from(address) + 4 <= end
+}
+
+fn show_block<W: Sink>(
+    block: &FlexBlock,
+    holder: Option<FlexBlock>,
+    sink: &mut W,
+) -> Result<(), WriteFault>
+    ensures { Writes W.contents W.has_failed sink.old sink.new result
+        (own_text block.now ++ holder_text block.now.anchor holder) }
+{
+    show_own(block, sink)?;
+    show_holder(block.anchor, holder, sink)
+}
+
+fn show_own<W: Sink>(block: &FlexBlock, sink: &mut W) -> Result<(), WriteFault>
+    ensures { Writes W.contents W.has_failed sink.old sink.new result (own_text block.now) }
 {
     let mut size = Buffer::new();
     push_parts(
@@ -82,6 +119,29 @@ fn show_block<W: Sink>(block: &FlexBlock, sink: &mut W) -> Result<(), WriteFault
             HexText::word(block.at).as_slice(),
             b" size ".as_slice(),
             size.format(block.size).as_bytes(),
+        ],
+    )
+}
+
+// Where the anchor is, and the end of the line.
+fn show_holder<W: Sink>(
+    anchor: u32,
+    holder: Option<FlexBlock>,
+    sink: &mut W,
+) -> Result<(), WriteFault>
+    ensures { Writes W.contents W.has_failed sink.old sink.new result (holder_text anchor holder) }
+{
+    let Some(block) = holder else {
+        return push_parts(sink, &[b"\n".as_slice()]);
+    };
+    let mut offset = Buffer::new();
+    push_parts(
+        sink,
+        &[
+            b" in ".as_slice(),
+            HexText::word(block.at).as_slice(),
+            b" offset ".as_slice(),
+            offset.format(anchor.saturating_sub(block.at)).as_bytes(),
             b"\n".as_slice(),
         ],
     )

@@ -1,23 +1,26 @@
 -- After calls on the heaps the areas stand as they stood: a heap call changes no mapping and no other record, and the module area's heap keeps its end.
 use Rattle.std.proofs.Common.{◌≡◌, ℕ, ◌+◌, ◌-◌, ◌*◌, ◌%◌, ◌==◌, ◌&&◌, Bool, true, false, List, [], ◌∷◌, ◌++◌, refl, sym, ap, subst, ◌∙◌, Some, None, Ok, Err, inl, inr, arith}
-use Rattle.std.specs.Prelude.{Option, Result, ok_or, is_some, nat_le, nat_lt}
+use Rattle.std.specs.Prelude.{if◌then◌else◌, Option, Result, ok_or, is_some, nat_le, nat_lt}
 use Rattle.std.proofs.lemmas.Bool.{cases_Bool, eqb-true, eq-eqb, false≢true}
 use Rattle.profile.specs.Outcome.{bind, Gives}
 use Rattle.profile.specs.declared.error.ErrorNumber.{ErrorNumber}
-use Rattle.profile.specs.declared.error.ErrorNumber.TheVariants.{HeapBadDesc}
+use Rattle.profile.specs.declared.error.ErrorNumber.TheVariants.{BlockHoldsHeap, HeapBadDesc, HeapHoldsAnchor, HeapNoRoom, HeapNotABlock}
 use Rattle.address_map.specs.Bytes.{Bytes, in_range, AreMapped}
 use Rattle.address_map.specs.Memory.{Layout, Mapping, bytes_of, regions, layout, mapping, is_mapped, place, free_pages}
-use Rattle.address_map.specs.Records.{is_heap_kind}
+use Rattle.address_map.specs.Records.{anchor_among, is_heap_kind}
 use Rattle.address_map.specs.declared.map.AddressMap.{AddressMap}
 use Rattle.address_map.specs.declared.region.Kind.TheVariants.{Heap}
+use Rattle.address_map.specs.declared.item.Item.{Item}
 use Rattle.address_map.specs.declared.region.Region.{Region}
 use Rattle.address_map.specs.Items.{size_of}
 use Rattle.os_heap.specs.os_heap_lists.specs.Heap.{HeapList}
-use Rattle.os_heap.specs.os_heap_lists.specs.Lists.{changed_by}
-use Rattle.os_heap.specs.Store.{Store, store_of, heap_in, heaps_in, others_in, IsSound, find_heap, guest_count}
-use Rattle.os_heap.specs.Ranges.{is_heap_region, meets_any}
-use Rattle.os_heap.specs.Calls.{with_end, begun, changed, has_own_size, own_size, end_changed}
+use Rattle.os_heap.specs.os_heap_lists.specs.Lists.{Claim, changed_by, claimed, live_total, released, resized_in_place, round_up_8}
+use Rattle.os_heap.specs.Store.{Store, store_of, heap_in, heaps_in, others_in, IsSound, find_heap, guest_count, has_image}
+use Rattle.os_heap.specs.Ranges.{is_heap_region, overgrows, overlaps}
+use Rattle.os_heap.specs.Calls.{with_end, begun, changed, copied, gave_back, handed_over, has_own_size, holding, holds_anchor, moved, own_size, end_changed, resized, resized_or_moved, total_or_0, unless_image, with_items}
+use Rattle.os_heap.specs.Forgetting.{forgot, holds_heap, lowest_lost, starts_in, without_heaps}
 use Rattle.os_heap.proofs.Found.{found_start}
+use Rattle.os_heap.proofs.Nesting.{listed}
 use Rattle.dynamic_areas.specs.declared.area.Area.{Area}
 use Rattle.dynamic_areas.specs.Areas.{Land, pages_of}
 use Rattle.dynamic_areas.specs.Ground.{AreAreas, EndsWithArea, pool_of}
@@ -102,7 +105,7 @@ unfolding begun
 begun_keeps s at size =
     elim (cases_Bool (is_heap_region s.bytes at size)) [
       | inr bad ↦ rw bad tt
-      | inl good ↦ elim (cases_Bool (meets_any at size s)) [
+      | inl good ↦ elim (cases_Bool (overlaps at size s)) [
         | inl met ↦ rw (good, met) tt
         | inr clear ↦ elim (cases_Bool (nat_le 64 (guest_count s.heaps))) [
           | inl full ↦ rw (good, clear, full) tt
@@ -146,7 +149,7 @@ ended_keeps : (s : Store) (h : HeapList) (change end : ℕ) → KeepsEnd s.heaps
 ended_keeps s h change end kept =
     elim (cases_Bool (change % 4 == 0 && is_heap_region s.bytes h.start end)) [
       | inr bad ↦ rw bad tt
-      | inl good ↦ elim (cases_Bool (nat_lt h.end end && meets_any (h.start + h.end) (end - h.end) s)) [
+      | inl good ↦ elim (cases_Bool (overgrows s h end)) [
         | inl met ↦ rw (good, met) tt
         | inr clear ↦ elim (cases_Bool (nat_lt end (16 + size_of h.items))) [
           | inl low ↦ rw (good, clear, low) tt
@@ -168,6 +171,92 @@ changed_keeps : (s : Store) (heap change : ℕ) → KeepsBy s (changed s heap ch
 unfolding changed
 changed_keeps s heap change = changed_found s heap change (find_heap heap s.heaps) refl
 
+-- calls that give a block back, or change its size: the module area is no heap that is forgotten, and a heap's list changes neither kind nor end
+listed_end : (start : ℕ) (items : List Item) (hs : List HeapList) → KeepsEnd hs (with_items start items hs)
+listed_end start items [] area ends = ends
+listed_end start items (g ∷ hs) area ends = elim (cases_Bool (g.start == 0x01800000)) [
+  | inl here ↦ elim (cases_Bool (g.start == start)) [
+    | inl this ↦ (let e = rw here at ends in rw (this, here) (same_end g (listed g items) area refl refl e))
+    | inr apart ↦ (let e = rw here at ends in rw (apart, here) e)
+  ]
+  | inr other ↦ elim (cases_Bool (g.start == start)) [
+    | inl this ↦ (let e = rw other at ends in rw (this, other) (listed_end start items hs area e))
+    | inr apart ↦ (let e = rw other at ends in rw (apart, other) (listed_end start items hs area e))
+  ]
+]
+
+area_stays : (at len : ℕ) (g : HeapList) (area : Option Area) → EndsWithArea (Some g) area → starts_in at len g ≡ false
+area_stays at len g None ends = absurd ends
+area_stays at len g (Some a) ends = rw ends.0 refl
+
+left_end : (at len : ℕ) (hs : List HeapList) → KeepsEnd hs (without_heaps at len hs)
+left_end at len [] area ends = ends
+left_end at len (g ∷ hs) area ends = elim (cases_Bool (g.start == 0x01800000)) [
+  | inl here ↦ (let e = rw here at ends in rw (area_stays at len g area e, here) e)
+  | inr other ↦
+      let rest : EndsWithArea (find_heap 0x01800000 (without_heaps at len hs)) area = left_end at len hs area (let e = rw other at ends in e) in
+      elim (cases_Bool (starts_in at len g)) [ inl gone ↦ rw gone rest | inr kept ↦ rw (kept, other) rest ]
+]
+
+forgot_end : (s : Store) (h : HeapList) (block total from : ℕ) (items : List Item) → KeepsEnd s.heaps (holding (forgot s block total from) h items).heaps
+forgot_end s h block total from items area ends =
+    listed_end h.start items (forgot s block total from).heaps area
+    (left_end (lowest_lost block (total - 4) from s.heaps) (block - 4 + total - lowest_lost block (total - 4) from s.heaps) s.heaps area ends)
+
+keeps_some : (A U : Type 0) (s : Store) (o : Option A) (e : ErrorNumber) (next : A → Result (Store × U) ErrorNumber) → ((x : A) → KeepsBy s (next x))
+    → KeepsBy s (bind (ok_or o e) next)
+keeps_some A U s None e next each = tt
+keeps_some A U s (Some x) e next each = each x
+
+keeps_if : (U : Type 0) (s : Store) (b : Bool) (e : ErrorNumber) (r : Result (Store × U) ErrorNumber) → KeepsBy s r → KeepsBy s (if b then Err e else r)
+keeps_if U s true e r keeps = tt
+keeps_if U s false e r keeps = keeps
+
+keeps_answer : (U V : Type 0) (s : Store) (r : Result (Store × U) ErrorNumber) (answer : V) → KeepsBy s r → KeepsBy s (bind r (λ x. Ok (x.0, answer)))
+keeps_answer U V s (Ok x) answer keeps = keeps
+keeps_answer U V s (Err e) answer keeps = tt
+
+keeps_after : (U : Type 0) (s u : Store) (r : Result (Store × U) ErrorNumber) → KeepsEnd s.heaps u.heaps → KeepsBy u r → KeepsBy s r
+keeps_after U s u (Ok x) before after = λ area ends. after area (before area ends)
+keeps_after U s u (Err e) before after = tt
+
+gave_keeps : (s : Store) (heap block : ℕ) → KeepsBy s (gave_back s heap block)
+unfolding gave_back
+gave_keeps s heap block =
+    keeps_some HeapList (Unit {0}) s (find_heap heap s.heaps) HeapBadDesc _ (λ h.
+    keeps_some (List Item) (Unit {0}) s (unless_image (has_image block s.others) (released block (h.start + 16) h.items)) HeapNotABlock _ (λ items.
+    let total : Option ℕ = live_total block (h.start + 16) h.items in
+    keeps_if (Unit {0}) s (holds_anchor s.anchor block total) HeapHoldsAnchor (Ok (holding (forgot s block (total_or_0 total) block) h items, tt))
+    (forgot_end s h block (total_or_0 total) block items)))
+
+moved_keeps : (s : Store) (h : HeapList) (block old new : ℕ) → KeepsBy s (moved s h block old new)
+moved_keeps s h block old new =
+    keeps_some Claim ℕ s (claimed new (h.end - 16) h.items) HeapNoRoom _ (λ c.
+    let at : ℕ = h.start + 16 + c.offset + 4 in
+    let u : Store = copied (holding s h c.items) block at (old - 4) in
+    keeps_if ℕ s (holds_heap s.heaps block (old - 4)) BlockHoldsHeap (handed_over h.start block (old - 4) (holding s h c.items) at)
+    (keeps_answer (Unit {0}) ℕ s (gave_back u h.start block) at
+    (keeps_after (Unit {0}) s u (gave_back u h.start block) (listed_end h.start c.items s.heaps) (gave_keeps u h.start block))))
+
+sized_keeps : (s : Store) (h : HeapList) (block old new : ℕ) (o : Option (List Item)) → KeepsBy s (resized_or_moved s h block old new o)
+sized_keeps s h block old new (Some items) =
+    keeps_if ℕ s (anchor_among s.anchor (block - 4 + new) (old - new)) HeapHoldsAnchor (Ok (holding (forgot s block old (block - 4 + new)) h items, block))
+    (forgot_end s h block old (block - 4 + new) items)
+sized_keeps s h block old new None =
+    keeps_if ℕ s (holds_anchor s.anchor block (Some old)) HeapHoldsAnchor (moved s h block old new) (moved_keeps s h block old new)
+
+resized_keeps : (s : Store) (heap block change : ℕ) → KeepsBy s (resized s heap block change)
+unfolding resized
+resized_keeps s heap block change =
+    keeps_some HeapList ℕ s (find_heap heap s.heaps) HeapBadDesc _ (λ h.
+    keeps_some ℕ ℕ s (unless_image (has_image block s.others) (live_total block (h.start + 16) h.items)) HeapNotABlock _ (λ old.
+    let sum : ℕ = changed_by old change in
+    let new : ℕ = round_up_8 sum in
+    elim (cases_Bool (nat_le sum 4)) [
+      | inl few ↦ rw few (keeps_answer (Unit {0}) ℕ s (gave_back s heap block) 0 (gave_keeps s heap block))
+      | inr more ↦ rw more (sized_keeps s h block old new (resized_in_place block (h.start + h.end) new (h.start + 16) h.items))
+    ]))
+
 -- OS_Heap's calls that change a record
 module _ (m n : AddressMap) (l : Land) (areas : AreAreas (store_of m) (free_pages m) l) (sound : IsSound (store_of n))
     (others : (store_of n).others ≡ (store_of m).others) (same : mapping n ≡ mapping m) where
@@ -188,6 +277,16 @@ module _ (m n : AddressMap) (l : Land) (areas : AreAreas (store_of m) (free_page
       → AreAreas (store_of n) (free_pages n) l
   areas_changed heap change answer given =
       areas_mapped (keeps_given (store_of m) (store_of n) (changed (store_of m) heap change) answer (changed_keeps (store_of m) heap change) given)
+
+  pub areas_freed : (heap block : ℕ) (answer : Result (Unit {0}) ErrorNumber) → Gives (store_of m) (gave_back (store_of m) heap block) answer (store_of n)
+      → AreAreas (store_of n) (free_pages n) l
+  areas_freed heap block answer given =
+      areas_mapped (keeps_given (store_of m) (store_of n) (gave_back (store_of m) heap block) answer (gave_keeps (store_of m) heap block) given)
+
+  pub areas_resized : (heap block change : ℕ) (answer : Result ℕ ErrorNumber)
+      → Gives (store_of m) (resized (store_of m) heap block change) answer (store_of n) → AreAreas (store_of n) (free_pages n) l
+  areas_resized heap block change answer given =
+      areas_mapped (keeps_given (store_of m) (store_of n) (resized (store_of m) heap block change) answer (resized_keeps (store_of m) heap block change) given)
 
 -- the system pages are mapped
 pub system_mapped : (s : Store) (free : ℕ) (l : Land) → AreAreas s free l → (a : ℕ) → in_range 0x01C00000 0x3000 a ≡ true → s.bytes.mapped a ≡ true

@@ -1,7 +1,6 @@
 -- The pages at an area's top that can go have no byte of a recorded range.
 use Rattle.std.proofs.Common.{◌≡◌, ◌≢◌, ℕ, ◌+◌, ◌-◌, ◌*◌, ◌/◌, ◌<◌, ◌≤◌, Bool, false, suc, zero, inl, inr, arith}
-use Rattle.std.specs.List.{list_any}
-use Rattle.std.proofs.lemmas.Bool.{cases_Bool, cases_lt, ne_eqb, or_parts}
+use Rattle.std.proofs.lemmas.Bool.{cases_Bool, cases_lt, ne_eqb}
 use Rattle.os_heap.specs.Store.{Store, IsClearOfHeaps}
 use Rattle.address_map.proofs.Anchors.{among_none, none_among}
 use Rattle.address_map.specs.Records.{anchor_among}

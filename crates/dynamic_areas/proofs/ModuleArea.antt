@@ -1,5 +1,5 @@
 -- The module area's heap where its area grows or shrinks.
-use Rattle.std.proofs.Common.{◌≡◌, ℕ, ◌+◌, ◌-◌, ◌*◌, ◌%◌, ◌<◌, ◌≤◌, ◌==◌, Bool, true, false, List, [], ◌∷◌, refl, sym, ap, ◌∙◌, Some, None, inl, inr, arith}
+use Rattle.std.proofs.Common.{◌≡◌, ℕ, ◌+◌, ◌-◌, ◌*◌, ◌%◌, ◌≤◌, ◌==◌, Bool, true, false, List, [], ◌∷◌, refl, sym, ap, ◌∙◌, Some, None, inl, inr, arith}
 use Rattle.std.specs.Prelude.{Option}
 use Rattle.std.specs.List.{list_any}
 use Rattle.std.proofs.lemmas.Bool.{cases_Bool, cases_lt, cases_eq, eqb-true, eq-eqb, lt-ltb, le-ltb, ltb-false, and_parts, false≢true, false_from_ne_true}
@@ -10,11 +10,13 @@ use Rattle.address_map.specs.Records.{anchor_among}
 use Rattle.address_map.specs.Bytes.{Bytes, in_range, meets, AreMapped, AreUnmapped}
 use Rattle.address_map.specs.Items.{size_of}
 use Rattle.os_heap.specs.os_heap_lists.specs.Heap.{HeapList, IsHeapIn}
-use Rattle.os_heap.specs.Store.{Store, IsSound, IsClearOfHeaps, AreClear, find_heap}
-use Rattle.os_heap.specs.Ranges.{is_heap_region, meets_any, MayEnd}
+use Rattle.os_heap.specs.Store.{Store, IsSound, IsClearOfHeaps, find_heap, is_area}
+use Rattle.os_heap.specs.Ranges.{is_heap_region, is_in_heap, is_obstructed, MayEnd}
 use Rattle.os_heap.specs.Calls.{ending, with_end, MayEndArea, IsAreaEnded}
 use Rattle.os_heap.proofs.Added.{region_tested}
+use Rattle.os_heap.proofs.Beside.{area_alone, grown_alone}
 use Rattle.os_heap.proofs.Found.{found_heap, found_start}
+use Rattle.os_heap.proofs.Stores.{AreOthers, are_others}
 use Rattle.dynamic_areas.specs.declared.area.Area.{Area}
 use Rattle.dynamic_areas.specs.Areas.{Land, find_area, with_areas, with_pages, paged}
 use Rattle.dynamic_areas.specs.Changing.{AreRangesClear, heap_base, must_stay, loose_pages, ended_by}
@@ -70,9 +72,11 @@ unmet_ranges : (at len : ℕ) (rs : List Region) → AreRangesClear at len rs �
 unmet_ranges at len [] clear = refl
 unmet_ranges at len (r ∷ rs) clear = rw (unmet at len r.at r.len clear.0, unmet_ranges at len rs clear.1) refl
 
-unmet_any : (s : Store) (at len : ℕ) → IsClearOfHeaps at len s.heaps → AreRangesClear at len s.others → anchor_among s.anchor at len ≡ false
-    → meets_any at len s ≡ false
-unmet_any s at len heaps ranges anchors = rw (unmet_heaps at len s.heaps heaps, unmet_ranges at len s.others ranges, anchors) refl
+-- nothing is in the way of a heap that lies in no other and grows by a range that meets none
+free_way : (s : Store) (at len new more : ℕ) → is_in_heap at s.heaps ≡ false → IsClearOfHeaps new more s.heaps → AreRangesClear new more s.others
+    → anchor_among s.anchor new more ≡ false → is_obstructed at len new more s ≡ false
+free_way s at len new more alone heaps ranges anchors =
+    rw (grown_alone at len new more s.heaps alone, unmet_heaps new more s.heaps heaps, unmet_ranges new more s.others ranges, anchors) refl
 
 -- anchors are mapped
 anchors_unmapped : (s : Store) (at len : ℕ) → IsSound s → AreUnmapped s.bytes.mapped at len → anchor_among s.anchor at len ≡ false
@@ -110,12 +114,15 @@ may_grow_heap s free l a count areas e fits pool =
     let top : h.start + h.end ≡ a.base + 4096 * a.pages = omega arith in
     let more : 4096 * (a.pages + count) - h.end ≡ 4096 * count = omega arith in
     let unmapped : AreUnmapped s.bytes.mapped (a.base + 4096 * a.pages) (4096 * count) = unmapped_above s free l 1 a count areas.ground e fits in
+    let others : AreOthers h s.heaps = are_others s.bytes 0x01800000 s.heaps h areas.ground.sound.heaps m.found in
+    let alone : is_in_heap h.start s.heaps ≡ false = area_alone s.bytes h s.heaps (ap is_area m.kind) m.spelled areas.ground.sound.heaps others in
     let may : MayEnd t h (4096 * (a.pages + count)) = record {
       region = region_known t.bytes h.start (4096 * (a.pages + count)) (omega arith) (omega arith) (omega arith) (omega arith)
           (λ x low high. mapped_held t (free - count) (with_areas l (with_pages 1 (a.pages + count) l.areas)) 1 (paged (a.pages + count) a) ground
           (find_paged 1 (a.pages + count) l.areas a e) x (omega arith) (omega arith));
       clear = elim (cases_lt h.end (4096 * (a.pages + count))) [
-        | inl grows ↦ rw (lt-ltb h.end (4096 * (a.pages + count)) grows, top, more) (unmet_any t (a.base + 4096 * a.pages) (4096 * count)
+        | inl grows ↦ rw (lt-ltb h.end (4096 * (a.pages + count)) grows, top, more)
+            (free_way t h.start (4096 * (a.pages + count)) (a.base + 4096 * a.pages) (4096 * count) alone
             (clear_unmapped s.bytes (a.base + 4096 * a.pages) (4096 * count) s.heaps unmapped areas.ground.sound.heaps)
             (ranges_unmapped s.bytes.mapped (a.base + 4096 * a.pages) (4096 * count) s.others unmapped areas.ground.ranges)
             (anchors_unmapped s (a.base + 4096 * a.pages) (4096 * count) areas.ground.sound unmapped))

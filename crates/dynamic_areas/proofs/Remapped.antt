@@ -69,7 +69,6 @@ pub sound_remapped : (s : Store) (c : Bytes) (at len : ℕ) → IsSound s → Ch
     → IsSound (record s { bytes = c })
 sound_remapped s c at len sound change clear apart = record {
   heaps = heaps_remapped s.bytes c at len s.heaps change clear sound.heaps;
-  unnested = sound.unnested;
   limits = sound.limits;
   placed = sound.placed;
   apart = sound.apart;

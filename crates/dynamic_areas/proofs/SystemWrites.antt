@@ -1,5 +1,5 @@
 -- What writes to the system pages leave of the store: every heap keeps its list.
-use Rattle.std.proofs.Common.{inl, inr, ◌≡◌, ℕ, ◌+◌, true, false, List, [], ◌∷◌, length, ◌++◌, sym, ap, arith, length-append}
+use Rattle.std.proofs.Common.{inl, inr, ◌≡◌, ℕ, ◌+◌, false, List, [], ◌∷◌, length, ◌++◌, sym, ap, arith, length-append}
 use Rattle.std.proofs.lemmas.List.{places}
 use Rattle.std.proofs.lemmas.Bool.{true≢false}
 use Rattle.std.proofs.lemmas.Bool.Decides.{nat_tests}
@@ -10,14 +10,14 @@ use Rattle.address_map.specs.Memory.{byte_at, class_of, layout}
 use Rattle.os_heap.specs.os_heap_lists.specs.Heap.{HeapList}
 use Rattle.os_heap.specs.Store.{Store, AreClasses, ArePlaced, IsClearOfHeaps, IsSound, store_of}
 use Rattle.os_heap.proofs.Frame.{IsKept, classes_same, clear_kept}
-use Rattle.os_heap.proofs.Stores.{image_kind}
+use Rattle.os_heap.proofs.Stores.{image_kind, placed_either}
 use Rattle.dynamic_areas.specs.Ground.{IsRecorded, system_pages}
 
 system_clear : (hs : List HeapList) (rs : List Region) → ArePlaced hs rs → IsRecorded system_pages rs → IsClearOfHeaps 0x01C00000 0x3000 hs
 system_clear hs [] placed there = absurd there
 system_clear hs (r ∷ rs) placed there = elim there [
   | inr later ↦ system_clear hs rs placed.1 later
-  | inl here ↦ elim (rw here at placed.0) [
+  | inl here ↦ elim (placed_either hs system_pages (rw here at placed.0)) [
     | inl clear ↦ clear
     | inr image ↦ absurd (true≢false (sym (image_kind hs system_pages image)))
   ]

@@ -1,5 +1,5 @@
 -- The memory of a machine at its start (this project's own).
-use Rattle.std.specs.Prelude.{ℕ, ◌*◌, false, [], ◌∷◌}
+use Rattle.std.specs.Prelude.{◌*◌, false, [], ◌∷◌}
 use Rattle.profile.specs.Sizes.{Sizes}
 use Rattle.address_map.specs.declared.region.Kind.TheVariants.{Rma}
 use Rattle.os_heap.specs.Calls.{begun_with}

@@ -1,11 +1,11 @@
 -- What a flex call leaves of the store, of its place, and of what holds of both.
-use Rattle.std.proofs.Common.{ℕ, ◌≡◌, ◌+◌, ◌%◌, ◌≤◌, ◌<◌, ◌==◌, ◌&&◌, Bool, true, false, not, List, [], ◌∷◌, ◌++◌, Option, Some, None, Result, Ok, Err, ok_or, is_some, refl, sym, ap, ◌∙◌, inl, inr, arith}
+use Rattle.std.proofs.Common.{ℕ, ◌≡◌, ◌+◌, ◌-◌, ◌%◌, ◌≤◌, ◌<◌, ◌==◌, ◌&&◌, Bool, true, false, not, List, [], ◌∷◌, ◌++◌, Option, Some, None, Result, Ok, Err, ok_or, is_some, refl, sym, ap, ◌∙◌, inl, inr, arith}
 use Rattle.std.specs.Prelude.{nat_le, if◌then◌else◌}
 use Rattle.std.specs.List.{list_any}
 use Rattle.std.proofs.lemmas.Bool.{and_parts, both_ways, cases_Bool, false_from_ne_true, lt-ltb, not-true, or_parts, or_from, false≢true, true≢false}
 use Rattle.instances_ground.specs.profile.specs.Outcome.{Gives, bind}
 use Rattle.instances_ground.specs.profile.specs.declared.error.ErrorNumber.{ErrorNumber}
-use Rattle.instances_ground.specs.profile.specs.declared.error.ErrorNumber.TheVariants.{FlexAnchorInUse, FlexBadAnchor}
+use Rattle.instances_ground.specs.profile.specs.declared.error.ErrorNumber.TheVariants.{FlexAnchorInUse, FlexBadAnchor, FlexHoldsAnchor}
 use Rattle.address_map.specs.Bytes.{in_range, meets, word_start}
 use Rattle.address_map.specs.Classes.{is_anchor, is_flex_header}
 use Rattle.address_map.specs.Memory.{byte_at, bytes_of, class_of}
@@ -14,10 +14,12 @@ use Rattle.address_map.specs.declared.region.Region.{Region}
 use Rattle.instances_ground.specs.os_heap.proofs.Apart.{range_parts}
 use Rattle.instances_ground.specs.os_heap.proofs.Frame.{layout-others}
 use Rattle.instances_ground.specs.os_heap.specs.Payloads.{is_other, payload_of}
-use Rattle.instances_ground.specs.os_heap.specs.Store.{Store, store_of}
-use Rattle.instances_ground.specs.flex_kept.specs.Keeping.{AreAnchorsFree, is_in_record}
-use Rattle.flex_store.specs.Blocks.{Block, FlexStore, find_block, has_anchor, new_block, used}
-use Rattle.flex_store.specs.Calls.{FlexState, allocated, extended, fitted, is_anchor_place, is_in_store, mid_extended, released}
+use Rattle.instances_ground.specs.os_heap.specs.Store.{IsSound, Store, is_flex_store, store_of}
+use Rattle.instances_ground.specs.flex_kept.specs.Keeping.{AreAnchorsFree, is_in_other_record}
+use Rattle.instances_ground.specs.flex_kept.proofs.Writes.{flex_alone}
+use Rattle.flex_store.specs.Blocks.{before, behind_of, Block, contents, cut_of, FlexStore, find_block, has_anchor, holding, more_of, new_block, spliced, used}
+use Rattle.flex_store.specs.Calls.{allocated, end_in, extended, fitted, FlexState, header_in, is_anchor_place, may_stand, mid_extended, released, spliced_at}
+use Rattle.flex_store.specs.Shifts.{following, splice_shifts}
 use Rattle.flex_store.specs.State.{IsFlex, IsFlexAt, flex_in, state_of}
 use Rattle.flex_store.specs.declared.flex.Extent.{Extent}
 use Rattle.flex_store.specs.declared.flex.Flex.{Flex}
@@ -84,8 +86,8 @@ pub flex_stays_so : (m n : AddressMap) (f g : Flex) → IsFlex m f → IsFlexCal
 flex_stays_so m n f g is call state = flex_stays_by m n f g is call.flex (layout-others m n call.same) call.heaps state
 
 -- The store is there after a call where it was before.
-fitted_there : (t : FlexState) (s : FlexStore) (blocks : List Block) (r : FlexState × Bool) → t.flex ≡ Some s → fitted t s blocks ≡ r → is_some r.0.flex ≡ true
-fitted_there t s blocks r there is = elim (cases_Bool (nat_le (s.start + used blocks) s.end)) [
+fitted_there : (t : FlexState) (s : FlexStore) (olds news : List Block) (r : FlexState × Bool) → t.flex ≡ Some s → fitted t s olds news ≡ r → is_some r.0.flex ≡ true
+fitted_there t s olds news r there is = elim (cases_Bool (nat_le (s.start + used (olds ++ news)) s.end)) [
   | inl fits ↦ let done = rw fits at is in ap (λ (x : FlexState × Bool). is_some x.0.flex) (sym done)
   | inr none ↦ let done = rw none at is in ap (λ (x : FlexState × Bool). is_some x.0.flex) (sym done) ∙ ap is_some there
 ]
@@ -114,28 +116,39 @@ IsThere A t r = (q : FlexState × A) → r ≡ Ok q → is_some q.0.flex ≡ is_
 allocated_there : (places : Store) (t : FlexState) (anchor size : ℕ) → IsThere Bool t (allocated places t anchor size)
 unfolding IsThere allocated
 allocated_there places t anchor size q is = there_by Bool t.flex _ _ q is (λ s there done.
-    fitted_there t s (s.blocks ++ new_block anchor size ∷ []) q there (ok_is _ _ _ (past_if _ (has_anchor s.blocks anchor) FlexAnchorInUse _ q
-    (past_if _ (not (is_anchor_place places anchor && not (is_in_store s anchor))) FlexBadAnchor _ q done))))
+    fitted_there t s s.blocks (new_block anchor size ∷ []) q there (ok_is _ _ _ (past_if _ (has_anchor s.blocks anchor) FlexAnchorInUse _ q
+    (past_if _ (not (is_anchor_place places anchor && may_stand s anchor)) FlexBadAnchor _ q done))))
 
 released_there : (t : FlexState) (anchor : ℕ) → IsThere (Unit {0}) t (released t anchor)
 unfolding IsThere released
 released_there t anchor q is = there_by (Unit {0}) t.flex _ _ q is (λ s there done.
-    block_by (Unit {0}) (find_block anchor s.blocks) _ _ q done (λ b last. ap (λ (x : FlexState × Unit {0}). is_some x.0.flex) (sym (ok_is _ _ _ last))))
+    block_by (Unit {0}) (find_block anchor s.blocks) _ _ q done (λ b last.
+    ap (λ (x : FlexState × Unit {0}). is_some x.0.flex) (sym (ok_is _ _ _ (past_if _ _ FlexHoldsAnchor _ q last)))))
 
-same_or_fitted : (t : FlexState) (s : FlexStore) (blocks : List Block) (same : Bool) (q : FlexState × Bool) → t.flex ≡ Some s
-    → (let r : Result (FlexState × Bool) ErrorNumber = if same then Ok (t, true) else Ok (fitted t s blocks) in r ≡ Ok q) → is_some q.0.flex ≡ true
-same_or_fitted t s blocks true q there is = ap (λ (x : FlexState × Bool). is_some x.0.flex) (sym (ok_is _ (t, true) q is)) ∙ ap is_some there
-same_or_fitted t s blocks false q there is = fitted_there t s blocks q there (ok_is _ _ _ is)
+spliced_there : (t : FlexState) (s : FlexStore) (anchor : ℕ) (b : Block) (place cut more : ℕ) (q : FlexState × Bool) → t.flex ≡ Some s
+    → spliced_at t s anchor b place cut more ≡ Ok q → is_some q.0.flex ≡ true
+spliced_there t s anchor b place cut more q there is =
+    fitted_there t s (before anchor s.blocks)
+    (holding b (spliced (contents b) place cut more) ∷ following (splice_shifts (header_in s anchor) (end_in s) b.size place cut more) (behind_of anchor s.blocks)) q there
+    (ok_is _ _ _ (past_if _ _ FlexHoldsAnchor _ q is))
+
+same_or_spliced : (t : FlexState) (s : FlexStore) (same : Bool) (anchor : ℕ) (b : Block) (place cut more : ℕ) (q : FlexState × Bool) → t.flex ≡ Some s
+    → (let r : Result (FlexState × Bool) ErrorNumber = if same then Ok (t, true) else spliced_at t s anchor b place cut more in r ≡ Ok q) → is_some q.0.flex ≡ true
+same_or_spliced t s true anchor b place cut more q there is =
+    ap (λ (x : FlexState × Bool). is_some x.0.flex) (sym (ok_is _ (t, true) q is)) ∙ ap is_some there
+same_or_spliced t s false anchor b place cut more q there is = spliced_there t s anchor b place cut more q there is
 
 extended_there : (t : FlexState) (anchor size : ℕ) → IsThere Bool t (extended t anchor size)
 unfolding IsThere extended
 extended_there t anchor size q is = there_by Bool t.flex _ _ q is (λ s there done.
-    block_by Bool (find_block anchor s.blocks) _ _ q done (λ b last. same_or_fitted t s _ (size == b.size) q there last))
+    block_by Bool (find_block anchor s.blocks) _ _ q done (λ b last.
+    same_or_spliced t s (size == b.size) anchor b b.size (b.size - size) (size - b.size) q there last))
 
 mid_extended_there : (t : FlexState) (anchor at by : ℕ) → IsThere Bool t (mid_extended t anchor at by)
 unfolding IsThere mid_extended
 mid_extended_there t anchor at by q is = there_by Bool t.flex _ _ q is (λ s there done.
-    block_by Bool (find_block anchor s.blocks) _ _ q (past_if _ _ _ _ q done) (λ b last. same_or_fitted t s _ (by == 0) q there (past_if _ _ _ _ q last)))
+    block_by Bool (find_block anchor s.blocks) _ _ q (past_if _ _ _ _ q done) (λ b last.
+    same_or_spliced t s (by == 0) anchor b at (cut_of by) (more_of by) q there (past_if _ _ _ _ q last)))
 
 given_there : (A : Type 0) (old new : FlexState) (r : Result (FlexState × A) ErrorNumber) (x : Result A ErrorNumber) → IsThere A old r → Gives old r x new
     → is_some new.flex ≡ is_some old.flex
@@ -162,48 +175,60 @@ in_word r a apart = false_from_ne_true (in_range r.at r.len a) (λ here.
       lt-ltb r.at (word_start a + 4) (omega (arith, its.0)),
     ) refl))
 
-word_free : (rs : List Region) (a : ℕ) → list_any (λ r. meets (word_start a) 4 r.at r.len) rs ≡ false → is_in_record rs a ≡ false
+word_free : (rs : List Region) (a : ℕ) → list_any (λ r. not (is_flex_store r.kind) && meets (word_start a) 4 r.at r.len) rs ≡ false
+    → is_in_other_record rs a ≡ false
 word_free [] a none = refl
 word_free (r ∷ rs) a none =
-    let parts = or_parts (meets (word_start a) 4 r.at r.len) (list_any (λ q. meets (word_start a) 4 q.at q.len) rs) none in
-    or_from (in_range r.at r.len a) (is_in_record rs a) (in_word r a parts.0) (word_free rs a parts.1)
+    let parts = or_parts (not (is_flex_store r.kind) && meets (word_start a) 4 r.at r.len)
+    (list_any (λ q. not (is_flex_store q.kind) && meets (word_start a) 4 q.at q.len) rs) none in
+    or_from (not (is_flex_store r.kind) && in_range r.at r.len a) (is_in_other_record rs a) (other_word (is_flex_store r.kind) r a parts.0) (word_free rs a parts.1) where
+      other_word : (flex : Bool) (r : Region) (a : ℕ) → (not flex && meets (word_start a) 4 r.at r.len) ≡ false → (not flex && in_range r.at r.len a) ≡ false
+      other_word true r a apart = refl
+      other_word false r a apart = in_word r a apart
 
-place_free : (s : Store) (a : ℕ) → is_anchor_place s (word_start a) ≡ true → is_in_record s.others a ≡ false
+pub place_free : (s : Store) (a : ℕ) → is_anchor_place s (word_start a) ≡ true → is_in_other_record s.others a ≡ false
 unfolding is_anchor_place
 place_free s a place =
-    let met : Bool = list_any (λ r. meets (word_start a) 4 r.at r.len) s.others in
+    let met : Bool = list_any (λ r. not (is_flex_store r.kind) && meets (word_start a) 4 r.at r.len) s.others in
     let other : Bool = is_other (payload_of s.heaps (word_start a)) in
     let last = and_parts (word_start a % 4 == 0 && s.bytes.mapped (word_start a)) (not met && not other) place in
     word_free s.others a (not-true met (and_parts (not met) (not other) last.1).0)
 
-pub has_after : (m n : AddressMap) (f g : Flex) → HasFlex m f → IsFlexCall m n f g → is_some (state_of n g).flex ≡ is_some (state_of m f).flex → HasFlex n g
+pub has_after : (m n : AddressMap) (f g : Flex) → IsSound (store_of m) → HasFlex m f → IsFlexCall m n f g
+    → is_some (state_of n g).flex ≡ is_some (state_of m f).flex → HasFlex n g
 unfolding state_of AreAnchorsFree
-has_after m n f g has call there =
+has_after m n f g sound has call there =
     let others = layout-others m n call.same in
     record {
       is = call.flex;
-      free = λ a is. ap (λ (rs : List Region). is_in_record rs a) others
-          ∙ elim (call.anchors a is) [ inl before ↦ has.free a before | inr place ↦ place_free (store_of m) a place ];
+      free = λ a is. ap (λ (rs : List Region). is_in_other_record rs a) others
+          ∙ elim (call.anchors a is) [
+            | inl before ↦ has.free a before
+            | inr other ↦ elim other [
+              | inl place ↦ place_free (store_of m) a place
+              | inr inside ↦ flex_alone (store_of m).others a sound.apart inside
+            ]
+          ];
       beside = ap count_beside others ∙ has.beside ∙ sym (records_by m n f.extent g.extent there);
     }
 
 -- the four calls on a store
-pub has_allocated : (m n : AddressMap) (f g : Flex) (anchor size : ℕ) (x : Result Bool ErrorNumber) → HasFlex m f → IsFlexCall m n f g
+pub has_allocated : (m n : AddressMap) (f g : Flex) (anchor size : ℕ) (x : Result Bool ErrorNumber) → IsSound (store_of m) → HasFlex m f → IsFlexCall m n f g
     → Gives (state_of m f) (allocated (store_of m) (state_of m f) anchor size) x (state_of n g) → HasFlex n g
-has_allocated m n f g anchor size x has call gives =
-    has_after m n f g has call (given_there Bool _ _ _ x (allocated_there (store_of m) (state_of m f) anchor size) gives)
+has_allocated m n f g anchor size x sound has call gives =
+    has_after m n f g sound has call (given_there Bool _ _ _ x (allocated_there (store_of m) (state_of m f) anchor size) gives)
 
-pub has_released : (m n : AddressMap) (f g : Flex) (anchor : ℕ) (x : Result (Unit {0}) ErrorNumber) → HasFlex m f → IsFlexCall m n f g
+pub has_released : (m n : AddressMap) (f g : Flex) (anchor : ℕ) (x : Result (Unit {0}) ErrorNumber) → IsSound (store_of m) → HasFlex m f → IsFlexCall m n f g
     → Gives (state_of m f) (released (state_of m f) anchor) x (state_of n g) → HasFlex n g
-has_released m n f g anchor x has call gives =
-    has_after m n f g has call (given_there (Unit {0}) _ _ _ x (released_there (state_of m f) anchor) gives)
+has_released m n f g anchor x sound has call gives =
+    has_after m n f g sound has call (given_there (Unit {0}) _ _ _ x (released_there (state_of m f) anchor) gives)
 
-pub has_extended : (m n : AddressMap) (f g : Flex) (anchor size : ℕ) (x : Result Bool ErrorNumber) → HasFlex m f → IsFlexCall m n f g
+pub has_extended : (m n : AddressMap) (f g : Flex) (anchor size : ℕ) (x : Result Bool ErrorNumber) → IsSound (store_of m) → HasFlex m f → IsFlexCall m n f g
     → Gives (state_of m f) (extended (state_of m f) anchor size) x (state_of n g) → HasFlex n g
-has_extended m n f g anchor size x has call gives =
-    has_after m n f g has call (given_there Bool _ _ _ x (extended_there (state_of m f) anchor size) gives)
+has_extended m n f g anchor size x sound has call gives =
+    has_after m n f g sound has call (given_there Bool _ _ _ x (extended_there (state_of m f) anchor size) gives)
 
-pub has_mid_extended : (m n : AddressMap) (f g : Flex) (anchor at by : ℕ) (x : Result Bool ErrorNumber) → HasFlex m f → IsFlexCall m n f g
+pub has_mid_extended : (m n : AddressMap) (f g : Flex) (anchor at by : ℕ) (x : Result Bool ErrorNumber) → IsSound (store_of m) → HasFlex m f → IsFlexCall m n f g
     → Gives (state_of m f) (mid_extended (state_of m f) anchor at by) x (state_of n g) → HasFlex n g
-has_mid_extended m n f g anchor at by x has call gives =
-    has_after m n f g has call (given_there Bool _ _ _ x (mid_extended_there (state_of m f) anchor at by) gives)
+has_mid_extended m n f g anchor at by x sound has call gives =
+    has_after m n f g sound has call (given_there Bool _ _ _ x (mid_extended_there (state_of m f) anchor at by) gives)

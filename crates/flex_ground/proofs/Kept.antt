@@ -15,7 +15,7 @@ use Rattle.instances_ground.specs.os_heap.specs.Store.{IsSound, Store, is_flex_s
 use Rattle.instances_ground.specs.dynamic_areas.specs.Areas.{Land}
 use Rattle.instances_ground.specs.dynamic_areas.specs.Ground.{AreAreas, AreRangesMapped}
 use Rattle.instances_ground.specs.dynamic_areas.specs.Start.{start_store}
-use Rattle.instances_ground.specs.flex_kept.specs.Keeping.{AreAnchorsFree, IsFlexKept, KeepsFlex, beside_images, is_flex_byte, is_in_record}
+use Rattle.instances_ground.specs.flex_kept.specs.Keeping.{AreAnchorsFree, IsFlexKept, KeepsFlex, beside_images, is_flex_byte, is_in_other_record}
 use Rattle.flex_store.proofs.Staying.{flex_stays}
 use Rattle.flex_store.specs.Staying.{IsExtentThere, StaysFlex}
 use Rattle.flex_store.specs.State.{IsFlex, IsFlexAt, IsNoFlex, IsRecordedStore, blocks_of, flex_in, is_recorded, is_store_record}
@@ -183,7 +183,7 @@ sound_mapped n sound a anchor = (sound.anchors a anchor).0
 -- the same anchors and records
 still_free : (m n : AddressMap) → class_of n ≡ class_of m → (store_of n).others ≡ (store_of m).others → AreAnchorsFree (store_of m) → AreAnchorsFree (store_of n)
 unfolding AreAnchorsFree
-still_free m n marks others free = λ a anchor. ap (λ (rs : List Region). is_in_record rs a) others ∙ free a (sym (same_anchors m n marks a) ∙ anchor)
+still_free m n marks others free = λ a anchor. ap (λ (rs : List Region). is_in_other_record rs a) others ∙ free a (sym (same_anchors m n marks a) ∙ anchor)
 
 pub flex_stored : FlexStored
 flex_stored m n f has sound same marks kept =

@@ -13,7 +13,7 @@ use Rattle.instances_ground.specs.dynamic_areas.specs.Ground.{AreAreas}
 use Rattle.instances_ground.specs.flex_kept.specs.Keeping.{AreAnchorsFree}
 use Rattle.instances_ground.specs.rma.proofs.ImageLemmas.{mapped_more}
 use Rattle.flex_store.specs.Calls.{FlexState, flex_record, is_flex_range}
-use Rattle.flex_store.specs.State.{IsFlex, IsFlexAt, flex_in, state_of}
+use Rattle.flex_store.specs.State.{IsFlex, IsFlexAt, state_of}
 use Rattle.flex_store.specs.declared.flex.Extent.{Extent}
 use Rattle.flex_store.specs.declared.flex.Flex.{Flex}
 use Rattle.flex_store.proofs.Starting.{good_range}

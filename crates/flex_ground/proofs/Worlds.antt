@@ -1,5 +1,5 @@
 -- The world of modules once the flex store has begun: its range is one record more, and no image.
-use Rattle.std.proofs.Common.{◌≡◌, ℕ, ◌+◌, List, [], ◌∷◌, ◌++◌, map, suc, inl, inr, refl, ap, sym, ◌∙◌, arith}
+use Rattle.std.proofs.Common.{◌≡◌, ℕ, List, [], ◌∷◌, ◌++◌, map, suc, inl, inr, refl, ap, sym, ◌∙◌, arith}
 use Rattle.std.proofs.lemmas.Bool.{cases_Bool, false≢true}
 use Rattle.address_map.specs.declared.region.Region.{Region}
 use Rattle.instances_ground.specs.os_heap.specs.Store.{is_image}

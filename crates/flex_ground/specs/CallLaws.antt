@@ -3,15 +3,16 @@ use Rattle.std.specs.Prelude.{ℕ, ◌≡◌, ◌⊎◌, true}
 use Rattle.address_map.specs.Bytes.{word_start}
 use Rattle.address_map.specs.Memory.{layout}
 use Rattle.address_map.specs.declared.map.AddressMap.{AddressMap}
-use Rattle.instances_ground.specs.os_heap.specs.Store.{store_of}
+use Rattle.instances_ground.specs.os_heap.specs.Store.{is_in_flex_store, store_of}
 use Rattle.flex_store.specs.Calls.{FlexState, is_anchor_place}
 use Rattle.flex_store.specs.State.{IsFlex}
 use Rattle.flex_store.specs.declared.flex.Flex.{Flex}
 use Rattle.flex_ground.specs.Ground.{flex_of, store_flexed}
 
--- an anchor that a call leaves was one before, or stands where one may
+-- an anchor that a call leaves was one before, or stands where one may, or in the flex store
 abbrev pub AreAnchorsAllowed : AddressMap → AddressMap → Type 0
-AreAnchorsAllowed m n = (a : ℕ) → (store_of n).anchor a ≡ true → ((store_of m).anchor a ≡ true) ⊎ (is_anchor_place (store_of m) (word_start a) ≡ true)
+AreAnchorsAllowed m n = (a : ℕ) → (store_of n).anchor a ≡ true
+    → ((store_of m).anchor a ≡ true) ⊎ ((is_anchor_place (store_of m) (word_start a) ≡ true) ⊎ (is_in_flex_store (store_of m).others a ≡ true))
 
 -- a call on the store that moved nothing of the map, and no heap
 pub record IsFlexCall (m n : AddressMap) (f g : Flex) : Type 0 where

@@ -5,7 +5,7 @@ use Rattle.std.proofs.lemmas.Bool.{cases_Bool, both_ways, not-false, false_from_
 use Rattle.std.specs.Prelude.{IfOk, nat_le, nat_lt}
 use Rattle.dynamic_areas.specs.profile.specs.Outcome.{Gives, bind}
 use Rattle.dynamic_areas.specs.profile.specs.declared.error.ErrorNumber.{ErrorNumber}
-use Rattle.dynamic_areas.specs.profile.specs.declared.error.ErrorNumber.TheVariants.{HeapHoldsAnchor, HeapBadDesc, HeapBadRegion, HeapOverlaps, HeapTableFull, HeapNotABlock, HeapNoRoom, HeapBadShrink}
+use Rattle.dynamic_areas.specs.profile.specs.declared.error.ErrorNumber.TheVariants.{BlockHoldsHeap, HeapHoldsAnchor, HeapBadDesc, HeapBadRegion, HeapOverlaps, HeapTableFull, HeapNotABlock, HeapNoRoom, HeapBadShrink}
 use Rattle.os_heap_slide.specs.address_map.specs.Records.{anchor_among}
 use Rattle.os_heap_slide.specs.address_map.specs.Bytes.{Bytes, in_range, word_start}
 use Rattle.os_heap_slide.specs.address_map.specs.Items.{is_heap_word, is_total, size_of}
@@ -14,6 +14,7 @@ use Rattle.os_heap_slide.specs.address_map.specs.declared.region.Kind.{Kind}
 use Rattle.os_heap_slide.specs.address_map.specs.declared.region.Kind.TheVariants as kind
 use Rattle.os_heap_slide.specs.os_heap_lists.proofs.LiveBlocks.{LiveBytes, live_bytes, live_apart}
 use Rattle.os_heap_slide.specs.os_heap_lists.proofs.Payloads.{heap_beside, payload_unspelled, spelled_inside}
+use Rattle.os_heap_slide.specs.os_heap_lists.proofs.Reading.{total_facts}
 use Rattle.os_heap_slide.specs.os_heap_lists.proofs.Spelling.{total_of-numbers}
 use Rattle.os_heap_slide.specs.os_heap_lists.specs.Heap.{AreTotals, HeapList, IsHeapIn, with_heap}
 use Rattle.os_heap_slide.specs.os_heap_lists.specs.Lists.{Claim, changed_by, claimed, live_total, released, resized_in_place, round_up_8, total_for}
@@ -23,11 +24,13 @@ use Rattle.os_heap_slide.specs.os_heap.proofs.Anchored.{IsPlacedBy, header_outsi
 use Rattle.os_heap_slide.specs.os_heap.proofs.Apart.{range_parts}
 use Rattle.os_heap_slide.specs.os_heap.proofs.FlexSound.{flex_unspelled, place_unspelled}
 use Rattle.os_heap_slide.specs.os_heap.proofs.Found.{found_heap, found_start}
-use Rattle.os_heap_slide.specs.os_heap.proofs.KeptPayloads.{IsClaim, is_claim}
+use Rattle.os_heap_slide.specs.os_heap.proofs.Forgetting.{own_left}
+use Rattle.os_heap_slide.specs.os_heap.proofs.KeptPayloads.{IsClaim, is_claim, own_there}
 use Rattle.os_heap_slide.specs.os_heap.proofs.Moving.{found_held}
 use Rattle.os_heap_slide.specs.os_heap.proofs.Resizing.{larger_where_none}
-use Rattle.os_heap_slide.specs.os_heap.specs.Calls.{begun, begun_with, changed, copied, end_changed, ending, gave_back, got, has_own_size, holding, holds_anchor, moved, own_size, resized, resized_or_moved, unless_image}
-use Rattle.os_heap_slide.specs.os_heap.specs.Ranges.{is_heap_region, meets_any}
+use Rattle.os_heap_slide.specs.os_heap.specs.Calls.{begun, begun_with, changed, copied, end_changed, ending, gave_back, got, handed_over, has_own_size, holding, holds_anchor, moved, own_size, resized, resized_or_moved, total_or_0, unless_image}
+use Rattle.os_heap_slide.specs.os_heap.specs.Forgetting.{forgot, holds_heap}
+use Rattle.os_heap_slide.specs.os_heap.specs.Ranges.{is_heap_region, overgrows, overlaps}
 use Rattle.os_heap_slide.specs.os_heap.specs.Store.{IsInBlock, IsSound, Store, find_heap, guest_count, has_image, is_in_flex_store}
 use Rattle.flex_kept.proofs.Keeping.{keeps_equal}
 use Rattle.flex_kept.specs.Keeping.{AreAnchorsFree, IsUnanchored, KeepsFlex, is_flex_byte}
@@ -105,6 +108,13 @@ held_keeps : (s : Store) (k : HeapList) (items : List Item) → find_heap k.star
 held_keeps s k items found sound =
     writes_keep s (holding s k items).bytes (holding s k items).heaps (λ a is. new_unwritten s k items a sound found is)
 
+-- and the heaps in its block were forgotten
+forgot_keeps : (s : Store) (k : HeapList) (block total from : ℕ) (items : List Item) → find_heap k.start (forgot s block total from).heaps ≡ Some k
+    → IsSound (holding (forgot s block total from) k items) → KeepsFlex s (holding (forgot s block total from) k items)
+forgot_keeps s k block total from items found sound =
+    let v : Store = forgot s block total from in
+    writes_keep s (holding v k items).bytes (holding v k items).heaps (λ a is. new_unwritten v k items a sound found is)
+
 -- a heap got another end
 pub ended_keeps : (s : Store) (k : HeapList) (end : ℕ) → IsSound s → find_heap k.start s.heaps ≡ Some k → KeepsFlex s (ending s k end)
 ended_keeps s k end sound found =
@@ -139,7 +149,7 @@ begun_keeps s t heap size r sound sound' gives =
     let P : Store × Unit {0} → Type 0 = KeepsIfSound s in
     given_keeps (Unit {0}) s t (begun s heap size) r sound' gives
     (on_if (Unit {0}) P (not (is_heap_region s.bytes heap size)) HeapBadRegion _ (λ region.
-    on_if (Unit {0}) P (meets_any heap size s) HeapOverlaps _ (λ clear.
+    on_if (Unit {0}) P (overlaps heap size s) HeapOverlaps _ (λ clear.
     on_if (Unit {0}) P (nat_le 64 (guest_count s.heaps)) HeapTableFull (Ok (begun_with kind.Heap s heap size, tt)) (λ room.
     made_keeps kind.Heap s heap size (can_hold s.bytes heap size (not-false (is_heap_region s.bytes heap size) region)).aligned))))
 
@@ -154,20 +164,25 @@ got_keeps s t heap size r sound sound' gives =
 
 -- a block was given back
 on_given : (P : Store × Unit {0} → Type 0) (s : Store) (heap block : ℕ)
-    → ((h : HeapList) (items : List Item) → find_heap heap s.heaps ≡ Some h → P (holding s h items, tt)) → OnDone P (gave_back s heap block)
+    → ((h : HeapList) (items : List Item) → find_heap heap s.heaps ≡ Some h
+    → P (holding (forgot s block (total_or_0 (live_total block (h.start + 16) h.items)) block) h items, tt)) → OnDone P (gave_back s heap block)
 unfolding gave_back
 on_given P s heap block each =
     on_some HeapList (Unit {0}) P (find_heap heap s.heaps) HeapBadDesc _ (λ h found.
     on_some (List Item) (Unit {0}) P (unless_image (has_image block s.others) (released block (h.start + 16) h.items)) HeapNotABlock _ (λ items is.
-    on_if (Unit {0}) P (holds_anchor s.anchor block (live_total block (h.start + 16) h.items)) HeapHoldsAnchor (Ok (holding s h items, tt)) (λ none.
+    let total : Option ℕ = live_total block (h.start + 16) h.items in
+    on_if (Unit {0}) P (holds_anchor s.anchor block total) HeapHoldsAnchor (Ok (holding (forgot s block (total_or_0 total) block) h items, tt)) (λ none.
     each h items found)))
 
-given_back_keeps : (s : Store) (heap block : ℕ) → OnDone (KeepsIfSound s) (gave_back s heap block)
-given_back_keeps s heap block = on_given (KeepsIfSound s) s heap block (λ h items found. held_keeps s h items (own_start heap s h found))
+given_back_keeps : (s : Store) (heap block : ℕ) → IsSound s → OnDone (KeepsIfSound s) (gave_back s heap block)
+given_back_keeps s heap block sound = on_given (KeepsIfSound s) s heap block (λ h items found.
+    let spelled : IsHeapIn s.bytes h.start h.end h.items = found_heap s.bytes heap s.heaps h sound.heaps found in
+    let total : Option ℕ = live_total block (h.start + 16) h.items in
+    forgot_keeps s h block (total_or_0 total) block items (own_there s h block total spelled.totals (own_start heap s h found) refl))
 
 pub freed_keeps : (s t : Store) (heap block : ℕ) (r : Result (Unit {0}) ErrorNumber) → IsSound s → IsSound t → Gives s (gave_back s heap block) r t
     → KeepsFlex s t
-freed_keeps s t heap block r sound sound' gives = given_keeps (Unit {0}) s t (gave_back s heap block) r sound' gives (given_back_keeps s heap block)
+freed_keeps s t heap block r sound sound' gives = given_keeps (Unit {0}) s t (gave_back s heap block) r sound' gives (given_back_keeps s heap block sound)
 
 -- the bytes of a block that a claim makes are none of the flex store's
 claim_beside : (k : HeapList) (c : Claim) (new len a : ℕ) → IsClaim k new c → len ≤ new - 4 → IsPlacedBy k a
@@ -234,23 +249,22 @@ got_unanchored s t heap size r sound gives =
     (is_claim s.bytes h (total_for size) c (found_heap s.bytes heap s.heaps h sound.heaps found) total claim))))
 
 -- a block was moved
-moved_written : (s : Store) (k : HeapList) (c : Claim) (old new from : ℕ) (items : List Item) → IsSound s → find_heap k.start s.heaps ≡ Some k
+moved_written : (s : Store) (k : HeapList) (c : Claim) (old new from total : ℕ) (items : List Item) → IsSound s → find_heap k.start s.heaps ≡ Some k
     → IsClaim k new c → old ≤ new
-    → (let u : Store = copied (holding s k c.items) from (k.start + 16 + c.offset + 4) (old - 4) in
-    IsSound (holding u (with_list k c.items) items) → KeepsFlex s (holding u (with_list k c.items) items))
-moved_written s k c old new from items sound found claim less sound' =
+    → (let v : Store = forgot (copied (holding s k c.items) from (k.start + 16 + c.offset + 4) (old - 4)) from total from in
+    find_heap k.start v.heaps ≡ Some (with_list k c.items) → IsSound (holding v (with_list k c.items) items) → KeepsFlex s (holding v (with_list k c.items) items))
+moved_written s k c old new from total items sound found claim less found' sound' =
     let at : ℕ = k.start + 16 + c.offset + 4 in
-    let u : Store = copied (holding s k c.items) from at (old - 4) in
-    let t : Store = holding u (with_list k c.items) items in
-    let found' : find_heap k.start u.heaps ≡ Some (with_list k c.items) = found_held k.start c.items s.heaps k found in
+    let v : Store = forgot (copied (holding s k c.items) from at (old - 4)) from total from in
+    let t : Store = holding v (with_list k c.items) items in
     let heap : IsHeapIn s.bytes k.start k.end k.items = found_heap s.bytes k.start s.heaps k sound.heaps found in
     writes_keep s t.bytes t.heaps (λ a is.
     let place : IsPlacedBy k a = flex_placed s k a sound found is in
     let one : with_heap s.bytes.at k.start k.end c.items a ≡ s.bytes.at a =
     unwritten s.bytes.at k.start k.end k.end c.items a heap.aligned claim.totals claim.inside (claim_place k c new a claim place) in
-    let two : u.bytes.at a ≡ with_heap s.bytes.at k.start k.end c.items a =
+    let two : v.bytes.at a ≡ with_heap s.bytes.at k.start k.end c.items a =
     rw (claim_beside k c new (old - 4) a claim (omega (arith, less)) place) refl in
-    new_unwritten u (with_list k c.items) items a sound' found' is ∙ two ∙ one)
+    new_unwritten v (with_list k c.items) items a sound' found' is ∙ two ∙ one)
 
 moved_keeps : (s : Store) (h : HeapList) (block old new : ℕ) → IsSound s → find_heap h.start s.heaps ≡ Some h → is_total new ≡ true → old ≤ new
     → OnDone (KeepsIfSound s) (moved s h block old new)
@@ -259,21 +273,32 @@ moved_keeps s h block old new sound found total less =
     on_some Claim ℕ (KeepsIfSound s) (claimed new (h.end - 16) h.items) HeapNoRoom _ (λ c is.
     let at : ℕ = h.start + 16 + c.offset + 4 in
     let u : Store = copied (holding s h c.items) block at (old - 4) in
+    let claim : IsClaim h new c = is_claim s.bytes h new c heap total is in
+    let found' : find_heap h.start u.heaps ≡ Some (with_list h c.items) = found_held h.start c.items s.heaps h found in
+    on_if ℕ (KeepsIfSound s) (holds_heap s.heaps block (old - 4)) BlockHoldsHeap (handed_over h.start block (old - 4) (holding s h c.items) at) (λ none.
     on_answer (Unit {0}) ℕ s (gave_back u h.start block) at
-    (on_given (KeepsIfSound s) u h.start block (λ k items found'.
-    let both : Some (with_list h c.items) ≡ Some k = sym (found_held h.start c.items s.heaps h found) ∙ found' in
+    (on_given (KeepsIfSound s) u h.start block (λ k items found''.
+    let both : Some (with_list h c.items) ≡ Some k = sym found' ∙ found'' in
     let same : with_list h c.items ≡ k = cc in
-    subst (λ (x : HeapList). IsSound (holding u x items) → KeepsFlex s (holding u x items)) same
-    (moved_written s h c old new block items sound found (is_claim s.bytes h new c heap total is) less))))
+    let live : Option ℕ = live_total block (h.start + 16) c.items in
+    subst (λ (x : HeapList).
+    let v : Store = forgot u block (total_or_0 (live_total block (x.start + 16) x.items)) block in
+    IsSound (holding v x items) → KeepsFlex s (holding v x items)) same
+    (moved_written s h c old new block (total_or_0 live) items sound found claim less
+    (own_there u (with_list h c.items) block live claim.totals found' refl))))))
 
 in_place_keeps : (s : Store) (h : HeapList) (block old new : ℕ) (o : Option (List Item)) → IsSound s → find_heap h.start s.heaps ≡ Some h
-    → is_total new ≡ true → (o ≡ None → old ≤ new) → OnDone (KeepsIfSound s) (resized_or_moved s h block old new o)
-in_place_keeps s h block old new None sound found total less =
+    → is_total new ≡ true → (o ≡ None → old ≤ new) → live_total block (h.start + 16) h.items ≡ Some old → OnDone (KeepsIfSound s) (resized_or_moved s h block old new o)
+in_place_keeps s h block old new None sound found total less live =
     on_if ℕ (KeepsIfSound s) (holds_anchor s.anchor block (Some old)) HeapHoldsAnchor (moved s h block old new)
     (λ none. moved_keeps s h block old new sound found total (less refl))
-in_place_keeps s h block old new (Some items) sound found total less =
-    on_if ℕ (KeepsIfSound s) (anchor_among s.anchor (block - 4 + new) (old - new)) HeapHoldsAnchor (Ok (holding s h items, block))
-    (λ none. held_keeps s h items found)
+in_place_keeps s h block old new (Some items) sound found total less live =
+    let heap : IsHeapIn s.bytes h.start h.end h.items = found_heap s.bytes h.start s.heaps h sound.heaps found in
+    let lies : LiveBytes block old (h.start + 16) (h.start + 16 + size_of h.items) = live_bytes block old (h.start + 16) h.items heap.totals live in
+    let from : ℕ = block - 4 + new in
+    on_if ℕ (KeepsIfSound s) (anchor_among s.anchor from (old - new)) HeapHoldsAnchor (Ok (holding (forgot s block old from) h items, block))
+    (λ none. forgot_keeps s h block old from items
+    (own_left s h block old from found (omega (arith, lies.low)) (omega (arith, lies.low, (total_facts new total).0))))
 
 unheld_image : (b : Bool) (o : Option ℕ) (t : ℕ) → unless_image b o ≡ Some t → o ≡ Some t
 unheld_image true o t e = absurd (let none : None ≡ Some t = e in cc)
@@ -288,12 +313,12 @@ sized_keeps s h heap block change old sound found live =
     let sum : ℕ = changed_by old change in
     let new : ℕ = round_up_8 sum in
     elim (cases_Bool (nat_le sum 4)) [
-      | inl few ↦ rw few (on_answer (Unit {0}) ℕ s (gave_back s heap block) 0 (given_back_keeps s heap block))
+      | inl few ↦ rw few (on_answer (Unit {0}) ℕ s (gave_back s heap block) 0 (given_back_keeps s heap block sound))
       | inr more ↦
           let many : 4 < sum = leb-false sum 4 more in
           rw more (in_place_keeps s h block old new (resized_in_place block (h.start + h.end) new (h.start + 16) h.items) sound found
           (total_of-numbers new (omega (arith, many)) (omega arith))
-          (λ none. omega (arith, larger_where_none block (h.start + h.end) new (h.start + 16) old h.items live none)))
+          (λ none. omega (arith, larger_where_none block (h.start + h.end) new (h.start + 16) old h.items live none)) live)
     ]
 
 pub resized_keeps : (s t : Store) (heap block change : ℕ) (r : Result ℕ ErrorNumber) → IsSound s → IsSound t → Gives s (resized s heap block change) r t
@@ -320,7 +345,7 @@ changed_keeps s t heap change r sound sound' gives =
     own_sized (Unit {0}) P h (λ h. end_changed s h change (changed_by h.end change))
     (let end : ℕ = changed_by h.end change in
     on_if (Unit {0}) P (not (change % 4 == 0 && is_heap_region s.bytes h.start end)) HeapBadRegion _ (λ region.
-    on_if (Unit {0}) P (nat_lt h.end end && meets_any (h.start + h.end) (end - h.end) s) HeapOverlaps _ (λ clear.
+    on_if (Unit {0}) P (overgrows s h end) HeapOverlaps _ (λ clear.
     on_if (Unit {0}) P (nat_lt end (16 + size_of h.items)) HeapBadShrink (Ok (ending s h end, tt)) (λ fits.
     λ sound''. ended_keeps s h end sound (own_start heap s h found)))))))
 

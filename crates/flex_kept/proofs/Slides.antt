@@ -1,17 +1,16 @@
 -- The slide of the module area keeps the flex store: a block with an anchor stays, and what moves goes where no anchor lies.
-use Rattle.std.proofs.Common.{ℕ, Bool, List, [], ◌∷◌, ◌≡◌, ◌≤◌, ◌<◌, ◌⊎◌, ◌+◌, ◌-◌, ◌∙◌, true, false, refl, sym, ap, subst, inl, inr, Option, Some, None, length, arith}
-use Rattle.std.proofs.lemmas.Bool.{both_ways, cases_Bool, cases_eq, false_from_ne_true, false≢true, le-leb, lt-ltb, or_cases, or_from, or_parts}
+use Rattle.std.proofs.Common.{ℕ, Bool, List, [], ◌∷◌, ◌≡◌, ◌≤◌, ◌<◌, ◌+◌, ◌-◌, ◌∙◌, true, false, refl, sym, ap, subst, inl, inr, Option, Some, None, length, arith, not, ◌&&◌, ◌⊎◌}
+use Rattle.std.proofs.lemmas.Bool.{both_ways, cases_Bool, cases_eq, false_from_ne_true, false≢true, le-leb, lt-ltb, or_cases, or_from, or_parts, and_parts}
 use Rattle.os_heap_slide.specs.address_map.proofs.Anchors.{none_among}
 use Rattle.os_heap_slide.specs.address_map.proofs.Stores.{in_range-cases}
 use Rattle.os_heap_slide.specs.address_map.specs.Bytes.{Bytes, in_range, word_start}
-use Rattle.os_heap_slide.specs.address_map.specs.Items.{is_heap_word, size_of}
+use Rattle.os_heap_slide.specs.address_map.specs.Items.{is_heap_word}
 use Rattle.os_heap_slide.specs.address_map.specs.Moves.{moved_place, moved_regions, moved_to}
 use Rattle.os_heap_slide.specs.address_map.specs.Records.{anchor_among}
 use Rattle.os_heap_slide.specs.address_map.specs.declared.follow.Move.{Move}
 use Rattle.os_heap_slide.specs.address_map.specs.declared.region.Kind.{Kind}
 use Rattle.os_heap_slide.specs.address_map.specs.declared.region.Kind.TheVariants as kind
 use Rattle.os_heap_slide.specs.address_map.specs.declared.region.Region.{Region}
-use Rattle.os_heap_slide.specs.os_heap_lists.proofs.LiveBlocks.{LiveBytes, live_bytes}
 use Rattle.os_heap_slide.specs.os_heap_lists.proofs.Payloads.{heap_beside, spelled_inside}
 use Rattle.os_heap_slide.specs.os_heap_lists.specs.Heap.{HeapList, IsHeapIn}
 use Rattle.os_heap_slide.specs.os_heap_lists.specs.Lists.{live_total}
@@ -19,14 +18,14 @@ use Rattle.os_heap_slide.specs.os_heap.proofs.Anchored.{header_outside, place_in
 use Rattle.os_heap_slide.specs.os_heap.proofs.Apart.{block_inside, one_block, range_parts}
 use Rattle.os_heap_slide.specs.os_heap.proofs.Found.{found_heap, found_start}
 use Rattle.os_heap_slide.specs.os_heap.proofs.Moving.{found_held}
-use Rattle.os_heap_slide.specs.os_heap.proofs.Stores.{AreClearOthers, are_clear_others, clear_of-found}
+use Rattle.os_heap_slide.specs.os_heap.proofs.Stores.{placed_by}
 use Rattle.os_heap_slide.specs.os_heap.specs.Calls.{OfHeap, holds_anchor}
-use Rattle.os_heap_slide.specs.os_heap.specs.Store.{AreHeapsIn, ArePlaced, find_heap, is_image, is_in_flex_store, IsClearOfHeaps, IsImageBlock, IsImageIn, IsInBlock, IsSound, Store}
+use Rattle.os_heap_slide.specs.os_heap.specs.Store.{ArePlaced, find_heap, is_image, is_in_flex_store, IsImageBlock, IsInBlock, IsPlacedIn, IsSound, Store, AreHeapsIn, is_flex_store, IsClearOfHeaps, IsImageIn}
 use Rattle.os_heap_slide.proofs.KeptBlocks.{slide_keeps_blocks}
 use Rattle.os_heap_slide.proofs.Places.{bytes_low, bytes_past, moved_live, moved_stays, stay_distinct}
 use Rattle.os_heap_slide.proofs.Records.{IsSlide, image_place, moves_in, out_still, slid_in, still_place}
-use Rattle.os_heap_slide.specs.Slide.{AreBlocks, HoldNoAnchor, IsSlid, MaySlide, is_listed, slid_bytes, with_slid}
-use Rattle.flex_kept.specs.Keeping.{AreAnchorsFree, KeepsFlex, beside_images, is_flex_byte, is_in_record}
+use Rattle.os_heap_slide.specs.Slide.{AreBlocks, HoldNoAnchor, HoldNoHeap, IsSlid, MaySlide, is_listed, slid_bytes, with_slid}
+use Rattle.flex_kept.specs.Keeping.{AreAnchorsFree, KeepsFlex, beside_images, is_flex_byte, is_in_record, is_in_other_record}
 use Rattle.flex_kept.specs.Laws.{SlidesKeepFlex}
 
 -- what slides: a heap of a sound store, no movable block of which holds an anchor, and what memory spells of it afterwards
@@ -111,24 +110,6 @@ beside_moved moves (r ∷ rs) = elim (cases_Bool (is_image r.kind)) [
   | inr other ↦ rw (other, other_place moves r.kind r.at other, beside_moved moves rs) refl
 ]
 
--- a record that lies in the heap is that of an image in it
-first_inside : (b : Bytes) (g : HeapList) (r : Region) → IsHeapIn b g.start g.end g.items → IsImageBlock g r → in_range g.start g.end r.at ≡ true
-first_inside b g r heap own =
-    let place : LiveBytes r.at (r.len + 4) (g.start + 16) (g.start + 16 + size_of g.items) =
-    live_bytes r.at (r.len + 4) (g.start + 16) g.items heap.totals own.live in
-    rw (le-leb g.start r.at (omega (arith, place.low)), lt-ltb r.at (g.start + g.end) (omega (arith, place.high, place.size, heap.inside))) refl
-
-image_here : (b : Bytes) (h : HeapList) (hs : List HeapList) (r : Region) → AreHeapsIn b hs → AreClearOthers h hs → IsImageIn hs r
-    → in_range h.start h.end r.at ≡ true → IsImageBlock h r
-image_here b h [] r heaps others image here = absurd image
-image_here b h (g ∷ hs) r heaps others image here = elim image [
-  | inr later ↦ image_here b h hs r heaps.1.1 others.1 later here
-  | inl own ↦ elim others.0 [
-    | inl same ↦ subst (λ (x : HeapList). IsImageBlock x r) same own
-    | inr apart ↦ absurd (both_ways (in_range g.start g.end r.at) (apart.1 r.at here) (first_inside b g r heaps.0 own))
-  ]
-]
-
 -- the block of an image that holds an anchor after the slide is where it was
 image_unmoved : (s : Store) (h : HeapList) (movable : List ℕ) (r : Region) (a : ℕ) → MaySlideHere s h movable → s.anchor a ≡ true → IsImageBlock h r
     → in_range (moved_to (moves_in h movable) r.at) r.len a ≡ true → moved_to (moves_in h movable) r.at ≡ r.at
@@ -171,19 +152,17 @@ image_unmoved s h movable r a k anchored image inside =
 
 -- a record that an anchor lies in after the slide did not move
 record_unmoved : (s : Store) (h : HeapList) (movable : List ℕ) (r : Region) (a : ℕ) → MaySlideHere s h movable → s.anchor a ≡ true
-    → IsClearOfHeaps r.at r.len s.heaps ⊎ IsImageIn s.heaps r → in_range (moved_place (moves_in h movable) r.kind r.at) r.len a ≡ true
+    → IsPlacedIn s.heaps r → in_range (moved_place (moves_in h movable) r.kind r.at) r.len a ≡ true
     → moved_place (moves_in h movable) r.kind r.at ≡ r.at
 record_unmoved s h movable r a k anchored place inside = elim (cases_Bool (in_range h.start h.end r.at)) [
   | inr out ↦ still_place (moves_in h movable) r.kind r.at (out_still s.bytes (with_slid s h movable).bytes h movable r.at k.slide out)
-  | inl here ↦ elim place [
+  | inl here ↦ elim (placed_by h.start s.heaps h r place k.found) [
     | inl clear ↦
         let parts = range_parts (moved_place (moves_in h movable) r.kind r.at) r.len a inside in
         let some : r.at < r.at + r.len = omega (arith, parts.0, parts.1) in
         let first : in_range r.at r.len r.at ≡ true = rw (le-leb r.at r.at (omega arith), lt-ltb r.at (r.at + r.len) some) refl in
-        absurd (both_ways (in_range h.start h.end r.at) (clear_of-found r.at r.len h.start s.heaps h clear k.found r.at first) here)
-    | inr image ↦
-        let own : IsImageBlock h r =
-        image_here s.bytes h s.heaps r k.sound.heaps (are_clear_others s.bytes h.start s.heaps h k.sound.heaps k.sound.unnested k.found) image here in
+        absurd (both_ways (in_range h.start h.end r.at) (clear r.at first) here)
+    | inr own ↦
         let moves : moved_place (moves_in h movable) r.kind r.at ≡ moved_to (moves_in h movable) r.at =
         image_place (moves_in h movable) r.kind r.at own.image in
         moves ∙ image_unmoved s h movable r a k anchored own (subst (λ (x : ℕ). in_range x r.len a ≡ true) moves inside)
@@ -192,14 +171,18 @@ record_unmoved s h movable r a k anchored place inside = elim (cases_Bool (in_ra
 
 -- so no record comes to lie where an anchor does
 records_free : (s : Store) (h : HeapList) (movable : List ℕ) (rs : List Region) (a : ℕ) → MaySlideHere s h movable → s.anchor a ≡ true
-    → ArePlaced s.heaps rs → is_in_record rs a ≡ false → is_in_record (moved_regions (moves_in h movable) rs) a ≡ false
+    → ArePlaced s.heaps rs → is_in_other_record rs a ≡ false → is_in_other_record (moved_regions (moves_in h movable) rs) a ≡ false
 records_free s h movable [] a k anchored placed none = refl
 records_free s h movable (r ∷ rs) a k anchored placed none =
-    let parts = or_parts (in_range r.at r.len a) (is_in_record rs a) none in
+    let own : Bool = not (is_flex_store r.kind) in
+    let parts = or_parts (own && in_range r.at r.len a) (is_in_other_record rs a) none in
     let to : ℕ = moved_place (moves_in h movable) r.kind r.at in
-    or_from (in_range to r.len a) (is_in_record (moved_regions (moves_in h movable) rs) a)
-    (false_from_ne_true (in_range to r.len a) (λ inside. both_ways (in_range r.at r.len a) parts.0
-    (subst (λ (x : ℕ). in_range x r.len a ≡ true) (record_unmoved s h movable r a k anchored placed.0 inside) inside)))
+    or_from (own && in_range to r.len a) (is_in_other_record (moved_regions (moves_in h movable) rs) a)
+    (false_from_ne_true (own && in_range to r.len a) (λ met.
+    let both = and_parts own (in_range to r.len a) met in
+    let here : in_range r.at r.len a ≡ true =
+    subst (λ (x : ℕ). in_range x r.len a ≡ true) (record_unmoved s h movable r a k anchored placed.0 both.1) both.1 in
+    both_ways (own && in_range r.at r.len a) parts.0 (rw (both.0, here) refl)))
     (records_free s h movable rs a k anchored placed.1 parts.1)
 
 -- the slide of a heap
@@ -237,12 +220,12 @@ slide_keeps : (s t : Store) (heap : ℕ) (movable : List ℕ) (moves : List Move
     → IsSlid s heap movable t moves → KeepsFlex s t
 slide_keeps s t heap movable moves sound sound' may is_slid = of_heap (find_heap heap s.heaps) refl may is_slid where
   of_heap : (o : Option HeapList) → find_heap heap s.heaps ≡ o
-      → OfHeap (λ h. AreBlocks (h.start + 16) h.items movable × ((length movable ≤ 128) × HoldNoAnchor s h movable)) o
+      → OfHeap (λ h. AreBlocks (h.start + 16) h.items movable × ((length movable ≤ 128) × (HoldNoAnchor s h movable × HoldNoHeap s.heaps h movable))) o
       → OfHeap (λ h. (t ≡ with_slid s h movable) × (moves ≡ moves_in h movable)) o → KeepsFlex s t
   of_heap None found is done = absurd is
   of_heap (Some h) found is done =
       subst (λ (u : Store). KeepsFlex s u) (sym done.0)
-      (slid_keeps s h movable (may_slide_here s heap h movable sound (subst IsSound done.0 sound') is.1.1 found))
+      (slid_keeps s h movable (may_slide_here s heap h movable sound (subst IsSound done.0 sound') is.1.1.0 found))
 
 pub slides_keep : SlidesKeepFlex
 slides_keep s t movable moves sound sound' may is_slid = slide_keeps s t 0x01800000 movable moves sound sound' may is_slid

@@ -1,5 +1,5 @@
 -- Writes to the system pages and to a live block of the module area, and records of module images, keep the flex store.
-use Rattle.std.proofs.Common.{ℕ, ◌≡◌, ◌≤◌, ◌<◌, ◌+◌, ◌-◌, ◌==◌, ◌&&◌, true, false, Option, Some, None, List, [], ◌∷◌, ◌++◌, refl, ap, subst, ◌∙◌, inl, inr, arith}
+use Rattle.std.proofs.Common.{ℕ, Bool, not, ◌≡◌, ◌≤◌, ◌<◌, ◌+◌, ◌-◌, ◌==◌, ◌&&◌, true, false, Option, Some, None, List, [], ◌∷◌, ◌++◌, refl, ap, subst, ◌∙◌, inl, inr, arith}
 use Rattle.std.proofs.lemmas.Bool.{and_parts, both_ways, cases_Bool, false_from_ne_true, false≢true, le-leb, lt-ltb, or_cases, or_from, or_parts}
 use Rattle.os_heap_slide.specs.address_map.proofs.Anchors.{none_among}
 use Rattle.os_heap_slide.specs.address_map.specs.Bytes.{Bytes, in_range}
@@ -18,7 +18,7 @@ use Rattle.os_heap_slide.specs.os_heap.specs.Calls.{OfHeap}
 use Rattle.os_heap_slide.specs.os_heap.specs.Store.{AreClear, AreRangesApart, IsClearOfRanges, IsSound, Store, find_heap, is_flex_store, is_image, is_in_flex_store}
 use Rattle.dynamic_areas.specs.Ground.{IsRecorded, system_pages}
 use Rattle.flex_kept.proofs.Heaps.{writes_keep}
-use Rattle.flex_kept.specs.Keeping.{AreAnchorsFree, IsUnanchored, KeepsFlex, beside_images, is_flex_byte, is_in_record}
+use Rattle.flex_kept.specs.Keeping.{AreAnchorsFree, IsUnanchored, KeepsFlex, beside_images, is_flex_byte, is_in_other_record}
 use Rattle.flex_kept.specs.Laws.{WritesKeepFlex}
 
 -- a recorded range that is not the flex store's has no byte of it
@@ -55,21 +55,46 @@ flex_apart r (q ∷ rs) a other apart recorded is = elim (or_cases (is_flex_stor
 ]
 
 -- nor has it one of an anchor, where anchors are free
-outside_recorded : (r : Region) (rs : List Region) (a : ℕ) → IsRecorded r rs → is_in_record rs a ≡ false → in_range r.at r.len a ≡ false
-outside_recorded r [] a recorded none = absurd recorded
-outside_recorded r (q ∷ rs) a recorded none =
-    let parts = or_parts (in_range q.at q.len a) (is_in_record rs a) none in
+outside_recorded : (r : Region) (rs : List Region) (a : ℕ) → is_flex_store r.kind ≡ false → IsRecorded r rs → is_in_other_record rs a ≡ false
+    → in_range r.at r.len a ≡ false
+outside_recorded r [] a other recorded none = absurd recorded
+outside_recorded r (q ∷ rs) a other recorded none =
+    let parts = or_parts (not (is_flex_store q.kind) && in_range q.at q.len a) (is_in_other_record rs a) none in
     elim recorded [
-      | inl same ↦ subst (λ (x : Region). in_range x.at x.len a ≡ false) same parts.0
-      | inr later ↦ outside_recorded r rs a later parts.1
+      | inl same ↦
+          let own : is_flex_store q.kind ≡ false = ap (λ (x : Region). is_flex_store x.kind) same ∙ other in
+          subst (λ (x : Region). in_range x.at x.len a ≡ false) same (rw own at parts.0)
+      | inr later ↦ outside_recorded r rs a other later parts.1
     ]
+
+-- A byte of the flex store lies in no other recorded range.
+pub flex_alone : (rs : List Region) (a : ℕ) → AreRangesApart rs → is_in_flex_store rs a ≡ true → is_in_other_record rs a ≡ false
+flex_alone [] a apart is = refl
+flex_alone (r ∷ rs) a apart is = elim (cases_Bool (is_flex_store r.kind && in_range r.at r.len a)) [
+  | inl here ↦
+      let parts = and_parts (is_flex_store r.kind) (in_range r.at r.len a) here in
+      or_from (not (is_flex_store r.kind) && in_range r.at r.len a) (is_in_other_record rs a) (rw parts.0 refl) (others_clear r rs a apart.0 parts.1)
+  | inr other ↦
+      let later : is_in_flex_store rs a ≡ true = rw other at is in
+      or_from (not (is_flex_store r.kind) && in_range r.at r.len a) (is_in_other_record rs a)
+      (and_false (not (is_flex_store r.kind)) (in_range r.at r.len a) (clear_of_flex r rs a apart.0 later)) (flex_alone rs a apart.1 later)
+] where
+  and_false : (x y : Bool) → y ≡ false → (x && y) ≡ false
+  and_false true y none = none
+  and_false false y none = refl
+
+  others_clear : (r : Region) (rs : List Region) (a : ℕ) → IsClearOfRanges r rs → in_range r.at r.len a ≡ true → is_in_other_record rs a ≡ false
+  others_clear r [] a clear inside = refl
+  others_clear r (q ∷ rs) a clear inside =
+      or_from (not (is_flex_store q.kind) && in_range q.at q.len a) (is_in_other_record rs a)
+      (and_false (not (is_flex_store q.kind)) (in_range q.at q.len a) (clear.0 a inside)) (others_clear r rs a clear.1 inside)
 
 flex_outside : (s : Store) (r : Region) (a : ℕ) → IsSound s → AreAnchorsFree s → is_flex_store r.kind ≡ false → IsRecorded r s.others
     → is_flex_byte s a ≡ true → in_range r.at r.len a ≡ false
 unfolding AreAnchorsFree
 flex_outside s r a sound free other recorded is = elim (or_cases (is_in_flex_store s.others a) (s.anchor a) is) [
   | inl there ↦ flex_apart r s.others a other sound.apart recorded there
-  | inr anchor ↦ outside_recorded r s.others a recorded (free a anchor)
+  | inr anchor ↦ outside_recorded r s.others a other recorded (free a anchor)
 ]
 
 pub system_keeps : (s : Store) (c : Bytes) → IsSound s → IsRecorded system_pages s.others
@@ -119,7 +144,7 @@ unanchored_by s at len none a inside =
 
 -- other ranges are recorded
 records_keep : (s : Store) (rs : List Region) → beside_images rs ≡ beside_images s.others
-    → ((a : ℕ) → s.anchor a ≡ true → is_in_record s.others a ≡ false → is_in_record rs a ≡ false) → KeepsFlex s (record s { others = rs })
+    → ((a : ℕ) → s.anchor a ≡ true → is_in_other_record s.others a ≡ false → is_in_other_record rs a ≡ false) → KeepsFlex s (record s { others = rs })
 unfolding KeepsFlex AreAnchorsFree
 records_keep s rs beside kept free =
     (record { bytes = λ a is. refl; anchors = λ a. refl; headers = λ a. refl; beside = beside }, λ a is. kept a is (free a is))
@@ -131,11 +156,12 @@ beside_more (q ∷ rs) r image = elim (cases_Bool (is_image q.kind)) [
   | inr other ↦ rw (other, beside_more rs r image) refl
 ]
 
-outside_more : (rs : List Region) (r : Region) (a : ℕ) → is_in_record rs a ≡ false → in_range r.at r.len a ≡ false → is_in_record (rs ++ r ∷ []) a ≡ false
-outside_more [] r a none out = or_from (in_range r.at r.len a) false out refl
+outside_more : (rs : List Region) (r : Region) (a : ℕ) → is_in_other_record rs a ≡ false → (not (is_flex_store r.kind) && in_range r.at r.len a) ≡ false
+    → is_in_other_record (rs ++ r ∷ []) a ≡ false
+outside_more [] r a none out = or_from (not (is_flex_store r.kind) && in_range r.at r.len a) false out refl
 outside_more (q ∷ rs) r a none out =
-    let parts = or_parts (in_range q.at q.len a) (is_in_record rs a) none in
-    or_from (in_range q.at q.len a) (is_in_record (rs ++ r ∷ []) a) parts.0 (outside_more rs r a parts.1 out)
+    let parts = or_parts (not (is_flex_store q.kind) && in_range q.at q.len a) (is_in_other_record rs a) none in
+    or_from (not (is_flex_store q.kind) && in_range q.at q.len a) (is_in_other_record (rs ++ r ∷ []) a) parts.0 (outside_more rs r a parts.1 out)
 
 -- the record of an image more, over a range that no anchor lies in, or of one less
 pub recorded_keeps : (s : Store) (at len : ℕ) → IsUnanchored s at len
@@ -168,10 +194,10 @@ beside_less (r ∷ rs) at = elim (cases_Bool (is_record kind.Image at r)) [
   ]
 ]
 
-outside_less : (rs : List Region) (at a : ℕ) → is_in_record rs a ≡ false → is_in_record (without_region rs kind.Image at) a ≡ false
+outside_less : (rs : List Region) (at a : ℕ) → is_in_other_record rs a ≡ false → is_in_other_record (without_region rs kind.Image at) a ≡ false
 outside_less [] at a none = refl
 outside_less (r ∷ rs) at a none =
-    let parts = or_parts (in_range r.at r.len a) (is_in_record rs a) none in
+    let parts = or_parts (not (is_flex_store r.kind) && in_range r.at r.len a) (is_in_other_record rs a) none in
     elim (cases_Bool (is_record kind.Image at r)) [
       | inl here ↦ rw here parts.1
       | inr other ↦ rw (other, parts.0) (outside_less rs at a parts.1)

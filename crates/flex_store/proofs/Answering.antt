@@ -1,22 +1,27 @@
 -- What calls on one block answer, and what they leave.
-use Rattle.std.proofs.Common.{◌≡◌, ℕ, Bool, ◌+◌, ◌-◌, ◌<◌, ◌≤◌, ◌||◌, true, false, nat_eq, List, [], ◌∷◌, ◌++◌, length, take, drop, replicate, Some, None, Ok, Err, arith, refl, sym, ◌∙◌, ap, inl, inr, ◌⊎◌, subst, zero, suc}
-use Rattle.std.proofs.lemmas.Bool.{cases_Bool, cases_lt, eqb-true, or_left, or_right, le-leb, lt-leb, lt-ltb, le-ltb, eq-eqb, ne_eqb}
+use Rattle.std.proofs.Common.{◌≡◌, ℕ, Bool, ◌+◌, ◌-◌, ◌^◌, ◌<◌, ◌≤◌, ◌||◌, true, false, nat_eq, List, [], ◌∷◌, ◌++◌, length, take, drop, replicate, Some, None, Result, Ok, Err, arith, refl, sym, ◌∙◌, ap, inl, inr, subst, zero, suc}
+use Rattle.std.specs.Prelude.{if◌then◌else◌}
+use Rattle.std.proofs.lemmas.Bool.{cases_Bool, cases_lt, eqb-true, or_cases, or_left, or_right, le-leb, lt-leb, lt-ltb, le-ltb, eq-eqb, ne_eqb}
 use Rattle.std.proofs.Math.Seq.{take-length, drop-length}
 use Rattle.profile.specs.Outcome.{Gives}
 use Rattle.profile.specs.declared.error.ErrorNumber.{ErrorNumber}
-use Rattle.profile.specs.declared.error.ErrorNumber.TheVariants.{FlexBadAnchor, FlexBadRange}
+use Rattle.profile.specs.declared.error.ErrorNumber.TheVariants.{FlexBadAnchor, FlexBadRange, FlexHoldsAnchor}
 use Rattle.address_map.proofs.Bytes.{is_mapped-layout}
+use Rattle.address_map.specs.Memory.{anchor_of, byte_at}
 use Rattle.address_map.specs.declared.map.AddressMap.{AddressMap}
 use Rattle.flex_store.specs.declared.flex.Extent.{Extent}
 use Rattle.flex_store.specs.declared.splice.Splice.{Splice}
 use Rattle.flex_store.specs.Blocks.{Block, contents, cut_of, find_block, has_anchor, holding, more_of, resized, spliced, used, with_block}
-use Rattle.flex_store.specs.Calls.{extended, fitted, is_anchor_place, mid_extended, sized, with_blocks}
-use Rattle.os_heap.specs.Store.{store_of}
-use Rattle.flex_store.specs.Changes.{Fits, GotBlocks, IsChanged}
-use Rattle.flex_store.specs.Relaid.{first_at}
-use Rattle.flex_store.specs.State.{IsStoreAt, Keeps, blocks_of, held_in, store_in}
-use Rattle.flex_store.proofs.Finding.{IsHeaderWord}
-use Rattle.flex_store.proofs.Sliding.{contents_length}
+use Rattle.flex_store.specs.Calls.{breaks_anchor, end_in, extended, fitted, FlexState, header_in, is_anchor_byte, mid_extended, sized, spliced_at, with_blocks}
+use Rattle.flex_store.specs.Changes.{Fits, GotBlocks}
+use Rattle.flex_store.specs.Memory.{laid_out, standing}
+use Rattle.flex_store.specs.Relaid.{behind, first_at, replaced}
+use Rattle.flex_store.specs.Shifts.{following, splice_shifts}
+use Rattle.flex_store.specs.State.{IsAllowed, IsStoreAt, Keeps, blocks_of, held_in, store_in}
+use Rattle.flex_store.proofs.Finding.{IsHeaderWord, IsPlaced}
+use Rattle.flex_store.proofs.Lists.{anchor-append}
+use Rattle.flex_store.proofs.Replacing.{IsChange, new_old}
+use Rattle.flex_store.proofs.Standing.{standing_has}
 
 -- nothing changed
 pub same_keeps : (m : AddressMap) (e : Extent) → IsStoreAt m e → Keeps m e m e
@@ -29,15 +34,20 @@ same_keeps m e s = record {
   end = refl;
 }
 
-pub got_state : (m n : AddressMap) (e f : Extent) (bs : List Block) → GotBlocks m e bs n f → held_in n f ≡ with_blocks (held_in m e) (store_in m e) bs
-got_state m n e f bs g = λ i. record {
-  bytes = record { mapped = is_mapped-layout m n g.same i; at = λ a. g.bytes a i };
-  flex = Some (record { start = g.start i; end = g.end i; blocks = g.blocks_are i });
-}
+pub got_state : (m n : AddressMap) (e f : Extent) (front news : List Block) → GotBlocks m e front news n f
+    → held_in n f ≡ with_blocks (held_in m e) (store_in m e) front news
+got_state m n e f front news g =
+    let bytes : byte_at n ≡ laid_out (e.start + used front) news (byte_at m) = λ i a. g.bytes a i in
+    let blocks : blocks_of n f ≡ standing (laid_out (e.start + used front) news (byte_at m)) e.start (front ++ news) =
+    g.blocks_are ∙ ap (λ (h : ℕ → ℕ). standing h e.start (front ++ news)) bytes in
+    λ i. record {
+      bytes = record { mapped = is_mapped-layout m n g.same i; at = bytes i };
+      flex = Some (record { start = g.start i; end = g.end i; blocks = blocks i });
+    }
 
--- the anchors of some blocks are those of the store's, or words that may be anchors
+-- the anchors of some blocks are those of the store's, or words that may be anchors, or lie in the store
 abbrev pub AreAllowed : AddressMap → Extent → List Block → Type 0
-AreAllowed m e bs = (a : ℕ) → has_anchor bs a ≡ true → (has_anchor (blocks_of m e) a ≡ true) ⊎ (is_anchor_place (store_of m) a ≡ true)
+AreAllowed m e bs = (a : ℕ) → has_anchor bs a ≡ true → IsAllowed m e a
 
 pub has_with : (anchor : ℕ) (new : Block) (bs : List Block) (a : ℕ) → new.anchor ≡ anchor → has_anchor (with_block anchor new bs) a ≡ true → has_anchor bs a ≡ true
 has_with anchor new [] a same has = has
@@ -54,44 +64,73 @@ has_with anchor new (b ∷ bs) a same has = elim (cases_Bool (nat_eq b.anchor an
       ]
 ]
 
-pub got_keeps : (m n : AddressMap) (e f : Extent) (bs : List Block) → AreAllowed m e bs → GotBlocks m e bs n f → Keeps m e n f
-got_keeps m n e f bs allowed g = record {
+pub got_keeps : (m n : AddressMap) (e f : Extent) (front news : List Block) → AreAllowed m e (front ++ news) → GotBlocks m e front news n f → Keeps m e n f
+got_keeps m n e f front news allowed g = record {
   store = g.store;
   same = g.same;
   heads = g.heads;
-  anchors = λ a has. allowed a (ap (λ (l : List Block). has_anchor l a) (sym g.blocks_are) ∙ has);
+  anchors = λ a has. allowed a (sym (standing_has (byte_at n) e.start (front ++ news) a) ∙ (ap (λ (l : List Block). has_anchor l a) (sym g.blocks_are) ∙ has));
   start = g.start;
   end = g.end;
 }
 
--- the answer of a change of one block
-pub fits_state : (m n : AddressMap) (e f : Extent) (bs : List Block) (done : Bool) → Fits m e bs done n f
-    → Gives {U = Bool} {E = ErrorNumber} (held_in m e) (Ok (fitted (held_in m e) (store_in m e) bs)) (Ok done) (held_in n f)
-fits_state m n e f bs true fits = rw (le-leb (e.start + used bs) e.end fits.0) (got_state m n e f bs fits.1, refl)
-fits_state m n e f bs false fits =
-    rw (lt-leb (e.start + used bs) e.end fits.0) ((λ i. held_in (fits.1.0 i) (fits.1.1 i)), refl)
+-- the answer of a change
+pub fits_state : (m n : AddressMap) (e f : Extent) (front news : List Block) (done : Bool) → Fits m e front news done n f
+    → Gives {U = Bool} {E = ErrorNumber} (held_in m e) (Ok (fitted (held_in m e) (store_in m e) front news)) (Ok done) (held_in n f)
+fits_state m n e f front news true fits = rw (le-leb (e.start + used (front ++ news)) e.end fits.0) (got_state m n e f front news fits.1, refl)
+fits_state m n e f front news false fits =
+    rw (lt-leb (e.start + used (front ++ news)) e.end fits.0) ((λ i. held_in (fits.1.0 i) (fits.1.1 i)), refl)
 
-pub fits_keeps : (m n : AddressMap) (e f : Extent) (bs : List Block) (done : Bool) → IsStoreAt m e → AreAllowed m e bs → Fits m e bs done n f → Keeps m e n f
-fits_keeps m n e f bs true s allowed fits = got_keeps m n e f bs allowed fits.1
-fits_keeps m n e f bs false s allowed fits =
+pub fits_keeps : (m n : AddressMap) (e f : Extent) (front news : List Block) (done : Bool) → IsStoreAt m e → AreAllowed m e (front ++ news) → Fits m e front news done n f
+    → Keeps m e n f
+fits_keeps m n e f front news true s allowed fits = got_keeps m n e f front news allowed fits.1
+fits_keeps m n e f front news false s allowed fits =
     subst (λ (x : Extent). Keeps m e n x) (sym fits.1.1) (subst (λ (x : AddressMap). Keeps m e x e) (sym fits.1.0) (same_keeps m e s))
 
-found_anchor : (anchor : ℕ) (bs : List Block) (b : Block) → find_block anchor bs ≡ Some b → b.anchor ≡ anchor
-found_anchor anchor [] b found = absurd (let none : None ≡ Some b = found in cc)
-found_anchor anchor (x ∷ bs) b found = elim (cases_Bool (nat_eq x.anchor anchor)) [
-  | inl here ↦
-      let found' = rw here at found in
-      let same : x ≡ b = cc in
-      ap (λ (y : Block). y.anchor) (sym same) ∙ eqb-true x.anchor anchor here
-  | inr other ↦ found_anchor anchor bs b (rw other at found)
-]
+-- A splice, by the place of its block.
+pub spliced_is : (m : AddressMap) (e : Extent) (anchor header : ℕ) (front : List Block) (s : Splice) → IsStoreAt m e → IsPlaced m e anchor header front
+    → spliced_at (held_in m e) (store_in m e) anchor (first_at m header) s.at s.cut s.more
+    ≡ (if breaks_anchor (anchor_of m) (header + 8) (first_at m header).size s.at s.cut s.more then Err FlexHoldsAnchor else
+    Ok (fitted (held_in m e) (store_in m e) front (replaced m header (e.start + e.used) s)))
+spliced_is m e anchor header front s is p =
+    let b : Block = first_at m header in
+    let at_is : header_in (store_in m e) anchor ≡ header = ap (λ (l : List Block). e.start + used l) p.split.front_is ∙ sym p.place in
+    let end_is : end_in (store_in m e) ≡ e.start + e.used = ap (λ (n : ℕ). e.start + n) is.used_is in
+    let anchors : is_anchor_byte (store_in m e) ≡ anchor_of m = λ i a. sym (is.store.anchors a) i in
+    λ i. if breaks_anchor (anchors i) (at_is i + 8) b.size s.at s.cut s.more then Err FlexHoldsAnchor else
+    Ok (fitted (held_in m e) (store_in m e) (p.split.front_is i)
+    (holding b (spliced (contents b) s.at s.cut s.more) ∷ following (splice_shifts (at_is i) (end_is i) b.size s.at s.cut s.more) (p.split.rest_is i)))
 
-pub change_keeps : (m n : AddressMap) (e f : Extent) (anchor header : ℕ) (s : Splice) (done : Bool) → IsStoreAt m e → IsHeaderWord m e anchor header
-    → IsChanged m e anchor s done n f → Keeps m e n f
-change_keeps m n e f anchor header s done store w change =
-    let b : Block = holding (first_at m header) (spliced (contents (first_at m header)) s.at s.cut s.more) in
-    fits_keeps m n e f (with_block anchor b (blocks_of m e)) done store
-    (λ a has. inl (has_with anchor b (blocks_of m e) a (found_anchor anchor (blocks_of m e) (first_at m header) w.found) has)) (rw w.found at change)
+pub splice_broken : (m : AddressMap) (e : Extent) (anchor header : ℕ) (front : List Block) (s : Splice) → IsStoreAt m e → IsPlaced m e anchor header front
+    → breaks_anchor (anchor_of m) (header + 8) (first_at m header).size s.at s.cut s.more ≡ true
+    → Gives {U = Bool} (held_in m e) (spliced_at (held_in m e) (store_in m e) anchor (first_at m header) s.at s.cut s.more) (Err FlexHoldsAnchor) (held_in m e)
+splice_broken m e anchor header front s is p broken =
+    let way = spliced_is m e anchor header front s is p
+    ∙ ap (λ (t : Bool). let r : Result (FlexState × Bool) ErrorNumber = if t then Err FlexHoldsAnchor else Ok (fitted (held_in m e) (store_in m e) front (replaced m header (e.start + e.used) s)) in r) broken in
+    subst (λ (x : Result (FlexState × Bool) ErrorNumber). Gives (held_in m e) x (Err FlexHoldsAnchor) (held_in m e)) (sym way) (refl, refl)
+
+pub splice_done : (m n : AddressMap) (e f : Extent) (anchor header : ℕ) (front : List Block) (s : Splice) (done : Bool) → IsStoreAt m e → IsPlaced m e anchor header front
+    → breaks_anchor (anchor_of m) (header + 8) (first_at m header).size s.at s.cut s.more ≡ false → Fits m e front (replaced m header (e.start + e.used) s) done n f
+    → Gives {U = Bool} (held_in m e) (spliced_at (held_in m e) (store_in m e) anchor (first_at m header) s.at s.cut s.more) (Ok done) (held_in n f)
+splice_done m n e f anchor header front s done is p free fits =
+    let way = spliced_is m e anchor header front s is p
+    ∙ ap (λ (t : Bool). let r : Result (FlexState × Bool) ErrorNumber = if t then Err FlexHoldsAnchor else Ok (fitted (held_in m e) (store_in m e) front (replaced m header (e.start + e.used) s)) in r) free in
+    subst (λ (x : Result (FlexState × Bool) ErrorNumber). Gives (held_in m e) x (Ok done) (held_in n f)) (sym way)
+    (fits_state m n e f front (replaced m header (e.start + e.used) s) done fits)
+
+-- its anchors
+pub splice_allowed : (m : AddressMap) (e : Extent) (anchor header : ℕ) (front : List Block) (s : Splice) (p : IsPlaced m e anchor header front) → IsChange m e header s
+    → AreAllowed m e (front ++ replaced m header (e.start + e.used) s)
+splice_allowed m e anchor header front s p c a has =
+    let old : List Block = front ++ first_at m header ∷ behind m header (e.start + e.used) in
+    let was : has_anchor old a ≡ true → IsAllowed m e a = λ had. inl (ap (λ (l : List Block). has_anchor l a) p.split.list ∙ had) in
+    elim (or_cases (has_anchor front a) (has_anchor (replaced m header (e.start + e.used) s) a) (sym (anchor-append front (replaced m header (e.start + e.used) s) a) ∙ has)) [
+      | inl own ↦ was (anchor-append front (first_at m header ∷ behind m header (e.start + e.used)) a ∙ or_left (has_anchor front a) _ own)
+      | inr new ↦ elim (new_old m e anchor header front s p c a new) [
+        | inl had ↦ was had
+        | inr within ↦ inr (inr (omega (arith, within.0, p.place), omega (arith, within.1)))
+      ]
+    ]
 
 take_past : (n : ℕ) (c : List ℕ) → length c ≤ n → take n c ≡ c
 take_past zero [] fits = refl
@@ -128,18 +167,19 @@ pub extend_same : (m : AddressMap) (e : Extent) (anchor header size : ℕ) → I
 unfolding extended
 extend_same m e anchor header size w same = rw (w.found, eq-eqb size (first_at m header).size same) (refl, refl)
 
-pub extend_done : (m n : AddressMap) (e f : Extent) (anchor header size old cut more : ℕ) (done : Bool) → IsHeaderWord m e anchor header → old ≡ (first_at m header).size
-    → (size ≡ old → ⊥) → cut ≡ old - size → more ≡ size - old → IsChanged m e anchor (record { at = old; cut = cut; more = more }) done n f
-    → Gives (held_in m e) (extended (held_in m e) anchor size) (Ok done) (held_in n f)
+pub extend_done : (m n : AddressMap) (e f : Extent) (anchor header size old cut more : ℕ) (r : Result Bool ErrorNumber) → IsHeaderWord m e anchor header → old ≡ (first_at m header).size
+    → (size ≡ old → ⊥) → cut ≡ old - size → more ≡ size - old
+    → Gives (held_in m e) (spliced_at (held_in m e) (store_in m e) anchor (first_at m header) old cut more) r (held_in n f)
+    → Gives (held_in m e) (extended (held_in m e) anchor size) r (held_in n f)
 unfolding extended
-extend_done m n e f anchor header size old cut more done w old_is differs cut_is more_is change =
+extend_done m n e f anchor header size old cut more r w old_is differs cut_is more_is given =
     let b : Block = first_at m header in
     let other : nat_eq size b.size ≡ false = ne_eqb size b.size (λ same. differs (same ∙ sym old_is)) in
-    let size_is : length (contents b) ≡ old = contents_length m header ∙ sym old_is in
-    let as_splice : resized (contents b) size ≡ spliced (contents b) old cut more =
-    resized_is (contents b) old size size_is ∙ (ap (λ (n : ℕ). spliced (contents b) old n (size - old)) (sym cut_is) ∙ ap (λ (n : ℕ). spliced (contents b) old cut n) (sym more_is)) in
-    rw (w.found, other, as_splice)
-    (fits_state m n e f (with_block anchor (holding b (spliced (contents b) old cut more)) (blocks_of m e)) done (rw w.found at change))
+    let cut_is' : cut ≡ b.size - size = cut_is ∙ ap (λ (n : ℕ). n - size) old_is in
+    let more_is' : more ≡ size - b.size = more_is ∙ ap (λ (n : ℕ). size - n) old_is in
+    let same : spliced_at (held_in m e) (store_in m e) anchor b old cut more ≡ spliced_at (held_in m e) (store_in m e) anchor b b.size (b.size - size) (size - b.size) =
+    λ i. spliced_at (held_in m e) (store_in m e) anchor b (old_is i) (cut_is' i) (more_is' i) in
+    rw (w.found, other) (subst (λ (x : Result (FlexState × Bool) ErrorNumber). Gives (held_in m e) x r (held_in n f)) same given)
 
 pub mid_range : (m : AddressMap) (e : Extent) (anchor at by : ℕ) → at < cut_of by
     → Gives {U = Bool} (held_in m e) (mid_extended (held_in m e) anchor at by) (Err FlexBadRange) (held_in m e)
@@ -162,16 +202,28 @@ unfolding mid_extended
 mid_same m e anchor header at by inside w within none =
     rw (le-ltb at (cut_of by) inside, w.found, le-ltb (first_at m header).size at within, eq-eqb by 0 none) (refl, refl)
 
-pub mid_done : (m n : AddressMap) (e f : Extent) (anchor header at by cut more : ℕ) (done : Bool) → cut_of by ≤ at → IsHeaderWord m e anchor header → at ≤ (first_at m header).size
-    → (by ≡ 0 → ⊥) → cut ≡ cut_of by → more ≡ more_of by → IsChanged m e anchor (record { at = at; cut = cut; more = more }) done n f
-    → Gives (held_in m e) (mid_extended (held_in m e) anchor at by) (Ok done) (held_in n f)
+pub mid_done : (m n : AddressMap) (e f : Extent) (anchor header at by cut more : ℕ) (r : Result Bool ErrorNumber) → cut_of by ≤ at → IsHeaderWord m e anchor header
+    → at ≤ (first_at m header).size → (by ≡ 0 → ⊥) → cut ≡ cut_of by → more ≡ more_of by
+    → Gives (held_in m e) (spliced_at (held_in m e) (store_in m e) anchor (first_at m header) at cut more) r (held_in n f)
+    → Gives (held_in m e) (mid_extended (held_in m e) anchor at by) r (held_in n f)
 unfolding mid_extended
-mid_done m n e f anchor header at by cut more done inside w within some cut_is more_is change =
-    let change' : IsChanged m e anchor (record { at = at; cut = cut_of by; more = more_of by }) done n f =
-    subst (λ (x : ℕ). IsChanged m e anchor (record { at = at; cut = cut_of by; more = x }) done n f) more_is
-    (subst (λ (x : ℕ). IsChanged m e anchor (record { at = at; cut = x; more = more }) done n f) cut_is change) in
-    rw (le-ltb at (cut_of by) inside, w.found, le-ltb (first_at m header).size at within, ne_eqb by 0 some)
-    (fits_state m n e f (with_block anchor (holding (first_at m header) (spliced (contents (first_at m header)) at (cut_of by) (more_of by))) (blocks_of m e)) done (rw w.found at change'))
+mid_done m n e f anchor header at by cut more r inside w within some cut_is more_is given =
+    let b : Block = first_at m header in
+    let same : spliced_at (held_in m e) (store_in m e) anchor b at cut more ≡ spliced_at (held_in m e) (store_in m e) anchor b at (cut_of by) (more_of by) =
+    λ i. spliced_at (held_in m e) (store_in m e) anchor b at (cut_is i) (more_is i) in
+    rw (le-ltb at (cut_of by) inside, w.found, le-ltb b.size at within, ne_eqb by 0 some)
+    (subst (λ (x : Result (FlexState × Bool) ErrorNumber). Gives (held_in m e) x r (held_in n f)) same given)
+
+-- a change by a word that is not 0 takes something away or adds something
+pub some_change : (by cut more : ℕ) → cut ≡ cut_of by → more ≡ more_of by → (by ≡ 0 → ⊥) → by < 2 ^ 32 → 0 < cut + more
+some_change by cut more cut_is more_is some small = elim (cases_lt by (2 ^ 31)) [
+  | inl low ↦
+      let more' : more ≡ by = more_is ∙ rw (lt-leb (2 ^ 31) by low) refl in
+      omega (arith, some)
+  | inr high ↦
+      let cut' : cut ≡ 2 ^ 32 - by = cut_is ∙ rw (le-leb (2 ^ 31) by high) refl in
+      omega arith
+]
 
 pub size_none : (m : AddressMap) (e : Extent) (anchor : ℕ) → find_block anchor (blocks_of m e) ≡ None → Err FlexBadAnchor ≡ sized (held_in m e) anchor
 size_none m e anchor none = rw none refl

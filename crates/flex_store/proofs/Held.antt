@@ -54,7 +54,6 @@ flex_left m n e is k =
           whole = whole;
           words = words;
           inner = λ a has low high. standing_contents (byte_at n) e.start e.start bs a ∙ s.inner a (sym (standing_has (byte_at n) e.start bs a) ∙ has) low high;
-          outside = λ a has. s.outside a (sym (standing_has (byte_at n) e.start bs a) ∙ has);
           text = text;
           anchored = standing_anchored (is_mapped m) e.start e.end (byte_at m) (byte_at n) (byte_at n) e.start bs s.words
               (λ a has. k.anchor_bytes a (s.anchors a ∙ has)) s.anchored;

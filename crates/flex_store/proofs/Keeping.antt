@@ -8,11 +8,14 @@ use Rattle.address_map.specs.Classes.{is_anchor, is_flex_header, is_heap_class}
 use Rattle.address_map.specs.Memory.{class_of, is_mapped}
 use Rattle.address_map.specs.declared.map.AddressMap.{AddressMap}
 use Rattle.address_map.specs.declared.region.Region.{Region}
+use Rattle.os_heap.proofs.Anchored.{not_flex}
+use Rattle.os_heap.proofs.Stores.{image_kind, placed_either}
+use Rattle.os_heap.specs.os_heap_lists.specs.Heap.{HeapList}
 use Rattle.os_heap.proofs.FlexSound.{flex_unspelled, IsSoundFlexed, place_unspelled, sound_flexed}
 use Rattle.os_heap.proofs.Frame.{layout-others, store_bytes}
 use Rattle.os_heap.proofs.PayloadLemmas.{anchor_placed}
 use Rattle.os_heap.specs.Payloads.{is_other, payload_of}
-use Rattle.os_heap.specs.Store.{AreClasses, IsAnchorPlace, is_flex_store, is_in_flex_store, IsSound, Store, store_of}
+use Rattle.os_heap.specs.Store.{AreClasses, ArePlaced, IsAnchorPlace, IsClearOfHeaps, is_flex_store, is_in_flex_store, IsSound, Store, store_of}
 use Rattle.flex_store.specs.declared.flex.Extent.{Extent}
 use Rattle.flex_store.specs.Blocks.{used}
 use Rattle.flex_store.specs.Calls.{is_anchor_place}
@@ -28,9 +31,9 @@ pub record IsPlace (s : Store) (a : ℕ) : Type 0 where
 pub place_parts : (s : Store) (a : ℕ) → is_anchor_place s a ≡ true → IsPlace s a
 unfolding is_anchor_place
 place_parts s a place =
-    let one = and_parts ((a % 4) == 0 && s.bytes.mapped a) (not (list_any (λ r. meets a 4 r.at r.len) s.others) && not (is_other (payload_of s.heaps a))) place in
+    let one = and_parts ((a % 4) == 0 && s.bytes.mapped a) (not (list_any (λ r. not (is_flex_store r.kind) && meets a 4 r.at r.len) s.others) && not (is_other (payload_of s.heaps a))) place in
     let two = and_parts ((a % 4) == 0) (s.bytes.mapped a) one.0 in
-    let three = and_parts (not (list_any (λ r. meets a 4 r.at r.len) s.others)) (not (is_other (payload_of s.heaps a))) one.1 in
+    let three = and_parts (not (list_any (λ r. not (is_flex_store r.kind) && meets a 4 r.at r.len) s.others)) (not (is_other (payload_of s.heaps a))) one.1 in
     record { aligned = eqb-true (a % 4) 0 two.0; mapped = two.1; held = not-true (is_other (payload_of s.heaps a)) three.1 }
 
 -- each byte of such a word
@@ -75,9 +78,36 @@ no_head : (m : AddressMap) (e : Extent) → IsSound (store_of m) → AreClasses 
 no_head m e sound classes is =
     λ a low high. classes a ∙ flex_unspelled (store_of m).bytes (store_of m).heaps (store_of m).others a sound.heaps sound.placed (in_extent m e a is low high)
 
+-- no heap lies in the store
+clear_place : (at len : ℕ) (hs : List HeapList) (a : ℕ) → IsClearOfHeaps at len hs → in_range at len a ≡ true → IsAnchorPlace hs a
+clear_place at len [] a clear inside = tt
+clear_place at len (h ∷ hs) a clear inside = (inl (clear.0 a inside), clear_place at len hs a clear.1 inside)
+
+pub store_place : (hs : List HeapList) (rs : List Region) (a : ℕ) → ArePlaced hs rs → is_in_flex_store rs a ≡ true → IsAnchorPlace hs a
+store_place hs [] a placed is = absurd (false≢true is)
+store_place hs (r ∷ rs) a placed is = elim (cases_Bool (is_flex_store r.kind && in_range r.at r.len a)) [
+  | inr other ↦ store_place hs rs a placed.1 (rw other at is)
+  | inl here ↦
+      let parts = and_parts (is_flex_store r.kind) (in_range r.at r.len a) here in
+      elim (placed_either hs r placed.0) [
+        | inl clear ↦ clear_place r.at r.len hs a clear parts.1
+        | inr image ↦ absurd (not_flex r.kind parts.0 (image_kind hs r image))
+      ]
+]
+
 pub store_anchor : (m : AddressMap) (a : ℕ) → (store_of m).anchor a ≡ is_anchor (class_of m a)
 unfolding store_of
 store_anchor m a = refl
+
+inside_place : (m : AddressMap) (e : Extent) (a : ℕ) → IsSound (store_of m) → IsRecordedStore m e → e.start ≤ word_start a → word_start a < e.end
+    → (is_mapped m a ≡ true) × IsAnchorPlace (store_of m).heaps a
+inside_place m e a sound is low high =
+    let aligned : e.end % 4 ≡ 0 = is.held.store.range.end_aligned in
+    let up : e.start ≤ a = omega arith in
+    let below : a < e.end = omega arith in (
+      is.held.store.range.there a up (omega arith),
+      store_place (store_of m).heaps (store_of m).others a sound.placed (in_extent m e a is up below),
+    )
 
 -- an anchor after a call
 kept_anchor : (m n : AddressMap) (e f : Extent) → IsSound (store_of m) → IsRecordedStore m e → Keeps m e n f → (a : ℕ) → is_anchor (class_of n a) ≡ true
@@ -87,7 +117,10 @@ kept_anchor m n e f sound is k a anchor =
       | inl was ↦
           let old : (store_of m).anchor a ≡ true = store_anchor m a ∙ (is.held.store.anchors a ∙ was) in
           (ap (λ (b : Bytes). b.mapped a) (sym (store_bytes m)) ∙ (sound.anchors a old).0, (sound.anchors a old).1)
-      | inr new ↦ place_byte m a sound new
+      | inr other ↦ elim other [
+        | inl new ↦ place_byte m a sound new
+        | inr within ↦ inside_place m e a sound is within.0 within.1
+      ]
     ]
 
 kept_header : (m n : AddressMap) (e f : Extent) → IsRecordedStore m e → Keeps m e n f → (a : ℕ) → is_flex_header (class_of n a) ≡ true
@@ -129,13 +162,18 @@ kept_flex m n e f is k = record {
   recorded = rw (layout-others m n k.same, k.start, k.end) is.recorded;
 }
 
--- Each anchor was one, or its word may be one.
+-- Each anchor was one, or its word may be one, or it lies in the store.
 pub kept_anchors : (m n : AddressMap) (e f : Extent) → IsRecordedStore m e → Keeps m e n f → (a : ℕ) → (store_of n).anchor a ≡ true
-    → ((store_of m).anchor a ≡ true) ⊎ (is_anchor_place (store_of m) (word_start a) ≡ true)
+    → ((store_of m).anchor a ≡ true) ⊎ ((is_anchor_place (store_of m) (word_start a) ≡ true) ⊎ (is_in_flex_store (store_of m).others a ≡ true))
 kept_anchors m n e f is k a anchor =
     elim (k.anchors (word_start a) (sym (k.store.store.anchors a) ∙ (sym (store_anchor n a) ∙ anchor))) [
       | inl was ↦ inl (store_anchor m a ∙ (is.held.store.anchors a ∙ was))
-      | inr new ↦ inr new
+      | inr other ↦ elim other [
+        | inl new ↦ inr (inl new)
+        | inr within ↦
+            let aligned : e.end % 4 ≡ 0 = is.held.store.range.end_aligned in
+            inr (inr (in_extent m e a is (omega (arith, within.0)) (omega (arith, within.1))))
+      ]
     ]
 
 pub ruleset keeping = (kept_sound, kept_classes, kept_heaps, kept_flex, kept_anchors)

@@ -2,8 +2,11 @@ pub mod Allocating
 pub mod Anchoring
 pub mod Answering
 pub mod Changing
+pub mod Contents
 pub mod Filled
 pub mod Finding
+pub mod Fitting
+pub mod Following
 pub mod Headers
 pub mod Held
 pub mod Holding
@@ -12,10 +15,13 @@ pub mod Laying
 pub mod LawLemmas
 pub mod Listing
 pub mod Lists
+pub mod Placing
 pub mod Reading
 pub mod Recording
 pub mod Releasing
-pub mod Runs
+pub mod Replacing
+pub mod Room
+pub mod Settling
 pub mod Sliding
 pub mod Splicing
 pub mod Standing

@@ -7,7 +7,7 @@ use Rattle.flex_store.specs.declared.flex.Extent.{Extent}
 use Rattle.flex_store.specs.Blocks.{Block, taken, used}
 use Rattle.flex_store.specs.Listed.{listed}
 use Rattle.flex_store.specs.Memory.{blocks_in}
-use Rattle.flex_store.specs.State.{blocks_of, IsFlexStore, IsRecordedStore, IsText}
+use Rattle.flex_store.specs.State.{blocks_of, IsFlexStore, IsRecordedStore, IsStoreAt, IsText}
 use Rattle.flex_store.proofs.Texts.{IsFirst, text_first, text_next, text_read}
 use Rattle.flex_store.proofs.Words.{words_low}
 
@@ -46,10 +46,10 @@ pub next_listed : (m : AddressMap) (at end next : ℕ) → IsText (bytes_of m) a
 next_listed m at end next is some here = next_by m at end next (blocks_in (byte_at m) at end) refl is some here
 
 -- all blocks of a store
-pub store_text : (m : AddressMap) (e : Extent) → IsRecordedStore m e → IsText (bytes_of m) e.start (e.start + e.used) (blocks_of m e)
-store_text m e is =
-    let s : IsFlexStore m e.start e.end (blocks_of m e) = is.held.store in
-    let total : used (blocks_of m e) ≡ e.used = is.held.used_is in
+pub text_of_store : (m : AddressMap) (e : Extent) → IsStoreAt m e → IsText (bytes_of m) e.start (e.start + e.used) (blocks_of m e)
+text_of_store m e is =
+    let s : IsFlexStore m e.start e.end (blocks_of m e) = is.store in
+    let total : used (blocks_of m e) ≡ e.used = is.used_is in
     record {
       whole = s.whole;
       low = words_low (is_mapped m) e.start e.end (blocks_of m e) s.words;
@@ -58,6 +58,9 @@ store_text m e is =
       aligned = s.range.start_aligned;
       mapped = λ a low high. s.range.there a low (omega (arith, s.fits));
     }
+
+pub store_text : (m : AddressMap) (e : Extent) → IsRecordedStore m e → IsText (bytes_of m) e.start (e.start + e.used) (blocks_of m e)
+store_text m e is = text_of_store m e is.held
 
 pub no_text : (m : AddressMap) → IsText (bytes_of m) 0 0 (blocks_in (byte_at m) 0 0)
 no_text m = subst (λ (l : List Block). IsText (bytes_of m) 0 0 l) (sym (no_blocks (byte_at m) 0 0 (omega arith))) (record {

@@ -1,10 +1,10 @@
 -- Lists of blocks end to end: what they use, their text, their anchors.
-use Rattle.std.proofs.Common.{◌≡◌, ℕ, ◌+◌, Bool, true, false, ◌||◌, nat_eq, List, [], ◌∷◌, ◌++◌, length, arith, refl, sym, ◌∙◌, ap, append_assoc, inl, inr, Some, None}
+use Rattle.std.proofs.Common.{◌≡◌, ℕ, ◌+◌, ◌%◌, Bool, true, false, ◌||◌, nat_eq, List, [], ◌∷◌, ◌++◌, length, arith, refl, sym, ◌∙◌, ap, append_assoc, inl, inr, Some, None}
 use Rattle.std.proofs.lemmas.Bool.{cases_Bool, eqb-true, or_parts, true≢false}
 use Rattle.std.proofs.lemmas.Bool.Decides.{nat_tests}
 use Rattle.std.proofs.Math.ListN.{length-append}
 use Rattle.address_map.specs.raw_store.specs.Region.{word_bytes}
-use Rattle.flex_store.specs.Blocks.{Block, used, taken, has_anchor, without_block, find_block, is_header}
+use Rattle.flex_store.specs.Blocks.{before, Block, find_block, has_anchor, is_header, is_held_word, is_in_contents, taken, used, without_block}
 use Rattle.flex_store.specs.Memory.{text_of, AreAnchored}
 use Rattle.flex_store.specs.Places.{Split}
 use Rattle.flex_store.specs.State.{AreWhole}
@@ -12,6 +12,10 @@ use Rattle.flex_store.specs.State.{AreWhole}
 pub used-append : (xs ys : List Block) → used (xs ++ ys) ≡ used xs + used ys
 used-append [] ys = omega arith
 used-append (b ∷ xs) ys = omega (arith, used-append xs ys)
+
+pub used_aligned : (bs : List Block) → used bs % 4 ≡ 0
+used_aligned [] = refl
+used_aligned (b ∷ bs) = let rest : used bs % 4 ≡ 0 = used_aligned bs in omega arith
 
 pub text-append : (xs ys : List Block) → text_of (xs ++ ys) ≡ text_of xs ++ text_of ys
 text-append [] ys = refl
@@ -33,6 +37,12 @@ header-append at [] ys a =
 header-append at (b ∷ xs) ys a =
     let e : at + taken b.size + used xs ≡ at + (taken b.size + used xs) = omega arith in
     rw (header-append (at + taken b.size) xs ys a, e) (or_assoc (nat_eq a at || nat_eq a (at + 4)) (is_header (at + taken b.size) xs a) (is_header (at + (taken b.size + used xs)) ys a))
+
+pub contents-append : (at : ℕ) (xs ys : List Block) (a : ℕ) → is_in_contents at (xs ++ ys) a ≡ (is_in_contents at xs a || is_in_contents (at + used xs) ys a)
+contents-append at [] ys a = let e : at ≡ at + 0 = omega arith in ap (λ p. is_in_contents p ys a) e
+contents-append at (b ∷ xs) ys a =
+    let e : at + taken b.size + used xs ≡ at + (taken b.size + used xs) = omega arith in
+    rw (contents-append (at + taken b.size) xs ys a, e) (or_assoc (is_held_word at b a) (is_in_contents (at + taken b.size) xs a) (is_in_contents (at + (taken b.size + used xs)) ys a))
 
 pub whole-append : (xs ys : List Block) → AreWhole xs → AreWhole ys → AreWhole (xs ++ ys)
 whole-append [] ys p q = q
@@ -69,7 +79,7 @@ split_by wanted b bs e same = record {
   before = [];
   block = b;
   after = bs;
-  is = record { list = refl; anchor = e; found = rw same refl; without = rw same refl; put = λ new. rw same refl };
+  is = record { list = refl; anchor = e; found = rw same refl; without = rw same refl; put = λ new. rw same refl; front_is = rw same refl; rest_is = rw same refl };
 }
 
 split_more : (wanted : ℕ) (b : Block) (bs : List Block) → nat_eq b.anchor wanted ≡ false → Split wanted bs → Split wanted (b ∷ bs)
@@ -77,6 +87,7 @@ split_more wanted b bs other s =
     let one : bs ≡ s.before ++ s.block ∷ s.after = s.is.list in
     let two : find_block wanted bs ≡ Some s.block = s.is.found in
     let three : without_block wanted bs ≡ s.before ++ s.after = s.is.without in
+    let four : before wanted bs ≡ s.before = s.is.front_is in
     record {
       before = b ∷ s.before;
       block = s.block;
@@ -87,6 +98,8 @@ split_more wanted b bs other s =
         found = rw other two;
         without = rw other (ap (λ (l : List Block). b ∷ l) three);
         put = λ new. rw other (ap (λ (l : List Block). b ∷ l) (s.is.put new));
+        front_is = rw other (ap (λ (l : List Block). b ∷ l) four);
+        rest_is = rw other s.is.rest_is;
       };
     }
 

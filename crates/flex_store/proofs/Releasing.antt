@@ -1,31 +1,39 @@
 -- A block that goes, whose anchor is 0 then.
-use Rattle.std.proofs.Common.{◌≡◌, ℕ, Bool, ◌+◌, ◌-◌, ◌%◌, ◌^◌, ◌<◌, ◌≤◌, true, false, nat_eq, List, [], ◌∷◌, ◌++◌, length, Some, Ok, arith, refl, sym, ◌∙◌, ap, inl, inr, ◌⊎◌, subst}
-use Rattle.std.proofs.lemmas.Bool.{cases_Bool, eqb-false, eq-eqb, or_from, or_left, or_parts, or_right, true≢false}
+use Rattle.std.proofs.Common.{◌≡◌, ℕ, Bool, ◌+◌, ◌-◌, ◌%◌, ◌^◌, ◌<◌, ◌≤◌, ◌||◌, true, false, nat_eq, List, [], ◌∷◌, ◌++◌, Some, Result, Ok, Err, arith, refl, sym, ◌∙◌, ap, inl, inr, ◌⊎◌, subst}
+use Rattle.std.specs.Prelude.{if◌then◌else◌}
+use Rattle.std.proofs.lemmas.Bool.{both_ways, cases_Bool, eqb-false, eq-eqb, or_cases, or_left, or_parts, or_right, true≢false}
 use Rattle.profile.specs.Outcome.{Gives}
 use Rattle.profile.specs.declared.error.ErrorNumber.{ErrorNumber}
+use Rattle.profile.specs.declared.error.ErrorNumber.TheVariants.{FlexHoldsAnchor}
 use Rattle.address_map.specs.raw_store.specs.Region.{word_bytes}
+use Rattle.address_map.specs.Records.{anchor_among}
 use Rattle.address_map.proofs.Bytes.{is_mapped-layout}
-use Rattle.address_map.specs.Bytes.{with_word_at, word_start}
-use Rattle.address_map.specs.Classes.{is_anchor, is_flex_header, is_heap_class}
-use Rattle.address_map.specs.Memory.{byte_at, bytes_of, class_of, is_mapped, layout}
+use Rattle.address_map.specs.Bytes.{AreMapped, with_word_at, word_start}
+use Rattle.address_map.specs.Classes.{is_heap_class}
+use Rattle.address_map.specs.Memory.{anchor_of, byte_at, bytes_of, class_of, is_mapped, layout}
 use Rattle.address_map.specs.declared.class.Class.{Class}
 use Rattle.address_map.specs.declared.map.AddressMap.{AddressMap}
 use Rattle.flex_store.specs.declared.flex.Extent.{Extent}
-use Rattle.flex_store.specs.Blocks.{Block, has_anchor, taken, used, without_block}
-use Rattle.flex_store.specs.Calls.{released, with_blocks, without_anchor}
+use Rattle.flex_store.specs.declared.shift.Shift.{Shift}
+use Rattle.flex_store.specs.Blocks.{Block, FlexStore, has_anchor, is_header, is_in_contents, taken, used, without_block}
+use Rattle.flex_store.specs.Calls.{end_in, FlexState, header_in, is_anchor_byte, released, with_blocks, without_anchor}
 use Rattle.flex_store.specs.Changes.{GotBlocks}
-use Rattle.flex_store.specs.Memory.{AreAnchored, Holds, blocks_in, laid_out, text_of}
-use Rattle.flex_store.specs.Relaid.{behind, first_at, MayLie, Relaid}
-use Rattle.flex_store.specs.State.{AreAnchorWords, AreOuterWords, AreOutside, AreWhole, IsFlexRange, IsMappedWord, IsText, Keeps, KeepsHeads, blocks_of, held_in, store_in}
+use Rattle.flex_store.specs.Memory.{AreAnchored, blocks_in, laid_out, standing}
+use Rattle.flex_store.specs.Relaid.{behind, closed, first_at, MayLie, Relaid}
+use Rattle.flex_store.specs.Shifts.{following, removal_shifts}
+use Rattle.flex_store.specs.State.{AreAnchorWords, IsAllowed, IsMappedWord, IsStoreAt, IsText, Keeps, KeepsHeads, blocks_of, held_in, store_in}
 use Rattle.flex_store.proofs.Anchoring.{other_word}
-use Rattle.flex_store.proofs.Changing.{got, no_heap_anchor, outer_right}
+use Rattle.flex_store.proofs.Changing.{AreHeadless, got, no_heap_anchor}
 use Rattle.flex_store.proofs.Finding.{IsPlaced}
-use Rattle.flex_store.proofs.Holding.{holds_kept, holds_left, word_beside}
-use Rattle.flex_store.proofs.Lists.{anchor-append, anchored_left, header-append, text-append, text_used, used-append, whole-append, whole_left}
+use Rattle.flex_store.proofs.Fitting.{before_laid, front_fresh, MayFollow, rest_inside, rest_old}
+use Rattle.flex_store.proofs.Following.{ArePlaced, following_used, following_whole, following_words, InBlock, InFront, InRest, Inside, IsMove, Move}
+use Rattle.flex_store.proofs.Holding.{holds_kept, word_beside}
+use Rattle.flex_store.proofs.Lists.{anchor-append, anchored_left, header-append, used-append}
+use Rattle.flex_store.proofs.Placing.{no_anchor_in, removal_move, removal_numbers, removal_placed}
 use Rattle.flex_store.proofs.Reading.{block_read}
-use Rattle.flex_store.proofs.Storing.{IsBefore}
+use Rattle.flex_store.proofs.Standing.{standing_has}
 use Rattle.flex_store.proofs.Texts.{IsFirst, text_first, text_kept, text_next, text_read}
-use Rattle.flex_store.proofs.Words.{outer_words, outside_inner, outside_of, word_of, words_apart, words_left, words_outer, words_within}
+use Rattle.flex_store.proofs.Words.{anchor_no_header, word_of, words_apart, words_left, words_right, words_within}
 
 -- what memory spells first, and what behind that
 pub record IsSpelledAt (m : AddressMap) (h end : ℕ) (b : Block) (after : List Block) : Type 0 where
@@ -42,14 +50,6 @@ spelled_at m h end b after text =
       rest = ap (λ (x : Block). blocks_in (byte_at m) (h + taken x.size) end) is_first
           ∙ text_read (bytes_of m) (h + taken b.size) end after (text_next (bytes_of m) h end b after text);
     }
-
--- the list without a block
-words_drop : (mapped : ℕ → Bool) (start end : ℕ) (xs ys : List Block) (b : Block) → AreOuterWords mapped start end (xs ++ b ∷ ys) → AreOuterWords mapped start end (xs ++ ys)
-words_drop mapped start end [] ys b words = words.1
-words_drop mapped start end (x ∷ xs) ys b words =
-    let none = or_parts (has_anchor xs x.anchor) (has_anchor (b ∷ ys) x.anchor) (sym (anchor-append xs (b ∷ ys) x.anchor) ∙ words.0.1) in
-    let none' = or_parts (nat_eq x.anchor b.anchor) (has_anchor ys x.anchor) none.1 in
-    ((words.0.0, anchor-append xs ys x.anchor ∙ or_from (has_anchor xs x.anchor) (has_anchor ys x.anchor) none.0 none'.1), words_drop mapped start end xs ys b words.1)
 
 -- anchors that stay where one word changes that is none of them
 anchored_other : (mapped : ℕ → Bool) (start end : ℕ) (f g : ℕ → ℕ) (at : ℕ) (bs : List Block) (word : ℕ) → AreAnchorWords mapped start end bs → has_anchor bs word ≡ false
@@ -97,133 +97,225 @@ cleared_text m m2 e anchor header before p c =
     text_kept (bytes_of m) (bytes_of m2) header (e.start + e.used) (first_at m header ∷ behind m header (e.start + e.used)) (is_mapped-layout m m2 c.same)
     (λ a low high. cleared_same m m2 anchor a c w.aligned (inside_other header (e.start + e.used) anchor a p.text.aligned (own_outside m e anchor header before p) low high)) p.text
 
-drop_outer : (m : AddressMap) (e : Extent) (anchor header : ℕ) (before : List Block) → IsPlaced m e anchor header before
-    → AreOuterWords (is_mapped m) e.start e.end (before ++ behind m header (e.start + e.used))
-drop_outer m e anchor header before p =
-    let after : List Block = behind m header (e.start + e.used) in
-    words_drop (is_mapped m) e.start e.end before after (first_at m header)
-    (words_outer (is_mapped m) e.start e.end e.start (before ++ first_at m header ∷ after) p.store.words p.store.outside)
+-- a release, by the place of its block
+released_is : (m : AddressMap) (e : Extent) (anchor header : ℕ) (front : List Block) → IsStoreAt m e → IsPlaced m e anchor header front
+    → released (held_in m e) anchor
+    ≡ (if anchor_among (anchor_of m) (header + 8) (first_at m header).size then Err FlexHoldsAnchor else
+    Ok (with_blocks (without_anchor (held_in m e) anchor) (store_in m e) front (following (removal_shifts header (e.start + e.used) (first_at m header).size) (behind m header (e.start + e.used))), tt))
+unfolding released
+released_is m e anchor header front is p =
+    let size : ℕ = (first_at m header).size in
+    let at_is : header_in (store_in m e) anchor ≡ header = ap (λ (l : List Block). e.start + used l) p.split.front_is ∙ sym p.place in
+    let end_is : end_in (store_in m e) ≡ e.start + e.used = ap (λ (n : ℕ). e.start + n) is.used_is in
+    let anchors : is_anchor_byte (store_in m e) ≡ anchor_of m = λ i a. sym (is.store.anchors a) i in
+    rw p.split.found (λ i. if anchor_among (anchors i) (at_is i + 8) size then Err FlexHoldsAnchor else
+    Ok (with_blocks (without_anchor (held_in m e) anchor) (store_in m e) (p.split.front_is i) (following (removal_shifts (at_is i) (end_is i) size) (p.split.rest_is i)), tt))
 
--- what its removal asks for then
+pub release_refused : (m : AddressMap) (e : Extent) (anchor header : ℕ) (front : List Block) → IsStoreAt m e → IsPlaced m e anchor header front
+    → anchor_among (anchor_of m) (header + 8) (first_at m header).size ≡ true
+    → Gives {U = Unit {0}} {E = ErrorNumber} (held_in m e) (released (held_in m e) anchor) (Err FlexHoldsAnchor) (held_in m e)
+release_refused m e anchor header front is p holds =
+    let way = released_is m e anchor header front is p
+    ∙ ap (λ (t : Bool). let r : Result (FlexState × Unit {0}) ErrorNumber = if t then Err FlexHoldsAnchor else
+    Ok (with_blocks (without_anchor (held_in m e) anchor) (store_in m e) front (following (removal_shifts header (e.start + e.used) (first_at m header).size) (behind m header (e.start + e.used))), tt) in r) holds in
+    subst (λ (x : Result (FlexState × Unit {0}) ErrorNumber). Gives (held_in m e) x (Err FlexHoldsAnchor) (held_in m e)) (sym way) (refl, refl)
+
+-- what its removal asks for
 pub record MayRemove (m2 : AddressMap) (header end : ℕ) : Type 0 where
   pub text : IsText (bytes_of m2) header end (first_at m2 header ∷ behind m2 header end)
   pub words : AreAnchorWords (is_mapped m2) header end (first_at m2 header ∷ behind m2 header end)
-  pub room : MayLie m2 header (behind m2 header end)
+  pub room : MayLie m2 header (closed m2 header end)
 
-may_close : (m m2 : AddressMap) (e : Extent) (anchor header : ℕ) (before : List Block) → IsPlaced m e anchor header before → IsCleared m m2 anchor
-    → MayLie m2 header (behind m header (e.start + e.used))
-may_close m m2 e anchor header before p c =
-    let after : List Block = behind m header (e.start + e.used) in
-    let place : header ≡ e.start + used before = p.place in
-    let sum : used (before ++ after) ≡ used before + used after = used-append before after in
-    let length_is : e.start + e.used ≡ header + (taken (first_at m header).size + used after) = p.text.length in
-    record {
-      words = subst (λ (q : ℕ → Bool). AreAnchorWords q header (header + used after) after) (sym (is_mapped-layout m m2 c.same))
-          (words_within (is_mapped m) header e.end header (header + used after) after (omega arith) (omega (arith, p.store.fits, used-append before (first_at m header ∷ after)))
-          (outer_words (is_mapped m) e.start e.end header after (omega arith)
-          (outer_right (is_mapped m) e.start e.end before after (drop_outer m e anchor header before p))));
-      there = λ a low high. ap (λ (q : ℕ → Bool). q a) (is_mapped-layout m m2 c.same) ∙ p.text.mapped a low (omega (arith, high));
-    }
+-- Its removal, where none of its bytes is one of an anchor.
+module _ (m : AddressMap) (e : Extent) (anchor header : ℕ) (front : List Block) (p : IsPlaced m e anchor header front)
+    (free : anchor_among (anchor_of m) (header + 8) (first_at m header).size ≡ false) where
+  abbrev last : ℕ
+  last = e.start + e.used
 
-pub removes : (m m2 : AddressMap) (e : Extent) (anchor header : ℕ) (before : List Block) → IsPlaced m e anchor header before → IsCleared m m2 anchor
-    → MayRemove m2 header (e.start + e.used)
-removes m m2 e anchor header before p c =
-    let end : ℕ = e.start + e.used in
-    let b : Block = first_at m header in
-    let after : List Block = behind m header end in
-    let text : IsText (bytes_of m2) header end (b ∷ after) = cleared_text m m2 e anchor header before p c in
-    let s : IsSpelledAt m2 header end b after = spelled_at m2 header end b after text in
-    let words : AreAnchorWords (is_mapped m2) header end (b ∷ after) =
-    subst (λ (q : ℕ → Bool). AreAnchorWords q header end (b ∷ after)) (sym (is_mapped-layout m m2 c.same)) p.words in
-    let same : b ∷ after ≡ first_at m2 header ∷ behind m2 header end = λ i. sym s.first i ∷ sym s.rest i in
-    record {
-      text = subst (λ (l : List Block). IsText (bytes_of m2) header end l) same text;
-      words = subst (λ (l : List Block). AreAnchorWords (is_mapped m2) header end l) same words;
-      room = subst (λ (l : List Block). MayLie m2 header l) (sym s.rest) (may_close m m2 e anchor header before p c);
-    }
+  abbrev b : Block
+  b = first_at m header
 
-drop_outside : (m : AddressMap) (e : Extent) (anchor header : ℕ) (before : List Block) → IsPlaced m e anchor header before
-    → AreOutside e.start e.end (before ++ behind m header (e.start + e.used))
-drop_outside m e anchor header before p =
-    outside_of (is_mapped m) e.start e.end (before ++ behind m header (e.start + e.used)) (drop_outer m e anchor header before p)
+  abbrev after : List Block
+  after = behind m header (e.start + e.used)
 
-pub cleared_before : (m m2 : AddressMap) (e : Extent) (anchor header : ℕ) (before : List Block) → IsPlaced m e anchor header before → IsCleared m m2 anchor
-    → IsBefore m2 e.start e.end before (first_at m header ∷ behind m header (e.start + e.used)) (behind m header (e.start + e.used))
-cleared_before m m2 e anchor header before p c =
-    let b : Block = first_at m header in
-    let after : List Block = behind m header (e.start + e.used) in
-    let w : IsMappedWord (is_mapped m) anchor = anchor_word m e anchor header before p in
-    let out : (anchor + 4 ≤ e.start) ⊎ (e.end ≤ anchor) = p.store.outside anchor (has_here before b after anchor p.split.anchor) in
-    let mapped : is_mapped m2 ≡ is_mapped m = is_mapped-layout m m2 c.same in
-    let sum : used (before ++ b ∷ after) ≡ used before + (taken b.size + used after) = used-append before (b ∷ after) in
-    let sum' : used (before ++ after) ≡ used before + used after = used-append before after in
-    let fits : e.start + used (before ++ b ∷ after) ≤ e.end = p.store.fits in
-    let whole : AreWhole before = whole_left before (b ∷ after) p.store.whole in
-    let size : length (text_of before) ≡ used before = text_used before whole in
-    let words : AreAnchorWords (is_mapped m) e.start e.end (before ++ after) =
-    outer_words (is_mapped m) e.start e.end e.start (before ++ after) (omega arith) (drop_outer m e anchor header before p) in
-    let none : has_anchor before anchor ≡ false =
-    words_apart (is_mapped m) e.start e.end before (b ∷ after) anchor p.store.words (or_left (nat_eq anchor b.anchor) (has_anchor after anchor) (eq-eqb anchor b.anchor (sym p.split.anchor))) in
-    record {
-      range = subst (λ (q : ℕ → Bool). IsFlexRange q e.start e.end) (sym mapped) p.store.range;
-      fits = omega arith;
-      fitted = omega arith;
-      whole = whole-append before after whole p.text.whole.1;
-      words = subst (λ (q : ℕ → Bool). AreAnchorWords q e.start e.end (before ++ after)) (sym mapped) words;
-      inner = outside_inner e.start e.end (before ++ after) (drop_outside m e anchor header before p);
-      text = holds_kept (byte_at m) (byte_at m2) e.start (text_of before)
-          (λ a low high. cleared_same m m2 anchor a c w.aligned (inside_other e.start e.end anchor a p.store.range.start_aligned out low (omega arith)))
-          (holds_left (byte_at m) e.start (text_of before) (text_of (b ∷ after))
-          (subst (λ (t : List ℕ). Holds (byte_at m) e.start t) (text-append before (b ∷ after)) p.store.text));
-      anchored = anchored_other (is_mapped m) e.start e.end (byte_at m) (byte_at m2) e.start before anchor
-          (words_left (is_mapped m) e.start e.end before (b ∷ after) p.store.words) none
-          (λ a other. cleared_same m m2 anchor a c w.aligned other)
-          (anchored_left (byte_at m) e.start before (b ∷ after) p.store.anchored);
-      headers = λ a. ap (λ (k : ℕ → Class). is_flex_header (k a)) c.marks ∙ (p.store.headers a ∙ header-append e.start before (b ∷ after) (word_start a));
-      anchors = λ a. ap (λ (k : ℕ → Class). is_anchor (k a)) c.marks ∙ (p.store.anchors a ∙ anchor-append before (b ∷ after) (word_start a));
-      apart = λ x has. words_apart (is_mapped m) e.start e.end before (b ∷ after) x p.store.words has;
-    }
+  abbrev shifts : List Shift
+  shifts = removal_shifts header last b.size
 
-no_heap_here : (m : AddressMap) (e : Extent) (anchor header : ℕ) (before : List Block) → IsPlaced m e anchor header before
-    → (a : ℕ) → has_anchor (first_at m header ∷ behind m header (e.start + e.used)) (word_start a) ≡ true → is_heap_class (class_of m a) ≡ false
-no_heap_here m e anchor header before p a has =
-    let bs : List Block = first_at m header ∷ behind m header (e.start + e.used) in
-    no_heap_anchor (class_of m a) (p.store.anchors a ∙ (anchor-append before bs (word_start a) ∙ or_right (has_anchor before (word_start a)) (has_anchor bs (word_start a)) has))
+  abbrev k : Move
+  k = removal_move header b last e.end
 
-pub release_gets : (m m2 n : AddressMap) (e f : Extent) (anchor header : ℕ) (before : List Block) → IsPlaced m e anchor header before → IsCleared m m2 anchor
-    → Relaid m2 n header (first_at m2 header ∷ behind m2 header (e.start + e.used)) (behind m2 header (e.start + e.used))
-    → f.start ≡ e.start → f.end ≡ e.end → f.used ≡ e.used - taken (first_at m header).size
-    → GotBlocks m2 e (without_block anchor (blocks_of m e)) n f
-release_gets m m2 n e f anchor header before p c r same_start same_end used_is =
-    let b : Block = first_at m header in
-    let after : List Block = behind m header (e.start + e.used) in
-    let text : IsText (bytes_of m2) header (e.start + e.used) (b ∷ after) = cleared_text m m2 e anchor header before p c in
-    let s : IsSpelledAt m2 header (e.start + e.used) b after = spelled_at m2 header (e.start + e.used) b after text in
-    let r' : Relaid m2 n header (b ∷ after) after =
-    subst (λ (x : Block). Relaid m2 n header (x ∷ after) after) s.first (subst (λ (l : List Block). Relaid m2 n header (first_at m2 header ∷ l) l) s.rest r) in
-    let sum : used (before ++ after) ≡ used before + used after = used-append before after in
-    let total : e.used ≡ used before + (taken b.size + used after) = p.total in
-    rw p.split.without (got m2 n e f before (b ∷ after) after (cleared_before m m2 e anchor header before p c)
-    (subst (λ (q : ℕ). Relaid m2 n q (b ∷ after) after) p.place r') (drop_outside m e anchor header before p)
-    (λ a has. ap (λ (k : ℕ → Class). is_heap_class (k a)) c.marks
-    ∙ no_heap_here m e anchor header before p a (or_right (nat_eq (word_start a) b.anchor) (has_anchor after (word_start a)) has))
-    same_start same_end (omega arith))
+  abbrev news : List Block
+  news = following shifts after
 
-pub release_state : (m m2 n : AddressMap) (e f : Extent) (anchor : ℕ) (bs : List Block) → IsCleared m m2 anchor → GotBlocks m2 e bs n f
-    → held_in n f ≡ with_blocks (without_anchor (held_in m e) anchor) (store_in m e) bs
-release_state m m2 n e f anchor bs c g =
-    let bytes : byte_at m2 ≡ with_word_at (byte_at m) anchor 0 = λ i a. c.bytes a i in
-    λ i. record {
-      bytes = record { mapped = (is_mapped-layout m2 n g.same ∙ is_mapped-layout m m2 c.same) i; at = λ a. (g.bytes a ∙ ap (λ (h : ℕ → ℕ). laid_out e.start bs h a) bytes) i };
-      flex = Some (record { start = g.start i; end = g.end i; blocks = g.blocks_are i });
-    }
+  fits : last ≤ e.end
+  fits = omega (arith, p.store.fits, used-append front (b ∷ after), p.total)
 
-pub release_gives : (m m2 n : AddressMap) (e f : Extent) (anchor header : ℕ) (before : List Block) → IsPlaced m e anchor header before → IsCleared m m2 anchor
-    → GotBlocks m2 e (without_block anchor (blocks_of m e)) n f
-    → Gives {U = Unit {0}} {E = ErrorNumber} (held_in m e) (released (held_in m e) anchor) (Ok tt) (held_in n f)
-unfolding released
-release_gives m m2 n e f anchor header before p c g =
-    rw p.split.found (release_state m m2 n e f anchor (without_block anchor (blocks_of m e)) c g, refl)
+  is : IsMove k
+  is = removal_numbers e.start e.end header last front after b p.store.inner p.place p.text.length fits p.store.range.start_aligned
+
+  store : FlexStore
+  store = record { start = e.start; end = e.end; blocks = front ++ b ∷ after }
+
+  none_among : anchor_among (is_anchor_byte store) (header + 8) b.size ≡ false
+  unfolding store
+  none_among =
+      let same : anchor_of m ≡ is_anchor_byte (record { start = e.start; end = e.end; blocks = front ++ b ∷ after }) = λ i a. p.store.anchors a i in
+      ap (λ (f : ℕ → Bool). anchor_among f (header + 8) b.size) (sym same) ∙ free
+
+  has_all : (a : ℕ) → has_anchor after a ≡ true → has_anchor (front ++ b ∷ after) a ≡ true
+  has_all a has = anchor-append front (b ∷ after) a ∙ or_right (has_anchor front a) (has_anchor (b ∷ after) a) (or_right (nat_eq a b.anchor) (has_anchor after a) has)
+
+  places : ArePlaced k e.start front after shifts after
+  unfolding store none_among
+  places a has =
+      removal_placed e.start e.end header last front after b p.store.inner p.place p.text.length fits p.store.range.start_aligned
+      (λ x word own low high. no_anchor_in store (header + 8) b.size x x none_among (has_all x own) low (omega (arith, high)) (omega (arith, word)))
+      a (word_of (is_mapped m) e.start e.end (front ++ b ∷ after) a p.store.words (has_all a has)).aligned has
+
+  there : AreMapped (is_mapped m) header (e.end - header)
+  there a low high = p.store.range.there a (omega (arith, low, p.place)) (omega (arith, low, high, p.place))
+
+  rest_words : AreAnchorWords (is_mapped m) header e.end news
+  rest_words =
+      let old : AreAnchorWords (is_mapped m) (header + taken b.size) e.end after =
+      subst (λ (n : ℕ). AreAnchorWords (is_mapped m) (n + taken b.size) e.end after) (sym p.place) (words_right (is_mapped m) e.start e.end front (b ∷ after) p.store.words).1 in
+      let e' : header + (header + taken b.size - (header + taken b.size)) ≡ header = omega arith in
+      rw e' at (following_words (is_mapped m) k e.start front after shifts after (header + taken b.size) is there p.low (omega arith) places old)
+
+  in_rest : (x : ℕ) → Inside k e.start front after shifts x → (is_in_contents e.start front x || is_in_contents (e.start + used front) news x) ≡ true
+  in_rest x (InFront held) = or_left (is_in_contents e.start front x) (is_in_contents (e.start + used front) news x) held
+  in_rest x (InBlock low high) = absurd (omega (arith, low, high))
+  in_rest x (InRest held) =
+      or_right (is_in_contents e.start front x) (is_in_contents (e.start + used front) news x) (ap (λ (q : ℕ). is_in_contents q news x) (sym p.place) ∙ held)
+
+  may_follow : MayFollow (is_mapped m) e.start e.end front news
+  may_follow = record {
+    fits = omega (arith, fits, p.total, following_used shifts after);
+    whole = following_whole shifts after p.text.whole.1;
+    words = subst (λ (n : ℕ). AreAnchorWords (is_mapped m) n e.end news) p.place rest_words;
+    fresh = front_fresh (is_mapped m) e.start e.end front after b k is shifts places p.store.words p.place refl;
+    inner = λ x has up below. in_rest x
+        (rest_inside (is_mapped m) e.start e.end front after b k is shifts places p.store.words p.place refl x (omega arith) (omega arith) has up below);
+  }
+
+  may_lie : MayLie m header news
+  may_lie = record {
+    words = words_within (is_mapped m) header e.end header (header + used news) news (omega arith) (omega (arith, fits, p.total, p.place, following_used shifts after)) rest_words;
+    there = λ a low high. p.text.mapped a low (omega (arith, high, following_used shifts after));
+  }
+
+  -- an anchor then: it was one, or it lies in the store
+  new_old : (x : ℕ) → has_anchor news x ≡ true → (has_anchor (front ++ b ∷ after) x ≡ true) ⊎ ((header ≤ x) × (x + 4 ≤ e.end))
+  new_old x has = elim (rest_old (is_mapped m) e.start e.end front after b k is shifts places p.store.words p.place refl x has) [
+    | inl was ↦ inl (has_all x was)
+    | inr within ↦ inr within
+  ]
+
+  headless : AreHeadless m e news
+  headless clear a has = elim (new_old (word_start a) has) [
+    | inl was ↦ no_heap_anchor (class_of m a) (p.store.anchors a ∙ was)
+    | inr within ↦ clear a (omega (arith, within.0, p.place)) (omega (arith, within.1))
+  ]
+
+  module _ (m2 : AddressMap) (c : IsCleared m m2 anchor) where
+    own_word : IsMappedWord (is_mapped m) anchor
+    own_word = anchor_word m e anchor header front p
+
+    -- what it asks for
+    pub removes : MayRemove m2 header (e.start + e.used)
+    removes =
+        let text : IsText (bytes_of m2) header last (b ∷ after) = cleared_text m m2 e anchor header front p c in
+        let s : IsSpelledAt m2 header last b after = spelled_at m2 header last b after text in
+        let mapped : is_mapped m2 ≡ is_mapped m = is_mapped-layout m m2 c.same in
+        let words : AreAnchorWords (is_mapped m2) header last (b ∷ after) = subst (λ (q : ℕ → Bool). AreAnchorWords q header last (b ∷ after)) (sym mapped) p.words in
+        let same : b ∷ after ≡ first_at m2 header ∷ behind m2 header last = λ i. sym s.first i ∷ sym s.rest i in
+        let room : MayLie m2 header news = record {
+          words = subst (λ (q : ℕ → Bool). AreAnchorWords q header (header + used news) news) (sym mapped) may_lie.words;
+          there = subst (λ (q : ℕ → Bool). AreMapped q header (used news)) (sym mapped) may_lie.there;
+        } in
+        record {
+          text = subst (λ (l : List Block). IsText (bytes_of m2) header last l) same text;
+          words = subst (λ (l : List Block). AreAnchorWords (is_mapped m2) header last l) same words;
+          room = subst (λ (l : List Block). MayLie m2 header l) (λ i. following (removal_shifts header last (sym s.first i).size) (sym s.rest i)) room;
+        }
+
+    kept_header : (a : ℕ) → is_header e.start front (word_start a) ≡ true → byte_at m2 a ≡ byte_at m a
+    kept_header a header_word = cleared_same m m2 anchor a c own_word.aligned (λ here.
+        let none = anchor_no_header e.start e.end (front ++ b ∷ after) anchor p.store.fits p.store.inner (has_here front b after anchor p.split.anchor) in
+        both_ways (is_header e.start (front ++ b ∷ after) anchor) none
+        (header-append e.start front (b ∷ after) anchor ∙ or_left (is_header e.start front anchor) (is_header (e.start + used front) (b ∷ after) anchor)
+        (ap (is_header e.start front) (sym here) ∙ header_word)))
+
+    kept_anchors : AreAnchored (byte_at m2) e.start front
+    kept_anchors =
+        anchored_other (is_mapped m) e.start e.end (byte_at m) (byte_at m2) e.start front anchor (words_left (is_mapped m) e.start e.end front (b ∷ after) p.store.words)
+        (words_apart (is_mapped m) e.start e.end front (b ∷ after) anchor p.store.words (or_left (nat_eq anchor b.anchor) (has_anchor after anchor) (eq-eqb anchor b.anchor (sym p.split.anchor))))
+        (λ a other. cleared_same m m2 anchor a c own_word.aligned other)
+        (anchored_left (byte_at m) e.start front (b ∷ after) p.store.anchored)
+
+    pub release_gets : (n : AddressMap) (f : Extent) → Relaid m2 n header (first_at m2 header ∷ behind m2 header last) (closed m2 header last)
+        → f.start ≡ e.start → f.end ≡ e.end → f.used ≡ e.used - taken b.size → GotBlocks m2 e front news n f
+    release_gets n f r same_start same_end used_is =
+        let text : IsText (bytes_of m2) header last (b ∷ after) = cleared_text m m2 e anchor header front p c in
+        let s : IsSpelledAt m2 header last b after = spelled_at m2 header last b after text in
+        let r' : Relaid m2 n header (b ∷ after) news = subst (λ (l : List Block). Relaid m2 n header l news) (λ i. s.first i ∷ s.rest i)
+        (subst (λ (l : List Block). Relaid m2 n header (first_at m2 header ∷ behind m2 header last) l) (λ i. following (removal_shifts header last (s.first i).size) (s.rest i)) r) in
+        let total : e.used ≡ used front + (taken b.size + used after) = p.total in
+        got m2 n e f (byte_at m2) front (b ∷ after) news
+        (before_laid m m2 e.start e.end front (b ∷ after) news p.store c.marks c.same kept_header kept_anchors may_follow)
+        (subst (λ (q : ℕ). Relaid m2 n q (b ∷ after) news) p.place r')
+        (λ clear a has. ap (λ (q : ℕ → Class). is_heap_class (q a)) c.marks ∙ headless (λ x low high. ap (λ (q : ℕ → Class). is_heap_class (q x)) (sym c.marks) ∙ clear x low high) a has)
+        same_start same_end (omega (arith, used_is, total, used-append front news, following_used shifts after))
+
+    release_state : (n : AddressMap) (f : Extent) → GotBlocks m2 e front news n f
+        → held_in n f ≡ with_blocks (without_anchor (held_in m e) anchor) (store_in m e) front news
+    release_state n f g =
+        let zeroed : byte_at m2 ≡ with_word_at (byte_at m) anchor 0 = λ i a. c.bytes a i in
+        let bytes : byte_at n ≡ laid_out (e.start + used front) news (with_word_at (byte_at m) anchor 0) =
+        (λ i a. g.bytes a i) ∙ ap (λ (h : ℕ → ℕ). laid_out (e.start + used front) news h) zeroed in
+        let blocks : blocks_of n f ≡ standing (laid_out (e.start + used front) news (with_word_at (byte_at m) anchor 0)) e.start (front ++ news) =
+        g.blocks_are ∙ ap (λ (h : ℕ → ℕ). standing h e.start (front ++ news)) bytes in
+        λ i. record {
+          bytes = record { mapped = (is_mapped-layout m2 n g.same ∙ is_mapped-layout m m2 c.same) i; at = bytes i };
+          flex = Some (record { start = g.start i; end = g.end i; blocks = blocks i });
+        }
+
+    pub release_gives : (n : AddressMap) (f : Extent) → IsStoreAt m e → GotBlocks m2 e front news n f
+        → Gives {U = Unit {0}} {E = ErrorNumber} (held_in m e) (released (held_in m e) anchor) (Ok tt) (held_in n f)
+    release_gives n f s g =
+        let way = released_is m e anchor header front s p
+        ∙ ap (λ (t : Bool). let r : Result (FlexState × Unit {0}) ErrorNumber = if t then Err FlexHoldsAnchor else Ok (with_blocks (without_anchor (held_in m e) anchor) (store_in m e) front news, tt) in r) free in
+        subst (λ (x : Result (FlexState × Unit {0}) ErrorNumber). Gives (held_in m e) x (Ok tt) (held_in n f)) (sym way) (release_state n f g, refl)
+
+    allowed : (a : ℕ) → has_anchor (front ++ news) a ≡ true → IsAllowed m e a
+    allowed a has =
+        let was : has_anchor (front ++ b ∷ after) a ≡ true → IsAllowed m e a = λ had. inl (ap (λ (l : List Block). has_anchor l a) p.split.list ∙ had) in
+        elim (or_cases (has_anchor front a) (has_anchor news a) (sym (anchor-append front news a) ∙ has)) [
+          | inl own ↦ was (anchor-append front (b ∷ after) a ∙ or_left (has_anchor front a) (has_anchor (b ∷ after) a) own)
+          | inr new ↦ elim (new_old a new) [
+            | inl had ↦ was had
+            | inr within ↦ inr (inr (omega (arith, within.0, p.place), omega (arith, within.1)))
+          ]
+        ]
+
+    pub release_keeps : (n : AddressMap) (f : Extent) → GotBlocks m2 e front news n f → Keeps m e n f
+    release_keeps n f g =
+        let live : (a : ℕ) → word_start a ≡ anchor → is_heap_class (class_of m a) ≡ false = λ a here.
+        no_heap_anchor (class_of m a) (p.store.anchors a ∙ (ap (has_anchor (front ++ b ∷ after)) here ∙ has_here front b after anchor p.split.anchor)) in
+        let classes : (a : ℕ) → is_heap_class (class_of m2 a) ≡ is_heap_class (class_of m a) = λ a. ap (λ (q : ℕ → Class). is_heap_class (q a)) c.marks in
+        record {
+          store = g.store;
+          same = g.same ∙ c.same;
+          heads = λ clear.
+              let h : KeepsHeads m2 n = g.heads (λ a low high. classes a ∙ clear a low high) in
+              record {
+                bytes = λ a heap. h.bytes a (classes a ∙ heap) ∙ cleared_same m m2 anchor a c own_word.aligned (λ here. true≢false (sym heap ∙ live a here));
+                classes = λ a. h.classes a ∙ classes a;
+              };
+          anchors = λ a has. allowed a (sym (standing_has (byte_at n) e.start (front ++ news) a) ∙ (ap (λ (l : List Block). has_anchor l a) (sym g.blocks_are) ∙ has));
+          start = g.start;
+          end = g.end;
+        }
 
 pub has_without : (anchor : ℕ) (bs : List Block) (a : ℕ) → has_anchor (without_block anchor bs) a ≡ true → has_anchor bs a ≡ true
 has_without anchor [] a has = has
@@ -236,26 +328,3 @@ has_without anchor (b ∷ bs) a has = elim (cases_Bool (nat_eq b.anchor anchor))
         | inr apart ↦ or_right (nat_eq a b.anchor) (has_anchor bs a) (has_without anchor bs a (rw apart at has'))
       ]
 ]
-
-pub release_keeps : (m m2 n : AddressMap) (e f : Extent) (anchor header : ℕ) (before : List Block) → IsPlaced m e anchor header before → IsCleared m m2 anchor
-    → GotBlocks m2 e (without_block anchor (blocks_of m e)) n f → Keeps m e n f
-release_keeps m m2 n e f anchor header before p c g =
-    let w : IsMappedWord (is_mapped m) anchor = anchor_word m e anchor header before p in
-    let after : List Block = behind m header (e.start + e.used) in
-    let live : (a : ℕ) → word_start a ≡ anchor → is_heap_class (class_of m a) ≡ false = λ a here.
-    no_heap_here m e anchor header before p a (or_left (nat_eq (word_start a) (first_at m header).anchor) (has_anchor after (word_start a))
-    (eq-eqb (word_start a) (first_at m header).anchor (here ∙ sym p.split.anchor))) in
-    let classes : (a : ℕ) → is_heap_class (class_of m2 a) ≡ is_heap_class (class_of m a) = λ a. ap (λ (k : ℕ → Class). is_heap_class (k a)) c.marks in
-    record {
-      store = g.store;
-      same = g.same ∙ c.same;
-      heads = λ clear.
-          let k : KeepsHeads m2 n = g.heads (λ a low high. classes a ∙ clear a low high) in
-          record {
-            bytes = λ a is. k.bytes a (classes a ∙ is) ∙ cleared_same m m2 anchor a c w.aligned (λ here. true≢false (sym is ∙ live a here));
-            classes = λ a. k.classes a ∙ classes a;
-          };
-      anchors = λ a has. inl (has_without anchor (blocks_of m e) a (ap (λ (l : List Block). has_anchor l a) (sym g.blocks_are) ∙ has));
-      start = g.start;
-      end = g.end;
-    }

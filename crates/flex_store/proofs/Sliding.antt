@@ -1,5 +1,5 @@
 -- Texts in memory that are laid out anew: what the walk that settles them needs, and what it leaves.
-use Rattle.std.proofs.Common.{◌≡◌, ℕ, Bool, ◌+◌, ◌-◌, ◌%◌, ◌^◌, ◌<◌, ◌≤◌, true, List, [], ◌∷◌, ◌++◌, length, arith, sym, ◌∙◌, ap, subst}
+use Rattle.std.proofs.Common.{◌≡◌, ℕ, Bool, ◌+◌, ◌-◌, ◌%◌, ◌^◌, ◌<◌, ◌≤◌, true, List, [], ◌∷◌, ◌++◌, length, arith, sym, ◌∙◌, ap, inl, inr, subst}
 use Rattle.std.proofs.lemmas.List.{length-replicate}
 use Rattle.address_map.proofs.Bytes.{is_mapped-layout}
 use Rattle.address_map.proofs.Spans.{mapped_below}
@@ -9,18 +9,21 @@ use Rattle.address_map.specs.declared.class.Class.{Class}
 use Rattle.address_map.specs.declared.class.Class.TheVariants as class
 use Rattle.address_map.specs.declared.map.AddressMap.{AddressMap}
 use Rattle.flex_store.specs.Blocks.{Block, contents, filled, holding, new_block, spliced, taken, used, whole_words}
+use Rattle.flex_store.specs.declared.shift.Shift.{Shift}
 use Rattle.flex_store.specs.Marks.{with_marks}
 use Rattle.flex_store.specs.Memory.{Holds, blocks_in, laid_out, text_of, with_anchors}
-use Rattle.flex_store.specs.Relaid.{behind, first_at, MayLie, Relaid}
-use Rattle.flex_store.specs.Splices.{HasRoom}
-use Rattle.flex_store.specs.State.{AreAnchorWords, AreWhole, IsText}
-use Rattle.flex_store.proofs.Holding.{bytes_held}
-use Rattle.flex_store.proofs.Laying.{appended, closed, contents_between, replaced}
+use Rattle.flex_store.specs.Relaid.{behind, closed, first_at, MayLie, Relaid, replaced}
+use Rattle.flex_store.specs.Shifts.{AreShort, following, gone_to, removal_shifts, splice_shifts}
+use Rattle.flex_store.specs.Splices.{HasRoom, IsRest}
+use Rattle.flex_store.specs.State.{AreAnchorWords, AreLow, AreWhole, IsText}
+use Rattle.flex_store.proofs.Holding.{bytes_beside, bytes_held, bytes_written}
+use Rattle.flex_store.proofs.Laying.{appended, closed as closed_bytes, contents_between, replaced as replaced_bytes}
+use Rattle.flex_store.proofs.Following.{following_used, following_whole}
 use Rattle.flex_store.proofs.Lists.{text_used}
+use Rattle.flex_store.proofs.Placing.{gone_past}
 use Rattle.flex_store.proofs.Reading.{bytes_read}
 use Rattle.flex_store.proofs.Splicing.{between_length, filled_length, spliced_length}
 use Rattle.flex_store.proofs.Texts.{IsFirst, text_first, text_read}
-use Rattle.flex_store.proofs.Words.{words_low}
 
 -- what lies there lies below 2^26
 pub lie_low : (m : AddressMap) (h : ℕ) (bs : List Block) → MayLie m h bs → 0 < used bs → h + used bs ≤ 2 ^ 26
@@ -39,34 +42,42 @@ words_read m n at end bs same is words =
     (subst (λ (p : ℕ → Bool). AreAnchorWords p at end bs) (sym (is_mapped-layout m n same)) words)
 
 -- the text is there once its bytes are
-pub settled_text : (m n : AddressMap) (h end : ℕ) (news : List Block) → AreWhole news → MayLie m h news → h % 4 ≡ 0 → layout n ≡ layout m
-    → ((a : ℕ) → byte_at n a ≡ with_bytes_at (byte_at m) h (text_of news) a) → end ≡ h + used news → IsText (bytes_of n) h end news
-settled_text m n h end news whole may aligned same bytes length_is =
-    let mapped : is_mapped n ≡ is_mapped m = is_mapped-layout m n same in
-    record {
-      whole = whole;
-      low = words_low (is_mapped m) h (h + used news) news may.words;
-      text = λ k below. bytes (h + k) ∙ bytes_held (byte_at m) h (text_of news) k below;
-      length = length_is;
-      aligned = aligned;
-      mapped = subst (λ (p : ℕ → Bool). AreMapped p h (used news)) (sym mapped) may.there;
-    }
+pub settled_text : (m n : AddressMap) (h end : ℕ) (texts : List Block) → AreWhole texts → AreLow texts → AreMapped (is_mapped m) h (used texts) → h % 4 ≡ 0
+    → layout n ≡ layout m → ((a : ℕ) → byte_at n a ≡ with_bytes_at (byte_at m) h (text_of texts) a) → end ≡ h + used texts → IsText (bytes_of n) h end texts
+settled_text m n h end texts whole low there aligned same bytes length_is = record {
+  whole = whole;
+  low = low;
+  text = λ k below. bytes (h + k) ∙ bytes_held (byte_at m) h (text_of texts) k below;
+  length = length_is;
+  aligned = aligned;
+  mapped = subst (λ (p : ℕ → Bool). AreMapped p h (used texts)) (sym (is_mapped-layout m n same)) there;
+}
 
--- the walk that settles a text leaves it laid out
-pub relaid_from : (m m3 n : AddressMap) (h end : ℕ) (olds news : List Block) → IsText (bytes_of m3) h end news
-    → ((a : ℕ) → class_of m3 a ≡ with_marks class.Plain class.Plain h olds (class_of m) a) → layout n ≡ layout m
-    → ((a : ℕ) → byte_at m3 a ≡ with_bytes_at (byte_at m) h (text_of news) a)
-    → ((a : ℕ) → byte_at n a ≡ with_anchors h (blocks_in (byte_at m3) h end) (byte_at m3) a)
-    → ((a : ℕ) → class_of n a ≡ with_marks class.FlexHeader class.Anchor h (blocks_in (byte_at m3) h end) (class_of m3) a)
-    → Relaid m n h olds news
+-- what is laid out over a text of the same length, and over what stood there
+laid_over : (at : ℕ) (news : List Block) (f g : ℕ → ℕ) (xs : List ℕ) (a : ℕ) → length xs ≡ length (text_of news) → ((p : ℕ) → g p ≡ with_bytes_at f at xs p)
+    → laid_out at news g a ≡ laid_out at news f a
 unfolding laid_out
-relaid_from m m3 n h end olds news is marks3 same bytes3 bytes marks =
-    let read : blocks_in (byte_at m3) h end ≡ news = text_read (bytes_of m3) h end news is in
+laid_over at news f g xs a same is =
+    ap (λ (k : ℕ → ℕ). with_anchors at news k a) (λ i p. bytes_written f (with_bytes_at g at (text_of news)) at (text_of news) (bytes_held g at (text_of news))
+    (λ q out. bytes_beside g at (text_of news) q out ∙ (is q ∙ bytes_beside f at xs q (elim out [ inl low ↦ inl low | inr high ↦ inr (omega arith) ]))) p i)
+
+-- The walk that settles a text, whose anchors went where the shifts say, leaves it laid out with their new names.
+pub relaid_from : (shifts : List Shift) (m m3 n : AddressMap) (h end : ℕ) (olds texts : List Block) → IsText (bytes_of m3) h end texts
+    → ((a : ℕ) → class_of m3 a ≡ with_marks class.Plain class.Plain h olds (class_of m) a) → layout n ≡ layout m
+    → ((a : ℕ) → byte_at m3 a ≡ with_bytes_at (byte_at m) h (text_of texts) a)
+    → ((a : ℕ) → byte_at n a ≡ laid_out h (following shifts (blocks_in (byte_at m3) h end)) (byte_at m3) a)
+    → ((a : ℕ) → class_of n a ≡ with_marks class.FlexHeader class.Anchor h (following shifts (blocks_in (byte_at m3) h end)) (class_of m3) a)
+    → Relaid m n h olds (following shifts texts)
+relaid_from shifts m m3 n h end olds texts is marks3 same bytes3 bytes marks =
+    let read : blocks_in (byte_at m3) h end ≡ texts = text_read (bytes_of m3) h end texts is in
+    let news : List Block = following shifts texts in
+    let size : length (text_of texts) ≡ length (text_of news) =
+    text_used texts is.whole ∙ (sym (following_used shifts texts) ∙ sym (text_used news (following_whole shifts texts is.whole))) in
     record {
-      bytes = λ a. bytes a ∙ (ap (λ (l : List Block). with_anchors h l (byte_at m3) a) read
-          ∙ ap (λ (f : ℕ → ℕ). with_anchors h news f a) (λ i x. bytes3 x i));
+      bytes = λ a. bytes a ∙ (ap (λ (l : List Block). laid_out h (following shifts l) (byte_at m3) a) read
+          ∙ laid_over h news (byte_at m) (byte_at m3) (text_of texts) a size bytes3);
       same = same;
-      marks = λ a. marks a ∙ (ap (λ (l : List Block). with_marks class.FlexHeader class.Anchor h l (class_of m3) a) read
+      marks = λ a. marks a ∙ (ap (λ (l : List Block). with_marks class.FlexHeader class.Anchor h (following shifts l) (class_of m3) a) read
           ∙ ap (λ (c : ℕ → Class). with_marks class.FlexHeader class.Anchor h news c a) (λ i x. marks3 x i));
     }
 
@@ -96,19 +107,21 @@ new_length m h at cut more inside =
     spliced_length (contents (first_at m h)) at cut more (omega arith) ∙ ap (λ (n : ℕ). at - cut + more + (n - at)) size
 
 pub numbers : (m : AddressMap) (h end at cut more : ℕ) → IsText (bytes_of m) h end (first_at m h ∷ behind m h end) → at ≤ (first_at m h).size
-    → MayLie m h (holding (first_at m h) (spliced (contents (first_at m h)) at cut more) ∷ behind m h end) → AreNumbers m h end at cut more
+    → MayLie m h (replaced m h end (record { at = at; cut = cut; more = more })) → AreNumbers m h end at cut more
 numbers m h end at cut more is inside may =
+    let news : List Block = replaced m h end (record { at = at; cut = cut; more = more }) in
+    let rest : used (following (splice_shifts h end (first_at m h).size at cut more) (behind m h end)) ≡ used (behind m h end) =
+    following_used (splice_shifts h end (first_at m h).size at cut more) (behind m h end) in
     let new : length (spliced (contents (first_at m h)) at cut more) ≡ at - cut + more + ((first_at m h).size - at) = new_length m h at cut more inside in
     let length_is : end ≡ h + (taken (first_at m h).size + used (behind m h end)) = is.length in
-    let low : h + used (holding (first_at m h) (spliced (contents (first_at m h)) at cut more) ∷ behind m h end) ≤ 2 ^ 26 =
-    lie_low m h (holding (first_at m h) (spliced (contents (first_at m h)) at cut more) ∷ behind m h end) may (omega arith) in
+    let low : h + used news ≤ 2 ^ 26 = lie_low m h news may (omega arith) in
     let last : is_mapped m (end - 1) ≡ true = is.mapped (end - 1) (omega arith) (omega arith) in
     record {
       new = new;
       old_fits = omega arith;
       used_is = omega arith;
       old_low = omega (arith, mapped_below m (end - 1) last);
-      new_low = rw (← new) low;
+      new_low = rw (← new, ← rest) low;
     }
 
 pub replaced_text : (m : AddressMap) (f1 f2 g : ℕ → ℕ) (h end size new at cut more : ℕ)
@@ -132,7 +145,7 @@ replaced_text m f1 f2 g h end size new at cut more is inside size_is new_is same
     bytes_read f (h + 8 + whole_words b.size) (end - (h + 8 + whole_words b.size)) (text_of after) (omega (arith, text_used after is.whole.1)) held in
     let count : length xs ≡ at - cut + more + (b.size - at) = new_length m h at cut more inside in
     let new' : new ≡ length xs = new_is ∙ ap (λ (n : ℕ). at - cut + more + (n - at)) size_is ∙ sym count in
-    replaced f f2 g h b xs (text_of after) first.spelled.anchor
+    replaced_bytes f f2 g h b xs (text_of after) first.spelled.anchor
     (λ a. h2 a
     ∙ (ap (λ (k : ℕ → ℕ). with_bytes_at k (h + 8) (filled (spliced (bytes_between k (h + 8) size) at cut more) ++ bytes_between k (h + 8 + whole_words size) (end - (h + 8 + whole_words size))) a) same
     ∙ (ap (λ (n : ℕ). with_bytes_at f (h + 8) (filled (spliced (bytes_between f (h + 8) n) at cut more) ++ bytes_between f (h + 8 + whole_words n) (end - (h + 8 + whole_words n))) a) size_is
@@ -148,7 +161,7 @@ replaced_whole m h end at cut more is n =
 
 pub room_for : (m n : AddressMap) (h end size new at cut more : ℕ) → layout n ≡ layout m → size ≡ (first_at m h).size → new ≡ at - cut + more + (size - at)
     → IsText (bytes_of m) h end (first_at m h ∷ behind m h end) → AreNumbers m h end at cut more
-    → MayLie m h (holding (first_at m h) (spliced (contents (first_at m h)) at cut more) ∷ behind m h end)
+    → MayLie m h (replaced m h end (record { at = at; cut = cut; more = more }))
     → HasRoom (is_mapped n) (h + 8) size new
 room_for m n h end size new at cut more same size_is new_is is k may =
     let count : length (spliced (contents (first_at m h)) at cut more) ≡ at - cut + more + ((first_at m h).size - at) = k.new in
@@ -161,6 +174,28 @@ room_for m n h end size new at cut more same size_is new_is is k may =
       old_low = omega (arith, k.old_low, k.old_fits);
       new_low = omega (arith, k.new_low);
     })
+
+-- the room of those behind it
+pub rest_for : (m n : AddressMap) (h end size new at cut more : ℕ) → layout n ≡ layout m → size ≡ (first_at m h).size → new ≡ at - cut + more + (size - at)
+    → IsText (bytes_of m) h end (first_at m h ∷ behind m h end) → AreNumbers m h end at cut more
+    → MayLie m h (replaced m h end (record { at = at; cut = cut; more = more }))
+    → IsRest (is_mapped n) (h + 8 + whole_words size) (h + 8 + whole_words new) end
+rest_for m n h end size new at cut more same size_is new_is is k may =
+    let count : length (spliced (contents (first_at m h)) at cut more) ≡ at - cut + more + ((first_at m h).size - at) = k.new in
+    let mapped : is_mapped n ≡ is_mapped m = is_mapped-layout m n same in
+    let length_is : end ≡ h + (taken (first_at m h).size + used (behind m h end)) = is.length in
+    let rest : used (following (splice_shifts h end (first_at m h).size at cut more) (behind m h end)) ≡ used (behind m h end) =
+    following_used (splice_shifts h end (first_at m h).size at cut more) (behind m h end) in
+    let new' : new ≡ length (spliced (contents (first_at m h)) at cut more) = new_is ∙ ap (λ (x : ℕ). at - cut + more + (x - at)) size_is ∙ sym count in
+    subst (λ (p : ℕ → Bool). IsRest p (h + 8 + whole_words size) (h + 8 + whole_words new) end) (sym mapped) (record {
+      inside = omega (arith, k.old_fits);
+      old = λ a low high. is.mapped a (omega arith) (omega (arith, high));
+      moved = λ a low high. may.there a (omega arith) (omega (arith, high));
+    })
+
+pub short_splice : (m : AddressMap) (h end at cut more : ℕ) → at ≤ (first_at m h).size → AreNumbers m h end at cut more
+    → AreShort (splice_shifts h end (first_at m h).size at cut more)
+short_splice m h end at cut more inside k = (omega (arith, k.new_low), (omega (arith, k.new_low, k.used_is), tt))
 
 -- a block that went, with those behind it in its place
 pub record AreClosed (m : AddressMap) (h end : ℕ) : Type 0 where
@@ -192,42 +227,72 @@ pub closed_text : (m m1 m3 : AddressMap) (h end next : ℕ) → AreClosed m h en
     → (a : ℕ) → byte_at m3 a ≡ with_bytes_at (byte_at m) h (text_of (behind m h end)) a
 closed_text m m1 m3 h end next c next_is same moved =
     let size : length (text_of (behind m h end)) ≡ end - next = c.text_is ∙ c.used_is ∙ ap (λ (n : ℕ). end - n) (sym next_is) in
-    closed (byte_at m) (byte_at m3) h next (end - next) (text_of (behind m h end)) size (rw next_is c.held)
+    closed_bytes (byte_at m) (byte_at m3) h next (end - next) (text_of (behind m h end)) size (rw next_is c.held)
     (λ a. moved a ∙ ap (λ (f : ℕ → ℕ). with_moved_at f next h (end - next) a) same)
 
--- a text's bytes were written, and it can be settled
-pub record IsWrittenText (m n : AddressMap) (h end : ℕ) (news : List Block) : Type 0 where
-  pub bytes : (a : ℕ) → byte_at n a ≡ with_bytes_at (byte_at m) h (text_of news) a
-  pub text : IsText (bytes_of n) h end news
-  pub words : AreAnchorWords (is_mapped n) h end (blocks_in (byte_at n) h end)
+-- A text's bytes were written, with the old names of its anchors, and it can be settled.
+pub record IsWrittenText (shifts : List Shift) (m n : AddressMap) (h end : ℕ) (texts : List Block) : Type 0 where
+  pub bytes : (a : ℕ) → byte_at n a ≡ with_bytes_at (byte_at m) h (text_of texts) a
+  pub text : IsText (bytes_of n) h end texts
+  pub words : AreAnchorWords (is_mapped n) h end (following shifts (blocks_in (byte_at n) h end))
 
-written_text : (m n : AddressMap) (h end : ℕ) (news : List Block) → AreWhole news → MayLie m h news → h % 4 ≡ 0 → layout n ≡ layout m
-    → ((a : ℕ) → byte_at n a ≡ with_bytes_at (byte_at m) h (text_of news) a) → end ≡ h + used news → IsWrittenText m n h end news
-written_text m n h end news whole may aligned same bytes length_is =
-    let text : IsText (bytes_of n) h end news = settled_text m n h end news whole may aligned same bytes length_is in
-    record { bytes = bytes; text = text; words = words_read m n h end news same text (rw length_is may.words) }
+written_text : (shifts : List Shift) (m n : AddressMap) (h end : ℕ) (texts : List Block) → AreWhole texts → AreLow texts → MayLie m h (following shifts texts) → h % 4 ≡ 0
+    → layout n ≡ layout m → ((a : ℕ) → byte_at n a ≡ with_bytes_at (byte_at m) h (text_of texts) a) → end ≡ h + used texts → IsWrittenText shifts m n h end texts
+written_text shifts m n h end texts whole low may aligned same bytes length_is =
+    let size : used (following shifts texts) ≡ used texts = following_used shifts texts in
+    let text : IsText (bytes_of n) h end texts = settled_text m n h end texts whole low (rw (← size) may.there) aligned same bytes length_is in
+    let end_is : end ≡ h + used (following shifts texts) = length_is ∙ ap (λ (k : ℕ). h + k) (sym size) in
+    record {
+      bytes = bytes;
+      text = text;
+      words = subst (λ (l : List Block). AreAnchorWords (is_mapped n) h end (following shifts l)) (sym (text_read (bytes_of n) h end texts text))
+          (subst (λ (p : ℕ → Bool). AreAnchorWords p h end (following shifts texts)) (sym (is_mapped-layout m n same)) (rw end_is may.words));
+    }
 
-pub closed_step : (m m1 m3 : AddressMap) (h end total : ℕ) → IsText (bytes_of m) h end (first_at m h ∷ behind m h end) → MayLie m h (behind m h end)
+-- The block that changes keeps its anchor, which lies outside what moves.
+own_stays : (m : AddressMap) (h end at cut more : ℕ) → IsText (bytes_of m) h end (first_at m h ∷ behind m h end)
+    → AreAnchorWords (is_mapped m) h end (first_at m h ∷ behind m h end)
+    → gone_to (splice_shifts h end (first_at m h).size at cut more) (first_at m h).anchor ≡ (first_at m h).anchor
+own_stays m h end at cut more is words =
+    let size : ℕ = (first_at m h).size in
+    let anchor : ℕ = (first_at m h).anchor in
+    let length_is : end ≡ h + (taken size + used (behind m h end)) = is.length in
+    let one : Shift = record { from = h + 8 + at; end = h + 8 + size; to = h + 8 + (at - cut + more) } in
+    let two : Shift = record { from = h + taken size; end = end; to = h + taken (at - cut + more + (size - at)) } in
+    gone_past one (two ∷ []) anchor (elim words.0.0.outside [ inl low ↦ inl (omega arith) | inr high ↦ inr (omega arith) ])
+    ∙ gone_past two [] anchor (elim words.0.0.outside [ inl low ↦ inl (omega arith) | inr high ↦ inr high ])
+
+pub replaced_is : (m : AddressMap) (h end at cut more : ℕ) → IsText (bytes_of m) h end (first_at m h ∷ behind m h end)
+    → AreAnchorWords (is_mapped m) h end (first_at m h ∷ behind m h end)
+    → following (splice_shifts h end (first_at m h).size at cut more) (holding (first_at m h) (spliced (contents (first_at m h)) at cut more) ∷ behind m h end)
+    ≡ replaced m h end (record { at = at; cut = cut; more = more })
+replaced_is m h end at cut more is words =
+    let xs : List ℕ = spliced (contents (first_at m h)) at cut more in
+    λ i. record { anchor = own_stays m h end at cut more is words i; size = length xs; bytes = filled xs }
+    ∷ following (splice_shifts h end (first_at m h).size at cut more) (behind m h end)
+
+pub closed_step : (m m1 m3 : AddressMap) (h end total : ℕ) → IsText (bytes_of m) h end (first_at m h ∷ behind m h end) → MayLie m h (closed m h end)
     → total ≡ taken (first_at m h).size → byte_at m1 ≡ byte_at m → layout m3 ≡ layout m
     → ((a : ℕ) → byte_at m3 a ≡ with_moved_at (byte_at m1) (h + total) h (end - (h + total)) a)
-    → IsWrittenText m m3 h (h + (end - (h + total))) (behind m h end)
+    → IsWrittenText (removal_shifts h end (first_at m h).size) m m3 h (h + (end - (h + total))) (behind m h end)
 closed_step m m1 m3 h end total is may size same kept moved =
     let k : AreClosed m h end = closing m h end is in
     let next_is : h + total ≡ h + taken (first_at m h).size = ap (λ (n : ℕ). h + n) size in
     let bytes : (a : ℕ) → byte_at m3 a ≡ with_bytes_at (byte_at m) h (text_of (behind m h end)) a = closed_text m m1 m3 h end (h + total) k next_is same moved in
     let end_is : h + (end - (h + total)) ≡ h + used (behind m h end) = ap (λ (n : ℕ). h + (end - n)) next_is ∙ ap (λ (n : ℕ). h + n) (sym k.used_is) in
-    written_text m m3 h (h + (end - (h + total))) (behind m h end) k.whole may k.aligned kept bytes end_is
+    written_text (removal_shifts h end (first_at m h).size) m m3 h (h + (end - (h + total))) (behind m h end) k.whole is.low.1 may k.aligned kept bytes end_is
 
 pub replaced_step : (m m1 m2 m3 : AddressMap) (h end size new old_total new_total at cut more : ℕ)
     → IsText (bytes_of m) h end (first_at m h ∷ behind m h end) → at ≤ (first_at m h).size
-    → MayLie m h (holding (first_at m h) (spliced (contents (first_at m h)) at cut more) ∷ behind m h end)
+    → AreAnchorWords (is_mapped m) h end (first_at m h ∷ behind m h end)
+    → MayLie m h (replaced m h end (record { at = at; cut = cut; more = more }))
     → size ≡ (first_at m h).size → new ≡ at - cut + more + (size - at) → old_total ≡ taken size → new_total ≡ taken new
     → byte_at m1 ≡ byte_at m → layout m3 ≡ layout m
     → ((a : ℕ) → byte_at m2 a ≡ with_bytes_at (byte_at m1) (h + 8) (filled (spliced (bytes_between (byte_at m1) (h + 8) size) at cut more)
     ++ bytes_between (byte_at m1) (h + 8 + whole_words size) (end - (h + 8 + whole_words size))) a)
     → ((a : ℕ) → byte_at m3 a ≡ with_word_at (byte_at m2) (h + 4) new a)
-    → IsWrittenText m m3 h (h + new_total + (end - (h + old_total))) (holding (first_at m h) (spliced (contents (first_at m h)) at cut more) ∷ behind m h end)
-replaced_step m m1 m2 m3 h end size new old_total new_total at cut more is inside may size_is new_is old_is total_is same kept h2 h3 =
+    → IsWrittenText (splice_shifts h end (first_at m h).size at cut more) m m3 h (h + new_total + (end - (h + old_total))) (holding (first_at m h) (spliced (contents (first_at m h)) at cut more) ∷ behind m h end)
+replaced_step m m1 m2 m3 h end size new old_total new_total at cut more is inside words may size_is new_is old_is total_is same kept h2 h3 =
     let b : Block = first_at m h in
     let xs : List ℕ = spliced (contents b) at cut more in
     let k : AreNumbers m h end at cut more = numbers m h end at cut more is inside may in
@@ -239,7 +304,8 @@ replaced_step m m1 m2 m3 h end size new old_total new_total at cut more is insid
     let behind_is : used (behind m h end) ≡ end - (h + taken b.size) = k.used_is in
     let end_is : h + new_total + (end - (h + old_total)) ≡ h + (taken (length xs) + used (behind m h end)) =
     rw (total, old, ← behind_is) (omega arith) in
-    written_text m m3 h (h + new_total + (end - (h + old_total))) (holding b xs ∷ behind m h end) (replaced_whole m h end at cut more is k) may is.aligned kept bytes end_is
+    written_text (splice_shifts h end b.size at cut more) m m3 h (h + new_total + (end - (h + old_total))) (holding b xs ∷ behind m h end)
+    (replaced_whole m h end at cut more is k) is.low (subst (λ (l : List Block). MayLie m h l) (sym (replaced_is m h end at cut more is words)) may) is.aligned kept bytes end_is
 
 -- a block of zeros behind all others
 pub new_whole : (m : AddressMap) (h anchor size : ℕ) → size < 2 ^ 32 → AreWhole (new_block anchor size ∷ [])
@@ -249,10 +315,10 @@ pub appended_step : (m m1 m2 m3 : AddressMap) (h anchor size words total : ℕ) 
     → words ≡ whole_words size → total ≡ taken size → layout m3 ≡ layout m
     → ((a : ℕ) → byte_at m1 a ≡ with_word_at (byte_at m) h anchor a) → ((a : ℕ) → byte_at m2 a ≡ with_word_at (byte_at m1) (h + 4) size a)
     → ((a : ℕ) → byte_at m3 a ≡ with_zeros_at (byte_at m2) (h + 8) words a)
-    → IsWrittenText m m3 h (h + total) (new_block anchor size ∷ [])
+    → IsWrittenText [] m m3 h (h + total) (new_block anchor size ∷ [])
 appended_step m m1 m2 m3 h anchor size words total fits aligned may words_is total_is kept h1 h2 h3 =
     let bytes : (a : ℕ) → byte_at m3 a ≡ with_bytes_at (byte_at m) h (text_of (new_block anchor size ∷ [])) a =
     appended (byte_at m) (byte_at m1) (byte_at m2) (byte_at m3) h anchor size (whole_words size) h1 h2
     (λ a. h3 a ∙ ap (λ (n : ℕ). with_zeros_at (byte_at m2) (h + 8) n a) words_is) in
     let end_is : h + total ≡ h + (taken size + 0) = omega arith in
-    written_text m m3 h (h + total) (new_block anchor size ∷ []) (new_whole m h anchor size fits) may aligned kept bytes end_is
+    written_text [] m m3 h (h + total) (new_block anchor size ∷ []) (new_whole m h anchor size fits) (may.words.0.0.low, tt) may aligned kept bytes end_is

@@ -116,3 +116,10 @@ pub standing_contents : (f : ℕ → ℕ) (at to : ℕ) (bs : List Block) (a : �
 standing_contents f at to [] a = refl
 standing_contents f at to (b ∷ bs) a =
     ap (λ (t : Bool). is_held_word to b a || t) (standing_contents f (at + taken b.size) (to + taken b.size) bs a)
+
+-- blocks that stand, read again
+pub standing_again : (f g : ℕ → ℕ) (at : ℕ) (xs ys : List Block) → standing g at (standing f at xs ++ ys) ≡ standing g at (xs ++ ys)
+standing_again f g at [] ys = refl
+standing_again f g at (b ∷ xs) ys =
+    ap (λ (l : List Block). record { anchor = b.anchor; size = b.size; bytes = bytes_between g (at + 8) (whole_words b.size) } ∷ l)
+    (standing_again f g (at + taken b.size) xs ys)

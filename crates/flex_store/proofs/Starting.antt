@@ -82,7 +82,6 @@ starts_empty m n start end none is same marks =
         whole = tt;
         words = tt;
         inner = λ a has. absurd (false≢true has);
-        outside = λ a has. absurd (false≢true has);
         text = λ k below. absurd (omega arith);
         anchored = tt;
         headers = λ a. ap (λ (c : ℕ → Class). is_flex_header (c a)) marks ∙ none.headers a;

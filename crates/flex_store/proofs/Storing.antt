@@ -14,17 +14,13 @@ use Rattle.flex_store.specs.Blocks.{Block, has_anchor, is_header, taken, used}
 use Rattle.flex_store.specs.Marks.{marked, with_marks}
 use Rattle.flex_store.specs.Memory.{AreAnchored, Holds, laid_out, standing, text_of, with_anchors}
 use Rattle.flex_store.specs.Relaid.{Relaid}
-use Rattle.flex_store.specs.State.{AreAnchorWords, AreInner, AreOutside, AreWhole, IsFlexRange, IsFlexStore, IsText}
+use Rattle.flex_store.specs.State.{AreAnchorWords, AreInner, AreWhole, IsFlexRange, IsFlexStore, IsText}
 use Rattle.flex_store.proofs.Anchoring.{anchors-append, anchors_again, anchors_beside, anchors_hold}
 use Rattle.flex_store.proofs.Headers.{anchor_by, header_by, IsWithin, header_within, marks_made}
 use Rattle.flex_store.proofs.Holding.{bytes_beside, bytes_held, bytes_written, holds_append, holds_kept, holds_right}
-use Rattle.flex_store.proofs.Lists.{anchor-append, header-append, text-append, text_used, used-append, whole_left, whole_right}
+use Rattle.flex_store.proofs.Lists.{anchor-append, header-append, text-append, text_used, used-append, used_aligned, whole_left, whole_right}
 use Rattle.flex_store.proofs.Standing.{all_there, standing_anchored, standing_contents, standing_has, standing_header, standing_text, standing_used, standing_whole, standing_words}
-use Rattle.flex_store.proofs.Words.{anchor_no_header, none_inside, words_left, words_low, words_right, word_of}
-
-pub used_aligned : (bs : List Block) → used bs % 4 ≡ 0
-used_aligned [] = refl
-used_aligned (b ∷ bs) = let rest : used bs % 4 ≡ 0 = used_aligned bs in omega arith
+use Rattle.flex_store.proofs.Words.{anchor_no_header, words_left, words_low, words_right, word_of}
 
 -- anchors keep what they hold where only bytes behind their blocks change, up to the end
 pub anchored_kept : (mapped : ℕ → Bool) (start end place : ℕ) (f g : ℕ → ℕ) (at : ℕ) (bs : List Block) → AreAnchorWords mapped start end bs → start + used bs ≤ place
@@ -79,17 +75,6 @@ laid mapped start end f g bs aligned whole words inner fits h =
           (bytes_held f start (text_of bs));
       anchored = subst (λ (k : ℕ → ℕ). AreAnchored k start bs) (sym same) (anchors_hold mapped start end start bs written words);
     }
-
--- Where all anchors lie outside they are there as they were laid out.
-pub laid_text : (mapped : ℕ → Bool) (start end : ℕ) (f g : ℕ → ℕ) (bs : List Block) → start % 4 ≡ 0 → AreWhole bs → AreAnchorWords mapped start end bs
-    → AreOutside start end bs → start + used bs ≤ end → ((a : ℕ) → g a ≡ laid_out start bs f a) → Holds g start (text_of bs)
-unfolding laid_out
-laid_text mapped start end f g bs aligned whole words out fits h =
-    let size : length (text_of bs) ≡ used bs = text_used bs whole in
-    let written : ℕ → ℕ = with_bytes_at f start (text_of bs) in
-    holds_kept written g start (text_of bs)
-    (λ a low high. h a ∙ anchors_beside mapped start end start bs written a words (none_inside start end bs (word_start a) out (omega arith) (omega arith)))
-    (bytes_held f start (text_of bs))
 
 -- what holds of the part of the store that stays, and of the words that are marked, before the blocks behind it are laid out
 pub record IsBefore (m : AddressMap) (start end : ℕ) (xs olds news : List Block) : Type 0 where
@@ -188,8 +173,8 @@ relaid m n start end xs olds news b r =
     }
 
 pub relaid_store : (m n : AddressMap) (start end : ℕ) (xs olds news : List Block) → IsBefore m start end xs olds news
-    → Relaid m n (start + used xs) olds news → AreOutside start end (xs ++ news) → IsFlexStore n start end (standing (byte_at n) start (xs ++ news))
-relaid_store m n start end xs olds news b r out =
+    → Relaid m n (start + used xs) olds news → IsFlexStore n start end (standing (byte_at n) start (xs ++ news))
+relaid_store m n start end xs olds news b r =
     let bs : List Block = xs ++ news in
     let g : ℕ → ℕ = byte_at n in
     let k : IsRelaid m n start end bs = relaid m n start end xs olds news b r in
@@ -200,7 +185,6 @@ relaid_store m n start end xs olds news b r out =
       whole = standing_whole g start bs b.whole;
       words = standing_words (is_mapped n) (is_mapped n) start end g start bs (all_there (is_mapped n) bs (λ a has. (word_of (is_mapped n) start end bs a k.words has).there)) k.words;
       inner = λ a has low high. standing_contents g start start bs a ∙ b.inner a (sym (standing_has g start bs a) ∙ has) low high;
-      outside = λ a has. out a (sym (standing_has g start bs a) ∙ has);
       text = k.there.text;
       anchored = standing_anchored (is_mapped n) start end g g g start bs k.words (λ a has. refl) k.there.anchored;
       headers = λ a. headers_then m n start end xs olds news b r a ∙ sym (standing_header g start bs (word_start a));

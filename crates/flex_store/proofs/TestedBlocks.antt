@@ -15,7 +15,7 @@ use Rattle.os_heap.proofs.Added.{sound_empty}
 use Rattle.os_heap.proofs.Frame.{classes_empty, classes_same, layout-others}
 use Rattle.os_heap.proofs.Recorded.{recorded_sound, store_recorded}
 use Rattle.os_heap.specs.Calls.{begun, begun_with, got, heap_at, holding}
-use Rattle.os_heap.specs.Ranges.{is_heap_region, meets_any}
+use Rattle.os_heap.specs.Ranges.{is_heap_region, overlaps}
 use Rattle.os_heap.specs.os_heap_lists.specs.Lists.{claimed, total_for}
 use Rattle.std.specs.Prelude.{if◌then◌else◌, nat_le, not, ok_or, ◌+◌, ◌-◌}
 use Rattle.profile.specs.declared.error.ErrorNumber.TheVariants.{HeapBadRegion, HeapOverlaps, HeapNoRoom, HeapTableFull}
@@ -84,7 +84,7 @@ beside_if s false e x are = are
 begun_beside : (s : Store) (at size : ℕ) → AreBeside s (begun s at size)
 unfolding begun
 begun_beside s at size =
-    beside_if s (not (is_heap_region s.bytes at size)) HeapBadRegion _ (beside_if s (meets_any at size s) HeapOverlaps _
+    beside_if s (not (is_heap_region s.bytes at size)) HeapBadRegion _ (beside_if s (overlaps at size s) HeapOverlaps _
     (beside_if s (nat_le 64 (guest_count s.heaps)) HeapTableFull (Ok (begun_with kind.Heap s at size, tt)) (record { anchor = refl; header = refl; others = refl })))
 
 got_beside : (s : Store) (heap size : ℕ) → AreBeside s (got s heap size)

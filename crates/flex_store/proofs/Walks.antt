@@ -1,8 +1,8 @@
--- A walk over the blocks of a text, which marks their headers and anchors, and one that rewrites their anchors too.
-use Rattle.std.proofs.Common.{◌≡◌, ℕ, Bool, ◌+◌, ◌-◌, ◌%◌, ◌^◌, ◌<◌, ◌≤◌, true, List, [], ◌∷◌, arith, refl, sym, ◌∙◌, ap, inl, inr, subst}
+-- A walk over the blocks of a text, which takes the marks off their headers and anchors; what one that settles them holds on to.
+use Rattle.std.proofs.Common.{◌≡◌, ℕ, Bool, ◌+◌, ◌-◌, ◌%◌, ◌^◌, ◌<◌, ◌≤◌, true, List, [], ◌∷◌, arith, refl, sym, ◌∙◌, ap, subst}
 use Rattle.address_map.proofs.Bytes.{is_mapped-layout}
 use Rattle.address_map.proofs.Spans.{mapped_below}
-use Rattle.address_map.specs.Bytes.{Bytes, word_at, with_word_at}
+use Rattle.address_map.specs.Bytes.{Bytes, word_at}
 use Rattle.address_map.specs.Records.{is_word_kind, with_region}
 use Rattle.address_map.specs.declared.class.Class.{Class}
 use Rattle.address_map.specs.declared.class.Class.TheVariants as class
@@ -10,11 +10,12 @@ use Rattle.address_map.specs.declared.map.AddressMap.{AddressMap}
 use Rattle.address_map.specs.declared.region.Kind.{Kind}
 use Rattle.address_map.specs.declared.region.Region.{Region}
 use Rattle.address_map.specs.Memory.{byte_at, bytes_of, class_of, is_mapped, layout}
+use Rattle.flex_store.specs.declared.shift.Shift.{Shift}
 use Rattle.flex_store.specs.Blocks.{Block, taken, used}
 use Rattle.flex_store.specs.Marks.{with_block_marks, with_marks}
-use Rattle.flex_store.specs.Memory.{with_anchors, blocks_in}
+use Rattle.flex_store.specs.Memory.{blocks_in, laid_out}
+use Rattle.flex_store.specs.Shifts.{following}
 use Rattle.flex_store.specs.State.{AreAnchorWords, IsMappedWord, IsText}
-use Rattle.flex_store.proofs.Holding.{word_beside}
 use Rattle.flex_store.proofs.Texts.{IsFirst, text_first, text_kept, text_next}
 use Rattle.flex_store.proofs.Words.{mapped_word}
 
@@ -27,14 +28,15 @@ pub record IsMarking (mark : Class) (m : AddressMap) (at : ℕ) (n : AddressMap)
   pub same : layout n ≡ layout m
   pub marks : (a : ℕ) → with_marks mark mark to rest (class_of n) a ≡ with_marks mark mark at (blocks_in (byte_at m) at end) (class_of m) a
 
-pub record IsSettling (m : AddressMap) (at : ℕ) (n : AddressMap) (to end : ℕ) : Type 0 where
+-- What is left to settle, with the anchors' old names in its headers: with it settled all is.
+pub record IsSettling (shifts : List Shift) (m : AddressMap) (at : ℕ) (n : AddressMap) (to end : ℕ) : Type 0 where
   pub rest : List Block
   pub text : IsText (bytes_of n) to end rest
-  pub words : AreAnchorWords (is_mapped n) to end rest
+  pub words : AreAnchorWords (is_mapped n) to end (following shifts rest)
   pub same : layout n ≡ layout m
-  pub anchors : (a : ℕ) → with_anchors to rest (byte_at n) a ≡ with_anchors at (blocks_in (byte_at m) at end) (byte_at m) a
-  pub marks : (a : ℕ) → with_marks class.FlexHeader class.Anchor to rest (class_of n) a
-      ≡ with_marks class.FlexHeader class.Anchor at (blocks_in (byte_at m) at end) (class_of m) a
+  pub bytes : (a : ℕ) → laid_out to (following shifts rest) (byte_at n) a ≡ laid_out at (following shifts (blocks_in (byte_at m) at end)) (byte_at m) a
+  pub marks : (a : ℕ) → with_marks class.FlexHeader class.Anchor to (following shifts rest) (class_of n) a
+      ≡ with_marks class.FlexHeader class.Anchor at (following shifts (blocks_in (byte_at m) at end)) (class_of m) a
 
 -- a word is no record
 pub with_word_region : (rs : List Region) (k : Kind) (at : ℕ) → is_word_kind k ≡ true → with_region rs (record { kind = k; at = at; len = 4 }) ≡ rs
@@ -76,7 +78,7 @@ anchor_ahead m at end (x ∷ bs) is words some =
     let f : IsFirst (bytes_of m) at end x bs = text_first (bytes_of m) at end x bs is in
     rw f.anchor (mapped_word (is_mapped m) at end x.anchor words.0.0)
 
-words_mapped : (n n' : AddressMap) (at end : ℕ) (bs : List Block) → layout n' ≡ layout n → AreAnchorWords (is_mapped n) at end bs → AreAnchorWords (is_mapped n') at end bs
+pub words_mapped : (n n' : AddressMap) (at end : ℕ) (bs : List Block) → layout n' ≡ layout n → AreAnchorWords (is_mapped n) at end bs → AreAnchorWords (is_mapped n') at end bs
 words_mapped n n' at end bs same words = subst (λ (p : ℕ → Bool). AreAnchorWords p at end bs) (sym (is_mapped-layout n n' same)) words
 
 -- one block more is marked
@@ -110,43 +112,8 @@ pub marking_more : (mark : Class) (m : AddressMap) (at : ℕ) (n n' : AddressMap
 marking_more mark m at n n' to end some h same' bytes' marked =
     marking_by mark m at n n' to end h.rest some h.text h.words h.bytes h.same h.marks same' bytes' marked
 
--- one block more is settled
-settling_by : (m : AddressMap) (at : ℕ) (n n' : AddressMap) (to end : ℕ) (rest : List Block) → to < end
-    → IsText (bytes_of n) to end rest → AreAnchorWords (is_mapped n) to end rest → layout n ≡ layout m
-    → ((a : ℕ) → with_anchors to rest (byte_at n) a ≡ with_anchors at (blocks_in (byte_at m) at end) (byte_at m) a)
-    → ((a : ℕ) → with_marks class.FlexHeader class.Anchor to rest (class_of n) a ≡ with_marks class.FlexHeader class.Anchor at (blocks_in (byte_at m) at end) (class_of m) a)
-    → layout n' ≡ layout n → ((a : ℕ) → byte_at n' a ≡ with_word_at (byte_at n) (word_at (byte_at n) to) (to + 8) a)
-    → ((a : ℕ) → class_of n' a ≡ with_block_marks class.FlexHeader class.Anchor to (word_at (byte_at n) to) (class_of n) a)
-    → IsSettling m at n' (to + taken (word_at (byte_at n) (to + 4))) end
-settling_by m at n n' to end [] some is words same anchors marks same' bytes' marked =
-    absurd (let length_is : end ≡ to + 0 = is.length in omega arith)
-settling_by m at n n' to end (x ∷ bs) some is words same anchors marks same' bytes' marked =
-    let f : IsFirst (bytes_of n) to end x bs = text_first (bytes_of n) to end x bs is in
-    let e : word_at (byte_at n) (to + 4) ≡ x.size = f.size in
-    let e' : word_at (byte_at n) to ≡ x.anchor = f.anchor in
-    let made : (a : ℕ) → class_of n' a ≡ with_block_marks class.FlexHeader class.Anchor to x.anchor (class_of n) a = rw e' at marked in
-    let wrote : (a : ℕ) → byte_at n' a ≡ with_word_at (byte_at n) x.anchor (to + 8) a = rw e' at bytes' in
-    rw e (record {
-      rest = bs;
-      text = text_kept (bytes_of n) (bytes_of n') (to + taken x.size) end bs (is_mapped-layout n n' same')
-          (λ a low high. wrote a ∙ word_beside (byte_at n) x.anchor (to + 8) a
-          (elim words.0.0.outside [ inl before ↦ inr (omega arith) | inr behind ↦ inl (omega arith) ]))
-          (text_next (bytes_of n) to end x bs is);
-      words = words_mapped n n' (to + taken x.size) end bs same' words.1;
-      same = same' ∙ same;
-      anchors = λ a. ap (λ (g : ℕ → ℕ). with_anchors (to + taken x.size) bs g a) (λ i p. wrote p i) ∙ anchors a;
-      marks = λ a. ap (λ (c : ℕ → Class). with_marks class.FlexHeader class.Anchor (to + taken x.size) bs c a) (λ i p. made p i) ∙ marks a;
-    })
-
-pub settling_more : (m : AddressMap) (at : ℕ) (n n' : AddressMap) (to end : ℕ) → to < end → IsSettling m at n to end
-    → layout n' ≡ layout n → ((a : ℕ) → byte_at n' a ≡ with_word_at (byte_at n) (word_at (byte_at n) to) (to + 8) a)
-    → ((a : ℕ) → class_of n' a ≡ with_block_marks class.FlexHeader class.Anchor to (word_at (byte_at n) to) (class_of n) a)
-    → IsSettling m at n' (to + taken (word_at (byte_at n) (to + 4))) end
-settling_more m at n n' to end some h same' bytes' marked =
-    settling_by m at n n' to end h.rest some h.text h.words h.same h.anchors h.marks same' bytes' marked
-
 -- at the end nothing is left
-ended : (at end : ℕ) (b : Bytes) (rest : List Block) → end ≤ at → IsText b at end rest → rest ≡ []
+pub ended : (at end : ℕ) (b : Bytes) (rest : List Block) → end ≤ at → IsText b at end rest → rest ≡ []
 ended at end b [] past is = refl
 ended at end b (x ∷ bs) past is = absurd (let length_is : end ≡ at + (taken x.size + used bs) = is.length in omega arith)
 
@@ -154,15 +121,3 @@ pub marking_all : (mark : Class) (m : AddressMap) (at : ℕ) (n : AddressMap) (t
     → (a : ℕ) → class_of n a ≡ with_marks mark mark at (blocks_in (byte_at m) at end) (class_of m) a
 marking_all mark m at n to end past h a =
     ap (λ (l : List Block). with_marks mark mark to l (class_of n) a) (sym (ended to end (bytes_of n) h.rest past h.text)) ∙ h.marks a
-
-pub record IsSettled (m : AddressMap) (at : ℕ) (n : AddressMap) (end : ℕ) : Type 0 where
-  pub anchors : (a : ℕ) → byte_at n a ≡ with_anchors at (blocks_in (byte_at m) at end) (byte_at m) a
-  pub marks : (a : ℕ) → class_of n a ≡ with_marks class.FlexHeader class.Anchor at (blocks_in (byte_at m) at end) (class_of m) a
-
-pub settling_all : (m : AddressMap) (at : ℕ) (n : AddressMap) (to end : ℕ) → end ≤ to → IsSettling m at n to end → IsSettled m at n end
-settling_all m at n to end past h =
-    let none : h.rest ≡ [] = ended to end (bytes_of n) h.rest past h.text in
-    record {
-      anchors = λ a. ap (λ (l : List Block). with_anchors to l (byte_at n) a) (sym none) ∙ h.anchors a;
-      marks = λ a. ap (λ (l : List Block). with_marks class.FlexHeader class.Anchor to l (class_of n) a) (sym none) ∙ h.marks a;
-    }

@@ -1,9 +1,9 @@
 -- Where anchors lie: the anchor of each block outside the text from its own header on, apart from the others, and in no header.
-use Rattle.std.proofs.Common.{◌≡◌, ℕ, Bool, ◌+◌, ◌<◌, ◌≤◌, true, false, ◌||◌, nat_eq, List, [], ◌∷◌, ◌++◌, arith, refl, sym, ◌∙◌, ap, inl, inr}
+use Rattle.std.proofs.Common.{◌≡◌, ℕ, Bool, ◌+◌, ◌≤◌, true, false, ◌||◌, nat_eq, List, [], ◌∷◌, ◌++◌, arith, refl, sym, ◌∙◌, ap, inl, inr, ◌⊎◌}
 use Rattle.std.specs.Prelude.{nat_le}
 use Rattle.std.proofs.lemmas.Bool.{and_parts, both_ways, cases_lt, eqb-true, eq-eqb, false_from_ne_true, false≢true, leb-true, ne_eqb, or_cases, or_from, or_left, or_parts, or_right}
 use Rattle.flex_store.specs.Blocks.{Block, has_anchor, is_header, is_held_word, is_in_contents, taken, used}
-use Rattle.flex_store.specs.State.{AreAnchorWords, AreInner, AreLow, AreOuterWords, AreOutside, IsAnchorWord, IsMappedWord}
+use Rattle.flex_store.specs.State.{AreAnchorWords, AreInner, AreLow, IsAnchorWord, IsMappedWord}
 use Rattle.flex_store.proofs.Headers.{IsWithin, header_within}
 use Rattle.flex_store.proofs.Lists.{anchor-append}
 
@@ -69,7 +69,7 @@ pub record IsHeld (at len a : ℕ) : Type 0 where
   pub from : at + 8 ≤ a
   pub below : a + 4 ≤ at + len
 
-held_word : (at : ℕ) (b : Block) (a : ℕ) → is_held_word at b a ≡ true → (at + 8 ≤ a) × (a + 4 ≤ at + 8 + b.size)
+pub held_word : (at : ℕ) (b : Block) (a : ℕ) → is_held_word at b a ≡ true → (at + 8 ≤ a) × (a + 4 ≤ at + 8 + b.size)
 held_word at b a held =
     let parts = and_parts (nat_le (at + 8) a) (nat_le (a + 4) (at + 8 + b.size)) held in
     (leb-true (at + 8) a parts.0, leb-true (a + 4) (at + 8 + b.size) parts.1)
@@ -113,47 +113,30 @@ anchor_no_header start end bs a fits inner has = elim (cases_lt a start) [
   ]
 ]
 
--- anchors outside all of the range
-pub outside_of : (mapped : ℕ → Bool) (start end : ℕ) (bs : List Block) → AreOuterWords mapped start end bs → AreOutside start end bs
-outside_of mapped start end [] words a has = absurd (false≢true has)
-outside_of mapped start end (b ∷ bs) words a has = elim (or_cases (nat_eq a b.anchor) (has_anchor bs a) has) [
-  | inl here ↦ let e : a ≡ b.anchor = eqb-true _ _ here in rw e words.0.0.outside
-  | inr later ↦ outside_of mapped start end bs words.1 a later
+-- they lie outside what is behind all these blocks, up to the end
+pub outside_behind : (mapped : ℕ → Bool) (start end : ℕ) (bs : List Block) (p : ℕ) → AreAnchorWords mapped start end bs → has_anchor bs p ≡ true
+    → (p + 4 ≤ start + used bs) ⊎ (end ≤ p)
+outside_behind mapped start end [] p words has = absurd (false≢true has)
+outside_behind mapped start end (b ∷ bs) p words has = elim (or_cases (nat_eq p b.anchor) (has_anchor bs p) has) [
+  | inl here ↦
+      let e : p ≡ b.anchor = eqb-true _ _ here in
+      elim words.0.0.outside [ inl before ↦ inl (omega arith) | inr behind ↦ inr (omega arith) ]
+  | inr later ↦ elim (outside_behind mapped (start + taken b.size) end bs p words.1 later) [
+    | inl before ↦ inl (omega arith)
+    | inr behind ↦ inr behind
+  ]
 ]
 
-pub outer_words : (mapped : ℕ → Bool) (start end at : ℕ) (bs : List Block) → start ≤ at → AreOuterWords mapped start end bs → AreAnchorWords mapped at end bs
-outer_words mapped start end at [] low words = tt
-outer_words mapped start end at (b ∷ bs) low words = (
-  (
-    record {
-      aligned = words.0.0.aligned;
-      there = words.0.0.there;
-      low = words.0.0.low;
-      outside = elim words.0.0.outside [ inl before ↦ inl (omega arith) | inr behind ↦ inr behind ];
-    },
-    words.0.1,
-  ),
-  outer_words mapped start end (at + taken b.size) bs (omega arith) words.1,
-)
-
-pub words_outer : (mapped : ℕ → Bool) (start end at : ℕ) (bs : List Block) → AreAnchorWords mapped at end bs → AreOutside start end bs → AreOuterWords mapped start end bs
-words_outer mapped start end at [] words out = tt
-words_outer mapped start end at (b ∷ bs) words out = (
-  (
-    record {
-      aligned = words.0.0.aligned;
-      there = words.0.0.there;
-      low = words.0.0.low;
-      outside = out b.anchor (or_left (nat_eq b.anchor b.anchor) (has_anchor bs b.anchor) (eq-eqb b.anchor b.anchor refl));
-    },
-    words.0.1,
-  ),
-  words_outer mapped start end (at + taken b.size) bs words.1 (λ a has. out a (or_right (nat_eq a b.anchor) (has_anchor bs a) has)),
-)
-
-pub outside_inner : (start end : ℕ) (bs : List Block) → AreOutside start end bs → AreInner start end bs
-outside_inner start end bs out a has low high = absurd (elim (out a has) [ inl before ↦ omega arith | inr behind ↦ omega arith ])
-
-pub none_inside : (start end : ℕ) (bs : List Block) (p : ℕ) → AreOutside start end bs → start ≤ p → p < end → has_anchor bs p ≡ false
-none_inside start end bs p out low high =
-    false_from_ne_true (has_anchor bs p) (λ has. elim (out p has) [ inl before ↦ omega arith | inr behind ↦ omega arith ])
+-- two lists end to end, whose anchors differ
+pub words_joined : (mapped : ℕ → Bool) (start end : ℕ) (xs ys : List Block) → AreAnchorWords mapped start end xs → AreAnchorWords mapped (start + used xs) end ys
+    → ((p : ℕ) → has_anchor xs p ≡ true → has_anchor ys p ≡ false) → AreAnchorWords mapped start end (xs ++ ys)
+words_joined mapped start end [] ys first then apart = let e : start + 0 ≡ start = omega arith in rw e at then
+words_joined mapped start end (b ∷ xs) ys first then apart =
+    let e : start + (taken b.size + used xs) ≡ start + taken b.size + used xs = omega arith in (
+      (
+        first.0.0,
+        anchor-append xs ys b.anchor
+            ∙ or_from (has_anchor xs b.anchor) (has_anchor ys b.anchor) first.0.1 (apart b.anchor (or_left (nat_eq b.anchor b.anchor) (has_anchor xs b.anchor) (eq-eqb b.anchor b.anchor refl))),
+      ),
+      words_joined mapped (start + taken b.size) end xs ys first.1 (rw e at then) (λ p has. apart p (or_right (nat_eq p b.anchor) (has_anchor xs p) has)),
+    )

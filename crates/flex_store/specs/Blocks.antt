@@ -60,6 +60,15 @@ abbrev pub without_block : ℕ → List Block → List Block
 without_block anchor [] = []
 without_block anchor (b ∷ bs) = if b.anchor == anchor then bs else b ∷ without_block anchor bs
 
+-- the blocks before that of an anchor, and those behind it
+abbrev pub before : ℕ → List Block → List Block
+before anchor [] = []
+before anchor (b ∷ bs) = if b.anchor == anchor then [] else b ∷ before anchor bs
+
+abbrev pub behind_of : ℕ → List Block → List Block
+behind_of anchor [] = []
+behind_of anchor (b ∷ bs) = if b.anchor == anchor then bs else behind_of anchor bs
+
 -- A new size cuts bytes off, or appends zeros.
 abbrev pub resized : List ℕ → ℕ → List ℕ
 resized bytes size = take size bytes ++ replicate (size - length bytes) 0

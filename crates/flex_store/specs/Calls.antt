@@ -4,30 +4,37 @@ use Rattle.std.specs.Prelude.{ℕ, Bool, true, false, not, ◌+◌, ◌-◌, ◌
 use Rattle.std.specs.List.{list_any}
 use Rattle.profile.specs.Outcome.{bind}
 use Rattle.profile.specs.declared.error.ErrorNumber.{ErrorNumber}
-use Rattle.profile.specs.declared.error.ErrorNumber.TheVariants.{FlexNotReady, FlexAlready, FlexBadRange, FlexBadAnchor, FlexAnchorInUse}
+use Rattle.profile.specs.declared.error.ErrorNumber.TheVariants.{FlexNotReady, FlexAlready, FlexBadRange, FlexBadAnchor, FlexAnchorInUse, FlexHoldsAnchor}
 use Rattle.address_map.specs.declared.region.Kind.TheVariants as kind
 use Rattle.address_map.specs.declared.region.Region.{Region}
-use Rattle.address_map.specs.Bytes.{Bytes, meets, with_word}
+use Rattle.address_map.specs.Bytes.{Bytes, meets, with_word, word_start}
+use Rattle.address_map.specs.Records.{anchor_among}
 use Rattle.os_heap.specs.Payloads.{is_other, payload_of}
-use Rattle.os_heap.specs.Store.{Store}
+use Rattle.os_heap.specs.Store.{is_flex_store, Store}
 use Rattle.os_heap.specs.Ranges.{are_mapped}
-use Rattle.flex_store.specs.Blocks.{Block, FlexStore, used, find_block, has_anchor, with_block, without_block, new_block, holding, contents, resized, spliced, cut_of, more_of}
-use Rattle.flex_store.specs.Memory.{laid_out}
+use Rattle.flex_store.specs.Blocks.{before, behind_of, Block, contents, cut_of, find_block, FlexStore, has_anchor, holding, is_in_contents, more_of, new_block, spliced, used}
+use Rattle.flex_store.specs.Memory.{laid_out, standing}
+use Rattle.flex_store.specs.Shifts.{following, removal_shifts, splice_shifts}
 
 -- memory, and the flex store after `init`
 pub record FlexState : Type 0 where
   pub bytes : Bytes
   pub flex : Option FlexStore
 
--- May the word at an address become an anchor? It is mapped, and lies in no recorded range but a heap; in a heap it lies among the bytes that a
--- live block holds. The record of a module image in the module area covers all bytes that its block holds, so none of these may be an anchor.
+-- May the word at an address become an anchor? It is mapped, and lies in no recorded range but a heap and the flex store; in a heap it lies among the
+-- bytes that a live block holds. The record of a module image in the module area covers all bytes that its block holds, so none of these may be an
+-- anchor.
 unfoldable pub is_anchor_place : Store → ℕ → Bool
 is_anchor_place s a = (a % 4 == 0 && s.bytes.mapped a)
-    && (not (list_any (λ r. meets a 4 r.at r.len) s.others) && not (is_other (payload_of s.heaps a)))
+    && (not (list_any (λ r. not (is_flex_store r.kind) && meets a 4 r.at r.len) s.others) && not (is_other (payload_of s.heaps a)))
 
 -- does a word lie in the flex store?
 abbrev pub is_in_store : FlexStore → ℕ → Bool
 is_in_store s a = meets a 4 s.start (s.end - s.start)
+
+-- A word that does may be an anchor where it lies among the bytes that a block has for its guest.
+abbrev pub may_stand : FlexStore → ℕ → Bool
+may_stand s a = not (is_in_store s a) || is_in_contents s.start s.blocks a
 
 -- does a range share a byte with a heap, or with another recorded range?
 abbrev pub meets_ranges : Store → ℕ → ℕ → Bool
@@ -45,16 +52,19 @@ ready t = ok_or t.flex FlexNotReady
 abbrev pub live : FlexStore → ℕ → Result Block ErrorNumber
 live s anchor = ok_or (find_block anchor s.blocks) FlexBadAnchor
 
--- the state after the store got other blocks
-abbrev pub with_blocks : FlexState → FlexStore → List Block → FlexState
-with_blocks t s blocks = record {
-  bytes = record { mapped = t.bytes.mapped; at = laid_out s.start blocks t.bytes.at };
-  flex = Some (record { start = s.start; end = s.end; blocks = blocks });
-}
+-- The state after the blocks behind some of the store's were laid out anew. The anchors' words lie in what stood there too, in blocks of these, so the
+-- blocks have the bytes that stand in memory then.
+abbrev pub with_blocks : FlexState → FlexStore → List Block → List Block → FlexState
+with_blocks t s olds news =
+    let bytes : ℕ → ℕ = laid_out (s.start + used olds) news t.bytes.at in
+    record {
+      bytes = record { mapped = t.bytes.mapped; at = bytes };
+      flex = Some (record { start = s.start; end = s.end; blocks = standing bytes s.start (olds ++ news) });
+    }
 
 -- what is so where the store has room for these blocks; where it has none, nothing is changed, and the answer is false
-abbrev pub fitted : FlexState → FlexStore → List Block → FlexState × Bool
-fitted t s blocks = if nat_le (s.start + used blocks) s.end then (with_blocks t s blocks, true) else (t, false)
+abbrev pub fitted : FlexState → FlexStore → List Block → List Block → FlexState × Bool
+fitted t s olds news = if nat_le (s.start + used (olds ++ news)) s.end then (with_blocks t s olds news, true) else (t, false)
 
 -- Init: an empty store in a range, which the heaps and the recorded ranges leave free.
 abbrev pub flex_record : ℕ → ℕ → Region
@@ -74,11 +84,22 @@ begun places t start end = begun_by places t start end t.flex
 unfoldable pub allocated : Store → FlexState → ℕ → ℕ → Result (FlexState × Bool) ErrorNumber
 allocated places t anchor size =
     bind (ready t) (λ s.
-    if not (is_anchor_place places anchor && not (is_in_store s anchor)) then Err FlexBadAnchor else (
+    if not (is_anchor_place places anchor && may_stand s anchor) then Err FlexBadAnchor else (
     if has_anchor s.blocks anchor then Err FlexAnchorInUse else
-    Ok (fitted t s (s.blocks ++ new_block anchor size ∷ []))))
+    Ok (fitted t s s.blocks (new_block anchor size ∷ []))))
 
--- Free: the block goes, and its anchor is 0.
+-- is a byte one of an anchor's?
+abbrev pub is_anchor_byte : FlexStore → ℕ → Bool
+is_anchor_byte s a = has_anchor s.blocks (word_start a)
+
+-- where the header of an anchor's block is, and where the last block ends
+abbrev pub header_in : FlexStore → ℕ → ℕ
+header_in s anchor = s.start + used (before anchor s.blocks)
+
+abbrev pub end_in : FlexStore → ℕ
+end_in s = s.start + used s.blocks
+
+-- Free: the block goes, and its anchor is 0. Those behind it slide down, and the anchors in them with them.
 abbrev pub without_anchor : FlexState → ℕ → FlexState
 without_anchor t anchor = record { bytes = with_word t.bytes anchor 0; flex = t.flex }
 
@@ -86,7 +107,12 @@ unfoldable pub released : FlexState → ℕ → Result (FlexState × Unit {0}) E
 released t anchor =
     bind (ready t) (λ s.
     bind (live s anchor) (λ b.
-    Ok (with_blocks (without_anchor t anchor) s (without_block anchor s.blocks), tt)))
+    if anchor_among (is_anchor_byte s) (header_in s anchor + 8) b.size then Err FlexHoldsAnchor else
+    Ok (
+      with_blocks (without_anchor t anchor) s (before anchor s.blocks)
+          (following (removal_shifts (header_in s anchor) (end_in s) b.size) (behind_of anchor s.blocks)),
+      tt,
+    )))
 
 -- Size: the bytes of a block that are its guest's own.
 abbrev pub sized : FlexState → ℕ → Result ℕ ErrorNumber
@@ -95,13 +121,28 @@ sized t anchor =
     bind (live s anchor) (λ b.
     Ok b.size))
 
+-- Would a change of the contents at `c` take a byte of an anchor away, put bytes inside one, or move one by other than whole words? `anchor` tells of
+-- each byte whether it is one of an anchor's.
+abbrev pub breaks_anchor : (ℕ → Bool) → ℕ → ℕ → ℕ → ℕ → ℕ → Bool
+breaks_anchor anchor c size place cut more =
+    anchor_among anchor (c + place - cut) cut
+    || ((not (more == 0) && (not (place % 4 == 0) && anchor_among anchor (c + place) 1))
+    || (not (more % 4 == cut % 4) && anchor_among anchor (c + place) (size - place)))
+
+-- The `cut` bytes before the byte `place` of a block go, and `more` zeros come there. The anchors in what moves go with it.
+abbrev pub spliced_at : FlexState → FlexStore → ℕ → Block → ℕ → ℕ → ℕ → Result (FlexState × Bool) ErrorNumber
+spliced_at t s anchor b place cut more =
+    if breaks_anchor (is_anchor_byte s) (header_in s anchor + 8) b.size place cut more then Err FlexHoldsAnchor else
+    Ok (fitted t s (before anchor s.blocks)
+    (holding b (spliced (contents b) place cut more)
+    ∷ following (splice_shifts (header_in s anchor) (end_in s) b.size place cut more) (behind_of anchor s.blocks)))
+
 -- Extend: a block is cut, or zeros are appended. Where its size stays, it is as it was, with the bytes that fill it up.
 unfoldable pub extended : FlexState → ℕ → ℕ → Result (FlexState × Bool) ErrorNumber
 extended t anchor size =
     bind (ready t) (λ s.
     bind (live s anchor) (λ b.
-    if size == b.size then Ok (t, true) else
-    Ok (fitted t s (with_block anchor (holding b (resized (contents b) size)) s.blocks))))
+    if size == b.size then Ok (t, true) else spliced_at t s anchor b b.size (b.size - size) (size - b.size)))
 
 -- Midextend: where `by`, a signed word, is above 0, zeros are put in before the byte `at`; where it is below, as many bytes before that one go.
 unfoldable pub mid_extended : FlexState → ℕ → ℕ → ℕ → Result (FlexState × Bool) ErrorNumber
@@ -110,5 +151,4 @@ mid_extended t anchor at by =
     if nat_lt at (cut_of by) then Err FlexBadRange else
     bind (live s anchor) (λ b.
     if nat_lt b.size at then Err FlexBadRange else (
-    if by == 0 then Ok (t, true) else
-    Ok (fitted t s (with_block anchor (holding b (spliced (contents b) at (cut_of by) (more_of by))) s.blocks)))))
+    if by == 0 then Ok (t, true) else spliced_at t s anchor b at (cut_of by) (more_of by))))

@@ -9,6 +9,7 @@ pub mod Memory
 pub mod Places
 pub mod Relaid
 pub mod Runs
+pub mod Shifts
 pub mod Splices
 pub mod Staying
 pub mod Tested

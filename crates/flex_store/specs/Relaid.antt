@@ -1,13 +1,15 @@
 -- What is left of memory where the blocks behind a place were laid out anew.
-use Rattle.std.specs.Prelude.{ℕ, ◌≡◌, ◌+◌, List}
+use Rattle.std.specs.Prelude.{ℕ, ◌≡◌, ◌+◌, List, ◌∷◌}
 use Rattle.address_map.specs.Bytes.{AreMapped}
 use Rattle.address_map.specs.Memory.{byte_at, class_of, is_mapped, layout}
 use Rattle.address_map.specs.declared.class.Class.TheVariants as class
 use Rattle.address_map.specs.declared.map.AddressMap.{AddressMap}
-use Rattle.flex_store.specs.Blocks.{Block, taken, used}
+use Rattle.flex_store.specs.Blocks.{Block, contents, holding, spliced, taken, used}
 use Rattle.flex_store.specs.Marks.{with_marks}
 use Rattle.flex_store.specs.Memory.{block_at, blocks_in, laid_out}
+use Rattle.flex_store.specs.Shifts.{following, removal_shifts, splice_shifts}
 use Rattle.flex_store.specs.State.{AreAnchorWords}
+use Rattle.flex_store.specs.declared.splice.Splice.{Splice}
 
 -- the block whose header is at `at`, and those behind it
 abbrev pub first_at : AddressMap → ℕ → Block
@@ -15,6 +17,15 @@ first_at m at = block_at (byte_at m) at
 
 abbrev pub behind : AddressMap → ℕ → ℕ → List Block
 behind m at end = blocks_in (byte_at m) (at + taken (first_at m at).size) end
+
+-- the blocks from `at` on, after the first was changed, and after it went
+abbrev pub replaced : AddressMap → ℕ → ℕ → Splice → List Block
+replaced m at end s =
+    holding (first_at m at) (spliced (contents (first_at m at)) s.at s.cut s.more)
+    ∷ following (splice_shifts at end (first_at m at).size s.at s.cut s.more) (behind m at end)
+
+abbrev pub closed : AddressMap → ℕ → ℕ → List Block
+closed m at end = following (removal_shifts at end (first_at m at).size) (behind m at end)
 
 -- These blocks are laid out from `at` on, and their headers and anchors are marked in place of those of the blocks that stood there.
 pub record Relaid (old new : AddressMap) (at : ℕ) (olds news : List Block) : Type 0 where

@@ -1,10 +1,9 @@
--- Lists of calls on the flex store, and what becomes of each anchor's contents by rules in which no address of the store stands.
-use Rattle.std.specs.Prelude.{ℕ, ◌≡◌, ◌≤◌, ◌+◌, ◌==◌, nat_le, Bool, true, List, [], ◌∷◌, ◌++◌, replicate, Option, Some, None, Ok, if◌then◌else◌}
-use Rattle.std.specs.Option.{option_map}
+-- The calls on the flex store that change blocks, and how many bytes the blocks take up after each.
+use Rattle.std.specs.Prelude.{ℕ, ◌≡◌, ◌≤◌, ◌+◌, nat_le, Bool, true, List, [], ◌∷◌, ◌++◌, Option, Some, None, Ok}
 use Rattle.os_heap.specs.Store.{Store}
 use Rattle.flex_store.specs.Blocks.{Block, FlexStore, contents, cut_of, find_block, holding, more_of, new_block, resized, spliced, used, with_block, without_block}
 use Rattle.flex_store.specs.Calls.{FlexState, allocated, extended, mid_extended, released}
-use Rattle.flex_store.specs.Laws.{HasBlocks, contents_in}
+use Rattle.flex_store.specs.Laws.{HasBlocks}
 
 -- the calls that change blocks, with what they are given: an anchor, and then a size, or a place and a signed word
 pub data FlexCall : Type 0 where
@@ -13,11 +12,6 @@ pub data FlexCall : Type 0 where
   Extend : ℕ → ℕ → FlexCall
   MidExtend : ℕ → ℕ → ℕ → FlexCall
 
--- a call, and its answer: was there room? A release always has room.
-pub record Answered : Type 0 where
-  pub call : FlexCall
-  pub answer : Bool
-
 -- A call was not refused, gave this answer, and left this state. Where an alloc finds its anchor, the heaps and the ranges are what they are then.
 abbrev pub IsDone : FlexState → FlexCall → Bool → FlexState → Type 0
 IsDone t (Alloc anchor size) answer u = (places : Store) × (allocated places t anchor size ≡ Ok (u, answer))
@@ -25,33 +19,7 @@ IsDone t (Release anchor) answer u = (answer ≡ true) × (released t anchor ≡
 IsDone t (Extend anchor size) answer u = extended t anchor size ≡ Ok (u, answer)
 IsDone t (MidExtend anchor at by) answer u = mid_extended t anchor at by ≡ Ok (u, answer)
 
--- the calls were done one after another
-abbrev pub AreDone : FlexState → List Answered → FlexState → Type 0
-AreDone t [] u = u ≡ t
-AreDone t (d ∷ ds) u = (v : FlexState) × (IsDone t d.call d.answer v × AreDone v ds u)
-
--- what each anchor has after a call that found room
-abbrev pub contents_after : FlexCall → (ℕ → Option (List ℕ)) → ℕ → Option (List ℕ)
-contents_after (Alloc anchor size) old a = if anchor == a then Some (replicate size 0) else old a
-contents_after (Release anchor) old a = if anchor == a then None else old a
-contents_after (Extend anchor size) old a = if anchor == a then option_map (λ c. resized c size) (old a) else old a
-contents_after (MidExtend anchor at by) old a =
-    if anchor == a then option_map (λ c. spliced c at (cut_of by) (more_of by)) (old a) else old a
-
--- after a call, and after all calls of a list
-abbrev pub contents_left : Answered → (ℕ → Option (List ℕ)) → ℕ → Option (List ℕ)
-contents_left d old a = if d.answer then contents_after d.call old a else old a
-
-abbrev pub contents_by : List Answered → (ℕ → Option (List ℕ)) → ℕ → Option (List ℕ)
-contents_by [] old = old
-contents_by (d ∷ ds) old = contents_by ds (contents_left d old)
-
--- Whatever is called in whatever order, each anchor has what these rules say.
-abbrev pub CallsMoveContentsByRules : Type 0
-CallsMoveContentsByRules = (t u : FlexState) (calls : List Answered) (a : ℕ) → HasBlocks t.flex → AreDone t calls u
-    → contents_in u.flex a ≡ contents_by calls (contents_in t.flex) a
-
--- the blocks after a call that found room
+-- the blocks after a call that found room, but for what anchors are where then
 abbrev pub blocks_changed : ℕ → (List ℕ → List ℕ) → Option Block → List Block → List Block
 blocks_changed anchor change None bs = bs
 blocks_changed anchor change (Some b) bs = with_block anchor (holding b (change (contents b))) bs

@@ -59,15 +59,6 @@ AreAnchorWords mapped at end (b ∷ bs) =
 abbrev pub AreInner : ℕ → ℕ → List Block → Type 0
 AreInner start end bs = (a : ℕ) → has_anchor bs a ≡ true → start ≤ a → a < end → is_in_contents start bs a ≡ true
 
--- all anchors lie outside the range from `start` to `end`
-abbrev pub AreOutside : ℕ → ℕ → List Block → Type 0
-AreOutside start end bs = (a : ℕ) → has_anchor bs a ≡ true → (a + 4 ≤ start) ⊎ (end ≤ a)
-
-abbrev pub AreOuterWords : (ℕ → Bool) → ℕ → ℕ → List Block → Type 0
-AreOuterWords mapped start end [] = Unit {0}
-AreOuterWords mapped start end (b ∷ bs) =
-    (IsAnchorWord mapped start end b.anchor × (has_anchor bs b.anchor ≡ false)) × AreOuterWords mapped start end bs
-
 -- the anchors' addresses lie below 2^26
 abbrev pub AreLow : List Block → Type 0
 AreLow [] = Unit {0}
@@ -96,7 +87,6 @@ pub record IsFlexStore (m : AddressMap) (start end : ℕ) (blocks : List Block) 
   pub whole : AreWhole blocks
   pub words : AreAnchorWords (is_mapped m) start end blocks
   pub inner : AreInner start end blocks
-  pub outside : AreOutside start end blocks
   pub text : Holds (byte_at m) start (text_of blocks)
   pub anchored : AreAnchored (byte_at m) start blocks
   pub headers : (a : ℕ) → is_flex_header (class_of m a) ≡ is_header start blocks (word_start a)
@@ -131,6 +121,11 @@ IsFlexAt m (Some e) = IsRecordedStore m e
 abbrev pub IsFlex : AddressMap → Flex → Type 0
 IsFlex m f = IsFlexAt m f.extent
 
+-- a word that may be a new block's anchor: it lies outside what is behind the other blocks, and in contents of one of them where it lies in the store
+pub record IsNewAnchor (m : AddressMap) (e : Extent) (anchor : ℕ) : Type 0 where
+  pub word : IsAnchorWord (is_mapped m) (e.start + used (blocks_of m e)) e.end anchor
+  pub inside : e.start ≤ anchor → anchor < e.end → is_in_contents e.start (blocks_of m e) anchor ≡ true
+
 -- no head of a heap lies in the store
 abbrev pub HasNoHead : AddressMap → Option Extent → Type 0
 HasNoHead m None = Unit {0}
@@ -141,11 +136,15 @@ pub record KeepsHeads (m n : AddressMap) : Type 0 where
   pub bytes : (a : ℕ) → is_heap_class (class_of m a) ≡ true → byte_at n a ≡ byte_at m a
   pub classes : (a : ℕ) → is_heap_class (class_of n a) ≡ is_heap_class (class_of m a)
 
--- What each call on a store keeps. An anchor that comes is a word that may be one.
+-- an anchor after a call: it was one, or its word may be one, or it lies in the store
+abbrev pub IsAllowed : AddressMap → Extent → ℕ → Type 0
+IsAllowed m e a = (has_anchor (blocks_of m e) a ≡ true) ⊎ ((is_anchor_place (store_of m) a ≡ true) ⊎ ((e.start ≤ a) × (a < e.end)))
+
+-- What each call on a store keeps. An anchor that comes is a word that may be one, or lies in the store.
 pub record Keeps (m : AddressMap) (e : Extent) (n : AddressMap) (f : Extent) : Type 0 where
   pub store : IsStoreAt n f
   pub same : layout n ≡ layout m
   pub heads : HasNoHead m (Some e) → KeepsHeads m n
-  pub anchors : (a : ℕ) → has_anchor (blocks_of n f) a ≡ true → (has_anchor (blocks_of m e) a ≡ true) ⊎ (is_anchor_place (store_of m) a ≡ true)
+  pub anchors : (a : ℕ) → has_anchor (blocks_of n f) a ≡ true → IsAllowed m e a
   pub start : f.start ≡ e.start
   pub end : f.end ≡ e.end

@@ -1,23 +1,24 @@
-ghost use Rattle.std.specs.Prelude.{◌≡◌, ◌≤◌, ◌+◌, ◌%◌, ◌==◌, ◌&&◌, not, ◌++◌, ◌∷◌, [], false, None, MatchOption};
+ghost use Rattle.std.specs.Prelude.{◌≡◌, ◌≤◌, ◌<◌, ◌+◌, ◌%◌, ◌==◌, ◌&&◌, not, ◌∷◌, [], false, None, MatchOption};
 ghost use Rattle.std.specs.List.{list_any};
 ghost use Rattle.profile.specs.Outcome.{Gives};
 ghost use Rattle.address_map.specs.Records.{is_heap_kind};
-ghost use Rattle.os_heap.specs.Store.{AreClasses, IsSound, store_of};
+ghost use Rattle.os_heap.specs.Store.{AreClasses, is_flex_store, IsSound, store_of};
 ghost use Rattle.address_map.specs.Bytes.{meets, word_at};
 ghost use Rattle.address_map.specs.Classes.{is_anchor, is_heap_class};
-ghost use Rattle.address_map.specs.Memory.{byte_at, class_of, is_mapped};
+ghost use Rattle.address_map.specs.Memory.{byte_at, class_of};
 ghost use Rattle.flex_store.specs.Blocks.{cut_of, find_block, has_anchor, more_of, new_block};
-ghost use Rattle.flex_store.specs.Calls.{allocated, extended, is_anchor_place, is_in_store, mid_extended, released, sized};
-ghost use Rattle.flex_store.specs.Changes.{Fits, IsChanged};
+ghost use Rattle.flex_store.specs.Calls.{allocated, extended, is_anchor_place, may_stand, mid_extended, released, sized, spliced_at};
+ghost use Rattle.flex_store.specs.Changes.{Fits};
+ghost use Rattle.flex_store.specs.Relaid.{first_at};
 ghost use Rattle.flex_store.specs.Places.{IsHeaderOf};
 ghost use Rattle.flex_store.specs.Splices.{IsSplice};
-ghost use Rattle.flex_store.specs.State.{blocks_of, held_in, store_in, IsAnchorWord, IsStoreAt, Keeps};
+ghost use Rattle.flex_store.specs.State.{blocks_of, held_in, store_in, IsNewAnchor, IsStoreAt, Keeps};
 
 use crate::flex::Extent;
 use crate::slide::{append, remove, replace};
 use crate::splice::Splice;
-use crate::walk::{HEADER, SIZE, taken, word};
-use address_map::{AddressMap, Class, Region};
+use crate::walk::{HEADER, SIZE, is_in_contents, taken, word};
+use address_map::{AddressMap, Class, Kind, Region};
 use os_heap::Heaps;
 use profile::ErrorNumber;
 
@@ -57,7 +58,7 @@ pub(crate) fn extend_block(
         cut: old.saturating_sub(size),
         more: size.saturating_sub(old),
     };
-    Ok(splice_block(map, extent, anchor, header, &splice))
+    splice_block(map, extent, anchor, header, &splice)
 }
 
 /// Puts zeros into a block, or takes bytes out of it.
@@ -92,7 +93,7 @@ pub(crate) fn mid_extend_block(
         cut,
         more: more_of(by),
     };
-    Ok(splice_block(map, extent, anchor, header, &splice))
+    splice_block(map, extent, anchor, header, &splice)
 }
 
 /// How many bytes a change by a signed word takes away.
@@ -129,6 +130,9 @@ pub(crate) fn release_block(
         return Err(ErrorNumber::FlexBadAnchor);
     };
     let size = word(map, header + SIZE);
+    if map.anchor_in(header + HEADER, size) {
+        return Err(ErrorNumber::FlexHoldsAnchor);
+    }
     map.put_word(anchor, 0);
     remove(map, header, extent.start + extent.used);
     extent.used -= taken(u64::from(size)) as u32;
@@ -154,28 +158,34 @@ fn find_header(map: &AddressMap, extent: &Extent, anchor: u32) -> Option<u32>
     Some(word(map, anchor) - HEADER)
 }
 
-/// Changes a block's bytes, where the store has room for it then.
+/// Changes a block's bytes, where that breaks no anchor and the store has room for it then.
 fn splice_block(
     map: &mut AddressMap,
     extent: &mut Extent,
     anchor: u32,
     header: u32,
     splice: &Splice,
-) -> bool
+) -> Result<bool, ErrorNumber>
     requires store { IsStoreAt map.old extent.old }
     requires place { IsHeaderOf extent.old.start anchor (blocks_of map.old extent.old) header }
     requires splice { IsSplice splice.now (word_at (byte_at map.old) (header + 4)) }
-    ensures { IsChanged map.old extent.old anchor splice.now result map.new extent.new }
+    requires some { 0 < splice.now.cut + splice.now.more }
+    ensures state { Gives (held_in map.old extent.old) (spliced_at (held_in map.old extent.old) (store_in map.old extent.old)
+        anchor (first_at map.old header) splice.now.at splice.now.cut splice.now.more) result (held_in map.new extent.new) }
+    ensures keeps { Keeps map.old extent.old map.new extent.new }
 {
     let size = word(map, header + SIZE);
+    if splice.breaks_anchor(map, header + HEADER, size) {
+        return Err(ErrorNumber::FlexHoldsAnchor);
+    }
     let others = u64::from(extent.used) - taken(u64::from(size));
     let used = others + taken(splice.size_after(size));
     if u64::from(extent.start) + used > u64::from(extent.end) {
-        return false;
+        return Ok(false);
     }
     replace(map, header, splice, extent.start + extent.used);
     extent.used = used as u32;
-    true
+    Ok(true)
 }
 
 /// Makes a block, where its anchor may stand, and no block has it.
@@ -203,10 +213,10 @@ pub(crate) fn alloc_block(
 
 /// Whether the word at an address may become an anchor.
 fn may_hold(map: &AddressMap, extent: &Extent, anchor: u32) -> bool
-    requires range { extent.now.start ≤ extent.now.end }
+    requires store { IsStoreAt map.now extent.now }
     requires sound { IsSound (store_of map.now) }
     ensures { result ≡ (is_anchor_place (store_of map.now) anchor
-        && not (is_in_store (store_in map.now extent.now) anchor)) }
+        && may_stand (store_in map.now extent.now) anchor) }
 {
     if anchor % 4 != 0 {
         return false;
@@ -221,12 +231,15 @@ fn may_hold(map: &AddressMap, extent: &Extent, anchor: u32) -> bool
     if place.is_other() {
         return false;
     }
-    !is_met(anchor, extent.start, extent.end - extent.start)
+    if !is_met(anchor, extent.start, extent.end - extent.start) {
+        return true;
+    }
+    is_in_contents(map, extent.start, extent.start + extent.used, anchor)
 }
 
-/// Whether a word meets a recorded range that is no heap.
+/// Whether a word meets a recorded range that is neither a heap nor the flex store.
 fn meets_other(regions: &[Region], at: u32) -> bool
-    ensures { result ≡ list_any (λ r. not (is_heap_kind r.kind) && meets at 4 r.at r.len) regions.now }
+    ensures { result ≡ list_any (λ r. not (is_heap_kind r.kind) && (not (is_flex_store r.kind) && meets at 4 r.at r.len)) regions.now }
 {
     for region in regions {
         if is_in_other(region, at) {
@@ -236,11 +249,13 @@ fn meets_other(regions: &[Region], at: u32) -> bool
     false
 }
 
-/// Whether a word meets a range, and this is no heap.
+/// Whether a word meets a range, and this is neither a heap nor the flex store.
 fn is_in_other(region: &Region, at: u32) -> bool
-    ensures { result ≡ (not (is_heap_kind region.now.kind) && meets at 4 region.now.at region.now.len) }
+    ensures { result ≡ (not (is_heap_kind region.now.kind) && (not (is_flex_store region.now.kind) && meets at 4 region.now.at region.now.len)) }
 {
-    !region.kind.is_heap() && is_met(at, region.at, region.len)
+    !region.kind.is_heap()
+        && !matches!(region.kind, Kind::FlexStore)
+        && is_met(at, region.at, region.len)
 }
 
 /// Whether a word meets a range.
@@ -254,11 +269,11 @@ fn is_met(at: u32, start: u32, len: u32) -> bool
 /// Makes a block of `size` zeros behind all others, where the store has room for it.
 fn append_block(map: &mut AddressMap, extent: &mut Extent, anchor: u32, size: u32) -> bool
     requires store { IsStoreAt map.old extent.old }
-    requires place { IsAnchorWord (is_mapped map.old) extent.old.start extent.old.end anchor }
+    requires place { IsNewAnchor map.old extent.old anchor }
     requires free { has_anchor (blocks_of map.old extent.old) anchor ≡ false }
     requires head { is_heap_class (class_of map.old anchor) ≡ false }
-    ensures { Fits map.old extent.old
-        (blocks_of map.old extent.old ++ new_block anchor size ∷ []) result map.new extent.new }
+    ensures { Fits map.old extent.old (blocks_of map.old extent.old) (new_block anchor size ∷ [])
+        result map.new extent.new }
 {
     let used = u64::from(extent.used) + taken(u64::from(size));
     if u64::from(extent.start) + used > u64::from(extent.end) {

@@ -1,6 +1,6 @@
 ghost use Rattle.std.specs.Prelude.{ℕ, ◌≡◌, ◌⊎◌, ◌<◌, ◌++◌, ◌∷◌, [], true, false, Some, None, MatchOption, MatchResult, length};
 ghost use Rattle.profile.specs.Outcome.{Gives};
-ghost use Rattle.os_heap.specs.Store.{AreClasses, IsSound, store_of};
+ghost use Rattle.os_heap.specs.Store.{AreClasses, is_in_flex_store, IsSound, store_of};
 ghost use Rattle.address_map.specs.Bytes.{word_start};
 ghost use Rattle.address_map.specs.Memory.{bytes_of, class_of, is_mapped, layout, mapping, regions};
 ghost use Rattle.flex_store.specs.Calls.{allocated, begun, extended, flex_record, is_anchor_place, is_flex_range, mid_extended, released, sized};
@@ -106,8 +106,8 @@ impl Flex {
     /// # Errors
     ///
     /// The first of these, and nothing is changed then: `FlexNotReady` before `init`; `FlexBadAnchor` where the anchor is no multiple of 4, not mapped,
-    /// in the store, in a system page or in a module image, or inside a heap but not among the bytes that a live block holds; `FlexAnchorInUse` where
-    /// a block has it.
+    /// in the store but not among the bytes of one block, in a system page or in a module image, or inside a heap but not among the bytes that a live
+    /// block holds; `FlexAnchorInUse` where a block has it.
     ///
     /// Acorn C manual, "flex", flex_alloc.
     #[tactic(auto, unfolding(crate::specs::State::state_of, crate::specs::Calls::allocated), using(crate::proofs::Keeping::keeping))]
@@ -125,7 +125,8 @@ impl Flex {
         ensures flex { IsFlex map.new self.new }
         ensures layout { layout map.new ≡ layout map.old }
         ensures anchors { (a : ℕ) → (store_of map.new).anchor a ≡ true
-            → ((store_of map.old).anchor a ≡ true) ⊎ (is_anchor_place (store_of map.old) (word_start a) ≡ true) }
+            → ((store_of map.old).anchor a ≡ true) ⊎ ((is_anchor_place (store_of map.old) (word_start a) ≡ true)
+            ⊎ (is_in_flex_store (store_of map.old).others a ≡ true)) }
         ensures heaps { (store_of map.new).heaps ≡ (store_of map.old).heaps }
         ensures sound { IsSound (store_of map.new) }
         ensures classes { AreClasses map.new }
@@ -138,11 +139,13 @@ impl Flex {
         answer
     }
 
-    /// Takes an anchor's block away, and makes its anchor 0. The blocks behind it slide down, and their anchors follow.
+    /// Takes an anchor's block away, and makes its anchor 0. The blocks behind it slide down, their anchors follow, and anchors that lie in them slide
+    /// with them.
     ///
     /// # Errors
     ///
-    /// `FlexNotReady` before `init`; `FlexBadAnchor` where no block has the anchor. Nothing is changed then.
+    /// `FlexNotReady` before `init`; `FlexBadAnchor` where no block has the anchor; `FlexHoldsAnchor` where one of its bytes is an anchor's. Nothing is
+    /// changed then.
     ///
     /// Acorn C manual, "flex", flex_free.
     #[tactic(auto, unfolding(crate::specs::State::state_of, crate::specs::Calls::released), using(crate::proofs::Keeping::keeping))]
@@ -155,7 +158,8 @@ impl Flex {
         ensures flex { IsFlex map.new self.new }
         ensures layout { layout map.new ≡ layout map.old }
         ensures anchors { (a : ℕ) → (store_of map.new).anchor a ≡ true
-            → ((store_of map.old).anchor a ≡ true) ⊎ (is_anchor_place (store_of map.old) (word_start a) ≡ true) }
+            → ((store_of map.old).anchor a ≡ true) ⊎ ((is_anchor_place (store_of map.old) (word_start a) ≡ true)
+            ⊎ (is_in_flex_store (store_of map.old).others a ≡ true)) }
         ensures heaps { (store_of map.new).heaps ≡ (store_of map.old).heaps }
         ensures sound { IsSound (store_of map.new) }
         ensures classes { AreClasses map.new }
@@ -173,7 +177,8 @@ impl Flex {
     ///
     /// # Errors
     ///
-    /// `FlexNotReady` before `init`; `FlexBadAnchor` where no block has the anchor. Nothing is changed then.
+    /// `FlexNotReady` before `init`; `FlexBadAnchor` where no block has the anchor; `FlexHoldsAnchor` where a byte that is to go is an anchor's, whether
+    /// there is room or not. Nothing is changed then.
     ///
     /// Acorn C manual, "flex", flex_extend.
     #[tactic(auto, unfolding(crate::specs::State::state_of, crate::specs::Calls::extended), using(crate::proofs::Keeping::keeping))]
@@ -191,7 +196,8 @@ impl Flex {
         ensures flex { IsFlex map.new self.new }
         ensures layout { layout map.new ≡ layout map.old }
         ensures anchors { (a : ℕ) → (store_of map.new).anchor a ≡ true
-            → ((store_of map.old).anchor a ≡ true) ⊎ (is_anchor_place (store_of map.old) (word_start a) ≡ true) }
+            → ((store_of map.old).anchor a ≡ true) ⊎ ((is_anchor_place (store_of map.old) (word_start a) ≡ true)
+            ⊎ (is_in_flex_store (store_of map.old).others a ≡ true)) }
         ensures heaps { (store_of map.new).heaps ≡ (store_of map.old).heaps }
         ensures sound { IsSound (store_of map.new) }
         ensures classes { AreClasses map.new }
@@ -210,7 +216,8 @@ impl Flex {
     /// # Errors
     ///
     /// The first of these, and nothing is changed then: `FlexNotReady` before `init`; `FlexBadRange` where more bytes would go than stand before
-    /// `at`; `FlexBadAnchor` where no block has the anchor; `FlexBadRange` where `at` is past the block's size.
+    /// `at`; `FlexBadAnchor` where no block has the anchor; `FlexBadRange` where `at` is past the block's size; `FlexHoldsAnchor` where a byte that is to
+    /// go is an anchor's, where zeros would come inside one, or where one would move by other than whole words, whether there is room or not.
     ///
     /// Acorn C manual, "flex", flex_midextend.
     #[tactic(auto, unfolding(crate::specs::State::state_of, crate::specs::Calls::mid_extended), using(crate::proofs::Keeping::keeping))]
@@ -229,7 +236,8 @@ impl Flex {
         ensures flex { IsFlex map.new self.new }
         ensures layout { layout map.new ≡ layout map.old }
         ensures anchors { (a : ℕ) → (store_of map.new).anchor a ≡ true
-            → ((store_of map.old).anchor a ≡ true) ⊎ (is_anchor_place (store_of map.old) (word_start a) ≡ true) }
+            → ((store_of map.old).anchor a ≡ true) ⊎ ((is_anchor_place (store_of map.old) (word_start a) ≡ true)
+            ⊎ (is_in_flex_store (store_of map.old).others a ≡ true)) }
         ensures heaps { (store_of map.new).heaps ≡ (store_of map.old).heaps }
         ensures sound { IsSound (store_of map.new) }
         ensures classes { AreClasses map.new }

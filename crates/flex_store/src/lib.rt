@@ -6,6 +6,7 @@ mod blocks;
 mod flex;
 pub mod laws;
 mod marks;
+mod shift;
 mod slide;
 mod splice;
 mod walk;

@@ -2,10 +2,11 @@ ghost use Rattle.std.specs.Prelude.{ℕ, ◌≡◌, ◌≤◌, ◌<◌, ◌+◌,
 ghost use Rattle.address_map.specs.Bytes.{AreMapped, bytes_between, with_bytes_at};
 ghost use Rattle.address_map.specs.Memory.{byte_at, bytes_of, class_of, is_mapped, layout};
 ghost use Rattle.flex_store.specs.Blocks.{contents, filled, holding, new_block, spliced, taken, whole_words};
-ghost use Rattle.flex_store.specs.Relaid.{behind, first_at, MayLie, Relaid};
+ghost use Rattle.flex_store.specs.Relaid.{behind, closed, first_at, MayLie, Relaid, replaced};
 ghost use Rattle.flex_store.specs.Splices.{size_after, IsRest, IsSplice, HasRoom};
 ghost use Rattle.flex_store.specs.State.{AreAnchorWords, IsText};
 
+use crate::shift::{Shift, splice_shifts};
 use crate::splice::{Splice, splice_bytes};
 use crate::walk::{HEADER, SIZE, settle, taken, unmark, whole_words, word};
 use address_map::AddressMap;
@@ -34,18 +35,14 @@ fn respace(map: &mut AddressMap, contents: u32, size: u32, splice: &Splice, end:
     splice_bytes(map, contents, size, splice);
 }
 
-/// Changes the bytes of the block whose header is at `header`. Those behind it, up to `end`, slide, and their anchors follow.
+/// Changes the bytes of the block whose header is at `header`. Those behind it, up to `end`, slide, and the anchors that lie in what moves with them.
 pub(crate) fn replace(map: &mut AddressMap, header: u32, splice: &Splice, end: u32)
     requires text { IsText (bytes_of map.old) header end (first_at map.old header ∷ behind map.old header end) }
     requires words { AreAnchorWords (is_mapped map.old) header end (first_at map.old header ∷ behind map.old header end) }
     requires splice { IsSplice splice.now (first_at map.old header).size }
-    requires room { MayLie map.old header (holding (first_at map.old header)
-        (spliced (contents (first_at map.old header)) splice.now.at splice.now.cut splice.now.more)
-        ∷ behind map.old header end) }
+    requires room { MayLie map.old header (replaced map.old header end splice.now) }
     ensures { Relaid map.old map.new header (first_at map.old header ∷ behind map.old header end)
-        (holding (first_at map.old header)
-        (spliced (contents (first_at map.old header)) splice.now.at splice.now.cut splice.now.more)
-        ∷ behind map.old header end) }
+        (replaced map.old header end splice.now) }
 {
     let size = word(map, header + SIZE);
     let new_size = splice.size_after(size) as u32;
@@ -54,22 +51,28 @@ pub(crate) fn replace(map: &mut AddressMap, header: u32, splice: &Splice, end: u
     unmark(map, header, end);
     respace(map, header + HEADER, size, splice, end);
     map.put_word(header + SIZE, new_size);
-    settle(map, header, new_next + (end - next));
+    let shifts = splice_shifts(header, size, splice, end);
+    settle(map, header, new_next + (end - next), &shifts);
 }
 
-/// Takes the block whose header is at `header` out of the text. Those behind it, up to `end`, slide, and their anchors follow.
+/// Takes the block whose header is at `header` out of the text. Those behind it, up to `end`, slide, and the anchors that lie in them with them.
 pub(crate) fn remove(map: &mut AddressMap, header: u32, end: u32)
     requires text { IsText (bytes_of map.old) header end (first_at map.old header ∷ behind map.old header end) }
     requires words { AreAnchorWords (is_mapped map.old) header end (first_at map.old header ∷ behind map.old header end) }
-    requires room { MayLie map.old header (behind map.old header end) }
+    requires room { MayLie map.old header (closed map.old header end) }
     ensures { Relaid map.old map.new header (first_at map.old header ∷ behind map.old header end)
-        (behind map.old header end) }
+        (closed map.old header end) }
 {
     let size = word(map, header + SIZE);
     let next = header + taken(u64::from(size)) as u32;
     unmark(map, header, end);
     map.move_bytes(next, header, end - next);
-    settle(map, header, header + (end - next));
+    let shift = Shift {
+        from: next,
+        end,
+        to: header,
+    };
+    settle(map, header, header + (end - next), &[shift]);
 }
 
 /// Makes a block of `size` zeros at `header`, behind all others.
@@ -81,5 +84,5 @@ pub(crate) fn append(map: &mut AddressMap, header: u32, anchor: u32, size: u32)
     map.put_word(header, anchor);
     map.put_word(header + SIZE, size);
     map.zero_bytes(header + HEADER, whole_words(u64::from(size)) as u32);
-    settle(map, header, header + taken(u64::from(size)) as u32);
+    settle(map, header, header + taken(u64::from(size)) as u32, &[]);
 }

@@ -1,6 +1,7 @@
 ghost use Rattle.std.specs.Prelude.{ℕ, ◌≡◌, ◌≤◌, ◌<◌, ◌+◌, ◌-◌, ◌^◌, ◌++◌, ◌∷◌, true};
 ghost use Rattle.address_map.specs.Bytes.{AreMapped, bytes_between, with_bytes_at};
-ghost use Rattle.address_map.specs.Memory.{byte_at, class_of, is_mapped, layout};
+ghost use Rattle.address_map.specs.Memory.{anchor_of, byte_at, class_of, is_mapped, layout};
+ghost use Rattle.flex_store.specs.Calls.{breaks_anchor};
 ghost use Rattle.flex_store.specs.Blocks.{filled, spliced, taken, whole_words};
 ghost use Rattle.flex_store.specs.Splices.{size_after, IsSplice, HasRoom};
 
@@ -22,6 +23,23 @@ impl Splice {
         ensures { result ≡ size_after self.now size }
     {
         u64::from(self.at - self.cut) + u64::from(self.more) + u64::from(size - self.at)
+    }
+
+    /// Whether it would take a byte of an anchor away, put bytes inside one, or move one by other than whole words. The block's bytes, of which there
+    /// are `size`, begin at `contents`.
+    pub(crate) fn breaks_anchor(&self, map: &AddressMap, contents: u32, size: u32) -> bool
+        requires splice { IsSplice self.now size }
+        requires low { contents + size ≤ 2 ^ 26 }
+        ensures { result ≡ breaks_anchor (anchor_of map.now) contents size self.now.at self.now.cut self.now.more }
+    {
+        let place = contents + self.at;
+        if map.anchor_in(place - self.cut, self.cut) {
+            return true;
+        }
+        if self.more != 0 && self.at % 4 != 0 && map.anchor_in(place, 1) {
+            return true;
+        }
+        self.more % 4 != self.cut % 4 && map.anchor_in(place, size - self.at)
     }
 }
 

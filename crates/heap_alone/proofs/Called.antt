@@ -1,4 +1,4 @@
--- What a call that isn't of OS_Module leaves of a heap that isn't the one it is made on: all of it.
+-- What a call that isn't of OS_Module leaves of a heap that isn't the one it is made on: all of it, where it leaves it whole.
 use Rattle.std.proofs.Common.{ℕ, ◌≡◌, ◌==◌, Bool, true, false, length, List, option_map, Option, Some, None, Result, Ok, Err, refl, sym, subst, if◌then◌else◌}
 use Rattle.std.proofs.lemmas.Bool.{true≢false}
 use Rattle.profile.specs.Outcome.{bind}
@@ -19,8 +19,8 @@ use Rattle.dynamic_areas.specs.declared.area.Extent.{Extent}
 use Rattle.instances_table.specs.Lookup.{handler_of}
 use Rattle.instances_table.specs.declared.parts.Handler.{Handler}
 use Rattle.flex_ground.specs.flex_store.specs.Calls.{sized}
-use Rattle.heap_turns.proofs.KeptHeaps.{others_kept}
-use Rattle.heap_turns.specs.Laws.{HasNoAnchor, KeepsHeap}
+use Rattle.heap_turns.proofs.WholeHeaps.{others_whole}
+use Rattle.heap_turns.specs.Laws.{HasNoAnchor, IsLeftWhole, KeepsHeap}
 use Rattle.heap_turns.specs.Lists.{is_call_to}
 use Rattle.heap_turns.specs.Turns.{call_on}
 use Rattle.swi_dispatch_answers.specs.Refusals.{or_error}
@@ -36,7 +36,7 @@ use Rattle.swi_dispatch.specs.MachineState.{MachineState, Outcome, machine_estat
 use Rattle.swi_dispatch.specs.Returns.{halted}
 use Rattle.swi_dispatch.specs.Step.{call_of, call_refused, called, called_by, ended, handler_entered, is_exit, module_called as handler_called}
 use Rattle.heap_alone.proofs.HeapAnswers.{Agree, heap_agrees}
-use Rattle.heap_alone.proofs.Keeping.{AnswerKeeps, IsOffSystem, Went, ended_keeps, kept_same, off_system}
+use Rattle.heap_alone.proofs.Keeping.{AnswerKeeps, IsOffSystem, KeepsWhole, Went, ended_keeps, kept_same, off_system}
 use Rattle.heap_alone.proofs.Rows.{NamesNone, area_went, change_keeps, flex_went, is_flex_call}
 use Rattle.heap_alone.proofs.States.{HasStore, sound_store}
 use Rattle.heap_alone.specs.ModuleMoves.{is_module_name}
@@ -72,24 +72,25 @@ module _ (images : List Entry) (s : MachineState) (h : HeapList) (has : HasStore
 
   text_after : (next : ℕ) (o : Option (List ℕ)) → Keeps (wrote_text_after s next o)
   text_after next None = same
-  text_after next (Some text) = λ _. same
+  text_after next (Some text) = λ _ _. same
 
   text_at : (next at : ℕ) (o : Option (List ℕ)) → Keeps (wrote_text_at s next at o)
   text_at next at None = same
-  text_at next at (Some text) = λ _. same
+  text_at next at (Some text) = λ _ _. same
 
   read_went : (r : Result Extent ErrorNumber) → Went h s.store (on_estate s (bind (or_error r) (λ x. Ok (with_extent s.cpu x, machine_estate s))))
-  read_went (Ok x) = λ _. same
+  read_went (Ok x) = λ _ _. same
   read_went (Err e) = tt
 
   -- OS_Heap on another heap, and one that makes a heap
   heap_by : (why : HeapReason) (q : Result (State × Store) Refusal) (r : Result (Store × (ℕ × ℕ)) ErrorNumber) → Agree q r
       → call_on s.store (register_of s.cpu 1) why (register_of s.cpu 2) (register_of s.cpu 3) ≡ r
       → is_call_to h.start (register_of s.cpu 1) why ≡ false → Went h s.store (on_store s q)
-  heap_by why (Ok q) (Ok r) agree is other = λ sound.
+  heap_by why (Ok q) (Ok r) agree is other = λ sound left.
       let sound' : IsSound r.0 = subst IsSound agree.0 sound in
+      let left' : IsLeftWhole r.0 h.start = subst (λ (t : Store). IsLeftWhole t h.start) agree.0 left in
       subst (KeepsHeap h s.store) (sym agree.0)
-      (others_kept s.store r.0 h (register_of s.cpu 1) why (register_of s.cpu 2) (register_of s.cpu 3) r.1 (sound_store s has) sound' found other is)
+      (others_whole s.store r.0 h (register_of s.cpu 1) why (register_of s.cpu 2) (register_of s.cpu 3) r.1 (sound_store s has) sound' found other is left')
   heap_by why (Err e) (Err number) agree is other = tt
   heap_by why (Ok q) (Err number) agree is other = absurd agree
   heap_by why (Err e) (Ok r) agree is other = absurd agree
@@ -110,7 +111,7 @@ module _ (images : List Entry) (s : MachineState) (h : HeapList) (has : HasStore
       went_keeps next (on_estate s (area_read s.cpu (machine_estate s))) (read_went (extent_asked s.tables.land.areas (register_of s.cpu 0)))
 
   size_went : (r : Result ℕ ErrorNumber) → Went h s.store (on_flex s (bind (or_error r) (λ n. Ok (with_register s.cpu 0 n, machine_flex s))))
-  size_went (Ok n) = λ _. same
+  size_went (Ok n) = λ _ _. same
   size_went (Err e) = tt
 
   size_keeps : (next : ℕ) → Keeps (went_on s next (on_flex s (flex_called s.cpu (machine_flex s) (Some swi.FlexSize))))
@@ -140,17 +141,17 @@ module _ (images : List Entry) (s : MachineState) (h : HeapList) (has : HasStore
   -- a change of an area may have changed something and err
   change_answers : (next : ℕ) (o : Option ErrorNumber)
       → AnswerKeeps h s.store (with_guest s (area_changed s.cpu (machine_estate s))).store (option_map refusal.System o)
-  change_answers next None = λ _. change_keeps s h has found own
+  change_answers next None = λ _ _. change_keeps s h has found own
   change_answers next (Some e) = change_keeps s h has found own
 
   answer_keeps : (next number : ℕ) (name : Option SwiName) → is_module_name name ≡ false → IsHeapElsewhere s h name → NamesNone s h name → Keeps (call_answer s next number name)
   unfolding call_answer
-  answer_keeps next number (Some swi.WriteC) another other outside = λ _. same
+  answer_keeps next number (Some swi.WriteC) another other outside = λ _ _. same
   answer_keeps next number (Some swi.WriteS) another other outside = text_after next (printable_at s.store.bytes next)
   answer_keeps next number (Some swi.Write0) another other outside = text_at next (register_of s.cpu 0) (printable_at s.store.bytes (register_of s.cpu 0))
-  answer_keeps next number (Some swi.NewLine) another other outside = λ _. same
+  answer_keeps next number (Some swi.NewLine) another other outside = λ _ _. same
   answer_keeps next number (Some swi.Exit) another other outside = exit_keeps next
-  answer_keeps next number (Some swi.EnterOs) another other outside = λ _. same
+  answer_keeps next number (Some swi.EnterOs) another other outside = λ _ _. same
   answer_keeps next number (Some swi.Heap) another other outside = heap_keeps next other
   answer_keeps next number (Some swi.Module) another other outside = absurd (true≢false another)
   answer_keeps next number (Some swi.ChangeDynamicArea) another other outside =
@@ -158,7 +159,7 @@ module _ (images : List Entry) (s : MachineState) (h : HeapList) (has : HasStore
   answer_keeps next number (Some swi.GenerateError) another other outside = same
   answer_keeps next number (Some swi.ReadDynamicArea) another other outside = read_keeps next
   answer_keeps next number (Some swi.DynamicArea) another other outside = area_keeps next
-  answer_keeps next number (Some swi.WriteI) another other outside = λ _. same
+  answer_keeps next number (Some swi.WriteI) another other outside = λ _ _. same
   answer_keeps next number (Some swi.FlexInit) another other outside = flex_keeps next (Some swi.FlexInit) refl outside
   answer_keeps next number (Some swi.FlexAlloc) another other outside = flex_keeps next (Some swi.FlexAlloc) refl outside
   answer_keeps next number (Some swi.FlexFree) another other outside = flex_keeps next (Some swi.FlexFree) refl outside
@@ -168,33 +169,29 @@ module _ (images : List Entry) (s : MachineState) (h : HeapList) (has : HasStore
   answer_keeps next number None another other outside = unknown_keeps next
 
   -- a SWI of a module
-  refused_keeps : (x : Bool) (next : ℕ) (e : ErrorNumber) → IsSound (ended s x (refused s next (refusal.System e))).now.store
-      → KeepsHeap h s.store (ended s x (refused s next (refusal.System e))).now.store
-  refused_keeps x next e sound = ended_keeps h s x (refused s next (refusal.System e)) off found same sound
+  refused_keeps : (x : Bool) (next : ℕ) (e : ErrorNumber) → KeepsWhole h s.store (ended s x (refused s next (refusal.System e))).now.store
+  refused_keeps x next e = ended_keeps h s x (refused s next (refusal.System e)) off found same
 
-  module_keeps : (x : Bool) (next number : ℕ) (o : Option Handler) → IsSound (handler_called s x next number o).now.store
-      → KeepsHeap h s.store (handler_called s x next number o).now.store
-  module_keeps x next number None sound = refused_keeps x next SwiUnknown sound
-  module_keeps x next number (Some handler) sound = frames_by (length s.tables.frames == 32) sound where
-    frames_by : (full : Bool) → IsSound (handler_if s x next number handler full).now.store
-        → KeepsHeap h s.store (handler_if s x next number handler full).now.store
-    frames_by true sound = refused_keeps x next FrameLimit sound
-    frames_by false sound = same
+  module_keeps : (x : Bool) (next number : ℕ) (o : Option Handler) → KeepsWhole h s.store (handler_called s x next number o).now.store
+  module_keeps x next number None = refused_keeps x next SwiUnknown
+  module_keeps x next number (Some handler) = frames_by (length s.tables.frames == 32) where
+    frames_by : (full : Bool) → KeepsWhole h s.store (handler_if s x next number handler full).now.store
+    frames_by true = refused_keeps x next FrameLimit
+    frames_by false = λ _ _. same
 
   name_keeps : (x : Bool) (next number : ℕ) (name : Option SwiName) → is_module_name name ≡ false → IsHeapElsewhere s h name → NamesNone s h name
-      → IsSound (called_by images s x next number name).now.store → KeepsHeap h s.store (called_by images s x next number name).now.store
-  name_keeps x next number None another other outside sound = module_keeps x next number (handler_of number s.tables.modules) sound
-  name_keeps x next number (Some swi.Module) another other outside sound = absurd (true≢false another)
-  name_keeps x next number (Some name) another other outside sound =
-      ended_keeps h s x (call_answer s next number (Some name)) off found (answer_keeps next number (Some name) another other outside) sound
+      → KeepsWhole h s.store (called_by images s x next number name).now.store
+  name_keeps x next number None another other outside = module_keeps x next number (handler_of number s.tables.modules)
+  name_keeps x next number (Some swi.Module) another other outside = absurd (true≢false another)
+  name_keeps x next number (Some name) another other outside =
+      ended_keeps h s x (call_answer s next number (Some name)) off found (answer_keeps next number (Some name) another other outside)
 
   exit_or : (x : Bool) (next number : ℕ) (name : Option SwiName) (exits : Bool) → is_module_name name ≡ false → IsHeapElsewhere s h name → NamesNone s h name
-      → IsSound (if exits then halted s halt.Exit else called_by images s x next number name).now.store
-      → KeepsHeap h s.store (if exits then halted s halt.Exit else called_by images s x next number name).now.store
-  exit_or x next number name true another other outside sound = same
-  exit_or x next number name false another other outside sound = name_keeps x next number name another other outside sound
+      → KeepsWhole h s.store (if exits then halted s halt.Exit else called_by images s x next number name).now.store
+  exit_or x next number name true another other outside = λ _ _. same
+  exit_or x next number name false another other outside = name_keeps x next number name another other outside
 
   pub called_keeps : (x : Bool) (next number : ℕ) → is_module_name (swi_of number) ≡ false → IsHeapElsewhere s h (swi_of number) → NamesNone s h (swi_of number)
-      → IsSound (called images s x next number).now.store → KeepsHeap h s.store (called images s x next number).now.store
+      → KeepsWhole h s.store (called images s x next number).now.store
   unfolding called
-  called_keeps x next number another other outside sound = exit_or x next number (swi_of number) (is_exit (swi_of number)) another other outside sound
+  called_keeps x next number another other outside = exit_or x next number (swi_of number) (is_exit (swi_of number)) another other outside

@@ -1,4 +1,4 @@
--- A step at the return gate, where module code comes back, keeps each guest's heap.
+-- A step at the return gate, where module code comes back, keeps each guest's heap that is recorded after it.
 use Rattle.std.proofs.Common.{ℕ, ◌≡◌, ◌≤◌, ◌==◌, Bool, true, false, length, Option, Some, None, refl, sym, subst}
 use Rattle.std.specs.Prelude.{IfSome, if◌then◌else◌}
 use Rattle.profile.specs.declared.fault.Fault.TheVariants.{StackChanged}
@@ -23,9 +23,8 @@ use Rattle.swi_dispatch.specs.MachineState.{MachineState, machine_world, quiet}
 use Rattle.swi_dispatch.specs.Returns.{erred, halted}
 use Rattle.heaps_kept.proofs.Slots.{doable_below}
 use Rattle.heaps_kept.specs.PlanLaws.{IsFitWorld}
-use Rattle.heap_turns.specs.Laws.{KeepsHeap}
 use Rattle.heap_alone.proofs.Keeping.{kept_same}
-use Rattle.heap_alone.proofs.ModuleHosts.{IsHost, carried_out, fit_world, outside_stays}
+use Rattle.heap_alone.proofs.ModuleHosts.{IsHost, KeepsRecorded, carried_out, fit_world, outside_stays}
 use Rattle.heap_alone.proofs.ModulePlans.{IsFitPlan}
 
 -- code that comes back leaves what its plan was given
@@ -54,8 +53,8 @@ unfolding settled
 settled_given p o = given_if p.runs p (settled_by p o (first_of p.actions)) (given_by p o (first_of p.actions))
 
 module _ (s : MachineState) (h : HeapList) (host : IsHost s h) where
-  same : KeepsHeap h s.store s.store
-  same = kept_same h s.store host.found
+  same : KeepsRecorded h s.store s.store
+  same still = kept_same h s.store host.found
 
   fit : IsFitWorld (machine_world s)
   fit = fit_world s host.modules
@@ -69,39 +68,39 @@ module _ (s : MachineState) (h : HeapList) (host : IsHost s h) where
         text = subst (λ (g : Given). length g.text.items ≤ 255) (sym (settled_given p o)) few;
       }
 
-  fault_keeps : (t : MachineState) (o : Option ℕ) → KeepsHeap h s.store t.store → KeepsHeap h s.store (unless_fault s o t).now.store
+  fault_keeps : (t : MachineState) (o : Option ℕ) → KeepsRecorded h s.store t.store → KeepsRecorded h s.store (unless_fault s o t).now.store
   fault_keeps t None kept = kept
   fault_keeps t (Some number) kept = same
 
-  entry_keeps : (f : Frame) (p : Plan) → IsFitPlan p → KeepsHeap h s.store (entry_left s f p).now.store
+  entry_keeps : (f : Frame) (p : Plan) → IsFitPlan p → KeepsRecorded h s.store (entry_left s f p).now.store
   entry_keeps f p plan =
       let t : MachineState = carried_on (come_back s f) f.call p in
       fault_keeps t (fault_ahead f.call (machine_world s) p) (outside_stays s h t.store host (carried_out (come_back s f) f.call p fit plan))
 
   plan_keeps : (f : Frame) (o : Option Plan) → MayGoOn (machine_world s) o → IfSome o (λ (plan : Plan). length plan.given.text.items ≤ 255)
-      → KeepsHeap h s.store (plan_left s f o).now.store
+      → KeepsRecorded h s.store (plan_left s f o).now.store
   plan_keeps f None going few = same
   plan_keeps f (Some p) going few = entry_keeps f (settled p (outcome_left s.cpu)) (settled_fit p (outcome_left s.cpu) going few)
 
   -- a SWI of a module
   left_keeps : (f : Frame) (overflow x : Bool)
-      → KeepsHeap h s.store (if overflow then erred s x (quiet (frame_closed s f)) else quiet (frame_closed s f)).now.store
+      → KeepsRecorded h s.store (if overflow then erred s x (quiet (frame_closed s f)) else quiet (frame_closed s f)).now.store
   left_keeps f false x = same
   left_keeps f true true = same
   left_keeps f true false = same
 
-  frame_keeps : (f : Frame) (kind : FrameKind) → KeepsHeap h s.store (frame_left s f kind s.tables.plan).now.store
+  frame_keeps : (f : Frame) (kind : FrameKind) → KeepsRecorded h s.store (frame_left s f kind s.tables.plan).now.store
   frame_keeps f frame_kind.Swi = left_keeps f s.cpu.psr.overflow f.call.is_x
   frame_keeps f (frame_kind.Entry kind) = plan_keeps f s.tables.plan host.modules.going host.modules.text
 
   stack_keeps : (f : Frame) (well : Bool)
-      → KeepsHeap h s.store (if well then frame_left s f f.kind s.tables.plan else halted s (halt.Fault StackChanged)).now.store
+      → KeepsRecorded h s.store (if well then frame_left s f f.kind s.tables.plan else halted s (halt.Fault StackChanged)).now.store
   stack_keeps f true = frame_keeps f f.kind
   stack_keeps f false = same
 
-  innermost_keeps : (o : Option Frame) → KeepsHeap h s.store (gated_by s o).now.store
+  innermost_keeps : (o : Option Frame) → KeepsRecorded h s.store (gated_by s o).now.store
   innermost_keeps None = same
   innermost_keeps (Some f) = stack_keeps f (register_in Supervisor s.cpu 13 == f.stack)
 
-  pub gate_keeps : KeepsHeap h s.store (gated s).now.store
+  pub gate_keeps : KeepsRecorded h s.store (gated s).now.store
   gate_keeps = innermost_keeps (innermost s.tables.frames)

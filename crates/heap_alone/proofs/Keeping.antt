@@ -7,12 +7,12 @@ use Rattle.profile.specs.declared.error.ErrorNumber.{ErrorNumber}
 use Rattle.address_map.specs.Bytes.{Bytes, in_range, with_bytes_at, with_word_at}
 use Rattle.address_map.specs.declared.region.Region.{Region}
 use Rattle.os_heap_lists.specs.Heap.{HeapList}
-use Rattle.os_heap.proofs.Stores.{clear_of-found, image_kind}
+use Rattle.os_heap.proofs.Stores.{clear_of-found, image_kind, placed_either}
 use Rattle.os_heap.specs.Store.{ArePlaced, IsClearOfHeaps, IsSound, Store, find_heap}
 use Rattle.dynamic_areas.specs.Ground.{IsRecorded, system_pages}
 use Rattle.heap_turns.proofs.Likeness.{bytes_like}
 use Rattle.heap_turns.specs.Alone.{Alone, alone_in}
-use Rattle.heap_turns.specs.Laws.{KeepsHeap}
+use Rattle.heap_turns.specs.Laws.{IsLeftWhole, KeepsHeap}
 use Rattle.swi_dispatch_answers.specs.Errors.{error_block}
 use Rattle.swi_dispatch_answers.specs.declared.refusal.Refusal.{Refusal}
 use Rattle.swi_dispatch_answers.specs.declared.refusal.Refusal.TheVariants as refusal
@@ -50,7 +50,7 @@ system_clear : (hs : List HeapList) (rs : List Region) → ArePlaced hs rs → I
 system_clear hs [] placed there = absurd there
 system_clear hs (r ∷ rs) placed there = elim there [
   | inr later ↦ system_clear hs rs placed.1 later
-  | inl here ↦ elim (rw here at placed.0) [
+  | inl here ↦ elim (placed_either hs system_pages (rw here at placed.0)) [
     | inl clear ↦ clear
     | inr image ↦ absurd (true≢false (sym (image_kind hs system_pages image)))
   ]
@@ -79,22 +79,26 @@ error_kept h s t (refusal.System e) off kept = record {
   anchors = λ a here. kept.anchors a here;
 }
 
+-- A heap is as it was in a store that is sound again, and in which it is left whole.
+abbrev pub KeepsWhole : HeapList → Store → Store → Type 0
+KeepsWhole h s t = IsSound t → IsLeftWhole t h.start → KeepsHeap h s t
+
 -- what a call leaves that is done; its error changes nothing
 abbrev pub Went : HeapList → Store → Result MachineState Refusal → Type 0
-Went h s (Ok t) = IsSound t.store → KeepsHeap h s t.store
+Went h s (Ok t) = KeepsWhole h s t.store
 Went h s (Err e) = Unit {0}
 
--- A call's answer keeps the heap: where there is no error, in a store that is sound again.
+-- A call's answer keeps the heap: where there is no error, in such a store.
 abbrev pub AnswerKeeps : HeapList → Store → Store → Option Refusal → Type 0
-AnswerKeeps h s t None = IsSound t → KeepsHeap h s t
+AnswerKeeps h s t None = KeepsWhole h s t
 AnswerKeeps h s t (Some e) = KeepsHeap h s t
 
 by_error : (h : HeapList) (s : MachineState) (x : Bool) (a : Answer) (error : Option Refusal) → IsOffSystem h → find_heap h.start s.store.heaps ≡ Some h
-    → AnswerKeeps h s.store a.left.now.store error → IsSound (ended_by s x a error).now.store → KeepsHeap h s.store (ended_by s x a error).now.store
-by_error h s x a None off found keeps sound = keeps sound
-by_error h s true a (Some e) off found keeps sound = error_kept h s.store a.left.now e off keeps
-by_error h s false a (Some e) off found keeps sound = kept_same h s.store found
+    → AnswerKeeps h s.store a.left.now.store error → KeepsWhole h s.store (ended_by s x a error).now.store
+by_error h s x a None off found keeps sound left = keeps sound left
+by_error h s true a (Some e) off found keeps sound left = error_kept h s.store a.left.now e off keeps
+by_error h s false a (Some e) off found keeps sound left = kept_same h s.store found
 
 pub ended_keeps : (h : HeapList) (s : MachineState) (x : Bool) (a : Answer) → IsOffSystem h → find_heap h.start s.store.heaps ≡ Some h
-    → AnswerKeeps h s.store a.left.now.store a.error → IsSound (ended s x a).now.store → KeepsHeap h s.store (ended s x a).now.store
-ended_keeps h s x a off found keeps sound = by_error h s x a a.error off found keeps sound
+    → AnswerKeeps h s.store a.left.now.store a.error → KeepsWhole h s.store (ended s x a).now.store
+ended_keeps h s x a off found keeps sound left = by_error h s x a a.error off found keeps sound left

@@ -4,6 +4,7 @@ use Rattle.std.proofs.lemmas.Bool.{cases_Bool}
 use Rattle.image_loader.specs.Entries.{Entry}
 use Rattle.os_heap_lists.specs.Heap.{HeapList}
 use Rattle.heap_turns.specs.Alone.{Alone, HeapCall, alone_in}
+use Rattle.heap_turns.proofs.NoHeapInside.{whole_alone}
 use Rattle.heap_turns.specs.Laws.{KeepsHeap}
 use Rattle.heap_turns.specs.Turns.{Reply, left_by, replies, turned}
 use Rattle.swi_dispatch.specs.MachineState.{MachineState}
@@ -51,8 +52,8 @@ module _ (images : List Entry) (s : MachineState) (h : HeapList) (m : Move) (ms 
 
 -- another move leaves the heap where it stands
 kept_stands : (images : List Entry) (s : MachineState) (h : HeapList) (m : Move) → HasHeap s h → IsMoveDone images h.start s m
-    → KeepsHeap h s.store (moved images s m).store → Stands (moved images s m) h.start (alone_in s.store h)
-kept_stands images s h m has move kept = record {
+    → is_own h.start s m ≡ false → KeepsHeap h s.store (moved images s m).store → Stands (moved images s m) h.start (alone_in s.store h)
+kept_stands images s h m has move other kept = record {
   heap = h;
   starts = refl;
   has = record {
@@ -61,6 +62,7 @@ kept_stands images s h m has move kept = record {
     found = kept.found;
     own = has.own;
     anchors = λ a here. kept.anchors a here ∙ has.anchors a here;
+    alone = whole_alone (moved images s m).store h kept.found (move.left other);
   };
   is = kept_alone h s.store (moved images s m).store kept;
 }
@@ -90,7 +92,7 @@ told images (m ∷ ms) s h has done = elim (cases_Bool (is_own h.start s m)) [
   | inr other ↦
       let t : MachineState = moved images s m in
       let kept : KeepsHeap h s.store (moved images s m).store = move_keeps images s h m has done.0 other in
-      let stands : Stands t h.start (alone_in s.store h) = kept_stands images s h m has done.0 kept in
+      let stands : Stands t h.start (alone_in s.store h) = kept_stands images s h m has done.0 other kept in
       other_told images s h m ms other
       (told_at images ms t h.start (alone_in s.store h) stands
       (told images ms t stands.heap stands.has (done_at images ms t h.start (alone_in s.store h) stands done.1)))

@@ -1,6 +1,6 @@
--- Instructions change the bytes that they store to, and calls of OS_Heap none that live blocks hold.
-use Rattle.std.proofs.Common.{ℕ, ◌≡◌, ◌≤◌, ◌<◌, ◌-◌, ◌+◌, ◌%◌, ◌^◌, ◌∙◌, ◌⊎◌, Bool, true, false, List, Option, Some, None, Result, Ok, Err, refl, sym, ap, subst, inl, inr, arith, if◌then◌else◌}
-use Rattle.std.proofs.lemmas.Bool.{cases_Bool, false≢true, le-leb, lt-ltb}
+-- Instructions change the bytes that they store to, and calls of OS_Heap none that live blocks hold but those of the heap called.
+use Rattle.std.proofs.Common.{ℕ, ◌≡◌, ◌≢◌, ◌==◌, ◌≤◌, ◌<◌, ◌-◌, ◌+◌, ◌%◌, ◌^◌, ◌∙◌, ◌⊎◌, Bool, true, false, List, Option, Some, None, Result, Ok, Err, refl, sym, ap, subst, inl, inr, arith, if◌then◌else◌}
+use Rattle.std.proofs.lemmas.Bool.{and_parts, cases_Bool, eqb-true, false_from_ne_true, false≢true, le-leb, lt-ltb}
 use Rattle.profile.specs.Outcome.{bind}
 use Rattle.profile.specs.Reasons.{heap_reason}
 use Rattle.profile.specs.SwiNames.{swi_of}
@@ -27,6 +27,9 @@ use Rattle.os_heap.specs.Calls.{begun, block_sized, changed, described, gave_bac
 use Rattle.os_heap.specs.Laws.{KeepsPayloads}
 use Rattle.os_heap.specs.Store.{IsSound, Store, find_heap, owned_in}
 use Rattle.heap_turns.proofs.DoneCalls.{OnDone}
+use Rattle.heap_turns.proofs.KeptHeaps.{others_kept}
+use Rattle.heap_turns.specs.Laws.{IsNotForgotten, KeepsHeap, starts_inside}
+use Rattle.heap_turns.specs.Lists.{is_call_to, is_on_heap}
 use Rattle.heap_turns.specs.Turns.{call_on}
 use Rattle.swi_dispatch_answers.specs.declared.refusal.Refusal.{Refusal}
 use Rattle.swi_dispatch_store.specs.Heaps.{heap_called, heap_called_for}
@@ -72,12 +75,12 @@ payload_inside s h block total a sound found live here =
     block_inside s.bytes h block total a heap live
     (rw (le-leb (block - 4) a (omega (arith, parts.0)), lt-ltb a (block - 4 + total) (omega (arith, parts.1, place.size, place.low))) refl)
 
-same_payloads : (s : Store) → KeepsPayloads s s
-same_payloads s h g block total new_total a found found' live live' here there = refl
+same_payloads : (s : Store) (heap : ℕ) → KeepsPayloads s s heap
+same_payloads s heap h g block total new_total a found found' live live' here there apart = refl
 
 -- calls on heaps
-abbrev Kept : Store → Store → Type 0
-Kept s t = IsSound t → KeepsPayloads s t
+abbrev Kept : Store → ℕ → Store → Type 0
+Kept s heap t = IsSound t → KeepsPayloads s t heap
 
 by_done : (A : Type 0) (P : Store → Type 0) (k : A → ℕ × ℕ) (r : Result (Store × A) ErrorNumber) → ((x : Store × A) → r ≡ Ok x → P x.0)
     → OnDone (ℕ × ℕ) P (bind r (λ x. Ok (x.0, k x.1)))
@@ -88,54 +91,90 @@ by_told : (A : Type 0) (P : Store → Type 0) (s : Store) (k : A → ℕ × ℕ)
 by_told A P s k (Ok x) same = same
 by_told A P s k (Err e) same = tt
 
-call_keeps : (s : Store) (heap : ℕ) (why : HeapReason) (block size : ℕ) → IsSound s → OnDone (ℕ × ℕ) (Kept s) (call_on s heap why block size)
+call_keeps : (s : Store) (heap : ℕ) (why : HeapReason) (block size : ℕ) → IsSound s → OnDone (ℕ × ℕ) (Kept s heap) (call_on s heap why block size)
 call_keeps s heap reason.Initialise block size sound =
-    by_done (Unit {0}) (Kept s) (λ _. (block, size)) (begun s heap size) (λ x is sound'. (calls_keep s x.0 heap sound sound').init size is)
-call_keeps s heap reason.Describe block size sound = by_told (ℕ × ℕ) (Kept s) s (λ r. r) (described s heap) (λ _. same_payloads s)
+    by_done (Unit {0}) (Kept s heap) (λ _. (block, size)) (begun s heap size) (λ x is sound'. (calls_keep s x.0 heap sound sound').init size is)
+call_keeps s heap reason.Describe block size sound =
+    by_told (ℕ × ℕ) (Kept s heap) s (λ r. r) (described s heap) (λ _. same_payloads s heap)
 call_keeps s heap reason.Get block size sound =
-    by_done ℕ (Kept s) (λ n. (n, size)) (got s heap size) (λ x is sound'. (calls_keep s x.0 heap sound sound').get size x.1 is)
+    by_done ℕ (Kept s heap) (λ n. (n, size)) (got s heap size) (λ x is sound'. (calls_keep s x.0 heap sound sound').get size x.1 is)
 call_keeps s heap reason.Free block size sound =
-    by_done (Unit {0}) (Kept s) (λ _. (block, size)) (gave_back s heap block) (λ x is sound'. (calls_keep s x.0 heap sound sound').free block is)
+    by_done (Unit {0}) (Kept s heap) (λ _. (block, size)) (gave_back s heap block) (λ x is sound'. (calls_keep s x.0 heap sound sound').free block is)
 call_keeps s heap reason.Resize block size sound =
-    by_done ℕ (Kept s) (λ n. (n, size)) (resized s heap block size) (λ x is sound'. (calls_keep s x.0 heap sound sound').resize block size x.1 is)
+    by_done ℕ (Kept s heap) (λ n. (n, size)) (resized s heap block size)
+    (λ x is sound'. (calls_keep s x.0 heap sound sound').resize block size x.1 is)
 call_keeps s heap reason.ChangeSize block size sound =
-    by_done (Unit {0}) (Kept s) (λ _. (block, size)) (changed s heap size) (λ x is sound'. (calls_keep s x.0 heap sound sound').change_size size is)
-call_keeps s heap reason.BlockSize block size sound = by_told ℕ (Kept s) s (λ n. (block, n)) (block_sized s heap block) (λ _. same_payloads s)
+    by_done (Unit {0}) (Kept s heap) (λ _. (block, size)) (changed s heap size)
+    (λ x is sound'. (calls_keep s x.0 heap sound sound').change_size size is)
+call_keeps s heap reason.BlockSize block size sound =
+    by_told ℕ (Kept s heap) s (λ n. (block, n)) (block_sized s heap block) (λ _. same_payloads s heap)
+
+-- such a call leaves also each heap that the heap called does not lie in
+pub record HeapCallLeaves (s : Store) (heap : ℕ) (t : Store) : Type 0 where
+  pub payloads : KeepsPayloads s t heap
+  pub others : (h : HeapList) → find_heap h.start s.heaps ≡ Some h → h.start ≢ heap → starts_inside h heap ≡ false → IsNotForgotten t h.start
+      → KeepsHeap h s t
+
+abbrev Leaves : Store → ℕ → Store → Type 0
+Leaves s heap t = IsSound t → HeapCallLeaves s heap t
+
+call_leaves : (s : Store) (heap : ℕ) (why : HeapReason) (block size : ℕ) → IsSound s → (r : Result (Store × (ℕ × ℕ)) ErrorNumber)
+    → call_on s heap why block size ≡ r → OnDone (ℕ × ℕ) (Kept s heap) r → OnDone (ℕ × ℕ) (Leaves s heap) r
+call_leaves s heap why block size sound (Ok x) is kept = λ sound'. record {
+  payloads = kept sound';
+  others = λ h found apart outside still.
+      others_kept s x.0 h heap why block size x.1 sound sound' found
+      (false_from_ne_true (is_call_to h.start heap why) (λ both.
+      apart (sym (eqb-true heap h.start (and_parts (is_on_heap why) (heap == h.start) both).1)))) outside is still;
+}
+call_leaves s heap why block size sound (Err e) is kept = tt
 
 module _ (s : MachineState) (has : HasStore s) where
   abbrev Goes : Result MachineState Refusal → Type 0
-  Goes (Ok t) = Kept s.store t.store
+  Goes (Ok t) = Leaves s.store (register_of s.cpu 1) t.store
   Goes (Err e) = Unit {0}
 
-  error_keeps : (e : Refusal) → KeepsPayloads s.store (with_error s e).store
-  error_keeps e h g block total new_total a found found' live live' here there =
-      (error_kept h s.store s e (off_system s h has found) (kept_same h s.store found)).bytes a
-      (payload_inside s.store h block total a (sound_store s has) found live here)
+  -- an error's block lies in the system pages
+  error_leaves : (e : Refusal) → HeapCallLeaves s.store (register_of s.cpu 1) (with_error s e).store
+  error_leaves e = record {
+    payloads = λ h g block total new_total a found found' live live' here there apart.
+        (error_kept h s.store s e (off_system s h has found) (kept_same h s.store found)).bytes a
+        (payload_inside s.store h block total a (sound_store s has) found live here);
+    others = λ h found apart outside still. error_kept h s.store s e (off_system s h has found) (kept_same h s.store found);
+  }
 
-  ended_keeps : (x : Bool) (next : ℕ) (r : Result MachineState Refusal) → Goes r → IsSound (ended s x (went_on s next r)).now.store
-      → KeepsPayloads s.store (ended s x (went_on s next r)).now.store
-  ended_keeps x next (Ok t) goes sound = goes sound
-  ended_keeps true next (Err e) goes sound = error_keeps e
-  ended_keeps false next (Err e) goes sound = same_payloads s.store
+  same_leaves : HeapCallLeaves s.store (register_of s.cpu 1) s.store
+  same_leaves = record {
+    payloads = same_payloads s.store (register_of s.cpu 1);
+    others = λ h found apart outside still. kept_same h s.store found;
+  }
 
-  heap_by : (q : Result (State × Store) Refusal) (r : Result (Store × (ℕ × ℕ)) ErrorNumber) → Agree q r → OnDone (ℕ × ℕ) (Kept s.store) r
-      → Goes (on_store s q)
-  heap_by (Ok q) (Ok r) agree kept = subst (Kept s.store) (sym agree.0) kept
-  heap_by (Err e) (Err number) agree kept = tt
-  heap_by (Ok q) (Err number) agree kept = absurd agree
-  heap_by (Err e) (Ok r) agree kept = absurd agree
+  ended_leaves : (x : Bool) (next : ℕ) (r : Result MachineState Refusal) → Goes r
+      → Leaves s.store (register_of s.cpu 1) (ended s x (went_on s next r)).now.store
+  ended_leaves x next (Ok t) goes = goes
+  ended_leaves true next (Err e) goes = λ _. error_leaves e
+  ended_leaves false next (Err e) goes = λ _. same_leaves
+
+  heap_by : (q : Result (State × Store) Refusal) (r : Result (Store × (ℕ × ℕ)) ErrorNumber) → Agree q r
+      → OnDone (ℕ × ℕ) (Leaves s.store (register_of s.cpu 1)) r → Goes (on_store s q)
+  heap_by (Ok q) (Ok r) agree left = subst (Leaves s.store (register_of s.cpu 1)) (sym agree.0) left
+  heap_by (Err e) (Err number) agree left = tt
+  heap_by (Ok q) (Err number) agree left = absurd agree
+  heap_by (Err e) (Ok r) agree left = absurd agree
 
   heap_goes : (o : Option HeapReason) → Goes (on_store s (heap_called_for s.cpu s.store o))
   heap_goes None = tt
   heap_goes (Some why) =
-      heap_by (heap_called_for s.cpu s.store (Some why)) (call_on s.store (register_of s.cpu 1) why (register_of s.cpu 2) (register_of s.cpu 3))
-      (heap_agrees s.cpu has.size s.store why)
-      (call_keeps s.store (register_of s.cpu 1) why (register_of s.cpu 2) (register_of s.cpu 3) (sound_store s has))
+      let heap : ℕ = register_of s.cpu 1 in
+      let block : ℕ = register_of s.cpu 2 in
+      let size : ℕ = register_of s.cpu 3 in
+      let sound : IsSound s.store = sound_store s has in
+      heap_by (heap_called_for s.cpu s.store (Some why)) (call_on s.store heap why block size) (heap_agrees s.cpu has.size s.store why)
+      (call_leaves s.store heap why block size sound (call_on s.store heap why block size) refl (call_keeps s.store heap why block size sound))
 
-  heap_keeps : (x : Bool) (next : ℕ) → IsSound (ended s x (went_on s next (on_store s (heap_called s.cpu s.store)))).now.store
-      → KeepsPayloads s.store (ended s x (went_on s next (on_store s (heap_called s.cpu s.store)))).now.store
+  heap_leaves : (x : Bool) (next : ℕ) → Leaves s.store (register_of s.cpu 1) (ended s x (went_on s next (on_store s (heap_called s.cpu s.store)))).now.store
   unfolding heap_called
-  heap_keeps x next sound = ended_keeps x next (on_store s (heap_called s.cpu s.store)) (heap_goes (heap_reason (register_of s.cpu 0))) sound
+  heap_leaves x next = ended_leaves x next (on_store s (heap_called s.cpu s.store)) (heap_goes (heap_reason (register_of s.cpu 0)))
 
   call_goes : (images : List Entry) (x : Bool) (next number : ℕ) → swi_of number ≡ Some swi.Heap
       → called images s x next number ≡ ended s x (went_on s next (on_store s (heap_called s.cpu s.store)))
@@ -143,21 +182,21 @@ module _ (s : MachineState) (has : HasStore s) where
   call_goes images x next number name =
       ap (λ (o : Option SwiName). if is_exit o then halted s halt.Exit else called_by images s x next number o) name
 
-  pub heap_call_keeps : (images : List Entry) (x : Bool) (next number : ℕ) → swi_of number ≡ Some swi.Heap
-      → IsSound (called images s x next number).now.store → KeepsPayloads s.store (called images s x next number).now.store
-  heap_call_keeps images x next number name sound =
+  pub heap_call_leaves : (images : List Entry) (x : Bool) (next number : ℕ) → swi_of number ≡ Some swi.Heap
+      → IsSound (called images s x next number).now.store → HeapCallLeaves s.store (register_of s.cpu 1) (called images s x next number).now.store
+  heap_call_leaves images x next number name sound =
       let call = call_goes images x next number name in
-      subst (λ (o : Outcome). KeepsPayloads s.store o.now.store) (sym call)
-      (heap_keeps x next (subst (λ (o : Outcome). IsSound o.now.store) call sound))
+      subst (λ (o : Outcome). Leaves s.store (register_of s.cpu 1) o.now.store) (sym call) (heap_leaves x next) sound
 
-  no_swi : (t : Store) → None ≡ Some swi.Heap → KeepsPayloads s.store t
+  no_swi : (t : Store) → None ≡ Some swi.Heap → KeepsPayloads s.store t (register_of s.cpu 1)
   no_swi t is = absurd (false≢true (ap is_heap_swi is))
 
   turn_keeps : (images : List Entry) (r : Result (State × Bytes) Turn) → swi_of_turn r ≡ Some swi.Heap → IsSound (turned images s r).now.store
-      → KeepsPayloads s.store (turned images s r).now.store
+      → KeepsPayloads s.store (turned images s r).now.store (register_of s.cpu 1)
   turn_keeps images (Ok w) is sound = no_swi (turned images s (Ok w)).now.store is
   turn_keeps images (Err turn.Done) is sound = no_swi (turned images s (Err turn.Done)).now.store is
-  turn_keeps images (Err (turn.Swi n)) is sound = heap_call_keeps images (bit_of n 17) ((s.cpu.pc + 4) % 2 ^ 26) (without_x n) is sound
+  turn_keeps images (Err (turn.Swi n)) is sound =
+      (heap_call_leaves images (bit_of n 17) ((s.cpu.pc + 4) % 2 ^ 26) (without_x n) is sound).payloads
   turn_keeps images (Err turn.Gate) is sound = no_swi (turned images s (Err turn.Gate)).now.store is
   turn_keeps images (Err (turn.Fault f)) is sound = no_swi (turned images s (Err (turn.Fault f))).now.store is
 
@@ -166,7 +205,8 @@ heap_calls_keep images s Step state goes name after =
     let step : machine_step images s ≡ turned images s (instructed s) = step_is images s goes in
     let sound : IsSound (turned images s (instructed s)).now.store =
     subst (λ (o : Outcome). IsSound o.now.store) step (sound_store (moved images s Step) (has_store (moved images s Step) after)) in
-    subst (λ (o : Outcome). KeepsPayloads s.store o.now.store) (sym step) (turn_keeps s (has_store s state) images (instructed s) name sound)
+    subst (λ (o : Outcome). KeepsPayloads s.store o.now.store (register_of s.cpu 1)) (sym step)
+    (turn_keeps s (has_store s state) images (instructed s) name sound)
 heap_calls_keep images s (Call number words) state goes name after =
     let u : MachineState = given s words in
     let store : HasStore s = has_store s state in
@@ -174,7 +214,7 @@ heap_calls_keep images s (Call number words) state goes name after =
     let call : store_called images u number ≡ called images u true u.cpu.pc (without_x (number % 2 ^ 24)) = call_is images u number (given_goes s u same ∙ goes) in
     let sound : IsSound (called images u true u.cpu.pc (without_x (number % 2 ^ 24))).now.store =
     subst (λ (o : Outcome). IsSound o.now.store) call (sound_store (moved images s (Call number words)) (has_store (moved images s (Call number words)) after)) in
-    let kept : KeepsPayloads u.store (called images u true u.cpu.pc (without_x (number % 2 ^ 24))).now.store =
-    heap_call_keeps u (given_store s u store same) images true u.cpu.pc (without_x (number % 2 ^ 24)) name sound in
-    subst (λ (t : Store). KeepsPayloads t (store_called images u number).now.store) (given_stays s u same)
-    (subst (λ (o : Outcome). KeepsPayloads u.store o.now.store) (sym call) kept)
+    let kept : KeepsPayloads u.store (called images u true u.cpu.pc (without_x (number % 2 ^ 24))).now.store (register_of u.cpu 1) =
+    (heap_call_leaves u (given_store s u store same) images true u.cpu.pc (without_x (number % 2 ^ 24)) name sound).payloads in
+    subst (λ (t : Store). KeepsPayloads t (store_called images u number).now.store (register_of u.cpu 1)) (given_stays s u same)
+    (subst (λ (o : Outcome). KeepsPayloads u.store o.now.store (register_of u.cpu 1)) (sym call) kept)

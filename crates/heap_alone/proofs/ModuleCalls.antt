@@ -1,4 +1,4 @@
--- The calls of OS_Module, and of the SWIs of modules, keep each guest's heap: done, or refused with an error.
+-- The calls of OS_Module, and of the SWIs of modules, keep each guest's heap that they don't forget: done, or refused with an error.
 use Rattle.std.proofs.Common.{ℕ, ◌≡◌, ◌≤◌, ◌==◌, Bool, true, false, length, List, Option, Some, None, Result, Ok, Err, refl}
 use Rattle.std.specs.Prelude.{IfOk, if◌then◌else◌, ok_or}
 use Rattle.profile.specs.Outcome.{bind}
@@ -45,7 +45,7 @@ use Rattle.heaps_kept.specs.Fits.{KeepsOutside}
 use Rattle.heaps_kept.specs.PlanLaws.{IsFitWorld}
 use Rattle.heap_turns.specs.Laws.{KeepsHeap}
 use Rattle.heap_alone.proofs.Keeping.{error_kept, kept_same}
-use Rattle.heap_alone.proofs.ModuleHosts.{IsHost, carried_out, fit_world, host_off, opened_out, outside_stays}
+use Rattle.heap_alone.proofs.ModuleHosts.{IsHost, KeepsRecorded, carried_out, fit_world, host_off, opened_out, outside_stays}
 use Rattle.heap_alone.proofs.ModulePlans.{IsFitPlan, bound_any}
 use Rattle.heap_alone.proofs.PlansMade.{IsFitPlanned, alone_planned, clear_made, copy_made, delete_made, insertion_made, instantiation_made, load_made, named_load_made, opening_made, reinit_made, tidy_made}
 
@@ -135,21 +135,21 @@ module _ (s : MachineState) (h : HeapList) (host : IsHost s h) where
   same = kept_same h s.store host.found
 
   abbrev Keeps : Outcome → Type 0
-  Keeps o = KeepsHeap h s.store o.now.store
+  Keeps o = KeepsRecorded h s.store o.now.store
 
   fit : IsFitWorld (machine_world s)
   fit = fit_world s host.modules
 
-  error_keeps : (x : Bool) (next : ℕ) (e : Refusal) → Keeps (ended s x (refused s next e))
+  error_keeps : (x : Bool) (next : ℕ) (e : Refusal) → KeepsHeap h s.store (ended s x (refused s next e)).now.store
   error_keeps true next e = error_kept h s.store s e (host_off s h host) same
   error_keeps false next e = same
 
-  pub refused_keeps : (x : Bool) (next : ℕ) (e : ErrorNumber) → Keeps (call_refused s x next e)
+  pub refused_keeps : (x : Bool) (next : ℕ) (e : ErrorNumber) → KeepsHeap h s.store (call_refused s x next e).now.store
   refused_keeps x next e = error_keeps x next (refusal.System e)
 
   world_keeps : (x : Bool) (next : ℕ) (r : Result (State × World) Refusal) → IfOk r (LeavesOut (machine_world s)) → Keeps (ended s x (went_on s next (on_world s r)))
   world_keeps x next (Ok q) out = outside_stays s h q.1.estate.store host out
-  world_keeps x next (Err e) out = error_keeps x next e
+  world_keeps x next (Err e) out = λ _. error_keeps x next e
 
   area_keeps : (x : Bool) (next number : ℕ) → Keeps (ended s x (call_answer s next number (Some swi.Module)))
   unfolding call_answer
@@ -158,7 +158,7 @@ module _ (s : MachineState) (h : HeapList) (host : IsHost s h) where
   -- calls that may run module code
   begun_keeps : (x : Bool) (next : ℕ) (enters : Bool) (r : Result Planned ErrorNumber) → IfOk r (IsFitPlanned s) → Keeps (begun s x next enters r)
   unfolding begun
-  begun_keeps x next enters (Err e) made = refused_keeps x next e
+  begun_keeps x next enters (Err e) made = λ _. refused_keeps x next e
   begun_keeps x next enters (Ok w) made =
       let t : MachineState = with_world s w.world in
       let u : MachineState = carried_on t (call_of s x next enters) w.plan in
@@ -170,7 +170,7 @@ module _ (s : MachineState) (h : HeapList) (host : IsHost s h) where
   alone_keeps x next r made = begun_keeps x next false (bind r (λ p. Ok (plan_alone s p))) (alone_planned s r fit made)
 
   entered_keeps : (x : Bool) (next : ℕ) (r : Result Opening ErrorNumber) → IfOk r (λ o. length o.text.items ≤ 255) → Keeps (module_entered s x next r)
-  entered_keeps x next (Err e) few = refused_keeps x next e
+  entered_keeps x next (Err e) few = λ _. refused_keeps x next e
   entered_keeps x next (Ok o) few =
       let t : MachineState = module_opened (gone_back s.cpu.psr s false next) o in
       outside_stays s h t.store host (opened_out (gone_back s.cpu.psr s false next) o.text.items o.start.slot o.start.at fit.estate few)
@@ -197,21 +197,21 @@ module _ (s : MachineState) (h : HeapList) (host : IsHost s h) where
     reason_keeps (Some reason.Lookup) = area_keeps x next number
     reason_keeps None = area_keeps x next number
 
-    pub os_module_keeps : KeepsHeap h s.store (os_module_called images s x next number).now.store
+    pub os_module_keeps : KeepsRecorded h s.store (os_module_called images s x next number).now.store
     unfolding os_module_called
     os_module_keeps = reason_keeps (module_reason (register_of s.cpu 0))
 
   -- a module that is loaded from outside
   pub loaded_keeps : (images : List Entry) (x : Bool) (next : ℕ) (text : List ℕ)
-      → KeepsHeap h s.store (begun s x next false (bind (ok_or (host_string text) BadString) (λ words. load_planned images s words false))).now.store
+      → KeepsRecorded h s.store (begun s x next false (bind (ok_or (host_string text) BadString) (λ words. load_planned images s words false))).now.store
   loaded_keeps images x next text =
       begun_keeps x next false (bind (ok_or (host_string text) BadString) (λ words. load_planned images s words false))
       (bound_any (IsFitPlanned s) (ok_or (host_string text) BadString) (λ words. load_planned images s words false)
       (λ words. load_made images s words false fit))
 
-  -- a SWI of a module
+  -- a SWI of a module forgets none
   handled_by : (x : Bool) (next number : ℕ) (handler : Handler) (full : Bool)
-      → Keeps (if full then call_refused s x next FrameLimit else quiet (handler_entered s (call_of s x next false) number handler))
+      → KeepsHeap h s.store (if full then call_refused s x next FrameLimit else quiet (handler_entered s (call_of s x next false) number handler)).now.store
   handled_by x next number handler true = refused_keeps x next FrameLimit
   handled_by x next number handler false = same
 

@@ -1,4 +1,5 @@
--- Machines whose module area is fit: what a plan that is carried on, and texts, leave of a guest's heap.
+-- Machines whose module area is fit: what a plan that is carried on, and texts, leave of a guest's heap. They may forget one that lies in a block of the
+-- module area.
 use Rattle.std.proofs.Common.{ℕ, ◌≡◌, ◌≤◌, Bool, true, false, length, List, [], ◌∷◌, Option, Some, None, Result, Ok, Err, refl, sym, subst}
 use Rattle.std.specs.Prelude.{IfSome}
 use Rattle.profile.specs.declared.error.ErrorNumber.{ErrorNumber}
@@ -30,9 +31,9 @@ use Rattle.heaps_kept.proofs.Plans.{plans_fit}
 use Rattle.heaps_kept.proofs.Slots.{modules_below}
 use Rattle.heaps_kept.proofs.Words.{writes_fit}
 use Rattle.heaps_kept.specs.FitEstates.{IsFitEstate}
-use Rattle.heaps_kept.specs.Fits.{KeepsOutside}
+use Rattle.heaps_kept.specs.Fits.{KeepsOutside, LiesInArea}
 use Rattle.heaps_kept.specs.PlanLaws.{IsFitWorld, WorldStaysFit}
-use Rattle.heap_turns.specs.Laws.{KeepsHeap}
+use Rattle.heap_turns.specs.Laws.{IsNotForgotten, KeepsHeap}
 use Rattle.heap_alone.proofs.Keeping.{IsOffSystem, off_system}
 use Rattle.heap_alone.proofs.ModulePlans.{IsFitPlan}
 use Rattle.heap_alone.proofs.States.{HasStore, IsGiven, given_store, has_store, with_cpu}
@@ -85,14 +86,18 @@ pub record IsHost (s : MachineState) (h : HeapList) : Type 0 where
 pub host_off : (s : MachineState) (h : HeapList) → IsHost s h → IsOffSystem h
 host_off s h host = off_system s h host.modules.store host.found
 
-pub outside_stays : (s : MachineState) (h : HeapList) (t : Store) → IsHost s h → KeepsOutside s.store t → KeepsHeap h s.store t
-outside_stays s h t host outside =
+-- the heap is as it was in a store; where it lay in the module area, in one in which it is recorded still
+abbrev pub KeepsRecorded : HeapList → Store → Store → Type 0
+KeepsRecorded h s t = (LiesInArea s h → IsNotForgotten t h.start) → KeepsHeap h s t
+
+pub outside_stays : (s : MachineState) (h : HeapList) (t : Store) → IsHost s h → KeepsOutside s.store t → KeepsRecorded h s.store t
+outside_stays s h t host outside still =
     outside_keeps (machine_estate s) t h (record {
       estate = host.modules.store.estate;
       system = host.modules.store.system;
       found = host.found;
       own = host.own;
-    }) outside
+    }) outside still
 
 -- a plan that is carried on is given what it was
 given_by : (w : World) (p : Plan) (a : Action) (others : List Action) (o : Option Code)

@@ -14,13 +14,16 @@ use Rattle.swi_dispatch.specs.Step.{begun, module_called, module_loaded, os_modu
 use Rattle.heap_alone.proofs.Gates.{gate_keeps}
 use Rattle.heap_alone.proofs.Keeping.{kept_same}
 use Rattle.heap_alone.proofs.ModuleCalls.{loaded_keeps, module_swi_keeps, os_module_keeps}
-use Rattle.heap_alone.proofs.ModuleHosts.{HasModules, IsHost, given_modules, has_modules}
+use Rattle.heap_alone.proofs.ModuleHosts.{HasModules, IsHost, KeepsRecorded, given_modules, has_modules}
 use Rattle.heap_alone.proofs.States.{IsGiven, given_goes, given_same, given_stays}
 use Rattle.heap_alone.specs.Laws.{HasHeap}
-use Rattle.heap_alone.specs.ModuleLaws.{GatesKeepHeap, LoadsKeepHeap, ModuleCallsKeepHeap, ModuleSwisKeepHeap}
+use Rattle.heap_alone.specs.ModuleLaws.{GatesKeepHeap, HasAnyHeap, LoadsKeepHeap, ModuleCallsKeepHeap, ModuleSwisKeepHeap}
 use Rattle.heap_alone.specs.Moves.{given}
 
-pub host : (s : MachineState) (h : HeapList) → HasHeap s h → IsHost s h
+pub any_heap : (s : MachineState) (h : HeapList) → HasHeap s h → HasAnyHeap s h
+any_heap s h has = record { state = has.state; goes = has.goes; found = has.found; own = has.own }
+
+pub host : (s : MachineState) (h : HeapList) → HasAnyHeap s h → IsHost s h
 host s h has = record { modules = has_modules s has.state; found = has.found; own = has.own }
 
 -- the machine on which a call from outside is made
@@ -29,7 +32,7 @@ pub record IsAsked (s : MachineState) (h : HeapList) (words : List ℕ) : Type 0
   pub stays : (given s words).store ≡ s.store
   pub goes : (given s words).halt ≡ s.halt
 
-pub asked : (s : MachineState) (h : HeapList) (words : List ℕ) → HasHeap s h → IsAsked s h words
+pub asked : (s : MachineState) (h : HeapList) (words : List ℕ) → HasAnyHeap s h → IsAsked s h words
 asked s h words has =
     let u : MachineState = given s words in
     let on : HasModules s = has_modules s has.state in
@@ -48,7 +51,7 @@ asked s h words has =
 pub module_calls_keep : ModuleCallsKeepHeap
 module_calls_keep images s h words x next number has =
     let a : IsAsked s h words = asked s h words has in
-    subst (λ (t : Store). KeepsHeap h t (os_module_called images (given s words) x next number).now.store) a.stays
+    subst (λ (t : Store). KeepsRecorded h t (os_module_called images (given s words) x next number).now.store) a.stays
     (os_module_keeps (given s words) h a.host images x next number)
 
 pub module_swis_keep : ModuleSwisKeepHeap
@@ -58,9 +61,9 @@ module_swis_keep s h words x next number handler has =
     (module_swi_keeps (given s words) h a.host x next number handler)
 
 awake : (s : MachineState) (h : HeapList) (o : Option Halt) (a : Outcome) → find_heap h.start s.store.heaps ≡ Some h
-    → KeepsHeap h s.store a.now.store → KeepsHeap h s.store (unless_halted s o a).now.store
+    → KeepsRecorded h s.store a.now.store → KeepsRecorded h s.store (unless_halted s o a).now.store
 awake s h None a found kept = kept
-awake s h (Some why) a found kept = kept_same h s.store found
+awake s h (Some why) a found kept = λ _. kept_same h s.store found
 
 pub loads_keep : LoadsKeepHeap
 unfolding module_loaded

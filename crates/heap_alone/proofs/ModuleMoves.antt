@@ -13,7 +13,6 @@ use Rattle.arm_step.specs.declared.turn.Turn.TheVariants as turn
 use Rattle.image_loader.specs.Entries.{Entry}
 use Rattle.os_heap_lists.specs.Heap.{HeapList}
 use Rattle.os_heap.specs.Store.{Store}
-use Rattle.heap_turns.specs.Laws.{KeepsHeap}
 use Rattle.swi_dispatch.specs.declared.halt.Halt.{Halt}
 use Rattle.swi_dispatch.specs.declared.halt.Halt.TheVariants as halt
 use Rattle.swi_dispatch.specs.MachineState.{MachineState}
@@ -21,7 +20,7 @@ use Rattle.swi_dispatch.specs.Returns.{halted}
 use Rattle.swi_dispatch.specs.Step.{called, called_by, instructed, is_exit, machine_step, store_called, turned, unless_halted, without_x}
 use Rattle.heap_alone.proofs.Gates.{gate_keeps}
 use Rattle.heap_alone.proofs.ModuleCalls.{os_module_keeps}
-use Rattle.heap_alone.proofs.ModuleHosts.{IsHost}
+use Rattle.heap_alone.proofs.ModuleHosts.{IsHost, KeepsRecorded}
 use Rattle.heap_alone.proofs.ModuleLaws.{IsAsked, asked, host}
 use Rattle.heap_alone.specs.ModuleLaws.{ModuleMovesKeepHeap}
 use Rattle.heap_alone.specs.ModuleMoves.{is_at_gate, is_module_name}
@@ -29,47 +28,47 @@ use Rattle.heap_alone.specs.Moves.{Call, Step, given, swi_of_turn}
 
 module _ (images : List Entry) (s : MachineState) (h : HeapList) (here : IsHost s h) where
   named_keeps : (x : Bool) (next number : ℕ) (name : Option SwiName) → is_module_name name ≡ true
-      → KeepsHeap h s.store (if is_exit name then halted s halt.Exit else called_by images s x next number name).now.store
+      → KeepsRecorded h s.store (if is_exit name then halted s halt.Exit else called_by images s x next number name).now.store
   named_keeps x next number (Some swi.Module) is = os_module_keeps s h here images x next number
   named_keeps x next number None is = absurd (false≢true is)
   named_keeps x next number (Some name) is = absurd (false≢true is)
 
   pub module_called_keeps : (x : Bool) (next number : ℕ) → is_module_name (swi_of number) ≡ true
-      → KeepsHeap h s.store (called images s x next number).now.store
+      → KeepsRecorded h s.store (called images s x next number).now.store
   unfolding called
   module_called_keeps x next number is = named_keeps x next number (swi_of number) is
 
-  not_done : (r : Result (State × Bytes) Turn) → is_module_name (swi_of_turn r) ≡ true → KeepsHeap h s.store (turned images s r).now.store
+  not_done : (r : Result (State × Bytes) Turn) → is_module_name (swi_of_turn r) ≡ true → KeepsRecorded h s.store (turned images s r).now.store
   not_done (Ok w) is = absurd (false≢true is)
   not_done (Err turn.Done) is = absurd (false≢true is)
   not_done (Err (turn.Swi n)) is = module_called_keeps (bit_of n 17) ((s.cpu.pc + 4) % 2 ^ 26) (without_x n) is
   not_done (Err turn.Gate) is = absurd (false≢true is)
   not_done (Err (turn.Fault f)) is = absurd (false≢true is)
 
-  at_gate : (r : Result (State × Bytes) Turn) → is_at_gate r ≡ true → KeepsHeap h s.store (turned images s r).now.store
+  at_gate : (r : Result (State × Bytes) Turn) → is_at_gate r ≡ true → KeepsRecorded h s.store (turned images s r).now.store
   at_gate (Ok w) is = absurd (false≢true is)
   at_gate (Err turn.Done) is = absurd (false≢true is)
   at_gate (Err (turn.Swi n)) is = absurd (false≢true is)
   at_gate (Err turn.Gate) is = gate_keeps s h here
   at_gate (Err (turn.Fault f)) is = absurd (false≢true is)
 
-  turn_keeps : (r : Result (State × Bytes) Turn) → (is_module_name (swi_of_turn r) || is_at_gate r) ≡ true → KeepsHeap h s.store (turned images s r).now.store
+  turn_keeps : (r : Result (State × Bytes) Turn) → (is_module_name (swi_of_turn r) || is_at_gate r) ≡ true → KeepsRecorded h s.store (turned images s r).now.store
   turn_keeps r is = elim (or_cases (is_module_name (swi_of_turn r)) (is_at_gate r) is) [
     | inl name ↦ not_done r name
     | inr gate ↦ at_gate r gate
   ]
 
-step_keeps : (images : List Entry) (s : MachineState) (h : HeapList) → s.halt ≡ None → KeepsHeap h s.store (turned images s (instructed s)).now.store
-    → KeepsHeap h s.store (machine_step images s).now.store
+step_keeps : (images : List Entry) (s : MachineState) (h : HeapList) → s.halt ≡ None → KeepsRecorded h s.store (turned images s (instructed s)).now.store
+    → KeepsRecorded h s.store (machine_step images s).now.store
 unfolding machine_step
 step_keeps images s h goes kept =
-    subst (λ (o : Option Halt). KeepsHeap h s.store (unless_halted s o (turned images s (instructed s))).now.store) (sym goes) kept
+    subst (λ (o : Option Halt). KeepsRecorded h s.store (unless_halted s o (turned images s (instructed s))).now.store) (sym goes) kept
 
 outside_keeps : (images : List Entry) (s : MachineState) (h : HeapList) (number : ℕ) (o : Option Halt) → o ≡ None
-    → KeepsHeap h s.store (called images s true s.cpu.pc (without_x (number % 2 ^ 24))).now.store
-    → KeepsHeap h s.store (unless_halted s o (called images s true s.cpu.pc (without_x (number % 2 ^ 24)))).now.store
+    → KeepsRecorded h s.store (called images s true s.cpu.pc (without_x (number % 2 ^ 24))).now.store
+    → KeepsRecorded h s.store (unless_halted s o (called images s true s.cpu.pc (without_x (number % 2 ^ 24)))).now.store
 outside_keeps images s h number o goes kept =
-    subst (λ (w : Option Halt). KeepsHeap h s.store (unless_halted s w (called images s true s.cpu.pc (without_x (number % 2 ^ 24)))).now.store)
+    subst (λ (w : Option Halt). KeepsRecorded h s.store (unless_halted s w (called images s true s.cpu.pc (without_x (number % 2 ^ 24)))).now.store)
     (sym goes) kept
 
 pub module_moves_keep : ModuleMovesKeepHeap
@@ -78,7 +77,7 @@ module_moves_keep images s h Step has is = step_keeps images s h has.goes (turn_
 module_moves_keep images s h (Call number words) has is =
     let u : MachineState = given s words in
     let a : IsAsked s h words = asked s h words has in
-    let kept : KeepsHeap h u.store (called images u true u.cpu.pc (without_x (number % 2 ^ 24))).now.store =
+    let kept : KeepsRecorded h u.store (called images u true u.cpu.pc (without_x (number % 2 ^ 24))).now.store =
     module_called_keeps images u h a.host true u.cpu.pc (without_x (number % 2 ^ 24)) is in
-    subst (λ (t : Store). KeepsHeap h t (store_called images u number).now.store) a.stays
+    subst (λ (t : Store). KeepsRecorded h t (store_called images u number).now.store) a.stays
     (outside_keeps images u h number u.halt (a.goes ∙ has.goes) kept)

@@ -15,7 +15,7 @@ use Rattle.os_heap.specs.Store.{Store, find_heap}
 use Rattle.heap_turns.proofs.KeptHeaps.{own_kept}
 use Rattle.heap_turns.proofs.OwnCalls.{own_turns}
 use Rattle.heap_turns.specs.Alone.{Alone, HeapCall, alone_in, call_given}
-use Rattle.heap_turns.specs.Laws.{HasHeapStill, HasNoAnchor, IsGuestHeap, KeepsHeap}
+use Rattle.heap_turns.specs.Laws.{HasHeapStill, HasNoAnchor, HoldsNoHeap, IsGuestHeap, KeepsHeap}
 use Rattle.heap_turns.specs.Lists.{is_on_heap}
 use Rattle.heap_turns.specs.Turns.{Answered, Refused, Turn, alone_or, call_on, replied, turned}
 use Rattle.swi_dispatch_answers.specs.declared.refusal.Refusal.{Refusal}
@@ -68,6 +68,7 @@ record HeapLeft (t : Store) (start : ℕ) (w : Alone) : Type 0 where
   found : find_heap start t.heaps ≡ Some heap
   own : has_own_size heap.kind ≡ true
   anchors : HasNoAnchor t heap
+  alone : HoldsNoHeap t heap
   is : alone_in t heap ≡ w
 
 record IsReplied (t : MachineState) (h : HeapList) (r : Result (Store × (ℕ × ℕ)) ErrorNumber) (w : Alone) : Type 0 where
@@ -86,6 +87,7 @@ module _ (u : MachineState) (h : HeapList) (store : HasStore u) (guest : IsGuest
         found = still.found;
         own = still.own;
         anchors = still.anchors;
+        alone = still.alone;
         is = sym (ap (alone_or (alone_in u.store h) r.0) still.found);
       } in
       record {
@@ -110,6 +112,7 @@ module _ (u : MachineState) (h : HeapList) (store : HasStore u) (guest : IsGuest
           found = kept.found;
           own = guest.own;
           anchors = λ a here. kept.anchors a here ∙ guest.anchors a here;
+          alone = guest.alone;
           is = kept_alone h u.store t.store kept;
         };
       }
@@ -169,6 +172,7 @@ stands_left t start w state goes left = record {
     found = subst (λ (at : ℕ). find_heap at t.store.heaps ≡ Some left.heap) (sym left.starts) left.found;
     own = left.own;
     anchors = left.anchors;
+    alone = left.alone;
   };
   is = left.is;
 }

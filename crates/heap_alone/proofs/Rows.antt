@@ -70,7 +70,7 @@ module _ (s : MachineState) (h : HeapList) (has : HasStore s) (found : find_heap
   -- areas
   created_went : (w : Wanted) (name : List ℕ) (r : Result (Land × Created) ErrorNumber) → created s.tables.land s.pool w name ≡ r
       → Went h s.store (on_estate s (bind (or_error r) (λ q. Ok (area_made s.cpu e w q))))
-  created_went w name (Ok q) is = λ _.
+  created_went w name (Ok q) is = λ _ _.
       let to : Estate = with_land (with_pages_at s.store q.1.base (4096 * pages_for w.size)) q.0 in
       ((area_calls_keep e to h guest).create w name q.1 is refl)
   created_went w name (Err f) is = tt
@@ -85,14 +85,14 @@ module _ (s : MachineState) (h : HeapList) (has : HasStore s) (found : find_heap
 
   removed_went : (number : ℕ) (r : Result Land ErrorNumber) → removed s.tables.land s.store number ≡ r
       → Went h s.store (on_estate s (bind (or_error r) (λ l. Ok (s.cpu, with_land (store_emptied s.store (find_area number s.tables.land.areas)) l))))
-  removed_went number (Ok l) is = λ _.
+  removed_went number (Ok l) is = λ _ _.
       let to : Estate = with_land (store_emptied s.store (find_area number s.tables.land.areas)) l in
       ((area_calls_keep e to h guest).remove number is refl)
   removed_went number (Err f) is = tt
 
   told_went : (A : Type 0) (k : A → State) (l : A → Land) (r : Result A ErrorNumber)
       → Went h s.store (on_estate s (bind (or_error r) (λ x. Ok (k x, record e { land = l x }))))
-  told_went A k l (Ok x) = λ _. same
+  told_went A k l (Ok x) = λ _ _. same
   told_went A k l (Err f) = tt
 
   pub area_went : (o : Option AreaReason) → Went h s.store (on_estate s (area_called_for s.cpu e o))
@@ -116,7 +116,7 @@ module _ (s : MachineState) (h : HeapList) (has : HasStore s) (found : find_heap
   -- flex calls, as turns of the stores
   fit_went : (turn : Turn) (places : Store) (r : Result (FlexState × Bool) ErrorNumber) → turned turn (stores_in s has.pending) ≡ left_by (stores_in s has.pending) places r
       → TurnsOutside h turn → IsFreeOfAnchors h s.store → Went h s.store (on_flex s (fit_told s.cpu (memory_left places r)))
-  fit_went turn places (Ok q) is outside free = λ _.
+  fit_went turn places (Ok q) is outside free = λ _ _.
       subst (λ (y : Stores). KeepsHeap h s.store (store_in y)) is
       (turns_keep (stores_in s has.pending) turn h has.stores free own outside)
   fit_went turn places (Err f) is outside free = tt
@@ -124,7 +124,7 @@ module _ (s : MachineState) (h : HeapList) (has : HasStore s) (found : find_heap
   quiet_went : (turn : Turn) (places : Store) (r : Result (FlexState × Unit {0}) ErrorNumber)
       → turned turn (stores_in s has.pending) ≡ left_by (stores_in s has.pending) places (bind r (λ q. Ok (q.0, true)))
       → TurnsOutside h turn → IsFreeOfAnchors h s.store → Went h s.store (on_flex s (bind (or_error (memory_left places r)) (λ q. Ok (s.cpu, q.0))))
-  quiet_went turn places (Ok q) is outside free = λ _.
+  quiet_went turn places (Ok q) is outside free = λ _ _.
       subst (λ (y : Stores). KeepsHeap h s.store (store_in y)) is
       (turns_keep (stores_in s has.pending) turn h has.stores free own outside)
   quiet_went turn places (Err f) is outside free = tt

@@ -119,4 +119,11 @@ given_goes s t same = ap (λ (u : MachineState). u.halt) same.is
 pub guest_heap : (s : MachineState) (h : HeapList) → HasHeap s h → IsGuestHeap s.store h
 guest_heap s h has =
     let store : HasStore s = has_store s has.state in
-    record { sound = sound_store s store; found = has.found; own = has.own; anchors = has.anchors; images = store.images }
+    record {
+      sound = sound_store s store;
+      found = has.found;
+      own = has.own;
+      anchors = has.anchors;
+      alone = has.alone;
+      images = store.images;
+    }

@@ -1,4 +1,4 @@
--- What a move that isn't a call on a heap leaves of it: all of it.
+-- What a move that isn't a call on a heap leaves of it: all of it, where it leaves it whole.
 use Rattle.std.proofs.Common.{ℕ, ◌≡◌, ◌≢◌, ◌+◌, ◌%◌, ◌^◌, ◌==◌, ◌&&◌, ◌∙◌, Bool, true, false, List, Option, Some, None, Result, Ok, Err, refl, sym, ap, subst, inl, inr}
 use Rattle.std.proofs.lemmas.Bool.{and_parts, cases_Bool, eqb-true, false_from_ne_true}
 use Rattle.profile.specs.Reasons.{heap_reason}
@@ -15,15 +15,16 @@ use Rattle.image_loader.specs.Entries.{Entry}
 use Rattle.os_heap_lists.specs.Heap.{HeapList}
 use Rattle.os_heap.specs.Calls.{has_own_size}
 use Rattle.os_heap.specs.Store.{IsSound, Store, find_heap, owned_in}
-use Rattle.heap_turns.specs.Laws.{HasNoAnchor, KeepsHeap}
+use Rattle.heap_turns.proofs.NoHeapInside.{whole_recorded}
+use Rattle.heap_turns.specs.Laws.{HasNoAnchor, IsLeftWhole, KeepsHeap}
 use Rattle.swi_dispatch.specs.declared.halt.Halt.{Halt}
 use Rattle.swi_dispatch.specs.MachineState.{MachineState, Outcome}
 use Rattle.swi_dispatch.specs.Step.{called, instructed, machine_step, store_called, turned, unless_halted, without_x}
 use Rattle.heap_alone.proofs.Called.{IsElsewhere, IsHeapElsewhere, called_keeps}
 use Rattle.heap_alone.proofs.Gates.{gate_keeps}
-use Rattle.heap_alone.proofs.Keeping.{kept_same}
+use Rattle.heap_alone.proofs.Keeping.{KeepsWhole, kept_same}
 use Rattle.heap_alone.proofs.ModuleHosts.{IsHost}
-use Rattle.heap_alone.proofs.ModuleLaws.{asked, host as host_of}
+use Rattle.heap_alone.proofs.ModuleLaws.{any_heap, asked, host as host_of}
 use Rattle.heap_alone.proofs.ModuleMoves.{module_called_keeps}
 use Rattle.heap_alone.proofs.Rows.{NamesNone}
 use Rattle.heap_alone.proofs.States.{HasStore, IsGiven, given_goes, given_same, given_stays, given_store, has_store, sound_store}
@@ -67,10 +68,11 @@ module _ (images : List Entry) (s : MachineState) (h : HeapList) (has : HasStore
 
   -- a call, of OS_Module or another
   pub swi_keeps : (x : Bool) (next number : ℕ) → IsHeapElsewhere s h (swi_of number) → NamesNone s h (swi_of number)
-      → IsSound (called images s x next number).now.store → KeepsHeap h s.store (called images s x next number).now.store
-  swi_keeps x next number other outside sound = elim (cases_Bool (is_module_name (swi_of number))) [
-    | inl module_swi ↦ module_called_keeps images s h host x next number module_swi
-    | inr another ↦ called_keeps images s h has found own anchors x next number another other outside sound
+      → KeepsWhole h s.store (called images s x next number).now.store
+  swi_keeps x next number other outside sound left = elim (cases_Bool (is_module_name (swi_of number))) [
+    | inl module_swi ↦
+        module_called_keeps images s h host x next number module_swi (λ lies. whole_recorded (called images s x next number).now.store h.start left)
+    | inr another ↦ called_keeps images s h has found own anchors x next number another other outside sound left
   ]
 
   -- what the instruction does, or what it asks for
@@ -78,18 +80,19 @@ module _ (images : List Entry) (s : MachineState) (h : HeapList) (has : HasStore
       → ((a : ℕ) → in_range h.start h.end a ≡ true → is_stored s.cpu s.store.bytes a ≡ false)
       → (swi_of_turn r ≡ Some swi.Heap → register_of s.cpu 1 ≢ h.start)
       → (swi_of_turn r ≡ Some swi.FlexAlloc → in_range h.start h.end (register_of s.cpu 0) ≡ false)
-      → IsSound (turned images s r).now.store → KeepsHeap h s.store (turned images s r).now.store
-  turn_keeps (Ok w) is stores calls named sound = record {
+      → KeepsWhole h s.store (turned images s r).now.store
+  turn_keeps (Ok w) is stores calls named sound left = record {
     found = found;
     bytes = λ a here. step_past (owned_in s.store) s.cpu w.0 s.store.bytes w.1 a is (stores a here);
     anchors = λ a here. refl;
   }
-  turn_keeps (Err turn.Done) is stores calls named sound = same
-  turn_keeps (Err (turn.Swi n)) is stores calls named sound =
+  turn_keeps (Err turn.Done) is stores calls named sound left = same
+  turn_keeps (Err (turn.Swi n)) is stores calls named sound left =
       swi_keeps (bit_of n 17) ((s.cpu.pc + 4) % 2 ^ 26) (without_x n)
-      (from_inside (swi_of (without_x n)) s h calls) (names_none (swi_of (without_x n)) s h named) sound
-  turn_keeps (Err turn.Gate) is stores calls named sound = gate_keeps s h host
-  turn_keeps (Err (turn.Fault f)) is stores calls named sound = same
+      (from_inside (swi_of (without_x n)) s h calls) (names_none (swi_of (without_x n)) s h named) sound left
+  turn_keeps (Err turn.Gate) is stores calls named sound left =
+      gate_keeps s h host (λ lies. whole_recorded (turned images s (Err turn.Gate)).now.store h.start left)
+  turn_keeps (Err (turn.Fault f)) is stores calls named sound left = same
 
 pub step_is : (images : List Entry) (s : MachineState) → s.halt ≡ None → machine_step images s ≡ turned images s (instructed s)
 unfolding machine_step
@@ -108,9 +111,11 @@ move_keeps images s h Step has move other =
     let aside : IsAside s h Step = move.aside h has.found in
     let sound : IsSound (turned images s (instructed s)).now.store =
     subst (λ (o : Outcome). IsSound o.now.store) step (sound_store (moved images s Step) (has_store (moved images s Step) move.state)) in
+    let left : IsLeftWhole (turned images s (instructed s)).now.store h.start =
+    subst (λ (o : Outcome). IsLeftWhole o.now.store h.start) step (move.left other) in
     subst (λ (o : Outcome). KeepsHeap h s.store o.now.store) (sym step)
-    (turn_keeps images s h (has_store s has.state) has.found has.own has.anchors (host_of s h has) (instructed s) refl (aside.stores refl)
-    (aside.calls refl) aside.anchors sound)
+    (turn_keeps images s h (has_store s has.state) has.found has.own has.anchors (host_of s h (any_heap s h has)) (instructed s) refl (aside.stores refl)
+    (aside.calls refl) aside.anchors sound left)
 move_keeps images s h (Call number words) has move other =
     let u : MachineState = given s words in
     let store : HasStore s = has_store s has.state in
@@ -118,10 +123,12 @@ move_keeps images s h (Call number words) has move other =
     let call : store_called images u number ≡ called images u true u.cpu.pc (without_x (number % 2 ^ 24)) = call_is images u number (given_goes s u same ∙ has.goes) in
     let sound : IsSound (called images u true u.cpu.pc (without_x (number % 2 ^ 24))).now.store =
     subst (λ (o : Outcome). IsSound o.now.store) call (sound_store (moved images s (Call number words)) (has_store (moved images s (Call number words)) move.state)) in
+    let left : IsLeftWhole (called images u true u.cpu.pc (without_x (number % 2 ^ 24))).now.store h.start =
+    subst (λ (o : Outcome). IsLeftWhole o.now.store h.start) call (move.left other) in
     let found : find_heap h.start u.store.heaps ≡ Some h = ap (λ (t : Store). find_heap h.start t.heaps) (given_stays s u same) ∙ has.found in
     let anchors : HasNoAnchor u.store h = subst (λ (t : Store). HasNoAnchor t h) (sym (given_stays s u same)) has.anchors in
     let kept : KeepsHeap h u.store (called images u true u.cpu.pc (without_x (number % 2 ^ 24))).now.store =
-    swi_keeps images u h (given_store s u store same) found has.own anchors (asked s h words has).host true u.cpu.pc (without_x (number % 2 ^ 24))
-    (from_outside (outside_name number) u h other) (names_none (outside_name number) u h (move.aside h has.found).anchors) sound in
+    swi_keeps images u h (given_store s u store same) found has.own anchors (asked s h words (any_heap s h has)).host true u.cpu.pc (without_x (number % 2 ^ 24))
+    (from_outside (outside_name number) u h other) (names_none (outside_name number) u h (move.aside h has.found).anchors) sound left in
     subst (λ (t : Store). KeepsHeap h t (store_called images u number).now.store) (given_stays s u same)
     (subst (λ (o : Outcome). KeepsHeap h u.store o.now.store) (sym call) kept)

@@ -1,4 +1,5 @@
--- A guest's heap stands alone: whatever else a machine does, calls on the heap answer by the heap's own list and bytes.
+-- A guest's heap stands alone: whatever else a machine does, short of making a heap in it or freeing the block that it lies in, calls on the heap answer
+-- by the heap's own list and bytes.
 use Rattle.std.specs.Prelude.{ℕ, ◌≡◌, ◌≢◌, true, false, Option, Some, None, option_map, List, [], ◌∷◌}
 use Rattle.profile.specs.declared.swi.SwiName.TheVariants as swi
 use Rattle.address_map.specs.Bytes.{in_range}
@@ -8,11 +9,11 @@ use Rattle.os_heap_lists.specs.Heap.{HeapList}
 use Rattle.os_heap.specs.Calls.{has_own_size}
 use Rattle.os_heap.specs.Store.{Store, find_heap}
 use Rattle.heap_turns.specs.Alone.{Alone, alone_in}
-use Rattle.heap_turns.specs.Laws.{HasNoAnchor}
+use Rattle.heap_turns.specs.Laws.{HasNoAnchor, HoldsNoHeap, IsLeftWhole}
 use Rattle.heap_turns.specs.Turns.{left_by, replies}
 use Rattle.swi_dispatch.specs.MachineState.{MachineState}
 use Rattle.swi_dispatch.specs.Parts.{IsMachine, Parts, state_of}
-use Rattle.heap_alone.specs.Moves.{Move, Step, answers_in, calls_in, core_of, moved, moved_all, swi_made}
+use Rattle.heap_alone.specs.Moves.{Move, Step, answers_in, calls_in, core_of, is_own, moved, moved_all, swi_made}
 use Rattle.heap_alone.specs.Storing.{is_stored}
 
 -- a machine's state
@@ -21,13 +22,14 @@ pub record IsState (s : MachineState) : Type 0 where
   pub is : state_of parts ≡ s
   pub machine : IsMachine parts
 
--- A machine that isn't halted, with a heap that a guest made and in which no anchor lies.
+-- A machine that isn't halted, with a heap that a guest made and in which no anchor and no heap lies. It may lie in a block itself.
 pub record HasHeap (s : MachineState) (h : HeapList) : Type 0 where
   pub state : IsState s
   pub goes : s.halt ≡ None
   pub found : find_heap h.start s.store.heaps ≡ Some h
   pub own : has_own_size h.kind ≡ true
   pub anchors : HasNoAnchor s.store h
+  pub alone : HoldsNoHeap s.store h
 
 -- A move that leaves the heap to itself: no instruction stores into it, no step calls OS_Heap with it in R1, and no flex block gets an anchor in it.
 pub record IsAside (s : MachineState) (h : HeapList) (m : Move) : Type 0 where
@@ -35,9 +37,11 @@ pub record IsAside (s : MachineState) (h : HeapList) (m : Move) : Type 0 where
   pub calls : m ≡ Step → swi_made s m ≡ Some swi.Heap → register_of s.cpu 1 ≢ h.start
   pub anchors : swi_made s m ≡ Some swi.FlexAlloc → in_range h.start h.end (register_of (core_of s m) 0) ≡ false
 
--- Each move of a list leaves the heap that is found at `start` to itself, and goes on in a machine's state that isn't halted.
+-- Each move of a list leaves the heap that is found at `start` to itself, and goes on in a machine's state that isn't halted. Those that are no calls on
+-- it from outside leave it whole: none forgets it, and none makes a heap in it.
 pub record IsMoveDone (images : List Entry) (start : ℕ) (s : MachineState) (m : Move) : Type 0 where
   pub aside : (h : HeapList) → find_heap start s.store.heaps ≡ Some h → IsAside s h m
+  pub left : is_own start s m ≡ false → IsLeftWhole (moved images s m).store start
   pub state : IsState (moved images s m)
   pub goes : (moved images s m).halt ≡ None
 

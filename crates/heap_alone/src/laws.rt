@@ -17,8 +17,9 @@ pub fn steps_leave_bytes()
     ensures { StepsLeaveBytes }
 {}
 
-/// A heap that a guest made, with no anchor in it, answers by its own list and bytes to the calls that are made on it,
-/// and is left as these calls alone leave it, whatever else the machine does between them without storing into it.
+/// A heap that a guest made, with no anchor and no heap in it, answers by its own list and bytes to the calls that are
+/// made on it, and is left as these calls alone leave it, whatever else the machine does between them that does not store
+/// into it, does not forget it and makes no heap in it. It may lie in a block of another heap, or of the module area.
 pub fn heaps_stand_alone()
     ensures { HeapsStandAlone }
 {}
@@ -28,15 +29,17 @@ pub fn worlds_answer_alike()
     ensures { WorldsAnswerAlike }
 {}
 
-/// Each call of OS_Module keeps a heap that a guest made, whether it is done or refused; so does each call of a SWI of
-/// a module, and a module that is loaded from outside.
+/// Each call of OS_Module keeps a heap that a guest made, whether it is done or refused; so does a module that is loaded
+/// from outside. Only a heap that lies in a block of the module area can be forgotten. A call of a SWI of a module forgets
+/// none, and keeps each.
 pub fn module_calls_keep_heap()
     ensures calls { ModuleCallsKeepHeap }
     ensures handlers { ModuleSwisKeepHeap }
     ensures loads { LoadsKeepHeap }
 {}
 
-/// So does each step in which module code comes back.
+/// So does each step in which module code comes back: it keeps each such heap, where one that lies in a block of the module
+/// area is recorded after it.
 pub fn gates_keep_heap()
     ensures { GatesKeepHeap }
 {}
@@ -52,14 +55,15 @@ pub fn instructions_change_stored_bytes()
     ensures { InstructionsChangeStored }
 {}
 
-/// A call of OS_Heap, by any caller and on any heap, done or refused: each block of each heap that was live and is so
-/// still holds what it held.
+/// A call of OS_Heap, by any caller and on any heap, done or refused: each block of that heap that was live and is so
+/// still holds what it held, and so does each block of each other heap, but for bytes in that heap's range. Those belong
+/// to one of its blocks, or to a block that it lies in.
 pub fn heap_calls_keep_live_bytes()
     ensures { HeapCallsKeepLiveBytes }
 {}
 
-/// So over any move, each block of a heap that a guest made and in which no anchor lies or is named: if it was live and
-/// is so still, it holds what it held, but for what the move's instruction stored.
+/// So over any move, each block of a heap that a guest made, in which no anchor lies or is named, and no heap lies or is
+/// made: if it was live and is so still, it holds what it held, but for what the move's instruction stored.
 pub fn moves_keep_live_bytes()
     ensures { MovesKeepLiveBytes }
 {}

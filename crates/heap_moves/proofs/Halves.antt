@@ -10,32 +10,35 @@ use Rattle.heap_alone.proofs.Keeping.{found_alone}
 use Rattle.heap_alone.proofs.Lists.{stand_alone}
 use Rattle.heap_alone.specs.Laws.{AreMovesDone, HasHeap, StandsAlone}
 use Rattle.heap_alone.specs.Moves.{Move, answers_in, calls_in, moved}
-use Rattle.heap_moves.specs.Making.{AreAside, AreGoing, GoesOn, HasHeapAt, IsByItself, StandsByItself}
+use Rattle.heap_moves.specs.Making.{AreAside, AreGoing, GoesOn, HasHeapAt, IsByItself, LeaveWhole, StandsByItself}
 use Rattle.heap_moves.specs.Moves.{noted_all}
 use Rattle.heap_moves.specs.Pairs.{AreAlike, Side}
 use Rattle.heap_moves.specs.declared.moves.Reply.{Reply}
 
 moves_done : (images : List Entry) (start : ℕ) (s : MachineState) (moves : List Move) → AreGoing images s moves → AreAside images start s moves
-    → AreMovesDone images start s moves
-moves_done images start s [] going aside = tt
-moves_done images start s (m ∷ ms) going aside =
-    (record { aside = aside.0; state = going.0.state; goes = going.0.goes }, moves_done images start (moved images s m) ms going.1 aside.1)
+    → LeaveWhole images start s moves → AreMovesDone images start s moves
+moves_done images start s [] going aside whole = tt
+moves_done images start s (m ∷ ms) going aside whole = (
+  record { aside = aside.0; left = whole.0; state = going.0.state; goes = going.0.goes },
+  moves_done images start (moved images s m) ms going.1 aside.1 whole.1,
+)
 
 found_at : (s : MachineState) (start : ℕ) (h : HeapList) → HasHeapAt s start h → find_heap h.start s.store.heaps ≡ Some h
 found_at s start h has = subst (λ (a : ℕ). find_heap a s.store.heaps ≡ Some h) (sym has.starts) has.found
 
 pub by_itself : (images : List Entry) (start : ℕ) (s : MachineState) (moves : List Move) (answers : List Reply) → GoesOn s → AreGoing images s moves
     → answers ≡ noted_all (answers_in images start s moves) → StandsByItself images start s moves answers
-by_itself images start s moves answers begins going is = λ h has aside.
+by_itself images start s moves answers begins going is = λ h has aside whole.
     let here : HasHeap s h = record {
       state = begins.state;
       goes = begins.goes;
       found = found_at s start h has;
       own = has.own;
       anchors = has.anchors;
+      alone = has.alone;
     } in
     let all : AreMovesDone images h.start s moves =
-    subst (λ (a : ℕ). AreMovesDone images a s moves) (sym has.starts) (moves_done images start s moves going aside) in
+    subst (λ (a : ℕ). AreMovesDone images a s moves) (sym has.starts) (moves_done images start s moves going aside whole) in
     let stands : StandsAlone images s h moves = stand_alone images s h moves here all in
     record {
       stands = stands;
@@ -46,7 +49,7 @@ by_itself images start s moves answers begins going is = λ h has aside.
 
 -- where no move was done
 pub still_by_itself : (images : List Entry) (start : ℕ) (s : MachineState) → StandsByItself images start s [] []
-still_by_itself images start s = λ h has aside.
+still_by_itself images start s = λ h has aside whole.
     record {
       stands = record { answers = refl; heap = found_alone h s.store (found_at s start h has) };
       answers = refl;
@@ -55,8 +58,8 @@ still_by_itself images start s = λ h has aside.
 pub are_alike : (one two : Side) → StandsByItself one.images one.start one.state one.moves one.answers
     → StandsByItself two.images two.start two.state two.moves two.answers → AreAlike one two
 are_alike one two first second = λ h k here there same.
-    let a : IsByItself one.images one.state h one.moves one.answers = first h here.here here.aside in
-    let b : IsByItself two.images two.state k two.moves two.answers = second k there.here there.aside in
+    let a : IsByItself one.images one.state h one.moves one.answers = first h here.here here.aside here.whole in
+    let b : IsByItself two.images two.state k two.moves two.answers = second k there.here there.aside there.whole in
     let w : Alone = alone_in one.state.store h in
     let v : Alone = alone_in two.state.store k in
     let cs : List HeapCall = calls_in one.images h.start one.state one.moves in

@@ -1,18 +1,18 @@
 -- A list of moves made on a machine: how far it was made, what the machine then is, and what the heap at an address answered, which is what it
 -- answers by itself.
-use Rattle.std.specs.Prelude.{ℕ, ◌≡◌, ◌≤◌, ◌<◌, ◌+◌, ◌-◌, true, Option, Some, None, option_map, List, [], ◌∷◌, length, take}
+use Rattle.std.specs.Prelude.{ℕ, ◌≡◌, ◌≤◌, ◌<◌, ◌+◌, ◌-◌, true, false, Option, Some, None, option_map, List, [], ◌∷◌, length, take}
 use Rattle.profile.specs.declared.stop.Stop.{Stop}
 use Rattle.image_loader.specs.Entries.{Entry}
 use Rattle.os_heap_lists.specs.Heap.{HeapList}
 use Rattle.os_heap.specs.Calls.{has_own_size}
 use Rattle.os_heap.specs.Store.{find_heap}
 use Rattle.heap_turns.specs.Alone.{alone_in}
-use Rattle.heap_turns.specs.Laws.{HasNoAnchor}
+use Rattle.heap_turns.specs.Laws.{HasNoAnchor, HoldsNoHeap, IsLeftWhole}
 use Rattle.heap_turns.specs.Turns.{replies}
 use Rattle.swi_dispatch.specs.declared.halt.Halt.{Halt}
 use Rattle.swi_dispatch.specs.MachineState.{MachineState, stop_of}
 use Rattle.heap_alone.specs.Laws.{IsAside, IsState, StandsAlone}
-use Rattle.heap_alone.specs.Moves.{Move, answers_in, calls_in, moved, moved_all}
+use Rattle.heap_alone.specs.Moves.{Move, answers_in, calls_in, is_own, moved, moved_all}
 use Rattle.heap_moves.specs.declared.moves.End.{End}
 use Rattle.heap_moves.specs.declared.moves.End.TheVariants as end
 use Rattle.heap_moves.specs.declared.moves.Reply.{Reply}
@@ -39,18 +39,25 @@ abbrev pub AreGoing : List Entry → MachineState → List Move → Type 0
 AreGoing images s [] = Unit {0}
 AreGoing images s (m ∷ ms) = GoesOn (moved images s m) × AreGoing images (moved images s m) ms
 
--- A heap that a guest made stands at an address, and no anchor lies in it.
+-- A heap that a guest made stands at an address, and no anchor and no heap lies in it.
 pub record HasHeapAt (s : MachineState) (start : ℕ) (h : HeapList) : Type 0 where
   pub starts : h.start ≡ start
   pub found : find_heap start s.store.heaps ≡ Some h
   pub own : has_own_size h.kind ≡ true
   pub anchors : HasNoAnchor s.store h
+  pub alone : HoldsNoHeap s.store h
 
 -- Each move of a list leaves the heap that is found at an address to itself.
 abbrev pub AreAside : List Entry → ℕ → MachineState → List Move → Type 0
 AreAside images start s [] = Unit {0}
 AreAside images start s (m ∷ ms) =
     ((h : HeapList) → find_heap start s.store.heaps ≡ Some h → IsAside s h m) × AreAside images start (moved images s m) ms
+
+-- Each that is no call on that heap from outside leaves it whole: none forgets it, and none makes a heap in it.
+abbrev pub LeaveWhole : List Entry → ℕ → MachineState → List Move → Type 0
+LeaveWhole images start s [] = Unit {0}
+LeaveWhole images start s (m ∷ ms) =
+    (is_own start s m ≡ false → IsLeftWhole (moved images s m).store start) × LeaveWhole images start (moved images s m) ms
 
 -- The heap answered what it answers by itself, and is what its own calls alone leave of it.
 pub record IsByItself (images : List Entry) (s : MachineState) (h : HeapList) (moves : List Move) (told : List Reply) : Type 0 where
@@ -59,7 +66,7 @@ pub record IsByItself (images : List Entry) (s : MachineState) (h : HeapList) (m
 
 abbrev pub StandsByItself : List Entry → ℕ → MachineState → List Move → List Reply → Type 0
 StandsByItself images start s moves told =
-    (h : HeapList) → HasHeapAt s start h → AreAside images start s moves → IsByItself images s h moves told
+    (h : HeapList) → HasHeapAt s start h → AreAside images start s moves → LeaveWhole images start s moves → IsByItself images s h moves told
 
 -- Why it ended, after so many of all moves: the last of these asked for one answer more than there is room for, or the machine is halted.
 abbrev pub EndsBy : End → (count all asked most : ℕ) → Option Halt → Type 0

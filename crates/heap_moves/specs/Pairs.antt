@@ -7,7 +7,7 @@ use Rattle.swi_dispatch.specs.MachineState.{MachineState}
 use Rattle.heap_alone.specs.Laws.{AnswerAlike}
 use Rattle.heap_alone.specs.Moves.{Move, calls_in}
 use Rattle.heap_moves.specs.declared.moves.Reply.{Reply}
-use Rattle.heap_moves.specs.Making.{AreAside, HasHeapAt}
+use Rattle.heap_moves.specs.Making.{AreAside, HasHeapAt, LeaveWhole}
 
 -- a machine as it was, with the moves that were done on it and what the heap at an address answered
 pub record Side : Type 0 where
@@ -17,10 +17,11 @@ pub record Side : Type 0 where
   pub moves : List Move
   pub answers : List Reply
 
--- a heap of a guest stands there, and the moves leave it to itself
+-- a heap of a guest stands there, and the moves leave it to itself, and whole
 pub record IsAlone (side : Side) (h : HeapList) : Type 0 where
   pub here : HasHeapAt side.state side.start h
   pub aside : AreAside side.images side.start side.state side.moves
+  pub whole : LeaveWhole side.images side.start side.state side.moves
 
 -- The heap is the same in both, and is asked the same.
 pub record AreAsked (one two : Side) (h k : HeapList) : Type 0 where

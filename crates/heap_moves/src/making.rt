@@ -13,7 +13,8 @@ use image_loader::Images;
 use swi_dispatch::Machine;
 
 /// Makes the moves in turn, until the machine is halted or there is no room for an answer. If a guest's heap with no
-/// anchor in it stands at `start`, and the moves leave it to itself, then what it answers is what it answers alone.
+/// anchor and no heap in it stands at `start`, and the moves leave it to itself, neither forget it nor make a heap in it,
+/// then what it answers is what it answers alone.
 pub fn make_moves<const MOST: usize>(machine: &mut Machine, moves: &Moves) -> Made<MOST>
     ensures made { AreMade moves.now.images.now moves.now.start (state_of machine.old) (state_of machine.new)
         (written_all moves.now.list.now) MOST result.count result.end result.answers.items }

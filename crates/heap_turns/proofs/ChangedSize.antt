@@ -14,10 +14,11 @@ use Rattle.os_heap_lists.specs.Heap.{HeapList, IsHeapIn}
 use Rattle.os_heap_lists.specs.Lists.{changed_by}
 use Rattle.os_heap.proofs.Added.{are_mapped_all, are_mapped_from}
 use Rattle.os_heap.proofs.Apart.{range_parts}
+use Rattle.os_heap.proofs.Beside.{grown_alone}
 use Rattle.os_heap.proofs.Found.{found_heap}
 use Rattle.os_heap.proofs.Refusals.{changed_own}
 use Rattle.os_heap.specs.Calls.{changed, end_changed, ending, with_end}
-use Rattle.os_heap.specs.Ranges.{are_mapped, is_heap_region, meets_any}
+use Rattle.os_heap.specs.Ranges.{are_mapped, has_before, is_heap_region, is_in_heap, is_in_way, is_obstructed, overgrows}
 use Rattle.os_heap.specs.Store.{Store, find_heap}
 use Rattle.heap_turns.proofs.Likeness.{AreAlike, AreLike, IsSameHeap, alone_alike, by_both, heap_like, with_last}
 use Rattle.heap_turns.specs.Alone.{Alone, Growth, alone_in, bytes_in, growth_to}
@@ -59,13 +60,13 @@ tested_alike h false false false s u same = (refl, same)
 
 end_alike : (s u : Store) (h : HeapList) (change end : ℕ) → find_heap h.start s.heaps ≡ Some h → find_heap h.start u.heaps ≡ Some h
     → is_heap_region s.bytes h.start end ≡ is_heap_region u.bytes h.start end
-    → (nat_lt h.end end && meets_any (h.start + h.end) (end - h.end) s) ≡ (nat_lt h.end end && meets_any (h.start + h.end) (end - h.end) u)
+    → overgrows s h end ≡ overgrows u h end
     → AreLike h.start end s.bytes.at u.bytes.at → AreAlike (Unit {0}) h (end_changed s h change end) (end_changed u h change end)
 end_alike s u h change end one two region over like =
     let short : Bool = nat_lt end (16 + size_of h.items) in
     let left : Store × Unit {0} = (ending u h end, tt) in
-    let over_s : Bool = nat_lt h.end end && meets_any (h.start + h.end) (end - h.end) s in
-    let over_u : Bool = nat_lt h.end end && meets_any (h.start + h.end) (end - h.end) u in
+    let over_s : Bool = overgrows s h end in
+    let over_u : Bool = overgrows u h end in
     let tests : end_changed u h change end ≡ tested (not (change % 4 == 0 && is_heap_region s.bytes h.start end)) over_s short left =
     ap (λ (x : Bool). tested (not (change % 4 == 0 && x)) over_u short left) (sym region)
     ∙ ap (λ (x : Bool). tested (not (change % 4 == 0 && is_heap_region s.bytes h.start end)) x short left) (sym over) in
@@ -104,16 +105,20 @@ mapped_same m start old end grown mapped is =
       ]
     ]
 
--- what the growth of a heap alone meets
+-- what the growth of a heap alone meets: it does not lie round itself
+not_in_itself : (h : HeapList) → is_in_heap h.start (h ∷ []) ≡ false
+not_in_itself h = or_from (has_before h.start h) false (rw (le-ltb h.start h.start (omega arith)) refl) refl
+
 only : (a b c : Bool) → a ≡ false → c ≡ false → ((a || b) || c) ≡ b
 only a true c none none' = rw none refl
 only a false c none none' = rw (none, none') refl
 
-own_unmet : (h : HeapList) (len : ℕ) → list_any (λ k. meets (h.start + h.end) len k.start k.end) (h ∷ []) ≡ false
-own_unmet h len =
+own_unmet : (h : HeapList) (end len : ℕ) → list_any (is_in_way h.start end (h.start + h.end) len) (h ∷ []) ≡ false
+own_unmet h end len =
     let at : ℕ = h.start + h.end in
     let past : (nat_lt at (h.start + h.end) && nat_lt h.start (at + len)) ≡ false = rw (le-ltb at at (omega arith)) refl in
-    or_from (meets at len h.start h.end) false
+    grown_alone h.start end at len (h ∷ []) (not_in_itself h)
+    ∙ or_from (meets at len h.start h.end) false
     (and_right (nat_lt 0 len && nat_lt 0 h.end) (nat_lt at (h.start + h.end) && nat_lt h.start (at + len)) past) refl
 
 others_as_told : (h : HeapList) (len : ℕ) (m : Bool) → 0 < len → list_any (λ r. meets (h.start + h.end) len r.at r.len) (others_met h m) ≡ m
@@ -121,18 +126,23 @@ others_as_told h len true some =
     rw (lt-ltb 0 len some, lt-ltb (h.start + h.end) (h.start + h.end + 1) (omega arith), lt-ltb (h.start + h.end) (h.start + h.end + len) (omega arith)) refl
 others_as_told h len false some = refl
 
-meets_as_told : (w : Alone) (g : Growth) (len : ℕ) → 0 < len → meets_any (w.heap.start + w.heap.end) len (store_with w g) ≡ g.meets
-meets_as_told w g len some =
-    only (list_any (λ k. meets (w.heap.start + w.heap.end) len k.start k.end) (w.heap ∷ []))
-    (list_any (λ r. meets (w.heap.start + w.heap.end) len r.at r.len) (others_met w.heap g.meets)) (anchor_among (λ a. false) (w.heap.start + w.heap.end) len)
-    (own_unmet w.heap len) (among_none (λ a. false) (w.heap.start + w.heap.end) len (λ a low high. refl))
+obstructed_as_told : (w : Alone) (g : Growth) (end len : ℕ) → 0 < len
+    → is_obstructed w.heap.start end (w.heap.start + w.heap.end) len (store_with w g) ≡ g.meets
+obstructed_as_told w g end len some =
+    let at : ℕ = w.heap.start + w.heap.end in
+    only (list_any (is_in_way w.heap.start end at len) (w.heap ∷ [])) (list_any (λ r. meets at len r.at r.len) (others_met w.heap g.meets))
+    (anchor_among (λ a. false) at len) (own_unmet w.heap end len) (among_none (λ a. false) at len (λ a low high. refl))
     ∙ others_as_told w.heap len g.meets some
 
-meets_same : (s : Store) (h : HeapList) (end : ℕ) (g : Growth) → (h.end < end → g ≡ growth_to s h end)
-    → (nat_lt h.end end && meets_any (h.start + h.end) (end - h.end) s) ≡ (nat_lt h.end end && meets_any (h.start + h.end) (end - h.end) (store_with (alone_in s h) g))
-meets_same s h end g is = elim (cases_lt h.end end) [
-  | inl more ↦ ap (λ (m : Bool). nat_lt h.end end && m)
-      (sym (ap (λ (x : Growth). x.meets) (is more)) ∙ sym (meets_as_told (alone_in s h) g (end - h.end) (omega arith)))
+overgrows_as_told : (w : Alone) (g : Growth) (end : ℕ) → w.heap.end < end → overgrows (store_with w g) w.heap end ≡ g.meets
+overgrows_as_told w g end more =
+    let obstructed : Bool = is_obstructed w.heap.start end (w.heap.start + w.heap.end) (end - w.heap.end) (store_with w g) in
+    ap (λ (x : Bool). x && obstructed) (lt-ltb w.heap.end end more) ∙ obstructed_as_told w g end (end - w.heap.end) (omega (arith, more))
+
+overgrows_same : (s : Store) (h : HeapList) (end : ℕ) (g : Growth) → (h.end < end → g ≡ growth_to s h end)
+    → overgrows s h end ≡ overgrows (store_with (alone_in s h) g) h end
+overgrows_same s h end g is = elim (cases_lt h.end end) [
+  | inl more ↦ sym (ap (λ (x : Growth). x.meets) (is more)) ∙ sym (overgrows_as_told (alone_in s h) g end more)
   | inr less ↦ rw (le-ltb h.end end less) refl
 ]
 
@@ -164,4 +174,4 @@ changed_alike s h change g guest is =
     ap (λ (m : Bool). (h.start % 4 == 0 && end % 4 == 0) && ((nat_le 16 end && nat_le end 16777216) && m))
     (mapped_same s.bytes.mapped h.start h.end end g.mapped heap.mapped (λ more. ap (λ (x : Growth). x.mapped) (is more))) in
     by_both (Unit {0}) h _ _ _ _ (changed_own s h.start change h guest.found guest.own) (changed_own u h.start change h (found_alone (alone_in s h) g) guest.own)
-    (end_alike s u h change end guest.found (found_alone (alone_in s h) g) region (meets_same s h end g is) (grown_like s h end g is))
+    (end_alike s u h change end guest.found (found_alone (alone_in s h) g) region (overgrows_same s h end g is) (grown_like s h end g is))

@@ -4,25 +4,27 @@ use Rattle.std.proofs.lemmas.Bool.{cases_Bool, false≢true, leb-false}
 use Rattle.std.specs.Prelude.{nat_le, nat_lt}
 use Rattle.profile.specs.Outcome.{bind}
 use Rattle.profile.specs.declared.error.ErrorNumber.{ErrorNumber}
-use Rattle.profile.specs.declared.error.ErrorNumber.TheVariants.{HeapNotABlock}
+use Rattle.profile.specs.declared.error.ErrorNumber.TheVariants.{HeapHoldsAnchor, HeapNotABlock}
 use Rattle.profile.specs.declared.reason.HeapReason.{HeapReason}
 use Rattle.profile.specs.declared.reason.HeapReason.TheVariants as reason
 use Rattle.address_map.specs.Items.{is_total, size_of}
 use Rattle.address_map.specs.Records.{anchor_among}
 use Rattle.address_map.specs.declared.item.Item.{Item}
 use Rattle.address_map.specs.declared.region.Kind.TheVariants as kind
+use Rattle.os_heap_lists.proofs.Reading.{total_facts}
 use Rattle.os_heap_lists.proofs.Spelling.{total_of-numbers}
 use Rattle.os_heap_lists.specs.Heap.{HeapList}
 use Rattle.os_heap_lists.specs.Lists.{Claim, changed_by, claimed, live_total, released, resized_in_place, round_up_8, total_for}
-use Rattle.os_heap.proofs.Calls.{claimed_in, released_in}
+use Rattle.os_heap.proofs.Calls.{claimed_in}
 use Rattle.os_heap.proofs.Found.{found_start}
 use Rattle.os_heap.proofs.Moving.{found_held}
 use Rattle.os_heap.proofs.Resizing.{larger_where_none}
-use Rattle.os_heap.specs.Calls.{begun, begun_with, block_sized, changed, copied, described, end_changed, ending, gave_back, got, has_own_size, holding, holds_anchor, moved, resized, resized_or_moved, unless_image}
-use Rattle.os_heap.specs.Ranges.{is_heap_region, meets_any}
+use Rattle.os_heap.specs.Calls.{begun, begun_with, block_sized, changed, copied, described, end_changed, ending, gave_back, got, handed_over, has_own_size, holding, holds_anchor, moved, resized, resized_or_moved, unless_image}
+use Rattle.os_heap.specs.Forgetting.{forgot, holds_heap}
+use Rattle.os_heap.specs.Ranges.{is_heap_region, overgrows, overlaps}
 use Rattle.os_heap.specs.Store.{Store, find_heap, guest_count, has_image}
 use Rattle.heap_turns.proofs.Likeness.{with_list}
-use Rattle.heap_turns.proofs.Plain.{sized_to}
+use Rattle.heap_turns.proofs.Plain.{sized_to, unlive}
 use Rattle.heap_turns.specs.Lists.{is_on_heap}
 use Rattle.heap_turns.specs.Turns.{call_on}
 
@@ -43,12 +45,26 @@ done_told A B P s k (Err e) same = tt
 abbrev pub moved_to : Store → HeapList → Claim → ℕ → ℕ → Store
 moved_to s k c block old = copied (holding s k c.items) block (k.start + 16 + c.offset + 4) (old - 4)
 
+-- bytes of a block that are given up, and a block that is moved
+pub record FreesBytes (k : HeapList) (block total from : ℕ) : Type 0 where
+  pub live : live_total block (k.start + 16) k.items ≡ Some total
+  pub past : block ≤ from
+
+pub record MovesBlock (s : Store) (k : HeapList) (c : Claim) (block old new : ℕ) : Type 0 where
+  pub total : is_total new ≡ true
+  pub less : old ≤ new
+  pub claim : claimed new (k.end - 16) k.items ≡ Some c
+  pub live : live_total block (k.start + 16) k.items ≡ Some old
+  pub unheld : holds_heap s.heaps block (old - 4) ≡ false
+
 -- what holds of each store that a call on a heap can leave
 pub record Leave (P : Store → Type 0) (s : Store) (k : HeapList) : Type 0 where
+  pub same : P s
   pub held : (items : List Item) → P (holding s k items)
-  pub moved : (c : Claim) (block old new : ℕ) (items : List Item) → is_total new ≡ true → old ≤ new
-      → claimed new (k.end - 16) k.items ≡ Some c → P (holding (moved_to s k c block old) (with_list k c.items) items)
-  pub ended : (end : ℕ) → (nat_lt k.end end && meets_any (k.start + k.end) (end - k.end) s) ≡ false → P (ending s k end)
+  pub lost : (block total from : ℕ) (items : List Item) → FreesBytes k block total from → P (holding (forgot s block total from) k items)
+  pub moved : (c : Claim) (block old new total : ℕ) (items : List Item) → MovesBlock s k c block old new → FreesBytes (with_list k c.items) block total block
+      → P (holding (forgot (moved_to s k c block old) block total block) (with_list k c.items) items)
+  pub ended : (end : ℕ) → overgrows s k end ≡ false → P (ending s k end)
 
 claim_done : (P : Store → Type 0) (s : Store) (k : HeapList) (o : Option Claim) → ((items : List Item) → P (holding s k items)) → OnDone ℕ P (claimed_in s k o)
 claim_done P s k None held = tt
@@ -58,48 +74,74 @@ got_done : (P : Store → Type 0) (s : Store) (k : HeapList) (size : ℕ) → fi
 unfolding got
 got_done P s k size found leave = rw found (claim_done P s k (claimed (total_for size) (k.end - 16) k.items) leave.held)
 
-release_done : (P : Store → Type 0) (s : Store) (k : HeapList) (holds : Bool) (o : Option (List Item)) → ((items : List Item) → P (holding s k items))
-    → OnDone (Unit {0}) P (released_in s k holds o)
-release_done P s k holds None held = tt
-release_done P s k true (Some items) held = tt
-release_done P s k false (Some items) held = held items
+-- what a release leaves
+abbrev OnFreed : (Store → Type 0) → Store → HeapList → ℕ → Type 0
+OnFreed P s k block = (total : ℕ) (items : List Item) → FreesBytes k block total block → P (holding (forgot s block total block) k items)
 
-gave_done : (P : Store → Type 0) (s : Store) (k : HeapList) (block : ℕ) → find_heap k.start s.heaps ≡ Some k → ((items : List Item) → P (holding s k items))
-    → OnDone (Unit {0}) P (gave_back s k.start block)
+release_done : (P : Store → Type 0) (s : Store) (k : HeapList) (block total : ℕ) (holds : Bool) (o : Option (List Item)) → FreesBytes k block total block
+    → OnFreed P s k block
+    → OnDone (Unit {0}) P (bind (ok_or o HeapNotABlock) (λ items. if holds then Err HeapHoldsAnchor else Ok (holding (forgot s block total block) k items, tt)))
+release_done P s k block total holds None given lost = tt
+release_done P s k block total true (Some items) given lost = tt
+release_done P s k block total false (Some items) given lost = lost total items given
+
+unless_none : (A : Type 0) (image : Bool) (o : Option A) → o ≡ None → unless_image image o ≡ None
+unless_none A true o none = refl
+unless_none A false o none = none
+
+gave_by : (P : Store → Type 0) (s : Store) (k : HeapList) (block : ℕ) (o : Option ℕ) → find_heap k.start s.heaps ≡ Some k → OnFreed P s k block
+    → live_total block (k.start + 16) k.items ≡ o → OnDone (Unit {0}) P (gave_back s k.start block)
 unfolding gave_back
-gave_done P s k block found held =
-    rw found (release_done P s k (holds_anchor s.anchor block (live_total block (k.start + 16) k.items))
-    (unless_image (has_image block s.others) (released block (k.start + 16) k.items)) held)
+gave_by P s k block None found lost none =
+    rw (found, unless_none (List Item) (has_image block s.others) (released block (k.start + 16) k.items) (unlive block (k.start + 16) k.items none)) tt
+gave_by P s k block (Some total) found lost live =
+    rw (found, live) (release_done P s k block total (holds_anchor s.anchor block (Some total))
+    (unless_image (has_image block s.others) (released block (k.start + 16) k.items)) (record { live = live; past = omega arith }) lost)
+
+gave_done : (P : Store → Type 0) (s : Store) (k : HeapList) (block : ℕ) → find_heap k.start s.heaps ≡ Some k → OnFreed P s k block
+    → OnDone (Unit {0}) P (gave_back s k.start block)
+gave_done P s k block found lost = gave_by P s k block (live_total block (k.start + 16) k.items) found lost refl
+
+handed_done : (P : Store → Type 0) (s : Store) (k : HeapList) (c : Claim) (block old new : ℕ) → find_heap k.start s.heaps ≡ Some k → Leave P s k
+    → MovesBlock s k c block old new → OnDone ℕ P (handed_over k.start block (old - 4) (holding s k c.items) (k.start + 16 + c.offset + 4))
+handed_done P s k c block old new found leave is =
+    done_bound (Unit {0}) ℕ P (λ _. k.start + 16 + c.offset + 4) (gave_back (moved_to s k c block old) k.start block)
+    (gave_done P (moved_to s k c block old) (with_list k c.items) block (found_held k.start c.items s.heaps k found)
+    (λ total items given. leave.moved c block old new total items is given))
 
 move_done : (P : Store → Type 0) (s : Store) (k : HeapList) (block old new : ℕ) (o : Option Claim) → find_heap k.start s.heaps ≡ Some k → Leave P s k
-    → is_total new ≡ true → old ≤ new → claimed new (k.end - 16) k.items ≡ o → OnDone ℕ P (moved s k block old new)
-move_done P s k block old new None found leave total less none = rw none tt
-move_done P s k block old new (Some c) found leave total less some =
-    rw some (done_bound (Unit {0}) ℕ P (λ _. k.start + 16 + c.offset + 4) (gave_back (moved_to s k c block old) k.start block)
-    (gave_done P (moved_to s k c block old) (with_list k c.items) block (found_held k.start c.items s.heaps k found)
-    (λ items. leave.moved c block old new items total less some)))
+    → is_total new ≡ true → old ≤ new → live_total block (k.start + 16) k.items ≡ Some old → claimed new (k.end - 16) k.items ≡ o
+    → OnDone ℕ P (moved s k block old new)
+move_done P s k block old new None found leave total less live none = rw none tt
+move_done P s k block old new (Some c) found leave total less live some =
+    rw some (elim (cases_Bool (holds_heap s.heaps block (old - 4))) [
+      | inl held ↦ rw held tt
+      | inr unheld ↦ rw unheld (handed_done P s k c block old new found leave
+          (record { total = total; less = less; claim = some; live = live; unheld = unheld }))
+    ])
 
 refit_done : (P : Store → Type 0) (s : Store) (k : HeapList) (block old new : ℕ) (o : Option (List Item)) → find_heap k.start s.heaps ≡ Some k → Leave P s k
-    → is_total new ≡ true → (o ≡ None → old ≤ new) → OnDone ℕ P (resized_or_moved s k block old new o)
-refit_done P s k block old new None found leave total less = elim (cases_Bool (holds_anchor s.anchor block (Some old))) [
+    → is_total new ≡ true → live_total block (k.start + 16) k.items ≡ Some old → (o ≡ None → old ≤ new) → OnDone ℕ P (resized_or_moved s k block old new o)
+refit_done P s k block old new None found leave total live less = elim (cases_Bool (holds_anchor s.anchor block (Some old))) [
   | inl held ↦ rw held tt
-  | inr free ↦ rw free (move_done P s k block old new (claimed new (k.end - 16) k.items) found leave total (less refl) refl)
+  | inr free ↦ rw free (move_done P s k block old new (claimed new (k.end - 16) k.items) found leave total (less refl) live refl)
 ]
-refit_done P s k block old new (Some items) found leave total less = elim (cases_Bool (anchor_among s.anchor (block - 4 + new) (old - new))) [
+refit_done P s k block old new (Some items) found leave total live less = elim (cases_Bool (anchor_among s.anchor (block - 4 + new) (old - new))) [
   | inl held ↦ rw held tt
-  | inr free ↦ rw free (leave.held items)
+  | inr free ↦ rw free (leave.lost block old (block - 4 + new) items
+      (record { live = live; past = omega (arith, (total_facts new total).0) }))
 ]
 
 sized_done : (P : Store → Type 0) (s : Store) (k : HeapList) (block change old : ℕ) → find_heap k.start s.heaps ≡ Some k → Leave P s k
     → live_total block (k.start + 16) k.items ≡ Some old → OnDone ℕ P (sized_to s k block change old)
 sized_done P s k block change old found leave live = elim (cases_Bool (nat_le (changed_by old change) 4)) [
-  | inl few ↦ rw few (done_bound (Unit {0}) ℕ P (λ _. 0) (gave_back s k.start block) (gave_done P s k block found leave.held))
+  | inl few ↦ rw few (done_bound (Unit {0}) ℕ P (λ _. 0) (gave_back s k.start block) (gave_done P s k block found (λ total items given. leave.lost block total block items given)))
   | inr more ↦
       let sum : ℕ = changed_by old change in
       let many : 4 < sum = leb-false sum 4 more in
       let new : ℕ = round_up_8 sum in
       rw more (refit_done P s k block old new (resized_in_place block (k.start + k.end) new (k.start + 16) k.items) found leave
-      (total_of-numbers new (omega (arith, many)) (omega arith))
+      (total_of-numbers new (omega (arith, many)) (omega arith)) live
       (λ none. omega (arith, larger_where_none block (k.start + k.end) new (k.start + 16) old k.items live none)))
 ]
 
@@ -118,7 +160,7 @@ resized_done P s k block change found leave =
 end_done : (P : Store → Type 0) (s : Store) (k : HeapList) (change end : ℕ) → Leave P s k → OnDone (Unit {0}) P (end_changed s k change end)
 end_done P s k change end leave = elim (cases_Bool (change % 4 == 0 && is_heap_region s.bytes k.start end)) [
   | inr bad ↦ rw bad tt
-  | inl good ↦ elim (cases_Bool (nat_lt k.end end && meets_any (k.start + k.end) (end - k.end) s)) [
+  | inl good ↦ elim (cases_Bool (overgrows s k end)) [
     | inl over ↦ rw (good, over) tt
     | inr clear ↦ elim (cases_Bool (nat_lt end (16 + size_of k.items))) [
       | inl short ↦ rw (good, clear, short) tt
@@ -151,36 +193,36 @@ none_done P s heap reason.ChangeSize block size on none = rw none tt
 none_done P s heap reason.BlockSize block size on none = rw none tt
 
 pub heap_done : (P : Store → Type 0) (s : Store) (k : HeapList) (why : HeapReason) (block size : ℕ) → is_on_heap why ≡ true
-    → find_heap k.start s.heaps ≡ Some k → P s → Leave P s k → Answers P s k.start why block size
-heap_done P s k reason.Initialise block size on found same leave = absurd (false≢true on)
-heap_done P s k reason.Describe block size on found same leave = done_told (ℕ × ℕ) (ℕ × ℕ) P s (λ r. r) (described s k.start) same
-heap_done P s k reason.Get block size on found same leave =
+    → find_heap k.start s.heaps ≡ Some k → Leave P s k → Answers P s k.start why block size
+heap_done P s k reason.Initialise block size on found leave = absurd (false≢true on)
+heap_done P s k reason.Describe block size on found leave = done_told (ℕ × ℕ) (ℕ × ℕ) P s (λ r. r) (described s k.start) leave.same
+heap_done P s k reason.Get block size on found leave =
     done_bound ℕ (ℕ × ℕ) P (λ n. (n, size)) (got s k.start size) (got_done P s k size found leave)
-heap_done P s k reason.Free block size on found same leave =
-    done_bound (Unit {0}) (ℕ × ℕ) P (λ _. (block, size)) (gave_back s k.start block) (gave_done P s k block found leave.held)
-heap_done P s k reason.Resize block size on found same leave =
+heap_done P s k reason.Free block size on found leave =
+    done_bound (Unit {0}) (ℕ × ℕ) P (λ _. (block, size)) (gave_back s k.start block) (gave_done P s k block found (λ total items given. leave.lost block total block items given))
+heap_done P s k reason.Resize block size on found leave =
     done_bound ℕ (ℕ × ℕ) P (λ n. (n, size)) (resized s k.start block size) (resized_done P s k block size found leave)
-heap_done P s k reason.ChangeSize block size on found same leave =
+heap_done P s k reason.ChangeSize block size on found leave =
     done_bound (Unit {0}) (ℕ × ℕ) P (λ _. (block, size)) (changed s k.start size) (changed_done P s k size found leave)
-heap_done P s k reason.BlockSize block size on found same leave =
-    done_told ℕ (ℕ × ℕ) P s (λ n. (block, n)) (block_sized s k.start block) same
+heap_done P s k reason.BlockSize block size on found leave =
+    done_told ℕ (ℕ × ℕ) P s (λ n. (block, n)) (block_sized s k.start block) leave.same
 
 found_done : (P : Store → Type 0) (s : Store) (heap : ℕ) (why : HeapReason) (block size : ℕ) (o : Option HeapList) → is_on_heap why ≡ true
-    → find_heap heap s.heaps ≡ o → P s → ((k : HeapList) → k.start ≡ heap → find_heap k.start s.heaps ≡ Some k → Leave P s k) → Answers P s heap why block size
-found_done P s heap why block size None on none same leave = none_done P s heap why block size on none
-found_done P s heap why block size (Some k) on found same leave =
+    → find_heap heap s.heaps ≡ o → ((k : HeapList) → k.start ≡ heap → find_heap k.start s.heaps ≡ Some k → Leave P s k) → Answers P s heap why block size
+found_done P s heap why block size None on none leave = none_done P s heap why block size on none
+found_done P s heap why block size (Some k) on found leave =
     let start : k.start ≡ heap = found_start heap s.heaps k found in
     let own : find_heap k.start s.heaps ≡ Some k = subst (λ (p : ℕ). find_heap p s.heaps ≡ Some k) (sym start) found in
-    subst (λ (p : ℕ). Answers P s p why block size) start (heap_done P s k why block size on own same (leave k start own))
+    subst (λ (p : ℕ). Answers P s p why block size) start (heap_done P s k why block size on own (leave k start own))
 
 -- one that makes a heap
 pub begun_done : (P : Store → Type 0) (s : Store) (at block size : ℕ)
-    → (is_heap_region s.bytes at size ≡ true → meets_any at size s ≡ false → P (begun_with kind.Heap s at size))
+    → (is_heap_region s.bytes at size ≡ true → overlaps at size s ≡ false → P (begun_with kind.Heap s at size))
     → Answers P s at reason.Initialise block size
 unfolding begun
 begun_done P s at block size begins = elim (cases_Bool (is_heap_region s.bytes at size)) [
   | inr bad ↦ rw bad tt
-  | inl good ↦ elim (cases_Bool (meets_any at size s)) [
+  | inl good ↦ elim (cases_Bool (overlaps at size s)) [
     | inl over ↦ rw (good, over) tt
     | inr clear ↦ elim (cases_Bool (nat_le 64 (guest_count s.heaps))) [
       | inl full ↦ rw (good, clear, full) tt
@@ -190,12 +232,12 @@ begun_done P s at block size begins = elim (cases_Bool (is_heap_region s.bytes a
 ]
 
 -- any
-pub call_done : (P : Store → Type 0) (s : Store) (heap : ℕ) (why : HeapReason) (block size : ℕ) → P s
+pub call_done : (P : Store → Type 0) (s : Store) (heap : ℕ) (why : HeapReason) (block size : ℕ)
     → (is_on_heap why ≡ true → (k : HeapList) → k.start ≡ heap → find_heap k.start s.heaps ≡ Some k → Leave P s k)
-    → (is_heap_region s.bytes heap size ≡ true → meets_any heap size s ≡ false → P (begun_with kind.Heap s heap size))
+    → (is_heap_region s.bytes heap size ≡ true → overlaps heap size s ≡ false → P (begun_with kind.Heap s heap size))
     → Answers P s heap why block size
-call_done P s heap why block size same leave begins = elim (cases_Bool (is_on_heap why)) [
-  | inl on ↦ found_done P s heap why block size (find_heap heap s.heaps) on refl same (leave on)
+call_done P s heap why block size leave begins = elim (cases_Bool (is_on_heap why)) [
+  | inl on ↦ found_done P s heap why block size (find_heap heap s.heaps) on refl (leave on)
   | inr made ↦ subst (λ (x : HeapReason). Answers P s heap x block size) (initialise why made) (begun_done P s heap block size begins)
 ] where
   initialise : (why : HeapReason) → is_on_heap why ≡ false → reason.Initialise ≡ why

@@ -1,5 +1,5 @@
--- No module image begins at a block of a guest's heap: an image lies in no heap, or is a block of the module area.
-use Rattle.std.proofs.Common.{ℕ, ◌≡◌, ◌+◌, ◌-◌, ◌<◌, ◌==◌, ◌&&◌, ◌∙◌, true, false, List, [], ◌∷◌, Some, refl, sym, ap, subst, inl, inr, arith}
+-- No module image begins at a block of a guest's heap: an image shares no byte with one.
+use Rattle.std.proofs.Common.{ℕ, ◌≡◌, ◌+◌, ◌-◌, ◌<◌, ◌==◌, ◌&&◌, true, false, List, [], ◌∷◌, Some, refl, sym, subst, inl, inr, arith}
 use Rattle.std.proofs.lemmas.Bool.{and_parts, both_ways, eqb-true, false_from_ne_true, false≢true, le-leb, lt-ltb, or_from}
 use Rattle.address_map.specs.Bytes.{Bytes, in_range}
 use Rattle.address_map.specs.Items.{size_of}
@@ -11,9 +11,9 @@ use Rattle.os_heap_lists.specs.Heap.{HeapList, IsHeapIn}
 use Rattle.os_heap_lists.specs.Lists.{live_total}
 use Rattle.os_heap.proofs.Apart.{block_inside}
 use Rattle.os_heap.proofs.Found.{found_heap}
-use Rattle.os_heap.proofs.Stores.{AreClearOthers, are_clear_others, clear_of-found}
+use Rattle.os_heap.proofs.Stores.{placed_by}
 use Rattle.os_heap.specs.Calls.{has_own_size}
-use Rattle.os_heap.specs.Store.{AreHeapsIn, ArePlaced, IsImageIn, Store, find_heap, has_image, is_area, is_image}
+use Rattle.os_heap.specs.Store.{ArePlaced, Store, find_heap, has_image, is_area, is_image}
 use Rattle.heap_turns.specs.Laws.{AreImagesFull, IsGuestHeap}
 
 area_own : (k : Kind) → is_area k ≡ true → has_own_size k ≡ true → ⊥
@@ -28,39 +28,26 @@ first_inside b h block total heap live =
     block_inside b h block total block heap live
     (rw (le-leb (block - 4) block (omega arith), lt-ltb block (block - 4 + total) (omega (arith, place.size, place.low))) refl)
 
--- an image of the module area begins in no guest's heap
-image_elsewhere : (b : Bytes) (h : HeapList) (hs : List HeapList) (r : Region) → AreHeapsIn b hs → AreClearOthers h hs → has_own_size h.kind ≡ true
-    → in_range h.start h.end r.at ≡ true → IsImageIn hs r → ⊥
-image_elsewhere b h [] r parts others own here image = image
-image_elsewhere b h (g ∷ hs) r parts others own here image = elim image [
-  | inl mine ↦ elim others.0 [
-    | inl same ↦ area_own g.kind mine.area (ap (λ (x : HeapList). has_own_size x.kind) same ∙ own)
-    | inr apart ↦ both_ways (in_range g.start g.end r.at) (apart.1 r.at here) (first_inside b g r.at (r.len + 4) parts.0 mine.live)
-  ]
-  | inr later ↦ image_elsewhere b h hs r parts.1.1 others.1 own here later
-]
-
-none_there : (b : Bytes) (h : HeapList) (hs : List HeapList) (rs : List Region) (block : ℕ) → AreHeapsIn b hs → AreClearOthers h hs → find_heap h.start hs ≡ Some h
-    → has_own_size h.kind ≡ true → ArePlaced hs rs → AreImagesFull rs → in_range h.start h.end block ≡ true → has_image block rs ≡ false
-none_there b h hs [] block parts others found own placed full here = refl
-none_there b h hs (r ∷ rs) block parts others found own placed full here =
+none_there : (h : HeapList) (hs : List HeapList) (rs : List Region) (block : ℕ) → find_heap h.start hs ≡ Some h → has_own_size h.kind ≡ true
+    → ArePlaced hs rs → AreImagesFull rs → in_range h.start h.end block ≡ true → has_image block rs ≡ false
+none_there h hs [] block found own placed full here = refl
+none_there h hs (r ∷ rs) block found own placed full here =
     or_from (is_image r.kind && r.at == block) (has_image block rs)
     (false_from_ne_true (is_image r.kind && r.at == block) (λ is.
     let both = and_parts (is_image r.kind) (r.at == block) is in
     let at : r.at ≡ block = eqb-true r.at block both.1 in
     let there : in_range h.start h.end r.at ≡ true = subst (λ (a : ℕ). in_range h.start h.end a ≡ true) (sym at) here in
-    elim placed.0 [
+    elim (placed_by h.start hs h r placed.0 found) [
       | inl clear ↦
           let some : 0 < r.len = full.0 both.0 in
           both_ways (in_range h.start h.end r.at)
-          (clear_of-found r.at r.len h.start hs h clear found r.at (rw (le-leb r.at r.at (omega arith), lt-ltb r.at (r.at + r.len) (omega arith)) refl)) there
-      | inr image ↦ image_elsewhere b h hs r parts others own there image
+          (clear r.at (rw (le-leb r.at r.at (omega arith), lt-ltb r.at (r.at + r.len) (omega arith)) refl)) there
+      | inr image ↦ area_own h.kind image.area own
     ]))
-    (none_there b h hs rs block parts others found own placed.1 full.1 here)
+    (none_there h hs rs block found own placed.1 full.1 here)
 
 pub guest_images : (s : Store) (h : HeapList) (block total : ℕ) → IsGuestHeap s h → live_total block (h.start + 16) h.items ≡ Some total
     → has_image block s.others ≡ false
 guest_images s h block total guest live =
     let heap : IsHeapIn s.bytes h.start h.end h.items = found_heap s.bytes h.start s.heaps h guest.sound.heaps guest.found in
-    none_there s.bytes h s.heaps s.others block guest.sound.heaps (are_clear_others s.bytes h.start s.heaps h guest.sound.heaps guest.sound.unnested guest.found) guest.found guest.own
-    guest.sound.placed guest.images (first_inside s.bytes h block total heap live)
+    none_there h s.heaps s.others block guest.found guest.own guest.sound.placed guest.images (first_inside s.bytes h block total heap live)

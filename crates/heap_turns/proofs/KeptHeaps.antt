@@ -1,74 +1,116 @@
 -- A guest's heap after calls: on it, and on others.
-use Rattle.std.proofs.Common.{ℕ, ◌≡◌, ◌≢◌, ◌+◌, ◌-◌, ◌%◌, ◌≤◌, ◌<◌, ◌==◌, ◌&&◌, ◌⊎◌, ◌∙◌, true, false, List, [], ◌∷◌, ◌++◌, None, Some, refl, sym, ap, subst, inl, inr, arith}
-use Rattle.std.proofs.lemmas.Bool.{both_ways, cases_Bool, eq-eqb, eqb-true, false_from_ne_true, le-leb, lt-ltb, ne_eqb}
-use Rattle.std.specs.Prelude.{nat_lt}
+use Rattle.std.proofs.Common.{ℕ, ◌≡◌, ◌≢◌, ◌+◌, ◌-◌, ◌%◌, ◌≤◌, ◌<◌, ◌==◌, ◌&&◌, ◌⊎◌, ◌∙◌, Bool, true, false, List, [], ◌∷◌, ◌++◌, None, Some, is_some, refl, sym, ap, subst, inl, inr, arith}
+use Rattle.std.proofs.lemmas.Bool.{both_ways, cases_Bool, eq-eqb, eqb-true, false_from_ne_true, false≢true, le-leb, lt-ltb, ne_eqb, or_parts}
+use Rattle.std.specs.List.{list_any}
+use Rattle.profile.specs.declared.reason.HeapReason.{HeapReason}
 use Rattle.address_map.proofs.Anchors.{none_among}
 use Rattle.address_map.proofs.Stores.{in_range-cases}
-use Rattle.address_map.specs.Bytes.{in_range, word_start}
+use Rattle.address_map.specs.Bytes.{Bytes, in_range, word_start}
 use Rattle.address_map.specs.Items.{is_heap_word, size_of}
+use Rattle.address_map.specs.Records.{anchor_among}
 use Rattle.address_map.specs.declared.item.Item.{Item}
 use Rattle.address_map.specs.declared.region.Kind.TheVariants as kind
-use Rattle.os_heap_lists.proofs.LiveBlocks.{LiveBytes, live_bytes}
+use Rattle.os_heap_lists.proofs.LiveBlocks.{LiveBytes, live_apart, live_bytes}
 use Rattle.os_heap_lists.proofs.Payloads.{heap_beside, payload_unspelled, spelled_inside}
 use Rattle.os_heap_lists.specs.Heap.{AreTotals, HeapList, IsHeapIn, with_heap}
 use Rattle.os_heap_lists.specs.Lists.{Claim, live_total}
-use Rattle.os_heap.proofs.Added.{CanHold, can_hold, clear_of_heaps, unmet}
+use Rattle.os_heap.proofs.Added.{CanHold, can_hold, uncrossed, unlapped}
 use Rattle.os_heap.proofs.Apart.{found_other, range_parts}
+use Rattle.os_heap.proofs.Ending.{may_grow, unobstructed}
+use Rattle.os_heap.proofs.Forgetting.{find_gone, find_left, own_left as heap_left}
 use Rattle.os_heap.proofs.Found.{found_heap}
 use Rattle.os_heap.proofs.KeptPayloads.{IsClaim, is_claim}
 use Rattle.os_heap.proofs.Moving.{found_held}
-use Rattle.os_heap.proofs.Stores.{are_clear_others, clear_of-found}
-use Rattle.os_heap.specs.Calls.{begun_with, ending, holding, with_end, with_items}
-use Rattle.os_heap.specs.Ranges.{is_heap_region, meets_any}
-use Rattle.os_heap.specs.Store.{AreClear, IsSound, Store, find_heap}
+use Rattle.os_heap.proofs.Nesting.{within_low}
+use Rattle.os_heap.proofs.Stores.{are_others}
+use Rattle.os_heap.specs.Calls.{begun_with, ending, has_own_size, holding, with_end, with_items}
+use Rattle.os_heap.specs.Forgetting.{forgot, holds_heap, lowest_lost, starts_in}
+use Rattle.os_heap.specs.Nesting.{IsWithin, StandsApart, is_crossed}
+use Rattle.os_heap.specs.Ranges.{is_heap_region, is_in_way, overgrows, overlaps}
+use Rattle.os_heap.specs.Store.{AreClear, AreHeapsIn, IsSound, Store, find_heap}
 use Rattle.heap_turns.proofs.ChangedSize.{found_ended}
-use Rattle.heap_turns.proofs.DoneCalls.{Leave, OnDone, call_done, heap_done, moved_to}
+use Rattle.heap_turns.proofs.DoneCalls.{FreesBytes, MovesBlock, Leave, OnDone, call_done, heap_done, moved_to}
 use Rattle.heap_turns.proofs.Likeness.{with_last, with_list}
-use Rattle.heap_turns.specs.Laws.{HasHeapStill, HasNoAnchor, IsGuestHeap, KeepsHeap, OtherCallsKeepHeap, OwnCallsKeepHeap}
-use Rattle.heap_turns.specs.Lists.{is_on_heap}
+use Rattle.heap_turns.proofs.NoHeapInside.{forgot_unheld, held_ended, held_listed, none_grown}
+use Rattle.heap_turns.proofs.Plain.{IsBare, block_forgot}
+use Rattle.heap_turns.specs.Laws.{HasHeapStill, HasNoAnchor, HoldsNoHeap, IsGuestHeap, IsNotForgotten, KeepsHeap, OtherCallsKeepHeap, OwnCallsKeepHeap, starts_inside}
+use Rattle.heap_turns.specs.Lists.{is_call_to, is_on_heap}
 
 -- The heap itself: what it grows by has no anchor.
-still_bare : (s : Store) (h : HeapList) (end : ℕ) → IsGuestHeap s h → (nat_lt h.end end && meets_any (h.start + h.end) (end - h.end) s) ≡ false
-    → HasNoAnchor (ending s h end) (with_last h end)
+unmet_growth : (s : Store) (h : HeapList) (end : ℕ) → overgrows s h end ≡ false → h.end < end
+    → (list_any (is_in_way h.start end (h.start + h.end) (end - h.end)) s.heaps ≡ false) × (anchor_among s.anchor (h.start + h.end) (end - h.end) ≡ false)
+unmet_growth s h end clear more =
+    let none = unobstructed h.start end (h.start + h.end) (end - h.end) s (may_grow s h end clear more) in
+    (none.0.0, none.1)
+
+still_bare : (s : Store) (h : HeapList) (end : ℕ) → IsGuestHeap s h → overgrows s h end ≡ false → HasNoAnchor (ending s h end) (with_last h end)
 still_bare s h end guest clear a here = elim (in_range-cases h.start h.end a) [
   | inl inside ↦ guest.anchors a inside.0
   | inr out ↦
       let parts : (h.start ≤ a) × (a < h.start + end) = range_parts h.start end a here in
       let behind : h.start + h.end ≤ a = elim out.1 [ inl low ↦ absurd (omega (arith, parts.0)) | inr past ↦ past ] in
-      let none : meets_any (h.start + h.end) (end - h.end) s ≡ false = rw (lt-ltb h.end end (omega (arith, parts.1))) at clear in
-      none_among s.anchor (h.start + h.end) (end - h.end) a (unmet (h.start + h.end) (end - h.end) s none).1 behind (omega (arith, parts.1))
+      none_among s.anchor (h.start + h.end) (end - h.end) a (unmet_growth s h end clear (omega (arith, parts.1, behind))).1 behind (omega (arith, parts.1))
 ]
 
-own_left : (s : Store) (h : HeapList) → IsGuestHeap s h → Leave (λ t. HasHeapStill t h.start) s h
-own_left s h guest = record {
-  held = λ items. record {
-    heap = with_list h items;
-    starts = refl;
-    found = found_held h.start items s.heaps h guest.found;
-    own = guest.own;
-    anchors = guest.anchors;
-  };
-  moved = λ c block old new items total less is. record {
-    heap = with_list h items;
-    starts = refl;
-    found = found_held h.start items (with_items h.start c.items s.heaps) (with_list h c.items) (found_held h.start c.items s.heaps h guest.found);
-    own = guest.own;
-    anchors = guest.anchors;
-  };
-  ended = λ end clear. record {
-    heap = with_last h end;
-    starts = refl;
-    found = found_ended h.start end s.heaps h guest.found;
-    own = guest.own;
-    anchors = still_bare s h end guest clear;
-  };
+still_alone : (s : Store) (h : HeapList) (end : ℕ) → IsGuestHeap s h → overgrows s h end ≡ false → HoldsNoHeap (ending s h end) (with_last h end)
+still_alone s h end guest clear =
+    held_ended h.start (h.start + 16) (end - 16) end s.heaps
+    ∙ none_grown s.bytes h.start h.end end s.heaps guest.sound.heaps (λ more. (unmet_growth s h end clear more).0) guest.alone
+
+-- and no heap is forgotten with bytes of its blocks
+own_bare : (s : Store) (h : HeapList) → IsGuestHeap s h → IsBare s h
+own_bare s h guest =
+    let heap : IsHeapIn s.bytes h.start h.end h.items = found_heap s.bytes h.start s.heaps h guest.sound.heaps guest.found in
+    record { found = guest.found; anchors = guest.anchors; alone = guest.alone; totals = heap.totals; inside = heap.inside }
+
+held_still : (s : Store) (h : HeapList) (items : List Item) → IsBare s h → has_own_size h.kind ≡ true → HasHeapStill (holding s h items) h.start
+held_still s h items bare own = record {
+  heap = with_list h items;
+  starts = refl;
+  found = found_held h.start items s.heaps h bare.found;
+  own = own;
+  anchors = bare.anchors;
+  alone = held_listed h.start (h.start + 16) (h.end - 16) items s.heaps ∙ bare.alone;
 }
+
+moved_bare : (s : Store) (h : HeapList) (c : Claim) (block old new : ℕ) → IsGuestHeap s h → IsClaim h new c → IsBare (moved_to s h c block old) (with_list h c.items)
+moved_bare s h c block old new guest claim = record {
+  found = found_held h.start c.items s.heaps h guest.found;
+  anchors = guest.anchors;
+  alone = held_listed h.start (h.start + 16) (h.end - 16) c.items s.heaps ∙ guest.alone;
+  totals = claim.totals;
+  inside = claim.inside;
+}
+
+left_still : (s : Store) (h : HeapList) (block total from : ℕ) (items : List Item) → IsBare s h → has_own_size h.kind ≡ true → FreesBytes h block total from
+    → HasHeapStill (holding (forgot s block total from) h items) h.start
+left_still s h block total from items bare own given =
+    subst (λ (v : Store). HasHeapStill (holding v h items) h.start) (sym (block_forgot s h block total from bare given.live given.past))
+    (held_still s h items bare own)
+
+own_left : (s : Store) (h : HeapList) → IsGuestHeap s h → Leave (λ t. HasHeapStill t h.start) s h
+own_left s h guest =
+    let heap : IsHeapIn s.bytes h.start h.end h.items = found_heap s.bytes h.start s.heaps h guest.sound.heaps guest.found in
+    record {
+      same = record { heap = h; starts = refl; found = guest.found; own = guest.own; anchors = guest.anchors; alone = guest.alone };
+      held = λ items. held_still s h items (own_bare s h guest) guest.own;
+      lost = λ block total from items given. left_still s h block total from items (own_bare s h guest) guest.own given;
+      moved = λ c block old new total items is given.
+          left_still (moved_to s h c block old) (with_list h c.items) block total block items
+          (moved_bare s h c block old new guest (is_claim s.bytes h new c heap is.total is.claim)) guest.own given;
+      ended = λ end clear. record {
+        heap = with_last h end;
+        starts = refl;
+        found = found_ended h.start end s.heaps h guest.found;
+        own = guest.own;
+        anchors = still_bare s h end guest clear;
+        alone = still_alone s h end guest clear;
+      };
+    }
 
 pub own_kept : OwnCallsKeepHeap
 own_kept s t h why block size answer guest on is =
-    let same : HasHeapStill s h.start =
-    record { heap = h; starts = refl; found = guest.found; own = guest.own; anchors = guest.anchors } in
-    subst (OnDone (ℕ × ℕ) (λ u. HasHeapStill u h.start)) is (heap_done (λ u. HasHeapStill u h.start) s h why block size on guest.found same (own_left s h guest))
+    subst (OnDone (ℕ × ℕ) (λ u. HasHeapStill u h.start)) is (heap_done (λ u. HasHeapStill u h.start) s h why block size on guest.found (own_left s h guest))
 
 -- Other heaps: a byte beside a heap, out of its range or in what a block of it holds, is none of the words that it spells.
 pub record IsHeld (start : ℕ) (items : List Item) (a : ℕ) : Type 0 where
@@ -90,18 +132,37 @@ placed_beside k f end items a aligned totals fits beside = heap_beside f k.start
 ])
 
 -- nor one of those that a block is moved to
-copied_beside : (k : HeapList) (c : Claim) (old new a : ℕ) → IsClaim k new c → old ≤ new → in_range k.start k.end a ≡ false
+copied_beside : (k : HeapList) (c : Claim) (old new a : ℕ) → IsClaim k new c → old ≤ new → IsBeside k k.items a
     → in_range (k.start + 16 + c.offset + 4) (old - 4) a ≡ false
-copied_beside k c old new a claim less out =
+copied_beside k c old new a claim less beside =
     let at : ℕ = k.start + 16 + c.offset + 4 in
     let place : LiveBytes at new (k.start + 16) (k.start + 16 + size_of c.items) = live_bytes at new (k.start + 16) c.items claim.totals claim.fresh in
     false_from_ne_true (in_range at (old - 4) a) (λ there.
     let parts : (at ≤ a) × (a < at + (old - 4)) = range_parts at (old - 4) a there in
-    both_ways (in_range k.start k.end a) out
-    (rw (le-leb k.start a (omega (arith, parts.0)), lt-ltb a (k.start + k.end) (omega (arith, parts.1, place.high, claim.inside, less))) refl))
+    elim beside [
+      | inl out ↦ both_ways (in_range k.start k.end a) out
+          (rw (le-leb k.start a (omega (arith, parts.0)), lt-ltb a (k.start + k.end) (omega (arith, parts.1, place.high, claim.inside, less))) refl)
+      | inr held ↦
+          let other : held.block ≢ at = λ (e : held.block ≡ at).
+          false≢true (sym claim.unheld ∙ ap is_some (subst (λ (p : ℕ). live_total p (k.start + 16) k.items ≡ Some held.total) e held.live)) in
+          elim (live_apart held.block held.total at new (k.start + 16) c.items claim.totals (claim.still held.block held.total held.live) claim.fresh other) [
+            | inl low ↦ omega (arith, low, held.high, parts.0)
+            | inr high ↦ omega (arith, high, held.low, parts.1, less)
+          ]
+    ])
+
+claimed_held : (k : HeapList) (c : Claim) (new a : ℕ) → IsClaim k new c → IsBeside k k.items a → IsBeside k c.items a
+claimed_held k c new a claim (inl out) = inl out
+claimed_held k c new a claim (inr held) = inr (record {
+  block = held.block;
+  total = held.total;
+  live = claim.still held.block held.total held.live;
+  low = held.low;
+  high = held.high;
+})
 
 -- and it is found still
-found_beside : (p start : ℕ) (items : List Item) (hs : List HeapList) → p ≢ start → find_heap p (with_items start items hs) ≡ find_heap p hs
+pub found_beside : (p start : ℕ) (items : List Item) (hs : List HeapList) → p ≢ start → find_heap p (with_items start items hs) ≡ find_heap p hs
 found_beside p start items [] other = refl
 found_beside p start items (g ∷ hs) other = elim (cases_Bool (g.start == start)) [
   | inl here ↦
@@ -113,7 +174,7 @@ found_beside p start items (g ∷ hs) other = elim (cases_Bool (g.start == start
   ])
 ]
 
-found_past : (p start end : ℕ) (hs : List HeapList) → p ≢ start → find_heap p (with_end start end hs) ≡ find_heap p hs
+pub found_past : (p start end : ℕ) (hs : List HeapList) → p ≢ start → find_heap p (with_end start end hs) ≡ find_heap p hs
 found_past p start end [] other = refl
 found_past p start end (g ∷ hs) other = elim (cases_Bool (g.start == start)) [
   | inl here ↦
@@ -125,73 +186,186 @@ found_past p start end (g ∷ hs) other = elim (cases_Bool (g.start == start)) [
   ])
 ]
 
-found_more : (p : ℕ) (hs : List HeapList) (h g : HeapList) → find_heap p hs ≡ Some h → find_heap p (hs ++ g ∷ []) ≡ Some h
+pub found_more : (p : ℕ) (hs : List HeapList) (h g : HeapList) → find_heap p hs ≡ Some h → find_heap p (hs ++ g ∷ []) ≡ Some h
 found_more p [] h g found = absurd (let none : None ≡ Some h = found in cc)
 found_more p (k ∷ hs) h g found = elim (cases_Bool (k.start == p)) [
   | inl here ↦ rw here (rw here at found)
   | inr away ↦ rw away (found_more p hs h g (rw away at found))
 ]
 
--- two heaps of a store
+-- A heap, and another that does not lie in it: no byte of the first is in a word that the other spells.
 record AreTwo (s : Store) (h k : HeapList) : Type 0 where
+  heap : IsHeapIn s.bytes k.start k.end k.items
+  beside : (a : ℕ) → in_range h.start h.end a ≡ true → IsBeside k k.items a
+
+beside_by : (h k : HeapList) (a : ℕ) → StandsApart k h → (IsWithin h k → ⊥) → in_range h.start h.end a ≡ true → IsBeside k k.items a
+beside_by h k a (inl clear) outside here =
+    inl (false_from_ne_true (in_range k.start k.end a) (λ there. both_ways (in_range h.start h.end a) (clear a there) here))
+beside_by h k a (inr (inl within)) outside here =
+    let parts : (h.start ≤ a) × (a < h.start + h.end) = range_parts h.start h.end a here in
+    inr (record {
+      block = within.block;
+      total = within.total;
+      live = within.live;
+      low = omega (arith, within.low, parts.0);
+      high = omega (arith, within.high, parts.1);
+    })
+beside_by h k a (inr (inr within)) outside here = absurd (outside within)
+
+-- where the other does not start in it, it does not lie in it
+not_within : (b : Bytes) (h k : HeapList) → IsHeapIn b h.start h.end h.items → IsHeapIn b k.start k.end k.items → starts_inside h k.start ≡ false
+    → IsWithin h k → ⊥
+not_within b h k heap inner outside within =
+    let low : (h.start + 20 ≤ k.start) × (k.start + k.end ≤ h.start + h.end) = within_low b h k heap within in
+    both_ways (starts_inside h k.start) outside
+    (rw (le-leb (h.start + 16) k.start (omega (arith, low.0)), lt-ltb k.start (h.start + 16 + (h.end - 16)) (omega (arith, low.0, low.1, inner.inside))) refl)
+
+-- two heaps of a store
+record AreCalled (s : Store) (h k : HeapList) : Type 0 where
+  sound : IsSound s
   one : find_heap h.start s.heaps ≡ Some h
   two : find_heap k.start s.heaps ≡ Some k
   apart : h.start ≢ k.start
-  heap : IsHeapIn s.bytes k.start k.end k.items
-  clear : (a : ℕ) → in_range h.start h.end a ≡ true → in_range k.start k.end a ≡ false
+  outside : starts_inside h k.start ≡ false
 
-are_two : (s : Store) (h k : HeapList) → IsSound s → find_heap h.start s.heaps ≡ Some h → find_heap k.start s.heaps ≡ Some k → h.start ≢ k.start → AreTwo s h k
-are_two s h k sound one two apart = record {
-  one = one;
-  two = two;
-  apart = apart;
-  heap = found_heap s.bytes k.start s.heaps k sound.heaps two;
-  clear = λ a here. elim (found_other k h.start s.heaps h (are_clear_others s.bytes k.start s.heaps k sound.heaps sound.unnested two) one) [
-    | inl same ↦ absurd (apart (ap (λ (x : HeapList). x.start) same))
-    | inr other ↦ false_from_ne_true (in_range k.start k.end a) (λ there. both_ways (in_range h.start h.end a) (other.1 a there) here)
-  ];
-}
-
-held_kept : (s : Store) (h k : HeapList) (items : List Item) → AreTwo s h k → IsSound (holding s k items) → KeepsHeap h s (holding s k items)
-held_kept s h k items two sound =
-    let heap : IsHeapIn (holding s k items).bytes k.start k.end items =
-    found_heap (holding s k items).bytes k.start (holding s k items).heaps (with_list k items) sound.heaps (found_held k.start items s.heaps k two.two) in
+are_two : (s : Store) (h k : HeapList) → AreCalled s h k → AreTwo s h k
+are_two s h k called =
+    let heap : IsHeapIn s.bytes h.start h.end h.items = found_heap s.bytes h.start s.heaps h called.sound.heaps called.one in
+    let other : IsHeapIn s.bytes k.start k.end k.items = found_heap s.bytes k.start s.heaps k called.sound.heaps called.two in
     record {
-      found = found_beside h.start k.start items s.heaps two.apart ∙ two.one;
-      bytes = λ a here. placed_beside k s.bytes.at k.end items a heap.aligned heap.totals heap.inside (inl (two.clear a here));
-      anchors = λ a here. refl;
+      heap = other;
+      beside = λ a here. elim (found_other k h.start s.heaps h (are_others s.bytes k.start s.heaps k called.sound.heaps called.two) called.one) [
+        | inl same ↦ absurd (called.apart (ap (λ (x : HeapList). x.start) same))
+        | inr apart ↦ beside_by h k a apart.1 (not_within s.bytes h k heap other called.outside) here
+      ];
     }
 
-moved_kept : (s : Store) (h k : HeapList) (c : Claim) (block old new : ℕ) (items : List Item) → AreTwo s h k → IsClaim k new c → old ≤ new
-    → IsSound (holding (moved_to s k c block old) (with_list k c.items) items) → KeepsHeap h s (holding (moved_to s k c block old) (with_list k c.items) items)
-moved_kept s h k c block old new items two claim less sound =
+-- Other heaps may be forgotten before: where the heap is found then, it is the same, and no byte was changed.
+held_kept : (s v : Store) (h k : HeapList) (items : List Item) → find_heap h.start v.heaps ≡ Some h → find_heap k.start v.heaps ≡ Some k → h.start ≢ k.start
+    → starts_inside h k.start ≡ false → v.bytes ≡ s.bytes → v.anchor ≡ s.anchor → IsSound (holding v k items) → KeepsHeap h s (holding v k items)
+held_kept s v h k items one two apart outside same same' sound =
+    let t : Store = holding v k items in
+    let found : find_heap h.start t.heaps ≡ Some h = found_beside h.start k.start items v.heaps apart ∙ one in
+    let after : AreTwo t h (with_list k items) =
+    are_two t h (with_list k items)
+    (record { sound = sound; one = found; two = found_held k.start items v.heaps k two; apart = apart; outside = outside }) in
+    record {
+      found = found;
+      bytes = λ a here. placed_beside k v.bytes.at k.end items a after.heap.aligned after.heap.totals after.heap.inside
+          (after.beside a here)
+          ∙ ap (λ (b : Bytes). b.at a) same;
+      anchors = λ a here. ap (λ (f : ℕ → Bool). f a) same';
+    }
+
+-- a heap that is found after others were forgotten
+pub found_left : (s t : Store) (h k : HeapList) (block total from : ℕ) (items : List Item) → AreHeapsIn s.bytes s.heaps → find_heap h.start s.heaps ≡ Some h
+    → h.start ≢ k.start → t.heaps ≡ with_items k.start items (forgot s block total from).heaps → IsNotForgotten t h.start
+    → find_heap h.start (forgot s block total from).heaps ≡ Some h
+found_left s t h k block total from items parts one apart is still =
+    let low : ℕ = lowest_lost block (total - 4) from s.heaps in
+    let len : ℕ = block - 4 + total - low in
+    let beside : find_heap h.start t.heaps ≡ find_heap h.start (forgot s block total from).heaps =
+    ap (find_heap h.start) is ∙ found_beside h.start k.start items (forgot s block total from).heaps apart in
+    elim (cases_Bool (starts_in low len h)) [
+      | inl gone ↦
+          let none : find_heap h.start t.heaps ≡ None = beside ∙ find_gone s.bytes low len h.start s.heaps h parts one gone in
+          absurd (false≢true (sym (ap is_some none) ∙ still))
+      | inr kept ↦ find_left low len h.start s.heaps h one kept
+    ]
+
+lost_kept : (s : Store) (h k : HeapList) (block total from : ℕ) (items : List Item) → AreCalled s h k → FreesBytes k block total from
+    → (let t : Store = holding (forgot s block total from) k items in IsSound t → IsNotForgotten t h.start → KeepsHeap h s t)
+lost_kept s h k block total from items called given sound still =
+    let v : Store = forgot s block total from in
+    let heap : IsHeapIn s.bytes k.start k.end k.items = found_heap s.bytes k.start s.heaps k called.sound.heaps called.two in
+    let lies : LiveBytes block total (k.start + 16) (k.start + 16 + size_of k.items) = live_bytes block total (k.start + 16) k.items heap.totals given.live in
+    held_kept s v h k items
+    (found_left s (holding v k items) h k block total from items called.sound.heaps called.one called.apart refl still)
+    (heap_left s k block total from called.two (omega (arith, lies.low)) given.past) called.apart called.outside refl refl sound
+
+-- a block was moved, and no heap lay in it
+moved_kept : (s : Store) (h k : HeapList) (c : Claim) (block old new : ℕ) (items : List Item) → AreCalled s h k → IsClaim k new c → old ≤ new
+    → (let t : Store = holding (moved_to s k c block old) (with_list k c.items) items in IsSound t → KeepsHeap h s t)
+moved_kept s h k c block old new items called claim less sound =
     let u : Store = moved_to s k c block old in
     let t : Store = holding u (with_list k c.items) items in
-    let found : find_heap k.start u.heaps ≡ Some (with_list k c.items) = found_held k.start c.items s.heaps k two.two in
-    let heap : IsHeapIn t.bytes k.start k.end items =
-    found_heap t.bytes k.start t.heaps (with_list k items) sound.heaps (found_held k.start items u.heaps (with_list k c.items) found) in
+    let there : find_heap k.start u.heaps ≡ Some (with_list k c.items) = found_held k.start c.items s.heaps k called.two in
+    let here' : find_heap h.start u.heaps ≡ Some h = found_beside h.start k.start c.items s.heaps called.apart ∙ called.one in
+    let before : AreTwo s h k = are_two s h k called in
+    let kept : KeepsHeap h u t = held_kept u u h (with_list k c.items) items here' there called.apart called.outside refl refl sound in
     record {
-      found = found_beside h.start k.start items u.heaps two.apart ∙ found_beside h.start k.start c.items s.heaps two.apart ∙ two.one;
+      found = kept.found;
       bytes = λ a here.
-          let copy : u.bytes.at a ≡ with_heap s.bytes.at k.start k.end c.items a = rw (copied_beside k c old new a claim less (two.clear a here)) refl in
-          placed_beside k u.bytes.at k.end items a heap.aligned heap.totals heap.inside (inl (two.clear a here))
+          let copy : u.bytes.at a ≡ with_heap s.bytes.at k.start k.end c.items a = rw (copied_beside k c old new a claim less (before.beside a here)) refl in
+          kept.bytes a here
           ∙ copy
-          ∙ placed_beside k s.bytes.at k.end c.items a two.heap.aligned claim.totals claim.inside (inl (two.clear a here));
+          ∙ placed_beside k s.bytes.at k.end c.items a before.heap.aligned claim.totals claim.inside (claimed_held k c new a claim (before.beside a here));
       anchors = λ a here. refl;
     }
 
-ended_kept : (s : Store) (h k : HeapList) (end : ℕ) → AreTwo s h k → KeepsHeap h s (ending s k end)
-ended_kept s h k end two = record {
-  found = found_past h.start k.start end s.heaps two.apart ∙ two.one;
-  bytes = λ a here. placed_beside k s.bytes.at end k.items a two.heap.aligned two.heap.totals two.heap.inside (inl (two.clear a here));
-  anchors = λ a here. refl;
-}
+pub moved_same : (s : Store) (k : HeapList) (c : Claim) (block old new total : ℕ) → IsHeapIn s.bytes k.start k.end k.items → MovesBlock s k c block old new
+    → FreesBytes (with_list k c.items) block total block → forgot (moved_to s k c block old) block total block ≡ moved_to s k c block old
+moved_same s k c block old new total heap is given =
+    let claim : IsClaim k new c = is_claim s.bytes k new c heap is.total is.claim in
+    let both : Some total ≡ Some old = sym given.live ∙ claim.still block old is.live in
+    let size : total ≡ old = cc in
+    let lies : LiveBytes block old (k.start + 16) (k.start + 16 + size_of k.items) = live_bytes block old (k.start + 16) k.items heap.totals is.live in
+    let u : Store = moved_to s k c block old in
+    let none : holds_heap u.heaps block (total - 4) ≡ false =
+    held_listed k.start block (total - 4) c.items s.heaps ∙ ap (λ (n : ℕ). holds_heap s.heaps block (n - 4)) size ∙ is.unheld in
+    forgot_unheld u block total block (omega (arith, lies.low)) (omega (arith, lies.size, size)) (omega arith) none
 
-begun_kept : (s : Store) (h : HeapList) (at size : ℕ) → find_heap h.start s.heaps ≡ Some h → is_heap_region s.bytes at size ≡ true
-    → meets_any at size s ≡ false → KeepsHeap h s (begun_with kind.Heap s at size)
-begun_kept s h at size found region none =
+moved_left : (s : Store) (h k : HeapList) (c : Claim) (block old new total : ℕ) (items : List Item) → AreCalled s h k → MovesBlock s k c block old new
+    → FreesBytes (with_list k c.items) block total block
+    → (let t : Store = holding (forgot (moved_to s k c block old) block total block) (with_list k c.items) items in
+    IsSound t → KeepsHeap h s t)
+moved_left s h k c block old new total items called is given =
+    let heap : IsHeapIn s.bytes k.start k.end k.items = found_heap s.bytes k.start s.heaps k called.sound.heaps called.two in
+    subst (λ (v : Store). let t : Store = holding v (with_list k c.items) items in IsSound t → KeepsHeap h s t)
+    (sym (moved_same s k c block old new total heap is given))
+    (moved_kept s h k c block old new items called (is_claim s.bytes k new c heap is.total is.claim) is.less)
+
+ended_kept : (s : Store) (h k : HeapList) (end : ℕ) → AreCalled s h k → KeepsHeap h s (ending s k end)
+ended_kept s h k end called =
+    let before : AreTwo s h k = are_two s h k called in
+    record {
+      found = found_past h.start k.start end s.heaps called.apart ∙ called.one;
+      bytes = λ a here. placed_beside k s.bytes.at end k.items a before.heap.aligned before.heap.totals before.heap.inside (before.beside a here);
+      anchors = λ a here. refl;
+    }
+
+-- a heap in which no heap is made is clear of the one that is
+uncrossed_found : (at len start : ℕ) (hs : List HeapList) (h : HeapList) → list_any (is_crossed at len) hs ≡ false → find_heap start hs ≡ Some h
+    → is_crossed at len h ≡ false
+uncrossed_found at len start [] h none found = absurd (let none : None ≡ Some h = found in cc)
+uncrossed_found at len start (g ∷ hs) h none found =
+    let each = or_parts (is_crossed at len g) (list_any (is_crossed at len) hs) none in
+    elim (cases_Bool (g.start == start)) [
+      | inl here ↦
+          let found' = rw here at found in
+          let same : g ≡ h = cc in
+          ap (is_crossed at len) (sym same) ∙ each.0
+      | inr away ↦ uncrossed_found at len start hs h each.1 (rw away at found)
+    ]
+
+clear_of_made : (b : Bytes) (h : HeapList) (at size : ℕ) → 0 < size → IsHeapIn b h.start h.end h.items → is_crossed at size h ≡ false → starts_inside h at ≡ false
+    → AreClear at size h.start h.end
+clear_of_made b h at size some heap none outside = elim (uncrossed b at size h heap none) [
+  | inl clear ↦ clear
+  | inr held ↦
+      let lies : LiveBytes held.block held.total (h.start + 16) (h.start + 16 + size_of h.items) =
+      live_bytes held.block held.total (h.start + 16) h.items heap.totals held.live in
+      absurd (both_ways (starts_inside h at) outside
+      (rw (le-leb (h.start + 16) at (omega (arith, held.low, lies.low)), lt-ltb at (h.start + 16 + (h.end - 16)) (omega (arith, held.low, lies.low, held.high, lies.high, heap.inside, some))) refl))
+]
+
+begun_kept : (s : Store) (h : HeapList) (at size : ℕ) → IsSound s → find_heap h.start s.heaps ≡ Some h → starts_inside h at ≡ false
+    → is_heap_region s.bytes at size ≡ true → overlaps at size s ≡ false → KeepsHeap h s (begun_with kind.Heap s at size)
+begun_kept s h at size sound found outside region none =
     let can : CanHold s.bytes at size = can_hold s.bytes at size region in
-    let clear : AreClear at size h.start h.end = clear_of-found at size h.start s.heaps h (clear_of_heaps at size s.heaps (unmet at size s none).0.0) found in
+    let clear : AreClear at size h.start h.end =
+    clear_of_made s.bytes h at size (omega (arith, can.low)) (found_heap s.bytes h.start s.heaps h sound.heaps found)
+    (uncrossed_found at size h.start s.heaps h (unlapped at size s none).0.0 found) outside in
     record {
       found = found_more h.start s.heaps h (record { kind = kind.Heap; start = at; end = size; items = [] }) found;
       bytes = λ a here. heap_beside s.bytes.at at size [] a can.aligned tt
@@ -200,20 +374,28 @@ begun_kept s h at size found region none =
       anchors = λ a here. refl;
     }
 
-other_left : (s : Store) (h k : HeapList) → AreTwo s h k → Leave (λ t. IsSound t → KeepsHeap h s t) s k
-other_left s h k two = record {
-  held = λ items sound. held_kept s h k items two sound;
-  moved = λ c block old new items total less is sound.
-      moved_kept s h k c block old new items two (is_claim s.bytes k new c two.heap total is) less sound;
-  ended = λ end clear sound. ended_kept s h k end two;
+other_left : (s : Store) (h k : HeapList) → AreCalled s h k → Leave (λ t. IsSound t → IsNotForgotten t h.start → KeepsHeap h s t) s k
+other_left s h k called = record {
+  same = λ _ _. record { found = called.one; bytes = λ a here. refl; anchors = λ a here. refl };
+  held = λ items sound _. held_kept s s h k items called.one called.two called.apart called.outside refl refl sound;
+  lost = λ block total from items given. lost_kept s h k block total from items called given;
+  moved = λ c block old new total items is given sound _. moved_left s h k c block old new total items called is given sound;
+  ended = λ end clear _ _. ended_kept s h k end called;
 }
 
+pub another : (h : HeapList) (heap : ℕ) (why : HeapReason) → is_call_to h.start heap why ≡ false → is_on_heap why ≡ true → h.start ≢ heap
+another h heap why other on same = both_ways (is_on_heap why && heap == h.start) other (rw (on, eq-eqb heap h.start (sym same)) refl)
+
 pub others_kept : OtherCallsKeepHeap
-others_kept s t h heap why block size answer sound sound' found other is =
-    let P : Store → Type 0 = λ u. IsSound u → KeepsHeap h s u in
-    let apart : is_on_heap why ≡ true → h.start ≢ heap = λ on same.
-    both_ways (is_on_heap why && heap == h.start) other (rw (on, eq-eqb heap h.start (sym same)) refl) in
+others_kept s t h heap why block size answer sound sound' found other outside is still =
+    let P : Store → Type 0 = λ u. IsSound u → IsNotForgotten u h.start → KeepsHeap h s u in
     subst (OnDone (ℕ × ℕ) P) is
-    (call_done P s heap why block size (λ _. record { found = found; bytes = λ a here. refl; anchors = λ a here. refl })
-    (λ on k start found'. other_left s h k (are_two s h k sound found found' (λ same. apart on (same ∙ start))))
-    (λ region none _. begun_kept s h heap size found region none)) sound'
+    (call_done P s heap why block size
+    (λ on k start found'. other_left s h k (record {
+      sound = sound;
+      one = found;
+      two = found';
+      apart = λ same. another h heap why other on (same ∙ start);
+      outside = ap (starts_inside h) start ∙ outside;
+    }))
+    (λ region none _ _. begun_kept s h heap size sound found outside region none)) sound' still

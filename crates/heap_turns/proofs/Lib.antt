@@ -5,4 +5,6 @@ pub mod KeptHeaps
 pub mod Likeness
 pub mod OwnCalls
 pub mod Lists
+pub mod NoHeapInside
 pub mod Plain
+pub mod WholeHeaps

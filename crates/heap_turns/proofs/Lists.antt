@@ -1,24 +1,31 @@
 -- Lists of calls, on a heap and on others.
-use Rattle.std.proofs.Common.{ℕ, ◌≡◌, ◌==◌, ◌&&◌, ◌∙◌, Bool, true, false, List, [], ◌∷◌, ◌++◌, Option, None, Some, Result, Ok, Err, refl, sym, ap, subst, inl, inr, if◌then◌else◌}
+use Rattle.std.proofs.Common.{ℕ, ◌≡◌, ◌==◌, ◌∙◌, true, false, List, [], ◌∷◌, ◌++◌, Some, Result, Ok, Err, refl, sym, ap, subst, inl, inr}
 use Rattle.std.proofs.lemmas.Bool.{and_parts, cases_Bool, eqb-true}
 use Rattle.profile.specs.declared.error.ErrorNumber.{ErrorNumber}
 use Rattle.profile.specs.declared.reason.HeapReason.{HeapReason}
-use Rattle.address_map.specs.declared.region.Region.{Region}
 use Rattle.os_heap_lists.specs.Heap.{HeapList}
 use Rattle.os_heap.specs.Store.{Store, IsSound, find_heap}
 use Rattle.heap_turns.proofs.DoneCalls.{OnDone, call_done}
-use Rattle.heap_turns.proofs.KeptHeaps.{others_kept, own_kept}
+use Rattle.heap_turns.proofs.WholeHeaps.{others_whole}
+use Rattle.heap_turns.proofs.KeptHeaps.{own_kept}
 use Rattle.heap_turns.proofs.Likeness.{bytes_like}
+use Rattle.heap_turns.proofs.NoHeapInside.{whole_alone}
 use Rattle.heap_turns.proofs.OwnCalls.{own_turns}
 use Rattle.heap_turns.specs.Alone.{Alone, HeapCall, alone_in, call_given}
-use Rattle.heap_turns.specs.Laws.{AnswerAlike, AreImagesFull, HasHeapStill, HeapsStandAlone, IsGuestHeap, KeepsHeap, StandsAlone, StoresAnswerAlike}
-use Rattle.heap_turns.specs.Lists.{AreSound, StoreCall, after, after_all, calls_on, given_in, is_call_to, is_on_heap, outcome, replies_on, store_or}
+use Rattle.heap_turns.specs.Laws.{AreImagesFull, AreLeftWhole, HasHeapStill, HeapsStandAlone, IsGuestHeap, IsLeftWhole, KeepsHeap, StandsAlone, StoresAnswerAlike}
+use Rattle.heap_turns.specs.Lists.{AreSound, StoreCall, after, calls_on, given_in, is_call_to, is_on_heap, outcome, replies_on, store_or}
 use Rattle.heap_turns.specs.Turns.{Reply, Turn, alone_or, alone_then, call_on, left_by, replied, replies, reply_of, turned}
 
 -- a call leaves the other records
 others_same : (s : Store) (c : StoreCall) → OnDone (ℕ × ℕ) (λ t. t.others ≡ s.others) (outcome s c)
-others_same s c = call_done (λ t. t.others ≡ s.others) s c.heap c.why c.block c.size refl
-    (λ on k start found. record { held = λ items. refl; moved = λ c block old new items total less is. refl; ended = λ end clear. refl })
+others_same s c = call_done (λ t. t.others ≡ s.others) s c.heap c.why c.block c.size
+    (λ on k start found. record {
+      same = refl;
+      held = λ items. refl;
+      lost = λ block total from items given. refl;
+      moved = λ c block old new total items is given. refl;
+      ended = λ end clear. refl;
+    })
     (λ region none. refl)
 
 -- where a heap is found that is the guest's, and alone is the one given
@@ -43,6 +50,7 @@ now_own s h why block size (Ok r) guest on is others sound =
         found = subst (λ (p : ℕ). find_heap p r.0.heaps ≡ Some still.heap) (sym still.starts) still.found;
         own = still.own;
         anchors = still.anchors;
+        alone = still.alone;
         images = subst AreImagesFull (sym others) guest.images;
       };
       is = sym (ap (alone_or (alone_in s h) r.0) still.found);
@@ -50,10 +58,11 @@ now_own s h why block size (Ok r) guest on is others sound =
 
 -- and after another
 now_other : (s : Store) (h : HeapList) (c : StoreCall) (r : Result (Store × (ℕ × ℕ)) ErrorNumber) → IsGuestHeap s h → is_call_to h.start c.heap c.why ≡ false
-    → outcome s c ≡ r → OnDone (ℕ × ℕ) (λ t. t.others ≡ s.others) r → IsSound (store_or s r) → IsNow (store_or s r) h.start (alone_in s h)
-now_other s h c (Err e) guest other is others sound = record { heap = h; starts = refl; guest = guest; is = refl }
-now_other s h c (Ok r) guest other is others sound =
-    let kept : KeepsHeap h s r.0 = others_kept s r.0 h c.heap c.why c.block c.size r.1 guest.sound sound guest.found other is in
+    → outcome s c ≡ r → OnDone (ℕ × ℕ) (λ t. t.others ≡ s.others) r → IsSound (store_or s r) → IsLeftWhole (store_or s r) h.start
+    → IsNow (store_or s r) h.start (alone_in s h)
+now_other s h c (Err e) guest other is others sound left = record { heap = h; starts = refl; guest = guest; is = refl }
+now_other s h c (Ok r) guest other is others sound left =
+    let kept : KeepsHeap h s r.0 = others_whole s r.0 h c.heap c.why c.block c.size r.1 guest.sound sound guest.found other is left in
     record {
       heap = h;
       starts = refl;
@@ -62,6 +71,7 @@ now_other s h c (Ok r) guest other is others sound =
         found = kept.found;
         own = guest.own;
         anchors = λ a here. kept.anchors a here ∙ guest.anchors a here;
+        alone = whole_alone r.0 h kept.found left;
         images = subst AreImagesFull (sym others) guest.images;
       };
       is = ap (λ (b : ℕ → ℕ). let w : Alone = record { heap = h; bytes = b } in w) (bytes_like h.start h.end r.0.bytes.at s.bytes.at kept.bytes);
@@ -103,10 +113,11 @@ stands_past s h c cs other rest =
     }
 
 one_step : (s : Store) (h : HeapList) (c : StoreCall) (cs : List StoreCall) → IsGuestHeap s h → IsSound (after s c)
+    → (is_call_to h.start c.heap c.why ≡ false → IsLeftWhole (after s c) h.start)
     → ((w : Alone) → IsNow (after s c) h.start w → StandsAlone (after s c) h.start w cs) → StandsAlone s h.start (alone_in s h) (c ∷ cs)
-one_step s h c cs guest sound rest = elim (cases_Bool (is_call_to h.start c.heap c.why)) [
+one_step s h c cs guest sound left rest = elim (cases_Bool (is_call_to h.start c.heap c.why)) [
   | inr other ↦ stands_past s h c cs other
-      (rest (alone_in s h) (now_other s h c (outcome s c) guest other refl (others_same s c) sound))
+      (rest (alone_in s h) (now_other s h c (outcome s c) guest other refl (others_same s c) sound (left other)))
   | inl own ↦
       let parts = and_parts (is_on_heap c.why) (c.heap == h.start) own in
       let here : c.heap ≡ h.start = eqb-true c.heap h.start parts.1 in
@@ -121,9 +132,9 @@ one_step s h c cs guest sound rest = elim (cases_Bool (is_call_to h.start c.heap
 ]
 
 -- all of them
-stands : (cs : List StoreCall) (s : Store) (h : HeapList) (start : ℕ) (w : Alone) → h.start ≡ start → IsGuestHeap s h → AreSound s cs → alone_in s h ≡ w
-    → StandsAlone s start w cs
-stands [] s h start w starts guest sound is = record {
+stands : (cs : List StoreCall) (s : Store) (h : HeapList) (start : ℕ) (w : Alone) → h.start ≡ start → IsGuestHeap s h → AreSound s cs → AreLeftWhole s start cs
+    → alone_in s h ≡ w → StandsAlone s start w cs
+stands [] s h start w starts guest sound left is = record {
   replies = refl;
   still = record {
     heap = h;
@@ -131,21 +142,23 @@ stands [] s h start w starts guest sound is = record {
     found = subst (λ (p : ℕ). find_heap p s.heaps ≡ Some h) starts guest.found;
     own = guest.own;
     anchors = guest.anchors;
+    alone = guest.alone;
   };
   now = is;
 }
-stands (c ∷ cs) s h start w starts guest sound is =
+stands (c ∷ cs) s h start w starts guest sound left is =
+    let left' : AreLeftWhole s h.start (c ∷ cs) = subst (λ (p : ℕ). AreLeftWhole s p (c ∷ cs)) (sym starts) left in
     let own : StandsAlone s h.start (alone_in s h) (c ∷ cs) =
-    one_step s h c cs guest sound.0 (λ v now. stands cs (after s c) now.heap h.start v now.starts now.guest sound.1 now.is) in
+    one_step s h c cs guest sound.0 left'.0 (λ v now. stands cs (after s c) now.heap h.start v now.starts now.guest sound.1 left'.1 now.is) in
     subst (λ (p : ℕ). StandsAlone s p w (c ∷ cs)) starts (subst (λ (v : Alone). StandsAlone s h.start v (c ∷ cs)) is own)
 
 pub stand_alone : HeapsStandAlone
-stand_alone s h cs guest sound = stands cs s h h.start (alone_in s h) refl guest sound refl
+stand_alone s h cs guest sound left = stands cs s h h.start (alone_in s h) refl guest sound left refl
 
 pub answer_alike : StoresAnswerAlike
-answer_alike s t h cs ds guest guest' sound sound' same given =
-    let one : StandsAlone s h.start (alone_in s h) cs = stand_alone s h cs guest sound in
-    let two : StandsAlone t h.start (alone_in t h) ds = stand_alone t h ds guest' sound' in
+answer_alike s t h cs ds guest guest' sound sound' left left' same given =
+    let one : StandsAlone s h.start (alone_in s h) cs = stand_alone s h cs guest sound left in
+    let two : StandsAlone t h.start (alone_in t h) ds = stand_alone t h ds guest' sound' left' in
     let both : replies (alone_in s h) (calls_on s h.start cs) ≡ replies (alone_in t h) (calls_on t h.start ds) =
     ap (λ (w : Alone). replies w (calls_on s h.start cs)) same ∙ ap (replies (alone_in t h)) given in
     let left : left_by (alone_in s h) (calls_on s h.start cs) ≡ left_by (alone_in t h) (calls_on t h.start ds) =

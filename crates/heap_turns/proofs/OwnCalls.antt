@@ -1,6 +1,6 @@
 -- A call on a guest's heap is a turn of that heap alone.
-use Rattle.std.proofs.Common.{ℕ, ◌≡◌, ◌+◌, ◌-◌, ◌≤◌, ◌<◌, ◌∙◌, Bool, true, false, List, Option, Some, None, ok_or, Result, Ok, Err, refl, sym, ap, subst, inl, inr, arith, if◌then◌else◌}
-use Rattle.std.proofs.lemmas.Bool.{cases_Bool, cases_lt, false≢true, leb-false, le-leb, lt-ltb}
+use Rattle.std.proofs.Common.{ℕ, ◌≡◌, ◌+◌, ◌-◌, ◌≤◌, ◌<◌, ◌∙◌, Bool, true, false, List, [], ◌∷◌, Option, Some, None, ok_or, Result, Ok, Err, refl, sym, ap, subst, inl, inr, arith}
+use Rattle.std.proofs.lemmas.Bool.{cases_Bool, cases_lt, false_from_ne_true, false≢true, leb-false, le-leb, lt-ltb, or_from}
 use Rattle.std.specs.Prelude.{nat_le}
 use Rattle.profile.specs.ErrorNames.{error_code}
 use Rattle.profile.specs.Outcome.{bind}
@@ -14,24 +14,28 @@ use Rattle.address_map.specs.Items.{is_total, size_of}
 use Rattle.address_map.specs.Records.{anchor_among}
 use Rattle.address_map.specs.declared.item.Item.{Item}
 use Rattle.os_heap_lists.proofs.LiveBlocks.{LiveBytes, live_bytes}
+use Rattle.os_heap_lists.proofs.Reading.{total_facts}
 use Rattle.os_heap_lists.proofs.Spelling.{total_of-numbers}
 use Rattle.os_heap_lists.specs.Heap.{HeapList, IsHeapIn, with_heap}
 use Rattle.os_heap_lists.specs.Lists.{Claim, changed_by, claimed, live_total, released, resized_in_place, round_up_8, total_for}
 use Rattle.os_heap.proofs.Apart.{range_parts}
-use Rattle.os_heap.proofs.Calls.{claimed_in, released_in}
+use Rattle.os_heap.proofs.Calls.{claimed_in}
+use Rattle.os_heap.proofs.Forgetting.{StartsIn, starts_so}
 use Rattle.os_heap.proofs.Found.{found_heap}
 use Rattle.os_heap.proofs.KeptPayloads.{IsClaim, is_claim}
 use Rattle.os_heap.proofs.Moving.{found_held}
 use Rattle.os_heap.specs.Calls.{block_sized, bytes_held, changed, copied, described, gave_back, got, guests_total, handed_over, holding, moved, resized, resized_or_moved}
+use Rattle.os_heap.specs.Forgetting.{forgot, holds_heap, starts_in}
 use Rattle.os_heap.specs.Store.{Store, find_heap, has_image}
 use Rattle.heap_turns.proofs.ChangedSize.{changed_alike, found_alone}
 use Rattle.heap_turns.proofs.GuestImages.{guest_images}
 use Rattle.heap_turns.proofs.Likeness.{AreAlike, AreLike, IsSameHeap, bound_alike, by_both, alone_alike, heap_like, held_alike, with_list}
-use Rattle.heap_turns.proofs.Plain.{IsBare, IsGuests, block_bare, gave_plain, got_plain, part_bare, sized_to}
-use Rattle.heap_turns.specs.Alone.{Alone, Growth, alone_in, bytes_in, call_given, growth_given}
+use Rattle.heap_turns.proofs.NoHeapInside.{held_listed}
+use Rattle.heap_turns.proofs.Plain.{IsBare, IsGuests, block_bare, block_forgot, block_unheld, freed_in, gave_plain, got_plain, part_bare, sized_to}
+use Rattle.heap_turns.specs.Alone.{Alone, Growth, alone_in, bytes_in, growth_given}
 use Rattle.heap_turns.specs.Laws.{IsGuestHeap, OwnCallsAreTurns}
 use Rattle.heap_turns.specs.Lists.{is_on_heap}
-use Rattle.heap_turns.specs.Turns.{Answered, Refused, Turn, alone_or, call_on, growth_or_none, no_growth, others_met, replied, store_with, turned}
+use Rattle.heap_turns.specs.Turns.{Answered, Refused, Turn, alone_or, call_on, growth_or_none, no_growth, others_met, replied, store_with}
 
 -- Two stores that a call on a heap can't tell apart.
 record AreTwins (s u : Store) (h : HeapList) : Type 0 where
@@ -97,7 +101,7 @@ claimed_alike s u h None t = refl
 claimed_alike s u h (Some c) t = (refl, same_held s u h c.items t.one.found t.two.found t.like)
 
 released_alike : (s u : Store) (h : HeapList) (o : Option (List Item)) → find_heap h.start s.heaps ≡ Some h → find_heap h.start u.heaps ≡ Some h
-    → AreLike h.start h.end s.bytes.at u.bytes.at → AreAlike (Unit {0}) h (released_in s h false o) (released_in u h false o)
+    → AreLike h.start h.end s.bytes.at u.bytes.at → AreAlike (Unit {0}) h (freed_in s h o) (freed_in u h o)
 released_alike s u h None one two like = refl
 released_alike s u h (Some items) one two like = (refl, same_held s u h items one two like)
 
@@ -123,6 +127,7 @@ copy_bare : (s : Store) (h : HeapList) (c : Claim) (new from to len : ℕ) → I
 copy_bare s h c new from to len bare claim = record {
   found = found_held h.start c.items s.heaps h bare.found;
   anchors = bare.anchors;
+  alone = held_listed h.start (h.start + 16) (h.end - 16) c.items s.heaps ∙ bare.alone;
   totals = claim.totals;
   inside = claim.inside;
 }
@@ -145,20 +150,34 @@ handed_alike s u h block old new c t live claim =
 moved_by : (s u : Store) (h : HeapList) (block old new : ℕ) (o : Option Claim) → AreTwins s u h → live_total block (h.start + 16) h.items ≡ Some old
     → is_total new ≡ true → claimed new (h.end - 16) h.items ≡ o → AreAlike ℕ h (moved s h block old new) (moved u h block old new)
 moved_by s u h block old new None t live total none = rw none refl
-moved_by s u h block old new (Some c) t live total some = rw some (handed_alike s u h block old new c t live (is_claim s.bytes h new c t.heap total some))
+moved_by s u h block old new (Some c) t live total some =
+    rw (some, block_unheld s h block old t.one live, block_unheld u h block old t.two live)
+    (handed_alike s u h block old new c t live (is_claim s.bytes h new c t.heap total some))
+
+same_left : (s u : Store) (h : HeapList) (block old from : ℕ) (items : List Item) → AreTwins s u h → live_total block (h.start + 16) h.items ≡ Some old
+    → block ≤ from → IsSameHeap h (holding (forgot s block old from) h items) (holding (forgot u block old from) h items)
+same_left s u h block old from items t live past =
+    subst (λ (v : Store). IsSameHeap h (holding v h items) (holding (forgot u block old from) h items)) (sym (block_forgot s h block old from t.one live past))
+    (subst (λ (v : Store). IsSameHeap h (holding s h items) (holding v h items)) (sym (block_forgot u h block old from t.two live past))
+    (same_held s u h items t.one.found t.two.found t.like))
 
 in_place_alike : (s u : Store) (h : HeapList) (block old new : ℕ) (o : Option (List Item)) → AreTwins s u h → live_total block (h.start + 16) h.items ≡ Some old
     → is_total new ≡ true → AreAlike ℕ h (resized_or_moved s h block old new o) (resized_or_moved u h block old new o)
 in_place_alike s u h block old new None t live total =
     rw (block_bare s h block old t.one live, block_bare u h block old t.two live) (moved_by s u h block old new (claimed new (h.end - 16) h.items) t live total refl)
-in_place_alike s u h block old new (Some items) t live total = elim (cases_lt new old) [
-  | inl less ↦ rw (part_bare s h block old (block - 4 + new) (old - new) t.one live (omega arith) (omega arith), part_bare u h block old (block - 4 + new) (old - new) t.two live (omega arith) (omega arith))
-      (refl, same_held s u h items t.one.found t.two.found t.like)
-  | inr more ↦ rw (among_few s.anchor (block - 4 + new) (old - new) (omega arith), among_few u.anchor (block - 4 + new) (old - new) (omega arith))
-      (refl, same_held s u h items t.one.found t.two.found t.like)
-] where
-  among_few : (anchor : ℕ → Bool) (at len : ℕ) → len ≡ 0 → anchor_among anchor at len ≡ false
-  among_few anchor at len none = among_none anchor at len (λ a low high. absurd (omega arith))
+in_place_alike s u h block old new (Some items) t live total =
+    let from : ℕ = block - 4 + new in
+    let past : block ≤ from = omega (arith, (total_facts new total).0) in
+    let same : IsSameHeap h (holding (forgot s block old from) h items) (holding (forgot u block old from) h items) =
+    same_left s u h block old from items t live past in
+    elim (cases_lt new old) [
+      | inl less ↦ rw (part_bare s h block old from (old - new) t.one live (omega arith) (omega (arith, less)), part_bare u h block old from (old - new) t.two live (omega arith) (omega (arith, less)))
+          (refl, same)
+      | inr more ↦ rw (among_few s.anchor from (old - new) (omega (arith, more)), among_few u.anchor from (old - new) (omega (arith, more)))
+          (refl, same)
+    ] where
+      among_few : (anchor : ℕ → Bool) (at len : ℕ) → len ≡ 0 → anchor_among anchor at len ≡ false
+      among_few anchor at len none = among_none anchor at len (λ a low high. absurd (omega arith))
 
 resized_plain : (s : Store) (h : HeapList) (block change : ℕ) → IsBare s h → IsGuests s h block
     → resized s h.start block change ≡ bind (ok_or (live_total block (h.start + 16) h.items) HeapNotABlock) (sized_to s h block change)
@@ -217,12 +236,18 @@ twins : (s : Store) (h : HeapList) (g : Growth) → IsGuestHeap s h → AreTwins
 twins s h g guest =
     let heap : IsHeapIn s.bytes h.start h.end h.items = found_heap s.bytes h.start s.heaps h guest.sound.heaps guest.found in
     record {
-      one = record { found = guest.found; anchors = guest.anchors; totals = heap.totals; inside = heap.inside };
-      two = record { found = found_alone (alone_in s h) g; anchors = λ a here. refl; totals = heap.totals; inside = heap.inside };
+      one = record { found = guest.found; anchors = guest.anchors; alone = guest.alone; totals = heap.totals; inside = heap.inside };
+      two = record { found = found_alone (alone_in s h) g; anchors = λ a here. refl; alone = none_alone h; totals = heap.totals; inside = heap.inside };
       heap = heap;
       guests = λ block. (λ total live. guest_images s h block total guest live, λ total live. no_image h block g.meets);
       like = λ a here. rw here refl;
     } where
+      none_alone : (h : HeapList) → holds_heap (h ∷ []) (h.start + 16) (h.end - 16) ≡ false
+      none_alone h = or_from (starts_in (h.start + 16) (h.end - 16) h) false
+          (false_from_ne_true (starts_in (h.start + 16) (h.end - 16) h) (λ is.
+          let starts : StartsIn (h.start + 16) (h.end - 16) h = starts_so (h.start + 16) (h.end - 16) h is in
+          omega (arith, starts.low))) refl
+
       no_image : (h : HeapList) (block : ℕ) (met : Bool) → has_image block (others_met h met) ≡ false
       no_image h block true = refl
       no_image h block false = refl

@@ -6,7 +6,7 @@ use Rattle.profile.specs.declared.reason.HeapReason.TheVariants as reason
 use Rattle.address_map.specs.Bytes.{in_range}
 use Rattle.os_heap_lists.specs.Heap.{HeapList}
 use Rattle.os_heap_lists.specs.Lists.{changed_by}
-use Rattle.os_heap.specs.Ranges.{are_mapped, meets_any}
+use Rattle.os_heap.specs.Ranges.{are_mapped, overgrows}
 use Rattle.os_heap.specs.Store.{Store}
 
 -- the bytes of a range; elsewhere a byte counts as 0
@@ -21,8 +21,8 @@ pub record Alone : Type 0 where
 abbrev pub alone_in : Store → HeapList → Alone
 alone_in s h = record { heap = h; bytes = bytes_in h.start h.end s.bytes.at }
 
--- What is given for a growth: whether all added bytes are mapped, whether they meet what a heap that is made may not meet (another heap, another
--- recorded range, an anchor), and what they are.
+-- What is given for a growth: whether all added bytes are mapped, whether the heap may not grow by them, and what they are. It may not where they
+-- meet another recorded range, an anchor or a heap that it does not lie in, nor where a heap that it lies in does not hold them in the same block.
 pub record Growth : Type 0 where
   pub mapped : Bool
   pub meets : Bool
@@ -31,7 +31,7 @@ pub record Growth : Type 0 where
 abbrev pub growth_to : Store → HeapList → ℕ → Growth
 growth_to s h end = record {
   mapped = are_mapped s.bytes.mapped (h.start + h.end) (end - h.end);
-  meets = meets_any (h.start + h.end) (end - h.end) s;
+  meets = overgrows s h end;
   bytes = bytes_in (h.start + h.end) (end - h.end) s.bytes.at;
 }
 

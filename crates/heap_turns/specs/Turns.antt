@@ -23,7 +23,7 @@ call_on s heap reason.Resize block size = bind (resized s heap block size) (λ r
 call_on s heap reason.ChangeSize block size = bind (changed s heap size) (λ r. Ok (r.0, (block, size)))
 call_on s heap reason.BlockSize block size = bind (block_sized s heap block) (λ n. Ok (s, (block, n)))
 
--- The store that has the heap alone, with what is given for a growth. What a growth meets is a byte behind the heap's end that is taken.
+-- The store that has the heap alone, with what is given for a growth. Where it may not grow, a byte behind the heap's end is taken.
 abbrev pub no_growth : Growth
 no_growth = record { mapped = false; meets = false; bytes = λ a. 0 }
 

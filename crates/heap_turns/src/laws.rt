@@ -8,30 +8,32 @@ ghost use Rattle.heap_turns.specs.Laws.{
   StoresAnswerAlike,
 };
 
-/// A call on a guest's heap in which no anchor lies answers what one turn of the heap alone answers, and leaves it that
-/// list and those bytes.
+/// A call on a guest's heap in which no anchor and no heap lies answers what one turn of the heap alone answers, and
+/// leaves it that list and those bytes.
 pub fn own_calls_are_turns()
     ensures { OwnCallsAreTurns }
 {}
 
-/// The heap is a guest's after such a call too, and no anchor lies in it.
+/// The heap is a guest's after such a call too, and no anchor and no heap lies in it.
 pub fn own_calls_keep_heap()
     ensures { OwnCallsKeepHeap }
 {}
 
-/// A call on another heap, or one that makes a heap anywhere, leaves it its list, its bytes and its anchors.
+/// A call on another heap, or one that makes a heap, leaves it its list, its bytes and its anchors, where that other heap
+/// does not lie in it, and it is not forgotten. Such a call may be one on a heap round it.
 pub fn other_calls_keep_heap()
     ensures { OtherCallsKeepHeap }
 {}
 
-/// So over any list of calls of OS_Heap, on this heap and on others, the replies of those on it are those of the heap
-/// alone, given its first list and bytes and these calls, and so are its last list and bytes.
+/// So over any list of calls of OS_Heap, on this heap and on others, none of which forgets it or makes a heap in it: the
+/// replies of those on it are those of the heap alone, given its first list and bytes and these calls, and so are its
+/// last list and bytes.
 pub fn heaps_stand_alone()
     ensures { HeapsStandAlone }
 {}
 
 /// Where the heap alone is the same in two stores, and the calls on it are given the same in both, they answer the same
-/// in both, and leave the same heap, whatever is called on other heaps between.
+/// in both, and leave the same heap, whatever else is called between that neither forgets it nor makes a heap in it.
 pub fn stores_answer_alike()
     ensures { StoresAnswerAlike }
 {}

@@ -1,5 +1,5 @@
 -- The calls on dynamic areas keep a guest's heap.
-use Rattle.std.proofs.Common.{if◌then◌else◌, ℕ, ◌+◌, ◌-◌, ◌*◌, ◌/◌, ◌==◌, ◌||◌, ◌≡◌, ◌≢◌, ◌≤◌, ◌∙◌, false, Option, Some, None, Ok, Err, refl, sym, ap, subst, inl, inr, arith}
+use Rattle.std.proofs.Common.{if◌then◌else◌, ℕ, ◌+◌, ◌-◌, ◌*◌, ◌/◌, ◌==◌, ◌||◌, ◌≡◌, ◌≢◌, ◌≤◌, ◌∙◌, false, Option, Some, None, is_some, Ok, Err, refl, sym, ap, subst, inl, inr, arith}
 use Rattle.std.proofs.Math.Nat.{min-le_right}
 use Rattle.std.proofs.lemmas.Bool.{both_ways, cases_Bool, eqb-false, eqb-true, false_from_ne_true, ltb-false, or_parts}
 use Rattle.std.specs.Prelude.{min, nat_lt, ok_or}
@@ -7,6 +7,7 @@ use Rattle.profile.specs.Outcome.{bind}
 use Rattle.profile.specs.declared.error.ErrorNumber.TheVariants.{AreaInUse, AreaUnknown}
 use Rattle.address_map.specs.Bytes.{in_range}
 use Rattle.os_heap_lists.specs.Heap.{HeapList}
+use Rattle.os_heap.proofs.Found.{found_start}
 use Rattle.os_heap.proofs.Stores.{clear_of-found}
 use Rattle.os_heap.specs.Calls.{ending}
 use Rattle.os_heap.specs.Store.{Store, find_heap}
@@ -20,12 +21,13 @@ use Rattle.dynamic_areas.specs.Changing.{AreLoose, change_answer, change_of, end
 use Rattle.dynamic_areas.specs.Creating.{pages_for}
 use Rattle.dynamic_areas.specs.Ground.{Estate}
 use Rattle.dynamic_areas.specs.Remapped.{with_pages_at, without_pages_at}
+use Rattle.heaps_kept.proofs.FoundHeaps.{other_ended}
 use Rattle.heaps_kept.proofs.Growing.{ended_outside}
-use Rattle.heaps_kept.proofs.Guests.{estates_fit, outside_keeps}
+use Rattle.heaps_kept.proofs.Guests.{estates_fit, guest_elsewhere, outside_keeps}
 use Rattle.heaps_kept.specs.AreaLaws.{AreaCallsKeepHeap}
 use Rattle.heaps_kept.specs.FitEstates.{IsFitEstate}
 use Rattle.heaps_kept.specs.GuestLaws.{HasGuestHeap}
-use Rattle.heap_turns.specs.Laws.{KeepsHeap}
+use Rattle.heap_turns.specs.Laws.{IsNotForgotten, KeepsHeap}
 
 -- nothing is changed, or one change after another
 pub heap_same : (h : HeapList) (s : Store) → find_heap h.start s.heaps ≡ Some h → KeepsHeap h s s
@@ -65,9 +67,12 @@ module _ (d : Estate) (h : HeapList) (g : HasGuestHeap d h) where
   end_keeps : (end : ℕ) → KeepsHeap h d.store (with_heap_end d.store end)
   end_keeps end =
       let f : IsFitEstate d = estates_fit d g.estate in
-      let kept : KeepsHeap h d.store (ending d.store f.store.heap end) =
-      outside_keeps d (ending d.store f.store.heap end) h g
-      (ended_outside (4096 * f.area.pages) end d.store f.store.heap f.store f.store.found) in
+      let k : HeapList = f.store.heap in
+      let start : k.start ≡ 0x01800000 = found_start 0x01800000 d.store.heaps k f.store.found in
+      let still : IsNotForgotten (ending d.store k end) h.start =
+      ap is_some (other_ended h.start k.start end d.store.heaps (λ is. guest_elsewhere d h g (is ∙ start)) ∙ g.found) in
+      let kept : KeepsHeap h d.store (ending d.store k end) =
+      outside_keeps d (ending d.store k end) h g (ended_outside (4096 * f.area.pages) end d.store k f.store f.store.found) (λ lies. still) in
       subst (λ (o : Option HeapList). KeepsHeap h d.store (ended_by d.store end o)) (sym f.store.found) kept
 
   -- the end may be given before the pages are mapped
@@ -172,7 +177,8 @@ module _ (d : Estate) (h : HeapList) (g : HasGuestHeap d h) where
 
 pub area_calls_keep : AreaCallsKeepHeap
 area_calls_keep d e h g = record {
-  create = λ w name made done store. subst (λ (t : Store). KeepsHeap h d.store t) (sym store) (mapped_keeps h d.store made.base (4096 * pages_for w.size) g.found);
+  create = λ w name made done store.
+      subst (λ (t : Store). KeepsHeap h d.store t) (sym store) (mapped_keeps h d.store made.base (4096 * pages_for w.size) g.found);
   remove = λ number done store. removed_keeps d h g e number done store;
   change = λ number amount store. changed_keeps d h g e number amount store;
 }

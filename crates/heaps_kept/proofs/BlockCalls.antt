@@ -1,5 +1,5 @@
 -- Blocks of the module area, over claims, releases and new images.
-use Rattle.std.proofs.Common.{ℕ, ◌+◌, ◌-◌, ◌*◌, ◌≡◌, ◌≢◌, ◌≤◌, ◌<◌, ◌∙◌, true, false, List, length, Option, Some, is_some, Result, Ok, Err, refl, sym, ap, subst, inl, inr, arith}
+use Rattle.std.proofs.Common.{ℕ, ◌+◌, ◌-◌, ◌*◌, ◌≡◌, ◌≢◌, ◌≤◌, ◌<◌, ◌∙◌, true, false, List, length, Option, Some, None, is_some, Result, Ok, Err, refl, sym, ap, subst, inl, inr, arith}
 use Rattle.std.specs.Prelude.{nat_le, nat_lt}
 use Rattle.std.proofs.lemmas.Bool.{cases_Bool, false_from_ne_true, false≢true, le-leb, lt-ltb}
 use Rattle.profile.specs.Outcome.{bind}
@@ -15,7 +15,8 @@ use Rattle.os_heap_lists.specs.Heap.{AreTotals, HeapList}
 use Rattle.os_heap_lists.specs.Lists.{Claim, claimed, live_total, released, total_for}
 use Rattle.os_heap.proofs.Apart.{range_parts}
 use Rattle.os_heap.proofs.Found.{found_start}
-use Rattle.os_heap.specs.Calls.{block_sized, ending, gave_back, got, holding, holds_anchor, unless_image}
+use Rattle.os_heap.specs.Calls.{block_sized, ending, gave_back, got, holding, holds_anchor, total_or_0, unless_image}
+use Rattle.os_heap.specs.Forgetting.{forgot}
 use Rattle.os_heap.specs.Store.{Store, find_heap, has_image}
 use Rattle.dynamic_areas.proofs.ModuleArea.{find_ended}
 use Rattle.dynamic_areas.specs.declared.area.Area.{Area}
@@ -24,8 +25,10 @@ use Rattle.dynamic_areas.specs.Ground.{Estate}
 use Rattle.rma.specs.Calls.{area_pages, area_room, grown_by, grown_to, in_area, is_full, pages_short, rma_base, rma_claimed, rma_freed, with_store}
 use Rattle.rma.specs.Images.{image_recorded, with_image}
 use Rattle.rma.specs.NewImages.{image_copied, image_made}
+use Rattle.heap_turns.proofs.Plain.{unlive}
 use Rattle.heaps_kept.proofs.Blocks.{AreSame, beside_same, held_total, release_were, same_all, same_both, same_stay, stay_both, unspelled}
 use Rattle.heaps_kept.proofs.HeapCalls.{OnDone, items_of_fit, on_if, on_some, unless_some}
+use Rattle.heaps_kept.proofs.Holding.{written_is_fit}
 use Rattle.heaps_kept.proofs.Lists.{HasRoomFor, HasRoomIfSome, released_room}
 use Rattle.heaps_kept.proofs.ModuleArea.{OnEstate, OnGrown, to_fit}
 use Rattle.heaps_kept.specs.BlockLaws.{BlockCallsKeep, StayLive, WereLive, block_total, total_in}
@@ -85,17 +88,26 @@ got_makes limit size s f =
 abbrev pub WereLiveIn : {A : Type 0} → Store → Store × A → Type 0
 WereLiveIn s x = WereLive s x.0
 
+were_by_total : (limit block : ℕ) (s : Store) (h : HeapList) (items : List Item) (o : Option ℕ) → IsFitStore limit s → find_heap 0x01800000 s.heaps ≡ Some h
+    → released block (h.start + 16) h.items ≡ Some items → live_total block (h.start + 16) h.items ≡ o
+    → WereLive s (holding (forgot s block (total_or_0 o) block) h items)
+were_by_total limit block s h items None f found is none =
+    absurd (let no : None ≡ Some items = sym (unlive block (h.start + 16) h.items none) ∙ is in cc)
+were_by_total limit block s h items (Some total) f found is live =
+    let own = items_of_fit limit s h f found in
+    let left : HasRoomFor (size_of h.items) items = subst (HasRoomIfSome (size_of h.items)) is (released_room block (h.start + 16) h.items own.0) in
+    release_were limit block total s h items f found left.0 live is
+
 pub gave_were : (limit block : ℕ) (s : Store) → IsFitStore limit s → OnDone (WereLiveIn s) (gave_back s 0x01800000 block)
 unfolding gave_back
 gave_were limit block s f =
     on_some HeapList (Unit {0}) (WereLiveIn s) (find_heap 0x01800000 s.heaps) HeapBadDesc _ (λ h found.
-    let own = items_of_fit limit s h f found in
-    on_some (List Item) (Unit {0}) (WereLiveIn s) (unless_image (has_image block s.others) (released block (h.start + 16) h.items)) HeapNotABlock _ (λ items is.
-    on_if (Unit {0}) (WereLiveIn s) (holds_anchor s.anchor block (live_total block (h.start + 16) h.items)) HeapHoldsAnchor (Ok (holding s h items, tt)) (λ none.
-    let given : released block (h.start + 16) h.items ≡ Some items =
-    unless_some (has_image block s.others) (released block (h.start + 16) h.items) items is in
-    let left : HasRoomFor (size_of h.items) items = subst (HasRoomIfSome (size_of h.items)) given (released_room block (h.start + 16) h.items own.0) in
-    release_were limit block s h items f found left.0 given)))
+    let o : Option ℕ = live_total block (h.start + 16) h.items in
+    let left : Option (List Item) = released block (h.start + 16) h.items in
+    on_some (List Item) (Unit {0}) (WereLiveIn s) (unless_image (has_image block s.others) left) HeapNotABlock _ (λ items is.
+    on_if (Unit {0}) (WereLiveIn s) (holds_anchor s.anchor block o) HeapHoldsAnchor
+    (Ok (holding (forgot s block (total_or_0 o) block) h items, tt)) (λ none.
+    were_by_total limit block s h items o f found (unless_some (has_image block s.others) left items is) refl)))
 
 -- growth leaves the blocks
 ended_same : (limit end : ℕ) (s : Store) (h : HeapList) (f : IsFitStore limit s) → find_heap 0x01800000 s.heaps ≡ Some h → AreSame s (ending s h end)
@@ -112,7 +124,7 @@ extended_same : (limit count : ℕ) (s : Store) (a : Area) → IsFitStore limit 
 extended_same limit count s a f =
     let t : Store = store_more s count (Some a) in
     let one : AreSame s t = beside_same limit s t.bytes f (λ x low high. refl) in
-    let g : IsFitStore limit t = record { heap = f.heap; found = f.found; totals = f.totals; inside = f.inside; end = f.end; room = f.room } in
+    let g : IsFitStore limit t = written_is_fit limit s t.bytes f in
     let two : AreSame t (ending t f.heap (4096 * (a.pages + count))) = ended_same limit (4096 * (a.pages + count)) t f.heap g f.found in
     rw f.found (same_both s t (ending t f.heap (4096 * (a.pages + count))) one two)
 

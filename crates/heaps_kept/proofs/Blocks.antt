@@ -16,8 +16,10 @@ use Rattle.os_heap.proofs.Apart.{range_parts}
 use Rattle.os_heap.proofs.Found.{found_start}
 use Rattle.os_heap.proofs.Moving.{found_held}
 use Rattle.os_heap.specs.Calls.{holding, with_items}
+use Rattle.os_heap.specs.Forgetting.{forgot}
 use Rattle.os_heap.specs.Store.{Store, find_heap}
 use Rattle.heaps_kept.proofs.HeapCalls.{items_of_fit}
+use Rattle.heaps_kept.proofs.Holding.{forgot_is_fit}
 use Rattle.heaps_kept.specs.BlockLaws.{HoldsSame, StayLive, WereLive, block_total, total_in}
 use Rattle.heaps_kept.specs.Fits.{IsFitStore}
 
@@ -144,12 +146,16 @@ released_were other n block at (Live t ∷ xs) totals = elim (cases_Bool (at + 4
 released_were other n block at (Free t ∷ xs) totals =
     before_free other n at t xs (released block (at + t) xs) (released_were other n block (at + t) xs totals.1)
 
-pub release_were : (limit block : ℕ) (s : Store) (h : HeapList) (items : List Item) (f : IsFitStore limit s) → find_heap 0x01800000 s.heaps ≡ Some h
-    → AreTotals items → released block (h.start + 16) h.items ≡ Some items → WereLive s (holding s h items)
-release_were limit block s h items f found totals is other n live =
+pub release_were : (limit block total : ℕ) (s : Store) (h : HeapList) (items : List Item) (f : IsFitStore limit s) → find_heap 0x01800000 s.heaps ≡ Some h
+    → AreTotals items → live_total block (h.start + 16) h.items ≡ Some total → released block (h.start + 16) h.items ≡ Some items
+    → WereLive s (holding (forgot s block total block) h items)
+release_were limit block total s h items f found totals given is other n live =
     let start : h.start ≡ 0x01800000 = found_start 0x01800000 s.heaps h found in
     let own = items_of_fit limit s h f found in
-    let live' : live_total other (h.start + 16) items ≡ Some n = sym (held_total s h items other found) ∙ live in
+    let v : Store = forgot s block total block in
+    let place : LiveBytes block total (h.start + 16) (h.start + 16 + size_of h.items) = live_bytes block total (h.start + 16) h.items own.0 given in
+    let left : find_heap 0x01800000 v.heaps ≡ Some h = (forgot_is_fit limit s h block total block f found (omega (arith, place.low)) (omega arith)).1 in
+    let live' : live_total other (h.start + 16) items ≡ Some n = sym (held_total v h items other left) ∙ live in
     let were : WereIfSome other n (h.start + 16) h.items (Some items) =
     subst (WereIfSome other n (h.start + 16) h.items) is (released_were other n block (h.start + 16) h.items own.0) in
     (ap (total_in other) found ∙ were live', λ a inside. unspelled s.bytes.at h.start h.end items other n a start totals live' inside)

@@ -1,8 +1,7 @@
 -- The flex calls keep a heap in which no anchor lies.
-use Rattle.std.proofs.Common.{ℕ, ◌+◌, ◌%◌, ◌≡◌, ◌≤◌, ◌<◌, ◌∙◌, Bool, true, false, List, Option, Some, None, Result, Ok, refl, sym, ap, subst, inl, inr, arith}
-use Rattle.std.proofs.lemmas.Bool.{both_ways, cases_Bool, cases_eq, false_from_ne_true, le-leb, lt-ltb}
+use Rattle.std.proofs.Common.{ℕ, ◌+◌, ◌%◌, ◌≡◌, ◌≤◌, ◌<◌, ◌∙◌, Bool, true, false, Option, Some, None, Result, Ok, refl, sym, ap, subst, inl, inr, arith}
+use Rattle.std.proofs.lemmas.Bool.{both_ways, cases_Bool, false_from_ne_true, le-leb, lt-ltb}
 use Rattle.address_map.specs.Bytes.{Bytes, in_range, word_start}
-use Rattle.address_map.specs.declared.region.Region.{Region}
 use Rattle.os_heap_lists.specs.Heap.{HeapList, IsHeapIn}
 use Rattle.os_heap.proofs.Anchored.{header_outside}
 use Rattle.os_heap.proofs.Apart.{range_parts}
@@ -11,13 +10,15 @@ use Rattle.os_heap.specs.Store.{Store, find_heap, is_in_flex_store}
 use Rattle.profile.specs.declared.error.ErrorNumber.{ErrorNumber}
 use Rattle.flex_store.specs.Blocks.{FlexStore}
 use Rattle.flex_store.specs.Calls.{FlexState, begun, begun_by, is_flex_range, with_flex}
-use Rattle.flex_store.specs.Laws.{HasBlocks}
+use Rattle.flex_store.specs.declared.flex.Extent.{Extent}
+use Rattle.flex_store.specs.declared.flex.Flex.{Flex}
+use Rattle.flex_store.proofs.Words.{word_of}
 use Rattle.flex_store.specs.Runs.{Alloc, Extend, FlexCall, IsDone, MidExtend, Release}
 use Rattle.flex_ground.specs.Ground.{anchors_in, flex_state, spelled_store, store_flexed, with_flex_record}
-use Rattle.store_laws.proofs.CalledAnchors.{Grows, IsShrunk, alloc_anchor, alloc_anchors, extend_anchors, mid_anchors, release_anchors}
-use Rattle.store_laws.proofs.CalledBytes.{byte_stays}
-use Rattle.store_laws.proofs.CalledSeen.{anchors_are}
-use Rattle.store_laws.proofs.Spelled.{has_blocks}
+use Rattle.store_laws.proofs.CalledSeen.{out_of}
+use Rattle.store_laws.specs.FlexStore.{IsSpelledAt, spelled_blocks}
+use Rattle.heaps_kept.proofs.FlexBesides.{HasAligned, IsBeside, IsStill}
+use Rattle.heaps_kept.proofs.FlexStill.{IsUnnamed, call_still}
 use Rattle.heaps_kept.specs.FlexLaws.{FlexCallsKeepHeap, FlexInitKeepsHeap, IsFreeOfAnchors, NamesOutside}
 use Rattle.heap_turns.specs.Laws.{KeepsHeap}
 
@@ -30,43 +31,54 @@ other_anchor b h a anchor heap aligned out inside same =
     let high : anchor < h.start + h.end = omega (arith, parts.1, same) in
     both_ways (in_range h.start h.end anchor) out (rw (le-leb h.start anchor low, lt-ltb anchor (h.start + h.end) high) refl)
 
-grown_none : (answer : Bool) (a anchor : ℕ) (old new : Bool) → Grows a answer anchor old new → (word_start a ≡ anchor → ⊥) → new ≡ old
-grown_none true a anchor old new grows apart = grows.others apart
-grown_none false a anchor old new same apart = same
+-- the anchors of a store that memory spells
+pub anchors_are : (s : Store) (o : Option Extent) (a : ℕ) → IsSpelledAt s o → anchors_in (spelled_store s.bytes.at o) a ≡ s.anchor a
+anchors_are s None a is = sym (is.anchors a)
+anchors_are s (Some e) a is = sym (is.anchors a)
 
-module _ (b : Bytes) (h : HeapList) (heap : IsHeapIn b h.start h.end h.items) (a : ℕ) (inside : in_range h.start h.end a ≡ true) where
-  -- the anchors that a call leaves in the heap
-  left_anchor : (t : FlexState) (call : FlexCall) (answer : Bool) (v : FlexState) → HasBlocks t.flex → anchors_in t.flex a ≡ false
-      → IsDone t call answer v → NamesOutside h call → anchors_in v.flex a ≡ false
-  left_anchor t (Alloc anchor size) answer v has none done out =
-      let aligned : anchor % 4 ≡ 0 = (alloc_anchor done.0 t.bytes t.flex v anchor size answer done.1).aligned in
-      grown_none answer a anchor (anchors_in t.flex a) (anchors_in v.flex a) (alloc_anchors a done.0 t.bytes t.flex v anchor size answer done.1)
-      (other_anchor b h a anchor heap aligned out inside) ∙ none
-  left_anchor t (Release anchor) answer v has none done out =
-      let shrunk : IsShrunk a anchor t.flex v.flex (v.bytes.at a) = release_anchors a t.bytes t.flex v anchor has done.1 in
-      elim (cases_eq (word_start a) anchor) [
-        | inl here ↦ shrunk.gone here
-        | inr apart ↦ shrunk.others apart ∙ none
-      ]
-  left_anchor t (Extend anchor size) answer v has none done out = extend_anchors a t.bytes t.flex v anchor size answer done ∙ none
-  left_anchor t (MidExtend anchor at by) answer v has none done out = mid_anchors a t.bytes t.flex v anchor at by answer done ∙ none
+pub spelled_aligned : (s : Store) (o : Option Extent) → IsSpelledAt s o → HasAligned (spelled_store s.bytes.at o)
+spelled_aligned s None is = tt
+spelled_aligned s (Some e) is = λ p has. (word_of s.bytes.mapped e.start e.end (spelled_blocks s e) p is.words has).aligned
+
+-- a byte that is neither the store's nor of an anchor
+pub beside_in : (s : Store) (o : Option Extent) (a : ℕ) → IsSpelledAt s o → is_in_flex_store s.others a ≡ false → s.anchor a ≡ false
+    → IsBeside (spelled_store s.bytes.at o) a
+beside_in s None a is outside none = tt
+beside_in s (Some e) a is outside none = record {
+  whole = is.whole;
+  aligned = spelled_aligned s (Some e) is;
+  fits = is.fits;
+  even = is.range.end_aligned;
+  out = out_of s e is a outside;
+  none = sym (is.anchors a) ∙ none;
+}
+
+unnamed : (b : Bytes) (h : HeapList) (a : ℕ) (call : FlexCall) (v : FlexState) → IsHeapIn b h.start h.end h.items → in_range h.start h.end a ≡ true
+    → NamesOutside h call
+    → IsUnnamed call v a
+unnamed b h a (Alloc anchor size) v heap inside out = inr (λ aligned same. other_anchor b h a anchor heap aligned out inside same)
+unnamed b h a (Release anchor) v heap inside out = tt
+unnamed b h a (Extend anchor size) v heap inside out = tt
+unnamed b h a (MidExtend anchor at by) v heap inside out = tt
+
+-- a byte of a heap in which no anchor lies
+pub call_beside : (s : Store) (f : Flex) (call : FlexCall) (answer : Bool) (v : FlexState) (h : HeapList) (a : ℕ) → IsSpelledAt s f.extent → IsFreeOfAnchors h s
+    → NamesOutside h call → IsDone (flex_state s f) call answer v → HasAligned v.flex → in_range h.start h.end a ≡ true → IsStill a (flex_state s f) v
+call_beside s f call answer v h a old free out done aligned inside =
+    let heap : IsHeapIn s.bytes h.start h.end h.items = found_heap s.bytes h.start s.heaps h free.sound.heaps free.found in
+    let outside : is_in_flex_store s.others a ≡ false = false_from_ne_true (is_in_flex_store s.others a) (λ is.
+    both_ways (in_range h.start h.end a) (header_outside h.start s.heaps s.others h a free.sound.placed free.found is) inside) in
+    call_still a (flex_state s f) v call answer done aligned
+    (beside_in s f.extent a old outside (free.anchors a inside)) (unnamed s.bytes h a call v heap inside out)
 
 pub flex_calls_keep : FlexCallsKeepHeap
 flex_calls_keep s t f g call answer h d free out =
-    let heap : IsHeapIn s.bytes h.start h.end h.items = found_heap s.bytes h.start s.heaps h free.sound.heaps free.found in
-    let none : (a : ℕ) → in_range h.start h.end a ≡ true → t.anchor a ≡ false = λ a inside.
-    sym (anchors_are t g.extent a d.new)
-    ∙ left_anchor s.bytes h heap a inside (flex_state s f) call answer (flex_state t g) (has_blocks s f.extent d.old)
-    (anchors_are s f.extent a d.old ∙ free.anchors a inside) d.done out in
-    let outside : (a : ℕ) → in_range h.start h.end a ≡ true → is_in_flex_store s.others a ≡ false = λ a inside.
-    false_from_ne_true (is_in_flex_store s.others a) (λ is.
-    both_ways (in_range h.start h.end a) (header_outside h.start s.heaps s.others h a free.sound.placed free.found is) inside) in
+    let still : (a : ℕ) → in_range h.start h.end a ≡ true → IsStill a (flex_state s f) (flex_state t g) = λ a inside.
+    call_beside s f call answer (flex_state t g) h a d.old free out d.done (spelled_aligned t g.extent d.new) inside in
     record {
       found = ap (find_heap h.start) d.heaps ∙ free.found;
-      bytes = λ a inside. byte_stays s t f g call answer a d.old d.new d.done
-          (record { outside = outside a inside; none = free.anchors a inside })
-          (record { outside = ap (λ (rs : List Region). is_in_flex_store rs a) d.others ∙ outside a inside; none = none a inside });
-      anchors = λ a inside. none a inside ∙ sym (free.anchors a inside);
+      bytes = λ a inside. (still a inside).byte;
+      anchors = λ a inside. sym (anchors_are t g.extent a d.new) ∙ ((still a inside).none ∙ sym (free.anchors a inside));
     }
 
 -- one answer is given

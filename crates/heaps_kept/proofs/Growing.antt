@@ -14,7 +14,9 @@ use Rattle.dynamic_areas.specs.declared.area.Area.{Area}
 use Rattle.dynamic_areas.specs.Areas.{find_area, paged, with_pages}
 use Rattle.dynamic_areas.specs.Changing.{growth_room, land_more, pages_had, store_extended, store_more}
 use Rattle.dynamic_areas.specs.Ground.{Estate}
-use Rattle.heaps_kept.proofs.Holding.{other_ended, stays_both, words_within, written_fit}
+use Rattle.heaps_kept.proofs.FoundHeaps.{ended_areas, other_ended}
+use Rattle.heaps_kept.proofs.Holding.{area_of, stays_both, words_within, written_fit}
+use Rattle.heaps_kept.proofs.InnerHeaps.{ended_inner}
 use Rattle.heaps_kept.specs.Fits.{IsFitStore, KeepsOutside, StaysFit}
 use Rattle.heaps_kept.specs.FitEstates.{EstateStaysFit, IsFitEstate}
 
@@ -34,8 +36,9 @@ ended_outside limit end s h f found =
     let own : AreTotals h.items × (16 + size_of h.items ≤ limit) = own_items limit s h f found in
     record {
       bytes = λ a out. words_within s.bytes.at h.start end h.items a start own.0 (omega (arith, own.1, f.room)) out;
-      heaps = λ at other. other_ended at h.start end s.heaps (λ is. other (is ∙ start));
+      heaps = λ at other still. other_ended at h.start end s.heaps (λ is. other (is ∙ start));
       anchors = λ a. refl;
+      inner = ended_inner s h end (area_of limit s h f found);
     }
 
 ended_fit : (limit new : ℕ) (s : Store) (h : HeapList) → IsFitStore limit s → find_heap 0x01800000 s.heaps ≡ Some h → limit ≤ new → new ≤ 0x400000
@@ -50,13 +53,14 @@ ended_fit limit new s h f found more most =
         inside = omega (arith, own.1, more);
         end = refl;
         room = most;
+        place = ended_areas h.start new s.heaps f.place;
       };
       outside = ended_outside limit new s h f found;
     }
 
 -- after pages more were mapped, which changes no byte
 more_fit : (limit count : ℕ) (s : Store) (a : Area) → IsFitStore limit s → StaysFit limit s (store_more s count (Some a))
-more_fit limit count s a f = written_fit limit s (store_more s count (Some a)).bytes f (λ x out. refl)
+more_fit limit count s a f = written_fit limit s (store_more s count (Some a)).bytes f (record { outside = λ x out. refl; inner = λ h x lies here. refl })
 
 extended_fit : (limit count : ℕ) (s : Store) (a : Area) (f : IsFitStore limit s) → limit ≡ 4096 * a.pages → 4096 * (a.pages + count) ≤ 0x400000
     → StaysFit (4096 * (a.pages + count)) s (store_extended s 1 count (Some a))

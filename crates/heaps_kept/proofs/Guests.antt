@@ -1,16 +1,18 @@
--- Where a guest's heap lies: in the application space, or in an area that was created.
-use Rattle.std.proofs.Common.{ℕ, ◌+◌, ◌*◌, ◌==◌, ◌≡◌, ◌≢◌, ◌≤◌, ◌<◌, ◌∙◌, true, false, List, [], ◌∷◌, Option, Some, None, is_some, refl, sym, ap, subst, inl, inr, arith}
-use Rattle.std.proofs.lemmas.Bool.{and_parts, both_ways, cases_eq, eq-eqb, false_from_ne_true, false≢true, leb-true, ne_eqb, or_cases}
+-- Where a guest's heap lies: in the application space, in an area that was created, or in a live block of the module area.
+use Rattle.std.proofs.Common.{ℕ, ◌+◌, ◌*◌, ◌==◌, ◌≡◌, ◌≢◌, ◌≤◌, ◌<◌, ◌⊎◌, ◌∙◌, true, false, List, [], ◌∷◌, Option, Some, None, is_some, refl, sym, ap, subst, inl, inr, arith}
+use Rattle.std.proofs.lemmas.Bool.{and_parts, both_ways, cases_eq, eq-eqb, false_from_ne_true, false≢true, le-leb, leb-true, lt-ltb, ne_eqb, or_cases}
 use Rattle.std.specs.Prelude.{nat_le}
 use Rattle.std.specs.List.{list_any}
 use Rattle.address_map.specs.Bytes.{in_range}
+use Rattle.address_map.specs.declared.region.Kind.TheVariants.{Rma}
 use Rattle.address_map.specs.declared.region.Region.{Region}
 use Rattle.os_heap_lists.specs.Heap.{HeapList, IsHeapIn}
 use Rattle.os_heap.proofs.Apart.{found_other, range_parts}
-use Rattle.os_heap.proofs.Found.{found_heap}
-use Rattle.os_heap.proofs.Stores.{are_clear_others, clear_of-found, image_kind}
+use Rattle.os_heap.proofs.Found.{found_heap, found_start}
+use Rattle.os_heap.proofs.Stores.{are_others, clear_of-found, image_kind, placed_either}
 use Rattle.os_heap.specs.Calls.{has_own_size}
-use Rattle.os_heap.specs.Store.{ArePlaced, IsClearOfHeaps, IsSound, Store, find_heap, is_image}
+use Rattle.os_heap.specs.Nesting.{IsWithin, is_area}
+use Rattle.os_heap.specs.Store.{AreClear, ArePlaced, IsClearOfHeaps, Store, find_heap, is_image}
 use Rattle.dynamic_areas.proofs.ModuleArea.{IsModuleArea, module_area_known}
 use Rattle.dynamic_areas.proofs.RoomLemmas.{found_behind, found_room, in_window}
 use Rattle.dynamic_areas.specs.declared.area.Area.{Area}
@@ -54,6 +56,7 @@ estates_fit e estate =
         inside = omega (arith, m.known.spelled.inside, m.known.end);
         end = m.known.end;
         room = omega (arith, within, maximum);
+        place = estate.ground.sound.limits.place;
       };
     }
 
@@ -62,7 +65,7 @@ pub system_clear : (hs : List HeapList) (rs : List Region) → ArePlaced hs rs �
 system_clear hs [] placed recorded = absurd recorded
 system_clear hs (r ∷ rs) placed recorded = elim recorded [
   | inr later ↦ system_clear hs rs placed.1 later
-  | inl same ↦ elim placed.0 [
+  | inl same ↦ elim (placed_either hs r placed.0) [
     | inl clear ↦ subst (λ (x : Region). IsClearOfHeaps x.at x.len hs) same clear
     | inr image ↦ absurd (false≢true (ap (λ (x : Region). is_image x.kind) (sym same) ∙ image_kind hs r image))
   ]
@@ -91,32 +94,38 @@ held_by (g ∷ areas) a rooms is = elim (or_cases (is_held a g) (list_any (is_he
       record { area = rest.area; found = rw other rest.found; room = rest.room; held = rest.held }
 ]
 
-module _ (e : Estate) (h : HeapList) (a : ℕ) (g : HasGuestHeap e h) (inside : in_range h.start h.end a ≡ true) where
-  s : Store
-  s = e.store
-
-  sound : IsSound s
-  unfolding s
-  sound = g.estate.ground.sound
-
-  -- a guest's heap is clear of the module area's
-  in_module_area : (area : Area) → IsModuleArea s area → in_range 0x01800000 (4096 * area.pages) a ≡ true → ⊥
-  unfolding s sound
-  in_module_area area m there =
-      let k : HeapList = m.heap in
-      let here : in_range k.start k.end a ≡ true = rw (m.start, m.end) there in
-      let own : find_heap k.start s.heaps ≡ Some k = subst (λ (p : ℕ). find_heap p s.heaps ≡ Some k) (sym m.start) m.found in
-      elim (found_other k h.start s.heaps h (are_clear_others s.bytes k.start s.heaps k sound.heaps sound.unnested own) g.found) [
-        | inl same ↦ false≢true (sym (ap (λ (x : HeapList). has_own_size x.kind) same ∙ ap has_own_size m.kind) ∙ g.own)
-        | inr apart ↦ both_ways (in_range h.start h.end a) (apart.1 a here) inside
+-- a guest's heap is clear of the module area's, or lies in a live block of that
+clear_or_within : (e : Estate) (h k : HeapList) → HasGuestHeap e h → find_heap 0x01800000 e.store.heaps ≡ Some k → k.kind ≡ Rma
+    → AreClear k.start k.end h.start h.end ⊎ IsWithin k h
+clear_or_within e h k g found area =
+    let s : Store = e.store in
+    let start : k.start ≡ 0x01800000 = found_start 0x01800000 s.heaps k found in
+    let own : find_heap k.start s.heaps ≡ Some k = subst (λ (p : ℕ). find_heap p s.heaps ≡ Some k) (sym start) found in
+    elim (found_other k h.start s.heaps h (are_others s.bytes k.start s.heaps k g.estate.ground.sound.heaps own) g.found) [
+      | inl same ↦ absurd (false≢true (sym (ap (λ (x : HeapList). has_own_size x.kind) same ∙ ap has_own_size area) ∙ g.own))
+      | inr other ↦ elim other.1 [
+        | inl clear ↦ inl clear
+        | inr nested ↦ elim nested [
+          | inl within ↦ inr within
+          | inr round ↦ absurd (false≢true (sym round.guest ∙ ap is_area area))
+        ]
       ]
+    ]
+
+module _ (e : Estate) (h : HeapList) (g : HasGuestHeap e h) (k : HeapList) (round : find_heap 0x01800000 e.store.heaps ≡ Some k)
+    (clear : AreClear k.start k.end h.start h.end) (a : ℕ) (inside : in_range h.start h.end a ≡ true) where
+  in_module_area : (area : Area) → IsModuleArea e.store area → in_range 0x01800000 (4096 * area.pages) a ≡ true → ⊥
+  in_module_area area m there =
+      let both : Some m.heap ≡ Some k = sym m.found ∙ round in
+      let same : m.heap ≡ k = cc in
+      let here : in_range m.heap.start m.heap.end a ≡ true = rw (m.start, m.end) there in
+      both_ways (in_range h.start h.end a) (clear a (subst (λ (x : HeapList). in_range x.start x.end a ≡ true) same here)) inside
 
   in_area : IsHeldBy e.land.areas a → is_module_byte a ≡ true → ⊥
-  unfolding s
   in_area held is = elim (cases_eq held.area.number 1) [
     | inl first ↦
         let found : find_area 1 e.land.areas ≡ Some held.area = subst (λ (n : ℕ). find_area n e.land.areas ≡ Some held.area) first held.found in
-        let m : IsModuleArea s held.area = module_area_known s e.pool e.land held.area g.estate found in
+        let m : IsModuleArea e.store held.area = module_area_known e.store e.pool e.land held.area g.estate found in
         in_module_area held.area m (subst (λ (p : ℕ). in_range p (4096 * held.area.pages) a ≡ true) m.base held.held)
     | inr other ↦
         let parts : (held.area.base ≤ a) × (a < held.area.base + 4096 * held.area.pages) = range_parts held.area.base (4096 * held.area.pages) a held.held in
@@ -125,7 +134,6 @@ module _ (e : Estate) (h : HeapList) (a : ℕ) (g : HasGuestHeap e h) (inside : 
   ]
 
   in_fixed : is_fixed e.land.sizes a ≡ true → is_module_byte a ≡ true → ⊥
-  unfolding s sound
   in_fixed fixed is =
       let good = g.estate.ground.sizes in
       let byte : (0x01800000 ≤ a) × (a < 0x01C03000) = range_parts 0x01800000 0x403000 a is in
@@ -134,13 +142,13 @@ module _ (e : Estate) (h : HeapList) (a : ℕ) (g : HasGuestHeap e h) (inside : 
             let parts : (0x8000 ≤ a) × (a < 0x8000 + 4096 * e.land.sizes.app) = range_parts 0x8000 (4096 * e.land.sizes.app) a low in
             omega (arith, parts.1, byte.0, good.in_limit, good.has_room)
         | inr system ↦ both_ways (in_range h.start h.end a)
-            (clear_of-found 0x01C00000 0x3000 h.start s.heaps h (system_clear s.heaps s.others sound.placed g.system) g.found a system) inside
+            (clear_of-found 0x01C00000 0x3000 h.start e.store.heaps h
+            (system_clear e.store.heaps e.store.others g.estate.ground.sound.placed g.system) g.found a system) inside
       ]
 
   outside : is_module_byte a ≡ false
-  unfolding s sound
   outside =
-      let heap : IsHeapIn s.bytes h.start h.end h.items = found_heap s.bytes h.start s.heaps h sound.heaps g.found in
+      let heap : IsHeapIn e.store.bytes h.start h.end h.items = found_heap e.store.bytes h.start e.store.heaps h g.estate.ground.sound.heaps g.found in
       let parts : (h.start ≤ a) × (a < h.start + h.end) = range_parts h.start h.end a inside in
       let land : is_land e.land a ≡ true = sym (g.estate.ground.land a) ∙ heap.mapped a parts.0 parts.1 in
       false_from_ne_true (is_module_byte a) (λ is.
@@ -150,7 +158,12 @@ module _ (e : Estate) (h : HeapList) (a : ℕ) (g : HasGuestHeap e h) (inside : 
       ])
 
 pub guests_outside : GuestHeapsLieOutside
-guests_outside e h a g inside = outside e h a g inside
+guests_outside e h g =
+    let m : HasModuleArea e = module_area e g.estate in
+    elim (clear_or_within e h m.known.heap g m.known.found m.known.kind) [
+      | inl clear ↦ inl (λ a inside. outside e h g m.known.heap m.known.found clear a inside)
+      | inr within ↦ inr (record { area = m.known.heap; round = m.known.found; found = g.found; within = within })
+    ]
 
 -- it doesn't start where the module area does
 pub guest_elsewhere : (e : Estate) (h : HeapList) → HasGuestHeap e h → h.start ≢ 0x01800000
@@ -161,9 +174,22 @@ guest_elsewhere e h g same =
     let is : m.known.heap ≡ h = cc in
     false≢true (sym (ap (λ (x : HeapList). has_own_size x.kind) (sym is) ∙ ap has_own_size m.known.kind) ∙ g.own)
 
+-- a heap has its first byte
+first_inside : (start end : ℕ) → 0 < end → in_range start end start ≡ true
+first_inside start end some = rw (le-leb start start (omega arith), lt-ltb start (start + end) (omega (arith, some))) refl
+
 pub outside_keeps : OutsideKeepsHeap
-outside_keeps e t h g kept = record {
-  found = kept.heaps h.start (guest_elsewhere e h g) ∙ g.found;
-  bytes = λ a inside. kept.bytes a (guests_outside e h a g inside);
-  anchors = λ a inside. kept.anchors a;
-}
+outside_keeps e t h g kept still =
+    let heap : IsHeapIn e.store.bytes h.start h.end h.items = found_heap e.store.bytes h.start e.store.heaps h g.estate.ground.sound.heaps g.found in
+    record {
+      found = kept.heaps h.start (guest_elsewhere e h g) (λ there. elim (guests_outside e h g) [
+        | inl outside ↦ absurd (both_ways (is_module_byte h.start) (outside h.start (first_inside h.start h.end (omega (arith, heap.inside)))) there)
+        | inr lies ↦ still lies
+      ])
+          ∙ g.found;
+      bytes = λ a inside. elim (guests_outside e h g) [
+        | inl outside ↦ kept.bytes a (outside a inside)
+        | inr lies ↦ (kept.inner h (omega (arith, heap.inside)) lies (still lies)).bytes a inside
+      ];
+      anchors = λ a inside. kept.anchors a;
+    }

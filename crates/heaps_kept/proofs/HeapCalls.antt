@@ -4,24 +4,29 @@ use Rattle.std.proofs.lemmas.Bool.{cases_Bool, leb-false}
 use Rattle.std.specs.Prelude.{nat_le}
 use Rattle.profile.specs.Outcome.{bind}
 use Rattle.profile.specs.declared.error.ErrorNumber.{ErrorNumber}
-use Rattle.profile.specs.declared.error.ErrorNumber.TheVariants.{HeapHoldsAnchor, HeapBadDesc, HeapNotABlock, HeapNoRoom}
-use Rattle.address_map.specs.Bytes.{in_range, with_moved}
+use Rattle.profile.specs.declared.error.ErrorNumber.TheVariants.{BlockHoldsHeap, HeapHoldsAnchor, HeapBadDesc, HeapNotABlock, HeapNoRoom}
+use Rattle.address_map.specs.Bytes.{in_range}
 use Rattle.address_map.specs.Records.{anchor_among}
 use Rattle.address_map.specs.Items.{is_total, size_of}
 use Rattle.address_map.specs.declared.item.Item.{Item}
 use Rattle.os_heap_lists.proofs.ClaimedLists.{HasTotals, IsWithin, claim_totals, claim_within}
 use Rattle.os_heap_lists.proofs.LiveBlocks.{IsFresh, LiveBytes, claim_fresh, live_bytes}
+use Rattle.os_heap_lists.proofs.Reading.{total_facts}
 use Rattle.os_heap_lists.proofs.Spelling.{total_of-numbers}
 use Rattle.os_heap_lists.specs.Heap.{AreTotals, HeapList}
 use Rattle.os_heap_lists.specs.Lists.{Claim, changed_by, claimed, live_total, released, resized_in_place, round_up_8, total_for}
 use Rattle.os_heap.proofs.Found.{found_start}
 use Rattle.os_heap.proofs.Resizing.{larger_where_none}
-use Rattle.os_heap.specs.Calls.{copied, gave_back, got, holding, holds_anchor, moved, resized, resized_or_moved, unless_image}
+use Rattle.os_heap.specs.Calls.{copied, gave_back, got, handed_over, holding, holds_anchor, moved, resized, resized_or_moved, total_or_0, unless_image}
+use Rattle.os_heap.specs.Forgetting.{forgot, holds_heap}
 use Rattle.os_heap.specs.Store.{Store, find_heap, has_image}
-use Rattle.heaps_kept.proofs.Holding.{held_fit, range_within, stays_both, written_fit}
+use Rattle.heap_turns.proofs.Plain.{unlive}
+use Rattle.heaps_kept.proofs.Holding.{area_of, freed_fit, held_fit, range_within, stays_both, written_is_fit}
+use Rattle.heaps_kept.proofs.InnerHeaps.{HasArea, carried_inner, claimed_beside, claimed_inner, freed_inner, part_out, refitted_inner}
 use Rattle.heaps_kept.proofs.Lists.{HasRoomFor, HasRoomIfSome, released_room, resized_room}
-use Rattle.heaps_kept.specs.Fits.{IsFitStore, StaysFit}
+use Rattle.heaps_kept.specs.Fits.{IsFitStore, LiesInArea, StaysFit}
 use Rattle.heaps_kept.specs.HeapLaws.{HeapCallsStayFit}
+use Rattle.heap_turns.specs.Laws.{IsNotForgotten}
 
 -- what a call that is done leaves, with its answer, has a property; of a refusal there is nothing to say
 abbrev pub OnDone : {A : Type 0} → (Store × A → Type 0) → Result (Store × A) ErrorNumber → Type 0
@@ -31,12 +36,15 @@ OnDone P (Err e) = Unit {0}
 abbrev pub LeavesFit : {A : Type 0} → ℕ → Store → Store × A → Type 0
 LeavesFit limit s x = StaysFit limit s x.0
 
--- and a block that is answered lies in the module area
-abbrev pub IsInside : ℕ → ℕ → Type 0
-IsInside len block = (0x01800000 ≤ block) × (block + len ≤ 0x01C00000)
+-- and a block that is answered lies in the module area, and shares no byte with a heap that lay in a block there
+pub record IsNewBlock (len : ℕ) (s t : Store) (block : ℕ) : Type 0 where
+  pub low : 0x01800000 ≤ block
+  pub high : block + len ≤ 0x01C00000
+  pub beside : (h : HeapList) (a : ℕ) → 0 < h.end → LiesInArea s h → IsNotForgotten t h.start → in_range h.start h.end a ≡ true
+      → in_range block len a ≡ false
 
 abbrev pub LeavesBlock : ℕ → ℕ → Store → Store × ℕ → Type 0
-LeavesBlock len limit s x = StaysFit limit s x.0 × IsInside len x.1
+LeavesBlock len limit s x = StaysFit limit s x.0 × IsNewBlock len s x.0 x.1
 
 pub on_some : (A B : Type 0) (P : Store × B → Type 0) (o : Option A) (e : ErrorNumber) (next : A → Result (Store × B) ErrorNumber)
     → ((x : A) → o ≡ Some x → OnDone P (next x)) → OnDone P (bind (ok_or o e) next)
@@ -97,26 +105,47 @@ got_fit limit size s f =
     on_some Claim ℕ (LeavesBlock size limit s) (claimed (total_for size) (h.end - 16) h.items) HeapNoRoom
     (λ c. Ok (holding s h c.items, h.start + 16 + c.offset + 4)) (λ c is.
     let start : h.start ≡ 0x01800000 = found_start 0x01800000 s.heaps h found in
-    let r : IsRoomy limit (total_for size) h c = roomy limit (total_for size) s h c f found total is in
-    (held_fit limit s h c.items f found r.totals r.inside, (omega (arith, start, r.low), omega (arith, start, r.high, f.room)))))
+    let has : HasArea s h = area_of limit s h f found in
+    let at : ℕ = h.start + 16 + c.offset + 4 in
+    let r : IsRoomy limit (total_for size) h c = roomy limit (total_for size) s h c f found total is in (
+      held_fit limit s h c.items f found r.totals r.inside (claimed_inner s h (total_for size) c has total is),
+      record {
+        low = omega (arith, start, r.low);
+        high = omega (arith, start, r.high, f.room);
+        beside = λ g a some lies still here.
+            part_out at size (total_for size - 4) a (omega arith) (claimed_beside s h (total_for size) c has total is g a lies here);
+      },
+    )))
 
 -- a block was given back
 pub unless_some : {A : Type 0} (b : Bool) (o : Option A) (x : A) → unless_image b o ≡ Some x → o ≡ Some x
 unless_some true o x e = absurd (let none : None ≡ Some x = e in cc)
 unless_some false o x e = e
 
+by_total : (limit block : ℕ) (s : Store) (h : HeapList) (items : List Item) (o : Option ℕ) → IsFitStore limit s
+    → find_heap 0x01800000 s.heaps ≡ Some h → released block (h.start + 16) h.items ≡ Some items → live_total block (h.start + 16) h.items ≡ o
+    → StaysFit limit s (holding (forgot s block (total_or_0 o) block) h items)
+by_total limit block s h items None f found is none =
+    absurd (let no : None ≡ Some items = sym (unlive block (h.start + 16) h.items none) ∙ is in cc)
+by_total limit block s h items (Some total) f found is live =
+    let own = items_of_fit limit s h f found in
+    let left : HasRoomFor (size_of h.items) items = subst (HasRoomIfSome (size_of h.items)) is (released_room block (h.start + 16) h.items own.0) in
+    let place : LiveBytes block total (h.start + 16) (h.start + 16 + size_of h.items) = live_bytes block total (h.start + 16) h.items own.0 live in
+    freed_fit limit s h block total block items f found (omega (arith, place.low)) (omega (arith, place.high, own.1.0)) (omega arith) left.0
+    (omega (arith, left.1, own.1.0))
+    (freed_inner s h block total items (area_of limit s h f found) live is left.0)
+
 pub gave_fit : (limit heap block : ℕ) (s : Store) → heap ≡ 0x01800000 → IsFitStore limit s → OnDone (LeavesFit limit s) (gave_back s heap block)
 unfolding gave_back
 gave_fit limit heap block s place f =
     on_some HeapList (Unit {0}) (LeavesFit limit s) (find_heap heap s.heaps) HeapBadDesc _ (λ h found.
     let here : find_heap 0x01800000 s.heaps ≡ Some h = subst (λ (p : ℕ). find_heap p s.heaps ≡ Some h) place found in
-    let own = items_of_fit limit s h f here in
-    on_some (List Item) (Unit {0}) (LeavesFit limit s) (unless_image (has_image block s.others) (released block (h.start + 16) h.items)) HeapNotABlock _ (λ items is.
-    on_if (Unit {0}) (LeavesFit limit s) (holds_anchor s.anchor block (live_total block (h.start + 16) h.items)) HeapHoldsAnchor (Ok (holding s h items, tt)) (λ none.
-    let left : HasRoomFor (size_of h.items) items =
-    subst (HasRoomIfSome (size_of h.items)) (unless_some (has_image block s.others) (released block (h.start + 16) h.items) items is)
-    (released_room block (h.start + 16) h.items own.0) in
-    held_fit limit s h items f here left.0 (omega (arith, left.1, own.1.0)))))
+    let o : Option ℕ = live_total block (h.start + 16) h.items in
+    let left : Option (List Item) = released block (h.start + 16) h.items in
+    on_some (List Item) (Unit {0}) (LeavesFit limit s) (unless_image (has_image block s.others) left) HeapNotABlock _ (λ items is.
+    on_if (Unit {0}) (LeavesFit limit s) (holds_anchor s.anchor block o) HeapHoldsAnchor
+    (Ok (holding (forgot s block (total_or_0 o) block) h items, tt)) (λ none.
+    by_total limit block s h items o f here (unless_some (has_image block s.others) left items is) refl)))
 
 -- a block was moved
 moved_fit : (limit : ℕ) (s : Store) (h : HeapList) (block old new : ℕ) → IsFitStore limit s → find_heap 0x01800000 s.heaps ≡ Some h → is_total new ≡ true
@@ -124,27 +153,43 @@ moved_fit : (limit : ℕ) (s : Store) (h : HeapList) (block old new : ℕ) → I
 moved_fit limit s h block old new f found total less =
     on_some Claim ℕ (LeavesFit limit s) (claimed new (h.end - 16) h.items) HeapNoRoom _ (λ c is.
     let start : h.start ≡ 0x01800000 = found_start 0x01800000 s.heaps h found in
+    let has : HasArea s h = area_of limit s h f found in
     let r : IsRoomy limit new h c = roomy limit new s h c f found total is in
     let at : ℕ = h.start + 16 + c.offset + 4 in
     let t : Store = holding s h c.items in
     let u : Store = copied t block at (old - 4) in
-    let one : StaysFit limit s t = held_fit limit s h c.items f found r.totals r.inside in
-    let two : StaysFit limit t u = written_fit limit t (with_moved t.bytes block at (old - 4)) one.fit (λ a out.
-    let apart : in_range at (old - 4) a ≡ false = range_within at (old - 4) a (omega (arith, start, r.low)) (omega (arith, start, r.high, f.room, less)) out in
-    rw apart refl) in
-    let both : StaysFit limit s u = stays_both limit limit s t u one two in
+    let one : StaysFit limit s t = held_fit limit s h c.items f found r.totals r.inside (claimed_inner s h new c has total is) in
+    let both : StaysFit limit s u = record {
+      fit = written_is_fit limit t u.bytes one.fit;
+      outside = record {
+        bytes = λ a out.
+            let apart : in_range at (old - 4) a ≡ false =
+            range_within at (old - 4) a (omega (arith, start, r.low)) (omega (arith, start, r.high, f.room, less)) out in
+            (rw apart refl) ∙ one.outside.bytes a out;
+        heaps = one.outside.heaps;
+        anchors = one.outside.anchors;
+        inner = carried_inner s h old new block c has total less is;
+      };
+    } in
+    on_if ℕ (LeavesFit limit s) (holds_heap s.heaps block (old - 4)) BlockHoldsHeap (handed_over h.start block (old - 4) t at) (λ unheld.
     on_answer (Unit {0}) ℕ limit s (gave_back u h.start block) at
     (on_each (Unit {0}) (LeavesFit limit u) (LeavesFit limit s) (gave_back u h.start block) (λ x. stays_both limit limit s u x.0 both)
-    (gave_fit limit h.start block u start two.fit)))
+    (gave_fit limit h.start block u start both.fit))))
 
 in_place_fit : (limit : ℕ) (s : Store) (h : HeapList) (block old new : ℕ) (o : Option (List Item)) → IsFitStore limit s → find_heap 0x01800000 s.heaps ≡ Some h
-    → is_total new ≡ true → (o ≡ None → old ≤ new) → HasRoomIfSome (limit - 16) o → OnDone (LeavesFit limit s) (resized_or_moved s h block old new o)
-in_place_fit limit s h block old new None f found total less room =
+    → is_total new ≡ true → live_total block (h.start + 16) h.items ≡ Some old → resized_in_place block (h.start + h.end) new (h.start + 16) h.items ≡ o
+    → (o ≡ None → old ≤ new) → HasRoomIfSome (limit - 16) o → OnDone (LeavesFit limit s) (resized_or_moved s h block old new o)
+in_place_fit limit s h block old new None f found total live is less room =
     on_if ℕ (LeavesFit limit s) (holds_anchor s.anchor block (Some old)) HeapHoldsAnchor (moved s h block old new)
     (λ none. moved_fit limit s h block old new f found total (less refl))
-in_place_fit limit s h block old new (Some items) f found total less room =
-    on_if ℕ (LeavesFit limit s) (anchor_among s.anchor (block - 4 + new) (old - new)) HeapHoldsAnchor (Ok (holding s h items, block)) (λ none.
-    held_fit limit s h items f found room.0 (omega (arith, room.1, f.inside)))
+in_place_fit limit s h block old new (Some items) f found total live is less room =
+    let own = items_of_fit limit s h f found in
+    let place : LiveBytes block old (h.start + 16) (h.start + 16 + size_of h.items) = live_bytes block old (h.start + 16) h.items own.0 live in
+    on_if ℕ (LeavesFit limit s) (anchor_among s.anchor (block - 4 + new) (old - new)) HeapHoldsAnchor
+    (Ok (holding (forgot s block old (block - 4 + new)) h items, block)) (λ none.
+    freed_fit limit s h block old (block - 4 + new) items f found (omega (arith, place.low)) (omega (arith, place.high, own.1.0))
+    (omega (arith, (total_facts new total).0)) room.0 (omega (arith, room.1, f.inside))
+    (refitted_inner s h block old new items (area_of limit s h f found) live total is room.0))
 
 sized_fit : (limit : ℕ) (s : Store) (h : HeapList) (block change old : ℕ) → IsFitStore limit s → find_heap 0x01800000 s.heaps ≡ Some h
     → live_total block (h.start + 16) h.items ≡ Some old
@@ -163,7 +208,7 @@ sized_fit limit s h block change old f found live =
           let room : HasRoomIfSome (h.start + h.end - (h.start + 16)) (resized_in_place block (h.start + h.end) new (h.start + 16) h.items) =
           resized_room block (h.start + h.end) new (h.start + 16) h.items total own.0 (omega (arith, own.1.0, own.1.1)) in
           let same : h.start + h.end - (h.start + 16) ≡ limit - 16 = omega (arith, own.1.1) in
-          rw more (in_place_fit limit s h block old new (resized_in_place block (h.start + h.end) new (h.start + 16) h.items) f found total
+          rw more (in_place_fit limit s h block old new (resized_in_place block (h.start + h.end) new (h.start + 16) h.items) f found total live refl
           (λ none. omega (arith, larger_where_none block (h.start + h.end) new (h.start + 16) old h.items live none))
           (subst (λ (n : ℕ). HasRoomIfSome n (resized_in_place block (h.start + h.end) new (h.start + 16) h.items)) same room))
     ]

@@ -2,11 +2,15 @@ pub mod Areas
 pub mod BlockCalls
 pub mod BlockPlans
 pub mod Blocks
+pub mod FlexBesides
 pub mod FlexCalls
+pub mod FlexStill
+pub mod FoundHeaps
 pub mod Growing
 pub mod Guests
 pub mod HeapCalls
 pub mod Holding
+pub mod InnerHeaps
 pub mod Lists
 pub mod ModuleArea
 pub mod Plans

@@ -1,11 +1,13 @@
 -- The actions of plans, one after another.
-use Rattle.std.proofs.Common.{ℕ, ◌*◌, ◌≡◌, ◌≤◌, ◌<◌, false, List, [], ◌∷◌, length, Option, Some, None, refl, inl, inr}
+use Rattle.std.proofs.Common.{ℕ, ◌+◌, ◌-◌, ◌*◌, ◌≡◌, ◌≢◌, ◌≤◌, ◌<◌, ◌∙◌, Bool, false, List, [], ◌∷◌, length, Option, Some, None, refl, ap, inl, inr, arith}
 use Rattle.std.proofs.lemmas.Bool.{cases_Bool}
 use Rattle.address_map.specs.Moves.{moved_to}
 use Rattle.address_map.specs.declared.follow.Move.{Move}
-use Rattle.os_heap_lists.specs.Heap.{HeapList}
+use Rattle.os_heap_lists.specs.Heap.{AreTotals, HeapList}
+use Rattle.os_heap.proofs.Found.{found_start}
+use Rattle.os_heap.specs.Forgetting.{holds_heap}
 use Rattle.os_heap.specs.Store.{Store, find_heap}
-use Rattle.os_heap_slide.specs.Slide.{with_slid}
+use Rattle.os_heap_slide.specs.Slide.{HoldNoHeap, is_listed, slid, with_slid}
 use Rattle.dynamic_areas.specs.Ground.{Estate}
 use Rattle.rma.specs.Calls.{with_store}
 use Rattle.instances_table.specs.Changes.{module_without}
@@ -16,10 +18,14 @@ use Rattle.instances_plans.specs.declared.code.Code.{Code}
 use Rattle.instances_plans.specs.Carrying.{carried, carried_by, carried_from}
 use Rattle.instances_plans.specs.Plans.{Plan, owed}
 use Rattle.instances_ground.specs.World.{World, image_gone_of, image_gone_with, private_freed, private_word, removed, with_private}
-use Rattle.instances_slide.specs.Movable.{movable_blocks}
+use Rattle.instances_slide.proofs.Choosing.{IsChosen, chosen}
+use Rattle.instances_slide.proofs.Tidying.{holds_none, payload_empty}
+use Rattle.instances_slide.specs.Movable.{can_move, movable_blocks}
 use Rattle.instances_slide.specs.Slid.{moves_in, private_words, words_moved, world_moved, world_slid, world_slid_in}
 use Rattle.instances_actions.specs.Actions.{acted, code_of, image_given}
 use Rattle.instances.specs.Turns.{module_doing}
+use Rattle.heaps_kept.proofs.FoundHeaps.{other_held}
+use Rattle.heaps_kept.proofs.Holding.{area_of}
 use Rattle.heaps_kept.proofs.ModuleArea.{fit_both, fit_same, store_fit}
 use Rattle.heaps_kept.proofs.Sliding.{slid_fit}
 use Rattle.heaps_kept.proofs.Slots.{another_below, moved_below, new_below, removed_below}
@@ -58,16 +64,26 @@ words_fit moves (slot ∷ slots) e below f =
     fit_both e g (words_moved moves slots g) one (words_fit moves slots g below.1 one.fit)
 
 moved_fit : (w : World) (h : HeapList) (movable : List ℕ) → IsFitWorld w → find_heap 0x01800000 w.estate.store.heaps ≡ Some h
-    → WorldStaysFit w (world_moved w h movable)
-moved_fit w h movable f found =
+    → HoldNoHeap w.estate.store.heaps h movable → WorldStaysFit w (world_moved w h movable)
+moved_fit w h movable f found none =
     let t : Store = with_slid w.estate.store h movable in
     let e : Estate = with_store w.estate t in
-    let one : EstateStaysFit w.estate e = store_fit w.estate t f.estate (slid_fit (4096 * f.estate.area.pages) w.estate.store h movable f.estate.store found) in
+    let one : EstateStaysFit w.estate e =
+    store_fit w.estate t f.estate (slid_fit (4096 * f.estate.area.pages) w.estate.store h movable f.estate.store found none) in
     record {
       estate = fit_both w.estate e (words_moved (moves_in h movable) (slots_of w.modules) e) one
           (words_fit (moves_in h movable) (slots_of w.modules) e f.slots one.fit);
       slots = moved_below (moves_in h movable) w.modules f.slots;
     }
+
+-- no heap lies in a block that can be moved
+movable_empty : (s : Store) (modules : List Module) (words : List ℕ) (return_address : ℕ) (h : HeapList) → AreTotals h.items
+    → HoldNoHeap s.heaps h (movable_blocks s modules words return_address h)
+movable_empty s modules words return_address h totals b is =
+    let holds : ℕ → ℕ → Bool = holds_heap s.heaps in
+    let test : ℕ → ℕ → Bool = can_move s.anchor holds modules words return_address in
+    let c : IsChosen test (h.start + 16) h.items b = chosen test (h.start + 16) h.items b totals is in
+    rw c.live (payload_empty s.heaps b c.total (omega (arith, c.low)) (holds_none s.anchor holds modules words return_address (b - 4) c.total c.passes).1)
 
 world_same : (w : World) → IsFitWorld w → WorldStaysFit w w
 world_same w f = record { estate = fit_same w.estate f.estate; slots = f.slots }
@@ -77,7 +93,30 @@ unfolding world_slid
 slid_world_fit return_address w f = of_heap (find_heap 0x01800000 w.estate.store.heaps) refl where
   of_heap : (o : Option HeapList) → find_heap 0x01800000 w.estate.store.heaps ≡ o → WorldStaysFit w (world_slid_in return_address w o)
   of_heap None found = world_same w f
-  of_heap (Some h) found = moved_fit w h (movable_blocks w.estate.store w.modules (private_words w) return_address h) f found
+  of_heap (Some h) found =
+      let s : Store = w.estate.store in
+      moved_fit w h (movable_blocks s w.modules (private_words w) return_address h) f found
+      (movable_empty s w.modules (private_words w) return_address h (area_of (4096 * f.estate.area.pages) s h f.estate.store found).totals)
+
+-- and it forgets no heap
+words_heaps : (moves : List Move) (slots : List ℕ) (e : Estate) → (words_moved moves slots e).store.heaps ≡ e.store.heaps
+words_heaps moves [] e = refl
+words_heaps moves (slot ∷ slots) e = words_heaps moves slots (with_private e slot (moved_to moves (private_word e slot)))
+
+pub slid_world_found : (return_address : ℕ) (w : World) (start : ℕ) → start ≢ 0x01800000
+    → find_heap start (world_slid return_address w).estate.store.heaps ≡ find_heap start w.estate.store.heaps
+unfolding world_slid
+slid_world_found return_address w start other = of_heap (find_heap 0x01800000 w.estate.store.heaps) refl where
+  of_heap : (o : Option HeapList) → find_heap 0x01800000 w.estate.store.heaps ≡ o
+      → find_heap start (world_slid_in return_address w o).estate.store.heaps ≡ find_heap start w.estate.store.heaps
+  of_heap None found = refl
+  of_heap (Some h) found =
+      let s : Store = w.estate.store in
+      let movable : List ℕ = movable_blocks s w.modules (private_words w) return_address h in
+      let e : Estate = with_store w.estate (with_slid s h movable) in
+      let place : h.start ≡ 0x01800000 = found_start 0x01800000 s.heaps h found in
+      ap (find_heap start) (words_heaps (moves_in h movable) (slots_of w.modules) e)
+      ∙ other_held start h.start (slid (is_listed movable) (h.start + 16) (h.start + 16) h.items) s.heaps (λ is. other (is ∙ place))
 
 pub acts_fit : ActsStayFit
 acts_fit w g (act.Finalise slot fatal) f below few = world_same w f

@@ -1,65 +1,129 @@
 -- Flex calls and slides, as turns of the stores.
-use Rattle.std.proofs.Common.{ℕ, Bool, true, ◌≡◌, Option, Some, None, Result, Ok, Err, refl, sym, ap, subst}
+use Rattle.std.proofs.Common.{ℕ, Bool, true, false, ◌^◌, ◌≡◌, ◌≤◌, ◌⊎◌, ◌∙◌, Option, Some, None, is_some, Result, Ok, Err, refl, sym, ap, subst, inl, inr}
+use Rattle.std.proofs.lemmas.Bool.{cases_lt}
+use Rattle.address_map.specs.Bytes.{in_range}
 use Rattle.profile.specs.Outcome.{bind}
 use Rattle.profile.specs.declared.error.ErrorNumber.{ErrorNumber}
 use Rattle.os_heap_lists.specs.Heap.{HeapList}
 use Rattle.os_heap.specs.Calls.{has_own_size}
 use Rattle.os_heap.specs.Store.{Store}
 use Rattle.instances_slide.specs.Slid.{world_slid}
-use Rattle.flex_ground.specs.Ground.{flex_of, flex_state, store_flexed, with_flex_record}
-use Rattle.flex_store.specs.Blocks.{FlexStore}
-use Rattle.flex_store.specs.Calls.{FlexState, begun}
-use Rattle.flex_store.specs.Runs.{FlexCall, IsDone}
+use Rattle.flex_ground.specs.Ground.{flex_state, spelled_store, store_flexed, with_flex_record}
+use Rattle.flex_laws.specs.Laws.{IsOfWords}
+use Rattle.flex_store.proofs.LawLemmas.{Answers, same_answer}
+use Rattle.flex_store.proofs.Words.{word_of}
+use Rattle.flex_store.specs.Calls.{FlexState, begun, released}
+use Rattle.flex_store.specs.Runs.{Alloc, Extend, FlexCall, IsDone, MidExtend, Release}
 use Rattle.flex_store.specs.declared.flex.Extent.{Extent}
 use Rattle.flex_store.specs.declared.flex.Flex.{Flex}
-use Rattle.store_laws.proofs.Calling.{before, call_done, call_left, none_done}
-use Rattle.store_laws.proofs.Leaving.{IsAfter, IsBefore, after_left}
+use Rattle.store_laws.proofs.Calling.{called_left, no_room, none_done}
+use Rattle.store_laws.proofs.Leaving.{IsCalledBy, store_at}
 use Rattle.store_laws.specs.Meaning.{AreStores, Stores, store_in}
 use Rattle.store_laws.specs.Turning.{Call, Init, Slide, called, left_by, turned}
-use Rattle.heaps_kept.proofs.FlexCalls.{flex_calls_keep, flex_init_keeps}
-use Rattle.heaps_kept.proofs.Guests.{estates_fit, outside_keeps}
-use Rattle.heaps_kept.proofs.Plans.{slid_world_fit}
+use Rattle.heaps_kept.proofs.FlexBesides.{HasAligned, IsStill}
+use Rattle.heaps_kept.proofs.FlexStill.{past_aligned}
+use Rattle.heaps_kept.proofs.FlexCalls.{call_beside, flex_init_keeps, spelled_aligned}
+use Rattle.heaps_kept.proofs.Guests.{estates_fit, guest_elsewhere, outside_keeps}
+use Rattle.heaps_kept.proofs.Plans.{slid_world_fit, slid_world_found}
 use Rattle.heaps_kept.proofs.Slots.{modules_below}
 use Rattle.heaps_kept.specs.FlexLaws.{IsFreeOfAnchors, NamesOutside}
 use Rattle.heaps_kept.specs.GuestLaws.{HasGuestHeap}
-use Rattle.heap_turns.specs.Laws.{KeepsHeap}
+use Rattle.heap_turns.specs.Laws.{IsNotForgotten, KeepsHeap}
 use Rattle.heaps_kept.specs.PlanLaws.{IsFitWorld, WorldStaysFit}
 use Rattle.heaps_kept.specs.TurnLaws.{TurnsKeepHeap}
 
 heap_same : (h : HeapList) (s : Store) → IsFreeOfAnchors h s → KeepsHeap h s s
 heap_same h s free = record { found = free.found; bytes = λ a inside. refl; anchors = λ a inside. refl }
 
-module _ (x : Stores) (h : HeapList) (are : AreStores x) (free : IsFreeOfAnchors h (store_in x)) where
-  -- what a call leaves that was done
-  after_keeps : (call : FlexCall) (v : FlexState) (answer : Bool) → NamesOutside h call → called (store_in x) x.flex call ≡ Ok (v, answer)
-      → IsAfter (store_in x) v → KeepsHeap h (store_in x) (store_flexed (store_in x) v)
-  after_keeps call v answer out is after =
-      let s : Store = store_in x in
-      let t : Store = store_flexed s v in
-      let g : Flex = flex_of v.flex in
-      let state : flex_state t g ≡ v = ap (λ (o : Option FlexStore). let w : FlexState = record { bytes = v.bytes; flex = o } in w) after.spelled in
-      flex_calls_keep s t x.flex g call answer h (record {
-        old = are.flex.is;
-        new = after.flex.is;
-        done = subst (IsDone (flex_state s x.flex) call answer) (sym state) (call_done s x.flex call v answer is);
-        heaps = refl;
-        others = refl;
-      }) free out
+-- a release that was done
+release_done : (s : Store) (f : Flex) (anchor : ℕ) (v : FlexState) (answer : Bool) (r : Result (FlexState × Unit {0}) ErrorNumber)
+    → released (flex_state s f) anchor ≡ r
+    → (let q : Result (FlexState × Bool) ErrorNumber = bind r (λ p. Ok (p.0, true)) in q ≡ Ok (v, answer)) → IsDone (flex_state s f) (Release anchor) answer v
+release_done s f anchor v answer (Err e) is done = absurd (cc)
+release_done s f anchor v answer (Ok p) is done =
+    let pair : FlexState × Bool = (p.0, true) in
+    let given : FlexState × Bool = (v, answer) in
+    let same : Answers pair given = done in
+    let e : pair ≡ given = same_answer pair given same in (
+      sym (ap (λ (q : FlexState × Bool). q.1) e),
+      is ∙ ap (λ (w : FlexState). let q : Result (FlexState × Unit {0}) ErrorNumber = Ok (w, tt) in q) (ap (λ (q : FlexState × Bool). q.0) e),
+    )
 
-  done_keeps : (call : FlexCall) (v : FlexState) (answer : Bool) (o : Option Extent) → NamesOutside h call → x.flex.extent ≡ o
-      → called (store_in x) x.flex call ≡ Ok (v, answer) → KeepsHeap h (store_in x) (store_flexed (store_in x) v)
-  done_keeps call v answer None out none is =
+-- a call that was done, with what is so of both its answers
+pub call_is_done : (s : Store) (f : Flex) (call : FlexCall) (v : FlexState) (answer : Bool) → called s f call ≡ Ok (v, answer)
+    → IsDone (flex_state s f) call answer v
+call_is_done s f (Alloc anchor size) v answer is = (s, is)
+call_is_done s f (Release anchor) v answer is = release_done s f anchor v answer (released (flex_state s f) anchor) refl is
+call_is_done s f (Extend anchor size) v answer is = is
+call_is_done s f (MidExtend anchor at by) v answer is = is
+
+abbrev IsPast : FlexCall → Type 0
+IsPast (Alloc anchor size) = ⊥
+IsPast (Release anchor) = ⊥
+IsPast (Extend anchor size) = ⊥
+IsPast (MidExtend anchor at by) = 2 ^ 32 ≤ by
+
+-- what is given is words, or a middle extend is by none
+words_or_past : (call : FlexCall) → IsOfWords call ⊎ IsPast call
+words_or_past (Alloc anchor size) = inl tt
+words_or_past (Release anchor) = inl tt
+words_or_past (Extend anchor size) = inl tt
+words_or_past (MidExtend anchor at by) = elim (cases_lt by (2 ^ 32)) [ inl word ↦ inl word | inr past ↦ inr past ]
+
+module _ (x : Stores) (are : AreStores x) where
+  old_aligned : HasAligned (flex_state (store_in x) x.flex).flex
+  old_aligned = spelled_aligned (store_in x) x.flex.extent are.flex.is
+
+  words_aligned : (call : FlexCall) (v : FlexState) (answer : Bool) (e : Extent) → x.flex.extent ≡ Some e → IsOfWords call
+      → called (store_in x) x.flex call ≡ Ok (v, answer) → HasAligned v.flex
+  words_aligned call v true e there words is =
+      let is' = subst (λ (o : Option Extent). called (store_in x) (record { extent = o }) call ≡ Ok (v, true)) there is in
+      let left : IsCalledBy (store_in x) e call v = called_left x e call v are words there is' in
+      subst HasAligned (sym left.flex) (λ p has. (word_of v.bytes.mapped e.start e.end left.blocks p left.spelled.words has).aligned)
+  words_aligned call v false e there words is =
+      subst (λ (w : FlexState). HasAligned w.flex) (sym (no_room (store_in x) x.flex call v is)) old_aligned
+
+  calls_aligned : (call : FlexCall) (v : FlexState) (answer : Bool) (e : Extent) → x.flex.extent ≡ Some e → IsPast call
+      → called (store_in x) x.flex call ≡ Ok (v, answer) → HasAligned v.flex
+  calls_aligned (Alloc anchor size) v answer e there past is = absurd past
+  calls_aligned (Release anchor) v answer e there past is = absurd past
+  calls_aligned (Extend anchor size) v answer e there past is = absurd past
+  calls_aligned (MidExtend anchor at by) v answer e there past is =
+      past_aligned (flex_state (store_in x) x.flex) v (store_at (store_in x) e) anchor at by answer
+      (ap (spelled_store (store_in x).bytes.at) there) old_aligned past is
+
+  left_aligned : (call : FlexCall) (v : FlexState) (answer : Bool) (o : Option Extent) → x.flex.extent ≡ o
+      → called (store_in x) x.flex call ≡ Ok (v, answer) → HasAligned v.flex
+  left_aligned call v answer None none is =
       absurd (none_done (store_in x) call (v, answer)
       (subst (λ (o : Option Extent). called (store_in x) (record { extent = o }) call ≡ Ok (v, answer)) none is))
-  done_keeps call v answer (Some e) out there is =
-      let is' = subst (λ (o : Option Extent). called (store_in x) (record { extent = o }) call ≡ Ok (v, answer)) there is in
-      let b : IsBefore (store_in x) e = before x e are there in
-      after_keeps call v answer out is (after_left (store_in x) e v answer b (call_left (store_in x) e call v answer b.ready is'))
+  left_aligned call v answer (Some e) there is = elim (words_or_past call) [
+    | inl words ↦ words_aligned call v answer e there words is
+    | inr past ↦ calls_aligned call v answer e there past is
+  ]
+
+  -- the anchors that a call leaves are at whole words
+  pub called_aligned : (call : FlexCall) (v : FlexState) (answer : Bool) → called (store_in x) x.flex call ≡ Ok (v, answer) → HasAligned v.flex
+  called_aligned call v answer is = left_aligned call v answer x.flex.extent refl is
+
+module _ (x : Stores) (h : HeapList) (are : AreStores x) (free : IsFreeOfAnchors h (store_in x)) where
+  -- what a call leaves that was done
+  done_keeps : (call : FlexCall) (v : FlexState) (answer : Bool) → NamesOutside h call → called (store_in x) x.flex call ≡ Ok (v, answer)
+      → KeepsHeap h (store_in x) (store_flexed (store_in x) v)
+  done_keeps call v answer out is =
+      let s : Store = store_in x in
+      let still : (a : ℕ) → in_range h.start h.end a ≡ true → IsStill a (flex_state s x.flex) v = λ a inside.
+      call_beside s x.flex call answer v h a are.flex.is free out (call_is_done s x.flex call v answer is) (called_aligned x are call v answer is) inside in
+      record {
+        found = free.found;
+        bytes = λ a inside. (still a inside).byte;
+        anchors = λ a inside. (still a inside).none ∙ sym (free.anchors a inside);
+      }
 
   call_keeps : (call : FlexCall) (r : Result (FlexState × Bool) ErrorNumber) → NamesOutside h call → called (store_in x) x.flex call ≡ r
       → KeepsHeap h (store_in x) (store_in (left_by x (store_in x) r))
   call_keeps call (Err e) out is = heap_same h (store_in x) free
-  call_keeps call (Ok q) out is = done_keeps call q.0 q.1 x.flex.extent out refl is
+  call_keeps call (Ok q) out is = done_keeps call q.0 q.1 out is
 
   init_keeps : (start end : ℕ) (r : Result (FlexState × Unit {0}) ErrorNumber) → begun (store_in x) (flex_state (store_in x) x.flex) start end ≡ r
       → KeepsHeap h (store_in x) (store_in (left_by x (with_flex_record (store_in x) start end) (bind r (λ p. Ok (p.0, true)))))
@@ -71,7 +135,9 @@ module _ (x : Stores) (h : HeapList) (are : AreStores x) (free : IsFreeOfAnchors
       let g : HasGuestHeap x.world.estate h = record { estate = are.world.estate; system = are.world.system; found = free.found; own = own } in
       let f : IsFitWorld x.world = record { estate = estates_fit x.world.estate are.world.estate; slots = modules_below x.world.modules are.modules } in
       let slid : WorldStaysFit x.world (world_slid return_address x.world) = slid_world_fit return_address x.world f in
-      outside_keeps x.world.estate (world_slid return_address x.world).estate.store h g slid.estate.outside
+      let still : IsNotForgotten (world_slid return_address x.world).estate.store h.start =
+      ap is_some (slid_world_found return_address x.world h.start (guest_elsewhere x.world.estate h g) ∙ free.found) in
+      outside_keeps x.world.estate (world_slid return_address x.world).estate.store h g slid.estate.outside (λ lies. still)
 
 pub turns_keep : TurnsKeepHeap
 unfolding turned

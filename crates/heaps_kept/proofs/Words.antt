@@ -1,10 +1,11 @@
 -- Private words, the environment text, and blocks and images that are given back.
 use Rattle.std.proofs.Common.{ℕ, ◌+◌, ◌*◌, ◌≡◌, ◌≤◌, ◌<◌, ◌++◌, false, List, [], ◌∷◌, length, Result, Ok, Err, refl, inl, inr, arith}
-use Rattle.std.proofs.lemmas.Bool.{both_ways, cases_Bool, ne_eqb}
+use Rattle.std.proofs.lemmas.Bool.{both_ways, cases_Bool, false_from_ne_true, le-leb, lt-ltb, ne_eqb}
 use Rattle.std.proofs.Common.{length-append}
 use Rattle.profile.specs.declared.error.ErrorNumber.{ErrorNumber}
 use Rattle.address_map.proofs.Stores.{in_range-cases}
 use Rattle.address_map.specs.Bytes.{Bytes, in_range, with_bytes_at, with_word_at}
+use Rattle.os_heap.proofs.Apart.{range_parts}
 use Rattle.os_heap.specs.Calls.{gave_back}
 use Rattle.os_heap.specs.Store.{Store}
 use Rattle.dynamic_areas.specs.Ground.{Estate}
@@ -15,20 +16,31 @@ use Rattle.instances_table.specs.declared.parts.Image.{Image}
 use Rattle.instances_plans.specs.Code.{private_of}
 use Rattle.instances_ground.specs.World.{freed, image_gone, or_same, private_freed, private_word, with_private, with_text}
 use Rattle.heaps_kept.proofs.HeapCalls.{LeavesFit, OnDone, gave_fit}
-use Rattle.heaps_kept.proofs.Holding.{keeps_all, range_within, stays_both, written_fit}
+use Rattle.heaps_kept.proofs.Holding.{keeps_all, stays_both, system_writes, written_fit}
 use Rattle.heaps_kept.proofs.ModuleArea.{IsAny, Leaves, OnEstate, fit_both, fit_same, freed_fit, records_fit, store_fit}
 use Rattle.heaps_kept.specs.FitEstates.{EstateStaysFit, IsFitEstate}
-use Rattle.heaps_kept.specs.Fits.{IsFitStore, StaysFit, is_module_byte}
+use Rattle.heaps_kept.specs.Fits.{IsFitStore, StaysFit, WritesThere}
 use Rattle.heaps_kept.specs.PlanLaws.{WritesStayFit}
 
 -- bytes that are written in the module area or the system pages
-bytes_fit : (e : Estate) (c : Bytes) → IsFitEstate e → ((a : ℕ) → is_module_byte a ≡ false → c.at a ≡ e.store.bytes.at a)
-    → EstateStaysFit e (with_store e (record e.store { bytes = c }))
-bytes_fit e c f kept = store_fit e (record e.store { bytes = c }) f (written_fit (4096 * f.area.pages) e.store c f.store kept)
+bytes_fit : (e : Estate) (c : Bytes) → IsFitEstate e → WritesThere e.store c → EstateStaysFit e (with_store e (record e.store { bytes = c }))
+bytes_fit e c f writes = store_fit e (record e.store { bytes = c }) f (written_fit (4096 * f.area.pages) e.store c f.store writes)
 
-word_apart : (f : ℕ → ℕ) (at value a : ℕ) → 0x01800000 ≤ at → at + 4 ≤ 0x01C03000 → is_module_byte a ≡ false → with_word_at f at value a ≡ f a
+-- and those in the system pages alone
+system_fit : (e : Estate) (c : Bytes) → IsFitEstate e → ((a : ℕ) → in_range 0x01C00000 0x3000 a ≡ false → c.at a ≡ e.store.bytes.at a)
+    → EstateStaysFit e (with_store e (record e.store { bytes = c }))
+system_fit e c f kept = bytes_fit e c f (system_writes (4096 * f.area.pages) e.store c f.store kept)
+
+-- a range within the system pages
+part_within : (at len a : ℕ) → 0x01C00000 ≤ at → at + len ≤ 0x01C03000 → in_range 0x01C00000 0x3000 a ≡ false → in_range at len a ≡ false
+part_within at len a low high out = false_from_ne_true (in_range at len a) (λ is.
+    let parts : (at ≤ a) × (a < at + len) = range_parts at len a is in
+    both_ways (in_range 0x01C00000 0x3000 a) out
+    (rw (le-leb 0x01C00000 a (omega (arith, parts.0, low)), lt-ltb a 0x01C03000 (omega (arith, parts.1, high))) refl))
+
+word_apart : (f : ℕ → ℕ) (at value a : ℕ) → 0x01C00000 ≤ at → at + 4 ≤ 0x01C03000 → in_range 0x01C00000 0x3000 a ≡ false → with_word_at f at value a ≡ f a
 word_apart f at value a low high out = elim (in_range-cases at 4 a) [
-  | inl r ↦ absurd (both_ways (in_range at 4 a) (range_within at 4 a low high out) r.0)
+  | inl r ↦ absurd (both_ways (in_range at 4 a) (part_within at 4 a low high out) r.0)
   | inr r ↦ elim r.1 [
     | inl less ↦ rw (
       ne_eqb a at (λ e. omega (arith, less, e)),
@@ -47,15 +59,15 @@ word_apart f at value a low high out = elim (in_range-cases at 4 a) [
 
 pub word_fit : (e : Estate) (slot value : ℕ) → IsFitEstate e → slot < 64 → EstateStaysFit e (with_private e slot value)
 word_fit e slot value f few =
-    bytes_fit e (record { mapped = e.store.bytes.mapped; at = with_word_at e.store.bytes.at (private_of slot) value }) f
+    system_fit e (record { mapped = e.store.bytes.mapped; at = with_word_at e.store.bytes.at (private_of slot) value }) f
     (λ a out. word_apart e.store.bytes.at (private_of slot) value a (omega arith) (omega (arith, few)) out)
 
 pub text_fit : (e : Estate) (text : List ℕ) → IsFitEstate e → length text ≤ 255 → EstateStaysFit e (with_text e text)
 text_fit e text f few =
     let all : List ℕ = text ++ 0 ∷ [] in
     let size : length all ≤ 256 = omega (arith, few, length-append text (0 ∷ [])) in
-    bytes_fit e (record { mapped = e.store.bytes.mapped; at = with_bytes_at e.store.bytes.at 0x01C02200 all }) f (λ a out.
-    let apart : in_range 0x01C02200 (length all) a ≡ false = range_within 0x01C02200 (length all) a (omega arith) (omega (arith, size)) out in
+    system_fit e (record { mapped = e.store.bytes.mapped; at = with_bytes_at e.store.bytes.at 0x01C02200 all }) f (λ a out.
+    let apart : in_range 0x01C02200 (length all) a ≡ false = part_within 0x01C02200 (length all) a (omega arith) (omega (arith, size)) out in
     rw apart refl)
 
 -- a block goes where it can be given back
@@ -97,7 +109,7 @@ image_gone_fit e image f = elim (cases_Bool (is_in_module_area image.at)) [
 
 pub writes_fit : WritesStayFit
 writes_fit e f = record {
-  bytes = λ c kept. bytes_fit e c f kept;
+  bytes = λ c writes. bytes_fit e c f writes;
   records = λ others. store_fit e (record e.store { others = others }) f (records_fit (4096 * f.area.pages) e.store others f.store);
   word = λ slot value few. word_fit e slot value f few;
   text = λ text few. text_fit e text f few;

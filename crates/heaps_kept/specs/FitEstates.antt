@@ -13,7 +13,7 @@ pub record IsFitEstate (e : Estate) : Type 0 where
   pub most : area.maximum ≤ 0x400000
   pub store : IsFitStore (4096 * area.pages) e.store
 
--- a step within a call that keeps this, and all that lies outside the module area
+-- a step within a call that keeps this, and all that lies outside the module area, with the heaps in its blocks
 pub record EstateStaysFit (d e : Estate) : Type 0 where
   pub fit : IsFitEstate e
   pub outside : KeepsOutside d.store e.store

@@ -1,6 +1,6 @@
 -- The actions of module calls stay in the module area and the system pages: private words, the environment text,
 -- images, removals, and the slide.
-use Rattle.std.specs.Prelude.{ℕ, ◌≡◌, ◌≤◌, ◌<◌, false, List, [], ◌∷◌, length}
+use Rattle.std.specs.Prelude.{ℕ, ◌≤◌, ◌<◌, List, [], ◌∷◌, length}
 use Rattle.address_map.specs.Bytes.{Bytes}
 use Rattle.address_map.specs.declared.region.Region.{Region}
 use Rattle.dynamic_areas.specs.Ground.{Estate}
@@ -18,12 +18,11 @@ use Rattle.instances_slide.specs.Slid.{world_slid}
 use Rattle.instances_actions.specs.Actions.{acted}
 use Rattle.instances.specs.Turns.{module_doing}
 use Rattle.heaps_kept.specs.FitEstates.{EstateStaysFit, IsFitEstate}
-use Rattle.heaps_kept.specs.Fits.{is_module_byte}
+use Rattle.heaps_kept.specs.Fits.{WritesThere}
 
 -- What is written to the module area's blocks and the system pages, what is recorded, and what is given back.
 pub record WordsStayFit (e : Estate) : Type 0 where
-  pub bytes : (c : Bytes) → ((a : ℕ) → is_module_byte a ≡ false → c.at a ≡ e.store.bytes.at a)
-      → EstateStaysFit e (with_store e (record e.store { bytes = c }))
+  pub bytes : (c : Bytes) → WritesThere e.store c → EstateStaysFit e (with_store e (record e.store { bytes = c }))
   pub records : (others : List Region) → EstateStaysFit e (with_store e (record e.store { others = others }))
   pub word : (slot value : ℕ) → slot < 64 → EstateStaysFit e (with_private e slot value)
   pub text : (text : List ℕ) → length text ≤ 255 → EstateStaysFit e (with_text e text)

@@ -1,11 +1,11 @@
--- So does a slide of the module area's heap, whichever of its blocks move.
+-- So does a slide of the module area's heap, whichever of its blocks move, where no heap lies in one of these.
 use Rattle.std.specs.Prelude.{ℕ, ◌≡◌, List, Some}
 use Rattle.os_heap_lists.specs.Heap.{HeapList}
 use Rattle.os_heap.specs.Store.{Store, find_heap}
-use Rattle.os_heap_slide.specs.Slide.{with_slid}
+use Rattle.os_heap_slide.specs.Slide.{HoldNoHeap, with_slid}
 use Rattle.heaps_kept.specs.Fits.{IsFitStore, StaysFit}
 
 abbrev pub SlidesStayFit : Type 0
 SlidesStayFit =
     (limit : ℕ) (s : Store) (h : HeapList) (movable : List ℕ) → IsFitStore limit s
-    → find_heap 0x01800000 s.heaps ≡ Some h → StaysFit limit s (with_slid s h movable)
+    → find_heap 0x01800000 s.heaps ≡ Some h → HoldNoHeap s.heaps h movable → StaysFit limit s (with_slid s h movable)

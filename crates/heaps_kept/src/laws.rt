@@ -16,18 +16,20 @@ ghost use Rattle.heaps_kept.specs.PlanLaws.{
 ghost use Rattle.heaps_kept.specs.SlideLaws.{SlidesStayFit};
 ghost use Rattle.heaps_kept.specs.TurnLaws.{TurnsKeepHeap};
 
-/// Get, free and resize in the module area, and a move that a resize makes, stay there.
+/// Get, free and resize in the module area, and a move that a resize makes, stay there, and forget no heap that starts
+/// elsewhere. A heap that lies in a live block of the module area lies in one still, with all its bytes, unless it was
+/// forgotten.
 pub fn heap_calls_stay_fit()
     ensures { HeapCallsStayFit }
 {}
 
-/// A slide of the module area stays there.
+/// So it is with a slide of the module area, where no heap lies in a block that moves.
 pub fn slides_stay_fit()
     ensures { SlidesStayFit }
 {}
 
-/// Claims, releases and changes of size in the module area stay there, with the growth of the area that they make; so
-/// do new images, with the bytes that they get.
+/// So it is with claims, releases and changes of size in the module area, with the growth of the area that they make, and
+/// with new images, with the bytes that they get.
 pub fn module_area_calls_stay_fit()
     ensures { ModuleAreaCallsStayFit }
 {}
@@ -37,12 +39,14 @@ pub fn estates_are_fit()
     ensures { EstatesAreFit }
 {}
 
-/// A heap that a guest made has no byte in the module area or in the system pages.
+/// A heap that a guest made has no byte in the module area or in the system pages, or it lies in a live block of the
+/// module area.
 pub fn guest_heaps_lie_outside()
     ensures { GuestHeapsLieOutside }
 {}
 
-/// What changes in the module area and the system pages alone keeps each heap that a guest made.
+/// What changes in the module area and the system pages alone keeps each heap that a guest made, but one that lies in a
+/// live block of the module area and is forgotten with that block, or with what is cut off it. No other is forgotten.
 pub fn outside_keeps_heap()
     ensures { OutsideKeepsHeap }
 {}
@@ -53,7 +57,7 @@ pub fn area_calls_keep_heap()
 {}
 
 /// Private words, the environment text, and blocks and images that are given back, stay in the module area and the
-/// system pages.
+/// system pages, and change no heap that lies in a block there and is not forgotten.
 pub fn writes_stay_fit()
     ensures { WritesStayFit }
 {}

@@ -1,11 +1,11 @@
--- The estate after a record of an image went, and what calls keep that leave the layout of memory.
+-- The estate after a record of an image went, and what calls keep that leave what is mapped.
 use Rattle.std.proofs.Common.{◌≡◌, ℕ, sym, ap, subst, ◌∙◌}
 use Rattle.std.specs.Prelude.{is_some}
 use Rattle.instances_ground.specs.address_map.specs.declared.map.AddressMap.{AddressMap}
-use Rattle.instances_ground.specs.address_map.specs.Memory.{Layout, Mapping, free_pages, layout, mapping}
+use Rattle.instances_ground.specs.address_map.specs.Memory.{Mapping, free_pages, mapping}
 use Rattle.instances_ground.specs.address_map.specs.Records.{without_region}
 use Rattle.instances_ground.specs.address_map.specs.declared.region.Kind.TheVariants as kind
-use Rattle.instances_ground.specs.os_heap.specs.Store.{IsSound, Store, others_in, store_of}
+use Rattle.instances_ground.specs.os_heap.specs.Store.{IsSound, Store, store_of}
 use Rattle.instances_ground.specs.dynamic_areas.specs.Areas.{Land}
 use Rattle.instances_ground.specs.dynamic_areas.specs.Ground.{IsRecorded, estate_of, system_pages}
 use Rattle.instances_ground.specs.rma.specs.Calls.{with_store}
@@ -14,15 +14,12 @@ use Rattle.instances_ground.specs.Sound.{HasSystemPages}
 use Rattle.instances_ground.proofs.Images.{system_less}
 use Rattle.instances_ground.proofs.Removals.{given_back_others}
 
-pub others_same : (m n : AddressMap) → layout n ≡ layout m → (store_of n).others ≡ (store_of m).others
-unfolding store_of
-others_same m n same = ap (λ (q : Layout). others_in q.regions) same
-
-pub pages_stay : (m n : AddressMap) → layout n ≡ layout m → IsSound (store_of n) → HasSystemPages m → HasSystemPages n
-pages_stay m n same sound pages = record {
+pub pages_stay : (m n : AddressMap) → (store_of n).others ≡ (store_of m).others → mapping n ≡ mapping m → IsSound (store_of n) → HasSystemPages m
+    → HasSystemPages n
+pages_stay m n others same sound pages = record {
   sound = sound;
-  recorded = subst (IsRecorded system_pages) (sym (others_same m n same)) pages.recorded;
-  mapped = λ a low high. ap (λ (q : Layout). is_some (q.place a)) same ∙ pages.mapped a low high;
+  recorded = subst (IsRecorded system_pages) (sym others) pages.recorded;
+  mapped = λ a low high. ap (λ (q : Mapping). is_some (q.place a)) same ∙ pages.mapped a low high;
 }
 
 pub pages_less : (m n : AddressMap) (at : ℕ) → (store_of n).others ≡ without_region (store_of m).others kind.Image at → mapping n ≡ mapping m

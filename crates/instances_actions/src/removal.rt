@@ -1,7 +1,8 @@
 //! What takes instances away, and what they held.
 
 ghost use Rattle.std.specs.Prelude.{ℕ, List, ◌≡◌, ◌<◌};
-ghost use Rattle.instances_ground.specs.address_map.specs.Memory.{layout};
+ghost use Rattle.instances_ground.specs.address_map.specs.Memory.{mapping};
+ghost use Rattle.instances_ground.specs.os_heap.specs.Order.{LosesHeaps};
 ghost use Rattle.instances_ground.specs.os_heap.specs.Store.{AreClasses, store_of};
 ghost use Rattle.instances_ground.specs.dynamic_areas.specs.Areas.{Land};
 ghost use Rattle.instances_ground.specs.dynamic_areas.specs.Ground.{IsEstate, estate_of};
@@ -39,8 +40,8 @@ pub fn remove(map: &mut AddressMap, table: &mut InstanceTable, slot: u32)
     }
 }
 
-/// Gives the block back that the private word of a slot names, and makes the word 0. What is no block of the module area, or a module's image, or
-/// holds an anchor of the flex store, stays as it is.
+/// Gives the block back that the private word of a slot names, with the heaps that lie in it, and makes the word 0. What is no block of the module
+/// area, or a module's image, or holds an anchor of the flex store, stays as it is.
 ///
 /// RISC OS 3 Programmer's Reference Manual, "Modules", "Finalisation entry point".
 pub fn free_private(map: &mut AddressMap, slot: u32)
@@ -53,7 +54,9 @@ pub fn free_private(map: &mut AddressMap, slot: u32)
         → IsWorld (world_of map.new l modules) pending }
     ensures pages { HasSystemPages map.new }
     ensures classes { AreClasses map.new }
-    ensures layout { layout map.new ≡ layout map.old }
+    ensures others { (store_of map.new).others ≡ (store_of map.old).others }
+    ensures mapping { mapping map.new ≡ mapping map.old }
+    ensures records { LosesHeaps map.old map.new }
     ensures flex { KeepsFlex (store_of map.old) (store_of map.new) }
 {
     let block = private_value(map, slot);

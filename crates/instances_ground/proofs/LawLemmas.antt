@@ -6,6 +6,7 @@ use Rattle.rma.specs.address_map.specs.Bytes.{AreMapped}
 use Rattle.rma.specs.address_map.specs.declared.region.Region.{Region}
 use Rattle.rma.specs.os_heap_lists.specs.Heap.{HeapList}
 use Rattle.rma.specs.os_heap.specs.Store.{AreRangesApart, ArePlaced, IsClearOfHeaps, IsClearOfRanges, IsImageIn, is_image}
+use Rattle.rma.specs.os_heap.proofs.Stores.{placed_either}
 use Rattle.rma.specs.dynamic_areas.specs.Ground.{AreRangesMapped, Estate, IsGround, IsRecorded}
 use Rattle.instances_table.specs.declared.parts.Image.{Image}
 use Rattle.instances_table.specs.ModuleArea.{is_in_module_area}
@@ -22,7 +23,7 @@ each_image P mapped hs (r ∷ rs) is solid ranges placed =
     let rest : AllByRecursion P (image_ranges rs) =
     each_image P mapped hs rs (λ q there firm covered place. is q (inr there) firm covered place) solid.1 ranges.1 placed.1 in
     elim (cases_Bool (is_image r.kind)) [
-      | inl image ↦ rw image (is r (inl refl) (solid.0 image) ranges.0 placed.0, rest)
+      | inl image ↦ rw image (is r (inl refl) (solid.0 image) ranges.0 (placed_either hs r placed.0), rest)
       | inr other ↦ rw other rest
     ]
 

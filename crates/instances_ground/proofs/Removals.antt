@@ -12,7 +12,8 @@ use Rattle.rma.specs.address_map.specs.declared.region.Kind.TheVariants as kind
 use Rattle.rma.specs.address_map.specs.declared.region.Region.{Region}
 use Rattle.rma.specs.os_heap_lists.specs.Heap.{HeapList}
 use Rattle.rma.specs.os_heap_lists.specs.Lists.{live_total, released}
-use Rattle.rma.specs.os_heap.specs.Calls.{gave_back, holding, holds_anchor, unless_image}
+use Rattle.rma.specs.os_heap.specs.Calls.{gave_back, holding, holds_anchor, total_or_0, unless_image}
+use Rattle.rma.specs.os_heap.specs.Forgetting.{forgot}
 use Rattle.rma.specs.os_heap.specs.Store.{Store, find_heap, has_image}
 use Rattle.rma.specs.dynamic_areas.specs.Ground.{Estate, IsEstate, IsRecorded, system_pages}
 use Rattle.rma.specs.Calls.{in_area, rma_freed}
@@ -88,12 +89,13 @@ ranges_given_up image (x ∷ xs) different =
       last_differs at [] none = (or_parts (image.at == at) false none).0
       last_differs at (y ∷ ys) none = last_differs at ys (or_parts (y.at == at) (list_any (starts_at at) (map range_of (ys ++ image ∷ []))) none).1
 
--- A release keeps all records.
-released_others : (s : Store) (h : HeapList) (block : ℕ) (held : Bool) (r : Option (List Item))
-    → (or_kept s (bind (ok_or r HeapNotABlock) (λ items. if held then Err HeapHoldsAnchor else Ok (holding s h items, tt)))).others ≡ s.others
-released_others s h block held None = refl
-released_others s h block true (Some items) = refl
-released_others s h block false (Some items) = refl
+-- A release keeps all records but those of heaps that it forgets.
+released_others : (s : Store) (h : HeapList) (block total : ℕ) (held : Bool) (r : Option (List Item))
+    → (or_kept s (bind (ok_or r HeapNotABlock) (λ items.
+    if held then Err HeapHoldsAnchor else Ok (holding (forgot s block total block) h items, tt)))).others ≡ s.others
+released_others s h block total held None = refl
+released_others s h block total true (Some items) = refl
+released_others s h block total false (Some items) = refl
 
 pub given_back_others : (s : Store) (heap block : ℕ) → (or_kept s (gave_back s heap block)).others ≡ s.others
 unfolding gave_back
@@ -101,9 +103,9 @@ given_back_others s heap block = go (find_heap heap s.heaps) where
   go : (found : Option HeapList) → (or_kept s (bind (ok_or found HeapBadDesc) (λ h.
       bind (ok_or (unless_image (has_image block s.others) (released block (h.start + 16) h.items)) HeapNotABlock) (λ items.
       if holds_anchor s.anchor block (live_total block (h.start + 16) h.items) then Err HeapHoldsAnchor else
-      Ok (holding s h items, tt))))).others ≡ s.others
+      Ok (holding (forgot s block (total_or_0 (live_total block (h.start + 16) h.items)) block) h items, tt))))).others ≡ s.others
   go None = refl
-  go (Some h) = released_others s h block (holds_anchor s.anchor block (live_total block (h.start + 16) h.items))
+  go (Some h) = released_others s h block (total_or_0 (live_total block (h.start + 16) h.items)) (holds_anchor s.anchor block (live_total block (h.start + 16) h.items))
       (unless_image (has_image block s.others) (released block (h.start + 16) h.items))
 
 freed_as_kept : (e : Estate) (r : Result (Store × Unit {0}) ErrorNumber) → (or_same e (in_area e r)).store ≡ or_kept e.store r

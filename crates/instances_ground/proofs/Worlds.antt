@@ -5,8 +5,6 @@ use Rattle.rma.specs.address_map.specs.Records.{without_region}
 use Rattle.rma.specs.address_map.specs.declared.region.Kind.TheVariants as kind
 use Rattle.rma.specs.address_map.specs.declared.region.Region.{Region}
 use Rattle.rma.specs.dynamic_areas.specs.Ground.{IsEstate}
-use Rattle.rma.specs.Images.{CanRecord}
-use Rattle.rma.proofs.ImageLemmas.{area_kind}
 use Rattle.instances_table.specs.declared.parts.Image.{Image}
 use Rattle.instances_table.specs.Modules.{Module, changed_at}
 use Rattle.instances_table.specs.Changes.{without_first}
@@ -98,9 +96,3 @@ few_records w pending world modules one =
     let parts : length (images_of w.modules ++ pending) ≡ length (images_of w.modules) + length pending = length-append (images_of w.modules) pending in
     let number : length (images_of w.modules) ≡ length w.modules = length-map w.modules (λ (m : Module). m.image) in
     omega (arith, all, images, parts, number, modules, one, world.few)
-
-pub can_record : (w : World) (pending : List Image) → IsWorld w pending → length w.modules ≤ 64 → length pending ≤ 1 → CanRecord w.estate.store
-can_record w pending world modules one = record {
-  area = area_kind w.estate world.estate;
-  room = few_records w pending world modules one;
-}

@@ -170,21 +170,21 @@ one_less modules words a b low is = elim (cases_Bool (has_image_at a modules)) [
       omega (arith, one, less)
 ]
 
-few_left : (anchor : ℕ → Bool) (modules : List Module) (words : List ℕ) (return_address at : ℕ) (xs : List Item) → AreTotals xs
-    → length (blocks_that (can_move anchor modules words return_address) at xs) ≤ left_above modules words (at + 4)
-few_left anchor modules words return_address at [] totals = omega arith
-few_left anchor modules words return_address at (Free t ∷ xs) totals =
-    let rest = few_left anchor modules words return_address (at + t) xs totals.1 in
+few_left : (anchor : ℕ → Bool) (holds : ℕ → ℕ → Bool) (modules : List Module) (words : List ℕ) (return_address at : ℕ) (xs : List Item) → AreTotals xs
+    → length (blocks_that (can_move anchor holds modules words return_address) at xs) ≤ left_above modules words (at + 4)
+few_left anchor holds modules words return_address at [] totals = omega arith
+few_left anchor holds modules words return_address at (Free t ∷ xs) totals =
+    let rest = few_left anchor holds modules words return_address (at + t) xs totals.1 in
     let images = above_less (λ (m : Module). m.image.at) (at + 4) (at + t + 4) modules (omega arith) in
     let named = above_less (λ (w : ℕ). w) (at + 4) (at + t + 4) words (omega arith) in
     omega (arith, rest, images, named)
-few_left anchor modules words return_address at (Live t ∷ xs) totals =
-    let rest = few_left anchor modules words return_address (at + t) xs totals.1 in
+few_left anchor holds modules words return_address at (Live t ∷ xs) totals =
+    let rest = few_left anchor holds modules words return_address (at + t) xs totals.1 in
     let least = total_facts t totals.0 in
-    elim (cases_Bool (can_move anchor modules words return_address at t)) [
+    elim (cases_Bool (can_move anchor holds modules words return_address at t)) [
       | inl can ↦
           let tied : (has_image_at (at + 4) modules || is_named_once words (at + 4)) ≡ true =
-          (and_parts _ (not (anchor_among anchor at t) && not (in_range at t return_address)) can).0 in
+          (and_parts _ ((not (anchor_among anchor at t) && not (holds at t)) && not (in_range at t return_address)) can).0 in
           let one = one_less modules words (at + 4) (at + t + 4) (omega (arith, least.0)) tied in
           rw can (omega (arith, rest, one))
       | inr cannot ↦
@@ -193,10 +193,10 @@ few_left anchor modules words return_address at (Live t ∷ xs) totals =
           rw cannot (omega (arith, rest, images, named))
     ]
 
-pub few_blocks : (anchor : ℕ → Bool) (modules : List Module) (words : List ℕ) (return_address at : ℕ) (xs : List Item) → AreTotals xs
-    → length modules ≤ 64 → length words ≤ 64 → length (blocks_that (can_move anchor modules words return_address) at xs) ≤ 128
-few_blocks anchor modules words return_address at xs totals images named =
-    let left = few_left anchor modules words return_address at xs totals in
+pub few_blocks : (anchor : ℕ → Bool) (holds : ℕ → ℕ → Bool) (modules : List Module) (words : List ℕ) (return_address at : ℕ) (xs : List Item) → AreTotals xs
+    → length modules ≤ 64 → length words ≤ 64 → length (blocks_that (can_move anchor holds modules words return_address) at xs) ≤ 128
+few_blocks anchor holds modules words return_address at xs totals images named =
+    let left = few_left anchor holds modules words return_address at xs totals in
     let one = most_above (λ (m : Module). m.image.at) (at + 4) modules in
     let two = most_above (λ (w : ℕ). w) (at + 4) words in
     omega (arith, left, one, two)

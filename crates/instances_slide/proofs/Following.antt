@@ -11,53 +11,49 @@ use Rattle.address_map.specs.declared.region.Region.{Region}
 use Rattle.os_heap_lists.proofs.LiveBlocks.{LiveBytes, live_bytes}
 use Rattle.os_heap_lists.specs.Heap.{HeapList}
 use Rattle.os_heap_lists.specs.Lists.{total_for}
-use Rattle.instances_ground.specs.os_heap.proofs.Stores.{AreClearOthers, clear_of-found}
-use Rattle.instances_ground.specs.os_heap.specs.Calls.{with_items}
-use Rattle.instances_ground.specs.os_heap.specs.Store.{AreClear, AreHeapsIn, ArePlaced, find_heap, is_image, IsClearOfHeaps, IsImageIn}
-use Rattle.instances_ground.specs.os_heap_slide.proofs.Records.{image_in_moved, IsSlide, moves_in, out_still, slid_in, still_place}
+use Rattle.instances_ground.specs.os_heap.proofs.Stores.{placed_by}
+use Rattle.instances_ground.specs.os_heap.specs.Store.{AreClear, ArePlaced, find_heap, is_image, IsImageBlock}
+use Rattle.instances_ground.specs.os_heap_slide.proofs.Records as records
+use Rattle.instances_ground.specs.os_heap_slide.proofs.Records.{IsSlide, moves_in, out_still, slid_in, still_place}
 use Rattle.instances_ground.specs.dynamic_areas.specs.Ground.{AreRangesMapped, IsRecorded, system_pages}
 use Rattle.instances_table.specs.ModuleArea.{is_in_module_area}
 use Rattle.instances_table.specs.Modules.{Module}
 use Rattle.instances_ground.specs.Sound.{AreSolid, IsSolid, count_beside, image_ranges, images_of, range_of}
 use Rattle.instances_slide.specs.Slid.{image_moved}
 
--- the bytes of an image in a heap are mapped
-image_mapped : (b : Bytes) (hs : List HeapList) (r : Region) → AreHeapsIn b hs → IsImageIn hs r → AreMapped b.mapped r.at r.len
-image_mapped b [] r heaps image = absurd image
-image_mapped b (g ∷ hs) r heaps (inr later) = image_mapped b hs r heaps.1.1 later
-image_mapped b (g ∷ hs) r heaps (inl own) = λ a low high.
-    let place : LiveBytes r.at (r.len + 4) (g.start + 16) (g.start + 16 + size_of g.items) =
-    live_bytes r.at (r.len + 4) (g.start + 16) g.items heaps.0.totals own.live in
-    heaps.0.mapped a (omega (arith, low, place.low)) (omega (arith, high, place.high, heaps.0.inside))
-
--- a record that is clear of all heaps stays where it is
-place_kept : (b c : Bytes) (h : HeapList) (hs : List HeapList) (movable : List ℕ) (r : Region) → IsSlide b c h movable → find_heap h.start hs ≡ Some h
-    → IsClearOfHeaps r.at r.len hs → 0 < r.len → moved_place (moves_in h movable) r.kind r.at ≡ r.at
-place_kept b c h hs movable r s found clear some =
-    let own : AreClear r.at r.len h.start h.end = clear_of-found r.at r.len h.start hs h clear found in
+-- a record that is clear of the heap stays where it is
+place_kept : (b c : Bytes) (h : HeapList) (movable : List ℕ) (r : Region) → IsSlide b c h movable → AreClear r.at r.len h.start h.end → 0 < r.len
+    → moved_place (moves_in h movable) r.kind r.at ≡ r.at
+place_kept b c h movable r s clear some =
     let inside : in_range r.at r.len r.at ≡ true = rw (le-leb r.at r.at (omega arith), lt-ltb r.at (r.at + r.len) (omega (arith, some))) refl in
-    still_place (moves_in h movable) r.kind r.at (out_still b c h movable r.at s (own r.at inside))
+    still_place (moves_in h movable) r.kind r.at (out_still b c h movable r.at s (clear r.at inside))
 
-one_mapped : (b c : Bytes) (h : HeapList) (hs : List HeapList) (movable : List ℕ) (r : Region) → IsSlide b c h movable → AreHeapsIn b hs → AreClearOthers h hs
-    → find_heap h.start hs ≡ Some h → AreHeapsIn c (with_items h.start (slid_in h movable) hs) → c.mapped ≡ b.mapped
-    → IsClearOfHeaps r.at r.len hs ⊎ IsImageIn hs r → AreMapped b.mapped r.at r.len
+-- where a block of the heap lies after the slide
+block_after : (b c : Bytes) (h : HeapList) (movable : List ℕ) (r : Region) → IsSlide b c h movable → IsImageBlock h r
+    → LiveBytes (moved_place (moves_in h movable) r.kind r.at) (r.len + 4) (h.start + 16) (h.start + 16 + size_of (slid_in h movable))
+block_after b c h movable r s image =
+    live_bytes (moved_place (moves_in h movable) r.kind r.at) (r.len + 4) (h.start + 16) (slid_in h movable) s.new.totals
+    (records.image_moved b c h movable r s image)
+
+one_mapped : (b c : Bytes) (h : HeapList) (movable : List ℕ) (r : Region) → IsSlide b c h movable → c.mapped ≡ b.mapped
+    → AreClear r.at r.len h.start h.end ⊎ IsImageBlock h r → AreMapped b.mapped r.at r.len
     → AreMapped b.mapped (moved_place (moves_in h movable) r.kind r.at) r.len
-one_mapped b c h hs movable r s heaps others found now same (inl clear) mapped = elim (cases_eq r.len 0) [
+one_mapped b c h movable r s same (inl clear) mapped = elim (cases_eq r.len 0) [
   | inl none ↦ λ a low high. absurd (omega (arith, none, low, high))
-  | inr some ↦ rw (place_kept b c h hs movable r s found clear (omega (arith, some))) mapped
+  | inr some ↦ rw (place_kept b c h movable r s clear (omega (arith, some))) mapped
 ]
-one_mapped b c h hs movable r s heaps others found now same (inr image) mapped =
+one_mapped b c h movable r s same (inr image) mapped =
+    let place = block_after b c h movable r s image in
     subst (λ (f : ℕ → Bool). AreMapped f (moved_place (moves_in h movable) r.kind r.at) r.len) same
-    (image_mapped c (with_items h.start (slid_in h movable) hs) (moved_region (moves_in h movable) r) now
-    (image_in_moved b c h hs movable r s heaps others image))
+    (λ a low high. s.new.mapped a (omega (arith, low, place.low)) (omega (arith, high, place.high, s.new.inside)))
 
-pub ranges_mapped : (b c : Bytes) (h : HeapList) (hs : List HeapList) (movable : List ℕ) (rs : List Region) → IsSlide b c h movable → AreHeapsIn b hs → AreClearOthers h hs
-    → find_heap h.start hs ≡ Some h → AreHeapsIn c (with_items h.start (slid_in h movable) hs) → c.mapped ≡ b.mapped → ArePlaced hs rs
-    → AreRangesMapped b.mapped rs → AreRangesMapped b.mapped (moved_regions (moves_in h movable) rs)
-ranges_mapped b c h hs movable [] s heaps others found now same placed mapped = tt
-ranges_mapped b c h hs movable (r ∷ rs) s heaps others found now same placed mapped = (
-  one_mapped b c h hs movable r s heaps others found now same placed.0 mapped.0,
-  ranges_mapped b c h hs movable rs s heaps others found now same placed.1 mapped.1,
+pub ranges_mapped : (b c : Bytes) (h : HeapList) (hs : List HeapList) (movable : List ℕ) (rs : List Region) → IsSlide b c h movable
+    → find_heap h.start hs ≡ Some h → c.mapped ≡ b.mapped → ArePlaced hs rs → AreRangesMapped b.mapped rs
+    → AreRangesMapped b.mapped (moved_regions (moves_in h movable) rs)
+ranges_mapped b c h hs movable [] s found same placed mapped = tt
+ranges_mapped b c h hs movable (r ∷ rs) s found same placed mapped = (
+  one_mapped b c h movable r s same (placed_by h.start hs h r placed.0 found) mapped.0,
+  ranges_mapped b c h hs movable rs s found same placed.1 mapped.1,
 )
 
 pub system_moved : (moves : List Move) (rs : List Region) → IsRecorded system_pages rs → IsRecorded system_pages (moved_regions moves rs)
@@ -95,28 +91,20 @@ pub images_follow : (moves : List Move) (rs : List Region) (modules : List Modul
 images_follow moves rs modules sides images = ranges_moved moves rs ∙ ap (moved_regions moves) images ∙ sym (images_moved moves modules sides)
 
 -- they still begin at multiples of 4
-image_whole : (b : Bytes) (hs : List HeapList) (r : Region) → AreHeapsIn b hs → IsImageIn hs r → r.at % 4 ≡ 0
-image_whole b [] r heaps image = absurd image
-image_whole b (g ∷ hs) r heaps (inr later) = image_whole b hs r heaps.1.1 later
-image_whole b (g ∷ hs) r heaps (inl own) =
-    (live_bytes r.at (r.len + 4) (g.start + 16) g.items heaps.0.totals own.live).whole (omega (arith, heaps.0.aligned))
+one_whole : (b c : Bytes) (h : HeapList) (movable : List ℕ) (r : Region) → IsSlide b c h movable → AreClear r.at r.len h.start h.end ⊎ IsImageBlock h r
+    → IsSolid r → moved_place (moves_in h movable) r.kind r.at % 4 ≡ 0
+one_whole b c h movable r s (inl clear) solid = rw (place_kept b c h movable r s clear solid.some) solid.whole
+one_whole b c h movable r s (inr image) solid = (block_after b c h movable r s image).whole (omega (arith, s.new.aligned))
 
-one_whole : (b c : Bytes) (h : HeapList) (hs : List HeapList) (movable : List ℕ) (r : Region) → IsSlide b c h movable → AreHeapsIn b hs → AreClearOthers h hs
-    → find_heap h.start hs ≡ Some h → AreHeapsIn c (with_items h.start (slid_in h movable) hs) → IsClearOfHeaps r.at r.len hs ⊎ IsImageIn hs r → IsSolid r
-    → moved_place (moves_in h movable) r.kind r.at % 4 ≡ 0
-one_whole b c h hs movable r s heaps others found now (inl clear) solid =
-    rw (place_kept b c h hs movable r s found clear solid.some) solid.whole
-one_whole b c h hs movable r s heaps others found now (inr image) solid =
-    image_whole c (with_items h.start (slid_in h movable) hs) (moved_region (moves_in h movable) r) now
-    (image_in_moved b c h hs movable r s heaps others image)
-
-pub solid_moved : (b c : Bytes) (h : HeapList) (hs : List HeapList) (movable : List ℕ) (rs : List Region) → IsSlide b c h movable → AreHeapsIn b hs
-    → AreClearOthers h hs → find_heap h.start hs ≡ Some h → AreHeapsIn c (with_items h.start (slid_in h movable) hs) → ArePlaced hs rs → AreSolid rs
-    → AreSolid (moved_regions (moves_in h movable) rs)
-solid_moved b c h hs movable [] s heaps others found now placed solid = tt
-solid_moved b c h hs movable (r ∷ rs) s heaps others found now placed solid = (
-  λ image. record { some = (solid.0 image).some; whole = one_whole b c h hs movable r s heaps others found now placed.0 (solid.0 image) },
-  solid_moved b c h hs movable rs s heaps others found now placed.1 solid.1,
+pub solid_moved : (b c : Bytes) (h : HeapList) (hs : List HeapList) (movable : List ℕ) (rs : List Region) → IsSlide b c h movable
+    → find_heap h.start hs ≡ Some h → ArePlaced hs rs → AreSolid rs → AreSolid (moved_regions (moves_in h movable) rs)
+solid_moved b c h hs movable [] s found placed solid = tt
+solid_moved b c h hs movable (r ∷ rs) s found placed solid = (
+  λ image. record {
+    some = (solid.0 image).some;
+    whole = one_whole b c h movable r s (placed_by h.start hs h r placed.0 found) (solid.0 image);
+  },
+  solid_moved b c h hs movable rs s found placed.1 solid.1,
 )
 
 pub beside_moved : (moves : List Move) (rs : List Region) → count_beside (moved_regions moves rs) ≡ count_beside rs

@@ -9,6 +9,7 @@ use Rattle.address_map.specs.declared.map.AddressMap.{AddressMap}
 use Rattle.os_heap_lists.specs.Heap.{AreTotals, HeapList, IsHeapIn}
 use Rattle.instances_ground.specs.os_heap.proofs.Found.{found_heap, found_start}
 use Rattle.instances_ground.specs.os_heap.specs.Calls.{items_of}
+use Rattle.instances_ground.specs.os_heap.specs.Forgetting.{holds_heap}
 use Rattle.instances_ground.specs.os_heap.specs.Store.{find_heap, IsSound, store_of}
 use Rattle.instances_table.specs.Modules.{Module}
 use Rattle.instances_slide.proofs.Choosing.{few_blocks}
@@ -45,18 +46,18 @@ are_found m items sound e =
     }
 
 pub found_few : (m : AddressMap) (modules : List Module) (words : List ℕ) (return_address : ℕ) (items : List Item) → AreFound m items → length modules ≤ 64
-    → length words ≤ 64 → length (blocks_that (can_move (anchor_of m) modules words return_address) 0x01800010 items) ≤ 128
+    → length words ≤ 64 → length (blocks_that (can_move (anchor_of m) (holds_heap (store_of m).heaps) modules words return_address) 0x01800010 items) ≤ 128
 found_few m modules words return_address items f images named =
-    few_blocks (anchor_of m) modules words return_address 0x01800010 items f.totals images named
+    few_blocks (anchor_of m) (holds_heap (store_of m).heaps) modules words return_address 0x01800010 items f.totals images named
 
 pub found_movable : (m : AddressMap) (modules : List Module) (words : List ℕ) (return_address : ℕ) (items : List Item) → AreFound m items
     → movable_in (store_of m) modules words return_address (find_heap 0x01800000 (store_of m).heaps)
-    ≡ blocks_that (can_move (anchor_of m) modules words return_address) 0x01800010 items
+    ≡ blocks_that (can_move (anchor_of m) (holds_heap (store_of m).heaps) modules words return_address) 0x01800010 items
 unfolding store_of
 found_movable m modules words return_address items f =
     ap (λ (o : Option HeapList). movable_in (store_of m) modules words return_address o) f.found
-    ∙ ap (λ (n : ℕ). blocks_that (can_move (anchor_of m) modules words return_address) (n + 16) f.heap.items) f.start
-    ∙ ap (λ (xs : List Item). blocks_that (can_move (anchor_of m) modules words return_address) 0x01800010 xs) f.same
+    ∙ ap (λ (n : ℕ). blocks_that (can_move (anchor_of m) (holds_heap (store_of m).heaps) modules words return_address) (n + 16) f.heap.items) f.start
+    ∙ ap (λ (xs : List Item). blocks_that (can_move (anchor_of m) (holds_heap (store_of m).heaps) modules words return_address) 0x01800010 xs) f.same
 
 none_by : (o : Option HeapList) → option_map (λ (h : HeapList). h.items) o ≡ None → o ≡ None
 none_by None e = refl

@@ -1,19 +1,20 @@
 -- The world after its module area was tidied, and that it is sound.
-use Rattle.std.proofs.Common.{◌≡◌, ℕ, Bool, true, false, not, ◌+◌, ◌-◌, ◌≤◌, ◌∙◌, ◌&&◌, ◌||◌, List, [], length, map, refl, sym, ap, subst, Option, Some, None}
-use Rattle.std.proofs.lemmas.Bool.{and_parts, false≢true}
+use Rattle.std.proofs.Common.{◌≡◌, ℕ, Bool, true, false, not, ◌+◌, ◌-◌, ◌≤◌, ◌∙◌, ◌&&◌, ◌||◌, List, [], ◌∷◌, length, map, arith, refl, sym, ap, subst, Option, Some, None}
+use Rattle.std.proofs.lemmas.Bool.{and_parts, both_ways, false_from_ne_true, false≢true, or_from, or_parts}
 use Rattle.address_map.specs.Bytes.{in_range}
 use Rattle.address_map.specs.Memory.{Mapping, byte_at, free_pages, mapping}
 use Rattle.address_map.specs.Records.{anchor_among}
 use Rattle.address_map.specs.declared.follow.Move.{Move}
 use Rattle.address_map.specs.declared.map.AddressMap.{AddressMap}
 use Rattle.os_heap_lists.specs.Heap.{HeapList, IsHeapIn}
+use Rattle.instances_ground.specs.os_heap.proofs.Forgetting.{StartsIn, so_starts, starts_so}
 use Rattle.instances_ground.specs.os_heap.proofs.Found.{found_heap, found_start}
 use Rattle.instances_ground.specs.os_heap.proofs.Moving.{found_held}
-use Rattle.instances_ground.specs.os_heap.proofs.Stores.{AreClearOthers, are_clear_others}
 use Rattle.instances_ground.specs.os_heap.specs.Calls.{OfHeap}
+use Rattle.instances_ground.specs.os_heap.specs.Forgetting.{holds_heap, starts_in}
 use Rattle.instances_ground.specs.os_heap.specs.Store.{IsSound, Store, find_heap, store_of}
 use Rattle.instances_ground.specs.os_heap_slide.proofs.Records.{IsSlide, slid_in}
-use Rattle.instances_ground.specs.os_heap_slide.specs.Slide.{AreBlocks, HoldNoAnchor, IsSlid, MaySlide, with_slid}
+use Rattle.instances_ground.specs.os_heap_slide.specs.Slide.{AreBlocks, HoldNoAnchor, HoldNoHeap, IsSlid, MaySlide, with_slid}
 use Rattle.instances_ground.specs.dynamic_areas.specs.Areas.{Land, find_area}
 use Rattle.instances_ground.specs.dynamic_areas.specs.Ground.{EndsWithArea, Estate, IsEstate, IsGround, estate_of}
 use Rattle.instances_ground.specs.dynamic_areas.specs.declared.area.Area.{Area}
@@ -28,18 +29,35 @@ use Rattle.instances_slide.proofs.Sides.{sides_kept}
 use Rattle.instances_slide.specs.Movable.{can_move, is_named_once, movable_blocks, movable_in}
 use Rattle.instances_slide.specs.Slid.{image_moved, moves_in, private_words, words_at, words_moved, world_moved, world_slid, world_slid_in}
 
--- a block that can be moved holds no anchor
+-- a block that can be moved holds no anchor and no heap
 not_true : (b : Bool) → not b ≡ true → b ≡ false
 not_true true e = absurd (false≢true e)
 not_true false e = refl
 
-pub no_anchor : (anchor : ℕ → Bool) (modules : List Module) (words : List ℕ) (return_address at total : ℕ)
-    → can_move anchor modules words return_address at total ≡ true → anchor_among anchor at total ≡ false
-no_anchor anchor modules words return_address at total can =
+pub holds_none : (anchor : ℕ → Bool) (holds : ℕ → ℕ → Bool) (modules : List Module) (words : List ℕ) (return_address at total : ℕ)
+    → can_move anchor holds modules words return_address at total ≡ true → (anchor_among anchor at total ≡ false) × (holds at total ≡ false)
+holds_none anchor holds modules words return_address at total can =
     let free : Bool = not (anchor_among anchor at total) in
+    let empty : Bool = not (holds at total) in
     let away : Bool = not (in_range at total return_address) in
     let tied : Bool = has_image_at (at + 4) modules || is_named_once words (at + 4) in
-    not_true (anchor_among anchor at total) (and_parts free away (and_parts tied (free && away) can).1).0
+    let both = and_parts free empty (and_parts (free && empty) away (and_parts tied ((free && empty) && away) can).1).0 in
+    (not_true (anchor_among anchor at total) both.0, not_true (holds at total) both.1)
+
+-- so none starts among the bytes that it holds
+pub payload_empty : (hs : List HeapList) (block total : ℕ) → 4 ≤ block → holds_heap hs (block - 4) total ≡ false → holds_heap hs block (total - 4) ≡ false
+payload_empty [] block total above none = refl
+payload_empty (g ∷ hs) block total above none =
+    let parts = or_parts (starts_in (block - 4) total g) (holds_heap hs (block - 4) total) none in
+    or_from (starts_in block (total - 4) g) (holds_heap hs block (total - 4))
+    (false_from_ne_true (starts_in block (total - 4) g) (λ is.
+    let starts : StartsIn block (total - 4) g = starts_so block (total - 4) g is in
+    both_ways (starts_in (block - 4) total g) parts.0 (so_starts (block - 4) total g (record {
+      guest = starts.guest;
+      low = omega (arith, starts.low);
+      high = omega (arith, starts.high, starts.low, above);
+    }))))
+    (payload_empty hs block total above parts.1)
 
 -- the module area's heap is there
 pub record HasHeap (s : Store) : Type 0 where
@@ -56,17 +74,24 @@ heap_there e good = go (find_heap 0x01800000 e.store.heaps) refl good.heap where
 may_by : (s : Store) (modules : List Module) (words : List ℕ) (return_address : ℕ) (o : Option HeapList)
     → ((h : HeapList) → o ≡ Some h → IsHeapIn s.bytes h.start h.end h.items) → (o ≡ None → ⊥) → length modules ≤ 64 → length words ≤ 64
     → OfHeap (λ h. AreBlocks (h.start + 16) h.items (movable_in s modules words return_address o)
-    × ((length (movable_in s modules words return_address o) ≤ 128) × HoldNoAnchor s h (movable_in s modules words return_address o))) o
+    × ((length (movable_in s modules words return_address o) ≤ 128)
+    × (HoldNoAnchor s h (movable_in s modules words return_address o) × HoldNoHeap s.heaps h (movable_in s modules words return_address o)))) o
 may_by s modules words return_address None there none images named = absurd (none refl)
 may_by s modules words return_address (Some h) there none images named =
-    let test : ℕ → ℕ → Bool = can_move s.anchor modules words return_address in
+    let holds : ℕ → ℕ → Bool = holds_heap s.heaps in
+    let test : ℕ → ℕ → Bool = can_move s.anchor holds modules words return_address in
     let heap : IsHeapIn s.bytes h.start h.end h.items = there h refl in (
       are_blocks test (h.start + 16) h.items heap.totals,
       (
-        few_blocks s.anchor modules words return_address (h.start + 16) h.items heap.totals images named,
-        λ b is.
-            let c : IsChosen test (h.start + 16) h.items b = chosen test (h.start + 16) h.items b heap.totals is in
-            rw c.live (no_anchor s.anchor modules words return_address (b - 4) c.total c.passes),
+        few_blocks s.anchor holds modules words return_address (h.start + 16) h.items heap.totals images named,
+        (
+          λ b is.
+              let c : IsChosen test (h.start + 16) h.items b = chosen test (h.start + 16) h.items b heap.totals is in
+              rw c.live (holds_none s.anchor holds modules words return_address (b - 4) c.total c.passes).0,
+          λ b is.
+              let c : IsChosen test (h.start + 16) h.items b = chosen test (h.start + 16) h.items b heap.totals is in
+              rw c.live (payload_empty s.heaps b c.total (omega (arith, c.low)) (holds_none s.anchor holds modules words return_address (b - 4) c.total c.passes).1),
+        ),
       ),
     )
 
@@ -106,7 +131,6 @@ blocks_sound w h movable world found sound =
     let start : h.start ≡ 0x01800000 = found_start 0x01800000 s.heaps h found in
     let own : find_heap h.start s.heaps ≡ Some h = subst (λ (q : ℕ). find_heap q s.heaps ≡ Some h) (sym start) found in
     let there : find_heap h.start t.heaps ≡ Some p = found_held h.start (slid_in h movable) s.heaps h own in
-    let others : AreClearOthers h s.heaps = are_clear_others s.bytes h.start s.heaps h g.sound.heaps g.sound.unnested own in
     let slide : IsSlide s.bytes t.bytes h movable = record {
       old = found_heap s.bytes 0x01800000 s.heaps h g.sound.heaps found;
       new = found_heap t.bytes h.start t.heaps p sound.heaps there;
@@ -119,14 +143,14 @@ blocks_sound w h movable world found sound =
           table = g.table;
           land = g.land;
           pages = g.pages;
-          ranges = ranges_mapped s.bytes t.bytes h s.heaps movable s.others slide g.sound.heaps others own sound.heaps refl g.sound.placed g.ranges;
+          ranges = ranges_mapped s.bytes t.bytes h s.heaps movable s.others slide own refl g.sound.placed g.ranges;
           sound = sound;
         };
         heap = rw there' (ends_same h p _ refl refl (rw found at world.estate.heap));
       };
       system = system_moved (moves_in h movable) s.others world.system;
       images = images_follow (moves_in h movable) s.others w.modules (sides_kept w.estate h movable world.estate found) world.images;
-      solid = solid_moved s.bytes t.bytes h s.heaps movable s.others slide g.sound.heaps others own sound.heaps g.sound.placed world.solid;
+      solid = solid_moved s.bytes t.bytes h s.heaps movable s.others slide own g.sound.placed world.solid;
       few = rw (beside_moved (moves_in h movable) s.others) world.few;
     }
 

@@ -2,6 +2,7 @@
 ghost use Rattle.std.specs.Prelude.{◌≡◌, ◌≤◌, ◌<◌, ◌+◌, ◌^◌, [], length, Option, Some, None};
 ghost use Rattle.address_map.specs.Items.{size_of};
 ghost use Rattle.address_map.specs.Memory.{anchor_of};
+ghost use Rattle.instances_ground.specs.os_heap.specs.Forgetting.{holds_heap};
 ghost use Rattle.instances_ground.specs.os_heap.specs.Store.{find_heap, store_of, IsSound};
 ghost use Rattle.instances_slide.specs.Movable.{blocks_that, can_move, is_named_once, movable_in};
 
@@ -45,9 +46,11 @@ fn choose(
 ) -> Movable
     requires below { 0x01800010 + size_of blocks ≤ 2 ^ 26 }
     requires few { length
-        (blocks_that (can_move (anchor_of map.now) table.now words.now return_address) 0x01800010 blocks) ≤ 128 }
+        (blocks_that (can_move (anchor_of map.now) (holds_heap (store_of map.now).heaps) table.now words.now
+        return_address) 0x01800010 blocks) ≤ 128 }
     ensures { result.items
-        ≡ blocks_that (can_move (anchor_of map.now) table.now words.now return_address) 0x01800010 blocks.entry }
+        ≡ blocks_that (can_move (anchor_of map.now) (holds_heap (store_of map.now).heaps) table.now words.now
+        return_address) 0x01800010 blocks.entry }
 {
     let mut movable = Movable::new();
     let mut at = RMA_START + HEAP_DESCRIPTOR;
@@ -73,10 +76,12 @@ fn can_move(
     total: u32,
 ) -> bool
     requires { at + total ≤ 2 ^ 26 }
-    ensures { result ≡ can_move (anchor_of map.now) table.now words.now return_address at total }
+    ensures { result ≡ can_move (anchor_of map.now) (holds_heap (store_of map.now).heaps) table.now words.now
+        return_address at total }
 {
     let is_tied = table.has_image_at(at + 4) || is_named_once(words, at + 4);
-    is_tied && !map.anchor_in(at, total) && !(at <= return_address && return_address < at + total)
+    let is_empty = !map.anchor_in(at, total) && !Heaps::new().holds_heap(map, at, total);
+    is_tied && is_empty && !(at <= return_address && return_address < at + total)
 }
 
 /// Whether exactly one of some words names a block.

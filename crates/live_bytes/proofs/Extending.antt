@@ -4,32 +4,34 @@ use Rattle.std.specs.Prelude.{nat_le}
 use Rattle.std.proofs.lemmas.Bool.{cases_Bool, false_from_ne_true, false≢true, leb-false}
 use Rattle.profile.specs.Outcome.{bind}
 use Rattle.profile.specs.declared.error.ErrorNumber.{ErrorNumber}
-use Rattle.profile.specs.declared.error.ErrorNumber.TheVariants.{HeapBadDesc, HeapHoldsAnchor, HeapNoRoom, HeapNotABlock}
-use Rattle.address_map.specs.Bytes.{in_range, with_moved}
+use Rattle.profile.specs.declared.error.ErrorNumber.TheVariants.{BlockHoldsHeap, HeapBadDesc, HeapHoldsAnchor, HeapNoRoom, HeapNotABlock}
+use Rattle.address_map.specs.Bytes.{Bytes, in_range}
 use Rattle.address_map.specs.Items.{is_total, size_of}
 use Rattle.address_map.specs.Records.{anchor_among}
 use Rattle.address_map.specs.declared.item.Item.{Item}
 use Rattle.os_heap_lists.proofs.ClaimedLists.{HasTotals, IsUnheld, IsWithin, claim_totals, claim_unheld, claim_within}
 use Rattle.os_heap_lists.proofs.LiveBlocks.{IsFresh, IsStill, LiveBytes, claim_fresh, claim_still, live_apart, live_bytes}
+use Rattle.os_heap_lists.proofs.Reading.{total_facts}
 use Rattle.os_heap_lists.proofs.Spelling.{total_of-numbers}
 use Rattle.os_heap_lists.specs.Heap.{AreTotals, HeapList}
 use Rattle.os_heap_lists.specs.Lists.{Claim, changed_by, claimed, live_total, resized_in_place, round_up_8}
 use Rattle.os_heap.proofs.Apart.{range_parts}
 use Rattle.os_heap.proofs.Found.{found_start}
 use Rattle.os_heap.proofs.Resizing.{larger_where_none}
-use Rattle.os_heap.specs.Calls.{block_sized, copied, gave_back, holding, holds_anchor, moved, resized, resized_or_moved, unless_image}
+use Rattle.os_heap.specs.Calls.{block_sized, copied, gave_back, handed_over, holding, holds_anchor, moved, resized, resized_or_moved, unless_image}
+use Rattle.os_heap.specs.Forgetting.{forgot, holds_heap}
 use Rattle.os_heap.specs.Store.{Store, find_heap, has_image}
 use Rattle.dynamic_areas.specs.Ground.{Estate}
 use Rattle.rma.specs.Calls.{end_if_moved, end_in_place, grown_in_place, grown_to, in_area, is_full, or_as_before, resized_or_grown, rma_base, rma_extended}
 use Rattle.heaps_kept.proofs.BlockCalls.{WereLiveIn, gave_were}
 use Rattle.heaps_kept.proofs.Blocks.{AreSame, held_total, same_all, same_both, unspelled}
 use Rattle.heaps_kept.proofs.HeapCalls.{OnDone, items_of_fit, on_if, on_some, unless_some}
-use Rattle.heaps_kept.proofs.Holding.{held_fit, range_within, written_fit}
+use Rattle.heaps_kept.proofs.Holding.{forgot_is_fit, held_is_fit, written_is_fit}
 use Rattle.heaps_kept.proofs.Lists.{HasRoomIfSome, resized_room}
 use Rattle.heaps_kept.proofs.ModuleArea.{OnEstate, OnGrown, to_fit}
 use Rattle.heaps_kept.specs.BlockLaws.{StayLive, WereLive, total_in}
 use Rattle.heaps_kept.specs.FitEstates.{IsFitEstate}
-use Rattle.heaps_kept.specs.Fits.{IsFitStore, StaysFit}
+use Rattle.heaps_kept.specs.Fits.{IsFitStore}
 use Rattle.live_bytes.proofs.Growing.{SameGrown, same_then, to_same}
 use Rattle.live_bytes.specs.AreaLaws.{ExtendsKeepBlocks, KeepsBoth}
 
@@ -47,11 +49,13 @@ stay_kept s t stay block total new_total a live live' here there = (stay block t
 abbrev KeepsIn : {A : Type 0} → Store → Store × A → Type 0
 KeepsIn s x = KeepsBoth s x.0
 
--- the heap got another list
-held_kept : (s : Store) (h : HeapList) (items : List Item) → find_heap 0x01800000 s.heaps ≡ Some h → AreTotals items → KeepsBoth s (holding s h items)
-held_kept s h items found totals block total new_total a live live' here there =
-    let start : h.start ≡ 0x01800000 = found_start 0x01800000 s.heaps h found in
-    unspelled s.bytes.at h.start h.end items block new_total a start totals (sym (held_total s h items block found) ∙ live') there
+-- the heap got another list, where no heap was forgotten but such as lie in it
+held_kept : (s v : Store) (h : HeapList) (items : List Item) → find_heap 0x01800000 v.heaps ≡ Some h → v.bytes ≡ s.bytes → AreTotals items
+    → KeepsBoth s (holding v h items)
+held_kept s v h items found same totals block total new_total a live live' here there =
+    let start : h.start ≡ 0x01800000 = found_start 0x01800000 v.heaps h found in
+    unspelled v.bytes.at h.start h.end items block new_total a start totals (sym (held_total v h items block found) ∙ live') there
+    ∙ ap (λ (b : Bytes). b.at a) same
 
 -- what a claim leaves
 record IsMade (limit new : ℕ) (h : HeapList) (c : Claim) : Type 0 where
@@ -119,21 +123,25 @@ moved_kept limit s h block old new f found total less =
     let at : ℕ = h.start + 16 + c.offset + 4 in
     let t : Store = holding s h c.items in
     let u : Store = copied t block at (old - 4) in
-    let one : StaysFit limit s t = held_fit limit s h c.items f found made.totals made.inside in
-    let two : StaysFit limit t u = written_fit limit t (with_moved t.bytes block at (old - 4)) one.fit (λ a out.
-    let apart : in_range at (old - 4) a ≡ false = range_within at (old - 4) a (omega (arith, start)) (omega (arith, start, made.high, f.room, less)) out in
-    rw apart refl) in
+    let fit : IsFitStore limit u = written_is_fit limit t u.bytes (held_is_fit limit s h c.items f found made.totals made.inside) in
+    on_if ℕ (KeepsIn s) (holds_heap s.heaps block (old - 4)) BlockHoldsHeap (handed_over h.start block (old - 4) t at) (λ unheld.
     gave_then (Unit {0}) ℕ s u (gave_back u h.start block) at (copied_stay limit old new block s h c found made less)
-    (subst (λ (p : ℕ). OnDone (WereLiveIn u) (gave_back u p block)) (sym start) (gave_were limit block u two.fit)))
+    (subst (λ (p : ℕ). OnDone (WereLiveIn u) (gave_back u p block)) (sym start) (gave_were limit block u fit))))
 
 in_place_kept : (limit : ℕ) (s : Store) (h : HeapList) (block old new : ℕ) (o : Option (List Item)) → IsFitStore limit s → find_heap 0x01800000 s.heaps ≡ Some h
-    → is_total new ≡ true → (o ≡ None → old ≤ new) → HasRoomIfSome (limit - 16) o → OnDone (KeepsIn s) (resized_or_moved s h block old new o)
-in_place_kept limit s h block old new None f found total less room =
+    → is_total new ≡ true → live_total block (h.start + 16) h.items ≡ Some old → (o ≡ None → old ≤ new) → HasRoomIfSome (limit - 16) o
+    → OnDone (KeepsIn s) (resized_or_moved s h block old new o)
+in_place_kept limit s h block old new None f found total live less room =
     on_if ℕ (KeepsIn s) (holds_anchor s.anchor block (Some old)) HeapHoldsAnchor (moved s h block old new)
     (λ none. moved_kept limit s h block old new f found total (less refl))
-in_place_kept limit s h block old new (Some items) f found total less room =
-    on_if ℕ (KeepsIn s) (anchor_among s.anchor (block - 4 + new) (old - new)) HeapHoldsAnchor (Ok (holding s h items, block)) (λ none.
-    held_kept s h items found room.0)
+in_place_kept limit s h block old new (Some items) f found total live less room =
+    let own = items_of_fit limit s h f found in
+    let place : LiveBytes block old (h.start + 16) (h.start + 16 + size_of h.items) = live_bytes block old (h.start + 16) h.items own.0 live in
+    let from : ℕ = block - 4 + new in
+    let v : Store = forgot s block old from in
+    let left = forgot_is_fit limit s h block old from f found (omega (arith, place.low)) (omega (arith, (total_facts new total).0)) in
+    on_if ℕ (KeepsIn s) (anchor_among s.anchor from (old - new)) HeapHoldsAnchor (Ok (holding v h items, block))
+    (λ none. held_kept s v h items left.1 refl room.0)
 
 same_stays : (s : Store) → StayLive s s
 same_stays s block total live = (live, λ a inside. refl)
@@ -155,7 +163,7 @@ sized_kept limit s h block change old f found live =
           let room : HasRoomIfSome (h.start + h.end - (h.start + 16)) (resized_in_place block (h.start + h.end) new (h.start + 16) h.items) =
           resized_room block (h.start + h.end) new (h.start + 16) h.items total own.0 (omega (arith, own.1.0, own.1.1)) in
           let same : h.start + h.end - (h.start + 16) ≡ limit - 16 = omega (arith, own.1.1) in
-          rw more (in_place_kept limit s h block old new (resized_in_place block (h.start + h.end) new (h.start + 16) h.items) f found total
+          rw more (in_place_kept limit s h block old new (resized_in_place block (h.start + h.end) new (h.start + 16) h.items) f found total live
           (λ none. omega (arith, larger_where_none block (h.start + h.end) new (h.start + 16) old h.items live none))
           (subst (λ (n : ℕ). HasRoomIfSome n (resized_in_place block (h.start + h.end) new (h.start + 16) h.items)) same room))
     ]

@@ -1,5 +1,5 @@
 -- Over any move but a flex call, and but for what an instruction stores, the bytes of the flex store stay.
-use Rattle.std.proofs.Common.{ℕ, ◌≡◌, ◌+◌, ◌%◌, ◌^◌, ◌∙◌, ◌⊎◌, Bool, true, false, List, Option, Some, None, Result, Ok, Err, refl, sym, ap, subst, inl, inr, lit≤}
+use Rattle.std.proofs.Common.{ℕ, ◌≡◌, ◌*◌, ◌+◌, ◌%◌, ◌^◌, ◌∙◌, ◌⊎◌, Bool, true, false, List, Option, Some, None, Result, Ok, Err, refl, sym, ap, subst, inl, inr}
 use Rattle.std.specs.Prelude.{if◌then◌else◌}
 use Rattle.std.proofs.lemmas.Bool.{cases_Bool, false≢true, or_left}
 use Rattle.profile.specs.Outcome.{Gives, bind}
@@ -24,7 +24,8 @@ use Rattle.flex_kept.specs.Keeping.{AreAnchorsFree, KeepsFlex}
 use Rattle.flex_kept.specs.Laws.{HeapCallKeeps}
 use Rattle.heap_turns.proofs.DoneCalls.{OnDone}
 use Rattle.heap_turns.specs.Turns.{call_on}
-use Rattle.heaps_kept.proofs.Holding.{keeps_all, keeps_both, range_within}
+use Rattle.heaps_kept.proofs.Holding.{keeps_all, keeps_both, system_outside}
+use Rattle.heaps_kept.specs.FitEstates.{IsFitEstate}
 use Rattle.heaps_kept.specs.Fits.{KeepsOutside, is_module_byte}
 use Rattle.heaps_kept.specs.PlanLaws.{IsFitWorld}
 use Rattle.instances_plans.specs.Plans.{Plan, settled}
@@ -66,13 +67,10 @@ use Rattle.live_bytes.specs.Changes.{FlexBytesStay, is_flex_name}
 use Rattle.live_bytes.specs.AreaLaws.{AreaCallHas}
 
 -- an error's block lies in the system pages
-error_out : (s : MachineState) (e : Refusal) → KeepsOutside s.store (with_error s e).store
-error_out s refusal.Own = keeps_all s.store
-error_out s (refusal.System e) = record {
-  bytes = λ a out. error_off s (refusal.System e) a (range_within 0x01C00000 0x3000 a (lit≤ tt) (lit≤ tt) out);
-  heaps = λ start other. refl;
-  anchors = λ a. refl;
-}
+error_out : (s : MachineState) (e : Refusal) → IsFitEstate (machine_estate s) → KeepsOutside s.store (with_error s e).store
+error_out s refusal.Own fit = keeps_all s.store
+error_out s (refusal.System e) fit =
+    system_outside (4096 * fit.area.pages) s.store (with_error s (refusal.System e)).store.bytes fit.store (error_off s (refusal.System e))
 
 any_planned : (o : Option (Result Planned ErrorNumber)) → Planning (λ w. Unit {0}) o
 any_planned None = tt
@@ -87,7 +85,7 @@ module _ (s : MachineState) (has : HasModules s) where
   outside_over : HoldsOver s (KeepsOutside s.store) (λ w. Unit {0})
   outside_over = record {
     same = keeps_all s.store;
-    error = error_out s;
+    error = λ e. error_out s e fit.estate;
     area = area_call_out s.cpu (machine_world s) fit.estate;
     carried = λ call w made any.
         let t : MachineState = with_world s w.world in

@@ -14,6 +14,7 @@ use Rattle.dynamic_areas.specs.Ground.{Estate}
 use Rattle.rma.specs.Calls.{area_pages, area_room, grown_by, grown_to, pages_short}
 use Rattle.heaps_kept.proofs.Blocks.{AreSame, beside_same, same_all, same_both, unspelled}
 use Rattle.heaps_kept.proofs.HeapCalls.{items_of_fit}
+use Rattle.heaps_kept.proofs.Holding.{written_is_fit}
 use Rattle.heaps_kept.specs.BlockLaws.{total_in}
 use Rattle.heaps_kept.specs.FitEstates.{IsFitEstate}
 use Rattle.heaps_kept.specs.Fits.{IsFitStore}
@@ -41,7 +42,7 @@ pub extended_same : (limit count : ℕ) (s : Store) (a : Area) → IsFitStore li
 extended_same limit count s a f =
     let t : Store = store_more s count (Some a) in
     let one : AreSame s t = beside_same limit s t.bytes f (λ x low high. refl) in
-    let g : IsFitStore limit t = record { heap = f.heap; found = f.found; totals = f.totals; inside = f.inside; end = f.end; room = f.room } in
+    let g : IsFitStore limit t = written_is_fit limit s t.bytes f in
     let two : AreSame t (ending t f.heap (4096 * (a.pages + count))) = ended_same limit (4096 * (a.pages + count)) t f.heap g f.found in
     rw f.found (same_both s t (ending t f.heap (4096 * (a.pages + count))) one two)
 

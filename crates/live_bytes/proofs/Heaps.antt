@@ -1,5 +1,5 @@
 -- The heaps of a machine are those that guests made, and that of the module area: what leaves the blocks of both leaves all.
-use Rattle.std.proofs.Common.{ℕ, ◌+◌, ◌≡◌, ◌==◌, ◌∙◌, ◌⊎◌, true, List, [], ◌∷◌, Some, refl, sym, ap, subst, inl, inr}
+use Rattle.std.proofs.Common.{ℕ, ◌+◌, ◌-◌, ◌≡◌, ◌==◌, ◌∙◌, ◌⊎◌, true, List, [], ◌∷◌, is_some, Some, refl, sym, ap, subst, inl, inr}
 use Rattle.std.proofs.lemmas.Bool.{cases_Bool, false≢true}
 use Rattle.address_map.specs.Bytes.{Bytes, in_range}
 use Rattle.address_map.specs.Memory.{bytes_of, regions}
@@ -11,10 +11,9 @@ use Rattle.os_heap_lists.specs.Heap.{HeapList}
 use Rattle.os_heap_lists.specs.Lists.{live_total}
 use Rattle.os_heap.proofs.Found.{found_start}
 use Rattle.os_heap.specs.Calls.{has_own_size}
-use Rattle.os_heap.specs.Laws.{KeepsPayloads}
 use Rattle.os_heap.specs.Store.{StandAreas, Store, find_heap, heap_in, heaps_in, is_area, store_of}
 use Rattle.heaps_kept.specs.BlockLaws.{total_in}
-use Rattle.heap_turns.specs.Laws.{KeepsHeap}
+use Rattle.heap_turns.specs.Laws.{IsNotForgotten, KeepsHeap}
 use Rattle.swi_dispatch.specs.MachineState.{MachineState}
 use Rattle.swi_dispatch.specs.Parts.{IsMachine, Parts, state_of}
 use Rattle.heap_alone.proofs.LiveBytes.{payload_inside}
@@ -86,6 +85,13 @@ given_heaps s t has same = record {
   kinds = λ start h found. has.kinds start h (ap (λ (u : Store). find_heap start u.heaps) (sym (given_stays s t same)) ∙ found);
 }
 
+-- A block of any heap that is live in both stores holds the same in both, as far as it holds it in both.
+abbrev pub KeepsBlocks : Store → Store → Type 0
+KeepsBlocks s t =
+    (h g : HeapList) (block total new_total a : ℕ) → find_heap h.start s.heaps ≡ Some h → find_heap h.start t.heaps ≡ Some g
+    → live_total block (h.start + 16) h.items ≡ Some total → live_total block (h.start + 16) g.items ≡ Some new_total
+    → in_range block (total - 4) a ≡ true → in_range block (new_total - 4) a ≡ true → t.bytes.at a ≡ s.bytes.at a
+
 -- bytes that a block holds before and after
 pub held_both : (s t : Store) (a : ℕ) → KeepsBoth s t → IsHeld s t 0x01800000 a → t.bytes.at a ≡ s.bytes.at a
 held_both s t a kept held =
@@ -96,7 +102,7 @@ held_both s t a kept held =
     (ap (total_in held.block) held.left ∙ subst (λ (p : ℕ). live_total held.block (p + 16) held.new.items ≡ Some held.new_total) (sym new) held.stays)
     held.here held.there
 
-pub held_all : (s t : Store) (start a : ℕ) → KeepsPayloads s t → IsHeld s t start a → t.bytes.at a ≡ s.bytes.at a
+pub held_all : (s t : Store) (start a : ℕ) → KeepsBlocks s t → IsHeld s t start a → t.bytes.at a ≡ s.bytes.at a
 held_all s t start a kept held =
     let old : held.old.start ≡ start = found_start start s.heaps held.old held.found in
     kept held.old held.new held.block held.total held.new_total a
@@ -117,11 +123,16 @@ held_inside s t start a has held =
     payload_inside s.store held.old held.block held.total a (sound_store s has.modules.store) (own_found s.store t start a held)
     (subst (λ (p : ℕ). live_total held.block (p + 16) held.old.items ≡ Some held.total) (sym old) held.live) held.here
 
--- what leaves each guest's heap, and the blocks of the module area, leaves all blocks
-pub all_kept : (s : MachineState) (t : Store) → HasHeaps s → ((h : HeapList) → IsHost s h → KeepsHeap h s.store t) → KeepsBoth s.store t
-    → KeepsPayloads s.store t
+-- and so it is found in the other store
+pub held_recorded : (s t : Store) (start a : ℕ) (held : IsHeld s t start a) → IsNotForgotten t held.old.start
+held_recorded s t start a held =
+    subst (IsNotForgotten t) (sym (found_start start s.heaps held.old held.found)) (ap is_some held.left)
+
+-- what leaves each guest's heap that is not forgotten, and the blocks of the module area, leaves all blocks
+pub all_kept : (s : MachineState) (t : Store) → HasHeaps s → ((h : HeapList) → IsHost s h → IsNotForgotten t h.start → KeepsHeap h s.store t)
+    → KeepsBoth s.store t → KeepsBlocks s.store t
 all_kept s t has guests area h g block total new_total a found found' live live' here there = elim (has.kinds h.start h found) [
-  | inl own ↦ (guests h (record { modules = has.modules; found = found; own = own })).bytes a
+  | inl own ↦ (guests h (record { modules = has.modules; found = found; own = own }) (ap is_some found')).bytes a
       (payload_inside s.store h block total a (sound_store s has.modules.store) found live here)
   | inr at ↦
       let new : g.start ≡ h.start = found_start h.start t.heaps g found' in

@@ -10,6 +10,7 @@ pub mod FlexRows
 pub mod FlexStays
 pub mod Gates
 pub mod Growing
+pub mod HeapBytes
 pub mod Heaps
 pub mod ModuleCalls
 pub mod ModuleRows

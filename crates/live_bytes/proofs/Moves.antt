@@ -21,7 +21,7 @@ use Rattle.swi_dispatch.specs.Returns.{halted}
 use Rattle.swi_dispatch.specs.Step.{called, called_by, instructed, is_exit, machine_step, store_called, turned, unless_halted, without_x}
 use Rattle.heap_alone.proofs.Gates.{gate_keeps}
 use Rattle.heap_alone.proofs.Keeping.{off_system}
-use Rattle.heap_alone.proofs.LiveBytes.{byte_done, heap_call_keeps}
+use Rattle.heap_alone.proofs.LiveBytes.{byte_done}
 use Rattle.heap_alone.proofs.ModuleHosts.{IsHost}
 use Rattle.heap_alone.proofs.ModuleMoves.{module_called_keeps}
 use Rattle.heap_alone.proofs.OwnCalls.{heap_swi}
@@ -35,11 +35,12 @@ use Rattle.heap_alone.specs.Moves.{Call, Step, given, is_heap_swi, moved, outsid
 use Rattle.live_bytes.proofs.Carried.{gate_were}
 use Rattle.live_bytes.proofs.Extending.{were_kept}
 use Rattle.live_bytes.proofs.FlexRows.{flex_byte}
-use Rattle.live_bytes.proofs.Heaps.{HasHeaps, given_heaps, has_heaps, held_all, held_both, held_inside, own_found}
+use Rattle.live_bytes.proofs.HeapBytes.{heap_byte}
+use Rattle.live_bytes.proofs.Heaps.{HasHeaps, given_heaps, has_heaps, held_all, held_both, held_inside, held_recorded, own_found}
 use Rattle.live_bytes.proofs.ModuleRows.{os_module_both}
 use Rattle.live_bytes.proofs.Rows.{other_keeps}
 use Rattle.live_bytes.specs.AreaLaws.{KeepsBoth}
-use Rattle.live_bytes.specs.Changes.{IsHeld, LiveBytesStay, MayChange, is_flex_name, is_tidy, slides_on}
+use Rattle.live_bytes.specs.Changes.{IsHeld, IsOfInnerHeap, LiveBytesStay, MayChange, is_flex_name, is_tidy, slides_on}
 use Rattle.live_bytes.specs.FlexLaws.{IsAnchorByte}
 
 module _ (images : List Entry) (s : MachineState) (has : HasHeaps s) (start a : ℕ) where
@@ -47,7 +48,8 @@ module _ (images : List Entry) (s : MachineState) (has : HasHeaps s) (start a : 
   abbrev CallChanges : Option SwiName → Bool → Store → Type 0
   CallChanges name slides t =
       (t.bytes.at a ≡ s.store.bytes.at a)
-      ⊎ (((is_flex_name name ≡ true) × IsAnchorByte s.store t a) ⊎ ((start ≡ 0x01800000) × (slides ≡ true)))
+      ⊎ (((is_flex_name name ≡ true) × IsAnchorByte s.store t a)
+      ⊎ (((start ≡ 0x01800000) × (slides ≡ true)) ⊎ IsOfInnerHeap name (register_of s.cpu 1) t start a))
 
   host : (t : Store) (held : IsHeld s.store t start a) → (find_heap held.old.start s.store.heaps ≡ Some held.old) × (in_range held.old.start held.old.end a ≡ true)
   host t held = (own_found s.store t start a held, held_inside s t start a has held)
@@ -88,9 +90,10 @@ module _ (images : List Entry) (s : MachineState) (has : HasHeaps s) (start a : 
       → ((called images s x next number).now.store.bytes.at a ≡ s.store.bytes.at a) ⊎ ((start ≡ 0x01800000) × (tidy ≡ true))
   module_byte x next number tidy is same held = elim (has.kinds start held.old held.found) [
     | inl own ↦
-        let mine = host (called images s x next number).now.store held in
+        let t : Store = (called images s x next number).now.store in
+        let mine = host t held in
         let h : IsHost s held.old = record { modules = has.modules; found = mine.0; own = own } in
-        inl ((module_called_keeps images s held.old h x next number is).bytes a mine.1)
+        inl ((module_called_keeps images s held.old h x next number is (λ lies. held_recorded s.store t start a held)).bytes a mine.1)
     | inr at ↦ elim (cases_Bool tidy) [
       | inl slides ↦ inr (at, slides)
       | inr calm ↦ inl (in_area (called images s x next number).now.store at (called_both x next number is (same ∙ calm)) held)
@@ -145,7 +148,12 @@ module _ (images : List Entry) (s : MachineState) (has : HasHeaps s) (start a : 
   from_module : (name : Option SwiName) (tidy slides : Bool) (t : Store) → (tidy ≡ true → slides ≡ true)
       → (t.bytes.at a ≡ s.store.bytes.at a) ⊎ ((start ≡ 0x01800000) × (tidy ≡ true)) → CallChanges name slides t
   from_module name tidy slides t more (inl same) = inl same
-  from_module name tidy slides t more (inr slid) = inr (inr (slid.0, more slid.1))
+  from_module name tidy slides t more (inr slid) = inr (inr (inl (slid.0, more slid.1)))
+
+  from_heap : (name : Option SwiName) (slides : Bool) (t : Store)
+      → (t.bytes.at a ≡ s.store.bytes.at a) ⊎ IsOfInnerHeap name (register_of s.cpu 1) t start a → CallChanges name slides t
+  from_heap name slides t (inl same) = inl same
+  from_heap name slides t (inr inner) = inr (inr (inr inner))
 
   both_true : (p q : Bool) → p ≡ true → q ≡ true → (p && q) ≡ true
   both_true true true one two = refl
@@ -158,7 +166,7 @@ module _ (images : List Entry) (s : MachineState) (has : HasHeaps s) (start a : 
   call_byte x next number sound held =
       let t : Store = (called images s x next number).now.store in
       elim (cases_Bool (is_heap_swi (swi_of number))) [
-        | inl heap ↦ inl (held_all s.store t start a (heap_call_keeps s has.modules.store images x next number (heap_swi (swi_of number) heap) sound) held)
+        | inl heap ↦ from_heap (swi_of number) (tidies number) t (heap_byte images s has start a x next number (heap_swi (swi_of number) heap) sound held)
         | inr no_heap ↦ elim (cases_Bool (is_module_name (swi_of number))) [
           | inl is ↦
               let tidy : Bool = is_tidy (module_reason (register_of s.cpu 0)) in
@@ -175,12 +183,14 @@ module _ (images : List Entry) (s : MachineState) (has : HasHeaps s) (start a : 
   abbrev TurnChanges : Result (State × Bytes) Turn → Store → Type 0
   TurnChanges r t =
       (t.bytes.at a ≡ s.store.bytes.at a)
-      ⊎ (IsStoredPlain s a ⊎ (((is_flex_name (swi_of_turn r) ≡ true) × IsAnchorByte s.store t a) ⊎ ((start ≡ 0x01800000) × (turn_slides r ≡ true))))
+      ⊎ (IsStoredPlain s a ⊎ (((is_flex_name (swi_of_turn r) ≡ true) × IsAnchorByte s.store t a)
+      ⊎ (((start ≡ 0x01800000) × (turn_slides r ≡ true)) ⊎ IsOfInnerHeap (swi_of_turn r) (register_of s.cpu 1) t start a)))
 
   from_call : (n : ℕ) (t : Store) → CallChanges (swi_of (without_x n)) (tidies (without_x n)) t → TurnChanges (Err (turn.Swi n)) t
   from_call n t (inl same) = inl same
   from_call n t (inr (inl anchor)) = inr (inr (inl anchor))
-  from_call n t (inr (inr slid)) = inr (inr (inr (slid.0, or_left (tidies (without_x n)) false slid.1)))
+  from_call n t (inr (inr (inl slid))) = inr (inr (inr (inl (slid.0, or_left (tidies (without_x n)) false slid.1))))
+  from_call n t (inr (inr (inr inner))) = inr (inr (inr (inr inner)))
 
   from_stored : (r : Result (State × Bytes) Turn) (t : Store) → (t.bytes.at a ≡ s.store.bytes.at a) ⊎ IsStoredPlain s a → TurnChanges r t
   from_stored r t (inl same) = inl same
@@ -190,8 +200,10 @@ module _ (images : List Entry) (s : MachineState) (has : HasHeaps s) (start a : 
       → ((turned images s (Err turn.Gate)).now.store.bytes.at a ≡ s.store.bytes.at a) ⊎ ((start ≡ 0x01800000) × (slides ≡ true))
   gate_byte slides same held = elim (has.kinds start held.old held.found) [
     | inl own ↦
-        let mine = host (turned images s (Err turn.Gate)).now.store held in
-        inl ((gate_keeps s held.old (record { modules = has.modules; found = mine.0; own = own })).bytes a mine.1)
+        let t : Store = (turned images s (Err turn.Gate)).now.store in
+        let mine = host t held in
+        let h : IsHost s held.old = record { modules = has.modules; found = mine.0; own = own } in
+        inl ((gate_keeps s held.old h (λ lies. held_recorded s.store t start a held)).bytes a mine.1)
     | inr at ↦ elim (cases_Bool slides) [
       | inl slid ↦ inr (at, slid)
       | inr calm ↦
@@ -203,7 +215,7 @@ module _ (images : List Entry) (s : MachineState) (has : HasHeaps s) (start a : 
   from_gate : (t : Store) → (t.bytes.at a ≡ s.store.bytes.at a) ⊎ ((start ≡ 0x01800000) × (slides_on s.cpu s.tables.plan ≡ true))
       → TurnChanges (Err turn.Gate) t
   from_gate t (inl same) = inl same
-  from_gate t (inr slid) = inr (inr (inr (slid.0, slid.1)))
+  from_gate t (inr slid) = inr (inr (inr (inl (slid.0, slid.1))))
 
   pub turn_byte : (r : Result (State × Bytes) Turn) → instructed s ≡ r → IsSound (turned images s r).now.store
       → IsHeld s.store (turned images s r).now.store start a → TurnChanges r (turned images s r).now.store
@@ -269,7 +281,8 @@ call_stays images s number words start a None goes state after held =
     subst (λ (p : Outcome). (p.now.store.bytes.at a ≡ s.store.bytes.at a) ⊎ MayChange s p.now (Call number words) start a) (sym call)
     (named_call _ _ _ (subst (λ (t : Store). (o.now.store.bytes.at a ≡ t.bytes.at a)
     ⊎ (((is_flex_name (outside_name number) ≡ true) × IsAnchorByte t o.now.store a)
-    ⊎ ((start ≡ 0x01800000) × ((is_module_name (outside_name number) && is_tidy (module_reason (register_of u.cpu 0))) ≡ true)))) stays byte))
+    ⊎ (((start ≡ 0x01800000) × ((is_module_name (outside_name number) && is_tidy (module_reason (register_of u.cpu 0))) ≡ true))
+    ⊎ IsOfInnerHeap (outside_name number) (register_of u.cpu 1) o.now.store start a))) stays byte))
 
 pub live_bytes_stay : LiveBytesStay
 live_bytes_stay images s Step start a state after held = step_stays images s start a s.halt refl state after held

@@ -1,5 +1,5 @@
 -- What a user does from outside: modules that are loaded, and words that are stored.
-use Rattle.std.proofs.Common.{ℕ, ◌≡◌, ◌∙◌, ◌^◌, ◌||◌, ◌⊎◌, Bool, true, false, Option, Some, None, Result, Ok, Err, sym, ap, subst, inl, inr, arith}
+use Rattle.std.proofs.Common.{ℕ, ◌≡◌, ◌∙◌, ◌^◌, ◌||◌, ◌⊎◌, Bool, true, false, List, Option, Some, None, Result, Ok, Err, sym, ap, subst, inl, inr, arith}
 use Rattle.std.specs.List.{list_any}
 use Rattle.std.specs.Prelude.{nat_le, ok_or}
 use Rattle.std.proofs.lemmas.Bool.{cases_Bool}
@@ -9,7 +9,6 @@ use Rattle.profile.specs.declared.error.ErrorNumber.TheVariants.{BadString}
 use Rattle.profile.specs.declared.fault.Fault.{Fault}
 use Rattle.address_map.specs.Items.{is_heap_word}
 use Rattle.address_map.specs.Bytes.{Bytes, in_range, with_word_at, word_start, word_stored}
-use Rattle.os_heap.specs.Laws.{KeepsPayloads}
 use Rattle.os_heap.specs.Store.{Store, is_flex_word, owned_in}
 use Rattle.swi_dispatch_answers.specs.Words.{host_string}
 use Rattle.swi_dispatch.specs.declared.halt.Halt.{Halt}
@@ -17,23 +16,29 @@ use Rattle.swi_dispatch.specs.Additions.{load_planned}
 use Rattle.swi_dispatch.specs.Boot.{poked}
 use Rattle.swi_dispatch.specs.MachineState.{MachineState, Outcome, with_memory}
 use Rattle.swi_dispatch.specs.Step.{begun, module_loaded, unless_halted}
+use Rattle.image_loader.specs.Entries.{Entry}
 use Rattle.heap_alone.proofs.ModuleCalls.{loaded_keeps}
-use Rattle.live_bytes.proofs.Heaps.{all_kept, has_heaps}
+use Rattle.heap_alone.specs.Laws.{IsState}
+use Rattle.live_bytes.proofs.Heaps.{KeepsBlocks, all_kept, has_heaps, held_all}
 use Rattle.live_bytes.proofs.ModuleRows.{loaded_both}
 use Rattle.live_bytes.proofs.Rows.{all_same}
 use Rattle.live_bytes.specs.Changes.{LoadsKeepLiveBytes, PokesChangeOneWord}
 
-awake : (s : MachineState) (o : Option Halt) (a : Outcome) → KeepsPayloads s.store a.now.store → KeepsPayloads s.store (unless_halted s o a).now.store
+awake : (s : MachineState) (o : Option Halt) (a : Outcome) → KeepsBlocks s.store a.now.store → KeepsBlocks s.store (unless_halted s o a).now.store
 awake s None a kept = kept
 awake s (Some why) a kept = all_same s.store
 
-pub loads_keep : LoadsKeepLiveBytes
+loaded_keep : (images : List Entry) (s : MachineState) (text : List ℕ) → IsState s → KeepsBlocks s.store (module_loaded images s text).now.store
 unfolding module_loaded
-loads_keep images s text state =
+loaded_keep images s text state =
     let o : Outcome = begun s true s.cpu.pc false (bind (ok_or (host_string text) BadString) (λ words. load_planned images s words false)) in
     awake s s.halt o
-    (all_kept s o.now.store (has_heaps s state) (λ h host. loaded_keeps s h host images true s.cpu.pc text)
+    (all_kept s o.now.store (has_heaps s state) (λ h host still. loaded_keeps s h host images true s.cpu.pc text (λ lies. still))
     (loaded_both s (has_heaps s state).modules images true s.cpu.pc text))
+
+pub loads_keep : LoadsKeepLiveBytes
+loads_keep images s text state start a held =
+    held_all s.store (module_loaded images s text).now.store start a (loaded_keep images s text state) held
 
 -- a store
 abbrev OneWord : (ℕ → Bool) → Bytes → ℕ → ℕ → Result Bytes Fault → Type 0

@@ -6,7 +6,6 @@ use Rattle.profile.specs.SwiNames.{swi_of}
 use Rattle.address_map.specs.Bytes.{in_range, with_bytes_at, with_word_at}
 use Rattle.image_loader.specs.Entries.{Entry}
 use Rattle.os_heap_lists.specs.Heap.{HeapList}
-use Rattle.os_heap.specs.Laws.{KeepsPayloads}
 use Rattle.os_heap.specs.Store.{Store}
 use Rattle.dynamic_areas.specs.Ground.{Estate}
 use Rattle.heaps_kept.proofs.Areas.{area_calls_keep}
@@ -23,7 +22,7 @@ use Rattle.heap_alone.proofs.ModuleHosts.{IsHost}
 use Rattle.heap_alone.proofs.States.{sound_store}
 use Rattle.live_bytes.proofs.Answers.{IsOther, other_has}
 use Rattle.live_bytes.proofs.AreaBlocks.{area_calls_keep_both}
-use Rattle.live_bytes.proofs.Heaps.{HasHeaps, all_kept}
+use Rattle.live_bytes.proofs.Heaps.{HasHeaps, KeepsBlocks, all_kept}
 use Rattle.live_bytes.specs.AreaLaws.{AreaCallHas, KeepsBoth}
 
 -- an error's block lies in the system pages
@@ -39,11 +38,11 @@ error_off t (refusal.System e) a out =
     bytes_off (with_word_at t.store.bytes.at 0x01C02100 (error_code e)) a (error_name e ++ 0 ∷ []) (short_name e) out
     ∙ word_off t.store.bytes.at a (error_code e) out
 
-pub all_same : (s : Store) → KeepsPayloads s s
+pub all_same : (s : Store) → KeepsBlocks s s
 all_same s h g block total new_total a found found' live live' here there = refl
 
 module _ (s : MachineState) (has : HasHeaps s) where
-  error_all : (t : MachineState) (e : Refusal) → KeepsPayloads s.store t.store → KeepsPayloads s.store (with_error t e).store
+  error_all : (t : MachineState) (e : Refusal) → KeepsBlocks s.store t.store → KeepsBlocks s.store (with_error t e).store
   error_all t refusal.Own kept = kept
   error_all t (refusal.System e) kept = λ h g block total new_total a found found' live live' here there.
       error_off t (refusal.System e) a
@@ -62,14 +61,14 @@ module _ (s : MachineState) (has : HasHeaps s) where
   both : (e : Estate) → AreaCallHas (machine_estate s) (KeepsBoth s.store) e
   both e = area_calls_keep_both (machine_estate s) e has.modules.store.estate
 
-  areas_all : (e : Estate) → AreaCallHas (machine_estate s) (KeepsPayloads s.store) e
+  areas_all : (e : Estate) → AreaCallHas (machine_estate s) (KeepsBlocks s.store) e
   areas_all e = record {
     create = λ w name made done store.
-        all_kept s e.store has (λ h host. (guests e h host).create w name made done store) ((both e).create w name made done store);
-    remove = λ number done store. all_kept s e.store has (λ h host. (guests e h host).remove number done store) ((both e).remove number done store);
-    change = λ number amount store. all_kept s e.store has (λ h host. (guests e h host).change number amount store) ((both e).change number amount store);
+        all_kept s e.store has (λ h host _. (guests e h host).create w name made done store) ((both e).create w name made done store);
+    remove = λ number done store. all_kept s e.store has (λ h host _. (guests e h host).remove number done store) ((both e).remove number done store);
+    change = λ number amount store. all_kept s e.store has (λ h host _. (guests e h host).change number amount store) ((both e).change number amount store);
   }
 
   pub other_keeps : (images : List Entry) (x : Bool) (next number : ℕ) → IsOther (swi_of number)
-      → KeepsPayloads s.store (called images s x next number).now.store
-  other_keeps images x next number other = other_has s (KeepsPayloads s.store) (all_same s.store) error_all areas_all images x next number other
+      → KeepsBlocks s.store (called images s x next number).now.store
+  other_keeps images x next number other = other_has s (KeepsBlocks s.store) (all_same s.store) error_all areas_all images x next number other

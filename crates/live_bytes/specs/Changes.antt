@@ -1,6 +1,7 @@
 -- Which bytes that live blocks hold may change over a move of a machine, a store call from outside or a step: those
--- that its instruction stores to; words of anchors, by flex calls; and those of the module area where its blocks are
--- moved together (RISC OS 3 Programmer's Reference Manual, "OS_Heap" and "OS_Module"; Acorn C manual, "flex").
+-- that its instruction stores to; words of anchors, by flex calls; those of the module area where its blocks are moved
+-- together; and those of a heap in the block, where the call is on that heap or makes it (RISC OS 3 Programmer's
+-- Reference Manual, "OS_Heap" and "OS_Module"; Acorn C manual, "flex").
 use Rattle.std.specs.Prelude.{ℕ, ◌≡◌, ◌-◌, ◌+◌, ◌&&◌, ◌||◌, ◌⊎◌, Bool, true, false, List, [], ◌∷◌, Option, Some, None, Ok}
 use Rattle.profile.specs.Reasons.{module_reason}
 use Rattle.profile.specs.declared.reason.ModuleReason.{ModuleReason}
@@ -15,7 +16,7 @@ use Rattle.instances_plans.specs.declared.action.Action.TheVariants as act
 use Rattle.instances_plans.specs.Plans.{Plan, settled}
 use Rattle.os_heap_lists.specs.Heap.{HeapList}
 use Rattle.os_heap_lists.specs.Lists.{live_total}
-use Rattle.os_heap.specs.Laws.{KeepsPayloads}
+use Rattle.os_heap.specs.Nesting.{IsWithin}
 use Rattle.os_heap.specs.Store.{Store, find_heap, is_in_flex_store, owned_in}
 use Rattle.swi_dispatch.specs.Boot.{poked}
 use Rattle.swi_dispatch.specs.Gates.{outcome_left}
@@ -72,14 +73,28 @@ abbrev pub may_slide : MachineState → Move → Bool
 may_slide s (Call number words) = calls_tidy s (Call number words)
 may_slide s Step = calls_tidy s Step || (is_at_gate (instructed s) && slides_on s.cpu s.tables.plan)
 
+-- A call of OS_Heap was made, on the heap that starts at `heap` after it. That one lies in a block of the heap at
+-- `start`, and the byte is in its range.
+pub record IsOfInnerHeap (name : Option SwiName) (heap : ℕ) (t : Store) (start a : ℕ) : Type 0 where
+  pub call : name ≡ Some swi.Heap
+  pub inner : HeapList
+  pub called : find_heap heap t.heaps ≡ Some inner
+  pub outer : HeapList
+  pub round : find_heap start t.heaps ≡ Some outer
+  pub within : IsWithin outer inner
+  pub inside : in_range inner.start inner.end a ≡ true
+
 -- what may change a byte of a block of the heap at `start`
 abbrev pub MayChange : MachineState → MachineState → Move → ℕ → ℕ → Type 0
 MayChange s t m start a =
     ((m ≡ Step) × IsStoredPlain s a)
     ⊎ (((is_flex_name (swi_made s m) ≡ true) × IsAnchorByte s.store t.store a)
-    ⊎ ((start ≡ 0x01800000) × (may_slide s m ≡ true)))
+    ⊎ (((start ≡ 0x01800000) × (may_slide s m ≡ true))
+    ⊎ IsOfInnerHeap (swi_made s m) (register_of (core_of s m) 1) t.store start a))
 
--- Over each move, of blocks of all heaps and of the module area, no other byte changes.
+-- Over each move, of blocks of all heaps and of the module area, no other byte changes. So a call of OS_Heap changes no
+-- byte of a block, in whatever heap, but those of a heap that lies in that block; of these, none that a block of that
+-- heap holds too, since they are judged as its own.
 abbrev pub LiveBytesStay : Type 0
 LiveBytesStay =
     (images : List Entry) (s : MachineState) (m : Move) (start a : ℕ) → IsState s → IsState (moved images s m)
@@ -96,10 +111,13 @@ FlexBytesStay =
     ⊎ (((m ≡ Step) × IsStoredPlain s a) ⊎ (is_flex_name (swi_made s m) ≡ true))
 
 -- A module that is loaded from outside changes none at all.
+abbrev pub KeepsHeldBytes : Store → Store → Type 0
+KeepsHeldBytes s t = (start a : ℕ) → IsHeld s t start a → t.bytes.at a ≡ s.bytes.at a
+
 abbrev pub LoadsKeepLiveBytes : Type 0
 LoadsKeepLiveBytes =
     (images : List Entry) (s : MachineState) (text : List ℕ) → IsState s
-    → KeepsPayloads s.store (module_loaded images s text).now.store
+    → KeepsHeldBytes s.store (module_loaded images s text).now.store
 
 -- A word that a user stores from outside is one that isn't owned, and no other byte changes.
 abbrev pub PokesChangeOneWord : Type 0

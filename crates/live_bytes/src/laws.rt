@@ -23,7 +23,8 @@ pub fn flex_calls_change_anchors()
 
 /// Over each move of a machine, a byte that a live block holds before it and after it stays what it is: in each heap
 /// that a guest made, and in the module area. But the move's instruction may store there, where no record is kept; a
-/// flex call may write the word of an anchor; and a tidy may move the blocks of the module area.
+/// flex call may write the word of an anchor; a tidy may move the blocks of the module area; and a call of OS_Heap on a
+/// heap that lies in the block, or that makes it there, may write the bytes of that heap.
 pub fn live_bytes_stay()
     ensures { LiveBytesStay }
 {}

@@ -13,7 +13,7 @@ use Rattle.store_laws.specs.Besides.{IsSame, written}
 use Rattle.store_laws.specs.Laws.{IsFollowed, unplaced}
 use Rattle.store_laws.specs.Meaning.{AreStores, Meaning, Stores, Value, area_names, meaning_of, store_in}
 use Rattle.store_laws.specs.Rules.{IsTurned}
-use Rattle.store_laws.specs.Turning.{Turn, answered}
+use Rattle.store_laws.specs.Turning.{Turn, answered, placed}
 use Rattle.machine_laws.specs.Turns.{AreStill}
 
 -- of worlds
@@ -122,7 +122,7 @@ module _ (turn : Turn) (x y z : Stores) (f : IsFollowed turn x y) (b : IsBehind 
   pub followed_behind : IsFollowed turn x z
   unfolding still meaning_of
   followed_behind = record {
-    rule = subst (λ (m : Meaning). IsTurned turn (answered turn x) (meaning_of x) m) (sym still.meaning) f.rule;
+    rule = subst (λ (m : Meaning). IsTurned turn (placed turn x) (answered turn x) (meaning_of x) m) (sym still.meaning) f.rule;
     words = λ slot word says. still.words slot (held_still slot ∙ held_word x slot word says) ∙ f.words slot word says;
     modules = ap (map unplaced) still.modules ∙ f.modules;
     stores = new;

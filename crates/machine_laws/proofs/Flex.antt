@@ -9,7 +9,7 @@ use Rattle.profile.specs.declared.error.ErrorNumber.{ErrorNumber}
 use Rattle.profile.specs.declared.swi.SwiName.{SwiName}
 use Rattle.address_map.proofs.Stores.{in_range-cases}
 use Rattle.address_map.specs.Bytes.{Bytes, in_range, with_word_at}
-use Rattle.arm_step.specs.State.{State, register_of}
+use Rattle.arm_step.specs.State.{IsCore, State, register_of, slot_of}
 use Rattle.image_loader.specs.Entries.{Entry}
 use Rattle.instances_table.specs.declared.parts.Image.{Image}
 use Rattle.os_heap.specs.Store.{Store}
@@ -34,7 +34,7 @@ use Rattle.store_laws.proofs.Turns.{turns_follow}
 use Rattle.store_laws.specs.Laws.{IsFollowed, unplaced}
 use Rattle.store_laws.specs.Meaning.{AreStores, Meaning, Stores, meaning_of}
 use Rattle.store_laws.specs.Rules.{IsTurned}
-use Rattle.store_laws.specs.Turning.{Call, Init, Slide, Turn, answer_of, IsAllowed, answered, left_by, turned}
+use Rattle.store_laws.specs.Turning.{Call, Init, Slide, Turn, answer_of, IsAllowed, answered, left_by, placed, turned}
 use Rattle.machine_laws.proofs.Behind.{IsBehind, held_word, still_behind, written_outside}
 use Rattle.machine_laws.specs.MachineStores.{stores_of}
 use Rattle.machine_laws.specs.Turns.{Allocated, AreStill, Extended, FlexSwi, Freed, IsTurnMade, MadeStore, MidExtended, flex_name, flex_turn}
@@ -117,28 +117,28 @@ block_outside b e a out =
     (omega (arith, short_name e)) out
     ∙ word_outside b.at (error_code e) a out
 
--- the turn as it follows its rule
-allowed : (f : FlexSwi) (cpu : State) (pending : List Image) → IsAllowed pending (flex_turn f cpu)
-allowed MadeStore cpu pending = tt
-allowed Allocated cpu pending = tt
-allowed Freed cpu pending = tt
-allowed Extended cpu pending = tt
-allowed MidExtended cpu pending = tt
+-- the turn as it follows its rule: what registers have are words
+allowed : (f : FlexSwi) (cpu : State) (pending : List Image) → IsCore cpu → IsAllowed pending (flex_turn f cpu)
+allowed MadeStore cpu pending core = tt
+allowed Allocated cpu pending core = tt
+allowed Freed cpu pending core = tt
+allowed Extended cpu pending core = tt
+allowed MidExtended cpu pending core = core.words (slot_of cpu.psr.mode 2)
 
-turn_law : (f : FlexSwi) (cpu : State) (x : Stores) → AreStores x → IsFollowed (flex_turn f cpu) x (turned (flex_turn f cpu) x)
-turn_law f cpu x are = (turns_follow x (flex_turn f cpu ∷ []) are (allowed f cpu x.pending, tt)).0
+turn_law : (f : FlexSwi) (cpu : State) (x : Stores) → IsCore cpu → AreStores x → IsFollowed (flex_turn f cpu) x (turned (flex_turn f cpu) x)
+turn_law f cpu x core are = (turns_follow x (flex_turn f cpu ∷ []) are (allowed f cpu x.pending core, tt)).0
 
-refused_rule : (turn : Turn) (e : ErrorNumber) (p q : Meaning) → q ≡ p → IsTurned turn (Err e) p q
-refused_rule (Init start end) e p q same = same
-refused_rule (Call call) e p q same = same
-refused_rule (Slide return_address) e p q same = same
+refused_rule : (turn : Turn) (x : Stores) (e : ErrorNumber) (p q : Meaning) → q ≡ p → IsTurned turn (placed turn x) (Err e) p q
+refused_rule (Init start end) x e p q same = same
+refused_rule (Call call) x e p q same = same
+refused_rule (Slide return_address) x e p q same = same
 
 -- a refused call leaves what the stores mean
 still_followed : (turn : Turn) (e : ErrorNumber) (x y : Stores) → answered turn x ≡ Err e → AreStill x y → IsFollowed turn x y
 unfolding meaning_of
 still_followed turn e x y refused still = record {
-  rule = subst (λ (a : Result Bool ErrorNumber). IsTurned turn a (meaning_of x) (meaning_of y)) (sym refused)
-      (refused_rule turn e (meaning_of x) (meaning_of y) still.meaning);
+  rule = subst (λ (a : Result Bool ErrorNumber). IsTurned turn (placed turn x) a (meaning_of x) (meaning_of y)) (sym refused)
+      (refused_rule turn x e (meaning_of x) (meaning_of y) still.meaning);
   words = λ slot word says. still.words slot (held_word x slot word says) ∙ words_said x.world slot word says;
   modules = ap (map unplaced) still.modules;
   stores = still.stores;
@@ -189,9 +189,10 @@ module _ (turn : Turn) (s t : MachineState) (is_x : Bool) (next : ℕ) (are : Ar
   made_by (Ok q) (Err number) agree is after = absurd agree
   made_by (Err e) (Ok room) agree is after = absurd agree
 
-pub flex_made : (images : List Entry) (f : FlexSwi) (s t : MachineState) (x : Bool) (next number : ℕ) → AreStores (stores_of s) → AreStores (stores_of t)
+pub flex_made : (images : List Entry) (f : FlexSwi) (s t : MachineState) (x : Bool) (next number : ℕ) → IsCore s.cpu
+    → AreStores (stores_of s) → AreStores (stores_of t)
     → swi_of number ≡ Some (flex_name f) → t ≡ (called images s x next number).now → IsTurnMade (flex_turn f s.cpu) s t
-flex_made images f s t x next number are new name after =
-    made_by (flex_turn f s.cpu) s t x next are new (turn_law f s.cpu (stores_of s) are)
+flex_made images f s t x next number core are new name after =
+    made_by (flex_turn f s.cpu) s t x next are new (turn_law f s.cpu (stores_of s) core are)
     (flex_called s.cpu (machine_flex s) (Some (flex_name f))) (answered (flex_turn f s.cpu) (stores_of s)) (agrees f s) refl
     (after ∙ calls_as images f s x next number name)

@@ -21,7 +21,7 @@ use Rattle.machine_laws.specs.Turns.{IsTidyKept}
 
 pub calls_are : CallsAreTurns
 calls_are images p q x next number is new after = record {
-  flex = λ f name. flex_made images f (state_of p) (state_of q) x next number (states_have p is) (states_have q new) name after;
+  flex = λ f name. flex_made images f (state_of p) (state_of q) x next number is.core (states_have p is) (states_have q new) name after;
   tidy = λ plan name reason planned.
       begins images (state_of p) (state_of q) x next number plan (states_have p is) (states_have q new) name reason planned after;
 }

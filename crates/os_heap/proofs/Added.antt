@@ -1,13 +1,13 @@
 -- A heap more, behind all others: its descriptor is written, and its range recorded.
-use Rattle.std.proofs.Common.{ap, cond, subst, Bool, arith, inl, ◌+◌, ◌≡◌, ℕ, true, inr, suc, zero, refl, false, [], List, ◌∷◌, ◌++◌, ◌≤◌, ◌%◌, ◌==◌, ◌&&◌, ◌-◌, leb, ◌^◌, ◌<◌, ◌⊎◌, ◌∙◌, sym, ◌↔◌, ◌||◌, Err, Ok}
-use Rattle.std.proofs.lemmas.Bool.{cases_lt, and_parts, both_ways, false_from_ne_true, or_parts, leb-true, ltb-true, eqb-true, le-leb, lt-ltb, cases_Bool, false≢true, eq-eqb}
+use Rattle.std.proofs.Common.{ap, cond, not, subst, Bool, arith, inl, ◌+◌, ◌≡◌, ℕ, true, inr, suc, zero, refl, false, [], List, ◌∷◌, ◌++◌, ◌≤◌, ◌%◌, ◌==◌, ◌&&◌, ◌-◌, leb, ◌^◌, ◌<◌, ◌⊎◌, ◌∙◌, sym, ◌↔◌, ◌||◌, Err, Ok}
+use Rattle.std.proofs.lemmas.Bool.{cases_lt, and_parts, both_ways, false_from_ne_true, or_parts, leb-true, ltb-true, eqb-true, le-leb, lt-ltb, cases_Bool, false≢true, eq-eqb, or_from}
 use Rattle.std.proofs.Math.Dec.{ltb}
 use Rattle.std.proofs.lemmas.Bool.Decides.{nat_tests}
 use Rattle.std.specs.List.{list_any}
 use Rattle.profile.specs.declared.error.ErrorNumber.TheVariants.{HeapBadRegion, HeapOverlaps, HeapTableFull}
 use Rattle.address_map.proofs.Spans.{mapped_below}
 use Rattle.address_map.specs.Bytes.{AreMapped, in_range, meets, word_start, Bytes, with_word_at, word_at}
-use Rattle.address_map.specs.Items.{items_in}
+use Rattle.address_map.specs.Items.{is_heap_word, items_in}
 use Rattle.address_map.specs.Classes.{is_flex_header, is_anchor}
 use Rattle.address_map.proofs.Anchors.{none_among}
 use Rattle.address_map.specs.Memory.{anchor_of, is_mapped, bytes_of, byte_at, class_of, regions}
@@ -17,16 +17,19 @@ use Rattle.address_map.specs.declared.class.Class.TheVariants as class
 use Rattle.address_map.specs.declared.map.AddressMap.{AddressMap}
 use Rattle.address_map.specs.declared.region.Kind.{Kind}
 use Rattle.address_map.specs.declared.region.Region.{Region}
+use Rattle.os_heap_lists.proofs.HeadWords.{are_owned, byte_inside}
+use Rattle.os_heap_lists.proofs.Payloads.{payload_unspelled}
 use Rattle.os_heap_lists.proofs.Reading.{items_in-heap}
 use Rattle.os_heap_lists.specs.Heap.{HeapList, IsHeapIn, with_heap}
 use Rattle.os_heap.proofs.Held.{AreBy, marks_begun}
 use Rattle.os_heap.proofs.Anchored.{place_more}
 use Rattle.os_heap.proofs.FlexWords.{AreSameFlex, IsUnflexed}
-use Rattle.os_heap.proofs.Frame.{clear_parts, heaps_in-spelled}
-use Rattle.os_heap.specs.Ranges.{are_mapped, is_heap_region, meets_any, MayBegin}
-use Rattle.os_heap.proofs.Nesting.{apart_turned, clear_stands, stand_more}
-use Rattle.os_heap.specs.Nesting.{AreUnnested, StandApart}
-use Rattle.os_heap.specs.Store.{AreClasses, AreClear, IsClearOfHeaps, AreHeapsIn, ArePlaced, Store, IsSound, heap_in, heaps_in, is_flex_store, is_in_flex_store, others_in, store_of, IsImageIn, guest_count}
+use Rattle.os_heap.proofs.Frame.{heaps_in-spelled, parts_kept}
+use Rattle.os_heap.proofs.Holding.{HoldsRange, range_held}
+use Rattle.os_heap.specs.Ranges.{HasRoom, are_mapped, is_heap_region, meets_any, overlaps, MayBegin}
+use Rattle.os_heap.proofs.Nesting.{apart_turned, stand_more}
+use Rattle.os_heap.specs.Nesting.{StandApart, holds_range, is_crossed}
+use Rattle.os_heap.specs.Store.{AreClasses, AreClear, IsClearOfHeaps, AreHeapsIn, ArePlaced, Store, IsSound, heap_in, heaps_in, is_area, is_flex_store, is_in_flex_store, others_in, store_of, IsPlacedIn, guest_count}
 use Rattle.os_heap.specs.Calls.{begun_with, begun}
 use Rattle.address_map.specs.declared.region.Kind.TheVariants as kind
 use Rattle.os_heap.proofs.Limits.{empty, limits_more}
@@ -58,35 +61,23 @@ clear_of_heaps at len (h ∷ hs) none =
     let parts = or_parts (meets at len h.start h.end) (list_any (λ h. meets at len h.start h.end) hs) none in
     (clear_unless at len h.start h.end parts.0, clear_of_heaps at len hs parts.1)
 
--- a heap more that another range does not meet
-clear_more : (at len : ℕ) (hs : List HeapList) (h : HeapList) → IsClearOfHeaps at len hs → AreClear at len h.start h.end → IsClearOfHeaps at len (hs ++ h ∷ [])
-clear_more at len [] h clear last = (last, tt)
-clear_more at len (g ∷ hs) h clear last = (clear.0, clear_more at len hs h clear.1 last)
-
 parts_more : (b : Bytes) (hs : List HeapList) (h : HeapList) → AreHeapsIn b hs → StandApart h hs → IsHeapIn b h.start h.end h.items
     → AreHeapsIn b (hs ++ h ∷ [])
 parts_more b [] h parts stand last = (last, (tt, tt))
 parts_more b (g ∷ hs) h parts stand last =
     (parts.0, (stand_more g hs h parts.1.0 (apart_turned h g stand.0), parts_more b hs h parts.1.1 stand.1 last))
 
-unnested_more : (hs : List HeapList) (h : HeapList) → AreUnnested hs → IsClearOfHeaps h.start h.end hs → AreUnnested (hs ++ h ∷ [])
-unnested_more [] h parts clear = (tt, tt)
-unnested_more (g ∷ hs) h parts clear =
-    (clear_more g.start g.end hs h parts.0 (clear_turned h.start h.end g.start g.end clear.0), unnested_more hs h parts.1 clear.1)
-
-image_more : (hs : List HeapList) (h : HeapList) (r : Region) → IsImageIn hs r → IsImageIn (hs ++ h ∷ []) r
-image_more [] h r image = absurd image
-image_more (g ∷ hs) h r image = elim image [ inl own ↦ inl own | inr later ↦ inr (image_more hs h r later) ]
+-- a heap more that a recorded range does not meet
+placed_more : (hs : List HeapList) (h : HeapList) (r : Region) → IsPlacedIn hs r → AreClear r.at r.len h.start h.end → IsPlacedIn (hs ++ h ∷ []) r
+placed_more [] h r placed clear = (inl clear, tt)
+placed_more (g ∷ hs) h r placed clear = (placed.0, placed_more hs h r placed.1 clear)
 
 others_more : (hs : List HeapList) (h : HeapList) (rs : List Region) → ArePlaced hs rs → list_any (λ r. meets h.start h.end r.at r.len) rs ≡ false
     → ArePlaced (hs ++ h ∷ []) rs
 others_more hs h [] placed none = tt
 others_more hs h (r ∷ rs) placed none =
     let parts = or_parts (meets h.start h.end r.at r.len) (list_any (λ r. meets h.start h.end r.at r.len) rs) none in (
-      elim placed.0 [
-        | inl clear ↦ inl (clear_more r.at r.len hs h clear (clear_turned h.start h.end r.at r.len (clear_unless h.start h.end r.at r.len parts.0)))
-        | inr image ↦ inr (image_more hs h r image)
-      ],
+      placed_more hs h r placed.0 (clear_turned h.start h.end r.at r.len (clear_unless h.start h.end r.at r.len parts.0)),
       others_more hs h rs placed.1 parts.1,
     )
 
@@ -197,28 +188,100 @@ unmet at len s clear =
     let both = or_parts (heaps || others) (anchor_among s.anchor at len) clear in
     (or_parts heaps others both.0, both.1)
 
+-- what meets neither another record nor an anchor, and heaps only by lying in their blocks
+pub unlapped : (at len : ℕ) (s : Store) → overlaps at len s ≡ false
+    → ((list_any (is_crossed at len) s.heaps ≡ false) × (list_any (λ r. meets at len r.at r.len) s.others ≡ false)) × (anchor_among s.anchor at len ≡ false)
+unlapped at len s clear =
+    let heaps : Bool = list_any (is_crossed at len) s.heaps in
+    let others : Bool = list_any (λ r. meets at len r.at r.len) s.others in
+    let both = or_parts (heaps || others) (anchor_among s.anchor at len) clear in
+    (or_parts heaps others both.0, both.1)
+
+not_no : (t : Bool) → not t ≡ false → t ≡ true
+not_no true e = refl
+not_no false e = sym e
+
+-- such a heap is clear of the range, or holds it in one block
+pub uncrossed : (b : Bytes) (at len : ℕ) (h : HeapList) → IsHeapIn b h.start h.end h.items → is_crossed at len h ≡ false
+    → AreClear at len h.start h.end ⊎ HoldsRange (h.start + 16) h.items at len
+uncrossed b at len h heap none = elim (cases_Bool (meets at len h.start h.end)) [
+  | inr apart ↦ inl (clear_unless at len h.start h.end apart)
+  | inl met ↦ inr (range_held (h.start + 16) h.items at len heap.totals (not_no (holds_range (h.start + 16) h.items at len) (rw met at none)))
+]
+
+-- and spells no word there
+unspelled_there : (b : Bytes) (at len a : ℕ) (h : HeapList) → IsHeapIn b h.start h.end h.items → is_crossed at len h ≡ false → in_range at len a ≡ true
+    → is_heap_word h.start h.items (word_start a) ≡ false
+unspelled_there b at len a h heap none inside = elim (uncrossed b at len h heap none) [
+  | inl clear ↦ false_from_ne_true (is_heap_word h.start h.items (word_start a)) (λ is.
+      both_ways (in_range h.start h.end a) (clear a inside) (byte_inside b h.start h.end h.items a heap is))
+  | inr held ↦
+      let low : at ≤ a = range_low at len a inside in
+      let high : a < at + len = range_high at len a inside in
+      payload_unspelled h.start h.items held.block held.total a heap.aligned heap.totals held.live (omega (arith, held.low, low))
+      (omega (arith, held.high, high))
+]
+
+unowned_there : (b : Bytes) (at len a : ℕ) (hs : List HeapList) → AreHeapsIn b hs → list_any (is_crossed at len) hs ≡ false → in_range at len a ≡ true
+    → are_owned hs a ≡ false
+unowned_there b at len a [] parts none inside = refl
+unowned_there b at len a (h ∷ hs) parts none inside =
+    let each = or_parts (is_crossed at len h) (list_any (is_crossed at len) hs) none in
+    or_from (is_heap_word h.start h.items (word_start a)) (are_owned hs a) (unspelled_there b at len a h parts.0 each.0 inside)
+    (unowned_there b at len a hs parts.1.1 each.1 inside)
+
+stand_begun : (b : Bytes) (k : Kind) (at size : ℕ) (hs : List HeapList) → is_area k ≡ false → AreHeapsIn b hs → list_any (is_crossed at size) hs ≡ false
+    → StandApart (empty k at size) hs
+stand_begun b k at size [] guest parts none = tt
+stand_begun b k at size (h ∷ hs) guest parts none =
+    let each = or_parts (is_crossed at size h) (list_any (is_crossed at size) hs) none in (
+      elim (uncrossed b at size h parts.0 each.0) [
+        | inl clear ↦ inl clear
+        | inr held ↦ inr (inr (record {
+          guest = guest;
+          block = held.block;
+          total = held.total;
+          live = held.live;
+          low = held.low;
+          high = held.high;
+        }))
+      ],
+      stand_begun b k at size hs guest parts.1.1 each.1,
+    )
+
+begun_stands : (k : Kind) (s : Store) (at size : ℕ) → HasRoom k s at → AreHeapsIn s.bytes s.heaps → list_any (is_crossed at size) s.heaps ≡ false
+    → StandApart (empty k at size) s.heaps
+begun_stands kind.Heap s at size room parts none = stand_begun s.bytes kind.Heap at size s.heaps refl parts none
+begun_stands kind.Rma s at size room parts none = subst (λ (hs : List HeapList). StandApart (empty kind.Rma at size) hs) (sym room.0) tt
+begun_stands kind.FlexStore s at size room parts none = absurd room
+begun_stands kind.FlexHeader s at size room parts none = absurd room
+begun_stands kind.Anchor s at size room parts none = absurd room
+begun_stands kind.HeadWord s at size room parts none = absurd room
+begun_stands kind.Image s at size room parts none = absurd room
+begun_stands kind.SystemPage s at size room parts none = absurd room
+
 pub begun_old : (k : Kind) (s : Store) (at size : ℕ) → MayBegin k s at size → IsSound s → AreHeapsIn (begun_with k s at size).bytes s.heaps
 begun_old k s at size may sound =
     let can : CanHold s.bytes at size = can_hold s.bytes at size may.region in
-    let none = (unmet at size s may.clear).0 in
-    clear_parts s.bytes (begun_with k s at size).bytes s.heaps at size refl sound.heaps (clear_of_heaps at size s.heaps none.0)
-    (λ a outside. written_other s.bytes.at at size (omega (arith, can.high)) a (elim (cases_lt a at) [
+    let none = (unlapped at size s may.clear).0 in
+    parts_kept s.bytes (begun_with k s at size).bytes s.heaps refl
+    (λ a is. written_other s.bytes.at at size (omega (arith, can.high)) a (elim (cases_lt a at) [
       | inl low ↦ inl (omega arith)
       | inr high ↦ inr (elim (cases_lt a (at + size)) [
-        | inl below ↦ absurd (both_ways (in_range at size a) outside (rw (le-leb at a high, lt-ltb a (at + size) below) refl))
+        | inl below ↦ absurd (both_ways (are_owned s.heaps a)
+            (unowned_there s.bytes at size a s.heaps sound.heaps none.0 (rw (le-leb at a high, lt-ltb a (at + size) below) refl)) is)
         | inr past ↦ omega (arith, can.low)
       ])
-    ]))
+    ])) sound.heaps
 
 -- the store with a heap more is sound too
 pub begun_sound : (k : Kind) (s : Store) (at size : ℕ) → MayBegin k s at size → IsSound s → IsSound (begun_with k s at size)
 begun_sound k s at size may sound =
     let can : CanHold s.bytes at size = can_hold s.bytes at size may.region in
-    let none = (unmet at size s may.clear).0 in
+    let none = (unlapped at size s may.clear).0 in
     record {
       heaps = parts_more (begun_with k s at size).bytes s.heaps (empty k at size) (begun_old k s at size may sound)
-          (clear_stands (empty k at size) s.heaps (clear_of_heaps at size s.heaps none.0)) (empty_heap s.bytes at size can);
-      unnested = unnested_more s.heaps (empty k at size) sound.unnested (clear_of_heaps at size s.heaps none.0);
+          (begun_stands k s at size may.room sound.heaps none.0) (empty_heap s.bytes at size can);
       limits = limits_more k s at size may.room sound.limits;
       placed = others_more s.heaps (empty k at size) s.others sound.placed none.1;
       apart = sound.apart;
@@ -226,7 +289,7 @@ begun_sound k s at size may sound =
       anchors = λ a is. (
         (sound.anchors a is).0,
         place_more s.heaps (empty k at size) a (sound.anchors a is).1 (false_from_ne_true (in_range at size a) (λ inside.
-            both_ways (s.anchor a) (none_among s.anchor at size a (unmet at size s may.clear).1 (range_low at size a inside) (range_high at size a inside)) is)),
+            both_ways (s.anchor a) (none_among s.anchor at size a (unlapped at size s may.clear).1 (range_low at size a inside) (range_high at size a inside)) is)),
       );
       headers = sound.headers;
     }
@@ -294,13 +357,13 @@ region_tested b at size mapped aligned whole low high tested =
     rw (eq-eqb (at % 4) 0 aligned, eq-eqb (size % 4) 0 whole, le-leb 16 size low, le-leb size 16777216 high)
     (same_tests mapped (are_mapped b.mapped at size) (λ e. are_mapped_from b.mapped at size (tested.0 e)) (λ e. tested.1 (are_mapped_all b.mapped at size e)))
 
-or_middle : (a b c : Bool) → (a || (b || c)) ≡ (b || (a || c))
+pub or_middle : (a b c : Bool) → (a || (b || c)) ≡ (b || (a || c))
 or_middle true true c = refl
 or_middle true false c = refl
 or_middle false true c = refl
 or_middle false false c = refl
 
-or_next : (a b c : Bool) → ((a || b) || c) ≡ (a || (b || c))
+pub or_next : (a b c : Bool) → ((a || b) || c) ≡ (a || (b || c))
 or_next true b c = refl
 or_next false b c = refl
 
@@ -326,11 +389,11 @@ pub begun_bad : (s : Store) (at size : ℕ) → is_heap_region s.bytes at size �
 unfolding begun
 begun_bad s at size bad = rw bad refl
 
-pub begun_over : (s : Store) (at size : ℕ) → is_heap_region s.bytes at size ≡ true → meets_any at size s ≡ true → begun s at size ≡ Err HeapOverlaps
+pub begun_over : (s : Store) (at size : ℕ) → is_heap_region s.bytes at size ≡ true → overlaps at size s ≡ true → begun s at size ≡ Err HeapOverlaps
 unfolding begun
 begun_over s at size good over = rw (good, over) refl
 
-pub begun_full : (s : Store) (at size : ℕ) → is_heap_region s.bytes at size ≡ true → meets_any at size s ≡ false
+pub begun_full : (s : Store) (at size : ℕ) → is_heap_region s.bytes at size ≡ true → overlaps at size s ≡ false
     → leb 64 (guest_count s.heaps) ≡ true → begun s at size ≡ Err HeapTableFull
 unfolding begun
 begun_full s at size good clear full = rw (good, clear, full) refl
@@ -347,7 +410,6 @@ pub sound_empty : (m : AddressMap) → regions m ≡ [] → ((a : ℕ) → class
 unfolding store_of
 sound_empty m none plain = rw none (record {
   heaps = tt;
-  unnested = tt;
   limits = record { guests = omega arith; areas = omega arith; place = tt };
   placed = tt;
   apart = tt;
@@ -379,7 +441,7 @@ begun_unflexed m k at size may sound a inside =
     let can : CanHold (bytes_of m) at size = can_hold (bytes_of m) at size may.region in
     let low : at ≤ word_start a = range_low at 16 (word_start a) inside in
     let high : word_start a < at + 16 = range_high at 16 (word_start a) inside in
-    let none = unmet at size (store_of m) may.clear in
+    let none = unlapped at size (store_of m) may.clear in
     let aligned = can.aligned in
     let most : 16 ≤ size = can.low in
     let above : at ≤ a = omega arith in

@@ -17,9 +17,9 @@ use Rattle.os_heap_lists.proofs.LiveBlocks.{IsStillIn, LiveBytes, live_bytes, li
 use Rattle.os_heap_lists.specs.Heap.{HeapList, IsHeapIn}
 use Rattle.os_heap_lists.specs.Lists.{live_total, released, resized_in_place}
 use Rattle.os_heap.proofs.FlexWords.{AreUnflexed}
-use Rattle.os_heap.proofs.Stores.{AreOthers, image_kind}
+use Rattle.os_heap.proofs.Stores.{AreOthers, placed_by}
 use Rattle.os_heap.specs.Calls.{holds_anchor, with_items, with_end}
-use Rattle.os_heap.specs.Store.{ArePlaced, IsAnchorPlace, IsClearOfHeaps, IsInBlock, IsSound, find_heap, is_flex_store, is_image, is_in_flex_store, store_of}
+use Rattle.os_heap.specs.Store.{ArePlaced, IsAnchorPlace, IsInBlock, IsSound, find_heap, is_flex_store, is_image, is_in_flex_store, store_of}
 
 abbrev pub IsPlacedBy : HeapList → ℕ → Type 0
 IsPlacedBy h a = (in_range h.start h.end a ≡ false) ⊎ IsInBlock (h.start + 16) h.items a
@@ -81,17 +81,6 @@ not_flex kind.HeadWord flex image = false≢true flex
 not_flex kind.Image flex image = false≢true flex
 not_flex kind.SystemPage flex image = false≢true flex
 
-clear_found : (at len start : ℕ) (hs : List HeapList) (h : HeapList) (a : ℕ) → IsClearOfHeaps at len hs → find_heap start hs ≡ Some h
-    → in_range at len a ≡ true → in_range h.start h.end a ≡ false
-clear_found at len start [] h a clear found inside = absurd (let none : None ≡ Some h = found in cc)
-clear_found at len start (g ∷ hs) h a clear found inside = elim (cases_Bool (g.start == start)) [
-  | inl here ↦
-      let found' = rw here at found in
-      let same : g ≡ h = cc in
-      subst (λ (x : HeapList). in_range x.start x.end a ≡ false) same (clear.0 a inside)
-  | inr other ↦ clear_found at len start hs h a clear.1 (rw other at found) inside
-]
-
 pub header_outside : (start : ℕ) (hs : List HeapList) (rs : List Region) (h : HeapList) (a : ℕ) → ArePlaced hs rs → find_heap start hs ≡ Some h
     → is_in_flex_store rs a ≡ true → in_range h.start h.end a ≡ false
 header_outside start hs [] h a placed found is = absurd (false≢true is)
@@ -99,9 +88,9 @@ header_outside start hs (r ∷ rs) h a placed found is = elim (cases_Bool (is_fl
   | inr other ↦ header_outside start hs rs h a placed.1 found (rw other at is)
   | inl here ↦
       let parts = and_parts (is_flex_store r.kind) (in_range r.at r.len a) here in
-      elim placed.0 [
-        | inl clear ↦ clear_found r.at r.len start hs h a clear found parts.1
-        | inr image ↦ absurd (not_flex r.kind parts.0 (image_kind hs r image))
+      elim (placed_by start hs h r placed.0 found) [
+        | inl clear ↦ clear a parts.1
+        | inr image ↦ absurd (not_flex r.kind parts.0 image.image)
       ]
 ]
 

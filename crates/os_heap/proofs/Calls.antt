@@ -1,14 +1,15 @@
 -- From one heap to the calls on all heaps.
-use Rattle.std.proofs.Common.{Bool, if◌then◌else◌, true, false, [], ◌∷◌, inl, inr, ◌≢◌, ok_or, Ok, ℕ, ◌≡◌, ◌∙◌, Some, ap, ◌-◌, subst, sym, Result, refl, Err, None, Option, List, ◌+◌}
-use Rattle.std.proofs.lemmas.Bool.{cases_Bool, both_ways, false≢true}
+use Rattle.std.proofs.Common.{Bool, if◌then◌else◌, true, false, [], ◌∷◌, inl, inr, ◌≢◌, ok_or, Ok, ℕ, ◌≡◌, ◌≤◌, ◌∙◌, Some, ap, ◌-◌, subst, sym, Result, refl, Err, None, Option, List, ◌+◌, arith}
+use Rattle.std.proofs.lemmas.Bool.{cases_Bool, both_ways}
 use Rattle.profile.specs.Outcome.{bind, Gives}
 use Rattle.profile.specs.declared.error.ErrorNumber.{ErrorNumber}
 use Rattle.profile.specs.declared.error.ErrorNumber.TheVariants.{HeapNoRoom, HeapBadDesc, HeapHoldsAnchor, HeapNotABlock}
+use Rattle.address_map.proofs.Stores.{layout-mapping}
 use Rattle.address_map.specs.Records.{is_heap_kind}
 use Rattle.address_map.specs.declared.region.Kind.TheVariants as kind
-use Rattle.os_heap_lists.proofs.LiveBlocks.{IsStill, claim_still, IsStillIn, release_still}
+use Rattle.os_heap_lists.proofs.LiveBlocks.{IsStill, claim_still, IsStillIn, LiveBytes, live_bytes, release_still}
 use Rattle.address_map.specs.Bytes.{word_at}
-use Rattle.address_map.specs.Items.{items_in}
+use Rattle.address_map.specs.Items.{items_in, size_of}
 use Rattle.address_map.specs.Memory.{anchor_of, bytes_of, byte_at, regions, layout, class_of}
 use Rattle.address_map.specs.declared.item.Item.{Item}
 use Rattle.address_map.specs.declared.map.AddressMap.{AddressMap}
@@ -20,13 +21,18 @@ use Rattle.os_heap_lists.specs.Marks.{AreMarked, Remarks}
 use Rattle.os_heap_lists.specs.Lists.{Claim, claimed, total_for, released, live_total}
 use Rattle.os_heap.proofs.Anchored.{KeepsAnchors, heads_unflexed, place_held, release_keeps}
 use Rattle.os_heap.proofs.FlexWords.{AreSameFlex, flex_held}
+use Rattle.os_heap.proofs.Forgetting.{own_left}
 use Rattle.os_heap.proofs.Found.{found_heap}
 use Rattle.os_heap.proofs.Held.{AreBy, heads_marked, marks_held}
+use Rattle.os_heap.proofs.LostHeaps.{KeepsBlocks, forgot_keeps}
+use Rattle.os_heap.proofs.LostRecords.{loses_listed}
 use Rattle.os_heap.proofs.Nesting.{KeepsHeaps, keeps_by_blocks}
-use Rattle.os_heap.proofs.Stores.{AreOthers, KeepsImages, are_others, keeps_alone, sound_held, store_held}
-use Rattle.os_heap.specs.Outcomes.{Becomes, items_at, HasHeapAt, Claims, end_at, Releases, Frees, has_anchor_in}
+use Rattle.os_heap.proofs.Stores.{AreOthers, KeepsImages, are_others, sound_held, store_held}
+use Rattle.os_heap.specs.Forgetting.{forgot}
+use Rattle.os_heap.specs.Sound.{Forgets, GivesBack, IsSoundMap, KeepsRest}
+use Rattle.os_heap.specs.Outcomes.{Becomes, items_at, HasHeapAt, Claims, end_at, Releases, has_anchor_in}
 use Rattle.os_heap.specs.Store.{heap_in, find_heap, store_of, IsSound, AreClasses, heaps_in, others_in, has_image, is_image, Store}
-use Rattle.os_heap.specs.Calls.{got, gave_back, holding, holds_anchor, unless_image}
+use Rattle.os_heap.specs.Calls.{got, gave_back, holding, holds_anchor, total_or_0, unless_image}
 use Rattle.os_heap.specs.Probes.{get_probes, counted_of, walk_probes}
 
 abbrev pub part_at : Kind → AddressMap → ℕ → ℕ → HeapList
@@ -167,65 +173,89 @@ image_recorded m b = image_in-others b (regions m)
 pub image_apart : (b block : ℕ) (rs : List Region) → has_image b rs ≡ true → has_image block rs ≡ false → b ≢ block
 image_apart b block rs is none same = both_ways (has_image block rs) none (subst (λ (x : ℕ). has_image x rs ≡ true) same is)
 
--- the release, by the list that it leaves
-abbrev pub released_in : Store → HeapList → Bool → Option (List Item) → Result (Store × Unit {0}) ErrorNumber
-released_in s h held o = bind (ok_or o HeapNotABlock) (λ items. if held then Err HeapHoldsAnchor else Ok (holding s h items, tt))
+-- what is so after a heap got another list, and the heaps that go with bytes of its block were forgotten
+pub record IsLeft (m n : AddressMap) (h : HeapList) (block total from : ℕ) (items : List Item) : Type 0 where
+  pub store : store_of n ≡ holding (forgot (store_of m) block total from) h items
+  pub kept : KeepsRest m n
 
-abbrev pub KeepsIn : (ℕ → Bool) → ℕ → List Item → Bool → Option (List Item) → Type 0
-KeepsIn anchor at old true o = Unit {0}
-KeepsIn anchor at old false None = Unit {0}
-KeepsIn anchor at old false (Some new) = KeepsAnchors anchor at old new
-
-pub gives_release : (kind : Kind) (m n : AddressMap) (heap end : ℕ) (answer : Result (Unit {0}) ErrorNumber) (holds : Bool) (o : Option (List Item)) → IsSound (store_of m) → AreClasses m
-    → find_heap heap (store_of m).heaps ≡ Some (part_at kind m heap end)
-    → ((b t : ℕ) → has_image b (store_of m).others ≡ true → live_total b (heap + 16) (items_at m heap) ≡ Some t → IsStillIn b t (heap + 16) o)
-    → KeepsIn (store_of m).anchor (heap + 16) (items_at m heap) holds o
-    → Frees m n heap end answer holds o → IsGiven (Unit {0}) m n (released_in (store_of m) (part_at kind m heap end) holds o) answer
-gives_release kind m n heap end answer true None sound classes found still keeps releases =
-    gives_none (Unit {0}) m n HeapNotABlock answer sound classes releases.0 releases.1
-gives_release kind m n heap end answer false None sound classes found still keeps releases =
-    gives_none (Unit {0}) m n HeapNotABlock answer sound classes releases.0 releases.1
-gives_release kind m n heap end answer true (Some items) sound classes found still keeps releases =
-    gives_none (Unit {0}) m n HeapHoldsAnchor answer sound classes releases.0 releases.1
-gives_release kind m n heap end answer false (Some items) sound classes found still keeps releases =
-    let held : IsHeld m n (part_at kind m heap end) items =
-    is_held m n (part_at kind m heap end) items sound classes found refl still keeps
-    (keeps_alone (store_of m) (part_at kind m heap end) items sound found) releases.1 in
+pub is_left : (m k n : AddressMap) (h : HeapList) (block total from : ℕ) (items : List Item) → IsSoundMap m → find_heap h.start (store_of m).heaps ≡ Some h
+    → h.items ≡ items_at m h.start → live_total block (h.start + 16) h.items ≡ Some total → block ≤ from → has_image block (store_of m).others ≡ false
+    → KeepsBlocks h items block from → KeepsAnchors (store_of m).anchor (h.start + 16) h.items items → Forgets m k block total from
+    → Becomes k n h.start h.end items → IsLeft m n h block total from items
+is_left m k n h block total from items state found list live past own blocks keeps f b =
+    let s : Store = store_of m in
+    let heap : IsHeapIn s.bytes h.start h.end h.items = found_heap s.bytes h.start s.heaps h state.sound.heaps found in
+    let lies : LiveBytes block total (h.start + 16) (h.start + 16 + size_of h.items) = live_bytes block total (h.start + 16) h.items heap.totals live in
+    let there : find_heap h.start (store_of k).heaps ≡ Some h =
+    ap (λ (t : Store). find_heap h.start t.heaps) f.store ∙ own_left s h block total from found (omega (arith, lies.low)) past in
+    let list' : h.items ≡ items_at k h.start = list ∙ ap (λ (g : ℕ → ℕ). items_in (word_at g) h.start) (sym f.bytes) in
+    let within : KeepsHeaps h items (store_of k).heaps =
+    subst (λ (t : Store). KeepsHeaps h items t.heaps) (sym f.store) (forgot_keeps s h block total from items state.sound found live blocks) in
+    let held : IsHeld k n h items = is_held k n h items f.kept.sound f.kept.classes there list'
+    (λ a t is. blocks.others a t (image_apart a block s.others (ap (has_image a) (sym f.kept.others) ∙ is) own))
+    (λ a is. keeps a (ap (λ (t : Store). t.anchor a) (sym f.store) ∙ is)) within b in
+    let store : store_of n ≡ holding (forgot s block total from) h items = held.store ∙ ap (λ (t : Store). holding t h items) f.store in
     record {
-      store = rw releases.0 (held.store, refl);
-      sound = held.sound;
-      same = releases.1.same;
-      classes = held.classes;
+      store = store;
+      kept = record {
+        sound = held.sound;
+        classes = held.classes;
+        others = ap (λ (t : Store). t.others) store;
+        mapping = layout-mapping k n b.same ∙ f.kept.mapping;
+        records = loses_listed m k n h.start items f.kept.records b.same (ap (λ (t : Store). t.heaps) held.store);
+      };
     }
 
-release_keeps_in : (anchor : ℕ → Bool) (block at : ℕ) (image holds : Bool) (o : Option (List Item)) (xs : List Item)
-    → unless_image image (released block at xs) ≡ o → holds_anchor anchor block (live_total block at xs) ≡ holds → KeepsIn anchor at xs holds o
-release_keeps_in anchor block at image true o xs is none = tt
-release_keeps_in anchor block at image false None xs is none = tt
-release_keeps_in anchor block at true false (Some ys) xs is none = absurd (let no : None ≡ Some ys = is in cc)
-release_keeps_in anchor block at false false (Some ys) xs is none = release_keeps anchor block at xs ys is none
+-- the release, by the list that it leaves
+abbrev pub released_in : Store → HeapList → ℕ → Option (List Item) → Result (Store × Unit {0}) ErrorNumber
+released_in s h block o = bind (ok_or o HeapNotABlock) (λ items.
+    if holds_anchor s.anchor block (live_total block (h.start + 16) h.items) then Err HeapHoldsAnchor else
+    Ok (holding (forgot s block (total_or_0 (live_total block (h.start + 16) h.items)) block) h items, tt))
 
-guest_still : (b t block at : ℕ) (rs : List Region) (xs : List Item) → has_image b rs ≡ true → live_total b at xs ≡ Some t
-    → IsStillIn b t at (unless_image (has_image block rs) (released block at xs))
-guest_still b t block at rs xs is live = elim (cases_Bool (has_image block rs)) [
-  | inl image ↦ rw image tt
-  | inr own ↦ rw own (release_still b block t at xs (image_apart b block rs is own) live)
-]
+pub store_anchor : (m : AddressMap) → anchor_of m ≡ (store_of m).anchor
+unfolding store_of
+store_anchor m = refl
 
-pub free_given : (kind : Kind) (m n : AddressMap) (heap block end : ℕ) (answer : Result (Unit {0}) ErrorNumber) → IsSound (store_of m) → AreClasses m
-    → find_heap heap (store_of m).heaps ≡ Some (part_at kind m heap end)
-    → Frees m n heap (end_at m heap) answer (has_anchor_in m heap block) (unless_image (has_image block (regions m)) (released block (heap + 16) (items_at m heap)))
-    → IsGiven (Unit {0}) m n (gave_back (store_of m) heap block) answer
-unfolding gave_back store_of
-free_given kind m n heap block end answer sound classes found releases =
-    let limit : end_at m heap ≡ end = (heap_of-part kind m heap end sound found).limit in
-    let rs : List Region = (store_of m).others in
-    let o : Option (List Item) = unless_image (has_image block rs) (released block (heap + 16) (items_at m heap)) in
-    let holds : Bool = has_anchor_in m heap block in
-    let here : Frees m n heap end answer holds o =
-    rw (image_recorded m block) (subst (λ (e : ℕ). Frees m n heap e answer holds (unless_image (has_image block (regions m)) (released block (heap + 16) (items_at m heap)))) limit releases) in
-    rw found (gives_release kind m n heap end answer holds o sound classes found (λ b t is live. guest_still b t block (heap + 16) rs (items_at m heap) is live)
-    (release_keeps_in (anchor_of m) block (heap + 16) (has_image block rs) holds o (items_at m heap) refl refl) here)
+release_given : (kind : Kind) (m k n : AddressMap) (heap block end total : ℕ) (o : Option (List Item)) → IsSoundMap m
+    → find_heap heap (store_of m).heaps ≡ Some (part_at kind m heap end) → has_image block (store_of m).others ≡ false
+    → live_total block (heap + 16) (items_at m heap) ≡ Some total → holds_anchor (store_of m).anchor block (Some total) ≡ false
+    → Forgets m k block total block → released block (heap + 16) (items_at m heap) ≡ o → Releases k n heap end (Ok tt) o
+    → GivesBack m n heap block × KeepsRest m n
+unfolding gave_back
+release_given kind m k n heap block end total None state found own live free f is releases =
+    absurd (let no : Ok tt ≡ Err HeapNotABlock = releases.0 in cc)
+release_given kind m k n heap block end total (Some items) state found own live free f is releases =
+    let h : HeapList = part_at kind m heap end in
+    let none : holds_anchor (store_of m).anchor block (live_total block (heap + 16) (items_at m heap)) ≡ false =
+    ap (holds_anchor (store_of m).anchor block) live ∙ free in
+    let blocks : KeepsBlocks h items block block = record {
+      others = λ other t apart there. subst (IsStillIn other t (heap + 16)) is (release_still other block t (heap + 16) (items_at m heap) apart there);
+      own = λ a past before. absurd (omega (arith, past, before));
+    } in
+    let left : IsLeft m n h block total block items =
+    is_left m k n h block total block items state found refl live (omega arith) own blocks
+    (release_keeps (store_of m).anchor block (heap + 16) (items_at m heap) items is none) f releases.1 in
+    (rw (found, own, is, live, free) (left.store, refl), left.kept)
+
+pub free_given : (kind : Kind) (m k n : AddressMap) (heap block end total : ℕ) → IsSoundMap m
+    → find_heap heap (store_of m).heaps ≡ Some (part_at kind m heap end) → has_image block (regions m) ≡ false
+    → live_total block (heap + 16) (items_at m heap) ≡ Some total → has_anchor_in m heap block ≡ false
+    → Forgets m k block total block → Releases k n heap (end_at k heap) (Ok tt) (released block (heap + 16) (items_at k heap))
+    → GivesBack m n heap block × KeepsRest m n
+free_given kind m k n heap block end total state found own live free f releases =
+    let limit : end_at m heap ≡ end = (heap_of-part kind m heap end state.sound found).limit in
+    let here : Releases k n heap (end_at m heap) (Ok tt) (released block (heap + 16) (items_at m heap)) =
+    subst (λ (g : ℕ → ℕ). Releases k n heap (word_at g (heap + 12)) (Ok tt) (released block (heap + 16) (items_in (word_at g) heap))) f.bytes releases in
+    let free' : holds_anchor (store_of m).anchor block (Some total) ≡ false =
+    ap (λ (q : ℕ → Bool). holds_anchor q block (Some total)) (sym (store_anchor m)) ∙ ap (holds_anchor (anchor_of m) block) (sym live) ∙ free in
+    release_given kind m k n heap block end total (released block (heap + 16) (items_at m heap)) state found (image_recorded m block ∙ own) live free' f refl
+    (subst (λ (x : ℕ). Releases k n heap x (Ok tt) (released block (heap + 16) (items_at m heap))) limit here)
+
+-- no such block
+pub free_unfound : (kind : Kind) (m : AddressMap) (heap block end : ℕ) → find_heap heap (store_of m).heaps ≡ Some (part_at kind m heap end)
+    → unless_image (has_image block (regions m)) (released block (heap + 16) (items_at m heap)) ≡ None → gave_back (store_of m) heap block ≡ Err HeapNotABlock
+unfolding gave_back
+free_unfound kind m heap block end found none = rw (found, image_recorded m block, none) refl
 
 pub free_refused : (m : AddressMap) (heap block : ℕ) → find_heap heap (store_of m).heaps ≡ None → gave_back (store_of m) heap block ≡ Err HeapBadDesc
 unfolding gave_back
@@ -239,10 +269,3 @@ free_counted kind m heap block end found = ap (counted_of (λ h. begun_below blo
 pub free_counted_none : (m : AddressMap) (heap block : ℕ) → find_heap heap (store_of m).heaps ≡ None → walk_probes (store_of m) heap block ≡ 0
 unfolding walk_probes
 free_counted_none m heap block none = ap (counted_of (λ h. begun_below block (h.start + 16) h.items)) none
-
--- a release of a block that has no anchor
-pub frees_done : (m n : AddressMap) (start end : ℕ) (held : Bool) (o : Option (List Item)) → held ≡ false → Releases m n start end (Ok tt) o
-    → Frees m n start end (Ok tt) held o
-frees_done m n start end true o free releases = absurd (false≢true (sym free))
-frees_done m n start end false None free releases = absurd (let no : Ok tt ≡ Err HeapNotABlock = releases.0 in cc)
-frees_done m n start end false (Some items) free releases = releases

@@ -1,8 +1,8 @@
 -- The block that a claim makes: it is live then, and lies in no recorded range that isn't a heap.
-use Rattle.std.proofs.Common.{◌≡◌, ◌≢◌, ℕ, ◌+◌, ◌-◌, ◌<◌, ◌≤◌, true, false, List, [], ◌∷◌, refl, sym, ap, subst, ◌∙◌, Some, None, Ok, Err, inl, inr, arith}
+use Rattle.std.proofs.Common.{◌≡◌, ◌≢◌, ℕ, ◌+◌, ◌-◌, ◌<◌, ◌≤◌, true, false, List, [], ◌∷◌, refl, sym, ap, subst, ◌∙◌, Some, None, Ok, Err, inl, inr, ◌==◌, arith}
 use Rattle.std.specs.Prelude.{Option, Result, is_some}
 use Rattle.std.specs.List.{list_any}
-use Rattle.std.proofs.lemmas.Bool.{both_ways, false_from_ne_true, false≢true, le-leb, lt-ltb, or_from}
+use Rattle.std.proofs.lemmas.Bool.{both_ways, false_from_ne_true, false≢true, cases_Bool, le-leb, lt-ltb, or_from}
 use Rattle.profile.specs.declared.error.ErrorNumber.{ErrorNumber}
 use Rattle.address_map.specs.Bytes.{Bytes, in_range}
 use Rattle.address_map.specs.Items.{is_total, size_of}
@@ -11,24 +11,17 @@ use Rattle.os_heap_lists.proofs.LiveBlocks.{LiveBytes, live_apart, live_bytes}
 use Rattle.os_heap_lists.proofs.Spelling.{total_of-numbers}
 use Rattle.os_heap_lists.specs.Heap.{HeapList, IsHeapIn}
 use Rattle.os_heap_lists.specs.Lists.{Claim, claimed, live_total, total_for}
-use Rattle.os_heap.proofs.Apart.{block_inside, range_parts}
+use Rattle.os_heap.proofs.Apart.{range_parts}
 use Rattle.os_heap.proofs.Calls.{claimed_in}
 use Rattle.os_heap.proofs.Found.{found_heap, found_start}
-use Rattle.os_heap.proofs.KeptPayloads.{IsClaim, is_claim}
+use Rattle.os_heap.proofs.ClaimFacts.{IsClaim, is_claim}
 use Rattle.os_heap.proofs.Moving.{found_held}
-use Rattle.os_heap.proofs.Stores.{AreClearOthers, are_clear_others, clear_of-found}
-use Rattle.os_heap.specs.Calls.{OfHeap, got, holding}
-use Rattle.os_heap.specs.Store.{AreHeapsIn, ArePlaced, IsImageBlock, IsImageIn, IsSound, Store, find_heap}
-
--- a byte of an image, in its heap's range
-image_inside : (b : Bytes) (g : HeapList) (r : Region) (a : ℕ) → IsHeapIn b g.start g.end g.items → IsImageBlock g r → in_range r.at r.len a ≡ true
-    → in_range g.start g.end a ≡ true
-image_inside b g r a heap image is =
-    let place : LiveBytes r.at (r.len + 4) (g.start + 16) (g.start + 16 + size_of g.items) =
-    live_bytes r.at (r.len + 4) (g.start + 16) g.items heap.totals image.live in
-    let parts : (r.at ≤ a) × (a < r.at + r.len) = range_parts r.at r.len a is in
-    block_inside b g r.at (r.len + 4) a heap image.live
-    (rw (le-leb (r.at - 4) a (omega (arith, parts.0)), lt-ltb a (r.at - 4 + (r.len + 4)) (omega (arith, parts.1, place.low))) refl)
+use Rattle.os_heap.proofs.Forgetting.{StartsIn, starts_so}
+use Rattle.os_heap.proofs.Nesting.{within_low}
+use Rattle.os_heap.proofs.Stores.{AreOthers, IsOther, are_others, placed_by}
+use Rattle.os_heap.specs.Forgetting.{holds_heap, starts_in}
+use Rattle.os_heap.specs.Calls.{OfHeap, got, holding, with_items}
+use Rattle.os_heap.specs.Store.{AreHeapsIn, ArePlaced, IsSound, Store, find_heap}
 
 -- an image was live before, and the new block wasn't
 beside_image : (h : HeapList) (total : ℕ) (c : Claim) (r : Region) → IsClaim h total c → live_total r.at (h.start + 16) h.items ≡ Some (r.len + 4)
@@ -45,18 +38,6 @@ beside_image h total c r claim live is =
       | inr behind ↦ omega (arith, behind, parts.0, place.size)
     ]
 
-image_apart : (b : Bytes) (h : HeapList) (total : ℕ) (c : Claim) (r : Region) (gs : List HeapList) → IsClaim h total c → AreHeapsIn b gs
-    → AreClearOthers h gs → in_range h.start h.end (h.start + 16 + c.offset + 4) ≡ true → IsImageIn gs r
-    → in_range r.at r.len (h.start + 16 + c.offset + 4) ≡ true → ⊥
-image_apart b h total c r [] claim parts others inside image is = image
-image_apart b h total c r (g ∷ gs) claim parts others inside (inr later) is = image_apart b h total c r gs claim parts.1.1 others.1 inside later is
-image_apart b h total c r (g ∷ gs) claim parts others inside (inl own) is = elim others.0 [
-  | inl same ↦ beside_image h total c r claim (subst (λ (x : HeapList). live_total r.at (x.start + 16) x.items ≡ Some (r.len + 4)) same own.live) is
-  | inr apart ↦
-      both_ways (in_range g.start g.end (h.start + 16 + c.offset + 4)) (apart.1 (h.start + 16 + c.offset + 4) inside)
-      (image_inside b g r (h.start + 16 + c.offset + 4) parts.0 own is)
-]
-
 records_apart : (s : Store) (h : HeapList) (total : ℕ) (c : Claim) (rs : List Region) → IsSound s → find_heap h.start s.heaps ≡ Some h → IsClaim h total c
     → in_range h.start h.end (h.start + 16 + c.offset + 4) ≡ true → ArePlaced s.heaps rs
     → list_any (λ r. in_range r.at r.len (h.start + 16 + c.offset + 4)) rs ≡ false
@@ -64,14 +45,58 @@ records_apart s h total c [] sound found claim inside placed = refl
 records_apart s h total c (r ∷ rs) sound found claim inside placed =
     let new : ℕ = h.start + 16 + c.offset + 4 in
     or_from (in_range r.at r.len (h.start + 16 + c.offset + 4)) (list_any (λ q. in_range q.at q.len (h.start + 16 + c.offset + 4)) rs)
-    (false_from_ne_true (in_range r.at r.len (h.start + 16 + c.offset + 4)) (λ is. elim placed.0 [
-      | inl clear ↦ both_ways (in_range h.start h.end (h.start + 16 + c.offset + 4)) (clear_of-found r.at r.len h.start s.heaps h clear found new is) inside
-      | inr image ↦ image_apart s.bytes h total c r s.heaps claim sound.heaps (are_clear_others s.bytes h.start s.heaps h sound.heaps sound.unnested found) inside image is
+    (false_from_ne_true (in_range r.at r.len (h.start + 16 + c.offset + 4)) (λ is. elim (placed_by h.start s.heaps h r placed.0 found) [
+      | inl clear ↦ both_ways (in_range h.start h.end (h.start + 16 + c.offset + 4)) (clear new is) inside
+      | inr image ↦ beside_image h total c r claim image.live is
     ]))
     (records_apart s h total c rs sound found claim inside placed.1)
 
+-- no heap starts in it: that heap would lie in a block that was live before
+heap_beside : (b : Bytes) (h g : HeapList) (total : ℕ) (c : Claim) → IsHeapIn b h.start h.end h.items → IsHeapIn b g.start g.end g.items → IsClaim h total c
+    → IsOther h g → StartsIn (h.start + 16 + c.offset + 4) (total - 4) g → ⊥
+heap_beside b h g total c heap other claim place starts =
+    let new : ℕ = h.start + 16 + c.offset + 4 in
+    let lies : LiveBytes new total (h.start + 16) (h.start + 16 + size_of c.items) = live_bytes new total (h.start + 16) c.items claim.totals claim.fresh in
+    let low : new ≤ g.start = starts.low in
+    let high : g.start < new + (total - 4) = starts.high in
+    elim place [
+      | inl same ↦ let start : g.start ≡ h.start = ap (λ (x : HeapList). x.start) same in absurd (omega (arith, start, low))
+      | inr apart ↦ elim apart.1 [
+        | inl clear ↦
+            let here : in_range h.start h.end g.start ≡ true =
+            rw (le-leb h.start g.start (omega (arith, low)), lt-ltb g.start (h.start + h.end) (omega (arith, high, lies.high, lies.size, claim.inside))) refl in
+            let there : in_range g.start g.end g.start ≡ true =
+            rw (le-leb g.start g.start (omega arith), lt-ltb g.start (g.start + g.end) (omega (arith, other.inside))) refl in
+            both_ways (in_range g.start g.end g.start) (clear g.start here) there
+        | inr nested ↦ elim nested [
+          | inr round ↦ let past = within_low b g h other round in omega (arith, past.0, low)
+          | inl within ↦
+              let apart' : within.block ≢ new = λ (e : within.block ≡ new).
+              false≢true (sym claim.unheld ∙ ap is_some (subst (λ (x : ℕ). live_total x (h.start + 16) h.items ≡ Some within.total) e within.live)) in
+              elim (live_apart within.block within.total new total (h.start + 16) c.items claim.totals (claim.still within.block within.total within.live) claim.fresh apart') [
+                | inl before ↦ omega (arith, before, within.high, low, other.inside)
+                | inr behind ↦ omega (arith, behind, within.low, high, lies.size)
+              ]
+        ]
+      ]
+    ]
+
+heaps_beside : (b : Bytes) (h : HeapList) (total : ℕ) (c : Claim) (hs : List HeapList) → IsHeapIn b h.start h.end h.items → IsClaim h total c → AreHeapsIn b hs
+    → AreOthers h hs → holds_heap (with_items h.start c.items hs) (h.start + 16 + c.offset + 4) (total - 4) ≡ false
+heaps_beside b h total c [] heap claim parts others = refl
+heaps_beside b h total c (g ∷ hs) heap claim parts others =
+    let new : ℕ = h.start + 16 + c.offset + 4 in
+    let rest : holds_heap (with_items h.start c.items hs) new (total - 4) ≡ false = heaps_beside b h total c hs heap claim parts.1.1 others.1 in
+    let none : starts_in new (total - 4) g ≡ false =
+    false_from_ne_true (starts_in new (total - 4) g) (λ is. heap_beside b h g total c heap parts.0 claim others.0 (starts_so new (total - 4) g is)) in
+    elim (cases_Bool (g.start == h.start)) [
+      | inl here ↦ rw here (or_from (starts_in new (total - 4) g) (holds_heap (with_items h.start c.items hs) new (total - 4)) none rest)
+      | inr away ↦ rw away (or_from (starts_in new (total - 4) g) (holds_heap (with_items h.start c.items hs) new (total - 4)) none rest)
+    ]
+
 -- what is so of the block that a call has claimed
 pub record IsNewBlock (s t : Store) (heap block total : ℕ) : Type 0 where
+  pub unheaped : holds_heap t.heaps block (total - 4) ≡ false
   pub live : OfHeap (λ h. live_total block (h.start + 16) h.items ≡ Some total) (find_heap heap t.heaps)
   pub alone : list_any (λ r. in_range r.at r.len block) s.others ≡ false
 
@@ -92,6 +117,7 @@ new_block s h total c sound found whole made =
       lt-ltb (h.start + 16 + c.offset + 4) (h.start + h.end) (omega (arith, place.high, place.size, claim.inside)),
     ) refl in
     record {
+      unheaped = heaps_beside s.bytes h total c s.heaps heap claim sound.heaps (are_others s.bytes h.start s.heaps h sound.heaps found);
       live = rw (found_held h.start c.items s.heaps h found) claim.fresh;
       alone = records_apart s h total c s.others sound found claim inside sound.placed;
     }

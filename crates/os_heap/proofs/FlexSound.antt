@@ -10,7 +10,7 @@ use Rattle.address_map.specs.declared.map.AddressMap.{AddressMap}
 use Rattle.address_map.specs.declared.region.Region.{Region}
 use Rattle.os_heap.proofs.Anchored.{IsPlacedBy, not_flex}
 use Rattle.os_heap.proofs.Frame.{clear_unowned, heaps_in-spelled, layout-regions, parts_kept}
-use Rattle.os_heap.proofs.Stores.{image_kind}
+use Rattle.os_heap.proofs.Stores.{image_kind, placed_either}
 use Rattle.os_heap.specs.Store.{AreClasses, AreHeapsIn, ArePlaced, heaps_in, IsAnchorPlace, is_flex_store, is_in_flex_store, IsSound, store_of}
 use Rattle.os_heap_lists.proofs.HeadWords.{byte_inside}
 use Rattle.os_heap_lists.proofs.LiveBlocks.{LiveBytes, live_bytes, live_unspelled}
@@ -45,7 +45,6 @@ sound_flexed m n sound classes f =
       heaps = rw records heaps;
       sound = rw (records, heaps) (record {
         heaps = parts;
-        unnested = sound.unnested;
         limits = sound.limits;
         placed = sound.placed;
         apart = sound.apart;
@@ -86,7 +85,7 @@ flex_unspelled b hs (r ∷ rs) a heaps placed is = elim (cases_Bool (is_flex_sto
   | inr other ↦ flex_unspelled b hs rs a heaps placed.1 (rw other at is)
   | inl here ↦
       let parts = and_parts (is_flex_store r.kind) (in_range r.at r.len a) here in
-      elim placed.0 [
+      elim (placed_either hs r placed.0) [
         | inl clear ↦ clear_unowned b hs r.at r.len a heaps clear parts.1
         | inr image ↦ absurd (not_flex r.kind parts.0 (image_kind hs r image))
       ]

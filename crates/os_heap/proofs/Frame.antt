@@ -68,7 +68,6 @@ layout-others m n same = ap (λ l. others_in l.regions) same
 pub sound_spelled : (s : Store) (c : Bytes) → c.mapped ≡ s.bytes.mapped → IsSound s → AreHeapsIn c s.heaps → IsSound (record s { bytes = c })
 sound_spelled s c mapping sound parts = record {
   heaps = parts;
-  unnested = sound.unnested;
   limits = sound.limits;
   placed = sound.placed;
   apart = sound.apart;

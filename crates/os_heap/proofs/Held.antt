@@ -20,7 +20,7 @@ use Rattle.os_heap.specs.Store.{AreHeapsIn, find_heap}
 abbrev pub AreBy : (ℕ → Class) → List HeapList → Type 0
 AreBy classes hs = (a : ℕ) → is_heap_class (classes a) ≡ spells_any hs (word_start a)
 
-heap_class : (own : Class) → is_heap_class own ≡ true → own ≡ class.Heap
+pub heap_class : (own : Class) → is_heap_class own ≡ true → own ≡ class.Heap
 heap_class class.Heap is = refl
 heap_class class.Plain is = absurd (false≢true is)
 heap_class class.FlexHeader is = absurd (false≢true is)

@@ -1,5 +1,5 @@
 -- How many heaps a store has, and how many ranges are recorded.
-use Rattle.std.proofs.Common.{arith, inl, ◌+◌, ◌≡◌, ℕ, true, inr, refl, false, [], List, ◌∷◌, ◌++◌, ◌≤◌, ◌<◌, length}
+use Rattle.std.proofs.Common.{ap, arith, inl, ◌+◌, ◌≡◌, ℕ, true, inr, refl, false, [], List, ◌∷◌, ◌++◌, ◌≤◌, ◌<◌, length}
 use Rattle.std.proofs.lemmas.Bool.{cases_Bool, false≢true, leb-false}
 use Rattle.address_map.specs.Bytes.{Bytes}
 use Rattle.address_map.specs.Memory.{bytes_of, regions}
@@ -57,7 +57,7 @@ limits_more kind.Heap s at size room limits = record {
 }
 limits_more kind.Rma s at size room limits = record {
   guests = omega (arith, guests_same s.heaps (empty kind.Rma at size) refl, limits.guests);
-  areas = omega (arith, areas_more s.heaps (empty kind.Rma at size), room.0);
+  areas = omega (arith, areas_more s.heaps (empty kind.Rma at size), ap area_count room.0);
   place = stand_more s.heaps (empty kind.Rma at size) (λ _. room.1) limits.place;
 }
 limits_more kind.FlexStore s at size room limits = absurd room
@@ -76,7 +76,7 @@ heaps_counted (h ∷ hs) = elim (cases_Bool (is_area h.kind)) [
 
 few_heaps : (k : Kind) (s : Store) (at : ℕ) → HasRoom k s at → AreInLimits s.heaps → length s.heaps ≤ 64
 few_heaps kind.Heap s at room limits = omega (arith, heaps_counted s.heaps, leb-false 64 (guest_count s.heaps) room, limits.areas)
-few_heaps kind.Rma s at room limits = omega (arith, heaps_counted s.heaps, room.0, limits.guests)
+few_heaps kind.Rma s at room limits = omega (arith, ap length room.0)
 few_heaps kind.FlexStore s at room limits = absurd room
 few_heaps kind.FlexHeader s at room limits = absurd room
 few_heaps kind.Anchor s at room limits = absurd room

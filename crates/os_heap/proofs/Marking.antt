@@ -1,12 +1,16 @@
 -- Words that are marked as heads, one by one, and item by item.
-use Rattle.std.proofs.Common.{suc, take, drop, length, slice_index_or, drop-cons, List, ℕ, [], ◌∷◌, ◌++◌, ◌≡◌, ◌+◌, ◌-◌, ◌%◌, ◌≤◌, ◌<◌, ◌^◌, true, refl, sym, ap, subst, ◌∙◌, arith}
+use Rattle.std.proofs.Common.{suc, take, drop, length, slice_index_or, drop-cons, List, ℕ, [], ◌∷◌, ◌++◌, ◌≡◌, ◌≢◌, ◌==◌, ◌+◌, ◌-◌, ◌%◌, ◌≤◌, ◌<◌, ◌^◌, true, false, refl, sym, ap, subst, ◌∙◌, inl, inr, arith}
 use Rattle.std.proofs.lemmas.List.{take-append-drop}
-use Rattle.std.proofs.lemmas.Bool.{false≢true}
+use Rattle.std.proofs.lemmas.Bool.{and_right, eq-eqb, false≢true, le-leb, le-ltb, lt-leb, lt-ltb, ne_eqb}
 use Rattle.address_map.proofs.Spans.{mapped_below}
+use Rattle.address_map.proofs.Stores.{in_range-cases}
+use Rattle.address_map.proofs.Words.{class_of-word}
+use Rattle.address_map.specs.Bytes.{in_range, word_start}
 use Rattle.address_map.specs.Items.{size_of, total_of}
-use Rattle.address_map.specs.Memory.{bytes_of, is_mapped, layout, mapping, regions}
-use Rattle.address_map.specs.Records.{is_heap_kind, with_mark, without_region}
+use Rattle.address_map.specs.Memory.{bytes_of, class_of, is_mapped, layout, mapping, regions}
+use Rattle.address_map.specs.Records.{is_heap_kind, with_class, with_mark, without_region}
 use Rattle.address_map.specs.declared.class.Class.{Class}
+use Rattle.address_map.specs.declared.class.Class.TheVariants as class
 use Rattle.address_map.specs.declared.item.Item.{Item}
 use Rattle.address_map.specs.declared.item.Item.TheVariants.{Free, Live}
 use Rattle.address_map.specs.declared.map.AddressMap.{AddressMap}
@@ -19,6 +23,7 @@ use Rattle.os_heap_lists.specs.Heap.{AreTotals, IsHeapIn}
 use Rattle.os_heap_lists.specs.Marks.{Remarks}
 use Rattle.os_heap_lists.specs.Words.{IsDivided, IsFreed, IsWritten}
 use Rattle.os_heap.proofs.Writing.{still_mapped}
+use Rattle.os_heap.specs.Marks.{unheaded, with_no_heads}
 use Rattle.os_heap.specs.Outcomes.{CanStand}
 
 -- a mark is no record, and moves nothing
@@ -126,3 +131,53 @@ still_divided f g h start from at total left next same divided = subst (λ (k : 
 
 pub remarks_after : (c d e : ℕ → Class) (at : ℕ) (olds news : List Item) → d ≡ c → Remarks d e at olds news → Remarks c e at olds news
 remarks_after c d e at olds news same change = subst (λ (f : ℕ → Class). Remarks f e at olds news) same change
+
+-- the marks of heaps are taken off a word, and off one word more
+pub heap_unheaded : (m : AddressMap) (at a : ℕ) → at % 4 ≡ 0 → class_of m at ≡ class.Heap
+    → with_class (class_of m) at class.Plain a ≡ with_no_heads at 4 (class_of m) a
+heap_unheaded m at a aligned is = elim (in_range-cases at 4 a) [
+  | inr r ↦
+      let other : (word_start a == at) ≡ false = ne_eqb (word_start a) at (λ (e : word_start a ≡ at). elim r.1 [ inl low ↦ omega arith | inr past ↦ omega arith ]) in
+      rw (other, r.0) refl
+  | inl r ↦
+      let here : (word_start a == at) ≡ true = eq-eqb (word_start a) at (omega (arith, r.1, r.2)) in
+      let same : class_of m a ≡ class.Heap = class_of-word m a at (omega (arith, r.1, r.2)) ∙ is in
+      rw (here, r.0, same) refl
+]
+
+unheaded_other : (own : Class) → own ≢ class.Heap → unheaded own ≡ own
+unheaded_other class.Plain other = refl
+unheaded_other class.FlexHeader other = refl
+unheaded_other class.Anchor other = refl
+unheaded_other class.Heap other = absurd (other refl)
+
+pub other_unheaded : (m : AddressMap) (at a : ℕ) → at % 4 ≡ 0 → class_of m at ≢ class.Heap → class_of m a ≡ with_no_heads at 4 (class_of m) a
+other_unheaded m at a aligned other = elim (in_range-cases at 4 a) [
+  | inr r ↦ rw r.0 refl
+  | inl r ↦
+      let same : class_of m a ≡ class_of m at = class_of-word m a at (omega (arith, r.1, r.2)) in
+      rw r.0 (sym (unheaded_other (class_of m a) (λ (e : class_of m a ≡ class.Heap). other (sym same ∙ e))))
+]
+
+pub unheaded_more : (classes : ℕ → Class) (at next a : ℕ) → at ≤ next
+    → with_no_heads next 4 (λ p. with_no_heads at (next - at) classes p) a ≡ with_no_heads at (next + 4 - at) classes a
+unheaded_more classes at next a low = elim (in_range-cases at (next - at) a) [
+  | inl r ↦
+      let here : in_range at (next + 4 - at) a ≡ true = rw (le-leb at a (omega (arith, r.1)), lt-ltb a (at + (next + 4 - at)) (omega (arith, r.2))) refl in
+      let other : in_range next 4 a ≡ false = rw (lt-leb next a (omega (arith, r.2))) refl in
+      rw (r.0, here, other) refl
+  | inr r ↦ elim (in_range-cases next 4 a) [
+    | inl q ↦
+        let here : in_range at (next + 4 - at) a ≡ true = rw (le-leb at a (omega (arith, q.1)), lt-ltb a (at + (next + 4 - at)) (omega (arith, q.2))) refl in
+        rw (r.0, here, q.0) refl
+    | inr q ↦
+        let other : in_range at (next + 4 - at) a ≡ false = elim r.1 [
+          | inl less ↦ rw (lt-leb at a less) refl
+          | inr past ↦ elim q.1 [
+            | inl less ↦ absurd (omega (arith, less, past))
+            | inr after ↦ and_right _ _ (le-ltb a (at + (next + 4 - at)) (omega (arith, after)))
+          ]
+        ] in
+        rw (r.0, other, q.0) refl
+  ]
+]

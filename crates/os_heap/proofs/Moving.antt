@@ -1,34 +1,43 @@
 -- A block that is moved: the claim of a new one, the copy of the bytes, and the release of the old one.
-use Rattle.std.proofs.Common.{◌≡◌, List, ℕ, Some, ◌-◌, subst, sym, None, Option, true, is_some, refl, ◌+◌, Ok, Err, ◌≤◌, ◌^◌, Result, ◌∙◌, ap, ◌%◌, arith, ◌<◌, false, inl, [], inr, ◌∷◌, ◌==◌}
-use Rattle.std.proofs.lemmas.Bool.{false≢true, both_ways, or_from, false_from_ne_true, cases_Bool, le-leb, lt-ltb}
+use Rattle.std.proofs.Common.{Bool, ◌≡◌, ◌≢◌, ◌||◌, List, ℕ, Some, ◌-◌, subst, sym, None, Option, true, is_some, refl, ◌+◌, Ok, Err, ◌≤◌, ◌^◌, Result, ◌∙◌, ap, ◌%◌, arith, ◌<◌, false, inl, [], inr, ◌∷◌, ◌==◌}
+use Rattle.std.proofs.lemmas.Bool.{false≢true, both_ways, or_from, false_from_ne_true, cases_Bool, eq-eqb, ne_eqb, le-leb, lt-ltb}
+use Rattle.std.specs.List.{filter}
 use Rattle.profile.specs.Outcome.{bind, Gives}
 use Rattle.profile.specs.declared.error.ErrorNumber.{ErrorNumber}
 use Rattle.profile.specs.declared.error.ErrorNumber.TheVariants.{HeapNoRoom}
 use Rattle.address_map.proofs.Equations.{stored_moved}
-use Rattle.address_map.proofs.Stores.{in_range-cases}
+use Rattle.address_map.proofs.Stores.{in_range-cases, layout-mapping}
 use Rattle.address_map.specs.Bytes.{AreMapped, Bytes, word_start, in_range, with_moved_at}
-use Rattle.address_map.specs.Items.{size_of, is_heap_word, is_head}
+use Rattle.address_map.specs.Items.{size_of, is_heap_word}
 use Rattle.address_map.specs.Memory.{anchor_of, bytes_of, layout, is_mapped, byte_at, regions, class_of}
 use Rattle.address_map.specs.declared.item.Item.{Item}
 use Rattle.address_map.specs.declared.map.AddressMap.{AddressMap}
 use Rattle.address_map.specs.declared.region.Kind.{Kind}
 use Rattle.os_heap_lists.proofs.HeadWords.{byte_inside, are_owned}
 use Rattle.os_heap_lists.proofs.LinkWalk.{below_few}
-use Rattle.os_heap_lists.proofs.LiveBlocks.{claim_fresh, claim_still, IsFresh, IsStill, LiveBytes, live_bytes, live_unspelled}
+use Rattle.os_heap_lists.proofs.ClaimedLists.{IsUnheld, claim_unheld}
+use Rattle.os_heap_lists.proofs.LiveBlocks.{claim_fresh, claim_still, IsFresh, IsStill, LiveBytes, live_apart, live_bytes}
+use Rattle.os_heap_lists.proofs.Payloads.{payload_unspelled}
 use Rattle.os_heap_lists.proofs.Reading.{items_in-heap}
 use Rattle.os_heap_lists.specs.Counts.{looked_at, free_below}
-use Rattle.os_heap_lists.specs.Heap.{HeapList, IsHeapIn}
+use Rattle.os_heap_lists.specs.Heap.{AreTotals, HeapList, IsHeapIn}
 use Rattle.os_heap_lists.specs.Lists.{Claim, claimed, live_total, released}
-use Rattle.os_heap.proofs.Calls.{part_at, heap_there, free_given, IsGiven, IsHeld, frees_done, is_held}
+use Rattle.os_heap.proofs.Apart.{range_parts}
+use Rattle.os_heap.proofs.Calls.{part_at, heap_there, free_given, IsHeld, is_held, store_anchor}
+use Rattle.os_heap.proofs.ForgetLemmas.{forgets_unheld}
 use Rattle.os_heap.proofs.Found.{found_heap, found_start}
-use Rattle.os_heap.proofs.Frame.{store_bytes, heads_kept, IsKept, classes_same}
+use Rattle.os_heap.proofs.Frame.{store_bytes, heads_kept, IsKept, classes_same, layout-others, layout-regions}
 use Rattle.os_heap.proofs.Replace.{heap_below}
 use Rattle.os_heap.proofs.Searching.{looked-below}
-use Rattle.os_heap.proofs.Nesting.{keeps_by_blocks}
-use Rattle.os_heap.proofs.Stores.{IsClearOther, AreClearOthers, are_clear_others}
+use Rattle.os_heap.proofs.Nesting.{keeps_by_blocks, within_unspelled}
+use Rattle.os_heap.proofs.Stores.{AreOthers, are_others}
 use Rattle.os_heap.specs.Calls.{holds_anchor, copied, moved, handed_over, holding, with_items, gave_back}
 use Rattle.os_heap.specs.Probes.{move_probes}
+use Rattle.os_heap.specs.Forgetting.{holds_heap, starts_in}
+use Rattle.os_heap.specs.Nesting.{IsWithin, StandsApart}
+use Rattle.os_heap.specs.Order.{stays}
 use Rattle.os_heap.specs.Outcomes.{has_anchor_in, items_at, end_at, Becomes, Claims, HasHeapAt, Releases}
+use Rattle.os_heap.specs.Sound.{HasBlock, IsSoundMap, KeepsRest}
 use Rattle.os_heap.specs.Store.{has_image, IsSound, AreClasses, find_heap, store_of, AreHeapsIn, Store}
 
 -- the part of a heap, by what memory spells of it
@@ -84,6 +93,9 @@ pub record IsClaimed (m n : AddressMap) (kind : Kind) (heap block total needed n
   pub same : layout n ≡ layout m
   pub fresh : live_total new (heap + 16) claim.items ≡ Some needed
   pub still : live_total block (heap + 16) claim.items ≡ Some total
+  pub keeps : (a t : ℕ) → live_total a (heap + 16) (items_at m heap) ≡ Some t → live_total a (heap + 16) claim.items ≡ Some t
+  pub unheld : is_some (live_total new (heap + 16) (items_at m heap)) ≡ false
+  pub old : IsSound (store_of m)
   pub store : store_of n ≡ holding (store_of m) (part_at kind m heap (end_at m heap)) claim.items
   pub sound : IsSound (store_of n)
   pub classes : AreClasses n
@@ -119,6 +131,10 @@ is_claimed m n heap block total needed new answer p sound classes live claims ok
       same = b.becomes.same;
       fresh = subst (λ (a : ℕ). live_total a (heap + 16) b.claim.items ≡ Some needed) (sym b.place) fresh;
       still = still;
+      keeps = keeps;
+      unheld = subst (λ (a : ℕ). is_some (live_total a (heap + 16) items) ≡ false) (sym b.place)
+          (subst (IsUnheld (heap + 16) items) b.is (claim_unheld needed (end - 16) (heap + 16) items there.totals));
+      old = sound;
       store = held.store;
       sound = held.sound;
       classes = held.classes;
@@ -150,23 +166,42 @@ are_inside m n kind heap block total needed new larger c =
       whole = to.whole (omega (arith, c.heap_then.aligned));
     }
 
--- no byte of a heap's range is spelled by another heap, while none lies in it
-unowned : (b : Bytes) (hs : List HeapList) (h : HeapList) (a : ℕ) → AreHeapsIn b hs → AreClearOthers h hs → is_heap_word h.start h.items (word_start a) ≡ false
-    → in_range h.start h.end a ≡ true → are_owned hs a ≡ false
-unowned b [] h a parts others free inside = refl
-unowned b (g ∷ hs) h a parts others free inside =
-    or_from (is_heap_word g.start g.items (word_start a)) (are_owned hs a) (head_free others.0)
-    (unowned b hs h a parts.1.1 others.1 free inside) where
-      head_free : IsClearOther h g → is_heap_word g.start g.items (word_start a) ≡ false
-      head_free (inl same) = ap (λ (x : HeapList). is_heap_word x.start x.items (word_start a)) same ∙ free
-      head_free (inr apart) =
-          false_from_ne_true _ (λ is. both_ways (in_range g.start g.end a) (apart.1 a inside) (byte_inside b g.start g.end g.items a parts.0 is))
+-- the bytes of a new block are spelled by no heap: a heap round it has them in a live block, and one in its heap lies in a block that was live before
+new_unowned : (b : Bytes) (h : HeapList) (items : List Item) (new needed a : ℕ) (hs : List HeapList) → IsHeapIn b h.start h.end h.items → AreTotals items
+    → ((other t : ℕ) → live_total other (h.start + 16) h.items ≡ Some t → live_total other (h.start + 16) items ≡ Some t)
+    → live_total new (h.start + 16) items ≡ Some needed → is_some (live_total new (h.start + 16) h.items) ≡ false
+    → new ≤ a → a < new + (needed - 4) → in_range h.start h.end a ≡ true → AreHeapsIn b hs → AreOthers h hs
+    → are_owned (with_items h.start items hs) a ≡ false
+new_unowned b h items new needed a [] heap totals still fresh unheld low high inside parts others = refl
+new_unowned b h items new needed a (g ∷ hs) heap totals still fresh unheld low high inside parts others =
+    let rest : are_owned (with_items h.start items hs) a ≡ false =
+    new_unowned b h items new needed a hs heap totals still fresh unheld low high inside parts.1.1 others.1 in
+    elim others.0 [
+      | inl same ↦
+          let start : g.start ≡ h.start = ap (λ (x : HeapList). x.start) same in
+          rw (eq-eqb g.start h.start start) (or_from (is_heap_word g.start items (word_start a)) (are_owned (with_items h.start items hs) a)
+          (rw start (payload_unspelled h.start items new needed a heap.aligned totals fresh low high)) rest)
+      | inr apart ↦
+          rw (ne_eqb g.start h.start apart.0) (or_from (is_heap_word g.start g.items (word_start a)) (are_owned (with_items h.start items hs) a)
+          (beside_new apart.1) rest)
+    ] where
+      in_new : IsWithin h g → in_range g.start g.end a ≡ true → ⊥
+      in_new within there =
+          let byte : (g.start ≤ a) × (a < g.start + g.end) = range_parts g.start g.end a there in
+          let other : within.block ≢ new = λ (e : within.block ≡ new).
+          false≢true (sym unheld ∙ ap is_some (subst (λ (x : ℕ). live_total x (h.start + 16) h.items ≡ Some within.total) e within.live)) in
+          let place : LiveBytes within.block within.total (h.start + 16) (h.start + 16 + size_of items) =
+          live_bytes within.block within.total (h.start + 16) items totals (still within.block within.total within.live) in
+          elim (live_apart within.block within.total new needed (h.start + 16) items totals (still within.block within.total within.live) fresh other) [
+            | inl before ↦ omega (arith, before, byte.1, within.high, low)
+            | inr behind ↦ omega (arith, behind, byte.0, within.low, high)
+          ]
 
-pub unowned_in : (m : AddressMap) (h : HeapList) (a : ℕ) → IsSound (store_of m) → find_heap h.start (store_of m).heaps ≡ Some h
-    → is_heap_word h.start h.items (word_start a) ≡ false → in_range h.start h.end a ≡ true → are_owned (store_of m).heaps a ≡ false
-unfolding store_of
-unowned_in m h a sound found free inside =
-    unowned (bytes_of m) (store_of m).heaps h a sound.heaps (are_clear_others (bytes_of m) h.start (store_of m).heaps h sound.heaps sound.unnested found) free inside
+      beside_new : StandsApart h g → is_heap_word g.start g.items (word_start a) ≡ false
+      beside_new (inl clear) =
+          false_from_ne_true _ (λ is. both_ways (in_range g.start g.end a) (clear a inside) (byte_inside b g.start g.end g.items a parts.0 is))
+      beside_new (inr (inl within)) = false_from_ne_true _ (λ is. in_new within (byte_inside b g.start g.end g.items a parts.0 is))
+      beside_new (inr (inr within)) = within_unspelled b g h a parts.0 within inside
 
 -- the same heap is found after it got another list
 pub found_held : (start : ℕ) (items : List Item) (hs : List HeapList) (h : HeapList) → find_heap start hs ≡ Some h
@@ -190,18 +225,14 @@ payload_free : (m n : AddressMap) (kind : Kind) (heap block total needed new a :
     → new ≤ a → a < new + (total - 4) → are_owned (store_of n).heaps a ≡ false
 payload_free m n kind heap block total needed new a larger c low high =
     let i : AreInside m n heap block total needed new = are_inside m n kind heap block total needed new larger c in
-    let p : HeapList = record { kind = kind; start = heap; end = end_at m heap; items = c.claim.items } in
-    let whole = i.whole in
-    let least = i.least in
-    let head : is_head (heap + 16) c.claim.items (word_start a) ≡ false =
-    live_unspelled new needed (heap + 16) c.claim.items (word_start a) c.heap_then.totals c.fresh (omega arith) (omega arith) in
-    let beyond : in_range heap 16 (word_start a) ≡ false = elim (in_range-cases heap 16 (word_start a)) [
-      | inl r ↦ absurd (omega (arith, r.2, i.low))
-      | inr r ↦ r.0
-    ] in
-    let inside : in_range heap (end_at m heap) a ≡ true = rw (le-leb heap a (omega (arith, i.low)), lt-ltb a (heap + end_at m heap) (omega (arith, i.high))) refl in
-    unowned_in n p a c.sound (claim_part m n kind heap block total needed new c)
-    (or_from (in_range heap 16 (word_start a)) (is_head (heap + 16) c.claim.items (word_start a)) beyond head) inside
+    let h : HeapList = part_at kind m heap (end_at m heap) in
+    let s : Store = store_of m in
+    let there : IsHeapIn s.bytes heap (end_at m heap) (items_at m heap) = found_heap s.bytes heap s.heaps h c.old.heaps c.found in
+    let inside : in_range heap (end_at m heap) a ≡ true =
+    rw (le-leb heap a (omega (arith, i.low, low)), lt-ltb a (heap + end_at m heap) (omega (arith, i.high, i.least, high, larger))) refl in
+    subst (λ (t : Store). are_owned t.heaps a ≡ false) (sym c.store)
+    (new_unowned s.bytes h c.claim.items new needed a s.heaps there c.heap_then.totals c.keeps c.fresh c.unheld low (omega (arith, high, larger)) inside
+    c.old.heaps (are_others s.bytes heap s.heaps h c.old.heaps c.found))
 
 -- what is so when the bytes are copied
 pub record IsCopied (m n p : AddressMap) (kind : Kind) (heap block total needed new : ℕ) (claim : Claim) : Type 0 where
@@ -244,10 +275,6 @@ is_copied m n p kind heap block total needed new larger c same bytes marks =
       live = ap (λ (xs : List Item). is_some (live_total block (heap + 16) xs)) items ∙ ap is_some c.still;
     }
 
-store_anchor : (m : AddressMap) → anchor_of m ≡ (store_of m).anchor
-unfolding store_of
-store_anchor m = refl
-
 -- the whole move
 then_given : (s t : Store) (r : Result (Store × Unit {0}) ErrorNumber) (n : ℕ) → Gives s r (let done : Result (Unit {0}) ErrorNumber = Ok tt in done) t → (u : Store) → Gives u (bind r (λ x. Ok (x.0, n))) (Ok n) t
 then_given s t (Ok x) n left u = (left.0, refl)
@@ -255,51 +282,68 @@ then_given s t (Err e) n left u = absurd left
 
 pub record IsMoved (m q : AddressMap) (heap block total needed new : ℕ) : Type 0 where
   pub store : (h : HeapList) → find_heap heap (store_of m).heaps ≡ Some h → Gives (store_of m) (moved (store_of m) h block total needed) (Ok new) (store_of q)
-  pub sound : IsSound (store_of q)
-  pub classes : AreClasses q
-  pub same : layout q ≡ layout m
+  pub kept : KeepsRest m q
+
+-- a claim leaves the starts of all heaps
+held_listed : (start at len : ℕ) (items : List Item) (hs : List HeapList) → holds_heap (with_items start items hs) at len ≡ holds_heap hs at len
+held_listed start at len items [] = refl
+held_listed start at len items (g ∷ hs) =
+    let rest : holds_heap (with_items start items hs) at len ≡ holds_heap hs at len = held_listed start at len items hs in
+    elim (cases_Bool (g.start == start)) [
+      | inl here ↦ rw here (ap (λ (t : Bool). starts_in at len g || t) rest)
+      | inr other ↦ rw other (ap (λ (t : Bool). starts_in at len g || t) rest)
+    ]
 
 pub is_moved : (m n p q : AddressMap) (kind : Kind) (heap block total needed new : ℕ) (c : IsClaimed m n kind heap block total needed new)
     → IsCopied m n p kind heap block total needed new c.claim → layout p ≡ layout n
-    → has_image block (regions p) ≡ false → holds_anchor (store_of m).anchor block (Some total) ≡ false → Releases p q heap (end_at p heap) (Ok tt) (released block (heap + 16) (items_at p heap))
+    → has_image block (regions p) ≡ false → holds_anchor (store_of m).anchor block (Some total) ≡ false
+    → holds_heap (store_of m).heaps block (total - 4) ≡ false → Releases p q heap (end_at p heap) (Ok tt) (released block (heap + 16) (items_at p heap))
     → IsMoved m q heap block total needed new
-is_moved m n p q kind heap block total needed new c d same own free releases =
+is_moved m n p q kind heap block total needed new c d same own free empty releases =
     let live : live_total block (heap + 16) (items_at p heap) ≡ Some total =
     ap (λ (xs : List Item). live_total block (heap + 16) xs) d.items ∙ c.still in
     let anchors : anchor_of p ≡ (store_of m).anchor = store_anchor p ∙ ap (λ (s : Store). s.anchor) d.store in
     let free' : has_anchor_in p heap block ≡ false = rw (anchors, live) free in
-    let left : IsGiven (Unit {0}) p q (gave_back (store_of p) heap block) (Ok tt) =
-    free_given kind p q heap block (end_at p heap) (Ok tt) d.sound d.classes d.found
-    (rw own (frees_done p q heap (end_at p heap) (has_anchor_in p heap block) (released block (heap + 16) (items_at p heap)) free' releases)) in
     let s : Store = store_of m in
     let part : HeapList = part_at kind m heap (end_at m heap) in
+    let state : IsSoundMap p = record { sound = d.sound; classes = d.classes } in
+    let here : HasBlock p block total = record { heap = part_at kind p heap (end_at p heap); found = d.found; live = live } in
+    let empty' : holds_heap (store_of p).heaps block (total - 4) ≡ false =
+    ap (λ (t : Store). holds_heap t.heaps block (total - 4)) d.store ∙ held_listed heap block (total - 4) c.claim.items s.heaps ∙ empty in
+    let left = free_given kind p p q heap block (end_at p heap) total state d.found own live free' (forgets_unheld p block total state here empty') releases in
     let back : Gives (store_of p) (gave_back (copied (holding s part c.claim.items) block new (total - 4)) heap block) (Ok tt) (store_of q) =
-    subst (λ (t : Store). Gives (store_of p) (gave_back t heap block) (Ok tt) (store_of q)) d.store left.store in
+    subst (λ (t : Store). Gives (store_of p) (gave_back t heap block) (Ok tt) (store_of q)) d.store left.0 in
     let over : Gives s (handed_over heap block (total - 4) (holding s part c.claim.items) new) (Ok new) (store_of q) =
     then_given (store_of p) (store_of q) _ new back s in
     let given : Gives s (moved s part block total needed) (Ok new) (store_of q) =
-    rw c.claims (subst (λ (a : ℕ). Gives s (handed_over heap block (total - 4) (holding s part c.claim.items) a) (Ok new) (store_of q)) c.place over) in
+    rw (c.claims, empty) (subst (λ (a : ℕ). Gives s (handed_over heap block (total - 4) (holding s part c.claim.items) a) (Ok new) (store_of q)) c.place over) in
+    let layout_same : layout p ≡ layout m = same ∙ c.same in
     record {
       store = λ h found. let e : Some part ≡ Some h = sym c.found ∙ found in let same : part ≡ h = cc in
           subst (λ (x : HeapList). Gives s (moved s x block total needed) (Ok new) (store_of q)) same given;
-      sound = left.sound;
-      classes = left.classes;
-      same = left.same ∙ same ∙ c.same;
+      kept = record {
+        sound = left.1.sound;
+        classes = left.1.classes;
+        others = left.1.others ∙ layout-others m p layout_same;
+        mapping = left.1.mapping ∙ layout-mapping m p layout_same;
+        records = left.1.records ∙ ap (filter (stays (store_of q).heaps)) (layout-regions m p layout_same);
+      };
     }
 
 pub moved_probes : (m n p : AddressMap) (kind : Kind) (heap block total needed new : ℕ) (h : HeapList) (c : IsClaimed m n kind heap block total needed new)
-    → IsCopied m n p kind heap block total needed new c.claim → find_heap heap (store_of m).heaps ≡ Some h
+    → IsCopied m n p kind heap block total needed new c.claim → holds_heap (store_of m).heaps block (total - 4) ≡ false
+    → find_heap heap (store_of m).heaps ≡ Some h
     → looked_at needed (items_at m heap) + free_below block (heap + 16) (items_at p heap)
-    ≡ move_probes h block needed (claimed needed (h.end - 16) h.items)
-moved_probes m n p kind heap block total needed new h c d found =
+    ≡ move_probes (store_of m) h block total needed (claimed needed (h.end - 16) h.items)
+moved_probes m n p kind heap block total needed new h c d empty found =
     let part : HeapList = part_at kind m heap (end_at m heap) in
     let e : Some part ≡ Some h = sym c.found ∙ found in
     let same : part ≡ h = cc in
     let probes : looked_at needed (items_at m heap) + free_below block (heap + 16) (items_at p heap)
-    ≡ move_probes part block needed (claimed needed (end_at m heap - 16) (items_at m heap)) =
-    rw (c.claims, d.items) refl in
+    ≡ move_probes (store_of m) part block total needed (claimed needed (end_at m heap - 16) (items_at m heap)) =
+    rw (c.claims, d.items, empty) refl in
     subst (λ (x : HeapList). looked_at needed (items_at m heap) + free_below block (heap + 16) (items_at p heap)
-    ≡ move_probes x block needed (claimed needed (x.end - 16) x.items)) same probes
+    ≡ move_probes (store_of m) x block total needed (claimed needed (x.end - 16) x.items)) same probes
 
 pub probes_fit : (m n p : AddressMap) (kind : Kind) (heap block total needed new : ℕ) (c : IsClaimed m n kind heap block total needed new)
     → IsCopied m n p kind heap block total needed new c.claim → HasHeapAt m heap
@@ -311,32 +355,4 @@ probes_fit m n p kind heap block total needed new c d there =
       looked-below m heap (end_at m heap) needed (items_at m heap) there,
       below_few block (heap + 16) (items_at p heap) d.there.totals,
       d.there.inside,
-    )
-
--- where there is no room for a new block
-record IsNone (m n : AddressMap) (e : ErrorNumber) (o : Option Claim) : Type 0 where
-  none : o ≡ None
-  error : e ≡ HeapNoRoom
-  same : n ≡ m
-
-is_none : (m n : AddressMap) (start end : ℕ) (e : ErrorNumber) (o : Option Claim) → Claims m n start end (Err e) o → IsNone m n e o
-is_none m n start end e None claims = let no : Err e ≡ Err HeapNoRoom = claims.0 in record { none = refl; error = cc; same = claims.1 }
-is_none m n start end e (Some c) claims = absurd (let ok : Err e ≡ Ok (start + 16 + c.offset + 4) = claims.0 in cc)
-
-pub is_refused : (m n : AddressMap) (heap block total needed : ℕ) (h : HeapList) (answer : Result ℕ ErrorNumber) (e : ErrorNumber) → IsSound (store_of m)
-    → find_heap heap (store_of m).heaps ≡ Some h
-    → Claims m n heap (end_at m heap) answer (claimed needed (end_at m heap - 16) (items_at m heap)) → answer ≡ Err e
-    → Gives (store_of m) (moved (store_of m) h block total needed) answer (store_of n)
-    × (looked_at needed (items_at m heap) ≡ move_probes h block needed (claimed needed (h.end - 16) h.items))
-is_refused m n heap block total needed h answer e sound found claims err =
-    let end : ℕ = end_at m heap in
-    let items : List Item = items_at m heap in
-    let part : HeapList = part_at h.kind m heap end in
-    let same : part ≡ h = sym (part_known m heap h sound found) in
-    let r : IsNone m n e (claimed needed (end - 16) items) = is_none m n heap end e (claimed needed (end - 16) items)
-    (subst (λ (a : Result ℕ ErrorNumber). Claims m n heap end a (claimed needed (end - 16) items)) err claims) in
-    let given : Gives (store_of m) (moved (store_of m) part block total needed) answer (store_of n) = rw (err, r.none) (r.error, ap store_of r.same) in
-    let probes : looked_at needed items ≡ move_probes part block needed (claimed needed (end - 16) items) = rw r.none refl in (
-      subst (λ (x : HeapList). Gives (store_of m) (moved (store_of m) x block total needed) answer (store_of n)) same given,
-      subst (λ (x : HeapList). looked_at needed items ≡ move_probes x block needed (claimed needed (x.end - 16) x.items)) same probes,
     )

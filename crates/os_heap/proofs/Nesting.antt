@@ -1,5 +1,5 @@
 -- Heaps that share no byte, or of which one lies in a live block of the other: a word that one of them spells is none of the other's words.
-use Rattle.std.proofs.Common.{List, ℕ, [], ◌∷◌, ◌++◌, ◌≡◌, ◌≢◌, ◌+◌, ◌≤◌, ◌<◌, Some, true, false, refl, inl, inr, arith}
+use Rattle.std.proofs.Common.{List, ℕ, [], ◌∷◌, ◌++◌, ◌≡◌, ◌≢◌, ◌+◌, ◌≤◌, Some, true, false, refl, inl, inr, arith}
 use Rattle.std.proofs.lemmas.Bool.{both_ways, false_from_ne_true, le-leb, lt-ltb, leb-true, ltb-true, and_parts}
 use Rattle.address_map.specs.Bytes.{Bytes, in_range, word_start}
 use Rattle.address_map.specs.Items.{is_heap_word, size_of}
@@ -89,7 +89,7 @@ abbrev pub KeepsHeaps : HeapList → List Item → List HeapList → Type 0
 KeepsHeaps h items [] = Unit {0}
 KeepsHeaps h items (g ∷ gs) = KeepsWithin h items g × KeepsHeaps h items gs
 
--- where all its live blocks stay, and where no heap lies in one
+-- where all its live blocks stay
 pub keeps_by_blocks : (h : HeapList) (items : List Item) (gs : List HeapList)
     → ((block total : ℕ) → live_total block (h.start + 16) h.items ≡ Some total → live_total block (h.start + 16) items ≡ Some total) → KeepsHeaps h items gs
 keeps_by_blocks h items [] still = tt
@@ -104,15 +104,6 @@ keeps_by_blocks h items (g ∷ gs) still = (
   },
   keeps_by_blocks h items gs still,
 )
-
-pub not_within : (b : Bytes) (h g : HeapList) → IsHeapIn b h.start h.end h.items → 0 < g.end → AreClear h.start h.end g.start g.end → IsWithin h g → ⊥
-not_within b h g heap some clear within =
-    let low = within_low b h g heap within in
-    let here : in_range h.start h.end g.start ≡ true =
-    rw (le-leb h.start g.start (omega (arith, low.0)), lt-ltb g.start (h.start + h.end) (omega (arith, low.1, some))) refl in
-    let there : in_range g.start g.end g.start ≡ true =
-    rw (le-leb g.start g.start (omega arith), lt-ltb g.start (g.start + g.end) (omega (arith, some))) refl in
-    both_ways (in_range g.start g.end g.start) (clear g.start here) there
 
 -- the new list in place of the old one
 pub stands_own : (h g : HeapList) (items : List Item) → KeepsWithin h items g → StandsApart h g → StandsApart (listed h items) g

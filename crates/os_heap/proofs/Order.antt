@@ -1,6 +1,7 @@
 -- The order of records, where one comes, and where one gets another length; with the two lists of a store it tells the records.
 use Rattle.std.proofs.Common.{◌≡◌, ◌∙◌, ℕ, true, false, List, [], ◌∷◌, ◌++◌, ap, refl, inl, inr, map}
 use Rattle.std.proofs.lemmas.Bool.{cases_Bool}
+use Rattle.std.specs.List.{filter}
 use Rattle.address_map.specs.Bytes.{Bytes}
 use Rattle.address_map.specs.Memory.{bytes_of, layout, regions}
 use Rattle.address_map.specs.Records.{is_heap_kind, is_record, with_len}
@@ -10,7 +11,7 @@ use Rattle.address_map.specs.declared.region.Region.{Region}
 use Rattle.os_heap_lists.specs.Heap.{HeapList}
 use Rattle.os_heap.proofs.Frame.{layout-regions}
 use Rattle.os_heap.specs.Laws.{RecordsAreTold}
-use Rattle.os_heap.specs.Order.{start_of, KeepsOrder, AddsRecord}
+use Rattle.os_heap.specs.Order.{start_of, stays, stays_at, AddsRecord, KeepsOrder, LosesHeaps, LosesInOrder}
 use Rattle.os_heap.specs.Store.{heap_in, heaps_in, others_in, store_of}
 
 pub order_kept : (m n : AddressMap) → regions n ≡ regions m → KeepsOrder m n
@@ -35,6 +36,19 @@ order_ended (r ∷ rs) k at len = elim (cases_Bool (is_record k at r)) [
 
 pub end_order : (m n : AddressMap) (k : Kind) (at len : ℕ) → regions n ≡ with_len (regions m) k at len → KeepsOrder m n
 end_order m n k at len ended = ap (λ (rs : List Region). map start_of rs) ended ∙ order_ended (regions m) k at len
+
+-- where heaps are forgotten, also after one got another end
+order_left : (hs : List HeapList) (rs : List Region) → map start_of (filter (stays hs) rs) ≡ filter (stays_at hs) (map start_of rs)
+order_left hs [] = refl
+order_left hs (r ∷ rs) = elim (cases_Bool (stays hs r)) [
+  | inl here ↦ rw here (ap (λ (xs : List (Kind × ℕ)). start_of r ∷ xs) (order_left hs rs))
+  | inr gone ↦ rw gone (order_left hs rs)
+]
+
+pub order_lost : (m k n : AddressMap) → KeepsOrder m k → LosesHeaps k n → LosesInOrder m n
+order_lost m k n kept lost =
+    ap (λ (rs : List Region). map start_of rs) lost ∙ order_left (store_of n).heaps (regions k)
+    ∙ ap (λ (xs : List (Kind × ℕ)). filter (stays_at (store_of n).heaps) xs) kept
 
 -- the records are those of the two lists, in that order
 same_record : (q r : Region) → q.kind ≡ r.kind → q.at ≡ r.at → q.len ≡ r.len → q ≡ r

@@ -8,6 +8,7 @@ use Rattle.address_map.specs.Records.{is_heap_kind}
 use Rattle.address_map.specs.declared.map.AddressMap.{AddressMap}
 use Rattle.address_map.specs.declared.region.Region.{Region}
 use Rattle.os_heap_lists.specs.Heap.{HeapList}
+use Rattle.os_heap.proofs.Stores.{placed_clear}
 use Rattle.os_heap.specs.Store.{AreClear, heaps_in, others_in, IsClearOfHeaps, ArePlaced, IsClearOfRanges, AreRangesApart, is_flex_store, is_in_flex_store, store_of, IsSound, Store}
 
 heaps_in-other : (b : Bytes) (rs : List Region) (r : Region) → is_heap_kind r.kind ≡ false → heaps_in b (rs ++ r ∷ []) ≡ heaps_in b rs
@@ -27,7 +28,7 @@ others_in-other (g ∷ rs) r other =
     ]
 
 placed_other : (hs : List HeapList) (rs : List Region) (r : Region) → ArePlaced hs rs → IsClearOfHeaps r.at r.len hs → ArePlaced hs (rs ++ r ∷ [])
-placed_other hs [] r placed last = (inl last, tt)
+placed_other hs [] r placed last = (placed_clear hs r last, tt)
 placed_other hs (g ∷ rs) r placed last = (placed.0, placed_other hs rs r placed.1 last)
 
 -- a range that meets none of the others
@@ -70,7 +71,6 @@ pub recorded_sound : (s : Store) (r : Region) → IsSound s → IsClearOfHeaps r
     → IsSound (record s { others = s.others ++ r ∷ [] })
 recorded_sound s r sound clear apart room = record {
   heaps = sound.heaps;
-  unnested = sound.unnested;
   limits = sound.limits;
   placed = placed_other s.heaps s.others r sound.placed clear;
   apart = apart_other s.others r sound.apart apart;

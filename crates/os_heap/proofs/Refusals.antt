@@ -1,5 +1,5 @@
 -- What the change of a heap's size answers, case by case.
-use Rattle.std.proofs.Common.{◌≡◌, None, refl, ℕ, Err, false, Some, true, ◌≢◌, ◌%◌, ◌-◌, arith, inl, inr, ◌<◌, ◌==◌, ◌&&◌, ◌+◌, ltb, Ok}
+use Rattle.std.proofs.Common.{◌≡◌, None, refl, ℕ, Err, false, Some, true, ◌≢◌, ◌%◌, arith, inl, inr, ◌<◌, ◌==◌, ◌+◌, Ok}
 use Rattle.std.proofs.lemmas.Bool.{ne_eqb, eq-eqb, cases_Bool, lt-ltb}
 use Rattle.profile.specs.declared.error.ErrorNumber.TheVariants.{HeapBadDesc, HeapBadRegion, HeapOverlaps, HeapBadShrink}
 use Rattle.address_map.specs.Bytes.{Bytes}
@@ -8,7 +8,7 @@ use Rattle.os_heap_lists.specs.Heap.{HeapList}
 use Rattle.os_heap_lists.specs.Lists.{changed_by}
 use Rattle.os_heap.proofs.Added.{can_hold}
 use Rattle.os_heap.specs.Calls.{changed, has_own_size, end_changed, ending}
-use Rattle.os_heap.specs.Ranges.{MayEnd, is_heap_region, meets_any}
+use Rattle.os_heap.specs.Ranges.{MayEnd, is_heap_region, overgrows}
 use Rattle.os_heap.specs.Store.{Store, find_heap}
 
 pub changed_none : (s : Store) (heap change : ℕ) → find_heap heap s.heaps ≡ None → changed s heap change ≡ Err HeapBadDesc
@@ -47,11 +47,11 @@ end_wide s h change end wide =
     ]
 
 pub end_over : (s : Store) (h : HeapList) (change end : ℕ) → change % 4 ≡ 0 → is_heap_region s.bytes h.start end ≡ true
-    → (ltb h.end end && meets_any (h.start + h.end) (end - h.end) s) ≡ true → end_changed s h change end ≡ Err HeapOverlaps
+    → overgrows s h end ≡ true → end_changed s h change end ≡ Err HeapOverlaps
 end_over s h change end whole good over = rw (eq-eqb (change % 4) 0 whole, good, over) refl
 
 pub end_short : (s : Store) (h : HeapList) (change end : ℕ) → change % 4 ≡ 0 → is_heap_region s.bytes h.start end ≡ true
-    → (ltb h.end end && meets_any (h.start + h.end) (end - h.end) s) ≡ false → end < 16 + size_of h.items → end_changed s h change end ≡ Err HeapBadShrink
+    → overgrows s h end ≡ false → end < 16 + size_of h.items → end_changed s h change end ≡ Err HeapBadShrink
 end_short s h change end whole good clear short = rw (eq-eqb (change % 4) 0 whole, good, clear, lt-ltb end (16 + size_of h.items) short) refl
 
 pub end_done : (s : Store) (h : HeapList) (change end : ℕ) → change % 4 ≡ 0 → MayEnd s h end → end_changed s h change end ≡ Ok (ending s h end, tt)

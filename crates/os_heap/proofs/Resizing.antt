@@ -8,7 +8,7 @@ use Rattle.profile.specs.declared.error.ErrorNumber.TheVariants.{HeapNotABlock, 
 use Rattle.address_map.proofs.Anchors.{among_none}
 use Rattle.address_map.specs.Bytes.{Bytes, word_at}
 use Rattle.address_map.specs.Items.{items_in, size_of}
-use Rattle.address_map.specs.Memory.{anchor_of, bytes_of, regions, is_mapped, byte_at, layout}
+use Rattle.address_map.specs.Memory.{anchor_of, bytes_of, regions, is_mapped, byte_at}
 use Rattle.address_map.specs.Records.{anchor_among, is_heap_kind}
 use Rattle.address_map.specs.declared.item.Item.{Item}
 use Rattle.address_map.specs.declared.item.Item.TheVariants.{Free, Live}
@@ -17,7 +17,7 @@ use Rattle.address_map.specs.declared.region.Kind.{Kind}
 use Rattle.address_map.specs.declared.region.Region.{Region}
 use Rattle.os_heap_lists.proofs.Counts.{claim_no_more}
 use Rattle.os_heap_lists.proofs.Reading.{total_facts}
-use Rattle.os_heap_lists.proofs.LiveBlocks.{IsStillIn, LiveBytes, live_bytes, refit_still}
+use Rattle.os_heap_lists.proofs.LiveBlocks.{IsStillIn, LiveBytes, live_bytes, refit_own, refit_still}
 use Rattle.os_heap_lists.proofs.Resizes.{map_none, unreleased}
 use Rattle.os_heap_lists.specs.Counts.{begun_below, free_count}
 use Rattle.os_heap_lists.specs.Heap.{HeapList, IsHeapIn, AreTotals}
@@ -25,16 +25,18 @@ use Rattle.os_heap_lists.specs.Lists.{live_total, released, changed_by, resized_
 use Rattle.os_heap_lists.specs.Walks.{IsBlock}
 use Rattle.os_heap.proofs.Anchored.{refit_keeps}
 use Rattle.os_heap.proofs.Bounds.{move_most}
-use Rattle.os_heap.proofs.Calls.{part_at, heap_of-part, heap_there, IsGiven, IsHeld, KeepsIn, frees_done, is_held, free_given, image_recorded, image_apart}
+use Rattle.os_heap.proofs.Calls.{part_at, heap_of-part, heap_there, IsLeft, is_left, image_recorded}
 use Rattle.os_heap.proofs.Freeing.{block_facts}
+use Rattle.os_heap.proofs.LostHeaps.{KeepsBlocks}
 use Rattle.os_heap.proofs.Moving.{part_there, HasPart}
 use Rattle.os_heap.proofs.Replace.{heap_mapped, heap_below}
 use Rattle.os_heap.proofs.Sized.{block_total}
-use Rattle.os_heap.proofs.Stores.{keeps_alone}
 use Rattle.os_heap.specs.Calls.{gave_back, holds_anchor, unless_image, resized, resized_or_moved, moved}
 use Rattle.os_heap.specs.Probes.{resize_probes, probes_after_walk, refit_probes, move_probes}
-use Rattle.os_heap.specs.Outcomes.{IsGuestBlock, has_anchor_in, items_at, end_at, Releases, Refits}
-use Rattle.os_heap.specs.Store.{has_image, heap_in, heaps_in, find_heap, store_of, IsSound, AreClasses, Store}
+use Rattle.os_heap.specs.Outcomes.{IsGuestBlock, has_anchor_in, items_at, end_at, Refits}
+use Rattle.os_heap.specs.Cursors.{RefitsBlock, ResizesInPlace}
+use Rattle.os_heap.specs.Sound.{Forgets, GivesBack, HasBlock, IsSoundMap, KeepsRest}
+use Rattle.os_heap.specs.Store.{has_image, heap_in, heaps_in, find_heap, store_of, IsSound, Store}
 
 -- the heap that is found is the one that memory spells there
 found_in : (b : Bytes) (heap : ℕ) (rs : List Region) (h : HeapList) → find_heap heap (heaps_in b rs) ≡ Some h
@@ -95,11 +97,11 @@ by_total m heap block change t total e =
 
 probes_by_total : (m : AddressMap) (heap block change : ℕ) (t : IsThere m heap) (total : Option ℕ) → asked m heap block ≡ total
     → resize_probes (store_of m) heap block change
-    ≡ begun_below block (heap + 16) (items_at m heap) + probes_after_walk (store_of m).anchor (part_at t.kind m heap t.end) block change total
+    ≡ begun_below block (heap + 16) (items_at m heap) + probes_after_walk (store_of m) (part_at t.kind m heap t.end) block change total
 unfolding resize_probes
 probes_by_total m heap block change t total e =
     rw (t.found, image_recorded m block)
-    (ap (λ (o : Option ℕ). begun_below block (heap + 16) (items_at m heap) + probes_after_walk (store_of m).anchor (part_at t.kind m heap t.end) block change o) e)
+    (ap (λ (o : Option ℕ). begun_below block (heap + 16) (items_at m heap) + probes_after_walk (store_of m) (part_at t.kind m heap t.end) block change o) e)
 
 -- what a walk to the block tells
 pub record IsHere (m : AddressMap) (heap block at : ℕ) : Type 0 where
@@ -121,6 +123,13 @@ block_here m heap block from at free gap sound is g =
       live = block_total m heap (end_at m heap) block from at free gap h b ∙ ap (λ (n : ℕ). Some n) (sym f.facts.total_word);
     }
 
+-- the block, in the heap that is there
+pub has_block : (m : AddressMap) (heap block total : ℕ) → is_some (find_heap heap (store_of m).heaps) ≡ true
+    → live_total block (heap + 16) (items_at m heap) ≡ Some total → HasBlock m block total
+has_block m heap block total is live =
+    let t : IsThere m heap = is_there m heap is in
+    record { heap = part_at t.kind m heap t.end; found = t.found; live = live }
+
 -- no such block
 pub resize_refused : (m : AddressMap) (heap block change : ℕ) → is_some (find_heap heap (store_of m).heaps) ≡ true
     → asked m heap block ≡ None
@@ -138,9 +147,7 @@ resize_nowhere m heap block change none = rw none (refl, refl)
 -- what the call leaves, and what it has looked at beyond the walk
 pub record IsResized (m n : AddressMap) (heap block change : ℕ) (answer : Result ℕ ErrorNumber) (more : ℕ) : Type 0 where
   pub store : Gives (store_of m) (resized (store_of m) heap block change) answer (store_of n)
-  pub sound : IsSound (store_of n)
-  pub same : layout n ≡ layout m
-  pub classes : AreClasses n
+  pub kept : KeepsRest m n
   pub probes : begun_below block (heap + 16) (items_at m heap) + more ≡ resize_probes (store_of m) heap block change
 
 -- nothing is left of the block
@@ -149,81 +156,73 @@ freed_given : (old new : Store) (o : Result (Store × Unit {0}) ErrorNumber) (an
 freed_given old new (Ok s) answer zero left = rw zero (left.0, refl)
 freed_given old new (Err e) answer zero left = absurd left
 
-pub resize_freed : (m n : AddressMap) (heap block change total : ℕ) → IsSound (store_of m) → AreClasses m → is_some (find_heap heap (store_of m).heaps) ≡ true
+pub resize_freed : (m n : AddressMap) (heap block change total : ℕ) → is_some (find_heap heap (store_of m).heaps) ≡ true
     → has_image block (regions m) ≡ false → live_total block (heap + 16) (items_at m heap) ≡ Some total → changed_by total change ≤ 4
-    → has_anchor_in m heap block ≡ false → Releases m n heap (end_at m heap) (Ok tt) (released block (heap + 16) (items_at m heap)) → IsResized m n heap block change (Ok 0) 0
-resize_freed m n heap block change total sound classes is own live few free releases =
+    → GivesBack m n heap block → KeepsRest m n → IsResized m n heap block change (Ok 0) 0
+resize_freed m n heap block change total is own live few given kept =
     let t : IsThere m heap = is_there m heap is in
     let test : nat_le (changed_by total change) 4 ≡ true = le-leb (changed_by total change) 4 few in
-    let l : IsGiven (Unit {0}) m n (gave_back (store_of m) heap block) (Ok tt) = free_given t.kind m n heap block t.end (Ok tt) sound classes t.found
-    (rw own (frees_done m n heap (end_at m heap) (has_anchor_in m heap block) (released block (heap + 16) (items_at m heap)) free releases)) in
     let some = asked_live m heap block total own live in
     record {
-      store = rw (by_total m heap block change t (Some total) some, test) (freed_given (store_of m) (store_of n) (gave_back (store_of m) heap block) (Ok 0) refl l.store);
-      sound = l.sound;
-      same = l.same;
-      classes = l.classes;
+      store = rw (by_total m heap block change t (Some total) some, test) (freed_given (store_of m) (store_of n) (gave_back (store_of m) heap block) (Ok 0) refl given);
+      kept = kept;
       probes = sym (rw test at (probes_by_total m heap block change t (Some total) some));
     }
 
 -- the block stays where it is
-refit_keeps_in : (anchor : ℕ → Bool) (block old end new at : ℕ) (xs : List Item) (o : Option (List Item)) → resized_in_place block end new at xs ≡ o
-    → live_total block at xs ≡ Some old → 4 ≤ block → anchor_among anchor (block - 4 + new) (old - new) ≡ false → KeepsIn anchor at xs false o
-refit_keeps_in anchor block old end new at xs None is live above uncut = tt
-refit_keeps_in anchor block old end new at xs (Some ys) is live above uncut = refit_keeps anchor block old end new at xs ys is live above uncut
+in_place_given : (m k n : AddressMap) (kind : Kind) (heap end block old new : ℕ) (o : Option (List Item)) → IsSoundMap m
+    → find_heap heap (store_of m).heaps ≡ Some (part_at kind m heap end) → has_image block (store_of m).others ≡ false
+    → live_total block (heap + 16) (items_at m heap) ≡ Some old → 8 ≤ new
+    → anchor_among (store_of m).anchor (block - 4 + new) (old - new) ≡ false → Forgets m k block old (block - 4 + new)
+    → resized_in_place block (heap + end) new (heap + 16) (items_at m heap) ≡ o → Refits k n heap end true o
+    → Gives (store_of m) (resized_or_moved (store_of m) (part_at kind m heap end) block old new o) (Ok block) (store_of n) × KeepsRest m n
+in_place_given m k n kind heap end block old new None state found own live some uncut f is refits = absurd (false≢true (sym refits.0))
+in_place_given m k n kind heap end block old new (Some items) state found own live some uncut f is refits =
+    let h : HeapList = part_at kind m heap end in
+    let heap_is : IsHeapIn (bytes_of m) heap end (items_at m heap) = heap_of-part kind m heap end state.sound found in
+    let lies : LiveBytes block old (heap + 16) (heap + 16 + size_of (items_at m heap)) =
+    live_bytes block old (heap + 16) (items_at m heap) heap_is.totals live in
+    let blocks : KeepsBlocks h items block (block - 4 + new) = record {
+      others = λ other t apart there. subst (IsStillIn other t (heap + 16)) is (refit_still other block t (heap + end) new (heap + 16) (items_at m heap) apart there);
+      own = λ a past before. record {
+        total = new;
+        live = subst (IsStillIn block new (heap + 16)) is (refit_own block (heap + end) new (heap + 16) (items_at m heap));
+        high = omega (arith, before, lies.low);
+      };
+    } in
+    let left : IsLeft m n h block old (block - 4 + new) items =
+    is_left m k n h block old (block - 4 + new) items state found refl live (omega (arith, some, lies.low)) own blocks
+    (refit_keeps (store_of m).anchor block old (heap + end) new (heap + 16) (items_at m heap) items is live (omega (arith, lies.low)) uncut) f refits.1 in
+    (rw uncut (left.store, refl), left.kept)
 
-in_place_given : (m n : AddressMap) (kind : Kind) (heap end block old new : ℕ) (o : Option (List Item)) → IsSound (store_of m) → AreClasses m
-    → find_heap heap (store_of m).heaps ≡ Some (part_at kind m heap end)
-    → ((b t : ℕ) → has_image b (store_of m).others ≡ true → live_total b (heap + 16) (items_at m heap) ≡ Some t → IsStillIn b t (heap + 16) o)
-    → anchor_among (store_of m).anchor (block - 4 + new) (old - new) ≡ false → KeepsIn (store_of m).anchor (heap + 16) (items_at m heap) false o
-    → Refits m n heap end true o
-    → IsGiven ℕ m n (resized_or_moved (store_of m) (part_at kind m heap end) block old new o) (Ok block)
-in_place_given m n kind heap end block old new None sound classes found still uncut keeps refits = absurd (false≢true (sym refits.0))
-in_place_given m n kind heap end block old new (Some items) sound classes found still uncut keeps refits =
-    let held : IsHeld m n (part_at kind m heap end) items =
-    is_held m n (part_at kind m heap end) items sound classes found refl still keeps
-    (keeps_alone (store_of m) (part_at kind m heap end) items sound found) refits.1 in
-    record {
-      store = rw uncut (held.store, refl);
-      sound = held.sound;
-      same = refits.1.same;
-      classes = held.classes;
-    }
+in_place_unmoved : (m k n : AddressMap) (h : HeapList) (heap end block old new : ℕ) (o : Option (List Item)) → Refits k n heap end true o
+    → refit_probes (store_of m) h block old new o ≡ 0
+in_place_unmoved m k n h heap end block old new None refits = absurd (false≢true (sym refits.0))
+in_place_unmoved m k n h heap end block old new (Some items) refits = refl
 
-in_place_unmoved : (m n : AddressMap) (h : HeapList) (heap end block old new : ℕ) (o : Option (List Item)) → Refits m n heap end true o
-    → refit_probes (store_of m).anchor h block old new o ≡ 0
-in_place_unmoved m n h heap end block old new None refits = absurd (false≢true (sym refits.0))
-in_place_unmoved m n h heap end block old new (Some items) refits = refl
-
-pub resize_refitted : (m n : AddressMap) (heap block change total : ℕ) → IsSound (store_of m) → AreClasses m → is_some (find_heap heap (store_of m).heaps) ≡ true
+pub resize_refitted : (m k n : AddressMap) (heap block change total : ℕ) → IsSoundMap m → is_some (find_heap heap (store_of m).heaps) ≡ true
     → has_image block (regions m) ≡ false → live_total block (heap + 16) (items_at m heap) ≡ Some total → 4 < changed_by total change
     → anchor_among (store_of m).anchor (block - 4 + round_up_8 (changed_by total change)) (total - round_up_8 (changed_by total change)) ≡ false
-    → Refits m n heap (end_at m heap) true (resized_in_place block (heap + end_at m heap) (round_up_8 (changed_by total change)) (heap + 16) (items_at m heap))
+    → Forgets m k block total (block - 4 + round_up_8 (changed_by total change))
+    → Refits k n heap (end_at k heap) true (resized_in_place block (heap + end_at k heap) (round_up_8 (changed_by total change)) (heap + 16) (items_at k heap))
     → IsResized m n heap block change (Ok block) 0
-resize_refitted m n heap block change total sound classes is own live more uncut refits =
+resize_refitted m k n heap block change total state is own live more uncut f refits =
     let t : IsThere m heap = is_there m heap is in
     let h : HeapList = part_at t.kind m heap t.end in
     let new : ℕ = round_up_8 (changed_by total change) in
     let test : nat_le (changed_by total change) 4 ≡ false = lt-leb (changed_by total change) 4 more in
-    let limit : end_at m heap ≡ t.end = (heap_of-part t.kind m heap t.end sound t.found).limit in
-    let here : Refits m n heap t.end true (resized_in_place block (heap + t.end) new (heap + 16) (items_at m heap)) =
-    subst (λ (e : ℕ). Refits m n heap e true (resized_in_place block (heap + e) new (heap + 16) (items_at m heap))) limit refits in
-    let none_of : has_image block (store_of m).others ≡ false = image_recorded m block ∙ own in
-    let still : (b u : ℕ) → has_image b (store_of m).others ≡ true → live_total b (heap + 16) (items_at m heap) ≡ Some u
-    → IsStillIn b u (heap + 16) (resized_in_place block (heap + t.end) new (heap + 16) (items_at m heap)) =
-    λ b u image there. refit_still b block u (heap + t.end) new (heap + 16) (items_at m heap) (image_apart b block (store_of m).others image none_of) there in
-    let heap_is : IsHeapIn (bytes_of m) heap t.end (items_at m heap) = heap_of-part t.kind m heap t.end sound t.found in
-    let lies : LiveBytes block total (heap + 16) (heap + 16 + size_of (items_at m heap)) =
-    live_bytes block total (heap + 16) (items_at m heap) heap_is.totals live in
-    let g = in_place_given m n t.kind heap t.end block total new (resized_in_place block (heap + t.end) new (heap + 16) (items_at m heap)) sound classes t.found still uncut
-    (refit_keeps_in (store_of m).anchor block total (heap + t.end) new (heap + 16) (items_at m heap)
-    (resized_in_place block (heap + t.end) new (heap + 16) (items_at m heap)) refl live (omega (arith, lies.low)) uncut) here in
-    let none = in_place_unmoved m n h heap t.end block total new (resized_in_place block (heap + t.end) new (heap + 16) (items_at m heap)) here in
+    let limit : end_at m heap ≡ t.end = (heap_of-part t.kind m heap t.end state.sound t.found).limit in
+    let same : Refits k n heap (end_at m heap) true (resized_in_place block (heap + end_at m heap) new (heap + 16) (items_at m heap)) =
+    subst (λ (g : ℕ → ℕ). Refits k n heap (word_at g (heap + 12)) true
+    (resized_in_place block (heap + word_at g (heap + 12)) new (heap + 16) (items_in (word_at g) heap))) f.bytes refits in
+    let here : Refits k n heap t.end true (resized_in_place block (heap + t.end) new (heap + 16) (items_at m heap)) =
+    subst (λ (e : ℕ). Refits k n heap e true (resized_in_place block (heap + e) new (heap + 16) (items_at m heap))) limit same in
+    let g = in_place_given m k n t.kind heap t.end block total new (resized_in_place block (heap + t.end) new (heap + 16) (items_at m heap)) state t.found
+    (image_recorded m block ∙ own) live (omega (arith, more)) uncut f refl here in
+    let none = in_place_unmoved m k n h heap t.end block total new (resized_in_place block (heap + t.end) new (heap + 16) (items_at m heap)) here in
     record {
-      store = rw (by_total m heap block change t (Some total) (asked_live m heap block total own live), test) g.store;
-      sound = g.sound;
-      same = g.same;
-      classes = g.classes;
+      store = rw (by_total m heap block change t (Some total) (asked_live m heap block total own live), test) g.0;
+      kept = g.1;
       probes = sym (rw (test, none) at (probes_by_total m heap block change t (Some total) (asked_live m heap block total own live)));
     }
 
@@ -250,17 +249,29 @@ larger_where_none block end new at total (Live t ∷ xs) live none = elim (cases
 larger_where_none block end new at total (Free t ∷ xs) live none =
     larger_where_none block end new (at + t) total xs live (map_none (λ ys. Free t ∷ ys) (resized_in_place block end new (at + t) xs) none)
 
+pub in_place_told : (m k n : AddressMap) (heap block total needed : ℕ) (done : Bool) → live_total block (heap + 16) (items_at m heap) ≡ Some total
+    → Forgets m k block total (block - 4 + needed) → (total ≤ needed → k ≡ m) → RefitsBlock k n heap block needed done
+    → ResizesInPlace m n heap block needed done
+in_place_told m k n heap block total needed true live f same refits =
+    record { between = k; own = total; live = live; forgets = f; refits = refits }
+in_place_told m k n heap block total needed false live f same refits =
+    let un = unrefitted k n heap (end_at k heap) _ refits in
+    let none : resized_in_place block (heap + end_at m heap) needed (heap + 16) (items_at m heap) ≡ None =
+    subst (λ (g : ℕ → ℕ). resized_in_place block (heap + word_at g (heap + 12)) needed (heap + 16) (items_in (word_at g) heap) ≡ None) f.bytes un.0 in
+    let larger : total < needed = larger_where_none block (heap + end_at m heap) needed (heap + 16) total (items_at m heap) live none in
+    (none, un.1 ∙ same (omega (arith, larger)))
+
 pub resize_moved : (m n : AddressMap) (heap block change total more : ℕ) (answer : Result ℕ ErrorNumber) → IsSound (store_of m)
     → is_some (find_heap heap (store_of m).heaps) ≡ true → has_image block (regions m) ≡ false
     → live_total block (heap + 16) (items_at m heap) ≡ Some total → 4 < changed_by total change
     → resized_in_place block (heap + end_at m heap) (round_up_8 (changed_by total change)) (heap + 16) (items_at m heap) ≡ None → holds_anchor (store_of m).anchor block (Some total) ≡ false
     → ((h : HeapList) → find_heap heap (store_of m).heaps ≡ Some h
     → Gives (store_of m) (moved (store_of m) h block total (round_up_8 (changed_by total change))) answer (store_of n))
-    → IsSound (store_of n) → layout n ≡ layout m → AreClasses n
+    → KeepsRest m n
     → ((h : HeapList) → find_heap heap (store_of m).heaps ≡ Some h
-    → more ≡ move_probes h block (round_up_8 (changed_by total change)) (claimed (round_up_8 (changed_by total change)) (h.end - 16) h.items))
+    → more ≡ move_probes (store_of m) h block total (round_up_8 (changed_by total change)) (claimed (round_up_8 (changed_by total change)) (h.end - 16) h.items))
     → IsResized m n heap block change answer more
-resize_moved m n heap block change total more answer sound is own live large none free store kept same classes probes =
+resize_moved m n heap block change total more answer sound is own live large none free store kept probes =
     let t : IsThere m heap = is_there m heap is in
     let h : HeapList = part_at t.kind m heap t.end in
     let new : ℕ = round_up_8 (changed_by total change) in
@@ -270,9 +281,7 @@ resize_moved m n heap block change total more answer sound is own live large non
     subst (λ (e : ℕ). resized_in_place block (heap + e) new (heap + 16) (items_at m heap) ≡ None) limit none in
     record {
       store = rw (by_total m heap block change t (Some total) (asked_live m heap block total own live), test, none', free) (store h t.found);
-      sound = kept;
-      same = same;
-      classes = classes;
+      kept = kept;
       probes = ap (λ (k : ℕ). begun_below block (heap + 16) (items_at m heap) + k) (probes h t.found)
           ∙ sym (rw (test, none', free) at (probes_by_total m heap block change t (Some total) (asked_live m heap block total own live)));
     }
@@ -300,7 +309,7 @@ abbrev pub IsRefused : AddressMap → ℕ → ℕ → ℕ → Type 0
 IsRefused m heap block change = (resized (store_of m) heap block change ≡ Err HeapHoldsAnchor)
     × (resize_probes (store_of m) heap block change ≡ begun_below block (heap + 16) (items_at m heap))
 
-held_released : (s : Store) (heap block : ℕ) (h : HeapList) (total : ℕ) → find_heap heap s.heaps ≡ Some h → has_image block s.others ≡ false
+pub held_released : (s : Store) (heap block : ℕ) (h : HeapList) (total : ℕ) → find_heap heap s.heaps ≡ Some h → has_image block s.others ≡ false
     → live_total block (h.start + 16) h.items ≡ Some total → holds_anchor s.anchor block (Some total) ≡ true → gave_back s heap block ≡ Err HeapHoldsAnchor
 unfolding gave_back
 held_released s heap block h total found own live held = rw (found, own, live, held) (by_list (released block (h.start + 16) h.items) refl) where
@@ -333,7 +342,7 @@ among_few anchor at old new held = elim (cases_lt new old) [
 
 cut_refused : (s : Store) (h : HeapList) (block old new : ℕ) (o : Option (List Item)) → (o ≡ None → old < new) → new < old
     → anchor_among s.anchor (block - 4 + new) (old - new) ≡ true
-    → (resized_or_moved s h block old new o ≡ Err HeapHoldsAnchor) × (refit_probes s.anchor h block old new o ≡ 0)
+    → (resized_or_moved s h block old new o ≡ Err HeapHoldsAnchor) × (refit_probes s h block old new o ≡ 0)
 cut_refused s h block old new None larger smaller held = let more : old < new = larger refl in absurd (omega arith)
 cut_refused s h block old new (Some items) larger smaller held = (rw held refl, refl)
 
@@ -376,12 +385,12 @@ free_small [] totals = omega arith
 free_small (Live t ∷ xs) totals = omega (arith, free_small xs totals.1)
 free_small (Free t ∷ xs) totals = omega (arith, free_small xs totals.1, total_facts t totals.0)
 
-pub move_few : (m : AddressMap) (heap block new more : ℕ) → IsSound (store_of m) → is_some (find_heap heap (store_of m).heaps) ≡ true
-    → ((h : HeapList) → find_heap heap (store_of m).heaps ≡ Some h → more ≡ move_probes h block new (claimed new (h.end - 16) h.items))
+pub move_few : (m : AddressMap) (heap block old new more : ℕ) → IsSound (store_of m) → is_some (find_heap heap (store_of m).heaps) ≡ true
+    → ((h : HeapList) → find_heap heap (store_of m).heaps ≡ Some h → more ≡ move_probes (store_of m) h block old new (claimed new (h.end - 16) h.items))
     → more ≤ 2 * 2 ^ 26
-move_few m heap block new more sound is probes =
+move_few m heap block old new more sound is probes =
     let t : IsThere m heap = is_there m heap is in
     let h : HeapList = part_at t.kind m heap t.end in
     let i : IsHeapIn (bytes_of m) heap t.end (items_at m heap) = heap_of-part t.kind m heap t.end sound t.found in
     let top : heap + t.end ≤ 2 ^ 26 = heap_below m heap t.end (items_at m heap) i in
-    omega (arith, probes h t.found, move_most h block new (claimed new (h.end - 16) h.items) (claim_no_more new (h.end - 16) h.items), free_small (items_at m heap) i.totals, i.inside)
+    omega (arith, probes h t.found, move_most (store_of m) h block old new (claimed new (h.end - 16) h.items) (claim_no_more new (h.end - 16) h.items), free_small (items_at m heap) i.totals, i.inside)

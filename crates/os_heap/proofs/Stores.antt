@@ -1,5 +1,5 @@
 -- What a call on one heap leaves of all heaps and of memory as a whole.
-use Rattle.std.proofs.Common.{Bool, ◌&&◌, ◌≡◌, List, ℕ, false, arith, inl, ◌+◌, ◌≢◌, ◌∙◌, sym, inr, ◌==◌, None, [], subst, Some, ◌∷◌, ◌⊎◌, true, ap, refl}
+use Rattle.std.proofs.Common.{Bool, ◌&&◌, ◌≡◌, List, ℕ, false, inl, ◌+◌, ◌≢◌, ◌∙◌, sym, inr, ◌==◌, None, [], subst, Some, ◌∷◌, ◌⊎◌, true, ap, refl}
 use Rattle.std.proofs.lemmas.Bool.{false≢true, cases_Bool, ne_eqb, eq-eqb, eqb-true, or_left, or_right}
 use Rattle.address_map.proofs.Bytes.{byte_at-lt, is_mapped-layout}
 use Rattle.address_map.proofs.Equations.{same_bytes}
@@ -20,10 +20,10 @@ use Rattle.os_heap_lists.specs.Heap.{with_heap, HeapList, IsHeapIn}
 use Rattle.os_heap_lists.specs.Lists.{live_total}
 use Rattle.os_heap.proofs.FlexWords.{AreSameFlex}
 use Rattle.os_heap.proofs.Found.{found_heap}
-use Rattle.os_heap.proofs.Nesting.{KeepsHeaps, KeepsWithin, apart_starts, apart_turned, listed, not_itself, not_within, stands_own, words_apart}
-use Rattle.os_heap.specs.Nesting.{AreUnnested, IsWithin, StandApart, StandsApart}
+use Rattle.os_heap.proofs.Nesting.{KeepsHeaps, KeepsWithin, apart_starts, apart_turned, listed, not_itself, stands_own, words_apart}
+use Rattle.os_heap.specs.Nesting.{StandApart, StandsApart}
 use Rattle.os_heap.specs.Outcomes.{Becomes}
-use Rattle.os_heap.specs.Store.{AreClear, IsClearOfHeaps, find_heap, AreHeapsIn, ArePlaced, Store, heap_in, heaps_in, others_in, IsSound, store_of, has_image, is_image, is_area, IsImageIn, IsAnchorPlace, guest_count, area_count, StandAreas, AreInLimits}
+use Rattle.os_heap.specs.Store.{AreClear, IsClearOfHeaps, find_heap, AreHeapsIn, ArePlaced, Store, heap_in, heaps_in, others_in, IsSound, store_of, has_image, is_image, is_area, IsImageBlock, IsImageIn, IsPlacedIn, IsAnchorPlace, guest_count, area_count, StandAreas, AreInLimits}
 use Rattle.os_heap.specs.Calls.{with_items, holding}
 
 pub bytes_held : (m n : AddressMap) (start end : ℕ) (items : List Item) → Becomes m n start end items
@@ -85,53 +85,6 @@ are_others b start (g ∷ hs) h parts e =
           (inr (apart_starts b b h g there parts.0 apart, apart), are_others b start hs h parts.1.1 e')
     ]
 
--- while no heap lies in another, each is the one, or shares no byte with it
-abbrev pub IsClearOther : HeapList → HeapList → Type 0
-IsClearOther h g = (g ≡ h) ⊎ ((g.start ≢ h.start) × AreClear h.start h.end g.start g.end)
-
-abbrev pub AreClearOthers : HeapList → List HeapList → Type 0
-AreClearOthers h [] = Unit {0}
-AreClearOthers h (g ∷ gs) = IsClearOther h g × AreClearOthers h gs
-
-others_clear : (b : Bytes) (h : HeapList) (gs : List HeapList) → IsHeapIn b h.start h.end h.items → IsClearOfHeaps h.start h.end gs → AreHeapsIn b gs
-    → AreClearOthers h gs
-others_clear b h [] heap clear parts = tt
-others_clear b h (g ∷ gs) heap clear parts =
-    (inr (apart_starts b b h g heap parts.0 (inl clear.0), clear.0), others_clear b h gs heap clear.1 parts.1.1)
-
-pub are_clear_others : (b : Bytes) (start : ℕ) (hs : List HeapList) (h : HeapList) → AreHeapsIn b hs → AreUnnested hs → find_heap start hs ≡ Some h
-    → AreClearOthers h hs
-are_clear_others b start [] h parts clear e = tt
-are_clear_others b start (g ∷ hs) h parts clear e =
-    elim (cases_Bool (g.start == start)) [
-      | inl here ↦
-          let e' = rw here at e in
-          let same : g ≡ h = cc in
-          (inl same, subst (λ (x : HeapList). AreClearOthers x hs) same (others_clear b g hs parts.0 clear.0 parts.1.1))
-      | inr other ↦
-          let e' = rw other at e in
-          let there : IsHeapIn b h.start h.end h.items = found_heap b start hs h parts.1.1 e' in
-          let apart : AreClear h.start h.end g.start g.end = clear_both_ways _ _ _ _ (clear_of-found g.start g.end start hs h clear.0 e') in
-          (inr (apart_starts b b h g there parts.0 (inl apart), apart), are_clear_others b start hs h parts.1.1 clear.1 e')
-    ]
-
--- then there is nothing in its blocks to be kept
-pub none_within : (b : Bytes) (h : HeapList) (items : List Item) (gs : List HeapList) → IsHeapIn b h.start h.end h.items → AreClearOthers h gs → AreHeapsIn b gs
-    → KeepsHeaps h items gs
-none_within b h items [] heap others parts = tt
-none_within b h items (g ∷ gs) heap others parts = (
-  λ within. absurd (elim others.0 [
-    | inl same ↦ not_itself b h heap (inr (inl (subst (λ (x : HeapList). IsWithin h x) same within)))
-    | inr apart ↦ not_within b h g heap (omega (arith, parts.0.inside)) apart.1 within
-  ]),
-  none_within b h items gs heap others.1 parts.1.1,
-)
-
-pub keeps_alone : (s : Store) (h : HeapList) (items : List Item) → IsSound s → find_heap h.start s.heaps ≡ Some h → KeepsHeaps h items s.heaps
-keeps_alone s h items sound found =
-    none_within s.bytes h items s.heaps (found_heap s.bytes h.start s.heaps h sound.heaps found)
-    (are_clear_others s.bytes h.start s.heaps h sound.heaps sound.unnested found) sound.heaps
-
 pub clear-held : (at len start : ℕ) (items : List Item) (hs : List HeapList) → IsClearOfHeaps at len hs → IsClearOfHeaps at len (with_items start items hs)
 clear-held at len start items [] clear = tt
 clear-held at len start items (g ∷ hs) clear =
@@ -140,15 +93,8 @@ clear-held at len start items (g ∷ hs) clear =
       | inr other ↦ rw other (clear.0, clear-held at len start items hs clear.1)
     ]
 
-pub unnested_held : (start : ℕ) (items : List Item) (hs : List HeapList) → AreUnnested hs → AreUnnested (with_items start items hs)
-unnested_held start items [] clear = tt
-unnested_held start items (g ∷ hs) clear = elim (cases_Bool (g.start == start)) [
-  | inl here ↦ rw here (clear-held g.start g.end start items hs clear.0, unnested_held start items hs clear.1)
-  | inr other ↦ rw other (clear-held g.start g.end start items hs clear.0, unnested_held start items hs clear.1)
-]
-
 -- the heap with its new list stands apart from the others, and they from it
-own_held : (b : Bytes) (h : HeapList) (items : List Item) (hs : List HeapList) → IsHeapIn b h.start h.end h.items → AreOthers h hs → KeepsHeaps h items hs
+pub own_held : (b : Bytes) (h : HeapList) (items : List Item) (hs : List HeapList) → IsHeapIn b h.start h.end h.items → AreOthers h hs → KeepsHeaps h items hs
     → StandApart h hs → StandApart (listed h items) (with_items h.start items hs)
 own_held b h items [] heap others keeps stand = tt
 own_held b h items (k ∷ hs) heap others keeps stand = elim others.0 [
@@ -156,7 +102,7 @@ own_held b h items (k ∷ hs) heap others keeps stand = elim others.0 [
   | inr apart ↦ rw (ne_eqb k.start h.start apart.0) (stands_own h k items keeps.0 stand.0, own_held b h items hs heap others.1 keeps.1 stand.1)
 ]
 
-stand_held : (g h : HeapList) (items : List Item) (hs : List HeapList) → KeepsWithin h items g → AreOthers h hs → StandApart g hs
+pub stand_held : (g h : HeapList) (items : List Item) (hs : List HeapList) → KeepsWithin h items g → AreOthers h hs → StandApart g hs
     → StandApart g (with_items h.start items hs)
 stand_held g h items [] keeps others stand = tt
 stand_held g h items (k ∷ hs) keeps others stand =
@@ -175,45 +121,65 @@ stand_held g h items (k ∷ hs) keeps others stand =
 abbrev pub KeepsImages : List Region → ℕ → List Item → List Item → Type 0
 KeepsImages rs start old new = (b t : ℕ) → has_image b rs ≡ true → live_total b (start + 16) old ≡ Some t → live_total b (start + 16) new ≡ Some t
 
-image_held : (r : Region) (h : HeapList) (items : List Item) (hs : List HeapList) → AreOthers h hs
-    → ((t : ℕ) → live_total r.at (h.start + 16) h.items ≡ Some t → live_total r.at (h.start + 16) items ≡ Some t)
-    → IsImageIn hs r → IsImageIn (with_items h.start items hs) r
-image_held r h items [] others kept image = image
-image_held r h items (g ∷ hs) others kept image =
-    elim (cases_Bool (g.start == h.start)) [
-      | inl here ↦ rw here (elim image [
-        | inr later ↦ inr (image_held r h items hs others.1 kept later)
-        | inl own ↦ elim others.0 [
-          | inl same ↦
-              let start : g.start ≡ h.start = ap (λ (x : HeapList). x.start) same in
-              let old : live_total r.at (h.start + 16) h.items ≡ Some (r.len + 4) =
-              subst (λ (x : HeapList). live_total r.at (x.start + 16) x.items ≡ Some (r.len + 4)) same own.live in
-              inl (record { image = own.image; area = own.area; live = rw start (kept (r.len + 4) old) })
-          | inr apart ↦ absurd (apart.0 (eqb-true g.start h.start here))
-        ]
-      ])
-      | inr other ↦ rw other (elim image [
-        | inr later ↦ inr (image_held r h items hs others.1 kept later)
-        | inl own ↦ inl own
-      ])
-    ]
+-- where a recorded range lies: it shares no byte with any heap, or is an image in one; and it is so placed in each heap that is found
+pub placed_either : (hs : List HeapList) (r : Region) → IsPlacedIn hs r → IsClearOfHeaps r.at r.len hs ⊎ IsImageIn hs r
+placed_either [] r placed = inl tt
+placed_either (h ∷ hs) r placed = elim placed.0 [
+  | inr image ↦ inr (inl image)
+  | inl clear ↦ elim (placed_either hs r placed.1) [
+    | inl rest ↦ inl (clear, rest)
+    | inr image ↦ inr (inr image)
+  ]
+]
+
+pub placed_clear : (hs : List HeapList) (r : Region) → IsClearOfHeaps r.at r.len hs → IsPlacedIn hs r
+placed_clear [] r clear = tt
+placed_clear (h ∷ hs) r clear = (inl clear.0, placed_clear hs r clear.1)
+
+pub placed_by : (start : ℕ) (hs : List HeapList) (h : HeapList) (r : Region) → IsPlacedIn hs r → find_heap start hs ≡ Some h
+    → AreClear r.at r.len h.start h.end ⊎ IsImageBlock h r
+placed_by start [] h r placed e = absurd (let none : None ≡ Some h = e in cc)
+placed_by start (g ∷ hs) h r placed e = elim (cases_Bool (g.start == start)) [
+  | inl here ↦
+      let e' = rw here at e in
+      let same : g ≡ h = cc in
+      subst (λ (x : HeapList). AreClear r.at r.len x.start x.end ⊎ IsImageBlock x r) same placed.0
+  | inr other ↦ placed_by start hs h r placed.1 (rw other at e)
+]
 
 pub image_kind : (hs : List HeapList) (r : Region) → IsImageIn hs r → is_image r.kind ≡ true
 image_kind [] r image = absurd image
 image_kind (h ∷ hs) r image = elim image [ inl own ↦ own.image | inr later ↦ image_kind hs r later ]
 
-placed-held : (h : HeapList) (items : List Item) (hs : List HeapList) (rs : List Region) → AreOthers h hs → KeepsImages rs h.start h.items items
+-- a heap gets another list: its images stay such, and what it shares no byte with is clear of it still
+image_held : (r : Region) (h g : HeapList) (items : List Item) → IsOther h g → (g.start == h.start) ≡ true
+    → (is_image r.kind ≡ true → (t : ℕ) → live_total r.at (h.start + 16) h.items ≡ Some t → live_total r.at (h.start + 16) items ≡ Some t)
+    → IsImageBlock g r → IsImageBlock (listed g items) r
+image_held r h g items (inr apart) here kept own = absurd (apart.0 (eqb-true g.start h.start here))
+image_held r h g items (inl same) here kept own =
+    let start : g.start ≡ h.start = ap (λ (x : HeapList). x.start) same in
+    let old : live_total r.at (h.start + 16) h.items ≡ Some (r.len + 4) =
+    subst (λ (x : HeapList). live_total r.at (x.start + 16) x.items ≡ Some (r.len + 4)) same own.live in
+    record { image = own.image; area = own.area; live = rw start (kept own.image (r.len + 4) old) }
+
+placed_held : (r : Region) (h : HeapList) (items : List Item) (hs : List HeapList) → AreOthers h hs
+    → (is_image r.kind ≡ true → (t : ℕ) → live_total r.at (h.start + 16) h.items ≡ Some t → live_total r.at (h.start + 16) items ≡ Some t)
+    → IsPlacedIn hs r → IsPlacedIn (with_items h.start items hs) r
+placed_held r h items [] others kept placed = tt
+placed_held r h items (g ∷ hs) others kept placed =
+    let rest : IsPlacedIn (with_items h.start items hs) r = placed_held r h items hs others.1 kept placed.1 in
+    elim (cases_Bool (g.start == h.start)) [
+      | inl here ↦ rw here (elim placed.0 [ inl clear ↦ inl clear | inr own ↦ inr (image_held r h g items others.0 here kept own) ], rest)
+      | inr other ↦ rw other (placed.0, rest)
+    ]
+
+all_placed-held : (h : HeapList) (items : List Item) (hs : List HeapList) (rs : List Region) → AreOthers h hs → KeepsImages rs h.start h.items items
     → ArePlaced hs rs → ArePlaced (with_items h.start items hs) rs
-placed-held h items hs [] others kept placed = tt
-placed-held h items hs (r ∷ rs) others kept placed = (
-  elim placed.0 [
-    | inl clear ↦ inl (clear-held r.at r.len h.start items hs clear)
-    | inr image ↦
-        let here : has_image r.at (r ∷ rs) ≡ true =
-        or_left (is_image r.kind && r.at == r.at) (has_image r.at rs) (rw (image_kind hs r image, eq-eqb r.at r.at refl) refl) in
-        inr (image_held r h items hs others (λ t live. kept r.at t here live) image)
-  ],
-  placed-held h items hs rs others (λ b t is live. kept b t (or_right (is_image r.kind && r.at == b) (has_image b rs) is) live) placed.1,
+all_placed-held h items hs [] others kept placed = tt
+all_placed-held h items hs (r ∷ rs) others kept placed = (
+  placed_held r h items hs others (λ image t live.
+      kept r.at t (or_left (is_image r.kind && r.at == r.at) (has_image r.at rs) (rw (image, eq-eqb r.at r.at refl) refl)) live) placed.0,
+  all_placed-held h items hs rs others (λ b t is live. kept b t (or_right (is_image r.kind && r.at == b) (has_image b rs) is) live) placed.1,
 )
 
 -- heaps of the same kinds at the same places are within the limits alike
@@ -358,9 +324,8 @@ sound_held m n h items sound found kept keeps b flex places =
     let list : heaps_in (bytes_of n) (regions m) ≡ with_items h.start items (heaps_in (bytes_of m) (regions m)) = read_parts m n h items (regions m) now others keeps sound.heaps in
     rw (layout-regions m n b.same, list) (record {
       heaps = parts_held m n h items (heaps_in (bytes_of m) (regions m)) now others keeps sound.heaps;
-      unnested = unnested_held h.start items (heaps_in (bytes_of m) (regions m)) sound.unnested;
       limits = same_limits _ _ (places-held h.start items (heaps_in (bytes_of m) (regions m))) sound.limits;
-      placed = placed-held h items (heaps_in (bytes_of m) (regions m)) (others_in (regions m)) others kept sound.placed;
+      placed = all_placed-held h items (heaps_in (bytes_of m) (regions m)) (others_in (regions m)) others kept sound.placed;
       apart = sound.apart;
       few = sound.few;
       anchors = λ a is.

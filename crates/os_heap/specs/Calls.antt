@@ -4,7 +4,7 @@
 use Rattle.std.specs.Prelude.{ℕ, ◌≡◌, Bool, true, false, not, ◌+◌, ◌-◌, ◌%◌, ◌==◌, ◌&&◌, nat_le, nat_lt, Option, Some, None, ok_or, option_map, Result, Ok, Err, List, [], ◌∷◌, ◌++◌, if◌then◌else◌}
 use Rattle.profile.specs.Outcome.{bind}
 use Rattle.profile.specs.declared.error.ErrorNumber.{ErrorNumber}
-use Rattle.profile.specs.declared.error.ErrorNumber.TheVariants.{HeapBadDesc, HeapBadRegion, HeapOverlaps, HeapTableFull, HeapNotABlock, HeapHoldsAnchor, HeapNoRoom, HeapBadShrink}
+use Rattle.profile.specs.declared.error.ErrorNumber.TheVariants.{HeapBadDesc, HeapBadRegion, HeapOverlaps, HeapTableFull, HeapNotABlock, HeapHoldsAnchor, HeapNoRoom, HeapBadShrink, BlockHoldsHeap}
 use Rattle.address_map.specs.declared.item.Item.{Item}
 use Rattle.address_map.specs.declared.region.Kind.{Kind}
 use Rattle.address_map.specs.declared.region.Kind.TheVariants as kind
@@ -15,8 +15,9 @@ use Rattle.address_map.specs.Records.{anchor_among}
 use Rattle.os_heap_lists.specs.Heap.{HeapList, with_heap}
 use Rattle.os_heap_lists.specs.Lists.{round_up_8, total_for, claimed, released, changed_by, live_total, resized_in_place}
 use Rattle.os_heap_lists.specs.Counts.{all_free, largest_block}
+use Rattle.os_heap.specs.Forgetting.{forgot, holds_heap}
 use Rattle.os_heap.specs.Store.{Store, find_heap, guest_count, has_image}
-use Rattle.os_heap.specs.Ranges.{is_heap_region, meets_any, MayEnd}
+use Rattle.os_heap.specs.Ranges.{is_heap_region, overlaps, overgrows, MayEnd}
 
 abbrev pub heap_at : Store → ℕ → Result HeapList ErrorNumber
 heap_at s heap = ok_or (find_heap heap s.heaps) HeapBadDesc
@@ -53,7 +54,8 @@ ending s h end = record s {
   heaps = with_end h.start end s.heaps;
 }
 
--- Reason 0, init: a heap without items, of a range that a heap may have, that meets no recorded one and no anchor; guests make at most 64.
+-- Reason 0, init: a heap without items, of a range that a heap may have. A range that meets heaps must lie in what one live block of each holds; it
+-- meets no other recorded range and no anchor; guests make at most 64.
 abbrev pub begun_with : Kind → Store → ℕ → ℕ → Store
 begun_with k s at size =
     let h : HeapList = record { kind = k; start = at; end = size; items = [] } in
@@ -62,7 +64,7 @@ begun_with k s at size =
 unfoldable pub begun : Store → ℕ → ℕ → Result (Store × Unit {0}) ErrorNumber
 begun s at size =
     if not (is_heap_region s.bytes at size) then Err HeapBadRegion else (
-    if meets_any at size s then Err HeapOverlaps else (
+    if overlaps at size s then Err HeapOverlaps else (
     if nat_le 64 (guest_count s.heaps) then Err HeapTableFull else
     Ok (begun_with kind.Heap s at size, tt)))
 
@@ -88,17 +90,19 @@ total_or_0 (Some total) = total
 abbrev pub holds_anchor : (ℕ → Bool) → ℕ → Option ℕ → Bool
 holds_anchor anchor block total = anchor_among anchor (block - 4) (total_or_0 total)
 
--- Reason 3, free: the block whose bytes begin at `block`.
+-- Reason 3, free: the block whose bytes begin at `block`. The heaps that lie in it are forgotten.
 unfoldable pub gave_back : Store → ℕ → ℕ → Result (Store × Unit {0}) ErrorNumber
 gave_back s heap block =
     bind (heap_at s heap) (λ h.
     bind (ok_or (unless_image (has_image block s.others) (released block (h.start + 16) h.items)) HeapNotABlock) (λ items.
-    if holds_anchor s.anchor block (live_total block (h.start + 16) h.items) then Err HeapHoldsAnchor else
-    Ok (holding s h items, tt)))
+    let total : Option ℕ = live_total block (h.start + 16) h.items in
+    if holds_anchor s.anchor block total then Err HeapHoldsAnchor else
+    Ok (holding (forgot s block (total_or_0 total) block) h items, tt)))
 
 -- Reason 4, resize: a block whose size cannot change where it stands is moved. That is three actions in turn: another block is claimed, the old
 -- bytes are copied to it, and the old block is given back. Where no byte would be left beside the length word, the block is given back, and the
--- answer is 0. No anchor may lie in a block that is moved, or in what is cut off one.
+-- answer is 0. No anchor may lie in a block that is moved, or in what is cut off one. The heaps of which bytes are cut off are forgotten; a block
+-- in which a heap lies is not moved, which is asked last.
 abbrev pub copied : Store → ℕ → ℕ → ℕ → Store
 copied s from to len = record s { bytes = with_moved s.bytes from to len }
 
@@ -108,11 +112,13 @@ handed_over heap block len s new = bind (gave_back (copied s block new len) heap
 abbrev pub moved : Store → HeapList → ℕ → ℕ → ℕ → Result (Store × ℕ) ErrorNumber
 moved s h block old new =
     bind (ok_or (claimed new (h.end - 16) h.items) HeapNoRoom) (λ c.
+    if holds_heap s.heaps block (old - 4) then Err BlockHoldsHeap else
     handed_over h.start block (old - 4) (holding s h c.items) (h.start + 16 + c.offset + 4))
 
 abbrev pub resized_or_moved : Store → HeapList → ℕ → ℕ → ℕ → Option (List Item) → Result (Store × ℕ) ErrorNumber
 resized_or_moved s h block old new (Some items) =
-    if anchor_among s.anchor (block - 4 + new) (old - new) then Err HeapHoldsAnchor else Ok (holding s h items, block)
+    if anchor_among s.anchor (block - 4 + new) (old - new) then Err HeapHoldsAnchor else
+    Ok (holding (forgot s block old (block - 4 + new)) h items, block)
 resized_or_moved s h block old new None =
     if holds_anchor s.anchor block (Some old) then Err HeapHoldsAnchor else moved s h block old new
 
@@ -125,7 +131,7 @@ resized s heap block change =
     resized_or_moved s h block old (round_up_8 sum) (resized_in_place block (h.start + h.end) (round_up_8 sum) (h.start + 16) h.items)))
 
 -- Reason 5, change of a heap's size. The module area's heap has the size of its area, so no call changes it. The new range is one that a heap may
--- have; what it grows by meets no recorded range and no anchor; and it holds all items.
+-- have; it may grow up to there; and it holds all items.
 abbrev pub has_own_size : Kind → Bool
 has_own_size kind.Heap = true
 has_own_size other = false
@@ -136,7 +142,7 @@ own_size h = if has_own_size h.kind then Ok h else Err HeapBadDesc
 abbrev pub end_changed : Store → HeapList → ℕ → ℕ → Result (Store × Unit {0}) ErrorNumber
 end_changed s h change end =
     if not (change % 4 == 0 && is_heap_region s.bytes h.start end) then Err HeapBadRegion else (
-    if nat_lt h.end end && meets_any (h.start + h.end) (end - h.end) s then Err HeapOverlaps else (
+    if overgrows s h end then Err HeapOverlaps else (
     if nat_lt end (16 + size_of h.items) then Err HeapBadShrink else
     Ok (ending s h end, tt)))
 

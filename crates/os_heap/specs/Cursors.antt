@@ -1,5 +1,5 @@
 -- A cursor of a walk through a heap: what it has passed, the block that it stands at, and what is done to that block.
-use Rattle.std.specs.Prelude.{ℕ, ◌≡◌, ◌+◌, ◌<◌, ◌^◌, Bool, true, false, None, Option, Some, MatchOption, is_some}
+use Rattle.std.specs.Prelude.{ℕ, ◌≡◌, ◌+◌, ◌-◌, ◌<◌, ◌^◌, Bool, true, false, None, Option, Some, MatchOption, is_some}
 use Rattle.address_map.specs.Items.{is_total}
 use Rattle.address_map.specs.Memory.{regions}
 use Rattle.address_map.specs.declared.map.AddressMap.{AddressMap}
@@ -7,6 +7,7 @@ use Rattle.os_heap_lists.specs.Lists.{live_total, released, resized_in_place}
 use Rattle.os_heap_lists.specs.Walks.{IsBlock, IsLinked, IsWalked}
 use Rattle.os_heap.specs.Calls.{holds_anchor, unless_image}
 use Rattle.os_heap.specs.Outcomes.{HasHeapAt, IsGuestBlock, Refits, end_at, items_at}
+use Rattle.os_heap.specs.Sound.{Forgets}
 use Rattle.os_heap.specs.Store.{find_heap, has_image, store_of}
 use Rattle.os_heap.specs.declared.walk.Cursor.{Cursor}
 
@@ -41,6 +42,19 @@ pub record IsNewTotal (n : ℕ) : Type 0 where
 abbrev pub RefitsBlock : AddressMap → AddressMap → ℕ → ℕ → ℕ → Bool → Type 0
 RefitsBlock old new start block total done = Refits old new start (end_at old start) done
     (resized_in_place block (start + end_at old start) total (start + 16) (items_at old start))
+
+-- The same, where the heaps that go with what is cut off are forgotten before.
+pub record IsResizedInPlace (old new : AddressMap) (start block total : ℕ) : Type 0 where
+  pub between : AddressMap
+  pub own : ℕ
+  pub live : live_total block (start + 16) (items_at old start) ≡ Some own
+  pub forgets : Forgets old between block own (block - 4 + total)
+  pub refits : RefitsBlock between new start block total true
+
+abbrev pub ResizesInPlace : AddressMap → AddressMap → ℕ → ℕ → ℕ → Bool → Type 0
+ResizesInPlace old new start block total true = IsResizedInPlace old new start block total
+ResizesInPlace old new start block total false =
+    (resized_in_place block (start + end_at old start) total (start + 16) (items_at old start) ≡ None) × (new ≡ old)
 
 -- a guest's block that has a total, and holds no anchor
 pub record MayMove (m : AddressMap) (start block total : ℕ) : Type 0 where

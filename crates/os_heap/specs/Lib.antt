@@ -1,6 +1,8 @@
 pub use Rattle.os_heap_lists
+pub mod Bars
 pub mod Calls
 pub mod Cursors
+pub mod Forgetting
 pub mod Laws
 pub mod Marks
 pub mod Nesting

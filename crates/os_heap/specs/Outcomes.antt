@@ -1,7 +1,7 @@
 -- What a call on one heap leaves of memory.
 use Rattle.std.specs.Prelude.{ℕ, List, ◌+◌, ◌%◌, ◌≡◌, None, Option, Result, Err, Ok, Some, Bool, false, true}
 use Rattle.profile.specs.declared.error.ErrorNumber.{ErrorNumber}
-use Rattle.profile.specs.declared.error.ErrorNumber.TheVariants.{HeapHoldsAnchor, HeapNoRoom, HeapNotABlock}
+use Rattle.profile.specs.declared.error.ErrorNumber.TheVariants.{HeapNoRoom, HeapNotABlock}
 use Rattle.address_map.specs.Bytes.{AreMapped, word_at}
 use Rattle.address_map.specs.Items.{items_in, size_of}
 use Rattle.address_map.specs.Memory.{anchor_of, byte_at, bytes_of, is_mapped, layout, class_of}
@@ -48,6 +48,11 @@ abbrev pub Claims : AddressMap → AddressMap → ℕ → ℕ → Result ℕ Err
 Claims old new start end answer None = (answer ≡ Err HeapNoRoom) × (new ≡ old)
 Claims old new start end answer (Some c) = (answer ≡ Ok (start + 16 + c.offset + 4)) × Becomes old new start end c.items
 
+-- whether a claim finds room
+abbrev pub room_of : Option Claim → Result (Unit {0}) ErrorNumber
+room_of None = Err HeapNoRoom
+room_of (Some c) = Ok tt
+
 abbrev pub Releases : AddressMap → AddressMap → ℕ → ℕ → Result (Unit {0}) ErrorNumber → Option (List Item) → Type 0
 Releases old new start end answer None = (answer ≡ Err HeapNotABlock) × (new ≡ old)
 Releases old new start end answer (Some items) = (answer ≡ Ok tt) × Becomes old new start end items
@@ -55,12 +60,6 @@ Releases old new start end answer (Some items) = (answer ≡ Ok tt) × Becomes o
 -- the block at `block` holds an anchor
 abbrev pub has_anchor_in : AddressMap → ℕ → ℕ → Bool
 has_anchor_in m start block = holds_anchor (anchor_of m) block (live_total block (start + 16) (items_at m start))
-
--- a release that is refused where the block holds an anchor
-abbrev pub Frees : AddressMap → AddressMap → ℕ → ℕ → Result (Unit {0}) ErrorNumber → Bool → Option (List Item) → Type 0
-Frees old new start end answer held None = (answer ≡ Err HeapNotABlock) × (new ≡ old)
-Frees old new start end answer true (Some items) = (answer ≡ Err HeapHoldsAnchor) × (new ≡ old)
-Frees old new start end answer false (Some items) = (answer ≡ Ok tt) × Becomes old new start end items
 
 abbrev pub Refits : AddressMap → AddressMap → ℕ → ℕ → Bool → Option (List Item) → Type 0
 Refits old new start end done None = (done ≡ false) × (new ≡ old)

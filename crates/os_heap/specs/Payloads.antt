@@ -1,11 +1,12 @@
 -- Where a byte lies among the heaps: in none, in what a live block holds, or in a heap's own words and free room (RISC OS 3 Programmer's Reference
 -- Manual, "OS_Heap", the internal format).
-use Rattle.std.specs.Prelude.{ℕ, ◌+◌, ◌-◌, Bool, true, false, List, [], ◌∷◌, if◌then◌else◌}
+use Rattle.std.specs.Prelude.{ℕ, ◌+◌, ◌-◌, Bool, true, false, Option, Some, None, List, [], ◌∷◌, if◌then◌else◌}
 use Rattle.address_map.specs.Bytes.{in_range}
 use Rattle.address_map.specs.Items.{total_of}
 use Rattle.address_map.specs.declared.item.Item.{Item}
 use Rattle.address_map.specs.declared.item.Item.TheVariants.{Live, Free}
 use Rattle.os_heap_lists.specs.Heap.{HeapList}
+use Rattle.os_heap.specs.Store.{Store, find_heap}
 use Rattle.os_heap.specs.declared.payload.Payload.{Payload}
 use Rattle.os_heap.specs.declared.payload.Payload.TheVariants.{Outside, Inside, Other}
 
@@ -22,6 +23,14 @@ payload_from at (item ∷ items) a =
 
 abbrev pub payload_in : HeapList → ℕ → Payload
 payload_in h a = payload_from (h.start + 16) h.items a
+
+-- The same of a heap that is found, whatever lies in its blocks: a heap that lies in one of them has words there, and is passed over.
+abbrev pub payload_by : Option HeapList → ℕ → Payload
+payload_by None a = Outside
+payload_by (Some h) a = if in_range h.start h.end a then payload_in h a else Outside
+
+abbrev pub area_payload : Store → ℕ → Payload
+area_payload s a = payload_by (find_heap 0x01800000 s.heaps) a
 
 -- Where heaps lie round each other, all of them must hold the byte in a live block; the last of these is told.
 abbrev pub payload_or : Payload → Payload → Payload

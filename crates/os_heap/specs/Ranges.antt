@@ -1,13 +1,14 @@
 -- Which ranges a heap may have (RISC OS 3 Programmer's Reference Manual, "OS_Heap", reasons 0 and 5; the limits are this project's own).
-use Rattle.std.specs.Prelude.{ℕ, ◌≡◌, Bool, true, false, zero, suc, ◌+◌, ◌-◌, ◌%◌, ◌==◌, ◌&&◌, ◌||◌, nat_le, nat_lt}
+use Rattle.std.specs.Prelude.{ℕ, ◌≡◌, Bool, List, [], true, false, not, zero, suc, ◌+◌, ◌-◌, ◌%◌, ◌==◌, ◌&&◌, ◌||◌, nat_le, nat_lt, if◌then◌else◌}
 use Rattle.std.specs.List.{list_any}
 use Rattle.address_map.specs.declared.region.Kind.{Kind}
 use Rattle.address_map.specs.declared.region.Kind.TheVariants as kind
-use Rattle.address_map.specs.Bytes.{Bytes, meets}
+use Rattle.address_map.specs.Bytes.{Bytes, in_range, meets}
 use Rattle.address_map.specs.Items.{size_of}
 use Rattle.address_map.specs.Records.{anchor_among}
 use Rattle.os_heap_lists.specs.Heap.{HeapList}
-use Rattle.os_heap.specs.Store.{Store, guest_count, area_count}
+use Rattle.os_heap.specs.Nesting.{holds_range, is_crossed}
+use Rattle.os_heap.specs.Store.{Store, guest_count}
 
 -- it begins and ends at whole words, has 16 to 16,777,216 bytes, and all are mapped
 abbrev pub are_mapped : (ℕ → Bool) → ℕ → ℕ → Bool
@@ -22,10 +23,32 @@ abbrev pub meets_any : ℕ → ℕ → Store → Bool
 meets_any at len s =
     (list_any (λ h. meets at len h.start h.end) s.heaps || list_any (λ r. meets at len r.at r.len) s.others) || anchor_among s.anchor at len
 
--- whether one heap more of a kind is within the limits: 64 that guests have made, and the module area at its place
+-- May a heap not be made of a range? It may lie in what one live block holds of each heap that it meets; it may meet no other recorded range, and
+-- hold no anchor.
+abbrev pub overlaps : ℕ → ℕ → Store → Bool
+overlaps at len s =
+    (list_any (is_crossed at len) s.heaps || list_any (λ r. meets at len r.at r.len) s.others) || anchor_among s.anchor at len
+
+-- does a heap that starts below an address have its byte? One that starts there lies in it then.
+abbrev pub has_before : ℕ → HeapList → Bool
+has_before at h = nat_lt h.start at && in_range h.start h.end at
+
+abbrev pub is_in_heap : ℕ → List HeapList → Bool
+is_in_heap at hs = list_any (has_before at) hs
+
+-- Is a heap in the way of one that is to have the range of `len` bytes at `at`, those `more` at `new` for the first time? A heap round it must hold
+-- all of its range in one live block, and each other may have none of the new bytes.
+abbrev pub is_in_way : ℕ → ℕ → ℕ → ℕ → HeapList → Bool
+is_in_way at len new more h = if has_before at h then not (holds_range (h.start + 16) h.items at len) else meets new more h.start h.end
+
+abbrev pub is_obstructed : ℕ → ℕ → ℕ → ℕ → Store → Bool
+is_obstructed at len new more s =
+    (list_any (is_in_way at len new more) s.heaps || list_any (λ r. meets new more r.at r.len) s.others) || anchor_among s.anchor new more
+
+-- whether one heap more of a kind is within the limits: 64 that guests have made, and the module area at its place, which is made before all others
 abbrev pub HasRoom : Kind → Store → ℕ → Type 0
 HasRoom kind.Heap s at = nat_le 64 (guest_count s.heaps) ≡ false
-HasRoom kind.Rma s at = (area_count s.heaps ≡ 0) × (at ≡ 0x01800000)
+HasRoom kind.Rma s at = (s.heaps ≡ []) × (at ≡ 0x01800000)
 HasRoom kind.FlexStore s at = ⊥
 HasRoom kind.FlexHeader s at = ⊥
 HasRoom kind.Anchor s at = ⊥
@@ -36,12 +59,16 @@ HasRoom kind.SystemPage s at = ⊥
 -- a heap of `size` bytes at `at` is allowed
 pub record MayBegin (k : Kind) (s : Store) (at size : ℕ) : Type 0 where
   pub region : is_heap_region s.bytes at size ≡ true
-  pub clear : meets_any at size s ≡ false
+  pub clear : overlaps at size s ≡ false
   pub room : HasRoom k s at
 
--- The heap may have another end, counted from its start: the new range is one that a heap may have; what it grows by meets no recorded range and no
--- anchor; and it holds all items.
+-- May a heap not grow up to another end, counted from its start? One that lies in another must lie, as it is then, in the same block; and what it
+-- grows by must meet no heap but those, no other recorded range and no anchor.
+abbrev pub overgrows : Store → HeapList → ℕ → Bool
+overgrows s h end = nat_lt h.end end && is_obstructed h.start end (h.start + h.end) (end - h.end) s
+
+-- The heap may have another end: the new range is one that a heap may have; it may grow up to there; and it holds all items.
 pub record MayEnd (s : Store) (h : HeapList) (end : ℕ) : Type 0 where
   pub region : is_heap_region s.bytes h.start end ≡ true
-  pub clear : (nat_lt h.end end && meets_any (h.start + h.end) (end - h.end) s) ≡ false
+  pub clear : overgrows s h end ≡ false
   pub inside : nat_lt end (16 + size_of h.items) ≡ false

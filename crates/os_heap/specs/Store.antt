@@ -12,7 +12,7 @@ use Rattle.address_map.specs.Items.{items_in, is_heap_word}
 use Rattle.address_map.specs.declared.item.Item.{Item}
 use Rattle.address_map.specs.Records.{is_heap_kind}
 use Rattle.address_map.specs.Memory.{bytes_of, class_of, regions}
-pub use Rattle.os_heap.specs.Nesting.{AreClear, AreUnnested, IsClearOfHeaps, StandApart, is_area}
+pub use Rattle.os_heap.specs.Nesting.{AreClear, IsClearOfHeaps, StandApart, is_area}
 use Rattle.os_heap_lists.specs.Heap.{HeapList, IsHeapIn}
 use Rattle.os_heap_lists.specs.Lists.{live_total}
 use Rattle.os_heap_lists.specs.Marks.{spells_any}
@@ -88,10 +88,14 @@ abbrev pub IsImageIn : List HeapList → Region → Type 0
 IsImageIn [] r = ⊥
 IsImageIn (h ∷ hs) r = IsImageBlock h r ⊎ IsImageIn hs r
 
--- each other recorded range is such an image, or shares no byte with any heap
+-- each other recorded range shares no byte with a heap, unless it is such an image there: no heap lies in an image's block
+abbrev pub IsPlacedIn : List HeapList → Region → Type 0
+IsPlacedIn [] r = Unit {0}
+IsPlacedIn (h ∷ hs) r = (AreClear r.at r.len h.start h.end ⊎ IsImageBlock h r) × IsPlacedIn hs r
+
 abbrev pub ArePlaced : List HeapList → List Region → Type 0
 ArePlaced hs [] = Unit {0}
-ArePlaced hs (r ∷ rs) = (IsClearOfHeaps r.at r.len hs ⊎ IsImageIn hs r) × ArePlaced hs rs
+ArePlaced hs (r ∷ rs) = IsPlacedIn hs r × ArePlaced hs rs
 
 -- and no two of these share a byte
 abbrev pub IsClearOfRanges : Region → List Region → Type 0
@@ -122,10 +126,9 @@ is_flex_store other = false
 abbrev pub is_in_flex_store : List Region → ℕ → Bool
 is_in_flex_store rs a = list_any (λ r. is_flex_store r.kind && in_range r.at r.len a) rs
 
--- What holds of every store. No heap lies in a block of another yet. The other records are so few that all heaps find room beside them.
+-- What holds of every store. The other records are so few that all heaps find room beside them.
 pub record IsSound (s : Store) : Type 0 where
   pub heaps : AreHeapsIn s.bytes s.heaps
-  pub unnested : AreUnnested s.heaps
   pub limits : AreInLimits s.heaps
   pub placed : ArePlaced s.heaps s.others
   pub apart : AreRangesApart s.others

@@ -1,18 +1,20 @@
-ghost use Rattle.std.specs.Prelude.{ℕ, ◌≡◌, ◌<◌, ◌+◌, ◌-◌, ◌%◌, ◌^◌, ◌&&◌, true, nat_lt, Some, Err, MatchResult};
+ghost use Rattle.std.specs.Prelude.{ℕ, ◌≡◌, ◌≤◌, ◌+◌, ◌%◌, true, Some, Err, MatchResult};
 ghost use Rattle.profile.specs.Outcome.{Gives};
 ghost use Rattle.address_map.specs.Memory.{byte_at, mapping, bytes_of};
 ghost use Rattle.address_map.specs.Records.{is_heap_kind};
 ghost use Rattle.os_heap_lists.specs.Words.{AreApart};
 ghost use Rattle.os_heap.specs.Calls.{changed, end_changed, ending, has_own_size, MayEndArea, IsAreaEnded};
 ghost use Rattle.os_heap.specs.Order.{KeepsOrder};
-ghost use Rattle.os_heap.specs.Ranges.{MayEnd, meets_any};
+ghost use Rattle.os_heap.specs.Probes.{change_probes, growth_probes};
+ghost use Rattle.os_heap.specs.Ranges.{MayEnd, overgrows};
 ghost use Rattle.os_heap.specs.Outcomes.{IsHeapAt};
 ghost use Rattle.os_heap.specs.Sound.{IsSoundMap, KeepsOthers};
 ghost use Rattle.os_heap.specs.Store.{store_of, heap_in, find_heap, AreClasses, IsSound};
 
-use crate::counted::Counted;
+use crate::counted::{Counted, refused};
 use crate::heaps::{Heaps, find};
-use crate::init::{MOST_HEAP, is_heap_region, meets_any};
+use crate::init::{MOST_HEAP, is_heap_region};
+use crate::obstacles::{Tested, is_obstructed};
 use crate::sums::changed_by;
 use crate::words::{BASE, END, put, word};
 use address_map::{AddressMap, Kind, Region};
@@ -26,8 +28,8 @@ impl Heaps {
     ///
     /// The first of these, and nothing is changed then: `HeapBadDesc` where no heap starts at `heap`, or it is that of
     /// the module area; `HeapBadRegion` where `change` is no multiple of 4, the new size is not within 16 to
-    /// 16,777,216, or not all of the range is mapped; `HeapOverlaps` where what the heap grows by meets a recorded range
-    /// or an anchor; `HeapBadShrink` where the heap would end below its base.
+    /// 16,777,216, or not all of the range is mapped; `HeapOverlaps` where the heap would grow out of the block of
+    /// another heap that it lies in, or what it grows by meets another heap, another recorded range or an anchor; `HeapBadShrink` where the heap would end below its base.
     ///
     /// RISC OS 3 Programmer's Reference Manual, "OS_Heap", reason 5.
     pub fn change_size(&self, map: &mut AddressMap, heap: u32, change: u32) -> Counted<()>
@@ -40,10 +42,9 @@ impl Heaps {
         ensures others { (store_of map.new).others ≡ (store_of map.old).others }
         ensures mapping { mapping map.new ≡ mapping map.old }
         ensures order { KeepsOrder map.old map.new }
-        ensures probes { result.probes ≡ 0 }
+        ensures probes { result.probes ≤ change_probes (store_of map.old) heap change }
     {
-        let answer = change_end(map, heap, change);
-        Counted { answer, probes: 0 }
+        change_end(map, heap, change)
     }
 
     /// Gives the module area's heap another end, where that is allowed, as its area's size changes.
@@ -75,54 +76,76 @@ fn has_own_size(kind: Kind) -> bool
 }
 
 /// Changes the end of a heap, where nothing speaks against it.
-fn change_end(map: &mut AddressMap, heap: u32, change: u32) -> Result<(), ErrorNumber>
+fn change_end(map: &mut AddressMap, heap: u32, change: u32) -> Counted<()>
     requires { IsSoundMap map.old }
-    ensures store { Gives (store_of map.old) (changed (store_of map.old) heap change) result (store_of map.new) }
+    ensures store { Gives (store_of map.old) (changed (store_of map.old) heap change) result.answer (store_of map.new) }
     ensures kept { KeepsOthers map.old map.new }
     ensures order { KeepsOrder map.old map.new }
+    ensures probes { result.probes ≤ change_probes (store_of map.old) heap change }
 {
     let Some(region) = find(map, heap) else {
-        return Err(ErrorNumber::HeapBadDesc);
+        return refused(ErrorNumber::HeapBadDesc, 0);
     };
     if !has_own_size(region.kind) {
-        return Err(ErrorNumber::HeapBadDesc);
+        return refused(ErrorNumber::HeapBadDesc, 0);
     }
     let end = changed_by(region.len, change);
     if change % 4 != 0 || end > u64::from(MOST_HEAP) {
-        return Err(ErrorNumber::HeapBadRegion);
+        return refused(ErrorNumber::HeapBadRegion, 0);
     }
     let end = end as u32;
-    may_end(map, &region, end)?;
-    set_end(map, &region, end);
-    Ok(())
+    let tested = may_end(map, &region, end);
+    if let Ok(()) = tested.answer {
+        set_end(map, &region, end);
+    }
+    tested
 }
 
 /// Whether a heap may have another end.
-fn may_end(map: &AddressMap, region: &Region, end: u32) -> Result<(), ErrorNumber>
-    requires { IsHeapAt map.now region.now.at region.now.len }
-    ensures { MatchResult result (λ _. MayEnd (store_of map.now) (heap_in (bytes_of map.now) region.now) end)
+fn may_end(map: &AddressMap, region: &Region, end: u32) -> Counted<()>
+    requires heap { IsHeapAt map.now region.now.at region.now.len }
+    requires sound { IsSoundMap map.now }
+    ensures answer { MatchResult result.answer (λ _. MayEnd (store_of map.now) (heap_in (bytes_of map.now) region.now) end)
         (λ e. (change : ℕ) → change % 4 ≡ 0
         → end_changed (store_of map.now) (heap_in (bytes_of map.now) region.now) change end ≡ Err e) }
+    ensures probes { result.probes ≤ growth_probes (store_of map.now) (heap_in (bytes_of map.now) region.now) end }
 {
     if !is_heap_region(map, region.at, end) {
-        return Err(ErrorNumber::HeapBadRegion);
+        return refused(ErrorNumber::HeapBadRegion, 0);
     }
-    if overlaps(map, region, end) {
-        return Err(ErrorNumber::HeapOverlaps);
+    let tested = overgrows(map, region, end);
+    if tested.yes {
+        return refused(ErrorNumber::HeapOverlaps, tested.probes);
     }
     if end < word(map, region.at + BASE) {
-        return Err(ErrorNumber::HeapBadShrink);
+        return refused(ErrorNumber::HeapBadShrink, tested.probes);
     }
-    Ok(())
+    Counted {
+        answer: Ok(()),
+        probes: tested.probes,
+    }
 }
 
-/// Whether what a heap grows by up to another end meets a recorded range.
-fn overlaps(map: &AddressMap, region: &Region, end: u32) -> bool
-    requires { region.now.at + region.now.len < 2 ^ 32 }
-    ensures { result ≡ (nat_lt region.now.len end
-        && meets_any (region.now.at + region.now.len) (end - region.now.len) (store_of map.now)) }
+/// Whether a heap may not grow up to another end.
+fn overgrows(map: &AddressMap, region: &Region, end: u32) -> Tested
+    requires heap { IsHeapAt map.now region.now.at region.now.len }
+    requires sound { IsSoundMap map.now }
+    ensures yes { result.yes ≡ overgrows (store_of map.now) (heap_in (bytes_of map.now) region.now) end }
+    ensures probes { result.probes ≤ growth_probes (store_of map.now) (heap_in (bytes_of map.now) region.now) end }
 {
-    region.len < end && meets_any(map, region.at + region.len, end - region.len)
+    if region.len >= end {
+        return Tested {
+            yes: false,
+            probes: 0,
+        };
+    }
+    is_obstructed(
+        map,
+        region.at,
+        end,
+        region.at + region.len,
+        end - region.len,
+    )
 }
 
 /// Writes the end of a heap, and records its range anew.

@@ -1,11 +1,11 @@
-ghost use Rattle.std.specs.Prelude.{◌≡◌, ◌≤◌, ◌-◌, ◌+◌, Ok, Some, None, MatchOption, true};
+ghost use Rattle.std.specs.Prelude.{◌≡◌, ◌≤◌, ◌-◌, ◌+◌, Ok, Some, None, MatchOption, nat_le, true};
 ghost use Rattle.profile.specs.Outcome.{Gives};
 ghost use Rattle.address_map.specs.Items.{is_total, size_of};
 ghost use Rattle.address_map.specs.Memory.{layout};
 ghost use Rattle.os_heap_lists.specs.Lists.{total_for, first_fit, claimed, or_at_base};
 ghost use Rattle.os_heap_lists.specs.Counts.{looked_at};
 ghost use Rattle.os_heap.specs.Cursors.{IsNewTotal};
-ghost use Rattle.os_heap.specs.Outcomes.{HasHeapAt, end_at, items_at, Claims};
+ghost use Rattle.os_heap.specs.Outcomes.{HasHeapAt, end_at, items_at, Claims, room_of};
 ghost use Rattle.os_heap_lists.specs.Walks.{IsFit};
 ghost use Rattle.os_heap.specs.Store.{store_of, AreClasses, IsSound};
 ghost use Rattle.os_heap.specs.Calls.{got};
@@ -103,6 +103,34 @@ fn append(map: &mut AddressMap, heap: u32, needed: u64) -> Result<u32, ErrorNumb
     put(map, heap + BASE, base + total);
     make(map, heap + base, &[Item::Live(total)]);
     Ok(heap + base + 4)
+}
+
+/// Whether a heap has `needed` bytes between its base and its end.
+fn fits_at_base(map: &AddressMap, heap: u32, needed: u64) -> bool
+    requires heap { HasHeapAt map.now heap }
+    requires needed { IsNewTotal needed }
+    ensures { result ≡ nat_le (size_of (items_at map.now heap) + needed) (end_at map.now heap - 16) }
+{
+    u64::from(word(map, heap + BASE)) + needed <= u64::from(word(map, heap + END))
+}
+
+/// Whether a claim of `needed` bytes would find room, and how many free items the search for it looks at. Nothing is
+/// changed.
+#[tactic(auto, unfolding(os_heap_lists::specs::Lists::claimed))]
+pub(crate) fn find_room(map: &AddressMap, heap: u32, needed: u64) -> Counted<()>
+    requires heap { HasHeapAt map.now heap }
+    requires needed { IsNewTotal needed }
+    ensures answer { result.answer ≡ room_of (claimed needed (end_at map.now heap - 16) (items_at map.now heap)) }
+    ensures probes { result.probes ≡ looked_at needed (items_at map.now heap) }
+{
+    let search = find_fit(map, heap, needed);
+    if search.fit.is_none() && !fits_at_base(map, heap, needed) {
+        return refused(ErrorNumber::HeapNoRoom, search.probes);
+    }
+    Counted {
+        answer: Ok(()),
+        probes: search.probes,
+    }
 }
 
 /// Claims a block of `needed` bytes in one heap, its length word among them.

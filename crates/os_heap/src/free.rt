@@ -1,15 +1,17 @@
-ghost use Rattle.std.specs.Prelude.{◌≡◌, ◌+◌, Ok};
+ghost use Rattle.std.specs.Prelude.{◌≡◌, ◌+◌, Ok, true, false, is_some};
 ghost use Rattle.profile.specs.Outcome.{Gives};
-ghost use Rattle.address_map.specs.Memory.{layout, regions};
+ghost use Rattle.address_map.specs.Memory.{mapping, regions};
 ghost use Rattle.os_heap_lists.specs.Lists.{released};
-ghost use Rattle.os_heap_lists.specs.Counts.{begun_below};
-ghost use Rattle.os_heap.specs.Outcomes.{HasHeapAt, end_at, has_anchor_in, items_at, Frees, Releases};
+ghost use Rattle.os_heap.specs.Outcomes.{IsGuestBlock, end_at, has_anchor_in, items_at, Releases};
 ghost use Rattle.os_heap.specs.Cursors.{IsAtBlock};
-ghost use Rattle.os_heap.specs.Store.{store_of, has_image, AreClasses, IsSound};
-ghost use Rattle.os_heap.specs.Calls.{unless_image, gave_back};
+ghost use Rattle.os_heap.specs.Order.{LosesHeaps};
+ghost use Rattle.os_heap.specs.Sound.{GivesBack, IsSoundMap, KeepsRest};
+ghost use Rattle.os_heap.specs.Store.{store_of, find_heap, AreClasses, IsSound};
+ghost use Rattle.os_heap.specs.Calls.{gave_back};
 ghost use Rattle.os_heap.specs.Probes.{walk_probes};
 
 use crate::counted::{Counted, refused};
+use crate::forget::forget;
 use crate::heaps::{Heaps, find};
 use crate::marks::remark_gap;
 use crate::neighbour::{free_behind, own_total};
@@ -55,13 +57,29 @@ pub(crate) fn holds_anchor(map: &AddressMap, heap: u32, block: u32, cursor: &Cur
     map.anchor_in(cursor.at, own_total(map, heap, block, cursor))
 }
 
+/// Gives up a block in which no anchor lies: the heaps in it are forgotten, and it is made free room.
+pub(crate) fn give_up(map: &mut AddressMap, heap: u32, block: u32, cursor: &Cursor)
+    requires state { IsSoundMap map.old }
+    requires found { is_some (find_heap heap (store_of map.old).heaps) ≡ true }
+    requires block { IsGuestBlock (regions map.old) heap (items_at map.old heap) block
+        cursor.now.from cursor.now.at cursor.now.free cursor.now.gap }
+    requires unheld { has_anchor_in map.old heap block ≡ false }
+    ensures store { GivesBack map.old map.new heap block }
+    ensures kept { KeepsRest map.old map.new }
+{
+    let total = own_total(map, heap, block, cursor);
+    forget(map, block, total, block);
+    give_back(map, heap, block, cursor);
+}
+
 /// Gives a block of one heap back, where no anchor is in it.
 fn release(map: &mut AddressMap, heap: u32, block: u32) -> Counted<()>
-    requires { HasHeapAt map.old heap }
-    ensures release { let left = unless_image (has_image block (regions map.old))
-        (released block (heap + 16) (items_at map.old heap)) in
-        Frees map.old map.new heap (end_at map.old heap) result.answer (has_anchor_in map.old heap block) left }
-    ensures probes { result.probes ≡ begun_below block (heap + 16) (items_at map.old heap) }
+    requires state { IsSoundMap map.old }
+    requires found { is_some (find_heap heap (store_of map.old).heaps) ≡ true }
+    ensures store { Gives (store_of map.old) (gave_back (store_of map.old) heap block) result.answer
+        (store_of map.new) }
+    ensures kept { KeepsRest map.old map.new }
+    ensures probes { result.probes ≡ walk_probes (store_of map.old) heap block }
 {
     let walk = find_guest_block(map, heap, block);
     let Some(cursor) = walk.hit else {
@@ -70,7 +88,7 @@ fn release(map: &mut AddressMap, heap: u32, block: u32) -> Counted<()>
     if holds_anchor(map, heap, block, &cursor) {
         return refused(ErrorNumber::HeapHoldsAnchor, walk.probes);
     }
-    give_back(map, heap, block, &cursor);
+    give_up(map, heap, block, &cursor);
     Counted {
         answer: Ok(()),
         probes: walk.probes,
@@ -79,7 +97,8 @@ fn release(map: &mut AddressMap, heap: u32, block: u32) -> Counted<()>
 
 impl Heaps {
     /// Gives the block whose first byte is at `block` back to the heap that starts at `heap`. Free blocks that touch it
-    /// become one with it; where it ends at the base, the base sinks to its start.
+    /// become one with it; where it ends at the base, the base sinks to its start. The heaps that lie in the block are
+    /// forgotten.
     ///
     /// # Errors
     ///
@@ -95,7 +114,9 @@ impl Heaps {
             (store_of map.new) }
         ensures sound { IsSound (store_of map.new) }
         ensures classes { AreClasses map.new }
-        ensures layout { layout map.new ≡ layout map.old }
+        ensures others { (store_of map.new).others ≡ (store_of map.old).others }
+        ensures mapping { mapping map.new ≡ mapping map.old }
+        ensures records { LosesHeaps map.old map.new }
         ensures probes { result.probes ≡ walk_probes (store_of map.old) heap block }
     {
         match find(map, heap) {

@@ -5,15 +5,17 @@ ghost use Rattle.address_map.specs.Memory.{mapping, byte_at, is_mapped, bytes_of
 ghost use Rattle.address_map.specs.Records.{is_heap_kind};
 ghost use Rattle.address_map.specs.declared.region.Kind.TheVariants.{Heap, Rma};
 ghost use Rattle.os_heap.specs.Order.{AddsRecord, KeepsOrder};
-ghost use Rattle.os_heap.specs.Ranges.{MayBegin, is_heap_region, meets_any};
+ghost use Rattle.os_heap.specs.Probes.{region_probes};
+ghost use Rattle.os_heap.specs.Ranges.{MayBegin, is_heap_region};
 ghost use Rattle.os_heap_lists.specs.Heap.{with_heap};
 ghost use Rattle.os_heap.specs.Sound.{IsSoundMap, KeepsOthers};
 ghost use Rattle.os_heap.specs.Store.{store_of, heaps_in, guest_count, AreClasses, IsSound};
 ghost use Rattle.os_heap.specs.Calls.{begun, begun_with};
 
-use crate::counted::Counted;
+use crate::counted::{Counted, refused};
 use crate::heaps::Heaps;
 use crate::marks::mark_descriptor;
+use crate::obstacles::is_obstructed;
 use crate::words::{BASE, END, LINK};
 use address_map::{AddressMap, Kind, Region};
 use profile::ErrorNumber;
@@ -32,7 +34,8 @@ impl Heaps {
     ///
     /// The first of these, and nothing is changed then: `HeapBadRegion` where the address or the size is no multiple of
     /// 4, the size is not within 16 to 16,777,216, or not all of the range is mapped; `HeapOverlaps` where it meets a
-    /// recorded range or an anchor; `HeapTableFull` where there are 64 heaps besides that of the module area.
+    /// heap and does not lie wholly in what one of its live blocks holds, or meets another recorded range or an anchor;
+    /// `HeapTableFull` where there are 64 heaps besides that of the module area.
     pub fn init(&self, map: &mut AddressMap, heap: u32, size: u32) -> Counted<()>
         requires sound { IsSound (store_of map.old) }
         requires classes { AreClasses map.old }
@@ -43,10 +46,9 @@ impl Heaps {
         ensures mapping { mapping map.new ≡ mapping map.old }
         ensures order { MatchResult result.answer
             (λ _. AddsRecord map.old map.new Heap heap) (λ _. KeepsOrder map.old map.new) }
-        ensures probes { result.probes ≡ 0 }
+        ensures probes { result.probes ≤ region_probes (store_of map.old) heap size }
     {
-        let answer = begin(map, heap, size);
-        Counted { answer, probes: 0 }
+        begin(map, heap, size)
     }
 
     /// Makes the heap of the module area, without items, as `init` makes one that it does not refuse.
@@ -66,15 +68,19 @@ impl Heaps {
 }
 
 /// Makes a heap, where nothing speaks against it.
-fn begin(map: &mut AddressMap, heap: u32, size: u32) -> Result<(), ErrorNumber>
+fn begin(map: &mut AddressMap, heap: u32, size: u32) -> Counted<()>
     requires { IsSoundMap map.old }
-    ensures store { Gives (store_of map.old) (begun (store_of map.old) heap size) result (store_of map.new) }
+    ensures store { Gives (store_of map.old) (begun (store_of map.old) heap size) result.answer (store_of map.new) }
     ensures kept { KeepsOthers map.old map.new }
-    ensures order { MatchResult result (λ _. AddsRecord map.old map.new Heap heap) (λ _. KeepsOrder map.old map.new) }
+    ensures order { MatchResult result.answer
+        (λ _. AddsRecord map.old map.new Heap heap) (λ _. KeepsOrder map.old map.new) }
+    ensures probes { result.probes ≤ region_probes (store_of map.old) heap size }
 {
-    may_begin(map, heap, size)?;
-    make(map, Kind::Heap, heap, size);
-    Ok(())
+    let tested = may_begin(map, heap, size);
+    if let Ok(()) = tested.answer {
+        make(map, Kind::Heap, heap, size);
+    }
+    tested
 }
 
 /// Writes the descriptor of a heap without items, and records its range.
@@ -107,20 +113,26 @@ fn write_descriptor(map: &mut AddressMap, heap: u32, size: u32)
 }
 
 /// Whether a heap may be made of a range.
-fn may_begin(map: &AddressMap, heap: u32, size: u32) -> Result<(), ErrorNumber>
-    ensures { MatchResult result (λ _. MayBegin Heap (store_of map.now) heap size)
+fn may_begin(map: &AddressMap, heap: u32, size: u32) -> Counted<()>
+    requires { IsSoundMap map.now }
+    ensures answer { MatchResult result.answer (λ _. MayBegin Heap (store_of map.now) heap size)
         (λ e. begun (store_of map.now) heap size ≡ Err e) }
+    ensures probes { result.probes ≤ region_probes (store_of map.now) heap size }
 {
     if !is_heap_region(map, heap, size) {
-        return Err(ErrorNumber::HeapBadRegion);
+        return refused(ErrorNumber::HeapBadRegion, 0);
     }
-    if meets_any(map, heap, size) {
-        return Err(ErrorNumber::HeapOverlaps);
+    let tested = is_obstructed(map, heap, size, heap, size);
+    if tested.yes {
+        return refused(ErrorNumber::HeapOverlaps, tested.probes);
     }
     if count_guests(map.regions()) >= MOST_HEAPS {
-        return Err(ErrorNumber::HeapTableFull);
+        return refused(ErrorNumber::HeapTableFull, tested.probes);
     }
-    Ok(())
+    Counted {
+        answer: Ok(()),
+        probes: tested.probes,
+    }
 }
 
 /// Whether a range is one that a heap may have: of whole words, with a size in the limits, and mapped.
@@ -134,13 +146,6 @@ pub(crate) fn is_heap_region(map: &AddressMap, heap: u32, size: u32) -> bool
         return false;
     }
     map.maps(heap, size)
-}
-
-/// Whether a range meets a recorded one, or holds an anchor of the flex store.
-pub(crate) fn meets_any(map: &AddressMap, heap: u32, size: u32) -> bool
-    ensures { result ≡ meets_any heap size (store_of map.now) }
-{
-    map.meets_record(heap, size) || map.anchor_in(heap, size)
 }
 
 /// How many heaps guests have made.

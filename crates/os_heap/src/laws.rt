@@ -1,17 +1,35 @@
 //! Laws over the definitions, each the contract of a function that does nothing.
 
-ghost use Rattle.os_heap.specs.Laws.{CallsKeepPayloads, LiveBlocksAreApart, RecordsAreTold};
+ghost use Rattle.os_heap.specs.Laws.{CallsKeepPayloads, ForgettingKeeps, ForgottenAreLost, InnermostTells, LiveBlocksAreApart, RecordsAreTold};
 
-/// No byte belongs to two live blocks, of one heap or of two.
+/// No byte belongs to two live blocks, unless one lies, with its heap, in what the other holds.
 #[tactic(auto, using(crate::proofs::Apart::blocks_apart))]
 pub fn live_blocks_share_no_byte()
     ensures { LiveBlocksAreApart }
 {}
 
-/// A call that is done keeps the bytes of each block that was live and is so still.
+/// A call that is done keeps the bytes of each block of its heap that was live and is so still, and all bytes outside the heap.
 #[tactic(auto, using(crate::proofs::KeptPayloads::calls_keep))]
 pub fn calls_keep_payloads()
     ensures { CallsKeepPayloads }
+{}
+
+/// Heaps that are forgotten leave a sound store.
+#[tactic(auto, using(crate::proofs::Forgetting::forgot_sound))]
+pub fn forgetting_keeps_stores()
+    ensures { ForgettingKeeps }
+{}
+
+/// The heaps that are forgotten with bytes of a live block are those that have one of these, and those that lie in one of them.
+#[tactic(auto, using(crate::proofs::LossLaw::forgotten_lost))]
+pub fn forgotten_heaps_are_lost()
+    ensures { ForgottenAreLost }
+{}
+
+/// Of heaps that lie round each other the innermost tells for all of them.
+#[tactic(auto, using(crate::proofs::Innermost::innermost_tells))]
+pub fn innermost_heaps_tell()
+    ensures { InnermostTells }
 {}
 
 /// The heaps of a store, its other ranges, and the order in which all are recorded tell the record.

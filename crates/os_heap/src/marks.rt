@@ -1,16 +1,17 @@
 ghost use Rattle.std.specs.Prelude.{ℕ, [], ◌∷◌, ◌++◌, ◌≡◌, ◌≤◌, ◌<◌, ◌+◌, ◌-◌, ◌%◌, ◌^◌, ◌&&◌, true, if◌then◌else◌};
 ghost use Rattle.address_map.specs.Bytes.{AreMapped, in_range, word_start};
+ghost use Rattle.address_map.specs.Classes.{is_heap_class};
 ghost use Rattle.address_map.specs.Memory.{byte_at, is_mapped, layout, class_of};
 ghost use Rattle.address_map.specs.Records.{with_class};
 ghost use Rattle.address_map.specs.declared.class.Class.TheVariants.{Heap};
 ghost use Rattle.os_heap_lists.specs.Lists.{left_free};
 ghost use Rattle.os_heap_lists.specs.Marks.{head_class, Remarks, with_item_marked, with_items_marked};
-ghost use Rattle.os_heap.specs.Marks.{RemarksItems, SetsClasses};
+ghost use Rattle.os_heap.specs.Marks.{RemarksItems, SetsClasses, with_no_heads};
 ghost use Rattle.os_heap.specs.Outcomes.{CanStand};
 
 use crate::walk::Cursor;
 use crate::words::{BASE, END, LINK};
-use address_map::{AddressMap, Item, Kind};
+use address_map::{AddressMap, Class, Item, Kind};
 
 /// The bytes of a word.
 const WORD: u32 = 4;
@@ -97,6 +98,40 @@ fn give_up_gap(map: &mut AddressMap, at: u32, gap: u32)
     if gap != 0 {
         mark_items(map, at, &[Item::Free(gap)], false);
     }
+}
+
+/// Takes the marks of heaps off the words among some bytes. The marks of anchors stay.
+pub(crate) fn unmark_heads(map: &mut AddressMap, at: u32, len: u32)
+    requires aligned { at % 4 ≡ 0 }
+    requires whole { len % 4 ≡ 0 }
+    requires mapped { AreMapped (is_mapped map.old) at len }
+    requires end { at + len ≤ 67108864 }
+    ensures { SetsClasses map.old map.new (with_no_heads at len (class_of map.old)) }
+{
+    let end = at + len;
+    let mut place = at;
+    while place < end {
+        unmark_head(map, place);
+        place += WORD;
+    }
+}
+
+/// Takes the mark of a heap off a word, if it has that.
+fn unmark_head(map: &mut AddressMap, at: u32)
+    requires aligned { at % 4 ≡ 0 }
+    requires mapped { is_mapped map.old at ≡ true }
+    ensures { SetsClasses map.old map.new (with_no_heads at 4 (class_of map.old)) }
+{
+    if is_heap_class(map.class(at)) {
+        mark(map, at, false);
+    }
+}
+
+/// Whether a class is that of a heap's words.
+fn is_heap_class(class: Class) -> bool
+    ensures { result ≡ is_heap_class class }
+{
+    matches!(class, Class::Heap)
 }
 
 /// Marks the four words of a heap's descriptor.

@@ -4,11 +4,11 @@ ghost use Rattle.address_map.specs.Items.{size_of, total_of};
 ghost use Rattle.address_map.specs.Records.{is_heap_kind};
 ghost use Rattle.os_heap_lists.specs.Heap.{AreTotals};
 ghost use Rattle.os_heap.specs.Outcomes.{IsHeapAt, items_at};
-ghost use Rattle.os_heap.specs.Payloads.{holds_byte, is_other, payload_from, payload_of, payload_or};
-ghost use Rattle.os_heap.specs.Store.{store_of, IsSound};
+ghost use Rattle.os_heap.specs.Payloads.{holds_byte, is_other, payload_by, payload_from, payload_of, payload_or};
+ghost use Rattle.os_heap.specs.Store.{find_heap, store_of, IsSound};
 
 use crate::blocks::{Blocks, blocks_of};
-use crate::heaps::Heaps;
+use crate::heaps::{Heaps, find};
 use address_map::{AddressMap, Item, Region};
 use profile::memory_map::HEAP_DESCRIPTOR;
 
@@ -64,6 +64,22 @@ impl Heaps {
         }
         found
     }
+
+    /// Where the byte at an address lies in the heap that starts at `heap` alone, whatever lies in the blocks of that heap; `Outside` where none
+    /// starts there.
+    pub fn live_payload_in(&self, map: &AddressMap, heap: u32, address: u32) -> Payload
+        requires { IsSound (store_of map.now) }
+        ensures { result ≡ payload_by (find_heap heap (store_of map.now).heaps) address }
+    {
+        let Some(region) = find(map, heap) else {
+            return Payload::Outside;
+        };
+        if is_round(&region, address) {
+            payload_at(map, heap, region.len, address)
+        } else {
+            Payload::Outside
+        }
+    }
 }
 
 /// Whether a recorded range is that of a heap, and has an address.
@@ -102,7 +118,7 @@ fn payload_among(start: u32, blocks: Blocks, address: u32) -> Payload
 }
 
 /// Whether the item at `at` holds an address for the guest.
-fn holds_byte(at: u32, item: Item, address: u32) -> bool
+pub(crate) fn holds_byte(at: u32, item: Item, address: u32) -> bool
     requires { at + total_of item ≤ 2 ^ 26 }
     ensures { result ≡ holds_byte at item address }
 {

@@ -8,19 +8,21 @@ ghost use Rattle.os_heap.specs.Outcomes.{HasHeapAt, items_at};
 ghost use Rattle.os_heap_lists.specs.Lists.{claimed, live_total};
 ghost use Rattle.os_heap_lists.specs.Walks.{IsBlock};
 ghost use Rattle.os_heap_lists.specs.Counts.{free_below};
-ghost use Rattle.os_heap.specs.Sound.{IsSoundMap, KeepsLayout};
+ghost use Rattle.os_heap.specs.Sound.{IsSoundMap, KeepsRest};
 ghost use Rattle.os_heap.specs.Store.{store_of, find_heap};
 
-use crate::claim::claim_total;
+use crate::claim::{claim_total, find_room};
 use crate::counted::Counted;
+use crate::forget::holds_heap;
 use crate::free::give_back;
 use crate::walk::{Cursor, last_link};
 use crate::words::{follow, word};
 use address_map::AddressMap;
+use profile::ErrorNumber;
 use profile::memory_map::HEAP_DESCRIPTOR;
 
 /// Moves a block to one of `needed` bytes: claims that, copies the bytes that the old block holds, and gives the old
-/// block back.
+/// block back. A block in which a heap lies is not moved.
 pub(crate) fn relocate(
     map: &mut AddressMap,
     heap: u32,
@@ -34,10 +36,18 @@ pub(crate) fn relocate(
     requires larger { total < needed }
     ensures store { (h : HeapList) → find_heap heap (store_of map.old).heaps ≡ Some h
         → Gives (store_of map.old) (moved (store_of map.old) h block total needed) result.answer (store_of map.new) }
-    ensures kept { KeepsLayout map.old map.new }
-    ensures probes { (h : HeapList) → find_heap heap (store_of map.old).heaps ≡ Some h
-        → result.probes ≡ move_probes h block needed (claimed needed (h.end - 16) h.items) }
+    ensures kept { KeepsRest map.old map.new }
+    ensures probes { (h : HeapList) → find_heap heap (store_of map.old).heaps ≡ Some h → result.probes
+        ≡ move_probes (store_of map.old) h block total needed (claimed needed (h.end - 16) h.items) }
 {
+    if holds_heap(map.regions(), block, total - 4) {
+        let room = find_room(map, heap, needed);
+        let answer = room.answer.and(Err(ErrorNumber::BlockHoldsHeap));
+        return Counted {
+            answer,
+            probes: room.probes,
+        };
+    }
     let claim = claim_total(map, heap, needed);
     let Ok(new) = claim.answer else {
         return claim;

@@ -1,19 +1,24 @@
 ghost use Rattle.std.specs.Prelude.{◌≡◌, ◌≤◌, ◌<◌, ◌+◌, ◌-◌, ◌^◌, is_some, true};
 ghost use Rattle.profile.specs.Outcome.{Gives};
-ghost use Rattle.address_map.specs.Memory.{anchor_of, layout};
+ghost use Rattle.address_map.specs.Memory.{anchor_of, mapping, regions};
 ghost use Rattle.address_map.specs.Records.{anchor_among};
 ghost use Rattle.os_heap.specs.Calls.{resized};
+ghost use Rattle.os_heap.specs.Cursors.{IsNewTotal, ResizesInPlace};
+ghost use Rattle.os_heap.specs.Outcomes.{IsGuestBlock, items_at};
 ghost use Rattle.os_heap.specs.Probes.{resize_probes, AreInBounds};
-ghost use Rattle.os_heap.specs.Sound.{IsSoundMap, KeepsLayout};
+ghost use Rattle.os_heap.specs.Order.{LosesHeaps};
+ghost use Rattle.os_heap.specs.Sound.{IsSoundMap, KeepsRest};
 ghost use Rattle.os_heap.specs.Store.{store_of, find_heap, AreClasses, IsSound};
 
 use crate::counted::{Counted, refused};
-use crate::free::{give_back, holds_anchor};
+use crate::forget::forget_cut;
+use crate::free::{give_up, holds_anchor};
 use crate::heaps::{Heaps, find};
+use crate::neighbour::own_total;
 use crate::refit::refit;
 use crate::relocate::relocate;
 use crate::sums::{changed_by, round_up_8};
-use crate::walk::find_guest_block;
+use crate::walk::{Cursor, find_guest_block};
 use crate::words::word;
 use address_map::AddressMap;
 use profile::ErrorNumber;
@@ -23,7 +28,8 @@ impl Heaps {
     /// and answers where the block's first byte is then. The new total is rounded up to a multiple of 8; where it is 4
     /// or less, the block is freed, and the answer is 0. The block stays where it is if it shrinks, if the free item
     /// behind it has room, or if it is the last and there is room at the base; else it is moved, as by a claim, a copy
-    /// of its bytes, and a release.
+    /// of its bytes, and a release. The heaps of which bytes are freed or cut off are forgotten, and those that lie in
+    /// them.
     ///
     /// A probe is an item that the walk to the block passes, a free item that the search for room looks at, or a free
     /// item below the block that is given back.
@@ -32,7 +38,8 @@ impl Heaps {
     ///
     /// `HeapBadDesc` where no heap starts at `heap`; `HeapNotABlock` where no block's bytes begin at `block`, or they
     /// are a module image; `HeapHoldsAnchor` where an anchor of the flex store lies in what is freed, cut off or moved;
-    /// `HeapNoRoom` where the block would have to move and there is no room. Nothing is changed then.
+    /// `HeapNoRoom` where the block would have to move and there is no room; `BlockHoldsHeap` where it would have to
+    /// move and a heap lies in it. Nothing is changed then.
     ///
     /// RISC OS 3 Programmer's Reference Manual, "OS_Heap", reason 4.
     pub fn resize(&self, map: &mut AddressMap, heap: u32, block: u32, change: u32) -> Counted<u32>
@@ -42,7 +49,9 @@ impl Heaps {
             (store_of map.new) }
         ensures sound { IsSound (store_of map.new) }
         ensures classes { AreClasses map.new }
-        ensures layout { layout map.new ≡ layout map.old }
+        ensures others { (store_of map.new).others ≡ (store_of map.old).others }
+        ensures mapping { mapping map.new ≡ mapping map.old }
+        ensures records { LosesHeaps map.old map.new }
         ensures probes { result.probes ≡ resize_probes (store_of map.old) heap block change }
         ensures bounds { AreInBounds result.probes block (find_heap heap (store_of map.old).heaps) }
     {
@@ -59,7 +68,7 @@ fn resize_block(map: &mut AddressMap, heap: u32, block: u32, change: u32) -> Cou
     requires found { is_some (find_heap heap (store_of map.old).heaps) ≡ true }
     ensures store { Gives (store_of map.old) (resized (store_of map.old) heap block change) result.answer
         (store_of map.new) }
-    ensures kept { KeepsLayout map.old map.new }
+    ensures kept { KeepsRest map.old map.new }
     ensures probes { result.probes ≡ resize_probes (store_of map.old) heap block change }
 {
     let walk = find_guest_block(map, heap, block);
@@ -72,7 +81,7 @@ fn resize_block(map: &mut AddressMap, heap: u32, block: u32, change: u32) -> Cou
         if holds_anchor(map, heap, block, &cursor) {
             return refused(ErrorNumber::HeapHoldsAnchor, walk.probes);
         }
-        give_back(map, heap, block, &cursor);
+        give_up(map, heap, block, &cursor);
         return Counted {
             answer: Ok(0),
             probes: walk.probes,
@@ -82,7 +91,7 @@ fn resize_block(map: &mut AddressMap, heap: u32, block: u32, change: u32) -> Cou
     if cut_holds_anchor(map, block, total, needed) {
         return refused(ErrorNumber::HeapHoldsAnchor, walk.probes);
     }
-    if refit(map, heap, block, &cursor, needed) {
+    if resize_in_place(map, heap, block, &cursor, needed) {
         return Counted {
             answer: Ok(block),
             probes: walk.probes,
@@ -96,6 +105,27 @@ fn resize_block(map: &mut AddressMap, heap: u32, block: u32, change: u32) -> Cou
         answer: moved.answer,
         probes: walk.probes + moved.probes,
     }
+}
+
+/// Gives a block another total where it stands, if it can, and tells whether it did. The heaps that go with what is cut
+/// off are forgotten.
+fn resize_in_place(
+    map: &mut AddressMap,
+    heap: u32,
+    block: u32,
+    cursor: &Cursor,
+    needed: u64,
+) -> bool
+    requires state { IsSoundMap map.old }
+    requires found { is_some (find_heap heap (store_of map.old).heaps) ≡ true }
+    requires block { IsGuestBlock (regions map.old) heap (items_at map.old heap) block
+        cursor.now.from cursor.now.at cursor.now.free cursor.now.gap }
+    requires needed { IsNewTotal needed }
+    ensures { ResizesInPlace map.old map.new heap block needed result }
+{
+    let total = own_total(map, heap, block, cursor);
+    forget_cut(map, block, total, needed);
+    refit(map, heap, block, cursor, needed)
 }
 
 /// Whether an anchor lies in what is cut off a block that gets another total: in nothing, where that is no smaller.

@@ -26,15 +26,16 @@ use Rattle.os_heap.proofs.Found.{found_heap, found_start}
 use Rattle.os_heap.proofs.Anchored.{KeepsAnchors, heads_unflexed, place_held}
 use Rattle.os_heap.proofs.FlexWords.{AreSameFlex, flex_held, flex_on, same_flex}
 use Rattle.os_heap.proofs.Held.{heads_marked, marks_held}
-use Rattle.os_heap.proofs.Stores.{are_clear_others, are_others, AreClearOthers, AreOthers, layout-regions, places-held, same_limits, unnested_held}
+use Rattle.os_heap.proofs.Stores.{are_others, AreOthers, layout-regions, places-held, same_limits}
 use Rattle.os_heap.specs.Calls.{OfHeap, holds_anchor, with_items}
 use Rattle.os_heap.specs.Outcomes.{end_at, HasHeapAt, items_at}
-use Rattle.os_heap.specs.Store.{AreClasses, AreHeapsIn, AreUnnested, find_heap, heaps_in, IsSound, is_flex_store, is_in_flex_store, others_in, store_of}
-use Rattle.os_heap_slide.proofs.Beside.{AreBeside, clear_beside, parts_beside, read_beside}
+use Rattle.os_heap.specs.Store.{AreClasses, AreHeapsIn, find_heap, heaps_in, IsSound, is_flex_store, is_in_flex_store, others_in, store_of}
+use Rattle.os_heap_slide.proofs.Beside.{AreBeside, heaps_beside, heaps_stay, KeepsBytes, parts_beside, read_beside}
+use Rattle.os_heap_slide.proofs.KeptBlocks.{bytes_fixed}
 use Rattle.os_heap_slide.proofs.Laying.{IsRead, read}
 use Rattle.os_heap_slide.proofs.Places.{bytes_low, bytes_past, moved_live, moved_stays, moves_down}
 use Rattle.os_heap_slide.proofs.Records.{all_placed, heaps_moved, IsSlide, moves_in, others_moved, ranges_apart, slid_in}
-use Rattle.os_heap_slide.specs.Slide.{AreBlocks, HoldNoAnchor, is_listed, IsSlid, MaySlide, moves_of, slid, slid_bytes, with_slid}
+use Rattle.os_heap_slide.specs.Slide.{AreBlocks, HoldNoAnchor, HoldNoHeap, is_listed, IsSlid, MaySlide, moves_of, slid, slid_bytes, with_slid}
 use Rattle.os_heap_slide.specs.Steps.{IsAllSlid}
 
 -- the heap that slides
@@ -47,12 +48,14 @@ pub record Here (m : AddressMap) (heap : ℕ) (movable : List ℕ) : Type 0 wher
   pub blocks : AreBlocks (h.start + 16) h.items movable
   pub few : length movable ≤ 128
   pub free : HoldNoAnchor (store_of m) h movable
+  pub empty : HoldNoHeap (store_of m).heaps h movable
 
 pub here : (m : AddressMap) (heap : ℕ) (movable : List ℕ) → IsSound (store_of m) → MaySlide (store_of m) heap movable → Here m heap movable
 unfolding store_of
 here m heap movable sound may = by_heap (find_heap heap (store_of m).heaps) refl may where
   by_heap : (o : Option HeapList) → find_heap heap (store_of m).heaps ≡ o
-      → OfHeap (λ h. AreBlocks (h.start + 16) h.items movable × ((length movable ≤ 128) × HoldNoAnchor (store_of m) h movable)) o → Here m heap movable
+      → OfHeap (λ h. AreBlocks (h.start + 16) h.items movable × ((length movable ≤ 128)
+      × (HoldNoAnchor (store_of m) h movable × HoldNoHeap (store_of m).heaps h movable))) o → Here m heap movable
   by_heap None e is = absurd is
   by_heap (Some h) e is =
       let spelled : IsHeapIn (bytes_of m) h.start h.end h.items = found_heap (bytes_of m) heap (store_of m).heaps h sound.heaps e in
@@ -64,7 +67,8 @@ here m heap movable sound may = by_heap (find_heap heap (store_of m).heaps) refl
         is = read m h.start h.end h.items spelled;
         blocks = is.0;
         few = is.1.0;
-        free = is.1.1;
+        free = is.1.1.0;
+        empty = is.1.1.1;
       }
 
 pub heap_here : (m : AddressMap) (heap : ℕ) (movable : List ℕ) → Here m heap movable → HasHeapAt m heap
@@ -186,25 +190,28 @@ moved_flex moves (r ∷ rs) a is = elim (cases_Bool (is_flex_store r.kind && in_
 
 pub slid_store : (m n q : AddressMap) (h : HeapList) (movable : List ℕ) (moves : List Move) → IsSound (store_of m) → AreClasses m → find_heap h.start (store_of m).heaps ≡ Some h
     → IsHeapIn (bytes_of m) h.start h.end h.items → IsRead m h.start h.end h.items → HoldNoAnchor (store_of m) h movable
-    → IsAllSlid m n h.start movable moves → IsDone m n q moves → IsSlidStore m q h movable
+    → HoldNoHeap (store_of m).heaps h movable → IsAllSlid m n h.start movable moves → IsDone m n q moves → IsSlidStore m q h movable
 unfolding store_of
-slid_store m n q h movable moves sound classes found old is free a d =
+slid_store m n q h movable moves sound classes found old is free empty a d =
     let mv : ℕ → Bool = is_listed movable in
     let first : ℕ = h.start + 16 in
     let hs : List HeapList = heaps_in (bytes_of m) (regions m) in
     let rs : List Region = others_in (regions m) in
     let l : IsListSlid m n q h movable = list_slid m n q h movable moves is a d in
     let others : AreOthers h hs = are_others (bytes_of m) h.start hs h sound.heaps found in
-    let clear : AreClearOthers h hs = are_clear_others (bytes_of m) h.start hs h sound.heaps sound.unnested found in
-    let beside : AreBeside (bytes_of q) h hs =
-    clear_beside (bytes_of m) (bytes_of q) h hs l.mapped (λ x out. slid_beyond m n q h movable x old l out) clear sound.heaps in
-    let unnested : AreUnnested (with_items h.start (slid_in h movable) hs) = unnested_held h.start (slid_in h movable) hs sound.unnested in
     let s : IsSlide (bytes_of m) (bytes_of q) h movable = record { old = old; new = l.heap } in
     let new : Bytes = record { mapped = is_mapped m; at = with_heap (slid_bytes mv first first h.items (byte_at m)) h.start h.end (slid_in h movable) } in
     let bytes : bytes_of q ≡ new = λ i. record {
       mapped = l.mapped i;
       at = λ x. (part_back (slid_bytes mv first first h.items (byte_at m)) (bytes_of q) h.start h.end (slid_in h movable) l.heap (byte_at-lt q) x (l.others x)) i;
     } in
+    let kept : KeepsBytes (bytes_of m) (bytes_of q) h movable = record {
+      mapped = l.mapped;
+      beyond = λ x out. slid_beyond m n q h movable x old l out;
+      fixed = λ block total x stays live low high.
+          ap (λ (b : Bytes). b.at x) bytes ∙ bytes_fixed (store_of m) h movable old.aligned old.totals block total x stays live low high;
+    } in
+    let beside : AreBeside (bytes_of q) h hs = heaps_beside (bytes_of m) (bytes_of q) h movable hs kept empty others sound.heaps in
     let heaps : heaps_in (bytes_of q) (regions q) ≡ with_items h.start (slid_in h movable) hs =
     ap (λ (ys : List Region). heaps_in (bytes_of q) ys) l.records ∙ heaps_moved (bytes_of q) (moves_in h movable) (regions m)
     ∙ read_beside (bytes_of m) (bytes_of q) h (slid_in h movable) (regions m) l.heap beside in
@@ -222,13 +229,12 @@ slid_store m n q h movable moves sound classes found old is free a d =
       header = λ a. same.headers a i;
     } in
     let parts : AreHeapsIn (bytes_of q) (with_items h.start (slid_in h movable) hs) =
-    parts_beside (bytes_of q) h (slid_in h movable) hs l.heap beside unnested in
+    parts_beside (bytes_of m) (bytes_of q) h (slid_in h movable) hs l.heap beside others (heaps_stay (bytes_of m) h movable hs old.totals sound.heaps empty) sound.heaps in
     let now : IsSound (with_slid (store_of m) h movable) = record {
       heaps = subst (λ (b : Bytes). AreHeapsIn b (with_items h.start (slid_in h movable) hs)) bytes parts;
-      unnested = unnested;
       limits = same_limits hs _ (places-held h.start (slid_in h movable) hs) sound.limits;
-      placed = all_placed (bytes_of m) (bytes_of q) h hs movable rs s sound.heaps clear found sound.placed;
-      apart = ranges_apart (bytes_of m) (bytes_of q) h hs movable rs s sound.heaps clear found sound.placed sound.apart;
+      placed = all_placed (bytes_of m) (bytes_of q) h hs movable rs s sound.heaps others empty found sound.placed;
+      apart = ranges_apart (bytes_of m) (bytes_of q) h hs movable rs s found sound.placed sound.apart;
       few = rw (length-map rs (λ (r : Region). moved_region (moves_in h movable) r)) sound.few;
       anchors = λ a is. ((sound.anchors a is).0, place_held h (slid_in h movable) hs a others (keeps a is) (sound.anchors a is).1);
       headers = λ a is. moved_flex (moves_in h movable) rs a (sound.headers a is);
@@ -245,7 +251,7 @@ slid_store m n q h movable moves sound classes found old is free a d =
 pub done_here : (m n q : AddressMap) (heap : ℕ) (movable : List ℕ) (moves : List Move) → IsSound (store_of m) → AreClasses m → (k : Here m heap movable)
     → IsAllSlid m n heap movable moves → IsDone m n q moves → IsSlidStore m q k.h movable
 done_here m n q heap movable moves sound classes k a d =
-    slid_store m n q k.h movable moves sound classes (subst (λ (x : ℕ). find_heap x (store_of m).heaps ≡ Some k.h) (sym k.start) k.found) k.spelled k.is k.free
+    slid_store m n q k.h movable moves sound classes (subst (λ (x : ℕ). find_heap x (store_of m).heaps ≡ Some k.h) (sym k.start) k.found) k.spelled k.is k.free k.empty
     (subst (λ (x : ℕ). IsAllSlid m n x movable moves) (sym k.start) a) d
 
 pub slid_here : (m n q : AddressMap) (heap : ℕ) (movable : List ℕ) (moves : List Move) → IsSound (store_of m) → AreClasses m → Here m heap movable

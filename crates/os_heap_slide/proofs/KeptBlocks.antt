@@ -1,5 +1,5 @@
 -- Each live block is live after a slide too, where it went, with the bytes that it held.
-use Rattle.std.proofs.Common.{List, ℕ, Bool, [], ◌∷◌, ◌++◌, ◌≡◌, ◌≢◌, ◌≤◌, ◌<◌, ◌+◌, ◌-◌, ◌%◌, ◌==◌, ◌∙◌, true, refl, sym, ap, inl, inr, Some, None, arith}
+use Rattle.std.proofs.Common.{List, ℕ, Bool, [], ◌∷◌, ◌++◌, ◌≡◌, ◌≢◌, ◌≤◌, ◌<◌, ◌+◌, ◌-◌, ◌%◌, ◌==◌, ◌∙◌, true, false, refl, sym, ap, inl, inr, Some, None, arith}
 use Rattle.std.proofs.lemmas.Bool.{cases_Bool, eqb-true, eq-eqb}
 use Rattle.address_map.specs.Moves.{moved_to}
 use Rattle.address_map.specs.declared.follow.Move.{Move}
@@ -7,12 +7,13 @@ use Rattle.address_map.specs.declared.item.Item.{Item}
 use Rattle.address_map.specs.declared.item.Item.TheVariants.{Free, Live}
 use Rattle.os_heap_lists.proofs.Payloads.{heap_beside, payload_unspelled}
 use Rattle.os_heap_lists.proofs.Reading.{total_facts}
-use Rattle.os_heap_lists.specs.Heap.{AreTotals}
+use Rattle.os_heap_lists.specs.Heap.{AreTotals, HeapList}
 use Rattle.os_heap_lists.specs.Lists.{live_total}
+use Rattle.os_heap.specs.Store.{Store}
 use Rattle.os_heap_slide.proofs.LawLemmas.{slid_totals, slide_keeps}
-use Rattle.os_heap_slide.proofs.Places.{between, first_moved, low_still, moved_live, one_moved, some_low}
+use Rattle.os_heap_slide.proofs.Places.{between, first_moved, low_still, moved_live, moved_stays, one_moved, some_low}
 use Rattle.os_heap_slide.specs.Laws.{KeepsContents, SlideKeepsBlocks}
-use Rattle.os_heap_slide.specs.Slide.{is_listed, move_of, moves_of, place_of, slid, slid_bytes}
+use Rattle.os_heap_slide.specs.Slide.{is_listed, move_of, moves_of, place_of, slid, slid_bytes, with_slid}
 
 -- the contents of all items, read of one block
 kept_block : (mv : ℕ → Bool) (top at : ℕ) (xs : List Item) (old new : ℕ → ℕ) (b t k : ℕ) → top ≤ at → AreTotals xs
@@ -65,3 +66,17 @@ slide_keeps_blocks s h movable aligned totals block total live =
           ∙ kept_block mv first first h.items s.bytes.at bytes block total (k + 4) (omega arith) totals (slide_keeps mv first first h.items s.bytes.at (omega arith)) live less
           ∙ sym (ap s.bytes.at old_place),
     )
+
+-- what a block holds that stays
+pub bytes_fixed : (s : Store) (h : HeapList) (movable : List ℕ) → h.start % 4 ≡ 0 → AreTotals h.items → (block total a : ℕ) → is_listed movable block ≡ false
+    → live_total block (h.start + 16) h.items ≡ Some total → block ≤ a → a + 4 < block + total → (with_slid s h movable).bytes.at a ≡ s.bytes.at a
+bytes_fixed s h movable aligned totals block total a fixed live low high =
+    let mv : ℕ → Bool = is_listed movable in
+    let first : ℕ = h.start + 16 in
+    let to : ℕ = moved_to (moves_of mv first first h.items) block in
+    let stays : to ≡ block = moved_stays mv first first h.items block fixed in
+    let kept : (with_slid s h movable).bytes.at (to + (a - block)) ≡ s.bytes.at (block + (a - block)) =
+    (slide_keeps_blocks s h movable aligned totals block total live).1 (a - block) (omega arith) in
+    let new_place : a ≡ to + (a - block) = omega (arith, stays) in
+    let old_place : block + (a - block) ≡ a = omega arith in
+    ap (with_slid s h movable).bytes.at new_place ∙ kept ∙ ap s.bytes.at old_place

@@ -1,6 +1,6 @@
 -- The records of images follow their blocks, and those of other ranges stay.
 use Rattle.std.proofs.Common.{List, ℕ, Bool, [], ◌∷◌, ◌≡◌, ◌≢◌, ◌≤◌, ◌<◌, ◌⊎◌, ◌+◌, ◌∙◌, true, false, refl, sym, ap, subst, inl, inr, Some, arith}
-use Rattle.std.proofs.lemmas.Bool.{cases_Bool, cases_eq, eq-eqb, ne_eqb, false≢true, le-leb, lt-ltb}
+use Rattle.std.proofs.lemmas.Bool.{both_ways, cases_Bool, cases_eq, eq-eqb, ne_eqb, false≢true, le-leb, lt-ltb}
 use Rattle.address_map.proofs.Stores.{in_range-cases}
 use Rattle.address_map.specs.Bytes.{Bytes, in_range}
 use Rattle.address_map.specs.Items.{size_of}
@@ -15,11 +15,14 @@ use Rattle.os_heap_lists.proofs.LiveBlocks.{LiveBytes, live_apart, live_bytes}
 use Rattle.os_heap_lists.specs.Heap.{HeapList, IsHeapIn}
 use Rattle.os_heap_lists.specs.Lists.{live_total}
 use Rattle.os_heap.proofs.Apart.{range_parts}
-use Rattle.os_heap.proofs.Stores.{AreClearOthers, clear-held, clear_of-found}
+use Rattle.os_heap.proofs.Nesting.{listed}
+use Rattle.os_heap.proofs.Stores.{AreOthers, placed_by}
 use Rattle.os_heap.specs.Calls.{with_items}
-use Rattle.os_heap.specs.Store.{AreClear, AreHeapsIn, ArePlaced, AreRangesApart, find_heap, heaps_in, is_image, IsClearOfHeaps, IsClearOfRanges, IsImageBlock, IsImageIn, others_in}
-use Rattle.os_heap_slide.proofs.Places.{low_still, moved_live, past_still, stay_distinct}
-use Rattle.os_heap_slide.specs.Slide.{is_listed, moves_of, slid}
+use Rattle.os_heap.specs.Nesting.{IsWithin, StandsApart}
+use Rattle.os_heap.specs.Store.{AreClear, AreHeapsIn, ArePlaced, AreRangesApart, find_heap, heaps_in, is_area, is_image, IsClearOfRanges, IsImageBlock, IsPlacedIn, others_in}
+use Rattle.os_heap_slide.proofs.Beside.{fixed_round, holds_rest, stays_live}
+use Rattle.os_heap_slide.proofs.Places.{low_still, moved_live, moved_stays, past_still, stay_distinct}
+use Rattle.os_heap_slide.specs.Slide.{HoldNoHeap, is_listed, moves_of, slid}
 
 -- kinds whose records stay, and the one whose records follow
 pub image_place : (moves : List Move) (k : Kind) (a : ℕ) → is_image k ≡ true → moved_place moves k a ≡ moved_to moves a
@@ -149,35 +152,15 @@ image_range b g r heap image =
     let place : LiveBytes r.at (r.len + 4) (g.start + 16) (g.start + 16 + size_of g.items) = live_bytes r.at (r.len + 4) (g.start + 16) g.items heap.totals image.live in
     (omega (arith, place.low), (omega (arith, place.high, heap.inside), omega (arith, place.size)))
 
-other_image : (b c : Bytes) (h g : HeapList) (movable : List ℕ) (r : Region) → IsSlide b c h movable → IsHeapIn b g.start g.end g.items
-    → AreClear h.start h.end g.start g.end → IsImageBlock g r → IsStill h (moves_in h movable) r
-other_image b c h g movable r s heap clear image =
-    let range : (g.start ≤ r.at) × ((r.at + r.len ≤ g.start + g.end) × (4 ≤ r.len)) = image_range b g r heap image in
-    let away : AreClear r.at r.len h.start h.end = within_clear r.at r.len g.start g.end h.start h.end range.0 range.1.0 (turned h.start h.end g.start g.end clear) in
-    record {
-      place = still_place (moves_in h movable) r.kind r.at (out_still b c h movable r.at s
-          (away r.at (inside_range r.at r.len r.at (omega arith) (omega (arith, range.1.1)))));
-      clear = turned r.at r.len h.start h.end away;
-    }
-
-image_known : (b c : Bytes) (h : HeapList) (hs : List HeapList) (movable : List ℕ) (r : Region) → IsSlide b c h movable → AreHeapsIn b hs → AreClearOthers h hs
-    → IsImageIn hs r → IsKnown h (moves_in h movable) r
-image_known b c h [] movable r s heaps others image = absurd image
-image_known b c h (g ∷ hs) movable r s heaps others image = elim image [
-  | inr later ↦ image_known b c h hs movable r s heaps.1.1 others.1 later
-  | inl own ↦ elim others.0 [
-    | inl same ↦ inr (inr (subst (λ (x : HeapList). IsImageBlock x r) same own))
-    | inr apart ↦ inr (inl (other_image b c h g movable r s heaps.0 apart.1 own))
-  ]
+known : (b c : Bytes) (h : HeapList) (hs : List HeapList) (movable : List ℕ) (r : Region) → IsSlide b c h movable → find_heap h.start hs ≡ Some h
+    → IsPlacedIn hs r → IsKnown h (moves_in h movable) r
+known b c h hs movable r s found placed = elim (placed_by h.start hs h r placed found) [
+  | inl clear ↦ clear_still b c h movable r s clear
+  | inr image ↦ inr (inr image)
 ]
 
-known : (b c : Bytes) (h : HeapList) (hs : List HeapList) (movable : List ℕ) (r : Region) → IsSlide b c h movable → AreHeapsIn b hs → AreClearOthers h hs
-    → find_heap h.start hs ≡ Some h → IsClearOfHeaps r.at r.len hs ⊎ IsImageIn hs r → IsKnown h (moves_in h movable) r
-known b c h hs movable r s heaps others found (inl clear) = clear_still b c h movable r s (clear_of-found r.at r.len h.start hs h clear found)
-known b c h hs movable r s heaps others found (inr image) = image_known b c h hs movable r s heaps others image
-
 -- an image in the heap is one at its new place
-image_moved : (b c : Bytes) (h : HeapList) (movable : List ℕ) (r : Region) → IsSlide b c h movable → IsImageBlock h r
+pub image_moved : (b c : Bytes) (h : HeapList) (movable : List ℕ) (r : Region) → IsSlide b c h movable → IsImageBlock h r
     → live_total (moved_place (moves_in h movable) r.kind r.at) (h.start + 16) (slid_in h movable) ≡ Some (r.len + 4)
 image_moved b c h movable r s image =
     rw (image_place (moves_in h movable) r.kind r.at image.image)
@@ -239,11 +222,11 @@ abbrev AreKnown : HeapList → List Move → List Region → Type 0
 AreKnown h moves [] = Unit {0}
 AreKnown h moves (r ∷ rs) = IsKnown h moves r × AreKnown h moves rs
 
-all_known : (b c : Bytes) (h : HeapList) (hs : List HeapList) (movable : List ℕ) (rs : List Region) → IsSlide b c h movable → AreHeapsIn b hs → AreClearOthers h hs
-    → find_heap h.start hs ≡ Some h → ArePlaced hs rs → AreKnown h (moves_in h movable) rs
-all_known b c h hs movable [] s heaps others found placed = tt
-all_known b c h hs movable (r ∷ rs) s heaps others found placed =
-    (known b c h hs movable r s heaps others found placed.0, all_known b c h hs movable rs s heaps others found placed.1)
+all_known : (b c : Bytes) (h : HeapList) (hs : List HeapList) (movable : List ℕ) (rs : List Region) → IsSlide b c h movable → find_heap h.start hs ≡ Some h
+    → ArePlaced hs rs → AreKnown h (moves_in h movable) rs
+all_known b c h hs movable [] s found placed = tt
+all_known b c h hs movable (r ∷ rs) s found placed =
+    (known b c h hs movable r s found placed.0, all_known b c h hs movable rs s found placed.1)
 
 one_apart : (b c : Bytes) (h : HeapList) (movable : List ℕ) (r : Region) (rs : List Region) → IsSlide b c h movable → IsKnown h (moves_in h movable) r
     → AreKnown h (moves_in h movable) rs → IsClearOfRanges r rs
@@ -258,55 +241,90 @@ all_apart b c h movable [] s all apart = tt
 all_apart b c h movable (r ∷ rs) s all apart =
     (one_apart b c h movable r rs s all.0 all.1 apart.0, all_apart b c h movable rs s all.1 apart.1)
 
-pub ranges_apart : (b c : Bytes) (h : HeapList) (hs : List HeapList) (movable : List ℕ) (rs : List Region) → IsSlide b c h movable → AreHeapsIn b hs → AreClearOthers h hs
+pub ranges_apart : (b c : Bytes) (h : HeapList) (hs : List HeapList) (movable : List ℕ) (rs : List Region) → IsSlide b c h movable
     → find_heap h.start hs ≡ Some h → ArePlaced hs rs → AreRangesApart rs → AreRangesApart (moved_regions (moves_in h movable) rs)
-ranges_apart b c h hs movable rs s heaps others found placed apart = all_apart b c h movable rs s (all_known b c h hs movable rs s heaps others found placed) apart
+ranges_apart b c h hs movable rs s found placed apart = all_apart b c h movable rs s (all_known b c h hs movable rs s found placed) apart
 
--- each is clear of all heaps still, or that of an image in one
-clear_none : (at len : ℕ) (hs : List HeapList) → len ≡ 0 → IsClearOfHeaps at len hs
-clear_none at len [] none = tt
-clear_none at len (h ∷ hs) none = (empty_clear at len h.start h.end none, clear_none at len hs none)
+-- An image in the heap that slides holds no other heap at its new place: one that lies in the heap lies in a block that stays, and not in that of
+-- the image.
+not_round : (b : Bytes) (h g : HeapList) (r : Region) → IsHeapIn b g.start g.end g.items → IsImageBlock h r → (within : IsWithin h g)
+    → AreClear r.at r.len g.start g.end ⊎ IsImageBlock g r → r.at ≢ within.block
+not_round b h g r heap image within (inr own) same = both_ways (is_area g.kind) within.guest own.area
+not_round b h g r heap image within (inl clear) same =
+    let both : Some (r.len + 4) ≡ Some within.total =
+    sym (subst (λ (x : ℕ). live_total x (h.start + 16) h.items ≡ Some (r.len + 4)) same image.live) ∙ within.live in
+    let size : r.len + 4 ≡ within.total = cc in
+    false≢true (sym (clear g.start (inside_range r.at r.len g.start (omega (arith, within.low, same)) (omega (arith, within.high, same, size, heap.inside))))
+    ∙ inside_range g.start g.end g.start (omega arith) (omega (arith, heap.inside)))
 
-clear_moved : (b c : Bytes) (h : HeapList) (hs : List HeapList) (movable : List ℕ) (r : Region) → IsSlide b c h movable → find_heap h.start hs ≡ Some h
-    → IsClearOfHeaps r.at r.len hs
-    → IsClearOfHeaps (moved_place (moves_in h movable) r.kind r.at) r.len (with_items h.start (slid_in h movable) hs)
-clear_moved b c h hs movable r s found clear = elim (cases_eq r.len 0) [
-  | inl none ↦ clear_none _ r.len (with_items h.start (slid_in h movable) hs) none
-  | inr some ↦
-      let own : AreClear r.at r.len h.start h.end = clear_of-found r.at r.len h.start hs h clear found in
-      let still : moved_place (moves_in h movable) r.kind r.at ≡ r.at = still_place (moves_in h movable) r.kind r.at
-      (out_still b c h movable r.at s (own r.at (inside_range r.at r.len r.at (omega arith) (omega (arith, some))))) in
-      rw still (clear-held r.at r.len h.start (slid_in h movable) hs clear)
-]
+image_aside : (b c : Bytes) (h g : HeapList) (movable : List ℕ) (r : Region) → IsSlide b c h movable → IsHeapIn b g.start g.end g.items
+    → IsImageBlock h r → ((within : IsWithin h g) → is_listed movable within.block ≡ false) → StandsApart h g
+    → AreClear r.at r.len g.start g.end ⊎ IsImageBlock g r → AreClear (moved_place (moves_in h movable) r.kind r.at) r.len g.start g.end
+image_aside b c h g movable r s heap image fixed (inl clear) placed =
+    let range : (h.start ≤ moved_place (moves_in h movable) r.kind r.at) × (moved_place (moves_in h movable) r.kind r.at + r.len ≤ h.start + h.end) =
+    moved_range b c h movable r s image in
+    within_clear _ r.len h.start h.end g.start g.end range.0 range.1 clear
+image_aside b c h g movable r s heap image fixed (inr (inr within)) placed = absurd (both_ways (is_area h.kind) within.guest image.area)
+image_aside b c h g movable r s heap image fixed (inr (inl within)) placed =
+    let mv : ℕ → Bool = is_listed movable in
+    let first : ℕ = h.start + 16 in
+    let moves : List Move = moves_in h movable in
+    let new : ℕ = moved_place moves r.kind r.at in
+    let stays : moved_to moves within.block ≡ within.block = moved_stays mv first first h.items within.block (fixed within) in
+    let live : live_total within.block first (slid_in h movable) ≡ Some within.total =
+    stays_live h movable within.block within.total s.old.totals (fixed within) within.live in
+    let distinct : moved_to moves r.at ≢ moved_to moves within.block =
+    stay_distinct mv first first h.items r.at (r.len + 4) within.block within.total (omega arith) s.old.totals image.live within.live
+    (not_round b h g r heap image within placed) in
+    let ne : new ≢ within.block = λ (e : new ≡ within.block). distinct (sym (image_place moves r.kind r.at image.image) ∙ e ∙ sym stays) in
+    apart_clear new r.len g.start g.end
+    (elim (live_apart new (r.len + 4) within.block within.total first (slid_in h movable) s.new.totals (image_moved b c h movable r s image) live ne) [
+      | inl before ↦ inl (omega (arith, before, within.low))
+      | inr behind ↦ inr (omega (arith, behind, within.high))
+    ])
 
-pub image_in_moved : (b c : Bytes) (h : HeapList) (hs : List HeapList) (movable : List ℕ) (r : Region) → IsSlide b c h movable → AreHeapsIn b hs → AreClearOthers h hs
-    → IsImageIn hs r → IsImageIn (with_items h.start (slid_in h movable) hs) (moved_region (moves_in h movable) r)
-image_in_moved b c h [] movable r s heaps others image = image
-image_in_moved b c h (g ∷ hs) movable r s heaps others image = elim others.0 [
-  | inl same ↦
-      let start : g.start ≡ h.start = ap (λ (x : HeapList). x.start) same in
-      rw (eq-eqb g.start h.start start) (elim image [
-        | inr later ↦ inr (image_in_moved b c h hs movable r s heaps.1.1 others.1 later)
-        | inl own ↦
-            let own' : IsImageBlock h r = subst (λ (x : HeapList). IsImageBlock x r) same own in
-            inl (record { image = own.image; area = own.area; live = rw start (image_moved b c h movable r s own') })
-      ])
-  | inr apart ↦ rw (ne_eqb g.start h.start apart.0) (elim image [
-    | inr later ↦ inr (image_in_moved b c h hs movable r s heaps.1.1 others.1 later)
-    | inl own ↦
-        let still : moved_place (moves_in h movable) r.kind r.at ≡ r.at = (other_image b c h g movable r s heaps.0 apart.1 own).place in
-        inl (record { image = own.image; area = own.area; live = rw still own.live })
-  ])
-]
+-- where it lies in the heap that slides, and in each other one
+own_placed : (b c : Bytes) (h g : HeapList) (movable : List ℕ) (r : Region) → IsSlide b c h movable → g ≡ h → IsKnown h (moves_in h movable) r
+    → AreClear (moved_place (moves_in h movable) r.kind r.at) r.len g.start g.end ⊎ IsImageBlock (listed g (slid_in h movable)) (moved_region (moves_in h movable) r)
+own_placed b c h g movable r s same (inl none) = inl (empty_clear _ r.len g.start g.end none)
+own_placed b c h g movable r s same (inr (inl still)) =
+    inl (rw still.place (turned g.start g.end r.at r.len (subst (λ (x : HeapList). AreClear x.start x.end r.at r.len) (sym same) still.clear)))
+own_placed b c h g movable r s same (inr (inr image)) =
+    let start : g.start ≡ h.start = ap (λ (x : HeapList). x.start) same in
+    inr (record {
+      image = image.image;
+      area = ap (λ (x : HeapList). is_area x.kind) same ∙ image.area;
+      live = rw start (image_moved b c h movable r s image);
+    })
 
-pub all_placed : (b c : Bytes) (h : HeapList) (hs : List HeapList) (movable : List ℕ) (rs : List Region) → IsSlide b c h movable → AreHeapsIn b hs → AreClearOthers h hs
-    → find_heap h.start hs ≡ Some h → ArePlaced hs rs
+other_placed : (b c : Bytes) (h g : HeapList) (movable : List ℕ) (r : Region) → IsSlide b c h movable → IsHeapIn b g.start g.end g.items
+    → ((within : IsWithin h g) → is_listed movable within.block ≡ false) → StandsApart h g → IsKnown h (moves_in h movable) r
+    → AreClear r.at r.len g.start g.end ⊎ IsImageBlock g r
+    → AreClear (moved_place (moves_in h movable) r.kind r.at) r.len g.start g.end ⊎ IsImageBlock g (moved_region (moves_in h movable) r)
+other_placed b c h g movable r s heap fixed apart (inl none) placed = inl (empty_clear _ r.len g.start g.end none)
+other_placed b c h g movable r s heap fixed apart (inr (inr image)) placed = inl (image_aside b c h g movable r s heap image fixed apart placed)
+other_placed b c h g movable r s heap fixed apart (inr (inl still)) (inl clear) = inl (rw still.place clear)
+other_placed b c h g movable r s heap fixed apart (inr (inl still)) (inr own) =
+    inr (record { image = own.image; area = own.area; live = rw still.place own.live })
+
+one_placed : (b c : Bytes) (h : HeapList) (hs : List HeapList) (movable : List ℕ) (r : Region) → IsSlide b c h movable → AreHeapsIn b hs → AreOthers h hs
+    → HoldNoHeap hs h movable → IsKnown h (moves_in h movable) r → IsPlacedIn hs r
+    → IsPlacedIn (with_items h.start (slid_in h movable) hs) (moved_region (moves_in h movable) r)
+one_placed b c h [] movable r s heaps others none is placed = tt
+one_placed b c h (g ∷ hs) movable r s heaps others none is placed =
+    let rest : IsPlacedIn (with_items h.start (slid_in h movable) hs) (moved_region (moves_in h movable) r) =
+    one_placed b c h hs movable r s heaps.1.1 others.1 (holds_rest h g movable hs none) is placed.1 in
+    elim others.0 [
+      | inl same ↦ rw (eq-eqb g.start h.start (ap (λ (x : HeapList). x.start) same)) (own_placed b c h g movable r s same is, rest)
+      | inr apart ↦ rw (ne_eqb g.start h.start apart.0)
+          (other_placed b c h g movable r s heaps.0 (fixed_round b h g movable hs heaps.0 none) apart.1 is placed.0, rest)
+    ]
+
+pub all_placed : (b c : Bytes) (h : HeapList) (hs : List HeapList) (movable : List ℕ) (rs : List Region) → IsSlide b c h movable → AreHeapsIn b hs
+    → AreOthers h hs → HoldNoHeap hs h movable → find_heap h.start hs ≡ Some h → ArePlaced hs rs
     → ArePlaced (with_items h.start (slid_in h movable) hs) (moved_regions (moves_in h movable) rs)
-all_placed b c h hs movable [] s heaps others found placed = tt
-all_placed b c h hs movable (r ∷ rs) s heaps others found placed = (
-  elim placed.0 [
-    | inl clear ↦ inl (clear_moved b c h hs movable r s found clear)
-    | inr image ↦ inr (image_in_moved b c h hs movable r s heaps others image)
-  ],
-  all_placed b c h hs movable rs s heaps others found placed.1,
+all_placed b c h hs movable [] s heaps others none found placed = tt
+all_placed b c h hs movable (r ∷ rs) s heaps others none found placed = (
+  one_placed b c h hs movable r s heaps others none (known b c h hs movable r s found placed.0) placed.0,
+  all_placed b c h hs movable rs s heaps others none found placed.1,
 )

@@ -10,7 +10,8 @@ use Rattle.address_map.specs.declared.item.Item.{Item}
 use Rattle.address_map.specs.declared.item.Item.TheVariants.{Free, Live}
 use Rattle.os_heap_lists.specs.Heap.{HeapList, with_heap}
 use Rattle.os_heap_lists.specs.Lists.{left_free, live_total}
-use Rattle.os_heap.specs.Calls.{OfHeap, holds_anchor, with_items}
+use Rattle.os_heap.specs.Calls.{OfHeap, holds_anchor, total_or_0, with_items}
+use Rattle.os_heap.specs.Forgetting.{holds_heap}
 use Rattle.os_heap.specs.Store.{Store, find_heap}
 
 -- is the block whose bytes begin at an address one of those that can be moved?
@@ -80,9 +81,15 @@ abbrev pub HoldNoAnchor : Store → HeapList → List ℕ → Type 0
 HoldNoAnchor s h movable =
     (b : ℕ) → is_listed movable b ≡ true → holds_anchor s.anchor b (live_total b (h.start + 16) h.items) ≡ false
 
--- the blocks that can be moved are live ones of that heap, in order, at most 128, and hold no anchor
+-- and no heap lies in one
+abbrev pub HoldNoHeap : List HeapList → HeapList → List ℕ → Type 0
+HoldNoHeap hs h movable =
+    (b : ℕ) → is_listed movable b ≡ true → holds_heap hs b (total_or_0 (live_total b (h.start + 16) h.items) - 4) ≡ false
+
+-- the blocks that can be moved are live ones of that heap, in order, at most 128, and hold no anchor and no heap
 abbrev pub MaySlide : Store → ℕ → List ℕ → Type 0
-MaySlide s heap movable = OfHeap (λ h. AreBlocks (h.start + 16) h.items movable × ((length movable ≤ 128) × HoldNoAnchor s h movable)) (find_heap heap s.heaps)
+MaySlide s heap movable = OfHeap (λ h.
+    AreBlocks (h.start + 16) h.items movable × ((length movable ≤ 128) × (HoldNoAnchor s h movable × HoldNoHeap s.heaps h movable))) (find_heap heap s.heaps)
 
 -- the store after the slide of a heap, and the blocks that moved
 abbrev pub IsSlid : Store → ℕ → List ℕ → Store → List Move → Type 0

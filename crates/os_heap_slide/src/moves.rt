@@ -15,7 +15,7 @@ pub const MOST_MOVES: usize = 128;
 pub type Moves = ArrayVec<Move, MOST_MOVES>;
 
 /// Slides blocks of the heap that starts at `heap` towards its start. `movable` has the addresses of those that can be moved, in order, at most 128,
-/// none of which holds an anchor of the flex store.
+/// none of which holds an anchor of the flex store or a heap.
 /// Each of these goes to the end of the block before it, or to the place of the first item, where there is none; all others stay. What lies between
 /// becomes free, and the base is the end of the last block. The blocks keep their bytes, and the records of module images follow them.
 ///

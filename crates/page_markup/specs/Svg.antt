@@ -34,15 +34,24 @@ base_of d = d.top + (if has_second_line d.own.kind then (d.height - 8) / 2 else 
 abbrev pub size_svg : ℕ → ℕ → List ℕ
 size_svg size base = text_opening (codes "size") 168 base ++ (decimal size ++ codes " bytes</text>")
 
-abbrev pub block_line : ℕ → ℕ → List ℕ
-block_line anchor base = text_opening (codes "size") 82 base ++ (codes "anchor " ++ (hex_word anchor ++ codes "</text>"))
+abbrev pub anchor_words : ℕ → List ℕ
+anchor_words anchor = codes "anchor " ++ hex_word anchor
+
+-- the block whose bytes have the anchor, if one has
+abbrev pub holder_words : Option ℕ → List ℕ
+holder_words None = []
+holder_words (Some address) = codes " in " ++ hex_word address
+
+abbrev pub block_line : ℕ → Option ℕ → ℕ → List ℕ
+block_line anchor holder base =
+    text_opening (codes "size") 82 base ++ (anchor_words anchor ++ (holder_words holder ++ codes "</text>"))
 
 abbrev pub name_line : ℕ → List ℕ → ℕ → List ℕ
 name_line left name base = svg_text (codes "size") left base name
 
 -- the anchor of a flex block, the name of an area or a module, or what a private word has and whose it is
 abbrev pub second_line : Kind → PictureBox → ℕ → List ℕ
-second_line kind.Block b base = block_line b.detail base
+second_line kind.Block b base = block_line b.detail b.holder base
 second_line kind.Area b base = name_line 82 (take 28 b.name.now) base
 second_line kind.Module b base = name_line 82 (take 28 b.name.now) base
 second_line kind.Word b base = name_line 82 (hex_word b.detail) base ++ name_line 168 (take 16 b.name.now) base

@@ -5,8 +5,8 @@ ghost use Rattle.std.specs.Prelude.{◌≡◌, ◌<◌, ◌^◌, take};
 ghost use Rattle.profile.specs.Digits.{hex_word};
 ghost use Rattle.profile.specs.Output.{Writes};
 ghost use Rattle.std.specs.List.{flat_map};
-ghost use Rattle.page_markup.specs.Svg.{address_svg, base_of, block_line, box_address, box_itself, box_svg, change_svg};
-ghost use Rattle.page_markup.specs.Svg.{end_svg, link_svg, name_line, second_line, size_svg, stack_svg};
+ghost use Rattle.page_markup.specs.Svg.{address_svg, anchor_words, base_of, block_line, box_address, box_itself, box_svg, change_svg};
+ghost use Rattle.page_markup.specs.Svg.{end_svg, holder_words, link_svg, name_line, second_line, size_svg, stack_svg};
 ghost use Rattle.page_markup.specs.Svg.{svg_head, words_svg};
 
 use crate::markup::{open_text, push_decimal, push_rectangle, push_text};
@@ -165,7 +165,7 @@ fn push_second_line<W: Sink>(
     ensures { Writes W.contents W.has_failed sink.old sink.new result (second_line own.now.kind own.now base) }
 {
     match own.kind {
-        Kind::Block => push_block_line(sink, own.detail, base),
+        Kind::Block => push_block_line(sink, own.detail, own.holder, base),
         Kind::Word => {
             push_name(sink, WORD_LEFT, HexText::word(own.detail).as_slice(), base)?;
             push_name(sink, SIZE_LEFT, front_of(own.name, SHORT_NAME), base)
@@ -177,17 +177,38 @@ fn push_second_line<W: Sink>(
     }
 }
 
-fn push_block_line<W: Sink>(sink: &mut W, anchor: u32, base: u64) -> Result<(), WriteFault>
-    ensures { Writes W.contents W.has_failed sink.old sink.new result (block_line anchor base) }
+fn push_block_line<W: Sink>(
+    sink: &mut W,
+    anchor: u32,
+    holder: Option<u32>,
+    base: u64,
+) -> Result<(), WriteFault>
+    ensures { Writes W.contents W.has_failed sink.old sink.new result (block_line anchor holder base) }
 {
     open_text(sink, b"size", WORD_LEFT, base)?;
+    push_anchor(sink, anchor)?;
+    push_holder(sink, holder)?;
+    push_all(sink, b"</text>")
+}
+
+fn push_anchor<W: Sink>(sink: &mut W, anchor: u32) -> Result<(), WriteFault>
+    ensures { Writes W.contents W.has_failed sink.old sink.new result (anchor_words anchor) }
+{
     push_parts(
         sink,
-        &[
-            b"anchor ".as_slice(),
-            HexText::word(anchor).as_slice(),
-            b"</text>".as_slice(),
-        ],
+        &[b"anchor ".as_slice(), HexText::word(anchor).as_slice()],
+    )
+}
+
+fn push_holder<W: Sink>(sink: &mut W, holder: Option<u32>) -> Result<(), WriteFault>
+    ensures { Writes W.contents W.has_failed sink.old sink.new result (holder_words holder) }
+{
+    let Some(address) = holder else {
+        return Ok(());
+    };
+    push_parts(
+        sink,
+        &[b" in ".as_slice(), HexText::word(address).as_slice()],
     )
 }
 

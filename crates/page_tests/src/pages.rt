@@ -4,7 +4,7 @@ use profile::Config;
 use script_page::{Form, Setting, page_of, push_page};
 use std::process::Abort;
 use std::test::Fail;
-use view_pictures::TextSink;
+use view_pictures::{TextSink, view_of};
 
 /// Of 774,144 bytes, 65,536 have 5 characters of 60, and the 173 pages of the pool have 54; what the area
 /// may grow by has 4 always. No room is left for the address of that behind the area's own.
@@ -84,6 +84,19 @@ const FLEX_PAGE: &str = "    1  SET R0 &A000
        p page pool, w private word, ^ under what has changed
 ";
 
+/// The second block has its anchor in the last four bytes of the first.
+const HOLDER_SCRIPT: &str = "SET R0 &A000
+SET R1 &A080
+CALL &C0000
+SET R0 &9000
+SET R1 8
+CALL &C0001
+SET R0 &A00C
+SET R1 4
+CALL &C0001
+FLEX
+";
+
 /// Of an image of 28 bytes of header and 2 of title, 30 of 34 bytes have 52 characters of 60, and the
 /// private word has 7.
 const MODULES_PAGE: &str = "    1  ASM w 0
@@ -132,6 +145,11 @@ fn page(rt: &(impl AllocGlobal + Abort), script: &str, form: Form) -> TextSink {
     sink
 }
 
+fn is_view(rt: &(impl AllocGlobal + Abort), text: &str) -> bool {
+    let found = view_of(rt.alloc(), text.as_bytes()).expect(rt, "memory");
+    found.is_some()
+}
+
 fn has(text: &[u8], part: &[u8]) -> bool {
     (0..text.len()).any(|place| text[place..].starts_with(part))
 }
@@ -153,6 +171,43 @@ fn a_changed_byte_is_marked(rt: HostRuntime) {
 fn flex_blocks_slide(rt: HostRuntime) {
     let written = page(&rt, FLEX_SCRIPT, Form::Text);
     assert!(rt; written.bytes() == FLEX_PAGE.as_bytes());
+}
+
+#[test]
+fn a_block_tells_which_block_holds_its_anchor(rt: HostRuntime) {
+    let written = page(&rt, HOLDER_SCRIPT, Form::Html);
+    let line = b"block anchor 0000A00C at 0000A018 size 4 in 0000A008 offset 4\n";
+    assert!(rt; has(written.bytes(), line.as_slice()));
+    assert!(rt; has(written.bytes(), b">anchor 00009000</text>".as_slice()));
+    assert!(rt;
+        has(
+            written.bytes(),
+            b">anchor 0000A00C in 0000A008</text>".as_slice()
+        )
+    );
+}
+
+#[test]
+fn a_line_is_a_view_as_it_is_written_only(rt: HostRuntime) {
+    assert!(rt; is_view(&rt, "block anchor 0000A00C at 0000A018 size 4\n"));
+    assert!(rt;
+        is_view(
+            &rt,
+            "block anchor 0000A00C at 0000A018 size 4 in 0000A008 offset 4\n"
+        )
+    );
+    assert!(rt;
+        !is_view(
+            &rt,
+            "block anchor 0000A00C at 0000A018 size 4 in 0000A008 offset 04\n"
+        )
+    );
+    assert!(rt;
+        !is_view(
+            &rt,
+            "block anchor 0000A00C at 0000A018 size 4 in 0000A008\n"
+        )
+    );
 }
 
 #[test]

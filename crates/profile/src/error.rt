@@ -5,7 +5,7 @@ ghost use Rattle.profile.specs.ErrorNames.{error_code, error_name};
 ///
 /// RISC OS leaves numbers and texts to the modules that raise them ("Generating and handling
 /// errors" in the RISC OS 3 Programmer's Reference Manual); these are this project's own. The
-/// text of each is its name.
+/// text of each is its name, but that a block which holds a heap has one text for both its numbers.
 #[derive(Clone, Copy, Debug, PartialEq, Eq)]
 pub enum ErrorNumber {
     /// A reason that OS_Heap does not know.
@@ -26,6 +26,8 @@ pub enum ErrorNumber {
     HeapBadShrink = 8,
     /// No free block fits, nor the room above the base.
     HeapNoRoom = 9,
+    /// A heap lies in the block, which would have to move.
+    BlockHoldsHeap = 10,
     /// A reason that OS_DynamicArea does not know.
     AreaBadReason = 16,
     /// No area has that number.
@@ -46,6 +48,8 @@ pub enum ErrorNumber {
     RmaHoldsAnchor = 33,
     /// The module area can't grow far enough.
     RmaNoRoom = 34,
+    /// A heap lies in the block, which would have to move.
+    RmaBlockHoldsHeap = 35,
     /// The image's header is refused.
     ModuleBadHeader = 48,
     /// A reason that OS_Module does not know.
@@ -72,6 +76,8 @@ pub enum ErrorNumber {
     FlexBadAnchor = 67,
     /// A live anchor stands there.
     FlexAnchorInUse = 68,
+    /// An anchor lies in the bytes that are to go, or would be moved off its word.
+    FlexHoldsAnchor = 69,
     /// No call has that number.
     SwiUnknown = 80,
     /// A text is too long or runs into unmapped memory.
@@ -89,7 +95,7 @@ impl ErrorNumber {
     }
 }
 
-/// The text that the error block holds: the error's name.
+/// The text that the error block holds: the error's name, which two of them share.
 pub fn error_text(error: ErrorNumber) -> &'static str
     ensures { result.now ≡ error_name error }
 {
@@ -103,6 +109,7 @@ pub fn error_text(error: ErrorNumber) -> &'static str
         ErrorNumber::HeapHoldsAnchor => "HeapHoldsAnchor",
         ErrorNumber::HeapBadShrink => "HeapBadShrink",
         ErrorNumber::HeapNoRoom => "HeapNoRoom",
+        ErrorNumber::BlockHoldsHeap => "BlockHoldsHeap",
         ErrorNumber::AreaBadReason => "AreaBadReason",
         ErrorNumber::AreaUnknown => "AreaUnknown",
         ErrorNumber::AreaBad => "AreaBad",
@@ -113,6 +120,7 @@ pub fn error_text(error: ErrorNumber) -> &'static str
         ErrorNumber::RmaNotABlock => "RmaNotABlock",
         ErrorNumber::RmaHoldsAnchor => "RmaHoldsAnchor",
         ErrorNumber::RmaNoRoom => "RmaNoRoom",
+        ErrorNumber::RmaBlockHoldsHeap => "BlockHoldsHeap",
         ErrorNumber::ModuleBadHeader => "ModuleBadHeader",
         ErrorNumber::ModuleBadReason => "ModuleBadReason",
         ErrorNumber::ModuleNotFound => "ModuleNotFound",
@@ -126,6 +134,7 @@ pub fn error_text(error: ErrorNumber) -> &'static str
         ErrorNumber::FlexBadRange => "FlexBadRange",
         ErrorNumber::FlexBadAnchor => "FlexBadAnchor",
         ErrorNumber::FlexAnchorInUse => "FlexAnchorInUse",
+        ErrorNumber::FlexHoldsAnchor => "FlexHoldsAnchor",
         ErrorNumber::SwiUnknown => "SwiUnknown",
         ErrorNumber::BadString => "BadString",
         ErrorNumber::BadPointer => "BadPointer",

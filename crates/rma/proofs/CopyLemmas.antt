@@ -1,5 +1,5 @@
 -- The bytes of the module area that a copy may be made of are those that one live block holds.
-use Rattle.std.proofs.Common.{◌≡◌, ◌≢◌, ℕ, ◌+◌, ◌-◌, ◌*◌, ◌==◌, ◌<◌, ◌≤◌, ◌⊎◌, Bool, true, false, Some, None, List, [], ◌∷◌, max, min, zero, suc, refl, sym, ap, subst, ◌∙◌, inl, inr, arith}
+use Rattle.std.proofs.Common.{◌≡◌, ◌≢◌, ℕ, ◌+◌, ◌-◌, ◌*◌, ◌<◌, ◌≤◌, ◌⊎◌, Bool, true, false, Some, List, [], ◌∷◌, max, min, zero, suc, refl, sym, ap, subst, ◌∙◌, inl, inr, arith}
 use Rattle.std.specs.Prelude.{Option, nat_lt}
 use Rattle.std.specs.List.{list_any, range_with_len}
 use Rattle.std.proofs.lemmas.Bool.{cases_Bool, cases_lt, le-leb, le-ltb, lt-leb, lt-ltb, or_left, or_right}
@@ -8,12 +8,10 @@ use Rattle.address_map.specs.declared.item.Item.{Item}
 use Rattle.address_map.specs.declared.item.Item.TheVariants.{Live, Free}
 use Rattle.os_heap.specs.os_heap_lists.specs.Heap.{AreTotals, HeapList}
 use Rattle.os_heap.specs.os_heap_lists.proofs.Reading.{total_facts}
-use Rattle.os_heap.specs.Payloads.{is_other, payload_from, payload_in, payload_of, payload_or}
-use Rattle.os_heap.specs.Store.{AreUnnested, IsClearOfHeaps, find_heap}
-use Rattle.os_heap.specs.declared.payload.Payload.TheVariants.{Outside, Inside, Other}
+use Rattle.os_heap.specs.Payloads.{area_payload, is_other, payload_from, payload_in}
+use Rattle.os_heap.specs.Store.{find_heap}
+use Rattle.os_heap.specs.declared.payload.Payload.TheVariants.{Inside, Other}
 use Rattle.os_heap.proofs.Apart.{range_parts}
-use Rattle.os_heap.proofs.PayloadLemmas.{payload_last}
-use Rattle.os_heap.proofs.Stores.{clear_both_ways, clear_of-found}
 use Rattle.flex_kept.specs.dynamic_areas.specs.Changing.{pages_had}
 use Rattle.flex_kept.specs.dynamic_areas.specs.Ground.{Estate, IsEstate}
 use Rattle.flex_kept.specs.dynamic_areas.specs.declared.area.Area.{Area}
@@ -28,28 +26,6 @@ before_range at len a low = rw (lt-leb at a low) refl
 
 behind_range : (at len a : ℕ) → at + len ≤ a → in_range at len a ≡ false
 behind_range at len a high = rw (le-leb at a (omega arith), le-ltb a (at + len) high) refl
-
--- a byte of a heap lies in no other heap, while none lies in another
-outside_others : (h : HeapList) (hs : List HeapList) (a : ℕ) → IsClearOfHeaps h.start h.end hs → in_range h.start h.end a ≡ true → payload_of hs a ≡ Outside
-outside_others h [] a clear inside = refl
-outside_others h (g ∷ hs) a clear inside = rw (clear.0 a inside) (outside_others h hs a clear.1 inside)
-
-payload_alone : (start : ℕ) (hs : List HeapList) (h : HeapList) (a : ℕ) → AreUnnested hs → find_heap start hs ≡ Some h → in_range h.start h.end a ≡ true
-    → payload_of hs a ≡ payload_in h a
-payload_alone start [] h a unnested found inside = absurd (let none : None ≡ Some h = found in cc)
-payload_alone start (g ∷ hs) h a unnested found inside = elim (cases_Bool (g.start == start)) [
-  | inl own ↦
-      let found' = rw own at found in
-      let same : g ≡ h = cc in
-      let inside' : in_range g.start g.end a ≡ true = subst (λ (x : HeapList). in_range x.start x.end a ≡ true) (sym same) inside in
-      rw inside' (ap (payload_or (payload_in g a)) (outside_others g hs a unnested.0 inside') ∙ payload_last (payload_in g a)
-      ∙ ap (λ (x : HeapList). payload_in x a) same)
-  | inr other ↦
-      let found' = rw other at found in
-      let out : in_range g.start g.end a ≡ false =
-      clear_both_ways g.start g.end h.start h.end (clear_of-found g.start g.end start hs h unnested.0 found') a inside in
-      rw out (payload_alone start hs h a unnested.1 found' inside)
-]
 
 -- Among the items of a heap a byte is in no block, or in one, whose bytes all are in it; the one behind these is in none.
 record IsPayload (at : ℕ) (items : List Item) (a block held : ℕ) : Type 0 where
@@ -128,7 +104,6 @@ none_in test at (suc n) none =
 -- the module area's heap
 record IsArea (e : Estate) (h : HeapList) : Type 0 where
   pub found : find_heap 0x01800000 e.store.heaps ≡ Some h
-  pub unnested : AreUnnested e.store.heaps
   pub totals : AreTotals h.items
   pub start : h.start ≡ 0x01800000
   pub end : h.end ≡ 4096 * area_pages e
@@ -138,7 +113,6 @@ is_area e good =
     let area : HasArea e = area_there e good in
     record {
       found = area.known.found;
-      unnested = good.ground.sound.unnested;
       totals = area.known.spelled.totals;
       start = area.known.start;
       end = area.known.end ∙ sym (ap (λ (x : Option Area). 4096 * pages_had x) area.found);
@@ -148,7 +122,7 @@ bare_in : (e : Estate) (h : HeapList) (a : ℕ) → IsArea e h → in_range 0x01
     → is_bare e a ≡ is_other (payload_in h a)
 bare_in e h a area inside =
     let inside' : in_range h.start h.end a ≡ true = rw (area.start, area.end) inside in
-    rw inside (ap is_other (payload_alone 0x01800000 e.store.heaps h a area.unnested area.found inside'))
+    rw (inside, area.found, inside') refl
 
 -- the part of a range that lies in the area: from its first byte there up to its end there
 pub record IsPart (e : Estate) (at len from to : ℕ) : Type 0 where
@@ -172,13 +146,13 @@ in_area e at len from to a part low high =
     here 0x01800000 (4096 * area_pages e) a (omega (arith, part.first, low)) (omega (arith, part.end, high))
 
 first_told : (e : Estate) (h : HeapList) (at len from to : ℕ) → IsArea e h → IsPart e at len from to → from < to
-    → payload_of e.store.heaps from ≡ payload_in h from
+    → area_payload e.store from ≡ payload_in h from
 first_told e h at len from to area part some =
-    payload_alone 0x01800000 e.store.heaps h from area.unnested area.found
-    (rw (area.start, area.end) (in_area e at len from to from part (omega arith) some))
+    let inside : in_range h.start h.end from ≡ true = rw (area.start, area.end) (in_area e at len from to from part (omega arith) some) in
+    rw (area.found, inside) refl
 
 pub told_inside : (e : Estate) (at len from to block held : ℕ) → IsEstate e → IsPart e at len from to → from < to
-    → payload_of e.store.heaps from ≡ Inside block held → nat_lt (block + held) to ≡ has_bare e at len
+    → area_payload e.store from ≡ Inside block held → nat_lt (block + held) to ≡ has_bare e at len
 told_inside e at len from to block held good part some told =
     let h : HeapList = (area_there e good).known.heap in
     let area : IsArea e h = is_area e good in
@@ -200,11 +174,11 @@ told_inside e at len from to block held good part some told =
     ]
 
 pub told_other : (e : Estate) (at len from to : ℕ) → IsEstate e → IsPart e at len from to → from < to
-    → ((block held : ℕ) → payload_of e.store.heaps from ≢ Inside block held) → has_bare e at len ≡ true
+    → ((block held : ℕ) → area_payload e.store from ≢ Inside block held) → has_bare e at len ≡ true
 told_other e at len from to good part some other =
     let h : HeapList = (area_there e good).known.heap in
     let area : IsArea e h = is_area e good in
-    let told : payload_of e.store.heaps from ≡ payload_in h from = first_told e h at len from to area part some in
+    let told : area_payload e.store from ≡ payload_in h from = first_told e h at len from to area part some in
     elim (told_cases (h.start + 16) h.items from) [
       | inl bare ↦ some_in (is_bare e) at len from (omega (arith, part.first)) (omega (arith, part.end, some))
           (bare_in e h from area (in_area e at len from to from part (omega arith) some) ∙ ap is_other bare)

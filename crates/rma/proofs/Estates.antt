@@ -3,7 +3,7 @@ use Rattle.std.proofs.Common.{◌≡◌, ℕ, true, false, sym, ap, subst, ◌�
 use Rattle.std.specs.Prelude.{Result, is_ok}
 use Rattle.profile.specs.Outcome.{Gives}
 use Rattle.profile.specs.declared.error.ErrorNumber.{ErrorNumber}
-use Rattle.address_map.specs.Memory.{Layout, layout, free_pages}
+use Rattle.address_map.specs.Memory.{Mapping, layout, mapping, free_pages}
 use Rattle.address_map.specs.declared.map.AddressMap.{AddressMap}
 use Rattle.os_heap.specs.Store.{Store, store_of}
 use Rattle.flex_kept.specs.dynamic_areas.specs.Areas.{Land}
@@ -11,30 +11,33 @@ use Rattle.flex_kept.specs.dynamic_areas.specs.Ground.{Estate, estate_of}
 use Rattle.rma.specs.Calls.{in_area, is_full, is_no_room, or_grown, rma_error, with_store}
 use Rattle.rma.specs.Images.{or_kept}
 
-pub estate_same : (m n : AddressMap) (l : Land) (s : Store) → layout n ≡ layout m → store_of n ≡ s → estate_of n l ≡ with_store (estate_of m l) s
+pub layout-mapping : (m n : AddressMap) → layout n ≡ layout m → mapping n ≡ mapping m
+layout-mapping m n same = λ i. record { place = (same i).place; free_pages = (same i).free_pages }
+
+pub estate_same : (m n : AddressMap) (l : Land) (s : Store) → mapping n ≡ mapping m → store_of n ≡ s → estate_of n l ≡ with_store (estate_of m l) s
 estate_same m n l s same e =
-    let pool : free_pages n ≡ free_pages m = ap (λ (q : Layout). q.free_pages) same in
+    let pool : free_pages n ≡ free_pages m = ap (λ (q : Mapping). q.free_pages) same in
     λ i. record { store = e i; pool = pool i; land = l }
 
-pub area_done : {A : Type 0} (m n : AddressMap) (l : Land) (r : Result (Store × A) ErrorNumber) (a : A) → layout n ≡ layout m
+pub area_done : {A : Type 0} (m n : AddressMap) (l : Land) (r : Result (Store × A) ErrorNumber) (a : A) → mapping n ≡ mapping m
     → Gives (store_of m) r (Ok a) (store_of n) → Gives (estate_of m l) (in_area (estate_of m l) r) (Ok a) (estate_of n l)
 area_done m n l (Ok r) a same given = (estate_same m n l r.0 same given.0, given.1)
 area_done m n l (Err f) a same given = absurd given
 
-pub area_refused : {A : Type 0} (m n : AddressMap) (l : Land) (r : Result (Store × A) ErrorNumber) (f : ErrorNumber) → layout n ≡ layout m
+pub area_refused : {A : Type 0} (m n : AddressMap) (l : Land) (r : Result (Store × A) ErrorNumber) (f : ErrorNumber) → mapping n ≡ mapping m
     → Gives (store_of m) r (Err f) (store_of n) → Gives (estate_of m l) (in_area (estate_of m l) r) (Err (rma_error f)) (estate_of n l)
 area_refused m n l (Ok r) f same given = absurd given
 area_refused m n l (Err g) f same given = (ap rma_error given.0, estate_same m n l (store_of m) same given.1)
 
 -- a call that is done again where no room was left
 pub or_done : {A : Type 0} (m n : AddressMap) (l : Land) (end : ℕ) (call : Store → Result (Store × A) ErrorNumber) (r : Result (Store × A) ErrorNumber) (a : A)
-    → layout n ≡ layout m → Gives (store_of m) r (Ok a) (store_of n)
+    → mapping n ≡ mapping m → Gives (store_of m) r (Ok a) (store_of n)
     → Gives (estate_of m l) (or_grown (estate_of m l) end call r) (Ok a) (estate_of n l)
 or_done m n l end call (Ok r) a same given = area_done m n l (Ok r) a same given
 or_done m n l end call (Err f) a same given = absurd given
 
 pub or_refused : {A : Type 0} (m n : AddressMap) (l : Land) (end : ℕ) (call : Store → Result (Store × A) ErrorNumber) (r : Result (Store × A) ErrorNumber)
-    (f : ErrorNumber) → layout n ≡ layout m → is_no_room f ≡ false → Gives (store_of m) r (Err f) (store_of n)
+    (f : ErrorNumber) → mapping n ≡ mapping m → is_no_room f ≡ false → Gives (store_of m) r (Err f) (store_of n)
     → Gives (estate_of m l) (or_grown (estate_of m l) end call r) (Err (rma_error f)) (estate_of n l)
 or_refused {A = A} m n l end call (Ok r) f same other given = absurd given
 or_refused {A = A} m n l end call (Err g) f same other given =

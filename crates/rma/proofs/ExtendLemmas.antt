@@ -1,9 +1,10 @@
 -- Blocks of the module area, and where a change of one is sure to be done once the area is grown.
-use Rattle.std.proofs.Common.{◌≡◌, ℕ, ◌+◌, ◌-◌, ◌==◌, ◌*◌, ◌^◌, ◌<◌, ◌≤◌, ◌⊎◌, Bool, true, false, refl, sym, ap, subst, ◌∙◌, Some, None, Ok, Err, inl, inr, arith}
+use Rattle.std.proofs.Common.{if◌then◌else◌, ◌≡◌, ◌≢◌, ℕ, ◌+◌, ◌-◌, ◌==◌, ◌*◌, ◌^◌, ◌<◌, ◌≤◌, ◌⊎◌, Bool, true, false, refl, sym, ap, subst, ◌∙◌, Some, None, Ok, Err, inl, inr, arith}
 use Rattle.std.specs.Prelude.{Option, Result, is_some, is_ok, nat_le, ok_or}
-use Rattle.std.proofs.lemmas.Bool.{cases_Bool, eqb-true, leb-true, leb-false}
+use Rattle.std.proofs.lemmas.Bool.{both_ways, cases_Bool, eq-eqb, eqb-true, leb-true, leb-false}
+use Rattle.profile.specs.Outcome.{Gives, bind}
 use Rattle.profile.specs.declared.error.ErrorNumber.{ErrorNumber}
-use Rattle.profile.specs.declared.error.ErrorNumber.TheVariants.{HeapBadDesc, HeapNotABlock}
+use Rattle.profile.specs.declared.error.ErrorNumber.TheVariants.{BlockHoldsHeap, HeapBadDesc, HeapNotABlock, RmaBlockHoldsHeap, RmaNoRoom}
 use Rattle.address_map.specs.Items.{size_of}
 use Rattle.address_map.specs.Memory.{bytes_of}
 use Rattle.address_map.specs.declared.map.AddressMap.{AddressMap}
@@ -11,15 +12,17 @@ use Rattle.os_heap.specs.os_heap_lists.specs.Heap.{HeapList, AreTotals, IsHeapIn
 use Rattle.os_heap.specs.os_heap_lists.specs.Lists.{changed_by, live_total, resized_in_place, round_up_8, total_for}
 use Rattle.os_heap.specs.os_heap_lists.proofs.LiveBlocks.{LiveBytes, live_bytes}
 use Rattle.os_heap.specs.Calls.{block_sized, bytes_held, got, guests_total, holds_anchor, resized, unless_image}
+use Rattle.os_heap.specs.Forgetting.{holds_heap}
 use Rattle.os_heap.specs.Room.{base_offset}
 use Rattle.os_heap.specs.Store.{Store, IsSound, find_heap, has_image, store_of}
 use Rattle.os_heap.proofs.Found.{found_heap, found_start}
 use Rattle.os_heap.proofs.Replace.{heap_below}
 use Rattle.flex_kept.specs.dynamic_areas.specs.Changing.{pages_had}
 use Rattle.flex_kept.specs.dynamic_areas.specs.Ground.{Estate, IsEstate}
-use Rattle.rma.specs.Calls.{area_pages, end_if_moved, end_in_place, grown_in_place, grown_to, is_full, or_as_before, rma_base, total_changed}
-use Rattle.rma.proofs.GrowthLemmas.{HasArea, IsGrown, area_there, grown_not, is_grown}
-use Rattle.rma.proofs.ResizeLemmas.{IsGuests, full_free, got_fits, last_fits, resized_fits}
+use Rattle.rma.specs.Calls.{area_pages, block_holds, end_if_moved, end_in_place, grown_in_place, grown_to, in_area, in_grown_area, is_full, or_as_before, rma_base, total_changed}
+use Rattle.rma.proofs.Estates.{not_full}
+use Rattle.rma.proofs.GrowthLemmas.{HasArea, IsGrown, area_there, grown_less, grown_not, growth_error, is_grown}
+use Rattle.rma.proofs.ResizeLemmas.{IsGuests, IsMoving, full_free, full_moves, got_fits, in_place_stays, last_fits, resized_fits, resized_holds}
 
 -- the block whose size is asked for
 pub record IsSized (s : Store) (h : HeapList) (block size : ℕ) : Type 0 where
@@ -91,7 +94,8 @@ claim_done e g size end grown is =
 resize_done : (e g : Estate) (block total change end : ℕ) (grown : IsGrown e g end) → IsGuests e.store grown.heap block total
     → ((is_some (resized_in_place block (grown.heap.start + grown.limit) (round_up_8 (changed_by total change)) (grown.heap.start + 16) grown.heap.items) ≡ true)
     × (total < round_up_8 (changed_by total change)))
-    ⊎ ((holds_anchor g.store.anchor block (Some total) ≡ false) × (16 + size_of grown.heap.items + round_up_8 (changed_by total change) ≤ grown.limit))
+    ⊎ ((holds_anchor g.store.anchor block (Some total) ≡ false)
+    × ((holds_heap g.store.heaps block (total - 4) ≡ false) × (16 + size_of grown.heap.items + round_up_8 (changed_by total change) ≤ grown.limit)))
     → is_ok (resized g.store 0x01800000 block change) ≡ true
 resize_done e g block total change end grown own room =
     let h : HeapList = grown.heap in
@@ -171,9 +175,10 @@ not_a_block s heap h block change found full = go (guests_total s.others h.start
     refused false (Some t) e = let no : Ok t ≡ Err f = e in cc
 
 pub move_done : (e g : Estate) (block change : ℕ) → IsEstate e → is_full (resized e.store 0x01800000 block change) ≡ true
+    → block_holds e.store block (block_sized e.store 0x01800000 block) ≡ false
     → grown_to e (end_if_moved (rma_base e.store) change (block_sized e.store 0x01800000 block)) ≡ Ok g
     → is_ok (resized g.store 0x01800000 block change) ≡ true
-move_done e g block change good full done =
+move_done e g block change good full empty done =
     let h : HasArea e = area_there e good in
     go (block_sized e.store 0x01800000 block) refl (not_a_block e.store 0x01800000 h.known.heap block change h.known.found full) done where
       go : (r : Result ℕ ErrorNumber) → block_sized e.store 0x01800000 block ≡ r → is_ok r ≡ true
@@ -189,5 +194,106 @@ move_done e g block change good full done =
           let none : holds_anchor e.store.anchor block (Some one.total) ≡ false = full_free e.store 0x01800000 k block one.total change grown.found one.guests full in
           let none' : holds_anchor g.store.anchor block (Some one.total) ≡ false =
           ap (λ (x : ℕ → Bool). holds_anchor x block (Some one.total)) grown.anchors ∙ none in
+          let alone : holds_heap e.store.heaps block size ≡ false = (let t = rw is at empty in t) in
+          let empty' : holds_heap g.store.heaps block (one.total - 4) ≡ false =
+          grown.holds block (one.total - 4) ∙ ap (λ (n : ℕ). holds_heap e.store.heaps block n) (sym one.same) ∙ alone in
           resize_done e g block one.total change end grown one.guests
-          (inr (none', omega (arith, grown.reaches, new, base_is e.store 0x01800000 k grown.found)))
+          (inr (none', (empty', omega (arith, grown.reaches, new, base_is e.store 0x01800000 k grown.found))))
+
+-- an area that is large enough as it is
+own_reach : (e : Estate) (h : HeapList) (end : ℕ) → find_heap 0x01800000 e.store.heaps ≡ Some h → IsGrown e e end → end ≤ h.end
+own_reach e h end found own =
+    let k : HeapList = record { kind = own.heap.kind; start = own.heap.start; end = own.limit; items = own.heap.items } in
+    let both : Some h ≡ Some k = sym found ∙ own.there in
+    let same : h ≡ k = cc in
+    let limit : h.end ≡ own.limit = ap (λ (x : HeapList). x.end) same in
+    omega (arith, own.reaches, limit)
+
+-- the last block that would not grow in its place, though the area could grow for it
+not_last : (e g : Estate) (block change size : ℕ) (grown : IsGrown e g (rma_base e.store + total_changed size change)) → IsEstate e
+    → (one : IsSized e.store grown.heap block size) → block_sized e.store 0x01800000 block ≡ Ok size → grown_in_place e block change ≡ e
+    → grown_to e (rma_base e.store + total_changed size change) ≡ Ok g → IsMoving grown.heap block one.total change
+    → block + one.total ≢ grown.heap.start + 16 + size_of grown.heap.items + 4
+not_last e g block change size grown good one is tried done moving last =
+    let k : HeapList = grown.heap in
+    let end : ℕ = (rma_base e.store + total_changed size change) - (size + 4) in
+    let place : LiveBytes block one.total (k.start + 16) (k.start + 16 + size_of k.items) = live_least e.store k block one.total grown.totals one.guests in
+    let new : total_changed size change ≡ round_up_8 (changed_by one.total change) = total_is size one.total change one.same (omega (arith, place.size)) in
+    let base : rma_base e.store ≡ 16 + size_of k.items = base_is e.store 0x01800000 k grown.found in
+    let ends : block + size ≡ 0x01800000 + rma_base e.store = omega (arith, last, base, one.same, place.size, grown.start) in
+    let less = grown_less e g end (rma_base e.store + total_changed size change) (omega arith) done in
+    let tried' = rw (is, eq-eqb (block + size) (0x01800000 + rma_base e.store) ends, less.1) at tried in
+    let same : less.0 ≡ e = tried' in
+    let own : IsGrown e e end = subst (λ (x : Estate). IsGrown e x end) same (is_grown e less.0 end good less.1) in
+    let reach : end ≤ k.end = own_reach e k end grown.found own in
+    let some : is_some (resized_in_place block (k.start + k.end) (round_up_8 (changed_by one.total change)) (k.start + 16) k.items) ≡ true =
+    last_fits block (k.start + k.end) (round_up_8 (changed_by one.total change)) (k.start + 16) one.total k.items grown.totals one.guests.live
+    (omega (arith, last)) (omega (arith, last, base, one.same, place.size, reach, new)) in
+    both_ways (is_some (resized_in_place block (k.start + k.end) (round_up_8 (changed_by one.total change)) (k.start + 16) k.items)) (ap is_some moving.none) some
+
+-- a block in which a heap lies is not moved in the grown area
+move_refused : (e g : Estate) (block change size : ℕ) → IsEstate e → is_full (resized e.store 0x01800000 block change) ≡ true
+    → grown_in_place e block change ≡ e → block_sized e.store 0x01800000 block ≡ Ok size → holds_heap e.store.heaps block size ≡ true
+    → grown_to e (rma_base e.store + total_changed size change) ≡ Ok g → resized g.store 0x01800000 block change ≡ Err BlockHoldsHeap
+move_refused e g block change size good full tried is holds done =
+    let end : ℕ = rma_base e.store + total_changed size change in
+    let grown : IsGrown e g end = is_grown e g end good done in
+    let h : HeapList = grown.heap in
+    let k : HeapList = record { kind = h.kind; start = h.start; end = grown.limit; items = h.items } in
+    let one : IsSized e.store h block size = sized_by e.store 0x01800000 h block size grown.found is in
+    let total : ℕ = one.total in
+    let place : LiveBytes block total (h.start + 16) (h.start + 16 + size_of h.items) = live_least e.store h block total grown.totals one.guests in
+    let new : total_changed size change ≡ round_up_8 (changed_by total change) = total_is size total change one.same (omega (arith, place.size)) in
+    let moving : IsMoving h block total change = full_moves e.store 0x01800000 h block total change grown.found one.guests full in
+    let moving' : IsMoving k block total change = record {
+      more = moving.more;
+      none = sym (in_place_stays block (h.start + h.end) (h.start + grown.limit) (round_up_8 (changed_by total change)) (h.start + 16) total h.items
+          one.guests.live (not_last e g block change size grown good one is tried done moving)) ∙ moving.none;
+    } in
+    let free : holds_anchor g.store.anchor block (Some total) ≡ false =
+    ap (λ (x : ℕ → Bool). holds_anchor x block (Some total)) grown.anchors ∙ full_free e.store 0x01800000 h block total change grown.found one.guests full in
+    let holds' : holds_heap g.store.heaps block (total - 4) ≡ true =
+    grown.holds block (total - 4) ∙ ap (λ (n : ℕ). holds_heap e.store.heaps block n) (sym one.same) ∙ holds in
+    let there : find_heap k.start g.store.heaps ≡ Some k = subst (λ (p : ℕ). find_heap p g.store.heaps ≡ Some k) (sym grown.start) grown.there in
+    let guests : IsGuests g.store k block total = record { own = ap (has_image block) grown.others ∙ one.guests.own; live = one.guests.live } in
+    subst (λ (p : ℕ). resized g.store p block change ≡ Err BlockHoldsHeap) grown.start
+    (resized_holds g.store k block total change there guests moving' free holds'
+    (omega (arith, grown.reaches, new, base_is e.store 0x01800000 h grown.found)))
+
+-- so the refusal is known before anything is done
+pub why_refused : (e : Estate) (block change : ℕ) → IsEstate e → is_full (resized e.store 0x01800000 block change) ≡ true
+    → grown_in_place e block change ≡ e → block_holds e.store block (block_sized e.store 0x01800000 block) ≡ true
+    → (let end : ℕ = end_if_moved (rma_base e.store) change (block_sized e.store 0x01800000 block) in
+    let why : Result ℕ ErrorNumber = Err (if is_ok (grown_to e end) then RmaBlockHoldsHeap else RmaNoRoom) in
+    Gives e (in_grown_area e end (λ s. resized s 0x01800000 block change)) why e)
+why_refused e block change good full tried holds = sized (block_sized e.store 0x01800000 block) refl holds where
+  told : (end size : ℕ) → block_sized e.store 0x01800000 block ≡ Ok size → holds_heap e.store.heaps block size ≡ true
+      → end ≡ rma_base e.store + total_changed size change → (r : Result Estate ErrorNumber) → grown_to e end ≡ r
+      → (let why : Result ℕ ErrorNumber = Err (if is_ok r then RmaBlockHoldsHeap else RmaNoRoom) in
+      Gives e (bind r (λ g. in_area g (resized g.store 0x01800000 block change))) why e)
+  told end size is held there (Ok g) done =
+      rw (move_refused e g block change size good full tried is held (ap (grown_to e) (sym there) ∙ done)) (refl, refl)
+  told end size is held there (Err f) done = (growth_error e end f done, refl)
+
+  sized : (r : Result ℕ ErrorNumber) → block_sized e.store 0x01800000 block ≡ r → block_holds e.store block r ≡ true
+      → (let end : ℕ = end_if_moved (rma_base e.store) change r in
+      let why : Result ℕ ErrorNumber = Err (if is_ok (grown_to e end) then RmaBlockHoldsHeap else RmaNoRoom) in
+      Gives e (in_grown_area e end (λ s. resized s 0x01800000 block change)) why e)
+  sized (Err f) is held = absurd (let no : false ≡ true = held in cc)
+  sized (Ok size) is held =
+      told (rma_base e.store + total_changed size change) size is held refl (grown_to e (rma_base e.store + total_changed size change)) refl
+
+-- where the call is full after the area could grow in place, it did not grow: g is the estate then, and f that after the call that was refused
+pub record IsTried (e g f : Estate) (block change : ℕ) : Type 0 where
+  pub none : grown_in_place e block change ≡ e
+  pub again : grown_in_place f block change ≡ f
+
+pub is_tried : (e g f : Estate) (block change : ℕ) → IsEstate e → g ≡ grown_in_place e block change → f ≡ g
+    → is_full (resized g.store 0x01800000 block change) ≡ true → IsTried e g f block change
+is_tried e g f block change good grown same full = elim (in_place_done e block change good) [
+  | inl ok ↦ absurd (not_full (resized g.store 0x01800000 block change)
+      (subst (λ (x : Estate). is_ok (resized x.store 0x01800000 block change) ≡ true) (sym grown) ok) full)
+  | inr none ↦
+      let all : f ≡ e = same ∙ grown ∙ none in
+      record { none = none; again = ap (λ (x : Estate). grown_in_place x block change) all ∙ none ∙ sym all }
+]

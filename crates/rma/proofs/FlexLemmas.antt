@@ -1,5 +1,5 @@
 -- The flex store over growth of the module area, and over what becomes of the block of a new image.
-use Rattle.std.proofs.Common.{◌≡◌, ℕ, ◌+◌, ◌-◌, ◌≤◌, List, length, sym, ap, subst, ◌∙◌, Some, inl, inr, arith}
+use Rattle.std.proofs.Common.{◌≡◌, ℕ, ◌+◌, ◌-◌, ◌≤◌, false, List, length, sym, ap, subst, ◌∙◌, Some, inl, inr, arith}
 use Rattle.std.specs.Prelude.{IfOk}
 use Rattle.std.proofs.lemmas.Bool.{cases_Bool}
 use Rattle.address_map.specs.Bytes.{with_bytes, with_moved}
@@ -8,6 +8,7 @@ use Rattle.address_map.specs.declared.map.AddressMap.{AddressMap}
 use Rattle.os_heap.specs.os_heap_lists.specs.Heap.{HeapList}
 use Rattle.os_heap.specs.os_heap_lists.specs.Lists.{live_total}
 use Rattle.os_heap.specs.Calls.{OfHeap, block_sized, copied}
+use Rattle.os_heap.specs.Forgetting.{holds_heap}
 use Rattle.os_heap.specs.Store.{IsSound, Store, find_heap, has_image, store_of}
 use Rattle.flex_kept.specs.dynamic_areas.specs.declared.area.Changed.{Changed}
 use Rattle.flex_kept.specs.dynamic_areas.specs.Areas.{Land}
@@ -49,6 +50,20 @@ sized_unanchored s block total live unanchored =
     elim (cases_Bool (has_image block s.others)) [
       | inl image ↦ rw (l.found, image) tt
       | inr none ↦ rw (l.found, none, l.live) unanchored
+    ]
+
+-- and no heap lies in them
+pub sized_unheaped : (s u : Store) (block total : ℕ) → IsLiveBlock s block total → u.heaps ≡ s.heaps → holds_heap s.heaps block (total - 4) ≡ false
+    → IfOk (block_sized u 0x01800000 block) (λ len. holds_heap u.heaps block len ≡ false)
+unfolding block_sized
+sized_unheaped s u block total live same empty =
+    let there : IsLiveBlock u block total =
+    subst (λ (hs : List HeapList). OfHeap (λ h. live_total block (h.start + 16) h.items ≡ Some total) (find_heap 0x01800000 hs)) (sym same) live in
+    let empty' : holds_heap u.heaps block (total - 4) ≡ false = ap (λ (hs : List HeapList). holds_heap hs block (total - 4)) same ∙ empty in
+    let l : IsLiveIn u block total = live_in u block total there in
+    elim (cases_Bool (has_image block u.others)) [
+      | inl image ↦ rw (l.found, image) tt
+      | inr none ↦ rw (l.found, none, l.live) empty'
     ]
 
 -- a new image: s is the store before, t after the claim, u with the bytes, v with the record

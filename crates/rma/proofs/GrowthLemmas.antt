@@ -1,12 +1,14 @@
 -- The module area where it grows: how far its heap reaches then.
-use Rattle.std.proofs.Common.{◌≡◌, ℕ, ◌+◌, ◌-◌, ◌*◌, ◌/◌, ◌<◌, ◌≤◌, true, false, refl, sym, ap, ◌∙◌, subst, Some, None, Ok, Err, inl, inr, arith}
-use Rattle.std.specs.Prelude.{Option, Result, is_some, nat_le, nat_lt, min}
-use Rattle.std.proofs.lemmas.Bool.{cases_Bool, lt-ltb, le-ltb, le-leb, lt-leb, leb-true, ltb-true, ltb-false}
+use Rattle.std.proofs.Common.{◌≡◌, ◌==◌, ℕ, Bool, ◌||◌, ◌+◌, ◌-◌, ◌*◌, ◌/◌, ◌<◌, ◌≤◌, List, [], ◌∷◌, true, false, refl, sym, ap, ◌∙◌, subst, Some, None, Ok, Err, inl, inr, arith}
+use Rattle.std.specs.Prelude.{Option, Result, is_ok, is_some, nat_le, nat_lt, min}
+use Rattle.std.proofs.lemmas.Bool.{cases_Bool, cases_lt, lt-ltb, le-ltb, le-leb, lt-leb, leb-false, leb-true, ltb-true, ltb-false}
 use Rattle.profile.specs.Outcome.{Leaves}
 use Rattle.profile.specs.declared.error.ErrorNumber.{ErrorNumber}
 use Rattle.profile.specs.declared.error.ErrorNumber.TheVariants.{AreaNoPages, RmaNoRoom}
 use Rattle.address_map.specs.Bytes.{in_range}
 use Rattle.os_heap.specs.os_heap_lists.specs.Heap.{HeapList, AreTotals}
+use Rattle.os_heap.specs.Calls.{with_end}
+use Rattle.os_heap.specs.Forgetting.{holds_heap, starts_in}
 use Rattle.os_heap.specs.Store.{Store, find_heap}
 use Rattle.flex_kept.specs.dynamic_areas.specs.declared.area.Area.{Area}
 use Rattle.flex_kept.specs.dynamic_areas.specs.declared.area.Changed.{Changed}
@@ -50,6 +52,15 @@ pub record IsGrown (e g : Estate) (end : ℕ) : Type 0 where
   pub reaches : end ≤ limit
   pub others : g.store.others ≡ e.store.others
   pub anchors : g.store.anchor ≡ e.store.anchor
+  pub holds : (at len : ℕ) → holds_heap g.store.heaps at len ≡ holds_heap e.store.heaps at len
+
+-- a heap that gets another end starts where it started
+ended_holds : (start end at len : ℕ) (hs : List HeapList) → holds_heap (with_end start end hs) at len ≡ holds_heap hs at len
+ended_holds start end at len [] = refl
+ended_holds start end at len (g ∷ hs) = elim (cases_Bool (g.start == start)) [
+  | inl here ↦ rw here (ap (λ (t : Bool). starts_in at len g || t) (ended_holds start end at len hs))
+  | inr other ↦ rw other (ap (λ (t : Bool). starts_in at len g || t) (ended_holds start end at len hs))
+]
 
 more_grown : (e : Estate) (end count : ℕ) (h : HasArea e) → end ≤ 4096 * (h.area.pages + count) → IsGrown e (with_pages_more e count) end
 more_grown e end count h enough =
@@ -65,6 +76,7 @@ more_grown e end count h enough =
       reaches = enough;
       others = rw (h.found, m.found) refl;
       anchors = rw (h.found, m.found) refl;
+      holds = λ at len. rw (h.found, m.found) (ended_holds m.heap.start (4096 * (a.pages + count)) at len e.store.heaps);
     }
 
 pub is_grown : (e g : Estate) (end : ℕ) → IsEstate e → grown_to e end ≡ Ok g → IsGrown e g end
@@ -89,6 +101,7 @@ is_grown e g end good is =
             reaches = omega (arith, leb-true end (4096 * area_pages e) fits, size, m.end);
             others = refl;
             anchors = refl;
+            holds = λ at len. refl;
           } in
           subst (λ (x : Estate). IsGrown e x end) same here
       | inr short ↦
@@ -102,6 +115,42 @@ is_grown e g end good is =
                 (more_grown e end (pages_short e end) h (omega (arith, pages)))
           ]
     ]
+
+-- growth that can be had can be had in part, and what can't has one reason
+pub grown_less : (e g : Estate) (less end : ℕ) → less ≤ end → grown_to e end ≡ Ok g → (x : Estate) × (grown_to e less ≡ Ok x)
+unfolding grown_to
+grown_less e g less end low is = elim (cases_Bool (nat_le less (4096 * area_pages e))) [
+  | inl fits ↦ (e, rw fits refl)
+  | inr short ↦
+      let past : nat_le end (4096 * area_pages e) ≡ false =
+      lt-leb end (4096 * area_pages e) (omega (arith, leb-false less (4096 * area_pages e) short, low)) in
+      let by = rw past at is in
+      elim (cases_Bool (nat_lt (area_room e) (pages_short e end))) [
+        | inl none ↦ absurd (let no : Err RmaNoRoom ≡ Ok g = rw none at by in cc)
+        | inr room ↦
+            let test : nat_lt (area_room e) (pages_short e less) ≡ false =
+            le-ltb (area_room e) (pages_short e less) (omega (arith, ltb-false (area_room e) (pages_short e end) room, low)) in
+            (with_pages_more e (pages_short e less), rw (short, test) refl)
+      ]
+]
+
+pub growth_error : (e : Estate) (end : ℕ) (f : ErrorNumber) → grown_to e end ≡ Err f → RmaNoRoom ≡ f
+unfolding grown_to
+growth_error e end f is = elim (cases_Bool (nat_le end (4096 * area_pages e))) [
+  | inl fits ↦ absurd (let no : Ok e ≡ Err f = rw fits at is in cc)
+  | inr short ↦
+      let by = rw short at is in
+      elim (cases_Bool (nat_lt (area_room e) (pages_short e end))) [
+        | inl none ↦ (let same : Err RmaNoRoom ≡ Err f = rw none at by in cc)
+        | inr room ↦ absurd (let no : Ok (with_pages_more e (pages_short e end)) ≡ Err f = rw room at by in cc)
+      ]
+]
+
+pub refused_where : (e : Estate) (end : ℕ) → is_ok (grown_to e end) ≡ false → grown_to e end ≡ Err RmaNoRoom
+refused_where e end not_ok = go (grown_to e end) refl not_ok where
+  go : (r : Result Estate ErrorNumber) → grown_to e end ≡ r → is_ok r ≡ false → grown_to e end ≡ Err RmaNoRoom
+  go (Ok g) is fails = absurd (let no : true ≡ false = fails in cc)
+  go (Err f) is fails = is ∙ ap (λ (x : ErrorNumber). Err x) (sym (growth_error e end f is))
 
 -- what is answered, and what the area's own call makes of it
 pub grown_not : (e : Estate) (end : ℕ) → end ≤ 4096 * area_pages e → grown_to e end ≡ Ok e
@@ -169,22 +218,29 @@ is_changed e h s pool l amount bytes good after grows moved room land store =
     omega (arith, pages, good.ground.pages, pages_counted 1 e.land.areas a (a.pages + count) h.found) in
     λ i. record { store = store' i; pool = pool' i; land = land' i }
 
--- the area's own call where the measure told no error: there is room for all pages, and the estate has them
-pub record HasMore (e : Estate) (h : HasArea e) (s : Store) (pool : ℕ) (l : Land) (amount : ℕ) : Type 0 where
-  pub room : pages_for amount ≤ growth_room e.pool h.area
-  pub same : (let g : Estate = record { store = s; pool = pool; land = l } in g ≡ with_pages_more e (pages_for amount))
+-- where growth is allowed, it stays in the maximum, and there is room for its pages
+pub can_grow : (e : Estate) (h : HasArea e) (end : ℕ) → is_ok (grown_to e end) ≡ true → 4096 * area_pages e < end
+    → (end ≤ 4194304) × (pages_for (end - 4096 * area_pages e) ≤ growth_room e.pool h.area)
+can_grow e h end can past = (
+  elim (cases_lt 4194304 end) [
+    | inl far ↦ absurd (let no : false ≡ true = sym (ap is_ok (far_refused e h end far)) ∙ can in cc)
+    | inr near ↦ near
+  ],
+  elim (cases_lt (growth_room e.pool h.area) (pages_for (end - 4096 * area_pages e))) [
+    | inl few ↦ absurd (let no : false ≡ true = sym (ap is_ok (growth_refused e h end (end - 4096 * area_pages e) past refl few)) ∙ can in cc)
+    | inr room ↦ room
+  ],
+)
 
-pub has_more : (e : Estate) (h : HasArea e) (s : Store) (pool : ℕ) (l : Land) (amount : ℕ) (told made : Changed) → IsEstate e → AreAreas s pool l
-    → amount < 2147483648 → told ≡ change_answer e.land.areas e.store e.pool 1 amount → is_some told.error ≡ false
-    → made ≡ change_answer e.land.areas e.store e.pool 1 amount
-    → l ≡ land_changed e.land 1 amount made.bytes → s ≡ store_changed e.store e.land.areas 1 amount made.bytes → HasMore e h s pool l amount
-has_more e h s pool l amount told made good after low measure none change land store =
+-- the area's own call where growth is allowed: the estate has all pages then
+pub has_more : (e : Estate) (h : HasArea e) (s : Store) (pool : ℕ) (l : Land) (amount : ℕ) (made : Changed) → IsEstate e → AreAreas s pool l
+    → amount < 2147483648 → pages_for amount ≤ growth_room e.pool h.area → made ≡ change_answer e.land.areas e.store e.pool 1 amount
+    → l ≡ land_changed e.land 1 amount made.bytes → s ≡ store_changed e.store e.land.areas 1 amount made.bytes
+    → (let g : Estate = record { store = s; pool = pool; land = l } in g ≡ with_pages_more e (pages_for amount))
+has_more e h s pool l amount made good after low room change land store =
     let grows : is_growth amount ≡ true = lt-ltb amount 2147483648 low in
-    let answer = measure ∙ measured e h amount grows in
-    let room : pages_for amount ≤ growth_room e.pool h.area =
-    error_none (pages_for amount) (growth_room e.pool h.area) (sym (ap (λ (x : Changed). is_some x.error) answer) ∙ none) in
     let moved = ap (λ (x : Changed). x.bytes) (change ∙ measured e h amount grows) in
-    record { room = room; same = is_changed e h s pool l amount made.bytes good after grows moved room land store }
+    is_changed e h s pool l amount made.bytes good after grows moved room land store
 
 pub mapped_more : (e : Estate) (h : HasArea e) (count x : ℕ) → e.store.bytes.mapped x ≡ true
     → (with_pages_more e count).store.bytes.mapped x ≡ true

@@ -1,5 +1,5 @@
 -- Records of images in the module area: one more, and one less.
-use Rattle.std.proofs.Common.{◌≡◌, ◌≢◌, ℕ, ◌+◌, ◌-◌, ◌==◌, ◌%◌, ◌&&◌, ◌<◌, ◌≤◌, Bool, true, false, List, [], ◌∷◌, ◌++◌, length, refl, sym, ap, subst, ◌∙◌, Some, None, Ok, inl, inr, arith}
+use Rattle.std.proofs.Common.{◌≡◌, ◌≢◌, ℕ, ◌+◌, ◌-◌, ◌==◌, ◌%◌, ◌&&◌, ◌<◌, ◌≤◌, ◌⊎◌, Bool, true, false, List, [], ◌∷◌, ◌++◌, length, refl, sym, ap, subst, ◌∙◌, Some, None, Ok, inl, inr, arith}
 use Rattle.std.specs.Prelude.{Option, is_some}
 use Rattle.std.proofs.Common.{length-append}
 use Rattle.std.proofs.lemmas.Bool.{and_parts, cases_Bool, both_ways, false_from_ne_true, false≢true, eq-eqb, le-leb, lt-ltb, or_parts}
@@ -16,11 +16,13 @@ use Rattle.os_heap.specs.os_heap_lists.specs.Heap.{HeapList, IsHeapIn}
 use Rattle.os_heap.specs.os_heap_lists.specs.Lists.{live_total}
 use Rattle.os_heap.specs.os_heap_lists.proofs.LiveBlocks.{LiveBytes, live_bytes}
 use Rattle.os_heap.specs.Calls.{OfHeap, block_sized}
-use Rattle.os_heap.specs.Store.{AreClear, AreHeapsIn, ArePlaced, AreRangesApart, AreUnnested, IsClearOfHeaps, IsClearOfRanges, IsImageBlock, IsImageIn, IsSound, Store, find_heap, has_image, heaps_in, is_area, is_flex_store, is_image, is_in_flex_store, others_in, store_of}
+use Rattle.os_heap.specs.Store.{AreClear, ArePlaced, AreRangesApart, IsClearOfRanges, IsImageBlock, IsPlacedIn, IsSound, Store, find_heap, has_image, heaps_in, is_area, is_flex_store, is_image, is_in_flex_store, others_in, store_of}
 use Rattle.os_heap.proofs.Apart.{block_inside, one_block, range_parts}
 use Rattle.os_heap.proofs.Found.{found_heap, found_start}
 use Rattle.os_heap.proofs.Recorded.{IsClearOfAll, apart_other}
-use Rattle.os_heap.proofs.Stores.{AreClearOthers, are_clear_others, clear_of-found}
+use Rattle.os_heap.proofs.ImageBlocks.{image_placed}
+use Rattle.os_heap.proofs.Stores.{are_others, placed_by}
+use Rattle.os_heap.specs.Forgetting.{holds_heap}
 use Rattle.flex_kept.specs.dynamic_areas.specs.Areas.{Land}
 use Rattle.flex_kept.specs.dynamic_areas.specs.Ground.{AreAreas, AreRangesMapped, Estate, IsEstate}
 use Rattle.rma.specs.Images.{CanRecord}
@@ -43,55 +45,29 @@ payload_in b h at len a heap live inside =
     rw (le-leb (at - 4) a (omega (arith, parts.0)), lt-ltb a (at - 4 + (len + 4)) (omega (arith, parts.1, place.low))) refl in
     (whole, block_inside b h at (len + 4) a heap live whole)
 
--- an image is apart from another block
-image_apart : (b : Bytes) (h : HeapList) (at len : ℕ) (q : Region) (hs : List HeapList) → IsHeapIn b h.start h.end h.items → AreHeapsIn b hs
-    → AreClearOthers h hs → live_total at (h.start + 16) h.items ≡ Some (len + 4) → (is_image q.kind ≡ true → q.at ≢ at) → IsImageIn hs q
-    → AreClear q.at q.len at len
-image_apart b h at len q [] heap parts others live other image = absurd image
-image_apart b h at len q (g ∷ hs) heap parts others live other (inr later) = image_apart b h at len q hs heap parts.1.1 others.1 live other later
-image_apart b h at len q (g ∷ hs) heap parts others live other (inl own) = λ a there.
-    false_from_ne_true (in_range at len a) (λ here.
-    let mine = payload_in b h at len a heap live here in
-    let its = payload_in b g q.at q.len a parts.0 own.live there in
-    elim others.0 [
-      | inl same ↦
-          let live' : live_total q.at (h.start + 16) h.items ≡ Some (q.len + 4) =
-          subst (λ (x : HeapList). live_total q.at (x.start + 16) x.items ≡ Some (q.len + 4)) same own.live in
-          other own.image (one_block b h q.at (q.len + 4) at (len + 4) a heap live' live its.0 mine.0)
-      | inr apart ↦ both_ways (in_range g.start g.end a) (apart.1 a mine.1) its.1
-    ])
+-- a record in the same heap is that of another block, or clear of it
+image_apart : (b : Bytes) (h : HeapList) (at len : ℕ) (q : Region) → IsHeapIn b h.start h.end h.items
+    → live_total at (h.start + 16) h.items ≡ Some (len + 4) → (is_image q.kind ≡ true → q.at ≢ at)
+    → AreClear q.at q.len h.start h.end ⊎ IsImageBlock h q → AreClear q.at q.len at len
+image_apart b h at len q heap live other (inl clear) = λ a there. false_from_ne_true (in_range at len a) (λ here.
+    both_ways (in_range h.start h.end a) (clear a there) (payload_in b h at len a heap live here).1)
+image_apart b h at len q heap live other (inr image) = λ a there. false_from_ne_true (in_range at len a) (λ here.
+    other image.image (one_block b h q.at (q.len + 4) at (len + 4) a heap image.live live
+    (payload_in b h q.at q.len a heap image.live there).0 (payload_in b h at len a heap live here).0))
 
-clear_apart : (b : Bytes) (h : HeapList) (at len : ℕ) (q : Region) (hs : List HeapList) → IsHeapIn b h.start h.end h.items
-    → find_heap h.start hs ≡ Some h → live_total at (h.start + 16) h.items ≡ Some (len + 4) → IsClearOfHeaps q.at q.len hs → AreClear q.at q.len at len
-clear_apart b h at len q hs heap found live clear a there = false_from_ne_true (in_range at len a) (λ here.
-    both_ways (in_range h.start h.end a) (clear_of-found q.at q.len h.start hs h clear found a there) (payload_in b h at len a heap live here).1)
-
-others_apart : (b : Bytes) (h : HeapList) (at len : ℕ) (hs : List HeapList) (rs : List Region) → IsHeapIn b h.start h.end h.items → AreHeapsIn b hs
-    → AreUnnested hs → find_heap h.start hs ≡ Some h → live_total at (h.start + 16) h.items ≡ Some (len + 4) → has_image at rs ≡ false → ArePlaced hs rs
+others_apart : (b : Bytes) (h : HeapList) (at len : ℕ) (hs : List HeapList) (rs : List Region) → IsHeapIn b h.start h.end h.items
+    → find_heap h.start hs ≡ Some h → live_total at (h.start + 16) h.items ≡ Some (len + 4) → has_image at rs ≡ false → ArePlaced hs rs
     → IsClearOfAll (record { kind = kind.Image; at = at; len = len }) rs
-others_apart b h at len hs [] heap parts unnested found live none placed = tt
-others_apart b h at len hs (q ∷ rs) heap parts unnested found live none placed =
+others_apart b h at len hs [] heap found live none placed = tt
+others_apart b h at len hs (q ∷ rs) heap found live none placed =
     let tests = or_parts (is_image q.kind && q.at == at) (has_image at rs) none in (
-      elim placed.0 [
-        | inl clear ↦ clear_apart b h at len q hs heap found live clear
-        | inr image ↦ image_apart b h at len q hs heap parts (are_clear_others b h.start hs h parts unnested found) live
-            (λ is same. false≢true (sym tests.0 ∙ (rw (is, eq-eqb q.at at same) refl))) image
-      ],
-      others_apart b h at len hs rs heap parts unnested found live tests.1 placed.1,
+      image_apart b h at len q heap live (λ is same. false≢true (sym tests.0 ∙ (rw (is, eq-eqb q.at at same) refl)))
+          (placed_by h.start hs h q placed.0 found),
+      others_apart b h at len hs rs heap found live tests.1 placed.1,
     )
 
-image_in : (start : ℕ) (hs : List HeapList) (h : HeapList) (r : Region) → find_heap start hs ≡ Some h → IsImageBlock h r → IsImageIn hs r
-image_in start [] h r found own = absurd (let no : None ≡ Some h = found in cc)
-image_in start (g ∷ hs) h r found own = elim (cases_Bool (g.start == start)) [
-  | inl here ↦
-      let e = rw here at found in
-      let same : g ≡ h = cc in
-      inl (subst (λ (x : HeapList). IsImageBlock x r) (sym same) own)
-  | inr other ↦ inr (image_in start hs h r (rw other at found) own)
-]
-
-placed_more : (hs : List HeapList) (rs : List Region) (r : Region) → ArePlaced hs rs → IsImageIn hs r → ArePlaced hs (rs ++ r ∷ [])
-placed_more hs [] r placed last = (inr last, tt)
+placed_more : (hs : List HeapList) (rs : List Region) (r : Region) → ArePlaced hs rs → IsPlacedIn hs r → ArePlaced hs (rs ++ r ∷ [])
+placed_more hs [] r placed last = (last, tt)
 placed_more hs (q ∷ rs) r placed last = (placed.0, placed_more hs rs r placed.1 last)
 
 pub mapped_more : (f : ℕ → Bool) (rs : List Region) (r : Region) → AreRangesMapped f rs → AreMapped f r.at r.len → AreRangesMapped f (rs ++ r ∷ [])
@@ -112,7 +88,7 @@ pub record IsRecorded (s : Store) (r : Region) : Type 0 where
   pub mapped : AreMapped s.bytes.mapped r.at r.len
   pub aligned : r.at % 4 ≡ 0
 
-recorded_in : (s : Store) (h : HeapList) (at len : ℕ) → IsSound s → CanRecord s → find_heap 0x01800000 s.heaps ≡ Some h
+recorded_in : (s : Store) (h : HeapList) (at len : ℕ) → IsSound s → CanRecord s at → find_heap 0x01800000 s.heaps ≡ Some h
     → block_sized s 0x01800000 at ≡ Ok len → IsRecorded s (record { kind = kind.Image; at = at; len = len })
 recorded_in s h at len sound can found sized =
     let r : Region = record { kind = kind.Image; at = at; len = len } in
@@ -124,13 +100,14 @@ recorded_in s h at len sound can found sized =
     let total : is.total ≡ len + 4 = omega (arith, is.same, place.size) in
     let live : live_total at (h.start + 16) h.items ≡ Some (len + 4) = is.guests.live ∙ ap Some total in
     let area : is_area h.kind ≡ true = (let t = rw found at can.area in t) in
-    let image : IsImageIn s.heaps r = image_in 0x01800000 s.heaps h r found (record { image = refl; area = area; live = live }) in
-    let apart : IsClearOfAll r s.others =
-    others_apart s.bytes h at len s.heaps s.others heap sound.heaps sound.unnested own live is.guests.own sound.placed in
+    let empty : holds_heap s.heaps at len ≡ false = (let t = rw sized at can.empty in t) in
+    let image : IsPlacedIn s.heaps r =
+    image_placed s.bytes h r s.heaps heap (record { image = refl; area = area; live = live }) sound.heaps
+    (are_others s.bytes 0x01800000 s.heaps h sound.heaps found) empty in
+    let apart : IsClearOfAll r s.others = others_apart s.bytes h at len s.heaps s.others heap own live is.guests.own sound.placed in
     record {
       sound = record {
         heaps = sound.heaps;
-        unnested = sound.unnested;
         limits = sound.limits;
         placed = placed_more s.heaps s.others r sound.placed image;
         apart = apart_other s.others r sound.apart apart;
@@ -145,7 +122,7 @@ recorded_in s h at len sound can found sized =
 area_none : (s : Store) → OfHeap (λ h. is_area h.kind ≡ true) (find_heap 0x01800000 s.heaps) → find_heap 0x01800000 s.heaps ≡ None → ⊥
 area_none s area none = let t = rw none at area in t
 
-pub is_recorded : (s : Store) (at len : ℕ) → IsSound s → CanRecord s → block_sized s 0x01800000 at ≡ Ok len
+pub is_recorded : (s : Store) (at len : ℕ) → IsSound s → CanRecord s at → block_sized s 0x01800000 at ≡ Ok len
     → IsRecorded s (record { kind = kind.Image; at = at; len = len })
 is_recorded s at len sound can sized = go (find_heap 0x01800000 s.heaps) refl where
   go : (o : Option HeapList) → find_heap 0x01800000 s.heaps ≡ o → IsRecorded s (record { kind = kind.Image; at = at; len = len })
@@ -267,7 +244,6 @@ flex_less at (r ∷ rs) a is = elim (cases_Bool (is_record kind.Image at r)) [
 pub sound_less : (s : Store) (at : ℕ) → IsSound s → IsSound (record s { others = without_region s.others kind.Image at })
 sound_less s at sound = record {
   heaps = sound.heaps;
-  unnested = sound.unnested;
   limits = sound.limits;
   placed = placed_less s.heaps at s.others sound.placed;
   apart = apart_less at s.others sound.apart;

@@ -26,6 +26,7 @@ use Rattle.os_heap.proofs.KeptPayloads.{IsClaim, is_claim}
 use Rattle.os_heap.proofs.Order.{order_laid}
 use Rattle.os_heap.proofs.PayloadWrites.{payload_kept}
 use Rattle.os_heap.specs.Calls.{OfHeap, block_sized, copied, got}
+use Rattle.os_heap.specs.Forgetting.{holds_heap}
 use Rattle.os_heap.specs.Order.{AddsRecord, KeepsOrder}
 use Rattle.os_heap.specs.Store.{IsSound, Store, find_heap, has_image, store_of}
 use Rattle.flex_kept.specs.dynamic_areas.specs.Ground.{Estate, IsEstate}
@@ -80,12 +81,13 @@ shorter block len more a fits out = false_from_ne_true (in_range block len a) (�
     both_ways (in_range block more a) out (rw (le-leb block a parts.0, lt-ltb a (block + more) (omega (arith, parts.1, fits))) refl))
 
 block_kept : (m n : AddressMap) (block total len : ℕ) → layout n ≡ layout m → class_of n ≡ class_of m → IsSound (store_of m)
-    → IsLiveBlock (store_of m) block total → len + 4 ≤ total → ((a : ℕ) → in_range block len a ≡ false → byte_at n a ≡ byte_at m a) → IsKept m n
-block_kept m n block total len same marks sound is fits kept =
+    → IsLiveBlock (store_of m) block total → holds_heap (store_of m).heaps block (total - 4) ≡ false → len + 4 ≤ total
+    → ((a : ℕ) → in_range block len a ≡ false → byte_at n a ≡ byte_at m a) → IsKept m n
+block_kept m n block total len same marks sound is empty fits kept =
     let l : IsLiveIn (store_of m) block total = live_in (store_of m) block total is in
     let own : find_heap l.heap.start (store_of m).heaps ≡ Some l.heap =
     subst (λ (p : ℕ). find_heap p (store_of m).heaps ≡ Some l.heap) (sym (found_start 0x01800000 (store_of m).heaps l.heap l.found)) l.found in
-    payload_kept m n l.heap block total same marks sound own l.live (λ a out. kept a (shorter block len (total - 4) a (omega (arith, fits)) out))
+    payload_kept m n l.heap block total same marks sound own l.live empty (λ a out. kept a (shorter block len (total - 4) a (omega (arith, fits)) out))
 
 pub outside : (f : ℕ → ℕ) (block a : ℕ) (bytes : List ℕ) → in_range block (length bytes) a ≡ false → with_bytes_at f block bytes a ≡ f a
 outside f block a bytes out = rw out refl
@@ -102,20 +104,20 @@ pub record IsFilled (m n : AddressMap) (s : Store) : Type 0 where
   pub kept : IsKept m n
 
 pub is_filled : (m n : AddressMap) (block total : ℕ) (bytes : List ℕ) → layout n ≡ layout m → class_of n ≡ class_of m → IsSound (store_of m)
-    → IsLiveBlock (store_of m) block total → length bytes + 4 ≤ total → ((a : ℕ) → byte_at n a ≡ with_bytes_at (byte_at m) block bytes a)
-    → IsFilled m n (filled (store_of m) block bytes)
-is_filled m n block total bytes same marks sound is fits written =
-    let kept : IsKept m n = block_kept m n block total (length bytes) same marks sound is fits
+    → IsLiveBlock (store_of m) block total → holds_heap (store_of m).heaps block (total - 4) ≡ false → length bytes + 4 ≤ total
+    → ((a : ℕ) → byte_at n a ≡ with_bytes_at (byte_at m) block bytes a) → IsFilled m n (filled (store_of m) block bytes)
+is_filled m n block total bytes same marks sound is empty fits written =
+    let kept : IsKept m n = block_kept m n block total (length bytes) same marks sound is empty fits
     (λ a out. written a ∙ outside (byte_at m) block a bytes out) in
     let b : bytes_of n ≡ with_bytes (store_of m).bytes block bytes =
     stored_bytes m n block bytes same written ∙ ap (λ (c : Bytes). with_bytes c block bytes) (sym (store_bytes m)) in
     record { store = kept.store ∙ with_same (store_of m) (bytes_of n) (with_bytes (store_of m).bytes block bytes) b; kept = kept }
 
 pub is_copied : (m n : AddressMap) (block total from len : ℕ) → layout n ≡ layout m → class_of n ≡ class_of m → IsSound (store_of m)
-    → IsLiveBlock (store_of m) block total → len + 4 ≤ total → ((a : ℕ) → byte_at n a ≡ with_moved_at (byte_at m) from block len a)
-    → IsFilled m n (copied (store_of m) from block len)
-is_copied m n block total from len same marks sound is fits written =
-    let kept : IsKept m n = block_kept m n block total len same marks sound is fits (λ a out. written a ∙ unmoved (byte_at m) from block len a out) in
+    → IsLiveBlock (store_of m) block total → holds_heap (store_of m).heaps block (total - 4) ≡ false → len + 4 ≤ total
+    → ((a : ℕ) → byte_at n a ≡ with_moved_at (byte_at m) from block len a) → IsFilled m n (copied (store_of m) from block len)
+is_copied m n block total from len same marks sound is empty fits written =
+    let kept : IsKept m n = block_kept m n block total len same marks sound is empty fits (λ a out. written a ∙ unmoved (byte_at m) from block len a out) in
     let b : bytes_of n ≡ with_moved (store_of m).bytes from block len =
     stored_moved m n from block len same written ∙ ap (λ (c : Bytes). with_moved c from block len) (sym (store_bytes m)) in
     record { store = kept.store ∙ with_same (store_of m) (bytes_of n) (with_moved (store_of m).bytes from block len) b; kept = kept }

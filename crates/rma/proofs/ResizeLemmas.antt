@@ -1,10 +1,10 @@
 -- Where a claim, and a change of a block's size, can't be refused.
-use Rattle.std.proofs.Common.{◌≡◌, ℕ, ◌+◌, ◌-◌, ◌==◌, ◌<◌, ◌≤◌, ◌⊎◌, Bool, true, false, List, [], ◌∷◌, refl, sym, ap, ◌∙◌, Some, None, Ok, Err, inl, inr, option_map, arith}
+use Rattle.std.proofs.Common.{if◌then◌else◌, ◌≡◌, ◌≢◌, ℕ, ◌+◌, ◌-◌, ◌==◌, ◌<◌, ◌≤◌, ◌⊎◌, Bool, true, false, List, [], ◌∷◌, refl, sym, ap, ◌∙◌, Some, None, Ok, Err, inl, inr, option_map, arith}
 use Rattle.std.specs.Prelude.{Option, Result, is_some, is_ok, ok_or, nat_le}
-use Rattle.std.proofs.lemmas.Bool.{cases_Bool, le-leb, leb-true, eqb-true, false_from_ne_true}
+use Rattle.std.proofs.lemmas.Bool.{cases_Bool, cases_eq, le-leb, leb-true, eqb-true, false_from_ne_true}
 use Rattle.profile.specs.Outcome.{bind}
 use Rattle.profile.specs.declared.error.ErrorNumber.{ErrorNumber}
-use Rattle.profile.specs.declared.error.ErrorNumber.TheVariants.{HeapNoRoom, HeapNotABlock}
+use Rattle.profile.specs.declared.error.ErrorNumber.TheVariants.{BlockHoldsHeap, HeapNoRoom, HeapNotABlock}
 use Rattle.address_map.proofs.Anchors.{among_none, none_among}
 use Rattle.address_map.specs.Items.{size_of}
 use Rattle.address_map.specs.Records.{anchor_among}
@@ -16,6 +16,7 @@ use Rattle.os_heap.specs.os_heap_lists.proofs.LiveBlocks.{IsStill, LiveBytes, cl
 use Rattle.os_heap.specs.os_heap_lists.proofs.Reading.{total_facts}
 use Rattle.os_heap.specs.os_heap_lists.proofs.Resizes.{last_some, unreleased}
 use Rattle.os_heap.specs.Calls.{copied, gave_back, got, handed_over, holding, holds_anchor, moved, resized, resized_or_moved}
+use Rattle.os_heap.specs.Forgetting.{forgot, holds_heap}
 use Rattle.os_heap.specs.Store.{Store, find_heap, has_image}
 use Rattle.os_heap.proofs.Moving.{found_held}
 use Rattle.rma.specs.Calls.{is_full}
@@ -61,7 +62,8 @@ given_back : (s : Store) (h : HeapList) (block total : ℕ) → find_heap h.star
     → holds_anchor s.anchor block (Some total) ≡ false → is_ok (gave_back s h.start block) ≡ true
 unfolding gave_back
 given_back s h block total found own none =
-    rw (found, own.own, own.live, none) (some_ok (released block (h.start + 16) h.items) HeapNotABlock (λ items. (holding s h items, tt))
+    rw (found, own.own, own.live, none)
+    (some_ok (released block (h.start + 16) h.items) HeapNotABlock (λ items. (holding (forgot s block total block) h items, tt))
     (can_release block (h.start + 16) total h.items own.live))
 
 -- a move, where there is room at the base
@@ -76,14 +78,26 @@ moved_by s h block total c found own still none =
     (given_back t k block total (found_held h.start c.items s.heaps h found) (record { own = own.own; live = still }) none)
 
 moved_fits : (s : Store) (h : HeapList) (block total new : ℕ) → find_heap h.start s.heaps ≡ Some h → AreTotals h.items → IsGuests s h block total
-    → holds_anchor s.anchor block (Some total) ≡ false → 16 + size_of h.items + new ≤ h.end → is_ok (moved s h block total new) ≡ true
-moved_fits s h block total new found totals own free fits =
+    → holds_anchor s.anchor block (Some total) ≡ false → holds_heap s.heaps block (total - 4) ≡ false → 16 + size_of h.items + new ≤ h.end
+    → is_ok (moved s h block total new) ≡ true
+moved_fits s h block total new found totals own free empty fits =
     go (claimed new (h.end - 16) h.items) (claim_fits new (h.end - 16) h.items (omega arith))
     (claim_still new (h.end - 16) block total (h.start + 16) h.items own.live totals) where
       go : (o : Option Claim) → is_some o ≡ true → IsStill block total (h.start + 16) o
-          → is_ok (bind (ok_or o HeapNoRoom) (λ c. handed_over h.start block (total - 4) (holding s h c.items) (h.start + 16 + c.offset + 4))) ≡ true
+          → is_ok (bind (ok_or o HeapNoRoom) (λ c. if holds_heap s.heaps block (total - 4) then Err BlockHoldsHeap else
+          handed_over h.start block (total - 4) (holding s h c.items) (h.start + 16 + c.offset + 4))) ≡ true
       go None some still = absurd (let no : false ≡ true = some in cc)
-      go (Some c) some still = moved_by s h block total c found own still free
+      go (Some c) some still = rw empty (moved_by s h block total c found own still free)
+
+-- and of one in which a heap lies, which is not done
+moved_holds : (s : Store) (h : HeapList) (block total new : ℕ) → holds_heap s.heaps block (total - 4) ≡ true → 16 + size_of h.items + new ≤ h.end
+    → moved s h block total new ≡ Err BlockHoldsHeap
+moved_holds s h block total new holds fits = go (claimed new (h.end - 16) h.items) (claim_fits new (h.end - 16) h.items (omega arith)) where
+  go : (o : Option Claim) → is_some o ≡ true
+      → bind (ok_or o HeapNoRoom) (λ c. if holds_heap s.heaps block (total - 4) then Err BlockHoldsHeap else
+      handed_over h.start block (total - 4) (holding s h c.items) (h.start + 16 + c.offset + 4)) ≡ Err BlockHoldsHeap
+  go None some = absurd (let no : false ≡ true = some in cc)
+  go (Some c) some = rw holds refl
 
 -- no anchor lies in what is cut off a block that holds none, or off one that grows
 uncut : (anchor : ℕ → Bool) (at old new : ℕ) → old ≤ new → anchor_among anchor at (old - new) ≡ false
@@ -96,7 +110,8 @@ part_free anchor at old new none =
 -- a change of a block's size, where there is room for more in its place, or at the base for one that holds no anchor
 placed_or_moved : (s : Store) (h : HeapList) (block total new : ℕ) → find_heap h.start s.heaps ≡ Some h → AreTotals h.items → IsGuests s h block total
     → (o : Option (List Item))
-    → ((is_some o ≡ true) × (total < new)) ⊎ ((holds_anchor s.anchor block (Some total) ≡ false) × (16 + size_of h.items + new ≤ h.end))
+    → ((is_some o ≡ true) × (total < new))
+    ⊎ ((holds_anchor s.anchor block (Some total) ≡ false) × ((holds_heap s.heaps block (total - 4) ≡ false) × (16 + size_of h.items + new ≤ h.end)))
     → is_ok (resized_or_moved s h block total new o) ≡ true
 placed_or_moved s h block total new found totals own (Some items) (inl room) =
     rw (uncut s.anchor (block - 4 + new) total new (omega (arith, room.1))) refl
@@ -104,13 +119,14 @@ placed_or_moved s h block total new found totals own (Some items) (inr room) = r
 placed_or_moved s h block total new found totals own None (inl room) = absurd (let some = room.0 in let no : false ≡ true = some in cc)
 placed_or_moved s h block total new found totals own None (inr room) =
     let none = room.0 in
-    rw none (moved_fits s h block total new found totals own room.0 room.1)
+    rw none (moved_fits s h block total new found totals own room.0 room.1.0 room.1.1)
 
 pub resized_fits : (s : Store) (h : HeapList) (block total change : ℕ) → find_heap h.start s.heaps ≡ Some h → AreTotals h.items
     → IsGuests s h block total
     → ((is_some (resized_in_place block (h.start + h.end) (round_up_8 (changed_by total change)) (h.start + 16) h.items) ≡ true)
     × (total < round_up_8 (changed_by total change)))
-    ⊎ ((holds_anchor s.anchor block (Some total) ≡ false) × (16 + size_of h.items + round_up_8 (changed_by total change) ≤ h.end))
+    ⊎ ((holds_anchor s.anchor block (Some total) ≡ false)
+    × ((holds_heap s.heaps block (total - 4) ≡ false) × (16 + size_of h.items + round_up_8 (changed_by total change) ≤ h.end)))
     → is_ok (resized s h.start block change) ≡ true
 unfolding resized
 resized_fits s h block total change found totals own room =
@@ -146,6 +162,72 @@ full_free s heap h block total change found own full =
             | inl cut ↦ let t = rw (found, own.own, own.live, more, is, cut) at full in let no : false ≡ true = t in cc
             | inr none ↦ let t = rw (found, own.own, own.live, more, is, none) at full in let no : false ≡ true = t in cc
           ]
+
+-- and would have to move
+pub record IsMoving (h : HeapList) (block total change : ℕ) : Type 0 where
+  pub more : nat_le (changed_by total change) 4 ≡ false
+  pub none : resized_in_place block (h.start + h.end) (round_up_8 (changed_by total change)) (h.start + 16) h.items ≡ None
+
+pub full_moves : (s : Store) (heap : ℕ) (h : HeapList) (block total change : ℕ) → find_heap heap s.heaps ≡ Some h → IsGuests s h block total
+    → is_full (resized s heap block change) ≡ true → IsMoving h block total change
+unfolding resized gave_back
+full_moves s heap h block total change found own full = elim (cases_Bool (nat_le (changed_by total change) 4)) [
+  | inl few ↦ absurd (not_freed few (released block (h.start + 16) h.items) refl)
+  | inr more ↦ record {
+    more = more;
+    none = stuck more (resized_in_place block (h.start + h.end) (round_up_8 (changed_by total change)) (h.start + 16) h.items) refl;
+  }
+] where
+  not_freed : nat_le (changed_by total change) 4 ≡ true → (o : Option (List Item)) → released block (h.start + 16) h.items ≡ o → ⊥
+  not_freed few None is = let t = rw (found, own.own, own.live, few, is) at full in let no : false ≡ true = t in cc
+  not_freed few (Some items) is = elim (cases_Bool (holds_anchor s.anchor block (Some total))) [
+    | inl held ↦ let t = rw (found, own.own, own.live, few, is, held) at full in let no : false ≡ true = t in cc
+    | inr free ↦ let t = rw (found, own.own, own.live, few, is, free) at full in let no : false ≡ true = t in cc
+  ]
+
+  stuck : nat_le (changed_by total change) 4 ≡ false → (o : Option (List Item))
+      → resized_in_place block (h.start + h.end) (round_up_8 (changed_by total change)) (h.start + 16) h.items ≡ o
+      → resized_in_place block (h.start + h.end) (round_up_8 (changed_by total change)) (h.start + 16) h.items ≡ None
+  stuck more None is = is
+  stuck more (Some items) is =
+      absurd (elim (cases_Bool (anchor_among s.anchor (block - 4 + round_up_8 (changed_by total change)) (total - round_up_8 (changed_by total change)))) [
+        | inl cut ↦ let t = rw (found, own.own, own.live, more, is, cut) at full in let no : false ≡ true = t in cc
+        | inr none ↦ let t = rw (found, own.own, own.live, more, is, none) at full in let no : false ≡ true = t in cc
+      ])
+
+pub resized_holds : (s : Store) (h : HeapList) (block total change : ℕ) → find_heap h.start s.heaps ≡ Some h → IsGuests s h block total
+    → IsMoving h block total change → holds_anchor s.anchor block (Some total) ≡ false → holds_heap s.heaps block (total - 4) ≡ true
+    → 16 + size_of h.items + round_up_8 (changed_by total change) ≤ h.end → resized s h.start block change ≡ Err BlockHoldsHeap
+unfolding resized
+resized_holds s h block total change found own moving free holds fits =
+    rw (found, own.own, own.live, moving.more, moving.none, free) (moved_holds s h block total (round_up_8 (changed_by total change)) holds fits)
+
+-- a block that is not the last gets no room by a later end of its heap
+refit_stays : (room more new t : ℕ) (xs : List Item) → 0 < size_of xs → refitted room new t xs ≡ refitted more new t xs
+refit_stays room more new t [] some = absurd (omega arith)
+refit_stays room more new t (Live u ∷ xs) some = refl
+refit_stays room more new t (Free u ∷ xs) some = refl
+
+pub in_place_stays : (block end later new at total : ℕ) (xs : List Item) → live_total block at xs ≡ Some total → block + total ≢ at + size_of xs + 4
+    → resized_in_place block end new at xs ≡ resized_in_place block later new at xs
+in_place_stays block end later new at total [] live other = absurd (let no : None ≡ Some total = live in cc)
+in_place_stays block end later new at total (Free t ∷ xs) live other =
+    ap (option_map (λ ys. Free t ∷ ys)) (in_place_stays block end later new (at + t) total xs live (λ (e : block + total ≡ at + t + size_of xs + 4). other (omega arith)))
+in_place_stays block end later new at total (Live t ∷ xs) live other = elim (cases_Bool (at + 4 == block)) [
+  | inl here ↦
+      let found = rw here at live in
+      let same : t ≡ total = cc in
+      let e : at + 4 ≡ block = eqb-true (at + 4) block here in
+      let some : 0 < size_of xs = elim (cases_eq (size_of xs) 0) [
+        | inl none ↦ absurd (other (omega (arith, e, same, none)))
+        | inr more ↦ omega arith
+      ] in
+      rw here (refit_stays (end - at) (later - at) new t xs some)
+  | inr away ↦
+      let live' = rw away at live in
+      rw away (ap (option_map (λ ys. Live t ∷ ys))
+      (in_place_stays block end later new (at + t) total xs live' (λ (e : block + total ≡ at + t + size_of xs + 4). other (omega arith))))
+]
 
 -- the last block gets what bytes there are behind it
 some_mapped : (f : List Item → List Item) (o : Option (List Item)) → is_some o ≡ true → is_some (option_map f o) ≡ true

@@ -14,9 +14,11 @@ use Rattle.os_heap.specs.os_heap_lists.proofs.ClaimedLists.{HasTotals, IsUnheld,
 use Rattle.os_heap.specs.os_heap_lists.proofs.LiveBlocks.{IsFresh, IsStill, LiveBytes, claim_fresh, claim_still, live_apart, live_bytes}
 use Rattle.os_heap.specs.os_heap_lists.proofs.ReleaseOfClaim.{gives_back}
 use Rattle.os_heap.specs.os_heap_lists.proofs.Spelling.{total_of-numbers}
-use Rattle.os_heap.specs.Calls.{gave_back, got, holding, holds_anchor, items_of, with_items}
+use Rattle.os_heap.specs.Calls.{gave_back, got, holding, holds_anchor, items_of, total_or_0, with_items}
+use Rattle.os_heap.specs.Forgetting.{forgot}
 use Rattle.os_heap.specs.Store.{IsSound, Store, find_heap, has_image}
 use Rattle.os_heap.proofs.Anchored.{place_in}
+use Rattle.os_heap.proofs.KeptPayloads.{own_there}
 use Rattle.os_heap.proofs.Moving.{found_held}
 use Rattle.flex_kept.specs.dynamic_areas.specs.Ground.{Estate, IsEstate}
 use Rattle.rma.specs.Calls.{is_full, or_grown, rma_base, rma_claimed, rma_freed, with_store}
@@ -60,18 +62,23 @@ claim_unanchored s h n c sound total found heap made =
 undone : (e : Estate) (h : HeapList) (size : ℕ) (c : Claim) → h.start ≡ 0x01800000 → find_heap 0x01800000 e.store.heaps ≡ Some h
     → released (h.start + 16 + c.offset + 4) (h.start + 16) c.items ≡ Some h.items → has_image (h.start + 16 + c.offset + 4) e.store.others ≡ false
     → holds_anchor e.store.anchor (h.start + 16 + c.offset + 4) (live_total (h.start + 16 + c.offset + 4) (h.start + 16) c.items) ≡ false
-    → IsUndone e (rma_freed (with_store e (holding e.store h c.items)) (h.start + 16 + c.offset + 4))
+    → AreTotals c.items → IsUndone e (rma_freed (with_store e (holding e.store h c.items)) (h.start + 16 + c.offset + 4))
 unfolding rma_freed gave_back items_of
-undone e h size c start found back own free =
+undone e h size c start found back own free totals =
     let s : Store = e.store in
     let k : HeapList = record { kind = h.kind; start = h.start; end = h.end; items = c.items } in
     let there : find_heap 0x01800000 (with_items h.start c.items s.heaps) ≡ Some k =
     subst (λ (p : ℕ). find_heap 0x01800000 (with_items p c.items s.heaps) ≡ Some k) (sym start) (found_held 0x01800000 c.items s.heaps h found) in
-    let last : find_heap 0x01800000 (with_items h.start h.items (with_items h.start c.items s.heaps))
-    ≡ Some (record { kind = h.kind; start = h.start; end = h.end; items = h.items }) =
-    subst (λ (p : ℕ). find_heap 0x01800000 (with_items p h.items (with_items h.start c.items s.heaps))
-    ≡ Some (record { kind = h.kind; start = h.start; end = h.end; items = h.items })) (sym start)
-    (found_held 0x01800000 h.items (with_items h.start c.items s.heaps) k there) in
+    let block : ℕ = h.start + 16 + c.offset + 4 in
+    let t : Store = holding s h c.items in
+    let total : Option ℕ = live_total block (h.start + 16) c.items in
+    let v : Store = forgot t block (total_or_0 total) block in
+    let own_place : find_heap k.start t.heaps ≡ Some k = subst (λ (p : ℕ). find_heap p t.heaps ≡ Some k) (sym start) there in
+    let left : find_heap 0x01800000 v.heaps ≡ Some k =
+    subst (λ (p : ℕ). find_heap p v.heaps ≡ Some k) start (own_there t k block total totals own_place refl) in
+    let last : find_heap 0x01800000 (with_items h.start h.items v.heaps) ≡ Some (record { kind = h.kind; start = h.start; end = h.end; items = h.items }) =
+    subst (λ (p : ℕ). find_heap 0x01800000 (with_items p h.items v.heaps)
+    ≡ Some (record { kind = h.kind; start = h.start; end = h.end; items = h.items })) (sym start) (found_held 0x01800000 h.items v.heaps k left) in
     rw (there, own, back, free, last, found) (refl, (refl, refl))
 
 claim_undone : (e : Estate) (h : HeapList) (size end : ℕ) (call : Store → Result (Store × ℕ) ErrorNumber) → h.start ≡ 0x01800000
@@ -86,6 +93,7 @@ claim_undone e h size end call start found totals spaced sound heap (Some c) mad
     let total : is_total (total_for size) ≡ true = total_of-numbers (total_for size) (omega arith) (omega arith) in
     undone e h size c start found (gives_back (total_for size) (h.end - 16) (h.start + 16) h.items c totals spaced made) own
     (claim_unanchored e.store h (total_for size) c sound total there heap made)
+    (subst HasTotals made (claim_totals (total_for size) (h.end - 16) h.items total totals))
 
 claim_by : (e : Estate) (size : ℕ) → IsEstate e → is_full (got e.store 0x01800000 size) ≡ false → IsUndoneBy e (rma_claimed e size)
 unfolding rma_claimed got

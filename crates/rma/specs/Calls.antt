@@ -4,9 +4,10 @@
 use Rattle.std.specs.Prelude.{ℕ, Bool, true, false, ◌+◌, ◌-◌, ◌*◌, ◌==◌, nat_le, nat_lt, Option, Some, None, Result, Ok, Err, if◌then◌else◌}
 use Rattle.profile.specs.Outcome.{bind}
 use Rattle.profile.specs.declared.error.ErrorNumber.{ErrorNumber}
-use Rattle.profile.specs.declared.error.ErrorNumber.TheVariants.{HeapNotABlock, HeapHoldsAnchor, HeapNoRoom, RmaNotABlock, RmaHoldsAnchor, RmaNoRoom}
+use Rattle.profile.specs.declared.error.ErrorNumber.TheVariants.{HeapNotABlock, HeapHoldsAnchor, HeapNoRoom, BlockHoldsHeap, RmaNotABlock, RmaHoldsAnchor, RmaNoRoom, RmaBlockHoldsHeap}
 use Rattle.os_heap.specs.os_heap_lists.specs.Lists.{round_up_8, total_for, changed_by}
 use Rattle.os_heap.specs.Calls.{described, got, gave_back, resized, block_sized}
+use Rattle.os_heap.specs.Forgetting.{holds_heap}
 use Rattle.os_heap.specs.Room.{base_offset}
 use Rattle.os_heap.specs.Store.{Store}
 use Rattle.flex_kept.specs.dynamic_areas.specs.declared.area.Area.{Area}
@@ -20,6 +21,7 @@ abbrev pub rma_error : ErrorNumber → ErrorNumber
 rma_error HeapNotABlock = RmaNotABlock
 rma_error HeapHoldsAnchor = RmaHoldsAnchor
 rma_error HeapNoRoom = RmaNoRoom
+rma_error BlockHoldsHeap = RmaBlockHoldsHeap
 rma_error other = other
 
 abbrev pub with_store : Estate → Store → Estate
@@ -97,7 +99,8 @@ unfoldable pub rma_freed : Estate → ℕ → Result (Estate × Unit {0}) ErrorN
 rma_freed e block = in_area e (gave_back e.store 0x01800000 block)
 
 -- Reason 13, extend: a block's size changes as in a heap. But first the area grows for the last block, where that needs it and can have it, so that
--- it gets its bytes where it stands; and where a block must move, the area grows for its new place if no free room fits.
+-- it gets its bytes where it stands; and where a block must move, the area grows for its new place if no free room fits. A block in which a heap lies
+-- is not moved: that is told where the area could grow, which it does not then.
 abbrev pub total_changed : ℕ → ℕ → ℕ
 total_changed size change = round_up_8 (changed_by (size + 4) change)
 
@@ -127,3 +130,8 @@ resized_or_grown e block change =
 
 unfoldable pub rma_extended : Estate → ℕ → ℕ → Result (Estate × ℕ) ErrorNumber
 rma_extended e block change = resized_or_grown (grown_in_place e block change) block change
+
+-- does a heap lie in a block of the guest's, which holds so many bytes?
+abbrev pub block_holds : Store → ℕ → Result ℕ ErrorNumber → Bool
+block_holds s block (Err f) = false
+block_holds s block (Ok size) = holds_heap s.heaps block size

@@ -3,14 +3,15 @@
 use Rattle.std.specs.Prelude.{ℕ, ◌*◌, ◌&&◌, not, Bool}
 use Rattle.std.specs.List.{list_any, range_with_len}
 use Rattle.address_map.specs.Bytes.{in_range}
-use Rattle.os_heap.specs.Payloads.{is_other, payload_of}
+use Rattle.os_heap.specs.Payloads.{area_payload, is_other}
 use Rattle.os_heap.specs.Ranges.{are_mapped}
 use Rattle.flex_kept.specs.dynamic_areas.specs.Ground.{Estate}
 use Rattle.rma.specs.Calls.{area_pages}
 
--- is a byte one of the module area's that no live block holds: of the heap's own words, of free room, or past the base?
+-- Is a byte one of the module area's that no live block holds: of the heap's own words, of free room, or past the base? What a block holds may be a
+-- heap's, with its words.
 abbrev pub is_bare : Estate → ℕ → Bool
-is_bare e a = in_range 0x01800000 (4096 * area_pages e) a && is_other (payload_of e.store.heaps a)
+is_bare e a = in_range 0x01800000 (4096 * area_pages e) a && is_other (area_payload e.store a)
 
 abbrev pub has_bare : Estate → ℕ → ℕ → Bool
 has_bare e at len = list_any (is_bare e) (range_with_len at len)

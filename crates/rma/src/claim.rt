@@ -5,6 +5,7 @@ ghost use Rattle.address_map.specs.Bytes.{in_range};
 ghost use Rattle.address_map.specs.Memory.{StaysInPlace};
 ghost use Rattle.os_heap.specs.os_heap_lists.specs.Lists.{total_for};
 ghost use Rattle.os_heap.specs.Calls.{got};
+ghost use Rattle.os_heap.specs.Forgetting.{holds_heap};
 ghost use Rattle.os_heap.specs.Order.{KeepsOrder};
 ghost use Rattle.os_heap.specs.Store.{store_of, AreClasses};
 ghost use Rattle.flex_kept.specs.dynamic_areas.specs.Ground.{estate_of, IsEstate};
@@ -48,6 +49,7 @@ impl Rma {
         ensures stays { StaysInPlace map.old map.new }
         ensures places { KeepsPlaces map.old map.new }
         ensures live { IfOk result (λ block. IsLiveBlock (store_of map.new) block (total_for size)) }
+        ensures unheaped { IfOk result (λ block. holds_heap (store_of map.new).heaps block (total_for size - 4) ≡ false) }
         ensures inside { IfOk result (λ block. in_range module_area_start module_area_maximum block ≡ true) }
         ensures alone { IfOk result (λ block. is_in_record (store_of map.old).others block ≡ false) }
         ensures flex { KeepsFlex (store_of map.old) (store_of map.new) }
@@ -75,6 +77,7 @@ fn claim_grown(map: &mut AddressMap, areas: &mut Areas, size: u32) -> Result<u32
     ensures order { KeepsOrder map.old map.new }
     ensures places { KeepsPlaces map.old map.new }
     ensures live { IfOk result (λ block. IsLiveBlock (store_of map.new) block (total_for size)) }
+    ensures unheaped { IfOk result (λ block. holds_heap (store_of map.new).heaps block (total_for size - 4) ≡ false) }
     ensures inside { IfOk result (λ block. in_range module_area_start module_area_maximum block ≡ true) }
     ensures alone { IfOk result (λ block. is_in_record (store_of map.old).others block ≡ false) }
     ensures flex { KeepsFlex (store_of map.old) (store_of map.new) }

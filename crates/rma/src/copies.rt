@@ -35,7 +35,7 @@ fn has_bare(map: &AddressMap, areas: &Areas, at: u32, len: u32) -> bool
     if u64::from(first) >= to {
         return false;
     }
-    match Heaps::new().live_payload(map, first) {
+    match Heaps::new().live_payload_in(map, RMA_START, first) {
         Payload::Inside {
             at: block,
             len: held,

@@ -11,6 +11,7 @@ pub(crate) fn rma_error(error: ErrorNumber) -> ErrorNumber
         ErrorNumber::HeapNotABlock => ErrorNumber::RmaNotABlock,
         ErrorNumber::HeapHoldsAnchor => ErrorNumber::RmaHoldsAnchor,
         ErrorNumber::HeapNoRoom => ErrorNumber::RmaNoRoom,
+        ErrorNumber::BlockHoldsHeap => ErrorNumber::RmaBlockHoldsHeap,
         other => other,
     }
 }

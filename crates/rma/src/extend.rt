@@ -1,17 +1,18 @@
-ghost use Rattle.std.specs.Prelude.{◌≡◌, ◌<◌, ◌+◌, ◌^◌, true};
+ghost use Rattle.std.specs.Prelude.{◌≡◌, ◌<◌, ◌+◌, ◌^◌, true, is_ok, if◌then◌else◌};
 ghost use Rattle.profile.specs.Outcome.{Gives};
+ghost use Rattle.profile.specs.declared.error.ErrorNumber.TheVariants.{RmaBlockHoldsHeap, RmaNoRoom};
 ghost use Rattle.address_map.specs.Memory.{StaysInPlace};
 ghost use Rattle.os_heap.specs.Calls.{block_sized, resized};
-ghost use Rattle.os_heap.specs.Order.{KeepsOrder};
+ghost use Rattle.os_heap.specs.Order.{KeepsOrder, LosesInOrder};
 ghost use Rattle.os_heap.specs.Store.{store_of, AreClasses, IsSound};
 ghost use Rattle.flex_kept.specs.dynamic_areas.specs.Ground.{estate_of, IsEstate};
 ghost use Rattle.flex_kept.specs.Keeping.{KeepsFlex};
-ghost use Rattle.rma.specs.Calls.{end_if_moved, end_in_place, grown_in_place, in_grown_area, is_full, rma_base, rma_extended, total_changed};
+ghost use Rattle.rma.specs.Calls.{block_holds, end_if_moved, end_in_place, grown_in_place, grown_to, in_grown_area, is_full, rma_base, rma_extended, total_changed};
 ghost use Rattle.rma.specs.Places.{KeepsPlaces};
 
 use crate::area::Rma;
 use crate::errors::{is_no_room, rma_error};
-use crate::growth::grow_to;
+use crate::growth::{can_grow_to, grow_to};
 use address_map::AddressMap;
 use flex_kept::dynamic_areas::Areas;
 use os_heap::{Heaps, changed_by, round_up_8};
@@ -21,13 +22,14 @@ use profile::memory_map::RMA_START;
 impl Rma {
     /// Changes the size of a block by `change` bytes, a signed word in two's complement, and answers the address of its first byte then; or 0
     /// where no byte is left, and the block is given back. The block stays where it is if there is room; for the last block the area grows, if
-    /// it can. Else it moves to a block that is claimed as `claim` does, and takes its bytes along.
+    /// it can. Else it moves to a block that is claimed as `claim` does, and takes its bytes along. The heaps of which bytes are freed or cut off are
+    /// forgotten, and those that lie in them.
     ///
     /// # Errors
     ///
     /// The first of these, and nothing is changed then: `RmaNotABlock` where no block's bytes begin at `block`, or they are a module image;
     /// `RmaHoldsAnchor` where an anchor of the flex store lies in what is freed, cut off or moved; `RmaNoRoom` where it must move, and nothing
-    /// fits, and the pool or the maximum does not allow the growth that would do.
+    /// fits, and the pool or the maximum does not allow the growth that would do; `RmaBlockHoldsHeap` where it must move, and a heap lies in it.
     ///
     /// RISC OS 3 Programmer's Reference Manual, "OS_Module", reason 13.
     pub fn extend(
@@ -44,7 +46,7 @@ impl Rma {
         ensures estate { IsEstate (estate_of map.new areas.new) }
         ensures classes { AreClasses map.new }
         ensures others { (store_of map.new).others ≡ (store_of map.old).others }
-        ensures order { KeepsOrder map.old map.new }
+        ensures records { LosesInOrder map.old map.new }
         ensures stays { StaysInPlace map.old map.new }
         ensures flex { KeepsFlex (store_of map.old) (store_of map.new) }
         ensures sizes { areas.new.sizes ≡ areas.old.sizes }
@@ -75,7 +77,7 @@ fn grow_in_place(map: &mut AddressMap, areas: &mut Areas, block: u32, change: u3
     let _ = grow_to(map, areas, end);
 }
 
-/// Moves a block that found no room, once the area is grown.
+/// Moves a block that found no room, once the area is grown. One in which a heap lies is not moved, and the area does not grow for it.
 fn move_grown(
     map: &mut AddressMap,
     areas: &mut Areas,
@@ -85,6 +87,7 @@ fn move_grown(
     requires estate { IsEstate (estate_of map.old areas.old) }
     requires classes { AreClasses map.old }
     requires full { is_full (resized (store_of map.old) 0x01800000 block change) ≡ true }
+    requires tried { grown_in_place (estate_of map.old areas.old) block change ≡ estate_of map.old areas.old }
     ensures moved { Gives (estate_of map.old areas.old)
         (in_grown_area (estate_of map.old areas.old)
         (end_if_moved (rma_base (store_of map.old)) change (block_sized (store_of map.old) 0x01800000 block))
@@ -92,16 +95,44 @@ fn move_grown(
     ensures estate { IsEstate (estate_of map.new areas.new) }
     ensures classes { AreClasses map.new }
     ensures others { (store_of map.new).others ≡ (store_of map.old).others }
-    ensures order { KeepsOrder map.old map.new }
+    ensures records { LosesInOrder map.old map.new }
     ensures places { KeepsPlaces map.old map.new }
     ensures flex { KeepsFlex (store_of map.old) (store_of map.new) }
     ensures sizes { areas.new.sizes ≡ areas.old.sizes }
 {
     let end = end_if_moved(map, block, change);
+    if holds_heap(map, block) {
+        return Err(why_unmoved(map, areas, end));
+    }
     grow_to(map, areas, end)?;
     match Heaps::new().resize(map, RMA_START, block, change).answer {
         Ok(new) => Ok(new),
         Err(error) => Err(rma_error(error)),
+    }
+}
+
+/// Whether a heap lies in a block of the module area.
+fn holds_heap(map: &AddressMap, block: u32) -> bool
+    requires { IsSound (store_of map.now) }
+    ensures { result ≡ block_holds (store_of map.now) block (block_sized (store_of map.now) 0x01800000 block) }
+{
+    let heaps = Heaps::new();
+    match heaps.block_size(map, RMA_START, block).answer {
+        Ok(size) => heaps.holds_heap(map, block, size),
+        Err(_) => false,
+    }
+}
+
+/// Why a block in which a heap lies is not moved: because of that heap, where the area could grow for it.
+fn why_unmoved(map: &AddressMap, areas: &Areas, end: u64) -> ErrorNumber
+    requires { IsEstate (estate_of map.now areas.now) }
+    ensures { result
+        ≡ (if is_ok (grown_to (estate_of map.now areas.now) end) then RmaBlockHoldsHeap else RmaNoRoom) }
+{
+    if can_grow_to(map, areas, end) {
+        ErrorNumber::RmaBlockHoldsHeap
+    } else {
+        ErrorNumber::RmaNoRoom
     }
 }
 

@@ -1,9 +1,10 @@
 ghost use Rattle.std.specs.Prelude.{◌≡◌};
 ghost use Rattle.profile.specs.Outcome.{Gives};
-ghost use Rattle.address_map.specs.Memory.{layout};
+ghost use Rattle.address_map.specs.Memory.{mapping};
 ghost use Rattle.os_heap.specs.Store.{AreClasses};
 ghost use Rattle.flex_kept.specs.dynamic_areas.specs.Areas.{Land};
 ghost use Rattle.flex_kept.specs.dynamic_areas.specs.Ground.{estate_of, IsEstate};
+ghost use Rattle.os_heap.specs.Order.{LosesHeaps};
 ghost use Rattle.os_heap.specs.Store.{store_of, IsSound};
 ghost use Rattle.flex_kept.specs.Keeping.{KeepsFlex};
 ghost use Rattle.rma.specs.Calls.{rma_freed};
@@ -16,7 +17,7 @@ use profile::ErrorNumber;
 use profile::memory_map::RMA_START;
 
 impl Rma {
-    /// Gives the block whose first byte is at `block` back to the module area, which keeps its size.
+    /// Gives the block whose first byte is at `block` back to the module area, which keeps its size. The heaps that lie in the block are forgotten.
     ///
     /// # Errors
     ///
@@ -32,7 +33,9 @@ impl Rma {
         ensures sound { IsSound (store_of map.new) }
         ensures estate { (l : Land) → IsEstate (estate_of map.old l) → IsEstate (estate_of map.new l) }
         ensures classes { AreClasses map.new }
-        ensures layout { layout map.new ≡ layout map.old }
+        ensures others { (store_of map.new).others ≡ (store_of map.old).others }
+        ensures mapping { mapping map.new ≡ mapping map.old }
+        ensures records { LosesHeaps map.old map.new }
         ensures flex { KeepsFlex (store_of map.old) (store_of map.new) }
     {
         match Heaps::new().free(map, RMA_START, block).answer {

@@ -1,4 +1,4 @@
-ghost use Rattle.std.specs.Prelude.{◌≡◌, ◌*◌};
+ghost use Rattle.std.specs.Prelude.{◌≡◌, ◌*◌, is_ok};
 ghost use Rattle.profile.specs.Outcome.{Leaves};
 ghost use Rattle.os_heap.specs.Order.{KeepsOrder};
 ghost use Rattle.os_heap.specs.Store.{store_of, AreClasses};
@@ -34,20 +34,30 @@ pub(crate) fn grow_to(map: &mut AddressMap, areas: &mut Areas, end: u64) -> Resu
     ensures flex { KeepsFlex (store_of map.old) (store_of map.new) }
     ensures sizes { areas.new.sizes ≡ areas.old.sizes }
 {
+    if !can_grow_to(map, areas, end) {
+        return Err(ErrorNumber::RmaNoRoom);
+    }
+    let size = u64::from(area_size(areas));
+    if end > size {
+        areas.change(map, MODULE_AREA, (end - size) as u32);
+    }
+    Ok(())
+}
+
+/// Whether the module area can grow so that its heap reaches to `end`, or has that size.
+pub(crate) fn can_grow_to(map: &AddressMap, areas: &Areas, end: u64) -> bool
+    requires { IsEstate (estate_of map.now areas.now) }
+    ensures { result ≡ is_ok (grown_to (estate_of map.now areas.now) end) }
+{
     let size = area_size(areas);
     if end <= u64::from(size) {
-        return Ok(());
+        return true;
     }
     if end > u64::from(RMA_MAXIMUM) {
-        return Err(ErrorNumber::RmaNoRoom);
+        return false;
     }
-    let amount = end as u32 - size;
-    let measured = areas.measure(map, MODULE_AREA, amount);
-    if measured.error.is_some() {
-        return Err(ErrorNumber::RmaNoRoom);
-    }
-    areas.change(map, MODULE_AREA, amount);
-    Ok(())
+    let measured = areas.measure(map, MODULE_AREA, end as u32 - size);
+    measured.error.is_none()
 }
 
 /// The size of the module area, in bytes.

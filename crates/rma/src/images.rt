@@ -1,9 +1,10 @@
 ghost use Rattle.std.specs.Prelude.{◌≡◌, IfOk, MatchResult};
+ghost use Rattle.std.specs.List.{filter};
 ghost use Rattle.address_map.specs.Memory.{mapping, regions};
 ghost use Rattle.address_map.specs.Records.{without_region};
 ghost use Rattle.address_map.specs.declared.region.Kind.TheVariants.{Image};
 ghost use Rattle.os_heap.specs.Calls.{block_sized};
-ghost use Rattle.os_heap.specs.Order.{AddsRecord, KeepsOrder};
+ghost use Rattle.os_heap.specs.Order.{stays, AddsRecord, KeepsOrder};
 ghost use Rattle.os_heap.specs.Store.{store_of, AreClasses, IsSound};
 ghost use Rattle.flex_kept.specs.dynamic_areas.specs.Areas.{Land};
 ghost use Rattle.flex_kept.specs.dynamic_areas.specs.Ground.{estate_of, IsEstate};
@@ -16,11 +17,11 @@ use os_heap::Heaps;
 use profile::memory_map::RMA_START;
 
 impl Rma {
-    /// Records the block whose first byte is at `at` as a module image, over all bytes that it holds; no call gives it back or moves it then,
-    /// but a slide, which the record follows. Where no block of a guest's is there nothing is done.
+    /// Records the block whose first byte is at `at`, in which no heap lies, as a module image, over all bytes that it holds; no call gives it back or
+    /// moves it then, but a slide, which the record follows. Where no block of a guest's is there nothing is done.
     pub fn record_image(&self, map: &mut AddressMap, at: u32)
         requires sound { IsSound (store_of map.old) }
-        requires may { CanRecord (store_of map.old) }
+        requires may { CanRecord (store_of map.old) at }
         ensures store { store_of map.new ≡ image_recorded (store_of map.old) at }
         ensures sound { IsSound (store_of map.new) }
         ensures estate { (l : Land) → IsEstate (estate_of map.old l) → IsEstate (estate_of map.new l) }
@@ -52,8 +53,8 @@ impl Rma {
         map.disown(Kind::Image, at);
     }
 
-    /// Gives the block of a module image back: its record goes, and its room is free then. Of a block that is no image the same is done, and
-    /// where no block is nothing more.
+    /// Gives the block of a module image back: its record goes, and its room is free then. Of a block that is no image the same is done, the heaps in
+    /// it are forgotten, and where no block is nothing more.
     pub fn free_image(&self, map: &mut AddressMap, at: u32)
         requires sound { IsSound (store_of map.old) }
         requires classes { AreClasses map.old }
@@ -62,7 +63,7 @@ impl Rma {
         ensures estate { (l : Land) → IsEstate (estate_of map.old l) → IsEstate (estate_of map.new l) }
         ensures classes { AreClasses map.new }
         ensures mapping { mapping map.new ≡ mapping map.old }
-        ensures regions { regions map.new ≡ without_region (regions map.old) Image at }
+        ensures records { regions map.new ≡ filter (stays (store_of map.new).heaps) (without_region (regions map.old) Image at) }
         ensures flex { KeepsFlex (store_of map.old) (store_of map.new) }
     {
         self.drop_image(map, at);

@@ -5,6 +5,7 @@ ghost use Rattle.address_map.specs.Bytes.{in_range, AreMapped};
 ghost use Rattle.address_map.specs.Memory.{is_mapped, layout};
 ghost use Rattle.os_heap.specs.os_heap_lists.specs.Lists.{total_for};
 ghost use Rattle.os_heap.specs.Calls.{copied};
+ghost use Rattle.os_heap.specs.Forgetting.{holds_heap};
 ghost use Rattle.address_map.specs.declared.region.Kind.TheVariants.{Image};
 ghost use Rattle.os_heap.specs.Order.{AddsRecord, KeepsOrder};
 ghost use Rattle.os_heap.specs.Store.{store_of, AreClasses, IsSound, has_image};
@@ -109,6 +110,7 @@ impl Rma {
 fn fill(map: &mut AddressMap, block: u32, bytes: &[u8])
     requires sound { IsSound (store_of map.old) }
     requires live { IsLiveBlock (store_of map.old) block (total_for (length bytes.now)) }
+    requires unheaped { holds_heap (store_of map.old).heaps block (total_for (length bytes.now) - 4) ≡ false }
     requires unanchored { IsUnanchored (store_of map.old) block (total_for (length bytes.now) - 4) }
     ensures store { store_of map.new ≡ filled (store_of map.old) block bytes.now }
     ensures sound { IsSound (store_of map.new) }
@@ -125,6 +127,7 @@ fn fill(map: &mut AddressMap, block: u32, bytes: &[u8])
 fn fill_from(map: &mut AddressMap, block: u32, from: u32, len: u32)
     requires sound { IsSound (store_of map.old) }
     requires live { IsLiveBlock (store_of map.old) block (total_for len) }
+    requires unheaped { holds_heap (store_of map.old).heaps block (total_for len - 4) ≡ false }
     requires unanchored { IsUnanchored (store_of map.old) block (total_for len - 4) }
     requires source { AreMapped (is_mapped map.old) from len }
     ensures store { store_of map.new ≡ copied (store_of map.old) from block len }

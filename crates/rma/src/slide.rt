@@ -12,8 +12,8 @@ use profile::memory_map::RMA_START;
 
 impl Rma {
     /// Slides blocks of the module area towards its start. `movable` has the addresses of those that can be moved, in order, at most 128, none of which
-    /// holds an anchor of the flex store. Each of these goes to the end of the block before it, or to the place of the first item, where there is none;
-    /// all others stay. The blocks keep their bytes, and the records of module images follow them.
+    /// holds an anchor of the flex store or a heap. Each of these goes to the end of the block before it, or to the place of the first item, where there
+    /// is none; all others stay. The blocks keep their bytes, and the records of module images follow them.
     ///
     /// The answer has the old and the new address of each block that moved.
     ///

@@ -17,11 +17,12 @@ use Rattle.flex_kept.specs.Keeping.{AreAnchorsFree}
 use Rattle.flex_ground.proofs.Worlds.{begun_world, beside_begun}
 use Rattle.flex_ground.specs.Ground.{flex_state, records_with, spelled_store, with_flex_record}
 use Rattle.flex_store.proofs.Starting.{no_blocks}
-use Rattle.flex_store.specs.Blocks.{Block, contents, find_block, has_anchor, is_header, used}
+use Rattle.flex_store.specs.Blocks.{Block, FlexStore, contents, find_block, has_anchor, is_header, used}
+use Rattle.flex_laws.specs.Numbered.{SeenBlock, blocks_seen}
 use Rattle.flex_store.specs.Calls.{FlexState, begun, flex_record, is_flex_range, meets_ranges, with_flex}
 use Rattle.flex_store.specs.Laws.{contents_in}
 use Rattle.flex_store.specs.Memory.{AreAnchored, Holds, text_of}
-use Rattle.flex_store.specs.State.{AreOuterWords, AreWhole, is_recorded, is_store_record}
+use Rattle.flex_store.specs.State.{AreAnchorWords, AreInner, AreWhole, is_recorded, is_store_record}
 use Rattle.flex_store.specs.declared.flex.Extent.{Extent}
 use Rattle.flex_store.specs.declared.flex.Flex.{Flex}
 use Rattle.rma.proofs.ImageLemmas.{mapped_more}
@@ -33,7 +34,7 @@ use Rattle.store_laws.proofs.Called.{words_said}
 use Rattle.store_laws.proofs.Calling.{IsFollowedBy, stays}
 use Rattle.store_laws.specs.FlexStore.{IsSpelled, IsSpelledAt, IsUnmade, spelled_blocks}
 use Rattle.store_laws.specs.Laws.{IsFollowed}
-use Rattle.store_laws.specs.Meaning.{AreStores, Place, Stores, area_names, blocks_in, contents_of, images_in, meaning_of, payloads, place_in, seen, store_in}
+use Rattle.store_laws.specs.Meaning.{AreStores, Place, Stores, area_names, blocks_in, contents_of, flex_seen, images_in, meaning_of, payloads, place_in, seen, store_in}
 use Rattle.store_laws.specs.Turning.{Init, answer_of, answered, begun_with, left_by, turned, with_flexed}
 
 -- ranges that share no byte
@@ -210,7 +211,8 @@ module _ (x : Stores) (start end : ℕ) (are : AreStores x) (none : x.flex.exten
     range = record { start_aligned = r.start_aligned; end_aligned = r.end_aligned; there = r.there };
     fits = subst (λ (bs : List Block). start + used bs ≤ end) (sym blocks) (omega (arith, r.some));
     whole = subst AreWhole (sym blocks) tt;
-    words = subst (λ (bs : List Block). AreOuterWords (store_in x).bytes.mapped start end bs) (sym blocks) tt;
+    words = subst (λ (bs : List Block). AreAnchorWords (store_in x).bytes.mapped start end bs) (sym blocks) tt;
+    inner = subst (λ (bs : List Block). AreInner start end bs) (sym blocks) (λ a has. absurd (false≢true has));
     text = subst (λ (bs : List Block). Holds (store_in x).bytes.at start (text_of bs)) (sym blocks) (λ k below. absurd (omega (arith, below)));
     anchored = subst (λ (bs : List Block). AreAnchored (store_in x).bytes.at start bs) (sym blocks) tt;
     headers = λ a. ap (λ (bs : List Block). is_header start bs (word_start a)) (sym blocks);
@@ -245,14 +247,21 @@ module _ (x : Stores) (start end : ℕ) (are : AreStores x) (none : x.flex.exten
   unfolding y v e blocks
   new a = ap (λ (bs : List Block). option_map contents (find_block a bs)) blocks
 
+  old_seen : flex_seen x ≡ []
+  old_seen = ap (λ (o : Option Extent). blocks_seen (spelled_store (store_in x).bytes.at o)) none
+
+  new_seen : flex_seen y ≡ []
+  unfolding y v e blocks
+  new_seen = ap (λ (bs : List Block). let o : Option FlexStore = Some (record { start = start; end = end; blocks = bs }) in blocks_seen o) blocks
+
   place : (w : World) (o : Option (List ℕ)) (a : ℕ) → o ≡ None
       → (let p : Option Place = if is_some o then place_in a (find_heap 0x01800000 w.estate.store.heaps) else None in p ≡ None)
   place w o a gone = ap (λ (q : Option (List ℕ)). let p : Option Place = if is_some q then place_in a (find_heap 0x01800000 w.estate.store.heaps) else None in p) gone
 
   same : meaning_of y ≡ meaning_of x
-  unfolding meaning_of y v
+  unfolding meaning_of y v new_seen
   same = λ i. record {
-    flex = λ a. (new a ∙ sym (old a)) i;
+    flex = (new_seen ∙ sym old_seen) i;
     places = λ a. (place y.world (contents_of y a) a (new a) ∙ sym (place x.world (contents_of x a) a (old a))) i;
     blocks = same_blocks (store_in x) (store_in y) (find_heap 0x01800000 (store_in x).heaps) (λ j a. sym (unmade.anchors a) j) refl i;
     images = images_more (store_in x).bytes.at start end (store_in x).others i;
@@ -262,7 +271,7 @@ module _ (x : Stores) (start end : ℕ) (are : AreStores x) (none : x.flex.exten
   pub init_done : IsFollowedBy (Init start end) (Ok true) x (with_flexed x (with_flex_record (store_in x) start end) (with_flex (flex_state (store_in x) x.flex) start end))
   unfolding meaning_of y v stores same
   init_done = record {
-    rule = record { none = old; same = same };
+    rule = record { none = old_seen; same = same };
     words = λ slot word says. words_said x.world slot word says;
     modules = refl;
     stores = stores;

@@ -8,7 +8,7 @@ use Rattle.address_map.specs.Items.{size_of}
 use Rattle.address_map.specs.declared.region.Region.{Region}
 use Rattle.os_heap_lists.specs.Heap.{HeapList, IsHeapIn}
 use Rattle.os_heap.proofs.Found.{found_heap}
-use Rattle.os_heap.proofs.Stores.{image_kind}
+use Rattle.os_heap.proofs.Stores.{image_kind, placed_either}
 use Rattle.os_heap.specs.Store.{ArePlaced, IsClearOfHeaps, IsSound, Store, find_heap, is_image}
 use Rattle.dynamic_areas.specs.Ground.{IsRecorded, system_pages}
 use Rattle.flex_kept.proofs.Writes.{system_keeps}
@@ -25,7 +25,8 @@ use Rattle.store_laws.proofs.SlidLists.{map_same}
 use Rattle.store_laws.proofs.SlidWorlds.{slots_below}
 use Rattle.store_laws.proofs.Spelled.{spelled_kept}
 use Rattle.store_laws.specs.Besides.{StaysBehind, written}
-use Rattle.store_laws.specs.Meaning.{AreStores, Stores, area_blocks, area_images, area_names, area_places, blocks_in, contents_of, meaning_of, seen, store_in}
+use Rattle.flex_laws.specs.Numbered.{blocks_seen}
+use Rattle.store_laws.specs.Meaning.{AreStores, Stores, area_blocks, area_images, area_names, area_places, blocks_in, contents_of, flex_seen, meaning_of, seen, store_in}
 
 -- a heap has no byte of the system pages
 clear_of_heap : (at len start : ℕ) (hs : List HeapList) (h : HeapList) (a : ℕ) → IsClearOfHeaps at len hs → find_heap start hs ≡ Some h
@@ -43,7 +44,7 @@ system_clear : (hs : List HeapList) (rs : List Region) → ArePlaced hs rs → I
 system_clear hs [] placed there = absurd there
 system_clear hs (r ∷ rs) placed there = elim there [
   | inr later ↦ system_clear hs rs placed.1 later
-  | inl here ↦ elim (rw here at placed.0) [
+  | inl here ↦ elim (placed_either hs system_pages (rw here at placed.0)) [
     | inl clear ↦ clear
     | inr image ↦ absurd (true≢false (sym (image_kind hs system_pages image)))
   ]
@@ -74,6 +75,10 @@ module _ (x : Stores) (c : Bytes) (are : AreStores x)
   contents_stay : contents_of (written x c) ≡ contents_of x
   unfolding s kept
   contents_stay = ap contents_in (spelled_kept s (record s { bytes = c }) x.flex.extent are.flex.is kept)
+
+  seen_stays : flex_seen (written x c) ≡ flex_seen x
+  unfolding s kept
+  seen_stays = ap blocks_seen (spelled_kept s (record s { bytes = c }) x.flex.extent are.flex.is kept)
 
   heap_same : (h : HeapList) (a : ℕ) → find_heap 0x01800000 s.heaps ≡ Some h → h.start + 16 ≤ a → a < h.start + 16 + size_of h.items
       → c.at a ≡ s.bytes.at a
@@ -134,9 +139,9 @@ module _ (x : Stores) (c : Bytes) (are : AreStores x)
   places_stay = ap (λ (f : ℕ → Option (List ℕ)). area_places f x.world) contents_stay
 
   stays_behind : meaning_of (written x c) ≡ meaning_of x
-  unfolding meaning_of s contents_stay places_stay
+  unfolding meaning_of s contents_stay places_stay seen_stays
   stays_behind = λ i. record {
-    flex = contents_stay i;
+    flex = seen_stays i;
     places = places_stay i;
     blocks = blocks_stay i;
     images = images_stay i;

@@ -1,35 +1,35 @@
 -- A flex call leaves the module area, the images and the private words: no byte of these is the store's, and anchors lie in blocks alone.
-use Rattle.std.proofs.Common.{ℕ, Bool, true, false, nat_eq, ◌+◌, ◌%◌, ◌≡◌, ◌≤◌, ◌<◌, ◌∙◌, List, [], ◌∷◌, replicate, Option, Some, None, is_some, option_map, refl, sym, ap, subst, inl, inr, arith}
+use Rattle.std.proofs.Common.{ℕ, Bool, true, false, not, nat_eq, ◌-◌, ◌&&◌, ◌||◌, ◌⊎◌, ◌+◌, ◌%◌, ◌≡◌, ◌≤◌, ◌<◌, ◌∙◌, List, [], ◌∷◌, replicate, Option, Some, None, is_some, option_map, refl, sym, ap, subst, inl, inr, arith}
 use Rattle.std.specs.Prelude.{if◌then◌else◌}
-use Rattle.std.proofs.lemmas.Bool.{both_ways, cases_Bool, eq-eqb, false_from_ne_true, false≢true, le-leb, lt-ltb, ne_eqb, or_left, or_right}
+use Rattle.std.proofs.lemmas.Bool.{both_ways, cases_Bool, cases_lt, eq-eqb, false_from_ne_true, false≢true, le-leb, lt-ltb, ne_eqb, or_left, or_right}
 use Rattle.address_map.specs.Bytes.{bytes_between, in_range, word_at}
 use Rattle.address_map.specs.Items.{size_of}
+use Rattle.address_map.specs.declared.item.Item.{Item}
+use Rattle.address_map.specs.declared.item.Item.TheVariants.{Free, Live}
+use Rattle.os_heap_lists.proofs.Reading.{total_facts}
 use Rattle.address_map.specs.declared.region.Kind.{Kind}
 use Rattle.address_map.specs.declared.region.Kind.TheVariants as kind
 use Rattle.address_map.specs.declared.region.Region.{Region}
-use Rattle.os_heap_lists.specs.Heap.{HeapList, IsHeapIn}
+use Rattle.os_heap_lists.specs.Heap.{AreTotals, HeapList, IsHeapIn}
 use Rattle.os_heap.proofs.Anchored.{header_outside}
 use Rattle.os_heap.proofs.Found.{found_heap}
 use Rattle.os_heap.specs.Store.{IsSound, Store, find_heap, is_flex_store, is_image, is_in_flex_store}
 use Rattle.dynamic_areas.specs.Ground.{IsRecorded, system_pages}
-use Rattle.flex_kept.specs.Keeping.{AreAnchorsFree, is_in_record}
-use Rattle.flex_ground.specs.Ground.{flex_state, spelled_store}
-use Rattle.flex_store.specs.Blocks.{cut_of, more_of, resized, spliced}
-use Rattle.flex_store.specs.Runs.{Alloc, Extend, FlexCall, IsDone, MidExtend, Release, contents_after}
+use Rattle.flex_kept.specs.Keeping.{AreAnchorsFree, is_in_other_record}
+use Rattle.flex_laws.specs.Laws.{outside_of}
+use Rattle.flex_store.specs.Runs.{Alloc, Extend, FlexCall, MidExtend, Release}
 use Rattle.instances_plans.specs.Code.{private_of}
 use Rattle.instances_ground.specs.World.{World, private_word}
 use Rattle.instances_table.proofs.RoomLemmas.{slots_once}
 use Rattle.instances_table.specs.Changes.{is_held}
 use Rattle.instances_table.specs.Modules.{AreModules}
-use Rattle.store_laws.proofs.CalledAnchors.{IsNewAnchor, alloc_anchor, release_anchor}
-use Rattle.store_laws.proofs.CalledBytes.{byte_stays}
-use Rattle.store_laws.proofs.CalledSeen.{anchor_word, byte_seen, seen_left, word_unseen}
-use Rattle.store_laws.proofs.Places.{payloads_alike, payloads_seen}
+use Rattle.store_laws.proofs.CalledSeen.{anchor_word, seen_left, word_unseen}
+use Rattle.store_laws.proofs.Places.{out_of_range, payloads_alike, payloads_seen}
 use Rattle.store_laws.proofs.Ranges.{outside_store}
 use Rattle.store_laws.proofs.SlidLists.{map_same}
 use Rattle.store_laws.proofs.SlidWorlds.{slots_below}
 use Rattle.store_laws.specs.FlexStore.{IsSpelledAt}
-use Rattle.store_laws.specs.Meaning.{BlockNumber, Place, Stores, Value, area_blocks, area_images, area_names, area_places, area_word, blocks_in, contents_of, images_in, meaning_of, number_in, place_in, seen, store_in, word_said}
+use Rattle.store_laws.specs.Meaning.{BlockNumber, Place, Stores, Value, area_blocks, area_images, area_names, area_places, area_word, blocks_in, contents_of, images_in, meaning_of, number_in, one_further, place_among, place_in, seen, store_in, word_said}
 use Rattle.store_laws.specs.Rules.{AreAnchorsLeft, IsAnchored, IsAnchoredAlike, IsUnanchored, with_place_seen}
 
 said_value : (word value : ℕ) (o : Option ℕ) → word_said word o ≡ Value value → word ≡ value
@@ -67,17 +67,18 @@ no_store kind.HeadWord image = refl
 no_store kind.FlexHeader image = refl
 no_store kind.Anchor image = refl
 
-in_record : (rs : List Region) (r : Region) (a : ℕ) → IsRecorded r rs → in_range r.at r.len a ≡ true → is_in_record rs a ≡ true
-in_record [] r a recorded inside = absurd recorded
-in_record (q ∷ rs) r a recorded inside = elim recorded [
-  | inl same ↦ or_left (in_range q.at q.len a) (is_in_record rs a) (ap (λ (x : Region). in_range x.at x.len a) same ∙ inside)
-  | inr later ↦ or_right (in_range q.at q.len a) (is_in_record rs a) (in_record rs r a later inside)
+in_record : (rs : List Region) (r : Region) (a : ℕ) → is_flex_store r.kind ≡ false → IsRecorded r rs → in_range r.at r.len a ≡ true → is_in_other_record rs a ≡ true
+in_record [] r a other recorded inside = absurd recorded
+in_record (q ∷ rs) r a other recorded inside = elim recorded [
+  | inl same ↦ or_left (not (is_flex_store q.kind) && in_range q.at q.len a) (is_in_other_record rs a)
+      (ap (λ (x : Region). not (is_flex_store x.kind) && in_range x.at x.len a) same ∙ rw (other, inside) refl)
+  | inr later ↦ or_right (not (is_flex_store q.kind) && in_range q.at q.len a) (is_in_other_record rs a) (in_record rs r a other later inside)
 ]
 
-unanchored : (s : Store) (r : Region) (a : ℕ) → AreAnchorsFree s → IsRecorded r s.others → in_range r.at r.len a ≡ true → s.anchor a ≡ false
+unanchored : (s : Store) (r : Region) (a : ℕ) → is_flex_store r.kind ≡ false → AreAnchorsFree s → IsRecorded r s.others → in_range r.at r.len a ≡ true → s.anchor a ≡ false
 unfolding AreAnchorsFree
-unanchored s r a free recorded inside = false_from_ne_true (s.anchor a) (λ is.
-    both_ways (is_in_record s.others a) (free a is) (in_record s.others r a recorded inside))
+unanchored s r a other free recorded inside = false_from_ne_true (s.anchor a) (λ is.
+    both_ways (is_in_other_record s.others a) (free a is) (in_record s.others r a other recorded inside))
 
 pub word_same : (f g : ℕ → ℕ) (at : ℕ) → ((k : ℕ) → k < 4 → g (at + k) ≡ f (at + k)) → word_at g at ≡ word_at f at
 word_same f g at same =
@@ -85,21 +86,39 @@ word_same f g at same =
     let first : g at ≡ f at = ap g (sym zero_at) ∙ same 0 (omega arith) ∙ ap f zero_at in
     rw (first, same 1 (omega arith), same 2 (omega arith), same 3 (omega arith)) refl
 
+-- an address beside the items is in none of them
+unplaced : (a at : ℕ) (xs : List Item) → AreTotals xs → (a < at) ⊎ (at + size_of xs ≤ a) → place_among a at xs ≡ None
+unplaced a at [] totals out = refl
+unplaced a at (Free t ∷ xs) totals out =
+    let least = total_facts t totals.0 in
+    unplaced a (at + t) xs totals.1 (elim out [ inl low ↦ inl (omega (arith, low)) | inr past ↦ inr (omega (arith, past)) ])
+unplaced a at (Live t ∷ xs) totals out =
+    let least = total_facts t totals.0 in
+    let none : in_range (at + 4) (t - 4) a ≡ false =
+    out_of_range (at + 4) (t - 4) a (elim out [ inl low ↦ inl (omega (arith, low)) | inr past ↦ inr (omega (arith, past, least.0)) ]) in
+    rw none (ap (option_map one_further) (unplaced a (at + t) xs totals.1 (elim out [ inl low ↦ inl (omega (arith, low)) | inr past ↦ inr (omega (arith, past)) ])))
+
 -- a call was done on a flex store, and all that is not the store's stayed
-pub record IsCalledOn (call : FlexCall) (answer : Bool) (x y : Stores) : Type 0 where
+pub record IsCalledOn (call : FlexCall) (x y : Stores) : Type 0 where
   pub sound : IsSound (store_in x)
   pub system : IsRecorded system_pages (store_in x).others
   pub modules : AreModules x.world.modules
   pub old : IsSpelledAt (store_in x) x.flex.extent
-  pub new : IsSpelledAt (store_in y) y.flex.extent
   pub old_free : AreAnchorsFree (store_in x)
   pub new_free : AreAnchorsFree (store_in y)
-  pub done : IsDone (flex_state (store_in x) x.flex) call answer (flex_state (store_in y) y.flex)
   pub others : (store_in y).others ≡ (store_in x).others
   pub heaps : (store_in y).heaps ≡ (store_in x).heaps
   pub table : y.world.modules ≡ x.world.modules
+  pub aligned : (outside_of call).anchor % 4 ≡ 0
+  pub had : is_some (contents_of x (outside_of call).anchor) ≡ (outside_of call).had
+  pub stays : (a : ℕ) → is_in_flex_store (store_in x).others a ≡ false → (store_in x).anchor a ≡ false → (store_in y).anchor a ≡ false
+      → (store_in y).bytes.at a ≡ (store_in x).bytes.at a
+  pub seen : (a : ℕ) → is_in_flex_store (store_in x).others a ≡ false
+      → seen (store_in y).anchor (store_in y).bytes.at a ≡ seen_left call a (seen (store_in x).anchor (store_in x).bytes.at a)
+  pub marks : (a : ℕ) → is_in_flex_store (store_in x).others a ≡ false
+      → is_some (contents_of y a) ≡ (if nat_eq (a % 4) 0 then (outside_of call).mark a (is_some (contents_of x a)) else is_some (contents_of x a))
 
-module _ (call : FlexCall) (answer : Bool) (x y : Stores) (c : IsCalledOn call answer x y) where
+module _ (call : FlexCall) (x y : Stores) (c : IsCalledOn call x y) where
   s : Store
   s = store_in x
 
@@ -108,18 +127,15 @@ module _ (call : FlexCall) (answer : Bool) (x y : Stores) (c : IsCalledOn call a
 
   byte_left : (a : ℕ) → is_in_flex_store s.others a ≡ false → s.anchor a ≡ false → t.anchor a ≡ false → t.bytes.at a ≡ s.bytes.at a
   unfolding s t
-  byte_left a outside none_old none_new =
-      byte_stays s t x.flex y.flex call answer a c.old c.new c.done
-      (record { outside = outside; none = none_old })
-      (record { outside = ap (λ (rs : List Region). is_in_flex_store rs a) c.others ∙ outside; none = none_new })
+  byte_left a outside none_old none_new = c.stays a outside none_old none_new
 
   -- a byte of a recorded range that is not the store's
   record_left : (r : Region) (a : ℕ) → is_flex_store r.kind ≡ false → IsRecorded r s.others → in_range r.at r.len a ≡ true → t.bytes.at a ≡ s.bytes.at a
   unfolding s t
   record_left r a other recorded inside =
       byte_left a (outside_store r s.others a other c.sound.apart recorded inside)
-      (unanchored s r a c.old_free recorded inside)
-      (unanchored t r a c.new_free (subst (IsRecorded r) (sym c.others) recorded) inside)
+      (unanchored s r a other c.old_free recorded inside)
+      (unanchored t r a other c.new_free (subst (IsRecorded r) (sym c.others) recorded) inside)
 
   pub images_left : area_images y.world ≡ area_images x.world
   unfolding s t
@@ -162,18 +178,18 @@ module _ (call : FlexCall) (answer : Bool) (x y : Stores) (c : IsCalledOn call a
   heap_in h found = found_heap s.bytes 0x01800000 s.heaps h c.sound.heaps found
 
   area_seen : (h : HeapList) (a : ℕ) → find_heap 0x01800000 s.heaps ≡ Some h → h.start + 16 ≤ a → a < h.start + 16 + size_of h.items
-      → seen t.anchor t.bytes.at a ≡ seen_left answer call a (seen s.anchor s.bytes.at a)
+      → seen t.anchor t.bytes.at a ≡ seen_left call a (seen s.anchor s.bytes.at a)
   unfolding s t
   area_seen h a found low high =
       let heap : IsHeapIn s.bytes h.start h.end h.items = heap_in h found in
       let outside : is_in_flex_store s.others a ≡ false = false_from_ne_true (is_in_flex_store s.others a) (λ store.
       both_ways (in_range h.start h.end a) (header_outside 0x01800000 s.heaps s.others h a c.sound.placed found store)
       (rw (le-leb h.start a (omega (arith, low)), lt-ltb a (h.start + h.end) (omega (arith, high, heap.inside))) refl)) in
-      byte_seen s t x.flex y.flex call answer a c.old c.new c.done outside (ap (λ (rs : List Region). is_in_flex_store rs a) c.others ∙ outside)
+      c.seen a outside
 
   -- the blocks of the module area, where a word of theirs is seen otherwise
   blocks_by : (byte : Option ℕ) (anchor : ℕ) (o : Option HeapList) → anchor % 4 ≡ 0 → find_heap 0x01800000 s.heaps ≡ o
-      → ((a : ℕ) (old : Option ℕ) → seen_left answer call a old ≡ (if in_range anchor 4 a then byte else old))
+      → ((a : ℕ) (old : Option ℕ) → seen_left call a old ≡ (if in_range anchor 4 a then byte else old))
       → blocks_in t o ≡ with_place_seen byte (place_in anchor o) (blocks_in s o)
   unfolding s t
   blocks_by byte anchor None aligned found by = refl
@@ -182,7 +198,7 @@ module _ (call : FlexCall) (answer : Bool) (x y : Stores) (c : IsCalledOn call a
       payloads_seen (seen s.anchor s.bytes.at) (seen t.anchor t.bytes.at) byte anchor (h.start + 16) h.items aligned (omega (arith, heap.aligned)) heap.totals
       (λ a low high. area_seen h a found low high ∙ by a (seen s.anchor s.bytes.at a))
 
-  blocks_alike : (o : Option HeapList) → find_heap 0x01800000 s.heaps ≡ o → ((a : ℕ) (old : Option ℕ) → seen_left answer call a old ≡ old)
+  blocks_alike : (o : Option HeapList) → find_heap 0x01800000 s.heaps ≡ o → ((a : ℕ) (old : Option ℕ) → seen_left call a old ≡ old)
       → blocks_in t o ≡ blocks_in s o
   unfolding s t
   blocks_alike None found by = refl
@@ -216,78 +232,90 @@ module _ (call : FlexCall) (answer : Bool) (x y : Stores) (c : IsCalledOn call a
   unfolding s t places_are
   place_by a b is = places_are a ∙ ap (λ (q : Bool). let o : Option Place = if q then place_in a (find_heap 0x01800000 s.heaps) else None in o) is
 
-  place_stays : (a : ℕ) → is_some (contents_of y a) ≡ is_some (contents_of x a) → area_places (contents_of y) y.world a ≡ area_places (contents_of x) x.world a
-  unfolding s t
-  place_stays a same = place_by a (is_some (contents_of x a)) same
+  -- an anchor in the flex store lies in no block of the module area
+  in_store_none : (a : ℕ) (o : Option HeapList) → find_heap 0x01800000 s.heaps ≡ o → is_in_flex_store s.others a ≡ true → place_in a o ≡ None
+  unfolding s
+  in_store_none a None found inside = refl
+  in_store_none a (Some h) found inside =
+      let heap : IsHeapIn s.bytes h.start h.end h.items = heap_in h found in
+      let out : in_range h.start h.end a ≡ false = header_outside 0x01800000 s.heaps s.others h a c.sound.placed found inside in
+      unplaced a (h.start + 16) h.items heap.totals (elim (cases_lt a (h.start + 16)) [
+        | inl low ↦ inl low
+        | inr up ↦ elim (cases_lt a (h.start + 16 + size_of h.items)) [
+          | inr past ↦ inr past
+          | inl below ↦ absurd (both_ways (in_range h.start h.end a) out
+              (rw (le-leb h.start a (omega (arith, up)), lt-ltb a (h.start + h.end) (omega (arith, below, heap.inside))) refl))
+        ]
+      ])
 
-  alike : ((a : ℕ) → is_some (contents_of y a) ≡ is_some (contents_of x a)) → ((a : ℕ) (old : Option ℕ) → seen_left answer call a old ≡ old)
-      → IsAnchoredAlike (meaning_of x) (meaning_of y)
-  unfolding s t meaning_of
-  alike same by = record {
-    places = λ a. place_stays a (same a);
-    blocks = blocks_are ∙ blocks_alike (find_heap 0x01800000 s.heaps) refl by;
-  }
+  either_none : (b : Bool) (o : Option Place) → o ≡ None → (if b then o else None) ≡ None
+  either_none true o none = none
+  either_none false o none = refl
 
-  came : (anchor : ℕ) → anchor % 4 ≡ 0 → contents_of x anchor ≡ None → is_some (contents_of y anchor) ≡ true
-      → ((a : ℕ) → (a ≡ anchor → ⊥) → contents_of y a ≡ contents_of x a)
-      → ((a : ℕ) (old : Option ℕ) → seen_left answer call a old ≡ (if in_range anchor 4 a then None else old))
-      → IsAnchored anchor (meaning_of x) (meaning_of y)
-  unfolding s t meaning_of
-  came anchor aligned none some others by =
-      let now : area_places (contents_of y) y.world anchor ≡ place_in anchor (find_heap 0x01800000 s.heaps) = place_by anchor true some in
-      record {
-        none = ap (λ (o : Option (List ℕ)). let p : Option Place = if is_some o then place_in anchor (find_heap 0x01800000 s.heaps) else None in p) none;
-        others = λ a apart. place_stays a (ap is_some (others a apart));
-        blocks = blocks_are ∙ blocks_by None anchor (find_heap 0x01800000 s.heaps) aligned refl by
-            ∙ ap (λ (p : Option Place). with_place_seen None p (area_blocks x.world)) (sym now);
-      }
+  place_old : (a : ℕ) → is_in_flex_store s.others a ≡ true → area_places (contents_of x) x.world a ≡ None
+  unfolding s
+  place_old a inside = either_none (is_some (contents_of x a)) (place_in a (find_heap 0x01800000 s.heaps)) (in_store_none a (find_heap 0x01800000 s.heaps) refl inside)
 
-  went : (anchor : ℕ) → is_some (contents_of x anchor) ≡ true → contents_of y anchor ≡ None
-      → ((a : ℕ) → (a ≡ anchor → ⊥) → contents_of y a ≡ contents_of x a)
-      → ((a : ℕ) (old : Option ℕ) → seen_left answer call a old ≡ (if in_range anchor 4 a then Some 0 else old))
-      → IsUnanchored anchor (meaning_of x) (meaning_of y)
-  unfolding s t meaning_of
-  went anchor some none others by =
-      let was : area_places (contents_of x) x.world anchor ≡ place_in anchor (find_heap 0x01800000 s.heaps) =
-      ap (λ (q : Bool). let o : Option Place = if q then place_in anchor (find_heap 0x01800000 s.heaps) else None in o) some in
-      record {
-        none = place_by anchor false (ap is_some none);
-        others = λ a apart. place_stays a (ap is_some (others a apart));
-        unseen = blocks_unseen anchor (find_heap 0x01800000 s.heaps) some refl
-            ∙ ap (λ (p : Option Place). with_place_seen None p (area_blocks x.world)) (sym was);
-        blocks = blocks_are ∙ blocks_by (Some 0) anchor (find_heap 0x01800000 s.heaps) (anchor_word s x.flex.extent anchor c.old some).0 refl by
-            ∙ ap (λ (p : Option Place). with_place_seen (Some 0) p (area_blocks x.world)) (sym was);
-      }
+  place_new : (a : ℕ) → is_in_flex_store s.others a ≡ true → area_places (contents_of y) y.world a ≡ None
+  unfolding s
+  place_new a inside = places_are a ∙ either_none (is_some (contents_of y a)) (place_in a (find_heap 0x01800000 s.heaps)) (in_store_none a (find_heap 0x01800000 s.heaps) refl inside)
 
--- what a rule of contents says of one anchor, and of the others
-own_contents : (anchor : ℕ) (own old : Option (List ℕ)) → (if nat_eq anchor anchor then own else old) ≡ own
-own_contents anchor own old = ap (λ (b : Bool). if b then own else old) (eq-eqb anchor anchor refl)
+  marked_by : (b : Bool) (p q : Bool) → p ≡ q → (if b then p else q) ≡ q
+  marked_by true p q same = same
+  marked_by false p q same = refl
 
-other_contents : (anchor a : ℕ) (own old : Option (List ℕ)) → (a ≡ anchor → ⊥) → (if nat_eq anchor a then own else old) ≡ old
-other_contents anchor a own old apart = ap (λ (b : Bool). if b then own else old) (ne_eqb anchor a (λ e. apart (sym e)))
+  place_stays : (a : ℕ) → (outside_of call).mark a (is_some (contents_of x a)) ≡ is_some (contents_of x a)
+      → area_places (contents_of y) y.world a ≡ area_places (contents_of x) x.world a
+  unfolding s
+  place_stays a same = elim (cases_Bool (is_in_flex_store s.others a)) [
+    | inl inside ↦ place_new a inside ∙ sym (place_old a inside)
+    | inr outside ↦ place_by a (is_some (contents_of x a)) (c.marks a outside ∙ marked_by (nat_eq (a % 4) 0) ((outside_of call).mark a (is_some (contents_of x a))) (is_some (contents_of x a)) same)
+  ]
 
-kept_contents : (change : List ℕ → List ℕ) (b : Bool) (o : Option (List ℕ)) → is_some (if b then option_map change o else o) ≡ is_some o
-kept_contents change true None = refl
-kept_contents change true (Some c) = refl
-kept_contents change false o = refl
+  -- the place of the call's own anchor
+  own_mark : (b : Bool) → is_in_flex_store s.others (outside_of call).anchor ≡ false → (outside_of call).mark (outside_of call).anchor (is_some (contents_of x (outside_of call).anchor)) ≡ b
+      → is_some (contents_of y (outside_of call).anchor) ≡ b
+  unfolding s
+  own_mark b outside is =
+      c.marks (outside_of call).anchor outside
+      ∙ (ap (λ (q : Bool). if q then (outside_of call).mark (outside_of call).anchor (is_some (contents_of x (outside_of call).anchor)) else is_some (contents_of x (outside_of call).anchor))
+      (eq-eqb ((outside_of call).anchor % 4) 0 c.aligned) ∙ is)
 
 -- the anchors that each call leaves, and the blocks that they lie in
-pub anchors_left : (call : FlexCall) (x y : Stores) → IsCalledOn call true x y → ((a : ℕ) → contents_of y a ≡ contents_after call (contents_of x) a)
-    → AreAnchorsLeft call (meaning_of x) (meaning_of y)
-anchors_left (Alloc anchor size) x y c rule =
-    let new : IsNewAnchor (spelled_store (store_in x).bytes.at x.flex.extent) anchor =
-    alloc_anchor c.done.0 (store_in x).bytes (spelled_store (store_in x).bytes.at x.flex.extent) (flex_state (store_in y) y.flex) anchor size true c.done.1 in
-    came (Alloc anchor size) true x y c anchor new.aligned new.none
-    (ap is_some (rule anchor ∙ own_contents anchor (Some (replicate size 0)) (contents_of x anchor)))
-    (λ a apart. rule a ∙ other_contents anchor a (Some (replicate size 0)) (contents_of x a) apart) (λ a old. refl)
-anchors_left (Release anchor) x y c rule =
-    went (Release anchor) true x y c anchor
-    (release_anchor (store_in x).bytes (spelled_store (store_in x).bytes.at x.flex.extent) (flex_state (store_in y) y.flex) anchor c.done.1)
-    (rule anchor ∙ own_contents anchor None (contents_of x anchor))
-    (λ a apart. rule a ∙ other_contents anchor a None (contents_of x a) apart) (λ a old. refl)
-anchors_left (Extend anchor size) x y c rule =
-    alike (Extend anchor size) true x y c
-    (λ a. ap is_some (rule a) ∙ kept_contents (λ b. resized b size) (nat_eq anchor a) (contents_of x a)) (λ a old. refl)
-anchors_left (MidExtend anchor at by) x y c rule =
-    alike (MidExtend anchor at by) true x y c
-    (λ a. ap is_some (rule a) ∙ kept_contents (λ b. spliced b at (cut_of by) (more_of by)) (nat_eq anchor a) (contents_of x a)) (λ a old. refl)
+pub anchors_left : (call : FlexCall) (x y : Stores) → IsCalledOn call x y → AreAnchorsLeft call (meaning_of x) (meaning_of y)
+unfolding meaning_of s
+anchors_left (Alloc anchor size) x y c =
+    let h : Option HeapList = find_heap 0x01800000 (store_in x).heaps in
+    let call : FlexCall = Alloc anchor size in
+    let now : area_places (contents_of y) y.world anchor ≡ place_in anchor h = elim (cases_Bool (is_in_flex_store (store_in x).others anchor)) [
+      | inl inside ↦ place_new call x y c anchor inside ∙ sym (in_store_none call x y c anchor h refl inside)
+      | inr outside ↦ place_by call x y c anchor true (own_mark call x y c true outside (ap (λ (q : Bool). q || is_some (contents_of x anchor)) (eq-eqb anchor anchor refl)))
+    ] in
+    record {
+      none = ap (λ (q : Bool). let p : Option Place = if q then place_in anchor h else None in p) c.had;
+      others = λ a apart. place_stays call x y c a (ap (λ (q : Bool). q || is_some (contents_of x a)) (ne_eqb a anchor apart));
+      blocks = blocks_are call x y c ∙ blocks_by call x y c None anchor h c.aligned refl (λ a old. refl)
+          ∙ ap (λ (p : Option Place). with_place_seen None p (area_blocks x.world)) (sym now);
+    }
+anchors_left (Release anchor) x y c =
+    let h : Option HeapList = find_heap 0x01800000 (store_in x).heaps in
+    let call : FlexCall = Release anchor in
+    let was : area_places (contents_of x) x.world anchor ≡ place_in anchor h = ap (λ (q : Bool). let o : Option Place = if q then place_in anchor h else None in o) c.had in
+    record {
+      none = elim (cases_Bool (is_in_flex_store (store_in x).others anchor)) [
+        | inl inside ↦ place_new call x y c anchor inside
+        | inr outside ↦ place_by call x y c anchor false (own_mark call x y c false outside (ap (λ (q : Bool). not q && is_some (contents_of x anchor)) (eq-eqb anchor anchor refl)))
+      ];
+      others = λ a apart. place_stays call x y c a (ap (λ (q : Bool). not q && is_some (contents_of x a)) (ne_eqb a anchor apart));
+      unseen = blocks_unseen call x y c anchor h c.had refl ∙ ap (λ (p : Option Place). with_place_seen None p (area_blocks x.world)) (sym was);
+      blocks = blocks_are call x y c ∙ blocks_by call x y c (Some 0) anchor h c.aligned refl (λ a old. refl)
+          ∙ ap (λ (p : Option Place). with_place_seen (Some 0) p (area_blocks x.world)) (sym was);
+    }
+anchors_left (Extend anchor size) x y c = record {
+  places = λ a. place_stays (Extend anchor size) x y c a refl;
+  blocks = blocks_are (Extend anchor size) x y c ∙ blocks_alike (Extend anchor size) x y c (find_heap 0x01800000 (store_in x).heaps) refl (λ a old. refl);
+}
+anchors_left (MidExtend anchor at by) x y c = record {
+  places = λ a. place_stays (MidExtend anchor at by) x y c a refl;
+  blocks = blocks_are (MidExtend anchor at by) x y c ∙ blocks_alike (MidExtend anchor at by) x y c (find_heap 0x01800000 (store_in x).heaps) refl (λ a old. refl);
+}

@@ -1,33 +1,36 @@
 -- A flex call as a turn of the stores.
-use Rattle.std.proofs.Common.{ℕ, Bool, true, false, ◌≡◌, ◌∙◌, [], ◌∷◌, map, Option, Some, None, Result, Ok, Err, refl, sym, ap, subst, inl, inr}
-use Rattle.std.proofs.lemmas.Bool.{false≢true}
+use Rattle.std.proofs.Common.{ℕ, Bool, true, false, nat_eq, ◌%◌, is_some, List, ◌≡◌, ◌∙◌, [], ◌∷◌, map, Option, Some, None, Result, Ok, Err, refl, sym, ap, subst, inl, inr}
+use Rattle.std.specs.Prelude.{if◌then◌else◌}
+use Rattle.std.proofs.lemmas.Bool.{cases_Bool, eqb-false, eqb-true, false≢true}
 use Rattle.rma.specs.profile.specs.Outcome.{bind}
 use Rattle.rma.specs.profile.specs.declared.error.ErrorNumber.{ErrorNumber}
-use Rattle.os_heap.specs.Store.{IsSound, Store}
+use Rattle.os_heap.specs.Store.{IsSound, Store, is_in_flex_store}
 use Rattle.dynamic_areas.specs.Ground.{Estate, IsEstate}
-use Rattle.flex_ground.specs.Ground.{flex_of, flex_state, records_with, store_flexed}
-use Rattle.flex_store.proofs.Runs.{calls_move_contents}
-use Rattle.flex_store.specs.Blocks.{FlexStore}
+use Rattle.flex_ground.specs.Ground.{flex_of, flex_state, records_with, spelled_store, store_flexed}
+use Rattle.flex_laws.proofs.Calls.{calls_go_by_numbers, no_room_changes_nothing}
+use Rattle.flex_laws.specs.Laws.{IsDoneIn, IsOfWords, anchor_of, outside_of}
+use Rattle.flex_laws.specs.Numbered.{IsCalledSeen, SeenBlock, blocks_seen}
+use Rattle.flex_store.specs.Laws.{contents_in}
+use Rattle.flex_store.specs.Blocks.{FlexStore, has_anchor}
 use Rattle.flex_store.specs.Calls.{FlexState, allocated, extended, mid_extended, released}
-use Rattle.flex_store.specs.Runs.{Alloc, Extend, FlexCall, IsDone, MidExtend, Release, contents_left}
+use Rattle.flex_store.specs.Runs.{Alloc, Extend, FlexCall, MidExtend, Release}
 use Rattle.flex_store.specs.declared.flex.Extent.{Extent}
 use Rattle.flex_store.specs.declared.flex.Flex.{Flex}
 use Rattle.rma.specs.Calls.{with_store}
 use Rattle.instances_ground.proofs.Worlds.{world_kept}
 use Rattle.instances_ground.specs.World.{private_word}
 use Rattle.store_laws.proofs.Called.{IsCalledOn, anchors_left, images_left, names_left, words_left, words_said}
-use Rattle.store_laws.proofs.Leaving.{IsAfter, IsBefore, after_left, same_flex, same_store}
-use Rattle.store_laws.proofs.Relaying.{IsLeft, IsReady, alloc_left, extend_left, mid_left, release_left, state_at}
-use Rattle.store_laws.proofs.Spelled.{has_blocks}
-use Rattle.store_laws.specs.FlexStore.{IsSpelledAt}
+use Rattle.store_laws.proofs.Leaving.{IsAfter, IsBefore, IsCalledBy, after_called, same_flex, same_store, state_at, state_spelled, store_at}
+use Rattle.store_laws.proofs.CalledSeen.{byte_seen, byte_stays, mark_left, none_odd, some_is}
+use Rattle.store_laws.specs.FlexStore.{IsSpelled, IsSpelledAt, spelled_blocks}
 use Rattle.store_laws.specs.Laws.{IsFollowed, unplaced}
-use Rattle.store_laws.specs.Meaning.{AreStores, Stores, Value, contents_of, meaning_of, store_in}
+use Rattle.store_laws.specs.Meaning.{AreStores, Stores, Value, contents_of, flex_seen, meaning_of, store_in}
 use Rattle.store_laws.specs.Rules.{IsTurned}
-use Rattle.store_laws.specs.Turning.{Call, Turn, answer_of, answered, called, left_by, turned, with_flexed}
+use Rattle.store_laws.specs.Turning.{Call, Turn, answer_of, answered, called, left_by, place_by, placed, turned, with_flexed}
 
 -- what a turn with some answer leaves
 pub record IsFollowedBy (turn : Turn) (answer : Result Bool ErrorNumber) (x y : Stores) : Type 0 where
-  pub rule : IsTurned turn answer (meaning_of x) (meaning_of y)
+  pub rule : IsTurned turn (placed turn x) answer (meaning_of x) (meaning_of y)
   pub words : (slot word : ℕ) → (meaning_of x).names slot ≡ Some (Value word) → private_word y.world.estate slot ≡ word
   pub modules : map unplaced y.world.modules ≡ map unplaced x.world.modules
   pub stores : AreStores y
@@ -37,7 +40,7 @@ pub record IsFollowedBy (turn : Turn) (answer : Result Bool ErrorNumber) (x y : 
   pub pending : y.pending ≡ x.pending
 
 -- a turn that leaves all as it is
-pub stays : (turn : Turn) (answer : Result Bool ErrorNumber) (x : Stores) → AreStores x → IsTurned turn answer (meaning_of x) (meaning_of x)
+pub stays : (turn : Turn) (answer : Result Bool ErrorNumber) (x : Stores) → AreStores x → IsTurned turn (placed turn x) answer (meaning_of x) (meaning_of x)
     → IsFollowedBy turn answer x x
 unfolding meaning_of
 stays turn answer x are rule = record {
@@ -94,41 +97,39 @@ was_released (Ok p) v answer is =
           → p ≡ q
       pair_is p q e = cc
 
-pub call_left : (s : Store) (e : Extent) (call : FlexCall) (v : FlexState) (answer : Bool) → IsReady s e
-    → (let f : Flex = record { extent = Some e } in called s f call ≡ Ok (v, answer)) → IsLeft s e v answer
-call_left s e (Alloc anchor size) v answer r is = alloc_left s e r anchor size v answer is
-call_left s e (Release anchor) v answer r is =
-    let d : IsReleased (released (state_at s e) anchor) v answer = was_released (released (state_at s e) anchor) v answer is in
-    inr (release_left s e r anchor v d.done, d.room)
-call_left s e (Extend anchor size) v answer r is = extend_left s e r anchor size v answer is
-call_left s e (MidExtend anchor at by) v answer r is = mid_left s e r anchor at by v answer is
+pub call_done : (s : Store) (f : Flex) (call : FlexCall) (v : FlexState) → called s f call ≡ Ok (v, true) → IsDoneIn s (flex_state s f) call v
+call_done s f (Alloc anchor size) v is = is
+call_done s f (Release anchor) v is = (was_released (released (flex_state s f) anchor) v true is).done
+call_done s f (Extend anchor size) v is = is
+call_done s f (MidExtend anchor at by) v is = is
 
-pub call_done : (s : Store) (f : Flex) (call : FlexCall) (v : FlexState) (answer : Bool) → called s f call ≡ Ok (v, answer)
-    → IsDone (flex_state s f) call answer v
-call_done s f (Alloc anchor size) v answer is = (s, is)
-call_done s f (Release anchor) v answer is =
-    let d : IsReleased (released (flex_state s f) anchor) v answer = was_released (released (flex_state s f) anchor) v answer is in
-    (d.room, d.done)
-call_done s f (Extend anchor size) v answer is = is
-call_done s f (MidExtend anchor at by) v answer is = is
+pub no_room : (s : Store) (f : Flex) (call : FlexCall) (v : FlexState) → called s f call ≡ Ok (v, false) → v ≡ flex_state s f
+no_room s f (Alloc anchor size) v is = (no_room_changes_nothing (flex_state s f) v).alloc s anchor size is
+no_room s f (Release anchor) v is = absurd (false≢true (was_released (released (flex_state s f) anchor) v false is).room)
+no_room s f (Extend anchor size) v is = (no_room_changes_nothing (flex_state s f) v).extend anchor size is
+no_room s f (MidExtend anchor at by) v is = (no_room_changes_nothing (flex_state s f) v).mid_extend anchor at by is
 
 -- what a call on a store asks of it
 pub before : (x : Stores) (e : Extent) → AreStores x → x.flex.extent ≡ Some e → IsBefore (store_in x) e
 before x e are is = record {
-  ready = record { spelled = subst (IsSpelledAt (store_in x)) is are.flex.is; memory = are.memory };
+  spelled = subst (IsSpelledAt (store_in x)) is are.flex.is;
+  memory = are.memory;
   sound = are.world.estate.ground.sound;
   free = are.flex.free;
   beside = are.flex.beside ∙ ap records_with is;
 }
 
-module _ (x : Stores) (call : FlexCall) (v : FlexState) (answer : Bool) (are : AreStores x) (is : called (store_in x) x.flex call ≡ Ok (v, answer))
+-- what a call that found room leaves
+pub called_left : (x : Stores) (e : Extent) (call : FlexCall) (v : FlexState) → (are : AreStores x) → IsOfWords call → x.flex.extent ≡ Some e
+    → (let f : Flex = record { extent = Some e } in called (store_in x) f call ≡ Ok (v, true)) → IsCalledBy (store_in x) e call v
+called_left x e call v are words there is =
+    calls_go_by_numbers (store_in x) (state_at (store_in x) e) v (store_at (store_in x) e) call words refl
+    (state_spelled (store_in x) e (before x e are there)) refl are.memory.low (call_done (store_in x) (record { extent = Some e }) call v is)
+
+module _ (x : Stores) (e : Extent) (call : FlexCall) (v : FlexState) (are : AreStores x) (there : x.flex.extent ≡ Some e) (left : IsCalledBy (store_in x) e call v)
     (after : IsAfter (store_in x) v) where
   y : Stores
   y = with_flexed x (store_in x) v
-
-  state : flex_state (store_in y) y.flex ≡ v
-  unfolding y
-  state = ap (λ (o : Option FlexStore). let w : FlexState = record { bytes = v.bytes; flex = o } in w) after.spelled
 
   stores : AreStores y
   unfolding y
@@ -141,32 +142,64 @@ module _ (x : Stores) (call : FlexCall) (v : FlexState) (answer : Bool) (are : A
     one = are.one;
   }
 
-  on : IsCalledOn call answer x y
-  unfolding y stores
+  spelled : IsSpelled (store_in x) e
+  spelled = (before x e are there).spelled
+
+  old_some : (a : ℕ) → is_some (contents_of x a) ≡ has_anchor (spelled_blocks (store_in x) e) a
+  old_some a = ap (λ (o : Option Extent). is_some (contents_in (spelled_store (store_in x).bytes.at o) a)) there ∙ some_is a (spelled_blocks (store_in x) e)
+
+  new_some : (a : ℕ) → is_some (contents_of y a) ≡ has_anchor left.blocks a
+  unfolding y
+  new_some a = ap (λ (o : Option FlexStore). is_some (contents_in o a)) (after.spelled ∙ left.flex) ∙ some_is a left.blocks
+
+  marks : (a : ℕ) → is_in_flex_store (store_in x).others a ≡ false
+      → is_some (contents_of y a) ≡ (if nat_eq (a % 4) 0 then (outside_of call).mark a (is_some (contents_of x a)) else is_some (contents_of x a))
+  unfolding new_some
+  marks a outside = elim (cases_Bool (nat_eq (a % 4) 0)) [
+    | inl aligned ↦ rw aligned (new_some a ∙ (mark_left (store_in x) e spelled call v left a outside (eqb-true (a % 4) 0 aligned) ∙ ap ((outside_of call).mark a) (sym (old_some a))))
+    | inr odd ↦
+        let none = none_odd (store_in x) e spelled call v left a (eqb-false (a % 4) 0 odd) in
+        rw odd (new_some a ∙ (none.0 ∙ (sym none.1 ∙ sym (old_some a))))
+  ]
+
+  on : IsCalledOn call x y
+  unfolding y stores marks
   on = record {
     sound = are.world.estate.ground.sound;
     system = are.world.system;
     modules = are.modules;
     old = are.flex.is;
-    new = after.flex.is;
     old_free = are.flex.free;
     new_free = after.flex.free;
-    done = subst (IsDone (flex_state (store_in x) x.flex) call answer) (sym state) (call_done (store_in x) x.flex call v answer is);
     others = refl;
     heaps = refl;
     table = refl;
+    aligned = left.aligned;
+    had = old_some (outside_of call).anchor ∙ left.had;
+    stays = byte_stays (store_in x) e spelled call v left;
+    seen = byte_seen (store_in x) e spelled call v left;
+    marks = marks;
   }
 
-  contents : (a : ℕ) → contents_of y a ≡ contents_left (record { call = call; answer = answer }) (contents_of x) a
-  contents a =
-      calls_move_contents (flex_state (store_in x) x.flex) (flex_state (store_in y) y.flex) (record { call = call; answer = answer } ∷ []) a
-      (has_blocks (store_in x) x.flex.extent are.flex.is) (flex_state (store_in y) y.flex, (on.done, refl))
+  -- the flex blocks
+  seen_then : IsCalledSeen call (placed (Call call) x) (flex_seen x) (flex_seen y)
+  unfolding y
+  seen_then =
+      let old : spelled_store (store_in x).bytes.at x.flex.extent ≡ Some (store_at (store_in x) e) = ap (λ (o : Option Extent). spelled_store (store_in x).bytes.at o) there in
+      let new : blocks_seen v.flex ≡ flex_seen (with_flexed x (store_in x) v) = ap blocks_seen (sym after.spelled) in
+      subst (λ (o : Option FlexStore). IsCalledSeen call (place_by o (anchor_of call)) (blocks_seen o) (flex_seen (with_flexed x (store_in x) v))) (sym old)
+      (subst (λ (q : List SeenBlock). IsCalledSeen call (place_by (Some (store_at (store_in x) e)) (anchor_of call)) (blocks_seen (Some (store_at (store_in x) e))) q) new left.seen)
 
-  followed : IsTurned (Call call) (Ok answer) (meaning_of x) (meaning_of y) → IsFollowedBy (Call call) (Ok answer) x y
-  unfolding y meaning_of
-  followed rule = record {
-    rule = rule;
-    words = λ slot word says. words_left call answer x y on slot word says;
+  with_room : IsFollowedBy (Call call) (Ok true) x y
+  unfolding y meaning_of stores on seen_then
+  with_room = record {
+    rule = record {
+      flex = seen_then;
+      anchors = anchors_left call x (with_flexed x (store_in x) v) on;
+      images = images_left call x (with_flexed x (store_in x) v) on;
+      names = names_left call x (with_flexed x (store_in x) v) on;
+    };
+    words = λ slot word says. words_left call x (with_flexed x (store_in x) v) on slot word says;
     modules = refl;
     stores = stores;
     mapped = after.mapped;
@@ -174,20 +207,6 @@ module _ (x : Stores) (call : FlexCall) (v : FlexState) (answer : Bool) (are : A
     land = refl;
     pending = refl;
   }
-
--- with room, and without
-with_room : (x : Stores) (call : FlexCall) (v : FlexState) → (are : AreStores x) → (is : called (store_in x) x.flex call ≡ Ok (v, true))
-    → IsAfter (store_in x) v → IsFollowedBy (Call call) (Ok true) x (with_flexed x (store_in x) v)
-unfolding meaning_of y
-with_room x call v are is after =
-    let z : Stores = with_flexed x (store_in x) v in
-    let c : IsCalledOn call true x z = on x call v true are is after in
-    followed x call v true are is after (record {
-      flex = contents x call v true are is after;
-      anchors = anchors_left call x z c (contents x call v true are is after);
-      images = images_left call true x z c;
-      names = names_left call true x z c;
-    })
 
 -- where nothing was changed
 all_same : (x : Stores) (v : FlexState) → store_flexed (store_in x) v ≡ store_in x → flex_of v.flex ≡ x.flex → with_flexed x (store_in x) v ≡ x
@@ -197,38 +216,39 @@ all_same x v store flex = λ i. record {
   pending = x.pending;
 }
 
-left_same : (x : Stores) (e : Extent) (v : FlexState) → AreStores x → x.flex.extent ≡ Some e → IsLeft (store_in x) e v false
+left_same : (x : Stores) (e : Extent) (v : FlexState) → AreStores x → x.flex.extent ≡ Some e → v ≡ state_at (store_in x) e
     → with_flexed x (store_in x) v ≡ x
-left_same x e v are there (inr r) = absurd (false≢true r.1)
-left_same x e v are there (inl same) =
+left_same x e v are there same =
     let b : IsBefore (store_in x) e = before x e are there in
     all_same x v
-    (ap (store_flexed (store_in x)) same ∙ same_store (store_in x) e b.ready.spelled)
-    (ap (λ (w : FlexState). flex_of w.flex) same ∙ same_flex (store_in x) e b.ready.spelled ∙ ap (λ (o : Option Extent). let f : Flex = record { extent = o } in f) (sym there))
+    (ap (store_flexed (store_in x)) same ∙ same_store (store_in x) e b.spelled)
+    (ap (λ (w : FlexState). flex_of w.flex) same ∙ same_flex (store_in x) e b.spelled ∙ ap (λ (o : Option Extent). let f : Flex = record { extent = o } in f) (sym there))
 
-answered_by : (x : Stores) (call : FlexCall) (v : FlexState) (answer : Bool) (e : Extent) → AreStores x → x.flex.extent ≡ Some e
-    → called (store_in x) x.flex call ≡ Ok (v, answer) → IsLeft (store_in x) e v answer → IsFollowedBy (Call call) (Ok answer) x (with_flexed x (store_in x) v)
-answered_by x call v true e are there is left = with_room x call v are is (after_left (store_in x) e v true (before x e are there) left)
-answered_by x call v false e are there is left =
-    subst (IsFollowedBy (Call call) (Ok false) x) (sym (left_same x e v are there left)) (stays (Call call) (Ok false) x are refl)
+answered_by : (x : Stores) (call : FlexCall) (v : FlexState) (answer : Bool) (e : Extent) → AreStores x → IsOfWords call → x.flex.extent ≡ Some e
+    → (let f : Flex = record { extent = Some e } in called (store_in x) f call ≡ Ok (v, answer)) → IsFollowedBy (Call call) (Ok answer) x (with_flexed x (store_in x) v)
+unfolding y
+answered_by x call v true e are words there is =
+    let left : IsCalledBy (store_in x) e call v = called_left x e call v are words there is in
+    with_room x e call v are there left (after_called (store_in x) e (before x e are there) call v left)
+answered_by x call v false e are words there is =
+    subst (IsFollowedBy (Call call) (Ok false) x) (sym (left_same x e v are there (no_room (store_in x) (record { extent = Some e }) call v is))) (stays (Call call) (Ok false) x are refl)
 
-done_by : (x : Stores) (call : FlexCall) (v : FlexState) (answer : Bool) (o : Option Extent) → AreStores x → x.flex.extent ≡ o
+done_by : (x : Stores) (call : FlexCall) (v : FlexState) (answer : Bool) (o : Option Extent) → AreStores x → IsOfWords call → x.flex.extent ≡ o
     → called (store_in x) x.flex call ≡ Ok (v, answer) → IsFollowedBy (Call call) (Ok answer) x (with_flexed x (store_in x) v)
-done_by x call v answer None are none is =
+done_by x call v answer None are words none is =
     absurd (none_done (store_in x) call (v, answer)
     (subst (λ (o : Option Extent). called (store_in x) (record { extent = o }) call ≡ Ok (v, answer)) none is))
-done_by x call v answer (Some e) are there is =
-    let is' = subst (λ (o : Option Extent). called (store_in x) (record { extent = o }) call ≡ Ok (v, answer)) there is in
-    answered_by x call v answer e are there is (call_left (store_in x) e call v answer (before x e are there).ready is')
+done_by x call v answer (Some e) are words there is =
+    answered_by x call v answer e are words there (subst (λ (o : Option Extent). called (store_in x) (record { extent = o }) call ≡ Ok (v, answer)) there is)
 
-call_by : (x : Stores) (call : FlexCall) (r : Result (FlexState × Bool) ErrorNumber) → called (store_in x) x.flex call ≡ r → AreStores x
+call_by : (x : Stores) (call : FlexCall) (r : Result (FlexState × Bool) ErrorNumber) → called (store_in x) x.flex call ≡ r → AreStores x → IsOfWords call
     → IsFollowedBy (Call call) (answer_of r) x (left_by x (store_in x) r)
-call_by x call (Err e) is are = stays (Call call) (Err e) x are refl
-call_by x call (Ok q) is are = done_by x call q.0 q.1 x.flex.extent are refl is
+call_by x call (Err e) is are words = stays (Call call) (Err e) x are refl
+call_by x call (Ok q) is are words = done_by x call q.0 q.1 x.flex.extent are words refl is
 
-pub call_followed : (x : Stores) (call : FlexCall) → AreStores x → IsFollowed (Call call) x (turned (Call call) x)
+pub call_followed : (x : Stores) (call : FlexCall) → AreStores x → IsOfWords call → IsFollowed (Call call) x (turned (Call call) x)
 unfolding turned answered
-call_followed x call are =
+call_followed x call are words =
     let f : IsFollowedBy (Call call) (answer_of (called (store_in x) x.flex call)) x (left_by x (store_in x) (called (store_in x) x.flex call)) =
-    call_by x call (called (store_in x) x.flex call) refl are in
+    call_by x call (called (store_in x) x.flex call) refl are words in
     record { rule = f.rule; words = f.words; modules = f.modules; stores = f.stores; mapped = f.mapped; pool = f.pool; land = f.land; pending = f.pending }

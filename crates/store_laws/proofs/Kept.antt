@@ -10,7 +10,7 @@ use Rattle.flex_store.proofs.Holding.{holds_kept}
 use Rattle.flex_store.proofs.Lists.{text_used}
 use Rattle.flex_store.specs.Blocks.{Block, has_anchor, is_header, taken, used}
 use Rattle.flex_store.specs.Memory.{AreAnchored, Holds, text_of}
-use Rattle.flex_store.specs.State.{AreOuterWords, AreWhole, IsFlexRange, is_recorded, is_store_record}
+use Rattle.flex_store.specs.State.{AreAnchorWords, AreInner, AreWhole, IsFlexRange, is_recorded, is_store_record}
 use Rattle.flex_store.specs.declared.flex.Extent.{Extent}
 use Rattle.flex_store.specs.declared.flex.Flex.{Flex}
 use Rattle.instances_ground.specs.Sound.{count_beside}
@@ -34,7 +34,7 @@ recorded_beside (r ∷ rs) start end = elim (cases_Bool (is_image r.kind)) [
 ]
 
 -- the words of anchors
-anchored_same : (mapped : ℕ → Bool) (start end : ℕ) (f g : ℕ → ℕ) (at : ℕ) (bs : List Block) → AreOuterWords mapped start end bs
+anchored_same : (mapped : ℕ → Bool) (start end : ℕ) (f g : ℕ → ℕ) (at : ℕ) (bs : List Block) → AreAnchorWords mapped start end bs
     → ((a : ℕ) → has_anchor bs (word_start a) ≡ true → g a ≡ f a) → AreAnchored f at bs → AreAnchored g at bs
 anchored_same mapped start end f g at [] words same anchored = tt
 anchored_same mapped start end f g at (b ∷ bs) words same anchored =
@@ -43,7 +43,7 @@ anchored_same mapped start end f g at (b ∷ bs) words same anchored =
           (λ a low high.
           let here : word_start a ≡ b.anchor = omega (arith, aligned, low, high) in
           same a (or_left (nat_eq (word_start a) b.anchor) (has_anchor bs (word_start a)) (eq-eqb (word_start a) b.anchor here))) anchored.0,
-      anchored_same mapped start end f g (at + taken b.size) bs words.1
+      anchored_same mapped (start + taken b.size) end f g (at + taken b.size) bs words.1
           (λ a has. same a (or_right (nat_eq (word_start a) b.anchor) (has_anchor bs (word_start a)) has)) anchored.1,
     )
 
@@ -61,8 +61,9 @@ kept_spelled s t e is kept mapped =
       range = subst (λ (p : ℕ → Bool). IsFlexRange p e.start e.end) (sym mapped) is.range;
       fits = subst (λ (xs : List Block). e.start + used xs ≤ e.end) (sym same) is.fits;
       whole = subst AreWhole (sym same) is.whole;
-      words = subst (λ (xs : List Block). AreOuterWords t.bytes.mapped e.start e.end xs) (sym same)
-          (subst (λ (p : ℕ → Bool). AreOuterWords p e.start e.end bs) (sym mapped) is.words);
+      words = subst (λ (xs : List Block). AreAnchorWords t.bytes.mapped e.start e.end xs) (sym same)
+          (subst (λ (p : ℕ → Bool). AreAnchorWords p e.start e.end bs) (sym mapped) is.words);
+      inner = subst (λ (xs : List Block). AreInner e.start e.end xs) (sym same) is.inner;
       text = subst (λ (xs : List Block). Holds t.bytes.at e.start (text_of xs)) (sym same) text;
       anchored = subst (λ (xs : List Block). AreAnchored t.bytes.at e.start xs) (sym same) anchored;
       headers = λ a. kept.headers a ∙ (is.headers a ∙ ap (λ (xs : List Block). is_header e.start xs (word_start a)) (sym same));

@@ -9,7 +9,7 @@ use Rattle.flex_ground.specs.Ground.{flex_state, spelled_store}
 use Rattle.flex_store.proofs.Filled.{whole_filled}
 use Rattle.flex_store.proofs.LawLemmas.{contents_size, found_filled}
 use Rattle.flex_store.proofs.Lists.{used-append}
-use Rattle.flex_store.proofs.Runs.{answers_are_room}
+use Rattle.flex_store.proofs.Room.{answers_are_room}
 use Rattle.flex_store.proofs.Splicing.{spliced_length}
 use Rattle.flex_store.specs.Blocks.{Block, FlexStore, contents, cut_of, find_block, holding, more_of, new_block, resized, spliced, taken, used, whole_words, with_block}
 use Rattle.flex_store.specs.Calls.{FlexState, mid_extended}

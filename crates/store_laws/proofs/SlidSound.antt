@@ -12,9 +12,10 @@ use Rattle.address_map.specs.declared.item.Item.TheVariants.{Free, Live}
 use Rattle.os_heap_lists.specs.Heap.{HeapList, IsHeapIn, next_free, with_heads, with_heap}
 use Rattle.os_heap.proofs.Found.{found_heap, found_start}
 use Rattle.os_heap.proofs.Frame.{store_clear}
+use Rattle.os_heap.specs.Forgetting.{holds_heap}
 use Rattle.os_heap.specs.Store.{IsClearOfHeaps, IsImageIn, IsSound, Store, find_heap}
 use Rattle.os_heap.proofs.Stores.{image_kind}
-use Rattle.os_heap_slide.specs.Slide.{HoldNoAnchor, MaySlide, is_listed, place_of, slid_bytes, with_slid}
+use Rattle.os_heap_slide.specs.Slide.{HoldNoAnchor, HoldNoHeap, MaySlide, is_listed, place_of, slid_bytes, with_slid}
 use Rattle.os_heap_slide.proofs.Records.{moves_in, slid_in}
 use Rattle.dynamic_areas.specs.Ground.{Estate, IsEstate, IsRecorded, system_pages}
 use Rattle.flex_kept.proofs.Keeping.{keeps_same, keeps_then}
@@ -35,8 +36,8 @@ use Rattle.instances_slide.specs.Laws.{AreBytes}
 use Rattle.instances_slide.specs.Movable.{can_move, movable_blocks}
 use Rattle.instances_slide.specs.Slid.{image_moved, private_words, words_moved, world_moved, world_slid}
 use Rattle.store_laws.proofs.SlidStores.{sound_slid}
-use Rattle.store_laws.proofs.SlidWorlds.{holds_none, placed_of, slots_below, word_outside}
-use Rattle.store_laws.proofs.Small.{word_small}
+use Rattle.store_laws.proofs.SlidWorlds.{holds_no_heap, holds_none, placed_of, slots_below, word_outside}
+use Rattle.flex_laws.proofs.Small.{word_small}
 
 -- bytes stay bytes
 moved_small : (f : ℕ → ℕ) (from to len : ℕ) → AreBytes f → AreBytes (with_moved_at f from to len)
@@ -188,7 +189,8 @@ module _ (return_address : ℕ) (w : World) (world : IsWorld w []) (are : AreMod
       omega (arith, heap.inside, low last (heap.mapped last (omega (arith, heap.inside)) (omega (arith, heap.inside)))) in
       let movable : List ℕ = movable_blocks s w.modules (private_words w) return_address h in
       let free : HoldNoAnchor s h movable = holds_none w h return_address heap in
-      let after : IsSound (with_slid s h movable) = sound_slid s h movable sound own free ends in
+      let empty : HoldNoHeap s.heaps h movable = holds_no_heap w h return_address heap in
+      let after : IsSound (with_slid s h movable) = sound_slid s h movable sound own free empty ends in
       let blocks : IsWorld (after_blocks w h movable) [] = blocks_sound w h movable world found after in
       let moves : List Move = moves_in h movable in
       let e : Estate = with_store w.estate (with_slid s h movable) in
@@ -197,8 +199,8 @@ module _ (return_address : ℕ) (w : World) (world : IsWorld w []) (are : AreMod
       let named : length (private_words w) ≤ 64 =
       rw (length-map (slots_of w.modules) (λ (slot : ℕ). word_at s.bytes.at (private_of slot))) (most_slots w.modules are) in
       let may : MaySlide s 0x01800000 movable = rw found (
-        are_blocks (can_move s.anchor w.modules (private_words w) return_address) (h.start + 16) h.items heap.totals,
-        (few_blocks s.anchor w.modules (private_words w) return_address (h.start + 16) h.items heap.totals (few_modules w.modules are) named, free),
+        are_blocks (can_move s.anchor (holds_heap s.heaps) w.modules (private_words w) return_address) (h.start + 16) h.items heap.totals,
+        (few_blocks s.anchor (holds_heap s.heaps) w.modules (private_words w) return_address (h.start + 16) h.items heap.totals (few_modules w.modules are) named, (free, empty)),
       ) in
       let slides : KeepsFlex s (with_slid s h movable) = slides_keep s (with_slid s h movable) movable moves sound after may (rw found (refl, refl)) in
       subst (λ (v : World). IsTidy w v) (sym (slid_where return_address w h found)) (record {

@@ -16,14 +16,15 @@ use Rattle.os_heap_lists.specs.Heap.{AreTotals, HeapList, IsHeapIn}
 use Rattle.os_heap_lists.specs.Lists.{live_total}
 use Rattle.os_heap.proofs.Anchored.{KeepsAnchors, place_held}
 use Rattle.os_heap.proofs.Found.{found_heap}
-use Rattle.os_heap.proofs.Stores.{AreClearOthers, are_clear_others, are_others, places-held, same_limits, unnested_held}
-use Rattle.os_heap.specs.Calls.{holds_anchor, with_items}
-use Rattle.os_heap.specs.Store.{AreUnnested, IsSound, Store, find_heap, is_flex_store, is_in_flex_store}
-use Rattle.os_heap_slide.proofs.Beside.{AreBeside, clear_beside, parts_beside}
+use Rattle.os_heap.proofs.Stores.{AreOthers, are_others, places-held, same_limits}
+use Rattle.os_heap.specs.Calls.{holds_anchor}
+use Rattle.os_heap.specs.Store.{IsSound, Store, find_heap, is_flex_store, is_in_flex_store}
+use Rattle.os_heap_slide.proofs.Beside.{AreBeside, KeepsBytes, heaps_beside, heaps_stay, parts_beside}
+use Rattle.os_heap_slide.proofs.KeptBlocks.{bytes_fixed}
 use Rattle.os_heap_slide.proofs.LawLemmas.{slid_totals, slide_fits}
 use Rattle.os_heap_slide.proofs.Places.{moved_live, moved_stays}
 use Rattle.os_heap_slide.proofs.Records.{IsSlide, all_placed, moves_in, ranges_apart, slid_in}
-use Rattle.os_heap_slide.specs.Slide.{HoldNoAnchor, is_listed, moves_of, slid, slid_bytes, with_slid}
+use Rattle.os_heap_slide.specs.Slide.{HoldNoAnchor, HoldNoHeap, is_listed, moves_of, slid, slid_bytes, with_slid}
 use Rattle.instances_slide.proofs.NameLemmas.{slid_outside}
 use Rattle.store_laws.proofs.Spelling.{heap_spelled}
 
@@ -71,7 +72,7 @@ store_stays moves (r ∷ rs) a is = elim (cases_Bool (is_flex_store r.kind && in
 ]
 
 module _ (s : Store) (h : HeapList) (movable : List ℕ) (sound : IsSound s) (found : find_heap h.start s.heaps ≡ Some h) (free : HoldNoAnchor s h movable)
-    (low : h.start + h.end ≤ 2 ^ 26) where
+    (empty : HoldNoHeap s.heaps h movable) (low : h.start + h.end ≤ 2 ^ 26) where
   mv : ℕ → Bool
   mv = is_listed movable
 
@@ -93,8 +94,8 @@ module _ (s : Store) (h : HeapList) (movable : List ℕ) (sound : IsSound s) (fo
   slide : IsSlide s.bytes after h movable
   slide = record { old = old; new = new }
 
-  clear : AreClearOthers h s.heaps
-  clear = are_clear_others s.bytes h.start s.heaps h sound.heaps sound.unnested found
+  others : AreOthers h s.heaps
+  others = are_others s.bytes h.start s.heaps h sound.heaps found
 
   beyond : (a : ℕ) → in_range h.start h.end a ≡ false → after.at a ≡ s.bytes.at a
   unfolding after old
@@ -104,24 +105,27 @@ module _ (s : Store) (h : HeapList) (movable : List ℕ) (sound : IsSound s) (fo
   ])
 
   beside : AreBeside after h s.heaps
-  unfolding after
-  beside = clear_beside s.bytes after h s.heaps refl beyond clear sound.heaps
-
-  unnested : AreUnnested (with_items h.start (slid_in h movable) s.heaps)
-  unnested = unnested_held h.start (slid_in h movable) s.heaps sound.unnested
+  unfolding after old
+  beside =
+      let kept : KeepsBytes s.bytes after h movable = record {
+        mapped = refl;
+        beyond = beyond;
+        fixed = bytes_fixed s h movable old.aligned old.totals;
+      } in
+      heaps_beside s.bytes after h movable s.heaps kept empty others sound.heaps
 
   pub sound_slid : IsSound (with_slid s h movable)
   unfolding mv old after
   sound_slid = record {
-    heaps = parts_beside after h (slid_in h movable) s.heaps new beside unnested;
-    unnested = unnested;
+    heaps = parts_beside s.bytes after h (slid_in h movable) s.heaps new beside others
+        (heaps_stay s.bytes h movable s.heaps old.totals sound.heaps empty) sound.heaps;
     limits = same_limits s.heaps _ (places-held h.start (slid_in h movable) s.heaps) sound.limits;
-    placed = all_placed s.bytes after h s.heaps movable s.others slide sound.heaps clear found sound.placed;
-    apart = ranges_apart s.bytes after h s.heaps movable s.others slide sound.heaps clear found sound.placed sound.apart;
+    placed = all_placed s.bytes after h s.heaps movable s.others slide sound.heaps others empty found sound.placed;
+    apart = ranges_apart s.bytes after h s.heaps movable s.others slide found sound.placed sound.apart;
     few = rw (length-map s.others (λ (r : Region). moved_region (moves_in h movable) r)) sound.few;
     anchors = λ a is. (
       (sound.anchors a is).0,
-      place_held h (slid_in h movable) s.heaps a (are_others s.bytes h.start s.heaps h sound.heaps found)
+      place_held h (slid_in h movable) s.heaps a others
           (anchors_stay s.anchor (is_listed movable) (h.start + 16) h.items old.totals free a is) (sound.anchors a is).1,
     );
     headers = λ a is. store_stays (moves_in h movable) s.others a (sound.headers a is);

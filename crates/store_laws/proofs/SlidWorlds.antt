@@ -12,12 +12,13 @@ use Rattle.address_map.specs.declared.region.Region.{Region}
 use Rattle.os_heap_lists.specs.Heap.{HeapList, IsHeapIn}
 use Rattle.os_heap.proofs.Anchored.{place_in as block_of_anchor}
 use Rattle.os_heap.proofs.Found.{found_heap}
-use Rattle.os_heap.proofs.Stores.{clear_of-found}
+use Rattle.os_heap.proofs.Stores.{clear_of-found, placed_either}
 use Rattle.os_heap.specs.Calls.{holds_anchor}
+use Rattle.os_heap.specs.Forgetting.{holds_heap}
 use Rattle.os_heap.specs.Store.{ArePlaced, IsClearOfHeaps, IsImageBlock, IsImageIn, Store, find_heap, is_image}
 use Rattle.os_heap_slide.proofs.Places.{low_still, past_still, some_low}
 use Rattle.os_heap_slide.proofs.Records.{image_place, moves_in, still_place}
-use Rattle.os_heap_slide.specs.Slide.{HoldNoAnchor, is_listed, with_slid}
+use Rattle.os_heap_slide.specs.Slide.{HoldNoAnchor, HoldNoHeap, is_listed, with_slid}
 use Rattle.dynamic_areas.specs.Ground.{Estate, IsRecorded, system_pages}
 use Rattle.rma.specs.Calls.{with_store}
 use Rattle.instances_plans.specs.Code.{private_of}
@@ -30,7 +31,7 @@ use Rattle.instances_ground.proofs.AreaLemmas.{image_found}
 use Rattle.instances_slide.proofs.Choosing.{IsChosen, chosen}
 use Rattle.instances_slide.proofs.LawLemmas.{heap_after, keeps_moved, slid_where}
 use Rattle.instances_slide.proofs.NameLemmas.{names_moved, slid_outside}
-use Rattle.instances_slide.proofs.Tidying.{HasHeap, heap_there, no_anchor}
+use Rattle.instances_slide.proofs.Tidying.{HasHeap, heap_there, holds_none as movable_empty, payload_empty}
 use Rattle.instances_slide.specs.Laws.{AreBytes}
 use Rattle.instances_slide.specs.Movable.{can_move, movable_blocks}
 use Rattle.instances_slide.specs.Slid.{image_moved, private_words, words_moved, world_moved, world_slid}
@@ -67,7 +68,7 @@ slots_below modules are s some = below_64 s (slot_count s modules) (omega (arith
 pub placed_of : (hs : List HeapList) (rs : List Region) (r : Region) → ArePlaced hs rs → IsRecorded r rs → IsClearOfHeaps r.at r.len hs ⊎ IsImageIn hs r
 placed_of hs [] r placed recorded = absurd recorded
 placed_of hs (q ∷ rs) r placed recorded = elim recorded [
-  | inl same ↦ subst (λ (x : Region). IsClearOfHeaps x.at x.len hs ⊎ IsImageIn hs x) same placed.0
+  | inl same ↦ subst (λ (x : Region). IsClearOfHeaps x.at x.len hs ⊎ IsImageIn hs x) same (placed_either hs q placed.0)
   | inr later ↦ placed_of hs rs r placed.1 later
 ]
 
@@ -271,9 +272,20 @@ pub record IsAreaKept (w v : World) : Type 0 where
 pub holds_none : (w : World) (h : HeapList) (return_address : ℕ) → IsHeapIn w.estate.store.bytes h.start h.end h.items
     → HoldNoAnchor w.estate.store h (movable_blocks w.estate.store w.modules (private_words w) return_address h)
 holds_none w h return_address heap b is =
-    let test : ℕ → ℕ → Bool = can_move w.estate.store.anchor w.modules (private_words w) return_address in
+    let s : Store = w.estate.store in
+    let test : ℕ → ℕ → Bool = can_move s.anchor (holds_heap s.heaps) w.modules (private_words w) return_address in
     let c : IsChosen test (h.start + 16) h.items b = chosen test (h.start + 16) h.items b heap.totals is in
-    rw c.live (no_anchor w.estate.store.anchor w.modules (private_words w) return_address (b - 4) c.total c.passes)
+    rw c.live (movable_empty s.anchor (holds_heap s.heaps) w.modules (private_words w) return_address (b - 4) c.total c.passes).0
+
+-- and no heap
+pub holds_no_heap : (w : World) (h : HeapList) (return_address : ℕ) → IsHeapIn w.estate.store.bytes h.start h.end h.items
+    → HoldNoHeap w.estate.store.heaps h (movable_blocks w.estate.store w.modules (private_words w) return_address h)
+holds_no_heap w h return_address heap b is =
+    let s : Store = w.estate.store in
+    let test : ℕ → ℕ → Bool = can_move s.anchor (holds_heap s.heaps) w.modules (private_words w) return_address in
+    let c : IsChosen test (h.start + 16) h.items b = chosen test (h.start + 16) h.items b heap.totals is in
+    rw c.live (payload_empty s.heaps b c.total (omega (arith, c.low))
+    (movable_empty s.anchor (holds_heap s.heaps) w.modules (private_words w) return_address (b - 4) c.total c.passes).1)
 
 pub area_kept : (return_address : ℕ) (w : World) → IsWorld w [] → AreModules w.modules → AreBytes w.estate.store.bytes.at
     → IsAreaKept w (world_slid return_address w)

@@ -7,11 +7,11 @@ use Rattle.address_map.specs.declared.region.Region.{Region}
 use Rattle.os_heap.specs.Store.{Store, is_flex_store, is_in_flex_store, store_of}
 use Rattle.flex_kept.specs.Keeping.{IsFlexKept}
 use Rattle.flex_store.proofs.Texts.{text_kept, text_read}
-use Rattle.flex_store.proofs.Words.{outer_words, words_low, words_outer}
-use Rattle.flex_store.specs.Blocks.{Block, FlexStore}
+use Rattle.flex_store.proofs.Words.{words_low}
+use Rattle.flex_store.specs.Blocks.{Block, FlexStore, taken}
 use Rattle.flex_store.specs.declared.flex.Flex.{Flex}
 use Rattle.flex_store.specs.Laws.{AreDistinct, HasBlocks}
-use Rattle.flex_store.specs.State.{AreOuterWords, IsFlexAt, IsText, is_recorded, is_store_record}
+use Rattle.flex_store.specs.State.{AreAnchorWords, IsFlexAt, IsText, is_recorded, is_store_record}
 use Rattle.flex_store.specs.declared.flex.Extent.{Extent}
 use Rattle.flex_ground.specs.Ground.{HasFlex, spelled_store}
 use Rattle.store_laws.specs.FlexStore.{HasFlexStore, IsSpelled, IsSpelledAt, spelled_blocks}
@@ -25,7 +25,8 @@ spelled_at m (Some e) is =
       range = s.range;
       fits = s.fits;
       whole = s.whole;
-      words = words_outer (store_of m).bytes.mapped e.start e.end e.start (spelled_blocks (store_of m) e) s.words s.outside;
+      words = s.words;
+      inner = s.inner;
       text = s.text;
       anchored = s.anchored;
       headers = s.headers;
@@ -51,9 +52,9 @@ in_recorded (r ∷ rs) start end a is low high = elim (cases_Bool (is_store_reco
 ]
 
 -- the anchors of such blocks differ
-distinct : (mapped : ℕ → Bool) (start end : ℕ) (bs : List Block) → AreOuterWords mapped start end bs → AreDistinct bs
+distinct : (mapped : ℕ → Bool) (start end : ℕ) (bs : List Block) → AreAnchorWords mapped start end bs → AreDistinct bs
 distinct mapped start end [] words = tt
-distinct mapped start end (b ∷ bs) words = (words.0.1, distinct mapped start end bs words.1)
+distinct mapped start end (b ∷ bs) words = (words.0.1, distinct mapped (start + taken b.size) end bs words.1)
 
 pub has_blocks : (s : Store) (o : Option Extent) → IsSpelledAt s o → HasBlocks (spelled_store s.bytes.at o)
 has_blocks s None is = tt
@@ -66,7 +67,7 @@ has_store m f has = record { is = spelled_at m f.extent has.is; free = has.free;
 store_text : (s : Store) (e : Extent) → IsSpelled s e → IsText s.bytes e.start (e.start + e.used) (spelled_blocks s e)
 store_text s e is = record {
   whole = is.whole;
-  low = words_low s.bytes.mapped e.start e.end (spelled_blocks s e) (outer_words s.bytes.mapped e.start e.end e.start (spelled_blocks s e) (omega arith) is.words);
+  low = words_low s.bytes.mapped e.start e.end (spelled_blocks s e) is.words;
   text = is.text;
   length = omega (arith, is.used_is);
   aligned = is.range.start_aligned;

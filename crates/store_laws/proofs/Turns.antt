@@ -11,6 +11,7 @@ use Rattle.os_heap_lists.specs.Heap.{HeapList}
 use Rattle.os_heap.specs.Store.{find_heap, store_of}
 use Rattle.flex_kept.specs.Keeping.{IsFlexKept, KeepsFlex}
 use Rattle.flex_store.specs.Blocks.{FlexStore}
+use Rattle.flex_laws.specs.Numbered.{blocks_seen}
 use Rattle.flex_store.specs.Laws.{contents_in}
 use Rattle.instances_table.specs.declared.parts.Image.{Image}
 use Rattle.instances_table.specs.Modules.{Module}
@@ -26,7 +27,7 @@ use Rattle.store_laws.proofs.SlidSound.{IsTidy, tidy}
 use Rattle.store_laws.proofs.SlidWorlds.{IsAreaKept, area_kept}
 use Rattle.store_laws.proofs.Spelled.{has_store, spelled_kept}
 use Rattle.store_laws.specs.Laws.{IsFollowed, MachinesHaveStores, TurnsFollowRules, unplaced}
-use Rattle.store_laws.specs.Meaning.{AreStores, IsMemory, Place, Stores, area_places, contents_of, meaning_of, place_in, store_in}
+use Rattle.store_laws.specs.Meaning.{AreStores, IsMemory, Place, Stores, area_places, contents_of, flex_seen, meaning_of, place_in, store_in}
 use Rattle.store_laws.specs.Turning.{AreAllowed, Call, Init, IsAllowed, Slide, Turn, answered, turned}
 
 -- a slide moves images, and leaves all else of their modules
@@ -70,6 +71,10 @@ module _ (return_address : ℕ) (x : Stores) (are : AreStores x) (none : x.pendi
   contents_slid a =
       ap (λ (o : Option FlexStore). contents_in o a) (spelled_kept (store_in x) (world_slid return_address x.world).estate.store x.flex.extent are.flex.is flex_kept)
 
+  seen_slid : flex_seen y ≡ flex_seen x
+  unfolding y flex_kept
+  seen_slid = ap blocks_seen (spelled_kept (store_in x) (world_slid return_address x.world).estate.store x.flex.extent are.flex.is flex_kept)
+
   places_slid : (a : ℕ) → area_places (contents_of y) y.world a ≡ area_places (contents_of x) x.world a
   unfolding y contents_slid
   places_slid a =
@@ -96,9 +101,9 @@ module _ (return_address : ℕ) (x : Stores) (are : AreStores x) (none : x.pendi
   }
 
   slide_followed : IsFollowed (Slide return_address) x (turned (Slide return_address) x)
-  unfolding turned answered meaning_of y stores contents_slid places_slid
+  unfolding turned answered meaning_of y stores contents_slid places_slid seen_slid
   slide_followed = record {
-    rule = record { flex = contents_slid; places = places_slid; blocks = kept.blocks; images = kept.images; names = kept.names };
+    rule = record { flex = seen_slid; places = places_slid; blocks = kept.blocks; images = kept.images; names = kept.names };
     words = kept.words;
     modules = modules_slid return_address x.world;
     stores = stores;
@@ -110,7 +115,7 @@ module _ (return_address : ℕ) (x : Stores) (are : AreStores x) (none : x.pendi
 
 followed : (turn : Turn) (x : Stores) → AreStores x → IsAllowed x.pending turn → IsFollowed turn x (turned turn x)
 followed (Init start end) x are may = init_followed x start end are
-followed (Call call) x are may = call_followed x call are
+followed (Call call) x are may = call_followed x call are may
 followed (Slide return_address) x are may = slide_followed return_address x are may
 
 allowed_still : (pending new : List Image) (turns : List Turn) → new ≡ pending → AreAllowed pending turns → AreAllowed new turns

@@ -1,5 +1,6 @@
 -- The flex store of a machine, told of its store alone: its words spell the blocks, the anchors hold the addresses of
 -- the blocks' bytes, and just the words of headers and anchors are marked as such; no anchor lies in a recorded range
+-- but the store's own
 -- (Acorn C manual, "flex"; the layout is this project's own).
 use Rattle.std.specs.Prelude.{ℕ, ◌≡◌, ◌≤◌, ◌+◌, true, false, List, Option, Some, None}
 use Rattle.address_map.specs.Bytes.{word_start}
@@ -7,7 +8,7 @@ use Rattle.os_heap.specs.Store.{Store}
 use Rattle.flex_kept.specs.Keeping.{AreAnchorsFree}
 use Rattle.flex_store.specs.Blocks.{Block, has_anchor, is_header, used}
 use Rattle.flex_store.specs.Memory.{AreAnchored, Holds, blocks_in, text_of}
-use Rattle.flex_store.specs.State.{AreOuterWords, AreWhole, IsFlexRange, is_recorded}
+use Rattle.flex_store.specs.State.{AreAnchorWords, AreInner, AreWhole, IsFlexRange, is_recorded}
 use Rattle.flex_store.specs.declared.flex.Extent.{Extent}
 use Rattle.flex_store.specs.declared.flex.Flex.{Flex}
 use Rattle.flex_ground.specs.Ground.{records_with}
@@ -21,7 +22,8 @@ pub record IsSpelled (s : Store) (e : Extent) : Type 0 where
   pub range : IsFlexRange s.bytes.mapped e.start e.end
   pub fits : e.start + used (spelled_blocks s e) ≤ e.end
   pub whole : AreWhole (spelled_blocks s e)
-  pub words : AreOuterWords s.bytes.mapped e.start e.end (spelled_blocks s e)
+  pub words : AreAnchorWords s.bytes.mapped e.start e.end (spelled_blocks s e)
+  pub inner : AreInner e.start e.end (spelled_blocks s e)
   pub text : Holds s.bytes.at e.start (text_of (spelled_blocks s e))
   pub anchored : AreAnchored s.bytes.at e.start (spelled_blocks s e)
   pub headers : (a : ℕ) → s.header a ≡ is_header e.start (spelled_blocks s e) (word_start a)

@@ -11,7 +11,7 @@ use Rattle.instances_ground.specs.Sound.{IsWorld}
 use Rattle.instances_ground.specs.World.{private_word, world_of}
 use Rattle.store_laws.specs.Meaning.{AreStores, Stores, Value, meaning_of, store_in}
 use Rattle.store_laws.specs.Rules.{IsTurned}
-use Rattle.store_laws.specs.Turning.{AreAllowed, Turn, answered, turned}
+use Rattle.store_laws.specs.Turning.{AreAllowed, Turn, answered, placed, turned}
 
 -- a module, wherever its image stands
 abbrev pub unplaced : Module → Module
@@ -21,7 +21,7 @@ unplaced m = record m { image = record m.image { at = 0 } }
 -- what they were, but for where their images stand. What has to hold of stores holds of those that it leaves; the same
 -- memory is mapped, with as many pages in the pool and the same areas, and what is pending is pending still.
 pub record IsFollowed (turn : Turn) (x y : Stores) : Type 0 where
-  pub rule : IsTurned turn (answered turn x) (meaning_of x) (meaning_of y)
+  pub rule : IsTurned turn (placed turn x) (answered turn x) (meaning_of x) (meaning_of y)
   pub words : (slot word : ℕ) → (meaning_of x).names slot ≡ Some (Value word)
       → private_word y.world.estate slot ≡ word
   pub modules : map unplaced y.world.modules ≡ map unplaced x.world.modules

@@ -1,5 +1,5 @@
 -- What the stores of a machine mean without the addresses at which flex blocks and blocks of the module area stand: a
--- flex block goes by its anchor, a block of the module area by its place among the live ones, an image by its place
+-- flex block goes by its number in the list, a block of the module area by its place among the live ones, an image by its place
 -- among the images, and a private word by its slot (this project's own).
 use Rattle.std.specs.Prelude.{ℕ, suc, ◌≡◌, ◌≤◌, ◌<◌, ◌+◌, ◌-◌, ◌^◌, ◌==◌, Bool, true, map, length, List, [], ◌∷◌}
 use Rattle.std.specs.Prelude.{Option, Some, None, is_some, if◌then◌else◌}
@@ -14,6 +14,7 @@ use Rattle.os_heap.specs.Store.{Store, find_heap, is_image}
 use Rattle.flex_store.specs.Laws.{contents_in}
 use Rattle.flex_store.specs.declared.flex.Flex.{Flex}
 use Rattle.flex_ground.specs.Ground.{spelled_store}
+use Rattle.flex_laws.specs.Numbered.{SeenBlock, blocks_seen}
 use Rattle.instances_table.specs.Changes.{is_held}
 use Rattle.instances_table.specs.declared.parts.Image.{Image}
 use Rattle.instances_table.specs.Modules.{AreModules}
@@ -109,12 +110,13 @@ images_in bytes [] = []
 images_in bytes (r ∷ rs) =
     if is_image r.kind then bytes_between bytes r.at r.len ∷ images_in bytes rs else images_in bytes rs
 
--- `flex` has the contents of each anchor's block, `places` where among `blocks` each anchor is that lies in one,
+-- `flex` has the flex blocks in order, each with the place of its anchor and its contents, but for the bytes of anchors
+-- in these; `places` where among `blocks` each anchor is that lies in one,
 -- `blocks` what the live blocks of the module area hold, `images` the images of modules, and `names` for each slot
 -- what the instance's private word says, if there is such an instance: which of `blocks` it names, or its value, where
 -- it names none.
 pub record Meaning : Type 0 where
-  pub flex : ℕ → Option (List ℕ)
+  pub flex : List SeenBlock
   pub places : ℕ → Option Place
   pub blocks : List (List (Option ℕ))
   pub images : List (List ℕ)
@@ -140,9 +142,13 @@ area_names w slot = if is_held slot w.modules then Some (area_word w (private_wo
 abbrev pub contents_of : Stores → ℕ → Option (List ℕ)
 contents_of x = contents_in (spelled_store (store_in x).bytes.at x.flex.extent)
 
+-- the flex blocks as they are seen
+abbrev pub flex_seen : Stores → List SeenBlock
+flex_seen x = blocks_seen (spelled_store (store_in x).bytes.at x.flex.extent)
+
 unfoldable pub meaning_of : Stores → Meaning
 meaning_of x = record {
-  flex = contents_of x;
+  flex = flex_seen x;
   places = area_places (contents_of x) x.world;
   blocks = area_blocks x.world;
   images = area_images x.world;

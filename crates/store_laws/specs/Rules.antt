@@ -4,7 +4,8 @@ use Rattle.std.specs.Prelude.{ℕ, zero, suc, ◌+◌, ◌≡◌, ◌⊎◌, Boo
 use Rattle.std.specs.Prelude.{Result, Ok, Err, if◌then◌else◌}
 use Rattle.address_map.specs.Bytes.{in_range}
 use Rattle.rma.specs.profile.specs.declared.error.ErrorNumber.{ErrorNumber}
-use Rattle.flex_store.specs.Runs.{Alloc, Extend, FlexCall, MidExtend, Release, contents_after}
+use Rattle.flex_store.specs.Runs.{Alloc, Extend, FlexCall, MidExtend, Release}
+use Rattle.flex_laws.specs.Numbered.{Anchor, IsCalledSeen}
 use Rattle.store_laws.specs.Meaning.{BlockNumber, Meaning, Place, PrivateWord, Value}
 use Rattle.store_laws.specs.Turning.{Call, Init, Slide, Turn}
 
@@ -51,18 +52,18 @@ AreAnchorsLeft (Release anchor) p q = IsUnanchored anchor p q
 AreAnchorsLeft (Extend anchor size) p q = IsAnchoredAlike p q
 AreAnchorsLeft (MidExtend anchor at by) p q = IsAnchoredAlike p q
 
--- A flex call that finds room changes the contents of its own anchor alone, by the call's rule. The blocks of the
+-- A flex call that finds room, on an anchor at a place, changes the flex blocks by the call's rule. The blocks of the
 -- module area hold what they held, but for the word of an anchor that came or went. Images are what they were, and a
 -- private word says what it said.
-pub record IsCalled (call : FlexCall) (p q : Meaning) : Type 0 where
-  pub flex : (a : ℕ) → q.flex a ≡ contents_after call p.flex a
+pub record IsCalled (call : FlexCall) (x : Anchor) (p q : Meaning) : Type 0 where
+  pub flex : IsCalledSeen call x p.flex q.flex
   pub anchors : AreAnchorsLeft call p q
   pub images : q.images ≡ p.images
   pub names : (slot : ℕ) → q.names slot ≡ p.names slot
 
 -- Init makes a store without blocks, where there was none.
 pub record IsBegun (p q : Meaning) : Type 0 where
-  pub none : (a : ℕ) → p.flex a ≡ None
+  pub none : p.flex ≡ []
   pub same : q ≡ p
 
 -- A private word that named a block still names that one. One that named none has its value still, so by chance it may
@@ -74,16 +75,16 @@ IsStillNamed (Some (Value word)) new = (new ≡ Some (Value word)) ⊎ ((number 
 
 -- A slide keeps all that there is.
 pub record IsSlid (p q : Meaning) : Type 0 where
-  pub flex : (a : ℕ) → q.flex a ≡ p.flex a
+  pub flex : q.flex ≡ p.flex
   pub places : (a : ℕ) → q.places a ≡ p.places a
   pub blocks : q.blocks ≡ p.blocks
   pub images : q.images ≡ p.images
   pub names : (slot : ℕ) → IsStillNamed (p.names slot) (q.names slot)
 
--- A call that was refused leaves all as it is, and so does one that finds no room.
-abbrev pub IsTurned : Turn → Result Bool ErrorNumber → Meaning → Meaning → Type 0
-IsTurned turn (Err e) p q = q ≡ p
-IsTurned turn (Ok false) p q = q ≡ p
-IsTurned (Init start end) (Ok true) p q = IsBegun p q
-IsTurned (Call call) (Ok true) p q = IsCalled call p q
-IsTurned (Slide return_address) (Ok true) p q = IsSlid p q
+-- A turn, and the place of its anchor, if it has one. A call that was refused leaves all as it is, and so does one that finds no room.
+abbrev pub IsTurned : Turn → Anchor → Result Bool ErrorNumber → Meaning → Meaning → Type 0
+IsTurned turn x (Err e) p q = q ≡ p
+IsTurned turn x (Ok false) p q = q ≡ p
+IsTurned (Init start end) x (Ok true) p q = IsBegun p q
+IsTurned (Call call) x (Ok true) p q = IsCalled call x p q
+IsTurned (Slide return_address) x (Ok true) p q = IsSlid p q

@@ -1,10 +1,13 @@
 -- The turns that stores take: flex calls, and slides of the module area, each as its definition has it (Acorn C
 -- manual, "flex"; RISC OS 3 Programmer's Reference Manual, "OS_Module", reason 8).
-use Rattle.std.specs.Prelude.{ℕ, ◌≡◌, Bool, true, List, [], ◌∷◌, Result, Ok, Err}
+use Rattle.std.specs.Prelude.{ℕ, ◌≡◌, Bool, true, List, [], ◌∷◌, Option, None, Some, Result, Ok, Err}
 use Rattle.rma.specs.profile.specs.Outcome.{bind}
 use Rattle.rma.specs.profile.specs.declared.error.ErrorNumber.{ErrorNumber}
 use Rattle.os_heap.specs.Store.{Store}
 use Rattle.flex_ground.specs.Ground.{flex_of, flex_state, store_flexed, with_flex_record}
+use Rattle.flex_laws.specs.Laws.{IsOfWords, anchor_of}
+use Rattle.flex_laws.specs.Numbered.{Anchor, Fixed, place_of}
+use Rattle.flex_store.specs.Blocks.{FlexStore}
 use Rattle.flex_store.specs.Calls.{FlexState, allocated, begun, extended, mid_extended, released}
 use Rattle.flex_store.specs.Runs.{Alloc, Extend, FlexCall, MidExtend, Release}
 use Rattle.flex_store.specs.declared.flex.Flex.{Flex}
@@ -56,10 +59,20 @@ answered (Init start end) x = answer_of (begun_with (store_in x) x.flex start en
 answered (Call call) x = answer_of (called (store_in x) x.flex call)
 answered (Slide return_address) x = Ok true
 
--- A slide is made only where no image is pending; flex calls are made at any time.
+-- where the anchor of a call is, before it: a word elsewhere, or a place in a flex block
+abbrev pub place_by : Option FlexStore → ℕ → Anchor
+place_by None a = Fixed a
+place_by (Some s) a = place_of s a
+
+abbrev pub placed : Turn → Stores → Anchor
+placed (Init start end) x = Fixed 0
+placed (Call call) x = place_by (flex_state (store_in x) x.flex).flex (anchor_of call)
+placed (Slide return_address) x = Fixed 0
+
+-- A slide is made only where no image is pending; flex calls are made at any time, and what they are given are words.
 abbrev pub IsAllowed : List Image → Turn → Type 0
 IsAllowed pending (Init start end) = Unit {0}
-IsAllowed pending (Call call) = Unit {0}
+IsAllowed pending (Call call) = IsOfWords call
 IsAllowed pending (Slide return_address) = pending ≡ []
 
 abbrev pub AreAllowed : List Image → List Turn → Type 0

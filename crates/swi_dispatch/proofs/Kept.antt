@@ -19,7 +19,7 @@ use Rattle.address_map.specs.declared.region.Region.{Region}
 use Rattle.os_heap.specs.os_heap_lists.specs.Heap.{HeapList}
 use Rattle.os_heap.specs.Store.{Store, store_of, owned_in, AreClasses, ArePlaced, IsClearOfHeaps, IsSound}
 use Rattle.os_heap.proofs.Frame.{IsKept, classes_same, clear_kept, heads_kept, owned_word, spelled_owned}
-use Rattle.os_heap.proofs.Stores.{image_kind}
+use Rattle.os_heap.proofs.Stores.{image_kind, placed_either}
 use Rattle.os_heap.proofs.Owned.{owned_marks}
 use Rattle.dynamic_areas.specs.Ground.{AreAreas, IsRecorded, system_pages}
 use Rattle.dynamic_areas.proofs.HeapCalls.{areas_written}
@@ -81,7 +81,7 @@ system_clear : (hs : List HeapList) (rs : List Region) → ArePlaced hs rs → I
 system_clear hs [] placed there = absurd there
 system_clear hs (r ∷ rs) placed there = elim there [
   | inr later ↦ system_clear hs rs placed.1 later
-  | inl here ↦ elim (rw here at placed.0) [
+  | inl here ↦ elim (placed_either hs system_pages (rw here at placed.0)) [
     | inl clear ↦ clear
     | inr image ↦ absurd (true≢false (sym (image_kind hs system_pages image)))
   ]

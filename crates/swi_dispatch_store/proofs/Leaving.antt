@@ -4,11 +4,11 @@ use Rattle.profile.specs.Outcome.{Gives}
 use Rattle.profile.specs.declared.error.ErrorNumber.{ErrorNumber}
 use Rattle.address_map.specs.declared.map.AddressMap.{AddressMap}
 use Rattle.address_map.specs.Memory.{layout, mapping}
-use Rattle.os_heap.specs.Calls.{begun, changed}
+use Rattle.os_heap.specs.Calls.{begun, changed, gave_back, resized}
 use Rattle.os_heap.specs.Store.{AreClasses, IsSound, store_of}
 use Rattle.os_heap.proofs.Frame.{layout-others}
-use Rattle.flex_kept.specs.dynamic_areas.proofs.HeapCalls.{areas_begun, areas_changed, areas_written}
-use Rattle.flex_kept.proofs.Heaps.{begun_keeps, changed_keeps}
+use Rattle.flex_kept.specs.dynamic_areas.proofs.HeapCalls.{areas_begun, areas_changed, areas_freed, areas_resized, areas_written}
+use Rattle.flex_kept.proofs.Heaps.{begun_keeps, changed_keeps, freed_keeps, resized_keeps}
 use Rattle.flex_kept.proofs.Keeping.{keeps_same}
 use Rattle.flex_kept.specs.Keeping.{KeepsFlex}
 use Rattle.flex_kept.specs.dynamic_areas.specs.Areas.{Land}
@@ -51,4 +51,25 @@ leaves_changed m n heap change r sound sound' classes others same gives = λ l e
   classes = classes;
   others = others;
   flex = changed_keeps (store_of m) (store_of n) heap change r sound sound' gives;
+}
+
+-- what gives a block back, and what changes its size: heaps that lay in it may be gone
+pub leaves_freed : (m n : AddressMap) (heap block : ℕ) (r : Result (Unit {0}) ErrorNumber) → IsSound (store_of m) → IsSound (store_of n)
+    → AreClasses n → (store_of n).others ≡ (store_of m).others → mapping n ≡ mapping m
+    → Gives (store_of m) (gave_back (store_of m) heap block) r (store_of n) → LeavesAreas m n
+leaves_freed m n heap block r sound sound' classes others same gives = λ l estate. record {
+  estate = areas_freed m n l estate sound' others same heap block r gives;
+  classes = classes;
+  others = others;
+  flex = freed_keeps (store_of m) (store_of n) heap block r sound sound' gives;
+}
+
+pub leaves_resized : (m n : AddressMap) (heap block change : ℕ) (r : Result ℕ ErrorNumber) → IsSound (store_of m) → IsSound (store_of n)
+    → AreClasses n → (store_of n).others ≡ (store_of m).others → mapping n ≡ mapping m
+    → Gives (store_of m) (resized (store_of m) heap block change) r (store_of n) → LeavesAreas m n
+leaves_resized m n heap block change r sound sound' classes others same gives = λ l estate. record {
+  estate = areas_resized m n l estate sound' others same heap block change r gives;
+  classes = classes;
+  others = others;
+  flex = resized_keeps (store_of m) (store_of n) heap block change r sound sound' gives;
 }

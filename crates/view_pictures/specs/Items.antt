@@ -1,8 +1,9 @@
 -- The lines of a view as text, as the script language prints them.
-use Rattle.std.specs.Prelude.{ℕ, Bool, true, false, List, ◌++◌, codes}
+use Rattle.std.specs.Prelude.{ℕ, Bool, true, false, List, ◌++◌, codes, Option, Some, None}
 use Rattle.std.specs.List.{flat_map}
 use Rattle.std.specs.Fmt.{decimal}
 use Rattle.profile.specs.Digits.{hex_word}
+use Rattle.view_pictures.specs.declared.items.Holder.{Holder}
 use Rattle.view_pictures.specs.declared.items.Item.{Item}
 use Rattle.view_pictures.specs.declared.items.Item.TheVariants as item
 
@@ -18,6 +19,15 @@ abbrev pub preferred_text : Bool → List ℕ
 preferred_text true = codes " preferred\n"
 preferred_text false = codes "\n"
 
+abbrev pub block_text : ℕ → ℕ → ℕ → List ℕ
+block_text anchor address size =
+    address_then (codes "block anchor ") anchor (address_then (codes " at ") address (codes " size " ++ decimal size))
+
+-- where in the bytes of a block an anchor lies, if it does, and the end of the line
+abbrev pub holder_text : Option Holder → List ℕ
+holder_text None = codes "\n"
+holder_text (Some h) = address_then (codes " in ") h.address (number_then (codes " offset ") h.offset (codes "\n"))
+
 abbrev pub item_text : Item → List ℕ
 item_text (item.Heap start base end) =
     address_then (codes "heap ") start (number_then (codes " base ") base (number_then (codes " end ") end (codes "\n")))
@@ -25,8 +35,7 @@ item_text (item.Live address size) = address_then (codes "live ") address (numbe
 item_text (item.Free address size) = address_then (codes "free ") address (number_then (codes " ") size (codes "\n"))
 item_text (item.Flex start end used) =
     address_then (codes "flex ") start (address_then (codes " ") end (number_then (codes " used ") used (codes "\n")))
-item_text (item.Block anchor address size) =
-    address_then (codes "block anchor ") anchor (address_then (codes " at ") address (number_then (codes " size ") size (codes "\n")))
+item_text (item.Block anchor address size holder) = block_text anchor address size ++ holder_text holder
 item_text (item.Area number base size max name) =
     number_then (codes "area ") number (address_then (codes " base ") base (number_then (codes " size ") size
     (number_then (codes " max ") max (codes " " ++ (name.now ++ codes "\n")))))

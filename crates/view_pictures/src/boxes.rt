@@ -6,7 +6,7 @@ ghost use Rattle.view_pictures.specs.Boxes.{between, growth_place, own_place, pl
 ghost use Rattle.view_pictures.specs.Boxes.{places_told, room_place, room_places};
 ghost use Rattle.view_pictures.specs.Layout.{has_second_line, is_free, is_pool, kind_sign, kind_word};
 
-use crate::items::Item;
+use crate::items::{Holder, Item};
 use std::alloc::{AllocError, Global};
 
 /// What a box stands for.
@@ -47,6 +47,8 @@ pub struct PictureBox<'a> {
     pub name: &'a [u8],
     /// Its anchor, or what stands in its word.
     pub detail: u32,
+    /// Where the bytes of the block begin that its anchor lies in, if it lies in one.
+    pub holder: Option<u32>,
 }
 
 impl Kind {
@@ -115,10 +117,11 @@ impl<'a> PictureBox<'a> {
             size,
             name: b"",
             detail: 0,
+            holder: None,
         }
     }
 
-    /// Whether this is the other box too.
+    /// Whether this is the other box too. That another box holds its anchor now is told of that one.
     pub fn is_same(&self, other: &PictureBox<'_>) -> bool {
         self.kind == other.kind
             && self.address == other.address
@@ -177,8 +180,9 @@ fn box_of<'a>(item: &Item<'a>) -> Option<PictureBox<'a>>
         Item::Heap(start, _, _) => Some(PictureBox::plain(Kind::Descriptor, start, 16)),
         Item::Live(address, size) => Some(PictureBox::plain(Kind::Live, address, size)),
         Item::Free(address, size) => Some(PictureBox::plain(Kind::Free, address, size)),
-        Item::Block(anchor, address, size) => Some(PictureBox {
+        Item::Block(anchor, address, size, holder) => Some(PictureBox {
             detail: anchor,
+            holder: address_of(holder),
             ..PictureBox::plain(Kind::Block, address, size)
         }),
         Item::Area(_, base, size, _, name) => Some(PictureBox {
@@ -197,6 +201,10 @@ fn box_of<'a>(item: &Item<'a>) -> Option<PictureBox<'a>>
         }),
         Item::Flex(_, _, _) | Item::Row(_, _) => None,
     }
+}
+
+fn address_of(holder: Option<Holder>) -> Option<u32> {
+    Some(holder?.address)
 }
 
 // The bytes from one address up to another, where there are some.

@@ -2,7 +2,7 @@
 
 ghost use Rattle.std.specs.Prelude.{◌≡◌, codes};
 ghost use Rattle.profile.specs.Output.{Writes};
-ghost use Rattle.view_pictures.specs.Items.{address_then, item_text, number_then, preferred_text};
+ghost use Rattle.view_pictures.specs.Items.{address_then, block_text, holder_text, item_text, number_then, preferred_text};
 
 use crate::words::{Words, cut_last};
 use itoa::Buffer;
@@ -19,8 +19,9 @@ pub enum Item<'a> {
     Free(u32, u32),
     /// `flex 0000A000 0000A400 used 20`: where the range starts and ends, and how much is used.
     Flex(u32, u32, u32),
-    /// `block anchor 00009000 at 0000A008 size 10`.
-    Block(u32, u32, u32),
+    /// `block anchor 00009000 at 0000A008 size 10`, and ` in 0000A008 offset 8` behind it where the anchor lies
+    /// in the bytes of a block.
+    Block(u32, u32, u32, Option<Holder>),
     /// `area 1 base 01800000 size 65536 max 4194304 RMA`.
     Area(u32, u32, u32, u32, &'a [u8]),
     /// `pool 173 pages`.
@@ -31,6 +32,15 @@ pub enum Item<'a> {
     Instance(&'a [u8], u32, u32, bool),
     /// `00009010: 00 --`: the address, and the bytes as they are shown.
     Row(u32, &'a [u8]),
+}
+
+/// The word in a block's bytes that is the anchor of another block.
+#[derive(Clone, Copy, Debug)]
+pub struct Holder {
+    /// Where the bytes of the block that has it begin.
+    pub address: u32,
+    /// How many of them stand before it.
+    pub offset: u32,
 }
 
 /// What a line tells, if it is a line of a view. What it gives may be another line's than this one:
@@ -73,7 +83,19 @@ fn block_item(mut words: Words<'_>) -> Option<Item<'_>> {
     words.pass(b"at")?;
     let address = words.address()?;
     words.pass(b"size")?;
-    Some(Item::Block(anchor, address, words.number()?))
+    let size = words.number()?;
+    Some(Item::Block(anchor, address, size, holder_of(words)))
+}
+
+// Such a line may end here.
+fn holder_of(mut words: Words<'_>) -> Option<Holder> {
+    words.pass(b"in")?;
+    let address = words.address()?;
+    words.pass(b"offset")?;
+    Some(Holder {
+        address,
+        offset: words.number()?,
+    })
 }
 
 fn area_item(mut words: Words<'_>) -> Option<Item<'_>> {
@@ -118,7 +140,9 @@ pub fn push_item<W: Sink>(sink: &mut W, item: &Item<'_>) -> Result<(), WriteFaul
         Item::Live(address, size) => push_part(sink, b"live ", address, size),
         Item::Free(address, size) => push_part(sink, b"free ", address, size),
         Item::Flex(start, end, used) => push_flex(sink, start, end, used),
-        Item::Block(anchor, address, size) => push_block(sink, anchor, address, size),
+        Item::Block(anchor, address, size, holder) => push_block(
+            sink, anchor, address, size, holder,
+        ),
         Item::Area(number, base, size, max, name) => push_area(sink, number, base, size, max, name),
         Item::Pool(pages) => push_pool(sink, pages),
         Item::Module(title, address, size) => push_module(sink, title, address, size),
@@ -183,8 +207,23 @@ fn push_flex<W: Sink>(sink: &mut W, start: u32, end: u32, used: u32) -> Result<(
     )
 }
 
-fn push_block<W: Sink>(sink: &mut W, anchor: u32, address: u32, size: u32) -> Result<(), WriteFault>
-    ensures { Writes W.contents W.has_failed sink.old sink.new result (item_text (Item.Block anchor address size)) }
+fn push_block<W: Sink>(
+    sink: &mut W,
+    anchor: u32,
+    address: u32,
+    size: u32,
+    holder: Option<Holder>,
+) -> Result<(), WriteFault>
+    ensures { Writes W.contents W.has_failed sink.old sink.new result
+        (item_text (Item.Block anchor address size holder)) }
+{
+    push_own(sink, anchor, address, size)?;
+    push_holder(sink, holder)
+}
+
+// The line of a block up to its size.
+fn push_own<W: Sink>(sink: &mut W, anchor: u32, address: u32, size: u32) -> Result<(), WriteFault>
+    ensures { Writes W.contents W.has_failed sink.old sink.new result (block_text anchor address size) }
 {
     let mut digits = Buffer::new();
     push_parts(
@@ -196,6 +235,25 @@ fn push_block<W: Sink>(sink: &mut W, anchor: u32, address: u32, size: u32) -> Re
             HexText::word(address).as_slice(),
             b" size ".as_slice(),
             digits.format(size).as_bytes(),
+        ],
+    )
+}
+
+// Where the anchor lies, and the end of the line.
+fn push_holder<W: Sink>(sink: &mut W, holder: Option<Holder>) -> Result<(), WriteFault>
+    ensures { Writes W.contents W.has_failed sink.old sink.new result (holder_text holder) }
+{
+    let Some(own) = holder else {
+        return push_all(sink, b"\n");
+    };
+    let mut digits = Buffer::new();
+    push_parts(
+        sink,
+        &[
+            b" in ".as_slice(),
+            HexText::word(own.address).as_slice(),
+            b" offset ".as_slice(),
+            digits.format(own.offset).as_bytes(),
             b"\n".as_slice(),
         ],
     )

@@ -1,10 +1,11 @@
-use Rattle.std.proofs.Common.{◌≡◌, ◌∙◌, [], ◌++◌, sym, subst, List, ℕ, Option, Some}
+use Rattle.std.proofs.Common.{refl, ◌≡◌, ◌∙◌, [], ◌++◌, sym, subst, List, ℕ, Option, Some}
 use Rattle.std.specs.Prelude.{unwrap_or}
 use Rattle.std.specs.Io.KnownBytes.{Appends}
-use Rattle.std.specs.List.{flat_map}
 use Rattle.profile.proofs.OutputLemmas.{Appends-join}
 use Rattle.address_map.specs.Memory.{bytes_of}
-use Rattle.debugger.specs.Flex.{block_text, flex_text, range_text}
+use Rattle.swi_dispatch.specs.flex_store.specs.Listed.{all_listed}
+use Rattle.swi_dispatch.specs.flex_store.specs.State.{flex_in}
+use Rattle.debugger.specs.Flex.{blocks_text, flex_text, range_text}
 use Rattle.debugger.proofs.FlexLemmas.{shown}
 use Rattle.debugger.proofs.flex.show_store.Goals as goal
 
@@ -13,12 +14,13 @@ returns-clause-writes g c =
     let m = c.args.memory.now in
     let f = c.args.flex.now in
     let line = range_text c.in-Some.start c.in-Some.end c.in-Some.used in
-    let lines = flat_map block_text c.blocks-2.result in
+    let blocks = all_listed (flex_in m f.extent) in
+    let lines = blocks_text blocks in
     let from = g.W.Sink.contents c.args.sink.now in
     let between = g.W.Sink.contents c.show_range.new.sink in
     let to = g.W.Sink.contents c.show_all.new.sink in
     let text : flex_text (bytes_of m) f ≡ Some (line ++ lines) =
-    shown m f c.in-Some.start c.in-Some.end c.in-Some.used c.in-Some.ensures c.blocks-2.result c.blocks-2.ensures in
+    shown m f c.in-Some.start c.in-Some.end c.in-Some.used c.in-Some.ensures blocks refl in
     record {
       text = subst (λ (o : Option (List ℕ)). Appends from to (unwrap_or o [])) (sym text)
           (Appends-join from between to line lines c.in_ok-show_range.ensures.text c.in_ok-show_all.ensures.text);

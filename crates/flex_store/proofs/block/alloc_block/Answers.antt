@@ -1,18 +1,13 @@
-use Rattle.std.proofs.Common.{not, ◌≤◌, ◌+◌, ◌++◌, ◌∷◌, [], arith, sym, ◌∙◌}
+use Rattle.std.proofs.Common.{◌∷◌, [], sym, ◌∙◌}
 use Rattle.os_heap.specs.Store.{store_of}
-use Rattle.flex_store.specs.Blocks.{new_block, used}
+use Rattle.flex_store.specs.Blocks.{new_block}
 use Rattle.flex_store.specs.State.{blocks_of, store_in}
 use Rattle.std.proofs.lemmas.Bool.{and_parts}
-use Rattle.flex_store.specs.Calls.{is_anchor_place, is_in_store}
+use Rattle.flex_store.specs.Calls.{is_anchor_place, may_stand}
 use Rattle.flex_store.proofs.Keeping.{place_headless}
 use Rattle.flex_store.proofs.Allocating.{alloc_allowed, alloc_bad, alloc_gives, alloc_used, may_append}
 use Rattle.flex_store.proofs.Answering.{fits_keeps}
 use Rattle.flex_store.proofs.block.alloc_block.Goals as goal
-
-pub may_hold-requires-clause-range : goal.may_hold-requires-clause-range
-may_hold-requires-clause-range c =
-    let fits : c.args.extent.now.start + used (blocks_of c.args.map.now c.args.extent.now) ≤ c.args.extent.now.end = c.requires.store.store.fits in
-    omega arith
 
 pub append_block-requires-clause-place : goal.append_block-requires-clause-place
 append_block-requires-clause-place c =
@@ -43,7 +38,7 @@ returns-clause-state c =
 
 pub returns-clause-keeps : goal.returns-clause-keeps
 returns-clause-keeps c =
-    fits_keeps c.args.map.now c.append_block.new.map c.args.extent.now c.append_block.new.extent (blocks_of c.args.map.now c.args.extent.now ++ new_block c.args.anchor c.args.size ∷ [])
+    fits_keeps c.args.map.now c.append_block.new.map c.args.extent.now c.append_block.new.extent (blocks_of c.args.map.now c.args.extent.now) (new_block c.args.anchor c.args.size ∷ [])
     c.append_block.result c.requires.store (alloc_allowed c.args.map.now c.args.extent.now c.args.anchor c.args.size (sym c.may_hold.ensures ∙ c.if-not-may_hold.false))
     c.append_block.ensures
 
@@ -51,4 +46,4 @@ pub append_block-requires-clause-head : goal.append_block-requires-clause-head
 append_block-requires-clause-head c =
     let m = c.args.map.now in
     place_headless m c.args.anchor c.requires.sound c.requires.classes
-    (and_parts (is_anchor_place (store_of m) c.args.anchor) (not (is_in_store (store_in m c.args.extent.now) c.args.anchor)) (sym c.may_hold.ensures ∙ c.if-not-may_hold.false)).0
+    (and_parts (is_anchor_place (store_of m) c.args.anchor) (may_stand (store_in m c.args.extent.now) c.args.anchor) (sym c.may_hold.ensures ∙ c.if-not-may_hold.false)).0

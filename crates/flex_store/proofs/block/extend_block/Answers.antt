@@ -1,5 +1,5 @@
-use Rattle.std.proofs.Common.{arith, ◌∙◌}
-use Rattle.flex_store.proofs.Answering.{change_keeps, extend_done, extend_same}
+use Rattle.std.proofs.Common.{◌≡◌, ◌-◌, arith, ◌∙◌}
+use Rattle.flex_store.proofs.Answering.{extend_done, extend_same}
 use Rattle.flex_store.proofs.Finding.{header_word}
 use Rattle.flex_store.proofs.block.extend_block.Goals as goal
 
@@ -17,14 +17,15 @@ returns-then-size-old-clause-state c =
     extend_same c.args.map.now c.args.extent.now c.args.anchor c.in-Some.header c.args.size (header_word c.args.map.now c.args.extent.now c.args.anchor c.in-Some.header c.requires c.in-Some.ensures)
     (c.if-size-old.true ∙ c.word-old.ensures)
 
+pub splice_block-requires-clause-some : goal.splice_block-requires-clause-some
+splice_block-requires-clause-some c =
+    let differs : c.args.size ≡ c.word-old.result → ⊥ = c.if-size-old.false in
+    let cut : c.saturating_sub.result ≡ c.word-old.result - c.args.size = c.saturating_sub.ensures in
+    let more : c.saturating_sub-2.result ≡ c.args.size - c.word-old.result = c.saturating_sub-2.ensures in
+    rw (cut, more) (omega arith)
+
 pub returns-clause-state : goal.returns-clause-state
 returns-clause-state c =
     extend_done c.args.map.now c.splice_block.new.map c.args.extent.now c.splice_block.new.extent c.args.anchor c.in-Some.header c.args.size
     c.word-old.result c.saturating_sub.result c.saturating_sub-2.result c.splice_block.result (header_word c.args.map.now c.args.extent.now c.args.anchor c.in-Some.header c.requires c.in-Some.ensures)
-    c.word-old.ensures c.if-size-old.false c.saturating_sub.ensures c.saturating_sub-2.ensures c.splice_block.ensures
-
-pub returns-clause-keeps : goal.returns-clause-keeps
-returns-clause-keeps c =
-    change_keeps c.args.map.now c.splice_block.new.map c.args.extent.now c.splice_block.new.extent c.args.anchor c.in-Some.header
-    (record { at = c.word-old.result; cut = c.saturating_sub.result; more = c.saturating_sub-2.result }) c.splice_block.result c.requires
-    (header_word c.args.map.now c.args.extent.now c.args.anchor c.in-Some.header c.requires c.in-Some.ensures) c.splice_block.ensures
+    c.word-old.ensures c.if-size-old.false c.saturating_sub.ensures c.saturating_sub-2.ensures c.splice_block.ensures.state

@@ -1,5 +1,5 @@
 use Rattle.std.proofs.Common.{ℕ, ◌≤◌, ◌<◌, arith, subst}
-use Rattle.flex_store.proofs.Answering.{change_keeps, mid_done, mid_past, mid_same}
+use Rattle.flex_store.proofs.Answering.{mid_done, mid_past, mid_same, some_change}
 use Rattle.flex_store.proofs.Finding.{header_word}
 use Rattle.flex_store.proofs.block.mid_extend_block.Goals as goal
 
@@ -24,15 +24,12 @@ returns-then-by-eq0-clause-state c =
     (subst (λ (n : ℕ). n ≤ c.args.at) c.cut_of-cut.ensures c.if-cut-at.false) (header_word c.args.map.now c.args.extent.now c.args.anchor c.in-Some.header c.requires c.in-Some.ensures)
     (subst (λ (n : ℕ). c.args.at ≤ n) c.word.ensures c.if-at-word.false) c.if-by-eq0.true
 
+pub splice_block-requires-clause-some : goal.splice_block-requires-clause-some
+splice_block-requires-clause-some c = some_change c.args.by c.cut_of-cut.result c.more_of.result c.cut_of-cut.ensures c.more_of.ensures c.if-by-eq0.false (omega arith)
+
 pub returns-clause-state : goal.returns-clause-state
 returns-clause-state c =
     mid_done c.args.map.now c.splice_block.new.map c.args.extent.now c.splice_block.new.extent c.args.anchor c.in-Some.header c.args.at c.args.by
     c.cut_of-cut.result c.more_of.result c.splice_block.result
     (subst (λ (n : ℕ). n ≤ c.args.at) c.cut_of-cut.ensures c.if-cut-at.false) (header_word c.args.map.now c.args.extent.now c.args.anchor c.in-Some.header c.requires c.in-Some.ensures)
-    (subst (λ (n : ℕ). c.args.at ≤ n) c.word.ensures c.if-at-word.false) c.if-by-eq0.false c.cut_of-cut.ensures c.more_of.ensures c.splice_block.ensures
-
-pub returns-clause-keeps : goal.returns-clause-keeps
-returns-clause-keeps c =
-    change_keeps c.args.map.now c.splice_block.new.map c.args.extent.now c.splice_block.new.extent c.args.anchor c.in-Some.header
-    (record { at = c.args.at; cut = c.cut_of-cut.result; more = c.more_of.result }) c.splice_block.result c.requires
-    (header_word c.args.map.now c.args.extent.now c.args.anchor c.in-Some.header c.requires c.in-Some.ensures) c.splice_block.ensures
+    (subst (λ (n : ℕ). c.args.at ≤ n) c.word.ensures c.if-at-word.false) c.if-by-eq0.false c.cut_of-cut.ensures c.more_of.ensures c.splice_block.ensures.state

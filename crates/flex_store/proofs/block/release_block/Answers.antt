@@ -1,9 +1,16 @@
-use Rattle.std.proofs.Common.{ℕ, ◌≡◌, ◌-◌, arith, refl, ap, ◌∙◌}
+use Rattle.std.proofs.Common.{ℕ, Bool, true, false, ◌≡◌, ◌+◌, ◌-◌, arith, refl, sym, ap, ◌∙◌}
+use Rattle.address_map.specs.declared.map.AddressMap.{AddressMap}
+use Rattle.address_map.specs.Memory.{anchor_of}
+use Rattle.address_map.specs.Records.{anchor_among}
 use Rattle.flex_store.specs.Blocks.{taken}
 use Rattle.flex_store.specs.Relaid.{first_at}
 use Rattle.flex_store.proofs.Finding.{header_word, placed}
-use Rattle.flex_store.proofs.Releasing.{IsCleared, anchor_word, release_gets, release_gives, release_keeps, removes}
+use Rattle.flex_store.proofs.Releasing.{anchor_word, release_gets, release_gives, release_keeps, release_refused, removes}
 use Rattle.flex_store.proofs.block.release_block.Goals as goal
+
+holds_by : (m : AddressMap) (header size : ℕ) (holds t : Bool) → holds ≡ anchor_among (anchor_of m) (header + 8) size → size ≡ (first_at m header).size → holds ≡ t
+    → anchor_among (anchor_of m) (header + 8) (first_at m header).size ≡ t
+holds_by m header size holds t is size_is told = ap (λ (n : ℕ). anchor_among (anchor_of m) (header + 8) n) (sym size_is) ∙ (sym is ∙ told)
 
 pub overflow_add-header : goal.overflow_add-header
 overflow_add-header c = omega (arith, (header_word c.args.map.now c.args.extent.now c.args.anchor c.in-Some.header c.requires c.in-Some.ensures).low)
@@ -14,6 +21,14 @@ word-size-requires-clause-aligned c = (header_word c.args.map.now c.args.extent.
 pub word-size-requires-clause-mapped : goal.word-size-requires-clause-mapped
 word-size-requires-clause-mapped c = (header_word c.args.map.now c.args.extent.now c.args.anchor c.in-Some.header c.requires c.in-Some.ensures).there
 
+pub overflow_add-header-2 : goal.overflow_add-header-2
+overflow_add-header-2 c = omega (arith, (header_word c.args.map.now c.args.extent.now c.args.anchor c.in-Some.header c.requires c.in-Some.ensures).low)
+
+pub returns-then-anchor_in-clause-state : goal.returns-then-anchor_in-clause-state
+returns-then-anchor_in-clause-state c =
+    release_refused c.args.map.now c.args.extent.now c.args.anchor c.in-Some.header c.in-Some.ensures.split.before c.requires (placed c.args.map.now c.args.extent.now c.args.anchor c.in-Some.header c.requires c.in-Some.ensures)
+    (holds_by c.args.map.now c.in-Some.header c.word-size.result c.anchor_in.result true c.anchor_in.ensures c.word-size.ensures c.if-anchor_in.true)
+
 pub put_word-requires-clause-aligned : goal.put_word-requires-clause-aligned
 put_word-requires-clause-aligned c = (anchor_word c.args.map.now c.args.extent.now c.args.anchor c.in-Some.header c.in-Some.ensures.split.before (placed c.args.map.now c.args.extent.now c.args.anchor c.in-Some.header c.requires c.in-Some.ensures)).aligned
 
@@ -21,19 +36,13 @@ pub put_word-requires-clause-mapped : goal.put_word-requires-clause-mapped
 put_word-requires-clause-mapped c = (anchor_word c.args.map.now c.args.extent.now c.args.anchor c.in-Some.header c.in-Some.ensures.split.before (placed c.args.map.now c.args.extent.now c.args.anchor c.in-Some.header c.requires c.in-Some.ensures)).there
 
 pub remove-requires-clause-text : goal.remove-requires-clause-text
-remove-requires-clause-text c =
-    let p = placed c.args.map.now c.args.extent.now c.args.anchor c.in-Some.header c.requires c.in-Some.ensures in
-    (removes c.args.map.now c.put_word.new.self c.args.extent.now c.args.anchor c.in-Some.header c.in-Some.ensures.split.before p (record { bytes = c.put_word.ensures.bytes; marks = c.put_word.ensures.marks; same = c.put_word.ensures.layout })).text
+remove-requires-clause-text c = (removes c.args.map.now c.args.extent.now c.args.anchor c.in-Some.header c.in-Some.ensures.split.before (placed c.args.map.now c.args.extent.now c.args.anchor c.in-Some.header c.requires c.in-Some.ensures) (holds_by c.args.map.now c.in-Some.header c.word-size.result c.anchor_in.result false c.anchor_in.ensures c.word-size.ensures c.if-anchor_in.false) c.put_word.new.self (record { bytes = c.put_word.ensures.bytes; marks = c.put_word.ensures.marks; same = c.put_word.ensures.layout })).text
 
 pub remove-requires-clause-words : goal.remove-requires-clause-words
-remove-requires-clause-words c =
-    let p = placed c.args.map.now c.args.extent.now c.args.anchor c.in-Some.header c.requires c.in-Some.ensures in
-    (removes c.args.map.now c.put_word.new.self c.args.extent.now c.args.anchor c.in-Some.header c.in-Some.ensures.split.before p (record { bytes = c.put_word.ensures.bytes; marks = c.put_word.ensures.marks; same = c.put_word.ensures.layout })).words
+remove-requires-clause-words c = (removes c.args.map.now c.args.extent.now c.args.anchor c.in-Some.header c.in-Some.ensures.split.before (placed c.args.map.now c.args.extent.now c.args.anchor c.in-Some.header c.requires c.in-Some.ensures) (holds_by c.args.map.now c.in-Some.header c.word-size.result c.anchor_in.result false c.anchor_in.ensures c.word-size.ensures c.if-anchor_in.false) c.put_word.new.self (record { bytes = c.put_word.ensures.bytes; marks = c.put_word.ensures.marks; same = c.put_word.ensures.layout })).words
 
 pub remove-requires-clause-room : goal.remove-requires-clause-room
-remove-requires-clause-room c =
-    let p = placed c.args.map.now c.args.extent.now c.args.anchor c.in-Some.header c.requires c.in-Some.ensures in
-    (removes c.args.map.now c.put_word.new.self c.args.extent.now c.args.anchor c.in-Some.header c.in-Some.ensures.split.before p (record { bytes = c.put_word.ensures.bytes; marks = c.put_word.ensures.marks; same = c.put_word.ensures.layout })).room
+remove-requires-clause-room c = (removes c.args.map.now c.args.extent.now c.args.anchor c.in-Some.header c.in-Some.ensures.split.before (placed c.args.map.now c.args.extent.now c.args.anchor c.in-Some.header c.requires c.in-Some.ensures) (holds_by c.args.map.now c.in-Some.header c.word-size.result c.anchor_in.result false c.anchor_in.ensures c.word-size.ensures c.if-anchor_in.false) c.put_word.new.self (record { bytes = c.put_word.ensures.bytes; marks = c.put_word.ensures.marks; same = c.put_word.ensures.layout })).room
 
 pub overflow_cast-extent : goal.overflow_cast-extent
 overflow_cast-extent c =
@@ -51,17 +60,15 @@ overflow_sub-extent c =
 pub returns-clause-state : goal.returns-clause-state
 returns-clause-state c =
     let e = c.args.extent.now in
-    let k : IsCleared c.args.map.now c.put_word.new.self c.args.anchor = (record { bytes = c.put_word.ensures.bytes; marks = c.put_word.ensures.marks; same = c.put_word.ensures.layout }) in
     let size : c.taken.result ≡ taken (first_at c.args.map.now c.in-Some.header).size = c.taken.ensures ∙ ap taken (c.from.ensures ∙ c.word-size.ensures) in
-    release_gives c.args.map.now c.put_word.new.self c.remove.new.map e (record { start = e.start; end = e.end; used = e.used - c.taken.result }) c.args.anchor c.in-Some.header c.in-Some.ensures.split.before (placed c.args.map.now c.args.extent.now c.args.anchor c.in-Some.header c.requires c.in-Some.ensures) k
-    (release_gets c.args.map.now c.put_word.new.self c.remove.new.map e (record { start = e.start; end = e.end; used = e.used - c.taken.result }) c.args.anchor c.in-Some.header c.in-Some.ensures.split.before (placed c.args.map.now c.args.extent.now c.args.anchor c.in-Some.header c.requires c.in-Some.ensures) k
+    release_gives c.args.map.now c.args.extent.now c.args.anchor c.in-Some.header c.in-Some.ensures.split.before (placed c.args.map.now c.args.extent.now c.args.anchor c.in-Some.header c.requires c.in-Some.ensures) (holds_by c.args.map.now c.in-Some.header c.word-size.result c.anchor_in.result false c.anchor_in.ensures c.word-size.ensures c.if-anchor_in.false) c.put_word.new.self (record { bytes = c.put_word.ensures.bytes; marks = c.put_word.ensures.marks; same = c.put_word.ensures.layout }) c.remove.new.map (record { start = e.start; end = e.end; used = e.used - c.taken.result }) c.requires
+    (release_gets c.args.map.now c.args.extent.now c.args.anchor c.in-Some.header c.in-Some.ensures.split.before (placed c.args.map.now c.args.extent.now c.args.anchor c.in-Some.header c.requires c.in-Some.ensures) (holds_by c.args.map.now c.in-Some.header c.word-size.result c.anchor_in.result false c.anchor_in.ensures c.word-size.ensures c.if-anchor_in.false) c.put_word.new.self (record { bytes = c.put_word.ensures.bytes; marks = c.put_word.ensures.marks; same = c.put_word.ensures.layout }) c.remove.new.map (record { start = e.start; end = e.end; used = e.used - c.taken.result })
     c.remove.ensures refl refl (ap (λ (n : ℕ). e.used - n) size))
 
 pub returns-clause-keeps : goal.returns-clause-keeps
 returns-clause-keeps c =
     let e = c.args.extent.now in
-    let k : IsCleared c.args.map.now c.put_word.new.self c.args.anchor = (record { bytes = c.put_word.ensures.bytes; marks = c.put_word.ensures.marks; same = c.put_word.ensures.layout }) in
     let size : c.taken.result ≡ taken (first_at c.args.map.now c.in-Some.header).size = c.taken.ensures ∙ ap taken (c.from.ensures ∙ c.word-size.ensures) in
-    release_keeps c.args.map.now c.put_word.new.self c.remove.new.map e (record { start = e.start; end = e.end; used = e.used - c.taken.result }) c.args.anchor c.in-Some.header c.in-Some.ensures.split.before (placed c.args.map.now c.args.extent.now c.args.anchor c.in-Some.header c.requires c.in-Some.ensures) k
-    (release_gets c.args.map.now c.put_word.new.self c.remove.new.map e (record { start = e.start; end = e.end; used = e.used - c.taken.result }) c.args.anchor c.in-Some.header c.in-Some.ensures.split.before (placed c.args.map.now c.args.extent.now c.args.anchor c.in-Some.header c.requires c.in-Some.ensures) k
+    release_keeps c.args.map.now c.args.extent.now c.args.anchor c.in-Some.header c.in-Some.ensures.split.before (placed c.args.map.now c.args.extent.now c.args.anchor c.in-Some.header c.requires c.in-Some.ensures) (holds_by c.args.map.now c.in-Some.header c.word-size.result c.anchor_in.result false c.anchor_in.ensures c.word-size.ensures c.if-anchor_in.false) c.put_word.new.self (record { bytes = c.put_word.ensures.bytes; marks = c.put_word.ensures.marks; same = c.put_word.ensures.layout }) c.remove.new.map (record { start = e.start; end = e.end; used = e.used - c.taken.result })
+    (release_gets c.args.map.now c.args.extent.now c.args.anchor c.in-Some.header c.in-Some.ensures.split.before (placed c.args.map.now c.args.extent.now c.args.anchor c.in-Some.header c.requires c.in-Some.ensures) (holds_by c.args.map.now c.in-Some.header c.word-size.result c.anchor_in.result false c.anchor_in.ensures c.word-size.ensures c.if-anchor_in.false) c.put_word.new.self (record { bytes = c.put_word.ensures.bytes; marks = c.put_word.ensures.marks; same = c.put_word.ensures.layout }) c.remove.new.map (record { start = e.start; end = e.end; used = e.used - c.taken.result })
     c.remove.ensures refl refl (ap (λ (n : ℕ). e.used - n) size))

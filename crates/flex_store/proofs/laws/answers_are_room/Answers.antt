@@ -1,4 +1,4 @@
-use Rattle.flex_store.proofs.Runs.{answers_are_room}
+use Rattle.flex_store.proofs.Room.{answers_are_room}
 use Rattle.flex_store.proofs.laws.answers_are_room.Goals as goal
 
 pub returns : goal.returns

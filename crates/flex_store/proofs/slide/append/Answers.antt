@@ -28,7 +28,7 @@ overflow_add-header-3 c =
 
 pub settle-requires-clause-text : goal.settle-requires-clause-text
 settle-requires-clause-text c =
-    let w : IsWrittenText c.args.map.now c.zero_bytes.new.self c.args.header (c.args.header + c.taken.result) (new_block c.args.anchor c.args.size ∷ []) =
+    let w : IsWrittenText [] c.args.map.now c.zero_bytes.new.self c.args.header (c.args.header + c.taken.result) (new_block c.args.anchor c.args.size ∷ []) =
     appended_step c.args.map.now c.put_word.new.self c.put_word-2.new.self c.zero_bytes.new.self c.args.header c.args.anchor c.args.size
     c.whole_words.result c.taken.result (omega arith) c.requires.aligned c.requires.room (c.whole_words.ensures ∙ ap whole_words c.from.ensures) (c.taken.ensures ∙ ap taken c.from-2.ensures)
     (c.zero_bytes.ensures.layout ∙ (c.put_word-2.ensures.layout ∙ c.put_word.ensures.layout)) c.put_word.ensures.bytes c.put_word-2.ensures.bytes c.zero_bytes.ensures.bytes in
@@ -36,7 +36,7 @@ settle-requires-clause-text c =
 
 pub settle-requires-clause-words : goal.settle-requires-clause-words
 settle-requires-clause-words c =
-    let w : IsWrittenText c.args.map.now c.zero_bytes.new.self c.args.header (c.args.header + c.taken.result) (new_block c.args.anchor c.args.size ∷ []) =
+    let w : IsWrittenText [] c.args.map.now c.zero_bytes.new.self c.args.header (c.args.header + c.taken.result) (new_block c.args.anchor c.args.size ∷ []) =
     appended_step c.args.map.now c.put_word.new.self c.put_word-2.new.self c.zero_bytes.new.self c.args.header c.args.anchor c.args.size
     c.whole_words.result c.taken.result (omega arith) c.requires.aligned c.requires.room (c.whole_words.ensures ∙ ap whole_words c.from.ensures) (c.taken.ensures ∙ ap taken c.from-2.ensures)
     (c.zero_bytes.ensures.layout ∙ (c.put_word-2.ensures.layout ∙ c.put_word.ensures.layout)) c.put_word.ensures.bytes c.put_word-2.ensures.bytes c.zero_bytes.ensures.bytes in
@@ -44,11 +44,11 @@ settle-requires-clause-words c =
 
 pub returns : goal.returns
 returns c =
-    let w : IsWrittenText c.args.map.now c.zero_bytes.new.self c.args.header (c.args.header + c.taken.result) (new_block c.args.anchor c.args.size ∷ []) =
+    let w : IsWrittenText [] c.args.map.now c.zero_bytes.new.self c.args.header (c.args.header + c.taken.result) (new_block c.args.anchor c.args.size ∷ []) =
     appended_step c.args.map.now c.put_word.new.self c.put_word-2.new.self c.zero_bytes.new.self c.args.header c.args.anchor c.args.size
     c.whole_words.result c.taken.result (omega arith) c.requires.aligned c.requires.room (c.whole_words.ensures ∙ ap whole_words c.from.ensures) (c.taken.ensures ∙ ap taken c.from-2.ensures)
     (c.zero_bytes.ensures.layout ∙ (c.put_word-2.ensures.layout ∙ c.put_word.ensures.layout)) c.put_word.ensures.bytes c.put_word-2.ensures.bytes c.zero_bytes.ensures.bytes in
-    relaid_from c.args.map.now c.zero_bytes.new.self c.settle.new.map c.args.header (c.args.header + c.taken.result)
+    relaid_from [] c.args.map.now c.zero_bytes.new.self c.settle.new.map c.args.header (c.args.header + c.taken.result)
     []
     (new_block c.args.anchor c.args.size ∷ [])
     w.text

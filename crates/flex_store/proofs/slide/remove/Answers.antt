@@ -1,9 +1,15 @@
-use Rattle.std.proofs.Common.{ℕ, ◌+◌, ◌-◌, ap, refl, ◌∷◌, ◌∙◌}
-use Rattle.address_map.specs.Memory.{bytes_of}
+use Rattle.std.proofs.Common.{ℕ, ◌≡◌, ◌+◌, ◌-◌, ap, refl, sym, subst, arith, List, [], ◌∷◌, ◌∙◌}
+use Rattle.address_map.specs.Memory.{byte_at, bytes_of, class_of, is_mapped}
 use Rattle.address_map.specs.declared.class.Class.{Class}
+use Rattle.address_map.specs.declared.class.Class.TheVariants as class
 use Rattle.flex_store.specs.Blocks.{taken}
+use Rattle.flex_store.specs.declared.shift.Shift.{Shift}
+use Rattle.flex_store.specs.Marks.{with_marks}
+use Rattle.flex_store.specs.Memory.{blocks_in, laid_out}
 use Rattle.flex_store.specs.Relaid.{behind, first_at}
-use Rattle.flex_store.proofs.Sliding.{IsWrittenText, as_read, closed_step, relaid_from, unmarked, words_read}
+use Rattle.flex_store.specs.Shifts.{following, removal_shifts}
+use Rattle.flex_store.specs.State.{AreAnchorWords}
+use Rattle.flex_store.proofs.Sliding.{AreClosed, closing, IsWrittenText, as_read, closed_step, relaid_from, unmarked, words_read}
 use Rattle.flex_store.proofs.slide.remove.Goals as goal
 
 pub unmark-requires-clause-text : goal.unmark-requires-clause-text
@@ -16,28 +22,45 @@ unmark-requires-clause-words c =
 
 pub settle-requires-clause-text : goal.settle-requires-clause-text
 settle-requires-clause-text c =
-    let w : IsWrittenText c.args.map.now c.move_bytes.new.self c.args.header (c.args.header + (c.args.end - (c.args.header + c.taken.result))) (behind c.args.map.now c.args.header c.args.end) =
+    let w : IsWrittenText (removal_shifts c.args.header c.args.end (first_at c.args.map.now c.args.header).size) c.args.map.now c.move_bytes.new.self c.args.header (c.args.header + (c.args.end - (c.args.header + c.taken.result))) (behind c.args.map.now c.args.header c.args.end) =
     closed_step c.args.map.now c.unmark.new.map c.move_bytes.new.self c.args.header c.args.end c.taken.result c.requires.text c.requires.room
     (c.taken.ensures ∙ ap taken (c.from.ensures ∙ c.word-size.ensures)) c.unmark.ensures.bytes (c.move_bytes.ensures.layout ∙ c.unmark.ensures.layout) c.move_bytes.ensures.bytes in
     as_read (bytes_of c.move_bytes.new.self) c.args.header (c.args.header + (c.args.end - (c.args.header + c.taken.result))) (behind c.args.map.now c.args.header c.args.end) w.text
 
 pub settle-requires-clause-words : goal.settle-requires-clause-words
 settle-requires-clause-words c =
-    let w : IsWrittenText c.args.map.now c.move_bytes.new.self c.args.header (c.args.header + (c.args.end - (c.args.header + c.taken.result))) (behind c.args.map.now c.args.header c.args.end) =
+    let next : c.args.header + c.taken.result ≡ c.args.header + taken (first_at c.args.map.now c.args.header).size =
+    ap (λ (n : ℕ). c.args.header + n) (c.taken.ensures ∙ ap taken (c.from.ensures ∙ c.word-size.ensures)) in
+    let one : Shift = record { from = c.args.header + c.taken.result; end = c.args.end; to = c.args.header } in
+    let shifts_is : one ∷ [] ≡ (removal_shifts c.args.header c.args.end (first_at c.args.map.now c.args.header).size) = λ i. record { from = next i; end = c.args.end; to = c.args.header } ∷ [] in
+    let w : IsWrittenText (removal_shifts c.args.header c.args.end (first_at c.args.map.now c.args.header).size) c.args.map.now c.move_bytes.new.self c.args.header (c.args.header + (c.args.end - (c.args.header + c.taken.result))) (behind c.args.map.now c.args.header c.args.end) =
     closed_step c.args.map.now c.unmark.new.map c.move_bytes.new.self c.args.header c.args.end c.taken.result c.requires.text c.requires.room
     (c.taken.ensures ∙ ap taken (c.from.ensures ∙ c.word-size.ensures)) c.unmark.ensures.bytes (c.move_bytes.ensures.layout ∙ c.unmark.ensures.layout) c.move_bytes.ensures.bytes in
-    w.words
+    subst (λ (l : List Shift). AreAnchorWords (is_mapped c.move_bytes.new.self) c.args.header (c.args.header + (c.args.end - (c.args.header + c.taken.result)))
+    (following l (blocks_in (byte_at c.move_bytes.new.self) c.args.header (c.args.header + (c.args.end - (c.args.header + c.taken.result)))))) (sym shifts_is) w.words
+
+pub settle-requires-clause-short : goal.settle-requires-clause-short
+settle-requires-clause-short c =
+    let k : AreClosed c.args.map.now c.args.header c.args.end = closing c.args.map.now c.args.header c.args.end c.requires.text in
+    (omega (arith, k.low, k.fits), tt)
 
 pub returns : goal.returns
 returns c =
-    let w : IsWrittenText c.args.map.now c.move_bytes.new.self c.args.header (c.args.header + (c.args.end - (c.args.header + c.taken.result))) (behind c.args.map.now c.args.header c.args.end) =
+    let next : c.args.header + c.taken.result ≡ c.args.header + taken (first_at c.args.map.now c.args.header).size =
+    ap (λ (n : ℕ). c.args.header + n) (c.taken.ensures ∙ ap taken (c.from.ensures ∙ c.word-size.ensures)) in
+    let one : Shift = record { from = c.args.header + c.taken.result; end = c.args.end; to = c.args.header } in
+    let shifts_is : one ∷ [] ≡ (removal_shifts c.args.header c.args.end (first_at c.args.map.now c.args.header).size) = λ i. record { from = next i; end = c.args.end; to = c.args.header } ∷ [] in
+    let w : IsWrittenText (removal_shifts c.args.header c.args.end (first_at c.args.map.now c.args.header).size) c.args.map.now c.move_bytes.new.self c.args.header (c.args.header + (c.args.end - (c.args.header + c.taken.result))) (behind c.args.map.now c.args.header c.args.end) =
     closed_step c.args.map.now c.unmark.new.map c.move_bytes.new.self c.args.header c.args.end c.taken.result c.requires.text c.requires.room
     (c.taken.ensures ∙ ap taken (c.from.ensures ∙ c.word-size.ensures)) c.unmark.ensures.bytes (c.move_bytes.ensures.layout ∙ c.unmark.ensures.layout) c.move_bytes.ensures.bytes in
-    relaid_from c.args.map.now c.move_bytes.new.self c.settle.new.map c.args.header (c.args.header + (c.args.end - (c.args.header + c.taken.result)))
+    relaid_from (removal_shifts c.args.header c.args.end (first_at c.args.map.now c.args.header).size) c.args.map.now c.move_bytes.new.self c.settle.new.map c.args.header (c.args.header + (c.args.end - (c.args.header + c.taken.result)))
     (first_at c.args.map.now c.args.header ∷ behind c.args.map.now c.args.header c.args.end)
     (behind c.args.map.now c.args.header c.args.end)
     w.text
     (λ a. ap (λ (k : ℕ → Class). k a) c.move_bytes.ensures.marks
     ∙ unmarked c.args.map.now c.unmark.new.map c.args.header c.args.end (first_at c.args.map.now c.args.header ∷ behind c.args.map.now c.args.header c.args.end) c.requires.text c.unmark.ensures.marks a)
     (c.settle.ensures.layout ∙ (c.move_bytes.ensures.layout ∙ c.unmark.ensures.layout))
-    w.bytes c.settle.ensures.bytes c.settle.ensures.marks
+    w.bytes
+    (λ a. c.settle.ensures.bytes a ∙ ap (λ (l : List Shift). laid_out c.args.header (following l (blocks_in (byte_at c.move_bytes.new.self) c.args.header (c.args.header + (c.args.end - (c.args.header + c.taken.result))))) (byte_at c.move_bytes.new.self) a) shifts_is)
+    (λ a. c.settle.ensures.marks a
+    ∙ ap (λ (l : List Shift). with_marks class.FlexHeader class.Anchor c.args.header (following l (blocks_in (byte_at c.move_bytes.new.self) c.args.header (c.args.header + (c.args.end - (c.args.header + c.taken.result))))) (class_of c.move_bytes.new.self) a) shifts_is)

@@ -1,9 +1,10 @@
-use Rattle.std.proofs.Common.{◌≡◌, true, false, Err, Ok, Some, rules, refl, sym, subst, arith}
+use Rattle.std.proofs.Common.{◌≡◌, true, false, Err, Ok, Some, refl, sym, subst, arith}
 use Rattle.profile.specs.declared.error.ErrorNumber.TheVariants.{HeapBadRegion}
 use Rattle.address_map.specs.Memory.{bytes_of}
 use Rattle.os_heap.specs.Calls.{changed, end_changed, ending, has_own_size}
 use Rattle.os_heap_lists.specs.Heap.{HeapList}
 use Rattle.os_heap_lists.specs.Lists.{changed_by}
+use Rattle.os_heap.specs.Probes.{change_probes}
 use Rattle.os_heap.specs.Store.{store_of, heap_in, find_heap}
 use Rattle.os_heap.proofs.Refusals.{changed_none, changed_area, changed_own, end_odd, end_wide, end_done}
 use Rattle.os_heap.proofs.Ending.{own_heap}
@@ -13,12 +14,12 @@ use Rattle.os_heap.proofs.change.change_end.Goals.{then-change-ne0-via-then-chan
 
 pub returns-in_default-clause-store : goal.returns-in_default-clause-store
 returns-in_default-clause-store c =
-    rw (changed_none (store_of c.args.map.now) c.args.heap c.args.change c.in_default.ensures) (refl, refl)
+    rw (changed_none (store_of c.args.map.now) c.args.heap c.args.change c.in_default.ensures, c.refused.ensures) (refl, refl)
 
 pub returns-then-not-has_own_size-clause-store : goal.returns-then-not-has_own_size-clause-store
 returns-then-not-has_own_size-clause-store c =
     let area : has_own_size c.in-Some.region.kind ≡ false = cc in
-    rw (changed_area (store_of c.args.map.now) c.args.heap c.args.change (heap_in (bytes_of c.args.map.now) c.in-Some.region) c.in-Some.ensures.1 area) (refl, refl)
+    rw (changed_area (store_of c.args.map.now) c.args.heap c.args.change (heap_in (bytes_of c.args.map.now) c.in-Some.region) c.in-Some.ensures.1 area, c.refused-then-not-has_own_size.ensures) (refl, refl)
 
 pub returns-then-change-ne0-clause-store : goal.returns-then-change-ne0-clause-store
 returns-then-change-ne0-clause-store c =
@@ -32,10 +33,10 @@ returns-then-change-ne0-clause-store c =
       | then-change-ne0-via-else-change-ne0+then-end-from w ↦
           end_wide s h c.args.change (changed_by h.end c.args.change) (omega (arith, w.if-end-from.true, w.from.ensures, c.changed_by-end.ensures))
     ] in
-    rw (is, refused) (refl, refl)
+    rw (is, refused, c.refused-then-change-ne0.ensures) (refl, refl)
 
-pub may_end-requires : goal.may_end-requires
-may_end-requires c = found_at c.args.map.now c.in-Some.region.at c.in-Some.region c.requires.sound refl
+pub may_end-tested-requires-clause-heap : goal.may_end-tested-requires-clause-heap
+may_end-tested-requires-clause-heap c = found_at c.args.map.now c.in-Some.region.at c.in-Some.region c.requires.sound refl
     (subst (λ a. find_heap a (store_of c.args.map.now).heaps ≡ Some (heap_in (bytes_of c.args.map.now) c.in-Some.region)) (sym c.in-Some.ensures.0) c.in-Some.ensures.1)
 
 pub set_end-requires-clause-kind : goal.set_end-requires-clause-kind
@@ -45,23 +46,37 @@ pub set_end-requires-clause-found : goal.set_end-requires-clause-found
 set_end-requires-clause-found c =
     subst (λ a. find_heap a (store_of c.args.map.now).heaps ≡ Some (heap_in (bytes_of c.args.map.now) c.in-Some.region)) (sym c.in-Some.ensures.0) c.in-Some.ensures.1
 
-pub returns-in_err-may_end-clause-store : goal.returns-in_err-may_end-clause-store
-returns-in_err-may_end-clause-store c =
+pub returns-in_default-answer-clause-store : goal.returns-in_default-answer-clause-store
+returns-in_default-answer-clause-store c =
     let s = store_of c.args.map.now in
     let h : HeapList = heap_in (bytes_of c.args.map.now) c.in-Some.region in
     let own : has_own_size h.kind ≡ true = cc in
     let is : changed s c.args.heap c.args.change ≡ end_changed s h c.args.change (changed_by h.end c.args.change) = changed_own s c.args.heap c.args.change h c.in-Some.ensures.1 own in
-    let refused = c.in_err-may_end.ensures c.args.change c.if-change-ne0.false in
+    let told = rw c.in_default-answer.is at c.may_end-tested.ensures.answer in
+    let refused = told c.args.change c.if-change-ne0.false in
     let there = rw c.changed_by-end.ensures at refused in
-    rw (is, there) (search rules)
+    rw (c.in_default-answer.is, is, there) (refl, refl)
 
-pub returns-clause-store : goal.returns-clause-store
-returns-clause-store c =
+pub returns-in_default-answer-clause-probes : goal.returns-in_default-answer-clause-probes
+unfolding change_probes
+returns-in_default-answer-clause-probes c =
+    let probes = rw c.changed_by-end.ensures at c.may_end-tested.ensures.probes in
+    rw c.in-Some.ensures.1 probes
+
+pub returns-in-Ok-clause-store : goal.returns-in-Ok-clause-store
+returns-in-Ok-clause-store c =
     let s = store_of c.args.map.now in
     let h : HeapList = heap_in (bytes_of c.args.map.now) c.in-Some.region in
     let own : has_own_size h.kind ≡ true = cc in
     let is : changed s c.args.heap c.args.change ≡ end_changed s h c.args.change (changed_by h.end c.args.change) = changed_own s c.args.heap c.args.change h c.in-Some.ensures.1 own in
-    let done : end_changed s h c.args.change c.changed_by-end.result ≡ Ok (ending s h c.changed_by-end.result, tt) = end_done s h c.args.change c.changed_by-end.result c.if-change-ne0.false c.in_ok-may_end.ensures in
+    let may = rw c.in-Ok.is at c.may_end-tested.ensures.answer in
+    let done : end_changed s h c.args.change c.changed_by-end.result ≡ Ok (ending s h c.changed_by-end.result, tt) = end_done s h c.args.change c.changed_by-end.result c.if-change-ne0.false may in
     let there = rw c.changed_by-end.ensures at done in
     let store = rw c.changed_by-end.ensures at c.set_end.ensures.store in
-    rw (is, there) (store, refl)
+    rw (c.in-Ok.is, is, there) (store, refl)
+
+pub returns-in-Ok-clause-probes : goal.returns-in-Ok-clause-probes
+unfolding change_probes
+returns-in-Ok-clause-probes c =
+    let probes = rw c.changed_by-end.ensures at c.may_end-tested.ensures.probes in
+    rw c.in-Some.ensures.1 probes

@@ -41,6 +41,11 @@ returns-in-Ok-clause-live c =
     (block_made (store_of c.grow_to.new.map) (store_of c.get.new.map) c.args.size c.in-Ok.block c.get.result.answer c.grow_to.ensures.estate.ground.sound c.in-Ok.is
     c.get.ensures.store).live
 
+pub returns-in-Ok-clause-unheaped : goal.returns-in-Ok-clause-unheaped
+returns-in-Ok-clause-unheaped c =
+    (block_made (store_of c.grow_to.new.map) (store_of c.get.new.map) c.args.size c.in-Ok.block c.get.result.answer c.grow_to.ensures.estate.ground.sound c.in-Ok.is
+    c.get.ensures.store).unheaped
+
 pub returns-in-Ok-clause-alone : goal.returns-in-Ok-clause-alone
 returns-in-Ok-clause-alone c =
     rw (← c.grow_to.ensures.others)

@@ -15,11 +15,11 @@ returns-in-Inside c =
     let part : IsPart e c.args.at c.args.len c.max-first.result c.min-to.result = record { first = omega arith; end = omega arith } in
     rw (c.from-in-Inside.ensures, c.from-in-Inside-2.ensures)
     (told_inside e c.args.at c.args.len c.max-first.result c.min-to.result c.in-Inside.block c.in-Inside.held c.requires part (omega arith)
-    (sym c.live_payload.ensures ∙ c.in-Inside.is))
+    (sym c.live_payload_in.ensures ∙ c.in-Inside.is))
 
 pub returns-in_default : goal.returns-in_default
 returns-in_default c =
     let e : Estate = estate_of c.args.map.now c.args.areas.now in
     let part : IsPart e c.args.at c.args.len c.max-first.result c.min-to.result = record { first = omega arith; end = omega arith } in
     sym (told_other e c.args.at c.args.len c.max-first.result c.min-to.result c.requires part (omega arith)
-    (λ block held is. c.in_default.not-Inside block held (c.live_payload.ensures ∙ is)))
+    (λ block held is. c.in_default.not-Inside block held (c.live_payload_in.ensures ∙ is)))

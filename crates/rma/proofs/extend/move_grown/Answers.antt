@@ -1,21 +1,46 @@
-use Rattle.std.proofs.Common.{◌≡◌, Ok, sym, ap, ◌∙◌}
+use Rattle.std.proofs.Common.{if◌then◌else◌, ◌≡◌, Ok, refl, sym, ap, ◌∙◌}
+use Rattle.std.specs.Prelude.{is_ok}
+use Rattle.profile.specs.declared.error.ErrorNumber.TheVariants.{RmaBlockHoldsHeap, RmaNoRoom}
 use Rattle.os_heap.specs.Calls.{block_sized, resized}
 use Rattle.os_heap.specs.Store.{store_of}
-use Rattle.os_heap.proofs.Frame.{layout-others}
-use Rattle.os_heap.proofs.Order.{order_laid}
+use Rattle.os_heap.proofs.LostRecords.{loses_none}
+use Rattle.os_heap.proofs.Order.{order_lost}
 use Rattle.flex_kept.specs.dynamic_areas.specs.Ground.{Estate, estate_of}
-use Rattle.flex_kept.specs.dynamic_areas.proofs.HeapCalls.{areas_written}
+use Rattle.flex_kept.specs.dynamic_areas.proofs.HeapCalls.{areas_resized}
 use Rattle.flex_kept.proofs.Heaps.{resized_keeps}
-use Rattle.flex_kept.proofs.Keeping.{keeps_then}
+use Rattle.flex_kept.proofs.Keeping.{keeps_same, keeps_then}
 use Rattle.rma.specs.Calls.{end_if_moved, grown_to, rma_base}
 use Rattle.rma.proofs.Estates.{is_done}
-use Rattle.rma.proofs.ExtendLemmas.{move_done}
+use Rattle.rma.proofs.ExtendLemmas.{move_done, why_refused}
 use Rattle.rma.proofs.GrowthLemmas.{leaves_done}
 use Rattle.rma.proofs.extend.move_grown.Goals as goal
 
+pub returns-then-holds_heap-clause-moved : goal.returns-then-holds_heap-clause-moved
+returns-then-holds_heap-clause-moved c =
+    let e : Estate = estate_of c.args.map.now c.args.areas.now in
+    let why = c.why_unmoved.ensures ∙ ap (λ n. if is_ok (grown_to e n) then RmaBlockHoldsHeap else RmaNoRoom) c.end_if_moved-end.ensures in
+    rw why (why_refused e c.args.block c.args.change c.requires.estate c.requires.full c.requires.tried (sym c.holds_heap.ensures ∙ c.if-holds_heap.true))
+
+pub returns-then-holds_heap-clause-records : goal.returns-then-holds_heap-clause-records
+returns-then-holds_heap-clause-records c =
+    order_lost c.args.map.now c.args.map.now c.args.map.now refl (loses_none c.args.map.now c.requires.estate.ground.sound)
+
+pub returns-then-holds_heap-clause-flex : goal.returns-then-holds_heap-clause-flex
+returns-then-holds_heap-clause-flex c = keeps_same (store_of c.args.map.now)
+
+pub returns-in_err-grow_to-clause-records : goal.returns-in_err-grow_to-clause-records
+returns-in_err-grow_to-clause-records c =
+    order_lost c.args.map.now c.grow_to.new.map c.grow_to.new.map c.grow_to.ensures.order (loses_none c.grow_to.new.map c.grow_to.ensures.estate.ground.sound)
+
 pub returns-in-Ok-clause-estate : goal.returns-in-Ok-clause-estate
 returns-in-Ok-clause-estate c =
-    areas_written c.grow_to.new.map c.resize.new.map c.grow_to.new.areas c.grow_to.ensures.estate c.resize.ensures.sound c.resize.ensures.layout
+    areas_resized c.grow_to.new.map c.resize.new.map c.grow_to.new.areas c.grow_to.ensures.estate c.resize.ensures.sound c.resize.ensures.others
+    c.resize.ensures.mapping 0x01800000 c.args.block c.args.change c.resize.result.answer c.resize.ensures.store
+
+pub returns-in-Err-clause-estate : goal.returns-in-Err-clause-estate
+returns-in-Err-clause-estate c =
+    areas_resized c.grow_to.new.map c.resize.new.map c.grow_to.new.areas c.grow_to.ensures.estate c.resize.ensures.sound c.resize.ensures.others
+    c.resize.ensures.mapping 0x01800000 c.args.block c.args.change c.resize.result.answer c.resize.ensures.store
 
 pub returns-in-Err-clause-moved : goal.returns-in-Err-clause-moved
 returns-in-Err-clause-moved c =
@@ -24,15 +49,15 @@ returns-in-Err-clause-moved c =
     let done : grown_to e c.end_if_moved-end.result ≡ Ok g = leaves_done e g (grown_to e c.end_if_moved-end.result) c.in_ok-grow_to.ensures.grown in
     let done' : grown_to e (end_if_moved (rma_base e.store) c.args.change (block_sized e.store 0x01800000 c.args.block)) ≡ Ok g =
     ap (grown_to e) (sym c.end_if_moved-end.ensures) ∙ done in
-    let ok = move_done e g c.args.block c.args.change c.requires.estate c.requires.full done' in
+    let ok = move_done e g c.args.block c.args.change c.requires.estate c.requires.full (sym c.holds_heap.ensures ∙ c.if-holds_heap.false) done' in
     absurd (is_done (store_of c.grow_to.new.map) (store_of c.resize.new.map) (resized (store_of c.grow_to.new.map) 0x01800000 c.args.block c.args.change) c.in-Err.error ok
     (let given = rw c.in-Err.is at c.resize.ensures.store in given))
 
 pub returns-in-Ok-clause-others : goal.returns-in-Ok-clause-others
-returns-in-Ok-clause-others c = layout-others c.grow_to.new.map c.resize.new.map c.resize.ensures.layout ∙ c.grow_to.ensures.others
+returns-in-Ok-clause-others c = c.resize.ensures.others ∙ c.grow_to.ensures.others
 
 pub returns-in-Err-clause-others : goal.returns-in-Err-clause-others
-returns-in-Err-clause-others c = layout-others c.grow_to.new.map c.resize.new.map c.resize.ensures.layout ∙ c.grow_to.ensures.others
+returns-in-Err-clause-others c = c.resize.ensures.others ∙ c.grow_to.ensures.others
 
 pub returns-in-Ok-clause-flex : goal.returns-in-Ok-clause-flex
 returns-in-Ok-clause-flex c =
@@ -46,8 +71,8 @@ returns-in-Err-clause-flex c =
     (resized_keeps (store_of c.grow_to.new.map) (store_of c.resize.new.map) 0x01800000 c.args.block c.args.change c.resize.result.answer
     c.grow_to.ensures.estate.ground.sound c.resize.ensures.sound c.resize.ensures.store)
 
-pub returns-in-Ok-clause-order : goal.returns-in-Ok-clause-order
-returns-in-Ok-clause-order c = order_laid c.grow_to.new.map c.resize.new.map c.resize.ensures.layout ∙ c.grow_to.ensures.order
+pub returns-in-Ok-clause-records : goal.returns-in-Ok-clause-records
+returns-in-Ok-clause-records c = order_lost c.args.map.now c.grow_to.new.map c.resize.new.map c.grow_to.ensures.order c.resize.ensures.records
 
-pub returns-in-Err-clause-order : goal.returns-in-Err-clause-order
-returns-in-Err-clause-order c = order_laid c.grow_to.new.map c.resize.new.map c.resize.ensures.layout ∙ c.grow_to.ensures.order
+pub returns-in-Err-clause-records : goal.returns-in-Err-clause-records
+returns-in-Err-clause-records c = order_lost c.args.map.now c.grow_to.new.map c.resize.new.map c.grow_to.ensures.order c.resize.ensures.records

@@ -14,4 +14,4 @@ pub returns-clause-leaves : goal.returns-clause-leaves
 returns-clause-leaves c =
     let did = c.extend.ensures in
     let call = flex_call _ _ _ _ did.flex did.layout did.heaps did.anchors in
-    leaves_called _ _ _ _ call did.sound did.classes (has_extended _ _ _ _ _ _ _ c.requires.flex call did.state)
+    leaves_called _ _ _ _ call did.sound did.classes (has_extended _ _ _ _ _ _ _ c.requires.sound c.requires.flex call did.state)

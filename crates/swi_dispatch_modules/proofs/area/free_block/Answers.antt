@@ -1,4 +1,3 @@
-use Rattle.instances_ground.specs.rma.specs.os_heap.proofs.Frame.{layout-others}
 use Rattle.swi_dispatch_modules.proofs.area.free_block.Goals as goal
 
 pub returns-in_err-free-clause-leaves : goal.returns-in_err-free-clause-leaves
@@ -7,7 +6,7 @@ returns-in_err-free-clause-leaves c =
     record {
       estate = freed.estate c.args.areas.now c.requires.estate;
       classes = freed.classes;
-      others = layout-others _ _ freed.layout;
+      others = freed.others;
       flex = freed.flex;
     }
 
@@ -17,6 +16,6 @@ returns-clause-leaves c =
     record {
       estate = freed.estate c.args.areas.now c.requires.estate;
       classes = freed.classes;
-      others = layout-others _ _ freed.layout;
+      others = freed.others;
       flex = freed.flex;
     }

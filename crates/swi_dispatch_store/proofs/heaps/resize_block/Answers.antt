@@ -1,13 +1,12 @@
-use Rattle.flex_kept.proofs.Heaps.{resized_keeps}
-use Rattle.swi_dispatch_store.proofs.Leaving.{leaves_written}
+use Rattle.swi_dispatch_store.proofs.Leaving.{leaves_resized}
 use Rattle.swi_dispatch_store.proofs.heaps.resize_block.Goals as goal
 
 pub returns-in_err-place-clause-leaves : goal.returns-in_err-place-clause-leaves
 returns-in_err-place-clause-leaves c =
     let did = c.resize-resized.ensures in
-    leaves_written _ _ did.sound did.classes did.layout (resized_keeps _ _ _ _ _ _ c.requires.sound did.sound did.store)
+    leaves_resized _ _ _ _ _ _ c.requires.sound did.sound did.classes did.others did.mapping did.store
 
 pub returns-clause-leaves : goal.returns-clause-leaves
 returns-clause-leaves c =
     let did = c.resize-resized.ensures in
-    leaves_written _ _ did.sound did.classes did.layout (resized_keeps _ _ _ _ _ _ c.requires.sound did.sound did.store)
+    leaves_resized _ _ _ _ _ _ c.requires.sound did.sound did.classes did.others did.mapping did.store

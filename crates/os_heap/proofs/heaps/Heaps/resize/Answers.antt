@@ -2,6 +2,7 @@ use Rattle.std.proofs.Common.{refl, sym}
 use Rattle.os_heap.specs.Store.{store_of}
 use Rattle.os_heap.proofs.Bounds.{in_bounds}
 use Rattle.os_heap.proofs.Resizing.{resize_nowhere}
+use Rattle.os_heap.proofs.LostRecords.{loses_none}
 use Rattle.os_heap.proofs.heaps.Heaps.resize.Goals as goal
 
 pub resize_block-requires-clause-found : goal.resize_block-requires-clause-found
@@ -13,7 +14,9 @@ returns-in-Some c =
       store = c.resize_block.ensures.store;
       sound = c.resize_block.ensures.kept.sound;
       classes = c.resize_block.ensures.kept.classes;
-      layout = c.resize_block.ensures.kept.layout;
+      others = c.resize_block.ensures.kept.others;
+      mapping = c.resize_block.ensures.kept.mapping;
+      records = c.resize_block.ensures.kept.records;
       probes = c.resize_block.ensures.probes;
       bounds = rw c.resize_block.ensures.probes (in_bounds (store_of c.args.map.now) c.args.heap c.args.block c.args.change);
     }
@@ -25,7 +28,9 @@ returns-in-None c =
       store = rw (c.refused.ensures, none.0) (refl, refl);
       sound = c.requires.sound;
       classes = c.requires.classes;
-      layout = refl;
+      others = refl;
+      mapping = refl;
+      records = loses_none c.args.map.now c.requires.sound;
       probes = rw c.refused.ensures (sym none.1);
       bounds = rw (c.in-None.ensures, c.refused.ensures) refl;
     }

@@ -10,7 +10,7 @@ use Rattle.flex_kept.specs.dynamic_areas.proofs.HeapCalls.{areas_written}
 use Rattle.flex_kept.proofs.Heaps.{got_keeps, got_unanchored}
 use Rattle.flex_kept.proofs.Keeping.{keeps_then}
 use Rattle.rma.specs.Calls.{in_grown_area, is_no_room, rma_base, rma_claimed}
-use Rattle.rma.proofs.Estates.{estate_same, full_where, or_done, or_refused, store_kept}
+use Rattle.rma.proofs.Estates.{estate_same, full_where, layout-mapping, or_done, or_refused, store_kept}
 use Rattle.rma.proofs.NewImageLemmas.{block_made, live_inside}
 use Rattle.rma.proofs.area.Rma.claim.Goals as goal
 
@@ -19,7 +19,7 @@ unfolding rma_claimed
 returns-in-Ok-clause-claimed c =
     let s : Store = store_of c.args.map.now in
     or_done c.args.map.now c.get.new.map c.args.areas.now (rma_base s + total_for c.args.size) (λ t. got t 0x01800000 c.args.size)
-    (got s 0x01800000 c.args.size) c.in-Ok.block c.get.ensures.layout (let given = rw c.in-Ok.is at c.get.ensures.store in given)
+    (got s 0x01800000 c.args.size) c.in-Ok.block (layout-mapping c.args.map.now c.get.new.map c.get.ensures.layout) (let given = rw c.in-Ok.is at c.get.ensures.store in given)
 
 pub returns-in-Ok-clause-estate : goal.returns-in-Ok-clause-estate
 returns-in-Ok-clause-estate c =
@@ -33,7 +33,7 @@ returns-in-Err-clause-claimed c =
     let full = full_where s (store_of c.get.new.map) (got s 0x01800000 c.args.size) c.in-Err.error (sym c.is_no_room.ensures ∙ c.if-is_no_room.true) given in
     let kept : store_of c.get.new.map ≡ s = store_kept s (store_of c.get.new.map) (got s 0x01800000 c.args.size) c.in-Err.error given in
     let same : estate_of c.get.new.map c.args.areas.now ≡ estate_of c.args.map.now c.args.areas.now =
-    estate_same c.args.map.now c.get.new.map c.args.areas.now s c.get.ensures.layout kept in
+    estate_same c.args.map.now c.get.new.map c.args.areas.now s (layout-mapping c.args.map.now c.get.new.map c.get.ensures.layout) kept in
     rw full (subst (λ (x : Estate). Gives x (in_grown_area x (rma_base x.store + total_for c.args.size) (λ t. got t 0x01800000 c.args.size))
     c.claim_grown.result (estate_of c.claim_grown.new.map c.claim_grown.new.areas)) same c.claim_grown.ensures.claimed)
 
@@ -45,7 +45,7 @@ returns-in-Err-2-clause-claimed c =
     let same : c.in-Err.error ≡ c.in-Err-2.error = cc in
     rw c.rma_error.ensures
     (or_refused c.args.map.now c.get.new.map c.args.areas.now (rma_base s + total_for c.args.size) (λ t. got t 0x01800000 c.args.size)
-    (got s 0x01800000 c.args.size) c.in-Err-2.error c.get.ensures.layout (ap is_no_room (sym same) ∙ sym c.is_no_room.ensures ∙ c.if-is_no_room.false)
+    (got s 0x01800000 c.args.size) c.in-Err-2.error (layout-mapping c.args.map.now c.get.new.map c.get.ensures.layout) (ap is_no_room (sym same) ∙ sym c.is_no_room.ensures ∙ c.if-is_no_room.false)
     (let given = rw c.in-Err-2.is at c.get.ensures.store in given))
 
 pub returns-in-Ok-clause-others : goal.returns-in-Ok-clause-others
@@ -61,6 +61,11 @@ pub returns-in-Ok-clause-live : goal.returns-in-Ok-clause-live
 returns-in-Ok-clause-live c =
     (block_made (store_of c.args.map.now) (store_of c.get.new.map) c.args.size c.in-Ok.block c.get.result.answer c.requires.estate.ground.sound c.in-Ok.is
     c.get.ensures.store).live
+
+pub returns-in-Ok-clause-unheaped : goal.returns-in-Ok-clause-unheaped
+returns-in-Ok-clause-unheaped c =
+    (block_made (store_of c.args.map.now) (store_of c.get.new.map) c.args.size c.in-Ok.block c.get.result.answer c.requires.estate.ground.sound c.in-Ok.is
+    c.get.ensures.store).unheaped
 
 pub returns-in-Ok-clause-alone : goal.returns-in-Ok-clause-alone
 returns-in-Ok-clause-alone c =

@@ -1,7 +1,9 @@
-use Rattle.std.proofs.Common.{ap}
+use Rattle.std.proofs.Common.{ap, ◌∙◌}
 use Rattle.os_heap.specs.os_heap_lists.specs.Lists.{total_for}
 use Rattle.os_heap.specs.Store.{Store, store_of}
-use Rattle.rma.proofs.FlexLemmas.{made_keeps}
+use Rattle.flex_kept.specs.dynamic_areas.specs.Ground.{estate_of}
+use Rattle.rma.proofs.FlexLemmas.{made_keeps, sized_unheaped}
+use Rattle.rma.proofs.ImageLemmas.{area_kind}
 use Rattle.rma.proofs.NewImageLemmas.{live_whole, made_order, made_others}
 use Rattle.rma.proofs.area.Rma.copy_image.Goals as goal
 
@@ -26,3 +28,11 @@ returns-clause-order c =
     made_order c.args.map.now c.claim.new.map c.fill_from.new.map c.record_image.new.map c.in_ok-block.block
     (total_for c.args.len) c.in_ok-block.ensures.live c.claim.ensures.others (ap (λ (s : Store). s.heaps) c.fill_from.ensures.store)
     (ap (λ (s : Store). s.others) c.fill_from.ensures.store) c.claim.ensures.order c.fill_from.ensures.layout c.record_image.ensures.order
+
+pub record_image-requires-clause-may : goal.record_image-requires-clause-may
+record_image-requires-clause-may c = record {
+  area = area_kind (estate_of c.fill_from.new.map c.claim.new.areas) (c.fill_from.ensures.estate c.claim.new.areas c.claim.ensures.estate);
+  room = rw (ap (λ (s : Store). s.others) c.fill_from.ensures.store ∙ c.claim.ensures.others) c.requires.room;
+  empty = sized_unheaped (store_of c.claim.new.map) (store_of c.fill_from.new.map) c.in_ok-block.block (total_for c.args.len) c.in_ok-block.ensures.live
+      (ap (λ (s : Store). s.heaps) c.fill_from.ensures.store) c.in_ok-block.ensures.unheaped;
+}

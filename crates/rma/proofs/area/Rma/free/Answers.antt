@@ -1,6 +1,6 @@
 use Rattle.os_heap.specs.Calls.{gave_back}
 use Rattle.os_heap.specs.Store.{store_of}
-use Rattle.flex_kept.specs.dynamic_areas.proofs.HeapCalls.{areas_written}
+use Rattle.flex_kept.specs.dynamic_areas.proofs.HeapCalls.{areas_freed}
 use Rattle.flex_kept.proofs.Heaps.{freed_keeps}
 use Rattle.rma.specs.Calls.{rma_freed}
 use Rattle.rma.proofs.Estates.{area_done, area_refused}
@@ -9,17 +9,24 @@ use Rattle.rma.proofs.area.Rma.free.Goals as goal
 pub returns-in-Ok-clause-freed : goal.returns-in-Ok-clause-freed
 unfolding rma_freed
 returns-in-Ok-clause-freed c l =
-    area_done c.args.map.now c.free.new.map l (gave_back (store_of c.args.map.now) 0x01800000 c.args.block) tt c.free.ensures.layout
+    area_done c.args.map.now c.free.new.map l (gave_back (store_of c.args.map.now) 0x01800000 c.args.block) tt c.free.ensures.mapping
     (let given = rw c.in-Ok.is at c.free.ensures.store in given)
 
 pub returns-in-Ok-clause-estate : goal.returns-in-Ok-clause-estate
-returns-in-Ok-clause-estate c l good = areas_written c.args.map.now c.free.new.map l good c.free.ensures.sound c.free.ensures.layout
+returns-in-Ok-clause-estate c l good =
+    areas_freed c.args.map.now c.free.new.map l good c.free.ensures.sound c.free.ensures.others c.free.ensures.mapping 0x01800000 c.args.block
+    c.free.result.answer c.free.ensures.store
+
+pub returns-in-Err-clause-estate : goal.returns-in-Err-clause-estate
+returns-in-Err-clause-estate c l good =
+    areas_freed c.args.map.now c.free.new.map l good c.free.ensures.sound c.free.ensures.others c.free.ensures.mapping 0x01800000 c.args.block
+    c.free.result.answer c.free.ensures.store
 
 pub returns-in-Err-clause-freed : goal.returns-in-Err-clause-freed
 unfolding rma_freed
 returns-in-Err-clause-freed c l =
     rw c.rma_error.ensures
-    (area_refused c.args.map.now c.free.new.map l (gave_back (store_of c.args.map.now) 0x01800000 c.args.block) c.in-Err.error c.free.ensures.layout
+    (area_refused c.args.map.now c.free.new.map l (gave_back (store_of c.args.map.now) 0x01800000 c.args.block) c.in-Err.error c.free.ensures.mapping
     (let given = rw c.in-Err.is at c.free.ensures.store in given))
 
 pub returns-in-Ok-clause-flex : goal.returns-in-Ok-clause-flex

@@ -1,8 +1,10 @@
-use Rattle.std.proofs.Common.{◌≡◌, ◌∙◌, subst}
+use Rattle.std.proofs.Common.{List, ◌≡◌, ◌∙◌, ap, subst}
+use Rattle.std.specs.List.{filter}
+use Rattle.address_map.specs.declared.region.Region.{Region}
 use Rattle.os_heap.specs.Calls.{gave_back}
 use Rattle.os_heap.specs.Store.{Store, store_of}
-use Rattle.os_heap.proofs.Frame.{layout-regions}
-use Rattle.flex_kept.specs.dynamic_areas.proofs.HeapCalls.{areas_written}
+use Rattle.os_heap.specs.Order.{stays}
+use Rattle.flex_kept.specs.dynamic_areas.proofs.HeapCalls.{areas_freed}
 use Rattle.flex_kept.proofs.Heaps.{freed_keeps}
 use Rattle.flex_kept.proofs.Keeping.{keeps_then}
 use Rattle.rma.specs.Images.{image_freed, or_kept}
@@ -19,7 +21,8 @@ returns-clause-store c =
 
 pub returns-clause-estate : goal.returns-clause-estate
 returns-clause-estate c l areas =
-    areas_written c.drop_image.new.map c.free.new.map l (c.drop_image.ensures.estate l areas) c.free.ensures.sound c.free.ensures.layout
+    areas_freed c.drop_image.new.map c.free.new.map l (c.drop_image.ensures.estate l areas) c.free.ensures.sound c.free.ensures.others c.free.ensures.mapping
+    0x01800000 c.args.at c.free.result.answer c.free.ensures.store
 
 pub returns-clause-flex : goal.returns-clause-flex
 returns-clause-flex c =
@@ -27,5 +30,6 @@ returns-clause-flex c =
     keeps_then (store_of c.args.map.now) s (store_of c.free.new.map) c.drop_image.ensures.flex
     (freed_keeps s (store_of c.free.new.map) 0x01800000 c.args.at c.free.result.answer c.drop_image.ensures.sound c.free.ensures.sound c.free.ensures.store)
 
-pub returns-clause-regions : goal.returns-clause-regions
-returns-clause-regions c = layout-regions c.drop_image.new.map c.free.new.map c.free.ensures.layout ∙ c.drop_image.ensures.regions
+pub returns-clause-records : goal.returns-clause-records
+returns-clause-records c =
+    c.free.ensures.records ∙ ap (λ (rs : List Region). filter (stays (store_of c.free.new.map).heaps) rs) c.drop_image.ensures.regions

@@ -1,10 +1,11 @@
-use Rattle.std.proofs.Common.{length, refl, ap, arith}
+use Rattle.std.proofs.Common.{length, refl, ap, arith, ◌∙◌}
 use Rattle.os_heap.specs.os_heap_lists.specs.Lists.{total_for}
 use Rattle.os_heap.specs.Store.{Store, store_of}
 use Rattle.flex_kept.specs.dynamic_areas.specs.Ground.{estate_of}
 use Rattle.rma.specs.NewImages.{image_made}
 use Rattle.flex_kept.proofs.Keeping.{keeps_same}
-use Rattle.rma.proofs.FlexLemmas.{made_keeps}
+use Rattle.rma.proofs.FlexLemmas.{made_keeps, sized_unheaped}
+use Rattle.rma.proofs.ImageLemmas.{area_kind}
 use Rattle.rma.proofs.NewImageLemmas.{claim_refused, live_whole, made_order, made_others}
 use Rattle.rma.proofs.area.Rma.make_image.Goals as goal
 
@@ -37,3 +38,11 @@ returns-clause-order c =
     made_order c.args.map.now c.claim.new.map c.fill.new.map c.record_image.new.map c.in_ok-block.block
     (total_for (length c.args.image.now)) c.in_ok-block.ensures.live c.claim.ensures.others (ap (λ (s : Store). s.heaps) c.fill.ensures.store)
     (ap (λ (s : Store). s.others) c.fill.ensures.store) c.claim.ensures.order c.fill.ensures.layout c.record_image.ensures.order
+
+pub record_image-requires-clause-may : goal.record_image-requires-clause-may
+record_image-requires-clause-may c = record {
+  area = area_kind (estate_of c.fill.new.map c.claim.new.areas) (c.fill.ensures.estate c.claim.new.areas c.claim.ensures.estate);
+  room = rw (ap (λ (s : Store). s.others) c.fill.ensures.store ∙ c.claim.ensures.others) c.requires.room;
+  empty = sized_unheaped (store_of c.claim.new.map) (store_of c.fill.new.map) c.in_ok-block.block (total_for (length c.args.image.now)) c.in_ok-block.ensures.live
+      (ap (λ (s : Store). s.heaps) c.fill.ensures.store) c.in_ok-block.ensures.unheaped;
+}

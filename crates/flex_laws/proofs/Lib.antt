@@ -1,0 +1,13 @@
+pub mod Allocs
+pub mod Apart
+pub mod Calls
+pub mod Gone
+pub mod Lists
+pub mod Moving
+pub mod Numbers
+pub mod Relaying
+pub mod Releases
+pub mod Same
+pub mod Seeing
+pub mod Small
+pub mod Splices

@@ -1,0 +1,5 @@
+use Rattle.flex_laws.proofs.Splices.{splice_goes_by_numbers}
+use Rattle.flex_laws.proofs.laws.splice_goes_by_numbers.Goals as goal
+
+pub returns : goal.returns
+returns c = splice_goes_by_numbers

@@ -1,0 +1,6 @@
+//! What a guest sees in the blocks of the flex store, over the calls that change blocks.
+#![tactic(auto)]
+
+pub mod laws;
+
+pub use flex_store;

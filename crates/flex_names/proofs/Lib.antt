@@ -1,0 +1,15 @@
+pub mod Additions
+pub mod Alike
+pub mod Before
+pub mod Calls
+pub mod Done
+pub mod Found
+pub mod Moving
+pub mod Removals
+pub mod Resized
+pub mod Runs
+pub mod Splices
+pub mod Telling
+pub mod Told
+pub mod Unbroken
+pub mod Words

@@ -1,0 +1,60 @@
+use Rattle.std.proofs.Common.{Bool, ◌≡◌, ◌+◌, ◌∙◌, not, length, true, sym, ap, arith}
+use Rattle.std.proofs.lemmas.Bool.{or_left, or_right}
+use Rattle.std.specs.List.{list_any}
+use Rattle.address_map.specs.Memory.{anchor_of, bytes_of, regions}
+use Rattle.address_map.specs.Records.{anchor_among}
+use Rattle.os_heap.proofs.Innermost.{obstructed_barred, obstructed_told, last_spelled}
+use Rattle.os_heap.specs.Bars.{bars_record}
+use Rattle.os_heap.specs.Laws.{told_by}
+use Rattle.os_heap.specs.Nesting.{holds_range, is_round}
+use Rattle.os_heap.specs.Probes.{counted_of, region_probes}
+use Rattle.os_heap.specs.Store.{heap_in, heaps_in, store_of}
+use Rattle.os_heap.proofs.obstacles.is_obstructed.Goals as goal
+
+pub returns-in_default-clause-yes : goal.returns-in_default-clause-yes
+returns-in_default-clause-yes c =
+    let m = c.args.map.now in
+    let barred : Bool = list_any (bars_record c.args.at c.args.len c.args.new c.args.more) (regions m) in
+    let anchors : Bool = anchor_among (anchor_of m) c.args.new c.args.more in
+    let is : barred ≡ true = rw c.regions.ensures at c.in_default.ensures in
+    sym (obstructed_barred m c.args.at c.args.len c.args.new c.args.more c.requires.sound.sound (or_left barred anchors is))
+
+pub returns-then-anchor_in-clause-yes : goal.returns-then-anchor_in-clause-yes
+returns-then-anchor_in-clause-yes c =
+    let m = c.args.map.now in
+    let barred : Bool = list_any (bars_record c.args.at c.args.len c.args.new c.args.more) (regions m) in
+    let anchors : Bool = anchor_among (anchor_of m) c.args.new c.args.more in
+    sym (obstructed_barred m c.args.at c.args.len c.args.new c.args.more c.requires.sound.sound
+    (or_right barred anchors (sym c.anchor_in.ensures ∙ c.if-anchor_in.true)))
+
+pub returns-in_default-round-clause-yes : goal.returns-in_default-round-clause-yes
+returns-in_default-round-clause-yes c =
+    let m = c.args.map.now in
+    let found = rw c.in_default-round.is at (rw c.regions.ensures at c.in-Ok.ensures) in
+    let told = obstructed_told m c.args.at c.args.len c.args.new c.args.more c.requires.sound.sound c.requires.some found.free
+    (sym c.anchor_in.ensures ∙ c.if-anchor_in.false) in
+    sym (told ∙ ap (told_by (λ h. not (holds_range (h.start + 16) h.items c.args.at c.args.len))) (found.last (bytes_of m)))
+
+pub holds_range-held-requires-clause-heap : goal.holds_range-held-requires-clause-heap
+unfolding store_of
+holds_range-held-requires-clause-heap c =
+    let m = c.args.map.now in
+    let found = rw c.in-Some.is at (rw c.regions.ensures at c.in-Ok.ensures) in
+    last_spelled (bytes_of m) (is_round c.args.at c.args.len) (heaps_in (bytes_of m) (regions m)) (heap_in (bytes_of m) c.in-Some.outer) c.requires.sound.sound.heaps
+    (found.last (bytes_of m))
+
+pub returns-clause-yes : goal.returns-clause-yes
+returns-clause-yes c =
+    let m = c.args.map.now in
+    let found = rw c.in-Some.is at (rw c.regions.ensures at c.in-Ok.ensures) in
+    let told = obstructed_told m c.args.at c.args.len c.args.new c.args.more c.requires.sound.sound c.requires.some found.free
+    (sym c.anchor_in.ensures ∙ c.if-anchor_in.false) in
+    ap not c.holds_range-held.ensures.yes
+    ∙ sym (told ∙ ap (told_by (λ h. not (holds_range (h.start + 16) h.items c.args.at c.args.len))) (found.last (bytes_of m)))
+
+pub returns-clause-probes : goal.returns-clause-probes
+unfolding store_of region_probes
+returns-clause-probes c =
+    let m = c.args.map.now in
+    let found = rw c.in-Some.is at (rw c.regions.ensures at c.in-Ok.ensures) in
+    omega (arith, c.holds_range-held.ensures.probes, ap (counted_of (λ h. length h.items)) (found.last (bytes_of m)))
