@@ -1,11 +1,11 @@
 -- The pages of a store, counted by the addresses where they are mapped.
-use Rattle.std.proofs.Common.{◌≡◌, ℕ, zero, suc, ◌+◌, ◌*◌, ◌/◌, ◌<◌, List, [], ◌∷◌, length, Some, None, refl, sym, ap, cond, ◌∙◌, arith}
+use Rattle.std.proofs.Common.{◌≡◌, ℕ, zero, suc, ◌+◌, ◌*◌, ◌/◌, ◌<◌, List, ◌∷◌, length, Some, None, refl, sym, ap, cond, ◌∙◌, arith}
 use Rattle.std.specs.Prelude.{Bool, Option, is_some, if◌then◌else◌}
 use Rattle.std.specs.List.{count_by}
 use Rattle.std.proofs.lemmas.List.Recursion.{is_count_by}
 use Rattle.address_map.specs.Counts.{counted}
 use Rattle.address_map.specs.Memory.{free_pages, is_mapped, page_total, place}
-use Rattle.address_map.specs.Pages.{frame_at, frame_count, place_by}
+use Rattle.address_map.specs.Pages.{frame_at, place_by}
 use Rattle.address_map.specs.declared.map.AddressMap.{AddressMap}
 
 -- tests that agree below a number count the same there

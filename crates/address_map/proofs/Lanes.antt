@@ -1,5 +1,5 @@
 -- A number written into one lane of a byte, and what the lanes hold then.
-use Rattle.std.proofs.Common.{◌≡◌, ℕ, ◌+◌, ◌-◌, ◌*◌, ◌/◌, ◌%◌, ◌<◌, ◌≤◌, ◌==◌, true, false, cond, List, length, get_or, set, replicate, arith, refl, sym, ap, ◌∙◌, inl, inr}
+use Rattle.std.proofs.Common.{◌≡◌, ◌≢◌, ℕ, zero, suc, ◌+◌, ◌-◌, ◌*◌, ◌/◌, ◌%◌, ◌<◌, ◌≤◌, ◌==◌, true, false, cond, List, length, get_or, set, replicate, arith, refl, sym, ap, ◌∙◌, inl, inr}
 use Rattle.std.proofs.lemmas.Bool.{cases_eq, cases_lt, eq-eqb, ne_eqb, cond-true, cond-false}
 use Rattle.std.proofs.lemmas.Bool.Decides.{nat_tests}
 use Rattle.std.proofs.lemmas.List.{get_or-set_same, get_or-set_other, get_or-replicate, get_or_past, length-replicate}
@@ -82,6 +82,14 @@ pub class_zero : (items : List ℕ) (k : ℕ) → get_or items (k / 4) 0 ≡ 0 �
 class_zero items k is =
     let zero_lane : lane 0 (k % 4) ≡ 0 = grind (arith, nat_tests) in
     ap (λ (x : ℕ). class_of_number (lane x (k % 4))) is ∙ ap class_of_number zero_lane
+
+-- a lane whose number is below 2: its word is plain or a heap's
+pub class_low : (items : List ℕ) (k : ℕ) → lane (get_or items (k / 4) 0) (k % 4) < 2 → class_of_number (lane (get_or items (k / 4) 0) (k % 4)) ≢ Anchor
+class_low items k low = low_class (lane (get_or items (k / 4) 0) (k % 4)) low where
+  low_class : (n : ℕ) → n < 2 → class_of_number n ≢ Anchor
+  low_class zero few is = cc
+  low_class (suc zero) few is = cc
+  low_class (suc (suc n)) few is = absurd (omega arith)
 
 zero_there : (n i : ℕ) → get_or (replicate {A = ℕ} n 0) i 0 ≡ 0
 zero_there n i = elim (cases_lt i n) [

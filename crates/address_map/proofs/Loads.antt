@@ -1,8 +1,10 @@
 -- What a mapped address reads: the byte, or the word, at its place in the store.
-use Rattle.std.proofs.Common.{◌≡◌, ℕ, ◌+◌, ◌-◌, ◌/◌, ◌%◌, ◌^◌, ◌<◌, ◌≤◌, true, false, get_or, length, Option, Some, None, is_some, Ok, Err, arith, refl, sym, ap, ◌∙◌, slice_index}
+use Rattle.std.proofs.Common.{◌≡◌, ℕ, ◌+◌, ◌-◌, ◌/◌, ◌%◌, ◌^◌, ◌<◌, ◌≤◌, true, false, get_or, length, nat_le, Option, Some, None, is_some, Ok, Err, arith, refl, sym, ap, ◌∙◌, slice_index}
 use Rattle.std.proofs.lemmas.Bool.{false≢true}
+use Rattle.std.proofs.lemmas.Bool.Decides.{nat_tests}
 use Rattle.std.proofs.lemmas.List.{get_or_past, get_or_default}
 use Rattle.raw_store.specs.profile.specs.declared.fault.Fault.{Fault}
+use Rattle.raw_store.specs.profile.specs.declared.fault.Fault.TheVariants.{DataUnmapped}
 use Rattle.raw_store.specs.Region.{word_in}
 use Rattle.address_map.specs.declared.map.AddressMap.{AddressMap}
 use Rattle.address_map.specs.Bytes.{Bytes, load_fault, word_start, word_at, byte_loaded, word_loaded}
@@ -91,3 +93,16 @@ byte_refused b a fault h = rw h refl
 pub word_refused : (b : Bytes) (a : ℕ) (fault : Fault) → load_fault b (word_start a) ≡ Some fault → Err fault ≡ word_loaded b a
 unfolding word_loaded
 word_refused b a fault h = rw h refl
+
+-- what a fetch meets at an address of 26 bits
+pub fetch_clear : (m : AddressMap) (a k : ℕ) → a < 2 ^ 26 → place m a ≡ Some k → load_fault (bytes_of m) a ≡ None
+fetch_clear m a k below h =
+    let within : nat_le (2 ^ 26) a ≡ false = grind (arith, nat_tests) in
+    let there : is_mapped m a ≡ true = ap is_some h in
+    rw (within, there) refl
+
+pub fetch_refused : (m : AddressMap) (a : ℕ) → a < 2 ^ 26 → place m a ≡ None → load_fault (bytes_of m) a ≡ Some DataUnmapped
+fetch_refused m a below h =
+    let within : nat_le (2 ^ 26) a ≡ false = grind (arith, nat_tests) in
+    let none : is_mapped m a ≡ false = ap is_some h in
+    rw (within, none) refl

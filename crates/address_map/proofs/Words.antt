@@ -27,7 +27,7 @@ class_none m a h = ap (mark_in m.marks) h
 pub class_past : (m : AddressMap) (a : ℕ) → 2 ^ 26 ≤ a → class_of m a ≡ Plain
 class_past m a past = class_none m a (place_past m a past)
 
-none_there : (there : Option ℕ) → is_some there ≡ false → there ≡ None
+pub none_there : (there : Option ℕ) → is_some there ≡ false → there ≡ None
 none_there None e = refl
 none_there (Some k) e = absurd (false≢true (sym e))
 

@@ -1,8 +1,16 @@
 -- The page table: for each of the 2^14 pages of the address space the frame of the store that its bytes lie in, or none. Pages and frames
 -- have 4096 bytes (RISC OS 3 Programmer's Reference Manual, "Memory management": memory is mapped by pages; that the pages have
 -- this size is this project's own).
-use Rattle.std.specs.Prelude.{◌≡◌, ◌≢◌, ◌≤◌, ◌<◌, ℕ, ◌+◌, ◌*◌, ◌/◌, ◌%◌, ◌^◌, List, length, slice_index_or, Option, Some, None, is_some}
+use Rattle.std.specs.Prelude.{◌≡◌, ◌≢◌, ◌≤◌, ◌<◌, ℕ, ◌+◌, ◌*◌, ◌/◌, ◌%◌, ◌^◌, ◌==◌, if◌then◌else◌, List, length, slice_index_or, Option, Some, None, is_some}
 use Rattle.std.specs.List.{All, AllPairs, count_by}
+
+-- The frame of a page as a number of two bytes, of which the greatest stands for none: a store has at most 1024 frames.
+abbrev pub frame_numbered : ℕ → Option ℕ
+frame_numbered number = if number == 65535 then None else Some number
+
+abbrev pub number_of_frame : Option ℕ → ℕ
+number_of_frame None = 65535
+number_of_frame (Some frame) = frame
 
 -- the frame of a page, if it is mapped
 abbrev pub frame_at : List (Option ℕ) → ℕ → Option ℕ

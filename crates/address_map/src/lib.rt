@@ -3,6 +3,7 @@
 
 pub mod class;
 pub mod follow;
+pub mod frame;
 pub mod item;
 pub mod laws;
 pub mod lent;

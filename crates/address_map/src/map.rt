@@ -1,10 +1,11 @@
-ghost use Rattle.std.specs.Prelude.{ℕ, [], ◌≡◌, ◌≤◌, ◌<◌, ◌+◌, ◌*◌, ◌%◌, ◌↔◌, false, IsTrue, IfOk, MatchResult, MatchOption, Some, None, length, All};
+ghost use Rattle.std.specs.Prelude.{ℕ, [], ◌≡◌, ◌≤◌, ◌<◌, ◌+◌, ◌*◌, ◌%◌, ◌^◌, ◌↔◌, false, IsTrue, IfOk, MatchResult, MatchOption, Some, None, length, All};
 ghost use Rattle.raw_store.specs.profile.specs.Outcome.{Leaves};
 ghost use Rattle.address_map.specs.declared.class.Class.{Class};
 ghost use Rattle.address_map.specs.Bytes.{AreMapped, byte_loaded, word_loaded, byte_stored, word_stored, with_word_at, with_bytes_at, with_zeros_at, load_fault, store_fault};
 ghost use Rattle.address_map.specs.Pages.{AreWritten, IsPageTable, frame_count};
 ghost use Rattle.address_map.specs.Records.{IsRegion};
 
+use crate::frame::PageFrame;
 use crate::marks::Marks;
 use crate::pages::{MARKS_IN_PAGE, all_frames, page_count};
 use crate::region::Region;
@@ -30,7 +31,7 @@ pub(crate) const MOST_REGIONS: usize = 133;
 pub struct AddressMap {
     pub(crate) store: RawStore,
     pub(crate) marks: Marks,
-    pub(crate) frames: Vec<Option<u16>>,
+    pub(crate) frames: Vec<PageFrame>,
     pub(crate) free: ArrayVec<u16, MOST_FRAMES>,
     pub(crate) regions: ArrayVec<Region, MOST_REGIONS>,
     pub ghost bytes_fit: { All (λ b. b < 256) store.items },
@@ -69,7 +70,7 @@ impl AddressMap {
     {
         let store = RawStore::with_room(alloc, pages)?;
         let marks = Marks::new(alloc, MARKS_IN_PAGE * pages as usize)?;
-        let frames = vec![in alloc; None; page_count()]?;
+        let frames = vec![in alloc; PageFrame::none(); page_count()]?;
         Ok(AddressMap {
             store,
             marks,
@@ -135,6 +136,22 @@ impl AddressMap {
     {
         let place = self.readable(addr - addr % 4)?;
         Ok(self.store.read_word(place))
+    }
+
+    /// The word at an address that has 26 bits, as `load_word` gives it: the word that a core fetches.
+    ///
+    /// # Errors
+    ///
+    /// `DataUnmapped` where no memory is mapped.
+    #[inline(always)]
+    pub fn fetch_word(&self, addr: u32) -> Result<u32, Fault>
+        requires { addr < 2 ^ 26 }
+        ensures { result ≡ word_loaded (bytes_of self.now) addr }
+    {
+        match self.place_of(addr - addr % 4) {
+            Some(place) => Ok(self.store.read_word(place)),
+            None => Err(Fault::DataUnmapped),
+        }
     }
 
     /// Stores a byte for a guest.

@@ -1,7 +1,7 @@
-ghost use Rattle.std.specs.Prelude.{ℕ, ◌≡◌, ◌<◌, ◌≤◌, ◌+◌, ◌*◌, ◌/◌, ◌==◌, true, IfOk, length, if◌then◌else◌};
+ghost use Rattle.std.specs.Prelude.{ℕ, ◌≡◌, ◌≢◌, ◌<◌, ◌≤◌, ◌+◌, ◌*◌, ◌/◌, ◌%◌, ◌==◌, true, IfOk, length, if◌then◌else◌};
 ghost use Rattle.address_map.specs.declared.class.Class.{Class};
 ghost use Rattle.address_map.specs.Bytes.{in_range};
-ghost use Rattle.address_map.specs.Classes.{weight, number_of};
+ghost use Rattle.address_map.specs.Classes.{lane, weight, number_of};
 
 use crate::class::Class;
 use std::alloc::{AllocError, Global};
@@ -62,6 +62,20 @@ impl Marks {
         true
     }
 
+    /// Whether no word of the bytes from `first` up to `end` is an anchor's or a flex header's.
+    #[inline(always)]
+    pub(crate) fn are_plain_or_heap(&self, first: usize, end: usize) -> bool
+        requires { end ≤ length self.now.bytes.items }
+        ensures { result ≡ true → (k : ℕ) → 4 * first ≤ k → k < 4 * end → class_at self.now k ≢ Class.Anchor }
+    {
+        for byte in first..end {
+            if !has_low_numbers(self.bytes[byte]) {
+                return false;
+            }
+        }
+        true
+    }
+
     /// Gives a word a class.
     #[tactic(auto, using(crate::proofs::Lanes::byte_fits, crate::proofs::Lanes::number_small))]
     pub(crate) fn set(&mut self, word: usize, class: Class)
@@ -98,4 +112,12 @@ fn weight(lane: usize) -> u8
         2 => 16,
         _ => 64,
     }
+}
+
+/// Whether the numbers of all four classes in a byte are below 2.
+#[inline(always)]
+fn has_low_numbers(byte: u8) -> bool
+    ensures { result ≡ true → (k : ℕ) → lane byte (k % 4) < 2 }
+{
+    byte % 4 < 2 && byte / 4 % 4 < 2 && byte / 16 % 4 < 2 && byte / 64 < 2
 }

@@ -1,10 +1,10 @@
-ghost use Rattle.std.specs.Prelude.{◌≡◌, ◌≤◌, ◌+◌, ◌/◌, length};
+ghost use Rattle.std.specs.Prelude.{◌≡◌, ◌≤◌, ◌+◌, ◌-◌, ◌/◌, ◌%◌, ◌^◌, false, length};
 ghost use Rattle.address_map.specs.Marks.{class_at};
-ghost use Rattle.address_map.specs.Records.{anchor_among};
+ghost use Rattle.address_map.specs.Records.{HasNoAnchor, anchor_among};
 
 use crate::class::Class;
 use crate::map::AddressMap;
-use raw_store::profile::memory_map::ADDRESS_LIMIT;
+use raw_store::profile::memory_map::{ADDRESS_LIMIT, PAGE_SIZE};
 
 impl AddressMap {
     ghost use Rattle.address_map.specs.Memory.{anchor_of, class_of, is_owned};
@@ -44,6 +44,49 @@ impl AddressMap {
     {
         let end = (at as u64 + len as u64).min(ADDRESS_LIMIT as u64) as u32;
         let mut addr = at;
+        while addr < end {
+            let next = end.min(addr - addr % PAGE_SIZE + PAGE_SIZE);
+            if self.page_anchors(addr, next) {
+                return true;
+            }
+            addr = next;
+        }
+        false
+    }
+
+    /// Whether an anchor has a byte from `from` on and below `end`, in one page.
+    #[inline(always)]
+    fn page_anchors(&self, from: u32, end: u32) -> bool
+        requires page { from % 4096 + (end - from) ≤ 4096 }
+        requires above { from ≤ end }
+        requires end { end ≤ 2 ^ 26 }
+        ensures { result ≡ anchor_among (anchor_of self.now) from (end - from) }
+    {
+        self.may_anchor(from, end - from) && self.anchor_between(from, end)
+    }
+
+    /// Whether some bytes of a page need a look at each of their words: mostly the marks of all of them say at once that
+    /// none is an anchor's.
+    #[inline(always)]
+    fn may_anchor(&self, addr: u32, len: u32) -> bool
+        requires page { addr % 4096 + len ≤ 4096 }
+        ensures { result ≡ false → HasNoAnchor (class_of self.now) addr len }
+    {
+        match self.translate(addr) {
+            Some(place) => {
+                let end = (place + len as usize + 15) / 16;
+                !self.marks.are_plain_or_heap(place / 16, end)
+            }
+            None => false,
+        }
+    }
+
+    /// Whether an anchor has a byte from `from` on and below `end`, each word asked for by itself.
+    fn anchor_between(&self, from: u32, end: u32) -> bool
+        requires { end ≤ 2 ^ 26 }
+        ensures { result ≡ anchor_among (anchor_of self.now) from (end - from) }
+    {
+        let mut addr = from;
         while addr < end {
             if self.class(addr).is_anchor() {
                 return true;

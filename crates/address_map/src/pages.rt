@@ -3,6 +3,7 @@ ghost use Rattle.std.specs.List.{AllPairs};
 ghost use Rattle.address_map.specs.Bytes.{in_range, AreMapped, AreUnmapped, with_zeros_at};
 ghost use Rattle.address_map.specs.Records.{meets_record, HasNoAnchor, with_plain_at};
 
+use crate::frame::PageFrame;
 use crate::map::{AddressMap, MOST_FRAMES, Span};
 use arrayvec::ArrayVec;
 use raw_store::profile::memory_map::{ADDRESS_LIMIT, PAGE_SIZE};
@@ -29,7 +30,16 @@ impl AddressMap {
         if addr >= ADDRESS_LIMIT {
             return None;
         }
-        let frame = self.frames[(addr / PAGE_SIZE) as usize]?;
+        self.place_of(addr)
+    }
+
+    /// The same of an address that has 26 bits, which isn't asked again.
+    #[inline(always)]
+    pub(crate) fn place_of(&self, addr: u32) -> Option<usize>
+        requires { addr < 2 ^ 26 }
+        ensures { result ≡ place self.now addr }
+    {
+        let frame = self.frames[(addr / PAGE_SIZE) as usize].frame()?;
         Some((PAGE_SIZE * frame as u32 + addr % PAGE_SIZE) as usize)
     }
 
@@ -86,7 +96,7 @@ impl AddressMap {
         self.store.write_zeros(place, PAGE_SIZE as usize);
         self.marks
             .clear(MARKS_IN_PAGE * frame as usize, MARKS_IN_PAGE);
-        self.frames[(addr / PAGE_SIZE) as usize] = Some(frame);
+        self.frames[(addr / PAGE_SIZE) as usize] = PageFrame::of(frame);
     }
 
     /// Takes away the `count` pages from the address `base` on, which can be mapped anew then.
@@ -120,8 +130,8 @@ impl AddressMap {
         ensures marks { (a : ℕ) → class_of self.new a ≡ with_plain_at (class_of self.old) addr 4096 a }
     {
         let page = (addr / PAGE_SIZE) as usize;
-        let frame = self.frames[page].unwrap();
-        self.frames[page] = None;
+        let frame = self.frames[page].frame().unwrap();
+        self.frames[page] = PageFrame::none();
         self.free.push(frame);
     }
 }

@@ -39,7 +39,7 @@ pub fn step(cpu: &mut Cpu, memory: &mut AddressMap) -> Turn
     if pc == RETURN_GATE {
         return Turn::Gate;
     }
-    match memory.load_word(pc) {
+    match memory.fetch_word(pc) {
         Ok(word) => cpu.execute(memory, word),
         Err(_) => Turn::Fault(Fault::FetchUnmapped),
     }

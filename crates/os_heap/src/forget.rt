@@ -36,6 +36,17 @@ pub(crate) fn forget(map: &mut AddressMap, block: u32, total: u32, from: u32)
     }
 }
 
+/// Forgets the heaps in a block that is given up. Mostly there is none, which one look at the records tells.
+pub(crate) fn forget_inner(map: &mut AddressMap, block: u32, total: u32)
+    requires state { IsSoundMap map.old }
+    requires block { HasBlock map.old block total }
+    ensures { Forgets map.old map.new block total block }
+{
+    if holds_heap(map.regions(), block, total - 4) {
+        forget(map, block, total, block);
+    }
+}
+
 /// Forgets the heaps that go with what is cut off a block that gets another total: none, where that is no smaller.
 pub(crate) fn forget_cut(map: &mut AddressMap, block: u32, total: u32, needed: u64)
     requires state { IsSoundMap map.old }

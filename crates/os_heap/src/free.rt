@@ -11,7 +11,7 @@ ghost use Rattle.os_heap.specs.Calls.{gave_back};
 ghost use Rattle.os_heap.specs.Probes.{walk_probes};
 
 use crate::counted::{Counted, refused};
-use crate::forget::forget;
+use crate::forget::forget_inner;
 use crate::heaps::{Heaps, find};
 use crate::marks::remark_gap;
 use crate::neighbour::{free_behind, own_total};
@@ -68,7 +68,7 @@ pub(crate) fn give_up(map: &mut AddressMap, heap: u32, block: u32, cursor: &Curs
     ensures kept { KeepsRest map.old map.new }
 {
     let total = own_total(map, heap, block, cursor);
-    forget(map, block, total, block);
+    forget_inner(map, block, total);
     give_back(map, heap, block, cursor);
 }
 

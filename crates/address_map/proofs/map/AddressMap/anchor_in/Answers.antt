@@ -1,18 +1,9 @@
-use Rattle.std.proofs.Common.{◌≡◌, ◌^◌, true, false, ap, arith, sym, ◌∙◌, inl, inr}
-use Rattle.std.proofs.lemmas.Bool.{cases_lt, false≢true}
-use Rattle.address_map.specs.Classes.{is_anchor}
-use Rattle.address_map.proofs.Anchors.{marks_none, marks_some}
-use Rattle.address_map.proofs.Words.{none_more, class_past}
+use Rattle.std.proofs.Common.{◌-◌, ◌^◌, arith, sym, ◌∙◌, inl, inr}
+use Rattle.std.proofs.lemmas.Bool.{cases_lt}
+use Rattle.address_map.proofs.Anchors.{among_wider, marks_none, unanchored}
+use Rattle.address_map.specs.Memory.{anchor_of}
+use Rattle.address_map.proofs.Words.{class_past}
 use Rattle.address_map.proofs.map.AddressMap.anchor_in.Goals as goal
-
-pub loop-addr-preserved : goal.loop-addr-preserved
-loop-addr-preserved c = record {
-  from = omega arith;
-  clear = none_more c.args.self.now c.args.at c.loop-addr.addr c.loop-addr.invariant.clear (λ is.
-      let no : is_anchor c.class.result ≡ false = cc in
-      let yes : is_anchor c.class.result ≡ true = ap is_anchor (c.class.ensures ∙ is) in
-      false≢true (sym no ∙ yes));
-}
 
 pub returns : goal.returns
 returns c =
@@ -21,7 +12,19 @@ returns c =
       | inr past ↦ λ is. let plain = class_past c.args.self.now a past in cc (is, plain)
     ])
 
-pub returns-then-is_anchor : goal.returns-then-is_anchor
-returns-then-is_anchor c =
-    let yes : is_anchor c.class.result ≡ true = cc in
-    marks_some c.args.self.now c.args.at c.args.len c.loop-addr.addr c.loop-addr.invariant.from (omega arith) (ap is_anchor (sym c.class.ensures) ∙ yes)
+pub returns-then-page_anchors : goal.returns-then-page_anchors
+returns-then-page_anchors c =
+    let some = sym c.page_anchors.ensures ∙ c.if-page_anchors.true in
+    sym (among_wider (anchor_of c.args.self.now) c.args.at c.args.len c.loop-addr.addr (c.min-next.result - c.loop-addr.addr) c.loop-addr.invariant.from
+    (omega arith) some)
+
+pub loop-addr-preserved : goal.loop-addr-preserved
+loop-addr-preserved c = record {
+  from = omega arith;
+  clear = λ a low high. elim (cases_lt a c.loop-addr.addr) [
+    | inl before ↦ c.loop-addr.invariant.clear a low before
+    | inr later ↦
+        let none = sym c.page_anchors.ensures ∙ c.if-page_anchors.false in
+        unanchored c.args.self.now c.loop-addr.addr (c.min-next.result - c.loop-addr.addr) none a later (omega arith)
+  ];
+}

@@ -1,5 +1,4 @@
 use Rattle.std.proofs.Common.{◌≡◌, take}
-use Rattle.address_map.specs.Memory.{regions}
 use Rattle.address_map.specs.Moves.{moved_regions}
 use Rattle.address_map.proofs.map.AddressMap.follow.Given as goal
 

@@ -42,12 +42,12 @@ invariant_of-self c =
     let size = length-grown m.store.items (4096 * f + 4096) in
     record {
       bytes_fit = kept.0;
-      in_limit = omega (arith, m.in_limit, count, long);
+      in_limit = rw c.of.ensures (omega (arith, m.in_limit, count, long));
       marks_fit = omega (arith, c.write_zeros.ensures.room, m.marks_fit, c.clear.ensures.len);
-      frames_fit = omega (arith, c.write_zeros.ensures.room, m.frames_fit, count, long);
-      table = table_given m.frames.items free (c.args.addr / 4096) f table below none;
-      written = written_more m.frames.items (c.args.addr / 4096) f (length c.write_zeros.new.self.items) (length m.store.items) below m.written
-          (omega (arith, kept.1, size.1)) (omega (arith, kept.1, size.0));
+      frames_fit = rw c.of.ensures (omega (arith, c.write_zeros.ensures.room, m.frames_fit, count, long));
+      table = rw c.of.ensures (table_given m.frames.items free (c.args.addr / 4096) f table below none);
+      written = rw c.of.ensures (written_more m.frames.items (c.args.addr / 4096) f (length c.write_zeros.new.self.items) (length m.store.items) below m.written
+          (omega (arith, kept.1, size.1)) (omega (arith, kept.1, size.0)));
       recorded = m.recorded;
     }
 
@@ -55,13 +55,15 @@ pub returns-clause-mapping : goal.returns-clause-mapping
 unfolding place
 returns-clause-mapping c a =
     let m = c.args.self.now in
-    mapped_more m.frames.items c.args.addr c.unwrap-frame.result c.requires.aligned (omega (arith, m.table.size)) (unmapped_page m c.args.addr c.requires.unmapped) a
+    rw c.of.ensures
+    (mapped_more m.frames.items c.args.addr c.unwrap-frame.result c.requires.aligned (omega (arith, m.table.size)) (unmapped_page m c.args.addr c.requires.unmapped) a)
 
 pub returns-clause-stays : goal.returns-clause-stays
 unfolding place
 returns-clause-stays c a was is =
     let m = c.args.self.now in
-    stays_more m.frames.items c.args.addr c.unwrap-frame.result c.requires.aligned (omega (arith, m.table.size)) (unmapped_page m c.args.addr c.requires.unmapped) a was
+    rw c.of.ensures
+    (stays_more m.frames.items c.args.addr c.unwrap-frame.result c.requires.aligned (omega (arith, m.table.size)) (unmapped_page m c.args.addr c.requires.unmapped) a was)
 
 pub returns-clause-bytes : goal.returns-clause-bytes
 unfolding byte_at place
@@ -73,7 +75,7 @@ returns-clause-bytes c a =
     let table : IsPageTable m.frames.items (free ++ f ∷ []) = subst (IsPageTable m.frames.items) split m.table in
     let below : c.args.addr / 4096 < length m.frames.items = omega (arith, m.table.size) in
     let none : frame_at m.frames.items (c.args.addr / 4096) ≡ None = unmapped_page m c.args.addr c.requires.unmapped in
-    rw c.write_zeros.ensures.bytes
+    rw (c.of.ensures, c.write_zeros.ensures.bytes)
     (bytes_more m.frames.items c.args.addr f c.requires.aligned below none (grown m.store.items (4096 * f + 4096)) 4096 refl
     (unused_frame m.frames.items free (c.args.addr / 4096) f table below none) (length-grown m.store.items (4096 * f + 4096)).0 a
     ∙ bytes_grown m.frames.items m.store.items (4096 * f + 4096) a m.written)
@@ -98,5 +100,6 @@ returns-clause-marks c a =
     let table : IsPageTable m.frames.items (free ++ f ∷ []) = subst (IsPageTable m.frames.items) split m.table in
     let below : c.args.addr / 4096 < length m.frames.items = omega (arith, m.table.size) in
     let none : frame_at m.frames.items (c.args.addr / 4096) ≡ None = unmapped_page m c.args.addr c.requires.unmapped in
-    marks_more m.frames.items c.args.addr f c.requires.aligned below none
-    (unused_frame m.frames.items free (c.args.addr / 4096) f table below none) m.marks c.clear.new.self c.clear.ensures.classes a
+    rw c.of.ensures
+    (marks_more m.frames.items c.args.addr f c.requires.aligned below none
+    (unused_frame m.frames.items free (c.args.addr / 4096) f table below none) m.marks c.clear.new.self c.clear.ensures.classes a)

@@ -1,4 +1,4 @@
-use Rattle.std.proofs.Common.{◌≡◌, ◌<◌, ◌*◌, ap, is_some, length, not, arith, rules}
+use Rattle.std.proofs.Common.{◌≡◌, ◌<◌, ◌∙◌, ap, is_some, length, not, replicate, arith, rules}
 use Rattle.std.proofs.lemmas.List.Elements.{All-nil}
 use Rattle.address_map.specs.Memory.{place, free_pages, page_total, regions, class_of}
 use Rattle.address_map.specs.Marks.{mark_in}
@@ -8,7 +8,7 @@ use Rattle.address_map.proofs.map.AddressMap.new.Goals as goal
 
 pub invariant_of-result : goal.invariant_of-result
 invariant_of-result c =
-    let none = c.in_ok-frames.ensures.items_if_clones_equal (search rules) in
+    let none = c.in_ok-frames.ensures.items_if_clones_equal (search rules) ∙ ap (replicate c.page_count.result) c.none.ensures in
     let size : length c.in_ok-store.store.items ≡ 0 = ap length c.in_ok-store.ensures.bytes in
     let room = c.in_ok-store.ensures.room in
     let free = c.all_frames.ensures in
@@ -25,11 +25,13 @@ invariant_of-result c =
 
 pub returns-clause-mapping : goal.returns-clause-mapping
 unfolding place
-returns-clause-mapping c a = ap is_some (no_place c.page_count.result c.in_ok-frames.frames.items a (c.in_ok-frames.ensures.items_if_clones_equal (search rules)))
+returns-clause-mapping c a = ap is_some (no_place c.page_count.result c.in_ok-frames.frames.items a
+    (c.in_ok-frames.ensures.items_if_clones_equal (search rules) ∙ ap (replicate c.page_count.result) c.none.ensures))
 
 pub returns-clause-marks : goal.returns-clause-marks
 unfolding class_of place
-returns-clause-marks c a = ap (mark_in c.in_ok-marks.marks) (no_place c.page_count.result c.in_ok-frames.frames.items a (c.in_ok-frames.ensures.items_if_clones_equal (search rules)))
+returns-clause-marks c a = ap (mark_in c.in_ok-marks.marks) (no_place c.page_count.result c.in_ok-frames.frames.items a
+    (c.in_ok-frames.ensures.items_if_clones_equal (search rules) ∙ ap (replicate c.page_count.result) c.none.ensures))
 
 pub returns-clause-pages : goal.returns-clause-pages
 unfolding free_pages
@@ -38,7 +40,7 @@ returns-clause-pages c = c.all_frames.ensures.len
 pub returns-clause-total : goal.returns-clause-total
 unfolding page_total
 returns-clause-total c =
-    rw (c.in_ok-frames.ensures.items_if_clones_equal (search rules)) (omega (arith, c.all_frames.ensures.len, no_count c.page_count.result))
+    rw (c.in_ok-frames.ensures.items_if_clones_equal (search rules) ∙ ap (replicate c.page_count.result) c.none.ensures) (omega (arith, c.all_frames.ensures.len, no_count c.page_count.result))
 
 pub returns-clause-regions : goal.returns-clause-regions
 unfolding regions

@@ -20,7 +20,7 @@ index-requires c = omega (arith, mapped_below c.args.self.now c.args.addr c.requ
 pub unwrap-frame-requires : goal.unwrap-frame-requires
 unwrap-frame-requires c =
     let m = c.args.self.now in
-    there_is _ (ap is_some (sym (frame_read m c.args.addr c.index.result.now (omega (arith, mapped_below m c.args.addr c.requires.mapped)) c.index.ensures))
+    there_is _ (ap is_some (c.frame.ensures ∙ sym (frame_read m c.args.addr c.index.result.now (omega (arith, mapped_below m c.args.addr c.requires.mapped)) c.index.ensures))
     ∙ mapped_page m c.args.addr c.requires.mapped)
 
 pub index_mut-requires : goal.index_mut-requires
@@ -30,7 +30,8 @@ pub push-requires : goal.push-requires
 push-requires c =
     let m = c.args.self.now in
     let is : frame_at m.frames.items (c.args.addr / 4096) ≡ Some c.unwrap-frame.result =
-    frame_read m c.args.addr c.index.result.now (omega (arith, mapped_below m c.args.addr c.requires.mapped)) c.index.ensures ∙ c.unwrap-frame.ensures in
+    frame_read m c.args.addr c.index.result.now (omega (arith, mapped_below m c.args.addr c.requires.mapped)) c.index.ensures
+    ∙ sym c.frame.ensures ∙ c.unwrap-frame.ensures in
     (lit< tt, omega (arith, room_left m.frames.items m.free.items (c.args.addr / 4096) c.unwrap-frame.result m.table is, m.frames_fit, m.in_limit))
 
 pub invariant_of-self : goal.invariant_of-self
@@ -39,15 +40,16 @@ invariant_of-self c =
     let f : ℕ = c.unwrap-frame.result in
     let page : ℕ = c.args.addr / 4096 in
     let is : frame_at m.frames.items page ≡ Some f =
-    frame_read m c.args.addr c.index.result.now (omega (arith, mapped_below m c.args.addr c.requires.mapped)) c.index.ensures ∙ c.unwrap-frame.ensures in
+    frame_read m c.args.addr c.index.result.now (omega (arith, mapped_below m c.args.addr c.requires.mapped)) c.index.ensures
+    ∙ sym c.frame.ensures ∙ c.unwrap-frame.ensures in
     let count = count_left m.frames.items m.free.items page f m.table is in
     record {
       bytes_fit = m.bytes_fit;
-      in_limit = rw c.push.ensures.items (omega (arith, count, m.in_limit));
+      in_limit = rw (c.none.ensures, c.push.ensures.items) (omega (arith, count, m.in_limit));
       marks_fit = m.marks_fit;
-      frames_fit = rw c.push.ensures.items (omega (arith, count, m.frames_fit));
-      table = rw c.push.ensures.items (table_left m.frames.items m.free.items page f m.table is);
-      written = written_less m.frames.items page (length m.store.items) (omega (arith, mapped_below m c.args.addr c.requires.mapped, m.table.size)) m.written;
+      frames_fit = rw (c.none.ensures, c.push.ensures.items) (omega (arith, count, m.frames_fit));
+      table = rw (c.none.ensures, c.push.ensures.items) (table_left m.frames.items m.free.items page f m.table is);
+      written = rw c.none.ensures (written_less m.frames.items page (length m.store.items) (omega (arith, mapped_below m c.args.addr c.requires.mapped, m.table.size)) m.written);
       recorded = m.recorded;
     }
 
@@ -55,19 +57,22 @@ pub returns-clause-mapping : goal.returns-clause-mapping
 unfolding place
 returns-clause-mapping c a =
     let m = c.args.self.now in
-    mapped_less m.frames.items c.args.addr c.requires.aligned (omega (arith, mapped_below m c.args.addr c.requires.mapped, m.table.size)) a
+    rw c.none.ensures
+    (mapped_less m.frames.items c.args.addr c.requires.aligned (omega (arith, mapped_below m c.args.addr c.requires.mapped, m.table.size)) a)
 
 pub returns-clause-stays : goal.returns-clause-stays
 unfolding place
 returns-clause-stays c a was is =
     let m = c.args.self.now in
-    stays_less m.frames.items c.args.addr c.requires.aligned (omega (arith, mapped_below m c.args.addr c.requires.mapped, m.table.size)) a is
+    rw c.none.ensures
+    (stays_less m.frames.items c.args.addr c.requires.aligned (omega (arith, mapped_below m c.args.addr c.requires.mapped, m.table.size)) a (rw c.none.ensures at is))
 
 pub returns-clause-bytes : goal.returns-clause-bytes
 unfolding byte_at place
 returns-clause-bytes c a =
     let m = c.args.self.now in
-    bytes_less m.frames.items c.args.addr c.requires.aligned (omega (arith, mapped_below m c.args.addr c.requires.mapped, m.table.size)) m.store.items a
+    rw c.none.ensures
+    (bytes_less m.frames.items c.args.addr c.requires.aligned (omega (arith, mapped_below m c.args.addr c.requires.mapped, m.table.size)) m.store.items a)
 
 pub returns-clause-pages : goal.returns-clause-pages
 unfolding free_pages
@@ -81,4 +86,5 @@ pub returns-clause-marks : goal.returns-clause-marks
 unfolding class_of place
 returns-clause-marks c a =
     let m = c.args.self.now in
-    marks_less m.frames.items c.args.addr c.requires.aligned (omega (arith, mapped_below m c.args.addr c.requires.mapped, m.table.size)) m.marks a
+    rw c.none.ensures
+    (marks_less m.frames.items c.args.addr c.requires.aligned (omega (arith, mapped_below m c.args.addr c.requires.mapped, m.table.size)) m.marks a)
