@@ -46,7 +46,7 @@ impl AddressMap {
         let mut addr = at;
         while addr < end {
             let next = end.min(addr - addr % PAGE_SIZE + PAGE_SIZE);
-            if self.page_anchors(addr, next) {
+            if self.page_holds_anchor(addr, next) {
                 return true;
             }
             addr = next;
@@ -56,24 +56,25 @@ impl AddressMap {
 
     /// Whether an anchor has a byte from `from` on and below `end`, in one page.
     #[inline(always)]
-    fn page_anchors(&self, from: u32, end: u32) -> bool
+    fn page_holds_anchor(&self, from: u32, end: u32) -> bool
         requires page { from % 4096 + (end - from) ≤ 4096 }
         requires above { from ≤ end }
         requires end { end ≤ 2 ^ 26 }
         ensures { result ≡ anchor_among (anchor_of self.now) from (end - from) }
     {
-        self.may_anchor(from, end - from) && self.anchor_between(from, end)
+        self.may_hold_anchor(from, end - from) && self.holds_anchor_between(from, end)
     }
 
     /// Whether some bytes of a page need a look at each of their words: mostly the marks of all of them say at once that
     /// none is an anchor's.
     #[inline(always)]
-    fn may_anchor(&self, addr: u32, len: u32) -> bool
+    fn may_hold_anchor(&self, addr: u32, len: u32) -> bool
         requires page { addr % 4096 + len ≤ 4096 }
         ensures { result ≡ false → HasNoAnchor (class_of self.now) addr len }
     {
         match self.translate(addr) {
             Some(place) => {
+                // Four words share a byte of the marks.
                 let end = (place + len as usize + 15) / 16;
                 !self.marks.are_plain_or_heap(place / 16, end)
             }
@@ -82,7 +83,7 @@ impl AddressMap {
     }
 
     /// Whether an anchor has a byte from `from` on and below `end`, each word asked for by itself.
-    fn anchor_between(&self, from: u32, end: u32) -> bool
+    fn holds_anchor_between(&self, from: u32, end: u32) -> bool
         requires { end ≤ 2 ^ 26 }
         ensures { result ≡ anchor_among (anchor_of self.now) from (end - from) }
     {

@@ -12,9 +12,9 @@ returns c =
       | inr past ↦ λ is. let plain = class_past c.args.self.now a past in cc (is, plain)
     ])
 
-pub returns-then-page_anchors : goal.returns-then-page_anchors
-returns-then-page_anchors c =
-    let some = sym c.page_anchors.ensures ∙ c.if-page_anchors.true in
+pub returns-then-page_holds_anchor : goal.returns-then-page_holds_anchor
+returns-then-page_holds_anchor c =
+    let some = sym c.page_holds_anchor.ensures ∙ c.if-page_holds_anchor.true in
     sym (among_wider (anchor_of c.args.self.now) c.args.at c.args.len c.loop-addr.addr (c.min-next.result - c.loop-addr.addr) c.loop-addr.invariant.from
     (omega arith) some)
 
@@ -24,7 +24,7 @@ loop-addr-preserved c = record {
   clear = λ a low high. elim (cases_lt a c.loop-addr.addr) [
     | inl before ↦ c.loop-addr.invariant.clear a low before
     | inr later ↦
-        let none = sym c.page_anchors.ensures ∙ c.if-page_anchors.false in
+        let none = sym c.page_holds_anchor.ensures ∙ c.if-page_holds_anchor.false in
         unanchored c.args.self.now c.loop-addr.addr (c.min-next.result - c.loop-addr.addr) none a later (omega arith)
   ];
 }

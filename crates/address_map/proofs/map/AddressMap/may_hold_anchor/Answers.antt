@@ -2,7 +2,7 @@ use Rattle.std.proofs.Common.{◌≡◌, Bool, true, false, not, refl, sym, ◌�
 use Rattle.std.proofs.lemmas.Bool.{false≢true}
 use Rattle.address_map.proofs.Anchors.{low_words, unmapped_words}
 use Rattle.address_map.proofs.Lending.{page_fits}
-use Rattle.address_map.proofs.map.AddressMap.may_anchor.Goals as goal
+use Rattle.address_map.proofs.map.AddressMap.may_hold_anchor.Goals as goal
 
 told : (b : Bool) → not b ≡ false → b ≡ true
 told true is = refl

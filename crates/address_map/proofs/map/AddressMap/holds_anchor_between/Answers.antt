@@ -3,7 +3,7 @@ use Rattle.std.proofs.lemmas.Bool.{false≢true}
 use Rattle.address_map.specs.Classes.{is_anchor}
 use Rattle.address_map.proofs.Anchors.{marks_none, marks_some}
 use Rattle.address_map.proofs.Words.{none_more}
-use Rattle.address_map.proofs.map.AddressMap.anchor_between.Goals as goal
+use Rattle.address_map.proofs.map.AddressMap.holds_anchor_between.Goals as goal
 
 pub loop-addr-preserved : goal.loop-addr-preserved
 loop-addr-preserved c = record {

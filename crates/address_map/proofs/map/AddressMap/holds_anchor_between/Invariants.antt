@@ -1,7 +1,7 @@
 use Rattle.std.proofs.Common.{◌≢◌, ◌≤◌, ◌<◌, ◌-◌, ℕ}
 use Rattle.address_map.specs.declared.class.Class.TheVariants.{Anchor}
 use Rattle.address_map.specs.Memory.{class_of}
-use Rattle.address_map.proofs.map.AddressMap.anchor_between.Given as goal
+use Rattle.address_map.proofs.map.AddressMap.holds_anchor_between.Given as goal
 
 abbrev pub invariant-loop-addr : goal.invariant-loop-addr
 invariant-loop-addr l = record {
