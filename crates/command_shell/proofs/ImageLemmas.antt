@@ -275,18 +275,3 @@ pub none_added : (o : Option (List ℕ)) (sizes : Sizes) (images : List Entry) (
 none_added None sizes images budget = tt
 none_added (Some script) sizes images budget =
     record { keeps = IsFront-same images; in_order = script_keeps sizes images budget script }
-
--- a script that was read, and stops at a line of it
-pub some_added : (o : Option (List ℕ)) (sizes : Sizes) (images new : List Entry) (budget : ℕ) (read text : List ℕ)
-    (first : ScriptState)
-    → IfSome o (λ script. read ≡ script) → text ≡ read → first ≡ start_state sizes images budget
-    → HasSome images (lines_told 0 first None (lines text)).state.images new
-    → IfSome o (λ script. HasSome images (script_told sizes images budget script).state.images new)
-unfolding script_told
-some_added None sizes images new budget read text first is same start some = tt
-some_added (Some script) sizes images new budget read text first is same start some =
-    let from_start = subst (λ (w : ScriptState). HasSome images (lines_told 0 w None (lines text)).state.images new)
-    start some in
-    subst (λ (xs : List ℕ). HasSome images (lines_told 0 (start_state sizes images budget) None (lines xs)).state.images
-    new)
-    (same ∙ is) from_start

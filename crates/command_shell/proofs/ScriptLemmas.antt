@@ -1,6 +1,6 @@
 -- How a script goes on after a line, where the lines of a block go with the line that opens it.
 use Rattle.std.proofs.Common.{◌≡◌, ℕ, ◌+◌, ◌≤◌, ◌<◌, length, Bool, true, false, List, [], ◌∷◌, ◌++◌, Option, Some, None}
-use Rattle.std.proofs.Common.{sym, ap, ◌∙◌, append_assoc, add-zero, arith, refl}
+use Rattle.std.proofs.Common.{sym, ap, subst, ◌∙◌, append_assoc, add-zero, arith, refl}
 use Rattle.std.proofs.lemmas.List.{append-nil}
 use Rattle.std.specs.Prelude.{if◌then◌else◌, IfSome}
 use Rattle.std.specs.Str.Lines.{lines}
@@ -11,8 +11,10 @@ use Rattle.command_shell_lines.specs.Requests.{Request, Nothing, Hex, Asm, Boot,
 use Rattle.command_shell_lines.specs.Requests.{Break, Unbreak, Mem, Code, Heap, Areas, Modules, Flex, Unknown}
 use Rattle.command_shell_lines.specs.Requests.{opens_block, request_of, is_end}
 use Rattle.image_loader.specs.Entries.{Entry}
+use Rattle.debugger.specs.swi_dispatch.specs.MachineState.{start_of}
+use Rattle.debugger.specs.swi_dispatch.specs.Parts.{Parts, state_of}
 use Rattle.command_shell.specs.declared.session.Session.{Session}
-use Rattle.command_shell.specs.Session.{script_state}
+use Rattle.command_shell.specs.Session.{script_state, state_on}
 use Rattle.command_shell.specs.Script.{OpenBlock, request_told, on_opened, on_request, in_block, lines_told}
 use Rattle.command_shell.specs.Script.{script_told}
 use Rattle.command_shell.specs.State.{ScriptState, Answered, answer, then_answered, start_state}
@@ -177,17 +179,47 @@ fewer_left line all rest left r first stays =
 pub state_images : (session : Session) (images : List Entry) → (script_state session images).images ≡ images
 state_images session images = refl
 
--- what is told of a script that was read, by what its state has after its lines
-pub told_after : {A : Type 0} (part : ScriptState → A) (o : Option (List ℕ)) (sizes : Sizes) (images : List Entry) (budget : ℕ)
-    (read text : List ℕ) (first now : ScriptState) (told : A)
-    → IfSome o (λ script. read ≡ script) → text ≡ read → first ≡ start_state sizes images budget
-    → now ≡ (lines_told 0 first None (lines text)).state → told ≡ part now
-    → IfSome o (λ script. told ≡ part (script_told sizes images budget script).state)
+-- the state on a machine that was just made
+state_on_start : (machine : Parts) (sizes : Sizes) (images : List Entry) (budget : ℕ) → state_of machine ≡ start_of sizes
+    → machine.sizes ≡ sizes → machine.is_fresh ≡ true → state_on machine images budget ≡ start_state sizes images budget
+unfolding start_state
+state_on_start machine sizes images budget start same fresh = λ i. record {
+  machine = start i;
+  is_fresh = fresh i;
+  sizes = same i;
+  images = images;
+  breaks = [];
+  left = budget;
+  last = None;
+}
+
+-- What is so of what the lines of a script that was read are told, on a machine that was just made, is so of what the
+-- script is told.
+pub told_of : (P : Answered → Type 0) (o : Option (List ℕ)) (sizes : Sizes) (images : List Entry) (budget : ℕ)
+    (read text : List ℕ) (session : Session) (machine : Parts)
+    → IfSome o (λ script. read ≡ script) → text ≡ read
+    → script_state session images ≡ state_on machine images budget
+    → state_of machine ≡ start_of sizes → machine.sizes ≡ sizes → machine.is_fresh ≡ true
+    → P (lines_told 0 (script_state session images) None (lines text))
+    → IfSome o (λ script. P (script_told sizes images budget script))
 unfolding script_told
-told_after part None sizes images budget read text first now told is same start after ends = tt
-told_after part (Some script) sizes images budget read text first now told is same start after ends =
-    ends ∙ ap part after ∙ ap (λ (w : ScriptState). part (lines_told 0 w None (lines text)).state) start
-    ∙ ap (λ (xs : List ℕ). part (lines_told 0 (start_state sizes images budget) None (lines xs)).state) (same ∙ is)
+told_of P None sizes images budget read text session machine is same stands start sized fresh so = tt
+told_of P (Some script) sizes images budget read text session machine is same stands start sized fresh so =
+    let from_start = subst (λ (w : ScriptState). P (lines_told 0 w None (lines text)))
+    (stands ∙ state_on_start machine sizes images budget start sized fresh) so in
+    subst (λ (xs : List ℕ). P (lines_told 0 (start_state sizes images budget) None (lines xs))) (same ∙ is) from_start
+
+-- and a part of the state that they leave
+pub part_told : {A : Type 0} (part : ScriptState → A) (told : A) (now : ScriptState) (o : Option (List ℕ)) (sizes : Sizes)
+    (images : List Entry) (budget : ℕ) (read text : List ℕ) (session : Session) (machine : Parts)
+    → IfSome o (λ script. read ≡ script) → text ≡ read
+    → script_state session images ≡ state_on machine images budget
+    → state_of machine ≡ start_of sizes → machine.sizes ≡ sizes → machine.is_fresh ≡ true
+    → now ≡ (lines_told 0 (script_state session images) None (lines text)).state → told ≡ part now
+    → IfSome o (λ script. told ≡ part (script_told sizes images budget script).state)
+part_told part told now o sizes images budget read text session machine is same stands start sized fresh after ends =
+    told_of (λ (t : Answered). told ≡ part t.state) o sizes images budget read text session machine is same stands start
+    sized fresh (ends ∙ ap part after)
 
 pub ruleset line_steps = (
   AddsAllBut-start,

@@ -1,7 +1,7 @@
 -- The state of a script, as the code holds it: the session and the images.
-use Rattle.std.specs.Prelude.{List}
+use Rattle.std.specs.Prelude.{ℕ, List, [], None}
 use Rattle.image_loader.specs.Entries.{Entry}
-use Rattle.debugger.specs.swi_dispatch.specs.Parts.{state_of}
+use Rattle.debugger.specs.swi_dispatch.specs.Parts.{Parts, state_of}
 use Rattle.command_shell.specs.declared.session.Session.{Session}
 use Rattle.command_shell.specs.State.{ScriptState}
 
@@ -14,4 +14,16 @@ script_state s images = record {
   breaks = s.breaks;
   left = s.left;
   last = s.last;
+}
+
+-- the state before the first line, on a machine
+abbrev pub state_on : Parts → List Entry → ℕ → ScriptState
+state_on machine images budget = record {
+  machine = state_of machine;
+  is_fresh = machine.is_fresh;
+  sizes = machine.sizes;
+  images = images;
+  breaks = [];
+  left = budget;
+  last = None;
 }

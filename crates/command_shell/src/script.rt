@@ -13,6 +13,7 @@ use crate::error::RunError;
 use crate::session::Session;
 use command_shell_lines::text_lines::Lines;
 use command_shell_lines::{command_of, read_script};
+use debugger::swi_dispatch::Machine;
 use image_loader::Images;
 use profile::{Config, Sink, Source, Stop};
 use std::alloc::Global;
@@ -71,11 +72,11 @@ pub fn run_script<R: Source, W: Sink>(
     ensures pulls { PullsAtMost (R.pulls reader.old) (R.pulls reader.new) 1048577 }
 {
     let script = read_script(alloc, reader)?;
-    let mut made = Session::new(alloc, config, budget);
-    let Ok(session) = &mut made else {
+    let Ok(machine) = Machine::new(alloc, config) else {
         return Err(RunError::Memory);
     };
-    run_lines(session, images, writer, script.as_slice())?;
+    let mut session = Session::new(alloc, machine, budget);
+    run_lines(&mut session, images, writer, script.as_slice())?;
     Ok(Summary {
         last: session.last(),
         left: session.left(),

@@ -1,4 +1,4 @@
-ghost use Rattle.std.specs.Prelude.{◌≡◌, ◌+◌, true, List, IfOk, IfErr, OnOk, OnErr};
+ghost use Rattle.std.specs.Prelude.{◌≡◌, ◌+◌, true, List, IfErr, OnOk, OnErr};
 ghost use Rattle.command_shell_lines.specs.Blocks.{block_lines, lines_after, lines_taken};
 ghost use Rattle.command_shell.specs.Error.{IsLineError};
 ghost use Rattle.command_shell.specs.Fronts.{AreOldOrTold};
@@ -10,8 +10,8 @@ use command_shell_lines::Command;
 use command_shell_lines::text_lines::Lines;
 use debugger::swi_dispatch::{Breaks, Machine};
 use image_loader::Images;
-use profile::{Config, Sink, Stop};
-use std::alloc::{AllocError, Global};
+use profile::{Sink, Stop};
+use std::alloc::Global;
 
 /// What the lines of a script work on beside the images: a machine, its breaks, what is left of the
 /// budget, and the last stop that a line was answered with.
@@ -28,25 +28,20 @@ impl Session {
     ghost use Rattle.image_loader.specs.Entries.{Entry};
     ghost use Rattle.command_shell_lines.specs.Requests.{opens_block, request_of_command};
     ghost use Rattle.command_shell.specs.Script.{request_told};
-    ghost use Rattle.command_shell.specs.Session.{script_state};
-    ghost use Rattle.command_shell.specs.State.{IsAnswered, start_state};
+    ghost use Rattle.command_shell.specs.Session.{script_state, state_on};
+    ghost use Rattle.command_shell.specs.State.{IsAnswered};
 
-    /// A fresh machine of these sizes, and the whole budget.
-    #[tactic(auto, unfolding(crate::specs::State::start_state))]
-    pub fn new(alloc: Global, config: Config, budget: u64) -> Result<Session, AllocError>
-        ensures { IfOk result (λ session. (images : List Entry)
-            → script_state session images ≡ start_state config images budget) }
+    /// A session on a machine, with no breaks and the whole budget.
+    pub fn new(alloc: Global, machine: Machine, budget: u64) -> Session
+        ensures { (images : List Entry) → script_state result images ≡ state_on machine images budget }
     {
-        let Ok(machine) = Machine::new(alloc, config) else {
-            return Err(AllocError);
-        };
-        Ok(Session {
+        Session {
             alloc,
             machine,
             breaks: Breaks::new(),
             left: budget,
             last: None,
-        })
+        }
     }
 
     /// The last stop that a line was answered with.

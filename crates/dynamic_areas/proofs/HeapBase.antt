@@ -8,7 +8,7 @@ use Rattle.address_map.specs.Items.{size_of}
 use Rattle.address_map.specs.Memory.{is_mapped, byte_at, bytes_of}
 use Rattle.os_heap.specs.os_heap_lists.specs.Heap.{HeapList, IsHeapIn}
 use Rattle.os_heap.specs.Store.{IsSound, store_of, find_heap}
-use Rattle.os_heap.proofs.Added.{range_end}
+use Rattle.os_heap.proofs.RangeTests.{range_end}
 use Rattle.os_heap.proofs.Found.{found_heap, found_start}
 use Rattle.dynamic_areas.specs.Changing.{heap_base}
 

@@ -13,7 +13,7 @@ use Rattle.os_heap.specs.os_heap_lists.specs.Heap.{HeapList, IsHeapIn}
 use Rattle.os_heap.specs.Store.{Store, IsSound, IsClearOfHeaps, find_heap, is_area}
 use Rattle.os_heap.specs.Ranges.{is_heap_region, is_in_heap, is_obstructed, MayEnd}
 use Rattle.os_heap.specs.Calls.{ending, with_end, MayEndArea, IsAreaEnded}
-use Rattle.os_heap.proofs.Added.{region_tested}
+use Rattle.os_heap.proofs.RangeTests.{region_tested}
 use Rattle.os_heap.proofs.Beside.{area_alone, grown_alone}
 use Rattle.os_heap.proofs.Found.{found_heap, found_start}
 use Rattle.os_heap.proofs.Stores.{AreOthers, are_others}

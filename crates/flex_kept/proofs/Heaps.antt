@@ -19,7 +19,7 @@ use Rattle.os_heap_slide.specs.os_heap_lists.proofs.Spelling.{total_of-numbers}
 use Rattle.os_heap_slide.specs.os_heap_lists.specs.Heap.{AreTotals, HeapList, IsHeapIn, with_heap}
 use Rattle.os_heap_slide.specs.os_heap_lists.specs.Lists.{Claim, changed_by, claimed, live_total, released, resized_in_place, round_up_8, total_for}
 use Rattle.os_heap_slide.specs.os_heap_lists.specs.Marks.{spells_any}
-use Rattle.os_heap_slide.specs.os_heap.proofs.Added.{can_hold}
+use Rattle.os_heap_slide.specs.os_heap.proofs.RangeTests.{can_hold}
 use Rattle.os_heap_slide.specs.os_heap.proofs.Anchored.{IsPlacedBy, header_outside, place_in}
 use Rattle.os_heap_slide.specs.os_heap.proofs.Apart.{range_parts}
 use Rattle.os_heap_slide.specs.os_heap.proofs.FlexSound.{flex_unspelled, place_unspelled}

@@ -29,7 +29,7 @@ use Rattle.flex_laws.proofs.Numbers.{from_front, from_none, from_standing}
 use Rattle.flex_laws.proofs.Relaying.{relaid_spelled}
 use Rattle.flex_laws.proofs.Seeing.{block_seen, standing_append, zeros_seen}
 use Rattle.flex_laws.proofs.Small.{laid_small, small_zeros}
-use Rattle.flex_laws.proofs.Splices.{fitted_by, IsFitted}
+use Rattle.flex_laws.proofs.Room.{fitted_by, IsFitted, ok_same, refused}
 
 append_none : (bs : List Block) → bs ++ [] ≡ bs
 append_none [] = refl
@@ -263,12 +263,6 @@ record IsAllocated (places : Store) (t u : FlexState) (s : FlexStore) (anchor si
   stands : may_stand s anchor ≡ true
   none : has_anchor s.blocks anchor ≡ false
   fits : (let given : FlexState × Bool = (u, true) in fitted t s s.blocks (new_block anchor size ∷ []) ≡ given)
-
-ok_same : (x y : FlexState × Bool) → (let r : Result (FlexState × Bool) ErrorNumber = Ok x in r ≡ Ok y) → x ≡ y
-ok_same x y e = cc
-
-refused : (e : ErrorNumber) (y : FlexState × Bool) → (let r : Result (FlexState × Bool) ErrorNumber = Err e in r ≡ Ok y) → ⊥
-refused e y same = cc
 
 alloc_by : (may in_use : Bool) (x y : FlexState × Bool)
     → (let r : Result (FlexState × Bool) ErrorNumber = if not may then Err FlexBadAnchor else (if in_use then Err FlexAnchorInUse else Ok x) in r ≡ Ok y)

@@ -1,5 +1,5 @@
 -- Each call by the numbers of blocks.
-use Rattle.std.proofs.Common.{◌≡◌, ℕ, Bool, ◌+◌, ◌-◌, ◌^◌, ◌<◌, ◌≤◌, true, false, not, ◌&&◌, nat_eq, List, [], ◌∷◌, ◌++◌, Option, Some, None, Result, Ok, Err, ok_or, arith, refl, sym, ◌∙◌, ap, inl, inr, subst}
+use Rattle.std.proofs.Common.{◌≡◌, ℕ, Bool, ◌+◌, ◌-◌, ◌^◌, ◌<◌, ◌≤◌, true, false, not, ◌&&◌, nat_eq, List, [], ◌∷◌, ◌++◌, Option, Some, None, Result, Ok, Err, ok_or, arith, refl, sym, ap, inl, inr, subst}
 use Rattle.std.specs.Prelude.{if◌then◌else◌, nat_le, nat_lt}
 use Rattle.std.proofs.lemmas.Bool.{cases_Bool, cases_lt, eqb-false, eqb-true, false≢true, ltb-false}
 use Rattle.profile.specs.Outcome.{bind}
@@ -9,21 +9,15 @@ use Rattle.os_heap.specs.Store.{Store}
 use Rattle.flex_store.specs.Blocks.{before, behind_of, Block, contents, cut_of, find_block, FlexStore, has_anchor, holding, more_of, new_block, spliced, used}
 use Rattle.flex_store.specs.Calls.{allocated, breaks_anchor, end_in, extended, FlexState, header_in, is_anchor_byte, is_anchor_place, may_stand, mid_extended, spliced_at, with_blocks}
 use Rattle.flex_store.specs.Shifts.{following, splice_shifts}
-use Rattle.flex_store.specs.Places.{IsSplit, Split}
 use Rattle.flex_store.specs.Runs.{Alloc, Extend, MidExtend, Release}
-use Rattle.flex_store.proofs.Lists.{split}
 use Rattle.flex_laws.specs.Laws.{all_stay, CallsGoByNumbers, IsLeftBy, IsSpelledState, NoRoomChangesNothing}
 use Rattle.flex_laws.specs.Numbered.{blocks_seen, IsCalledSeen, IsSplicedSeen, place_of}
 use Rattle.flex_laws.proofs.Allocs.{alloc_goes_by_numbers}
-use Rattle.flex_laws.proofs.Releases.{found_has, release_goes_by_numbers, same_block}
+use Rattle.flex_laws.proofs.OneBlock.{split_found}
+use Rattle.flex_laws.proofs.Releases.{release_goes_by_numbers}
+use Rattle.flex_laws.proofs.Room.{ok_same, refused}
 use Rattle.flex_laws.proofs.Same.{same_left}
 use Rattle.flex_laws.proofs.Splices.{splice_goes_by_numbers}
-
-ok_same : (x y : FlexState × Bool) → (let r : Result (FlexState × Bool) ErrorNumber = Ok x in r ≡ Ok y) → x ≡ y
-ok_same x y e = cc
-
-refused : (e : ErrorNumber) (y : FlexState × Bool) → (let r : Result (FlexState × Bool) ErrorNumber = Err e in r ≡ Ok y) → ⊥
-refused e y same = cc
 
 -- a block that is found is changed, or nothing is
 abbrev changed : FlexState → FlexStore → ℕ → Block → ℕ → ℕ → ℕ → Bool → Result (FlexState × Bool) ErrorNumber
@@ -39,9 +33,8 @@ module _ (places : Store) (t u : FlexState) (s : FlexStore) (anchor : ℕ) (own 
   change_by b place cut more false found cut_fits place_fits none some done = splice_goes_by_numbers places t u s anchor b place cut more sp found cut_fits place_fits (some refl) done
   change_by b place cut more true found cut_fits place_fits none some done =
       let e : t ≡ u = ap (λ (q : FlexState × Bool). q.0) (ok_same (t, true) (u, true) done) in
-      let p : Split anchor s.blocks = split anchor s.blocks (found_has anchor s.blocks b found) in
-      let is : IsSplit anchor s.blocks p.before b p.after = subst (λ (x : Block). IsSplit anchor s.blocks p.before x p.after) (same_block p.block b (sym p.is.found ∙ found)) p.is in
-      let left = same_left t s anchor p.before p.after b place sp is places own in
+      let p = split_found anchor s.blocks b found in
+      let left = same_left t s anchor p.0.before p.0.after b place sp p.1 places own in
       let numbers = none refl in
       subst (λ (v : FlexState). IsLeftBy places t v s (all_stay anchor) (IsSplicedSeen (place_of s anchor) b.size place cut more (blocks_seen (Some s)))) e
       (subst (λ (n : ℕ). IsLeftBy places t t s (all_stay anchor) (IsSplicedSeen (place_of s anchor) b.size place n more (blocks_seen (Some s)))) (sym numbers.0)

@@ -1,5 +1,5 @@
 -- Which words are anchors after the blocks behind one moved.
-use Rattle.std.proofs.Common.{◌≡◌, ℕ, Bool, ◌+◌, ◌-◌, ◌<◌, ◌≤◌, true, false, nat_eq, List, [], ◌∷◌, ◌++◌, arith, refl, sym, ◌∙◌, ap, inl, inr, ◌⊎◌, subst}
+use Rattle.std.proofs.Common.{◌≡◌, ℕ, Bool, ◌+◌, ◌-◌, ◌<◌, ◌≤◌, true, false, nat_eq, List, [], ◌∷◌, ◌++◌, arith, sym, ◌∙◌, ap, inl, inr, ◌⊎◌, subst}
 use Rattle.std.proofs.lemmas.Bool.{eqb-true, eq-eqb, false_from_ne_true, false≢true, ne_eqb, or_cases, or_left, or_right}
 use Rattle.flex_store.specs.Blocks.{Block, has_anchor, taken, used}
 use Rattle.flex_store.specs.Shifts.{following, gone_to, Shifts}
@@ -7,11 +7,7 @@ use Rattle.flex_store.specs.State.{AreAnchorWords}
 use Rattle.flex_store.proofs.Fitting.{own_outside}
 use Rattle.flex_store.proofs.Following.{Above, ArePlaced, Before, Behind, Below, has_following, IsMove, Move, outer_place, Past, Place}
 use Rattle.flex_store.proofs.Words.{outside_behind, words_left}
-
-pub same_tests : (t u : Bool) → (t ≡ true → u ≡ true) → (u ≡ true → t ≡ true) → t ≡ u
-same_tests true u f g = sym (f refl)
-same_tests false true f g = g refl
-same_tests false false f g = refl
+use Rattle.os_heap.proofs.RangeTests.{same_tests}
 
 -- an anchor where it went
 pub has_gone : (ss : Shifts) (ys : List Block) (a : ℕ) → has_anchor ys a ≡ true → has_anchor (following ss ys) (gone_to ss a) ≡ true

@@ -5,8 +5,11 @@ pub mod Gone
 pub mod Lists
 pub mod Moving
 pub mod Numbers
+pub mod OneBlock
 pub mod Relaying
 pub mod Releases
+pub mod Removals
+pub mod Room
 pub mod Same
 pub mod Seeing
 pub mod Small

@@ -18,7 +18,8 @@ use Rattle.flex_store.proofs.Reading.{spelled}
 use Rattle.flex_store.proofs.Standing.{standing_has, standing_used}
 use Rattle.flex_store.proofs.Words.{word_of, words_apart, words_right}
 use Rattle.flex_laws.specs.Seen.{seen_at, seen_bytes, seen_spliced}
-use Rattle.flex_laws.proofs.Gone.{below_same, front_out, has_gone, IsGone, none_front, none_own, outer_anchor, rest_same, same_tests}
+use Rattle.flex_laws.proofs.Gone.{below_same, front_out, has_gone, IsGone, none_front, none_own, outer_anchor, rest_same}
+use Rattle.os_heap.proofs.RangeTests.{same_tests}
 use Rattle.flex_laws.proofs.Seeing.{block_seen, drop_seen, front_seen, rest_seen, same_seen, seen_append, seen_past, standing_append, take_seen, zeros_seen}
 
 -- what a change of the block `b` into `new` moves

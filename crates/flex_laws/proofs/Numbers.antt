@@ -140,3 +140,14 @@ rest_place start xs c ys a past =
     let e : suc (0 + length xs) ≡ suc (length xs) = omega arith in
     from_past 0 start xs (c ∷ ys) a (omega (arith, past))
     ∙ rw (not_held (start + used xs) c a (inr (omega (arith, past)))) (ap (λ (n : ℕ). anchor_from n (start + used xs + taken c.size) ys a) e)
+
+-- no word behind the blocks lies in one
+pub none_behind : (start end : ℕ) (bs : List Block) (a : ℕ) → start + used bs ≤ end → end ≤ a → anchor_from 0 start bs a ≡ Fixed a
+none_behind start end bs a fits past = from_none 0 start bs a (inr (omega (arith, fits, past)))
+
+-- a word in front of what changes, or behind all blocks, is where it was
+pub outer_place : (start end : ℕ) (front olds news : List Block) (a : ℕ) → start + used (front ++ olds) ≤ end → start + used (front ++ news) ≤ end
+    → (a + 4 ≤ start + used front) ⊎ (end ≤ a) → anchor_from 0 start (front ++ news) a ≡ anchor_from 0 start (front ++ olds) a
+outer_place start end front olds news a old_fits new_fits (inl low) = from_front 0 start front news a low ∙ sym (from_front 0 start front olds a low)
+outer_place start end front olds news a old_fits new_fits (inr past) =
+    none_behind start end (front ++ news) a new_fits past ∙ sym (none_behind start end (front ++ olds) a old_fits past)

@@ -1,23 +1,19 @@
 -- A change that takes no byte and adds none.
-use Rattle.std.proofs.Common.{◌≡◌, ℕ, Bool, ◌+◌, ◌-◌, ◌%◌, true, nat_eq, List, [], ◌∷◌, ◌++◌, length, take, drop, Option, Some, arith, refl, sym, ◌∙◌, ap, inl, inr}
-use Rattle.std.proofs.lemmas.Bool.{cases_Bool, eq-eqb, or_left, or_right}
+use Rattle.std.proofs.Common.{◌≡◌, ℕ, Bool, ◌+◌, ◌-◌, ◌%◌, true, nat_eq, List, [], ◌∷◌, ◌++◌, length, take, drop, Option, Some, arith, refl, sym, ◌∙◌, ap, inl, inr, subst}
+use Rattle.std.proofs.lemmas.Bool.{cases_Bool, cases_lt, eqb-true, eqb-false}
 use Rattle.std.proofs.lemmas.List.{take-append-drop}
 use Rattle.address_map.specs.Bytes.{word_start}
 use Rattle.os_heap.specs.Store.{Store}
 use Rattle.flex_store.specs.Blocks.{Block, contents, FlexStore, has_anchor, taken, used}
 use Rattle.flex_store.specs.Calls.{FlexState}
 use Rattle.flex_store.specs.Places.{IsSplit}
-use Rattle.flex_store.specs.State.{AreWhole}
 use Rattle.flex_store.proofs.LawLemmas.{contents_size}
-use Rattle.flex_store.proofs.Lists.{anchor-append, whole_right}
-use Rattle.flex_store.proofs.Words.{word_of}
 use Rattle.flex_laws.specs.Laws.{all_stay, IsLeftBy, IsSpelledState}
 use Rattle.flex_laws.specs.Numbered.{after_splice, Anchor, anchor_from, blocks_seen, Fixed, Inside, IsSplicedSeen, list_seen, place_of, SeenBlock, with_places}
 use Rattle.flex_laws.specs.Seen.{seen_bytes, seen_spliced}
-use Rattle.flex_laws.proofs.Lists.{list_append, seen_length}
+use Rattle.flex_laws.proofs.Lists.{seen_length}
 use Rattle.flex_laws.proofs.Numbers.{splice_apart, splice_before, splice_past}
-use Rattle.std.proofs.lemmas.Bool.{cases_lt, eqb-true, eqb-false}
-use Rattle.std.proofs.Common.{subst}
+use Rattle.flex_laws.proofs.OneBlock.{IsOneBlock, one_block}
 
 none_moves : (number place : ℕ) (x : Anchor) → after_splice number place 0 0 x ≡ x
 none_moves number place (Fixed a) = refl
@@ -52,18 +48,8 @@ module _ (t : FlexState) (s : FlexStore) (anchor : ℕ) (front after : List Bloc
   abbrev place_then : ℕ → Anchor
   place_then = λ a. anchor_from 0 s.start (front ++ b ∷ after) a
 
-  whole : AreWhole (b ∷ after)
-  whole = whole_right front (b ∷ after) (subst AreWhole p.list sp.whole)
-
-  list_is : (let o : Option FlexStore = Some s in blocks_seen o) ≡ list_seen mark place_then s.start front
-      ++ record { anchor = place_of s anchor; bytes = seen_bytes mark (s.start + used front + 8) (contents b) }
-      ∷ list_seen mark place_then (s.start + used front + taken b.size) after
-  list_is =
-      (λ i. list_seen (λ q. has_anchor (p.list i) (word_start q)) (λ a. anchor_from 0 s.start (p.list i) a) s.start (p.list i))
-      ∙ (list_append mark place_then s.start front (b ∷ after)
-      ∙ (λ i. list_seen mark place_then s.start front
-      ++ record { anchor = anchor_from 0 s.start (sym p.list i) (p.anchor i); bytes = seen_bytes mark (s.start + used front + 8) (contents b) }
-      ∷ list_seen mark place_then (s.start + used front + taken b.size) after))
+  known : IsOneBlock t s anchor front after b
+  known = one_block t s anchor front after b sp p
 
   same_seen : (let o : Option FlexStore = Some s in IsSplicedSeen (place_of s anchor) b.size place 0 0 (blocks_seen o) (blocks_seen o))
   same_seen =
@@ -74,15 +60,13 @@ module _ (t : FlexState) (s : FlexStore) (anchor : ℕ) (front after : List Bloc
         front = first;
         own = own;
         rest = rest;
-        was = list_is;
-        own_size = seen_length mark (s.start + used front + 8) (contents b) ∙ contents_size b whole.0.0;
-        now = list_is ∙ (λ i. first ++ record { anchor = place_of s anchor; bytes = sym (bytes_stand place own) i } ∷ sym (all_stand (length first) place rest) i);
+        was = known.list_is;
+        own_size = seen_length mark (s.start + used front + 8) (contents b) ∙ contents_size b known.own_whole.0.0;
+        now = known.list_is ∙ (λ i. first ++ record { anchor = place_of s anchor; bytes = sym (bytes_stand place own) i } ∷ sym (all_stand (length first) place rest) i);
       }
 
   has_own : has_anchor s.blocks b.anchor ≡ true
-  has_own = ap (λ (l : List Block). has_anchor l b.anchor) p.list
-      ∙ (anchor-append front (b ∷ after) b.anchor
-      ∙ or_right (has_anchor front b.anchor) (has_anchor (b ∷ after) b.anchor) (or_left (nat_eq b.anchor b.anchor) (has_anchor after b.anchor) (eq-eqb b.anchor b.anchor refl)))
+  has_own = ap (λ (l : List Block). has_anchor l b.anchor) p.list ∙ known.has_own
 
   pub same_left : (places : Store) → t.flex ≡ Some s → (let o : Option FlexStore = Some s in IsLeftBy places t t s (all_stay anchor) (IsSplicedSeen (place_of s anchor) b.size place 0 0 (blocks_seen o)))
   same_left places own = record {
@@ -90,7 +74,7 @@ module _ (t : FlexState) (s : FlexStore) (anchor : ℕ) (front after : List Bloc
     flex = own;
     spelled = sp;
     seen = subst (λ (o : Option FlexStore). IsSplicedSeen (place_of s anchor) b.size place 0 0 (blocks_seen (Some s)) (blocks_seen o)) (sym own) same_seen;
-    aligned = ap (λ (x : ℕ). x % 4) (sym p.anchor) ∙ (word_of t.bytes.mapped s.start s.end s.blocks b.anchor sp.words has_own).aligned;
+    aligned = ap (λ (x : ℕ). x % 4) (sym p.anchor) ∙ known.own_word;
     had = ap (has_anchor s.blocks) (sym p.anchor) ∙ has_own;
     mapped = refl;
     anchors = λ w out. refl;

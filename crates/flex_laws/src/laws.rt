@@ -1,4 +1,5 @@
-//! What is seen of blocks after a change, under the names that their anchors have then. Each law is the contract of a function that does nothing.
+//! What is seen of blocks after a call that changes one: by the addresses that their anchors have then, or by the
+//! numbers of the blocks. Each law is the contract of a function that does nothing.
 
 ghost use Rattle.flex_laws.specs.Laws.{AllocGoesByNumbers, AnchorsAreApart, CallsGoByNumbers, NoRoomChangesNothing, ReleaseGoesByNumbers, SpliceGoesByNumbers, SpliceShowsItsOwn, SpliceShowsOthers};
 

@@ -52,7 +52,7 @@ spelled_at m h end b after text =
     }
 
 -- anchors that stay where one word changes that is none of them
-anchored_other : (mapped : ℕ → Bool) (start end : ℕ) (f g : ℕ → ℕ) (at : ℕ) (bs : List Block) (word : ℕ) → AreAnchorWords mapped start end bs → has_anchor bs word ≡ false
+pub anchored_other : (mapped : ℕ → Bool) (start end : ℕ) (f g : ℕ → ℕ) (at : ℕ) (bs : List Block) (word : ℕ) → AreAnchorWords mapped start end bs → has_anchor bs word ≡ false
     → ((a : ℕ) → (word_start a ≡ word → ⊥) → g a ≡ f a) → AreAnchored f at bs → AreAnchored g at bs
 anchored_other mapped start end f g at [] word words none same anchored = tt
 anchored_other mapped start end f g at (b ∷ bs) word words none same anchored =

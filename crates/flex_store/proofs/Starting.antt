@@ -1,7 +1,7 @@
 -- The store as it begins.
 use Rattle.std.proofs.Common.{◌≡◌, ℕ, Bool, ◌+◌, ◌-◌, ◌%◌, ◌^◌, ◌<◌, ◌≤◌, ◌==◌, ◌&&◌, not, true, false, nat_eq, nat_lt, List, [], Some, is_some, arith, refl, sym, ◌∙◌, ap, subst, ◌↔◌}
 use Rattle.std.proofs.lemmas.Bool.{and_parts, eqb-true, eq-eqb, false≢true, ltb-true, lt-ltb, not-true}
-use Rattle.os_heap.proofs.Added.{are_mapped_all, are_mapped_from, ranges_split}
+use Rattle.os_heap.proofs.RangeTests.{are_mapped_all, are_mapped_from, ranges_split, same_tests}
 use Rattle.os_heap.specs.Ranges.{are_mapped}
 use Rattle.os_heap.specs.Store.{store_of}
 use Rattle.address_map.proofs.Spans.{mapped_below}
@@ -95,11 +95,6 @@ pub begins_state : (m n : AddressMap) (start end : ℕ) → mapping n ≡ mappin
 begins_state m n start end same bytes =
     let empty : blocks_of n (empty_extent start end) ≡ [] = no_blocks (byte_at n) start in
     λ i. record { bytes = record { mapped = mapped_same m n same i; at = bytes i }; flex = Some (record { start = start; end = end; blocks = empty i }) }
-
-same_tests : (t u : Bool) → (t ≡ true → u ≡ true) → (u ≡ true → t ≡ true) → t ≡ u
-same_tests true u f g = sym (f refl)
-same_tests false true f g = g refl
-same_tests false false f g = refl
 
 pub range_tested : (m : AddressMap) (start end : ℕ) (all met : Bool) → start % 4 ≡ 0 → end % 4 ≡ 0 → start < end
     → ((all ≡ true) ↔ AreMapped (is_mapped m) start (end - start)) → met ≡ meets_record (regions m) start (end - start)

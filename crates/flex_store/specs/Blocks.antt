@@ -1,6 +1,7 @@
--- The blocks of the flex store, as one list. They lie one after another from the store's start, without gaps. A block is a header of two words,
--- the address of its anchor and its size, then its bytes, filled up to a whole number of words. The anchor is a word elsewhere that holds the
--- address of the block's bytes (Acorn C manual, "flex"; the layout is this project's own).
+-- The blocks of the flex store, as one list. They lie one after another from the store's start, without gaps. A block
+-- is a header of two words, the address of its anchor and its size, then its bytes, filled up to a whole number of
+-- words. The anchor is a word that holds the address of the block's bytes; it lies outside the store, or among the
+-- bytes of a block before its own (Acorn C manual, "flex"; the layout is this project's own).
 use Rattle.std.specs.Prelude.{ℕ, ◌^◌, Bool, false, ◌+◌, ◌-◌, ◌*◌, ◌/◌, ◌==◌, ◌&&◌, ◌||◌, nat_le, List, [], ◌∷◌, ◌++◌, length, take, drop, replicate, Option, Some, None, if◌then◌else◌}
 
 pub record Block : Type 0 where

@@ -4,7 +4,8 @@ use Rattle.address_map.specs.raw_store.specs.Region.{word_bytes}
 use Rattle.address_map.specs.Bytes.{word_at, with_word_at, with_bytes_at, bytes_between}
 use Rattle.flex_store.specs.Blocks.{Block, taken, whole_words}
 
--- All bytes of the blocks are one text, which holds no address of its own: the anchors lie elsewhere.
+-- The blocks as one text: of each the address of its anchor, its size, and its bytes. An anchor may lie among the bytes
+-- of a block before its own; what it is to hold then is written after the text (`laid_out`).
 abbrev pub text_of : List Block → List ℕ
 text_of [] = []
 text_of (b ∷ bs) = word_bytes b.anchor ++ (word_bytes b.size ++ (b.bytes ++ text_of bs))

@@ -12,7 +12,7 @@ use Rattle.image_loader.specs.Entries.{Entry}
 use Rattle.os_heap_lists.specs.Heap.{HeapList}
 use Rattle.os_heap.specs.Calls.{has_own_size}
 use Rattle.os_heap.specs.Store.{Store, find_heap}
-use Rattle.heap_turns.proofs.KeptHeaps.{own_kept}
+use Rattle.heap_turns.proofs.OwnHeaps.{own_kept}
 use Rattle.heap_turns.proofs.OwnCalls.{own_turns}
 use Rattle.heap_turns.specs.Alone.{Alone, HeapCall, alone_in, call_given}
 use Rattle.heap_turns.specs.Laws.{HasHeapStill, HasNoAnchor, HoldsNoHeap, IsGuestHeap, KeepsHeap}

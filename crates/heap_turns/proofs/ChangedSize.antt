@@ -1,5 +1,5 @@
 -- A change of a heap's size, in a store and in that which has the heap alone.
-use Rattle.std.proofs.Common.{ℕ, ◌≡◌, ◌+◌, ◌-◌, ◌%◌, ◌≤◌, ◌<◌, ◌==◌, ◌&&◌, ◌||◌, ◌∙◌, Bool, not, true, false, List, [], ◌∷◌, None, Some, Result, Ok, Err, refl, sym, ap, inl, inr, arith, if◌then◌else◌}
+use Rattle.std.proofs.Common.{ℕ, ◌≡◌, ◌+◌, ◌-◌, ◌%◌, ◌≤◌, ◌<◌, ◌==◌, ◌&&◌, ◌||◌, ◌∙◌, Bool, not, true, false, [], ◌∷◌, Some, Result, Ok, Err, refl, sym, ap, inl, inr, arith, if◌then◌else◌}
 use Rattle.std.proofs.lemmas.Bool.{and_right, both_ways, cases_Bool, cases_lt, eq-eqb, false_from_ne_true, le-leb, le-ltb, lt-ltb, or_from, or_left, or_right}
 use Rattle.std.specs.List.{list_any}
 use Rattle.std.specs.Prelude.{nat_le, nat_lt}
@@ -12,30 +12,18 @@ use Rattle.address_map.specs.Items.{size_of}
 use Rattle.address_map.specs.Records.{anchor_among}
 use Rattle.os_heap_lists.specs.Heap.{HeapList, IsHeapIn}
 use Rattle.os_heap_lists.specs.Lists.{changed_by}
-use Rattle.os_heap.proofs.Added.{are_mapped_all, are_mapped_from}
+use Rattle.os_heap.proofs.RangeTests.{are_mapped_all, are_mapped_from}
 use Rattle.os_heap.proofs.Apart.{range_parts}
 use Rattle.os_heap.proofs.Beside.{grown_alone}
-use Rattle.os_heap.proofs.Found.{found_heap}
+use Rattle.os_heap.proofs.Found.{found_ended, found_heap}
 use Rattle.os_heap.proofs.Refusals.{changed_own}
-use Rattle.os_heap.specs.Calls.{changed, end_changed, ending, with_end}
+use Rattle.os_heap.specs.Calls.{changed, end_changed, ending}
 use Rattle.os_heap.specs.Ranges.{are_mapped, has_before, is_heap_region, is_in_heap, is_in_way, is_obstructed, overgrows}
 use Rattle.os_heap.specs.Store.{Store, find_heap}
 use Rattle.heap_turns.proofs.Likeness.{AreAlike, AreLike, IsSameHeap, alone_alike, by_both, heap_like, with_last}
 use Rattle.heap_turns.specs.Alone.{Alone, Growth, alone_in, bytes_in, growth_to}
 use Rattle.heap_turns.specs.Laws.{IsGuestHeap}
 use Rattle.heap_turns.specs.Turns.{others_met, store_with}
-
--- the same heap is found after it got another end
-pub found_ended : (start end : ℕ) (hs : List HeapList) (h : HeapList) → find_heap start hs ≡ Some h
-    → find_heap start (with_end start end hs) ≡ Some (with_last h end)
-found_ended start end [] h e = absurd (let none : None ≡ Some h = e in cc)
-found_ended start end (g ∷ hs) h e = elim (cases_Bool (g.start == start)) [
-  | inl here ↦
-      let e' = rw here at e in
-      let same : g ≡ h = cc in
-      rw (here, here) (ap (λ (x : HeapList). Some (with_last x end)) same)
-  | inr other ↦ rw (other, other) (found_ended start end hs h (rw other at e))
-]
 
 same_ended : (s u : Store) (h : HeapList) (end : ℕ) → find_heap h.start s.heaps ≡ Some h → find_heap h.start u.heaps ≡ Some h
     → AreLike h.start end s.bytes.at u.bytes.at → IsSameHeap h (ending s h end) (ending u h end)

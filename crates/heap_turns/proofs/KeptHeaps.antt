@@ -1,118 +1,35 @@
--- A guest's heap after calls: on it, and on others.
+-- A guest's heap after calls on others: its list, bytes and anchors are kept, where it is not forgotten.
 use Rattle.std.proofs.Common.{ℕ, ◌≡◌, ◌≢◌, ◌+◌, ◌-◌, ◌%◌, ◌≤◌, ◌<◌, ◌==◌, ◌&&◌, ◌⊎◌, ◌∙◌, Bool, true, false, List, [], ◌∷◌, ◌++◌, None, Some, is_some, refl, sym, ap, subst, inl, inr, arith}
-use Rattle.std.proofs.lemmas.Bool.{both_ways, cases_Bool, eq-eqb, eqb-true, false_from_ne_true, false≢true, le-leb, lt-ltb, ne_eqb, or_parts}
-use Rattle.std.specs.List.{list_any}
+use Rattle.std.proofs.lemmas.Bool.{both_ways, cases_Bool, eq-eqb, eqb-true, false_from_ne_true, false≢true, le-leb, lt-ltb, ne_eqb}
 use Rattle.profile.specs.declared.reason.HeapReason.{HeapReason}
-use Rattle.address_map.proofs.Anchors.{none_among}
-use Rattle.address_map.proofs.Stores.{in_range-cases}
 use Rattle.address_map.specs.Bytes.{Bytes, in_range, word_start}
 use Rattle.address_map.specs.Items.{is_heap_word, size_of}
-use Rattle.address_map.specs.Records.{anchor_among}
 use Rattle.address_map.specs.declared.item.Item.{Item}
 use Rattle.address_map.specs.declared.region.Kind.TheVariants as kind
 use Rattle.os_heap_lists.proofs.LiveBlocks.{LiveBytes, live_apart, live_bytes}
 use Rattle.os_heap_lists.proofs.Payloads.{heap_beside, payload_unspelled, spelled_inside}
 use Rattle.os_heap_lists.specs.Heap.{AreTotals, HeapList, IsHeapIn, with_heap}
 use Rattle.os_heap_lists.specs.Lists.{Claim, live_total}
-use Rattle.os_heap.proofs.Added.{CanHold, can_hold, uncrossed, unlapped}
+use Rattle.os_heap.proofs.RangeTests.{CanHold, can_hold, uncrossed, unlapped}
 use Rattle.os_heap.proofs.Apart.{found_other, range_parts}
-use Rattle.os_heap.proofs.Ending.{may_grow, unobstructed}
 use Rattle.os_heap.proofs.Forgetting.{find_gone, find_left, own_left as heap_left}
-use Rattle.os_heap.proofs.Found.{found_heap}
+use Rattle.os_heap.proofs.Found.{found_heap, uncrossed_found}
 use Rattle.os_heap.proofs.KeptPayloads.{IsClaim, is_claim}
 use Rattle.os_heap.proofs.Moving.{found_held}
 use Rattle.os_heap.proofs.Nesting.{within_low}
 use Rattle.os_heap.proofs.Stores.{are_others}
-use Rattle.os_heap.specs.Calls.{begun_with, ending, has_own_size, holding, with_end, with_items}
+use Rattle.os_heap.specs.Calls.{begun_with, ending, holding, with_end, with_items}
 use Rattle.os_heap.specs.Forgetting.{forgot, holds_heap, lowest_lost, starts_in}
 use Rattle.os_heap.specs.Nesting.{IsWithin, StandsApart, is_crossed}
-use Rattle.os_heap.specs.Ranges.{is_heap_region, is_in_way, overgrows, overlaps}
+use Rattle.os_heap.specs.Ranges.{is_heap_region, overlaps}
 use Rattle.os_heap.specs.Store.{AreClear, AreHeapsIn, IsSound, Store, find_heap}
-use Rattle.heap_turns.proofs.ChangedSize.{found_ended}
-use Rattle.heap_turns.proofs.DoneCalls.{FreesBytes, MovesBlock, Leave, OnDone, call_done, heap_done, moved_to}
-use Rattle.heap_turns.proofs.Likeness.{with_last, with_list}
-use Rattle.heap_turns.proofs.NoHeapInside.{forgot_unheld, held_ended, held_listed, none_grown}
-use Rattle.heap_turns.proofs.Plain.{IsBare, block_forgot}
-use Rattle.heap_turns.specs.Laws.{HasHeapStill, HasNoAnchor, HoldsNoHeap, IsGuestHeap, IsNotForgotten, KeepsHeap, OtherCallsKeepHeap, OwnCallsKeepHeap, starts_inside}
+use Rattle.heap_turns.proofs.DoneCalls.{FreesBytes, MovesBlock, Leave, OnDone, call_done, moved_to}
+use Rattle.heap_turns.proofs.Likeness.{with_list}
+use Rattle.heap_turns.proofs.NoHeapInside.{forgot_unheld, held_listed}
+use Rattle.heap_turns.specs.Laws.{IsNotForgotten, KeepsHeap, OtherCallsKeepHeap, starts_inside}
 use Rattle.heap_turns.specs.Lists.{is_call_to, is_on_heap}
 
--- The heap itself: what it grows by has no anchor.
-unmet_growth : (s : Store) (h : HeapList) (end : ℕ) → overgrows s h end ≡ false → h.end < end
-    → (list_any (is_in_way h.start end (h.start + h.end) (end - h.end)) s.heaps ≡ false) × (anchor_among s.anchor (h.start + h.end) (end - h.end) ≡ false)
-unmet_growth s h end clear more =
-    let none = unobstructed h.start end (h.start + h.end) (end - h.end) s (may_grow s h end clear more) in
-    (none.0.0, none.1)
-
-still_bare : (s : Store) (h : HeapList) (end : ℕ) → IsGuestHeap s h → overgrows s h end ≡ false → HasNoAnchor (ending s h end) (with_last h end)
-still_bare s h end guest clear a here = elim (in_range-cases h.start h.end a) [
-  | inl inside ↦ guest.anchors a inside.0
-  | inr out ↦
-      let parts : (h.start ≤ a) × (a < h.start + end) = range_parts h.start end a here in
-      let behind : h.start + h.end ≤ a = elim out.1 [ inl low ↦ absurd (omega (arith, parts.0)) | inr past ↦ past ] in
-      none_among s.anchor (h.start + h.end) (end - h.end) a (unmet_growth s h end clear (omega (arith, parts.1, behind))).1 behind (omega (arith, parts.1))
-]
-
-still_alone : (s : Store) (h : HeapList) (end : ℕ) → IsGuestHeap s h → overgrows s h end ≡ false → HoldsNoHeap (ending s h end) (with_last h end)
-still_alone s h end guest clear =
-    held_ended h.start (h.start + 16) (end - 16) end s.heaps
-    ∙ none_grown s.bytes h.start h.end end s.heaps guest.sound.heaps (λ more. (unmet_growth s h end clear more).0) guest.alone
-
--- and no heap is forgotten with bytes of its blocks
-own_bare : (s : Store) (h : HeapList) → IsGuestHeap s h → IsBare s h
-own_bare s h guest =
-    let heap : IsHeapIn s.bytes h.start h.end h.items = found_heap s.bytes h.start s.heaps h guest.sound.heaps guest.found in
-    record { found = guest.found; anchors = guest.anchors; alone = guest.alone; totals = heap.totals; inside = heap.inside }
-
-held_still : (s : Store) (h : HeapList) (items : List Item) → IsBare s h → has_own_size h.kind ≡ true → HasHeapStill (holding s h items) h.start
-held_still s h items bare own = record {
-  heap = with_list h items;
-  starts = refl;
-  found = found_held h.start items s.heaps h bare.found;
-  own = own;
-  anchors = bare.anchors;
-  alone = held_listed h.start (h.start + 16) (h.end - 16) items s.heaps ∙ bare.alone;
-}
-
-moved_bare : (s : Store) (h : HeapList) (c : Claim) (block old new : ℕ) → IsGuestHeap s h → IsClaim h new c → IsBare (moved_to s h c block old) (with_list h c.items)
-moved_bare s h c block old new guest claim = record {
-  found = found_held h.start c.items s.heaps h guest.found;
-  anchors = guest.anchors;
-  alone = held_listed h.start (h.start + 16) (h.end - 16) c.items s.heaps ∙ guest.alone;
-  totals = claim.totals;
-  inside = claim.inside;
-}
-
-left_still : (s : Store) (h : HeapList) (block total from : ℕ) (items : List Item) → IsBare s h → has_own_size h.kind ≡ true → FreesBytes h block total from
-    → HasHeapStill (holding (forgot s block total from) h items) h.start
-left_still s h block total from items bare own given =
-    subst (λ (v : Store). HasHeapStill (holding v h items) h.start) (sym (block_forgot s h block total from bare given.live given.past))
-    (held_still s h items bare own)
-
-own_left : (s : Store) (h : HeapList) → IsGuestHeap s h → Leave (λ t. HasHeapStill t h.start) s h
-own_left s h guest =
-    let heap : IsHeapIn s.bytes h.start h.end h.items = found_heap s.bytes h.start s.heaps h guest.sound.heaps guest.found in
-    record {
-      same = record { heap = h; starts = refl; found = guest.found; own = guest.own; anchors = guest.anchors; alone = guest.alone };
-      held = λ items. held_still s h items (own_bare s h guest) guest.own;
-      lost = λ block total from items given. left_still s h block total from items (own_bare s h guest) guest.own given;
-      moved = λ c block old new total items is given.
-          left_still (moved_to s h c block old) (with_list h c.items) block total block items
-          (moved_bare s h c block old new guest (is_claim s.bytes h new c heap is.total is.claim)) guest.own given;
-      ended = λ end clear. record {
-        heap = with_last h end;
-        starts = refl;
-        found = found_ended h.start end s.heaps h guest.found;
-        own = guest.own;
-        anchors = still_bare s h end guest clear;
-        alone = still_alone s h end guest clear;
-      };
-    }
-
-pub own_kept : OwnCallsKeepHeap
-own_kept s t h why block size answer guest on is =
-    subst (OnDone (ℕ × ℕ) (λ u. HasHeapStill u h.start)) is (heap_done (λ u. HasHeapStill u h.start) s h why block size on guest.found (own_left s h guest))
-
--- Other heaps: a byte beside a heap, out of its range or in what a block of it holds, is none of the words that it spells.
+-- A byte beside a heap, out of its range or in what a block of it holds, is none of the words that it spells.
 pub record IsHeld (start : ℕ) (items : List Item) (a : ℕ) : Type 0 where
   pub block : ℕ
   pub total : ℕ
@@ -335,19 +252,6 @@ ended_kept s h k end called =
     }
 
 -- a heap in which no heap is made is clear of the one that is
-uncrossed_found : (at len start : ℕ) (hs : List HeapList) (h : HeapList) → list_any (is_crossed at len) hs ≡ false → find_heap start hs ≡ Some h
-    → is_crossed at len h ≡ false
-uncrossed_found at len start [] h none found = absurd (let none : None ≡ Some h = found in cc)
-uncrossed_found at len start (g ∷ hs) h none found =
-    let each = or_parts (is_crossed at len g) (list_any (is_crossed at len) hs) none in
-    elim (cases_Bool (g.start == start)) [
-      | inl here ↦
-          let found' = rw here at found in
-          let same : g ≡ h = cc in
-          ap (is_crossed at len) (sym same) ∙ each.0
-      | inr away ↦ uncrossed_found at len start hs h each.1 (rw away at found)
-    ]
-
 clear_of_made : (b : Bytes) (h : HeapList) (at size : ℕ) → 0 < size → IsHeapIn b h.start h.end h.items → is_crossed at size h ≡ false → starts_inside h at ≡ false
     → AreClear at size h.start h.end
 clear_of_made b h at size some heap none outside = elim (uncrossed b at size h heap none) [

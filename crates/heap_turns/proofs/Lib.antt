@@ -4,6 +4,7 @@ pub mod GuestImages
 pub mod KeptHeaps
 pub mod Likeness
 pub mod OwnCalls
+pub mod OwnHeaps
 pub mod Lists
 pub mod NoHeapInside
 pub mod Plain

@@ -7,7 +7,7 @@ use Rattle.os_heap_lists.specs.Heap.{HeapList}
 use Rattle.os_heap.specs.Store.{Store, IsSound, find_heap}
 use Rattle.heap_turns.proofs.DoneCalls.{OnDone, call_done}
 use Rattle.heap_turns.proofs.WholeHeaps.{others_whole}
-use Rattle.heap_turns.proofs.KeptHeaps.{own_kept}
+use Rattle.heap_turns.proofs.OwnHeaps.{own_kept}
 use Rattle.heap_turns.proofs.Likeness.{bytes_like}
 use Rattle.heap_turns.proofs.NoHeapInside.{whole_alone}
 use Rattle.heap_turns.proofs.OwnCalls.{own_turns}

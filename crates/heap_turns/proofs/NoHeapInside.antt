@@ -5,7 +5,7 @@ use Rattle.std.specs.List.{list_any}
 use Rattle.address_map.specs.Bytes.{Bytes, in_range}
 use Rattle.address_map.specs.declared.item.Item.{Item}
 use Rattle.os_heap_lists.specs.Heap.{HeapList}
-use Rattle.os_heap.proofs.Added.{clear_unless}
+use Rattle.os_heap.proofs.RangeTests.{clear_unless}
 use Rattle.os_heap.proofs.Forgetting.{StartsIn, so_starts, starts_so}
 use Rattle.os_heap.proofs.LostHeaps.{none_without}
 use Rattle.os_heap.specs.Calls.{OfHeap, with_end, with_items}

@@ -9,14 +9,13 @@ use Rattle.os_heap_lists.proofs.LiveBlocks.{LiveBytes, live_bytes}
 use Rattle.os_heap_lists.specs.Heap.{HeapList, IsHeapIn}
 use Rattle.os_heap.proofs.Apart.{found_other, range_parts}
 use Rattle.os_heap.proofs.Forgetting.{own_left as heap_left, so_starts}
-use Rattle.os_heap.proofs.Found.{found_heap}
+use Rattle.os_heap.proofs.Found.{found_ended, found_heap}
 use Rattle.os_heap.proofs.Moving.{found_held}
 use Rattle.os_heap.proofs.Nesting.{within_low}
 use Rattle.os_heap.proofs.Stores.{are_others}
 use Rattle.os_heap.specs.Calls.{begun_with, ending, holding}
 use Rattle.os_heap.specs.Forgetting.{forgot, holds_heap}
 use Rattle.os_heap.specs.Store.{IsSound, Store, find_heap, is_area}
-use Rattle.heap_turns.proofs.ChangedSize.{found_ended}
 use Rattle.heap_turns.proofs.DoneCalls.{Leave, OnDone, call_done, moved_to}
 use Rattle.heap_turns.proofs.KeptHeaps.{another, found_beside, found_left, found_more, found_past, moved_same, others_kept}
 use Rattle.heap_turns.proofs.Likeness.{with_last, with_list}

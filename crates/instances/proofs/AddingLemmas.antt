@@ -11,7 +11,7 @@ use Rattle.instances_plans.specs.module_header.specs.declared.fault.HeaderFault.
 use Rattle.instances_plans.specs.module_header.specs.declared.fault.HeaderFault.TheVariants.{Short}
 use Rattle.instances_plans.specs.module_header.specs.declared.header.Header.{Header}
 use Rattle.instances_slide.specs.os_heap_lists.specs.Lists.{total_for}
-use Rattle.instances_slide.specs.os_heap.proofs.Added.{are_mapped_all, clear_of_heaps}
+use Rattle.instances_slide.specs.os_heap.proofs.RangeTests.{are_mapped_all, clear_of_heaps}
 use Rattle.instances_slide.specs.os_heap.specs.Ranges.{are_mapped}
 use Rattle.instances_slide.specs.os_heap.specs.Store.{Store, has_image, is_image}
 use Rattle.instances_slide.specs.dynamic_areas.specs.Ground.{Estate, IsEstate}

@@ -1,11 +1,11 @@
 -- Heaps and ranges beside a heap that gets another end.
 use Rattle.std.specs.List.{list_any}
-use Rattle.std.proofs.Common.{ap, Bool, not, ◌≡◌, arith, ℕ, List, ◌∙◌, inr, ◌-◌, inl, ◌+◌, ◌≢◌, sym, ◌<◌, ◌⊎◌, [], ◌∷◌, ◌&&◌, true, false, subst, ltb, refl}
+use Rattle.std.proofs.Common.{ap, ◌≡◌, arith, ℕ, List, ◌∙◌, inr, ◌-◌, inl, ◌+◌, ◌≢◌, sym, ◌<◌, ◌⊎◌, [], ◌∷◌, ◌&&◌, true, false, subst, ltb, refl}
 use Rattle.std.proofs.lemmas.Bool.{and_parts, and_right, both_ways, cases_Bool, or_from, le-ltb, cases_lt, eq-eqb, false≢true, le-leb, lt-ltb, ne_eqb, or_parts}
 use Rattle.address_map.proofs.Stores.{in_range-cases}
 use Rattle.address_map.specs.Bytes.{Bytes, in_range, meets}
 use Rattle.os_heap_lists.specs.Heap.{HeapList, IsHeapIn}
-use Rattle.os_heap.proofs.Added.{clear_unless}
+use Rattle.os_heap.proofs.RangeTests.{clear_unless, not_no}
 use Rattle.os_heap.proofs.Holding.{HoldsRange, range_held}
 use Rattle.os_heap.proofs.Nesting.{apart_turned, not_itself, within_low}
 use Rattle.os_heap.proofs.Stores.{AreOthers}
@@ -39,10 +39,6 @@ may_grow_rest h g end hs may = record {
   free = λ more. (or_parts (is_in_way h.start end (h.start + h.end) (end - h.end) g)
       (list_any (is_in_way h.start end (h.start + h.end) (end - h.end)) hs) (may.free more)).1;
 }
-
-not_no : (t : Bool) → not t ≡ false → t ≡ true
-not_no true e = refl
-not_no false e = sym e
 
 -- a heap that shares no byte with it has none of what it grows by, and one that it lies in holds its new range
 not_grown_into : (b : Bytes) (h g : HeapList) (end : ℕ) → IsHeapIn b h.start h.end h.items → is_in_way h.start end (h.start + h.end) (end - h.end) g ≡ false

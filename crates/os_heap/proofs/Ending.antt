@@ -22,7 +22,7 @@ use Rattle.os_heap_lists.proofs.Reading.{items_in-heap}
 use Rattle.os_heap_lists.proofs.Spelling.{spells-kept}
 use Rattle.os_heap_lists.specs.Heap.{IsHeapIn, HeapList, with_heap}
 use Rattle.os_heap_lists.specs.Words.{IsWritten, AreApart}
-use Rattle.os_heap.proofs.Added.{CanHold, clear_unless, can_hold}
+use Rattle.os_heap.proofs.RangeTests.{CanHold, clear_unless, can_hold}
 use Rattle.os_heap.proofs.Found.{found_heap}
 use Rattle.os_heap.proofs.Held.{AreBy, marks_ended}
 use Rattle.os_heap.proofs.Anchored.{place_ended}

@@ -1,6 +1,7 @@
 -- The heap that starts at an address is one of those that memory spells.
-use Rattle.std.proofs.Common.{true, ◌==◌, ◌-◌, inl, ◌≡◌, [], List, subst, ℕ, Some, inr, ◌∷◌, None, refl, Err, ◌+◌, Ok}
-use Rattle.std.proofs.lemmas.Bool.{eqb-true, cases_Bool}
+use Rattle.std.proofs.Common.{true, false, ap, sym, ◌∙◌, ℕ, ◌==◌, ◌-◌, inl, ◌≡◌, [], List, subst, Some, inr, ◌∷◌, None, refl, Err, ◌+◌, Ok}
+use Rattle.std.proofs.lemmas.Bool.{eqb-true, cases_Bool, or_parts}
+use Rattle.std.specs.List.{list_any}
 use Rattle.profile.specs.declared.error.ErrorNumber.TheVariants.{HeapBadDesc}
 use Rattle.address_map.specs.Bytes.{Bytes}
 use Rattle.address_map.specs.Items.{size_of}
@@ -12,7 +13,8 @@ use Rattle.os_heap_lists.specs.Counts.{larger, largest_free, free_total, round_d
 use Rattle.os_heap_lists.specs.Heap.{HeapList, IsHeapIn}
 use Rattle.os_heap.specs.Outcomes.{IsHeapAt, items_at}
 use Rattle.os_heap.specs.Store.{heaps_in, find_heap, AreHeapsIn, IsSound, heap_in, store_of, Store}
-use Rattle.os_heap.specs.Calls.{described, items_of}
+use Rattle.os_heap.specs.Calls.{described, items_of, with_end}
+use Rattle.os_heap.specs.Nesting.{is_crossed}
 use Rattle.os_heap.specs.Probes.{describe_probes}
 
 pub found_start : (start : ℕ) (hs : List HeapList) (h : HeapList) → find_heap start hs ≡ Some h → h.start ≡ start
@@ -96,3 +98,32 @@ found_kind b start (r ∷ rs) h e = elim (cases_Bool (is_heap_kind r.kind)) [
 pub found_heap_kind : (m : AddressMap) (start : ℕ) (h : HeapList) → find_heap start (store_of m).heaps ≡ Some h → is_heap_kind h.kind ≡ true
 unfolding store_of
 found_heap_kind m start h e = found_kind (bytes_of m) start (regions m) h e
+
+-- a heap got another end
+abbrev pub with_other_end : HeapList → ℕ → HeapList
+with_other_end k end = record { kind = k.kind; start = k.start; end = end; items = k.items }
+
+pub found_ended : (start end : ℕ) (hs : List HeapList) (h : HeapList) → find_heap start hs ≡ Some h
+    → find_heap start (with_end start end hs) ≡ Some (with_other_end h end)
+found_ended start end [] h e = absurd (let none : None ≡ Some h = e in cc)
+found_ended start end (g ∷ hs) h e = elim (cases_Bool (g.start == start)) [
+  | inl here ↦
+      let e' = rw here at e in
+      let same : g ≡ h = cc in
+      rw (here, here) (ap (λ (x : HeapList). Some (with_other_end x end)) same)
+  | inr other ↦ rw (other, other) (found_ended start end hs h (rw other at e))
+]
+
+-- a heap that is found is one of those that a range does not cross
+pub uncrossed_found : (at size start : ℕ) (hs : List HeapList) (h : HeapList) → list_any (is_crossed at size) hs ≡ false → find_heap start hs ≡ Some h
+    → is_crossed at size h ≡ false
+uncrossed_found at size start [] h none found = absurd (let no : None ≡ Some h = found in cc)
+uncrossed_found at size start (g ∷ hs) h none found =
+    let each = or_parts (is_crossed at size g) (list_any (is_crossed at size) hs) none in
+    elim (cases_Bool (g.start == start)) [
+      | inl here ↦
+          let found' = rw here at found in
+          let same : g ≡ h = cc in
+          ap (is_crossed at size) (sym same) ∙ each.0
+      | inr other ↦ uncrossed_found at size start hs h each.1 (rw other at found)
+    ]

@@ -12,6 +12,7 @@ use Rattle.os_heap_lists.specs.Heap.{HeapList, IsHeapIn}
 use Rattle.os_heap_lists.specs.Marks.{marked, Remarks, AreMarked, spells_any}
 use Rattle.os_heap.proofs.Found.{found_heap}
 use Rattle.os_heap.proofs.Nesting.{words_apart}
+use Rattle.os_heap.proofs.RangeTests.{or_none}
 use Rattle.os_heap.proofs.Stores.{AreOthers, are_others}
 use Rattle.os_heap.specs.Calls.{with_items, with_end}
 use Rattle.os_heap.specs.Store.{AreHeapsIn, find_heap}
@@ -127,10 +128,6 @@ pub marks_ended : (c d : ℕ → Class) (start end : ℕ) (hs : List HeapList) �
 marks_ended c d start end hs same kept a = ap is_heap_class (kept a) ∙ same a ∙ sym (ended_spelled start end hs (word_start a))
 
 -- a heap more without items, whose descriptor was marked
-or_none : (t : Bool) → (t || false) ≡ t
-or_none true = refl
-or_none false = refl
-
 or_next : (t u v : Bool) → (t || (u || v)) ≡ ((t || u) || v)
 or_next true u v = refl
 or_next false u v = refl

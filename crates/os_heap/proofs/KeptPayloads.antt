@@ -15,106 +15,26 @@ use Rattle.os_heap_lists.proofs.Payloads.{heap_beside, payload_unspelled, spelle
 use Rattle.os_heap_lists.proofs.Spelling.{total_of-numbers}
 use Rattle.os_heap_lists.specs.Heap.{AreTotals, HeapList, IsHeapIn}
 use Rattle.os_heap_lists.specs.Lists.{Claim, changed_by, claimed, live_total, released, resized_in_place, round_up_8, total_for}
-use Rattle.os_heap.proofs.Added.{unlapped, CanHold, can_hold}
+use Rattle.os_heap.proofs.RangeTests.{unlapped, CanHold, can_hold}
 use Rattle.os_heap.proofs.Holding.{range_bounds}
 use Rattle.os_heap.proofs.Limits.{empty}
 use Rattle.os_heap.specs.Nesting.{holds_range, is_crossed}
 use Rattle.std.specs.List.{list_any}
 use Rattle.os_heap_lists.proofs.Reading.{total_facts}
-use Rattle.os_heap.proofs.Apart.{block_inside, range_parts}
+use Rattle.os_heap.proofs.Apart.{range_parts}
 use Rattle.os_heap.proofs.Calls.{claimed_in, released_in}
 pub use Rattle.os_heap.proofs.ClaimFacts.{IsClaim, is_claim}
 use Rattle.os_heap.proofs.Forgetting.{own_left}
-use Rattle.os_heap.proofs.Found.{found_heap, found_start}
+use Rattle.os_heap.proofs.Found.{found_ended, found_heap, found_start, uncrossed_found, with_other_end}
 use Rattle.os_heap.proofs.LostHeaps.{forgot_empty}
 use Rattle.os_heap.proofs.Moving.{found_held}
+use Rattle.os_heap.proofs.PayloadLists.{FromSome, some_of, past_if, done_store, with_list, unspelled_then, new_heap, own_start, keeps_at, keeps_done}
 use Rattle.os_heap.proofs.Resizing.{larger_where_none}
-use Rattle.os_heap.specs.Calls.{holds_anchor, copied, handed_over, moved, resized_or_moved, begun, begun_with, got, gave_back, resized, changed, own_size, has_own_size, end_changed, ending, holding, total_or_0, with_end, unless_image}
+use Rattle.os_heap.specs.Calls.{holds_anchor, copied, handed_over, moved, resized_or_moved, begun, begun_with, got, gave_back, resized, changed, own_size, has_own_size, end_changed, ending, holding, total_or_0, unless_image}
 use Rattle.os_heap.specs.Laws.{KeepPayloads, KeepsPayloads}
 use Rattle.os_heap.specs.Forgetting.{forgot, holds_heap}
 use Rattle.os_heap.specs.Ranges.{is_heap_region, overlaps, overgrows}
 use Rattle.os_heap.specs.Store.{AreHeapsIn, Store, IsSound, find_heap, guest_count, has_image}
-
--- what is done was not refused
-record FromSome (A B : Type 0) (o : Option A) (next : A → Result B ErrorNumber) (r : B) : Type 0 where
-  value : A
-  is : o ≡ Some value
-  done : next value ≡ Ok r
-
-some_of : (A B : Type 0) (o : Option A) (e : ErrorNumber) (next : A → Result B ErrorNumber) (r : B) → bind (ok_or o e) next ≡ Ok r → FromSome A B o next r
-some_of A B None e next r h = absurd (let no : Err e ≡ Ok r = h in cc)
-some_of A B (Some x) e next r h = record { value = x; is = refl; done = h }
-
-past_if : (B : Type 0) (b : Bool) (e : ErrorNumber) (x : Result B ErrorNumber) (r : B) → (if b then Err e else x) ≡ Ok r → (b ≡ false) × (x ≡ Ok r)
-past_if B true e x r h = absurd (let no : Err e ≡ Ok r = h in cc)
-past_if B false e x r h = (refl, h)
-
-store_in : (A : Type 0) → Store → Result (Store × A) ErrorNumber → Store
-store_in A s (Ok r) = r.0
-store_in A s (Err e) = s
-
-done_store : (A : Type 0) (s t : Store) (x y : A) → (let one : Result (Store × A) ErrorNumber = Ok (s, x) in let two : Result (Store × A) ErrorNumber = Ok (t, y) in one ≡ two) → s ≡ t
-unfolding store_in
-done_store A s t x y e = ap (store_in A s) e
-
--- a byte of a block, in its heap's range
-payload_inside : (s : Store) (h : HeapList) (block total a : ℕ) → IsSound s → find_heap h.start s.heaps ≡ Some h
-    → live_total block (h.start + 16) h.items ≡ Some total → in_range block (total - 4) a ≡ true → in_range h.start h.end a ≡ true
-payload_inside s h block total a sound found live here =
-    let heap : IsHeapIn s.bytes h.start h.end h.items = found_heap s.bytes h.start s.heaps h sound.heaps found in
-    let place : LiveBytes block total (h.start + 16) (h.start + 16 + size_of h.items) = live_bytes block total (h.start + 16) h.items heap.totals live in
-    let parts : (block ≤ a) × (a < block + (total - 4)) = range_parts block (total - 4) a here in
-    block_inside s.bytes h block total a heap live
-    (rw (le-leb (block - 4) a (omega (arith, parts.0)), lt-ltb a (block - 4 + total) (omega (arith, parts.1, place.low, place.size))) refl)
-
--- a heap got another list
-abbrev with_list : HeapList → List Item → HeapList
-with_list k items = record { kind = k.kind; start = k.start; end = k.end; items = items }
-
--- the byte is of a block of the heap called, or in none of its range
-abbrev IsOwnOrOut : ℕ → Store → HeapList → ℕ → Type 0
-IsOwnOrOut heap t h a = (h.start ≡ heap) ⊎ ((k : HeapList) → find_heap heap t.heaps ≡ Some k → in_range k.start k.end a ≡ false)
-
--- what that heap spells then is no byte of a block that is live then
-unspelled_then : (t : Store) (k h g : HeapList) (block total a : ℕ) → k.start % 4 ≡ 0 → AreTotals k.items → 16 + size_of k.items ≤ k.end
-    → find_heap k.start t.heaps ≡ Some k → find_heap h.start t.heaps ≡ Some g → live_total block (h.start + 16) g.items ≡ Some total
-    → in_range block (total - 4) a ≡ true → IsOwnOrOut k.start t h a → is_heap_word k.start k.items (word_start a) ≡ false
-unspelled_then t k h g block total a aligned totals fits found found' live here (inr out) =
-    false_from_ne_true _ (λ is. both_ways (in_range k.start k.end a) (out k found) (spelled_inside k.start k.end k.items a aligned totals fits is))
-unspelled_then t k h g block total a aligned totals fits found found' live here (inl same) =
-    let parts : (block ≤ a) × (a < block + (total - 4)) = range_parts block (total - 4) a here in
-    let there : find_heap k.start t.heaps ≡ Some g = subst (λ (p : ℕ). find_heap p t.heaps ≡ Some g) same found' in
-    let both : Some k ≡ Some g = sym found ∙ there in
-    let is : g ≡ k = cc in
-    let live' : live_total block (k.start + 16) g.items ≡ Some total = subst (λ (p : ℕ). live_total block (p + 16) g.items ≡ Some total) same live in
-    payload_unspelled k.start k.items block total a aligned totals
-    (subst (λ (x : HeapList). live_total block (k.start + 16) x.items ≡ Some total) is live') parts.0 parts.1
-
-new_heap : (s : Store) (k : HeapList) (items : List Item) → IsSound (holding s k items) → find_heap k.start s.heaps ≡ Some k
-    → IsHeapIn (holding s k items).bytes k.start k.end items
-new_heap s k items sound found =
-    found_heap (holding s k items).bytes k.start (holding s k items).heaps (with_list k items) sound.heaps (found_held k.start items s.heaps k found)
-
-keeps_held : (s v : Store) (k : HeapList) (items : List Item) → v.bytes ≡ s.bytes → IsSound (holding v k items) → find_heap k.start v.heaps ≡ Some k
-    → KeepsPayloads s (holding v k items) k.start
-keeps_held s v k items same sound found h g block total new_total a found' found'' live live' here there out =
-    let new : IsHeapIn (holding v k items).bytes k.start k.end items = new_heap v k items sound found in
-    heap_beside v.bytes.at k.start k.end items a new.aligned new.totals
-    (unspelled_then (holding v k items) (with_list k items) h g block new_total a new.aligned new.totals new.inside (found_held k.start items v.heaps k found)
-    found'' live' there out)
-    ∙ ap (λ (b : Bytes). b.at a) same
-
--- the heap that a call finds, by its own start
-own_start : (heap : ℕ) (s : Store) (h : HeapList) → find_heap heap s.heaps ≡ Some h → find_heap h.start s.heaps ≡ Some h
-own_start heap s h found = subst (λ (p : ℕ). find_heap p s.heaps ≡ Some h) (sym (found_start heap s.heaps h found)) found
-
-keeps_at : (s u t : Store) (heap : ℕ) → u ≡ t → IsSound t → (IsSound u → KeepsPayloads s u heap) → KeepsPayloads s t heap
-keeps_at s u t heap same sound keeps = subst (λ (w : Store). KeepsPayloads s w heap) same (keeps (subst IsSound (sym same) sound))
-
-keeps_done : (s v t : Store) (heap : ℕ) (k : HeapList) (items : List Item) → v.bytes ≡ s.bytes → IsSound t → k.start ≡ heap → find_heap k.start v.heaps ≡ Some k
-    → holding v k items ≡ t → KeepsPayloads s t heap
-keeps_done s v t heap k items same sound start found is =
-    subst (λ (p : ℕ). KeepsPayloads s t p) start (keeps_at s (holding v k items) t k.start is sound (λ good. keeps_held s v k items same good found))
 
 pub keeps_got : (s t : Store) (heap size block : ℕ) → IsSound t → got s heap size ≡ Ok (t, block) → KeepsPayloads s t heap
 unfolding got
@@ -162,21 +82,6 @@ keeps_freed s t heap block sound sound' e =
     let back : IsGivenBack s t h block = gave_by s t heap block h one.is e in
     keeps_done s (forgot s block (total_or_0 (live_total block (h.start + 16) h.items)) block) t heap h back.items refl sound' (found_start heap s.heaps h one.is)
     (own_there s h block (live_total block (h.start + 16) h.items) there.totals (own_start heap s h one.is) refl) back.same
-
--- a heap got another end
-abbrev with_other_end : HeapList → ℕ → HeapList
-with_other_end k end = record { kind = k.kind; start = k.start; end = end; items = k.items }
-
-found_ended : (start end : ℕ) (hs : List HeapList) (h : HeapList) → find_heap start hs ≡ Some h
-    → find_heap start (with_end start end hs) ≡ Some (with_other_end h end)
-found_ended start end [] h e = absurd (let none : None ≡ Some h = e in cc)
-found_ended start end (g ∷ hs) h e = elim (cases_Bool (g.start == start)) [
-  | inl here ↦
-      let e' = rw here at e in
-      let same : g ≡ h = cc in
-      rw (here, here) (ap (λ (x : HeapList). Some (with_other_end x end)) same)
-  | inr other ↦ rw (other, other) (found_ended start end hs h (rw other at e))
-]
 
 keeps_ended : (s : Store) (k : HeapList) (end : ℕ) → IsSound s → find_heap k.start s.heaps ≡ Some k → 16 + size_of k.items ≤ end
     → KeepsPayloads s (ending s k end) k.start
@@ -226,19 +131,6 @@ found_begun b at size (h ∷ hs) k some parts none here =
     let each = or_parts (is_crossed at size h) (list_any (is_crossed at size) hs) none in
     rw (ne_eqb h.start at (starts_elsewhere at size h some (omega (arith, parts.0.inside)) each.0))
     (found_begun b at size hs k some parts.1.1 each.1 here)
-
-uncrossed_found : (at size start : ℕ) (hs : List HeapList) (h : HeapList) → list_any (is_crossed at size) hs ≡ false → find_heap start hs ≡ Some h
-    → is_crossed at size h ≡ false
-uncrossed_found at size start [] h none found = absurd (let no : None ≡ Some h = found in cc)
-uncrossed_found at size start (g ∷ hs) h none found =
-    let each = or_parts (is_crossed at size g) (list_any (is_crossed at size) hs) none in
-    elim (cases_Bool (g.start == start)) [
-      | inl here ↦
-          let found' = rw here at found in
-          let same : g ≡ h = cc in
-          ap (is_crossed at size) (sym same) ∙ each.0
-      | inr other ↦ uncrossed_found at size start hs h each.1 (rw other at found)
-    ]
 
 pub keeps_begun : (s t : Store) (at size : ℕ) → IsSound s → begun s at size ≡ Ok (t, tt) → KeepsPayloads s t at
 unfolding begun

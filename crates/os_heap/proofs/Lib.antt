@@ -30,10 +30,13 @@ pub mod Marking
 pub mod MoveRefusals
 pub mod Moving
 pub mod Nesting
+pub mod Obstructions
 pub mod Order
 pub mod Owned
 pub mod PayloadLemmas
+pub mod PayloadLists
 pub mod PayloadWrites
+pub mod RangeTests
 pub mod Recorded
 pub mod Refitted
 pub mod Refitting

@@ -16,7 +16,7 @@ pub clear_stands : (h : HeapList) (gs : List HeapList) → IsClearOfHeaps h.star
 clear_stands h [] clear = tt
 clear_stands h (g ∷ gs) clear = (inl clear.0, clear_stands h gs clear.1)
 
-clear_turned : (at len other other_len : ℕ) → AreClear at len other other_len → AreClear other other_len at len
+pub clear_turned : (at len other other_len : ℕ) → AreClear at len other other_len → AreClear other other_len at len
 clear_turned at len other other_len clear a there =
     false_from_ne_true (in_range at len a) (λ here. both_ways (in_range other other_len a) (clear a here) there)
 

@@ -6,7 +6,7 @@ use Rattle.address_map.specs.Bytes.{Bytes}
 use Rattle.address_map.specs.Items.{size_of}
 use Rattle.os_heap_lists.specs.Heap.{HeapList}
 use Rattle.os_heap_lists.specs.Lists.{changed_by}
-use Rattle.os_heap.proofs.Added.{can_hold}
+use Rattle.os_heap.proofs.RangeTests.{can_hold}
 use Rattle.os_heap.specs.Calls.{changed, has_own_size, end_changed, ending}
 use Rattle.os_heap.specs.Ranges.{MayEnd, is_heap_region, overgrows}
 use Rattle.os_heap.specs.Store.{Store, find_heap}

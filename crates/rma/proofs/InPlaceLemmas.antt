@@ -8,7 +8,7 @@ use Rattle.address_map.specs.Records.{IsRegion, anchor_among}
 use Rattle.address_map.specs.declared.map.AddressMap.{AddressMap}
 use Rattle.address_map.specs.declared.region.Kind.TheVariants as kind
 use Rattle.address_map.specs.declared.region.Region.{Region}
-use Rattle.os_heap.proofs.Added.{are_mapped_all, clear_of_heaps, range_end, ranges_split}
+use Rattle.os_heap.proofs.RangeTests.{are_mapped_all, clear_of_heaps, range_end, ranges_split}
 use Rattle.os_heap.proofs.Apart.{range_parts}
 use Rattle.os_heap.proofs.Recorded.{IsClearOfAll, recorded_sound}
 use Rattle.os_heap.specs.Ranges.{are_mapped, meets_any}

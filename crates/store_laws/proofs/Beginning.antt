@@ -6,7 +6,7 @@ use Rattle.std.proofs.lemmas.Bool.{and_parts, cases_Bool, eq-eqb, eqb-true, fals
 use Rattle.rma.specs.profile.specs.declared.error.ErrorNumber.{ErrorNumber}
 use Rattle.address_map.specs.Bytes.{AreMapped, in_range, meets, word_start}
 use Rattle.address_map.specs.declared.region.Region.{Region}
-use Rattle.os_heap.proofs.Added.{are_mapped_all}
+use Rattle.os_heap.proofs.RangeTests.{are_mapped_all}
 use Rattle.os_heap.proofs.Apart.{range_parts}
 use Rattle.os_heap.proofs.Recorded.{IsClearOfAll, recorded_sound}
 use Rattle.os_heap.specs.Ranges.{are_mapped}

@@ -113,7 +113,11 @@ impl Breaks {
     pub fn has(&self, address: u32) -> bool
         ensures { result ≡ is_among self.now address }
     {
-        self.marks[mark_of(address)] && self.is_listed(address)
+        // By no &&, whose answer the compiler would test twice.
+        if !self.marks[mark_of(address)] {
+            return false;
+        }
+        self.is_listed(address)
     }
 
     #[tactic(auto, unfolding(crate::specs::Breaks::is_among))]

@@ -1,6 +1,6 @@
 -- The flex calls: the flex store is a range that a guest names once, and in it lie blocks without gaps, each behind an
--- anchor, a word elsewhere that holds the address of the block's bytes (Acorn C manual, "flex"; that they are SWIs,
--- their numbers, registers and refusals are this project's own).
+-- anchor, a word that holds the address of the block's bytes and lies outside the store or in a block before its own
+-- (Acorn C manual, "flex"; that they are SWIs, their numbers, registers and refusals are this project's own).
 use Rattle.std.specs.Prelude.{ℕ, Bool, true, false, Option, Some, Result, Ok}
 use Rattle.profile.specs.Outcome.{bind}
 use Rattle.profile.specs.declared.error.ErrorNumber.{ErrorNumber}

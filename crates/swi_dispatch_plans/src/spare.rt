@@ -1,5 +1,5 @@
-//! A second memory and list of modules, on which a call is tried before it is carried on, where its caller takes no
-//! error.
+//! A second memory, on which a call is tried before it is carried on, where its caller takes no error. The memory is
+//! kept; the list of modules that goes with it is made for each trial.
 
 ghost use Rattle.std.specs.Prelude.{◌≡◌, IfOk};
 ghost use Rattle.profile.specs.Sizes.{AreGood};
@@ -19,11 +19,11 @@ use std::marker::Model;
 use swi_dispatch_answers::errors::error_at;
 use swi_dispatch_modules::instances::Instances;
 
-/// What a call is tried on: a memory as large as the machine's, and a list of modules.
+/// What a call is tried on: a memory as large as the machine's, which is kept for the next call. The list of modules is
+/// no part of it: each trial makes its own.
 #[derive(Drop)]
 pub struct Spare {
     memory: AddressMap,
-    instances: Instances,
     sizes: Config,
 }
 
@@ -50,7 +50,6 @@ impl Spare {
     {
         Ok(Spare {
             memory: AddressMap::new(alloc, config.pages())?,
-            instances: Instances::new(),
             sizes: config,
         })
     }
@@ -64,7 +63,9 @@ impl Spare {
     }
 
     /// The number of the error that a call ends with whose entry comes back with an outcome, if it ends so before more
-    /// module code runs.
+    /// module code runs. The copy of the modules is a local here, so that this function has a large frame and is a call
+    /// of its own.
+    #[inline(never)]
     pub fn error_after(
         &mut self,
         memory: &AddressMap,
@@ -81,11 +82,10 @@ impl Spare {
     {
         areas_count_pages();
         self.memory.copy_from(memory);
-        self.instances.copy_from(instances);
+        let mut modules = Instances::new();
+        modules.copy_from(instances);
         let mut plan = plan.copied();
-        let code = self
-            .instances
-            .carry(&mut self.memory, areas, &mut plan, outcome);
+        let code = modules.carry(&mut self.memory, areas, &mut plan, outcome);
         if code.is_some() {
             return None;
         }

@@ -47,7 +47,7 @@ pub struct PictureBox<'a> {
     pub name: &'a [u8],
     /// Its anchor, or what stands in its word.
     pub detail: u32,
-    /// Where the bytes of the block begin that its anchor lies in, if it lies in one.
+    /// If its anchor lies in a flex block, the address of that block's bytes.
     pub holder: Option<u32>,
 }
 
@@ -121,7 +121,8 @@ impl<'a> PictureBox<'a> {
         }
     }
 
-    /// Whether this is the other box too. That another box holds its anchor now is told of that one.
+    /// Whether this is the other box too. Which block holds its anchor is not asked: where that has changed, a block
+    /// has come, gone, slid or changed its size, and that is told of that block.
     pub fn is_same(&self, other: &PictureBox<'_>) -> bool {
         self.kind == other.kind
             && self.address == other.address

@@ -1,26 +1,52 @@
+use Rattle.std.proofs.Common.{refl, rules}
+use Rattle.std.specs.Io.KnownBytes.{Appends}
+use Rattle.profile.specs.Output.{AddsFront}
+use Rattle.command_shell.specs.Fronts.{HasSome}
 use Rattle.command_shell.specs.Session.{script_state}
-use Rattle.command_shell.specs.State.{ScriptState}
-use Rattle.command_shell.proofs.ImageLemmas.{at_err, none_added, some_added}
-use Rattle.command_shell.proofs.ScriptLemmas.{told_after}
+use Rattle.command_shell.specs.State.{Answered, ScriptState}
+use Rattle.command_shell.proofs.ImageLemmas.{at_err, none_added}
+use Rattle.command_shell.proofs.ScriptLemmas.{part_told, told_of}
 use Rattle.command_shell.proofs.script.run_script.Goals as goal
+
+pub returns-clause-text : goal.returns-clause-text
+returns-clause-text g c =
+    let images = c.args.images.now in
+    let made = c.in-Ok.ensures in
+    told_of (λ (t : Answered). Appends (g.W.Sink.contents c.args.writer.now) (g.W.Sink.contents c.run_lines.new.sink) t.text)
+    (g.R.Source.remaining c.args.reader.now) c.args.config images c.args.budget c.in_ok-script.script.items
+    c.as_slice.result.now c.new-session.result c.in-Ok.machine c.in_ok-script.ensures.bytes c.as_slice.ensures.value
+    (c.new-session.ensures images) made.start made.sizes made.fresh
+    c.in_ok-run_lines.ensures.told.text
 
 pub returns-clause-last : goal.returns-clause-last
 returns-clause-last g c =
     let images = c.args.images.now in
-    let now = script_state c.run_lines.new.session c.run_lines.new.images in
-    told_after (λ (s : ScriptState). s.last) (g.R.Source.remaining c.args.reader.now) c.args.config images c.args.budget
-    c.in_ok-script.script.items c.as_slice.result.now (script_state c.in-Ok.session images) now c.last.result
-    c.in_ok-script.ensures.bytes c.as_slice.ensures.value
-    (let made = rw c.in-Ok.is at c.new-made.ensures in made images) c.in_ok-run_lines.ensures.told.state (c.last.ensures c.run_lines.new.images)
+    let made = c.in-Ok.ensures in
+    part_told (λ (s : ScriptState). s.last) c.last.result (script_state c.run_lines.new.session c.run_lines.new.images)
+    (g.R.Source.remaining c.args.reader.now) c.args.config images c.args.budget c.in_ok-script.script.items
+    c.as_slice.result.now c.new-session.result c.in-Ok.machine c.in_ok-script.ensures.bytes c.as_slice.ensures.value
+    (c.new-session.ensures images) made.start made.sizes made.fresh
+    c.in_ok-run_lines.ensures.told.state (c.last.ensures c.run_lines.new.images)
 
 pub returns-clause-left : goal.returns-clause-left
 returns-clause-left g c =
     let images = c.args.images.now in
-    let now = script_state c.run_lines.new.session c.run_lines.new.images in
-    told_after (λ (s : ScriptState). s.left) (g.R.Source.remaining c.args.reader.now) c.args.config images c.args.budget
-    c.in_ok-script.script.items c.as_slice.result.now (script_state c.in-Ok.session images) now c.left.result
-    c.in_ok-script.ensures.bytes c.as_slice.ensures.value
-    (let made = rw c.in-Ok.is at c.new-made.ensures in made images) c.in_ok-run_lines.ensures.told.state (c.left.ensures c.run_lines.new.images)
+    let made = c.in-Ok.ensures in
+    part_told (λ (s : ScriptState). s.left) c.left.result (script_state c.run_lines.new.session c.run_lines.new.images)
+    (g.R.Source.remaining c.args.reader.now) c.args.config images c.args.budget c.in_ok-script.script.items
+    c.as_slice.result.now c.new-session.result c.in-Ok.machine c.in_ok-script.ensures.bytes c.as_slice.ensures.value
+    (c.new-session.ensures images) made.start made.sizes made.fresh
+    c.in_ok-run_lines.ensures.told.state (c.left.ensures c.run_lines.new.images)
+
+pub returns-clause-images : goal.returns-clause-images
+returns-clause-images g c =
+    let images = c.args.images.now in
+    let made = c.in-Ok.ensures in
+    part_told (λ (s : ScriptState). s.images) c.run_lines.new.images (script_state c.run_lines.new.session c.run_lines.new.images)
+    (g.R.Source.remaining c.args.reader.now) c.args.config images c.args.budget c.in_ok-script.script.items
+    c.as_slice.result.now c.new-session.result c.in-Ok.machine c.in_ok-script.ensures.bytes c.as_slice.ensures.value
+    (c.new-session.ensures images) made.start made.sizes made.fresh
+    c.in_ok-run_lines.ensures.told.state refl
 
 pub returns-in_err-script-clause-added : goal.returns-in_err-script-clause-added
 returns-in_err-script-clause-added g c =
@@ -33,8 +59,21 @@ returns-in_default-clause-added g c =
 pub returns-in_err-run_lines-clause-added : goal.returns-in_err-run_lines-clause-added
 returns-in_err-run_lines-clause-added g c =
     let images = c.args.images.now in
+    let made = c.in-Ok.ensures in
     at_err _ _
-    (some_added (g.R.Source.remaining c.args.reader.now) c.args.config images c.run_lines.new.images c.args.budget
-    c.in_ok-script.script.items c.as_slice.result.now (script_state c.in-Ok.session images)
-    c.in_ok-script.ensures.bytes c.as_slice.ensures.value (let made = rw c.in-Ok.is at c.new-made.ensures in made images)
+    (told_of (λ (t : Answered). HasSome images t.state.images c.run_lines.new.images)
+    (g.R.Source.remaining c.args.reader.now) c.args.config images c.args.budget c.in_ok-script.script.items
+    c.as_slice.result.now c.new-session.result c.in-Ok.machine c.in_ok-script.ensures.bytes c.as_slice.ensures.value
+    (c.new-session.ensures images) made.start made.sizes made.fresh
     c.in_err-run_lines.ensures.added)
+
+pub returns-in_err-run_lines-clause-memory : goal.returns-in_err-run_lines-clause-memory
+returns-in_err-run_lines-clause-memory g c =
+    let images = c.args.images.now in
+    let made = c.in-Ok.ensures in
+    λ is.
+    told_of (λ (t : Answered). AddsFront (g.W.Sink.contents c.args.writer.now) (g.W.Sink.contents c.run_lines.new.sink) t.text)
+    (g.R.Source.remaining c.args.reader.now) c.args.config images c.args.budget c.in_ok-script.script.items
+    c.as_slice.result.now c.new-session.result c.in-Ok.machine c.in_ok-script.ensures.bytes c.as_slice.ensures.value
+    (c.new-session.ensures images) made.start made.sizes made.fresh
+    (c.in_err-run_lines.ensures.memory (search rules))

@@ -4,7 +4,7 @@ use Rattle.address_map.specs.Memory.{anchor_of}
 use Rattle.address_map.specs.Records.{anchor_among}
 use Rattle.os_heap.specs.Ranges.{meets_any}
 use Rattle.os_heap.specs.Store.{store_of}
-use Rattle.os_heap.proofs.Added.{meets_recorded}
+use Rattle.os_heap.proofs.RangeTests.{meets_recorded}
 use Rattle.dynamic_areas.specs.Changing.{must_stay}
 use Rattle.dynamic_areas.proofs.measure.must_stay.Goals as goal
 

@@ -1,4 +1,4 @@
-use Rattle.heap_turns.proofs.KeptHeaps.{own_kept}
+use Rattle.heap_turns.proofs.OwnHeaps.{own_kept}
 use Rattle.heap_turns.proofs.laws.own_calls_keep_heap.Goals as goal
 
 pub returns : goal.returns

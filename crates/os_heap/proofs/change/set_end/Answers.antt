@@ -4,7 +4,7 @@ use Rattle.address_map.proofs.Stores.{layout-mapping}
 use Rattle.os_heap_lists.specs.Heap.{HeapList}
 use Rattle.os_heap.specs.Outcomes.{IsHeapAt}
 use Rattle.os_heap.specs.Store.{store_of, heap_in}
-use Rattle.os_heap.proofs.Added.{CanHold, can_hold, range_end}
+use Rattle.os_heap.proofs.RangeTests.{CanHold, can_hold, range_end}
 use Rattle.os_heap.proofs.Ending.{EndsAt, store_ended, sound_ended, classes_ended}
 use Rattle.os_heap.proofs.Found.{found_at}
 use Rattle.os_heap.proofs.Frame.{layout-regions}

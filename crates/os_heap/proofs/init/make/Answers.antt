@@ -13,7 +13,8 @@ use Rattle.os_heap.specs.Store.{store_of, IsSound}
 use Rattle.os_heap.specs.Calls.{begun_with}
 use Rattle.os_heap.proofs.FlexWords.{flex_begun}
 use Rattle.os_heap.proofs.Frame.{layout-regions}
-use Rattle.os_heap.proofs.Added.{begun_unflexed, CanHold, can_hold, range_end, recorded, store_begun, begun_sound, classes_begun}
+use Rattle.os_heap.proofs.Added.{begun_unflexed, recorded, store_begun, begun_sound, classes_begun}
+use Rattle.os_heap.proofs.RangeTests.{CanHold, can_hold, range_end}
 use Rattle.os_heap.proofs.Limits.{records_room}
 use Rattle.os_heap.proofs.Marking.{heap_unmarked}
 use Rattle.os_heap.proofs.Order.{order_added}

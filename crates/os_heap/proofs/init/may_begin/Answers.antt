@@ -3,8 +3,9 @@ use Rattle.std.proofs.lemmas.Bool.{le-leb, lt-leb}
 use Rattle.address_map.specs.Memory.{bytes_of}
 use Rattle.os_heap.specs.Store.{store_of, guest_count}
 use Rattle.os_heap.specs.Ranges.{is_heap_region, overlaps}
-use Rattle.os_heap.proofs.Added.{begun_bad, begun_over, begun_full, can_hold}
-use Rattle.os_heap.proofs.Innermost.{obstructed_over}
+use Rattle.os_heap.proofs.Added.{begun_bad, begun_over, begun_full}
+use Rattle.os_heap.proofs.RangeTests.{can_hold}
+use Rattle.os_heap.proofs.Obstructions.{obstructed_over}
 use Rattle.os_heap.proofs.init.may_begin.Goals as goal
 
 pub returns-then-not-is_heap_region-clause-answer : goal.returns-then-not-is_heap_region-clause-answer

@@ -1,5 +1,5 @@
 use Rattle.std.proofs.Common.{arith}
-use Rattle.os_heap.proofs.Added.{range_end}
+use Rattle.os_heap.proofs.RangeTests.{range_end}
 use Rattle.os_heap.proofs.init.write_descriptor.Goals as goal
 
 pub overflow_add-heap : goal.overflow_add-heap

@@ -3,7 +3,8 @@ use Rattle.std.proofs.lemmas.Bool.{or_left, or_right}
 use Rattle.std.specs.List.{list_any}
 use Rattle.address_map.specs.Memory.{anchor_of, bytes_of, regions}
 use Rattle.address_map.specs.Records.{anchor_among}
-use Rattle.os_heap.proofs.Innermost.{obstructed_barred, obstructed_told, last_spelled}
+use Rattle.os_heap.proofs.Innermost.{last_spelled}
+use Rattle.os_heap.proofs.Obstructions.{obstructed_barred, obstructed_told}
 use Rattle.os_heap.specs.Bars.{bars_record}
 use Rattle.os_heap.specs.Laws.{told_by}
 use Rattle.os_heap.specs.Nesting.{holds_range, is_round}

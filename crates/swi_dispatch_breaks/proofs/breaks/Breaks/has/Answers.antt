@@ -3,9 +3,9 @@ use Rattle.swi_dispatch_breaks.specs.Breaks.{mark_of, is_among}
 use Rattle.swi_dispatch_breaks.proofs.Marks.{not_among}
 use Rattle.swi_dispatch_breaks.proofs.breaks.Breaks.has.Goals as goal
 
-pub returns-else-self-mark_of : goal.returns-else-self-mark_of
-returns-else-self-mark_of c =
+pub returns-then-not-self-mark_of : goal.returns-then-not-self-mark_of
+returns-then-not-self-mark_of c =
     let clear : get_or c.self.inside.marks (mark_of c.args.address) false ≡ false =
-    ap (λ k. get_or c.self.inside.marks k false) (sym c.mark_of.ensures.value) ∙ c.if-self-mark_of.false in
-    c.if-self-mark_of.false ∙ not_among c.self.inside.marks c.self.inside.addresses.items c.args.address c.self.invariant clear
+    ap (λ k. get_or c.self.inside.marks k false) (sym c.mark_of.ensures.value) ∙ c.if-not-self-mark_of.true in
+    not_among c.self.inside.marks c.self.inside.addresses.items c.args.address c.self.invariant clear
     ∙ ap (λ breaks. is_among breaks c.args.address) c.self.view_is
