@@ -8,6 +8,7 @@ pub mod errors;
 pub mod gate;
 pub mod halt;
 pub mod laws;
+pub mod lending;
 pub mod machine;
 pub mod module_start;
 pub mod module_steps;

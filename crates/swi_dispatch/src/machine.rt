@@ -1,10 +1,6 @@
-ghost use Rattle.std.specs.Prelude.{◌≡◌, ◌≤◌, ◌%◌, ◌&&◌, true, false, [], Some, None, IfOk, IfSome, IsSome, is_err, length};
+ghost use Rattle.std.specs.Prelude.{◌≡◌, ◌≤◌, ◌%◌, ◌&&◌, true, false, [], Some, None, IfOk, IfSome, is_err, length};
 ghost use Rattle.std.specs.Option.{option_map};
 ghost use Rattle.profile.specs.Outcome.{Leaves};
-ghost use Rattle.address_map.specs.Memory.{free_pages};
-ghost use Rattle.os_heap.specs.Store.{store_of, IsSound};
-ghost use Rattle.dynamic_areas.specs.Rooms.{IsAreaTable};
-ghost use Rattle.flex_ground.specs.flex_store.specs.State.{IsFlex};
 ghost use Rattle.swi_dispatch.specs.Step.{machine_step, module_loaded, store_called, swi_called, turn_end, without_x};
 
 use crate::boot_error::BootError;
@@ -25,8 +21,8 @@ use std::marker::Model;
 use swi_dispatch_answers::words::host_string;
 use swi_dispatch_breaks::Breaks;
 use swi_dispatch_frames::Frames;
+use swi_dispatch_plans::Spare;
 use swi_dispatch_plans::instances::Instances;
-use swi_dispatch_plans::{Planner, Spare};
 
 /// The most bytes that a step can print.
 pub(crate) const MOST_PRINTED: usize = 4096;
@@ -80,12 +76,10 @@ impl Model for Machine {
 }
 
 impl Machine {
-    ghost use Rattle.address_map.specs.Memory.{bytes_of};
     ghost use Rattle.swi_dispatch.specs.Parts.{state_of, outcome_of, IsInStep, OnlySteps, OnlyState};
     ghost use Rattle.swi_dispatch.specs.Parts.{TakesTurn, IsMachine, IsWellFormed};
-    ghost use Rattle.swi_dispatch.specs.MachineState.{start_of, stop_of, quiet, setting_of};
+    ghost use Rattle.swi_dispatch.specs.MachineState.{start_of, stop_of, quiet};
     ghost use Rattle.swi_dispatch.specs.Boot.{booted, registered, poked};
-    ghost use Rattle.swi_dispatch_plans.specs.Setting.{setting_in};
     ghost use Rattle.swi_dispatch.specs.Returns.{halted};
 
     /// A machine of these sizes at its start: user mode at &8000, each register 0 but the stack
@@ -262,94 +256,6 @@ impl Machine {
             Some(plan) => plan.given().text.as_slice(),
             None => &[],
         }
-    }
-
-    /// The bytes that the last step or store call printed; none before the first.
-    pub fn output(&self) -> &[u8]
-        ensures { result.now ≡ self.now.printed }
-    {
-        self.printed.as_slice()
-    }
-
-    /// The core.
-    pub fn cpu(&self) -> &Cpu
-        ensures { result.now ≡ (state_of self.now).cpu }
-    {
-        &self.cpu
-    }
-
-    /// The memory.
-    #[tactic(auto, unfolding(os_heap::specs::Store::store_of))]
-    pub fn memory(&self) -> &AddressMap
-        ensures map { result.now ≡ self.now.map }
-        ensures store { store_of result.now ≡ (state_of self.now).store }
-        ensures flex { IsFlex result.now (state_of self.now).tables.flex }
-        ensures pool { free_pages result.now ≡ (state_of self.now).pool }
-        ensures bytes { bytes_of result.now ≡ (state_of self.now).store.bytes }
-        ensures sound { IsSound (store_of result.now) }
-        ensures well_formed { IsWellFormed self.now }
-    {
-        &self.memory
-    }
-
-    /// The heaps, which lie in the memory.
-    pub fn heaps(&self) -> &Heaps {
-        &self.heaps
-    }
-
-    /// The dynamic areas, which stand on the memory.
-    pub fn areas(&self) -> &Areas
-        ensures land { result.now ≡ (state_of self.now).tables.land }
-        ensures table { IsAreaTable result.now.areas }
-        ensures well_formed { IsWellFormed self.now }
-    {
-        &self.areas
-    }
-
-    /// The modules and their instances.
-    pub fn instances(&self) -> &Instances
-        ensures { result.now ≡ (state_of self.now).tables.modules }
-    {
-        &self.instances
-    }
-
-    /// Where the flex store is, if there is one; its blocks stand in the memory.
-    pub fn flex(&self) -> &Flex
-        ensures value { result.now ≡ (state_of self.now).tables.flex }
-        ensures well_formed { IsWellFormed self.now }
-    {
-        &self.flex
-    }
-
-    /// How many frames of module code are open.
-    pub fn frames(&self) -> usize
-        ensures value { result ≡ length (state_of self.now).tables.frames }
-        ensures most { result ≤ 32 }
-    {
-        self.frames.len()
-    }
-
-    // What the plans of calls on modules are made from.
-    pub(crate) fn planner<'a>(&'a self) -> Planner<'a>
-        ensures { setting_in result ≡ setting_of (state_of self.now) }
-    {
-        Planner::new(
-            &self.cpu,
-            &self.memory,
-            &self.areas,
-            &self.instances,
-            &self.frames,
-            &self.plan,
-        )
-    }
-
-    /// Why the machine is halted, if it is.
-    pub fn stop(&self) -> Option<Stop>
-        ensures halt { result ≡ option_map stop_of (state_of self.now).halt }
-        ensures stepped { IsSome result → self.now.is_fresh ≡ false }
-        ensures well_formed { IsWellFormed self.now }
-    {
-        self.halt.map(Halt::stop)
     }
 
     // A step prints into an empty list, and a machine that has been stepped can't be booted.
