@@ -1,4 +1,4 @@
--- Whether a range has an anchor: byte by byte.
+-- Whether a range has an anchor: byte by byte, and by the marks of a page's words.
 use Rattle.std.proofs.Common.{◌≡◌, ◌≢◌, ℕ, ◌+◌, ◌-◌, ◌*◌, ◌/◌, ◌%◌, ◌<◌, ◌≤◌, Some, None, is_some, Bool, true, false, zero, suc, ap, sym, ◌∙◌, subst, refl, arith, inl, inr}
 use Rattle.std.proofs.lemmas.Bool.{both_ways, cases_Bool, cases_eq, false≢true, false_from_ne_true, or_from, or_left, or_right}
 use Rattle.address_map.specs.Classes.{is_anchor}

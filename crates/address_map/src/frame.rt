@@ -23,14 +23,14 @@ impl Model for PageFrame {
 }
 
 impl PageFrame {
-    /// That of a page which is not mapped.
+    /// No frame: the page is not mapped.
     pub(crate) fn none() -> PageFrame
         ensures { result ≡ None }
     {
         PageFrame { number: NO_FRAME }
     }
 
-    /// That of a page with a frame.
+    /// The frame with this number.
     pub(crate) fn of(frame: u16) -> PageFrame
         requires { frame < 65535 }
         ensures { result ≡ Some frame }
@@ -38,7 +38,7 @@ impl PageFrame {
         PageFrame { number: frame }
     }
 
-    /// The frame.
+    /// The frame's number, if there is one.
     #[inline(always)]
     pub(crate) fn frame(self) -> Option<u16>
         ensures { result ≡ self }

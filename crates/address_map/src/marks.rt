@@ -62,7 +62,8 @@ impl Marks {
         true
     }
 
-    /// Whether no word of the bytes from `first` up to `end` is an anchor's or a flex header's.
+    /// Whether no word of the bytes from `first` up to `end` is an anchor's. Where one is a flex header's the answer is no
+    /// too.
     #[inline(always)]
     pub(crate) fn are_plain_or_heap(&self, first: usize, end: usize) -> bool
         requires { end ≤ length self.now.bytes.items }

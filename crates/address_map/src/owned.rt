@@ -54,7 +54,7 @@ impl AddressMap {
         false
     }
 
-    /// Whether an anchor has a byte from `from` on and below `end`, in one page.
+    /// Whether an anchor has a byte from `from` on and below `end`; all of these bytes lie in one page.
     #[inline(always)]
     fn page_holds_anchor(&self, from: u32, end: u32) -> bool
         requires page { from % 4096 + (end - from) ≤ 4096 }
@@ -65,8 +65,8 @@ impl AddressMap {
         self.may_hold_anchor(from, end - from) && self.holds_anchor_between(from, end)
     }
 
-    /// Whether some bytes of a page need a look at each of their words: mostly the marks of all of them say at once that
-    /// none is an anchor's.
+    /// Whether the words of some bytes of a page must be looked at one by one. Mostly not: their marks, four to a byte,
+    /// tell that none is an anchor's.
     #[inline(always)]
     fn may_hold_anchor(&self, addr: u32, len: u32) -> bool
         requires page { addr % 4096 + len ≤ 4096 }

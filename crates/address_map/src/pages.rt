@@ -33,7 +33,7 @@ impl AddressMap {
         self.place_of(addr)
     }
 
-    /// The same of an address that has 26 bits, which isn't asked again.
+    /// The same for an address that has 26 bits; whether it has isn't asked again.
     #[inline(always)]
     pub(crate) fn place_of(&self, addr: u32) -> Option<usize>
         requires { addr < 2 ^ 26 }

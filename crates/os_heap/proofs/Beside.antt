@@ -1,11 +1,11 @@
 -- Heaps and ranges beside a heap that gets another end.
 use Rattle.std.specs.List.{list_any}
 use Rattle.std.proofs.Common.{ap, ◌≡◌, arith, ℕ, List, ◌∙◌, inr, ◌-◌, inl, ◌+◌, ◌≢◌, sym, ◌<◌, ◌⊎◌, [], ◌∷◌, ◌&&◌, true, false, subst, ltb, refl}
-use Rattle.std.proofs.lemmas.Bool.{and_parts, and_right, both_ways, cases_Bool, or_from, le-ltb, cases_lt, eq-eqb, false≢true, le-leb, lt-ltb, ne_eqb, or_parts}
+use Rattle.std.proofs.lemmas.Bool.{and_parts, and_right, both_ways, cases_Bool, or_from, le-ltb, cases_lt, eq-eqb, false≢true, le-leb, lt-ltb, ne_eqb, not-false, or_parts}
 use Rattle.address_map.proofs.Stores.{in_range-cases}
 use Rattle.address_map.specs.Bytes.{Bytes, in_range, meets}
 use Rattle.os_heap_lists.specs.Heap.{HeapList, IsHeapIn}
-use Rattle.os_heap.proofs.RangeTests.{clear_unless, not_no}
+use Rattle.os_heap.proofs.RangeTests.{clear_unless}
 use Rattle.os_heap.proofs.Holding.{HoldsRange, range_held}
 use Rattle.os_heap.proofs.Nesting.{apart_turned, not_itself, within_low}
 use Rattle.os_heap.proofs.Stores.{AreOthers}
@@ -59,7 +59,7 @@ grown_within b h g end heap other free within =
     let before : has_before h.start g ≡ true =
     rw (lt-ltb g.start h.start (omega (arith, low.0)), le-leb g.start h.start (omega (arith, low.0)), lt-ltb h.start (g.start + g.end) (omega (arith, low.1, heap.inside))) refl in
     let free' = rw before at free in
-    let holds : holds_range (g.start + 16) g.items h.start end ≡ true = not_no (holds_range (g.start + 16) g.items h.start end) free' in
+    let holds : holds_range (g.start + 16) g.items h.start end ≡ true = not-false (holds_range (g.start + 16) g.items h.start end) free' in
     let held : HoldsRange (g.start + 16) g.items h.start end = range_held (g.start + 16) g.items h.start end other.totals holds in
     record {
       guest = within.guest;

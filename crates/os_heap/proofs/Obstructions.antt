@@ -17,7 +17,7 @@ use Rattle.os_heap.specs.Nesting.{holds_range, innermost, is_crossed, is_round}
 use Rattle.os_heap.specs.Ranges.{has_before, is_in_way, is_obstructed, overlaps}
 use Rattle.os_heap.specs.Store.{AreHeapsIn, IsSound, Store, heap_in, heaps_in, others_in, store_of}
 
--- does a heap begin before, and have the first byte?
+-- a heap that begins before a range and has its first byte
 pub record IsBefore (at : ℕ) (h : HeapList) : Type 0 where
   pub low : h.start < at
   pub high : at < h.start + h.end

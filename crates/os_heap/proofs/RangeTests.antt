@@ -1,6 +1,6 @@
 -- What the tests of ranges say: of memory that is mapped, of a heap's range, and of all that a store records.
-use Rattle.std.proofs.Common.{ap, not, Bool, arith, inl, ◌+◌, ◌≡◌, ℕ, true, inr, suc, zero, refl, false, [], List, ◌∷◌, ◌≤◌, ◌%◌, ◌==◌, ◌&&◌, ◌-◌, leb, ◌^◌, ◌<◌, ◌⊎◌, sym, ◌↔◌, ◌||◌}
-use Rattle.std.proofs.lemmas.Bool.{cases_lt, and_parts, false_from_ne_true, or_parts, leb-true, ltb-true, eqb-true, le-leb, cases_Bool, false≢true, eq-eqb}
+use Rattle.std.proofs.Common.{ap, Bool, arith, inl, ◌+◌, ◌≡◌, ℕ, true, inr, suc, zero, refl, false, [], List, ◌∷◌, ◌≤◌, ◌%◌, ◌==◌, ◌&&◌, ◌-◌, leb, ◌^◌, ◌<◌, ◌⊎◌, sym, ◌↔◌, ◌||◌}
+use Rattle.std.proofs.lemmas.Bool.{cases_lt, and_parts, false_from_ne_true, or_parts, leb-true, ltb-true, eqb-true, le-leb, cases_Bool, false≢true, eq-eqb, not-false}
 use Rattle.std.proofs.Math.Dec.{ltb}
 use Rattle.std.proofs.lemmas.Bool.Decides.{nat_tests}
 use Rattle.std.specs.List.{list_any}
@@ -16,7 +16,7 @@ use Rattle.os_heap.specs.Ranges.{are_mapped, is_heap_region, meets_any, overlaps
 use Rattle.os_heap.specs.Nesting.{holds_range, is_crossed}
 use Rattle.os_heap.specs.Store.{AreClear, IsClearOfHeaps, Store, heaps_in, others_in, store_of}
 
--- is all of a range mapped?
+-- a range that is mapped whole
 pub are_mapped_all : (mapped : ℕ → Bool) (at n : ℕ) → are_mapped mapped at n ≡ true → AreMapped mapped at n
 are_mapped_all mapped at zero h a low high = absurd (omega arith)
 are_mapped_all mapped at (suc n) h a low high =
@@ -70,16 +70,12 @@ unlapped at len s clear =
     let both = or_parts (heaps || others) (anchor_among s.anchor at len) clear in
     (or_parts heaps others both.0, both.1)
 
-pub not_no : (t : Bool) → not t ≡ false → t ≡ true
-not_no true e = refl
-not_no false e = sym e
-
 -- a heap that the range does not cross is clear of it, or holds it in one block
 pub uncrossed : (b : Bytes) (at len : ℕ) (h : HeapList) → IsHeapIn b h.start h.end h.items → is_crossed at len h ≡ false
     → AreClear at len h.start h.end ⊎ HoldsRange (h.start + 16) h.items at len
 uncrossed b at len h heap none = elim (cases_Bool (meets at len h.start h.end)) [
   | inr apart ↦ inl (clear_unless at len h.start h.end apart)
-  | inl met ↦ inr (range_held (h.start + 16) h.items at len heap.totals (not_no (holds_range (h.start + 16) h.items at len) (rw met at none)))
+  | inl met ↦ inr (range_held (h.start + 16) h.items at len heap.totals (not-false (holds_range (h.start + 16) h.items at len) (rw met at none)))
 ]
 
 -- what the test of a heap's range says

@@ -113,7 +113,7 @@ impl Breaks {
     pub fn has(&self, address: u32) -> bool
         ensures { result ≡ is_among self.now address }
     {
-        // By no &&, whose answer the compiler would test twice.
+        // Not written with &&: the compiler would test its answer a second time.
         if !self.marks[mark_of(address)] {
             return false;
         }

@@ -1,5 +1,4 @@
-//! A second memory, on which a call is tried before it is carried on, where its caller takes no error. The memory is
-//! kept; the list of modules that goes with it is made for each trial.
+//! A second memory, on which a call is tried before it is carried on, where its caller takes no error.
 
 ghost use Rattle.std.specs.Prelude.{◌≡◌, IfOk};
 ghost use Rattle.profile.specs.Sizes.{AreGood};
@@ -63,8 +62,8 @@ impl Spare {
     }
 
     /// The number of the error that a call ends with whose entry comes back with an outcome, if it ends so before more
-    /// module code runs. The copy of the modules is a local here, so that this function has a large frame and is a call
-    /// of its own.
+    /// module code runs. The copy of the modules is a local: this function has a large frame, so it is a call of its
+    /// own.
     #[inline(never)]
     pub fn error_after(
         &mut self,

@@ -1,5 +1,5 @@
 use Rattle.std.proofs.Common.{◌-◌, ◌∙◌, sym, arith}
-use Rattle.os_heap.proofs.ForgetLemmas.{LiesAt, forgets_unheld, lies_at, told_held}
+use Rattle.os_heap.proofs.ForgetLemmas.{forgets_unheld, lies_at, told_held}
 use Rattle.os_heap.proofs.forget.forget_inner.Goals as goal
 
 pub overflow_sub-total : goal.overflow_sub-total

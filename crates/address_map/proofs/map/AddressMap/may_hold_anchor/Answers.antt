@@ -1,12 +1,8 @@
-use Rattle.std.proofs.Common.{◌≡◌, Bool, true, false, not, refl, sym, ◌∙◌, arith}
-use Rattle.std.proofs.lemmas.Bool.{false≢true}
+use Rattle.std.proofs.Common.{sym, ◌∙◌, arith}
+use Rattle.std.proofs.lemmas.Bool.{not-false}
 use Rattle.address_map.proofs.Anchors.{low_words, unmapped_words}
 use Rattle.address_map.proofs.Lending.{page_fits}
 use Rattle.address_map.proofs.map.AddressMap.may_hold_anchor.Goals as goal
-
-told : (b : Bool) → not b ≡ false → b ≡ true
-told true is = refl
-told false is = absurd (false≢true (sym is))
 
 pub overflow_add-end : goal.overflow_add-end
 overflow_add-end c =
@@ -26,7 +22,7 @@ are_plain_or_heap-requires c =
 pub returns-in-Some : goal.returns-in-Some
 returns-in-Some c clear =
     low_words c.args.self.now c.args.addr c.in-Some.place c.args.len (sym c.translate.ensures ∙ c.in-Some.is) c.requires.page
-    (c.are_plain_or_heap.ensures (told c.are_plain_or_heap.result clear))
+    (c.are_plain_or_heap.ensures (not-false c.are_plain_or_heap.result clear))
 
 pub returns-in-None : goal.returns-in-None
 returns-in-None c clear = unmapped_words c.args.self.now c.args.addr c.args.len (sym c.translate.ensures ∙ c.in-None.is) c.requires.page
