@@ -102,6 +102,38 @@ fn gives_each_marked_word_its_class(rt: HostRuntime) -> Result<(), Fail> {
     Ok(())
 }
 
+// A heap of 256 bytes with a block of 20 bytes and one of none, its words written by hand: the
+// descriptor, and the lengths 24 and 8 at offsets 16 and 40.
+#[test]
+fn tells_the_heads_of_a_heap_from_what_its_blocks_hold(rt: HostRuntime) -> Result<(), Fail> {
+    let mut map = AddressMap::new(rt.alloc(), 1)?;
+    map.map_pages(0x9000, 1);
+    map.own(Kind::Heap, 0x9000, 256);
+    for (at, word) in [
+        (0x9000, 0x7061_6548),
+        (0x9004, 0),
+        (0x9008, 48),
+        (0x900C, 256),
+        (0x9010, 24),
+        (0x9028, 8),
+    ] {
+        assert!(rt; map.store_word(at, word) == Ok(()));
+        map.own(Kind::HeadWord, at, 4);
+    }
+    for (addr, class) in [
+        (0x900F, Class::Heap),
+        (0x9010, Class::Heap),
+        (0x9014, Class::Plain),
+        (0x9028, Class::Heap),
+        (0x902C, Class::Plain),
+    ] {
+        assert!(rt; map.class(addr) == class, "class of {addr:x}");
+    }
+    assert!(rt; map.store_byte(0x9013, 1) == Err(Fault::OwnedWord));
+    assert!(rt; map.load_word(0x9010) == Ok(24));
+    Ok(())
+}
+
 #[test]
 fn finds_the_anchors_in_a_range(rt: HostRuntime) -> Result<(), Fail> {
     let mut map = AddressMap::new(rt.alloc(), 1)?;
