@@ -29,7 +29,7 @@ is_mapped-layout m n same = ap (λ (p : ℕ → Option ℕ). λ (a : ℕ). is_so
 pub is_mapped-page : (m : AddressMap) (a b : ℕ) → a / 4096 ≡ b / 4096 → is_mapped m a ≡ is_mapped m b
 unfolding place
 is_mapped-page m a b same =
-    ap (λ (p : ℕ). is_some (place_by a (frame_at m.frames.items p))) same ∙ alike (frame_at m.frames.items (b / 4096)) where
+    ap (λ (p : ℕ). is_some (place_by a (frame_at m.frames p))) same ∙ alike (frame_at m.frames (b / 4096)) where
       alike : (there : Option ℕ) → is_some (place_by a there) ≡ is_some (place_by b there)
       alike None = refl
       alike (Some frame) = refl

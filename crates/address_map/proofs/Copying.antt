@@ -16,11 +16,11 @@ whole_range bytes lent n is long =
 
 -- the store's first bytes are those of the other's store, and pages have the frames that they have there
 pub bytes_alike : (m : AddressMap) (store old bytes : List ℕ) (frames : List (Option ℕ)) (n : ℕ) → store ≡ written (grown old n) 0 bytes → n ≡ length bytes
-    → bytes ≡ m.store.items → frames ≡ m.frames.items → (a : ℕ) → byte_in store (place_in frames a) ≡ byte_at m a
+    → bytes ≡ m.store.items → frames ≡ m.frames → (a : ℕ) → byte_in store (place_in frames a) ≡ byte_at m a
 unfolding byte_at place
 bytes_alike m store old bytes frames n is long same table a =
-    ap (λ (fs : List (Option ℕ)). byte_in store (place_in fs a)) table ∙ alike (place_in m.frames.items a) refl where
-      alike : (there : Option ℕ) → place_in m.frames.items a ≡ there → byte_in store there ≡ byte_in m.store.items there
+    ap (λ (fs : List (Option ℕ)). byte_in store (place_in fs a)) table ∙ alike (place_in m.frames a) refl where
+      alike : (there : Option ℕ) → place_in m.frames a ≡ there → byte_in store there ≡ byte_in m.store.items there
       alike None h = refl
       alike (Some k) h =
           let size = (length-grown old n).0 in

@@ -40,18 +40,18 @@ some_place : (a : ℕ) (frame : Option ℕ) → is_some (place_by a frame) ≡ i
 some_place a None = refl
 some_place a (Some frame) = refl
 
-page_mapped : (m : AddressMap) (page : ℕ) → is_some (frame_at m.frames.items page) ≡ is_mapped m (4096 * page)
+page_mapped : (m : AddressMap) (page : ℕ) → is_some (frame_at m.frames page) ≡ is_mapped m (4096 * page)
 unfolding place
 page_mapped m page =
     let same : 4096 * page / 4096 ≡ page = omega arith in
-    sym (some_place (4096 * page) (frame_at m.frames.items (4096 * page / 4096)) ∙ ap (λ (p : ℕ). is_some (frame_at m.frames.items p)) same)
+    sym (some_place (4096 * page) (frame_at m.frames (4096 * page / 4096)) ∙ ap (λ (p : ℕ). is_some (frame_at m.frames p)) same)
 
 pub pages_counted : (m : AddressMap) → page_total m ≡ free_pages m + counted (λ page. is_mapped m (4096 * page)) 16384
 unfolding page_total free_pages
 pages_counted m =
-    let frames = frames_counted m.frames.items in
-    let size : length m.frames.items ≡ 16384 = omega (arith, m.table.size) in
-    let mapped = counted_same (λ page. is_some (frame_at m.frames.items page)) (λ page. is_mapped m (4096 * page)) 16384
+    let frames = frames_counted m.frames in
+    let size : length m.frames ≡ 16384 = omega (arith, m.table.size) in
+    let mapped = counted_same (λ page. is_some (frame_at m.frames page)) (λ page. is_mapped m (4096 * page)) 16384
     (λ page below. page_mapped m page) in
-    let all = frames ∙ ap (counted (λ page. is_some (frame_at m.frames.items page))) size ∙ mapped in
+    let all = frames ∙ ap (counted (λ page. is_some (frame_at m.frames page))) size ∙ mapped in
     omega (arith, all)

@@ -15,14 +15,14 @@ use Rattle.address_map.proofs.PageTable.{place_within, place_written, place_near
 pub place_ahead : (m : AddressMap) (a j k : ℕ) → place m a ≡ Some k → a % 4096 + j < 4096 → place m (a + j) ≡ Some (k + j)
 unfolding place
 place_ahead m a j k h below =
-    let low = (place_within m.frames.items m.free.items a k m.table h).0 in
+    let low = (place_within m.frames m.free.items a k m.table h).0 in
     let e : k - a % 4096 + (a + j) % 4096 ≡ k + j = omega arith in
-    place_near m.frames.items a (a + j) k (omega arith) h ∙ ap Some e
+    place_near m.frames a (a + j) k (omega arith) h ∙ ap Some e
 
 pub page_fits : (m : AddressMap) (a k len : ℕ) → place m a ≡ Some k → a % 4096 + len ≤ 4096 → k + len ≤ length m.store.items
 unfolding place
 page_fits m a k len h within =
-    let low = place_written m.frames.items (length m.store.items) a k m.written h in
+    let low = place_written m.frames (length m.store.items) a k m.written h in
     omega (arith, low.0, low.1)
 
 length-lent : (store : List ℕ) (k len : ℕ) → k + len ≤ length store → length (slice_range store k (k + len)) ≡ len
@@ -76,7 +76,7 @@ unfolding is_owned
 plain_word m a k h plain = ap (λ class. not (is_plain class)) (class_found m a k h ∙ plain)
 
 -- the marks of words in a page lie in the bytes from that of the first to that of the last
-pub marks_within : (m : AddressMap) (a k n : ℕ) → a % 4096 + 4 * n ≤ 4096 → place m a ≡ Some k → (k + 4 * n + 15) / 16 ≤ length m.marks.bytes.items
+pub marks_within : (m : AddressMap) (a k n : ℕ) → a % 4096 + 4 * n ≤ 4096 → place m a ≡ Some k → (k + 4 * n + 15) / 16 ≤ length m.marks.bytes
 marks_within m a k n page h = omega (arith, page_fits m a k (4 * n) h page, m.marks_fit)
 
 pub plain_words : (m : AddressMap) (a k n : ℕ) → a % 4 ≡ 0 → a % 4096 + 4 * n ≤ 4096 → place m a ≡ Some k

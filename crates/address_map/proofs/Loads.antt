@@ -14,49 +14,49 @@ use Rattle.address_map.proofs.PageTable.{place_within, place_written, place_same
 
 pub place_fits : (m : AddressMap) (a k : ℕ) → place m a ≡ Some k → k + 1 ≤ length m.store.items
 unfolding place
-place_fits m a k h = omega (arith, (place_written m.frames.items (length m.store.items) a k m.written h).1)
+place_fits m a k h = omega (arith, (place_written m.frames (length m.store.items) a k m.written h).1)
 
 pub place_next : (m : AddressMap) (a j k : ℕ) → a % 4 ≡ 0 → j < 4 → place m a ≡ Some k → place m (a + j) ≡ Some (k + j)
 unfolding place
 place_next m a j k aligned below h =
-    let low = (place_within m.frames.items m.free.items a k m.table h).0 in
+    let low = (place_within m.frames m.free.items a k m.table h).0 in
     let e : k - a % 4096 + (a + j) % 4096 ≡ k + j = omega arith in
-    place_near m.frames.items a (a + j) k (omega arith) h ∙ ap Some e
+    place_near m.frames a (a + j) k (omega arith) h ∙ ap Some e
 
 pub place_only : (m : AddressMap) (a b k : ℕ) → place m a ≡ Some k → place m b ≡ Some k → a ≡ b
 unfolding place
-place_only m a b k h g = place_same m.frames.items m.free.items a b k m.table h g
+place_only m a b k h g = place_same m.frames m.free.items a b k m.table h g
 
 pub place_below : (m : AddressMap) (a k : ℕ) → place m a ≡ Some k → a < 2 ^ 26
 unfolding place
-place_below m a k h = place_limit m.frames.items m.free.items a k m.table h
+place_below m a k h = place_limit m.frames m.free.items a k m.table h
 
 pub place_past : (m : AddressMap) (a : ℕ) → 2 ^ 26 ≤ a → place m a ≡ None
 unfolding place
-place_past m a past = ap (place_by a) (get_or_past m.frames.items (a / 4096) None (omega (arith, m.table.size)))
+place_past m a past = ap (place_by a) (get_or_past m.frames (a / 4096) None (omega (arith, m.table.size)))
 
 -- the frame that was read from the table
-pub frame_read : (m : AddressMap) (a : ℕ) (there : Option ℕ) → a < 2 ^ 26 → there ≡ get_or m.frames.items (a / 4096) there
-    → frame_at m.frames.items (a / 4096) ≡ there
-frame_read m a there below read = get_or_default m.frames.items (a / 4096) None there (omega (arith, m.table.size)) ∙ sym read
+pub frame_read : (m : AddressMap) (a : ℕ) (there : Option ℕ) → a < 2 ^ 26 → there ≡ get_or m.frames (a / 4096) there
+    → frame_at m.frames (a / 4096) ≡ there
+frame_read m a there below read = get_or_default m.frames (a / 4096) None there (omega (arith, m.table.size)) ∙ sym read
 
-pub place_read : (m : AddressMap) (a : ℕ) (there : Option ℕ) → a < 2 ^ 26 → there ≡ get_or m.frames.items (a / 4096) there
+pub place_read : (m : AddressMap) (a : ℕ) (there : Option ℕ) → a < 2 ^ 26 → there ≡ get_or m.frames (a / 4096) there
     → place m a ≡ place_by a there
 unfolding place
 place_read m a there below read = ap (place_by a) (frame_read m a there below read)
 
 -- a page that is not mapped has no frame
-pub unmapped_page : (m : AddressMap) (a : ℕ) → is_mapped m a ≡ false → frame_at m.frames.items (a / 4096) ≡ None
+pub unmapped_page : (m : AddressMap) (a : ℕ) → is_mapped m a ≡ false → frame_at m.frames (a / 4096) ≡ None
 unfolding place
-unmapped_page m a h = none (frame_at m.frames.items (a / 4096)) h where
+unmapped_page m a h = none (frame_at m.frames (a / 4096)) h where
   none : (there : Option ℕ) → is_some (place_by a there) ≡ false → there ≡ None
   none None e = refl
   none (Some frame) e = absurd (false≢true (sym e))
 
 -- and one that is mapped has one
-pub mapped_page : (m : AddressMap) (a : ℕ) → is_mapped m a ≡ true → is_some (frame_at m.frames.items (a / 4096)) ≡ true
+pub mapped_page : (m : AddressMap) (a : ℕ) → is_mapped m a ≡ true → is_some (frame_at m.frames (a / 4096)) ≡ true
 unfolding place
-mapped_page m a h = some (frame_at m.frames.items (a / 4096)) h where
+mapped_page m a h = some (frame_at m.frames (a / 4096)) h where
   some : (there : Option ℕ) → is_some (place_by a there) ≡ true → is_some there ≡ true
   some None e = e
   some (Some frame) e = refl

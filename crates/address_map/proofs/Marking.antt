@@ -22,22 +22,22 @@ use Rattle.address_map.proofs.Stores.{in_range-cases}
 -- marks and table that stay leave each class
 pub same_marks : (m n : AddressMap) → n.frames ≡ m.frames → n.marks ≡ m.marks → class_of n ≡ class_of m
 unfolding class_of place
-same_marks m n frames marks = λ i a. mark_in (marks i) (place_in (frames i).items a)
+same_marks m n frames marks = λ i a. mark_in (marks i) (place_in (frames i) a)
 
-mark_same : (marks news : Marks) → news.bytes.items ≡ marks.bytes.items → (there : Option ℕ) → mark_in news there ≡ mark_in marks there
+mark_same : (marks news : Marks) → news.bytes ≡ marks.bytes → (there : Option ℕ) → mark_in news there ≡ mark_in marks there
 unfolding class_at
 mark_same marks news bytes None = refl
 mark_same marks news bytes (Some k) = ap (λ (xs : List ℕ). class_of_number (lane (slice_index xs (k / 4 / 4)) (k / 4 % 4))) bytes
 
 -- the same of copies
-pub copied_marks : (m n : AddressMap) → n.frames.items ≡ m.frames.items → n.marks.bytes.items ≡ m.marks.bytes.items → class_of n ≡ class_of m
+pub copied_marks : (m n : AddressMap) → n.frames ≡ m.frames → n.marks.bytes ≡ m.marks.bytes → class_of n ≡ class_of m
 unfolding class_of place
 copied_marks m n frames marks = λ i a.
-    (ap (λ (xs : List (Option ℕ)). mark_in n.marks (place_in xs a)) frames ∙ mark_same m.marks n.marks marks (place_in m.frames.items a)) i
+    (ap (λ (xs : List (Option ℕ)). mark_in n.marks (place_in xs a)) frames ∙ mark_same m.marks n.marks marks (place_in m.frames a)) i
 
 pub place_lane : (m : AddressMap) (a k : ℕ) → place m a ≡ Some k → k % 4096 ≡ a % 4096
 unfolding place
-place_lane m a k h = (place_within m.frames.items m.free.items a k m.table h).0
+place_lane m a k h = (place_within m.frames m.free.items a k m.table h).0
 
 -- where the word lies that holds the byte at a place
 pub place_word : (m : AddressMap) (a k : ℕ) → place m a ≡ Some k → place m (word_start a) ≡ Some (k - k % 4)
@@ -45,7 +45,7 @@ unfolding place
 place_word m a k h =
     let low = place_lane m a k h in
     let e : k - a % 4096 + word_start a % 4096 ≡ k - k % 4 = omega arith in
-    place_near m.frames.items a (word_start a) k (omega arith) h ∙ ap Some e
+    place_near m.frames a (word_start a) k (omega arith) h ∙ ap Some e
 
 -- addresses of one word have their bytes in one word of the store, and those of others in others
 words_match : (m : AddressMap) (at k a p : ℕ) → at % 4 ≡ 0 → place m at ≡ Some k → place m a ≡ Some p
@@ -86,7 +86,7 @@ word_marked m marks at k class aligned h marked a = found (place m a) refl where
       ]
 
 -- the word of a place has its mark
-pub marks_room : (m : AddressMap) (a k : ℕ) → place m a ≡ Some k → k / 4 / 4 < length m.marks.bytes.items
+pub marks_room : (m : AddressMap) (a k : ℕ) → place m a ≡ Some k → k / 4 / 4 < length m.marks.bytes
 marks_room m a k h = omega (arith, place_fits m a k h, m.marks_fit)
 
 -- A page that is mapped is plain, and no other word of the store changes its class.

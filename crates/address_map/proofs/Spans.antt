@@ -15,18 +15,18 @@ use Rattle.address_map.proofs.Stores.{in_range-cases, bytes_written, layout-plac
 pub page_span : (m : AddressMap) (a k : ℕ) → place m a ≡ Some k → IsSpan m (a - a % 4096) (k - a % 4096) 4096
 unfolding place
 page_span m a k h =
-    let low = place_written m.frames.items (length m.store.items) a k m.written h in
+    let low = place_written m.frames (length m.store.items) a k m.written h in
     record {
       some = omega arith;
       within = omega (arith, low.0, low.1);
       places = λ j more.
           let e : k - a % 4096 + (a - a % 4096 + j) % 4096 ≡ k - a % 4096 + j = omega arith in
-          place_near m.frames.items a (a - a % 4096 + j) k (omega arith) h ∙ ap Some e;
+          place_near m.frames a (a - a % 4096 + j) k (omega arith) h ∙ ap Some e;
     }
 
 pub place_offset : (m : AddressMap) (a k : ℕ) → place m a ≡ Some k → a % 4096 ≤ k
 unfolding place
-place_offset m a k h = omega (arith, (place_within m.frames.items m.free.items a k m.table h).0)
+place_offset m a k h = omega (arith, (place_within m.frames m.free.items a k m.table h).0)
 
 -- parts of a span: from a byte on, and up to one
 pub span_from : (m : AddressMap) (a k len offset : ℕ) → IsSpan m a k len → offset < len → IsSpan m (a + offset) (k + offset) (len - offset)

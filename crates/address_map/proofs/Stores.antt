@@ -81,7 +81,7 @@ with_bytes-byte bytes at byte a = grind (arith, nat_tests, places)
 pub same_layout : (m n : AddressMap) → n.frames ≡ m.frames → n.free ≡ m.free → n.regions ≡ m.regions → layout n ≡ layout m
 unfolding place free_pages regions
 same_layout m n frames free records =
-    λ i. record { regions = (records i).items; place = place_in (frames i).items; free_pages = length (free i).items }
+    λ i. record { regions = (records i).items; place = place_in (frames i); free_pages = length (free i).items }
 
 pub layout-place : (m n : AddressMap) → layout n ≡ layout m → place n ≡ place m
 layout-place m n same = ap (λ l. l.place) same

@@ -7,7 +7,7 @@ use Rattle.address_map.specs.Classes.{class_of_number, lane}
 
 -- the class of a word, by its number in the store
 unfoldable pub class_at : Marks → ℕ → Class
-class_at m k = class_of_number (lane (slice_index m.bytes.items (k / 4)) (k % 4))
+class_at m k = class_of_number (lane (slice_index m.bytes (k / 4)) (k % 4))
 
 -- the class of the byte at a place, which is that of its word; what has no place is plain
 abbrev pub mark_in : Marks → Option ℕ → Class

@@ -12,7 +12,7 @@ use Rattle.address_map.specs.Pages.{frame_count, place_in}
 
 -- where in the store the byte of an address lies, if the address is mapped
 unfoldable pub place : AddressMap → ℕ → Option ℕ
-place m a = place_in m.frames.items a
+place m a = place_in m.frames a
 
 abbrev pub is_mapped : AddressMap → ℕ → Bool
 is_mapped m a = is_some (place m a)
@@ -40,7 +40,7 @@ free_pages m = length m.free.items
 
 -- all pages of the store, mapped or not
 unfoldable pub page_total : AddressMap → ℕ
-page_total m = frame_count m.frames.items m.free.items
+page_total m = frame_count m.frames m.free.items
 
 -- what is mapped, and where: all that calls on records leave as it is
 pub record Mapping : Type 0 where

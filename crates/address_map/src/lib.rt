@@ -14,6 +14,7 @@ pub mod owned;
 pub mod pages;
 pub mod records;
 pub mod region;
+mod table;
 pub mod view;
 
 pub use class::Class;

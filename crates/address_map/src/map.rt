@@ -9,6 +9,7 @@ use crate::frame::PageFrame;
 use crate::marks::Marks;
 use crate::pages::{MARKS_IN_PAGE, all_frames, page_count};
 use crate::region::Region;
+use crate::table::Table;
 use arrayvec::ArrayVec;
 use raw_store::RawStore;
 use raw_store::profile::Fault;
@@ -31,15 +32,15 @@ pub(crate) const MOST_REGIONS: usize = 133;
 pub struct AddressMap {
     pub(crate) store: RawStore,
     pub(crate) marks: Marks,
-    pub(crate) frames: Vec<PageFrame>,
+    pub(crate) frames: Table<PageFrame>,
     pub(crate) free: ArrayVec<u16, MOST_FRAMES>,
     pub(crate) regions: ArrayVec<Region, MOST_REGIONS>,
     pub ghost bytes_fit: { All (λ b. b < 256) store.items },
-    pub ghost in_limit: { frame_count frames.items free.items ≤ 1024 },
-    pub ghost marks_fit: { 16 * length marks.bytes.items ≡ length store.items + store.spare },
-    pub ghost frames_fit: { 4096 * frame_count frames.items free.items ≡ length store.items + store.spare },
-    pub ghost table: { IsPageTable frames.items free.items },
-    pub ghost written: { AreWritten frames.items (length store.items) },
+    pub ghost in_limit: { frame_count frames free.items ≤ 1024 },
+    pub ghost marks_fit: { 16 * length marks.bytes ≡ length store.items + store.spare },
+    pub ghost frames_fit: { 4096 * frame_count frames free.items ≡ length store.items + store.spare },
+    pub ghost table: { IsPageTable frames free.items },
+    pub ghost written: { AreWritten frames (length store.items) },
     pub ghost recorded: { All IsRegion regions.items },
 }
 
@@ -70,7 +71,7 @@ impl AddressMap {
     {
         let store = RawStore::with_room(alloc, pages)?;
         let marks = Marks::new(alloc, MARKS_IN_PAGE * pages as usize)?;
-        let frames = vec![in alloc; PageFrame::none(); page_count()]?;
+        let frames = Table::new(alloc, PageFrame::none(), page_count())?;
         Ok(AddressMap {
             store,
             marks,
@@ -93,7 +94,7 @@ impl AddressMap {
         self.store.grow(bytes.len());
         self.store.write(0, bytes);
         self.marks.copy_from(&other.marks);
-        self.frames.copy_from_slice(&other.frames);
+        self.frames.copy_from(&other.frames);
         copy_table(&mut self.free, &other.free);
         copy_table(&mut self.regions, &other.regions);
     }

@@ -39,7 +39,7 @@ impl AddressMap {
         requires { addr < 2 ^ 26 }
         ensures { result ≡ place self.now addr }
     {
-        let frame = self.frames[(addr / PAGE_SIZE) as usize].frame()?;
+        let frame = self.frames.get((addr / PAGE_SIZE) as usize).frame()?;
         Some((PAGE_SIZE * frame as u32 + addr % PAGE_SIZE) as usize)
     }
 
@@ -96,7 +96,8 @@ impl AddressMap {
         self.store.write_zeros(place, PAGE_SIZE as usize);
         self.marks
             .clear(MARKS_IN_PAGE * frame as usize, MARKS_IN_PAGE);
-        self.frames[(addr / PAGE_SIZE) as usize] = PageFrame::of(frame);
+        self.frames
+            .set((addr / PAGE_SIZE) as usize, PageFrame::of(frame));
     }
 
     /// Takes away the `count` pages from the address `base` on, which can be mapped anew then.
@@ -130,8 +131,8 @@ impl AddressMap {
         ensures marks { (a : ℕ) → class_of self.new a ≡ with_plain_at (class_of self.old) addr 4096 a }
     {
         let page = (addr / PAGE_SIZE) as usize;
-        let frame = self.frames[page].frame().unwrap();
-        self.frames[page] = PageFrame::none();
+        let frame = self.frames.get(page).frame().unwrap();
+        self.frames.set(page, PageFrame::none());
         self.free.push(frame);
     }
 }

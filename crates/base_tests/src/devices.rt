@@ -2,7 +2,8 @@ use profile::{
     Device, MemorySink, MemorySource, ReadFault, Sink, Source, WriteFault, push_all, push_parts,
 };
 use std::io;
-use std::io::{ErrorKind, Read, Write};
+use std::io::{BufWriter, ErrorKind, Read, Write};
+use std::test::Fail;
 
 #[test]
 fn a_source_gives_its_bytes(rt: HostRuntime) {
@@ -109,6 +110,34 @@ fn a_writer_fails_for_good(rt: HostRuntime) {
     }
 }
 
+// Takes nothing in its first call, and all in those after it.
+#[derive(Drop)]
+struct Reluctant {
+    has_refused: bool,
+}
+
+impl Write for Reluctant {
+    fn write(&mut self, buf: &[u8]) -> io::Result<usize> {
+        if self.has_refused {
+            return Ok(buf.len());
+        }
+        self.has_refused = true;
+        Ok(0)
+    }
+
+    fn flush(&mut self) -> io::Result<()> {
+        Ok(())
+    }
+}
+
+#[test]
+fn a_writer_that_takes_nothing_has_failed(rt: HostRuntime) {
+    let mut writer = Device::new(Reluctant { has_refused: false });
+    assert!(rt; writer.push(b"ab") == Err(WriteFault));
+    assert!(rt; writer.push(b"ab") == Err(WriteFault));
+    assert!(rt; writer.flush() == Err(WriteFault));
+}
+
 #[test]
 fn a_flush_fails_as_a_push_does(rt: HostRuntime) {
     let mut writer = Device::new(Unsteady::new(ErrorKind::StorageFull));
@@ -124,4 +153,27 @@ fn the_end_is_no_failure(rt: HostRuntime) {
     assert!(rt; reader.pull(&mut buffer) == Ok(1));
     assert!(rt; reader.pull(&mut buffer) == Ok(0));
     assert!(rt; reader.pull(&mut buffer) == Ok(0));
+}
+
+#[test]
+fn what_a_buffer_holds_is_handed_on(rt: HostRuntime) -> Result<(), Fail> {
+    let mut bytes = Vec::new(rt.alloc());
+    let mut writer = Device::new(BufWriter::new(rt.alloc(), &mut bytes)?);
+    assert!(rt; push_all(&mut writer, b"abc") == Ok(()));
+    let Ok(mut below) = writer.unbuffered() else {
+        assert!(rt; false);
+        return Ok(());
+    };
+    assert!(rt; push_all(&mut below, b"d") == Ok(()));
+    assert!(rt; bytes.as_slice() == b"abcd".as_slice());
+    Ok(())
+}
+
+#[test]
+fn a_buffer_is_not_handed_on_to_a_writer_that_fails(rt: HostRuntime) -> Result<(), Fail> {
+    let buffered = BufWriter::new(rt.alloc(), Reluctant { has_refused: false })?;
+    let mut writer = Device::new(buffered);
+    assert!(rt; push_all(&mut writer, b"abc") == Ok(()));
+    assert!(rt; writer.unbuffered().is_err());
+    Ok(())
 }

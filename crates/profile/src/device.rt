@@ -1,9 +1,10 @@
-ghost use Rattle.std.specs.Prelude.{◌≡◌, Bool, true, false, not, is_err, is_ok};
+ghost use Rattle.std.specs.Prelude.{◌≡◌, Bool, true, false, not, IfOk, is_err, is_ok};
+ghost use Rattle.std.specs.Io.Buffered.{writer_contents};
 ghost use Rattle.std.specs.Io.KnownBytes.{Keeps};
 ghost use Rattle.profile.specs.Devices.{device_inner, device_failed, is_interrupted};
 
 use crate::sink::WriteFault;
-use std::io::{ErrorKind, Write};
+use std::io::{BufWriter, ErrorKind, Write};
 
 /// A reader or a writer of the standard library as a source or a sink.
 ///
@@ -53,6 +54,27 @@ impl<T: Write> Device<T> {
         }
         self.has_failed = true;
         Err(WriteFault)
+    }
+}
+
+impl<T: Write + Drop> Device<BufWriter<T>> {
+    /// Hands on all that the buffer holds, and gives the writer below it as a device.
+    ///
+    /// # Errors
+    ///
+    /// `WriteFault` where this fails, or a call before it did.
+    pub fn unbuffered(self) -> Result<Device<T>, WriteFault>
+        ensures bytes { IfOk result (λ below. Keeps (writer_contents T.contents (device_inner self)) (T.contents (device_inner below))) }
+        ensures flag { IfOk result (λ below. device_failed below ≡ false) }
+        ensures failed { device_failed self ≡ true → is_err result ≡ true }
+    {
+        if self.has_failed {
+            return Err(WriteFault);
+        }
+        match self.inner.into_inner() {
+            Ok(inner) => Ok(Device::new(inner)),
+            Err(_) => Err(WriteFault),
+        }
     }
 }
 

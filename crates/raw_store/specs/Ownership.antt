@@ -33,5 +33,5 @@ block_lent (block_ptr b o) items spare = beside (said (fit items spare)) (elemen
 block_lent null_ptr items spare = said ffalse
 
 -- the right to give a block of n bytes back
-abbrev pub deed_owns : (Ty → Ptr → Fml) → Ptr → ℕ → Fml
-deed_owns token p n = token (bytes_type n) p
+abbrev pub right_owns : (Ty → Ptr → Fml) → Ptr → ℕ → Fml
+right_owns token p n = token (bytes_type n) p

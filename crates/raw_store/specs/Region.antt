@@ -1,5 +1,5 @@
 -- A region of memory: the bytes that were written, as a list; what a read gives and what a write leaves.
-use Rattle.std.specs.Prelude.{ℕ, List, [], ◌∷◌, ◌++◌, ◌+◌, ◌-◌, ◌*◌, ◌/◌, ◌%◌, take, drop, length, replicate, slice_index}
+use Rattle.std.specs.Prelude.{◌≡◌, ◌≤◌, ◌⊎◌, ℕ, List, [], ◌∷◌, ◌++◌, ◌+◌, ◌-◌, ◌*◌, ◌/◌, ◌%◌, take, drop, length, replicate, slice_index}
 
 -- a region: the bytes that were written so far, and how many more there is room for behind them
 pub record Region : Type 0 where
@@ -33,3 +33,8 @@ zeroed bytes at len = written bytes at (replicate len 0)
 -- zeros behind the bytes, as many as make them `len` in all; none where there are as many
 abbrev pub grown : List ℕ → ℕ → List ℕ
 grown bytes len = bytes ++ replicate (len - length bytes) 0
+
+-- the `n` bytes from `a` on and the `m` from `b` on share no byte: one of the two ranges is empty, or one ends before the
+-- other begins
+abbrev pub AreApart : ℕ → ℕ → ℕ → ℕ → Type 0
+AreApart a n b m = (n ≡ 0) ⊎ (m ≡ 0) ⊎ (a + n ≤ b) ⊎ (b + m ≤ a)

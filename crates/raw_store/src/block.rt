@@ -1,14 +1,13 @@
 //! The one block of memory behind the store, and every use of its raw pointer.
 //!
-//! `Base` is the pointer. `Bytes` owns what lies there and `Deed` the right to give it back; both are
-//! only for the proofs and take no space.
+//! `Base` is the pointer, `Bytes` owns what lies there, and `Deed` is what gives it back. The last two take no space.
 ghost use Rattle.std.specs.Prelude.{◌≡◌, ℕ, ◌+◌, ◌^◌, ◌<◌, ◌≤◌, List, [], ◌∷◌, ◌++◌, length, slice_index, slice_set, slice_range, IfOk, ⊤};
 ghost use Rattle.std.specs.Borrow.{sem};
 ghost use base.Fml.{ftrue};
 ghost use denote.RawPtr.{Ptr};
-ghost use Rattle.raw_store.specs.Ownership.{block_owns, block_lent, deed_owns};
+ghost use Rattle.raw_store.specs.Ownership.{block_owns, block_lent, right_owns};
 
-use std::alloc::{AllocError, Allocator};
+use std::alloc::{AllocError, Allocator, Global};
 use std::marker::{Model, PhantomData};
 use std::slice;
 
@@ -43,47 +42,68 @@ impl Model for Bytes {
 }
 
 /// The right to give the block of `len` bytes at `at` back to `alloc`.
-pub struct Deed<A: Allocator> {
+pub struct Right<A: Allocator> {
     by: PhantomData<*const A>,
     ghost at: { Ptr },
     ghost len: { ℕ },
     ghost alloc: { A },
 }
 
-impl<A: Allocator> Model for Deed<A> {
-    ghost also_owns = { λ d. deed_owns (A.dealloc_token d.alloc) d.at d.len };
+impl<A: Allocator> Model for Right<A> {
+    ghost also_owns = { λ r. right_owns (A.dealloc_token r.alloc) r.at r.len };
 
     ghost also_shares = { λ _ _ _. ftrue };
 }
 
+/// The deed of a block: the right to give it back, and the allocator that it goes back to. Who holds the deed can do nothing
+/// but that: no other module can name the allocator, so none can take host memory from it.
+pub struct Deed {
+    right: Right<Global>,
+    alloc: Global,
+    pub ghost of_alloc: { right.alloc ≡ alloc },
+}
+
 /// A block of `len` bytes, to none of which anything was written.
-pub(crate) fn allocate<A: Allocator>(
+pub(crate) fn allocate(alloc: Global, len: usize) -> Result<(Base, Bytes, Deed), AllocError>
+    requires { len < 2 ^ 63 }
+    ensures { IfOk result (λ r. (r.1.at ≡ r.0.ptr) × (r.1.items ≡ []) × (r.1.spare ≡ len) × (r.2.right.at ≡ r.0.ptr)
+        × (r.2.right.len ≡ len)) }
+{
+    let (base, bytes, right) = allocate_block(&alloc, len)?;
+    Ok((base, bytes, Deed { right, alloc }))
+}
+
+impl Deed {
+    /// Gives the block back, with what lies in it and the room behind.
+    pub(crate) fn give_back(self, base: Base, len: usize, bytes: Bytes)
+        requires { (bytes.at ≡ base.ptr) × (length bytes.items + bytes.spare ≡ len) × (self.right.at ≡ base.ptr)
+            × (self.right.len ≡ len) }
+    {
+        let Deed { right, alloc } = self;
+        deallocate_block(&alloc, base, len, bytes, right);
+    }
+}
+
+fn allocate_block<A: Allocator>(
     alloc: &A,
     len: usize,
-) -> Result<(Base, Bytes, Deed<A>), AllocError>
+) -> Result<(Base, Bytes, Right<A>), AllocError>
     requires { len < 2 ^ 63 }
     ensures { IfOk result (λ r. (r.1.at ≡ r.0.ptr) × (r.1.items ≡ []) × (r.1.spare ≡ len) × (r.2.at ≡ r.0.ptr)
         × (r.2.len ≡ len) × (r.2.alloc ≡ alloc.now)) }
 {
     match alloc.allocate(len, 1) {
-        Ok(ptr) => Ok((Base { ptr }, Bytes {}, Deed { by: PhantomData })),
+        Ok(ptr) => Ok((Base { ptr }, Bytes {}, Right { by: PhantomData })),
         Err(error) => Err(error),
     }
 }
 
-/// Gives the block back, with what lies in it and the room behind.
-pub(crate) fn deallocate<A: Allocator>(
-    alloc: &A,
-    base: Base,
-    len: usize,
-    bytes: Bytes,
-    deed: Deed<A>,
-)
-    requires { (bytes.at ≡ base.ptr) × (length bytes.items + bytes.spare ≡ len) × (deed.at ≡ base.ptr)
-        × (deed.len ≡ len) × (deed.alloc ≡ alloc.now) }
+fn deallocate_block<A: Allocator>(alloc: &A, base: Base, len: usize, bytes: Bytes, right: Right<A>)
+    requires { (bytes.at ≡ base.ptr) × (length bytes.items + bytes.spare ≡ len) × (right.at ≡ base.ptr)
+        × (right.len ≡ len) × (right.alloc ≡ alloc.now) }
 {
     let Bytes {} = bytes;
-    let Deed { by: _ } = deed;
+    let Right { by: _ } = right;
     unsafe { alloc.deallocate(base.ptr, len, 1) }
 }
 

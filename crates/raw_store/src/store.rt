@@ -1,8 +1,8 @@
-ghost use Rattle.std.specs.Prelude.{List, [], ℕ, ◌≡◌, ◌≤◌, ◌<◌, ◌+◌, ◌*◌, ◌⊎◌, ◌↔◌, IsTrue, IfOk, length, replicate, slice_index, slice_set, slice_range};
+ghost use Rattle.std.specs.Prelude.{List, [], ℕ, ◌≡◌, ◌≤◌, ◌<◌, ◌+◌, ◌*◌, ◌↔◌, IsTrue, IfOk, length, replicate, slice_index, slice_set, slice_range};
 ghost use Rattle.std.specs.Borrow.{sem};
-ghost use Rattle.raw_store.specs.Region.{word_in, word_bytes, written, copied, zeroed, grown};
+ghost use Rattle.raw_store.specs.Region.{AreApart, word_in, word_bytes, written, copied, zeroed, grown};
 
-use crate::block::{Base, Bytes, Deed, allocate, deallocate};
+use crate::block::{Base, Bytes, Deed, allocate};
 use crate::lanes;
 use byteorder::{ByteOrder, LittleEndian};
 use profile::memory_map::PAGE_SIZE;
@@ -19,8 +19,7 @@ pub struct RawStore {
     base: Base,
     len: usize,
     bytes: Bytes,
-    deed: Deed<Global>,
-    alloc: Global,
+    deed: Deed,
     room: usize,
 }
 
@@ -33,7 +32,7 @@ impl Model for RawStore {
 
     ghost view = { λ s. record { items = s.bytes.items; spare = s.bytes.spare } };
 
-    ghost invariant = { λ s. IsStore s.base s.len s.bytes s.deed s.alloc s.room };
+    ghost invariant = { λ s. IsStore s.base s.len s.bytes s.deed s.room };
 }
 
 impl Drop for RawStore {
@@ -43,10 +42,9 @@ impl Drop for RawStore {
             len: _,
             bytes,
             deed,
-            alloc,
             room,
         } = self;
-        deallocate(&alloc, base, room, bytes, deed);
+        deed.give_back(base, room, bytes);
     }
 }
 
@@ -79,13 +77,12 @@ impl RawStore {
         ensures room { IfOk result (λ s. s.spare ≡ 4096 * pages) }
     {
         let room = (PAGE_SIZE * pages) as usize;
-        let (base, bytes, deed) = allocate(&alloc, room)?;
+        let (base, bytes, deed) = allocate(alloc, room)?;
         Ok(RawStore {
             base,
             len: 0,
             bytes,
             deed,
-            alloc,
             room,
         })
     }
@@ -202,12 +199,13 @@ impl RawStore {
         self.bytes.lend_mut(self.base, at, len)
     }
 
-    /// Two ranges that share no byte, for writing: the `n` bytes from `a` on, and the `m` from `b` on.
+    /// Two ranges that share no byte, for writing: the `n` bytes from `a` on, and the `m` from `b` on. An empty range may lie
+    /// anywhere, inside the other too.
     /// Once the loan has ended, the region holds there what was written.
     pub fn lend_two(&mut self, a: usize, n: usize, b: usize, m: usize) -> (&mut [u8], &mut [u8])
         requires first { a + n ≤ length self.old.items }
         requires second { b + m ≤ length self.old.items }
-        requires apart { (a + n ≤ b) ⊎ (b + m ≤ a) }
+        requires apart { AreApart a n b m }
         ensures* writes_back { sem 𝓛 (lends_ranges self.entry a n b m result) }
         ensures first { result.0.now ≡ slice_range self.old.items a (a + n) }
         ensures second { result.1.now ≡ slice_range self.old.items b (b + m) }

@@ -86,6 +86,19 @@ fn is_written_as_far_as_asked(rt: HostRuntime) -> Result<(), Fail> {
 }
 
 #[test]
+fn copies_up_over_its_own_source(rt: HostRuntime) -> Result<(), Fail> {
+    let mut store = RawStore::new(rt.alloc(), 1)?;
+    store.write(0, &[1, 2, 3, 4, 5, 6, 7, 8]);
+    store.copy(0, 2, 6);
+    assert!(rt; store.fits(0, 8));
+    assert!(rt; store.lend(0, 8) == [1, 2, 1, 2, 3, 4, 5, 6].as_slice());
+    store.zero(3, 2);
+    assert!(rt; store.fits(0, 8));
+    assert!(rt; store.lend(0, 8) == [1, 2, 1, 0, 0, 4, 5, 6].as_slice());
+    Ok(())
+}
+
+#[test]
 fn copies_as_the_definition_says(rt: HostRuntime) -> Result<(), Fail> {
     for len in 0..201 {
         for to in 10..151 {
@@ -158,5 +171,19 @@ fn lends_two_ranges_that_touch(rt: HostRuntime) -> Result<(), Fail> {
     second.fill(b'z');
     assert!(rt; store.fits(0, 16));
     assert!(rt; store.lend(2, 10) == b"\0aazzzzzz\0".as_slice());
+    Ok(())
+}
+
+#[test]
+fn lends_a_range_and_an_empty_one_inside_it(rt: HostRuntime) -> Result<(), Fail> {
+    let mut store = RawStore::new(rt.alloc(), 1)?;
+    let (whole, none) = store.lend_two(3, 4, 5, 0);
+    assert!(rt; none.is_empty());
+    whole.fill(b'w');
+    let (none, inner) = store.lend_two(4, 0, 4, 2);
+    assert!(rt; none.is_empty());
+    inner.fill(b'i');
+    assert!(rt; store.fits(0, 16));
+    assert!(rt; store.lend(2, 6) == b"\0wiiw\0".as_slice());
     Ok(())
 }

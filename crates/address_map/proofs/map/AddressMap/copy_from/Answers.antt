@@ -10,7 +10,7 @@ unfolding byte_at place
 returns-clause-bytes c =
     let same = whole_range c.args.other.now.store.items c.lend-bytes.result.now c.len.result c.lend-bytes.ensures c.len.ensures in
     λ i a. bytes_alike c.args.other.now _ c.args.self.now.store.items c.lend-bytes.result.now _ _ (c.write.ensures.bytes ∙ ap (λ (xs : List ℕ). written xs 0 c.lend-bytes.result.now) c.grow.ensures.bytes) refl same
-    (c.copy_from_slice.ensures.items ∙ c.deref.ensures.value) a i
+    c.copy_from-2.ensures a i
 
 pub returns-clause-marks : goal.returns-clause-marks
-returns-clause-marks c = copied_marks c.args.other.now _ (c.copy_from_slice.ensures.items ∙ c.deref.ensures.value) c.copy_from.ensures
+returns-clause-marks c = copied_marks c.args.other.now _ c.copy_from-2.ensures c.copy_from.ensures

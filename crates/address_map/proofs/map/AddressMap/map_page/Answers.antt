@@ -19,10 +19,10 @@ clear-requires c =
     let f : ℕ = c.unwrap-frame.result in
     let free : List ℕ = c.pop.new.self.items in
     let split : m.free.items ≡ free ++ f ∷ [] = rw c.unwrap-frame.ensures at c.pop.ensures.items in
-    let table : IsPageTable m.frames.items (free ++ f ∷ []) = subst (IsPageTable m.frames.items) split m.table in
-    let below : c.args.addr / 4096 < length m.frames.items = omega (arith, m.table.size) in
-    let none : frame_at m.frames.items (c.args.addr / 4096) ≡ None = unmapped_page m c.args.addr c.requires.unmapped in
-    let inside = fits_frame m.frames.items free (c.args.addr / 4096) f table below none in
+    let table : IsPageTable m.frames (free ++ f ∷ []) = subst (IsPageTable m.frames) split m.table in
+    let below : c.args.addr / 4096 < length m.frames = omega (arith, m.table.size) in
+    let none : frame_at m.frames (c.args.addr / 4096) ≡ None = unmapped_page m c.args.addr c.requires.unmapped in
+    let inside = fits_frame m.frames free (c.args.addr / 4096) f table below none in
     let long : length m.free.items ≡ length (free ++ f ∷ []) = ap length split in
     omega (arith, m.frames_fit, inside, long, m.marks_fit)
 
@@ -32,21 +32,21 @@ invariant_of-self c =
     let f : ℕ = c.unwrap-frame.result in
     let free : List ℕ = c.pop.new.self.items in
     let split : m.free.items ≡ free ++ f ∷ [] = rw c.unwrap-frame.ensures at c.pop.ensures.items in
-    let table : IsPageTable m.frames.items (free ++ f ∷ []) = subst (IsPageTable m.frames.items) split m.table in
-    let below : c.args.addr / 4096 < length m.frames.items = omega (arith, m.table.size) in
-    let none : frame_at m.frames.items (c.args.addr / 4096) ≡ None = unmapped_page m c.args.addr c.requires.unmapped in
-    let count = count_given m.frames.items free (c.args.addr / 4096) f table below none in
-    let inside = fits_frame m.frames.items free (c.args.addr / 4096) f table below none in
+    let table : IsPageTable m.frames (free ++ f ∷ []) = subst (IsPageTable m.frames) split m.table in
+    let below : c.args.addr / 4096 < length m.frames = omega (arith, m.table.size) in
+    let none : frame_at m.frames (c.args.addr / 4096) ≡ None = unmapped_page m c.args.addr c.requires.unmapped in
+    let count = count_given m.frames free (c.args.addr / 4096) f table below none in
+    let inside = fits_frame m.frames free (c.args.addr / 4096) f table below none in
     let long : length m.free.items ≡ length (free ++ f ∷ []) = ap length split in
     let kept = zeros_written m.store.items c.write_zeros.new.self.items (4096 * f) 4096 c.write_zeros.ensures.bytes m.bytes_fit in
     let size = length-grown m.store.items (4096 * f + 4096) in
     record {
       bytes_fit = kept.0;
-      in_limit = rw c.of.ensures (omega (arith, m.in_limit, count, long));
+      in_limit = rw (c.set.ensures, c.of.ensures) (omega (arith, m.in_limit, count, long));
       marks_fit = omega (arith, c.write_zeros.ensures.room, m.marks_fit, c.clear.ensures.len);
-      frames_fit = rw c.of.ensures (omega (arith, c.write_zeros.ensures.room, m.frames_fit, count, long));
-      table = rw c.of.ensures (table_given m.frames.items free (c.args.addr / 4096) f table below none);
-      written = rw c.of.ensures (written_more m.frames.items (c.args.addr / 4096) f (length c.write_zeros.new.self.items) (length m.store.items) below m.written
+      frames_fit = rw (c.set.ensures, c.of.ensures) (omega (arith, c.write_zeros.ensures.room, m.frames_fit, count, long));
+      table = rw (c.set.ensures, c.of.ensures) (table_given m.frames free (c.args.addr / 4096) f table below none);
+      written = rw (c.set.ensures, c.of.ensures) (written_more m.frames (c.args.addr / 4096) f (length c.write_zeros.new.self.items) (length m.store.items) below m.written
           (omega (arith, kept.1, size.1)) (omega (arith, kept.1, size.0)));
       recorded = m.recorded;
     }
@@ -55,15 +55,15 @@ pub returns-clause-mapping : goal.returns-clause-mapping
 unfolding place
 returns-clause-mapping c a =
     let m = c.args.self.now in
-    rw c.of.ensures
-    (mapped_more m.frames.items c.args.addr c.unwrap-frame.result c.requires.aligned (omega (arith, m.table.size)) (unmapped_page m c.args.addr c.requires.unmapped) a)
+    rw (c.set.ensures, c.of.ensures)
+    (mapped_more m.frames c.args.addr c.unwrap-frame.result c.requires.aligned (omega (arith, m.table.size)) (unmapped_page m c.args.addr c.requires.unmapped) a)
 
 pub returns-clause-stays : goal.returns-clause-stays
 unfolding place
 returns-clause-stays c a was is =
     let m = c.args.self.now in
-    rw c.of.ensures
-    (stays_more m.frames.items c.args.addr c.unwrap-frame.result c.requires.aligned (omega (arith, m.table.size)) (unmapped_page m c.args.addr c.requires.unmapped) a was)
+    rw (c.set.ensures, c.of.ensures)
+    (stays_more m.frames c.args.addr c.unwrap-frame.result c.requires.aligned (omega (arith, m.table.size)) (unmapped_page m c.args.addr c.requires.unmapped) a was)
 
 pub returns-clause-bytes : goal.returns-clause-bytes
 unfolding byte_at place
@@ -72,13 +72,13 @@ returns-clause-bytes c a =
     let f : ℕ = c.unwrap-frame.result in
     let free : List ℕ = c.pop.new.self.items in
     let split : m.free.items ≡ free ++ f ∷ [] = rw c.unwrap-frame.ensures at c.pop.ensures.items in
-    let table : IsPageTable m.frames.items (free ++ f ∷ []) = subst (IsPageTable m.frames.items) split m.table in
-    let below : c.args.addr / 4096 < length m.frames.items = omega (arith, m.table.size) in
-    let none : frame_at m.frames.items (c.args.addr / 4096) ≡ None = unmapped_page m c.args.addr c.requires.unmapped in
-    rw (c.of.ensures, c.write_zeros.ensures.bytes)
-    (bytes_more m.frames.items c.args.addr f c.requires.aligned below none (grown m.store.items (4096 * f + 4096)) 4096 refl
-    (unused_frame m.frames.items free (c.args.addr / 4096) f table below none) (length-grown m.store.items (4096 * f + 4096)).0 a
-    ∙ bytes_grown m.frames.items m.store.items (4096 * f + 4096) a m.written)
+    let table : IsPageTable m.frames (free ++ f ∷ []) = subst (IsPageTable m.frames) split m.table in
+    let below : c.args.addr / 4096 < length m.frames = omega (arith, m.table.size) in
+    let none : frame_at m.frames (c.args.addr / 4096) ≡ None = unmapped_page m c.args.addr c.requires.unmapped in
+    rw (c.set.ensures, c.of.ensures, c.write_zeros.ensures.bytes)
+    (bytes_more m.frames c.args.addr f c.requires.aligned below none (grown m.store.items (4096 * f + 4096)) 4096 refl
+    (unused_frame m.frames free (c.args.addr / 4096) f table below none) (length-grown m.store.items (4096 * f + 4096)).0 a
+    ∙ bytes_grown m.frames m.store.items (4096 * f + 4096) a m.written)
 
 pub returns-clause-pages : goal.returns-clause-pages
 unfolding free_pages
@@ -97,9 +97,9 @@ returns-clause-marks c a =
     let f : ℕ = c.unwrap-frame.result in
     let free : List ℕ = c.pop.new.self.items in
     let split : m.free.items ≡ free ++ f ∷ [] = rw c.unwrap-frame.ensures at c.pop.ensures.items in
-    let table : IsPageTable m.frames.items (free ++ f ∷ []) = subst (IsPageTable m.frames.items) split m.table in
-    let below : c.args.addr / 4096 < length m.frames.items = omega (arith, m.table.size) in
-    let none : frame_at m.frames.items (c.args.addr / 4096) ≡ None = unmapped_page m c.args.addr c.requires.unmapped in
-    rw c.of.ensures
-    (marks_more m.frames.items c.args.addr f c.requires.aligned below none
-    (unused_frame m.frames.items free (c.args.addr / 4096) f table below none) m.marks c.clear.new.self c.clear.ensures.classes a)
+    let table : IsPageTable m.frames (free ++ f ∷ []) = subst (IsPageTable m.frames) split m.table in
+    let below : c.args.addr / 4096 < length m.frames = omega (arith, m.table.size) in
+    let none : frame_at m.frames (c.args.addr / 4096) ≡ None = unmapped_page m c.args.addr c.requires.unmapped in
+    rw (c.set.ensures, c.of.ensures)
+    (marks_more m.frames c.args.addr f c.requires.aligned below none
+    (unused_frame m.frames free (c.args.addr / 4096) f table below none) m.marks c.clear.new.self c.clear.ensures.classes a)

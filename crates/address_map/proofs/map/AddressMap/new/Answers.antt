@@ -8,7 +8,7 @@ use Rattle.address_map.proofs.map.AddressMap.new.Goals as goal
 
 pub invariant_of-result : goal.invariant_of-result
 invariant_of-result c =
-    let none = c.in_ok-frames.ensures.items_if_clones_equal (search rules) ∙ ap (replicate c.page_count.result) c.none.ensures in
+    let none = c.in_ok-frames.ensures.entries_if_clones_equal (search rules) ∙ ap (replicate c.page_count.result) c.none.ensures in
     let size : length c.in_ok-store.store.items ≡ 0 = ap length c.in_ok-store.ensures.bytes in
     let room = c.in_ok-store.ensures.room in
     let free = c.all_frames.ensures in
@@ -25,13 +25,13 @@ invariant_of-result c =
 
 pub returns-clause-mapping : goal.returns-clause-mapping
 unfolding place
-returns-clause-mapping c a = ap is_some (no_place c.page_count.result c.in_ok-frames.frames.items a
-    (c.in_ok-frames.ensures.items_if_clones_equal (search rules) ∙ ap (replicate c.page_count.result) c.none.ensures))
+returns-clause-mapping c a = ap is_some (no_place c.page_count.result c.in_ok-frames.frames a
+    (c.in_ok-frames.ensures.entries_if_clones_equal (search rules) ∙ ap (replicate c.page_count.result) c.none.ensures))
 
 pub returns-clause-marks : goal.returns-clause-marks
 unfolding class_of place
-returns-clause-marks c a = ap (mark_in c.in_ok-marks.marks) (no_place c.page_count.result c.in_ok-frames.frames.items a
-    (c.in_ok-frames.ensures.items_if_clones_equal (search rules) ∙ ap (replicate c.page_count.result) c.none.ensures))
+returns-clause-marks c a = ap (mark_in c.in_ok-marks.marks) (no_place c.page_count.result c.in_ok-frames.frames a
+    (c.in_ok-frames.ensures.entries_if_clones_equal (search rules) ∙ ap (replicate c.page_count.result) c.none.ensures))
 
 pub returns-clause-pages : goal.returns-clause-pages
 unfolding free_pages
@@ -40,11 +40,11 @@ returns-clause-pages c = c.all_frames.ensures.len
 pub returns-clause-total : goal.returns-clause-total
 unfolding page_total
 returns-clause-total c =
-    rw (c.in_ok-frames.ensures.items_if_clones_equal (search rules) ∙ ap (replicate c.page_count.result) c.none.ensures) (omega (arith, c.all_frames.ensures.len, no_count c.page_count.result))
+    rw (c.in_ok-frames.ensures.entries_if_clones_equal (search rules) ∙ ap (replicate c.page_count.result) c.none.ensures) (omega (arith, c.all_frames.ensures.len, no_count c.page_count.result))
 
 pub returns-clause-regions : goal.returns-clause-regions
 unfolding regions
-returns-clause-regions c = c.new-2.ensures
+returns-clause-regions c = c.new-3.ensures
 
 pub returns-clause-owned : goal.returns-clause-owned
 unfolding is_owned

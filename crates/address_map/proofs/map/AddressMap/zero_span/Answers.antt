@@ -19,7 +19,7 @@ invariant_of-self c =
       marks_fit = omega (arith, kept.1, c.zero.ensures.room, m.marks_fit);
       frames_fit = omega (arith, kept.1, c.zero.ensures.room, m.frames_fit);
       table = m.table;
-      written = subst (AreWritten m.frames.items) (sym kept.1) m.written;
+      written = subst (AreWritten m.frames) (sym kept.1) m.written;
       recorded = m.recorded;
     }
 

@@ -11,9 +11,9 @@ loop-byte-preserved c k low high =
     elim (cases_lt k (4 * c.loop-byte.byte)) [
       | inl before ↦ c.loop-byte.invariant k low before
       | inr here ↦
-          let items = c.args.self.now.bytes.items in
+          let items = c.args.self.now.bytes in
           let e : k / 4 ≡ c.loop-byte.byte = omega arith in
-          let zero : c.index.result.now ≡ 0 = omega arith in
-          let read : get_or items c.loop-byte.byte 0 ≡ 0 = get_or_default items c.loop-byte.byte 0 c.index.result.now (omega arith) ∙ sym c.index.ensures ∙ zero in
+          let zero : c.get.result ≡ 0 = omega arith in
+          let read : get_or items c.loop-byte.byte 0 ≡ 0 = get_or_default items c.loop-byte.byte 0 c.get.result (omega arith) ∙ sym c.get.ensures ∙ zero in
           class_zero items k (ap (λ (j : ℕ). get_or items j 0) e ∙ read)
     ]

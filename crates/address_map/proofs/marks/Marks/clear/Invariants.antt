@@ -7,5 +7,5 @@ use Rattle.address_map.proofs.marks.Marks.clear.Given as goal
 abbrev pub invariant-loop-done : goal.invariant-loop-done
 invariant-loop-done l = record {
   classes : (k : ℕ) → class_at l.self k ≡ cond (in_range (4 * l.first) (4 * l.done) k) Plain (class_at l.fn.self k);
-  len : length l.self.bytes.items ≡ length l.fn.self.bytes.items;
+  len : length l.self.bytes ≡ length l.fn.self.bytes;
 }

@@ -4,4 +4,4 @@ use Rattle.address_map.proofs.marks.Marks.new.Goals as goal
 
 pub returns-clause-plain : goal.returns-clause-plain
 unfolding class_at
-returns-clause-plain c = λ k. zeros_plain c.in_ok-vec.field-0.items c.args.bytes k (c.in_ok-vec.ensures.items_if_clones_equal (λ y same. same))
+returns-clause-plain c = λ k. zeros_plain c.in_ok-new.field-0 c.args.bytes k (c.in_ok-new.ensures.entries_if_clones_equal (λ y same. same))

@@ -8,6 +8,6 @@ pub returns-clause-classes : goal.returns-clause-classes
 unfolding class_at
 returns-clause-classes c k =
     let m = c.args.self.now in
-    rw (c.weight-weight.ensures, c.number.ensures)
-    (class_set m.bytes.items c.args.word c.index-byte.result.now c.args.class c.requires
-    (get_or_default m.bytes.items (c.args.word / 4) 0 c.index-byte.result.now c.requires ∙ sym c.index-byte.ensures) (omega arith) k)
+    rw (c.set.ensures, c.weight-weight.ensures, c.number.ensures)
+    (class_set m.bytes c.args.word c.get-byte.result c.args.class c.requires
+    (get_or_default m.bytes (c.args.word / 4) 0 c.get-byte.result c.requires ∙ sym c.get-byte.ensures) (omega arith) k)

@@ -1,5 +1,5 @@
 -- `lend_two` lends two runs of bytes for writing, and the owner follows both. Assumes `Logic`.
-use Rattle.std.proofs.Common.{◌≡◌, ℕ, ◌+◌, ◌-◌, ◌*◌, ◌^◌, ◌<◌, ◌≤◌, List, [], ◌∷◌, ◌++◌, length, take, drop as drop_l, slice_range, refl, sym, ◌∙◌, ap, subst, arith, length-take, length-drop, w64, MutBor, ◌⊎◌}
+use Rattle.std.proofs.Common.{◌≡◌, ℕ, ◌+◌, ◌-◌, ◌*◌, ◌^◌, ◌<◌, ◌≤◌, List, [], ◌∷◌, ◌++◌, length, take, drop as drop_l, slice_range, refl, sym, ◌∙◌, ap, subst, arith, length-take, length-drop, w64, MutBor}
 use Rattle.std.proofs.lemmas.List.{take_all}
 use Rattle.std.proofs.VecSteps.Shapes.{after}
 use Rattle.std.proofs.raw_atomic.Walks.{proved_at, leaves}
@@ -37,7 +37,7 @@ use denote.Triple.Entry.{alive}
 use denote.Triple.Walked.{Stays, stay_dropped, walk_of, Goes-dropped, Goes-spent_ref}
 use Rattle.raw_store.specs.Lends.{with_items}
 use Rattle.raw_store.specs.Ownership.{bytes_type, bytes_at, block_owns}
-use Rattle.raw_store.specs.Region.{Region, written}
+use Rattle.raw_store.specs.Region.{AreApart, Region, written}
 use Rattle.raw_store.specs.Region.{with_items as with_written}
 use Rattle.raw_store.proofs.Memory.{to_cells, of_cells}
 use Rattle.raw_store.proofs.Two.{Others, two_out, two_in}
@@ -69,7 +69,7 @@ Deeds = rest_of (rest_of Later)
 
 -- what comes after the base in a store's machine value
 abbrev others_of : Valss Fields → List Val
-others_of vss = vss.1.0 ++ (vss.1.1.0 ++ (vss.1.1.1.0 ++ (vss.1.1.1.1.0 ++ (vss.1.1.1.1.1.0 ++ []))))
+others_of vss = vss.1.0 ++ (vss.1.1.0 ++ (vss.1.1.1.0 ++ (vss.1.1.1.1.0 ++ [])))
 
 -- a store whose bytes are others
 abbrev with_bytes : Inside → List ℕ → Inside
@@ -82,7 +82,7 @@ module _ {M : Type 1} {𝓤 : Ura M} (𝓛 : Logic 𝓤) (s : Inside) (i n k m r
   abbrev region_after : List ℕ → List ℕ → Region
   region_after ws zs = record { items = after_loan ws zs; spare = s.bytes.spare }
 
-  module _ (vs : List Val) (vss : Valss Fields) (b o : ℕ) (apart : (i + n ≤ k) ⊎ (k + m ≤ i)) where
+  module _ (vs : List Val) (vss : Valss Fields) (b o : ℕ) (apart : AreApart i n k m) where
     -- all but the two runs: the room, what the fields own, and the store's cell
     abbrev Rest : Fml
     Rest = fsep (Others 𝓛 b o s.bytes.items i n k m apart) (fsep (froom (bytes_type s.bytes.spare) b (length s.bytes.items + o)) (fsep (none_own vss.1.1.0)
@@ -100,7 +100,7 @@ module _ {M : Type 1} {𝓤 : Ura M} (𝓛 : Logic 𝓤) (s : Inside) (i n k m r
         let long_n : n ≡ length (take n ws) = omega (arith, same_n, count_n, ap length all_n) in let long_m : m ≡ length (take m zs) = omega (arith, same_m, count_m, ap length all_m) in
         let half = written items i (take n ws) in let once : length half ≡ length items = length-written items (take n ws) i (omega (arith, within_n, long_n)) in
         let long : length new ≡ length items = length-written half (take m zs) k (omega (arith, within_m, long_m, once)) ∙ once in
-        let still : the_invariant t = (holds.0, long ∙ holds.1, ap (λ j. j + spare) long ∙ holds.2, holds.3, holds.4, holds.5) in let region : Region = region_after ws zs in
+        let still : the_invariant t = (holds.0, long ∙ holds.1, ap (λ j. j + spare) long ∙ holds.2, holds.3, holds.4) in let region : Region = region_after ws zs in
         use1 𝓛 (‵ (bytes_at b (k + o) zs)) (of_cells 𝓛 b zs (k + o)) $ rewrite ! 0 (λ (l : List ℕ). ‵ (bytes_at b (k + o) l)) (sym all_m) refl $ move ! (1 ∷ []) $
         use1 𝓛 (‵ (bytes_at b (i + o) ws)) (of_cells 𝓛 b ws (i + o)) $ rewrite ! 0 (λ (l : List ℕ). ‵ (bytes_at b (i + o) l)) (sym all_n) refl $
         -- [the first run; the second; the rest]
@@ -110,7 +110,7 @@ module _ {M : Type 1} {𝓤 : Ura M} (𝓛 : Logic 𝓤) (s : Inside) (i n k m r
         rewrite ! 0 (λ (p : Ptr). ‵ (block_owns p new spare)) (sym e) refl $ move ! (1 ∷ 0 ∷ []) $ fjoin ! $
         -- [the owner of the bytes; what the other fields own, and the cell]
         move ! (1 ∷ []) $ fsplit3 ! $ move ! (2 ∷ []) $ fsplit ! $
-        -- [the deed and the allocator; the cell; the base; the length; the owner]
+        -- [the deed and the room; the cell; the base; the length; the owner]
         move ! (4 ∷ 0 ∷ []) $ fjoin ! $ move ! (3 ∷ 0 ∷ []) $ fjoin ! $ move ! (2 ∷ 0 ∷ []) $ fjoin ! $
         feq_i ! (List Val) vs (vstruct (of_list (vss.0 ++ others_of vss)) ∷ []) spelt $ fjoin ! $ fpack ! (Valss Fields) (within (shape I) (I.to t) vs) vss $
         nothing ! $ move ! (1 ∷ 0 ∷ []) $ fjoin ! $ fpack ! ((u : Inside) × ((the_view u ≡ region) × the_invariant u)) (λ u. fsep (inside.own_val u.0 vs) ftrue) (t, (refl, still)) $ move ! (1 ∷ 0 ∷ []) $ fjoin ! $
@@ -143,8 +143,8 @@ lend_two_spec 𝓤 𝓛 𝓜 𝓡 wired =
     let rb = a.0.ref_ptr.0 in let ro = a.0.ref_ptr.1 in let γ = a.0.ghost_name in let xs = a.0.now in
     let i = a.1.0 in let n = a.1.1.0 in let k = a.1.1.1.0 in let m = a.1.1.1.1.0 in
     let fits : i < 2 ^ 64 = are.1.0.1 in let fits_n : n < 2 ^ 64 = are.1.1.0.1 in let fits_k : k < 2 ^ 64 = are.1.1.1.0.1 in let fits_m : m < 2 ^ 64 = are.1.1.1.1.0.1 in
-    qed 𝓛 ((raw (alive 𝓛 ended.signature z.0.0 z.0.1) ⊛ ‵ (owns (types_at S z.0.0) a vss)) ∷ (raw (fact 𝓤 (i + n ≤ length xs.items)) ⊛ raw (fact 𝓤 (k + m ≤ length xs.items)) ⊛ raw (fact 𝓤 ((i + n ≤ k) ⊎ (k + m ≤ i)))) ∷ []) ∵
-    move ! (1 ∷ []) $ split3 ! $ heard ! (i + n ≤ length xs.items) (λ within_n. heard ! (k + m ≤ length xs.items) (λ within_m. heard ! ((i + n ≤ k) ⊎ (k + m ≤ i)) (λ apart. split ! $ use1 𝓛 (‵ (flft κ q) ⊛ ‵ ftrue) (id⊢ 𝓤 _) $ split ! $ move ! (2 ∷ []) $
+    qed 𝓛 ((raw (alive 𝓛 ended.signature z.0.0 z.0.1) ⊛ ‵ (owns (types_at S z.0.0) a vss)) ∷ (raw (fact 𝓤 (i + n ≤ length xs.items)) ⊛ raw (fact 𝓤 (k + m ≤ length xs.items)) ⊛ raw (fact 𝓤 (AreApart i n k m))) ∷ []) ∵
+    move ! (1 ∷ []) $ split3 ! $ heard ! (i + n ≤ length xs.items) (λ within_n. heard ! (k + m ≤ length xs.items) (λ within_m. heard ! (AreApart i n k m) (λ apart. split ! $ use1 𝓛 (‵ (flft κ q) ⊛ ‵ ftrue) (id⊢ 𝓤 _) $ split ! $ move ! (2 ∷ []) $
     fsplit ! $ fsplit3 ! $ drop ! $ keep ! (0 ∷ 1 ∷ 3 ∷ []) $
     regoal ! (λ (us : List Val). prop (WpFn 𝓤 H C Λ fn us Post)) (λ j. are.0.0 j ++ (are.1.0.0 j ++ (are.1.1.0.0 j ++ (are.1.1.1.0.0 j ++ (are.1.1.1.1.0.0 j ++ []))))) refl $
     enter ! C Λ fn (vptr rb ro ∷ vint w64 i ∷ vint w64 n ∷ vint w64 k ∷ vint w64 m ∷ []) Post $
@@ -152,7 +152,7 @@ lend_two_spec 𝓤 𝓛 𝓜 𝓡 wired =
     opens ! tt R {h = xs} rb ro (λ vs. move ! (1 ∷ []) $ fpick ! (λ hidden. let s : Inside = hidden.0 in let view_is = hidden.1.0 in let holds = hidden.1.1 in
     fsplit ! $ move ! (1 ∷ []) $ drop ! $ fpick ! (λ us. fsplit ! $ feq_l ! (λ spelt. fsplit ! $ peeks ! Base (Is Base) (shows 𝓛 Base) s.base us.0 (λ told.
     move ! (1 ∷ []) $ fsplit ! $ move ! (1 ∷ []) $ fsplit ! $ fsplit ! $ move ! (1 ∷ []) $ in_a_block ! s.bytes.at (λ p. block_owns p s.bytes.items s.bytes.spare) (id⊢ 𝓤 (never 𝓤)) (λ b o e. fsplit ! $ flt_l ! (λ small. fsplit ! $
-    -- [the bytes; the room; the owner's fields; the deed and the allocator; the length; the base; the store's cell; the open borrow, in three entries]
+    -- [the bytes; the room; the owner's fields; the deed and the room; the length; the base; the store's cell; the open borrow, in three entries]
     let spelt_out : vs ≡ vstruct (of_list (base_val (block_ptr b o) ∷ others_of us)) ∷ [] = spelt ∙ (λ j. vstruct (of_list ((base_told s.base.ptr us.0 told ∙ ap (λ (p : Ptr). base_val p ∷ []) (holds.0 ∙ e)) j ++ others_of us)) ∷ []) in
     let ys = s.bytes.items in let items_are : ys ≡ xs.items = ap (λ (r : Region). r.items) view_is in let in_n : i + n ≤ length ys = omega (arith, within_n, ap length items_are) in let in_m : k + m ≤ length ys = omega (arith, within_m, ap length items_are) in
     let one = take n (drop_l i ys) in let two = take m (drop_l k ys) in
@@ -177,7 +177,7 @@ lend_two_spec 𝓤 𝓛 𝓜 𝓡 wired =
     use1 𝓛 (‵ (bytes_at b at one) ⊛ ‵ (bytes_at b at_m two) ⊛ ‵ (Others 𝓛 b o ys i n k m apart)) (two_out 𝓛 b o ys i n k m apart in_n in_m) $ split3 ! $
     use1 𝓛 (‵ (cells (mem u8) one b at)) (to_cells 𝓛 b one at) $ feq_i ! ℕ (length one) (length one) refl $ fjoin ! $ move ! (1 ∷ []) $
     use1 𝓛 (‵ (cells (mem u8) two b at_m)) (to_cells 𝓛 b two at_m) $ feq_i ! ℕ (length two) (length two) refl $ fjoin ! $
-    -- [the second run; the first; the others; the room; the owner's fields; the deed and the allocator; the length; the base; the cell; the open borrow]
+    -- [the second run; the first; the others; the room; the owner's fields; the deed and the room; the length; the base; the cell; the open borrow]
     move ! (5 ∷ 8 ∷ []) $ fjoin ! $ move ! (6 ∷ 0 ∷ []) $ fjoin ! $ move ! (6 ∷ 0 ∷ []) $ fjoin ! $ move ! (5 ∷ 0 ∷ []) $ fjoin ! $ move ! (4 ∷ 0 ∷ []) $ fjoin ! $ move ! (3 ∷ 0 ∷ []) $ fjoin ! $
     move ! (3 ∷ 4 ∷ 5 ∷ 2 ∷ 1 ∷ 0 ∷ []) $ group ! 6 $
     use1 𝓛 (later (some (λ (γs : GName × GName). (‵ (fobs γs.0 ((coded_list u8.coded).code one)) ⊛ ‵ (fbor κ (Body T b at γs.0))) ⊛ (‵ (fobs γs.1 ((coded_list u8.coded).code two)) ⊛ ‵ (fbor κ (Body U b at_m γs.1)))

@@ -9,7 +9,7 @@ pub overflow_add-end : goal.overflow_add-end
 overflow_add-end c =
     let whole : length c.self.inside.bytes.items + c.self.inside.bytes.spare ≡ length c.args.self.now.items + c.args.self.now.spare =
     ap (λ (r : Region). length r.items + r.spare) c.self.view_is in
-    let fits : c.self.inside.room < 2 ^ 64 = c.self.ranges.1.1.1.1.1.0.1 in
+    let fits : c.self.inside.room < 2 ^ 64 = c.self.ranges.1.1.1.1.0.1 in
     omega (arith, c.requires, whole, c.self.invariant.2, fits)
 
 pub returns-clause-bytes : goal.returns-clause-bytes

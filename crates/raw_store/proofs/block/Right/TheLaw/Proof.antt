@@ -1,4 +1,4 @@
--- A `&` to a deed holds nothing. Assumes `Logic`.
+-- A `&` to the right to give a block back holds nothing. Assumes `Logic`.
 use denote.RattleType.{RattleType}
 use denote.RawPtr.{RawPtr}
 use denote.Param.Laws.{Laws}
@@ -8,8 +8,8 @@ use denote.Struct.Laws.{field_copy}
 use denote.Struct.Lending.{of_Lends, Lends-nothing}
 use Rattle.std.specs.declared.alloc.Allocator.{Ghosts}
 use Rattle.std.specs.contracts.marker.PhantomData as marker
-use Rattle.raw_store.specs.contracts.block.Deed as C
-use Rattle.raw_store.proofs.block.Deed.TheLaw.Statement.{statement}
+use Rattle.raw_store.specs.contracts.block.Right as C
+use Rattle.raw_store.proofs.block.Right.TheLaw.Statement.{statement}
 
 pub shares : (A : RattleType) (g : Ghosts A.Denot) (P : Laws A) → statement A g P
 shares A g P =

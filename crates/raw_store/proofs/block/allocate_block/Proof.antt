@@ -1,4 +1,4 @@
--- `allocate` asks for the block, and keeps the right to give it back. Assumes `Logic`.
+-- `allocate_block` asks for the block, and keeps the right to give it back. Assumes `Logic`.
 use Rattle.std.proofs.Common.{◌≡◌, ℕ, ◌+◌, ◌*◌, ◌^◌, ◌<◌, List, [], ◌∷◌, ◌++◌, length, refl, ◌∙◌, arith, lit<, w64, true, false, Ok, Err}
 use Rattle.std.proofs.RcSteps.{Good, first_Good, word-Good}
 use Rattle.std.proofs.ResultValues.{ok_of, err_of}
@@ -39,14 +39,14 @@ use Rattle.raw_store.proofs.Values.{base_val, base_own, base_made, none_val, non
 use Rattle.raw_store.proofs.Walks.{slot_at, then_runs}
 use Rattle.raw_store.specs.contracts.block.Base.{the_row as Base}
 use Rattle.raw_store.specs.contracts.block.Bytes.{the_row as Bytes}
-use Rattle.raw_store.specs.contracts.block.Deed as deed
-use Rattle.raw_store.specs.contracts.block.allocate.{ended, clauses}
-use Rattle.raw_store.specs.contracts.block.allocate.Key.{name as #self}
-use Rattle.raw_store.proofs.block.allocate.Statement.{statement}
-use Rattle.raw_store.proofs.block.allocate.Code as code
+use Rattle.raw_store.specs.contracts.block.Right as block_right
+use Rattle.raw_store.specs.contracts.block.allocate_block.{ended, clauses}
+use Rattle.raw_store.specs.contracts.block.allocate_block.Key.{name as #self}
+use Rattle.raw_store.proofs.block.allocate_block.Statement.{statement}
+use Rattle.raw_store.proofs.block.allocate_block.Code as code
 
-pub allocate_spec : {M : Type 1} → statement M
-allocate_spec 𝓤 𝓛 𝓜 𝓡 wired A L g d dd met md =
+pub allocate_block_spec : {M : Type 1} → statement M
+allocate_block_spec 𝓤 𝓛 𝓜 𝓡 wired A L g d dd met md =
     let H = 𝓛.H in let En₀ = ended A g d dd in let S = En₀.signature.params in
     let args : Args = bounded (a_type ∷ []) (A, tt) (dcons d (dcons dd dnil)) in let fn : Fn = inst_fn args code.function in
     let stays : Stays S En₀.kept = (stay_dropped (slot_at 0 S) En₀.kept.0, (stay_dropped (slot_at 1 S) En₀.kept.1.0, tt)) in
@@ -58,7 +58,7 @@ allocate_spec 𝓤 𝓛 𝓜 𝓡 wired A L g d dd met md =
     let a = z.0.3 in let vss = z.0.4 in let Y : Al = record { row = A; laws = L; g = g; d = d; drops = dd } in
     let κ : Lft = z.0.0.0 in let q : Share = z.0.1.0 in let h = a.0.now in let at = a.0.ref_ptr in let n = a.1.0 in let τ : Ty = bytes_type n in
     let y = at_takes Y 𝓛 𝓜.mem 𝓡.returns κ q at h n 1 τ in
-    let Deed : RattleType = deed.the_row (param 0 A) g in let Three : RattleType = Tuple (Base ∷ Bytes ∷ Deed ∷ []) in let Out : RattleType = type_at En₀.signature.result z.0.0 in
+    let Right : RattleType = block_right.the_row (param 0 A) g in let Three : RattleType = Tuple (Base ∷ Bytes ∷ Right ∷ []) in let Out : RattleType = type_at En₀.signature.result z.0.0 in
     let Asked : Type 0 = n < 2 ^ 63 in let fits : n < 2 ^ 64 = are.1.0.1 in
     qed 𝓛 ((raw (alive 𝓛 En₀.signature z.0.0 z.0.1) ⊛ ‵ (owns (types_at S z.0.0) a vss)) ∷ (raw (fact 𝓤 (z.0.0.1.0 ⊑ A.lives)) ⊛ raw (fact 𝓤 Asked)) ∷ []) ∵
     move ! (1 ∷ []) $ split ! $ heard ! (z.0.0.1.0 ⊑ A.lives) (λ le. heard ! Asked (λ small. split ! $ move ! (1 ∷ []) $
@@ -82,12 +82,12 @@ allocate_spec 𝓤 𝓛 𝓜 𝓡 wired A L g d dd met md =
     exec ! C Λ En (after 2 fn.body) (at_ret En Post) $ sets ! (of_opd ! (get ! refl)) refl ok $
     returns ! (look_at ! 0 refl) $ free_all ! refl $
     -- [the room; the token; the lifetimes' tokens]
-    let base : Base.Denot = record { ptr = p } in let bytes : Bytes.Denot = record { at = p; items = []; spare = n } in let right : Deed.Denot = record { by = record {}; at = p; len = n; alloc = h } in
+    let base : Base.Denot = record { ptr = p } in let bytes : Bytes.Denot = record { at = p; items = []; spare = n } in let right : Right.Denot = record { by = record {}; at = p; len = n; alloc = h } in
     let Told : Type 0 = (p ≡ p) × (bytes.items ≡ []) × (n ≡ n) × (p ≡ p) × (n ≡ n) × (h ≡ h) in
     move ! (1 ∷ []) $ use0 𝓛 (‵ (mark_own (mark_val ∷ []))) (mark_made 𝓛) $ fjoin ! $ move ! (1 ∷ []) $
     rewrite ! 0 (λ (k : ℕ). ‵ (froom τ b k)) {x = length bytes.items + o} (omega arith) refl $ nothing ! $ fjoin ! $ flt_i ! (length bytes.items + n) (2 ^ 63) (omega (arith, small)) $ fjoin ! $
     use0 𝓛 (‵ (none_own (none_val ∷ []))) (none_made 𝓛) $ fjoin ! $ use0 𝓛 (‵ (base_own p (base_val p ∷ []))) (base_made 𝓛 p) $
-    use3 𝓛 (‵ (Three.own_val (base, bytes, right) (made ∷ []))) (three_of 𝓛 Base Bytes Deed base bytes right (base_val p) none_val mark_val) $
+    use3 𝓛 (‵ (Three.own_val (base, bytes, right) (made ∷ []))) (three_of 𝓛 Base Bytes Right base bytes right (base_val p) none_val mark_val) $
     use1 𝓛 (‵ (Out.own_val (Ok (base, bytes, right)) (live 0 (vcons made vnil) ∷ []))) (ok_of 𝓛 Three AE.the_row (base, bytes, right) made) $
     use0 𝓛 (raw (fact 𝓤 Told)) (fact_i 𝓤 Told (emp 𝓤) (refl, refl, refl, refl, refl, refl)) $ nothing ! $ nothing ! $ fjoin ! $ nothing ! $ fjoin ! $ move ! (3 ∷ 0 ∷ 2 ∷ 1 ∷ []) $
     by ! (leaves 𝓛 En₀ stays c z (live 0 (vcons made vnil)) (Ok (base, bytes, right)) (tt, (tt, tt)) (tt, (tt, tt))))

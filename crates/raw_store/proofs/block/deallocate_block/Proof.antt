@@ -1,4 +1,4 @@
--- `deallocate` makes room of the bytes, and hands the block back with the right to do so. Assumes `Logic`.
+-- `deallocate_block` makes room of the bytes, and hands the block back with the right to do so. Assumes `Logic`.
 use Rattle.std.proofs.Common.{◌≡◌, ℕ, ◌+◌, ◌*◌, List, [], ◌∷◌, ◌++◌, length, refl, sym, ap, ◌∙◌, arith, lit<, w64}
 use Rattle.std.proofs.alloc.Calls.{Al, seen, Goes-blank, Gives, at_gives, Gives-goes, Gives-Gives}
 use Rattle.std.proofs.alloc.Shapes.{after}
@@ -26,17 +26,17 @@ use denote.Triple.Entry.{alive}
 use denote.Triple.Call.{calls_at_last}
 use denote.Triple.Table.{framed}
 use denote.Triple.Walked.{Stays, stay_dropped, walk_of, Goes-dropped}
-use Rattle.raw_store.specs.Ownership.{bytes_type, block_owns, deed_owns}
+use Rattle.raw_store.specs.Ownership.{bytes_type, block_owns, right_owns}
 use Rattle.raw_store.proofs.Memory.{to_room}
 use Rattle.raw_store.proofs.Values.{base_val, base_told, none_val, none_told, mark_val, mark_told}
 use Rattle.raw_store.proofs.Walks.{slot_at, then_runs, out_of_block}
-use Rattle.raw_store.specs.contracts.block.deallocate.{ended, clauses}
-use Rattle.raw_store.specs.contracts.block.deallocate.Key.{name as #self}
-use Rattle.raw_store.proofs.block.deallocate.Statement.{statement}
-use Rattle.raw_store.proofs.block.deallocate.Code as code
+use Rattle.raw_store.specs.contracts.block.deallocate_block.{ended, clauses}
+use Rattle.raw_store.specs.contracts.block.deallocate_block.Key.{name as #self}
+use Rattle.raw_store.proofs.block.deallocate_block.Statement.{statement}
+use Rattle.raw_store.proofs.block.deallocate_block.Code as code
 
-pub deallocate_spec : {M : Type 1} → statement M
-deallocate_spec 𝓤 𝓛 𝓜 𝓡 wired A L g d dd met md =
+pub deallocate_block_spec : {M : Type 1} → statement M
+deallocate_block_spec 𝓤 𝓛 𝓜 𝓡 wired A L g d dd met md =
     let H = 𝓛.H in let En₀ = ended A g d dd in let S = En₀.signature.params in
     let args : Args = bounded (a_type ∷ []) (A, tt) (dcons d (dcons dd dnil)) in let fn : Fn = inst_fn args code.function in
     let k0 = En₀.kept.0 in let k1 = En₀.kept.1.0 in let k2 = En₀.kept.1.1.0 in let k3 = En₀.kept.1.1.1.0 in let k4 = En₀.kept.1.1.1.1.0 in
@@ -57,17 +57,17 @@ deallocate_spec 𝓤 𝓛 𝓜 𝓡 wired A L g d dd met md =
     let Post : Val → SProp 𝓤 = (walk_of 𝓛 En₀ stays c).post z in
     let a = z.0.3 in let vss = z.0.4 in let Y : Al = record { row = A; laws = L; g = g; d = d; drops = dd } in
     let κ : Lft = z.0.0.0 in let q : Share = z.0.1.0 in
-    let handle = a.0.ref_ptr in let h = a.0.now in let base = a.1.0 in let n = a.1.1.0 in let x = a.1.1.1.0 in let deed = a.1.1.1.1.0 in let τ : Ty = bytes_type n in
+    let handle = a.0.ref_ptr in let h = a.0.now in let base = a.1.0 in let n = a.1.1.0 in let x = a.1.1.1.0 in let right = a.1.1.1.1.0 in let τ : Ty = bytes_type n in
     let fits = are.1.1.0.1 in
-    let Asked : Type 0 = (x.at ≡ base.ptr) × (length x.items + x.spare ≡ n) × (deed.at ≡ base.ptr) × (deed.len ≡ n) × (deed.alloc ≡ h) in
+    let Asked : Type 0 = (x.at ≡ base.ptr) × (length x.items + x.spare ≡ n) × (right.at ≡ base.ptr) × (right.len ≡ n) × (right.alloc ≡ h) in
     qed 𝓛 ((raw (alive 𝓛 En₀.signature z.0.0 z.0.1) ⊛ ‵ (owns (types_at S z.0.0) a vss)) ∷ (raw (fact 𝓤 (z.0.0.1.0 ⊑ A.lives)) ⊛ raw (fact 𝓤 Asked)) ∷ []) ∵
     move ! (1 ∷ []) $ split ! $ heard ! (z.0.0.1.0 ⊑ A.lives) (λ le. heard ! Asked (λ asked. split ! $ move ! (1 ∷ []) $
     fsplit ! $ fsplit ! $ drop ! $ use1 𝓛 (‵ (seen Y κ handle h)) (id⊢ 𝓤 _) $ move ! (1 ∷ []) $ fsplit3 ! $ drop ! $ drop ! $ fsplit3 ! $
-    -- [the bytes' owner; the deed; nothing; the `&` to the handle; the tokens]
+    -- [the bytes' owner; the right; nothing; the `&` to the handle; the tokens]
     fsplit ! $ drop ! $ in_a_block ! x.at (λ p. block_owns p x.items x.spare) (id⊢ 𝓤 (never 𝓤)) (λ b o e. fsplit ! $ drop ! $ fsplit ! $
     use2 𝓛 (‵ (froom (bytes_type (length x.items + x.spare)) b o)) (to_room 𝓛 b x.items o x.spare) $ rewrite ! 0 (λ (k : ℕ). ‵ (froom (bytes_type k) b o)) asked.1 refl $
-    move ! (1 ∷ []) $ fsplit ! $ drop ! $ rewrite ! 0 (λ (u : A.Denot × Ptr × ℕ). ‵ (deed_owns (g.dealloc_token u.0) u.1 u.2)) (λ j. (asked.4 j, (asked.2 ∙ sym asked.0 ∙ e) j, asked.3 j)) refl $
-    -- [the deed; the room; nothing; the `&`; the tokens]
+    move ! (1 ∷ []) $ fsplit ! $ drop ! $ rewrite ! 0 (λ (u : A.Denot × Ptr × ℕ). ‵ (right_owns (g.dealloc_token u.0) u.1 u.2)) (λ j. (asked.4 j, (asked.2 ∙ sym asked.0 ∙ e) j, asked.3 j)) refl $
+    -- [the right; the room; nothing; the `&`; the tokens]
     move ! (4 ∷ []) $ use1 𝓛 (‵ (flft κ q) ⊛ ‵ (flft z.0.0.1.0 z.0.1.1.0) ⊛ ‵ ftrue) (id⊢ 𝓤 _) $ split ! $ move ! (3 ∷ 2 ∷ 5 ∷ 0 ∷ 1 ∷ []) $
     regoal ! (λ (us : List Val). prop (WpFn 𝓤 H C Λ fn us Post)) (λ i. are.0.0 i ++ ((base_told base.ptr vss.1.0 are.1.0 ∙ ap (λ (p : Ptr). base_val p ∷ []) (sym asked.0 ∙ e)) i ++ (are.1.1.0.0 i ++ (none_told vss.1.1.1.0 are.1.1.1.0.0 i ++ (mark_told vss.1.1.1.1.0 are.1.1.1.1.0.0 i ++ []))))) refl $
     enter ! C Λ fn (vptr handle.0 handle.1 ∷ base_val (block_ptr b o) ∷ vint w64 n ∷ none_val ∷ mark_val ∷ []) Post $
