@@ -1,5 +1,5 @@
 -- A heap more, behind all others: its descriptor is written, and its range recorded.
-use Rattle.std.proofs.Common.{ap, cond, subst, arith, inl, ◌+◌, ◌≡◌, ℕ, true, inr, refl, false, [], List, ◌∷◌, ◌++◌, ◌≤◌, ◌&&◌, ◌-◌, leb, ◌^◌, ◌<◌, ◌⊎◌, ◌∙◌, sym, Err, Ok}
+use Rattle.std.proofs.Common.{Bool, ap, cond, subst, arith, inl, ◌+◌, ◌≡◌, ℕ, true, inr, refl, false, [], List, ◌∷◌, ◌++◌, ◌≤◌, ◌&&◌, ◌-◌, leb, ◌^◌, ◌<◌, ◌⊎◌, ◌∙◌, sym, Err, Ok}
 use Rattle.std.proofs.lemmas.Bool.{cases_lt, and_parts, both_ways, false_from_ne_true, or_parts, le-leb, lt-ltb, cases_Bool, false≢true, or_from}
 use Rattle.std.proofs.lemmas.Bool.Decides.{nat_tests}
 use Rattle.std.specs.List.{list_any}
@@ -22,6 +22,7 @@ use Rattle.os_heap.proofs.Held.{AreBy, marks_begun}
 use Rattle.os_heap.proofs.Anchored.{place_more}
 use Rattle.os_heap.proofs.FlexWords.{AreSameFlex, IsUnflexed}
 use Rattle.os_heap.proofs.Frame.{heaps_in-spelled, parts_kept}
+use Rattle.os_heap.specs.Probes.{init_probes, region_probes}
 use Rattle.os_heap.specs.Ranges.{HasRoom, is_heap_region, overlaps, MayBegin}
 use Rattle.os_heap.proofs.Nesting.{apart_turned, clear_turned, stand_more}
 use Rattle.os_heap.specs.Nesting.{StandApart, is_crossed}
@@ -261,6 +262,15 @@ store_begun m n k at size heap may sound records bytes flex =
 pub begun_bad : (s : Store) (at size : ℕ) → is_heap_region s.bytes at size ≡ false → begun s at size ≡ Err HeapBadRegion
 unfolding begun
 begun_bad s at size bad = rw bad refl
+
+-- what is looked at where a heap is to be made
+pub init_unlooked : (s : Store) (at size : ℕ) → is_heap_region s.bytes at size ≡ false → init_probes s at size ≡ 0
+unfolding init_probes
+init_unlooked s at size bad = ap (λ (t : Bool). cond t (region_probes s at size at size) 0) bad
+
+pub init_looked : (s : Store) (at size : ℕ) → is_heap_region s.bytes at size ≡ true → init_probes s at size ≡ region_probes s at size at size
+unfolding init_probes
+init_looked s at size good = ap (λ (t : Bool). cond t (region_probes s at size at size) 0) good
 
 pub begun_over : (s : Store) (at size : ℕ) → is_heap_region s.bytes at size ≡ true → overlaps at size s ≡ true → begun s at size ≡ Err HeapOverlaps
 unfolding begun

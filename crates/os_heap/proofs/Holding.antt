@@ -1,5 +1,5 @@
 -- A live block that holds all of a range, and the walk that finds it.
-use Rattle.std.proofs.Common.{List, ℕ, [], ◌∷◌, ◌≡◌, ◌≢◌, ◌+◌, ◌-◌, ◌≤◌, ◌<◌, ◌==◌, ◌&&◌, ◌||◌, ◌∙◌, Bool, Some, None, true, false, is_some, leb, ltb, refl, ap, inl, inr, arith}
+use Rattle.std.proofs.Common.{List, ℕ, [], ◌∷◌, ◌≡◌, ◌≢◌, ◌+◌, ◌-◌, ◌≤◌, ◌<◌, ◌==◌, ◌&&◌, ◌||◌, ◌∙◌, Bool, Some, None, true, false, cond, is_some, leb, ltb, refl, ap, inl, inr, arith}
 use Rattle.std.proofs.lemmas.Bool.{false≢true, both_ways, cases_Bool, and_parts, or_right, false_from_ne_true, le-leb, lt-ltb, leb-true, ltb-true, eqb-true, eq-eqb}
 use Rattle.address_map.specs.Bytes.{in_range}
 use Rattle.address_map.specs.Items.{size_of, total_of}
@@ -11,6 +11,7 @@ use Rattle.os_heap_lists.specs.Heap.{AreTotals}
 use Rattle.os_heap_lists.specs.Lists.{live_total}
 use Rattle.os_heap.specs.Nesting.{holds_range}
 use Rattle.os_heap.specs.Payloads.{holds_byte}
+use Rattle.os_heap.specs.Probes.{walked_to}
 
 pub record HoldsRange (at : ℕ) (items : List Item) (from len : ℕ) : Type 0 where
   pub block : ℕ
@@ -109,3 +110,11 @@ range_decided at (Live t) items from len fits held is =
           both_ways (leb len (at + t - from)) long (le-leb len (at + t - from) (omega (arith, low, high, leb-true (from + len) (at + t) is')))))
     ] in
     rw (rest, le-leb (at + 4) from low, same, is) (or_false fits)
+
+-- the item that holds the byte is the last that a walk to it passes
+pub walk_ends : (at here : ℕ) (item : Item) (items : List Item) → holds_byte here item at ≡ true → walked_to at here (item ∷ items) ≡ 1
+walk_ends at here item items held = ap (λ (t : Bool). cond t 1 (1 + walked_to at (here + total_of item) items)) held
+
+pub walk_goes : (at here : ℕ) (item : Item) (items : List Item) → holds_byte here item at ≡ false
+    → walked_to at here (item ∷ items) ≡ 1 + walked_to at (here + total_of item) items
+walk_goes at here item items passed = ap (λ (t : Bool). cond t 1 (1 + walked_to at (here + total_of item) items)) passed

@@ -1,5 +1,5 @@
 -- What is in the way of a heap's range: some record by itself, or else the innermost heap round it.
-use Rattle.std.proofs.Common.{List, ℕ, [], ◌∷◌, ◌≡◌, ◌+◌, ◌<◌, ◌&&◌, ◌||◌, ◌∙◌, Bool, not, true, false, leb, ltb, refl, sym, ap, inl, inr, arith}
+use Rattle.std.proofs.Common.{List, ℕ, [], ◌∷◌, ◌≡◌, ◌+◌, ◌<◌, ◌&&◌, ◌||◌, ◌∙◌, Bool, Option, cond, not, true, false, leb, ltb, refl, sym, ap, inl, inr, arith}
 use Rattle.std.proofs.lemmas.Bool.{both_ways, cases_Bool, and_parts, or_left, or_right, or_parts, false_from_ne_true, le-leb, lt-ltb, ltb-true, ltb-false}
 use Rattle.std.specs.List.{list_any}
 use Rattle.address_map.specs.Bytes.{Bytes, in_range, meets}
@@ -14,6 +14,7 @@ use Rattle.os_heap.proofs.Innermost.{IsRound, round_so, so_round, last_tells, ra
 use Rattle.os_heap.specs.Bars.{bars, bars_record}
 use Rattle.os_heap.specs.Laws.{told_by}
 use Rattle.os_heap.specs.Nesting.{holds_range, innermost, is_crossed, is_round}
+use Rattle.os_heap.specs.Probes.{counted_of, is_barred, region_probes, walked_to}
 use Rattle.os_heap.specs.Ranges.{has_before, is_in_way, is_obstructed, overlaps}
 use Rattle.os_heap.specs.Store.{AreHeapsIn, IsSound, Store, heap_in, heaps_in, others_in, store_of}
 
@@ -159,3 +160,28 @@ pub obstructed_over : (s : Store) (at len : ℕ) → 0 < len → IsSound s → i
 obstructed_over s at len some sound =
     let others : Bool = list_any (λ r. meets at len r.at r.len) s.others in
     ap (λ (t : Bool). (t || others) || anchor_among s.anchor at len) (ways_crossed s.bytes at len s.heaps some sound.heaps)
+
+-- what is looked at: nothing where something is in the way by itself, and else the items of the innermost heap
+barred_records : (m : AddressMap) (at len new more : ℕ)
+    → is_barred at len new more (store_of m) ≡ (list_any (bars_record at len new more) (regions m) || anchor_among (anchor_of m) new more)
+unfolding store_of
+barred_records m at len new more =
+    ap (λ (t : Bool). t || anchor_among (anchor_of m) new more) (sym (bars_split at len new more (bytes_of m) (regions m)))
+
+pub barred_probes : (m : AddressMap) (at len new more : ℕ)
+    → (list_any (bars_record at len new more) (regions m) || anchor_among (anchor_of m) new more) ≡ true → region_probes (store_of m) at len new more ≡ 0
+unfolding region_probes
+barred_probes m at len new more is =
+    ap (λ (t : Bool). cond t 0 (counted_of (λ h. walked_to at (h.start + 16) h.items) (innermost at len (store_of m).heaps)))
+    (barred_records m at len new more ∙ is)
+
+pub walk_probes_of : (m : AddressMap) (at len new more : ℕ) (round : Option HeapList) → list_any (bars_record at len new more) (regions m) ≡ false
+    → anchor_among (anchor_of m) new more ≡ false → innermost at len (heaps_in (bytes_of m) (regions m)) ≡ round
+    → region_probes (store_of m) at len new more ≡ counted_of (λ h. walked_to at (h.start + 16) h.items) round
+unfolding region_probes store_of
+walk_probes_of m at len new more round free unanchored found =
+    let anchors : Bool = anchor_among (anchor_of m) new more in
+    let clear : (list_any (bars_record at len new more) (regions m) || anchors) ≡ false = ap (λ (t : Bool). t || anchors) free ∙ unanchored in
+    ap (λ (t : Bool). cond t 0 (counted_of (λ h. walked_to at (h.start + 16) h.items) (innermost at len (heaps_in (bytes_of m) (regions m)))))
+    (barred_records m at len new more ∙ clear)
+    ∙ ap (counted_of (λ h. walked_to at (h.start + 16) h.items)) found

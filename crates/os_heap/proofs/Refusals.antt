@@ -1,5 +1,5 @@
--- What the change of a heap's size answers, case by case.
-use Rattle.std.proofs.Common.{◌≡◌, None, refl, ℕ, Err, false, Some, true, ◌≢◌, ◌%◌, arith, inl, inr, ◌<◌, ◌==◌, ◌+◌, Ok}
+-- What the change of a heap's size answers, case by case, and what it looks at.
+use Rattle.std.proofs.Common.{◌≡◌, None, refl, ℕ, Err, Bool, false, Some, true, cond, ap, ◌≢◌, ◌%◌, arith, inl, inr, ◌<◌, ◌==◌, ◌+◌, Ok}
 use Rattle.std.proofs.lemmas.Bool.{ne_eqb, eq-eqb, cases_Bool, lt-ltb}
 use Rattle.profile.specs.declared.error.ErrorNumber.TheVariants.{HeapBadDesc, HeapBadRegion, HeapOverlaps, HeapBadShrink}
 use Rattle.address_map.specs.Bytes.{Bytes}
@@ -8,6 +8,7 @@ use Rattle.os_heap_lists.specs.Heap.{HeapList}
 use Rattle.os_heap_lists.specs.Lists.{changed_by}
 use Rattle.os_heap.proofs.RangeTests.{can_hold}
 use Rattle.os_heap.specs.Calls.{changed, has_own_size, end_changed, ending}
+use Rattle.os_heap.specs.Probes.{change_probes, change_probes_of, counted_of, end_probes, growth_probes}
 use Rattle.os_heap.specs.Ranges.{MayEnd, is_heap_region, overgrows}
 use Rattle.os_heap.specs.Store.{Store, find_heap}
 
@@ -56,3 +57,36 @@ end_short s h change end whole good clear short = rw (eq-eqb (change % 4) 0 whol
 
 pub end_done : (s : Store) (h : HeapList) (change end : ℕ) → change % 4 ≡ 0 → MayEnd s h end → end_changed s h change end ≡ Ok (ending s h end, tt)
 end_done s h change end whole may = rw (eq-eqb (change % 4) 0 whole, may.region, may.clear, may.inside) refl
+
+-- what is looked at
+pub none_probes : (s : Store) (heap change : ℕ) → find_heap heap s.heaps ≡ None → change_probes s heap change ≡ 0
+unfolding change_probes
+none_probes s heap change none = ap (counted_of (λ h. change_probes_of s h change)) none
+
+pub found_probes : (s : Store) (heap change : ℕ) (h : HeapList) → find_heap heap s.heaps ≡ Some h → change_probes s heap change ≡ change_probes_of s h change
+unfolding change_probes
+found_probes s heap change h found = ap (counted_of (λ g. change_probes_of s g change)) found
+
+pub area_probes : (s : Store) (h : HeapList) (change : ℕ) → has_own_size h.kind ≡ false → change_probes_of s h change ≡ 0
+area_probes s h change area = rw area refl
+
+pub odd_probes : (s : Store) (h : HeapList) (change : ℕ) → has_own_size h.kind ≡ true → change % 4 ≢ 0 → change_probes_of s h change ≡ 0
+odd_probes s h change own odd = rw (own, ne_eqb (change % 4) 0 odd) refl
+
+pub whole_probes : (s : Store) (h : HeapList) (change : ℕ) → has_own_size h.kind ≡ true → change % 4 ≡ 0
+    → change_probes_of s h change ≡ end_probes s h (changed_by h.end change)
+whole_probes s h change own whole = rw (own, eq-eqb (change % 4) 0 whole) refl
+
+pub bad_probes : (s : Store) (h : HeapList) (end : ℕ) → is_heap_region s.bytes h.start end ≡ false → end_probes s h end ≡ 0
+bad_probes s h end bad = ap (λ (t : Bool). cond t (growth_probes s h end) 0) bad
+
+pub good_probes : (s : Store) (h : HeapList) (end : ℕ) → is_heap_region s.bytes h.start end ≡ true → end_probes s h end ≡ growth_probes s h end
+good_probes s h end good = ap (λ (t : Bool). cond t (growth_probes s h end) 0) good
+
+pub wide_probes : (s : Store) (h : HeapList) (change : ℕ) → has_own_size h.kind ≡ true → 16777216 < changed_by h.end change
+    → change_probes_of s h change ≡ 0
+wide_probes s h change own wide =
+    elim (cases_Bool (change % 4 == 0)) [
+      | inl whole ↦ rw (own, whole) (bad_probes s h (changed_by h.end change) (wide_region s.bytes h.start (changed_by h.end change) wide))
+      | inr odd ↦ rw (own, odd) refl
+    ]

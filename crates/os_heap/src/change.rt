@@ -5,7 +5,7 @@ ghost use Rattle.address_map.specs.Records.{is_heap_kind};
 ghost use Rattle.os_heap_lists.specs.Words.{AreApart};
 ghost use Rattle.os_heap.specs.Calls.{changed, end_changed, ending, has_own_size, MayEndArea, IsAreaEnded};
 ghost use Rattle.os_heap.specs.Order.{KeepsOrder};
-ghost use Rattle.os_heap.specs.Probes.{change_probes, growth_probes};
+ghost use Rattle.os_heap.specs.Probes.{change_probes, end_probes, growth_probes};
 ghost use Rattle.os_heap.specs.Ranges.{MayEnd, overgrows};
 ghost use Rattle.os_heap.specs.Outcomes.{IsHeapAt};
 ghost use Rattle.os_heap.specs.Sound.{IsSoundMap, KeepsOthers};
@@ -42,7 +42,7 @@ impl Heaps {
         ensures others { (store_of map.new).others ≡ (store_of map.old).others }
         ensures mapping { mapping map.new ≡ mapping map.old }
         ensures order { KeepsOrder map.old map.new }
-        ensures probes { result.probes ≤ change_probes (store_of map.old) heap change }
+        ensures probes { result.probes ≡ change_probes (store_of map.old) heap change }
     {
         change_end(map, heap, change)
     }
@@ -81,7 +81,7 @@ fn change_end(map: &mut AddressMap, heap: u32, change: u32) -> Counted<()>
     ensures store { Gives (store_of map.old) (changed (store_of map.old) heap change) result.answer (store_of map.new) }
     ensures kept { KeepsOthers map.old map.new }
     ensures order { KeepsOrder map.old map.new }
-    ensures probes { result.probes ≤ change_probes (store_of map.old) heap change }
+    ensures probes { result.probes ≡ change_probes (store_of map.old) heap change }
 {
     let Some(region) = find(map, heap) else {
         return refused(ErrorNumber::HeapBadDesc, 0);
@@ -108,7 +108,7 @@ fn may_end(map: &AddressMap, region: &Region, end: u32) -> Counted<()>
     ensures answer { MatchResult result.answer (λ _. MayEnd (store_of map.now) (heap_in (bytes_of map.now) region.now) end)
         (λ e. (change : ℕ) → change % 4 ≡ 0
         → end_changed (store_of map.now) (heap_in (bytes_of map.now) region.now) change end ≡ Err e) }
-    ensures probes { result.probes ≤ growth_probes (store_of map.now) (heap_in (bytes_of map.now) region.now) end }
+    ensures probes { result.probes ≡ end_probes (store_of map.now) (heap_in (bytes_of map.now) region.now) end }
 {
     if !is_heap_region(map, region.at, end) {
         return refused(ErrorNumber::HeapBadRegion, 0);
@@ -131,7 +131,7 @@ fn overgrows(map: &AddressMap, region: &Region, end: u32) -> Tested
     requires heap { IsHeapAt map.now region.now.at region.now.len }
     requires sound { IsSoundMap map.now }
     ensures yes { result.yes ≡ overgrows (store_of map.now) (heap_in (bytes_of map.now) region.now) end }
-    ensures probes { result.probes ≤ growth_probes (store_of map.now) (heap_in (bytes_of map.now) region.now) end }
+    ensures probes { result.probes ≡ growth_probes (store_of map.now) (heap_in (bytes_of map.now) region.now) end }
 {
     if region.len >= end {
         return Tested {

@@ -5,7 +5,7 @@ ghost use Rattle.address_map.specs.Memory.{mapping, byte_at, is_mapped, bytes_of
 ghost use Rattle.address_map.specs.Records.{is_heap_kind};
 ghost use Rattle.address_map.specs.declared.region.Kind.TheVariants.{Heap, Rma};
 ghost use Rattle.os_heap.specs.Order.{AddsRecord, KeepsOrder};
-ghost use Rattle.os_heap.specs.Probes.{region_probes};
+ghost use Rattle.os_heap.specs.Probes.{init_probes};
 ghost use Rattle.os_heap.specs.Ranges.{MayBegin, is_heap_region};
 ghost use Rattle.os_heap_lists.specs.Heap.{with_heap};
 ghost use Rattle.os_heap.specs.Sound.{IsSoundMap, KeepsOthers};
@@ -46,7 +46,7 @@ impl Heaps {
         ensures mapping { mapping map.new ≡ mapping map.old }
         ensures order { MatchResult result.answer
             (λ _. AddsRecord map.old map.new Heap heap) (λ _. KeepsOrder map.old map.new) }
-        ensures probes { result.probes ≤ region_probes (store_of map.old) heap size }
+        ensures probes { result.probes ≡ init_probes (store_of map.old) heap size }
     {
         begin(map, heap, size)
     }
@@ -74,7 +74,7 @@ fn begin(map: &mut AddressMap, heap: u32, size: u32) -> Counted<()>
     ensures kept { KeepsOthers map.old map.new }
     ensures order { MatchResult result.answer
         (λ _. AddsRecord map.old map.new Heap heap) (λ _. KeepsOrder map.old map.new) }
-    ensures probes { result.probes ≤ region_probes (store_of map.old) heap size }
+    ensures probes { result.probes ≡ init_probes (store_of map.old) heap size }
 {
     let tested = may_begin(map, heap, size);
     if let Ok(()) = tested.answer {
@@ -117,7 +117,7 @@ fn may_begin(map: &AddressMap, heap: u32, size: u32) -> Counted<()>
     requires { IsSoundMap map.now }
     ensures answer { MatchResult result.answer (λ _. MayBegin Heap (store_of map.now) heap size)
         (λ e. begun (store_of map.now) heap size ≡ Err e) }
-    ensures probes { result.probes ≤ region_probes (store_of map.now) heap size }
+    ensures probes { result.probes ≡ init_probes (store_of map.now) heap size }
 {
     if !is_heap_region(map, heap, size) {
         return refused(ErrorNumber::HeapBadRegion, 0);

@@ -1,4 +1,4 @@
-ghost use Rattle.std.specs.Prelude.{ℕ, ◌≡◌, ◌≤◌, ◌<◌, ◌+◌, ◌^◌, ◌&&◌, nat_lt, length, true, Some, MatchResult};
+ghost use Rattle.std.specs.Prelude.{ℕ, ◌≡◌, ◌≤◌, ◌<◌, ◌+◌, ◌^◌, ◌&&◌, nat_lt, true, Some, MatchResult};
 ghost use Rattle.std.specs.List.{list_any};
 ghost use Rattle.std.specs.Option.{option_map};
 ghost use Rattle.address_map.specs.Bytes.{Bytes, in_range};
@@ -8,7 +8,7 @@ ghost use Rattle.os_heap_lists.specs.Heap.{AreTotals};
 ghost use Rattle.os_heap.specs.Bars.{IsInnermost, bars_record};
 ghost use Rattle.os_heap.specs.Nesting.{holds_range, is_round, later};
 ghost use Rattle.os_heap.specs.Outcomes.{IsHeapAt, items_at};
-ghost use Rattle.os_heap.specs.Probes.{region_probes};
+ghost use Rattle.os_heap.specs.Probes.{region_probes, walked_to};
 ghost use Rattle.os_heap.specs.Ranges.{is_obstructed};
 ghost use Rattle.os_heap.specs.Sound.{IsSoundMap};
 ghost use Rattle.os_heap.specs.Store.{heap_in, store_of};
@@ -31,7 +31,7 @@ pub(crate) fn is_obstructed(map: &AddressMap, at: u32, len: u32, new: u32, more:
     requires sound { IsSoundMap map.now }
     requires some { 0 < len }
     ensures yes { result.yes ≡ is_obstructed at len new more (store_of map.now) }
-    ensures probes { result.probes ≤ region_probes (store_of map.now) at len }
+    ensures probes { result.probes ≡ region_probes (store_of map.now) at len new more }
 {
     let Ok(round) = innermost(map.regions(), at, len, new, more) else {
         return Tested {
@@ -123,7 +123,7 @@ fn holds_range(map: &AddressMap, heap: u32, end: u32, at: u32, len: u32) -> Test
     requires heap { IsHeapAt map.now heap end }
     requires some { 0 < len }
     ensures yes { result.yes ≡ holds_range (heap + 16) (items_at map.now heap) at len }
-    ensures probes { result.probes ≤ length (items_at map.now heap) }
+    ensures probes { result.probes ≡ walked_to at (heap + 16) (items_at map.now heap) }
 {
     range_among(heap + HEAP_DESCRIPTOR, blocks_of(map, heap, end), at, len)
 }
@@ -134,7 +134,7 @@ fn range_among(start: u32, blocks: Blocks, at: u32, len: u32) -> Tested
     requires below { start + size_of blocks ≤ 2 ^ 26 }
     requires some { 0 < len }
     ensures yes { result.yes ≡ holds_range start blocks.entry at len }
-    ensures probes { result.probes ≤ length blocks.entry }
+    ensures probes { result.probes ≡ walked_to at start blocks.entry }
 {
     let mut here = start;
     let mut probes = 0;

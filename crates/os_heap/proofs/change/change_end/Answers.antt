@@ -1,12 +1,12 @@
-use Rattle.std.proofs.Common.{◌≡◌, true, false, Err, Ok, Some, refl, sym, subst, arith}
+use Rattle.std.proofs.Common.{◌≡◌, true, false, Err, Ok, Some, refl, sym, subst, arith, ◌∙◌}
 use Rattle.profile.specs.declared.error.ErrorNumber.TheVariants.{HeapBadRegion}
 use Rattle.address_map.specs.Memory.{bytes_of}
 use Rattle.os_heap.specs.Calls.{changed, end_changed, ending, has_own_size}
 use Rattle.os_heap_lists.specs.Heap.{HeapList}
 use Rattle.os_heap_lists.specs.Lists.{changed_by}
-use Rattle.os_heap.specs.Probes.{change_probes}
+use Rattle.os_heap.specs.Probes.{change_probes_of}
 use Rattle.os_heap.specs.Store.{store_of, heap_in, find_heap}
-use Rattle.os_heap.proofs.Refusals.{changed_none, changed_area, changed_own, end_odd, end_wide, end_done}
+use Rattle.os_heap.proofs.Refusals.{area_probes, changed_area, changed_none, changed_own, end_done, end_odd, end_wide, found_probes, none_probes, odd_probes, whole_probes, wide_probes}
 use Rattle.os_heap.proofs.Ending.{own_heap}
 use Rattle.os_heap.proofs.Found.{found_at}
 use Rattle.os_heap.proofs.change.change_end.Goals as goal
@@ -58,10 +58,12 @@ returns-in_default-answer-clause-store c =
     rw (c.in_default-answer.is, is, there) (refl, refl)
 
 pub returns-in_default-answer-clause-probes : goal.returns-in_default-answer-clause-probes
-unfolding change_probes
 returns-in_default-answer-clause-probes c =
+    let s = store_of c.args.map.now in
+    let h : HeapList = heap_in (bytes_of c.args.map.now) c.in-Some.region in
+    let own : has_own_size h.kind ≡ true = cc in
     let probes = rw c.changed_by-end.ensures at c.may_end-tested.ensures.probes in
-    rw c.in-Some.ensures.1 probes
+    probes ∙ sym (found_probes s c.args.heap c.args.change h c.in-Some.ensures.1 ∙ whole_probes s h c.args.change own c.if-change-ne0.false)
 
 pub returns-in-Ok-clause-store : goal.returns-in-Ok-clause-store
 returns-in-Ok-clause-store c =
@@ -76,7 +78,34 @@ returns-in-Ok-clause-store c =
     rw (c.in-Ok.is, is, there) (store, refl)
 
 pub returns-in-Ok-clause-probes : goal.returns-in-Ok-clause-probes
-unfolding change_probes
 returns-in-Ok-clause-probes c =
+    let s = store_of c.args.map.now in
+    let h : HeapList = heap_in (bytes_of c.args.map.now) c.in-Some.region in
+    let own : has_own_size h.kind ≡ true = cc in
     let probes = rw c.changed_by-end.ensures at c.may_end-tested.ensures.probes in
-    rw c.in-Some.ensures.1 probes
+    probes ∙ sym (found_probes s c.args.heap c.args.change h c.in-Some.ensures.1 ∙ whole_probes s h c.args.change own c.if-change-ne0.false)
+
+pub returns-in_default-clause-probes : goal.returns-in_default-clause-probes
+returns-in_default-clause-probes c =
+    rw c.refused.ensures (sym (none_probes (store_of c.args.map.now) c.args.heap c.args.change c.in_default.ensures))
+
+pub returns-then-not-has_own_size-clause-probes : goal.returns-then-not-has_own_size-clause-probes
+returns-then-not-has_own_size-clause-probes c =
+    let s = store_of c.args.map.now in
+    let h : HeapList = heap_in (bytes_of c.args.map.now) c.in-Some.region in
+    let area : has_own_size h.kind ≡ false = cc in
+    rw c.refused-then-not-has_own_size.ensures
+    (sym (found_probes s c.args.heap c.args.change h c.in-Some.ensures.1 ∙ area_probes s h c.args.change area))
+
+pub returns-then-change-ne0-clause-probes : goal.returns-then-change-ne0-clause-probes
+returns-then-change-ne0-clause-probes c =
+    let s = store_of c.args.map.now in
+    let h : HeapList = heap_in (bytes_of c.args.map.now) c.in-Some.region in
+    let own : has_own_size h.kind ≡ true = cc in
+    let none : change_probes_of s h c.args.change ≡ 0 =
+    elim c.then-change-ne0.branch [
+      | then-change-ne0-via-then-change-ne0 w ↦ odd_probes s h c.args.change own w.if-change-ne0.true
+      | then-change-ne0-via-else-change-ne0+then-end-from w ↦
+          wide_probes s h c.args.change own (omega (arith, w.if-end-from.true, w.from.ensures, c.changed_by-end.ensures))
+    ] in
+    rw c.refused-then-change-ne0.ensures (sym (found_probes s c.args.heap c.args.change h c.in-Some.ensures.1 ∙ none))

@@ -5,7 +5,7 @@ use Rattle.address_map.specs.Memory.{bytes_of}
 use Rattle.os_heap.specs.Outcomes.{items_at}
 use Rattle.os_heap.specs.Store.{store_of, heap_in}
 use Rattle.os_heap.specs.Ranges.{is_heap_region, overgrows}
-use Rattle.os_heap.proofs.Refusals.{end_bad, end_over, end_short}
+use Rattle.os_heap.proofs.Refusals.{bad_probes, end_bad, end_over, end_short, good_probes}
 use Rattle.os_heap.proofs.Tally.{heap_below}
 use Rattle.os_heap.proofs.change.may_end.Goals as goal
 
@@ -50,3 +50,30 @@ returns-clause-answer c =
       clear = sym c.overgrows-tested.ensures.yes ∙ c.if-tested.false;
       inside = le-ltb c.args.end (16 + size_of (items_at c.args.map.now r.at)) base;
     }
+
+pub returns-then-not-is_heap_region-clause-probes : goal.returns-then-not-is_heap_region-clause-probes
+unfolding store_of
+returns-then-not-is_heap_region-clause-probes c =
+    let bad : is_heap_region (bytes_of c.args.map.now) c.args.region.now.at c.args.end ≡ false = cc in
+    rw c.refused.ensures (sym (bad_probes (store_of c.args.map.now) (heap_in (bytes_of c.args.map.now) c.args.region.now) c.args.end bad))
+
+pub returns-then-tested-clause-probes : goal.returns-then-tested-clause-probes
+unfolding store_of
+returns-then-tested-clause-probes c =
+    let good : is_heap_region (bytes_of c.args.map.now) c.args.region.now.at c.args.end ≡ true = cc in
+    rw c.refused-then-tested.ensures (c.overgrows-tested.ensures.probes
+    ∙ sym (good_probes (store_of c.args.map.now) (heap_in (bytes_of c.args.map.now) c.args.region.now) c.args.end good))
+
+pub returns-then-end-word-clause-probes : goal.returns-then-end-word-clause-probes
+unfolding store_of
+returns-then-end-word-clause-probes c =
+    let good : is_heap_region (bytes_of c.args.map.now) c.args.region.now.at c.args.end ≡ true = cc in
+    rw c.refused-then-end-word.ensures (c.overgrows-tested.ensures.probes
+    ∙ sym (good_probes (store_of c.args.map.now) (heap_in (bytes_of c.args.map.now) c.args.region.now) c.args.end good))
+
+pub returns-clause-probes : goal.returns-clause-probes
+unfolding store_of
+returns-clause-probes c =
+    let good : is_heap_region (bytes_of c.args.map.now) c.args.region.now.at c.args.end ≡ true = cc in
+    c.overgrows-tested.ensures.probes
+    ∙ sym (good_probes (store_of c.args.map.now) (heap_in (bytes_of c.args.map.now) c.args.region.now) c.args.end good)

@@ -3,7 +3,7 @@ use Rattle.std.proofs.lemmas.Bool.{le-leb, lt-leb}
 use Rattle.address_map.specs.Memory.{bytes_of}
 use Rattle.os_heap.specs.Store.{store_of, guest_count}
 use Rattle.os_heap.specs.Ranges.{is_heap_region, overlaps}
-use Rattle.os_heap.proofs.Added.{begun_bad, begun_over, begun_full}
+use Rattle.os_heap.proofs.Added.{begun_bad, begun_full, begun_over, init_looked, init_unlooked}
 use Rattle.os_heap.proofs.RangeTests.{can_hold}
 use Rattle.os_heap.proofs.Obstructions.{obstructed_over}
 use Rattle.os_heap.proofs.init.may_begin.Goals as goal
@@ -53,3 +53,28 @@ returns-clause-answer c =
       clear = sym (obstructed_over s c.args.heap c.args.size some c.requires.sound) ∙ sym c.is_obstructed-tested.ensures.yes ∙ c.if-tested.false;
       room = lt-leb 64 (guest_count s.heaps) (omega (arith, guests));
     }
+
+pub returns-then-not-is_heap_region-clause-probes : goal.returns-then-not-is_heap_region-clause-probes
+unfolding store_of
+returns-then-not-is_heap_region-clause-probes c =
+    let bad : is_heap_region (bytes_of c.args.map.now) c.args.heap c.args.size ≡ false = cc in
+    rw c.refused.ensures (sym (init_unlooked (store_of c.args.map.now) c.args.heap c.args.size bad))
+
+pub returns-then-tested-clause-probes : goal.returns-then-tested-clause-probes
+unfolding store_of
+returns-then-tested-clause-probes c =
+    let good : is_heap_region (bytes_of c.args.map.now) c.args.heap c.args.size ≡ true = cc in
+    rw c.refused-then-tested.ensures (c.is_obstructed-tested.ensures.probes ∙ sym (init_looked (store_of c.args.map.now) c.args.heap c.args.size good))
+
+pub returns-then-count_guests-ge-MOST_HEAPS-clause-probes : goal.returns-then-count_guests-ge-MOST_HEAPS-clause-probes
+unfolding store_of
+returns-then-count_guests-ge-MOST_HEAPS-clause-probes c =
+    let good : is_heap_region (bytes_of c.args.map.now) c.args.heap c.args.size ≡ true = cc in
+    rw c.refused-then-count_guests-ge-MOST_HEAPS.ensures
+    (c.is_obstructed-tested.ensures.probes ∙ sym (init_looked (store_of c.args.map.now) c.args.heap c.args.size good))
+
+pub returns-clause-probes : goal.returns-clause-probes
+unfolding store_of
+returns-clause-probes c =
+    let good : is_heap_region (bytes_of c.args.map.now) c.args.heap c.args.size ≡ true = cc in
+    c.is_obstructed-tested.ensures.probes ∙ sym (init_looked (store_of c.args.map.now) c.args.heap c.args.size good)

@@ -1,14 +1,13 @@
-use Rattle.std.proofs.Common.{Bool, ◌≡◌, ◌+◌, ◌∙◌, not, length, true, sym, ap, arith}
+use Rattle.std.proofs.Common.{Bool, ◌≡◌, ◌+◌, ◌∙◌, None, Some, not, true, sym, ap}
 use Rattle.std.proofs.lemmas.Bool.{or_left, or_right}
 use Rattle.std.specs.List.{list_any}
 use Rattle.address_map.specs.Memory.{anchor_of, bytes_of, regions}
 use Rattle.address_map.specs.Records.{anchor_among}
 use Rattle.os_heap.proofs.Innermost.{last_spelled}
-use Rattle.os_heap.proofs.Obstructions.{obstructed_barred, obstructed_told}
+use Rattle.os_heap.proofs.Obstructions.{barred_probes, obstructed_barred, obstructed_told, walk_probes_of}
 use Rattle.os_heap.specs.Bars.{bars_record}
 use Rattle.os_heap.specs.Laws.{told_by}
 use Rattle.os_heap.specs.Nesting.{holds_range, is_round}
-use Rattle.os_heap.specs.Probes.{counted_of, region_probes}
 use Rattle.os_heap.specs.Store.{heap_in, heaps_in, store_of}
 use Rattle.os_heap.proofs.obstacles.is_obstructed.Goals as goal
 
@@ -53,9 +52,32 @@ returns-clause-yes c =
     ap not c.holds_range-held.ensures.yes
     ∙ sym (told ∙ ap (told_by (λ h. not (holds_range (h.start + 16) h.items c.args.at c.args.len))) (found.last (bytes_of m)))
 
+pub returns-in_default-clause-probes : goal.returns-in_default-clause-probes
+returns-in_default-clause-probes c =
+    let m = c.args.map.now in
+    let barred : Bool = list_any (bars_record c.args.at c.args.len c.args.new c.args.more) (regions m) in
+    let anchors : Bool = anchor_among (anchor_of m) c.args.new c.args.more in
+    let is : barred ≡ true = rw c.regions.ensures at c.in_default.ensures in
+    sym (barred_probes m c.args.at c.args.len c.args.new c.args.more (or_left barred anchors is))
+
+pub returns-then-anchor_in-clause-probes : goal.returns-then-anchor_in-clause-probes
+returns-then-anchor_in-clause-probes c =
+    let m = c.args.map.now in
+    let barred : Bool = list_any (bars_record c.args.at c.args.len c.args.new c.args.more) (regions m) in
+    let anchors : Bool = anchor_among (anchor_of m) c.args.new c.args.more in
+    sym (barred_probes m c.args.at c.args.len c.args.new c.args.more (or_right barred anchors (sym c.anchor_in.ensures ∙ c.if-anchor_in.true)))
+
+pub returns-in_default-round-clause-probes : goal.returns-in_default-round-clause-probes
+returns-in_default-round-clause-probes c =
+    let m = c.args.map.now in
+    let found = rw c.in_default-round.is at (rw c.regions.ensures at c.in-Ok.ensures) in
+    sym (walk_probes_of m c.args.at c.args.len c.args.new c.args.more None found.free (sym c.anchor_in.ensures ∙ c.if-anchor_in.false)
+    (found.last (bytes_of m)))
+
 pub returns-clause-probes : goal.returns-clause-probes
-unfolding store_of region_probes
 returns-clause-probes c =
     let m = c.args.map.now in
     let found = rw c.in-Some.is at (rw c.regions.ensures at c.in-Ok.ensures) in
-    omega (arith, c.holds_range-held.ensures.probes, ap (counted_of (λ h. length h.items)) (found.last (bytes_of m)))
+    c.holds_range-held.ensures.probes
+    ∙ sym (walk_probes_of m c.args.at c.args.len c.args.new c.args.more (Some (heap_in (bytes_of m) c.in-Some.outer)) found.free
+    (sym c.anchor_in.ensures ∙ c.if-anchor_in.false) (found.last (bytes_of m)))
