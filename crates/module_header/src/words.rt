@@ -2,6 +2,7 @@
 ghost use Rattle.std.specs.Prelude.{◌≡◌, ◌≤◌, ◌+◌, length};
 ghost use Rattle.module_header.specs.Words.{word_at, entry_at, is_entry};
 
+use byteorder::{ByteOrder, LittleEndian};
 use profile::ImageBytes;
 
 /// The word at a place, its lowest byte first.
@@ -10,7 +11,7 @@ pub(crate) fn word_at<B: ImageBytes>(image: &B, at: usize) -> u32
     requires header { at ≤ 32 }
     ensures { result ≡ word_at (B.bytes image.now) at }
 {
-    u32::from_le_bytes([
+    LittleEndian::read_u32(&[
         image.byte(at),
         image.byte(at + 1),
         image.byte(at + 2),
