@@ -1,5 +1,5 @@
 //! The text of instructions: each word has one at its address.
-#![tactic(auto, using(crate::proofs::Pieces::pieces))]
+#![tactic(auto)]
 
 pub mod names;
 pub mod numbers;
