@@ -36,16 +36,21 @@ where
     ensures answers { IfOk result (AnswersScript F.File.Read.remaining settings.entry.now (R.remaining reader.old)
         (W.contents (device_inner writer.old)) (W.contents (device_inner writer.new))) }
     ensures well { OnOk result (device_failed writer.new ≡ false) }
+    ensures failed { device_failed writer.old ≡ true → IsErr result }
     ensures refused { IfErr result (λ e. is_of_run e ≡ true) }
     ensures files { IfErr result (RefusesFiles F.File.Read.remaining settings.entry.now.files reader.old reader.new
         writer.old writer.new) }
     ensures memory { result ≡ Err (Refusal.Script RunError.Memory)
         → EndsWithin F.File.Read.remaining settings.entry.now (R.remaining reader.old)
         (W.contents (device_inner writer.old)) (W.contents (device_inner writer.new)) }
+    ensures told { R.has_failed reader.old ≡ false → R.has_failed reader.new ≡ true
+        → result ≡ Err (Refusal.Script RunError.ReadFault) }
     ensures read_fault { result ≡ Err (Refusal.Script RunError.ReadFault)
         → (R.has_failed reader.new ≡ true) × (writer.new ≡ writer.old) }
     ensures too_long { result ≡ Err (Refusal.Script RunError.ScriptTooLong)
         → (writer.new ≡ writer.old) × IfSome (R.remaining reader.old) (λ script. 1048576 < length script) }
+    ensures write_told { device_failed writer.old ≡ false → device_failed writer.new ≡ true
+        → result ≡ Err (Refusal.Script RunError.WriteFault) }
     ensures write_fault { result ≡ Err (Refusal.Script RunError.WriteFault) → device_failed writer.new ≡ true }
 {
     let mut images = Images::new();
