@@ -27,7 +27,7 @@ use Rattle.os_heap.specs.Calls.{begun, block_sized, changed, described, gave_bac
 use Rattle.os_heap.specs.Laws.{KeepsPayloads}
 use Rattle.os_heap.specs.Store.{IsSound, Store, find_heap, owned_in}
 use Rattle.heap_turns.proofs.DoneCalls.{OnDone}
-use Rattle.heap_turns.proofs.KeptHeaps.{others_kept}
+use Rattle.heap_turns.proofs.KeptHeaps.{others_recorded}
 use Rattle.heap_turns.specs.Laws.{IsNotForgotten, KeepsHeap, starts_inside}
 use Rattle.heap_turns.specs.Lists.{is_call_to, is_on_heap}
 use Rattle.heap_turns.specs.Turns.{call_on}
@@ -123,7 +123,7 @@ call_leaves : (s : Store) (heap : ℕ) (why : HeapReason) (block size : ℕ) →
 call_leaves s heap why block size sound (Ok x) is kept = λ sound'. record {
   payloads = kept sound';
   others = λ h found apart outside still.
-      others_kept s x.0 h heap why block size x.1 sound sound' found
+      others_recorded s x.0 h heap why block size x.1 sound sound' found
       (false_from_ne_true (is_call_to h.start heap why) (λ both.
       apart (sym (eqb-true heap h.start (and_parts (is_on_heap why) (heap == h.start) both).1)))) outside is still;
 }
@@ -176,7 +176,7 @@ module _ (s : MachineState) (has : HasStore s) where
   unfolding heap_called
   heap_leaves x next = ended_leaves x next (on_store s (heap_called s.cpu s.store)) (heap_goes (heap_reason (register_of s.cpu 0)))
 
-  call_goes : (images : List Entry) (x : Bool) (next number : ℕ) → swi_of number ≡ Some swi.Heap
+  pub call_goes : (images : List Entry) (x : Bool) (next number : ℕ) → swi_of number ≡ Some swi.Heap
       → called images s x next number ≡ ended s x (went_on s next (on_store s (heap_called s.cpu s.store)))
   unfolding called call_answer
   call_goes images x next number name =

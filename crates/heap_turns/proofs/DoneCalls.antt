@@ -1,5 +1,5 @@
 -- What a call on a heap that is done leaves: the store as it was, or the heap with another list, or with another end.
-use Rattle.std.proofs.Common.{ℕ, ◌≡◌, ◌+◌, ◌-◌, ◌%◌, ◌≤◌, ◌<◌, ◌==◌, ◌&&◌, Bool, true, false, List, Option, Some, None, ok_or, Result, Ok, Err, refl, sym, subst, inl, inr, arith, if◌then◌else◌}
+use Rattle.std.proofs.Common.{ℕ, ◌≡◌, ◌+◌, ◌-◌, ◌%◌, ◌≤◌, ◌<◌, ◌==◌, ◌&&◌, ◌∙◌, Bool, true, false, List, Option, Some, None, ok_or, Result, Ok, Err, refl, sym, subst, inl, inr, arith, if◌then◌else◌}
 use Rattle.std.proofs.lemmas.Bool.{cases_Bool, false≢true, leb-false}
 use Rattle.std.specs.Prelude.{nat_le, nat_lt}
 use Rattle.profile.specs.Outcome.{bind}
@@ -25,6 +25,7 @@ use Rattle.os_heap.specs.Ranges.{is_heap_region, overgrows, overlaps}
 use Rattle.os_heap.specs.Store.{Store, find_heap, guest_count, has_image}
 use Rattle.heap_turns.proofs.Likeness.{with_list}
 use Rattle.heap_turns.proofs.Plain.{sized_to, unlive}
+use Rattle.heap_turns.specs.Forgotten.{freed_from}
 use Rattle.heap_turns.specs.Lists.{is_on_heap}
 use Rattle.heap_turns.specs.Turns.{call_on}
 
@@ -53,6 +54,7 @@ pub record FreesBytes (k : HeapList) (block total from : ℕ) : Type 0 where
 pub record MovesBlock (s : Store) (k : HeapList) (c : Claim) (block old new : ℕ) : Type 0 where
   pub total : is_total new ≡ true
   pub less : old ≤ new
+  pub more : old < new
   pub claim : claimed new (k.end - 16) k.items ≡ Some c
   pub live : live_total block (k.start + 16) k.items ≡ Some old
   pub unheld : holds_heap s.heaps block (old - 4) ≡ false
@@ -66,16 +68,44 @@ pub record Leave (P : Store → Type 0) (s : Store) (k : HeapList) : Type 0 wher
       → P (holding (forgot (moved_to s k c block old) block total block) (with_list k c.items) items)
   pub ended : (end : ℕ) → overgrows s k end ≡ false → P (ending s k end)
 
+-- The same, by the bytes that the call frees: for a reason that frees none, the store as it was, or the heap with another list or end; for one that
+-- frees those of the block from an address on, what is left then, or the block moved, which gets more bytes than it had.
+abbrev pub FreesNone : HeapReason → ℕ → ℕ → Type 0
+FreesNone why block size = (total : ℕ) → freed_from why block total size ≡ None
+
+abbrev pub OnMoved : (Store → Type 0) → Store → HeapList → HeapReason → ℕ → ℕ → Type 0
+OnMoved P s k why block size =
+    (c : Claim) (old new total : ℕ) (items : List Item) → MovesBlock s k c block old new → FreesBytes (with_list k c.items) block total block
+    → freed_from why block old size ≡ Some (block - 4 + new) → P (holding (forgot (moved_to s k c block old) block total block) (with_list k c.items) items)
+
+pub record LeaveBy (P : Store → Type 0) (s : Store) (k : HeapList) (why : HeapReason) (block size : ℕ) : Type 0 where
+  pub same : FreesNone why block size → P s
+  pub held : (items : List Item) → FreesNone why block size → P (holding s k items)
+  pub lost : (total from : ℕ) (items : List Item) → FreesBytes k block total from → freed_from why block total size ≡ Some from
+      → P (holding (forgot s block total from) k items)
+  pub moved : OnMoved P s k why block size
+  pub ended : (end : ℕ) → FreesNone why block size → overgrows s k end ≡ false → P (ending s k end)
+
+leave_by : (P : Store → Type 0) (s : Store) (k : HeapList) (why : HeapReason) (block size : ℕ) → Leave P s k → LeaveBy P s k why block size
+leave_by P s k why block size leave = record {
+  same = λ none. leave.same;
+  held = λ items none. leave.held items;
+  lost = λ total from items given frees. leave.lost block total from items given;
+  moved = λ c old new total items is given frees. leave.moved c block old new total items is given;
+  ended = λ end none clear. leave.ended end clear;
+}
+
 claim_done : (P : Store → Type 0) (s : Store) (k : HeapList) (o : Option Claim) → ((items : List Item) → P (holding s k items)) → OnDone ℕ P (claimed_in s k o)
 claim_done P s k None held = tt
 claim_done P s k (Some c) held = held c.items
 
-got_done : (P : Store → Type 0) (s : Store) (k : HeapList) (size : ℕ) → find_heap k.start s.heaps ≡ Some k → Leave P s k → OnDone ℕ P (got s k.start size)
+pub got_done : (P : Store → Type 0) (s : Store) (k : HeapList) (size : ℕ) → find_heap k.start s.heaps ≡ Some k
+    → ((items : List Item) → P (holding s k items)) → OnDone ℕ P (got s k.start size)
 unfolding got
-got_done P s k size found leave = rw found (claim_done P s k (claimed (total_for size) (k.end - 16) k.items) leave.held)
+got_done P s k size found held = rw found (claim_done P s k (claimed (total_for size) (k.end - 16) k.items) held)
 
 -- what a release leaves
-abbrev OnFreed : (Store → Type 0) → Store → HeapList → ℕ → Type 0
+abbrev pub OnFreed : (Store → Type 0) → Store → HeapList → ℕ → Type 0
 OnFreed P s k block = (total : ℕ) (items : List Item) → FreesBytes k block total block → P (holding (forgot s block total block) k items)
 
 release_done : (P : Store → Type 0) (s : Store) (k : HeapList) (block total : ℕ) (holds : Bool) (o : Option (List Item)) → FreesBytes k block total block
@@ -98,82 +128,91 @@ gave_by P s k block (Some total) found lost live =
     rw (found, live) (release_done P s k block total (holds_anchor s.anchor block (Some total))
     (unless_image (has_image block s.others) (released block (k.start + 16) k.items)) (record { live = live; past = omega arith }) lost)
 
-gave_done : (P : Store → Type 0) (s : Store) (k : HeapList) (block : ℕ) → find_heap k.start s.heaps ≡ Some k → OnFreed P s k block
+pub gave_done : (P : Store → Type 0) (s : Store) (k : HeapList) (block : ℕ) → find_heap k.start s.heaps ≡ Some k → OnFreed P s k block
     → OnDone (Unit {0}) P (gave_back s k.start block)
 gave_done P s k block found lost = gave_by P s k block (live_total block (k.start + 16) k.items) found lost refl
 
-handed_done : (P : Store → Type 0) (s : Store) (k : HeapList) (c : Claim) (block old new : ℕ) → find_heap k.start s.heaps ≡ Some k → Leave P s k
-    → MovesBlock s k c block old new → OnDone ℕ P (handed_over k.start block (old - 4) (holding s k c.items) (k.start + 16 + c.offset + 4))
-handed_done P s k c block old new found leave is =
-    done_bound (Unit {0}) ℕ P (λ _. k.start + 16 + c.offset + 4) (gave_back (moved_to s k c block old) k.start block)
-    (gave_done P (moved_to s k c block old) (with_list k c.items) block (found_held k.start c.items s.heaps k found)
-    (λ total items given. leave.moved c block old new total items is given))
+module _ (P : Store → Type 0) (s : Store) (k : HeapList) (block change : ℕ) (found : find_heap k.start s.heaps ≡ Some k)
+    (leave : LeaveBy P s k reason.Resize block change) where
+  handed_done : (c : Claim) (old new : ℕ) → MovesBlock s k c block old new → freed_from reason.Resize block old change ≡ Some (block - 4 + new)
+      → OnDone ℕ P (handed_over k.start block (old - 4) (holding s k c.items) (k.start + 16 + c.offset + 4))
+  handed_done c old new is frees =
+      done_bound (Unit {0}) ℕ P (λ _. k.start + 16 + c.offset + 4) (gave_back (moved_to s k c block old) k.start block)
+      (gave_done P (moved_to s k c block old) (with_list k c.items) block (found_held k.start c.items s.heaps k found)
+      (λ total items given. leave.moved c old new total items is given frees))
 
-move_done : (P : Store → Type 0) (s : Store) (k : HeapList) (block old new : ℕ) (o : Option Claim) → find_heap k.start s.heaps ≡ Some k → Leave P s k
-    → is_total new ≡ true → old ≤ new → live_total block (k.start + 16) k.items ≡ Some old → claimed new (k.end - 16) k.items ≡ o
-    → OnDone ℕ P (moved s k block old new)
-move_done P s k block old new None found leave total less live none = rw none tt
-move_done P s k block old new (Some c) found leave total less live some =
-    rw some (elim (cases_Bool (holds_heap s.heaps block (old - 4))) [
-      | inl held ↦ rw held tt
-      | inr unheld ↦ rw unheld (handed_done P s k c block old new found leave
-          (record { total = total; less = less; claim = some; live = live; unheld = unheld }))
-    ])
+  move_done : (old new : ℕ) (o : Option Claim) → is_total new ≡ true → old < new → live_total block (k.start + 16) k.items ≡ Some old
+      → freed_from reason.Resize block old change ≡ Some (block - 4 + new) → claimed new (k.end - 16) k.items ≡ o → OnDone ℕ P (moved s k block old new)
+  move_done old new None total less live frees none = rw none tt
+  move_done old new (Some c) total less live frees some =
+      rw some (elim (cases_Bool (holds_heap s.heaps block (old - 4))) [
+        | inl held ↦ rw held tt
+        | inr unheld ↦ rw unheld (handed_done c old new
+            (record { total = total; less = omega (arith, less); more = less; claim = some; live = live; unheld = unheld }) frees)
+      ])
 
-refit_done : (P : Store → Type 0) (s : Store) (k : HeapList) (block old new : ℕ) (o : Option (List Item)) → find_heap k.start s.heaps ≡ Some k → Leave P s k
-    → is_total new ≡ true → live_total block (k.start + 16) k.items ≡ Some old → (o ≡ None → old ≤ new) → OnDone ℕ P (resized_or_moved s k block old new o)
-refit_done P s k block old new None found leave total live less = elim (cases_Bool (holds_anchor s.anchor block (Some old))) [
-  | inl held ↦ rw held tt
-  | inr free ↦ rw free (move_done P s k block old new (claimed new (k.end - 16) k.items) found leave total (less refl) live refl)
-]
-refit_done P s k block old new (Some items) found leave total live less = elim (cases_Bool (anchor_among s.anchor (block - 4 + new) (old - new))) [
-  | inl held ↦ rw held tt
-  | inr free ↦ rw free (leave.lost block old (block - 4 + new) items
-      (record { live = live; past = omega (arith, (total_facts new total).0) }))
-]
+  refit_done : (old new : ℕ) (o : Option (List Item)) → is_total new ≡ true → live_total block (k.start + 16) k.items ≡ Some old
+      → freed_from reason.Resize block old change ≡ Some (block - 4 + new) → (o ≡ None → old < new) → OnDone ℕ P (resized_or_moved s k block old new o)
+  refit_done old new None total live frees less = elim (cases_Bool (holds_anchor s.anchor block (Some old))) [
+    | inl held ↦ rw held tt
+    | inr free ↦ rw free (move_done old new (claimed new (k.end - 16) k.items) total (less refl) live frees refl)
+  ]
+  refit_done old new (Some items) total live frees less = elim (cases_Bool (anchor_among s.anchor (block - 4 + new) (old - new))) [
+    | inl held ↦ rw held tt
+    | inr free ↦ rw free (leave.lost old (block - 4 + new) items (record { live = live; past = omega (arith, (total_facts new total).0) }) frees)
+  ]
 
-sized_done : (P : Store → Type 0) (s : Store) (k : HeapList) (block change old : ℕ) → find_heap k.start s.heaps ≡ Some k → Leave P s k
-    → live_total block (k.start + 16) k.items ≡ Some old → OnDone ℕ P (sized_to s k block change old)
-sized_done P s k block change old found leave live = elim (cases_Bool (nat_le (changed_by old change) 4)) [
-  | inl few ↦ rw few (done_bound (Unit {0}) ℕ P (λ _. 0) (gave_back s k.start block) (gave_done P s k block found (λ total items given. leave.lost block total block items given)))
-  | inr more ↦
-      let sum : ℕ = changed_by old change in
-      let many : 4 < sum = leb-false sum 4 more in
-      let new : ℕ = round_up_8 sum in
-      rw more (refit_done P s k block old new (resized_in_place block (k.start + k.end) new (k.start + 16) k.items) found leave
-      (total_of-numbers new (omega (arith, many)) (omega arith)) live
-      (λ none. omega (arith, larger_where_none block (k.start + k.end) new (k.start + 16) old k.items live none)))
-]
+  -- what is given back is the whole block
+  few_done : (old : ℕ) → nat_le (changed_by old change) 4 ≡ true → live_total block (k.start + 16) k.items ≡ Some old → OnFreed P s k block
+  few_done old few live total items given =
+      let both : Some total ≡ Some old = sym given.live ∙ live in
+      let same : total ≡ old = cc in
+      leave.lost total block items given (rw (same, few) refl)
 
-asked_done : (P : Store → Type 0) (s : Store) (k : HeapList) (block change : ℕ) (image : Bool) (o : Option ℕ) → find_heap k.start s.heaps ≡ Some k → Leave P s k
-    → live_total block (k.start + 16) k.items ≡ o → OnDone ℕ P (bind (ok_or (unless_image image o) HeapNotABlock) (sized_to s k block change))
-asked_done P s k block change true o found leave is = tt
-asked_done P s k block change false None found leave is = tt
-asked_done P s k block change false (Some old) found leave is = sized_done P s k block change old found leave is
+  sized_done : (old : ℕ) → live_total block (k.start + 16) k.items ≡ Some old → OnDone ℕ P (sized_to s k block change old)
+  sized_done old live = elim (cases_Bool (nat_le (changed_by old change) 4)) [
+    | inl few ↦ rw few (done_bound (Unit {0}) ℕ P (λ _. 0) (gave_back s k.start block) (gave_done P s k block found (few_done old few live)))
+    | inr more ↦
+        let sum : ℕ = changed_by old change in
+        let many : 4 < sum = leb-false sum 4 more in
+        let new : ℕ = round_up_8 sum in
+        let frees : freed_from reason.Resize block old change ≡ Some (block - 4 + new) = rw more refl in
+        rw more (refit_done old new (resized_in_place block (k.start + k.end) new (k.start + 16) k.items)
+        (total_of-numbers new (omega (arith, many)) (omega arith)) live frees
+        (λ none. larger_where_none block (k.start + k.end) new (k.start + 16) old k.items live none))
+  ]
 
-resized_done : (P : Store → Type 0) (s : Store) (k : HeapList) (block change : ℕ) → find_heap k.start s.heaps ≡ Some k → Leave P s k
-    → OnDone ℕ P (resized s k.start block change)
-unfolding resized
-resized_done P s k block change found leave =
-    rw found (asked_done P s k block change (has_image block s.others) (live_total block (k.start + 16) k.items) found leave refl)
+  asked_done : (image : Bool) (o : Option ℕ) → live_total block (k.start + 16) k.items ≡ o
+      → OnDone ℕ P (bind (ok_or (unless_image image o) HeapNotABlock) (sized_to s k block change))
+  asked_done true o is = tt
+  asked_done false None is = tt
+  asked_done false (Some old) is = sized_done old is
 
-end_done : (P : Store → Type 0) (s : Store) (k : HeapList) (change end : ℕ) → Leave P s k → OnDone (Unit {0}) P (end_changed s k change end)
-end_done P s k change end leave = elim (cases_Bool (change % 4 == 0 && is_heap_region s.bytes k.start end)) [
+  pub resized_done : OnDone ℕ P (resized s k.start block change)
+  unfolding resized
+  resized_done = rw found (asked_done (has_image block s.others) (live_total block (k.start + 16) k.items) refl)
+
+-- another end, which the heap may have
+abbrev OnEnded : (Store → Type 0) → Store → HeapList → Type 0
+OnEnded P s k = (end : ℕ) → overgrows s k end ≡ false → P (ending s k end)
+
+end_done : (P : Store → Type 0) (s : Store) (k : HeapList) (change end : ℕ) → OnEnded P s k → OnDone (Unit {0}) P (end_changed s k change end)
+end_done P s k change end ended = elim (cases_Bool (change % 4 == 0 && is_heap_region s.bytes k.start end)) [
   | inr bad ↦ rw bad tt
   | inl good ↦ elim (cases_Bool (overgrows s k end)) [
     | inl over ↦ rw (good, over) tt
     | inr clear ↦ elim (cases_Bool (nat_lt end (16 + size_of k.items))) [
       | inl short ↦ rw (good, clear, short) tt
-      | inr fits ↦ rw (good, clear, fits) (leave.ended end clear)
+      | inr fits ↦ rw (good, clear, fits) (ended end clear)
     ]
   ]
 ]
 
-changed_done : (P : Store → Type 0) (s : Store) (k : HeapList) (change : ℕ) → find_heap k.start s.heaps ≡ Some k → Leave P s k
+changed_done : (P : Store → Type 0) (s : Store) (k : HeapList) (change : ℕ) → find_heap k.start s.heaps ≡ Some k → OnEnded P s k
     → OnDone (Unit {0}) P (changed s k.start change)
 unfolding changed
-changed_done P s k change found leave = elim (cases_Bool (has_own_size k.kind)) [
-  | inl own ↦ rw (found, own) (end_done P s k change (changed_by k.end change) leave)
+changed_done P s k change found ended = elim (cases_Bool (has_own_size k.kind)) [
+  | inl own ↦ rw (found, own) (end_done P s k change (changed_by k.end change) ended)
   | inr area ↦ rw (found, area) tt
 ]
 
@@ -192,28 +231,36 @@ none_done P s heap reason.Resize block size on none = rw none tt
 none_done P s heap reason.ChangeSize block size on none = rw none tt
 none_done P s heap reason.BlockSize block size on none = rw none tt
 
+by_reason : (P : Store → Type 0) (s : Store) (k : HeapList) (why : HeapReason) (block size : ℕ) → is_on_heap why ≡ true
+    → find_heap k.start s.heaps ≡ Some k → LeaveBy P s k why block size → Answers P s k.start why block size
+by_reason P s k reason.Initialise block size on found leave = absurd (false≢true on)
+by_reason P s k reason.Describe block size on found leave =
+    done_told (ℕ × ℕ) (ℕ × ℕ) P s (λ r. r) (described s k.start) (leave.same (λ total. refl))
+by_reason P s k reason.Get block size on found leave =
+    done_bound ℕ (ℕ × ℕ) P (λ n. (n, size)) (got s k.start size) (got_done P s k size found (λ items. leave.held items (λ total. refl)))
+by_reason P s k reason.Free block size on found leave =
+    done_bound (Unit {0}) (ℕ × ℕ) P (λ _. (block, size)) (gave_back s k.start block)
+    (gave_done P s k block found (λ total items given. leave.lost total block items given refl))
+by_reason P s k reason.Resize block size on found leave =
+    done_bound ℕ (ℕ × ℕ) P (λ n. (n, size)) (resized s k.start block size) (resized_done P s k block size found leave)
+by_reason P s k reason.ChangeSize block size on found leave =
+    done_bound (Unit {0}) (ℕ × ℕ) P (λ _. (block, size)) (changed s k.start size)
+    (changed_done P s k size found (λ end clear. leave.ended end (λ total. refl) clear))
+by_reason P s k reason.BlockSize block size on found leave =
+    done_told ℕ (ℕ × ℕ) P s (λ n. (block, n)) (block_sized s k.start block) (leave.same (λ total. refl))
+
 pub heap_done : (P : Store → Type 0) (s : Store) (k : HeapList) (why : HeapReason) (block size : ℕ) → is_on_heap why ≡ true
     → find_heap k.start s.heaps ≡ Some k → Leave P s k → Answers P s k.start why block size
-heap_done P s k reason.Initialise block size on found leave = absurd (false≢true on)
-heap_done P s k reason.Describe block size on found leave = done_told (ℕ × ℕ) (ℕ × ℕ) P s (λ r. r) (described s k.start) leave.same
-heap_done P s k reason.Get block size on found leave =
-    done_bound ℕ (ℕ × ℕ) P (λ n. (n, size)) (got s k.start size) (got_done P s k size found leave)
-heap_done P s k reason.Free block size on found leave =
-    done_bound (Unit {0}) (ℕ × ℕ) P (λ _. (block, size)) (gave_back s k.start block) (gave_done P s k block found (λ total items given. leave.lost block total block items given))
-heap_done P s k reason.Resize block size on found leave =
-    done_bound ℕ (ℕ × ℕ) P (λ n. (n, size)) (resized s k.start block size) (resized_done P s k block size found leave)
-heap_done P s k reason.ChangeSize block size on found leave =
-    done_bound (Unit {0}) (ℕ × ℕ) P (λ _. (block, size)) (changed s k.start size) (changed_done P s k size found leave)
-heap_done P s k reason.BlockSize block size on found leave =
-    done_told ℕ (ℕ × ℕ) P s (λ n. (block, n)) (block_sized s k.start block) leave.same
+heap_done P s k why block size on found leave = by_reason P s k why block size on found (leave_by P s k why block size leave)
 
 found_done : (P : Store → Type 0) (s : Store) (heap : ℕ) (why : HeapReason) (block size : ℕ) (o : Option HeapList) → is_on_heap why ≡ true
-    → find_heap heap s.heaps ≡ o → ((k : HeapList) → k.start ≡ heap → find_heap k.start s.heaps ≡ Some k → Leave P s k) → Answers P s heap why block size
+    → find_heap heap s.heaps ≡ o → ((k : HeapList) → k.start ≡ heap → find_heap k.start s.heaps ≡ Some k → LeaveBy P s k why block size)
+    → Answers P s heap why block size
 found_done P s heap why block size None on none leave = none_done P s heap why block size on none
 found_done P s heap why block size (Some k) on found leave =
     let start : k.start ≡ heap = found_start heap s.heaps k found in
     let own : find_heap k.start s.heaps ≡ Some k = subst (λ (p : ℕ). find_heap p s.heaps ≡ Some k) (sym start) found in
-    subst (λ (p : ℕ). Answers P s p why block size) start (heap_done P s k why block size on own (leave k start own))
+    subst (λ (p : ℕ). Answers P s p why block size) start (by_reason P s k why block size on own (leave k start own))
 
 -- one that makes a heap
 pub begun_done : (P : Store → Type 0) (s : Store) (at block size : ℕ)
@@ -232,13 +279,15 @@ begun_done P s at block size begins = elim (cases_Bool (is_heap_region s.bytes a
 ]
 
 -- any
-pub call_done : (P : Store → Type 0) (s : Store) (heap : ℕ) (why : HeapReason) (block size : ℕ)
-    → (is_on_heap why ≡ true → (k : HeapList) → k.start ≡ heap → find_heap k.start s.heaps ≡ Some k → Leave P s k)
-    → (is_heap_region s.bytes heap size ≡ true → overlaps heap size s ≡ false → P (begun_with kind.Heap s heap size))
+pub call_by : (P : Store → Type 0) (s : Store) (heap : ℕ) (why : HeapReason) (block size : ℕ)
+    → (is_on_heap why ≡ true → (k : HeapList) → k.start ≡ heap → find_heap k.start s.heaps ≡ Some k → LeaveBy P s k why block size)
+    → (reason.Initialise ≡ why → is_heap_region s.bytes heap size ≡ true → overlaps heap size s ≡ false → P (begun_with kind.Heap s heap size))
     → Answers P s heap why block size
-call_done P s heap why block size leave begins = elim (cases_Bool (is_on_heap why)) [
+call_by P s heap why block size leave begins = elim (cases_Bool (is_on_heap why)) [
   | inl on ↦ found_done P s heap why block size (find_heap heap s.heaps) on refl (leave on)
-  | inr made ↦ subst (λ (x : HeapReason). Answers P s heap x block size) (initialise why made) (begun_done P s heap block size begins)
+  | inr made ↦
+      let is : reason.Initialise ≡ why = initialise why made in
+      subst (λ (x : HeapReason). Answers P s heap x block size) is (begun_done P s heap block size (begins is))
 ] where
   initialise : (why : HeapReason) → is_on_heap why ≡ false → reason.Initialise ≡ why
   initialise reason.Initialise made = refl
@@ -248,3 +297,10 @@ call_done P s heap why block size leave begins = elim (cases_Bool (is_on_heap wh
   initialise reason.Resize made = absurd (false≢true (sym made))
   initialise reason.ChangeSize made = absurd (false≢true (sym made))
   initialise reason.BlockSize made = absurd (false≢true (sym made))
+
+pub call_done : (P : Store → Type 0) (s : Store) (heap : ℕ) (why : HeapReason) (block size : ℕ)
+    → (is_on_heap why ≡ true → (k : HeapList) → k.start ≡ heap → find_heap k.start s.heaps ≡ Some k → Leave P s k)
+    → (is_heap_region s.bytes heap size ≡ true → overlaps heap size s ≡ false → P (begun_with kind.Heap s heap size))
+    → Answers P s heap why block size
+call_done P s heap why block size leave begins =
+    call_by P s heap why block size (λ on k start found. leave_by P s k why block size (leave on k start found)) (λ is. begins)

@@ -1,5 +1,5 @@
 -- A guest's heap after calls on others: its list, bytes and anchors are kept, where it is not forgotten.
-use Rattle.std.proofs.Common.{ℕ, ◌≡◌, ◌≢◌, ◌+◌, ◌-◌, ◌%◌, ◌≤◌, ◌<◌, ◌==◌, ◌&&◌, ◌⊎◌, ◌∙◌, Bool, true, false, List, [], ◌∷◌, ◌++◌, None, Some, is_some, refl, sym, ap, subst, inl, inr, arith}
+use Rattle.std.proofs.Common.{ℕ, ◌≡◌, ◌≢◌, ◌+◌, ◌-◌, ◌%◌, ◌≤◌, ◌<◌, ◌==◌, ◌&&◌, ◌⊎◌, ◌∙◌, Bool, true, false, List, [], ◌∷◌, ◌++◌, None, Some, is_some, Ok, refl, sym, ap, subst, inl, inr, arith}
 use Rattle.std.proofs.lemmas.Bool.{both_ways, cases_Bool, eq-eqb, eqb-true, false_from_ne_true, false≢true, le-leb, lt-ltb, ne_eqb}
 use Rattle.profile.specs.declared.reason.HeapReason.{HeapReason}
 use Rattle.address_map.specs.Bytes.{Bytes, in_range, word_start}
@@ -26,8 +26,9 @@ use Rattle.os_heap.specs.Store.{AreClear, AreHeapsIn, IsSound, Store, find_heap}
 use Rattle.heap_turns.proofs.DoneCalls.{FreesBytes, MovesBlock, Leave, OnDone, call_done, moved_to}
 use Rattle.heap_turns.proofs.Likeness.{with_list}
 use Rattle.heap_turns.proofs.NoHeapInside.{forgot_unheld, held_listed}
-use Rattle.heap_turns.specs.Laws.{IsNotForgotten, KeepsHeap, OtherCallsKeepHeap, starts_inside}
+use Rattle.heap_turns.specs.Laws.{IsNotForgotten, KeepsHeap, starts_inside}
 use Rattle.heap_turns.specs.Lists.{is_call_to, is_on_heap}
+use Rattle.heap_turns.specs.Turns.{call_on}
 
 -- A byte beside a heap, out of its range or in what a block of it holds, is none of the words that it spells.
 pub record IsHeld (start : ℕ) (items : List Item) (a : ℕ) : Type 0 where
@@ -290,8 +291,11 @@ other_left s h k called = record {
 pub another : (h : HeapList) (heap : ℕ) (why : HeapReason) → is_call_to h.start heap why ≡ false → is_on_heap why ≡ true → h.start ≢ heap
 another h heap why other on same = both_ways (is_on_heap why && heap == h.start) other (rw (on, eq-eqb heap h.start (sym same)) refl)
 
-pub others_kept : OtherCallsKeepHeap
-others_kept s t h heap why block size answer sound sound' found other outside is still =
+-- where it is recorded still
+pub others_recorded : (s t : Store) (h : HeapList) (heap : ℕ) (why : HeapReason) (block size : ℕ) (answer : ℕ × ℕ) → IsSound s → IsSound t
+    → find_heap h.start s.heaps ≡ Some h → is_call_to h.start heap why ≡ false → starts_inside h heap ≡ false
+    → call_on s heap why block size ≡ Ok (t, answer) → IsNotForgotten t h.start → KeepsHeap h s t
+others_recorded s t h heap why block size answer sound sound' found other outside is still =
     let P : Store → Type 0 = λ u. IsSound u → IsNotForgotten u h.start → KeepsHeap h s u in
     subst (OnDone (ℕ × ℕ) P) is
     (call_done P s heap why block size

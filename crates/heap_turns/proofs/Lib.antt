@@ -1,5 +1,7 @@
 pub mod ChangedSize
 pub mod DoneCalls
+pub mod Forgotten
+pub mod Growths
 pub mod GuestImages
 pub mod KeptHeaps
 pub mod Likeness

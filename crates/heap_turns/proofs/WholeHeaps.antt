@@ -17,7 +17,7 @@ use Rattle.os_heap.specs.Calls.{begun_with, ending, holding}
 use Rattle.os_heap.specs.Forgetting.{forgot, holds_heap}
 use Rattle.os_heap.specs.Store.{IsSound, Store, find_heap, is_area}
 use Rattle.heap_turns.proofs.DoneCalls.{Leave, OnDone, call_done, moved_to}
-use Rattle.heap_turns.proofs.KeptHeaps.{another, found_beside, found_left, found_more, found_past, moved_same, others_kept}
+use Rattle.heap_turns.proofs.KeptHeaps.{another, found_beside, found_left, found_more, found_past, moved_same, others_recorded}
 use Rattle.heap_turns.proofs.Likeness.{with_last, with_list}
 use Rattle.heap_turns.proofs.NoHeapInside.{found_holds, whole_alone, whole_recorded, more_holds}
 use Rattle.heap_turns.specs.Laws.{IsLeftWhole, KeepsHeap, starts_inside}
@@ -120,4 +120,4 @@ others_whole s t h heap why block size answer sound sound' found other is by =
     (λ on k start found'. subst (λ (p : ℕ). Leave (λ u. IsLeftWhole u h.start → starts_inside h p ≡ false) s k) start
     (called_left s h k (record { sound = sound; one = found; two = found'; apart = λ same. another h heap why other on (same ∙ start) })))
     (λ region none. begun_outside s h heap size found)) by in
-    others_kept s t h heap why block size answer sound sound' found other outside is (whole_recorded t h.start by)
+    others_recorded s t h heap why block size answer sound sound' found other outside is (whole_recorded t h.start by)

@@ -6,6 +6,7 @@ use Rattle.address_map.specs.declared.region.Region.{Region}
 use Rattle.os_heap_lists.specs.Heap.{HeapList}
 use Rattle.os_heap.specs.Calls.{OfHeap, has_own_size}
 use Rattle.os_heap.specs.Forgetting.{holds_heap}
+use Rattle.os_heap.specs.Nesting.{IsWithin}
 use Rattle.os_heap.specs.Store.{Store, IsSound, find_heap, is_image}
 use Rattle.heap_turns.specs.Alone.{Alone, alone_in, call_given}
 use Rattle.heap_turns.specs.Lists.{AreSound, StoreCall, after, after_all, calls_on, is_call_to, is_on_heap, replies_on}
@@ -62,19 +63,25 @@ OwnCallsKeepHeap =
 abbrev pub IsNotForgotten : Store → ℕ → Type 0
 IsNotForgotten t start = is_some (find_heap start t.heaps) ≡ true
 
+-- A heap lies in a live block of another heap.
+pub record LiesInBlock (s : Store) (h : HeapList) : Type 0 where
+  pub outer : HeapList
+  pub found : find_heap outer.start s.heaps ≡ Some outer
+  pub within : IsWithin outer h
+
 -- A heap is as it was: its list, its bytes, and which of them are anchors.
 pub record KeepsHeap (h : HeapList) (s t : Store) : Type 0 where
   pub found : find_heap h.start t.heaps ≡ Some h
   pub bytes : (a : ℕ) → in_range h.start h.end a ≡ true → t.bytes.at a ≡ s.bytes.at a
   pub anchors : (a : ℕ) → in_range h.start h.end a ≡ true → t.anchor a ≡ s.anchor a
 
--- So it is after each other call that is done, on another heap or one that makes a heap, where that one does not lie in this one, and this one is not
--- forgotten. A call on a heap round it changes none of its bytes.
+-- So it is after each other call that is done, on another heap or one that makes a heap, where that one does not lie in this one. Only where this one
+-- lies in a block can it be forgotten instead. A call on a heap round it changes none of its bytes.
 abbrev pub OtherCallsKeepHeap : Type 0
 OtherCallsKeepHeap =
     (s t : Store) (h : HeapList) (heap : ℕ) (why : HeapReason) (block size : ℕ) (answer : ℕ × ℕ) → IsSound s → IsSound t
     → find_heap h.start s.heaps ≡ Some h → is_call_to h.start heap why ≡ false → starts_inside h heap ≡ false
-    → call_on s heap why block size ≡ Ok (t, answer) → IsNotForgotten t h.start → KeepsHeap h s t
+    → call_on s heap why block size ≡ Ok (t, answer) → (LiesInBlock s h → IsNotForgotten t h.start) → KeepsHeap h s t
 
 -- The heap that starts at an address is left whole: it is recorded still, and no heap lies in it.
 abbrev pub IsLeftWhole : Store → ℕ → Type 0

@@ -1,5 +1,7 @@
 //! Laws over the definitions, each the contract of a function that does nothing.
 
+ghost use Rattle.heap_turns.specs.Forgotten.{CallsForgetHeaps, FreesKeepBytes};
+ghost use Rattle.heap_turns.specs.Growths.{GrowthsAreJudged, GrowthsAreRefused, OuterGrowthsMeet};
 ghost use Rattle.heap_turns.specs.Laws.{
   HeapsStandAlone,
   OtherCallsKeepHeap,
@@ -20,9 +22,32 @@ pub fn own_calls_keep_heap()
 {}
 
 /// A call on another heap, or one that makes a heap, leaves it its list, its bytes and its anchors, where that other heap
-/// does not lie in it, and it is not forgotten. Such a call may be one on a heap round it.
+/// does not lie in it; only where it lies in a block itself can it be forgotten instead. Such a call may be one on a heap
+/// round it.
 pub fn other_calls_keep_heap()
     ensures { OtherCallsKeepHeap }
+{}
+
+/// A call that is done forgets just the heaps of which it frees a byte of a block, and those that lie in them: one that
+/// gives a block back, or that gives it fewer bytes. No other forgets a heap, and no heap that lies in no block is
+/// forgotten.
+pub fn calls_forget_heaps()
+    ensures { CallsForgetHeaps }
+{}
+
+/// Such a call changes no byte but those of the words of its heap's new list, where it gives the block no more bytes: what
+/// a forgotten heap held stays where it was.
+pub fn frees_keep_bytes()
+    ensures { FreesKeepBytes }
+{}
+
+/// A heap may not grow where what it grows by meets what the range of a new heap may not meet, or where it would leave a
+/// block that it lies in; nothing else is in its way. For a heap that lies in no other that is whether the added bytes
+/// meet a heap, another recorded range or an anchor.
+pub fn growths_are_judged()
+    ensures judged { GrowthsAreJudged }
+    ensures outer { OuterGrowthsMeet }
+    ensures refused { GrowthsAreRefused }
 {}
 
 /// So over any list of calls of OS_Heap, on this heap and on others, none of which forgets it or makes a heap in it: the
