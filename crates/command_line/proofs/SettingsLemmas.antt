@@ -1,7 +1,7 @@
 -- What the proofs of the command line cite.
 use Rattle.std.proofs.Common.{◌≡◌, ◌≢◌, ◌∙◌, ◌&&◌, ◌^◌, ◌⊎◌, inl, inr, ℕ, Bool, true, false, List, [], ◌∷◌, Some, None, Result, Ok, Err, refl, sym, ap, length, nat_lt, lt-ltb, ltb-true, true≢false}
 use Rattle.std.specs.List.{list_all}
-use Rattle.std.specs.Prelude.{if◌then◌else◌, option_and_then}
+use Rattle.std.specs.Prelude.{if◌then◌else◌, option_and_then, option_map, unwrap_or, Option, IfOk, IsErr}
 use Rattle.std.specs.Result.{result_ok}
 use Rattle.std.specs.Char.{digit_value}
 use Rattle.std.specs.Str.Parse.{AllDigits, ParsesUnsigned, digits_value, without_leading_plus}
@@ -14,6 +14,7 @@ use Rattle.clap.specs.declared.parser.matches.Found.{Found}
 use Rattle.clap.proofs.OnLiterals.{clap_on_literals}
 use Rattle.clap.proofs.WalkLemmas.{first_value-rows, raw_values-rows}
 use Rattle.command_line.specs.declared.options.SettingsError.TheVariants.{Memory, Line}
+use Rattle.command_line.specs.Reasons.{text_of}
 use Rattle.command_line.specs.Settings.{is_empty, is_line, is_memory, is_numeral, number_of, option_number, refusal_of, rosm, rows_for}
 
 -- ---- numbers
@@ -57,7 +58,22 @@ pub option_number-none : (bits : ℕ) (f : Found) (name : List ℕ) → None ≡
 unfolding option_number
 option_number-none bits f name is = ap (option_and_then (number_of bits)) (is ∙ first_value-rows f name)
 
+lent : {T : Type 0} (read : T → List ℕ) (o : Option T) (none : T) (first : Option (List ℕ))
+    → option_map read o ≡ first → read none ≡ [] → read (unwrap_or o none) ≡ unwrap_or first []
+lent read None none first is empty = empty ∙ ap (λ (t : Option (List ℕ)). unwrap_or t []) is
+lent read (Some x) none first is empty = ap (λ (t : Option (List ℕ)). unwrap_or t []) is
+
+-- the text of an option, as its matches lend it
+pub text_of-lent : {T : Type 0} (read : T → List ℕ) (o : Option T) (none : T) (r : T) (f : Found) (name : List ℕ)
+    → r ≡ unwrap_or o none → option_map read o ≡ first_value f name → read none ≡ [] → read r ≡ text_of (rows_of f) name
+text_of-lent read o none r f name is told empty =
+    ap read is ∙ lent read o none (first_value f name) told empty
+    ∙ ap (λ (t : Option (List ℕ)). unwrap_or t []) (first_value-rows f name)
+
 -- ---- the words
+
+line_alone : Line ≡ Memory → ⊥
+line_alone e = cc
 
 rosm_is_simple : is_simple rosm ≡ true
 unfolding rosm clap_on_literals
@@ -93,5 +109,19 @@ module _ (a : App) (words : List (List ℕ)) (is : a ≡ rosm) where
     ap (λ x. is_empty (fault_of x words)) (sym is)
         ∙ not_empty (kind_of e) (fault_of a words) (h (ap is_simple_and_free is ∙ rosm_is_free)) other,
   )
+
+  -- Words that are a line are refused for want of memory alone, and then no reason is told.
+  pub no_reason : {A E : Type 0} (e : Error) (r : Result A E) (P : A → Type 0)
+      → (is_simple_and_free a ≡ true → HasKind (fault_of a words) e) → is_line words ≡ true
+      → (is_memory (kind_of e) ≡ true → IsErr r) → IfOk r P
+  no_reason e (Err x) P h line err = tt
+  no_reason e (Ok x) P h line err = by_kind (is_memory (kind_of e)) refl
+    where
+      by_kind : (b : Bool) → is_memory (kind_of e) ≡ b → P x
+      by_kind true m = absurd (true≢false (sym (err m)))
+      by_kind false m =
+          let told : Line ≡ refusal_of (kind_of e) = ap (λ (b : Bool). if b then Memory else Line) (sym m) in
+          let other : refusal_of (kind_of e) ≢ Memory = λ memory. line_alone (told ∙ memory) in
+          absurd (true≢false (sym line ∙ (line_refused e h other).1))
 
 pub ruleset file_steps = (raw_values-rows)
