@@ -29,6 +29,20 @@ static CALLS: [(u32, u32, u32, Reply); 14] = [
     (2, 7, 64, Answered(0x9014, 64)),
 ];
 
+/// What these calls leave of the heap: its first four words, then the lengths of its two blocks, one of 72 bytes and one of
+/// 48, and behind the first length that of the free block that was there before. The word that stood in the first block
+/// went along as that was moved.
+static LAST_WORDS: [(u32, u32); 8] = [
+    (0x9000, 0x7061_6548),
+    (0x9004, 0),
+    (0x9008, 136),
+    (0x900C, 320),
+    (0x9010, 72),
+    (0x9014, 72),
+    (0x9058, 48),
+    (0x905C, 0x1122_3344),
+];
+
 /// A store call with R0 to R3, and before which of the calls on the heap it is made.
 type Other = (usize, u32, [u32; 4]);
 
@@ -89,10 +103,12 @@ fn calls_between(alloc: Global, others: &[Other]) -> Result<Vec<Move>, Fail> {
     Ok(moves)
 }
 
-/// A machine with the name of an image at &B000, and heaps at &9000 and &9200.
+/// A machine with the name of an image at &B000, and heaps at &9000 and &9200; and a word where the first block of the
+/// former will be.
 fn machine_with_heaps(rt: &impl Abort, alloc: Global) -> Result<Machine, Fail> {
     let mut machine = Machine::new(alloc, Config::new(256, 64, 16).ok_or("sizes")?)?;
     assert!(rt; machine.poke(0xB000, 0x64).is_ok());
+    assert!(rt; machine.poke(0x9014, 0x1122_3344).is_ok());
     for (start, size) in [(0x9000, 256), (0x9200, 64)] {
         machine.set_register(0, 0);
         machine.set_register(1, start);
@@ -101,6 +117,19 @@ fn machine_with_heaps(rt: &impl Abort, alloc: Global) -> Result<Machine, Fail> {
         assert!(rt; !machine.cpu().psr().overflow);
     }
     Ok(machine)
+}
+
+/// Both machines have the same bytes in the range that the heap at &9000 has then, and these words among them.
+fn expect_last_bytes(rt: &impl Abort, one: &Machine, two: &Machine) {
+    for at in 0x9000..0x9140 {
+        assert!(rt;
+            one.memory().load_byte(at) == two.memory().load_byte(at),
+            "byte at {at}"
+        );
+    }
+    for (at, word) in LAST_WORDS.iter() {
+        assert!(rt; two.memory().load_word(*at) == Ok(*word), "word at {at}");
+    }
 }
 
 // In the second machine the module has come down to where the first claim was.
@@ -132,6 +161,7 @@ fn a_heap_answers_alike_in_two_machines(rt: HostRuntime) -> Result<(), Fail> {
     assert!(rt; first.end == End::All && second.end == End::All);
     assert!(rt; first.answers.as_slice() == second.answers.as_slice());
     assert!(rt; two.memory().load_word(0x0180_0038) == Ok(0xE080_0000));
+    expect_last_bytes(&rt, &one, &two);
     for (index, (answer, row)) in first.answers.iter().zip(CALLS.iter()).enumerate() {
         assert!(rt; *answer == row.3, "call {index}");
     }
