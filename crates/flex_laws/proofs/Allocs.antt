@@ -258,11 +258,11 @@ module _ (t u : FlexState) (s : FlexStore) (anchor size : ℕ) (sp : IsSpelledSt
   }
 
 -- what was tested where an alloc was done
-record IsAllocated (places : Store) (t u : FlexState) (s : FlexStore) (anchor size : ℕ) : Type 0 where
-  place : is_anchor_place places anchor ≡ true
-  stands : may_stand s anchor ≡ true
-  none : has_anchor s.blocks anchor ≡ false
-  fits : (let given : FlexState × Bool = (u, true) in fitted t s s.blocks (new_block anchor size ∷ []) ≡ given)
+pub record IsAllocated (places : Store) (t u : FlexState) (s : FlexStore) (anchor size : ℕ) : Type 0 where
+  pub place : is_anchor_place places anchor ≡ true
+  pub stands : may_stand s anchor ≡ true
+  pub none : has_anchor s.blocks anchor ≡ false
+  pub fits : (let given : FlexState × Bool = (u, true) in fitted t s s.blocks (new_block anchor size ∷ []) ≡ given)
 
 alloc_by : (may in_use : Bool) (x y : FlexState × Bool)
     → (let r : Result (FlexState × Bool) ErrorNumber = if not may then Err FlexBadAnchor else (if in_use then Err FlexAnchorInUse else Ok x) in r ≡ Ok y)
@@ -271,7 +271,7 @@ alloc_by false in_use x y e = absurd (refused FlexBadAnchor y e)
 alloc_by true true x y e = absurd (refused FlexAnchorInUse y e)
 alloc_by true false x y e = (refl, (refl, ok_same x y e))
 
-alloc_done : (places : Store) (t u : FlexState) (s : FlexStore) (anchor size : ℕ) → t.flex ≡ Some s → allocated places t anchor size ≡ Ok (u, true)
+pub alloc_done : (places : Store) (t u : FlexState) (s : FlexStore) (anchor size : ℕ) → t.flex ≡ Some s → allocated places t anchor size ≡ Ok (u, true)
     → IsAllocated places t u s anchor size
 unfolding allocated
 alloc_done places t u s anchor size own done =

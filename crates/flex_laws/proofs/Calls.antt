@@ -20,10 +20,10 @@ use Rattle.flex_laws.proofs.Same.{same_left}
 use Rattle.flex_laws.proofs.Splices.{splice_goes_by_numbers}
 
 -- a block that is found is changed, or nothing is
-abbrev changed : FlexState → FlexStore → ℕ → Block → ℕ → ℕ → ℕ → Bool → Result (FlexState × Bool) ErrorNumber
+abbrev pub changed : FlexState → FlexStore → ℕ → Block → ℕ → ℕ → ℕ → Bool → Result (FlexState × Bool) ErrorNumber
 changed t s anchor b place cut more same = if same then Ok (t, true) else spliced_at t s anchor b place cut more
 
-some_change : (cut more : ℕ) → ((cut ≡ 0) → (more ≡ 0) → ⊥) → 0 < cut + more
+pub some_change : (cut more : ℕ) → ((cut ≡ 0) → (more ≡ 0) → ⊥) → 0 < cut + more
 some_change cut more some = elim (cases_lt 0 (cut + more)) [ inl above ↦ above | inr none ↦ absurd (some (omega (arith, none)) (omega (arith, none))) ]
 
 module _ (places : Store) (t u : FlexState) (s : FlexStore) (anchor : ℕ) (own : t.flex ≡ Some s) (sp : IsSpelledState t s) where

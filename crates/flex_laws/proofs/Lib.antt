@@ -6,6 +6,8 @@ pub mod Lists
 pub mod Moving
 pub mod Numbers
 pub mod OneBlock
+pub mod PaddingCalls
+pub mod Paddings
 pub mod Relaying
 pub mod Releases
 pub mod Removals

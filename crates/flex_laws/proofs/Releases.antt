@@ -13,9 +13,9 @@ use Rattle.flex_laws.proofs.OneBlock.{split_found}
 use Rattle.flex_laws.proofs.Removals.{released_left}
 
 -- what is so where a release was done
-record IsReleased (t u : FlexState) (s : FlexStore) (anchor : ℕ) (b : Block) : Type 0 where
-  free : anchor_among (is_anchor_byte s) (header_in s anchor + 8) b.size ≡ false
-  is : u ≡ with_blocks (without_anchor t anchor) s (before anchor s.blocks) (following (removal_shifts (header_in s anchor) (end_in s) b.size) (behind_of anchor s.blocks))
+pub record IsReleased (t u : FlexState) (s : FlexStore) (anchor : ℕ) (b : Block) : Type 0 where
+  pub free : anchor_among (is_anchor_byte s) (header_in s anchor + 8) b.size ≡ false
+  pub is : u ≡ with_blocks (without_anchor t anchor) s (before anchor s.blocks) (following (removal_shifts (header_in s anchor) (end_in s) b.size) (behind_of anchor s.blocks))
 
 ok_same : (x y : FlexState × Unit {0}) → (let r : Result (FlexState × Unit {0}) ErrorNumber = Ok x in r ≡ Ok y) → x ≡ y
 ok_same x y e = cc
@@ -28,7 +28,7 @@ free_by false x u e = (refl, sym (ap (λ (q : FlexState × Unit {0}). q.0) (ok_s
 no_block : (u : FlexState) (e : ErrorNumber) → (let r : Result (FlexState × Unit {0}) ErrorNumber = Err e in r ≡ Ok (u, tt)) → ⊥
 no_block u e same = cc
 
-release_found : (t u : FlexState) (s : FlexStore) (anchor : ℕ) (o : Option Block) → find_block anchor s.blocks ≡ o → t.flex ≡ Some s → released t anchor ≡ Ok (u, tt)
+pub release_found : (t u : FlexState) (s : FlexStore) (anchor : ℕ) (o : Option Block) → find_block anchor s.blocks ≡ o → t.flex ≡ Some s → released t anchor ≡ Ok (u, tt)
     → (b : Block) × ((o ≡ Some b) × IsReleased t u s anchor b)
 unfolding released
 release_found t u s anchor None none own done = let done' = rw (own, none) at done in absurd (no_block u _ done')

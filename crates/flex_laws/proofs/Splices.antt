@@ -61,7 +61,7 @@ module _ (t u : FlexState) (s : FlexStore) (anchor : ℕ) (front after : List Bl
       ((λ i. if breaks_anchor (is_anchor_byte s) (sym header_is i + 8) b.size place cut more then Err FlexHoldsAnchor else
       Ok (fitted t s (sym p.front_is i) (new ∷ following (splice_shifts (sym header_is i) last b.size place cut more) (sym p.rest_is i)))) ∙ done)
 
-  done_by : IsFitted t u s front news
+  pub done_by : IsFitted t u s front news
   done_by = fitted_by t u s front news (nat_le (s.start + used (front ++ news)) s.end) refl told.1
 
   known : IsOneBlock t s anchor front after b

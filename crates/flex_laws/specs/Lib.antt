@@ -1,3 +1,4 @@
 pub mod Laws
 pub mod Numbered
+pub mod Padding
 pub mod Seen

@@ -1,6 +1,7 @@
 //! What is seen of blocks after a call that changes one: by the addresses that their anchors have then, or by the
 //! numbers of the blocks. Each law is the contract of a function that does nothing.
 
+ghost use Rattle.flex_laws.specs.Padding.{PaddingGoesByNumbers};
 ghost use Rattle.flex_laws.specs.Laws.{AllocGoesByNumbers, AnchorsAreApart, CallsGoByNumbers, NoRoomChangesNothing, ReleaseGoesByNumbers, SpliceGoesByNumbers, SpliceShowsItsOwn, SpliceShowsOthers};
 
 /// A change of one block shows all others as they were, each under its anchor's new address.
@@ -45,4 +46,10 @@ pub fn anchors_are_apart()
 /// Where a call answers that there is no room, nothing is changed.
 pub fn no_room_changes_nothing()
     ensures { NoRoomChangesNothing }
+{}
+
+/// The bytes that fill the last word of a block are zeros where the block is new or changes its size, and stay as they are in each other block, also
+/// where it moves.
+pub fn padding_goes_by_numbers()
+    ensures { PaddingGoesByNumbers }
 {}
