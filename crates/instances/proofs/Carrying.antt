@@ -44,6 +44,18 @@ fewer_from d w q (a ∷ others) rest are same next =
     let few : length (settled rest Well).actions ≡ length others = ap length left in
     omega (arith, few)
 
+left_from : (d : Doing World) (w : World) (q : Plan) (actions : List Action) (rest : Plan) → q.actions ≡ actions
+    → (advanced_from d actions w q).rest ≡ rest → is_next (advanced_from d actions w q).step → (settled rest Well).actions ≡ all_but_first actions
+left_from d w q [] rest are same next = absurd next
+left_from d w q (a ∷ others) rest are same next = fewer_by d w q a (d.code_of w a) rest same next ∙ ap all_but_first are
+
+left_by : (w v : World) (p rest : Plan) (o : Outcome) → advanced module_doing w p o ≡ record { world = v; rest = rest; step = advance.Next }
+    → (settled rest Well).actions ≡ all_but_first (settled p o).actions
+unfolding advanced
+left_by w v p rest o turn =
+    left_from module_doing w (settled p o) (settled p o).actions rest refl (ap (λ (r : Advanced World). r.rest) turn)
+    (subst is_next (sym (ap (λ (r : Advanced World). r.step) turn)) tt)
+
 fewer : (w v : World) (p rest : Plan) (o : Outcome) → advanced module_doing w p o ≡ record { world = v; rest = rest; step = advance.Next }
     → length (settled rest Well).actions < length (settled p o).actions
 unfolding advanced
@@ -80,6 +92,9 @@ module _ (w v : World) (p q : Plan) (o : Outcome) (step : Advance) (turn : advan
 
   pub next_fewer : step ≡ advance.Next → length (settled q Well).actions < length (settled p o).actions
   next_fewer is = fewer w v p q o (stepped advance.Next is)
+
+  pub next_left : step ≡ advance.Next → (settled q Well).actions ≡ all_but_first (settled p o).actions
+  next_left is = left_by w v p q o (stepped advance.Next is)
 
   pub next_carried : (start : Carried World) → step ≡ advance.Next → carried module_doing w (settled p o) ≡ start → carried module_doing v (settled q Well) ≡ start
   next_carried start is begun = sym (turned w p o _ (stepped advance.Next is)) ∙ begun

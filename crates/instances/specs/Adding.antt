@@ -6,9 +6,12 @@ use Rattle.profile.specs.Outcome.{bind}
 use Rattle.profile.specs.declared.error.ErrorNumber.{ErrorNumber}
 use Rattle.profile.specs.declared.error.ErrorNumber.TheVariants.{BadPointer, BadString, ModuleBadHeader, InstanceTableFull}
 use Rattle.address_map.specs.Bytes.{bytes_between}
+use Rattle.address_map.specs.declared.map.AddressMap.{AddressMap}
+use Rattle.address_map.specs.declared.region.Kind.TheVariants as kind
 use Rattle.instances_plans.specs.module_header.specs.Header.{header_of}
 use Rattle.instances_plans.specs.module_header.specs.declared.fault.HeaderFault.{HeaderFault}
 use Rattle.instances_plans.specs.module_header.specs.declared.header.Header.{Header}
+use Rattle.instances_slide.specs.os_heap.specs.Order.{AddsRecord}
 use Rattle.instances_slide.specs.rma.specs.Calls.{with_store}
 use Rattle.instances_slide.specs.rma.specs.Copies.{may_be_copied}
 use Rattle.instances_slide.specs.rma.specs.NewImages.{image_copied, image_made, may_be_in_place, with_image_in_place}
@@ -69,3 +72,7 @@ copying w at len =
     bind (image_copied w.estate at len) (λ made.
     let placed : Image = record { at = made.1; len = len } in
     Ok (record w { estate = made.0 }, adding_plan w.modules header placed [] slot))))
+
+-- The record of the new image, which begins at an address, comes behind all others, and each of these stands where it stood.
+abbrev pub AddsImage : AddressMap → AddressMap → ℕ → Type 0
+AddsImage m n at = AddsRecord m n kind.Image at

@@ -1,8 +1,9 @@
 //! The calls that add a module whose image gets a block of the module area.
-ghost use Rattle.std.specs.Prelude.{◌≡◌, ◌≤◌, ◌<◌, ◌∷◌, [], false, length, ok_or, IfOk, IfSome};
+ghost use Rattle.std.specs.Prelude.{◌≡◌, ◌≤◌, ◌<◌, ◌∷◌, [], false, length, ok_or, IfOk, IfSome, MatchResult};
 ghost use Rattle.profile.specs.Outcome.{Gives};
 ghost use Rattle.address_map.specs.Bytes.{bytes_between, AreMapped};
 ghost use Rattle.address_map.specs.Memory.{is_mapped};
+ghost use Rattle.instances_slide.specs.os_heap.specs.Order.{KeepsOrder};
 ghost use Rattle.instances_slide.specs.os_heap.specs.Store.{store_of, AreClasses};
 ghost use Rattle.instances_slide.specs.flex_kept.specs.Keeping.{KeepsFlex};
 ghost use Rattle.instances_plans.specs.module_header.specs.Header.{header_of};
@@ -11,7 +12,7 @@ ghost use Rattle.instances_actions.specs.Ready.{IsReady};
 ghost use Rattle.instances_table.specs.Changes.{is_held, titled_otherwise};
 ghost use Rattle.instances_slide.specs.instances_ground.specs.Sound.{IsWorld};
 ghost use Rattle.instances_slide.specs.instances_ground.specs.World.{world_of};
-ghost use Rattle.instances.specs.Adding.{adding_plan, good_header, loading, slot_for};
+ghost use Rattle.instances.specs.Adding.{AddsImage, adding_plan, good_header, loading, slot_for};
 
 use crate::given::{given_module, is_too_long};
 use crate::instances::Instances;
@@ -48,6 +49,8 @@ impl Instances {
             (world_of map.new areas.new self.now) }
         ensures sound { IfOk result (λ plan. IsWorld (world_of map.new areas.new self.now) (pending_of plan)) }
         ensures classes { AreClasses map.new }
+        ensures order { MatchResult result (λ plan. AddsImage map.old map.new plan.given.image)
+            (λ _. KeepsOrder map.old map.new) }
         ensures flex { KeepsFlex (store_of map.old) (store_of map.new) }
         ensures ready { IfOk result (λ plan. IsReady self.now plan) }
         ensures rests { IfOk result (λ plan. plan.runs ≡ false) }

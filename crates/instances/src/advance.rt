@@ -2,10 +2,12 @@
 #![tactic(auto, using(crate::proofs::Keeping::keeps_same))]
 
 ghost use Rattle.std.specs.Prelude.{◌≡◌, [], None, Some};
+ghost use Rattle.address_map.specs.Memory.{mapping, regions};
 ghost use Rattle.instances_slide.specs.os_heap.specs.Store.{AreClasses, store_of};
 ghost use Rattle.instances_slide.specs.flex_kept.specs.Keeping.{KeepsFlex};
 ghost use Rattle.instances_plans.specs.Carrying.{advanced, carried};
 ghost use Rattle.instances_plans.specs.Plans.{finished, first_of, settled};
+ghost use Rattle.instances_slide.specs.instances_ground.specs.Records.{CarriesRecords, MayTurnRecords, TurnsRecords};
 ghost use Rattle.instances_slide.specs.instances_ground.specs.Sound.{IsWorld};
 ghost use Rattle.instances_slide.specs.instances_ground.specs.World.{world_of};
 ghost use Rattle.instances_actions.specs.Actions.{acted};
@@ -41,6 +43,8 @@ impl Instances {
         ensures going { IsUnderWay (world_of map.new areas.now self.new) plan.new }
         ensures others { KeepsOthers self.old self.new plan.old plan.new result }
         ensures classes { AreClasses map.new }
+        ensures mapping { mapping map.new ≡ mapping map.old }
+        ensures records { CarriesRecords (settled plan.old outcome).actions (regions map.old) (regions map.new) }
         ensures flex { KeepsFlex (store_of map.old) (store_of map.new) }
     {
         let mut outcome = outcome;
@@ -68,6 +72,8 @@ impl Instances {
             ≡ record { world = world_of map.new areas.now self.new; rest = plan.new; step = result } }
         ensures going { IsUnderWay (world_of map.new areas.now self.new) plan.new }
         ensures classes { AreClasses map.new }
+        ensures mapping { mapping map.new ≡ mapping map.old }
+        ensures records { MayTurnRecords (first_of (settled plan.old outcome).actions) (regions map.old) (regions map.new) }
         ensures flex { KeepsFlex (store_of map.old) (store_of map.new) }
     {
         self.table.known();
@@ -98,6 +104,8 @@ impl Instances {
             ≡ acted world_slid plan.now.given (world_of map.old areas.now self.old) action }
         ensures sound { IsWorld (world_of map.new areas.now self.new) (pending_of (finished plan.now action)) }
         ensures classes { AreClasses map.new }
+        ensures mapping { mapping map.new ≡ mapping map.old }
+        ensures records { TurnsRecords action (regions map.old) (regions map.new) }
         ensures flex { KeepsFlex (store_of map.old) (store_of map.new) }
     {
         self.table.known();

@@ -1,13 +1,15 @@
 //! The call that adds a module whose image stays where it stands.
-ghost use Rattle.std.specs.Prelude.{◌≡◌, ◌∷◌, [], false, IfOk};
+ghost use Rattle.std.specs.Prelude.{◌≡◌, ◌∷◌, [], false, IfOk, MatchResult};
 ghost use Rattle.profile.specs.Outcome.{Gives};
+ghost use Rattle.address_map.specs.Memory.{mapping};
+ghost use Rattle.instances_slide.specs.os_heap.specs.Order.{KeepsOrder};
 ghost use Rattle.instances_slide.specs.os_heap.specs.Store.{AreClasses, store_of};
 ghost use Rattle.instances_slide.specs.flex_kept.specs.Keeping.{KeepsFlex};
 ghost use Rattle.instances_actions.specs.Pending.{pending_of};
 ghost use Rattle.instances_actions.specs.Ready.{IsReady};
 ghost use Rattle.instances_slide.specs.instances_ground.specs.Sound.{IsWorld};
 ghost use Rattle.instances_slide.specs.instances_ground.specs.World.{world_of};
-ghost use Rattle.instances.specs.Adding.{inserting};
+ghost use Rattle.instances.specs.Adding.{AddsImage, inserting};
 
 use crate::adding::header_at;
 use crate::instances::Instances;
@@ -43,6 +45,9 @@ impl Instances {
             (inserting (world_of map.old areas.now self.now) at len) result (world_of map.new areas.now self.now) }
         ensures sound { IfOk result (λ plan. IsWorld (world_of map.new areas.now self.now) (pending_of plan)) }
         ensures classes { AreClasses map.new }
+        ensures mapping { mapping map.new ≡ mapping map.old }
+        ensures order { MatchResult result (λ plan. AddsImage map.old map.new plan.given.image)
+            (λ _. KeepsOrder map.old map.new) }
         ensures flex { KeepsFlex (store_of map.old) (store_of map.new) }
         ensures ready { IfOk result (λ plan. IsReady self.now plan) }
         ensures rests { IfOk result (λ plan. plan.runs ≡ false) }

@@ -1,12 +1,14 @@
 //! What adds a module or an instance, or gives a new module's image up.
 
 ghost use Rattle.std.specs.Prelude.{ℕ, List, ◌≡◌, [], ◌∷◌, true};
+ghost use Rattle.instances_ground.specs.address_map.specs.Memory.{layout, mapping, regions};
 ghost use Rattle.instances_ground.specs.os_heap.specs.Store.{AreClasses, store_of};
 ghost use Rattle.instances_ground.specs.dynamic_areas.specs.Areas.{Land};
 ghost use Rattle.instances_ground.specs.dynamic_areas.specs.Ground.{estate_of};
 ghost use Rattle.instances_ground.specs.flex_kept.specs.Keeping.{KeepsFlex};
 ghost use Rattle.instances_table.specs.Changes.{is_new};
 ghost use Rattle.instances_table.specs.Modules.{Module};
+ghost use Rattle.instances_ground.specs.Records.{LosesRecords};
 ghost use Rattle.instances_ground.specs.Sound.{HasSystemPages, IsWorld};
 ghost use Rattle.instances_ground.specs.World.{image_gone, with_private, world_of};
 ghost use Rattle.instances_actions.specs.Actions.{image_given, with_another, with_new};
@@ -32,6 +34,7 @@ pub fn insert(map: &mut AddressMap, table: &mut InstanceTable, given: &Given, sl
         → IsWorld (world_of map.new l table.new) [] }
     ensures pages { HasSystemPages map.new }
     ensures classes { AreClasses map.old → AreClasses map.new }
+    ensures layout { layout map.new ≡ layout map.old }
     ensures flex { KeepsFlex (store_of map.old) (store_of map.new) }
 {
     put_private(map, slot, 0);
@@ -50,6 +53,7 @@ pub fn instantiate(map: &mut AddressMap, table: &mut InstanceTable, given: &Give
         → IsWorld (world_of map.new l table.new) pending }
     ensures pages { HasSystemPages map.new }
     ensures classes { AreClasses map.old → AreClasses map.new }
+    ensures layout { layout map.new ≡ layout map.old }
     ensures flex { KeepsFlex (store_of map.old) (store_of map.new) }
 {
     put_private(map, slot, 0);
@@ -68,6 +72,8 @@ pub fn give_up(map: &mut AddressMap, given: &Given)
         → IsWorld (world_of map.new l modules) [] }
     ensures pages { HasSystemPages map.new }
     ensures classes { AreClasses map.new }
+    ensures mapping { mapping map.new ≡ mapping map.old }
+    ensures records { LosesRecords (regions map.old) (regions map.new) }
     ensures flex { KeepsFlex (store_of map.old) (store_of map.new) }
 {
     drop_image(map, image_given(given));

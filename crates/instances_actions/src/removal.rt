@@ -1,7 +1,7 @@
 //! What takes instances away, and what they held.
 
 ghost use Rattle.std.specs.Prelude.{ℕ, List, ◌≡◌, ◌<◌};
-ghost use Rattle.instances_ground.specs.address_map.specs.Memory.{mapping};
+ghost use Rattle.instances_ground.specs.address_map.specs.Memory.{mapping, regions};
 ghost use Rattle.instances_ground.specs.os_heap.specs.Order.{LosesHeaps};
 ghost use Rattle.instances_ground.specs.os_heap.specs.Store.{AreClasses, store_of};
 ghost use Rattle.instances_ground.specs.dynamic_areas.specs.Areas.{Land};
@@ -9,6 +9,7 @@ ghost use Rattle.instances_ground.specs.dynamic_areas.specs.Ground.{IsEstate, es
 ghost use Rattle.instances_ground.specs.flex_kept.specs.Keeping.{KeepsFlex};
 ghost use Rattle.instances_table.specs.declared.parts.Image.{Image};
 ghost use Rattle.instances_table.specs.Modules.{Module};
+ghost use Rattle.instances_ground.specs.Records.{LosesRecords};
 ghost use Rattle.instances_ground.specs.Sound.{HasSystemPages, IsWorld};
 ghost use Rattle.instances_ground.specs.World.{image_gone, private_freed, removed, world_of};
 
@@ -30,6 +31,8 @@ pub fn remove(map: &mut AddressMap, table: &mut InstanceTable, slot: u32)
         → IsWorld (world_of map.new l table.new) pending }
     ensures pages { HasSystemPages map.new }
     ensures classes { AreClasses map.new }
+    ensures mapping { mapping map.new ≡ mapping map.old }
+    ensures records { LosesRecords (regions map.old) (regions map.new) }
     ensures flex { KeepsFlex (store_of map.old) (store_of map.new) }
 {
     free_private(map, slot);
@@ -73,6 +76,8 @@ pub(crate) fn drop_image(map: &mut AddressMap, image: Image)
     ensures kept { (l : Land) → IsEstate (estate_of map.old l) → IsEstate (estate_of map.new l) }
     ensures pages { HasSystemPages map.new }
     ensures classes { AreClasses map.new }
+    ensures mapping { mapping map.new ≡ mapping map.old }
+    ensures records { LosesRecords (regions map.old) (regions map.new) }
     ensures flex { KeepsFlex (store_of map.old) (store_of map.new) }
 {
     if is_in_module_area(image.at) {

@@ -2,6 +2,7 @@ pub mod AreaLemmas
 pub mod Images
 pub mod Keeping
 pub mod LawLemmas
+pub mod Records
 pub mod Removals
 pub mod Starting
 pub mod Worlds

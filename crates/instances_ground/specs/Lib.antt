@@ -8,5 +8,6 @@ pub use Rattle.rma
 pub use Rattle.instances_table
 pub use Rattle.instances_plans
 pub mod Laws
+pub mod Records
 pub mod Sound
 pub mod World

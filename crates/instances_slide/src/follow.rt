@@ -1,7 +1,7 @@
 //! Private words and images follow the blocks that moved.
 ghost use Rattle.std.specs.Prelude.{◌≡◌, ◌≤◌, ◌<◌, ℕ, List, length, map, slice_index, EachIndex};
 ghost use Rattle.address_map.specs.Bytes.{AreMapped};
-ghost use Rattle.address_map.specs.Memory.{byte_at, is_mapped};
+ghost use Rattle.address_map.specs.Memory.{byte_at, is_mapped, layout};
 ghost use Rattle.instances_ground.specs.os_heap.specs.Store.{AreClasses, store_of};
 ghost use Rattle.instances_ground.specs.dynamic_areas.specs.Areas.{Land};
 ghost use Rattle.instances_ground.specs.dynamic_areas.specs.Ground.{estate_of};
@@ -46,6 +46,7 @@ pub(crate) fn move_words(map: &mut AddressMap, slots: &[u32], moves: &[Move])
         → IsWorld (world_of map.old l modules) pending
         → IsWorld (world_of map.new l modules) pending }
     ensures classes { AreClasses map.old → AreClasses map.new }
+    ensures layout { layout map.new ≡ layout map.old }
     ensures flex { KeepsFlex (store_of map.old) (store_of map.new) }
 {
     for slot in slots {

@@ -1,7 +1,10 @@
 //! The slide of the module area.
 ghost use Rattle.std.specs.Prelude.{◌≡◌, [], ◌≤◌, length};
+ghost use Rattle.address_map.specs.Memory.{mapping, regions};
 ghost use Rattle.instances_ground.specs.os_heap.specs.Store.{AreClasses, store_of};
 ghost use Rattle.instances_ground.specs.flex_kept.specs.Keeping.{KeepsFlex};
+ghost use Rattle.instances_ground.specs.instances_plans.specs.declared.action.Action.TheVariants.{Slide};
+ghost use Rattle.instances_ground.specs.Records.{TurnsRecords};
 ghost use Rattle.instances_ground.specs.Sound.{IsWorld};
 ghost use Rattle.instances_ground.specs.World.{world_of};
 ghost use Rattle.instances_slide.specs.Slid.{world_slid};
@@ -25,6 +28,8 @@ pub fn slide(map: &mut AddressMap, areas: &Areas, table: &mut InstanceTable, ret
         ≡ world_slid return_address (world_of map.old areas.now table.old) }
     ensures sound { IsWorld (world_of map.new areas.now table.new) [] }
     ensures classes { AreClasses map.new }
+    ensures mapping { mapping map.new ≡ mapping map.old }
+    ensures records { TurnsRecords Slide (regions map.old) (regions map.new) }
     ensures flex { KeepsFlex (store_of map.old) (store_of map.new) }
 {
     let slots = table.slots();

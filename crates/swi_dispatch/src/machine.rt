@@ -1,4 +1,4 @@
-ghost use Rattle.std.specs.Prelude.{◌≡◌, ◌≤◌, ◌%◌, ◌&&◌, true, false, [], Some, None, IfOk, IfSome, is_err, length};
+ghost use Rattle.std.specs.Prelude.{◌≡◌, ◌≤◌, ◌%◌, ◌&&◌, true, false, [], Some, None, IfOk, IfSome, IsSome, is_err, length};
 ghost use Rattle.std.specs.Option.{option_map};
 ghost use Rattle.profile.specs.Outcome.{Leaves};
 ghost use Rattle.swi_dispatch.specs.Step.{machine_step, module_loaded, store_called, swi_called, turn_end, without_x};
@@ -123,7 +123,9 @@ impl Machine {
         ensures sizes { self.new.sizes ≡ self.old.sizes }
         ensures printed { self.new.printed ≡ self.old.printed }
         ensures well_formed { IsWellFormed self.new }
+        ensures kept { IsMachine self.new }
     {
+        self.known();
         if !self.is_fresh {
             return Err(BootError::Booted);
         }
@@ -132,6 +134,7 @@ impl Machine {
         }
         self.memory.put_bytes(APPLICATION_START, program);
         self.is_fresh = false;
+        self.known();
         Ok(())
     }
 
@@ -144,9 +147,10 @@ impl Machine {
         ensures fresh { self.new.is_fresh ≡ false }
         ensures sizes { self.new.sizes ≡ self.old.sizes }
         ensures well_formed { IsWellFormed self.new }
+        ensures kept { IsMachine self.new }
     {
         self.begin_step();
-        if let Some(stop) = self.stop() {
+        if let Some(stop) = self.known_stop() {
             return Some(stop);
         }
         let (_, next) = self.take_instructions(&Breaks::new(), 1);
@@ -154,7 +158,7 @@ impl Machine {
             Ok(turn) => self.after_turn(images, turn),
             Err(_) => {}
         }
-        self.stop()
+        self.known_stop()
     }
 
     /// Makes a store call as a guest would by an instruction with the X bit that stands before the
@@ -167,14 +171,15 @@ impl Machine {
         ensures fresh { self.new.is_fresh ≡ false }
         ensures sizes { self.new.sizes ≡ self.old.sizes }
         ensures well_formed { IsWellFormed self.new }
+        ensures kept { IsMachine self.new }
     {
         self.begin_step();
-        if let Some(stop) = self.stop() {
+        if let Some(stop) = self.known_stop() {
             return Some(stop);
         }
         let next = self.cpu().pc();
         self.call(images, true, next, without_x_bit(number % (1 << 24)));
-        self.stop()
+        self.known_stop()
     }
 
     /// Loads a module as OS_Module 1 does with the X bit, with these words in place of the string that R1 points to:
@@ -187,9 +192,10 @@ impl Machine {
         ensures fresh { self.new.is_fresh ≡ false }
         ensures sizes { self.new.sizes ≡ self.old.sizes }
         ensures well_formed { IsWellFormed self.new }
+        ensures kept { IsMachine self.new }
     {
         self.begin_step();
-        if let Some(stop) = self.stop() {
+        if let Some(stop) = self.known_stop() {
             return Some(stop);
         }
         let next = self.cpu().pc();
@@ -197,7 +203,7 @@ impl Machine {
             Some(words) => self.load_words(images, true, next, false, words),
             None => self.refuse_call(true, next, ErrorNumber::BadString),
         }
-        self.stop()
+        self.known_stop()
     }
 
     /// Sets one of R0 to R14 of the present mode. The machine can't be booted after that.
@@ -209,9 +215,11 @@ impl Machine {
         ensures sizes { self.new.sizes ≡ self.old.sizes }
         ensures printed { self.new.printed ≡ self.old.printed }
         ensures well_formed { IsWellFormed self.new }
+        ensures kept { IsMachine self.new }
     {
         self.is_fresh = false;
         self.cpu.set_register(number, value);
+        self.known();
     }
 
     /// Stores a word as a guest's store instruction would. The machine can't be booted after that;
@@ -228,11 +236,14 @@ impl Machine {
         ensures sizes { self.new.sizes ≡ self.old.sizes }
         ensures printed { self.new.printed ≡ self.old.printed }
         ensures well_formed { IsWellFormed self.new }
+        ensures kept { IsMachine self.new }
     {
         if let Err(fault) = self.memory.store_word(at, value) {
+            self.known();
             return Err(fault);
         }
         self.is_fresh = false;
+        self.known();
         Ok(())
     }
 
@@ -246,6 +257,17 @@ impl Machine {
         self.frames.len();
         self.text_of_plan();
         let _memory = &self.memory;
+    }
+
+    // Why the machine is halted, if it is, and all that holds of it.
+    pub(crate) fn known_stop(&self) -> Option<Stop>
+        ensures halt { result ≡ option_map stop_of (state_of self.now).halt }
+        ensures stepped { IsSome result → self.now.is_fresh ≡ false }
+        ensures well_formed { IsWellFormed self.now }
+        ensures kept { IsMachine self.now }
+    {
+        self.known();
+        self.stop()
     }
 
     // The text of a call that is under way has at most 255 bytes.

@@ -1,7 +1,7 @@
 ghost use Rattle.std.specs.Prelude.{◌≡◌, ◌≢◌, ◌<◌, ◌&&◌, ◌==◌, ◌≤◌, ◌↔◌, None, Some, Err, List, false, true, IsTrue, IfOk};
 ghost use Rattle.std.specs.Prelude.{OnOk, OnErr};
 ghost use Rattle.std.specs.Option.{option_map};
-ghost use Rattle.swi_dispatch.specs.Parts.{state_of, outcome_of, TakesTurn, IsWellFormed, OnlyState};
+ghost use Rattle.swi_dispatch.specs.Parts.{state_of, outcome_of, TakesTurn, IsMachine, IsWellFormed, OnlyState};
 ghost use Rattle.swi_dispatch.specs.Run.{ran, stop_after, count_after, last_or, quiet_run, quiet_last, quiet_stop};
 ghost use Rattle.swi_dispatch.specs.MachineState.{stop_of};
 ghost use Rattle.swi_dispatch.specs.Step.{machine_step};
@@ -56,12 +56,13 @@ impl Machine {
         ensures fresh { self.new.is_fresh ≡ (self.old.is_fresh && (budget == 0)) }
         ensures sizes { self.new.sizes ≡ self.old.sizes }
         ensures well_formed { IsWellFormed self.new }
+        ensures kept { IsMachine self.new }
         ensures stands { OnErr result (StandsAfter images.now breaks.now budget (state_of self.old) (state_of self.new)
             self.new.printed (W.contents sink.old) (W.contents sink.new)) }
         ensures flag { OnErr result (W.has_failed sink.new ≡ true) }
         ensures same_flag { OnOk result (W.has_failed sink.new ≡ W.has_failed sink.old) }
     {
-        if let Some(stop) = self.stop() {
+        if let Some(stop) = self.known_stop() {
             return Ok(Ran { stop, taken: 0 });
         }
         let mut taken = 0;
@@ -78,6 +79,7 @@ impl Machine {
                 return Ok(Ran { taken, ..one });
             }
         }
+        self.known();
         let stop = Stop::Budget;
         Ok(Ran { stop, taken })
     }
@@ -98,12 +100,14 @@ impl Machine {
         ensures fresh { self.new.is_fresh ≡ false }
         ensures sizes { self.new.sizes ≡ self.old.sizes }
         ensures well_formed { IsWellFormed self.new }
+        ensures kept { IsMachine self.new }
     {
         self.mark_stepped();
         let (taken, next) = self.take_instructions(breaks, most);
         if taken > 0 {
             self.forget_output();
         }
+        self.known();
         (taken, next)
     }
 
@@ -185,6 +189,7 @@ impl Machine {
         ensures fresh { self.new.is_fresh ≡ false }
         ensures sizes { self.new.sizes ≡ self.old.sizes }
         ensures well_formed { IsWellFormed self.new }
+        ensures kept { IsMachine self.new }
         ensures stands { OnErr result (state_of self.new ≡ (ran images.now breaks.now 1 (state_of self.old)).now) }
         ensures output { OnErr result (Some self.new.printed ≡ (ran images.now breaks.now 1 (state_of self.old)).last) }
         ensures part { OnErr result (AddsPart (W.contents sink.old) (W.contents sink.new) self.new.printed) }
@@ -192,6 +197,7 @@ impl Machine {
         ensures same_flag { OnOk result (W.has_failed sink.new ≡ W.has_failed sink.old) }
     {
         let halt = self.step_from(images, turn);
+        self.known();
         self.write_output(sink)?;
         Ok(self.ran_one(breaks, halt))
     }

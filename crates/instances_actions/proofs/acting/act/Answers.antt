@@ -1,3 +1,4 @@
+use Rattle.instances_ground.proofs.Records.{layout-mapping, loses_heaps, loses_laid}
 use Rattle.instances_actions.proofs.acting.act.Goals as goal
 
 pub returns-in-Remove-clause-sound : goal.returns-in-Remove-clause-sound
@@ -25,3 +26,24 @@ returns-in-Initialise-clause-world c = λ slide l.
 
 pub returns-in-GiveUp-clause-settled : goal.returns-in-GiveUp-clause-settled
 returns-in-GiveUp-clause-settled c = λ l does world. c.give_up.ensures.sound l c.args.table.now world
+
+pub returns-in-FreePrivate-clause-records : goal.returns-in-FreePrivate-clause-records
+returns-in-FreePrivate-clause-records c = loses_heaps c.args.map.now c.free_private.new.map c.free_private.ensures.records
+
+pub returns-in-Insert-clause-mapping : goal.returns-in-Insert-clause-mapping
+returns-in-Insert-clause-mapping c = layout-mapping c.args.map.now c.insert.new.map c.insert.ensures.layout
+
+pub returns-in-Insert-clause-records : goal.returns-in-Insert-clause-records
+returns-in-Insert-clause-records c = loses_laid c.args.map.now c.insert.new.map c.insert.ensures.layout
+
+pub returns-in-Instantiate-clause-mapping : goal.returns-in-Instantiate-clause-mapping
+returns-in-Instantiate-clause-mapping c = layout-mapping c.args.map.now c.instantiate.new.map c.instantiate.ensures.layout
+
+pub returns-in-Instantiate-clause-records : goal.returns-in-Instantiate-clause-records
+returns-in-Instantiate-clause-records c = loses_laid c.args.map.now c.instantiate.new.map c.instantiate.ensures.layout
+
+pub returns-in-Initialise-clause-mapping : goal.returns-in-Initialise-clause-mapping
+returns-in-Initialise-clause-mapping c = layout-mapping c.args.map.now c.put_text.new.map c.put_text.ensures.layout
+
+pub returns-in-Initialise-clause-records : goal.returns-in-Initialise-clause-records
+returns-in-Initialise-clause-records c = loses_laid c.args.map.now c.put_text.new.map c.put_text.ensures.layout

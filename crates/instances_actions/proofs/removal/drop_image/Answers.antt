@@ -1,7 +1,13 @@
-use Rattle.std.proofs.Common.{sym, ◌∙◌}
+use Rattle.std.proofs.Common.{sym, subst, ◌∙◌}
+use Rattle.instances_ground.specs.address_map.specs.Memory.{regions}
+use Rattle.instances_ground.specs.address_map.specs.Records.{without_region}
+use Rattle.instances_ground.specs.address_map.specs.declared.region.Kind.TheVariants as kind
+use Rattle.instances_ground.specs.os_heap.specs.Order.{stays}
 use Rattle.instances_ground.specs.os_heap.specs.Store.{store_of}
 use Rattle.instances_ground.specs.rma.specs.Images.{image_dropped, image_freed}
+use Rattle.instances_ground.specs.Records.{LosesRecords}
 use Rattle.instances_ground.specs.World.{image_gone}
+use Rattle.instances_ground.proofs.Records.{loses_both, loses_filtered, loses_one}
 use Rattle.instances_actions.proofs.Estates.{estate_with, others_dropped, others_freed, pages_less}
 use Rattle.instances_actions.proofs.removal.drop_image.Goals as goal
 
@@ -28,3 +34,14 @@ returns-else-is_in_module_area-clause-pages c =
     pages_less c.args.map.now c.drop_image.new.map c.args.image.at
     (others_dropped (store_of c.args.map.now) (store_of c.drop_image.new.map) c.args.image.at c.drop_image.ensures.store)
     c.drop_image.ensures.mapping c.drop_image.ensures.sound c.requires.system
+
+pub returns-then-is_in_module_area-clause-records : goal.returns-then-is_in_module_area-clause-records
+returns-then-is_in_module_area-clause-records c =
+    let rs = regions c.args.map.now in
+    subst (LosesRecords rs) (sym c.free_image.ensures.records)
+    (loses_both rs (without_region rs kind.Image c.args.image.at) _ (loses_one kind.Image c.args.image.at rs)
+    (loses_filtered (stays (store_of c.free_image.new.map).heaps) (without_region rs kind.Image c.args.image.at)))
+
+pub returns-else-is_in_module_area-clause-records : goal.returns-else-is_in_module_area-clause-records
+returns-else-is_in_module_area-clause-records c =
+    subst (LosesRecords (regions c.args.map.now)) (sym c.drop_image.ensures.regions) (loses_one kind.Image c.args.image.at (regions c.args.map.now))

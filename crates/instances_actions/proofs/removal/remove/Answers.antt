@@ -1,8 +1,10 @@
 use Rattle.std.proofs.Common.{◌≡◌, sym, subst, ◌∙◌, refl, Some, None}
+use Rattle.instances_ground.specs.address_map.specs.Memory.{regions}
 use Rattle.instances_ground.specs.dynamic_areas.specs.Ground.{IsEstate, estate_of}
 use Rattle.instances_ground.specs.flex_kept.proofs.Keeping.{keeps_then}
 use Rattle.instances_ground.specs.Sound.{IsWorld}
 use Rattle.instances_ground.specs.World.{World, removed, world_of}
+use Rattle.instances_ground.proofs.Records.{loses_both, loses_heaps}
 use Rattle.instances_ground.proofs.Removals.{world_removed}
 use Rattle.instances_actions.proofs.Removing.{removed_by}
 use Rattle.instances_actions.proofs.removal.remove.Goals as goal
@@ -40,3 +42,11 @@ returns-in_default-clause-sound c = λ l pending world.
 
 pub returns-in-Some-clause-flex : goal.returns-in-Some-clause-flex
 returns-in-Some-clause-flex c = keeps_then _ _ _ c.free_private.ensures.flex c.drop_image.ensures.flex
+
+pub returns-in-Some-clause-records : goal.returns-in-Some-clause-records
+returns-in-Some-clause-records c =
+    loses_both (regions c.args.map.now) (regions c.free_private.new.map) (regions c.drop_image.new.map)
+    (loses_heaps c.args.map.now c.free_private.new.map c.free_private.ensures.records) c.drop_image.ensures.records
+
+pub returns-in_default-clause-records : goal.returns-in_default-clause-records
+returns-in_default-clause-records c = loses_heaps c.args.map.now c.free_private.new.map c.free_private.ensures.records

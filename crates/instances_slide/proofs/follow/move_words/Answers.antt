@@ -26,5 +26,6 @@ loop-slot-preserved c =
           ap (words_moved moves (drop (i + 1) slots)) after ∙ sym (words_next moves slots i e within) ∙ c.loop-slot.invariant.estate land;
       sound = λ land modules pending world. c.put_private.ensures.sound land modules pending (c.loop-slot.invariant.sound land modules pending world);
       classes = λ same. c.put_private.ensures.classes (c.loop-slot.invariant.classes same);
+      layout = c.put_private.ensures.layout ∙ c.loop-slot.invariant.layout;
       flex = keeps_then _ _ _ c.loop-slot.invariant.flex c.put_private.ensures.flex;
     }

@@ -1,4 +1,5 @@
 use Rattle.std.proofs.Common.{◌≡◌, List, drop}
+use Rattle.address_map.specs.Memory.{layout}
 use Rattle.instances_ground.specs.os_heap.specs.Store.{AreClasses, store_of}
 use Rattle.instances_ground.specs.dynamic_areas.specs.Areas.{Land}
 use Rattle.instances_ground.specs.dynamic_areas.specs.Ground.{estate_of}
@@ -18,5 +19,6 @@ invariant-loop-slot l = record {
   sound : (land : Land) (modules : List Module) (pending : List Image) → IsWorld (world_of l.fn.map land modules) pending
       → IsWorld (world_of l.map land modules) pending;
   classes : AreClasses l.fn.map → AreClasses l.map;
+  layout : layout l.map ≡ layout l.fn.map;
   flex : KeepsFlex (store_of l.fn.map) (store_of l.map);
 }

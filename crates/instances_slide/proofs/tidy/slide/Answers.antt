@@ -2,10 +2,12 @@ use Rattle.std.proofs.Common.{◌≡◌, ◌∙◌, ℕ, List, [], ap, length, m
 use Rattle.address_map.specs.Memory.{byte_at}
 use Rattle.address_map.specs.declared.follow.Move.{Move}
 use Rattle.instances_ground.specs.os_heap.specs.Store.{store_of}
+use Rattle.instances_ground.specs.os_heap.proofs.Frame.{layout-regions}
 use Rattle.instances_ground.specs.os_heap_slide.specs.Slide.{MaySlide}
 use Rattle.instances_ground.specs.dynamic_areas.specs.Ground.{estate_of}
 use Rattle.instances_ground.specs.flex_kept.proofs.Keeping.{keeps_then}
 use Rattle.instances_ground.specs.flex_kept.proofs.Slides.{slides_keep}
+use Rattle.instances_ground.proofs.Records.{layout-mapping}
 use Rattle.instances_ground.proofs.Writes.{has_system}
 use Rattle.instances_slide.proofs.Tidying.{IsBlocksSlid, blocks_slid, may_slide, sound_after, world_after}
 use Rattle.instances_slide.specs.Slid.{image_moved, words_at, words_moved}
@@ -71,3 +73,10 @@ returns-clause-flex c =
     (slides_keep (store_of c.args.map.now) (store_of c.slide-moves.new.map) c.as_slice-3.result.now c.slide-moves.result.items
     c.requires.sound.estate.ground.sound c.slide-moves.ensures.sound may c.slide-moves.ensures.slid)
     c.move_words.ensures.flex
+
+pub returns-clause-mapping : goal.returns-clause-mapping
+returns-clause-mapping c = layout-mapping c.slide-moves.new.map c.move_words.new.map c.move_words.ensures.layout ∙ c.slide-moves.ensures.mapping
+
+pub returns-clause-records : goal.returns-clause-records
+returns-clause-records c =
+    (c.slide-moves.result.items, layout-regions c.slide-moves.new.map c.move_words.new.map c.move_words.ensures.layout ∙ c.slide-moves.ensures.regions)

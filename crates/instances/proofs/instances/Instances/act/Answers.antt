@@ -1,10 +1,13 @@
 use Rattle.std.proofs.Common.{List, Some, sym, ap, subst, ◌∙◌}
+use Rattle.address_map.specs.Memory.{regions}
 use Rattle.instances_plans.specs.declared.action.Action.{Action}
 use Rattle.instances_plans.specs.declared.given.Given.{Given}
 use Rattle.instances_plans.specs.Plans.{finished}
 use Rattle.instances_table.specs.Modules.{AreModules, Module}
+use Rattle.instances_slide.specs.instances_ground.specs.Records.{TurnsRecords}
 use Rattle.instances_slide.specs.instances_ground.specs.Sound.{IsWorld}
 use Rattle.instances_slide.specs.instances_ground.specs.World.{world_of}
+use Rattle.instances_slide.specs.instances_ground.proofs.Records.{turns_losing}
 use Rattle.instances_slide.specs.instances_ground.proofs.Writes.{has_system}
 use Rattle.instances_actions.specs.Actions.{acted}
 use Rattle.instances_actions.specs.Pending.{pending_of}
@@ -50,5 +53,11 @@ returns-in_default c = record {
       (subst (λ (ms : List Module). IsWorld (world_of c.args.map.now c.args.areas.now ms) pending) (sym c.self.view_is) world))
       (λ does world. c.act.ensures.settled c.args.areas.now does (rw (c.given-given.ensures, c.self.view_is) world));
   classes = c.act.ensures.classes;
+  mapping = c.act.ensures.mapping;
+  records = turns_losing c.args.action (regions c.args.map.now) (regions c.act.new.map) c.in_default.not-Slide c.act.ensures.records;
   flex = c.act.ensures.flex;
 }
+
+pub returns-in-Slide-clause-records : goal.returns-in-Slide-clause-records
+returns-in-Slide-clause-records c =
+    subst (λ (a : Action). TurnsRecords a (regions c.args.map.now) (regions c.slide.new.map)) (sym c.in-Slide.is) c.slide.ensures.records

@@ -1,7 +1,12 @@
-use Rattle.std.proofs.Common.{None, Some}
+use Rattle.std.proofs.Common.{List, None, Some, subst, ◌∙◌}
+use Rattle.address_map.specs.Memory.{regions}
+use Rattle.instances_plans.specs.declared.action.Action.{Action}
+use Rattle.instances_plans.specs.Plans.{settled}
 use Rattle.instances_slide.specs.flex_kept.proofs.Keeping.{keeps_then}
+use Rattle.instances_slide.specs.instances_ground.specs.Records.{CarriesRecords}
 use Rattle.instances_slide.specs.instances_ground.specs.World.{world_of}
-use Rattle.instances.proofs.Carrying.{code_carried, end_carried, next_carried, next_fewer, world_at_end}
+use Rattle.instances_slide.specs.instances_ground.proofs.Records.{carries_last, carries_on}
+use Rattle.instances.proofs.Carrying.{code_carried, end_carried, next_carried, next_fewer, next_left, world_at_end}
 use Rattle.instances.proofs.Naming.{keeps_others}
 use Rattle.instances.proofs.instances.Instances.carry.Goals as goal
 
@@ -17,6 +22,14 @@ loop-outcome-preserved c = record {
       c.loop-outcome.invariant.carried;
   going = c.advance.ensures.going;
   classes = c.advance.ensures.classes;
+  mapping = c.advance.ensures.mapping ∙ c.loop-outcome.invariant.mapping;
+  records = λ new later.
+      c.loop-outcome.invariant.records new
+      (carries_on (settled c.loop-outcome.plan c.loop-outcome.outcome).actions (regions c.loop-outcome.map) (regions c.advance.new.map) new
+      c.advance.ensures.records
+      (subst (λ (actions : List Action). CarriesRecords actions (regions c.advance.new.map) new)
+      (next_left (world_of c.loop-outcome.map c.args.areas.now c.loop-outcome.self) (world_of c.advance.new.map c.args.areas.now c.advance.new.self)
+      c.loop-outcome.plan c.advance.new.plan c.loop-outcome.outcome c.advance.result c.advance.ensures.advanced c.in-Next.is) later));
   flex = keeps_then _ _ _ c.loop-outcome.invariant.flex c.advance.ensures.flex;
 }
 
@@ -53,3 +66,19 @@ pub returns-in-End-clause-others : goal.returns-in-End-clause-others
 returns-in-End-clause-others c =
     keeps_others _ (world_of c.advance.new.map c.args.areas.now c.advance.new.self) _ c.advance.new.plan _ None
     (returns-in-End-clause-carried c) c.advance.ensures.going
+
+pub returns-in-Code-clause-mapping : goal.returns-in-Code-clause-mapping
+returns-in-Code-clause-mapping c = c.advance.ensures.mapping ∙ c.loop-outcome.invariant.mapping
+
+pub returns-in-End-clause-mapping : goal.returns-in-End-clause-mapping
+returns-in-End-clause-mapping c = c.advance.ensures.mapping ∙ c.loop-outcome.invariant.mapping
+
+pub returns-in-Code-clause-records : goal.returns-in-Code-clause-records
+returns-in-Code-clause-records c =
+    c.loop-outcome.invariant.records (regions c.advance.new.map)
+    (carries_last (settled c.loop-outcome.plan c.loop-outcome.outcome).actions (regions c.loop-outcome.map) (regions c.advance.new.map) c.advance.ensures.records)
+
+pub returns-in-End-clause-records : goal.returns-in-End-clause-records
+returns-in-End-clause-records c =
+    c.loop-outcome.invariant.records (regions c.advance.new.map)
+    (carries_last (settled c.loop-outcome.plan c.loop-outcome.outcome).actions (regions c.loop-outcome.map) (regions c.advance.new.map) c.advance.ensures.records)

@@ -1,8 +1,11 @@
-use Rattle.std.proofs.Common.{◌≡◌, length}
+use Rattle.std.proofs.Common.{◌≡◌, List, length}
+use Rattle.address_map.specs.Memory.{mapping, regions}
+use Rattle.address_map.specs.declared.region.Region.{Region}
 use Rattle.instances_slide.specs.os_heap.specs.Store.{AreClasses, store_of}
 use Rattle.instances_slide.specs.flex_kept.specs.Keeping.{KeepsFlex}
 use Rattle.instances_plans.specs.Carrying.{carried}
 use Rattle.instances_plans.specs.Plans.{settled}
+use Rattle.instances_slide.specs.instances_ground.specs.Records.{CarriesRecords}
 use Rattle.instances_slide.specs.instances_ground.specs.World.{world_of}
 use Rattle.instances.specs.Turns.{IsUnderWay, module_doing}
 use Rattle.instances.proofs.instances.Instances.carry.Given as goal
@@ -13,6 +16,9 @@ invariant-loop-outcome l = record {
       ≡ carried module_doing (world_of l.fn.map l.fn.areas l.fn.self) (settled l.fn.plan l.fn.outcome);
   going : IsUnderWay (world_of l.map l.areas l.self) l.plan;
   classes : AreClasses l.map;
+  mapping : mapping l.map ≡ mapping l.fn.map;
+  records : (new : List Region) → CarriesRecords (settled l.plan l.outcome).actions (regions l.map) new
+      → CarriesRecords (settled l.fn.plan l.fn.outcome).actions (regions l.fn.map) new;
   flex : KeepsFlex (store_of l.fn.map) (store_of l.map);
 }
 

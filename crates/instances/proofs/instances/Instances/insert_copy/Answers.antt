@@ -3,7 +3,7 @@ use Rattle.instances_slide.specs.os_heap.specs.Store.{store_of}
 use Rattle.instances_slide.specs.dynamic_areas.specs.Ground.{estate_of}
 use Rattle.instances_slide.specs.instances_ground.specs.World.{world_of}
 use Rattle.instances_slide.specs.instances_ground.proofs.Worlds.{few_records}
-use Rattle.instances.proofs.AddingLemmas.{copied_mapped, world_with_block}
+use Rattle.instances.proofs.AddingLemmas.{copied_mapped, no_image, world_with_block}
 use Rattle.instances.proofs.instances.Instances.insert_copy.Goals as goal
 
 pub header_at-requires : goal.header_at-requires
@@ -25,3 +25,8 @@ returns-clause-sound c =
     rw c.adding_plan.ensures.pending
     (world_with_block (world_of c.args.map.now c.args.areas.now c.args.self.now) (world_of c.copy_image.new.map c.copy_image.new.areas c.args.self.now)
     c.in_ok-copy.copy c.args.len c.requires.sound refl c.in_ok-copy.ensures.whole c.in_ok-copy.ensures.inside c.in_ok-copy.ensures.alone c.in_ok-copy.ensures.others c.copy_image.ensures.estate)
+
+pub returns-clause-order : goal.returns-clause-order
+returns-clause-order c =
+    rw c.adding_plan.ensures.value
+    (c.in_ok-copy.ensures.order (no_image c.in_ok-copy.copy (store_of c.args.map.now).others c.requires.sound.solid c.in_ok-copy.ensures.alone))

@@ -33,3 +33,6 @@ returns-clause-world c =
     let may : may_be_in_place (store_of c.args.map.now) c.args.at c.args.len ≡ true = sym c.may_be_in_place.ensures ∙ c.if-not-may_be_in_place.false in
     rw (may, sym c.in_ok-header.ensures.value, sym c.in_ok-slot.ensures.value)
     ((λ i. record { estate = c.record_in_place.ensures.placed c.args.areas.now i; modules = c.args.self.now }), c.adding_plan.ensures.value)
+
+pub returns-clause-order : goal.returns-clause-order
+returns-clause-order c = rw c.adding_plan.ensures.value c.record_in_place.ensures.order

@@ -1,7 +1,8 @@
 use Rattle.std.proofs.Common.{[], length, refl, arith}
+use Rattle.instances_slide.specs.os_heap.specs.Store.{store_of}
 use Rattle.instances_slide.specs.instances_ground.specs.World.{world_of}
 use Rattle.instances_slide.specs.instances_ground.proofs.Worlds.{few_records}
-use Rattle.instances.proofs.AddingLemmas.{world_with_block}
+use Rattle.instances.proofs.AddingLemmas.{no_image, world_with_block}
 use Rattle.instances.proofs.instances.Instances.load.Goals as goal
 
 pub make_image-requires-clause-room : goal.make_image-requires-clause-room
@@ -13,3 +14,8 @@ returns-clause-sound c =
     rw c.adding_plan.ensures.pending
     (world_with_block (world_of c.args.map.now c.args.areas.now c.args.self.now) (world_of c.make_image.new.map c.make_image.new.areas c.args.self.now)
     c.in_ok-at.at (length c.args.image.now) c.requires.sound refl c.in_ok-at.ensures.whole c.in_ok-at.ensures.inside c.in_ok-at.ensures.alone c.in_ok-at.ensures.others c.make_image.ensures.estate)
+
+pub returns-clause-order : goal.returns-clause-order
+returns-clause-order c =
+    rw c.adding_plan.ensures.value
+    (c.in_ok-at.ensures.order (no_image c.in_ok-at.at (store_of c.args.map.now).others c.requires.sound.solid c.in_ok-at.ensures.alone))

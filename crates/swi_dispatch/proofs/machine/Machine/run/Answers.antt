@@ -7,18 +7,18 @@ use Rattle.swi_dispatch.proofs.RunLoop.{ends_stopped, ends_start, ends_quiet, en
 use Rattle.swi_dispatch.proofs.machine.Machine.run.Goals as goal
 
 pub returns-in-Some-clause-ends : goal.returns-in-Some-clause-ends
-returns-in-Some-clause-ends g c = ends_stopped _ _ _ _ _ _ _ _ refl (sym c.in-Some.is ∙ c.stop.ensures.halt) (Appends-nothing _)
+returns-in-Some-clause-ends g c = ends_stopped _ _ _ _ _ _ _ _ refl (sym c.in-Some.is ∙ c.known_stop.ensures.halt) (Appends-nothing _)
 
 pub loop-taken-init : goal.loop-taken-init
 loop-taken-init g c =
-    let awake = halt-none _ _ c.stop.ensures.halt c.in_default.is in
+    let awake = halt-none _ _ c.known_stop.ensures.halt c.in_default.is in
     record {
       ends = ends_start _ _ _ _ _ awake (Appends-nothing _);
       within = omega arith;
       awake = awake;
       fresh = fresh_before _;
       sizes = refl;
-      well_formed = c.stop.ensures.well_formed;
+      well_formed = c.known_stop.ensures.well_formed;
       same_flag = refl;
     }
 

@@ -10,7 +10,7 @@ use Rattle.swi_dispatch.proofs.machine.Machine.step.Goals.{in-Ok, in-Err}
 
 pub returns-clause-after : goal.returns-clause-after
 returns-clause-after c =
-    let awake : (state_of c.begin_step.new.self).halt ≡ None = halt-none _ _ c.stop.ensures.halt c.in_default.is in
+    let awake : (state_of c.begin_step.new.self).halt ≡ None = halt-none _ _ c.known_stop.ensures.halt c.in_default.is in
     let one = c.take_instructions-next.ensures in
     let images = c.args.images.now in
     let before : MachineState = state_of c.begin_step.new.self in
