@@ -1,6 +1,6 @@
 //! The two passes over a source.
 
-ghost use Rattle.std.specs.Prelude.{◌≡◌, ◌≢◌, ◌≤◌, ◌<◌, ◌^◌, [], Err, length, take, IfOk, OnOk};
+ghost use Rattle.std.specs.Prelude.{◌≡◌, ◌≢◌, ◌≤◌, ◌<◌, ◌%◌, ◌^◌, [], Err, length, take, IfOk, OnOk};
 ghost use Rattle.assembler_names.specs.Labels.{address_of};
 ghost use Rattle.assembler.specs.Line.{line};
 ghost use Rattle.assembler.specs.Passes.{finished, first_pass, leaving, means, means_lines, measured, second_pass};
@@ -24,8 +24,10 @@ use text_lines::Lines;
 /// line 0 and `Memory`.
 #[tactic(auto, using(std::proofs::lemmas::List::take_all), unfolding(crate::specs::Passes::means))]
 pub fn assemble(alloc: Global, source: &[u8], origin: u32) -> Result<Program, AsmError>
-    ensures { origin < 2 ^ 26 → result ≢ Err (record { line = 0; reason = Reason.Memory })
+    ensures below { origin < 2 ^ 26 → result ≢ Err (record { line = 0; reason = Reason.Memory })
         → result ≡ means source.now origin }
+    ensures modulo { result ≢ Err (record { line = 0; reason = Reason.Memory })
+        → result ≡ means source.now (origin % 2 ^ 26) }
 {
     let lines = Lines::new(source);
     assemble_lines(alloc, &lines, lines.count(), origin)
@@ -39,8 +41,10 @@ pub fn assemble_lines(
     count: usize,
     origin: u32,
 ) -> Result<Program, AsmError>
-    ensures { origin < 2 ^ 26 → result ≢ Err (record { line = 0; reason = Reason.Memory })
+    ensures below { origin < 2 ^ 26 → result ≢ Err (record { line = 0; reason = Reason.Memory })
         → result ≡ means_lines (take count lines.now.left) origin }
+    ensures modulo { result ≢ Err (record { line = 0; reason = Reason.Memory })
+        → result ≡ means_lines (take count lines.now.left) (origin % 2 ^ 26) }
 {
     match both_passes(alloc, lines, count, origin % ADDRESS_LIMIT) {
         Ok(answer) => answer,

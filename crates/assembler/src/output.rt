@@ -1,9 +1,11 @@
 //! A program while it is written.
 
 ghost use Rattle.std.specs.Prelude.{◌≡◌, ◌+◌, ◌≤◌, ◌<◌, ◌^◌, ◌++◌, [], None, length, replicate, nat_lt, ◌||◌, OnOk};
+ghost use Rattle.std.specs.Int.{to_le_bytes, w32};
 ghost use Rattle.assembler.specs.Written.{aligned, byte_item, instruction_item, unrefused, with_item, with_reason, word_item};
 
 use assembler_names::{Reason, Value};
+use byteorder::{ByteOrder, LittleEndian};
 use profile::memory_map::{ADDRESS_LIMIT, MOST_BYTES};
 use std::alloc::{AllocError, Global};
 use std::marker::Model;
@@ -108,10 +110,10 @@ impl Output {
         ensures { OnOk result (self.new ≡ with_item self.old (word_item value)) }
     {
         match value {
-            Some(word) => self.bytes.extend_from_slice(&word.to_le_bytes()),
+            Some(word) => self.push_bytes_of(word),
             None => {
                 self.refuse(Reason::UnknownLabel);
-                self.bytes.extend_from_slice(&0u32.to_le_bytes())
+                self.push_bytes_of(0)
             }
         }
     }
@@ -145,7 +147,16 @@ impl Output {
                 0
             }
         };
-        self.bytes.extend_from_slice(&word.to_le_bytes())
+        self.push_bytes_of(word)
+    }
+
+    // The bytes of a word, the lowest first.
+    fn push_bytes_of(&mut self, word: u32) -> Result<(), AllocError>
+        ensures { OnOk result (self.new ≡ record self.old { bytes = self.old.bytes ++ to_le_bytes w32 word }) }
+    {
+        let mut bytes = [0u8; 4];
+        LittleEndian::write_u32(&mut bytes, word);
+        self.bytes.extend_from_slice(&bytes)
     }
 
     // An unknown label counts before the reasons that were met before it.

@@ -2,7 +2,8 @@
 //! (`llvm-mc --triple=armv4`) for the same instruction in its own syntax, but for the forms with P,
 //! which it doesn't know, and those of `B &t`, worked out by hand from the data sheet.
 
-use assembler::{AsmError, Reason, assemble};
+use assembler::text_lines::Lines;
+use assembler::{AsmError, Reason, assemble, assemble_lines};
 use std::alloc::Global;
 use std::process::Abort;
 use std::test::Fail;
@@ -232,6 +233,28 @@ fn limits_a_label(rt: HostRuntime) -> Result<(), Fail> {
         Err(error) => assert!(rt; error == AsmError { line: 1, reason }),
         Ok(_) => panic!(rt; "64 bytes"),
     }
+    Ok(())
+}
+
+// 5,000 lines of a byte each, and the first 1,001 of them.
+#[test]
+fn assembles_many_lines(rt: HostRuntime) -> Result<(), Fail> {
+    let mut source = Vec::new(rt.alloc());
+    for _line in 0..5000 {
+        source.extend_from_slice(b" DCB 1\n")?;
+    }
+    let program = assemble(rt.alloc(), &source, 0x8000)?;
+    assert!(rt; program.bytes().len() == 5000);
+    let program = assemble_lines(rt.alloc(), &Lines::new(&source), 1001, 0x8000)?;
+    assert!(rt; program.bytes().len() == 1001);
+    Ok(())
+}
+
+// An origin from 2^26 on is read modulo 2^26.
+#[test]
+fn takes_an_origin_round(rt: HostRuntime) -> Result<(), Fail> {
+    let program = assemble(rt.alloc(), b"x DCD x", 0x400_8000)?;
+    assert!(rt; program.bytes() == b"\0\x80\0\0".as_slice());
     Ok(())
 }
 

@@ -12,7 +12,7 @@ use swi_dispatch::dynamic_areas::Area;
 /// Writes a line for each area by number, `area 1 base 01800000 size 65536 max 4194304 RMA`, with its
 /// size and its maximum in bytes, and then how many pages are in the pool, `pool 173 pages`.
 pub fn show_areas<W: Sink>(machine: &Machine, sink: &mut W) -> Result<(), WriteFault>
-    ensures { Writes W.contents W.has_failed sink.old sink.new result
+    ensures writes { Writes W.contents W.has_failed sink.old sink.new result
         (areas_text (state_of machine.now).tables.land.areas (state_of machine.now).pool) }
 {
     let areas = machine.areas();

@@ -1,9 +1,7 @@
 //! Words of memory and their instructions, as text.
-#![tactic(auto, using(assembler_text::proofs::Pieces::pieces, crate::proofs::CodeLines::code_steps))]
 
-ghost use Rattle.std.specs.Prelude.{◌≡◌, true, OnOk, OnErr};
-ghost use Rattle.std.specs.Io.KnownBytes.{Appends};
 ghost use Rattle.address_map.specs.Memory.{bytes_of};
+ghost use Rattle.profile.specs.Output.{Writes};
 ghost use Rattle.swi_dispatch.specs.Parts.{state_of};
 ghost use Rattle.debugger.specs.Code.{address_text, code_line, code_text, word_text};
 
@@ -20,25 +18,20 @@ pub fn show_code<W: Sink>(
     count: u32,
     sink: &mut W,
 ) -> Result<(), WriteFault>
-    ensures text { OnOk result
-        (Appends (W.contents sink.old) (W.contents sink.new)
-        (code_text (state_of machine.now).store.bytes address count)) }
-    ensures flag { OnErr result (W.has_failed sink.new ≡ true) }
-    ensures same_flag { OnOk result (W.has_failed sink.new ≡ W.has_failed sink.old) }
+    ensures writes { Writes W.contents W.has_failed sink.old sink.new result
+        (code_text (state_of machine.now).store.bytes address count) }
 {
     show_words(machine.memory(), address, count, sink)
 }
 
+#[tactic(auto, using(crate::proofs::CodeLines::code_steps))]
 fn show_words<W: Sink>(
     memory: &AddressMap,
     address: u32,
     count: u32,
     sink: &mut W,
 ) -> Result<(), WriteFault>
-    ensures text { OnOk result
-        (Appends (W.contents sink.old) (W.contents sink.new) (code_text (bytes_of memory.now) address count)) }
-    ensures flag { OnErr result (W.has_failed sink.new ≡ true) }
-    ensures same_flag { OnOk result (W.has_failed sink.new ≡ W.has_failed sink.old) }
+    ensures { Writes W.contents W.has_failed sink.old sink.new result (code_text (bytes_of memory.now) address count) }
 {
     let mut at = address;
     for _words in 0..count {
@@ -49,10 +42,7 @@ fn show_words<W: Sink>(
 }
 
 fn show_line<W: Sink>(memory: &AddressMap, address: u32, sink: &mut W) -> Result<(), WriteFault>
-    ensures text { OnOk result
-        (Appends (W.contents sink.old) (W.contents sink.new) (code_line (bytes_of memory.now) address)) }
-    ensures flag { OnErr result (W.has_failed sink.new ≡ true) }
-    ensures same_flag { OnOk result (W.has_failed sink.new ≡ W.has_failed sink.old) }
+    ensures { Writes W.contents W.has_failed sink.old sink.new result (code_line (bytes_of memory.now) address) }
 {
     push_parts(sink, &[HexText::word(address).as_slice(), b" ".as_slice()])?;
     match memory.load_word(address) {
@@ -62,9 +52,7 @@ fn show_line<W: Sink>(memory: &AddressMap, address: u32, sink: &mut W) -> Result
 }
 
 fn show_word<W: Sink>(word: u32, address: u32, sink: &mut W) -> Result<(), WriteFault>
-    ensures text { OnOk result (Appends (W.contents sink.old) (W.contents sink.new) (word_text address word)) }
-    ensures flag { OnErr result (W.has_failed sink.new ≡ true) }
-    ensures same_flag { OnOk result (W.has_failed sink.new ≡ W.has_failed sink.old) }
+    ensures { Writes W.contents W.has_failed sink.old sink.new result (word_text address word) }
 {
     push_parts(sink, &[HexText::word(word).as_slice(), b" ".as_slice()])?;
     disassemble(word, address, sink)?;

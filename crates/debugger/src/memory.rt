@@ -23,7 +23,7 @@ pub fn show_memory<W: Sink>(
     count: u32,
     sink: &mut W,
 ) -> Result<(), WriteFault>
-    ensures { Writes W.contents W.has_failed sink.old sink.new result
+    ensures writes { Writes W.contents W.has_failed sink.old sink.new result
         (memory_text (state_of machine.now).store.bytes address count) }
 {
     let map = machine.memory();

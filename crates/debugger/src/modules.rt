@@ -17,7 +17,7 @@ use swi_dispatch::instances::{InstanceInfo, Instances, ModuleInfo};
 /// line for each of its instances, `  Base word 01C02000 00000000 preferred`, with the address of its
 /// private word and what stands there.
 pub fn show_modules<W: Sink>(machine: &Machine, sink: &mut W) -> Result<(), WriteFault>
-    ensures { let s = state_of machine.now in Writes W.contents W.has_failed sink.old sink.new result
+    ensures writes { let s = state_of machine.now in Writes W.contents W.has_failed sink.old sink.new result
         (modules_text s.store.bytes s.tables.modules) }
 {
     show_all(machine.instances(), machine.memory(), sink)

@@ -10,7 +10,7 @@ use swi_dispatch::arm_step::{Cpu, Mode, Psr};
 /// Writes the registers of the present mode, four on a line, and a line of the status, in which a
 /// set flag stands in capitals.
 pub fn show_regs<W: Sink>(machine: &Machine, sink: &mut W) -> Result<(), WriteFault>
-    ensures { Writes W.contents W.has_failed sink.old sink.new result (registers_text (state_of machine.now).cpu) }
+    ensures writes { Writes W.contents W.has_failed sink.old sink.new result (registers_text (state_of machine.now).cpu) }
 {
     show_core(machine.cpu(), sink)
 }

@@ -5,8 +5,8 @@ use std::test::Fail;
 
 /// Flags before, the value in R1, the amount in R2, the word; the result in R0 and the flags after it. Each amount stands four times:
 /// LSL, LSR, ASR, ROR.
-static SHIFTS: [(u32, u32, u32, u32, u32, u32); 72] = [
-    // by R2: 0, 1, 31, 32, 33 and 255
+static SHIFTS: [(u32, u32, u32, u32, u32, u32); 80] = [
+    // by R2: 0, 1, 31, 32, 33, 64 and 255
     (0, 0x8000_0001, 0, 0xE1B0_0211, 0x8000_0001, 8),
     (0, 0x8000_0001, 0, 0xE1B0_0231, 0x8000_0001, 8),
     (0, 0x8000_0001, 0, 0xE1B0_0251, 0x8000_0001, 8),
@@ -27,6 +27,10 @@ static SHIFTS: [(u32, u32, u32, u32, u32, u32); 72] = [
     (0, 0x8000_0001, 33, 0xE1B0_0231, 0, 4),
     (0, 0x8000_0001, 33, 0xE1B0_0251, 0xFFFF_FFFF, 0xA),
     (0, 0x8000_0001, 33, 0xE1B0_0271, 0xC000_0000, 0xA),
+    (0, 0x8000_0001, 64, 0xE1B0_0211, 0, 4),
+    (0, 0x8000_0001, 64, 0xE1B0_0231, 0, 4),
+    (0, 0x8000_0001, 64, 0xE1B0_0251, 0xFFFF_FFFF, 0xA),
+    (0, 0x8000_0001, 64, 0xE1B0_0271, 0x8000_0001, 0xA),
     (0, 0x8000_0001, 255, 0xE1B0_0211, 0, 4),
     (0, 0x8000_0001, 255, 0xE1B0_0231, 0, 4),
     (0, 0x8000_0001, 255, 0xE1B0_0251, 0xFFFF_FFFF, 0xA),
@@ -51,6 +55,10 @@ static SHIFTS: [(u32, u32, u32, u32, u32, u32); 72] = [
     (0, 0x7FFF_FFFE, 33, 0xE1B0_0231, 0, 4),
     (0, 0x7FFF_FFFE, 33, 0xE1B0_0251, 0, 4),
     (0, 0x7FFF_FFFE, 33, 0xE1B0_0271, 0x3FFF_FFFF, 0),
+    (2, 0x7FFF_FFFE, 64, 0xE1B0_0211, 0, 4),
+    (2, 0x7FFF_FFFE, 64, 0xE1B0_0231, 0, 4),
+    (2, 0x7FFF_FFFE, 64, 0xE1B0_0251, 0, 4),
+    (2, 0x7FFF_FFFE, 64, 0xE1B0_0271, 0x7FFF_FFFE, 0),
     (0, 0x7FFF_FFFE, 255, 0xE1B0_0211, 0, 4),
     (0, 0x7FFF_FFFE, 255, 0xE1B0_0231, 0, 4),
     (0, 0x7FFF_FFFE, 255, 0xE1B0_0251, 0, 4),
