@@ -1,8 +1,9 @@
-//! The calls that take host memory, each behind some takings of it.
+//! The calls by their names: those that take host memory, each behind some takings of it, and those that take none.
 
 use crate::outcome::{Outcome, take_and_give_back};
 use crate::rows::{ERROR_AT_START, SIX_WORDS, TIDY};
 use crate::scripts::script;
+use crate::taken::{Done, taken_after};
 use address_map::AddressMap;
 use assembler::{Reason, assemble};
 use command_line::{SettingsError, settings};
@@ -24,6 +25,10 @@ pub fn outcome_of(alloc: Global, call: &str, takings: u32) -> Outcome {
         "six-words" => script(alloc, takings, &SIX_WORDS),
         "error-at-start" => script(alloc, takings, &ERROR_AT_START),
         "tidy" => script(alloc, takings, &TIDY),
+        "nothing" => taken_after(alloc, Done::Nothing, takings),
+        "steps" => taken_after(alloc, Done::Steps, takings),
+        "store-calls" => taken_after(alloc, Done::StoreCalls, takings),
+        "views" => taken_after(alloc, Done::Views, takings),
         _ => Outcome::Wrong,
     }
 }

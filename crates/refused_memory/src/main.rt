@@ -10,6 +10,7 @@ mod calls;
 mod outcome;
 mod rows;
 mod scripts;
+mod taken;
 
 use crate::calls::outcome_of;
 use std::io::Read;
