@@ -1,6 +1,9 @@
 -- What words ask for, why they are refused, and the exit status: 2 for a command line that can't be, 4 for anything else that
 -- keeps a page from being written whole, and else that of the script's last stop.
-use Rattle.std.specs.Prelude.{◌≡◌, ℕ, false, List, Option, Some, None, Result, Ok, Err}
+use Rattle.std.specs.Prelude.{◌≡◌, ℕ, Bool, false, List, ◌++◌, Option, Some, None, Result, Ok, Err, codes}
+use Rattle.std.specs.Io.KnownBytes.{Appends}
+use Rattle.std.specs.declared.io.ErrorKind.{ErrorKind}
+use Rattle.std.specs.declared.io.ErrorKind.TheVariants.{OutOfMemory}
 use Rattle.profile.specs.declared.stop.Stop.{Stop}
 use Rattle.command_line.specs.Settings.{settings_for}
 use Rattle.command_line.specs.Status.{status_after}
@@ -35,8 +38,14 @@ IsRefusalBy (Some form) answer told = IsRefusedBy answer told
 abbrev pub IsRefusalOf : List (List ℕ) → Refusal → Type 0
 IsRefusalOf words told = IsRefusalBy (form_of (forms_from false words)) (settings_for (others_from false words)) told
 
+-- what the program is refused with where the host doesn't hand over its words
+abbrev pub words_refused : ErrorKind → Refusal
+words_refused OutOfMemory = refusal.Memory
+words_refused _ = refusal.NotText
+
 abbrev pub refusal_status : Refusal → ℕ
 refusal_status refusal.Memory = 4
+refusal_status refusal.NotText = 2
 refusal_status (refusal.Line reason) = 2
 refusal_status (refusal.Sizes reason) = 2
 refusal_status (refusal.File path error) = 4
@@ -45,3 +54,15 @@ refusal_status (refusal.Script error) = 4
 abbrev pub status_of : Result (Option Stop) Refusal → ℕ
 status_of (Ok last) = status_after last
 status_of (Err refused) = refusal_status refused
+
+-- One line was appended, which begins with the program's name.
+pub record TellsLine (before after : Option (List ℕ)) : Type 0 where
+  pub text : List ℕ
+  pub line : Appends before after (codes "rosm_show: " ++ (text ++ codes "\n"))
+
+-- What stands on standard error at the end: nothing after a page that was written whole, and else one line, if it could be
+-- written.
+abbrev pub TellsEnding : {W : Type 0} → (W → Option (List ℕ)) → (W → Bool) → W → W → Result (Option Stop) Refusal → Type 0
+TellsEnding contents has_failed before after (Ok last) = after ≡ before
+TellsEnding contents has_failed before after (Err refused) =
+    has_failed after ≡ false → TellsLine (contents before) (contents after)
