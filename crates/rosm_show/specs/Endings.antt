@@ -1,7 +1,6 @@
 -- What words ask for, why they are refused, and the exit status: 2 for a command line that can't be, 4 for anything else that
 -- keeps a page from being written whole, and else that of the script's last stop.
-use Rattle.std.specs.Prelude.{◌≡◌, ℕ, Bool, false, List, ◌++◌, Option, Some, None, Result, Ok, Err, codes}
-use Rattle.std.specs.Io.KnownBytes.{Appends}
+use Rattle.std.specs.Prelude.{◌≡◌, ℕ, false, List, Option, Some, None, Result, Ok, Err}
 use Rattle.std.specs.declared.io.ErrorKind.{ErrorKind}
 use Rattle.std.specs.declared.io.ErrorKind.TheVariants.{OutOfMemory}
 use Rattle.profile.specs.declared.stop.Stop.{Stop}
@@ -54,15 +53,3 @@ refusal_status (refusal.Script error) = 4
 abbrev pub status_of : Result (Option Stop) Refusal → ℕ
 status_of (Ok last) = status_after last
 status_of (Err refused) = refusal_status refused
-
--- One line was appended, which begins with the program's name.
-pub record TellsLine (before after : Option (List ℕ)) : Type 0 where
-  pub text : List ℕ
-  pub line : Appends before after (codes "rosm_show: " ++ (text ++ codes "\n"))
-
--- What stands on standard error at the end: nothing after a page that was written whole, and else one line, if it could be
--- written.
-abbrev pub TellsEnding : {W : Type 0} → (W → Option (List ℕ)) → (W → Bool) → W → W → Result (Option Stop) Refusal → Type 0
-TellsEnding contents has_failed before after (Ok last) = after ≡ before
-TellsEnding contents has_failed before after (Err refused) =
-    has_failed after ≡ false → TellsLine (contents before) (contents after)

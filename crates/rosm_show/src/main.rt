@@ -12,16 +12,11 @@ mod words;
 
 use crate::process::{exit_code, show_on_standard_streams};
 use crate::words::read_words;
-use profile::Device;
 use std::process::ExitCode;
 
 fn main(rt: HostRuntime) -> ExitCode {
-    let mut errors = Device::new(rt.stderr());
     match read_words(&rt) {
-        Ok(wanted) => {
-            let ending = show_on_standard_streams(&rt, &wanted);
-            exit_code(rt.alloc(), &mut errors, ending)
-        }
-        Err(refusal) => exit_code(rt.alloc(), &mut errors, Err(refusal)),
+        Ok(wanted) => exit_code(&rt, show_on_standard_streams(&rt, &wanted)),
+        Err(refusal) => exit_code(&rt, Err(refusal)),
     }
 }
