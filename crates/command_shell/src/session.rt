@@ -79,6 +79,7 @@ impl Session {
         ensures number { OnOk result (script.new.number
             ≡ script.old.number + lines_taken (opens_block (request_of_command command.entry)) script.old.left) }
         ensures memory { result ≡ Err RunError.Memory → sink.new ≡ sink.old }
+        ensures taking { result ≡ Err RunError.Memory → opens_block (request_of_command command.entry) ≡ true }
         ensures write_fault { result ≡ Err RunError.WriteFault → W.has_failed sink.new ≡ true }
         ensures images { OnErr result (AreOldOrTold images.old images.new
             (request_told (script_state self.old images.old) script.old.number

@@ -3,12 +3,17 @@
 //! `rosm [--pages N] [--app N] [--rma N] [--budget N] [FILE...] <SCRIPT`
 #![tactic(auto)]
 
+use profile::Device;
 use rosm_settings::{exit_code, read_settings, run_on_standard_streams};
 use std::process::ExitCode;
 
 fn main(rt: HostRuntime) -> ExitCode {
+    let mut errors = Device::new(rt.stderr());
     match read_settings(&rt) {
-        Ok(settings) => exit_code(&rt, run_on_standard_streams(&rt, &settings)),
-        Err(refusal) => exit_code(&rt, Err(refusal)),
+        Ok(settings) => {
+            let ending = run_on_standard_streams(&rt, &settings);
+            exit_code(rt.alloc(), &mut errors, ending)
+        }
+        Err(refusal) => exit_code(rt.alloc(), &mut errors, Err(refusal)),
     }
 }

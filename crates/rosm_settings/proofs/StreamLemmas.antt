@@ -31,6 +31,7 @@ tells_of_file (Ok last) of_file paths reader reader' writer writer' told = tt
 tells_of_file (Err (refusal.File path error)) of_file paths reader reader' writer writer' told =
     (told.images, told.stops)
 tells_of_file (Err refusal.Memory) of_file paths reader reader' writer writer' told = tt
+tells_of_file (Err refusal.NotText) of_file paths reader reader' writer writer' told = tt
 tells_of_file (Err (refusal.Line reason)) of_file paths reader reader' writer writer' told = tt
 tells_of_file (Err (refusal.Sizes reason)) of_file paths reader reader' writer writer' told = tt
 tells_of_file (Err (refusal.Script error)) of_file paths reader reader' writer writer' told = tt
@@ -40,6 +41,7 @@ pub status_of_run : {A : Type 0} (r : Result A Refusal) → IfErr r (λ e. is_of
     → IfErr r (λ e. refusal_status e ≡ 4)
 status_of_run (Ok last) of_run = tt
 status_of_run (Err refusal.Memory) of_run = refl
+status_of_run (Err refusal.NotText) of_run = absurd (cc)
 status_of_run (Err (refusal.Line reason)) of_run = absurd (cc)
 status_of_run (Err (refusal.Sizes reason)) of_run = absurd (cc)
 status_of_run (Err (refusal.File path error)) of_run = refl

@@ -1,6 +1,9 @@
 -- Why words are refused, and the exit status of the program: 2 for a command line that can't be, 4 for anything else that keeps a
 -- script from running whole, and else that of its last stop.
-use Rattle.std.specs.Prelude.{◌≡◌, ℕ, Option, Result, Ok, Err}
+use Rattle.std.specs.Prelude.{◌≡◌, ℕ, Bool, false, List, ◌++◌, Option, Result, Ok, Err, codes}
+use Rattle.std.specs.Io.KnownBytes.{Appends}
+use Rattle.std.specs.declared.io.ErrorKind.{ErrorKind}
+use Rattle.std.specs.declared.io.ErrorKind.TheVariants.{OutOfMemory}
 use Rattle.profile.specs.declared.stop.Stop.{Stop}
 use Rattle.command_line.specs.Status.{status_after}
 use Rattle.command_line.specs.declared.options.Settings.{Settings}
@@ -16,8 +19,14 @@ IsRefusalOf answer (refusal.Line reason) = answer ≡ Err refused.Line
 IsRefusalOf answer (refusal.Sizes reason) = answer ≡ Err refused.Sizes
 IsRefusalOf answer _ = ⊥
 
+-- what the program is refused with where the host doesn't hand over its words
+abbrev pub words_refused : ErrorKind → Refusal
+words_refused OutOfMemory = refusal.Memory
+words_refused _ = refusal.NotText
+
 abbrev pub refusal_status : Refusal → ℕ
 refusal_status refusal.Memory = 4
+refusal_status refusal.NotText = 2
 refusal_status (refusal.Line reason) = 2
 refusal_status (refusal.Sizes reason) = 2
 refusal_status (refusal.File path error) = 4
@@ -26,3 +35,14 @@ refusal_status (refusal.Script error) = 4
 abbrev pub status_of : Result (Option Stop) Refusal → ℕ
 status_of (Ok last) = status_after last
 status_of (Err refused) = refusal_status refused
+
+-- One line was appended, which begins with the program's name.
+pub record TellsLine (before after : Option (List ℕ)) : Type 0 where
+  pub text : List ℕ
+  pub line : Appends before after (codes "rosm: " ++ (text ++ codes "\n"))
+
+-- What stands on standard error at the end: nothing after a script that ran whole, and else one line, if it could be written.
+abbrev pub TellsEnding : {W : Type 0} → (W → Option (List ℕ)) → (W → Bool) → W → W → Result (Option Stop) Refusal → Type 0
+TellsEnding contents has_failed before after (Ok last) = after ≡ before
+TellsEnding contents has_failed before after (Err refused) =
+    has_failed after ≡ false → TellsLine (contents before) (contents after)

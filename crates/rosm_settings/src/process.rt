@@ -1,15 +1,16 @@
 //! The program's process: its words, its standard streams and its exit status.
-ghost use Rattle.std.specs.Prelude.{◌≡◌, ◌≢◌, Err, IfErr, IfOk, Ok, map, string_bytes};
+ghost use Rattle.std.specs.Prelude.{◌≡◌, ◌++◌, true, Err, IfErr, IfOk, Ok, OnErr, OnOk, codes, map, string_bytes};
 ghost use Rattle.std.specs.Process.{exit_status};
+ghost use Rattle.profile.specs.Output.{Writes};
 ghost use Rattle.command_line.specs.Settings.{settings_for};
 ghost use Rattle.command_shell.specs.declared.error.RunError.TheVariants.{ScriptTooLong};
 ghost use Rattle.rosm_settings.specs.Answering.{StopsWithScript, TellsOfFile, TellsTooMuch};
-ghost use Rattle.rosm_settings.specs.Endings.{IsRefusalOf, refusal_status, status_of};
+ghost use Rattle.rosm_settings.specs.Endings.{IsRefusalOf, TellsEnding, TellsLine, refusal_status, status_of, words_refused};
 
 use crate::answering::run;
 use crate::refusal::Refusal;
 use command_line::{Settings, SettingsError, line_reason, settings, sizes_reason, stop_status};
-use profile::{Device, Stop};
+use profile::{Device, Sink, Stop, WriteFault, push_parts};
 use std::alloc::{AllocError, Global};
 use std::env::Env;
 use std::io::{BufWriter, ErrorKind};
@@ -20,27 +21,24 @@ use std::{env, fs, io};
 ///
 /// # Errors
 ///
-/// `Line` where the words are no command line or no text in UTF-8, `Sizes` where no machine can have
-/// the sizes that they name, and `Memory` where memory ran out.
+/// `NotText` where a word is no text in UTF-8, `Line` where the words are no command line, `Sizes`
+/// where no machine can have the sizes that they name, and `Memory` where memory ran out.
 pub fn read_settings<R: Env + AllocGlobal>(rt: &R) -> Result<Settings, Refusal<'static>> {
     let alloc = rt.alloc();
     let args = match env::args(rt) {
         Ok(args) => args,
-        Err(error) => return Err(words_refusal(alloc, error.kind())),
+        Err(error) => return Err(words_refusal(error.kind())),
     };
     let words: Vec<String> = args.collect(alloc)?;
     settings_of(alloc, words.as_slice())
 }
 
-fn words_refusal(alloc: Global, kind: ErrorKind) -> Refusal<'static>
-    ensures memory { kind ≡ ErrorKind.OutOfMemory → result ≡ Refusal.Memory }
+fn words_refusal(kind: ErrorKind) -> Refusal<'static>
+    ensures { result ≡ words_refused kind }
 {
-    if kind == ErrorKind::OutOfMemory {
-        return Refusal::Memory;
-    }
-    match String::from_str(alloc, "a word is not text in UTF-8") {
-        Ok(reason) => Refusal::Line(reason),
-        Err(_) => Refusal::Memory,
+    match kind {
+        ErrorKind::OutOfMemory => Refusal::Memory,
+        _ => Refusal::NotText,
     }
 }
 
@@ -92,15 +90,43 @@ where
     run(rt, settings, &mut Device::new(rt.reader()), &mut writer)
 }
 
-/// The exit status, with one line on standard error where the program is refused.
-pub fn exit_code<R: Eprint>(rt: &R, ending: Result<Option<Stop>, Refusal<'_>>) -> ExitCode
-    ensures { exit_status result ≡ status_of ending.entry }
+/// The exit status, with one line on standard error, `errors`, where the program is refused.
+pub fn exit_code<W: Sink>(
+    alloc: Global,
+    errors: &mut W,
+    ending: Result<Option<Stop>, Refusal<'_>>,
+) -> ExitCode
+    ensures status { exit_status result ≡ status_of ending.entry }
+    ensures line { TellsEnding W.contents W.has_failed errors.old errors.new ending.entry }
 {
     match ending {
         Ok(last) => ExitCode::from(stop_status(last)),
         Err(refusal) => {
-            let _ = eprintln!(rt; "rosm: {refusal}");
+            // A line that can't be written leaves nothing to tell it by.
+            let _ = tell_refusal(alloc, errors, &refusal);
             ExitCode::from(refusal.status())
         }
     }
+}
+
+// The line of a refusal; without memory for its text, that of want of memory.
+fn tell_refusal<W: Sink>(
+    alloc: Global,
+    errors: &mut W,
+    refusal: &Refusal<'_>,
+) -> Result<(), WriteFault>
+    ensures line { OnOk result (TellsLine (W.contents errors.old) (W.contents errors.new)) }
+    ensures flag { OnErr result (W.has_failed errors.new ≡ true) }
+{
+    match format!(in alloc; "{refusal}") {
+        Ok(text) => tell_line(errors, text.as_bytes()),
+        Err(_) => tell_line(errors, "out of memory".as_bytes()),
+    }
+}
+
+fn tell_line<W: Sink>(errors: &mut W, text: &[u8]) -> Result<(), WriteFault>
+    ensures { Writes W.contents W.has_failed errors.old errors.new result
+        (codes "rosm: " ++ (text.now ++ codes "\n")) }
+{
+    push_parts(errors, &[b"rosm: ".as_slice(), text, b"\n".as_slice()])
 }

@@ -1,6 +1,8 @@
 -- What words ask for, why they are refused, and the exit status: 2 for a command line that can't be, 4 for anything else that
 -- keeps a page from being written whole, and else that of the script's last stop.
 use Rattle.std.specs.Prelude.{◌≡◌, ℕ, false, List, Option, Some, None, Result, Ok, Err}
+use Rattle.std.specs.declared.io.ErrorKind.{ErrorKind}
+use Rattle.std.specs.declared.io.ErrorKind.TheVariants.{OutOfMemory}
 use Rattle.profile.specs.declared.stop.Stop.{Stop}
 use Rattle.command_line.specs.Settings.{settings_for}
 use Rattle.command_line.specs.Status.{status_after}
@@ -35,8 +37,14 @@ IsRefusalBy (Some form) answer told = IsRefusedBy answer told
 abbrev pub IsRefusalOf : List (List ℕ) → Refusal → Type 0
 IsRefusalOf words told = IsRefusalBy (form_of (forms_from false words)) (settings_for (others_from false words)) told
 
+-- what the program is refused with where the host doesn't hand over its words
+abbrev pub words_refused : ErrorKind → Refusal
+words_refused OutOfMemory = refusal.Memory
+words_refused _ = refusal.NotText
+
 abbrev pub refusal_status : Refusal → ℕ
 refusal_status refusal.Memory = 4
+refusal_status refusal.NotText = 2
 refusal_status (refusal.Line reason) = 2
 refusal_status (refusal.Sizes reason) = 2
 refusal_status (refusal.File path error) = 4

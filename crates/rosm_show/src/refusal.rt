@@ -16,6 +16,9 @@ pub enum Refusal<'a> {
     /// Memory ran out while the command line was read.
     #[error("{}", SettingsError::Memory)]
     Memory,
+    /// A word of the command line is no text.
+    #[error("a word is not text in UTF-8; {usage}", usage = USAGE)]
+    NotText,
     /// The words are no command line; the text says what is wrong with them.
     #[error("{0}; {usage}", usage = USAGE)]
     Line(String),
@@ -38,7 +41,7 @@ impl Refusal<'_> {
         ensures { result ≡ refusal_status self.now }
     {
         match self {
-            Refusal::Line(_) | Refusal::Sizes(_) => 2,
+            Refusal::NotText | Refusal::Line(_) | Refusal::Sizes(_) => 2,
             Refusal::Memory | Refusal::File(_, _) | Refusal::Script(_) => 4,
         }
     }

@@ -2,7 +2,7 @@
 
 ghost use Rattle.std.specs.Prelude.{◌≡◌, IfErr, IfOk, None, Ok, Result, map, string_bytes};
 ghost use Rattle.command_line.specs.Settings.{settings_for};
-ghost use Rattle.rosm_show.specs.Endings.{Asks, IsRefusalBy, IsRefusalOf, IsRefusedBy};
+ghost use Rattle.rosm_show.specs.Endings.{Asks, IsRefusalBy, IsRefusalOf, IsRefusedBy, words_refused};
 
 use crate::form::{form_of, part_words};
 use crate::refusal::Refusal;
@@ -26,16 +26,24 @@ pub struct Wanted {
 ///
 /// # Errors
 ///
-/// `Line`, `Sizes` and `Memory`, as of the program `rosm`; a second form is `Line` too.
+/// `NotText`, `Line`, `Sizes` and `Memory`, as of the program `rosm`; a second form is `Line` too.
 pub fn read_words<R: Env + AllocGlobal>(rt: &R) -> Result<Wanted, Refusal<'static>> {
     let alloc = rt.alloc();
     let args = match env::args(rt) {
         Ok(args) => args,
-        Err(error) if error.kind() == ErrorKind::OutOfMemory => return Err(Refusal::Memory),
-        Err(_) => return Err(refused_line(alloc, "a word is not text in UTF-8")),
+        Err(error) => return Err(words_refusal(error.kind())),
     };
     let words: Vec<String> = args.collect(alloc)?;
     wanted_of(alloc, words.as_slice())
+}
+
+fn words_refusal(kind: ErrorKind) -> Refusal<'static>
+    ensures { result ≡ words_refused kind }
+{
+    match kind {
+        ErrorKind::OutOfMemory => Refusal::Memory,
+        _ => Refusal::NotText,
+    }
 }
 
 // A line that can't be, for this reason, whatever else is asked for.
