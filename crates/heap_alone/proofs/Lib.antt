@@ -1,4 +1,5 @@
 pub mod Called
+pub mod FoundHeaps
 pub mod Gates
 pub mod HeapAnswers
 pub mod Keeping

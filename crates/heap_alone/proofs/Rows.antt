@@ -34,6 +34,7 @@ use Rattle.store_laws.specs.Meaning.{Stores, store_in}
 use Rattle.store_laws.specs.Turning.{Call, Init, Turn, left_by, turned}
 use Rattle.swi_dispatch_answers.specs.Refusals.{or_error, system_error}
 use Rattle.swi_dispatch_answers.specs.Strings.{name_at}
+use Rattle.swi_dispatch_answers.specs.declared.refusal.Refusal.{Refusal}
 use Rattle.swi_dispatch_flex.specs.Calls.{fit_told, flex_called, left_by as memory_left}
 use Rattle.swi_dispatch_store.specs.Areas.{area_called_for, area_changed, area_made, area_named, area_resized, change_asked, change_left, wanted_of, with_land}
 use Rattle.swi_dispatch.specs.Calls.{machine_flex, on_estate, on_flex, with_guest}
@@ -54,6 +55,11 @@ abbrev pub NamesNone : MachineState → HeapList → Option SwiName → Type 0
 NamesNone s h (Some swi.FlexAlloc) = in_range h.start h.end (register_of s.cpu 0) ≡ false
 NamesNone s h other = Unit {0}
 
+-- what a call leaves that is done keeps the heap, whatever else it is
+abbrev pub Left : HeapList → Store → Result MachineState Refusal → Type 0
+Left h s (Ok t) = KeepsHeap h s t.store
+Left h s (Err e) = Unit {0}
+
 module _ (s : MachineState) (h : HeapList) (has : HasStore s) (found : find_heap h.start s.store.heaps ≡ Some h) (own : has_own_size h.kind ≡ true) where
   abbrev e : Estate
   e = machine_estate s
@@ -68,41 +74,48 @@ module _ (s : MachineState) (h : HeapList) (has : HasStore s) (found : find_heap
   free none = record { sound = sound_store s has; found = found; anchors = none }
 
   -- areas
-  created_went : (w : Wanted) (name : List ℕ) (r : Result (Land × Created) ErrorNumber) → created s.tables.land s.pool w name ≡ r
-      → Went h s.store (on_estate s (bind (or_error r) (λ q. Ok (area_made s.cpu e w q))))
-  created_went w name (Ok q) is = λ _ _.
+  created_left : (w : Wanted) (name : List ℕ) (r : Result (Land × Created) ErrorNumber) → created s.tables.land s.pool w name ≡ r
+      → Left h s.store (on_estate s (bind (or_error r) (λ q. Ok (area_made s.cpu e w q))))
+  created_left w name (Ok q) is =
       let to : Estate = with_land (with_pages_at s.store q.1.base (4096 * pages_for w.size)) q.0 in
       ((area_calls_keep e to h guest).create w name q.1 is refl)
-  created_went w name (Err f) is = tt
+  created_left w name (Err f) is = tt
 
-  unnamed_went : (r : Result Area ErrorNumber) → Went h s.store (on_estate s (bind (or_error r) (λ a. system_error BadString)))
-  unnamed_went (Ok a) = tt
-  unnamed_went (Err f) = tt
+  unnamed_left : (r : Result Area ErrorNumber) → Left h s.store (on_estate s (bind (or_error r) (λ a. system_error BadString)))
+  unnamed_left (Ok a) = tt
+  unnamed_left (Err f) = tt
 
-  named_went : (w : Wanted) (o : Option (List ℕ)) → Went h s.store (on_estate s (area_named s.cpu e w o))
-  named_went w None = unnamed_went (area_wanted s.tables.land s.pool w (codes "?"))
-  named_went w (Some name) = created_went w name (created s.tables.land s.pool w name) refl
+  named_left : (w : Wanted) (o : Option (List ℕ)) → Left h s.store (on_estate s (area_named s.cpu e w o))
+  named_left w None = unnamed_left (area_wanted s.tables.land s.pool w (codes "?"))
+  named_left w (Some name) = created_left w name (created s.tables.land s.pool w name) refl
 
-  removed_went : (number : ℕ) (r : Result Land ErrorNumber) → removed s.tables.land s.store number ≡ r
-      → Went h s.store (on_estate s (bind (or_error r) (λ l. Ok (s.cpu, with_land (store_emptied s.store (find_area number s.tables.land.areas)) l))))
-  removed_went number (Ok l) is = λ _ _.
+  removed_left : (number : ℕ) (r : Result Land ErrorNumber) → removed s.tables.land s.store number ≡ r
+      → Left h s.store (on_estate s (bind (or_error r) (λ l. Ok (s.cpu, with_land (store_emptied s.store (find_area number s.tables.land.areas)) l))))
+  removed_left number (Ok l) is =
       let to : Estate = with_land (store_emptied s.store (find_area number s.tables.land.areas)) l in
       ((area_calls_keep e to h guest).remove number is refl)
-  removed_went number (Err f) is = tt
+  removed_left number (Err f) is = tt
 
-  told_went : (A : Type 0) (k : A → State) (l : A → Land) (r : Result A ErrorNumber)
-      → Went h s.store (on_estate s (bind (or_error r) (λ x. Ok (k x, record e { land = l x }))))
-  told_went A k l (Ok x) = λ _ _. same
-  told_went A k l (Err f) = tt
+  told_left : (A : Type 0) (k : A → State) (l : A → Land) (r : Result A ErrorNumber)
+      → Left h s.store (on_estate s (bind (or_error r) (λ x. Ok (k x, record e { land = l x }))))
+  told_left A k l (Ok x) = same
+  told_left A k l (Err f) = tt
+
+  pub area_left : (o : Option AreaReason) → Left h s.store (on_estate s (area_called_for s.cpu e o))
+  area_left (Some area.Create) = named_left (wanted_of s.cpu) (name_at s.store.bytes (register_of s.cpu 8))
+  area_left (Some area.Remove) = removed_left (register_of s.cpu 1) (removed s.tables.land s.store (register_of s.cpu 1)) refl
+  area_left (Some area.Info) = told_left Area _ (λ _. s.tables.land) (area_in s.tables.land.areas (register_of s.cpu 1))
+  area_left (Some area.Enumerate) = told_left ℕ _ (λ _. s.tables.land) (next_number s.tables.land.areas (register_of s.cpu 1))
+  area_left (Some area.Renumber) =
+      told_left (List Area) _ (λ areas. with_areas s.tables.land areas) (renumbered s.tables.land.areas (register_of s.cpu 1) (register_of s.cpu 2))
+  area_left None = tt
+
+  left_went : (r : Result MachineState Refusal) → Left h s.store r → Went h s.store r
+  left_went (Ok t) left = λ _ _. left
+  left_went (Err f) left = tt
 
   pub area_went : (o : Option AreaReason) → Went h s.store (on_estate s (area_called_for s.cpu e o))
-  area_went (Some area.Create) = named_went (wanted_of s.cpu) (name_at s.store.bytes (register_of s.cpu 8))
-  area_went (Some area.Remove) = removed_went (register_of s.cpu 1) (removed s.tables.land s.store (register_of s.cpu 1)) refl
-  area_went (Some area.Info) = told_went Area _ (λ _. s.tables.land) (area_in s.tables.land.areas (register_of s.cpu 1))
-  area_went (Some area.Enumerate) = told_went ℕ _ (λ _. s.tables.land) (next_number s.tables.land.areas (register_of s.cpu 1))
-  area_went (Some area.Renumber) =
-      told_went (List Area) _ (λ areas. with_areas s.tables.land areas) (renumbered s.tables.land.areas (register_of s.cpu 1) (register_of s.cpu 2))
-  area_went None = tt
+  area_went o = left_went (on_estate s (area_called_for s.cpu e o)) (area_left o)
 
   change_by : (o : Option Area) → KeepsHeap h s.store (change_left s.cpu e o (change_asked s.cpu e).bytes).1.store
   change_by None = same

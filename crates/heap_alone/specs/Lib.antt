@@ -4,6 +4,7 @@ pub use Rattle.heap_turns
 pub use Rattle.swi_dispatch
 pub mod AreaByteLaws
 pub mod ByteLaws
+pub mod FoundLaws
 pub mod Laws
 pub mod ModuleLaws
 pub mod ModuleMoves

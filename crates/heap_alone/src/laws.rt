@@ -2,6 +2,7 @@
 
 ghost use Rattle.heap_alone.specs.AreaByteLaws.{ClaimsKeepLiveBytes};
 ghost use Rattle.heap_alone.specs.ByteLaws.{HeapCallsKeepLiveBytes, InstructionsChangeStored, MovesKeepLiveBytes};
+ghost use Rattle.heap_alone.specs.FoundLaws.{HeapCallsForgetFreed, OtherMovesForgetNone, OuterHeapsStay};
 ghost use Rattle.heap_alone.specs.Laws.{HeapsStandAlone, WorldsAnswerAlike};
 ghost use Rattle.heap_alone.specs.ModuleLaws.{
   GatesKeepHeap,
@@ -72,4 +73,13 @@ pub fn moves_keep_live_bytes()
 /// it held.
 pub fn claims_keep_live_bytes()
     ensures { ClaimsKeepLiveBytes }
+{}
+
+/// A heap that a guest made and that lies in no block of another is recorded after every move. One that lies in a block is
+/// so after each move that calls neither OS_Heap nor OS_Module, and in which no module code comes back; and OS_Heap
+/// forgets none but where it frees a byte of it, or of a heap in which it lies.
+pub fn moves_find_heaps()
+    ensures outer { OuterHeapsStay }
+    ensures others { OtherMovesForgetNone }
+    ensures calls { HeapCallsForgetFreed }
 {}

@@ -1,3 +1,4 @@
+pub mod AreaForgetting
 pub mod Areas
 pub mod BlockCalls
 pub mod BlockPlans

@@ -3,6 +3,7 @@ pub mod BlockLaws
 pub mod FitEstates
 pub mod Fits
 pub mod FlexLaws
+pub mod ForgettingLaws
 pub mod GuestLaws
 pub mod HeapLaws
 pub mod ModuleAreaLaws
