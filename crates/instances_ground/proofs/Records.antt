@@ -4,7 +4,7 @@ use Rattle.std.specs.List.{filter}
 use Rattle.rma.specs.address_map.specs.declared.region.Kind.{Kind}
 use Rattle.rma.specs.address_map.specs.declared.region.Region.{Region}
 use Rattle.rma.specs.address_map.specs.declared.map.AddressMap.{AddressMap}
-use Rattle.rma.specs.address_map.specs.Memory.{layout, mapping, regions}
+use Rattle.rma.specs.address_map.specs.Memory.{layout, regions}
 use Rattle.rma.specs.address_map.specs.Records.{is_record, without_region}
 use Rattle.rma.specs.os_heap.specs.Order.{LosesHeaps, stays}
 use Rattle.rma.specs.os_heap.specs.Store.{store_of}
@@ -44,10 +44,6 @@ loses_both (r ∷ rs) mid new (inr w) second = elim (subst (λ (xs : List Region
   | inl gone ↦ inl (loses_both rs w.0 new w.1.1 gone)
   | inr v ↦ inr (v.0, (v.1.0, loses_both rs w.0 v.0 w.1.1 v.1.1))
 ]
-
--- what writes to memory leave of what is mapped
-pub layout-mapping : (m n : AddressMap) → layout n ≡ layout m → mapping n ≡ mapping m
-layout-mapping m n same = λ i. record { place = (same i).place; free_pages = (same i).free_pages }
 
 -- as layouts and lists of heaps say
 pub loses_laid : (m n : AddressMap) → layout n ≡ layout m → LosesRecords (regions m) (regions n)
