@@ -97,7 +97,7 @@ ended_some end start (g ∷ hs) =
       | inr away ↦ rw away (elim (cases_Bool (g.start == start)) [ inl own ↦ rw own refl | inr other ↦ rw other rest ])
     ]
 
-listed_some : (at start : ℕ) (items : List Item) (hs : List HeapList) → is_some (find_heap start (with_items at items hs)) ≡ is_some (find_heap start hs)
+pub listed_some : (at start : ℕ) (items : List Item) (hs : List HeapList) → is_some (find_heap start (with_items at items hs)) ≡ is_some (find_heap start hs)
 listed_some at start items [] = refl
 listed_some at start items (g ∷ hs) =
     let rest : is_some (find_heap start (with_items at items hs)) ≡ is_some (find_heap start hs) = listed_some at start items hs in

@@ -14,6 +14,7 @@ pub mod Holding
 pub mod InnerHeaps
 pub mod Lists
 pub mod ModuleArea
+pub mod PlanForgetting
 pub mod Plans
 pub mod Sliding
 pub mod Slots

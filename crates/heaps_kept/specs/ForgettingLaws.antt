@@ -1,6 +1,6 @@
 -- Which heaps the calls on the module area forget, with bytes of its blocks: a claim none, and a release or a change of size just those of which it
 -- frees a byte, and those in them. So does the removal of an instance, with the block that its private word names.
-use Rattle.std.specs.Prelude.{ℕ, ◌≡◌, ◌↔◌, true, false, is_ok, List, Some, None, Ok}
+use Rattle.std.specs.Prelude.{ℕ, ◌≡◌, ◌↔◌, Bool, true, false, is_ok, List, Some, None, Ok}
 use Rattle.profile.specs.declared.reason.HeapReason.TheVariants as reason
 use Rattle.address_map.specs.Bytes.{word_start}
 use Rattle.address_map.specs.Items.{is_heap_word}
@@ -9,7 +9,12 @@ use Rattle.os_heap.specs.Store.{IsSound, find_heap}
 use Rattle.dynamic_areas.specs.Ground.{Estate, IsEstate}
 use Rattle.rma.specs.Calls.{rma_claimed, rma_extended, rma_freed}
 use Rattle.rma.specs.NewImages.{image_copied, image_made}
-use Rattle.instances_ground.specs.World.{private_freed, private_word}
+use Rattle.instances_plans.specs.declared.action.Action.{Action}
+use Rattle.instances_plans.specs.declared.action.Action.TheVariants as act
+use Rattle.instances_plans.specs.declared.given.Given.{Given}
+use Rattle.instances_ground.specs.World.{World, private_freed, private_word}
+use Rattle.instances_slide.specs.Slid.{world_slid}
+use Rattle.instances_actions.specs.Actions.{acted}
 use Rattle.heap_turns.specs.Forgotten.{IsForgotten}
 use Rattle.heap_turns.specs.Laws.{IsNotForgotten}
 
@@ -40,3 +45,16 @@ abbrev pub ReleasesKeepBytes : Type 0
 ReleasesKeepBytes =
     (d e : Estate) (g : HeapList) (block a : ℕ) → IsEstate d → IsSound e.store → rma_freed d block ≡ Ok (e, tt)
     → find_heap 0x01800000 e.store.heaps ≡ Some g → is_heap_word 0x01800000 g.items (word_start a) ≡ false → e.store.bytes.at a ≡ d.store.bytes.at a
+
+-- The actions of a plan that give a block back: an instance is removed, the block of its private word goes, or a new image is given up. No other action
+-- forgets a heap, the slide among them.
+abbrev pub gives_back : Action → Bool
+gives_back (act.Remove slot) = true
+gives_back (act.FreePrivate slot) = true
+gives_back act.GiveUp = true
+gives_back other = false
+
+abbrev pub OtherActsForgetNone : Type 0
+OtherActsForgetNone =
+    (w : World) (g : Given) (a : Action) (k : HeapList) → gives_back a ≡ false → find_heap k.start w.estate.store.heaps ≡ Some k
+    → IsNotForgotten (acted world_slid g w a).estate.store k.start

@@ -3,7 +3,7 @@
 ghost use Rattle.heaps_kept.specs.AreaLaws.{AreaCallsKeepHeap};
 ghost use Rattle.heaps_kept.specs.BlockLaws.{BlockCallsKeep, PlansKeepBlocks};
 ghost use Rattle.heaps_kept.specs.FlexLaws.{FlexCallsKeepHeap, FlexInitKeepsHeap};
-ghost use Rattle.heaps_kept.specs.ForgettingLaws.{AreaCallsForgetHeaps, ReleasesKeepBytes, RemovalsForgetHeaps};
+ghost use Rattle.heaps_kept.specs.ForgettingLaws.{AreaCallsForgetHeaps, OtherActsForgetNone, ReleasesKeepBytes, RemovalsForgetHeaps};
 ghost use Rattle.heaps_kept.specs.GuestLaws.{EstatesAreFit, GuestHeapsLieOutside, OutsideKeepsHeap};
 ghost use Rattle.heaps_kept.specs.HeapLaws.{HeapCallsStayFit};
 ghost use Rattle.heaps_kept.specs.ModuleAreaLaws.{ModuleAreaCallsStayFit};
@@ -100,9 +100,11 @@ pub fn plans_keep_blocks()
 
 /// A claim in the module area, or a new image there, forgets no heap; a release, or a change of a block's size, just those
 /// of which it frees a byte, and those in them. So does the removal of an instance, with the block that its private word
-/// names, where that is given back. A release changes no byte but those of the words of the area's new list.
+/// names, where that is given back; the actions of a plan that give no block back forget none. A release changes no byte
+/// but those of the words of the area's new list.
 pub fn area_calls_forget_heaps()
     ensures calls { AreaCallsForgetHeaps }
     ensures removals { RemovalsForgetHeaps }
+    ensures acts { OtherActsForgetNone }
     ensures bytes { ReleasesKeepBytes }
 {}
