@@ -1,7 +1,7 @@
-use image_loader::Images;
+use image_loader::{ImageError, Images};
 use profile::{Device, MemorySink, MemorySource, Stop};
-use rosm_settings::image_files::add_image;
-use rosm_settings::{Refusal, RunError, answer_script, run, settings, stop_status};
+use rosm_settings::image_files::{FileError, add_image};
+use rosm_settings::{Refusal, RunError, answer_script, exit_code, run, settings, stop_status};
 use std::io;
 use std::io::{BufWriter, ErrorKind, Write};
 use std::test::Fail;
@@ -88,5 +88,56 @@ fn answers_are_handed_on_at_the_end(rt: HostRuntime) -> Result<(), Fail> {
     let full = BufWriter::new(alloc, Full)?;
     let ending = run(&rt, &settings, &mut reader, &mut Device::new(full));
     assert_eq!(rt; ending, Err(Refusal::Script(RunError::WriteFault)));
+    Ok(())
+}
+
+#[test]
+fn the_first_file_that_gives_no_image_ends_the_run(rt: HostRuntime) -> Result<(), Fail> {
+    let cases: [(&[&str], Refusal); 2] = [
+        (
+            &["rosm", "no/such/file", "/"],
+            Refusal::File("no/such/file", FileError::Missing),
+        ),
+        (
+            &["rosm", "/dev/null", "/dev/null"],
+            Refusal::File("/dev/null", FileError::Image(ImageError::NameTaken)),
+        ),
+    ];
+    for (words, refusal) in cases {
+        let settings = settings(rt.alloc(), words)?;
+        let mut reader = MemorySource::new(b"FOO\n", 4096, u64::MAX);
+        let mut bytes = Vec::new(rt.alloc());
+        let ending = run(&rt, &settings, &mut reader, &mut Device::new(&mut bytes));
+        assert_eq!(rt; ending, Err(refusal));
+        assert!(rt; bytes.as_slice().is_empty());
+    }
+    Ok(())
+}
+
+#[test]
+fn a_script_that_cannot_be_read_is_told_as_that(rt: HostRuntime) -> Result<(), Fail> {
+    let settings = settings(rt.alloc(), &["rosm"])?;
+    let mut reader = MemorySource::new(b"FOO\n", 2, 2);
+    let mut bytes = Vec::new(rt.alloc());
+    let ending = run(&rt, &settings, &mut reader, &mut Device::new(&mut bytes));
+    assert_eq!(rt; ending, Err(Refusal::Script(RunError::ReadFault)));
+    assert!(rt; bytes.as_slice().is_empty());
+    Ok(())
+}
+
+#[test]
+fn only_a_refusal_is_told_on_standard_error(rt: HostRuntime) -> Result<(), Fail> {
+    let alloc = rt.alloc();
+    let mut errors = Vec::new(alloc);
+    for stop in [None, Some(Stop::Exit), Some(Stop::Budget)] {
+        let _ = exit_code(alloc, &mut Device::new(&mut errors), Ok(stop));
+    }
+    assert!(rt; errors.as_slice().is_empty());
+    let missing = Refusal::File("a", FileError::Missing);
+    let _ = exit_code(alloc, &mut Device::new(&mut errors), Err(missing));
+    assert_eq!(rt;
+        errors.as_slice(),
+        b"rosm: \"a\": no such file\n".as_slice()
+    );
     Ok(())
 }

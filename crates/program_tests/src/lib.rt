@@ -9,3 +9,5 @@ mod answers;
 mod files;
 #[cfg(test)]
 mod refusals;
+#[cfg(test)]
+mod words;

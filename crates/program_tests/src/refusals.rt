@@ -9,6 +9,7 @@ fn the_status_tells_what_was_refused(rt: HostRuntime) -> Result<(), Fail> {
     assert_eq!(rt; line.status(), 2);
     let sizes = Refusal::Sizes(String::from_str(rt.alloc(), "a size")?);
     assert_eq!(rt; sizes.status(), 2);
+    assert_eq!(rt; Refusal::NotText.status(), 2);
     assert_eq!(rt; Refusal::Memory.status(), 4);
     assert_eq!(rt; Refusal::File("a", FileError::Missing).status(), 4);
     assert_eq!(rt; Refusal::Script(RunError::ScriptTooLong).status(), 4);
@@ -32,6 +33,10 @@ fn a_refusal_is_one_line(rt: HostRuntime) -> Result<(), Fail> {
     assert_eq!(rt;
         format!(in alloc; "{sizes}")?.as_str(),
         format!(in alloc; "a size; {usage}")?.as_str()
+    );
+    assert_eq!(rt;
+        format!(in alloc; "{}", Refusal::NotText)?.as_str(),
+        format!(in alloc; "a word is not text in UTF-8; {usage}")?.as_str()
     );
     assert_eq!(rt;
         format!(in alloc; "{}", Refusal::Memory)?.as_str(),
