@@ -180,6 +180,7 @@ fn lends_a_range_and_an_empty_one_inside_it(rt: HostRuntime) -> Result<(), Fail>
     let (whole, none) = store.lend_two(3, 4, 5, 0);
     assert!(rt; none.is_empty());
     whole.fill(b'w');
+    assert!(rt; store.fits(0, 16));
     let (none, inner) = store.lend_two(4, 0, 4, 2);
     assert!(rt; none.is_empty());
     inner.fill(b'i');
