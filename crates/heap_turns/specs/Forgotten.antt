@@ -9,6 +9,7 @@ use Rattle.os_heap_lists.specs.Heap.{HeapList}
 use Rattle.os_heap_lists.specs.Lists.{changed_by, live_total, round_up_8}
 use Rattle.os_heap.specs.Laws.{IsLost}
 use Rattle.os_heap.specs.Store.{Store, IsSound, find_heap}
+use Rattle.heap_turns.specs.Laws.{LiesInBlock}
 use Rattle.heap_turns.specs.Turns.{call_on}
 
 -- From which address on a call frees what a block of `total` bytes, with its length word, holds: from its first byte on where it is given back, or
@@ -36,6 +37,12 @@ abbrev pub CallsForgetHeaps : Type 0
 CallsForgetHeaps =
     (s t : Store) (k : HeapList) (heap : ℕ) (why : HeapReason) (block size : ℕ) (answer : ℕ × ℕ) → IsSound s → find_heap k.start s.heaps ≡ Some k
     → call_on s heap why block size ≡ Ok (t, answer) → (find_heap k.start t.heaps ≡ None) ↔ IsForgotten s heap why block size k.start
+
+-- Each of them lies in a block of another heap.
+abbrev pub ForgottenLieInBlocks : Type 0
+ForgottenLieInBlocks =
+    (s : Store) (k : HeapList) (heap : ℕ) (why : HeapReason) (block size : ℕ) → IsSound s → find_heap k.start s.heaps ≡ Some k
+    → IsForgotten s heap why block size k.start → LiesInBlock s k
 
 -- A call that frees bytes of a block, and gives it no more, changes no byte but those of the words that the new list of its heap spells. So the bytes
 -- of the heaps that it forgets stay where they are.

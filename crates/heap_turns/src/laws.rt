@@ -1,6 +1,6 @@
 //! Laws over the definitions, each the contract of a function that does nothing.
 
-ghost use Rattle.heap_turns.specs.Forgotten.{CallsForgetHeaps, FreesKeepBytes};
+ghost use Rattle.heap_turns.specs.Forgotten.{CallsForgetHeaps, ForgottenLieInBlocks, FreesKeepBytes};
 ghost use Rattle.heap_turns.specs.Growths.{GrowthsAreJudged, GrowthsAreRefused, OuterGrowthsMeet};
 ghost use Rattle.heap_turns.specs.Laws.{
   HeapsStandAlone,
@@ -29,10 +29,11 @@ pub fn other_calls_keep_heap()
 {}
 
 /// A call that is done forgets just the heaps of which it frees a byte of a block, and those that lie in them: one that
-/// gives a block back, or that gives it fewer bytes. No other forgets a heap, and no heap that lies in no block is
-/// forgotten.
+/// gives a block back, or that gives it fewer bytes. No other forgets a heap, and each that is forgotten lies in a block of
+/// another heap.
 pub fn calls_forget_heaps()
-    ensures { CallsForgetHeaps }
+    ensures forgotten { CallsForgetHeaps }
+    ensures inner { ForgottenLieInBlocks }
 {}
 
 /// Such a call changes no byte but those of the words of its heap's new list, where it gives the block no more bytes: what

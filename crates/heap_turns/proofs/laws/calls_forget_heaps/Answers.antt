@@ -1,5 +1,5 @@
-use Rattle.heap_turns.proofs.Forgotten.{calls_forget}
+use Rattle.heap_turns.proofs.Forgotten.{calls_forget, forgotten_lies}
 use Rattle.heap_turns.proofs.laws.calls_forget_heaps.Goals as goal
 
 pub returns : goal.returns
-returns c = calls_forget
+returns c = record { forgotten = calls_forget; inner = forgotten_lies }
