@@ -19,6 +19,7 @@ use Rattle.flex_ground.specs.Ground.{flex_state, records_with, spelled_store, wi
 use Rattle.flex_store.proofs.Starting.{no_blocks}
 use Rattle.flex_store.specs.Blocks.{Block, FlexStore, contents, find_block, has_anchor, is_header, used}
 use Rattle.flex_laws.specs.Numbered.{SeenBlock, blocks_seen}
+use Rattle.flex_laws.specs.Padding.{all_paddings, paddings}
 use Rattle.flex_store.specs.Calls.{FlexState, begun, flex_record, is_flex_range, meets_ranges, with_flex}
 use Rattle.flex_store.specs.Laws.{contents_in}
 use Rattle.flex_store.specs.Memory.{AreAnchored, Holds, text_of}
@@ -34,7 +35,7 @@ use Rattle.store_laws.proofs.Called.{words_said}
 use Rattle.store_laws.proofs.Calling.{IsFollowedBy, stays}
 use Rattle.store_laws.specs.FlexStore.{IsSpelled, IsSpelledAt, IsUnmade, spelled_blocks}
 use Rattle.store_laws.specs.Laws.{IsFollowed}
-use Rattle.store_laws.specs.Meaning.{AreStores, Place, Stores, area_names, blocks_in, contents_of, flex_seen, images_in, meaning_of, payloads, place_in, seen, store_in}
+use Rattle.store_laws.specs.Meaning.{AreStores, Place, Stores, area_names, blocks_in, contents_of, flex_padding, flex_seen, images_in, meaning_of, payloads, place_in, seen, store_in}
 use Rattle.store_laws.specs.Turning.{Init, answer_of, answered, begun_with, left_by, turned, with_flexed}
 
 -- ranges that share no byte
@@ -254,14 +255,22 @@ module _ (x : Stores) (start end : ℕ) (are : AreStores x) (none : x.flex.exten
   unfolding y v e blocks
   new_seen = ap (λ (bs : List Block). let o : Option FlexStore = Some (record { start = start; end = end; blocks = bs }) in blocks_seen o) blocks
 
+  old_padding : flex_padding x ≡ []
+  old_padding = ap (λ (o : Option Extent). all_paddings (spelled_store (store_in x).bytes.at o)) none
+
+  new_padding : flex_padding y ≡ []
+  unfolding y v e blocks
+  new_padding = ap paddings blocks
+
   place : (w : World) (o : Option (List ℕ)) (a : ℕ) → o ≡ None
       → (let p : Option Place = if is_some o then place_in a (find_heap 0x01800000 w.estate.store.heaps) else None in p ≡ None)
   place w o a gone = ap (λ (q : Option (List ℕ)). let p : Option Place = if is_some q then place_in a (find_heap 0x01800000 w.estate.store.heaps) else None in p) gone
 
   same : meaning_of y ≡ meaning_of x
-  unfolding meaning_of y v new_seen
+  unfolding meaning_of y v new_seen new_padding
   same = λ i. record {
     flex = (new_seen ∙ sym old_seen) i;
+    padding = (new_padding ∙ sym old_padding) i;
     places = λ a. (place y.world (contents_of y a) a (new a) ∙ sym (place x.world (contents_of x a) a (old a))) i;
     blocks = same_blocks (store_in x) (store_in y) (find_heap 0x01800000 (store_in x).heaps) (λ j a. sym (unmade.anchors a) j) refl i;
     images = images_more (store_in x).bytes.at start end (store_in x).others i;

@@ -26,7 +26,8 @@ use Rattle.store_laws.proofs.SlidWorlds.{slots_below}
 use Rattle.store_laws.proofs.Spelled.{spelled_kept}
 use Rattle.store_laws.specs.Besides.{StaysBehind, written}
 use Rattle.flex_laws.specs.Numbered.{blocks_seen}
-use Rattle.store_laws.specs.Meaning.{AreStores, Stores, area_blocks, area_images, area_names, area_places, blocks_in, contents_of, flex_seen, meaning_of, seen, store_in}
+use Rattle.flex_laws.specs.Padding.{all_paddings}
+use Rattle.store_laws.specs.Meaning.{AreStores, Stores, area_blocks, area_images, area_names, area_places, blocks_in, contents_of, flex_padding, flex_seen, meaning_of, seen, store_in}
 
 -- a heap has no byte of the system pages
 clear_of_heap : (at len start : ℕ) (hs : List HeapList) (h : HeapList) (a : ℕ) → IsClearOfHeaps at len hs → find_heap start hs ≡ Some h
@@ -79,6 +80,10 @@ module _ (x : Stores) (c : Bytes) (are : AreStores x)
   seen_stays : flex_seen (written x c) ≡ flex_seen x
   unfolding s kept
   seen_stays = ap blocks_seen (spelled_kept s (record s { bytes = c }) x.flex.extent are.flex.is kept)
+
+  padding_stays : flex_padding (written x c) ≡ flex_padding x
+  unfolding s kept
+  padding_stays = ap all_paddings (spelled_kept s (record s { bytes = c }) x.flex.extent are.flex.is kept)
 
   heap_same : (h : HeapList) (a : ℕ) → find_heap 0x01800000 s.heaps ≡ Some h → h.start + 16 ≤ a → a < h.start + 16 + size_of h.items
       → c.at a ≡ s.bytes.at a
@@ -139,9 +144,10 @@ module _ (x : Stores) (c : Bytes) (are : AreStores x)
   places_stay = ap (λ (f : ℕ → Option (List ℕ)). area_places f x.world) contents_stay
 
   stays_behind : meaning_of (written x c) ≡ meaning_of x
-  unfolding meaning_of s contents_stay places_stay seen_stays
+  unfolding meaning_of s contents_stay places_stay seen_stays padding_stays
   stays_behind = λ i. record {
     flex = seen_stays i;
+    padding = padding_stays i;
     places = places_stay i;
     blocks = blocks_stay i;
     images = images_stay i;

@@ -8,8 +8,10 @@ use Rattle.os_heap.specs.Store.{IsSound, Store, is_in_flex_store}
 use Rattle.dynamic_areas.specs.Ground.{Estate, IsEstate}
 use Rattle.flex_ground.specs.Ground.{flex_of, flex_state, records_with, spelled_store, store_flexed}
 use Rattle.flex_laws.proofs.Calls.{calls_go_by_numbers, no_room_changes_nothing}
+use Rattle.flex_laws.proofs.PaddingCalls.{padding_goes_by_numbers}
 use Rattle.flex_laws.specs.Laws.{IsDoneIn, IsOfWords, anchor_of, outside_of}
-use Rattle.flex_laws.specs.Numbered.{IsCalledSeen, SeenBlock, blocks_seen}
+use Rattle.flex_laws.specs.Numbered.{IsCalledSeen, SeenBlock, blocks_seen, place_of}
+use Rattle.flex_laws.specs.Padding.{IsCalledPadding, all_paddings, paddings}
 use Rattle.flex_store.specs.Laws.{contents_in}
 use Rattle.flex_store.specs.Blocks.{FlexStore, has_anchor}
 use Rattle.flex_store.specs.Calls.{FlexState, allocated, extended, mid_extended, released}
@@ -24,7 +26,7 @@ use Rattle.store_laws.proofs.Leaving.{IsAfter, IsBefore, IsCalledBy, after_calle
 use Rattle.store_laws.proofs.CalledSeen.{byte_seen, byte_stays, mark_left, none_odd, some_is}
 use Rattle.store_laws.specs.FlexStore.{IsSpelled, IsSpelledAt, spelled_blocks}
 use Rattle.store_laws.specs.Laws.{IsFollowed, unplaced}
-use Rattle.store_laws.specs.Meaning.{AreStores, Stores, Value, contents_of, flex_seen, meaning_of, store_in}
+use Rattle.store_laws.specs.Meaning.{AreStores, Stores, Value, contents_of, flex_padding, flex_seen, meaning_of, store_in}
 use Rattle.store_laws.specs.Rules.{IsTurned}
 use Rattle.store_laws.specs.Turning.{Call, Turn, answer_of, answered, called, left_by, place_by, placed, turned, with_flexed}
 
@@ -126,8 +128,20 @@ called_left x e call v are words there is =
     calls_go_by_numbers (store_in x) (state_at (store_in x) e) v (store_at (store_in x) e) call words refl
     (state_spelled (store_in x) e (before x e are there)) refl are.memory.low (call_done (store_in x) (record { extent = Some e }) call v is)
 
+-- and of the bytes that fill the last word of each block
+abbrev IsPaddedBy : Store → Extent → FlexCall → FlexState → Type 0
+IsPaddedBy s e call v =
+    let o : Option FlexStore = Some (store_at s e) in
+    IsCalledPadding call (place_of (store_at s e) (anchor_of call)) (blocks_seen o) (paddings (store_at s e).blocks) (all_paddings v.flex)
+
+called_padding : (x : Stores) (e : Extent) (call : FlexCall) (v : FlexState) → (are : AreStores x) → IsOfWords call → x.flex.extent ≡ Some e
+    → (let f : Flex = record { extent = Some e } in called (store_in x) f call ≡ Ok (v, true)) → IsPaddedBy (store_in x) e call v
+called_padding x e call v are words there is =
+    padding_goes_by_numbers (store_in x) (state_at (store_in x) e) v (store_at (store_in x) e) call words refl
+    (state_spelled (store_in x) e (before x e are there)) refl are.memory.low (call_done (store_in x) (record { extent = Some e }) call v is)
+
 module _ (x : Stores) (e : Extent) (call : FlexCall) (v : FlexState) (are : AreStores x) (there : x.flex.extent ≡ Some e) (left : IsCalledBy (store_in x) e call v)
-    (after : IsAfter (store_in x) v) where
+    (padded : IsPaddedBy (store_in x) e call v) (after : IsAfter (store_in x) v) where
   y : Stores
   y = with_flexed x (store_in x) v
 
@@ -190,11 +204,21 @@ module _ (x : Stores) (e : Extent) (call : FlexCall) (v : FlexState) (are : AreS
       subst (λ (o : Option FlexStore). IsCalledSeen call (place_by o (anchor_of call)) (blocks_seen o) (flex_seen (with_flexed x (store_in x) v))) (sym old)
       (subst (λ (q : List SeenBlock). IsCalledSeen call (place_by (Some (store_at (store_in x) e)) (anchor_of call)) (blocks_seen (Some (store_at (store_in x) e))) q) new left.seen)
 
+  padding_then : IsCalledPadding call (placed (Call call) x) (flex_seen x) (flex_padding x) (flex_padding y)
+  unfolding y
+  padding_then =
+      let old : spelled_store (store_in x).bytes.at x.flex.extent ≡ Some (store_at (store_in x) e) = ap (λ (o : Option Extent). spelled_store (store_in x).bytes.at o) there in
+      let new : all_paddings v.flex ≡ flex_padding (with_flexed x (store_in x) v) = ap all_paddings (sym after.spelled) in
+      subst (λ (o : Option FlexStore). IsCalledPadding call (place_by o (anchor_of call)) (blocks_seen o) (all_paddings o) (flex_padding (with_flexed x (store_in x) v))) (sym old)
+      (subst (λ (q : List (List ℕ)). IsCalledPadding call (place_by (Some (store_at (store_in x) e)) (anchor_of call)) (blocks_seen (Some (store_at (store_in x) e)))
+      (paddings (store_at (store_in x) e).blocks) q) new padded)
+
   with_room : IsFollowedBy (Call call) (Ok true) x y
-  unfolding y meaning_of stores on seen_then
+  unfolding y meaning_of stores on seen_then padding_then
   with_room = record {
     rule = record {
       flex = seen_then;
+      padding = padding_then;
       anchors = anchors_left call x (with_flexed x (store_in x) v) on;
       images = images_left call x (with_flexed x (store_in x) v) on;
       names = names_left call x (with_flexed x (store_in x) v) on;
@@ -229,7 +253,7 @@ answered_by : (x : Stores) (call : FlexCall) (v : FlexState) (answer : Bool) (e 
 unfolding y
 answered_by x call v true e are words there is =
     let left : IsCalledBy (store_in x) e call v = called_left x e call v are words there is in
-    with_room x e call v are there left (after_called (store_in x) e (before x e are there) call v left)
+    with_room x e call v are there left (called_padding x e call v are words there is) (after_called (store_in x) e (before x e are there) call v left)
 answered_by x call v false e are words there is =
     subst (IsFollowedBy (Call call) (Ok false) x) (sym (left_same x e v are there (no_room (store_in x) (record { extent = Some e }) call v is))) (stays (Call call) (Ok false) x are refl)
 

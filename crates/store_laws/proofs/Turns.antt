@@ -12,6 +12,7 @@ use Rattle.os_heap.specs.Store.{find_heap, store_of}
 use Rattle.flex_kept.specs.Keeping.{IsFlexKept, KeepsFlex}
 use Rattle.flex_store.specs.Blocks.{FlexStore}
 use Rattle.flex_laws.specs.Numbered.{blocks_seen}
+use Rattle.flex_laws.specs.Padding.{all_paddings}
 use Rattle.flex_store.specs.Laws.{contents_in}
 use Rattle.instances_table.specs.declared.parts.Image.{Image}
 use Rattle.instances_table.specs.Modules.{Module}
@@ -27,7 +28,7 @@ use Rattle.store_laws.proofs.SlidSound.{IsTidy, tidy}
 use Rattle.store_laws.proofs.SlidWorlds.{IsAreaKept, area_kept}
 use Rattle.store_laws.proofs.Spelled.{has_store, spelled_kept}
 use Rattle.store_laws.specs.Laws.{IsFollowed, MachinesHaveStores, TurnsFollowRules, unplaced}
-use Rattle.store_laws.specs.Meaning.{AreStores, IsMemory, Place, Stores, area_places, contents_of, flex_seen, meaning_of, place_in, store_in}
+use Rattle.store_laws.specs.Meaning.{AreStores, IsMemory, Place, Stores, area_places, contents_of, flex_padding, flex_seen, meaning_of, place_in, store_in}
 use Rattle.store_laws.specs.Turning.{AreAllowed, Call, Init, IsAllowed, Slide, Turn, answered, turned}
 
 -- a slide moves images, and leaves all else of their modules
@@ -75,6 +76,10 @@ module _ (return_address : ℕ) (x : Stores) (are : AreStores x) (none : x.pendi
   unfolding y flex_kept
   seen_slid = ap blocks_seen (spelled_kept (store_in x) (world_slid return_address x.world).estate.store x.flex.extent are.flex.is flex_kept)
 
+  padding_slid : flex_padding y ≡ flex_padding x
+  unfolding y flex_kept
+  padding_slid = ap all_paddings (spelled_kept (store_in x) (world_slid return_address x.world).estate.store x.flex.extent are.flex.is flex_kept)
+
   places_slid : (a : ℕ) → area_places (contents_of y) y.world a ≡ area_places (contents_of x) x.world a
   unfolding y contents_slid
   places_slid a =
@@ -101,9 +106,9 @@ module _ (return_address : ℕ) (x : Stores) (are : AreStores x) (none : x.pendi
   }
 
   slide_followed : IsFollowed (Slide return_address) x (turned (Slide return_address) x)
-  unfolding turned answered meaning_of y stores contents_slid places_slid seen_slid
+  unfolding turned answered meaning_of y stores contents_slid places_slid seen_slid padding_slid
   slide_followed = record {
-    rule = record { flex = seen_slid; places = places_slid; blocks = kept.blocks; images = kept.images; names = kept.names };
+    rule = record { flex = seen_slid; padding = padding_slid; places = places_slid; blocks = kept.blocks; images = kept.images; names = kept.names };
     words = kept.words;
     modules = modules_slid return_address x.world;
     stores = stores;

@@ -15,6 +15,7 @@ use Rattle.flex_store.specs.Laws.{contents_in}
 use Rattle.flex_store.specs.declared.flex.Flex.{Flex}
 use Rattle.flex_ground.specs.Ground.{spelled_store}
 use Rattle.flex_laws.specs.Numbered.{SeenBlock, blocks_seen}
+use Rattle.flex_laws.specs.Padding.{all_paddings}
 use Rattle.instances_table.specs.Changes.{is_held}
 use Rattle.instances_table.specs.declared.parts.Image.{Image}
 use Rattle.instances_table.specs.Modules.{AreModules}
@@ -111,12 +112,14 @@ images_in bytes (r ∷ rs) =
     if is_image r.kind then bytes_between bytes r.at r.len ∷ images_in bytes rs else images_in bytes rs
 
 -- `flex` has the flex blocks in order, each with the place of its anchor and its contents, but for the bytes of anchors
--- in these; `places` where among `blocks` each anchor is that lies in one,
+-- in these; `padding` has the bytes that fill the last word of each of them; `places` where among `blocks` each anchor
+-- is that lies in one,
 -- `blocks` what the live blocks of the module area hold, `images` the images of modules, and `names` for each slot
 -- what the instance's private word says, if there is such an instance: which of `blocks` it names, or its value, where
 -- it names none.
 pub record Meaning : Type 0 where
   pub flex : List SeenBlock
+  pub padding : List (List ℕ)
   pub places : ℕ → Option Place
   pub blocks : List (List (Option ℕ))
   pub images : List (List ℕ)
@@ -146,9 +149,14 @@ contents_of x = contents_in (spelled_store (store_in x).bytes.at x.flex.extent)
 abbrev pub flex_seen : Stores → List SeenBlock
 flex_seen x = blocks_seen (spelled_store (store_in x).bytes.at x.flex.extent)
 
+-- and the bytes that fill the last word of each
+abbrev pub flex_padding : Stores → List (List ℕ)
+flex_padding x = all_paddings (spelled_store (store_in x).bytes.at x.flex.extent)
+
 unfoldable pub meaning_of : Stores → Meaning
 meaning_of x = record {
   flex = flex_seen x;
+  padding = flex_padding x;
   places = area_places (contents_of x) x.world;
   blocks = area_blocks x.world;
   images = area_images x.world;

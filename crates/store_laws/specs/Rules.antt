@@ -6,6 +6,7 @@ use Rattle.address_map.specs.Bytes.{in_range}
 use Rattle.rma.specs.profile.specs.declared.error.ErrorNumber.{ErrorNumber}
 use Rattle.flex_store.specs.Runs.{Alloc, Extend, FlexCall, MidExtend, Release}
 use Rattle.flex_laws.specs.Numbered.{Anchor, IsCalledSeen}
+use Rattle.flex_laws.specs.Padding.{IsCalledPadding}
 use Rattle.store_laws.specs.Meaning.{BlockNumber, Meaning, Place, PrivateWord, Value}
 use Rattle.store_laws.specs.Turning.{Call, Init, Slide, Turn}
 
@@ -52,11 +53,13 @@ AreAnchorsLeft (Release anchor) p q = IsUnanchored anchor p q
 AreAnchorsLeft (Extend anchor size) p q = IsAnchoredAlike p q
 AreAnchorsLeft (MidExtend anchor at by) p q = IsAnchoredAlike p q
 
--- A flex call that finds room, on an anchor at a place, changes the flex blocks by the call's rule. The blocks of the
--- module area hold what they held, but for the word of an anchor that came or went. Images are what they were, and a
+-- A flex call that finds room, on an anchor at a place, changes the flex blocks by the call's rule; the bytes that fill
+-- the last word of each are zeros in a block that is new or changes its size, and else stay. The blocks of the module
+-- area hold what they held, but for the word of an anchor that came or went. Images are what they were, and a
 -- private word says what it said.
 pub record IsCalled (call : FlexCall) (x : Anchor) (p q : Meaning) : Type 0 where
   pub flex : IsCalledSeen call x p.flex q.flex
+  pub padding : IsCalledPadding call x p.flex p.padding q.padding
   pub anchors : AreAnchorsLeft call p q
   pub images : q.images ≡ p.images
   pub names : (slot : ℕ) → q.names slot ≡ p.names slot
@@ -76,6 +79,7 @@ IsStillNamed (Some (Value word)) new = (new ≡ Some (Value word)) ⊎ ((number 
 -- A slide keeps all that there is.
 pub record IsSlid (p q : Meaning) : Type 0 where
   pub flex : q.flex ≡ p.flex
+  pub padding : q.padding ≡ p.padding
   pub places : (a : ℕ) → q.places a ≡ p.places a
   pub blocks : q.blocks ≡ p.blocks
   pub images : q.images ≡ p.images

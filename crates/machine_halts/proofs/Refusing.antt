@@ -1,0 +1,253 @@
+-- A store call that is refused leaves all but the block of its error, and what it tells in the core.
+use Rattle.std.proofs.Common.{ℕ, true, false, ◌≡◌, ◌∙◌, ◌+◌, ◌==◌, ◌++◌, List, [], ◌∷◌, length, Option, Some, None, Result, Ok, Err, refl, sym, ap, subst, inl, inr, ◌⊎◌, ◌≤◌, ◌<◌, arith, get_or-set_other}
+use Rattle.std.specs.Prelude.{slice_index}
+use Rattle.std.proofs.lemmas.Bool.{both_ways, cases_Bool, false≢true, true≢false}
+use Rattle.profile.specs.ErrorNames.{error_code, error_name}
+use Rattle.profile.specs.SwiNames.{swi_of}
+use Rattle.profile.specs.Reasons.{module_reason}
+use Rattle.profile.specs.declared.error.ErrorNumber.{ErrorNumber}
+use Rattle.profile.specs.declared.error.ErrorNumber.TheVariants.{BadString, FrameLimit, SwiUnknown}
+use Rattle.profile.specs.declared.reason.ModuleReason.{ModuleReason}
+use Rattle.profile.specs.declared.reason.ModuleReason.TheVariants as reason
+use Rattle.profile.specs.declared.swi.SwiName.{SwiName}
+use Rattle.profile.specs.declared.swi.SwiName.TheVariants as swi
+use Rattle.address_map.proofs.Stores.{in_range-cases}
+use Rattle.address_map.specs.Bytes.{Bytes, in_range, with_word_at}
+use Rattle.arm_step.specs.declared.psr.Mode.{Mode}
+use Rattle.arm_step.specs.declared.psr.Mode.TheVariants.{User, FastInterrupt, Interrupt, Supervisor}
+use Rattle.arm_step.specs.declared.psr.Psr.{Psr}
+use Rattle.arm_step.specs.State.{State, register_of, slot_of, with_register}
+use Rattle.image_loader.specs.Entries.{Entry}
+use Rattle.instances_table.specs.declared.parts.Handler.{Handler}
+use Rattle.instances_table.specs.Lookup.{handler_of}
+use Rattle.os_heap.specs.Store.{Store}
+use Rattle.flex_ground.specs.flex_store.proofs.Holding.{bytes_beside, word_beside}
+use Rattle.flex_ground.specs.instances_ground.specs.dynamic_areas.specs.Ground.{Estate}
+use Rattle.flex_ground.specs.instances_ground.specs.World.{World}
+use Rattle.swi_dispatch_answers.specs.Errors.{error_block}
+use Rattle.swi_dispatch_answers.specs.Returns.{return_word, returned}
+use Rattle.swi_dispatch_answers.specs.declared.refusal.Refusal.{Refusal}
+use Rattle.swi_dispatch_answers.specs.declared.refusal.Refusal.TheVariants as refusal
+use Rattle.swi_dispatch_flex.specs.Calls.{FlexMemory}
+use Rattle.swi_dispatch_frames.specs.Entering.{swi_entered}
+use Rattle.swi_dispatch_plans.specs.Openings.{opening_asked}
+use Rattle.swi_dispatch_plans.specs.declared.openings.Opening.{Opening}
+use Rattle.swi_dispatch.proofs.Kept.{short_name}
+use Rattle.swi_dispatch.specs.Answers.{Answer, refused, went_on}
+use Rattle.swi_dispatch.specs.Calls.{call_answer, generated, on_estate, on_flex, on_store, on_world, wrote_text_after, wrote_text_at}
+use Rattle.swi_dispatch.specs.MachineState.{MachineState, Outcome, setting_of}
+use Rattle.swi_dispatch.specs.ModuleStart.{opened_at}
+use Rattle.swi_dispatch.specs.Returns.{gone_back}
+use Rattle.swi_dispatch.specs.Step.{call_refused, called, called_by, ended, ended_by, module_called, module_entered, os_module_called, os_module_called_for}
+use Rattle.machine_halts.proofs.Halting.{exit_cases}
+use Rattle.machine_halts.specs.Refusals.{IsRefusal, RefusalsChangeNothing, may_err_late, may_run_code}
+
+-- an error's block
+error_beside : (b : Bytes) (e : ErrorNumber) (a : ℕ) → in_range 0x01C02100 0x100 a ≡ false
+    → (error_block b (error_code e) (error_name e)).at a ≡ b.at a
+error_beside b e a out =
+    let clear : (a < 0x01C02100) ⊎ (0x01C02100 + 0x100 ≤ a) = elim (in_range-cases 0x01C02100 0x100 a) [
+      | inl r ↦ absurd (both_ways (in_range 0x01C02100 0x100 a) out r.0)
+      | inr r ↦ r.1
+    ] in
+    bytes_beside (with_word_at b.at 0x01C02100 (error_code e)) 0x01C02104 (error_name e ++ 0 ∷ []) a
+    (elim clear [ inl low ↦ inl (omega (arith, low)) | inr high ↦ inr (omega (arith, high, short_name e)) ])
+    ∙ word_beside b.at 0x01C02100 (error_code e) a (elim clear [ inl low ↦ inl low | inr high ↦ inr (omega (arith, high)) ])
+
+-- R0 is the first of the core's registers in all modes
+slot_zero : (m : Mode) → slot_of m 0 ≡ 0
+slot_zero User = refl
+slot_zero FastInterrupt = refl
+slot_zero Interrupt = refl
+slot_zero Supervisor = refl
+
+register_back : (caller : Psr) (cpu : State) (next k : ℕ) → (k ≡ 25 → ⊥)
+    → slice_index (returned caller cpu true next).file k ≡ slice_index cpu.file k
+unfolding returned
+register_back caller cpu next k other = get_or-set_other cpu.file 25 k (return_word caller next) 0 (λ same. other (omega (arith, same)))
+
+register_told : (cpu : State) (v k : ℕ) → (k ≡ 0 → ⊥) → slice_index (with_register cpu 0 v).file k ≡ slice_index cpu.file k
+register_told cpu v k other =
+    let at : slot_of cpu.psr.mode 0 ≡ 0 = slot_zero cpu.psr.mode in
+    get_or-set_other cpu.file (slot_of cpu.psr.mode 0) k v 0 (λ same. other (omega (arith, same, at)))
+
+-- a refusal with the X bit
+refused_as : (s : MachineState) (next : ℕ) (e : Refusal) → IsRefusal s (ended s true (refused s next e)).now
+unfolding returned
+refused_as s next (refusal.System e) = record {
+  bytes = error_beside s.store.bytes e;
+  mapped = refl;
+  heaps = refl;
+  others = refl;
+  anchor = refl;
+  header = refl;
+  pool = refl;
+  tables = refl;
+  halt = refl;
+  registers = λ k other last.
+      register_back s.cpu.psr (with_register s.cpu 0 0x01C02100) next k last ∙ register_told s.cpu 0x01C02100 k other;
+  status = refl;
+}
+refused_as s next refusal.Own = record {
+  bytes = λ a out. refl;
+  mapped = refl;
+  heaps = refl;
+  others = refl;
+  anchor = refl;
+  header = refl;
+  pool = refl;
+  tables = refl;
+  halt = refl;
+  registers = λ k other last. register_back s.cpu.psr s.cpu next k last;
+  status = refl;
+}
+
+-- an answer without an error, or a refusal that changes nothing
+abbrev IsClean : MachineState → ℕ → Answer → Type 0
+IsClean s next a = (a.error ≡ None) ⊎ ((e : Refusal) × (a ≡ refused s next e))
+
+-- what the machine is after it, where V is set
+abbrev IsRefusalWhereSet : MachineState → Outcome → Type 0
+IsRefusalWhereSet s o = o.now.cpu.psr.overflow ≡ true → IsRefusal s o.now
+
+ended_refusal : (s : MachineState) (next : ℕ) (a : Answer) → IsClean s next a → IsRefusalWhereSet s (ended s true a)
+unfolding returned
+ended_refusal s next a (inl none) set =
+    absurd (false≢true (sym (ap (λ (e : Option Refusal). (ended_by s true a e).now.cpu.psr.overflow) none) ∙ set))
+ended_refusal s next a (inr is) set = subst (λ (b : Answer). IsRefusal s (ended s true b).now) (sym is.1) (refused_as s next is.0)
+
+call_refusal : (s : MachineState) (next : ℕ) (e : ErrorNumber) → IsRefusalWhereSet s (call_refused s true next e)
+call_refusal s next e set = refused_as s next (refusal.System e)
+
+-- calls that run no module code
+store_clean : (s : MachineState) (next : ℕ) (r : Result (State × Store) Refusal) → IsClean s next (went_on s next (on_store s r))
+store_clean s next (Ok q) = inl refl
+store_clean s next (Err e) = inr (e, refl)
+
+estate_clean : (s : MachineState) (next : ℕ) (r : Result (State × Estate) Refusal) → IsClean s next (went_on s next (on_estate s r))
+estate_clean s next (Ok q) = inl refl
+estate_clean s next (Err e) = inr (e, refl)
+
+world_clean : (s : MachineState) (next : ℕ) (r : Result (State × World) Refusal) → IsClean s next (went_on s next (on_world s r))
+world_clean s next (Ok q) = inl refl
+world_clean s next (Err e) = inr (e, refl)
+
+flex_clean : (s : MachineState) (next : ℕ) (r : Result (State × FlexMemory) Refusal) → IsClean s next (went_on s next (on_flex s r))
+flex_clean s next (Ok q) = inl refl
+flex_clean s next (Err e) = inr (e, refl)
+
+after_clean : (s : MachineState) (next : ℕ) (o : Option (List ℕ)) → IsClean s next (wrote_text_after s next o)
+after_clean s next None = inr (refusal.System BadString, refl)
+after_clean s next (Some text) = inl refl
+
+at_clean : (s : MachineState) (next at : ℕ) (o : Option (List ℕ)) → IsClean s next (wrote_text_at s next at o)
+at_clean s next at None = inr (refusal.System BadString, refl)
+at_clean s next at (Some text) = inl refl
+
+answer_clean : (s : MachineState) (next number : ℕ) (name : Option SwiName) → (name ≡ Some swi.ChangeDynamicArea → ⊥)
+    → IsClean s next (call_answer s next number name)
+unfolding call_answer
+answer_clean s next number None other = flex_clean s next _
+answer_clean s next number (Some swi.WriteC) other = inl refl
+answer_clean s next number (Some swi.WriteS) other = after_clean s next _
+answer_clean s next number (Some swi.Write0) other = at_clean s next (register_of s.cpu 0) _
+answer_clean s next number (Some swi.NewLine) other = inl refl
+answer_clean s next number (Some swi.Exit) other = flex_clean s next _
+answer_clean s next number (Some swi.EnterOs) other = inl refl
+answer_clean s next number (Some swi.Heap) other = store_clean s next _
+answer_clean s next number (Some swi.Module) other = world_clean s next _
+answer_clean s next number (Some swi.ChangeDynamicArea) other = absurd (other refl)
+answer_clean s next number (Some swi.GenerateError) other = inr (generated s (register_of s.cpu 0), refl)
+answer_clean s next number (Some swi.ReadDynamicArea) other = estate_clean s next _
+answer_clean s next number (Some swi.DynamicArea) other = estate_clean s next _
+answer_clean s next number (Some swi.WriteI) other = inl refl
+answer_clean s next number (Some swi.FlexInit) other = flex_clean s next _
+answer_clean s next number (Some swi.FlexAlloc) other = flex_clean s next _
+answer_clean s next number (Some swi.FlexFree) other = flex_clean s next _
+answer_clean s next number (Some swi.FlexSize) other = flex_clean s next _
+answer_clean s next number (Some swi.FlexExtend) other = flex_clean s next _
+answer_clean s next number (Some swi.FlexMidExtend) other = flex_clean s next _
+
+-- module code that is entered has V clear
+opened_clear : (s : MachineState) (text : List ℕ) (slot : ℕ) (o : Option ℕ) → s.cpu.psr.overflow ≡ false
+    → (opened_at s text slot o).cpu.psr.overflow ≡ false
+opened_clear s text slot None clear = clear
+opened_clear s text slot (Some at) clear = refl
+
+back_clear : (s : MachineState) (next : ℕ) → (gone_back s.cpu.psr s false next).cpu.psr.overflow ≡ false
+unfolding returned
+back_clear s next = refl
+
+entered_refusal : (s : MachineState) (next : ℕ) (r : Result Opening ErrorNumber) → IsRefusalWhereSet s (module_entered s true next r)
+entered_refusal s next (Err e) set = call_refusal s next e set
+entered_refusal s next (Ok o) set =
+    absurd (false≢true (sym (opened_clear (gone_back s.cpu.psr s false next) o.text.items o.start.slot o.start.at (back_clear s next)) ∙ set))
+
+handler_clear : (cpu : State) (at number slot : ℕ) → (swi_entered cpu at number slot).psr.overflow ≡ false
+unfolding swi_entered
+handler_clear cpu at number slot = refl
+
+handler_refusal : (s : MachineState) (next number : ℕ) (o : Option Handler) → IsRefusalWhereSet s (module_called s true next number o)
+handler_refusal s next number None set = call_refusal s next SwiUnknown set
+handler_refusal s next number (Some h) set = elim (cases_Bool (length s.tables.frames == 32)) [
+  | inl full ↦ rw full (refused_as s next (refusal.System FrameLimit))
+  | inr room ↦ absurd (false≢true (sym (handler_clear s.cpu h.at number h.slot) ∙ rw room at set))
+]
+
+plain_refusal : (s : MachineState) (next number : ℕ) (o : Option SwiName) → (o ≡ Some swi.ChangeDynamicArea → ⊥)
+    → IsRefusalWhereSet s (ended s true (call_answer s next number o))
+plain_refusal s next number o other = ended_refusal s next (call_answer s next number o) (answer_clean s next number o other)
+
+module_refusal : (images : List Entry) (s : MachineState) (next number : ℕ) (o : Option ModuleReason) → may_run_code o ≡ false
+    → IsRefusalWhereSet s (os_module_called_for images s true next number o)
+module_refusal images s next number None may = plain_refusal s next number (Some swi.Module) (λ same. cc)
+module_refusal images s next number (Some reason.Run) may = absurd (true≢false may)
+module_refusal images s next number (Some reason.Load) may = absurd (true≢false may)
+module_refusal images s next number (Some reason.Enter) may = entered_refusal s next (opening_asked (setting_of s))
+module_refusal images s next number (Some reason.Reinit) may = absurd (true≢false may)
+module_refusal images s next number (Some reason.Delete) may = absurd (true≢false may)
+module_refusal images s next number (Some reason.DescribeArea) may = plain_refusal s next number (Some swi.Module) (λ same. cc)
+module_refusal images s next number (Some reason.Claim) may = plain_refusal s next number (Some swi.Module) (λ same. cc)
+module_refusal images s next number (Some reason.Free) may = plain_refusal s next number (Some swi.Module) (λ same. cc)
+module_refusal images s next number (Some reason.Tidy) may = absurd (true≢false may)
+module_refusal images s next number (Some reason.Clear) may = absurd (true≢false may)
+module_refusal images s next number (Some reason.Insert) may = absurd (true≢false may)
+module_refusal images s next number (Some reason.InsertCopy) may = absurd (true≢false may)
+module_refusal images s next number (Some reason.Info) may = plain_refusal s next number (Some swi.Module) (λ same. cc)
+module_refusal images s next number (Some reason.Extend) may = plain_refusal s next number (Some swi.Module) (λ same. cc)
+module_refusal images s next number (Some reason.Instantiate) may = absurd (true≢false may)
+module_refusal images s next number (Some reason.Rename) may = plain_refusal s next number (Some swi.Module) (λ same. cc)
+module_refusal images s next number (Some reason.Prefer) may = plain_refusal s next number (Some swi.Module) (λ same. cc)
+module_refusal images s next number (Some reason.Lookup) may = plain_refusal s next number (Some swi.Module) (λ same. cc)
+
+named_refusal : (images : List Entry) (s : MachineState) (next number : ℕ) (o : Option SwiName)
+    → may_err_late o (module_reason (register_of s.cpu 0)) ≡ false → (o ≡ Some swi.Exit → ⊥)
+    → IsRefusalWhereSet s (called_by images s true next number o)
+unfolding os_module_called
+named_refusal images s next number None late other = handler_refusal s next number (handler_of number s.tables.modules)
+named_refusal images s next number (Some swi.Exit) late other = absurd (other refl)
+named_refusal images s next number (Some swi.Module) late other = module_refusal images s next number (module_reason (register_of s.cpu 0)) late
+named_refusal images s next number (Some swi.ChangeDynamicArea) late other = absurd (true≢false late)
+named_refusal images s next number (Some swi.WriteC) late other = plain_refusal s next number (Some swi.WriteC) (λ same. cc)
+named_refusal images s next number (Some swi.WriteS) late other = plain_refusal s next number (Some swi.WriteS) (λ same. cc)
+named_refusal images s next number (Some swi.Write0) late other = plain_refusal s next number (Some swi.Write0) (λ same. cc)
+named_refusal images s next number (Some swi.NewLine) late other = plain_refusal s next number (Some swi.NewLine) (λ same. cc)
+named_refusal images s next number (Some swi.EnterOs) late other = plain_refusal s next number (Some swi.EnterOs) (λ same. cc)
+named_refusal images s next number (Some swi.Heap) late other = plain_refusal s next number (Some swi.Heap) (λ same. cc)
+named_refusal images s next number (Some swi.GenerateError) late other = plain_refusal s next number (Some swi.GenerateError) (λ same. cc)
+named_refusal images s next number (Some swi.ReadDynamicArea) late other = plain_refusal s next number (Some swi.ReadDynamicArea) (λ same. cc)
+named_refusal images s next number (Some swi.DynamicArea) late other = plain_refusal s next number (Some swi.DynamicArea) (λ same. cc)
+named_refusal images s next number (Some swi.WriteI) late other = plain_refusal s next number (Some swi.WriteI) (λ same. cc)
+named_refusal images s next number (Some swi.FlexInit) late other = plain_refusal s next number (Some swi.FlexInit) (λ same. cc)
+named_refusal images s next number (Some swi.FlexAlloc) late other = plain_refusal s next number (Some swi.FlexAlloc) (λ same. cc)
+named_refusal images s next number (Some swi.FlexFree) late other = plain_refusal s next number (Some swi.FlexFree) (λ same. cc)
+named_refusal images s next number (Some swi.FlexSize) late other = plain_refusal s next number (Some swi.FlexSize) (λ same. cc)
+named_refusal images s next number (Some swi.FlexExtend) late other = plain_refusal s next number (Some swi.FlexExtend) (λ same. cc)
+named_refusal images s next number (Some swi.FlexMidExtend) late other = plain_refusal s next number (Some swi.FlexMidExtend) (λ same. cc)
+
+pub refusals_change_nothing : RefusalsChangeNothing
+unfolding called
+refusals_change_nothing images s next number late other set = elim (exit_cases (swi_of number)) [
+  | inl is ↦ absurd (other is.0)
+  | inr is ↦ rw is.1 (named_refusal images s next number (swi_of number) late other (rw is.1 at set))
+]

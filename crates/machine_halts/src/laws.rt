@@ -1,0 +1,25 @@
+//! Laws over the definitions, each the contract of a function that does nothing.
+
+ghost use Rattle.machine_halts.specs.Halts.{ExitsAreCalls, HaltsChangeNothing, NoFaultFromOutside};
+ghost use Rattle.machine_halts.specs.Refusals.{RefusalsChangeNothing};
+
+/// A step that ends in a halt changes nothing but that the machine is halted, and prints nothing.
+pub fn halts_change_nothing()
+    ensures { HaltsChangeNothing }
+{}
+
+/// A step ends in the guest's own end just where its instruction calls OS_Exit.
+pub fn exits_are_calls()
+    ensures { ExitsAreCalls }
+{}
+
+/// No call and no load from outside ends in a fault.
+pub fn no_fault_from_outside()
+    ensures { NoFaultFromOutside }
+{}
+
+/// A store call with the X bit that is refused changes nothing but the block of an error, R0, R14 of supervisor mode, V
+/// and the program counter, unless it is one of those that may end with an error after they did something.
+pub fn refusals_change_nothing()
+    ensures { RefusalsChangeNothing }
+{}
