@@ -1,42 +1,38 @@
 -- Which heaps the calls on the module area forget.
-use Rattle.std.proofs.Common.{ℕ, ◌≡◌, ◌+◌, ◌-◌, ◌*◌, ◌==◌, ◌↔◌, ◌∙◌, true, false, List, [], ◌∷◌, length, is_ok, is_some, Option, Some, None, Result, Ok, Err, refl, sym, ap, subst, inl, inr, arith}
+use Rattle.std.proofs.Common.{ℕ, ◌≡◌, ◌+◌, ◌-◌, ◌*◌, ◌==◌, ◌↔◌, ◌∙◌, true, false, List, [], ◌∷◌, length, is_some, Option, Some, None, Result, Ok, Err, refl, sym, ap, subst, inl, inr, arith}
 use Rattle.std.specs.Prelude.{nat_le, nat_lt}
 use Rattle.std.proofs.lemmas.Bool.{both_ways, cases_Bool, eqb-true, false≢true}
 use Rattle.profile.specs.Outcome.{bind}
 use Rattle.profile.specs.declared.error.ErrorNumber.{ErrorNumber}
 use Rattle.profile.specs.declared.reason.HeapReason.TheVariants as reason
-use Rattle.address_map.specs.Bytes.{with_bytes, with_moved, word_start}
-use Rattle.address_map.specs.Items.{is_heap_word, size_of}
+use Rattle.address_map.specs.Bytes.{with_bytes, with_moved}
+use Rattle.address_map.specs.Items.{size_of}
 use Rattle.address_map.specs.declared.item.Item.{Item}
 use Rattle.os_heap_lists.proofs.LiveBlocks.{IsStill, LiveBytes, claim_still, live_bytes}
 use Rattle.os_heap_lists.specs.Heap.{AreTotals, HeapList, IsHeapIn}
 use Rattle.os_heap_lists.specs.Lists.{Claim, live_total, total_for}
-use Rattle.os_heap.proofs.Forgetting.{AreFound, are_found, own_left}
+use Rattle.os_heap.proofs.Forgetting.{AreFound, are_found}
 use Rattle.os_heap.proofs.Found.{found_ended, found_heap}
-use Rattle.os_heap.specs.Calls.{block_sized, ending, gave_back, got, holding, resized, with_end, with_items}
+use Rattle.os_heap.specs.Calls.{block_sized, ending, got, holding, resized, with_end, with_items}
 use Rattle.os_heap.specs.Forgetting.{forgot, holds_heap, lowest_lost, starts_in, without_heaps}
 use Rattle.os_heap.specs.Laws.{IsLost}
 use Rattle.os_heap.specs.Nesting.{is_area}
 use Rattle.os_heap.specs.Store.{IsSound, Store, find_heap}
-use Rattle.dynamic_areas.proofs.ModuleArea.{IsModuleArea, module_area_known}
 use Rattle.dynamic_areas.specs.declared.area.Area.{Area}
 use Rattle.dynamic_areas.specs.Areas.{find_area}
 use Rattle.dynamic_areas.specs.Changing.{pages_had, store_extended, store_more, with_heap_end}
 use Rattle.dynamic_areas.specs.Ground.{Estate, IsEstate}
-use Rattle.rma.specs.Calls.{area_pages, area_room, end_if_moved, end_in_place, grown_by, grown_in_place, grown_to, in_area, is_full, or_as_before, or_grown, pages_short, resized_or_grown, rma_base, rma_claimed, rma_extended, rma_freed, with_store}
+use Rattle.rma.specs.Calls.{area_pages, area_room, end_if_moved, end_in_place, grown_by, grown_in_place, grown_to, in_area, is_full, or_as_before, or_grown, pages_short, resized_or_grown, rma_base, rma_claimed, rma_extended, with_store}
 use Rattle.rma.specs.Images.{image_recorded, with_image}
 use Rattle.rma.specs.NewImages.{image_copied, image_made}
-use Rattle.instances_ground.specs.World.{or_same, private_freed, private_word}
-use Rattle.heap_turns.proofs.DoneCalls.{FreesBytes, MovesBlock, OnDone, gave_done, got_done, moved_to, resized_done}
-use Rattle.heap_turns.proofs.Forgotten.{AreBoth, KeepsByte, calls_forget, left_bytes, lost_told, same_freed}
+use Rattle.heap_turns.proofs.DoneCalls.{FreesBytes, MovesBlock, OnDone, got_done, moved_to, resized_done}
+use Rattle.heap_turns.proofs.Forgotten.{AreBoth, lost_told, same_freed}
 use Rattle.heap_turns.proofs.Likeness.{with_last, with_list}
 use Rattle.heap_turns.proofs.NoHeapInside.{forgot_unheld, found_holds, held_ended, held_listed}
 use Rattle.heap_turns.specs.Forgotten.{IsForgotten, freed_from}
 use Rattle.heap_turns.specs.Laws.{IsNotForgotten}
-use Rattle.heap_turns.specs.Turns.{call_on}
-use Rattle.heaps_kept.proofs.Guests.{estates_fit}
-use Rattle.heaps_kept.specs.FitEstates.{IsFitEstate}
-use Rattle.heaps_kept.specs.ForgettingLaws.{AreaCallsForgetHeaps, GoesWithBlock, ReleasesKeepBytes, RemovalsForgetHeaps}
+use Rattle.heaps_kept.proofs.AreaReleases.{HasArea, area_there, freed_told}
+use Rattle.heaps_kept.specs.ForgettingLaws.{AreaCallsForgetHeaps}
 
 -- what starts at the module area's place is that heap
 abbrev AreAreas : List HeapList → Type 0
@@ -133,16 +129,6 @@ like_ended o ds hs end like = record {
   some = λ start. ended_some end start hs ∙ like.some start;
   holds = λ at len. held_ended 0x01800000 at len end hs ∙ like.holds at len;
 }
-
--- the module area and its heap
-record HasArea (e : Estate) : Type 0 where
-  area : Area
-  known : IsModuleArea e.store area
-
-area_there : (e : Estate) → IsEstate e → HasArea e
-area_there e good =
-    let fit : IsFitEstate e = estates_fit e good in
-    record { area = fit.area; known = module_area_known e.store e.pool e.land fit.area good fit.found }
 
 -- a store in which the module area's heap is found, with another heap
 record IsBase (d : Store) (o k : HeapList) : Type 0 where
@@ -354,28 +340,6 @@ copied_stays e o k base from len =
     image_stays e.store o k base (λ s at. record s { bytes = with_moved s.bytes from at len }) (rma_claimed e len) (λ s at. refl)
     (claimed_stays e.store o k base e len base.like)
 
--- a release
-abbrev store_left : Estate → Result (Estate × Unit {0}) ErrorNumber → Store
-store_left d (Ok x) = x.0.store
-store_left d (Err f) = d.store
-
-released_is : (d : Estate) (x : Estate × Unit {0}) (block : ℕ) (r : Result (Store × Unit {0}) ErrorNumber) → gave_back d.store 0x01800000 block ≡ r
-    → in_area d r ≡ Ok x → call_on d.store 0x01800000 reason.Free block 0 ≡ Ok (x.0.store, (block, 0))
-released_is d x block (Ok y) is done =
-    let same : y.0 ≡ x.0.store = ap (store_left d) done in
-    ap (λ (q : Result (Store × Unit {0}) ErrorNumber). bind q (λ z. Ok (z.0, (block, 0)))) is ∙ ap (λ (t : Store). Ok (t, (block, 0))) same
-released_is d x block (Err f) is done = absurd (cc)
-
-freed_is : (d : Estate) (x : Estate × Unit {0}) (block : ℕ) → rma_freed d block ≡ Ok x
-    → call_on d.store 0x01800000 reason.Free block 0 ≡ Ok (x.0.store, (block, 0))
-unfolding rma_freed
-freed_is d x block is = released_is d x block (gave_back d.store 0x01800000 block) refl is
-
-freed_told : (d : Estate) (x : Estate × Unit {0}) (k : HeapList) (block : ℕ) → IsEstate d → find_heap k.start d.store.heaps ≡ Some k → rma_freed d block ≡ Ok x
-    → (find_heap k.start x.0.store.heaps ≡ None) ↔ IsForgotten d.store 0x01800000 reason.Free block 0 k.start
-freed_told d x k block good found is =
-    calls_forget d.store x.0.store k 0x01800000 reason.Free block 0 (block, 0) good.ground.sound found (freed_is d x block is)
-
 pub area_calls_forget : AreaCallsForgetHeaps
 area_calls_forget d e k good found =
     let has : HasArea d = area_there d good in
@@ -392,50 +356,3 @@ area_calls_forget d e k good found =
           (told_then d.store o k base (Told d.store o k base block change) (rma_extended d block change) (e, new)
           (extended_told d.store o k base d block change base.like) is);
     }
-
--- the block of a private word
-gone_by : (d : Estate) (k : HeapList) (slot : ℕ) (r : Result (Estate × Unit {0}) ErrorNumber) → IsEstate d → find_heap k.start d.store.heaps ≡ Some k
-    → rma_freed d (private_word d slot) ≡ r → (find_heap k.start (or_same d r).store.heaps ≡ None) ↔ GoesWithBlock d slot k.start
-gone_by d k slot (Ok x) good found is =
-    let told : (find_heap k.start x.0.store.heaps ≡ None) ↔ IsForgotten d.store 0x01800000 reason.Free (private_word d slot) 0 k.start =
-    freed_told d x k (private_word d slot) good found is in (
-      λ none. record { done = ap (λ (r : Result (Estate × Unit {0}) ErrorNumber). is_ok r) is; forgotten = told.0 none },
-      λ goes. told.1 goes.forgotten,
-    )
-gone_by d k slot (Err f) good found is = (
-  λ none. absurd (let no : None ≡ Some k = sym none ∙ found in cc),
-  λ goes. absurd (false≢true (sym (ap (λ (r : Result (Estate × Unit {0}) ErrorNumber). is_ok r) is) ∙ goes.done)),
-)
-
-pub removals_forget : RemovalsForgetHeaps
-unfolding private_freed
-removals_forget d k slot good found = gone_by d k slot (rma_freed d (private_word d slot)) good found refl
-
--- what a release leaves of the bytes
-kept_by : (d e : Estate) (P : Store → Type 0) (r : Result (Store × Unit {0}) ErrorNumber) → OnDone (Unit {0}) P r → in_area d r ≡ Ok (e, tt) → P e.store
-kept_by d e P (Ok x) done is =
-    let same : x.0 ≡ e.store = ap (store_left d) is in
-    subst P same done
-kept_by d e P (Err f) done is = absurd (cc)
-
-freed_in : (d e : Estate) (block : ℕ) → rma_freed d block ≡ Ok (e, tt) → in_area d (gave_back d.store 0x01800000 block) ≡ Ok (e, tt)
-unfolding rma_freed
-freed_in d e block is = is
-
-pub releases_keep : ReleasesKeepBytes
-releases_keep d e g block a good sound is found none =
-    let has : HasArea d = area_there d good in
-    let o : HeapList = has.known.heap in
-    let s : Store = d.store in
-    let start : o.start ≡ 0x01800000 = has.known.start in
-    let own : find_heap o.start s.heaps ≡ Some o = subst (λ (p : ℕ). find_heap p s.heaps ≡ Some o) (sym start) has.known.found in
-    let heap : IsHeapIn s.bytes o.start o.end o.items = found_heap s.bytes o.start s.heaps o good.ground.sound.heaps own in
-    let done : OnDone (Unit {0}) (KeepsByte s o g a) (gave_back s o.start block) =
-    gave_done (KeepsByte s o g a) s o block own (λ total items given.
-    let lies : LiveBytes block total (o.start + 16) (o.start + 16 + size_of o.items) = live_bytes block total (o.start + 16) o.items heap.totals given.live in
-    left_bytes (forgot s block total block) o g items a (own_left s o block total block own (omega (arith, lies.low)) given.past)) in
-    let is' : in_area d (gave_back s o.start block) ≡ Ok (e, tt) =
-    subst (λ (p : ℕ). in_area d (gave_back s p block) ≡ Ok (e, tt)) (sym start) (freed_in d e block is) in
-    kept_by d e (KeepsByte s o g a) (gave_back s o.start block) done is' sound
-    (subst (λ (p : ℕ). find_heap p e.store.heaps ≡ Some g) (sym start) found)
-    (subst (λ (p : ℕ). is_heap_word p g.items (word_start a) ≡ false) (sym start) none)

@@ -1,4 +1,5 @@
 pub mod AreaForgetting
+pub mod AreaReleases
 pub mod Areas
 pub mod BlockCalls
 pub mod BlockPlans

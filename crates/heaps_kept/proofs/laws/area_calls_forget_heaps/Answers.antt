@@ -1,4 +1,5 @@
-use Rattle.heaps_kept.proofs.AreaForgetting.{area_calls_forget, releases_keep, removals_forget}
+use Rattle.heaps_kept.proofs.AreaForgetting.{area_calls_forget}
+use Rattle.heaps_kept.proofs.AreaReleases.{releases_keep, removals_forget}
 use Rattle.heaps_kept.proofs.PlanForgetting.{acts_forget_none}
 use Rattle.heaps_kept.proofs.laws.area_calls_forget_heaps.Goals as goal
 
