@@ -5,8 +5,8 @@ use Rattle.swi_dispatch.specs.Parts.{state_of}
 use Rattle.debugger.specs.Modules.{modules_text}
 use Rattle.debugger.proofs.modules.show_modules.Goals as goal
 
-pub returns-clause-writes : goal.returns-clause-writes
-returns-clause-writes g c =
+pub returns : goal.returns
+returns g c =
     let s = state_of c.args.machine.now in
     let same : modules_text (bytes_of c.memory.result.now) c.instances.result.now
     ≡ modules_text s.store.bytes s.tables.modules =
