@@ -11,5 +11,7 @@ returns g c =
     let same : modules_text (bytes_of c.memory.result.now) c.instances.result.now
     ≡ modules_text s.store.bytes s.tables.modules =
     λ i. modules_text (c.memory.ensures.bytes i) (c.instances.ensures i) in
-    subst (λ (text : List ℕ). Writes g.W.Sink.contents g.W.Sink.has_failed c.args.sink.now c.show_all.new.sink
-    c.show_all.result text) same c.show_all.ensures
+    record {
+      writes = subst (λ (text : List ℕ). Writes g.W.Sink.contents g.W.Sink.has_failed c.args.sink.now c.show_all.new.sink
+      c.show_all.result text) same c.show_all.ensures
+    }
