@@ -1,12 +1,13 @@
 -- Over any move but a flex call, and but for what an instruction stores, the bytes of the flex store stay.
 use Rattle.std.proofs.Common.{ℕ, ◌≡◌, ◌*◌, ◌+◌, ◌%◌, ◌^◌, ◌∙◌, ◌⊎◌, Bool, true, false, List, Option, Some, None, Result, Ok, Err, refl, sym, ap, subst, inl, inr}
-use Rattle.std.specs.Prelude.{if◌then◌else◌}
+use Rattle.std.specs.Prelude.{IfOk, if◌then◌else◌, ok_or}
 use Rattle.std.proofs.lemmas.Bool.{cases_Bool, false≢true, or_left}
 use Rattle.profile.specs.Outcome.{Gives, bind}
 use Rattle.profile.specs.Reasons.{heap_reason, module_reason}
 use Rattle.profile.specs.SwiNames.{swi_of}
 use Rattle.profile.specs.Word.{bit_of}
 use Rattle.profile.specs.declared.error.ErrorNumber.{ErrorNumber}
+use Rattle.profile.specs.declared.error.ErrorNumber.TheVariants.{BadString}
 use Rattle.profile.specs.declared.reason.HeapReason.{HeapReason}
 use Rattle.profile.specs.declared.reason.HeapReason.TheVariants as reason
 use Rattle.profile.specs.declared.swi.SwiName.{SwiName}
@@ -34,19 +35,22 @@ use Rattle.swi_dispatch_answers.specs.declared.refusal.Refusal.TheVariants as re
 use Rattle.swi_dispatch_store.specs.Heaps.{heap_called, heap_called_for}
 use Rattle.swi_dispatch.specs.declared.halt.Halt.{Halt}
 use Rattle.swi_dispatch.specs.declared.halt.Halt.TheVariants as halt
-use Rattle.swi_dispatch.specs.Additions.{Planned}
+use Rattle.swi_dispatch_answers.specs.Words.{host_string}
+use Rattle.swi_dispatch.specs.Additions.{Planned, load_planned}
 use Rattle.swi_dispatch.specs.Answers.{went_on}
 use Rattle.swi_dispatch.specs.Calls.{call_answer, on_store}
 use Rattle.swi_dispatch.specs.Errors.{with_error}
 use Rattle.swi_dispatch.specs.Gates.{carried_on, come_back, gated, outcome_left}
 use Rattle.swi_dispatch.specs.MachineState.{MachineState, Outcome, machine_estate, machine_world, with_world}
 use Rattle.swi_dispatch.specs.Returns.{gone_back, halted}
-use Rattle.swi_dispatch.specs.Step.{called, called_by, ended, instructed, is_exit, machine_step, os_module_called, store_called, turned, without_x}
+use Rattle.swi_dispatch.specs.Step.{begun as call_begun, called, called_by, ended, instructed, is_exit, machine_step, os_module_called, store_called, turned, without_x}
 use Rattle.heap_alone.proofs.HeapAnswers.{Agree, heap_agrees}
 use Rattle.heap_alone.proofs.LiveBytes.{byte_done}
 use Rattle.heap_alone.proofs.ModuleCalls.{area_call_out}
 use Rattle.heap_alone.proofs.ModuleHosts.{HasModules, carried_out, fit_world, opened_out}
+use Rattle.heap_alone.proofs.ModulePlans.{bound_any}
 use Rattle.heap_alone.proofs.OwnCalls.{heap_swi}
+use Rattle.heap_alone.proofs.PlansMade.{IsFitPlanned, load_made}
 use Rattle.heap_alone.proofs.Rows.{is_flex_call}
 use Rattle.heap_alone.proofs.States.{IsGiven, given_goes, given_same, given_stays, has_store, sound_store}
 use Rattle.heap_alone.proofs.Steps.{call_is, step_is}
@@ -60,7 +64,7 @@ use Rattle.live_bytes.proofs.FlexRows.{init_byte}
 use Rattle.live_bytes.proofs.FlexStays.{flex_after, flex_off, flex_outside}
 use Rattle.live_bytes.proofs.Gates.{Goes, gate_has}
 use Rattle.live_bytes.proofs.Heaps.{HasHeaps, given_heaps, has_heaps}
-use Rattle.live_bytes.proofs.ModuleCalls.{HoldsOver, Planning, os_module_has, plan_by}
+use Rattle.live_bytes.proofs.ModuleCalls.{HoldsOver, Planning, begun_has, os_module_has, plan_by}
 use Rattle.live_bytes.proofs.Moves.{call_halted, named_call, named_step, step_halted}
 use Rattle.live_bytes.proofs.Rows.{error_off}
 use Rattle.live_bytes.specs.Changes.{FlexBytesStay, is_flex_name}
@@ -98,6 +102,19 @@ module _ (s : MachineState) (has : HasModules s) where
   os_module_out images x next number =
       os_module_has s has (KeepsOutside s.store) (λ w. Unit {0}) outside_over images x next number
       (any_planned (plan_by images s next (module_reason (register_of s.cpu 0))))
+
+  -- and so does a load from outside
+  any_load : (r : Result Planned ErrorNumber) → IfOk r (λ w. Unit {0})
+  any_load (Ok w) = tt
+  any_load (Err e) = tt
+
+  pub loaded_out : (images : List Entry) (x : Bool) (next : ℕ) (text : List ℕ)
+      → KeepsOutside s.store (call_begun s x next false (bind (ok_or (host_string text) BadString) (λ words. load_planned images s words false))).now.store
+  loaded_out images x next text =
+      let r : Result Planned ErrorNumber = bind (ok_or (host_string text) BadString) (λ words. load_planned images s words false) in
+      begun_has s has (KeepsOutside s.store) (λ w. Unit {0}) outside_over x next false r
+      (bound_any (IsFitPlanned s) (ok_or (host_string text) BadString) (λ words. load_planned images s words false)
+      (λ words. load_made images s words false fit)) (any_load r)
 
   goes_out : (o : Option Plan) → Goes s has (KeepsOutside s.store) (keeps_all s.store) o
   goes_out None = tt

@@ -1,4 +1,4 @@
--- Over a call of OS_Heap, what live blocks hold stays, but for the bytes of the heap called, in a block that it lies in.
+-- Over a call of OS_Heap, what live blocks hold stays, but for what the call writes in a block that its heap lies in.
 use Rattle.std.proofs.Common.{ℕ, ◌≡◌, ◌≢◌, ◌+◌, ◌-◌, ◌≤◌, ◌<◌, ◌∙◌, ◌⊎◌, Bool, true, false, List, Option, Some, None, refl, sym, ap, subst, inl, inr, arith}
 use Rattle.std.proofs.lemmas.Bool.{both_ways, cases_Bool, cases_eq, false_from_ne_true}
 use Rattle.profile.specs.SwiNames.{swi_of}
@@ -17,9 +17,21 @@ use Rattle.os_heap.specs.Store.{IsSound, Store, find_heap}
 use Rattle.heap_turns.specs.Laws.{starts_inside}
 use Rattle.swi_dispatch.specs.MachineState.{MachineState}
 use Rattle.swi_dispatch.specs.Step.{called}
+use Rattle.heap_alone.proofs.Keeping.{off_system}
 use Rattle.heap_alone.proofs.LiveBytes.{HeapCallLeaves, heap_call_leaves, payload_inside}
+use Rattle.live_bytes.proofs.HeapCalls.{heap_call_leaves_byte}
 use Rattle.live_bytes.proofs.Heaps.{HasHeaps, held_inside, held_recorded, own_found}
 use Rattle.live_bytes.specs.Changes.{IsHeld, IsOfInnerHeap}
+use Rattle.live_bytes.specs.HeapWrites.{IsWrittenByCall}
+
+-- The byte is in the range of the heap called, which lies in a block.
+record IsInInnerHeap (t : Store) (heap start a : ℕ) : Type 0 where
+  inner : HeapList
+  called : find_heap heap t.heaps ≡ Some inner
+  outer : HeapList
+  round : find_heap start t.heaps ≡ Some outer
+  within : IsWithin outer inner
+  inside : in_range inner.start inner.end a ≡ true
 
 module _ (s : MachineState) (has : HasHeaps s) (t : Store) (heap start a : ℕ) (left : HeapCallLeaves s.store heap t) (sound : IsSound t)
     (held : IsHeld s.store t start a) where
@@ -65,15 +77,15 @@ module _ (s : MachineState) (has : HasHeaps s) (t : Store) (heap start a : ℕ) 
         (left.others held.old (own_found s.store t start a held) (λ same. other (sym old_start ∙ same)) outside (held_recorded s.store t start a held)).bytes a
         (held_inside s t start a has held)
 
-    shared_byte : IsOther k held.new → (t.bytes.at a ≡ s.store.bytes.at a) ⊎ IsOfInnerHeap (Some swi.Heap) heap t start a
+    shared_byte : IsOther k held.new → (t.bytes.at a ≡ s.store.bytes.at a) ⊎ IsInInnerHeap t heap start a
     shared_byte (inl same) = absurd (other (sym new_start ∙ ap (λ (x : HeapList). x.start) same ∙ start_of))
     shared_byte (inr (apart, inl clear)) = absurd (both_ways (in_range held.new.start held.new.end a) (clear a inside) here)
     shared_byte (inr (apart, inr (inl round))) = inl (round_byte round)
     shared_byte (inr (apart, inr (inr within))) =
-        inr (record { call = refl; inner = k; called = found; outer = held.new; round = held.left; within = within; inside = inside })
+        inr (record { inner = k; called = found; outer = held.new; round = held.left; within = within; inside = inside })
 
   by_found : (o : Option HeapList) → find_heap heap t.heaps ≡ o → start ≢ heap
-      → (t.bytes.at a ≡ s.store.bytes.at a) ⊎ IsOfInnerHeap (Some swi.Heap) heap t start a
+      → (t.bytes.at a ≡ s.store.bytes.at a) ⊎ IsInInnerHeap t heap start a
   by_found None none other = inl (payload (inr (λ k found. absurd (let no : None ≡ Some k = sym none ∙ found in cc))))
   by_found (Some k) found other = elim (cases_Bool (in_range k.start k.end a)) [
     | inl inside ↦
@@ -85,17 +97,43 @@ module _ (s : MachineState) (has : HasHeaps s) (t : Store) (heap start a : ℕ) 
         subst (λ (x : HeapList). in_range x.start x.end a ≡ false) same out)))
   ]
 
-  left_byte : (t.bytes.at a ≡ s.store.bytes.at a) ⊎ IsOfInnerHeap (Some swi.Heap) heap t start a
+  left_byte : (t.bytes.at a ≡ s.store.bytes.at a) ⊎ IsInInnerHeap t heap start a
   left_byte = elim (cases_eq start heap) [
     | inl at ↦ inl (payload (inl (old_start ∙ at)))
     | inr other ↦ by_found (find_heap heap t.heaps) refl other
   ]
 
+-- and it is one that the call writes
+module _ (s : MachineState) (t : MachineState) (start a : ℕ) where
+  written_there : IsInInnerHeap t.store (register_of s.cpu 1) start a → (t.store.bytes.at a ≡ s.store.bytes.at a) ⊎ IsWrittenByCall s.cpu s.store t a
+      → (t.store.bytes.at a ≡ s.store.bytes.at a) ⊎ IsOfInnerHeap (Some swi.Heap) s.cpu s.store t start a
+  written_there lies (inl same) = inl same
+  written_there lies (inr written) = inr (record {
+    call = refl;
+    inner = lies.inner;
+    called = lies.called;
+    outer = lies.outer;
+    round = lies.round;
+    within = lies.within;
+    inside = lies.inside;
+    written = written;
+  })
+
+  left_or_written : (t.store.bytes.at a ≡ s.store.bytes.at a) ⊎ IsInInnerHeap t.store (register_of s.cpu 1) start a
+      → (t.store.bytes.at a ≡ s.store.bytes.at a) ⊎ IsWrittenByCall s.cpu s.store t a
+      → (t.store.bytes.at a ≡ s.store.bytes.at a) ⊎ IsOfInnerHeap (Some swi.Heap) s.cpu s.store t start a
+  left_or_written (inl same) written = inl same
+  left_or_written (inr lies) written = written_there lies written
+
 pub heap_byte : (images : List Entry) (s : MachineState) (has : HasHeaps s) (start a : ℕ) (x : Bool) (next number : ℕ) → swi_of number ≡ Some swi.Heap
     → IsSound (called images s x next number).now.store → IsHeld s.store (called images s x next number).now.store start a
     → ((called images s x next number).now.store.bytes.at a ≡ s.store.bytes.at a)
-    ⊎ IsOfInnerHeap (swi_of number) (register_of s.cpu 1) (called images s x next number).now.store start a
+    ⊎ IsOfInnerHeap (swi_of number) s.cpu s.store (called images s x next number).now start a
 heap_byte images s has start a x next number name sound held =
-    let t : Store = (called images s x next number).now.store in
-    subst (λ (o : Option _). (t.bytes.at a ≡ s.store.bytes.at a) ⊎ IsOfInnerHeap o (register_of s.cpu 1) t start a) (sym name)
-    (left_byte s has t (register_of s.cpu 1) start a (heap_call_leaves s has.modules.store images x next number name sound) sound held)
+    let t : MachineState = (called images s x next number).now in
+    let own = own_found s.store t.store start a held in
+    let off : in_range 0x01C00000 0x3000 a ≡ false = off_system s held.old has.modules.store own a (held_inside s t.store start a has held) in
+    subst (λ (o : Option _). (t.store.bytes.at a ≡ s.store.bytes.at a) ⊎ IsOfInnerHeap o s.cpu s.store t start a) (sym name)
+    (left_or_written s t start a
+    (left_byte s has t.store (register_of s.cpu 1) start a (heap_call_leaves s has.modules.store images x next number name sound) sound held)
+    (heap_call_leaves_byte s has.modules.store a off images x next number name sound))

@@ -1,5 +1,5 @@
 -- What a call of OS_Module that moves no blocks leaves of the module area's blocks: what they hold.
-use Rattle.std.proofs.Common.{ℕ, ◌≡◌, ◌+◌, ◌∙◌, Bool, true, false, List, Option, Some, None, Result, Ok, Err, refl, sym, ap, subst}
+use Rattle.std.proofs.Common.{ℕ, ◌≡◌, ◌+◌, ◌&&◌, ◌∙◌, is_ok, Bool, true, false, List, Option, Some, None, Result, Ok, Err, refl, sym, ap, subst}
 use Rattle.std.specs.Prelude.{IfOk, ok_or}
 use Rattle.std.proofs.lemmas.Bool.{true≢false}
 use Rattle.profile.specs.Outcome.{bind}
@@ -18,6 +18,7 @@ use Rattle.dynamic_areas.specs.Ground.{Estate}
 use Rattle.rma.specs.Calls.{rma_claimed, rma_extended, rma_freed}
 use Rattle.instances.specs.Reading.{told}
 use Rattle.instances_ground.specs.World.{World}
+use Rattle.instances_plans.specs.Plans.{Plan}
 use Rattle.instances_table.specs.Changes.{preferring, renamed}
 use Rattle.instances_table.specs.Modules.{Module}
 use Rattle.swi_dispatch_answers.specs.Refusals.{or_error}
@@ -27,8 +28,8 @@ use Rattle.swi_dispatch_answers.specs.declared.refusal.Refusal.{Refusal}
 use Rattle.swi_dispatch_modules.specs.Calls.{module_called as area_called, module_called_for as area_called_for}
 use Rattle.swi_dispatch_modules.specs.Naming.{instance_found, instance_preferred, instance_renamed, place_asked, with_told}
 use Rattle.swi_dispatch_plans.specs.ImagePlans.{instantiation_planned}
-use Rattle.swi_dispatch_plans.specs.ModulePlans.{clear_planned, delete_planned, reinit_planned}
-use Rattle.swi_dispatch.specs.Additions.{load_planned}
+use Rattle.swi_dispatch_plans.specs.ModulePlans.{clear_planned, delete_planned, reinit_planned, tidy_planned}
+use Rattle.swi_dispatch.specs.Additions.{load_planned, plan_alone}
 use Rattle.swi_dispatch.specs.Errors.{with_error}
 use Rattle.swi_dispatch.specs.Gates.{carried_on}
 use Rattle.swi_dispatch.specs.MachineState.{MachineState, machine_estate, machine_world, setting_of, with_world}
@@ -53,7 +54,7 @@ use Rattle.live_bytes.proofs.Growing.{same_kept}
 use Rattle.live_bytes.proofs.ModuleCalls.{HoldsOver, Planning, begun_has, os_module_has, plan_by}
 use Rattle.live_bytes.proofs.Planned.{IsPlannedStill, alone_still, clear_none, copy_still, delete_none, insertion_still, instantiation_calm, load_still, named_load_still, reinit_none}
 use Rattle.live_bytes.specs.AreaLaws.{KeepsBoth}
-use Rattle.live_bytes.specs.Changes.{is_tidy}
+use Rattle.live_bytes.specs.Changes.{begins_tidy, is_tidy}
 
 -- an error's block lies in the system pages
 pub error_both : (s : MachineState) (e : Refusal) → HasStore s → KeepsBoth s.store (with_error s e).store
@@ -155,20 +156,25 @@ module _ (s : MachineState) (has : HasModules s) where
         (opened_same (gone_back s.cpu.psr s false next) o.text.items o.start.slot o.start.at fit.estate);
   }
 
-  -- all plans but that of a tidy
-  still_by : (images : List Entry) (next : ℕ) (why : Option ModuleReason) → is_tidy why ≡ false → Planning (IsPlannedStill s) (plan_by images s next why)
+  -- all plans but that of a tidy, which may be refused
+  refused_still : (r : Result Plan ErrorNumber) → is_ok r ≡ false → IfOk (bind r (λ p. Ok (plan_alone s p))) (IsPlannedStill s)
+  refused_still (Ok p) refused = absurd (true≢false refused)
+  refused_still (Err e) refused = tt
+
+  still_by : (images : List Entry) (next : ℕ) (why : Option ModuleReason) → (is_tidy why && is_ok (tidy_planned (setting_of s) next)) ≡ false
+      → Planning (IsPlannedStill s) (plan_by images s next why)
   still_by images next (Some reason.Run) calm = named_load_still images s true fit
   still_by images next (Some reason.Load) calm = named_load_still images s false fit
   still_by images next (Some reason.Reinit) calm = alone_still s (reinit_planned (setting_of s)) (reinit_none (setting_of s))
   still_by images next (Some reason.Delete) calm = alone_still s (delete_planned (setting_of s)) (delete_none (setting_of s))
-  still_by images next (Some reason.Tidy) calm = absurd (true≢false calm)
+  still_by images next (Some reason.Tidy) calm = refused_still (tidy_planned (setting_of s) next) calm
   still_by images next (Some reason.Clear) calm = alone_still s (clear_planned (setting_of s)) (clear_none (setting_of s))
   still_by images next (Some reason.Insert) calm = insertion_still s
   still_by images next (Some reason.InsertCopy) calm = copy_still s fit
   still_by images next (Some reason.Instantiate) calm = alone_still s (instantiation_planned (setting_of s)) (instantiation_calm (setting_of s))
   still_by images next other calm = tt
 
-  pub os_module_both : (images : List Entry) (x : Bool) (next number : ℕ) → is_tidy (module_reason (register_of s.cpu 0)) ≡ false
+  pub os_module_both : (images : List Entry) (x : Bool) (next number : ℕ) → begins_tidy s next ≡ false
       → KeepsBoth s.store (os_module_called images s x next number).now.store
   os_module_both images x next number calm =
       os_module_has s has (KeepsBoth s.store) (IsPlannedStill s) both_over images x next number

@@ -2,13 +2,12 @@
 use Rattle.std.proofs.Common.{ℕ, ◌≡◌, ◌+◌, ◌%◌, ◌^◌, ◌&&◌, ◌||◌, ◌∙◌, ◌⊎◌, Bool, true, false, List, Option, Some, None, Result, Ok, Err, refl, sym, ap, subst, inl, inr}
 use Rattle.std.specs.Prelude.{if◌then◌else◌}
 use Rattle.std.proofs.lemmas.Bool.{both_ways, cases_Bool, false_from_ne_true, false≢true, or_left}
-use Rattle.profile.specs.Reasons.{module_reason}
 use Rattle.profile.specs.SwiNames.{swi_of}
 use Rattle.profile.specs.Word.{bit_of}
 use Rattle.profile.specs.declared.swi.SwiName.{SwiName}
 use Rattle.profile.specs.declared.swi.SwiName.TheVariants as swi
 use Rattle.address_map.specs.Bytes.{Bytes, in_range}
-use Rattle.arm_step.specs.State.{State, register_of}
+use Rattle.arm_step.specs.State.{State}
 use Rattle.arm_step.specs.declared.turn.Turn.{Turn}
 use Rattle.arm_step.specs.declared.turn.Turn.TheVariants as turn
 use Rattle.image_loader.specs.Entries.{Entry}
@@ -40,16 +39,16 @@ use Rattle.live_bytes.proofs.Heaps.{HasHeaps, given_heaps, has_heaps, held_all, 
 use Rattle.live_bytes.proofs.ModuleRows.{os_module_both}
 use Rattle.live_bytes.proofs.Rows.{other_keeps}
 use Rattle.live_bytes.specs.AreaLaws.{KeepsBoth}
-use Rattle.live_bytes.specs.Changes.{IsHeld, IsOfInnerHeap, LiveBytesStay, MayChange, is_flex_name, is_tidy, slides_on}
+use Rattle.live_bytes.specs.Changes.{IsHeld, IsOfInnerHeap, LiveBytesStay, MayChange, begins_tidy, is_flex_name, slides_on}
 use Rattle.live_bytes.specs.FlexLaws.{IsAnchorByte}
 
 module _ (images : List Entry) (s : MachineState) (has : HasHeaps s) (start a : ℕ) where
   -- what a call leaves of the byte; `slides` says whether it may move blocks of the module area together
-  abbrev CallChanges : Option SwiName → Bool → Store → Type 0
+  abbrev CallChanges : Option SwiName → Bool → MachineState → Type 0
   CallChanges name slides t =
-      (t.bytes.at a ≡ s.store.bytes.at a)
-      ⊎ (((is_flex_name name ≡ true) × IsAnchorByte s.store t a)
-      ⊎ (((start ≡ 0x01800000) × (slides ≡ true)) ⊎ IsOfInnerHeap name (register_of s.cpu 1) t start a))
+      (t.store.bytes.at a ≡ s.store.bytes.at a)
+      ⊎ (((is_flex_name name ≡ true) × IsAnchorByte s.store t.store a)
+      ⊎ (((start ≡ 0x01800000) × (slides ≡ true)) ⊎ IsOfInnerHeap name s.cpu s.store t start a))
 
   host : (t : Store) (held : IsHeld s.store t start a) → (find_heap held.old.start s.store.heaps ≡ Some held.old) × (in_range held.old.start held.old.end a ≡ true)
   host t held = (own_found s.store t start a held, held_inside s t start a has held)
@@ -74,18 +73,18 @@ module _ (images : List Entry) (s : MachineState) (has : HasHeaps s) (start a : 
   abbrev named : Bool → ℕ → ℕ → Option SwiName → Outcome
   named x next number name = if is_exit name then halted s halt.Exit else called_by images s x next number name
 
-  named_both : (x : Bool) (next number : ℕ) (name : Option SwiName) → is_module_name name ≡ true → is_tidy (module_reason (register_of s.cpu 0)) ≡ false
+  named_both : (x : Bool) (next number : ℕ) (name : Option SwiName) → is_module_name name ≡ true → begins_tidy s next ≡ false
       → KeepsBoth s.store (named x next number name).now.store
   named_both x next number (Some swi.Module) is calm = os_module_both s has.modules images x next number calm
   named_both x next number None is calm = absurd (false≢true is)
   named_both x next number (Some name) is calm = absurd (false≢true is)
 
-  called_both : (x : Bool) (next number : ℕ) → is_module_name (swi_of number) ≡ true → is_tidy (module_reason (register_of s.cpu 0)) ≡ false
+  called_both : (x : Bool) (next number : ℕ) → is_module_name (swi_of number) ≡ true → begins_tidy s next ≡ false
       → KeepsBoth s.store (called images s x next number).now.store
   unfolding called
   called_both x next number is calm = named_both x next number (swi_of number) is calm
 
-  module_byte : (x : Bool) (next number : ℕ) (tidy : Bool) → is_module_name (swi_of number) ≡ true → is_tidy (module_reason (register_of s.cpu 0)) ≡ tidy
+  module_byte : (x : Bool) (next number : ℕ) (tidy : Bool) → is_module_name (swi_of number) ≡ true → begins_tidy s next ≡ tidy
       → IsHeld s.store (called images s x next number).now.store start a
       → ((called images s x next number).now.store.bytes.at a ≡ s.store.bytes.at a) ⊎ ((start ≡ 0x01800000) × (tidy ≡ true))
   module_byte x next number tidy is same held = elim (has.kinds start held.old held.found) [
@@ -137,21 +136,22 @@ module _ (images : List Entry) (s : MachineState) (has : HasHeaps s) (start a : 
         (other_keeps s has images x next number (module_swi, (heap, other))) held)
   ]
 
-  abbrev tidies : ℕ → Bool
-  tidies number = is_module_name (swi_of number) && is_tidy (module_reason (register_of s.cpu 0))
+  abbrev tidies : ℕ → ℕ → Bool
+  tidies next number = is_module_name (swi_of number) && begins_tidy s next
 
-  from_rest : (name : Option SwiName) (slides : Bool) (t : Store) → (t.bytes.at a ≡ s.store.bytes.at a) ⊎ ((is_flex_name name ≡ true) × IsAnchorByte s.store t a)
+  from_rest : (name : Option SwiName) (slides : Bool) (t : MachineState)
+      → (t.store.bytes.at a ≡ s.store.bytes.at a) ⊎ ((is_flex_name name ≡ true) × IsAnchorByte s.store t.store a)
       → CallChanges name slides t
   from_rest name slides t (inl same) = inl same
   from_rest name slides t (inr anchor) = inr (inl anchor)
 
-  from_module : (name : Option SwiName) (tidy slides : Bool) (t : Store) → (tidy ≡ true → slides ≡ true)
-      → (t.bytes.at a ≡ s.store.bytes.at a) ⊎ ((start ≡ 0x01800000) × (tidy ≡ true)) → CallChanges name slides t
+  from_module : (name : Option SwiName) (tidy slides : Bool) (t : MachineState) → (tidy ≡ true → slides ≡ true)
+      → (t.store.bytes.at a ≡ s.store.bytes.at a) ⊎ ((start ≡ 0x01800000) × (tidy ≡ true)) → CallChanges name slides t
   from_module name tidy slides t more (inl same) = inl same
   from_module name tidy slides t more (inr slid) = inr (inr (inl (slid.0, more slid.1)))
 
-  from_heap : (name : Option SwiName) (slides : Bool) (t : Store)
-      → (t.bytes.at a ≡ s.store.bytes.at a) ⊎ IsOfInnerHeap name (register_of s.cpu 1) t start a → CallChanges name slides t
+  from_heap : (name : Option SwiName) (slides : Bool) (t : MachineState)
+      → (t.store.bytes.at a ≡ s.store.bytes.at a) ⊎ IsOfInnerHeap name s.cpu s.store t start a → CallChanges name slides t
   from_heap name slides t (inl same) = inl same
   from_heap name slides t (inr inner) = inr (inr (inr inner))
 
@@ -162,37 +162,40 @@ module _ (images : List Entry) (s : MachineState) (has : HasHeaps s) (start a : 
 
   pub call_byte : (x : Bool) (next number : ℕ) → IsSound (called images s x next number).now.store
       → IsHeld s.store (called images s x next number).now.store start a
-      → CallChanges (swi_of number) (tidies number) (called images s x next number).now.store
+      → CallChanges (swi_of number) (tidies next number) (called images s x next number).now
   call_byte x next number sound held =
-      let t : Store = (called images s x next number).now.store in
+      let t : MachineState = (called images s x next number).now in
       elim (cases_Bool (is_heap_swi (swi_of number))) [
-        | inl heap ↦ from_heap (swi_of number) (tidies number) t (heap_byte images s has start a x next number (heap_swi (swi_of number) heap) sound held)
+        | inl heap ↦ from_heap (swi_of number) (tidies next number) t (heap_byte images s has start a x next number (heap_swi (swi_of number) heap) sound held)
         | inr no_heap ↦ elim (cases_Bool (is_module_name (swi_of number))) [
           | inl is ↦
-              let tidy : Bool = is_tidy (module_reason (register_of s.cpu 0)) in
-              from_module (swi_of number) tidy (tidies number) t (both_true (is_module_name (swi_of number)) tidy is)
+              let tidy : Bool = begins_tidy s next in
+              from_module (swi_of number) tidy (tidies next number) t (both_true (is_module_name (swi_of number)) tidy is)
               (module_byte x next number tidy is refl held)
-          | inr other ↦ from_rest (swi_of number) (tidies number) t (rest_byte x next number other no_heap held)
+          | inr other ↦ from_rest (swi_of number) (tidies next number) t (rest_byte x next number other no_heap held)
         ]
       ]
 
   -- a step
+  abbrev next_of : ℕ
+  next_of = (s.cpu.pc + 4) % 2 ^ 26
+
   abbrev turn_slides : Result (State × Bytes) Turn → Bool
-  turn_slides r = (is_module_name (swi_of_turn r) && is_tidy (module_reason (register_of s.cpu 0))) || (is_at_gate r && slides_on s.cpu s.tables.plan)
+  turn_slides r = (is_module_name (swi_of_turn r) && begins_tidy s next_of) || (is_at_gate r && slides_on s.cpu s.tables.plan)
 
-  abbrev TurnChanges : Result (State × Bytes) Turn → Store → Type 0
+  abbrev TurnChanges : Result (State × Bytes) Turn → MachineState → Type 0
   TurnChanges r t =
-      (t.bytes.at a ≡ s.store.bytes.at a)
-      ⊎ (IsStoredPlain s a ⊎ (((is_flex_name (swi_of_turn r) ≡ true) × IsAnchorByte s.store t a)
-      ⊎ (((start ≡ 0x01800000) × (turn_slides r ≡ true)) ⊎ IsOfInnerHeap (swi_of_turn r) (register_of s.cpu 1) t start a)))
+      (t.store.bytes.at a ≡ s.store.bytes.at a)
+      ⊎ (IsStoredPlain s a ⊎ (((is_flex_name (swi_of_turn r) ≡ true) × IsAnchorByte s.store t.store a)
+      ⊎ (((start ≡ 0x01800000) × (turn_slides r ≡ true)) ⊎ IsOfInnerHeap (swi_of_turn r) s.cpu s.store t start a)))
 
-  from_call : (n : ℕ) (t : Store) → CallChanges (swi_of (without_x n)) (tidies (without_x n)) t → TurnChanges (Err (turn.Swi n)) t
+  from_call : (n : ℕ) (t : MachineState) → CallChanges (swi_of (without_x n)) (tidies next_of (without_x n)) t → TurnChanges (Err (turn.Swi n)) t
   from_call n t (inl same) = inl same
   from_call n t (inr (inl anchor)) = inr (inr (inl anchor))
-  from_call n t (inr (inr (inl slid))) = inr (inr (inr (inl (slid.0, or_left (tidies (without_x n)) false slid.1))))
+  from_call n t (inr (inr (inl slid))) = inr (inr (inr (inl (slid.0, or_left (tidies next_of (without_x n)) false slid.1))))
   from_call n t (inr (inr (inr inner))) = inr (inr (inr (inr inner)))
 
-  from_stored : (r : Result (State × Bytes) Turn) (t : Store) → (t.bytes.at a ≡ s.store.bytes.at a) ⊎ IsStoredPlain s a → TurnChanges r t
+  from_stored : (r : Result (State × Bytes) Turn) (t : MachineState) → (t.store.bytes.at a ≡ s.store.bytes.at a) ⊎ IsStoredPlain s a → TurnChanges r t
   from_stored r t (inl same) = inl same
   from_stored r t (inr stored) = inr (inl stored)
 
@@ -212,20 +215,20 @@ module _ (images : List Entry) (s : MachineState) (has : HasHeaps s) (start a : 
     ]
   ]
 
-  from_gate : (t : Store) → (t.bytes.at a ≡ s.store.bytes.at a) ⊎ ((start ≡ 0x01800000) × (slides_on s.cpu s.tables.plan ≡ true))
+  from_gate : (t : MachineState) → (t.store.bytes.at a ≡ s.store.bytes.at a) ⊎ ((start ≡ 0x01800000) × (slides_on s.cpu s.tables.plan ≡ true))
       → TurnChanges (Err turn.Gate) t
   from_gate t (inl same) = inl same
   from_gate t (inr slid) = inr (inr (inr (inl (slid.0, slid.1))))
 
   pub turn_byte : (r : Result (State × Bytes) Turn) → instructed s ≡ r → IsSound (turned images s r).now.store
-      → IsHeld s.store (turned images s r).now.store start a → TurnChanges r (turned images s r).now.store
-  turn_byte (Ok w) is sound held = from_stored (Ok w) (turned images s (Ok w)).now.store (byte_done s w a is)
+      → IsHeld s.store (turned images s r).now.store start a → TurnChanges r (turned images s r).now
+  turn_byte (Ok w) is sound held = from_stored (Ok w) (turned images s (Ok w)).now (byte_done s w a is)
   turn_byte (Err turn.Done) is sound held = inl refl
   turn_byte (Err (turn.Swi n)) is sound held =
-      from_call n (turned images s (Err (turn.Swi n))).now.store
-      (call_byte (bit_of n 17) ((s.cpu.pc + 4) % 2 ^ 26) (without_x n) sound held)
+      from_call n (turned images s (Err (turn.Swi n))).now
+      (call_byte (bit_of n 17) next_of (without_x n) sound held)
   turn_byte (Err turn.Gate) is sound held =
-      from_gate (turned images s (Err turn.Gate)).now.store (gate_byte (slides_on s.cpu s.tables.plan) refl held)
+      from_gate (turned images s (Err turn.Gate)).now (gate_byte (slides_on s.cpu s.tables.plan) refl held)
   turn_byte (Err (turn.Fault f)) is sound held = inl refl
 
 -- where the machine is halted nothing happens
@@ -281,8 +284,8 @@ call_stays images s number words start a None goes state after held =
     subst (λ (p : Outcome). (p.now.store.bytes.at a ≡ s.store.bytes.at a) ⊎ MayChange s p.now (Call number words) start a) (sym call)
     (named_call _ _ _ (subst (λ (t : Store). (o.now.store.bytes.at a ≡ t.bytes.at a)
     ⊎ (((is_flex_name (outside_name number) ≡ true) × IsAnchorByte t o.now.store a)
-    ⊎ (((start ≡ 0x01800000) × ((is_module_name (outside_name number) && is_tidy (module_reason (register_of u.cpu 0))) ≡ true))
-    ⊎ IsOfInnerHeap (outside_name number) (register_of u.cpu 1) o.now.store start a))) stays byte))
+    ⊎ (((start ≡ 0x01800000) × ((is_module_name (outside_name number) && begins_tidy u u.cpu.pc) ≡ true))
+    ⊎ IsOfInnerHeap (outside_name number) u.cpu t o.now start a))) stays byte))
 
 pub live_bytes_stay : LiveBytesStay
 live_bytes_stay images s Step start a state after held = step_stays images s start a s.halt refl state after held

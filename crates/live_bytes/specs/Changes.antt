@@ -1,8 +1,8 @@
 -- Which bytes that live blocks hold may change over a move of a machine, a store call from outside or a step: those
 -- that its instruction stores to; words of anchors, by flex calls; those of the module area where its blocks are moved
--- together; and those of a heap in the block, where the call is on that heap or makes it (RISC OS 3 Programmer's
--- Reference Manual, "OS_Heap" and "OS_Module"; Acorn C manual, "flex").
-use Rattle.std.specs.Prelude.{ℕ, ◌≡◌, ◌-◌, ◌+◌, ◌&&◌, ◌||◌, ◌⊎◌, Bool, true, false, List, [], ◌∷◌, Option, Some, None, Ok}
+-- together; and those that a call of OS_Heap writes on a heap in the block, or one that makes it there (RISC OS 3
+-- Programmer's Reference Manual, "OS_Heap" and "OS_Module"; Acorn C manual, "flex").
+use Rattle.std.specs.Prelude.{ℕ, ◌≡◌, ◌-◌, ◌+◌, ◌%◌, ◌^◌, ◌&&◌, ◌||◌, ◌⊎◌, is_ok, Bool, true, false, List, [], ◌∷◌, Option, Some, None, Ok}
 use Rattle.profile.specs.Reasons.{module_reason}
 use Rattle.profile.specs.declared.reason.ModuleReason.{ModuleReason}
 use Rattle.profile.specs.declared.reason.ModuleReason.TheVariants as reason
@@ -18,15 +18,17 @@ use Rattle.os_heap_lists.specs.Heap.{HeapList}
 use Rattle.os_heap_lists.specs.Lists.{live_total}
 use Rattle.os_heap.specs.Nesting.{IsWithin}
 use Rattle.os_heap.specs.Store.{Store, find_heap, is_in_flex_store, owned_in}
+use Rattle.swi_dispatch_plans.specs.ModulePlans.{tidy_planned}
 use Rattle.swi_dispatch.specs.Boot.{poked}
 use Rattle.swi_dispatch.specs.Gates.{outcome_left}
-use Rattle.swi_dispatch.specs.MachineState.{MachineState}
+use Rattle.swi_dispatch.specs.MachineState.{MachineState, setting_of}
 use Rattle.swi_dispatch.specs.Step.{instructed, module_loaded}
 use Rattle.heap_alone.specs.ByteLaws.{IsStoredPlain}
 use Rattle.heap_alone.specs.Laws.{IsState}
 use Rattle.heap_alone.specs.ModuleMoves.{is_at_gate, is_module_name}
-use Rattle.heap_alone.specs.Moves.{Call, Move, Step, core_of, moved, swi_made}
+use Rattle.heap_alone.specs.Moves.{Call, Move, Step, core_of, given, moved, outside_name, swi_made}
 use Rattle.live_bytes.specs.FlexLaws.{IsAnchorByte}
+use Rattle.live_bytes.specs.HeapWrites.{IsWrittenByCall}
 
 -- A byte that a block of the heap at `start` holds in two stores: the block is live in both, with its bytes at one
 -- address, and of any size.
@@ -66,23 +68,29 @@ abbrev pub is_tidy : Option ModuleReason → Bool
 is_tidy (Some reason.Tidy) = true
 is_tidy other = false
 
+-- A tidy is called, and isn't refused. It goes back to `next`, which says nothing of whether it is refused.
+abbrev pub begins_tidy : MachineState → ℕ → Bool
+begins_tidy s next = is_tidy (module_reason (register_of s.cpu 0)) && is_ok (tidy_planned (setting_of s) next)
+
 abbrev pub calls_tidy : MachineState → Move → Bool
-calls_tidy s m = is_module_name (swi_made s m) && is_tidy (module_reason (register_of (core_of s m) 0))
+calls_tidy s (Call number words) = is_module_name (outside_name number) && begins_tidy (given s words) (given s words).cpu.pc
+calls_tidy s Step = is_module_name (swi_made s Step) && begins_tidy s ((s.cpu.pc + 4) % 2 ^ 26)
 
 abbrev pub may_slide : MachineState → Move → Bool
 may_slide s (Call number words) = calls_tidy s (Call number words)
 may_slide s Step = calls_tidy s Step || (is_at_gate (instructed s) && slides_on s.cpu s.tables.plan)
 
--- A call of OS_Heap was made, on the heap that starts at `heap` after it. That one lies in a block of the heap at
+-- A call of OS_Heap wrote the byte, on the heap that starts at R1 after it. That one lies in a block of the heap at
 -- `start`, and the byte is in its range.
-pub record IsOfInnerHeap (name : Option SwiName) (heap : ℕ) (t : Store) (start a : ℕ) : Type 0 where
+pub record IsOfInnerHeap (name : Option SwiName) (cpu : State) (s : Store) (t : MachineState) (start a : ℕ) : Type 0 where
   pub call : name ≡ Some swi.Heap
   pub inner : HeapList
-  pub called : find_heap heap t.heaps ≡ Some inner
+  pub called : find_heap (register_of cpu 1) t.store.heaps ≡ Some inner
   pub outer : HeapList
-  pub round : find_heap start t.heaps ≡ Some outer
+  pub round : find_heap start t.store.heaps ≡ Some outer
   pub within : IsWithin outer inner
   pub inside : in_range inner.start inner.end a ≡ true
+  pub written : IsWrittenByCall cpu s t a
 
 -- what may change a byte of a block of the heap at `start`
 abbrev pub MayChange : MachineState → MachineState → Move → ℕ → ℕ → Type 0
@@ -90,11 +98,11 @@ MayChange s t m start a =
     ((m ≡ Step) × IsStoredPlain s a)
     ⊎ (((is_flex_name (swi_made s m) ≡ true) × IsAnchorByte s.store t.store a)
     ⊎ (((start ≡ 0x01800000) × (may_slide s m ≡ true))
-    ⊎ IsOfInnerHeap (swi_made s m) (register_of (core_of s m) 1) t.store start a))
+    ⊎ IsOfInnerHeap (swi_made s m) (core_of s m) s.store t start a))
 
 -- Over each move, of blocks of all heaps and of the module area, no other byte changes. So a call of OS_Heap changes no
--- byte of a block, in whatever heap, but those of a heap that lies in that block; of these, none that a block of that
--- heap holds too, since they are judged as its own.
+-- byte of a block, in whatever heap, but words of the list of a heap that lies in that block, and, where it moves a block
+-- of that heap, what it copies there. A refused call, a refused tidy too, changes none.
 abbrev pub LiveBytesStay : Type 0
 LiveBytesStay =
     (images : List Entry) (s : MachineState) (m : Move) (start a : ℕ) → IsState s → IsState (moved images s m)

@@ -3,4 +3,7 @@ pub use Rattle.heaps_kept
 pub mod AreaLaws
 pub mod Changes
 pub mod FlexLaws
+pub mod FlexPlaces
+pub mod HeapWrites
+pub mod RefusedCalls
 pub mod Runs

@@ -3,6 +3,8 @@
 ghost use Rattle.live_bytes.specs.AreaLaws.{AreaCallsKeepBoth, ExtendsKeepBlocks};
 ghost use Rattle.live_bytes.specs.Changes.{FlexBytesStay, LiveBytesStay, LoadsKeepLiveBytes, PokesChangeOneWord};
 ghost use Rattle.live_bytes.specs.FlexLaws.{FlexCallsChangeAnchors};
+ghost use Rattle.live_bytes.specs.FlexPlaces.{FlexStoreStays, LoadsKeepFlexStore};
+ghost use Rattle.live_bytes.specs.RefusedCalls.{RefusedCallsLeaveAll};
 ghost use Rattle.live_bytes.specs.Runs.{LiveBytesStayOver, RunsAreSteps};
 
 /// A change of size in the module area, with the growth of the area that it makes: each block there that was live and
@@ -23,8 +25,9 @@ pub fn flex_calls_change_anchors()
 
 /// Over each move of a machine, a byte that a live block holds before it and after it stays what it is: in each heap
 /// that a guest made, and in the module area. But the move's instruction may store there, where no record is kept; a
-/// flex call may write the word of an anchor; a tidy may move the blocks of the module area; and a call of OS_Heap on a
-/// heap that lies in the block, or that makes it there, may write the bytes of that heap.
+/// flex call may write the word of an anchor; a tidy that isn't refused may move the blocks of the module area; and a
+/// call of OS_Heap that is done, on a heap that lies in the block, or that makes it there, may write the words that the
+/// list of that heap spells, and copy what a block of it holds that it moves.
 pub fn live_bytes_stay()
     ensures { LiveBytesStay }
 {}
@@ -42,6 +45,13 @@ pub fn flex_bytes_stay()
     ensures { FlexBytesStay }
 {}
 
+/// The flex store and its blocks stay where they are over each move that calls no flex call, a tidy and a change of areas
+/// too: its range, the blocks with their anchors, places and sizes, and which words are anchors and headers.
+pub fn flex_store_stays()
+    ensures moves { FlexStoreStays }
+    ensures loads { LoadsKeepFlexStore }
+{}
+
 /// A module that is loaded from outside changes no byte that live blocks hold before it and after it.
 pub fn loads_keep_live_bytes()
     ensures { LoadsKeepLiveBytes }
@@ -50,4 +60,12 @@ pub fn loads_keep_live_bytes()
 /// A word that is stored from outside is one in which no record is kept, and no other byte changes.
 pub fn pokes_change_one_word()
     ensures { PokesChangeOneWord }
+{}
+
+/// A call by its name that goes on with V set leaves all as it was but the error's block, R0 of the caller's mode, V, R14
+/// of supervisor mode and the program counter: the lists of heaps, areas, modules and frames, the flex store, memory and
+/// all other registers. It is said of all calls but OS_ChangeDynamicArea, which may move pages and err, and the reasons of
+/// OS_Module that may run or start module code.
+pub fn refused_calls_leave_all()
+    ensures { RefusedCallsLeaveAll }
 {}
