@@ -15,8 +15,8 @@ use Rattle.flex_laws.specs.Laws.{anchor_of, IsDoneIn, IsOfWords, IsSpelledState}
 use Rattle.flex_laws.specs.Numbered.{blocks_seen, place_of}
 use Rattle.flex_laws.proofs.Calls.{calls_go_by_numbers, no_room_changes_nothing}
 use Rattle.flex_names.specs.Laws.{IsCalledNamed}
-use Rattle.flex_names.specs.Names.{place_named}
-use Rattle.flex_names.specs.Runs.{Apart, Called, FindsNoRoom, is_of_store, IsLeftAlone, IsSpelled, IsTurn, IsTurnNamed, left_by, RunsGoByNames, Turn}
+use Rattle.flex_names.specs.Names.{Name, place_named}
+use Rattle.flex_names.specs.Runs.{Apart, Called, FindsNoRoom, is_of_store, GoesByAnswer, IsLeftAlone, IsNameOf, IsSpelled, IsTurn, IsTurnNamed, left_by, RunsGoByNames, Turn}
 use Rattle.flex_names.proofs.Done.{done_calls_go_by_names}
 use Rattle.flex_names.proofs.Found.{some_same}
 use Rattle.flex_names.proofs.Words.{words_have_names}
@@ -99,21 +99,33 @@ record IsTurned (t : FlexState) (x : Turn) : Type 0 where
   spelled : IsSpelled (left_by x)
   low : IsLow (left_by x)
 
+room_named : (places : Store) (t u : FlexState) (call : FlexCall) (s : FlexStore) → t.flex ≡ Some s → IsSpelledState t s → IsLow t → IsOfWords call
+    → places.bytes ≡ t.bytes → IsDoneIn places t call u
+    → (name : Name) × (IsNameOf name t (anchor_of call) × IsCalledNamed call name (blocks_seen t.flex) (blocks_seen u.flex))
+room_named places t u call s own sp low word bytes done =
+    let name = words_have_names t s sp (anchor_of call) in (
+      name.0,
+      (
+        λ v is. subst (λ (w : FlexStore). place_named (blocks_seen t.flex) name.0 ≡ Some (place_of w (anchor_of call))) (some_same s v (sym own ∙ is))
+            (subst (λ (f : Option FlexStore). place_named (blocks_seen f) name.0 ≡ Some (place_of s (anchor_of call))) (sym own) name.1),
+        subst (λ (f : Option FlexStore). IsCalledNamed call name.0 (blocks_seen f) (blocks_seen u.flex)) (sym own)
+            (done_calls_go_by_names places t u s call name.0 word own sp bytes low done name.1),
+      ),
+    )
+
+call_named : (places : Store) (t u : FlexState) (call : FlexCall) (s : FlexStore) → t.flex ≡ Some s → IsSpelledState t s → IsLow t → IsOfWords call
+    → places.bytes ≡ t.bytes → GoesByAnswer places t call u
+call_named places t u call s own sp low word bytes = record {
+  room = room_named places t u call s own sp low word bytes;
+  none = no_room places t u call;
+}
+
 called : (places : Store) (t u : FlexState) (call : FlexCall) (s : FlexStore) → t.flex ≡ Some s → IsSpelledState t s → IsLow t → IsOfWords call
     → places.bytes ≡ t.bytes → IsDoneIn places t call u → IsTurned t (Called places call u)
 called places t u call s own sp low word bytes done =
     let left = calls_go_by_numbers places t u s call word own sp bytes low done in
-    let name = words_have_names t s sp (anchor_of call) in
     record {
-      named = inl (
-        name.0,
-        (
-          λ v is. subst (λ (w : FlexStore). place_named (blocks_seen t.flex) name.0 ≡ Some (place_of w (anchor_of call))) (some_same s v (sym own ∙ is))
-              (subst (λ (f : Option FlexStore). place_named (blocks_seen f) name.0 ≡ Some (place_of s (anchor_of call))) (sym own) name.1),
-          subst (λ (f : Option FlexStore). IsCalledNamed call name.0 (blocks_seen f) (blocks_seen u.flex)) (sym own)
-              (done_calls_go_by_names places t u s call name.0 word own sp bytes low done name.1),
-        ),
-      );
+      named = call_named places t u call s own sp low word bytes;
       spelled = (record { start = s.start; end = s.end; blocks = left.blocks }, (left.flex, left.spelled));
       low = λ a is. low a (sym (ap (λ (f : ℕ → Bool). f a) left.mapped) ∙ is);
     }
@@ -123,7 +135,7 @@ turned t (Called places call u) spelled low is = elim is.1.1 [
   | inl done ↦ called places t u call spelled.0 spelled.1.0 spelled.1.1 low is.0 is.1.0 done
   | inr none ↦
       let same : u ≡ t = no_room places t u call none in
-      record { named = inr same; spelled = subst (λ (x : FlexState). IsSpelled x) (sym same) spelled; low = subst (λ (x : FlexState). IsLow x) (sym same) low }
+      record { named = call_named places t u call spelled.0 spelled.1.0 spelled.1.1 low is.0 is.1.0; spelled = subst (λ (x : FlexState). IsSpelled x) (sym same) spelled; low = subst (λ (x : FlexState). IsLow x) (sym same) low }
 ]
 turned t (Apart u) spelled low is =
     let alone : IsLeftAlone t u spelled.0 = is spelled.0 spelled.1.0 in

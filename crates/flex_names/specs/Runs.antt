@@ -55,10 +55,15 @@ left_at_last t (x ∷ xs) = left_at_last (left_by x) xs
 abbrev pub IsNameOf : Name → FlexState → ℕ → Type 0
 IsNameOf name t a = (s : FlexStore) → t.flex ≡ Some s → place_named (blocks_seen t.flex) name ≡ Some (place_of s a)
 
--- A call goes by its rule, on the name of its word, or nothing is changed; and what leaves the store alone changes nothing that is seen.
+-- A call that answers that there is room goes by its rule, on the name of its word; one that answers that there is none changes nothing.
+pub record GoesByAnswer (places : Store) (t : FlexState) (call : FlexCall) (u : FlexState) : Type 0 where
+  pub room : IsDoneIn places t call u
+      → (name : Name) × (IsNameOf name t (anchor_of call) × IsCalledNamed call name (blocks_seen t.flex) (blocks_seen u.flex))
+  pub none : FindsNoRoom places t call u → u ≡ t
+
+-- And what leaves the store alone changes nothing that is seen.
 abbrev pub IsTurnNamed : FlexState → Turn → Type 0
-IsTurnNamed t (Called places call u) =
-    ((name : Name) × (IsNameOf name t (anchor_of call) × IsCalledNamed call name (blocks_seen t.flex) (blocks_seen u.flex))) ⊎ (u ≡ t)
+IsTurnNamed t (Called places call u) = GoesByAnswer places t call u
 IsTurnNamed t (Apart u) = blocks_seen u.flex ≡ blocks_seen t.flex
 
 abbrev pub GoByNames : FlexState → List Turn → Type 0

@@ -38,7 +38,7 @@ pub fn words_have_names()
     ensures { WordsHaveNames }
 {}
 
-/// So whatever calls are made, in whatever order, and whatever is done between them that leaves the store alone: what each name shows changes by the rules of the calls alone, in which no address in the store stands.
+/// So whatever calls are made, in whatever order, and whatever is done between them that leaves the store alone: what each name shows changes by the rules of the calls that find room, in which no address in the store stands, and by nothing else.
 pub fn runs_go_by_names()
     ensures { RunsGoByNames }
 {}
