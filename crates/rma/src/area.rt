@@ -1,9 +1,10 @@
-ghost use Rattle.std.specs.Prelude.{◌≡◌};
+ghost use Rattle.std.specs.Prelude.{◌≡◌, Ok};
 ghost use Rattle.os_heap.specs.Store.{store_of, IsSound};
 ghost use Rattle.rma.specs.Calls.{rma_described};
 
 use address_map::AddressMap;
 use os_heap::Heaps;
+use profile::ErrorNumber;
 use profile::memory_map::RMA_START;
 
 /// The module area's heap. It stands in the words of memory alone.
@@ -16,17 +17,17 @@ impl Rma {
         Rma
     }
 
-    /// The bytes of the largest block that can be claimed as the area stands, and all that are free.
+    /// The bytes of the largest block that can be claimed as the area stands, and all that are free. It is never refused.
     ///
     /// RISC OS 3 Programmer's Reference Manual, "OS_Module", reason 5.
     #[tactic(auto, unfolding(crate::specs::Calls::rma_described))]
-    pub fn describe(&self, map: &AddressMap) -> (u32, u32)
+    pub fn describe(&self, map: &AddressMap) -> Result<(u32, u32), ErrorNumber>
         requires { IsSound (store_of map.now) }
-        ensures { result ≡ rma_described (store_of map.now) }
+        ensures { result ≡ Ok (rma_described (store_of map.now)) }
     {
         match Heaps::new().describe(map, RMA_START).answer {
-            Ok(room) => room,
-            Err(_) => (0, 0),
+            Ok(room) => Ok(room),
+            Err(_) => Ok((0, 0)),
         }
     }
 }

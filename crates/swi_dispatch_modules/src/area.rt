@@ -22,7 +22,7 @@ pub(crate) fn describe_area(cpu: &mut Cpu, memory: &AddressMap) -> Result<(), Re
     ensures { (l : Land) (modules : List Module) → Leaves (cpu.old, world_of memory.now l modules)
         (area_described cpu.old (world_of memory.now l modules)) result (cpu.new, world_of memory.now l modules) }
 {
-    let (largest, free) = Rma::new().describe(memory);
+    let (largest, free) = Rma::new().describe(memory)?;
     cpu.set_register(2, largest);
     cpu.set_register(3, free);
     Ok(())
