@@ -13,5 +13,5 @@ returns g c =
     λ i. modules_text (c.memory.ensures.bytes i) (c.instances.ensures i) in
     record {
       writes = subst (λ (text : List ℕ). Writes g.W.Sink.contents g.W.Sink.has_failed c.args.sink.now c.show_all.new.sink
-      c.show_all.result text) same c.show_all.ensures
+          c.show_all.result text) same c.show_all.ensures;
     }
