@@ -118,6 +118,7 @@ fn tells_the_heads_of_a_heap_from_what_its_blocks_hold(rt: HostRuntime) -> Resul
         (0x9028, 8),
     ] {
         assert!(rt; map.store_word(at, word) == Ok(()));
+        assert!(rt; map.maps(at, 4));
         map.own(Kind::HeadWord, at, 4);
     }
     for (addr, class) in [
