@@ -54,7 +54,8 @@ among_wider anchor at len from n low high some = elim (cases_Bool (anchor_among 
   | inr none ↦ absurd (false≢true (sym (among_none anchor from n (λ a above below. none_among anchor at len a none (omega (arith, low, above)) (omega (arith, high, below)))) ∙ some))
 ]
 
--- Words of one page, by the marks where they lie: none of these marks is an anchor's, or the page isn't mapped.
+-- Words of one page, by the marks where they lie: none of these marks is an anchor's, or the page
+-- isn't mapped.
 pub low_words : (m : AddressMap) (a k len : ℕ) → place m a ≡ Some k → a % 4096 + len ≤ 4096
     → ((j : ℕ) → 4 * (k / 16) ≤ j → j < 4 * ((k + len + 15) / 16) → class_at m.marks j ≢ class.Anchor) → HasNoAnchor (class_of m) a len
 low_words m a k len h page low b from to is =

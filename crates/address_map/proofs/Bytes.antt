@@ -1,5 +1,5 @@
--- Facts of memory that need no call: bytes are below 256 and words below 2^32, addresses that are not mapped read as 0, and
--- pages are mapped whole.
+-- Facts of memory that need no call: bytes are below 256 and words below 2^32, addresses that are
+-- not mapped read as 0, and pages are mapped whole.
 use Rattle.std.proofs.Common.{◌≡◌, ℕ, ◌+◌, ◌/◌, ◌%◌, ◌<◌, false, Option, Some, None, is_some, arith, refl, sym, ◌∙◌, ap}
 use Rattle.std.proofs.lemmas.Bool.{false≢true}
 use Rattle.address_map.specs.declared.map.AddressMap.{AddressMap}

@@ -14,7 +14,8 @@ whole_range bytes lent n is long =
     let all : slice_range bytes 0 (0 + n) ≡ bytes = same_lists _ _ (grind (arith, places, long)) (λ k d h. grind (arith, places, long)) in
     is ∙ all
 
--- the store's first bytes are those of the other's store, and pages have the frames that they have there
+-- the store's first bytes are those of the other's store, and pages have the frames that they have
+-- there
 pub bytes_alike : (m : AddressMap) (store old bytes : List ℕ) (frames : List (Option ℕ)) (n : ℕ) → store ≡ written (grown old n) 0 bytes → n ≡ length bytes
     → bytes ≡ m.store.items → frames ≡ m.frames → (a : ℕ) → byte_in store (place_in frames a) ≡ byte_at m a
 unfolding byte_at place

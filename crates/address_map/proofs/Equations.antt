@@ -1,4 +1,5 @@
--- From the bytes one by one to memory as a whole: what a call that writes leaves of `bytes_of`, for the layers above.
+-- From the bytes one by one to memory as a whole: what a call that writes leaves of `bytes_of`, for
+-- the layers above.
 use Rattle.std.proofs.Common.{◌≡◌, ℕ, Bool, List, Some, None, Ok, Err, refl, is_some}
 use Rattle.raw_store.specs.profile.specs.declared.fault.Fault.{Fault}
 use Rattle.address_map.specs.declared.map.AddressMap.{AddressMap}

@@ -31,7 +31,8 @@ pub lane_set : (b n i j : ℕ) → b < 256 → n < 4 → i < 4 → j < 4
     → lane (b - lane b i * weight i + n * weight i) j ≡ cond (j == i) n (lane b j)
 lane_set b n i j fits small low below = grind (arith, nat_tests)
 
--- a class written into a lane of a list of bytes: that word has it, and each other word the one it had
+-- a class written into a lane of a list of bytes: that word has it, and each other word the one it
+-- had
 pub class_set : (items : List ℕ) (word b : ℕ) (class : Class) → word / 4 < length items → get_or items (word / 4) 0 ≡ b → b < 256
     → (k : ℕ) → class_of_number (lane (get_or (set items (word / 4) (b - lane b (word % 4) * weight (word % 4) + number_of class * weight (word % 4))) (k / 4) 0) (k % 4))
     ≡ cond (k == word) class (class_of_number (lane (get_or items (k / 4) 0) (k % 4)))

@@ -1,4 +1,5 @@
--- What a page that is mapped or taken away leaves: which addresses are mapped, where they lie, and their bytes.
+-- What a page that is mapped or taken away leaves: which addresses are mapped, where they lie, and
+-- their bytes.
 use Rattle.std.proofs.Common.{◌≡◌, ◌≢◌, ℕ, ◌+◌, ◌-◌, ◌*◌, ◌/◌, ◌%◌, ◌<◌, ◌≤◌, Bool, true, false, ◌||◌, ◌&&◌, not, List, length, replicate, set, Option, Some, None, is_some, arith, refl, sym, ◌∙◌, ap, inl, inr}
 use Rattle.std.proofs.lemmas.Bool.{false≢true, cases_lt}
 use Rattle.std.proofs.lemmas.List.{get_or-replicate, get_or_append_left}
@@ -58,7 +59,7 @@ module _ (frames : List (Option ℕ)) (addr frame : ℕ) (aligned : addr % 4096 
           | inr r ↦ rw (place_set_other frames (addr / 4096) a (Some frame) (omega (arith, r.1))) (byte_kept a (place_in frames a) refl)
         ]
 
--- bytes behind the others change none of a page that is mapped
+-- bytes after the others change none of a page that is mapped
 pub bytes_grown : (frames : List (Option ℕ)) (store : List ℕ) (n a : ℕ) → AreWritten frames (length store)
     → byte_in (grown store n) (place_in frames a) ≡ byte_in store (place_in frames a)
 bytes_grown frames store n a written = kept (place_in frames a) refl where

@@ -1,4 +1,5 @@
--- The bytes from an address on to the end of its page, and what a walk over a range by such pieces leaves.
+-- The bytes from an address on to the end of its page, and what a walk over a range by such pieces
+-- leaves.
 use Rattle.std.proofs.Common.{◌≡◌, ℕ, ◌+◌, ◌-◌, ◌%◌, ◌^◌, ◌<◌, ◌≤◌, true, false, List, length, take, Option, Some, None, is_some, arith, refl, ◌∙◌, ap, inl, inr, slice_range}
 use Rattle.std.proofs.lemmas.Bool.{cases_lt, both_ways}
 use Rattle.std.proofs.lemmas.Bool.Decides.{nat_tests}

@@ -153,7 +153,7 @@ store_zeroed m store at len is fits =
     store_written m store (zeros len) at is fits'
     (λ k d below. let b : k < len = rw (length-zeros len) at below in rw (get_or-replicate len k 0 d b) (omega arith))
 
--- zeros written in a store, behind its bytes too
+-- zeros written in a store, after its bytes too
 pub All-grown : (bytes : List ℕ) (n : ℕ) → All (λ b. b < 256) bytes → All (λ b. b < 256) (grown bytes n)
 All-grown bytes n fit =
     let P : ℕ → Type 0 = λ b. b < 256 in

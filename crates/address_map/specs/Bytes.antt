@@ -1,6 +1,7 @@
--- Memory as the layers above see it: which addresses are mapped, and the byte at each. A load or a store is a function of
--- that alone. Addresses have 26 bits, words are little-endian and lie at multiples of 4 (ARM2 data sheet, "Memory
--- interface"); an access past the end of the address space is an address exception there.
+-- Memory as the layers above see it: which addresses are mapped, and the byte at each. A load or a
+-- store is a function of that alone. Addresses have 26 bits, words are little-endian and lie at
+-- multiples of 4 (ARM2 data sheet, "Memory interface"); an access past the end of the address space
+-- is an address exception there.
 use Rattle.std.specs.Prelude.{◌≡◌, ◌≤◌, ◌<◌, ℕ, ◌+◌, ◌*◌, ◌-◌, ◌/◌, ◌%◌, ◌^◌, ◌==◌, Bool, true, false, ◌&&◌, nat_le, nat_lt, List, length, map, slice_index, Option, Some, None, Result, Ok, Err, if◌then◌else◌}
 use Rattle.std.specs.List.{range_with_len}
 use Rattle.raw_store.specs.profile.specs.declared.fault.Fault.{Fault}
@@ -72,7 +73,8 @@ with_bytes b at new = record { mapped = b.mapped; at = with_bytes_at b.at at new
 abbrev pub with_moved : Bytes → ℕ → ℕ → ℕ → Bytes
 with_moved b from to len = record { mapped = b.mapped; at = with_moved_at b.at from to len }
 
--- which fault a load or a store meets, the first of these; `owned` says which bytes the store calls keep records in
+-- which fault a load or a store meets, the first of these; `owned` says which bytes the store calls
+-- keep records in
 abbrev pub load_fault : Bytes → ℕ → Option Fault
 load_fault b a = if nat_le (2 ^ 26) a then Some AddressException else (if b.mapped a then None else Some DataUnmapped)
 

@@ -1,4 +1,5 @@
--- The classes as numbers of two bits, four of them in a byte: the lowest two bits are those of the first word.
+-- The classes as numbers of two bits, four of them in a byte: the lowest two bits are those of the
+-- first word.
 use Rattle.std.specs.Prelude.{ℕ, Bool, true, false, ◌/◌, ◌%◌, ◌==◌, if◌then◌else◌}
 use Rattle.address_map.specs.declared.class.Class.{Class}
 use Rattle.address_map.specs.declared.class.Class.TheVariants.{Plain, Heap, FlexHeader, Anchor}

@@ -8,6 +8,7 @@ unfoldable pub counted : (ℕ → Bool) → ℕ → ℕ
 counted test zero = 0
 counted test (suc n) = counted test n + (if test n then 1 else 0)
 
--- all pages of a store are the free ones, and those that one of the 2^14 pages of the address space has
+-- all pages of a store are the free ones, and those that one of the 2^14 pages of the address space
+-- has
 abbrev pub PagesAreCounted : Type 0
 PagesAreCounted = (m : AddressMap) → page_total m ≡ free_pages m + counted (λ page. is_mapped m (4096 * page)) 16384

@@ -1,7 +1,8 @@
--- The items of a heap, and the words that they spell. A heap is a descriptor of four words (its name, the offset of its first
--- free block, the base and the end), then its items without gaps up to the base. A block's first word is its total length; a
--- free block's first word is the distance to the next free one, or 0, and its second word is its total length (RISC OS 3
--- Programmer's Reference Manual, "OS_Heap", the internal format; that lengths are totals is this project's own).
+-- The items of a heap, and the words that they spell. A heap is a descriptor of four words (its
+-- name, the offset of its first free block, the base and the end), then its items without gaps up
+-- to the base. A block's first word is its total length; a free block's first word is the distance
+-- to the next free one, or 0, and its second word is its total length (RISC OS 3 Programmer's
+-- Reference Manual, "OS_Heap", the internal format; that lengths are totals is this project's own).
 use Rattle.std.specs.Prelude.{ℕ, Bool, false, zero, suc, ◌+◌, ◌%◌, ◌==◌, ◌&&◌, ◌||◌, nat_le, List, [], ◌∷◌, Option, Some, None, if◌then◌else◌}
 use Rattle.address_map.specs.declared.item.Item.{Item}
 use Rattle.address_map.specs.declared.item.Item.TheVariants.{Live, Free}
@@ -41,9 +42,10 @@ abbrev pub followed : Option Item → (Item → List Item) → List Item
 followed None rest = []
 followed (Some item) rest = item ∷ rest item
 
--- The items that the words from `at` on spell, up to the address `base`, where the next free one is at `free`, or there is none where
--- that is 0. A length that no item can have ends them. Each item has at least 8 bytes, so the first number, which bounds how many are
--- looked at, never ends them where it is as great as the bytes up to the base.
+-- The items that the words from `at` on spell, up to the address `base`, where the next free one is
+-- at `free`, or there is none where that is 0. A length that no item can have ends them. Each item
+-- has at least 8 bytes, so the first number, which bounds how many are looked at, never ends them
+-- where it is as great as the bytes up to the base.
 abbrev pub items_from : ℕ → (ℕ → ℕ) → ℕ → ℕ → ℕ → List Item
 items_from zero w at free base = []
 items_from (suc most) w at free base = if nat_le base at then [] else
@@ -58,7 +60,8 @@ abbrev pub is_head_of : ℕ → Item → ℕ → Bool
 is_head_of at (Live t) a = a == at
 is_head_of at (Free t) a = a == at || a == at + 4
 
--- the words that the items spell, where the first of them is at `at`: is the word at `a` one of these?
+-- the words that the items spell, where the first of them is at `at`: is the word at `a` one of
+-- these?
 abbrev pub is_head : ℕ → List Item → ℕ → Bool
 is_head at [] a = false
 is_head at (Live t ∷ xs) a = a == at || is_head (at + t) xs a

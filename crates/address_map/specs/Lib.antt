@@ -1,3 +1,5 @@
+-- What memory is to guests and store calls. Begin with Bytes, then Records; Memory ties both to the
+-- map.
 pub use Rattle.raw_store
 pub mod Bytes
 pub mod Classes

@@ -1,5 +1,5 @@
--- What an `AddressMap` stands for. The places of bytes in the store are the map's own matter; the layers above speak of
--- `bytes_of`, `layout`, `free_pages`, `class_of` and `is_owned`.
+-- What an `AddressMap` stands for. The places of bytes in the store are the map's own matter; the
+-- layers above speak of `bytes_of`, `layout`, `free_pages`, `class_of` and `is_owned`.
 use Rattle.std.specs.Prelude.{◌≡◌, ◌≤◌, ◌<◌, ℕ, ◌+◌, Bool, true, false, not, List, length, slice_index, Option, Some, None, is_some}
 use Rattle.address_map.specs.declared.class.Class.{Class}
 use Rattle.address_map.specs.declared.class.Class.TheVariants.{Plain}
@@ -67,7 +67,8 @@ pub record Layout : Type 0 where
 abbrev pub layout : AddressMap → Layout
 layout m = record { place = place m; regions = regions m; free_pages = free_pages m }
 
--- what the store calls use the byte at an address for, as its word is marked; where nothing is mapped all is plain
+-- what the store calls use the byte at an address for, as its word is marked; where nothing is
+-- mapped all is plain
 unfoldable pub class_of : AddressMap → ℕ → Class
 class_of m a = mark_in m.marks (place m a)
 

@@ -1,12 +1,13 @@
--- Blocks that were moved, and the records of module images that follow them (RISC OS 3 Programmer's Reference Manual, "OS_Module", reason 8, tidying of
--- the module area).
+-- Blocks that were moved, and the records of module images that follow them (RISC OS 3 Programmer's
+-- Reference Manual, "OS_Module", reason 8, tidying of the module area).
 use Rattle.std.specs.Prelude.{ℕ, ◌≡◌, ◌≤◌, ◌==◌, ◌%◌, List, [], ◌∷◌, map, if◌then◌else◌}
 use Rattle.address_map.specs.declared.follow.Move.{Move}
 use Rattle.address_map.specs.declared.region.Kind.{Kind}
 use Rattle.address_map.specs.declared.region.Kind.TheVariants as kind
 use Rattle.address_map.specs.declared.region.Region.{Region}
 
--- where the block at an address is after some moves, or the address itself, where no block was moved from there
+-- where the block at an address is after some moves, or the address itself, where no block was
+-- moved from there
 abbrev pub moved_to : List Move → ℕ → ℕ
 moved_to [] a = a
 moved_to (m ∷ ms) a = if m.from == a then m.to else moved_to ms a

@@ -1,10 +1,12 @@
--- The page table: for each of the 2^14 pages of the address space the frame of the store that its bytes lie in, or none. Pages and frames
--- have 4096 bytes (RISC OS 3 Programmer's Reference Manual, "Memory management": memory is mapped by pages; that the pages have
--- this size is this project's own).
+-- The page table: for each of the 2^14 pages of the address space the frame of the store that its
+-- bytes lie in, or none. Pages and frames have 4096 bytes (RISC OS 3 Programmer's Reference Manual,
+-- "Memory management": memory is mapped by pages; that the pages have this size is this project's
+-- own).
 use Rattle.std.specs.Prelude.{◌≡◌, ◌≢◌, ◌≤◌, ◌<◌, ℕ, ◌+◌, ◌*◌, ◌/◌, ◌%◌, ◌^◌, ◌==◌, if◌then◌else◌, List, length, slice_index_or, Option, Some, None, is_some}
 use Rattle.std.specs.List.{All, AllPairs, count_by}
 
--- The frame of a page as a number of two bytes, of which the greatest stands for none: a store has at most 1024 frames.
+-- The frame of a page as a number of two bytes, of which the greatest stands for none: a store has
+-- at most 1024 frames.
 abbrev pub frame_numbered : ℕ → Option ℕ
 frame_numbered number = if number == 65535 then None else Some number
 
@@ -36,7 +38,8 @@ AreWritten frames len = (page frame : ℕ) → frame_at frames page ≡ Some fra
 abbrev pub IsUnused : List (Option ℕ) → ℕ → Type 0
 IsUnused frames frame = (page : ℕ) → frame_at frames page ≢ Some frame
 
--- The table has all pages of the address space, and each frame is used once: as that of one page, or in the list of the free ones.
+-- The table has all pages of the address space, and each frame is used once: as that of one page,
+-- or in the list of the free ones.
 pub record IsPageTable (frames : List (Option ℕ)) (free : List ℕ) : Type 0 where
   pub size : 4096 * length frames ≡ 2 ^ 26
   pub within : (page frame : ℕ) → frame_at frames page ≡ Some frame → frame < frame_count frames free

@@ -1,5 +1,5 @@
--- The record of the ranges that the store calls use, and the marks of the words that only store calls may write: descriptors, lengths and
--- links of heaps, headers of flex blocks, and anchors.
+-- The record of the ranges that the store calls use, and the marks of the words that only store
+-- calls may write: descriptors, lengths and links of heaps, headers of flex blocks, and anchors.
 use Rattle.std.specs.Prelude.{ℕ, zero, suc, ◌≡◌, ◌≢◌, ◌≤◌, ◌<◌, Bool, true, false, not, ◌||◌, ◌+◌, ◌%◌, ◌^◌, ◌&&◌, List, [], ◌∷◌, ◌++◌, if◌then◌else◌, ◌==◌, Option, Some, None, is_some}
 use Rattle.std.specs.List.{filter, list_any}
 use Rattle.address_map.specs.declared.class.Class.{Class}
@@ -14,7 +14,8 @@ is_heap_kind kind.Heap = true
 is_heap_kind kind.Rma = true
 is_heap_kind other = false
 
--- The class that a kind gives to the one word at its address. The other kinds are those of recorded ranges.
+-- The class that a kind gives to the one word at its address. The other kinds are those of recorded
+-- ranges.
 abbrev pub mark_of : Kind → Option Class
 mark_of kind.HeadWord = Some class.Heap
 mark_of kind.FlexHeader = Some class.FlexHeader
@@ -74,7 +75,8 @@ are_same kind other = false
 abbrev pub is_record : Kind → ℕ → Region → Bool
 is_record kind at region = are_same kind region.kind && region.at == at
 
--- the record without the first range of that kind that starts at `at`, or all of it where there is none
+-- the record without the first range of that kind that starts at `at`, or all of it where there is
+-- none
 abbrev pub without_region : List Region → Kind → ℕ → List Region
 without_region [] kind at = []
 without_region (region ∷ regions) kind at = if is_record kind at region then regions else region ∷ without_region regions kind at
@@ -86,7 +88,8 @@ with_len (region ∷ regions) kind at len = if is_record kind at region
     then record { kind = region.kind; at = region.at; len = len } ∷ regions
     else region ∷ with_len regions kind at len
 
--- is a record that of a heap which a guest has made, and which starts among the `len` bytes from `at` on?
+-- is a record that of a heap which a guest has made, and which starts among the `len` bytes from
+-- `at` on?
 abbrev pub is_guest_heap : Kind → Bool
 is_guest_heap kind.Heap = true
 is_guest_heap other = false

@@ -1,3 +1,5 @@
+//! The class of a byte of memory: the guest's own, or a word that the store calls keep a record in.
+
 ghost use Rattle.std.specs.Prelude.{◌≡◌};
 ghost use Rattle.address_map.specs.Classes.{number_of, is_anchor};
 ghost use Rattle.address_map.specs.Memory.{is_plain};

@@ -1,3 +1,5 @@
+//! Blocks that were moved, and the records of module images, which follow them.
+
 ghost use Rattle.std.specs.Prelude.{◌≡◌};
 ghost use Rattle.address_map.specs.Moves.{AreDown, moved_place, moved_region, moved_regions, moved_to};
 
@@ -12,7 +14,8 @@ pub struct Move {
     pub to: u32,
 }
 
-/// Where the block at an address is after some moves, or the address itself, where no block was moved from there.
+/// Where the block at an address is after some moves, or the address itself, where no block was
+/// moved from there.
 pub fn moved_to(moves: &[Move], block: u32) -> u32
     ensures { result ≡ moved_to moves.now block }
 {
@@ -40,8 +43,8 @@ impl Region {
 impl AddressMap {
     ghost use Rattle.address_map.specs.Memory.{mapping, byte_at, class_of, regions};
 
-    /// The records of module images follow the blocks that were moved, which went to lower addresses of whole words. No byte is changed, and the
-    /// records keep their order.
+    /// The records of module images follow the blocks that were moved, which went to lower
+    /// addresses of whole words. No byte is changed, and the records keep their order.
     #[tactic(auto, unfolding(crate::specs::Memory::regions, crate::specs::Memory::place, crate::specs::Memory::byte_at, crate::specs::Memory::free_pages, crate::specs::Memory::class_of))]
     pub fn follow(&mut self, moves: &[Move])
         requires { AreDown moves.now }

@@ -1,3 +1,5 @@
+//! The frame that a page of the address space is mapped to, packed into two bytes.
+
 ghost use Rattle.std.specs.Prelude.{◌≡◌, ◌<◌, None, Some};
 
 use std::marker::Model;

@@ -1,7 +1,10 @@
+//! One item of a heap's list, live or free, as memory spells it.
+
 ghost use Rattle.std.specs.Prelude.{◌≡◌};
 ghost use Rattle.address_map.specs.Items.{total_of};
 
-/// One item of a heap: a block, or free room between blocks. Its total counts all bytes of the item, its head words too.
+/// One item of a heap: a block, or free room between blocks. Its total counts all bytes of the
+/// item, its head words too.
 #[derive(Clone, Copy, Debug, PartialEq, Eq)]
 pub enum Item {
     /// A block that was claimed.

@@ -1,3 +1,6 @@
+//! Faster ways to memory for the core: bytes of a page lent where they stand, and words whose place
+//! is known.
+
 ghost use Rattle.std.specs.Prelude.{ℕ, ◌≡◌, ◌≤◌, ◌<◌, ◌+◌, ◌*◌, ◌%◌, ◌^◌, MatchOption, Some, false, length};
 ghost use Rattle.address_map.specs.Bytes.{with_word_at};
 ghost use Rattle.address_map.specs.Lent.{IsLent, any_owned};
@@ -7,8 +10,8 @@ use crate::map::AddressMap;
 impl AddressMap {
     ghost use Rattle.address_map.specs.Memory.{place, is_mapped, byte_at, bytes_of, layout, class_of, is_owned};
 
-    /// The `len` bytes from an address on, for reading, or `None` where no memory is mapped. They lie
-    /// in one page, so one look-up finds them all.
+    /// The `len` bytes from an address on, for reading, or `None` where no memory is mapped. They
+    /// lie in one page, so one look-up finds them all.
     #[tactic(auto, using(crate::proofs::Lending::lending))]
     #[inline(always)]
     pub fn lend(&self, addr: u32, len: u32) -> Option<&[u8]>
@@ -33,8 +36,8 @@ impl AddressMap {
         self.store.write_word(at, word);
     }
 
-    /// Whether any of `count` words of a page is owned, the first of which lies at this place of the
-    /// store. The bytes of a word are owned together.
+    /// Whether any of `count` words of a page is owned, the first of which lies at this place of
+    /// the store. The bytes of a word are owned together.
     #[tactic(auto, using(crate::proofs::Lending::plain_words))]
     #[inline(always)]
     pub fn owns_any(&self, addr: u32, at: usize, count: u32) -> bool

@@ -1,4 +1,5 @@
-//! The 26-bit address space: which pages are mapped, the bytes in them, and the faults of loads and stores.
+//! The 26-bit address space, for the core and the store calls: mapped pages, bytes, records and
+//! faults.
 #![tactic(auto)]
 
 pub mod class;

@@ -1,3 +1,6 @@
+//! The address map: memory as a guest's loads and stores and the store calls' own writes see it,
+//! with the faults that a guest meets.
+
 ghost use Rattle.std.specs.Prelude.{ℕ, [], ◌≡◌, ◌≤◌, ◌<◌, ◌+◌, ◌*◌, ◌%◌, ◌^◌, ◌↔◌, false, IsTrue, IfOk, MatchResult, MatchOption, Some, None, length, All};
 ghost use Rattle.raw_store.specs.profile.specs.Outcome.{Leaves};
 ghost use Rattle.address_map.specs.declared.class.Class.{Class};
@@ -19,15 +22,18 @@ use std::alloc::{AllocError, Global};
 /// The most frames of 4096 bytes that the memory has.
 pub(crate) const MOST_FRAMES: usize = MOST_PAGES as usize;
 
-/// The most ranges that can be recorded. At most 132 are: 64 heaps, the module area, a flex store, 65 images, the system pages.
+/// The most ranges that can be recorded. At most 132 are: 64 heaps, the module area, a flex store,
+/// 65 images, the system pages.
 pub(crate) const MOST_REGIONS: usize = 133;
 
 /// The address space of a machine: the memory that it has, and the addresses where that is mapped.
 ///
 /// Each page of the address space that is mapped has a frame of the store, where its bytes lie; the
-/// other frames are free. The store has room for as many frames as the memory has pages, so that a memory can become a copy of any other
-/// that has as many; its bytes are written as far as frames were used. Addresses that are not mapped read as 0 in the contracts; a load or a store there is a fault. Each word of the store has a mark, which says what store calls use it for. A word lies at a multiple of 4 and never meets two pages. No call but
-/// `new` takes host memory.
+/// other frames are free. The store has room for as many frames as the memory has pages, so that a
+/// memory can become a copy of any other that has as many; its bytes are written as far as frames
+/// were used. Addresses that are not mapped read as 0 in the contracts; a load or a store there is
+/// a fault. Each word of the store has a mark, which says what store calls use it for. A word lies
+/// at a multiple of 4 and never meets two pages. No call but `new` takes host memory.
 #[derive(Drop)]
 pub struct AddressMap {
     pub(crate) store: RawStore,
@@ -81,7 +87,8 @@ impl AddressMap {
         })
     }
 
-    /// Becomes a copy of another memory of as many pages: its bytes, what is mapped and where, what is recorded, and how words are marked.
+    /// Becomes a copy of another memory of as many pages: its bytes, what is mapped and where, what
+    /// is recorded, and how words are marked.
     #[tactic(auto, unfolding(crate::specs::Memory::place, crate::specs::Memory::byte_at, crate::specs::Memory::regions, crate::specs::Memory::free_pages, crate::specs::Memory::page_total, crate::specs::Memory::class_of))]
     pub fn copy_from(&mut self, other: &AddressMap)
         requires { page_total self.old ≡ page_total other.now }
@@ -139,7 +146,8 @@ impl AddressMap {
         Ok(self.store.read_word(place))
     }
 
-    /// The word at an address that has 26 bits, as `load_word` gives it: the word that a core fetches.
+    /// The word at an address that has 26 bits, as `load_word` gives it: the word that a core
+    /// fetches.
     ///
     /// # Errors
     ///

@@ -1,3 +1,5 @@
+//! The classes of all words of a store, two bits for each.
+
 ghost use Rattle.std.specs.Prelude.{ℕ, ◌≡◌, ◌≢◌, ◌<◌, ◌≤◌, ◌+◌, ◌*◌, ◌/◌, ◌%◌, ◌==◌, true, IfOk, length, if◌then◌else◌};
 ghost use Rattle.address_map.specs.declared.class.Class.{Class};
 ghost use Rattle.address_map.specs.Bytes.{in_range};
@@ -63,8 +65,8 @@ impl Marks {
         true
     }
 
-    /// Whether no word of the bytes from `first` up to `end` is an anchor's. Where one is a flex header's the answer is no
-    /// too.
+    /// Whether no word of the bytes from `first` up to `end` is an anchor's. Where one is a flex
+    /// header's the answer is no too.
     #[inline(always)]
     pub(crate) fn are_plain_or_heap(&self, first: usize, end: usize) -> bool
         requires { end ≤ length self.now.bytes }
@@ -91,7 +93,7 @@ impl Marks {
         self.bytes.set(word / 4, rest + class.number() * weight);
     }
 
-    /// Makes the words of `count` bytes plain, those of the byte `first` and those behind it.
+    /// Makes the words of `count` bytes plain, those of the byte `first` and those after it.
     pub(crate) fn clear(&mut self, first: usize, count: usize)
         requires { first + count ≤ length self.old.bytes }
         ensures classes { (k : ℕ) →

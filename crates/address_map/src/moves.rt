@@ -1,3 +1,5 @@
+//! Bytes copied from one range of addresses to another, page by page, also where the two overlap.
+
 ghost use Rattle.std.specs.Prelude.{ℕ, ◌≡◌, ◌≤◌, ◌<◌, ◌+◌, ◌-◌, ◌^◌, MatchOption, None};
 ghost use Rattle.address_map.specs.Bytes.{AreMapped, with_moved_at};
 
@@ -40,7 +42,8 @@ impl AddressMap {
         }
     }
 
-    /// Copies bytes to lower addresses, those at the lowest first, since the range may overlap itself.
+    /// Copies bytes to lower addresses, those at the lowest first, since the range may overlap
+    /// itself.
     fn move_from_start(&mut self, from: u32, to: u32, len: u32)
         requires source { AreMapped (is_mapped self.old) from len }
         requires target { AreMapped (is_mapped self.old) to len }
@@ -59,7 +62,8 @@ impl AddressMap {
         }
     }
 
-    /// Copies bytes to higher addresses, those at the highest first, since the range may overlap itself.
+    /// Copies bytes to higher addresses, those at the highest first, since the range may overlap
+    /// itself.
     fn move_from_end(&mut self, from: u32, to: u32, len: u32)
         requires source { AreMapped (is_mapped self.old) from len }
         requires target { AreMapped (is_mapped self.old) to len }

@@ -1,3 +1,6 @@
+//! What the store calls use a byte for: its class, whether it is theirs, and whether a range holds
+//! an anchor.
+
 ghost use Rattle.std.specs.Prelude.{◌≡◌, ◌≤◌, ◌+◌, ◌-◌, ◌/◌, ◌%◌, ◌^◌, false, length};
 ghost use Rattle.address_map.specs.Marks.{class_at};
 ghost use Rattle.address_map.specs.Records.{HasNoAnchor, anchor_among};
@@ -20,7 +23,8 @@ impl AddressMap {
         }
     }
 
-    /// Whether the store calls keep their records in the byte at an address, which a guest's stores must leave alone.
+    /// Whether the store calls keep their records in the byte at an address, which a guest's stores
+    /// must leave alone.
     #[inline(always)]
     #[tactic(auto, unfolding(crate::specs::Memory::is_owned))]
     pub fn owns(&self, addr: u32) -> bool
@@ -54,7 +58,8 @@ impl AddressMap {
         false
     }
 
-    /// Whether an anchor has a byte from `from` on and below `end`; all of these bytes lie in one page.
+    /// Whether an anchor has a byte from `from` on and below `end`; all of these bytes lie in one
+    /// page.
     #[inline(always)]
     fn page_holds_anchor(&self, from: u32, end: u32) -> bool
         requires page { from % 4096 + (end - from) ≤ 4096 }
@@ -65,8 +70,8 @@ impl AddressMap {
         self.may_hold_anchor(from, end - from) && self.holds_anchor_between(from, end)
     }
 
-    /// Whether the words of some bytes of a page must be looked at one by one. Mostly not: their marks, four to a byte,
-    /// tell that none is an anchor's.
+    /// Whether the words of some bytes of a page must be looked at one by one. Mostly not: their
+    /// marks, four to a byte, tell that none is an anchor's.
     #[inline(always)]
     fn may_hold_anchor(&self, addr: u32, len: u32) -> bool
         requires page { addr % 4096 + len ≤ 4096 }

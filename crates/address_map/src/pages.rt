@@ -1,3 +1,5 @@
+//! Pages of addresses: which frame of the store each has, and how pages are mapped and taken away.
+
 ghost use Rattle.std.specs.Prelude.{ℕ, None, false, ◌≡◌, ◌≢◌, ◌≤◌, ◌<◌, ◌+◌, ◌*◌, ◌%◌, ◌^◌, ◌||◌, ◌&&◌, not, IsTrue, MatchOption, All, length};
 ghost use Rattle.std.specs.List.{AllPairs};
 ghost use Rattle.address_map.specs.Bytes.{in_range, AreMapped, AreUnmapped, with_zeros_at};
@@ -78,7 +80,8 @@ impl AddressMap {
         }
     }
 
-    /// Maps the page at an address. Its bytes are made zero and its words plain, since another page may have had them.
+    /// Maps the page at an address. Its bytes are made zero and its words plain, since another page
+    /// may have had them.
     fn map_page(&mut self, addr: u32)
         requires aligned { addr % 4096 ≡ 0 }
         requires below { addr < 2 ^ 26 }
@@ -144,7 +147,8 @@ pub(crate) fn page_count() -> usize
     (ADDRESS_LIMIT / PAGE_SIZE) as usize
 }
 
-/// The frames of a store of that many pages, all free. The last of the list is given first, so the list goes down.
+/// The frames of a store of that many pages, all free. The last of the list is given first, so the
+/// list goes down.
 pub(crate) fn all_frames(pages: u32) -> ArrayVec<u16, MOST_FRAMES>
     requires { pages ≤ 1024 }
     ensures len { length result.items ≡ pages }

@@ -1,3 +1,6 @@
+//! The record of the ranges that store calls use: entered, looked up, given another length and
+//! taken out.
+
 ghost use Rattle.std.specs.Prelude.{◌≡◌, ◌<◌, ◌%◌, ◌++◌, ◌∷◌, [], ℕ, true, false, IsTrue, length, slice_set, MatchOption};
 ghost use Rattle.address_map.specs.Records.{IsRegion, meets_record, with_region, without_heaps, without_region, with_len, is_word_kind, with_class, with_mark, without_mark};
 ghost use Rattle.std.specs.List.{remove};
@@ -31,8 +34,9 @@ impl AddressMap {
         false
     }
 
-    /// Records a range that store calls use, or marks a word that only they may write: a head word, a word of a flex block's
-    /// header or an anchor. A word is no record, and `len` says nothing there. No byte is changed.
+    /// Records a range that store calls use, or marks a word that only they may write: a head word,
+    /// a word of a flex block's header or an anchor. A word is no record, and `len` says nothing
+    /// there. No byte is changed.
     pub fn own(&mut self, kind: Kind, at: u32, len: u32)
         requires region { IsRegion (record { kind = kind; at = at; len = len }) }
         requires room { is_word_kind kind ≡ false → length (regions self.old) < 133 }
@@ -75,8 +79,8 @@ impl AddressMap {
         self.marks.set(place / 4, class);
     }
 
-    /// Takes away the first record of that kind that starts at `at`, if there is one; or makes a word plain that was marked. No
-    /// byte is changed, and the other records keep their order.
+    /// Takes away the first record of that kind that starts at `at`, if there is one; or makes a
+    /// word plain that was marked. No byte is changed, and the other records keep their order.
     pub fn disown(&mut self, kind: Kind, at: u32)
         requires aligned { is_word_kind kind ≡ true → at % 4 ≡ 0 }
         requires mapped { is_word_kind kind ≡ true → is_mapped self.old at ≡ true }
@@ -104,8 +108,8 @@ impl AddressMap {
         }
     }
 
-    /// Takes away the records of all heaps of guests that start among the `len` bytes from `at` on. No byte is changed and no mark, and the
-    /// other records keep their order.
+    /// Takes away the records of all heaps of guests that start among the `len` bytes from `at` on.
+    /// No byte is changed and no mark, and the other records keep their order.
     #[tactic(auto, unfolding(crate::specs::Memory::regions, crate::specs::Memory::place, crate::specs::Memory::byte_at, crate::specs::Memory::free_pages, crate::specs::Memory::class_of))]
     pub fn forget_heaps(&mut self, at: u32, len: u32)
         ensures regions { regions self.new ≡ without_heaps at len (regions self.old) }
@@ -122,8 +126,8 @@ impl AddressMap {
         self.regions = left;
     }
 
-    /// Gives the first record of that kind that starts at `at`, if there is one, another length. No byte is changed, and the records keep
-    /// their order.
+    /// Gives the first record of that kind that starts at `at`, if there is one, another length. No
+    /// byte is changed, and the records keep their order.
     #[tactic(auto, unfolding(crate::specs::Memory::regions, crate::specs::Memory::place, crate::specs::Memory::byte_at, crate::specs::Memory::free_pages, crate::specs::Memory::class_of))]
     pub fn set_len(&mut self, kind: Kind, at: u32, len: u32)
         requires region { IsRegion (record { kind = kind; at = at; len = len }) }

@@ -1,3 +1,5 @@
+//! The kinds of recorded ranges and marked words, and one recorded range.
+
 ghost use Rattle.std.specs.Prelude.{◌≡◌};
 ghost use Rattle.address_map.specs.Bytes.{meets};
 ghost use Rattle.address_map.specs.Records.{is_heap_kind, is_record, mark_of, starts_heap};
@@ -18,7 +20,8 @@ pub enum Kind {
     FlexHeader,
     /// A word that holds the address of a sliding block. It is marked, and no record of it is kept.
     Anchor,
-    /// A word that a heap's list spells: one of its descriptor, a length or a link. It is marked, and no record of it is kept.
+    /// A word that a heap's list spells: one of its descriptor, a length or a link. It is marked,
+    /// and no record of it is kept.
     HeadWord,
     /// A module image: in the module area all that its block holds, elsewhere just its bytes.
     Image,
@@ -34,7 +37,8 @@ impl Kind {
         matches!(self, Kind::Heap | Kind::Rma)
     }
 
-    /// The class that the one word of this kind has, or `None` for the kinds that are recorded as ranges.
+    /// The class that the one word of this kind has, or `None` for the kinds that are recorded as
+    /// ranges.
     #[inline(always)]
     pub(crate) fn mark(&self) -> Option<Class>
         ensures { result ≡ mark_of self.now }
@@ -57,14 +61,16 @@ pub struct Region {
 }
 
 impl Region {
-    /// Whether this is the record of a range of that kind that starts at `at`. No record is a word's.
+    /// Whether this is the record of a range of that kind that starts at `at`. No record is a
+    /// word's.
     pub(crate) fn is_record(&self, kind: Kind, at: u32) -> bool
         ensures { result ≡ is_record kind at self.now }
     {
         kind.mark().is_none() && self.kind == kind && self.at == at
     }
 
-    /// Whether this is the record of a heap that a guest has made, and which starts among the `len` bytes from `at` on.
+    /// Whether this is the record of a heap that a guest has made, and which starts among the `len`
+    /// bytes from `at` on.
     pub fn starts_heap(&self, at: u32, len: u32) -> bool
         ensures { result ≡ starts_heap at len self.now }
     {

@@ -1,10 +1,12 @@
-//! Tables of host memory. The module sees the allocator that their memory is from, and no other module does.
+//! Tables of host memory. The module sees the allocator that their memory is from, and no other
+//! module does.
 ghost use Rattle.std.specs.Prelude.{◌≡◌, ◌<◌, IfOk, length, replicate, slice_index_or, slice_set};
 
 use std::alloc::{AllocError, Global};
 use std::marker::Model;
 
-/// A table of a fixed length. `new` takes the host memory that its entries lie in, and no other call takes any.
+/// A table of a fixed length. `new` takes the host memory that its entries lie in, and no other
+/// call takes any.
 #[derive(Drop)]
 pub(crate) struct Table<T> {
     entries: Vec<T>,

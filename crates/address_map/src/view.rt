@@ -1,3 +1,5 @@
+//! A range of memory read as the bytes of an image, in place.
+
 ghost use Rattle.std.specs.Prelude.{◌≡◌, ◌<◌, slice_index};
 ghost use Rattle.address_map.specs.Bytes.{AreMapped, bytes_between};
 ghost use Rattle.address_map.specs.Memory.{is_mapped, byte_at};

@@ -1,4 +1,5 @@
--- The word of an instruction is the sum of its fields at their places, and what is cut from a word fits its field.
+-- The word of an instruction is the sum of its fields at their places, and what is cut from a word
+-- fits its field.
 use Rattle.std.proofs.Common.{◌≡◌, ℕ, ◌^◌, ◌<◌, arith, ◌∙◌, sym, Ok, subst}
 use Rattle.arm_decode.proofs.Flags.{field-lt}
 use Rattle.arm_decode.proofs.Taken.{taken, word_comes_back}

@@ -1,5 +1,5 @@
--- A word that decodes has a form, and decodes into the fields of that form, which nothing refuses; and an instruction
--- decodes from its own word.
+-- A word that decodes has a form, and decodes into the fields of that form, which nothing refuses;
+-- and an instruction decodes from its own word.
 use Rattle.std.proofs.Common.{◌≡◌, ℕ, ◌^◌, ◌<◌, ap, ◌∙◌, sym, Option, Some, None, Result, Ok, Err, IfOk, refl}
 use Rattle.profile.specs.declared.fault.Fault.{Fault}
 use Rattle.arm_decode.proofs.Recut.{recut, IsCutInto}

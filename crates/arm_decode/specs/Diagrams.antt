@@ -1,5 +1,6 @@
--- The diagrams of the ARM2 data sheet ("Instruction set summary"): each form as the list of its fields from bit 31 down,
--- with the size and the number of each. An instruction's word is its fields one beside the other.
+-- The diagrams of the ARM2 data sheet ("Instruction set summary"): each form as the list of its
+-- fields from bit 31 down, with the size and the number of each. An instruction's word is its
+-- fields one beside the other.
 use Rattle.std.specs.Prelude.{ℕ, ◌+◌, ◌*◌, ◌^◌, Bool, true, false, List, [], ◌∷◌, fold}
 use Rattle.std.specs.Int.{from_bool}
 use Rattle.arm_decode.specs.Names.{condition_code, operation_code, shift_code, block_mode_code, is_up, is_pre_indexed, has_w}

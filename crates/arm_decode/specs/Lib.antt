@@ -1,3 +1,5 @@
+-- The instruction table of the ARM2, both ways. Begin with Table; Diagrams and Laws say it
+-- otherwise.
 pub use Rattle.profile
 pub mod Decoded
 pub mod Diagrams

@@ -1,4 +1,5 @@
--- The numbers by which an instruction names a condition, an operation, a shift, a way of indexing (ARM2 data sheet).
+-- The numbers by which an instruction names a condition, an operation, a shift, a way of indexing
+-- (ARM2 data sheet).
 use Rattle.std.specs.Prelude.{ℕ, Bool, true, false, List, [], ◌∷◌, slice_index_or}
 use Rattle.arm_decode.specs.declared.address.BlockMode.{BlockMode}
 use Rattle.arm_decode.specs.declared.address.BlockMode.TheVariants.{DecrementAfter, IncrementAfter, DecrementBefore, IncrementBefore}

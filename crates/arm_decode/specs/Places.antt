@@ -1,5 +1,5 @@
--- Where each field stands, written out: the word of each form as the sum of its fields times their powers of two, in the
--- order of the data sheet's diagrams.
+-- Where each field stands, written out: the word of each form as the sum of its fields times their
+-- powers of two, in the order of the data sheet's diagrams.
 use Rattle.std.specs.Prelude.{ℕ, ◌+◌, ◌*◌, ◌^◌}
 use Rattle.std.specs.Int.{from_bool}
 use Rattle.arm_decode.specs.Names.{condition_code, operation_code, shift_code, block_mode_code, is_up, is_pre_indexed, has_w}

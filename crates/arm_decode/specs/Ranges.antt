@@ -1,4 +1,5 @@
--- The numbers of an instruction's fields fit the fields. Every value of the types does; a law over all numbers says so.
+-- The numbers of an instruction's fields fit the fields. Every value of the types does; a law over
+-- all numbers says so.
 use Rattle.std.specs.Prelude.{◌<◌, ◌^◌}
 use Rattle.arm_decode.specs.declared.action.Action.{Action}
 use Rattle.arm_decode.specs.declared.action.Action.TheVariants as action

@@ -1,5 +1,6 @@
--- The conditions on an instruction's parts by which the table refuses it, in their order. They are the undefined and
--- unpredictable cases of the ARM2 data sheet; the names and the order are this project's own.
+-- The conditions on an instruction's parts by which the table refuses it, in their order. They are
+-- the undefined and unpredictable cases of the ARM2 data sheet; the names and the order are this
+-- project's own.
 use Rattle.std.specs.Prelude.{ℕ, Bool, true, false, ◌==◌, ◌&&◌, ◌||◌, not, List, [], ◌∷◌, Option, find, option_map}
 use Rattle.profile.specs.declared.fault.Fault.{Fault}
 use Rattle.profile.specs.declared.fault.Fault.TheVariants.{Unallocated, PcOperand, MultiplySame, EmptyList, UserBankWriteback}
@@ -51,8 +52,8 @@ unallocated (action.Operate o) =
 unallocated (action.Multiply m) = not m.accumulates && not (m.rn == 0)
 unallocated _ = false
 
--- R15 as Rs of a shift; anywhere in a multiply; as the offset of LDR or STR, as their base where it is written, as Rd of
--- a byte; as the base of LDM or STM
+-- R15 as Rs of a shift; anywhere in a multiply; as the offset of LDR or STR, as their base where it
+-- is written, as Rd of a byte; as the base of LDM or STM
 abbrev pub pc_operand : Action → Bool
 pc_operand (action.Operate o) = shifts_by_pc o.operand
 pc_operand (action.Multiply m) = is_pc m.rd || is_pc m.rn || is_pc m.rs || is_pc m.rm

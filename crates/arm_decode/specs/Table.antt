@@ -1,5 +1,6 @@
--- The instruction table: which form a word has. The masks and values are read off the diagrams of the ARM2 data sheet
--- ("Instruction set summary"); where the data sheet is silent, the names of the refusals are this project's own.
+-- The instruction table: which form a word has. The masks and values are read off the diagrams of
+-- the ARM2 data sheet ("Instruction set summary"); where the data sheet is silent, the names of the
+-- refusals are this project's own.
 use Rattle.std.specs.Prelude.{ℕ, ◌+◌, ◌==◌, Bool, ◌&&◌, not, if◌then◌else◌, bit_and, List, [], ◌∷◌, Option, Some, None, Result, Ok, Err, find, count_by}
 use Rattle.std.specs.List.{list_any}
 use Rattle.profile.specs.declared.fault.Fault.{Fault}
@@ -46,7 +47,8 @@ form_or_fault None is_undefined = Err (if is_undefined then UndefinedInstruction
 abbrev pub form_of : ℕ → Result Form Fault
 form_of word = form_or_fault (find (λ row. meets word row.1) rows) (is_undefined word)
 
--- what is left: the words beside multiply, with bits 7 and 4 set where data processing has a shift by a register
+-- what is left: the words beside multiply, with bits 7 and 4 set where data processing has a shift
+-- by a register
 abbrev pub is_gap : ℕ → Bool
 is_gap word = meets word (pattern 0x0E000090 0x00000090) && not (meets word (pattern 0x0FC000F0 0x00000090))
 

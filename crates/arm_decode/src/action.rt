@@ -1,3 +1,5 @@
+//! What an instruction does, with its fields as they stand in the word.
+
 use crate::address::{Address, BlockMode};
 use crate::bits::Bits;
 use crate::operand::Operand;

@@ -1,3 +1,5 @@
+//! The addresses of LDR, STR, LDM and STM: offset, direction, indexing, and the mode of a block.
+
 ghost use Rattle.std.specs.Prelude.{◌≡◌, ◌<◌};
 ghost use Rattle.profile.specs.Word.{field, bit_of};
 ghost use Rattle.arm_decode.specs.Names.{direction_of, indexing_of, block_mode_of, block_mode_code, is_up, is_pre_indexed, has_w};

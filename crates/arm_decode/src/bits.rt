@@ -1,3 +1,5 @@
+//! A field of an instruction, as a number of so many bits.
+
 ghost use Rattle.std.specs.Prelude.{◌≡◌, ℕ, ◌<◌, ◌^◌};
 ghost use Rattle.profile.specs.Word.{field};
 

@@ -1,3 +1,5 @@
+//! The sixteen conditions that an instruction is carried out under.
+
 ghost use Rattle.std.specs.Prelude.{◌≡◌, ◌<◌};
 ghost use Rattle.arm_decode.specs.Fields.{condition_in};
 ghost use Rattle.arm_decode.specs.Names.{condition_code};

@@ -95,7 +95,8 @@ impl Operand {
 }
 
 impl Operate {
-    /// The fields of data processing with this second operand, whether the table refuses them or not.
+    /// The fields of data processing with this second operand, whether the table refuses them or
+    /// not.
     #[inline(always)]
     pub fn in_word(operand: Operand, word: u32) -> Operate
         ensures { result ≡ operate_in operand word }

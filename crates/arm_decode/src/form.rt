@@ -1,3 +1,5 @@
+//! The nine forms of an instruction, and the row of the table that a word meets.
+
 ghost use Rattle.std.specs.Prelude.{◌≡◌};
 ghost use Rattle.arm_decode.specs.Table.{form_of};
 

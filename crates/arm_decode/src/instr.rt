@@ -1,3 +1,5 @@
+//! An instruction that the table allows: a condition and an action.
+
 ghost use Rattle.std.specs.Prelude.{◌≡◌, None};
 ghost use Rattle.arm_decode.specs.Decoded.{checked};
 ghost use Rattle.arm_decode.specs.Refusals.{refusal};

@@ -1,4 +1,4 @@
-//! The instructions of the ARM2, from words to values and back.
+//! The ARM2's instructions, from words to values and back, for the core and the assembler.
 //!
 //! The table is that of the ARM2 data sheet; what the data sheet leaves undefined or forbids is
 //! refused by name. `docs/INSTRUCTIONS.md` has it in words.

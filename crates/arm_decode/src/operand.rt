@@ -1,3 +1,5 @@
+//! The second operand of data processing.
+
 use crate::bits::Bits;
 use crate::register::Register;
 use crate::shift::{Shift, ShiftedRegister};

@@ -1,3 +1,5 @@
+//! The sixteen operations of data processing.
+
 ghost use Rattle.std.specs.Prelude.{◌≡◌, ◌<◌};
 ghost use Rattle.profile.specs.Word.{field};
 ghost use Rattle.arm_decode.specs.Names.{operation_of, operation_code};

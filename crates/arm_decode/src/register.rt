@@ -1,3 +1,5 @@
+//! The registers, and the list of registers of a block transfer.
+
 ghost use Rattle.std.specs.Prelude.{◌≡◌, ◌==◌, ℕ, ◌<◌, ◌^◌};
 ghost use Rattle.profile.specs.Word.{bit_of, field};
 

@@ -1,3 +1,5 @@
+//! The four types of shift, and a register that is shifted by a number.
+
 ghost use Rattle.std.specs.Prelude.{◌≡◌, ◌<◌};
 ghost use Rattle.profile.specs.Word.{field};
 ghost use Rattle.arm_decode.specs.Fields.{shifted_in};

@@ -1,3 +1,4 @@
+-- What one instruction leaves. Begin with Step; each family of instructions has a file of its own.
 pub mod Back
 pub mod BlockOrder
 pub mod Blocks

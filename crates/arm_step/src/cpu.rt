@@ -1,3 +1,5 @@
+//! The core: registers of all banks, status and program counter.
+
 ghost use Rattle.std.specs.Prelude.{◌≡◌, ◌<◌, ◌≤◌, ◌^◌, ◌%◌, ℕ, slice_index};
 ghost use Rattle.arm_step.specs.State.{IsCore, slot_of, register_in, with_register_in, register_of, with_register, r15_of, with_psr, with_pc, with_flags, with_overflow, with_mode, start_state};
 

@@ -1,4 +1,5 @@
-//! The core of the ARM2: its registers and status, and one instruction at a time over the memory map.
+//! The ARM2 core, for the machine: registers, status, and one instruction at a time over the memory
+//! map.
 #![tactic(auto)]
 
 pub mod block;

@@ -1,3 +1,5 @@
+//! The four modes and the processor status, as R15 holds them.
+
 ghost use Rattle.std.specs.Prelude.{◌≡◌, ◌<◌, ◌≤◌, ◌^◌, ◌%◌};
 ghost use Rattle.arm_step.specs.Psr.{psr_bits, psr_of, mode_number, mode_of, psr_taken};
 

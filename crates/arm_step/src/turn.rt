@@ -1,3 +1,5 @@
+//! How a step of the core ended.
+
 ghost use Rattle.std.specs.Prelude.{◌≡◌};
 
 use profile::Fault;

@@ -1,6 +1,7 @@
-//! Tests of the core: words decoded and encoded, and single steps, each worked out by hand.
+//! Tests: words decoded and encoded, and single steps of the core, each worked out by hand.
 //!
-//! They stand apart from the crates that they test, since a crate with tests is proved once more with them.
+//! They stand apart from the crates that they test, since a crate with tests is proved once more
+//! with them.
 #![tactic(auto)]
 
 #[cfg(test)]

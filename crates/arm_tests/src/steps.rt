@@ -18,7 +18,8 @@ use std::alloc::{AllocError, Global};
 use std::process::Abort;
 use std::test::Fail;
 
-/// What a test does to a board, or finds there. An address comes before what it holds, a register before its value.
+/// What a test does to a board, or finds there. An address comes before what it holds, a register
+/// before its value.
 #[derive(Clone, Copy)]
 enum Line {
     /// A new board, with this status.
@@ -48,7 +49,8 @@ enum Line {
     At(u32),
 }
 
-/// A core over two pages of memory from &8000 on, which lie in the store the other way round, and the last page of the address space.
+/// A core over two pages of memory from &8000 on, which lie in the store the other way round, and
+/// the last page of the address space.
 #[derive(Drop)]
 struct Board {
     cpu: Cpu,
@@ -200,7 +202,8 @@ fn play(rt: &impl Abort, alloc: Global, lines: &[Line]) -> Result<(), Fail> {
     Ok(())
 }
 
-/// Takes one step from &8000 in USR mode, with R0 to R3 as given. Whether after it R0 has a value, R1 to R3 are as before, and the flags are as said.
+/// Takes one step from &8000 in USR mode, with R0 to R3 as given. Whether after it R0 has a value,
+/// R1 to R3 are as before, and the flags are as said.
 fn takes(
     alloc: Global,
     before: u32,

@@ -1,4 +1,5 @@
--- Devices over memory: what they hold, how many bytes a call may take or give, how many calls are left before they fail.
+-- Devices over memory: what they hold, how many bytes a call may take or give, how many calls are
+-- left before they fail.
 use Rattle.std.specs.Prelude.{ℕ, Bool, true, List, ◌-◌, ◌==◌, ◌||◌, ◌++◌, not, min, length, take, drop, if◌then◌else◌}
 
 pub record SourceState : Type 0 where

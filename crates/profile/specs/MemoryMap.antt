@@ -1,5 +1,6 @@
--- The places and limits of the machine's memory, in bytes. The application space and the module area stand where RISC OS 3 has
--- them (Programmer's Reference Manual, "Memory management"); the rest of the layout is this project's own.
+-- The places and limits of the machine's memory, in bytes. The application space and the module
+-- area stand where RISC OS 3 has them (Programmer's Reference Manual, "Memory management"); the
+-- rest of the layout is this project's own.
 use Rattle.std.specs.Prelude.{ℕ}
 
 abbrev pub page_size : ℕ

@@ -1,5 +1,5 @@
--- Calls that may refuse: a definition answers with a `Result`, and these relations tie a call to it. On a refusal the
--- error is the definition's, and everything is as before.
+-- Calls that may refuse: a definition answers with a `Result`, and these relations tie a call to
+-- it. On a refusal the error is the definition's, and everything is as before.
 use Rattle.std.specs.Prelude.{◌≡◌, Result, Ok, Err}
 
 -- go on with what was answered, or pass the refusal on

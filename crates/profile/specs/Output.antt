@@ -17,14 +17,15 @@ pub record AddsFront (old new : Option (List ℕ)) (all : List ℕ) : Type 0 whe
   pub rest : List ℕ
   pub front : AddsAllBut old new rest all
 
--- A front of a text was appended, at least a byte of it is missing, and what stood before it stands still.
+-- A front of a text was appended, at least a byte of it is missing, and what stood before it stands
+-- still.
 pub record AddsPart (old new : Option (List ℕ)) (all : List ℕ) : Type 0 where
   pub missing : List ℕ
   pub some_missing : 0 < length missing
   pub front : AddsAllBut old new missing all
 
--- What a call that writes a text does to its sink: all of the text is appended and the flag is as it was, or the call fails and
--- the flag is up.
+-- What a call that writes a text does to its sink: all of the text is appended and the flag is as
+-- it was, or the call fails and the flag is up.
 pub record Writes {S A E : Type 0} (contents : S → Option (List ℕ)) (has_failed : S → Bool) (old new : S) (result : Result A E) (all : List ℕ) : Type 0 where
   pub text : OnOk result (Appends (contents old) (contents new) all)
   pub flag : OnErr result (has_failed new ≡ true)

@@ -1,6 +1,7 @@
--- Shifts of words in exact numbers (ARM2 data sheet, "Shifts"): a shift to the left multiplies by a power of two, one to the right divides
--- by it and rounds down, a rotation moves what falls out at the bottom to the top. The carry is the last bit shifted out. An amount is at
--- least 1 here; each formula holds for every amount, past 32 too.
+-- Shifts of words in exact numbers (ARM2 data sheet, "Shifts"): a shift to the left multiplies by a
+-- power of two, one to the right divides by it and rounds down, a rotation moves what falls out at
+-- the bottom to the top. The carry is the last bit shifted out. An amount is at least 1 here; each
+-- formula holds for every amount, past 32 too.
 use Rattle.std.specs.Prelude.{ℕ, Bool, ◌+◌, ◌-◌, ◌*◌, ◌/◌, ◌%◌, ◌^◌, min}
 use Rattle.std.specs.Int.{cast_unsigned, int_shr, from_bool, w32}
 use Rattle.profile.specs.Word.{bit_of}

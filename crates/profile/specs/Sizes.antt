@@ -6,7 +6,8 @@ pub record Sizes : Type 0 where
   pub app : ℕ
   pub rma : ℕ
 
--- A page of application space and one of module area at least, 1024 pages at most, and room for the three system pages.
+-- A page of application space and one of module area at least, 1024 pages at most, and room for the
+-- three system pages.
 pub record AreGood (s : Sizes) : Type 0 where
   pub has_app : 1 ≤ s.app
   pub has_rma : 1 ≤ s.rma

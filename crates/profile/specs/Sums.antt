@@ -1,5 +1,6 @@
--- Sums and differences of words with carry and signed overflow, in exact numbers (ARM2 data sheet, "Data processing", "Condition codes"):
--- a sum carries where the exact sum reaches 2^32, and overflows where the exact signed sum leaves -2^31 to 2^31 - 1.
+-- Sums and differences of words with carry and signed overflow, in exact numbers (ARM2 data sheet,
+-- "Data processing", "Condition codes"): a sum carries where the exact sum reaches 2^32, and
+-- overflows where the exact signed sum leaves -2^31 to 2^31 - 1.
 use Rattle.std.specs.Prelude.{ℕ, ℤ, pos, negsuc, Bool, not, ◌&&◌, ◌+◌, ◌-◌, ◌%◌, ◌^◌, nat_le, int_le, ◌+ℤ◌, ◌-ℤ◌}
 use Rattle.std.specs.Int.{cast_signed, from_bool, w32}
 use Rattle.profile.specs.declared.word.Sum.{Sum}

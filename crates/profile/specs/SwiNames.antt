@@ -1,5 +1,6 @@
--- The store calls by number and by name (RISC OS 3 Programmer's Reference Manual, "SWI calls by number"). OS_WriteI is 256 calls,
--- one for each byte; the numbers of the flex calls are this project's own.
+-- The store calls by number and by name (RISC OS 3 Programmer's Reference Manual, "SWI calls by
+-- number"). OS_WriteI is 256 calls, one for each byte; the numbers of the flex calls are this
+-- project's own.
 use Rattle.std.specs.Prelude.{ℕ, List, codes, Option, Some, None, nat_le, ◌&&◌, ◌==◌, if◌then◌else◌}
 use Rattle.profile.specs.declared.swi.SwiName.{SwiName}
 use Rattle.profile.specs.declared.swi.SwiName.TheVariants.{WriteC, WriteS, Write0, NewLine, Exit, EnterOs, Heap, Module, ChangeDynamicArea, GenerateError, ReadDynamicArea, DynamicArea, WriteI, FlexInit, FlexAlloc, FlexFree, FlexSize, FlexExtend, FlexMidExtend}

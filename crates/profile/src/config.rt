@@ -1,3 +1,5 @@
+//! The sizes of a machine, in pages, and which of them can be.
+
 ghost use Rattle.std.specs.Prelude.{◌≡◌, ◌≤◌, ◌+◌};
 ghost use Rattle.profile.specs.Sizes.{Sizes, AreGood};
 

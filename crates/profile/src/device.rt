@@ -1,3 +1,6 @@
+//! Readers and writers of the standard library as sources and sinks, with a flag that tells that
+//! one has failed.
+
 ghost use Rattle.std.specs.Prelude.{◌≡◌, Bool, true, false, not, IfOk, is_err, is_ok};
 ghost use Rattle.std.specs.Io.Buffered.{writer_contents};
 ghost use Rattle.std.specs.Io.KnownBytes.{Keeps};

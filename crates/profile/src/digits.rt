@@ -1,3 +1,5 @@
+//! Words written in hexadecimal.
+
 ghost use Rattle.std.specs.Prelude.{◌≡◌, ◌<◌, ◌≤◌, List, ℕ, length, drop, ◌-◌};
 ghost use Rattle.profile.specs.Digits.{hex_digit_at, hex_word, hex_number, without_zeros};
 

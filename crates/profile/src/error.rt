@@ -1,3 +1,5 @@
+//! The errors of store calls: their numbers, and the texts that stand in a guest's error block.
+
 ghost use Rattle.std.specs.Prelude.{◌≡◌};
 ghost use Rattle.profile.specs.ErrorNames.{error_code, error_name};
 

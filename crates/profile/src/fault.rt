@@ -1,3 +1,5 @@
+//! The faults that stop a machine, and their names.
+
 ghost use Rattle.std.specs.Prelude.{◌≡◌};
 ghost use Rattle.profile.specs.FaultNames.{fault_name};
 

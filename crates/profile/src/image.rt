@@ -1,3 +1,5 @@
+//! What an image's bytes are read through, wherever they stand.
+
 ghost use Rattle.std.specs.Prelude.{◌≡◌, ◌<◌, ℕ, List, length, slice_index};
 
 /// The bytes of an image, wherever they stand: in a slice, or in a guest's memory.

@@ -1,5 +1,5 @@
-//! The names, numbers and limits of the machine, the words that it counts with, and the devices
-//! that scripts are read from and answers written to.
+//! Names, numbers and limits of the machine, words and their sums, and devices, for all crates
+//! above. Devices are what scripts are read from and answers written to.
 #![tactic(auto)]
 
 pub mod config;

@@ -48,7 +48,7 @@ pub enum AreaReason {
     Create,
     /// 1: an area is taken away.
     Remove,
-    /// 2: an area is told of.
+    /// 2: what an area is like.
     Info,
     /// 3: the next area's number is told.
     Enumerate,
@@ -100,7 +100,7 @@ pub enum ModuleReason {
     Insert,
     /// 11: a copy of an image is added.
     InsertCopy,
-    /// 12: an instance is told of.
+    /// 12: what an instance is like.
     Info,
     /// 13: a block of the module area becomes larger or smaller.
     Extend,

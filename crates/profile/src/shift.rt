@@ -90,8 +90,8 @@ pub fn rotate_right(word: u32, amount: u32) -> u32
     word.rotate_right(amount)
 }
 
-/// A rotation to the right (ROR) by any amount. The carry is the top bit of what comes out, which for
-/// an amount of at least 1 was the last to be rotated out.
+/// A rotation to the right (ROR) by any amount. The carry is the top bit of what comes out, which
+/// for an amount of at least 1 was the last to be rotated out.
 pub fn rotate(word: u32, amount: u32) -> Shifted
     ensures { result ≡ rotated word amount }
 {

@@ -1,3 +1,5 @@
+//! What answers are written to, and how bytes are written to it whole.
+
 ghost use Rattle.std.specs.Prelude.{◌≡◌, ◌≤◌, ◌<◌, ◌-◌, ℕ, Bool, true, false, not, [], List, length, take, Option, Some, None, IfOk, OnOk, OnErr, is_err};
 ghost use Rattle.std.specs.List.{flat_map};
 ghost use Rattle.std.specs.Io.KnownBytes.{Appends, WriteAppends};

@@ -1,3 +1,5 @@
+//! What a script is read from.
+
 ghost use Rattle.std.specs.Prelude.{◌≡◌, ◌≤◌, ◌<◌, ◌-◌, ℕ, Bool, true, false, not, List, length, Option, Some, None, IfOk, is_err};
 ghost use Rattle.std.specs.Io.KnownBytes.{ReadConsumes};
 ghost use Rattle.profile.specs.Pulls.{PullsOnce};

@@ -1,3 +1,5 @@
+//! Why a run of steps ended.
+
 use crate::fault::Fault;
 
 /// Why a run of steps ended.

@@ -1,3 +1,5 @@
+//! The SWIs that the machine knows, by number and by name.
+
 ghost use Rattle.std.specs.Prelude.{◌≡◌};
 ghost use Rattle.profile.specs.SwiNames.{swi_name, swi_of};
 

@@ -104,7 +104,7 @@ module _ {M : Type 1} {𝓤 : Ura M} (𝓛 : Logic 𝓤) (b : ℕ) where
     pub run_seen : (o : ℕ) (xs : List ℕ) (i n : ℕ) → i ≤ length xs → ent 𝓤 (sem 𝓛 (Seen o xs)) (sem 𝓛 (Seen (i + o) (take n (drop i xs))))
     run_seen o xs i n le = via 𝓤 (sem 𝓛 (Seen (i + o) (drop i xs))) (from_on xs i o (i + o) le refl) (up_to (drop i xs) n (i + o))
 
-  -- bytes that nothing reads any more are room, with the room behind them
+  -- bytes that nothing reads any more are room, with the room after them
   pub to_room : (xs : List ℕ) (o m : ℕ)
       → ent 𝓤 (sep 𝓤 (sem 𝓛 (Row o xs)) (𝓛.H.room (bytes_type m) b (length xs + o))) (𝓛.H.room (bytes_type (length xs + m)) b o)
   to_room [] o m = qed 𝓛 (‵ ftrue ∷ ‵ (froom (bytes_type m) b (length {A = ℕ} [] + o)) ∷ []) ∵ skip ! $

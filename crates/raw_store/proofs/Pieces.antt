@@ -24,7 +24,7 @@ copied_byte bytes from to source target =
 pub copied_none : (bytes : List ℕ) (from to : ℕ) → copied bytes from to 0 ≡ bytes
 copied_none bytes from to = let e : to + 0 ≡ to = omega arith in rw e (take-append-drop to bytes)
 
--- the first piece, and then the one behind it, to a lower place
+-- the first piece, and then the one after it, to a lower place
 pub copied_down : (bytes : List ℕ) (from to k n i j m : ℕ) → i ≡ from + k → j ≡ to + k → m ≡ k + n → to ≤ from → from + m ≤ length bytes
     → copied (copied bytes from to k) i j n ≡ copied bytes from to m
 copied_down bytes from to k n i j m at_i at_j both below fits = same_lists _ _ (grind (arith, places)) (λ x d h. grind (arith, places))

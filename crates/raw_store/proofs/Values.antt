@@ -1,4 +1,5 @@
--- The machine values of the block's parts: what is owned tells them, and is made of nothing. Assumes `Logic`.
+-- The machine values of the block's parts: what is owned tells them, and is made of nothing.
+-- Assumes `Logic`.
 use Rattle.std.proofs.Common.{◌≡◌, List, [], ◌∷◌, ◌++◌, refl, ◌∙◌}
 use seplogic.Ra.Ura.{Ura}
 use mir.Val.{Val, vstruct, vcons, vnil, of_list}

@@ -1,4 +1,5 @@
--- What the owner of a block of bytes owns and lends. b and o are the block's object and the offset in it.
+-- What the owner of a block of bytes owns and lends. b and o are the block's object and the offset
+-- in it.
 use Rattle.std.specs.Prelude.{ℕ, ◌+◌, ◌^◌, List, [], ◌∷◌, length}
 use base.Fraction.{full_share}
 use base.Fml.{Lft, Fml, ftrue, ffalse, fsep, flt, froom}
@@ -18,11 +19,12 @@ abbrev pub bytes_at : ℕ → ℕ → List ℕ → Fml
 bytes_at b o [] = ftrue
 bytes_at b o (x ∷ xs) = fsep (part_at u8 full_share x b o) (bytes_at b (o + 1) xs)
 
--- they take fewer than 2 ^ 63 bytes, with the `spare` bytes behind them
+-- they take fewer than 2 ^ 63 bytes, with the `spare` bytes after them
 abbrev pub fit : List ℕ → ℕ → Fml
 fit items spare = flt (length items + spare) (2 ^ 63)
 
--- the bytes `items` from the pointer on, and behind them room for `spare` more, which nothing was written to
+-- the bytes `items` from the pointer on, and after them room for `spare` more, which nothing was
+-- written to
 abbrev pub block_owns : Ptr → List ℕ → ℕ → Fml
 block_owns (block_ptr b o) items spare = fsep (fit items spare) (fsep (bytes_at b o items) (froom (bytes_type spare) b (length items + o)))
 block_owns null_ptr items spare = ffalse

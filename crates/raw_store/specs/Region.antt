@@ -1,7 +1,8 @@
--- A region of memory: the bytes that were written, as a list; what a read gives and what a write leaves.
+-- A region of memory: the bytes that were written, as a list; what a read gives and what a write
+-- leaves.
 use Rattle.std.specs.Prelude.{◌≡◌, ◌≤◌, ◌⊎◌, ℕ, List, [], ◌∷◌, ◌++◌, ◌+◌, ◌-◌, ◌*◌, ◌/◌, ◌%◌, take, drop, length, replicate, slice_index}
 
--- a region: the bytes that were written so far, and how many more there is room for behind them
+-- a region: the bytes that were written so far, and how many more there is room for after them
 pub record Region : Type 0 where
   pub items : List ℕ
   pub spare : ℕ
@@ -9,8 +10,8 @@ pub record Region : Type 0 where
 abbrev pub with_items : Region → List ℕ → Region
 with_items r xs = record { items = xs; spare = r.spare }
 
--- the word whose lowest byte stands at `at`: the byte at the lowest address is the least significant one (ARM2 data
--- sheet, "Memory interface", little-endian)
+-- the word whose lowest byte stands at `at`: the byte at the lowest address is the least
+-- significant one (ARM2 data sheet, "Memory interface", little-endian)
 abbrev pub word_in : List ℕ → ℕ → ℕ
 word_in bytes at = slice_index bytes at + 256 * (slice_index bytes (at + 1) + 256 * (slice_index bytes (at + 2) + 256 * slice_index bytes (at + 3)))
 
@@ -30,11 +31,11 @@ copied bytes from to len = written bytes to (take len (drop from bytes))
 abbrev pub zeroed : List ℕ → ℕ → ℕ → List ℕ
 zeroed bytes at len = written bytes at (replicate len 0)
 
--- zeros behind the bytes, as many as make them `len` in all; none where there are as many
+-- zeros after the bytes, as many as make them `len` in all; none where there are as many
 abbrev pub grown : List ℕ → ℕ → List ℕ
 grown bytes len = bytes ++ replicate (len - length bytes) 0
 
--- the `n` bytes from `a` on and the `m` from `b` on share no byte: one of the two ranges is empty, or one ends before the
--- other begins
+-- the `n` bytes from `a` on and the `m` from `b` on share no byte: one of the two ranges is empty,
+-- or one ends before the other begins
 abbrev pub AreApart : ℕ → ℕ → ℕ → ℕ → Type 0
 AreApart a n b m = (n ≡ 0) ⊎ (m ≡ 0) ⊎ (a + n ≤ b) ⊎ (b + m ≤ a)

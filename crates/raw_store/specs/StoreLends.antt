@@ -4,7 +4,8 @@ use Rattle.std.specs.Borrow.{Fml, MutBor, Array, Lends, LendsBoth, u8}
 use Rattle.raw_store.specs.Region.{Region, with_items, written}
 use Rattle.raw_store.specs.contracts.store.RawStore.{the_row}
 
--- the `len` bytes from `at` on are the last ones written through r, and the others stay as they were
+-- the `len` bytes from `at` on are the last ones written through r, and the others stay as they
+-- were
 abbrev pub lends_range : MutBor Region → ℕ → ℕ → MutBor (List ℕ) → Fml
 lends_range s at len r = Lends the_row (Array u8 0) s r (λ ws. with_items s.now (written s.now.items at (take len ws)))
 

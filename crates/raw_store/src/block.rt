@@ -1,6 +1,7 @@
-//! The one block of memory behind the store, and every use of its raw pointer.
+//! The one block of memory that the store keeps its bytes in, and every use of its raw pointer.
 //!
-//! `Base` is the pointer, `Bytes` owns what lies there, and `Deed` is what gives it back. The last two take no space.
+//! `Base` is the pointer, `Bytes` owns what lies there, and `Deed` is what gives it back. The last
+//! two take no space.
 ghost use Rattle.std.specs.Prelude.{◌≡◌, ℕ, ◌+◌, ◌^◌, ◌<◌, ◌≤◌, List, [], ◌∷◌, ◌++◌, length, slice_index, slice_set, slice_range, IfOk, ⊤};
 ghost use Rattle.std.specs.Borrow.{sem};
 ghost use base.Fml.{ftrue};
@@ -28,7 +29,7 @@ impl Clone for Base {
 
 impl Copy for Base {}
 
-/// The owner of the bytes at `at`: the first are `items`, and `spare` more have room behind them.
+/// The owner of the bytes at `at`: the first are `items`, and `spare` more have room after them.
 pub struct Bytes {
     ghost at: { Ptr },
     ghost items: { List ℕ },
@@ -55,8 +56,9 @@ impl<A: Allocator> Model for Right<A> {
     ghost also_shares = { λ _ _ _. ftrue };
 }
 
-/// The deed of a block: the right to give it back, and the allocator that it goes back to. Who holds the deed can do nothing
-/// but that: no other module can name the allocator, so none can take host memory from it.
+/// The deed of a block: the right to give it back, and the allocator that it goes back to. Who
+/// holds the deed can do nothing but that: no other module can name the allocator, so none can take
+/// host memory from it.
 pub struct Deed {
     right: Right<Global>,
     alloc: Global,
@@ -74,7 +76,7 @@ pub(crate) fn allocate(alloc: Global, len: usize) -> Result<(Base, Bytes, Deed),
 }
 
 impl Deed {
-    /// Gives the block back, with what lies in it and the room behind.
+    /// Gives the block back, with what lies in it and the room after that.
     pub(crate) fn give_back(self, base: Base, len: usize, bytes: Bytes)
         requires { (bytes.at ≡ base.ptr) × (length bytes.items + bytes.spare ≡ len) × (self.right.at ≡ base.ptr)
             × (self.right.len ≡ len) }

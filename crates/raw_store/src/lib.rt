@@ -1,4 +1,5 @@
-//! One region of raw bytes, all of a machine's memory, and the reads and writes of it.
+//! One region of raw bytes, all of a machine's memory, with its reads and writes, for
+//! `address_map`.
 #![tactic(auto)]
 
 pub mod block;

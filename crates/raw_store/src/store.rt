@@ -1,3 +1,6 @@
+//! All bytes of a machine's memory, in one region: how it is made, read, written, copied within and
+//! lent.
+
 ghost use Rattle.std.specs.Prelude.{List, [], ℕ, ◌≡◌, ◌≤◌, ◌<◌, ◌+◌, ◌*◌, ◌↔◌, IsTrue, IfOk, length, replicate, slice_index, slice_set, slice_range};
 ghost use Rattle.std.specs.Borrow.{sem};
 ghost use Rattle.raw_store.specs.Region.{AreApart, word_in, word_bytes, written, copied, zeroed, grown};
@@ -12,9 +15,9 @@ use std::slice;
 
 /// All bytes of a machine's memory, in one region whose room never grows.
 ///
-/// A place is counted in bytes from the region's start. Bytes are written from there on, and what was
-/// not written yet takes no memory that the host has to find. Each call but those that make a region
-/// or write on wants a range that was written, which `fits` tests.
+/// A place is counted in bytes from the region's start. Bytes are written from there on, and what
+/// was not written yet takes no memory that the host has to find. Each call but those that make a
+/// region or write on wants a range that was written, which `fits` tests.
 pub struct RawStore {
     base: Base,
     len: usize,
@@ -87,7 +90,7 @@ impl RawStore {
         })
     }
 
-    /// Writes zeros behind the bytes, until `len` were written. Where as many were, nothing is done.
+    /// Writes zeros after the bytes, until `len` were written. Where as many were, nothing is done.
     pub fn grow(&mut self, len: usize)
         requires { len ≤ length self.old.items + self.old.spare }
         ensures bytes { self.new.items ≡ grown self.old.items len }
@@ -189,8 +192,8 @@ impl RawStore {
         self.bytes.lend(self.base, at, len)
     }
 
-    /// The `len` bytes from `at` on, for writing. Once the loan has ended, the region holds there what
-    /// was written.
+    /// The `len` bytes from `at` on, for writing. Once the loan has ended, the region holds there
+    /// what was written.
     pub fn lend_mut(&mut self, at: usize, len: usize) -> &mut [u8]
         requires { at + len ≤ length self.old.items }
         ensures* writes_back { sem 𝓛 (lends_range self.entry at len result) }
@@ -199,9 +202,9 @@ impl RawStore {
         self.bytes.lend_mut(self.base, at, len)
     }
 
-    /// Two ranges that share no byte, for writing: the `n` bytes from `a` on, and the `m` from `b` on. An empty range may lie
-    /// anywhere, inside the other too.
-    /// Once the loan has ended, the region holds there what was written.
+    /// Two ranges that share no byte, for writing: the `n` bytes from `a` on, and the `m` from `b`
+    /// on. An empty range may lie anywhere, inside the other too. Once the loan has ended, the
+    /// region holds there what was written.
     pub fn lend_two(&mut self, a: usize, n: usize, b: usize, m: usize) -> (&mut [u8], &mut [u8])
         requires first { a + n ≤ length self.old.items }
         requires second { b + m ≤ length self.old.items }
@@ -228,7 +231,7 @@ impl RawStore {
     }
 }
 
-// Writes zeros behind the `first` bytes of a block that were written, until `len` were.
+// Writes zeros after the `first` bytes of a block that were written, until `len` were.
 fn append_zeros(bytes: &mut Bytes, base: Base, first: usize, len: usize)
     requires { (base.ptr ≡ bytes.old.at) × (first ≡ length bytes.old.items) × (first ≤ len)
         × (len ≤ first + bytes.old.spare) }

@@ -63,7 +63,8 @@ static LINES: [Line; 167] = [
     Set(1, 0x9010),
     Run(0xE911_001C),
     Lowest(0, 0x9010, 1, 2, 3),
-    // STMIA R1!,{R0,R1}; STMIA R1!,{R1,R2}; STMIA R1,{R0,R1}; STMDB R1!,{R0,R1}: the old base where it is lowest
+    // STMIA R1!,{R0,R1}; STMIA R1!,{R1,R2}; STMIA R1,{R0,R1}; STMDB R1!,{R0,R1}: the old base where
+    // it is lowest
     New(0),
     Registers(1, 0x9000, 2, 0, 0),
     Run(0xE8A1_0003),

@@ -1,4 +1,5 @@
-//! Steps that fault. That such a step changes nothing is a clause of `step`, so each row has the fault alone.
+//! Steps that fault. That such a step changes nothing is a clause of `step`, so each row has the
+//! fault alone.
 
 use super::Board;
 use arm_step::Turn;

@@ -51,7 +51,8 @@ static ROWS: [(u32, u32, u32, u32, u32, u32, u32, u32); 62] = [
     (0xD, 0, 1, 0, 0, 0xE2E1_0000, 0xFFFF_FFFE, 0xD),
     (6, 0, 0, 0, 0, 0xE3E0_0000, 0xFFFF_FFFF, 6),
     (0, 0, 3, 0, 0, 0xE1A0_00A1, 1, 0),
-    // MUL R0,R1,R2; MULS; MLAS R0,R1,R2,R3; MULS of a product whose low word is 0; MLA R0,R1,R2,R0 adds the old R0
+    // MUL R0,R1,R2; MULS; MLAS R0,R1,R2,R3; MULS of a product whose low word is 0; MLA R0,R1,R2,R0
+    // adds the old R0
     (0xF, 0, 7, 6, 0, 0xE000_0291, 42, 0xF),
     (3, 0, 0xFFFF_FFFF, 5, 0, 0xE010_0291, 0xFFFF_FFFB, 0xB),
     (4, 0, 3, 4, 0xFFFF_FFFF, 0xE030_3291, 11, 0),
@@ -66,12 +67,14 @@ static ROWS: [(u32, u32, u32, u32, u32, u32, u32, u32); 62] = [
     (2, 0, 0x8000_0000, 33, 0, 0xE1B0_0231, 0, 4),
     (0, 0, 0x8000_0000, 0, 0, 0xE1B0_0231, 0x8000_0000, 8),
     (2, 0, 0x8000_0000, 0, 0, 0xE1B0_0231, 0x8000_0000, 0xA),
-    // MOVS R0,#&FF keeps C; MOVS R0,#&FF,2 is &C000003F and sets C; MOVS R0,#&FF,30 is &3FC and clears it; MOVS R0,#0
+    // MOVS R0,#&FF keeps C; MOVS R0,#&FF,2 is &C000003F and sets C; MOVS R0,#&FF,30 is &3FC and
+    // clears it; MOVS R0,#0
     (2, 0, 0, 0, 0, 0xE3B0_00FF, 0xFF, 2),
     (0, 0, 0, 0, 0, 0xE3B0_01FF, 0xC000_003F, 0xA),
     (2, 0, 0, 0, 0, 0xE3B0_0FFF, 0x3FC, 0),
     (1, 0, 0, 0, 0, 0xE3B0_0000, 0, 5),
-    // R15 is two words ahead. ADD R0,PC,#0: no status. MOV R0,PC: with it. MOV R0,PC,LSL #4. ADD R0,R1,PC
+    // R15 is two words ahead. ADD R0,PC,#0: no status. MOV R0,PC: with it. MOV R0,PC,LSL #4. ADD
+    // R0,R1,PC
     (6, 0, 0, 0, 0, 0xE28F_0000, 0x8008, 6),
     (6, 0, 0, 0, 0, 0xE1A0_000F, 0x6000_8008, 6),
     (9, 0, 0, 0, 0, 0xE1A0_020F, 0x0008_0080, 9),

@@ -1,10 +1,11 @@
-//! Shifts of operand 2: `MOVS R0,R1` with every shift by numbers and by registers. `processing` has more of them.
+//! Shifts of operand 2: `MOVS R0,R1` with every shift by numbers and by registers. `processing` has
+//! more of them.
 
 use super::takes;
 use std::test::Fail;
 
-/// Flags before, the value in R1, the amount in R2, the word; the result in R0 and the flags after it. Each amount stands four times:
-/// LSL, LSR, ASR, ROR.
+/// Flags before, the value in R1, the amount in R2, the word; the result in R0 and the flags after
+/// it. Each amount stands four times: LSL, LSR, ASR, ROR.
 static SHIFTS: [(u32, u32, u32, u32, u32, u32); 80] = [
     // by R2: 0, 1, 31, 32, 33, 64 and 255
     (0, 0x8000_0001, 0, 0xE1B0_0211, 0x8000_0001, 8),

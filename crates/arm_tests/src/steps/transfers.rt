@@ -6,7 +6,8 @@ use arm_step::Turn;
 use std::alloc::{AllocError, Global};
 use std::test::Fail;
 
-/// A word; R0, R1, and the word at an address after it. Before it R0 is &A1B2C3D4, R1 &9008, R2 4, C is set, and words stand from &9000 to &9010.
+/// A word; R0, R1, and the word at an address after it. Before it R0 is &A1B2C3D4, R1 &9008, R2 4,
+/// C is set, and words stand from &9000 to &9010.
 static TRANSFERS: [(u32, u32, u32, u32, u32); 34] = [
     // loads of words
     (0xE591_0000, 0x4433_2211, 0x9008, 0x9008, 0x4433_2211), // LDR R0,[R1]

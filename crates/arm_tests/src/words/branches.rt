@@ -1,3 +1,5 @@
+//! Words of B, BL and SWI, decoded and encoded.
+
 use super::check_word;
 use arm_decode::Condition::{Always, Never, NotEqual, OverflowSet};
 use arm_decode::{Action, Bits, Condition};

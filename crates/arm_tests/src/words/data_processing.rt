@@ -1,3 +1,5 @@
+//! Words of data processing and of multiplies, decoded and encoded.
+
 use super::{check_always, check_word, register, shifted_register};
 use arm_decode::Operation::{
     Add, AddWithCarry as Adc, And, BitClear as Bic, Compare as Cmp, CompareNegated as Cmn,

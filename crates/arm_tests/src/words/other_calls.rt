@@ -1,3 +1,5 @@
+//! The form of a word, and the parts of an instruction made and read by themselves.
+
 use super::register;
 use arm_decode::{
     Action, Bits, Condition, Form, Indexing, Instr, Multiply, Operation, RegisterList, row_of,

@@ -1,3 +1,6 @@
+//! Words that the table refuses, each with its fault, and which refusal is given where several
+//! hold.
+
 use arm_decode::{decode, row_of};
 use profile::Fault;
 

@@ -1,3 +1,5 @@
+//! Words of LDR, STR, LDM and STM, decoded and encoded.
+
 use super::{check_always, register, shifted_register};
 use arm_decode::BlockMode::{DecrementAfter, DecrementBefore, IncrementAfter, IncrementBefore};
 use arm_decode::Direction::{Down, Up};

@@ -1,4 +1,5 @@
--- `deallocate_block` makes room of the bytes, and hands the block back with the right to do so. Assumes `Logic`.
+-- `deallocate_block` makes room of the bytes, and hands the block back with the right to do so.
+-- Assumes `Logic`.
 use Rattle.std.proofs.Common.{◌≡◌, ℕ, ◌+◌, ◌*◌, List, [], ◌∷◌, ◌++◌, length, refl, sym, ap, ◌∙◌, arith, lit<, w64}
 use Rattle.std.proofs.alloc.Calls.{Al, seen, Goes-blank, Gives, at_gives, Gives-goes, Gives-Gives}
 use Rattle.std.proofs.alloc.Shapes.{after}

@@ -1,4 +1,4 @@
--- `push` writes to the room behind the bytes. Assumes `Logic`.
+-- `push` writes to the room after the bytes. Assumes `Logic`.
 use Rattle.std.proofs.Common.{◌≡◌, ℕ, suc, ◌+◌, ◌-◌, ◌^◌, ◌<◌, List, [], ◌∷◌, ◌++◌, length, refl, sym, ◌∙◌, ap, arith, length-append, w8, w64}
 use Rattle.std.proofs.RcSteps.{word-Good}
 use Rattle.std.proofs.VecSteps.Shapes.{after}

@@ -152,7 +152,8 @@ lend_two_spec 𝓤 𝓛 𝓜 𝓡 wired =
     opens ! tt R {h = xs} rb ro (λ vs. move ! (1 ∷ []) $ fpick ! (λ hidden. let s : Inside = hidden.0 in let view_is = hidden.1.0 in let holds = hidden.1.1 in
     fsplit ! $ move ! (1 ∷ []) $ drop ! $ fpick ! (λ us. fsplit ! $ feq_l ! (λ spelt. fsplit ! $ peeks ! Base (Is Base) (shows 𝓛 Base) s.base us.0 (λ told.
     move ! (1 ∷ []) $ fsplit ! $ move ! (1 ∷ []) $ fsplit ! $ fsplit ! $ move ! (1 ∷ []) $ in_a_block ! s.bytes.at (λ p. block_owns p s.bytes.items s.bytes.spare) (id⊢ 𝓤 (never 𝓤)) (λ b o e. fsplit ! $ flt_l ! (λ small. fsplit ! $
-    -- [the bytes; the room; the owner's fields; the deed and the room; the length; the base; the store's cell; the open borrow, in three entries]
+    -- [the bytes; the room; the owner's fields; the deed and the room; the length; the base; the
+    -- store's cell; the open borrow, in three entries]
     let spelt_out : vs ≡ vstruct (of_list (base_val (block_ptr b o) ∷ others_of us)) ∷ [] = spelt ∙ (λ j. vstruct (of_list ((base_told s.base.ptr us.0 told ∙ ap (λ (p : Ptr). base_val p ∷ []) (holds.0 ∙ e)) j ++ others_of us)) ∷ []) in
     let ys = s.bytes.items in let items_are : ys ≡ xs.items = ap (λ (r : Region). r.items) view_is in let in_n : i + n ≤ length ys = omega (arith, within_n, ap length items_are) in let in_m : k + m ≤ length ys = omega (arith, within_m, ap length items_are) in
     let one = take n (drop_l i ys) in let two = take m (drop_l k ys) in
@@ -177,7 +178,8 @@ lend_two_spec 𝓤 𝓛 𝓜 𝓡 wired =
     use1 𝓛 (‵ (bytes_at b at one) ⊛ ‵ (bytes_at b at_m two) ⊛ ‵ (Others 𝓛 b o ys i n k m apart)) (two_out 𝓛 b o ys i n k m apart in_n in_m) $ split3 ! $
     use1 𝓛 (‵ (cells (mem u8) one b at)) (to_cells 𝓛 b one at) $ feq_i ! ℕ (length one) (length one) refl $ fjoin ! $ move ! (1 ∷ []) $
     use1 𝓛 (‵ (cells (mem u8) two b at_m)) (to_cells 𝓛 b two at_m) $ feq_i ! ℕ (length two) (length two) refl $ fjoin ! $
-    -- [the second run; the first; the others; the room; the owner's fields; the deed and the room; the length; the base; the cell; the open borrow]
+    -- [the second run; the first; the others; the room; the owner's fields; the deed and the room;
+    -- the length; the base; the cell; the open borrow]
     move ! (5 ∷ 8 ∷ []) $ fjoin ! $ move ! (6 ∷ 0 ∷ []) $ fjoin ! $ move ! (6 ∷ 0 ∷ []) $ fjoin ! $ move ! (5 ∷ 0 ∷ []) $ fjoin ! $ move ! (4 ∷ 0 ∷ []) $ fjoin ! $ move ! (3 ∷ 0 ∷ []) $ fjoin ! $
     move ! (3 ∷ 4 ∷ 5 ∷ 2 ∷ 1 ∷ 0 ∷ []) $ group ! 6 $
     use1 𝓛 (later (some (λ (γs : GName × GName). (‵ (fobs γs.0 ((coded_list u8.coded).code one)) ⊛ ‵ (fbor κ (Body T b at γs.0))) ⊛ (‵ (fobs γs.1 ((coded_list u8.coded).code two)) ⊛ ‵ (fbor κ (Body U b at_m γs.1)))
