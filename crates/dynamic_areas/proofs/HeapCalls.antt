@@ -1,4 +1,5 @@
--- After calls on the heaps the areas stand as they stood: a heap call changes no mapping and no other record, and the module area's heap keeps its end.
+-- After calls on the heaps the areas stand as they stood: a heap call changes no mapping and no
+-- other record, and the module area's heap keeps its end.
 use Rattle.std.proofs.Common.{◌≡◌, ℕ, ◌+◌, ◌-◌, ◌*◌, ◌%◌, ◌==◌, ◌&&◌, Bool, true, false, List, [], ◌∷◌, ◌++◌, refl, sym, ap, subst, ◌∙◌, Some, None, Ok, Err, inl, inr, arith}
 use Rattle.std.specs.Prelude.{if◌then◌else◌, Option, Result, ok_or, is_some, nat_le, nat_lt}
 use Rattle.std.proofs.lemmas.Bool.{cases_Bool, eqb-true, eq-eqb, false≢true}
@@ -171,7 +172,8 @@ changed_keeps : (s : Store) (heap change : ℕ) → KeepsBy s (changed s heap ch
 unfolding changed
 changed_keeps s heap change = changed_found s heap change (find_heap heap s.heaps) refl
 
--- calls that give a block back, or change its size: the module area is no heap that is forgotten, and a heap's list changes neither kind nor end
+-- calls that give a block back, or change its size: the module area is no heap that is forgotten,
+-- and a heap's list changes neither kind nor end
 listed_end : (start : ℕ) (items : List Item) (hs : List HeapList) → KeepsEnd hs (with_items start items hs)
 listed_end start items [] area ends = ends
 listed_end start items (g ∷ hs) area ends = elim (cases_Bool (g.start == 0x01800000)) [

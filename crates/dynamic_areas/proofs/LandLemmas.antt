@@ -26,7 +26,7 @@ or_nothing : (t : Bool) → (t || false) ≡ t
 or_nothing true = refl
 or_nothing false = refl
 
--- the addresses of the first pages, and of those behind them
+-- the addresses of the first pages, and of those after them
 pub held_split : (base p c x : ℕ) → in_range base (4096 * (p + c)) x ≡ (in_range (base + 4096 * p) (4096 * c) x || in_range base (4096 * p) x)
 held_split base p c x =
     elim (cases_lt x (base + 4096 * p)) [

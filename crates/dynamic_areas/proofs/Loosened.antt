@@ -21,7 +21,8 @@ use Rattle.dynamic_areas.proofs.ModuleArea.{IsModuleArea, heap_below}
 use Rattle.dynamic_areas.proofs.Remapped.{here, range_low, range_high}
 use Rattle.dynamic_areas.proofs.RoomLemmas.{found_number}
 
--- a part of the module area's heap that lies behind its new end, and so behind its last item: a heap in one of its blocks ends before that
+-- a part of the module area's heap that lies after its new end, and so after its last item: a heap
+-- in one of its blocks ends before that
 heaps_ended : (b : Bytes) (top len end : ℕ) (h : HeapList) (hs : List HeapList) → IsHeapIn b h.start h.end h.items → is_area h.kind ≡ true
     → AreOthers h hs → 16 + size_of h.items ≤ end → h.start + end ≤ top → top + len ≤ h.start + h.end → IsClearOfHeaps top len (with_end h.start end hs)
 heaps_ended b top len end h [] heap area others fits low high = tt

@@ -1,4 +1,5 @@
--- The store after pages were mapped, or taken away: memory spells the same heaps, and the store stays sound.
+-- The store after pages were mapped, or taken away: memory spells the same heaps, and the store
+-- stays sound.
 use Rattle.std.proofs.Common.{Bool, ◌≡◌, ℕ, ◌+◌, ◌<◌, ◌≤◌, ◌&&◌, ◌||◌, not, leb, true, false, List, [], ◌∷◌, refl, sym, ap, ◌∙◌, inl, inr}
 use Rattle.std.proofs.lemmas.Bool.{cases_Bool, or_from, le-leb, lt-ltb, leb-true, ltb-true, and_parts, false≢true, false_from_ne_true}
 use Rattle.std.proofs.Math.Dec.{ltb}

@@ -1,5 +1,6 @@
--- Dynamic areas as a list by number, and what calls answer of it (RISC OS 3 Programmer's Reference Manual, "OS_ReadDynamicArea", and its
--- supplement, "OS_DynamicArea"; the numbers of created areas, the limits, and the order of the refusals, are this project's own).
+-- Dynamic areas as a list by number, and what calls answer of it (RISC OS 3 Programmer's Reference
+-- Manual, "OS_ReadDynamicArea", and its supplement, "OS_DynamicArea"; the numbers of created areas,
+-- the limits, and the order of the refusals, are this project's own).
 use Rattle.std.specs.Prelude.{ℕ, ◌+◌, ◌-◌, ◌*◌, ◌==◌, ◌&&◌, ◌||◌, not, Bool, nat_le, nat_lt, Option, Some, None, is_some, ok_or, Result, Ok, Err, List, [], ◌∷◌, codes, if◌then◌else◌}
 use Rattle.profile.specs.Outcome.{bind}
 use Rattle.profile.specs.Sizes.{Sizes}
@@ -75,7 +76,8 @@ abbrev pub pages_of : List Area → ℕ
 pages_of [] = 0
 pages_of (a ∷ others) = a.pages + pages_of others
 
--- OS_ReadDynamicArea: bit 7 of a number below 256 is no part of it, but asks for the maximum; from 256 on that is told too.
+-- OS_ReadDynamicArea: bit 7 of a number below 256 is no part of it, but asks for the maximum; from
+-- 256 on that is told too.
 abbrev pub asked_number : ℕ → ℕ
 asked_number word = if nat_le 128 word && nat_lt word 256 then word - 128 else word
 
@@ -85,7 +87,8 @@ extent_of word a = record { base = a.base; size = 4096 * a.pages; maximum = if n
 unfoldable pub extent_asked : List Area → ℕ → Result Extent ErrorNumber
 extent_asked areas word = bind (area_in areas (asked_number word)) (λ a. Ok (extent_of word a))
 
--- OS_DynamicArea, reason 3: from -1 or the number of an area to the next greater number, or to -1 behind the last.
+-- OS_DynamicArea, reason 3: from -1 or the number of an area to the next greater number, or to -1
+-- after the last.
 abbrev pub next_above : ℕ → List Area → ℕ
 next_above number [] = minus_one
 next_above number (a ∷ others) = if nat_lt number a.number then a.number else next_above number others
@@ -98,7 +101,8 @@ next_number areas number =
 abbrev pub is_created : ℕ → Bool
 is_created number = nat_le 256 number && nat_le number 0x7FFFFFFF
 
--- OS_DynamicArea, reason 4: the module area keeps its number, and a created one gets one that no area has, its own included.
+-- OS_DynamicArea, reason 4: the module area keeps its number, and a created one gets one that no
+-- area has, its own included.
 abbrev pub with_number : ℕ → Area → Area
 with_number number a = record {
   number = number;

@@ -1,5 +1,6 @@
--- OS_ChangeDynamicArea: an area grows out of the pool, and shrinks down to the first page from its top that must stay (RISC OS 3 Programmer's
--- Reference Manual, "OS_ChangeDynamicArea"; what must stay, and that as many pages move as can, are this project's own).
+-- OS_ChangeDynamicArea: an area grows out of the pool, and shrinks down to the first page from its
+-- top that must stay (RISC OS 3 Programmer's Reference Manual, "OS_ChangeDynamicArea"; what must
+-- stay, and that as many pages move as can, are this project's own).
 use Rattle.std.specs.Prelude.{ℕ, ◌+◌, ◌-◌, ◌*◌, ◌/◌, ◌^◌, ◌==◌, ◌||◌, Bool, false, zero, suc, ◌≡◌, nat_lt, min, Option, Some, None, Result, Ok, Err, List, [], ◌∷◌, ◌≤◌, if◌then◌else◌}
 use Rattle.profile.specs.Outcome.{bind}
 use Rattle.profile.specs.declared.error.ErrorNumber.{ErrorNumber}
@@ -24,17 +25,18 @@ is_growth amount = nat_lt amount (2 ^ 31)
 abbrev pub pages_asked : ℕ → ℕ
 pages_asked amount = pages_for (if is_growth amount then amount else 2 ^ 32 - amount)
 
--- the address behind the last item of the module area's heap
+-- the address after the last item of the module area's heap
 abbrev pub heap_base : Option HeapList → ℕ
 heap_base None = 0
 heap_base (Some h) = h.start + (16 + size_of h.items)
 
--- Must the page at an address stay? It must where it has a byte of a recorded range or of an anchor; in the module area, which is itself such a range, up to the
--- last byte below its base.
+-- Must the page at an address stay? It must where it has a byte of a recorded range or of an
+-- anchor; in the module area, which is itself such a range, up to the last byte below its base.
 unfoldable pub must_stay : Store → ℕ → ℕ → Bool
 must_stay s number page = if number == 1 then nat_lt page (heap_base (find_heap 0x01800000 s.heaps)) else meets_any page 4096 s
 
--- how many of the `n` pages from `base` on are left where those at the top go, up to the first that stays
+-- how many of the `n` pages from `base` on are left where those at the top go, up to the first that
+-- stays
 abbrev pub held_from : (ℕ → Bool) → ℕ → ℕ → ℕ
 held_from stays base zero = zero
 held_from stays base (suc n) = if stays (base + 4096 * n) then suc n else held_from stays base n
@@ -59,7 +61,8 @@ change_of s free amount (Some a) =
 unfoldable pub change_answer : List Area → Store → ℕ → ℕ → ℕ → Changed
 change_answer areas s free number amount = change_of s free amount (find_area number areas)
 
--- the land, and the store, after an area got `count` pages more behind those that it had, or lost as many at its top
+-- the land, and the store, after an area got `count` pages more after those that it had, or lost as
+-- many at its top
 abbrev pub pages_had : Option Area → ℕ
 pages_had None = 0
 pages_had (Some a) = a.pages
@@ -83,7 +86,8 @@ abbrev pub AreRangesClear : ℕ → ℕ → List Region → Type 0
 AreRangesClear at len [] = Unit {0}
 AreRangesClear at len (r ∷ rs) = AreClear at len r.at r.len × AreRangesClear at len rs
 
--- the `count` pages at an area's top can go: they have no byte of a recorded range, nor of an anchor
+-- the `count` pages at an area's top can go: they have no byte of a recorded range, nor of an
+-- anchor
 pub record AreLoose (s : Store) (a : Area) (count : ℕ) : Type 0 where
   pub fits : count ≤ a.pages
   pub heaps : IsClearOfHeaps (a.base + 4096 * (a.pages - count)) (4096 * count) s.heaps
@@ -109,8 +113,8 @@ ended_by s end (Some h) = ending s h end
 abbrev pub with_heap_end : Store → ℕ → Store
 with_heap_end s end = ended_by s end (find_heap 0x01800000 s.heaps)
 
--- The store after a whole change: where the module area changes, its heap gets the end that the area has then, after pages were mapped, or before
--- they are taken away.
+-- The store after a whole change: where the module area changes, its heap gets the end that the
+-- area has then, after pages were mapped, or before they are taken away.
 abbrev pub store_extended : Store → ℕ → ℕ → Option Area → Store
 store_extended s number count found =
     if number == 1 then with_heap_end (store_more s count found) (4096 * (pages_had found + count)) else store_more s count found

@@ -1,5 +1,6 @@
--- OS_DynamicArea, reason 0: a new area. Refusals come in the order of their numbers (RISC OS 3 Programmer's Reference Manual, supplement,
--- "OS_DynamicArea"; the limits, the lowest gap and the least number, and the order of the refusals, are this project's own).
+-- OS_DynamicArea, reason 0: a new area. Refusals come in the order of their numbers (RISC OS 3
+-- Programmer's Reference Manual, supplement, "OS_DynamicArea"; the limits, the lowest gap and the
+-- least number, and the order of the refusals, are this project's own).
 use Rattle.std.specs.Prelude.{ℕ, ◌+◌, ◌-◌, ◌*◌, ◌/◌, ◌%◌, ◌==◌, ◌&&◌, ◌||◌, not, Bool, zero, suc, nat_le, nat_lt, Option, Some, None, is_some, ok_or, Result, Ok, Err, List, [], ◌∷◌, length, if◌then◌else◌}
 use Rattle.profile.specs.Outcome.{bind}
 use Rattle.profile.specs.Sizes.{Sizes}
@@ -15,7 +16,8 @@ use Rattle.dynamic_areas.specs.Rooms.{is_name, is_in_window, meets_area}
 abbrev pub pages_for : ℕ → ℕ
 pages_for bytes = (bytes + 4095) / 4096
 
--- The least number from `number` on that no area has. The numbers ascend, so it is found before the first greater one.
+-- The least number from `number` on that no area has. The numbers ascend, so it is found before the
+-- first greater one.
 abbrev pub least_number : ℕ → List Area → ℕ
 least_number number [] = number
 least_number number (a ∷ others) =
@@ -36,7 +38,8 @@ gap_count maximum = (0x01000000 - maximum) / 4096 + 1
 unfoldable pub lowest_gap : List Area → ℕ → Option ℕ
 lowest_gap areas maximum = lowest_from areas maximum 0x02000000 (gap_count maximum)
 
--- what is meant by the words of a call: -1 as the maximum is all memory of the machine, as the number the least free one, as the base the lowest gap
+-- what is meant by the words of a call: -1 as the maximum is all memory of the machine, as the
+-- number the least free one, as the base the lowest gap
 abbrev pub wanted_maximum : Sizes → ℕ → ℕ
 wanted_maximum sizes word = if word == minus_one then 4096 * sizes.pages else 4096 * pages_for word
 
@@ -72,7 +75,7 @@ new_area number base maximum w name = record {
   workspace = w.workspace;
 }
 
--- what is made of the words, where nothing speaks against it; `free` is the pool
+-- the area that the words ask for, where it is allowed; `free` is the pool
 unfoldable pub area_wanted : Land → ℕ → Wanted → List ℕ → Result Area ErrorNumber
 area_wanted l free w name =
     let maximum : ℕ = wanted_maximum l.sizes w.maximum in

@@ -1,5 +1,6 @@
--- Which memory is mapped, on a machine with dynamic areas: the application space, the system pages, and each area's pages; all other pages are in
--- the pool (RISC OS 3 Programmer's Reference Manual, "Memory management"; the places are this project's own).
+-- Which memory is mapped, on a machine with dynamic areas: the application space, the system pages,
+-- and each area's pages; all other pages are in the pool (RISC OS 3 Programmer's Reference Manual,
+-- "Memory management"; the places are this project's own).
 use Rattle.std.specs.Prelude.{ℕ, ◌≡◌, ◌+◌, ◌-◌, ◌*◌, ◌||◌, ◌⊎◌, Bool, List, [], ◌∷◌, Option, Some, None}
 use Rattle.std.specs.List.{list_any}
 use Rattle.profile.specs.Sizes.{Sizes, AreGood}

@@ -1,5 +1,6 @@
--- What calls choose where a word leaves the choice to them, and how far an area shrinks (RISC OS 3 Programmer's Reference Manual,
--- "OS_ChangeDynamicArea", and its supplement, "OS_DynamicArea"; the lowest gap and the least number are this project's own).
+-- What calls choose where a word leaves the choice to them, and how far an area shrinks (RISC OS 3
+-- Programmer's Reference Manual, "OS_ChangeDynamicArea", and its supplement, "OS_DynamicArea"; the
+-- lowest gap and the least number are this project's own).
 use Rattle.std.specs.Prelude.{ℕ, ◌≡◌, ◌≤◌, ◌<◌, ◌+◌, ◌-◌, ◌*◌, ◌%◌, Bool, true, false, List, None, is_some, MatchOption}
 use Rattle.dynamic_areas.specs.declared.area.Area.{Area}
 use Rattle.dynamic_areas.specs.Areas.{find_area}

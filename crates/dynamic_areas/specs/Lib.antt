@@ -1,3 +1,4 @@
+-- What calls on dynamic areas do. Begin with Areas, then Creating and Changing.
 pub use Rattle.profile
 pub mod Areas
 pub mod Changing

@@ -1,4 +1,5 @@
--- The store after pages were mapped, or taken away: no byte of another page changes, no list of a heap, and no recorded range.
+-- The store after pages were mapped, or taken away: no byte of another page changes, no list of a
+-- heap, and no recorded range.
 use Rattle.std.specs.Prelude.{ℕ, ◌&&◌, ◌||◌, not}
 use Rattle.address_map.specs.Bytes.{in_range, with_zeros_at}
 use Rattle.os_heap.specs.Store.{Store}

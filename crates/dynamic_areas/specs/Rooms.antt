@@ -1,5 +1,7 @@
--- What holds of every list of areas: where an area may lie, and that no two of them share an address, each taken with its maximum (RISC OS 3
--- Programmer's Reference Manual, "Memory management", and its supplement, "OS_DynamicArea"; the window and the limits are this project's own).
+-- What holds of every list of areas: where an area may lie, and that no two of them share an
+-- address, each taken with its maximum (RISC OS 3 Programmer's Reference Manual, "Memory
+-- management", and its supplement, "OS_DynamicArea"; the window and the limits are this project's
+-- own).
 use Rattle.std.specs.Prelude.{ℕ, ◌≡◌, ◌≤◌, ◌<◌, ◌+◌, ◌*◌, ◌%◌, ◌==◌, ◌&&◌, Bool, true, false, nat_le, List, [], ◌∷◌, length, is_some, if◌then◌else◌}
 use Rattle.std.specs.List.{list_all, list_any}
 use Rattle.address_map.specs.Bytes.{meets}

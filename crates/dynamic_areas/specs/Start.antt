@@ -7,8 +7,9 @@ use Rattle.os_heap.specs.Store.{Store}
 use Rattle.dynamic_areas.specs.Areas.{start_land}
 use Rattle.dynamic_areas.specs.Ground.{is_land, system_pages}
 
--- The start. Mapped are the application space, the first pages of the module area and the three system pages, which are recorded; each mapped
--- byte is 0 but for the module area's descriptor, since the machine makes an empty heap there. All other pages are in the pool.
+-- The start. Mapped are the application space, the first pages of the module area and the three
+-- system pages, which are recorded; each mapped byte is 0 but for the module area's descriptor,
+-- since the machine makes an empty heap there. All other pages are in the pool.
 abbrev pub bare_store : Sizes → Store
 bare_store s = record {
   bytes = record { mapped = is_land (start_land s); at = λ _. 0 };

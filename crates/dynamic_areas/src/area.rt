@@ -1,11 +1,14 @@
+//! A dynamic area, and what the calls on areas are asked for and answer.
+
 use arrayvec::ArrayVec;
 use profile::ErrorNumber;
 
 /// The most bytes of an area's name.
 pub const MOST_NAME_BYTES: usize = 31;
 
-/// A dynamic area: `pages` pages of 4096 bytes from the address `base` on are mapped for it, and no other area gets an address up to its
-/// `maximum`, in bytes. What flags and workspace mean is their maker's matter.
+/// A dynamic area: `pages` pages of 4096 bytes from the address `base` on are mapped for it, and no
+/// other area gets an address up to its `maximum`, in bytes. What flags and workspace mean is their
+/// maker's matter.
 #[derive(Default, Drop)]
 pub struct Area {
     pub number: u32,
@@ -25,7 +28,8 @@ pub struct Extent {
     pub maximum: Option<u32>,
 }
 
-/// The words of a call for a new area. A number, a base or a maximum of -1 leaves it to the call; sizes are in bytes.
+/// The words of a call for a new area. A number, a base or a maximum of -1 leaves it to the call;
+/// sizes are in bytes.
 #[derive(Clone, Copy, Debug, PartialEq, Eq)]
 pub struct Wanted {
     pub number: u32,
@@ -45,7 +49,8 @@ pub struct Created {
     pub maximum: u32,
 }
 
-/// How many bytes a change of an area's size has moved, to the area or from it; and where these are not all that were asked for, why.
+/// How many bytes a change of an area's size has moved, to the area or from it; and where these are
+/// not all that were asked for, why.
 #[derive(Clone, Copy, Debug, PartialEq, Eq)]
 pub struct Changed {
     pub bytes: u32,

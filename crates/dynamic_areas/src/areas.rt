@@ -1,3 +1,5 @@
+//! The table of areas, and the calls that read it or give an area another number.
+
 ghost use Rattle.std.specs.Prelude.{ℕ, ◌≡◌, ◌≤◌, ◌<◌, length, Ok, Err, MatchResult};
 ghost use Rattle.profile.specs.Outcome.{Leaves};
 ghost use Rattle.address_map.specs.Memory.{free_pages};
@@ -16,7 +18,8 @@ use profile::memory_map::{PAGE_SIZE, RMA_MAXIMUM, RMA_START};
 use profile::{Config, ErrorNumber};
 use std::marker::Model;
 
-/// The dynamic areas of a machine, at most 32, in the order of their numbers. The first is the module area.
+/// The dynamic areas of a machine, at most 32, in the order of their numbers. The first is the
+/// module area.
 #[derive(Drop)]
 pub struct Areas {
     sizes: Config,
@@ -65,8 +68,8 @@ impl Areas {
         find(self.list(), number).ok_or(ErrorNumber::AreaUnknown)
     }
 
-    /// Where an area lies, in bytes, as OS_ReadDynamicArea tells it: from 128 to 255 a number means the area that is 128 less; from 128 on
-    /// the maximum is told too.
+    /// Where an area lies, in bytes, as OS_ReadDynamicArea tells it: from 128 to 255 a number means
+    /// the area that is 128 less; from 128 on the maximum is told too.
     ///
     /// # Errors
     ///
@@ -90,7 +93,8 @@ impl Areas {
         })
     }
 
-    /// The least number of an area that is greater than that of an area, or than none where that is -1; behind the last it is -1.
+    /// The least number of an area that is greater than that of an area, or than none where that is
+    /// -1; after the last it is -1.
     ///
     /// # Errors
     ///
@@ -112,9 +116,10 @@ impl Areas {
     ///
     /// # Errors
     ///
-    /// The first of these, and nothing is changed then: `AreaUnknown` where no area has the number; `AreaBad` where it is the module area, or
-    /// the new number is not within &100 to &7FFFFFFF; `AreaTaken` where an area has the new number, this one included. What holds of the areas
-    /// and the memory holds afterwards too.
+    /// The first of these, and nothing is changed then: `AreaUnknown` where no area has the number;
+    /// `AreaBad` where it is the module area, or the new number is not within &100 to &7FFFFFFF;
+    /// `AreaTaken` where an area has the new number, this one included. What holds of the areas and
+    /// the memory holds afterwards too.
     ///
     /// RISC OS 3 Programmer's Reference Manual, supplement, "OS_DynamicArea", reason 4.
     pub fn renumber(&mut self, old: u32, new: u32) -> Result<(), ErrorNumber>

@@ -1,3 +1,5 @@
+//! OS_ChangeDynamicArea: an area grows or shrinks by pages.
+
 ghost use Rattle.std.specs.Prelude.{ℕ, ◌≡◌, ◌≤◌, ◌+◌, ◌-◌, ◌*◌, Some};
 ghost use Rattle.address_map.specs.Memory.{free_pages, regions, StaysInPlace};
 ghost use Rattle.os_heap.specs.Order.{KeepsOrder};
@@ -16,12 +18,14 @@ use os_heap::Heaps;
 use profile::memory_map::PAGE_SIZE;
 
 impl Areas {
-    /// Changes the size of an area by `amount` bytes, a signed word in two's complement, its magnitude rounded up to pages. It grows out of the
-    /// pool, by pages that are zero, and gives pages back to it; no other page moves. The module area's heap ends where the area does. Where not
-    /// all pages can move, as many do as can: up to the maximum and out of the pool, or from the top down to the first that must stay.
+    /// Changes the size of an area by `amount` bytes, a signed word in two's complement, its
+    /// magnitude rounded up to pages. It grows out of the pool, by pages that are zero, and gives
+    /// pages back to it; no other page moves. The module area's heap ends where the area does.
+    /// Where not all pages can move, as many do as can: up to the maximum and out of the pool, or
+    /// from the top down to the first that must stay.
     ///
-    /// The answer has an error where fewer bytes moved than were asked for: `AreaUnknown` where no area has the number, `AreaInUse` at a shrink,
-    /// `AreaNoPages` at a growth.
+    /// The answer has an error where fewer bytes moved than were asked for: `AreaUnknown` where no
+    /// area has the number, `AreaInUse` at a shrink, `AreaNoPages` at a growth.
     ///
     /// RISC OS 3 Programmer's Reference Manual, "OS_ChangeDynamicArea".
     pub fn change(&mut self, map: &mut AddressMap, number: u32, amount: u32) -> Changed
@@ -48,7 +52,8 @@ impl Areas {
         answer
     }
 
-    /// Maps `count` pages for an area, behind those that it has, and gives the module area's heap its end.
+    /// Maps `count` pages for an area, after those that it has, and gives the module area's heap
+    /// its end.
     fn extend(&mut self, map: &mut AddressMap, number: u32, count: u32)
         requires areas { AreAreas (store_of map.old) (free_pages map.old) self.old }
         requires room { (a : Area) → find_area number self.old.areas ≡ Some a
@@ -98,7 +103,7 @@ impl Areas {
         self.shrink(map, number, count);
     }
 
-    /// Maps `count` pages for an area, behind those that it has.
+    /// Maps `count` pages for an area, after those that it has.
     pub(crate) fn grow(&mut self, map: &mut AddressMap, number: u32, count: u32)
         requires ground { IsGround (store_of map.old) (free_pages map.old) self.old }
         requires room { (a : Area) → find_area number self.old.areas ≡ Some a

@@ -1,3 +1,5 @@
+//! OS_DynamicArea 0: a new area, with number, base and maximum as asked for or chosen.
+
 ghost use Rattle.std.specs.Prelude.{◌≡◌, ◌≤◌, ◌*◌, length, MatchResult};
 ghost use Rattle.profile.specs.Outcome.{Gives};
 ghost use Rattle.address_map.specs.Memory.{free_pages, regions, StaysInPlace};
@@ -23,10 +25,12 @@ impl Areas {
     ///
     /// # Errors
     ///
-    /// The first of these, and nothing is changed then: `AreaBad` where the number is not within &100 to &7FFFFFFF, the size is greater than
-    /// the maximum, the maximum is 0 or greater than 16,777,216, the handler is not 0, the base is no page address from which the maximum lies
-    /// in the window, or the name has not 1 to 31 bytes from space to `~`; `AreaTaken` where an area has the number or an address, or no gap
-    /// holds the maximum; `AreaTableFull` where there are 32 areas; `AreaNoPages` where the pool is smaller.
+    /// The first of these, and nothing is changed then: `AreaBad` where the number is not within
+    /// &100 to &7FFFFFFF, the size is greater than the maximum, the maximum is 0 or greater than
+    /// 16,777,216, the handler is not 0, the base is no page address from which the maximum lies in
+    /// the window, or the name has not 1 to 31 bytes from space to `~`; `AreaTaken` where an area
+    /// has the number or an address, or no gap holds the maximum; `AreaTableFull` where there are
+    /// 32 areas; `AreaNoPages` where the pool is smaller.
     ///
     /// RISC OS 3 Programmer's Reference Manual, supplement, "OS_DynamicArea", reason 0.
     #[tactic(auto, unfolding(crate::specs::Creating::created))]
@@ -124,7 +128,8 @@ fn wanted_number(areas: &[Area], word: u32) -> u32
     }
 }
 
-/// The base that a word means, where no area has an address from it up to the maximum: -1 is the lowest such.
+/// The base that a word means, where no area has an address from it up to the maximum: -1 is the
+/// lowest such.
 fn wanted_base(areas: &[Area], word: u32, maximum: u32) -> Option<u32>
     requires { maximum ≤ 16777216 }
     ensures { result ≡ wanted_base areas.now word maximum }

@@ -1,3 +1,5 @@
+//! Where a new area has room among the others, and which texts can name one.
+
 ghost use Rattle.std.specs.Prelude.{◌≡◌, ◌≤◌, ◌<◌, ◌%◌, ◌&&◌};
 ghost use Rattle.dynamic_areas.specs.Rooms.{meets_area, is_name, is_name_byte, is_in_window};
 ghost use Rattle.dynamic_areas.specs.Creating.{gap_count, lowest_gap};

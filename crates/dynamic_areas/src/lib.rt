@@ -1,4 +1,5 @@
-//! Dynamic areas: ranges of addresses whose memory grows and shrinks by pages, out of one pool.
+//! Dynamic areas, for the store calls and the module area: ranges that grow by pages out of one
+//! pool.
 #![tactic(auto)]
 
 pub mod area;

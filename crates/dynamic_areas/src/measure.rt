@@ -1,3 +1,5 @@
+//! How many bytes a change of an area's size can move, and which pages must stay.
+
 ghost use Rattle.std.specs.Prelude.{◌≡◌, ◌≤◌, ◌+◌, ◌*◌, true, is_some};
 ghost use Rattle.address_map.specs.Memory.{free_pages};
 ghost use Rattle.os_heap.specs.Store.{store_of, find_heap, IsSound};
@@ -53,7 +55,7 @@ fn moving(asked: u32, room: u32, error: ErrorNumber) -> Changed
     }
 }
 
-/// Whether a change, a signed word in two's complement, is none below 0.
+/// Whether a change, a signed word in two's complement, is not negative.
 pub(crate) fn is_growth(amount: u32) -> bool
     ensures { result ≡ is_growth amount }
 {
@@ -116,8 +118,8 @@ fn held_pages(map: &AddressMap, area: &Area) -> u32
     0
 }
 
-/// Whether the page at an address must stay an area's: it has a byte of a recorded range or of an anchor, or in the
-/// module area of what is below its base.
+/// Whether the page at an address must stay an area's: it has a byte of a recorded range or of an
+/// anchor, or in the module area of what is below its base.
 #[tactic(auto, unfolding(crate::specs::Changing::must_stay))]
 fn must_stay(map: &AddressMap, number: u32, page: u32) -> bool
     requires sound { IsSound (store_of map.now) }
@@ -131,7 +133,7 @@ fn must_stay(map: &AddressMap, number: u32, page: u32) -> bool
     }
 }
 
-/// The address behind the last item of the module area's heap.
+/// The address after the last item of the module area's heap.
 fn heap_base(map: &AddressMap) -> u32
     requires sound { IsSound (store_of map.now) }
     requires heap { is_some (find_heap 0x01800000 (store_of map.now).heaps) ≡ true }

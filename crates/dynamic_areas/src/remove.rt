@@ -1,3 +1,5 @@
+//! OS_DynamicArea 1: an area is taken away, and its pages go back to the pool.
+
 ghost use Rattle.std.specs.Prelude.{◌≡◌, MatchResult};
 ghost use Rattle.profile.specs.Outcome.{Leaves};
 ghost use Rattle.address_map.specs.Memory.{free_pages, regions, StaysInPlace};
@@ -17,8 +19,8 @@ impl Areas {
     ///
     /// # Errors
     ///
-    /// The first of these, and nothing is changed then: `AreaUnknown` where no area has the number; `AreaInUse` where it is the module area,
-    /// or one of its pages must stay.
+    /// The first of these, and nothing is changed then: `AreaUnknown` where no area has the number;
+    /// `AreaInUse` where it is the module area, or one of its pages must stay.
     ///
     /// RISC OS 3 Programmer's Reference Manual, supplement, "OS_DynamicArea", reason 1.
     #[tactic(auto, unfolding(crate::specs::Changing::removed))]

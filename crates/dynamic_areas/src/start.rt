@@ -1,3 +1,5 @@
+//! The memory of a machine at its start.
+
 ghost use Rattle.std.specs.Prelude.{ℕ, [], ◌≡◌, ◌+◌, IfOk};
 ghost use Rattle.profile.specs.Sizes.{AreGood};
 ghost use Rattle.address_map.specs.Memory.{byte_at, class_of, free_pages, is_mapped, regions};
@@ -13,8 +15,8 @@ use profile::Config;
 use profile::memory_map::{APPLICATION_START, PAGE_SIZE, RMA_START, SYSTEM_PAGES, SYSTEM_START};
 use std::alloc::{AllocError, Global};
 
-/// The memory of a machine of these sizes at its start: the fixed ranges, the module area a heap without items, and the record of the system
-/// pages.
+/// The memory of a machine of these sizes at its start: the fixed ranges, the module area a heap
+/// without items, and the record of the system pages.
 pub fn start_memory(alloc: Global, config: Config) -> Result<AddressMap, AllocError>
     ensures store { IfOk result (λ m. store_of m ≡ start_store config) }
     ensures areas { IfOk result (λ m. AreAreas (store_of m) (free_pages m) (start_land config)) }

@@ -1,3 +1,5 @@
+//! The list of areas, kept in order of number: looked up, put in, taken out and renumbered.
+
 ghost use Rattle.std.specs.Prelude.{ℕ, ◌≡◌, ◌≤◌, ◌<◌, ◌+◌, length, MatchOption, Some, None, is_some};
 ghost use Rattle.profile.specs.Outcome.{Leaves};
 ghost use Rattle.std.specs.List.{insert};

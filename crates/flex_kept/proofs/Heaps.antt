@@ -1,5 +1,5 @@
--- The calls on heaps keep the flex store: what they write is words that a heap's list spells, and what a move copies goes to a block that is new.
--- No byte of the flex store lies among either.
+-- The calls on heaps keep the flex store: what they write is words that a heap's list spells, and
+-- what a move copies goes to a block that is new. No byte of the flex store lies among either.
 use Rattle.std.proofs.Common.{if◌then◌else◌, Bool, List, ℕ, [], ◌∷◌, ◌++◌, ◌≡◌, ◌≢◌, ◌⊎◌, ◌==◌, ◌&&◌, ◌+◌, ◌-◌, ◌%◌, ◌≤◌, ◌<◌, Option, Some, None, ok_or, is_some, Result, Ok, Err, not, true, false, refl, sym, ap, subst, ◌∙◌, inl, inr, arith}
 use Rattle.std.proofs.lemmas.Bool.{cases_Bool, both_ways, not-false, false_from_ne_true, false≢true, le-leb, lt-ltb, leb-false, or_cases, or_parts}
 use Rattle.std.specs.Prelude.{IfOk, nat_le, nat_lt}

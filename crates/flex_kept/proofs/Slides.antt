@@ -1,4 +1,5 @@
--- The slide of the module area keeps the flex store: a block with an anchor stays, and what moves goes where no anchor lies.
+-- The slide of the module area keeps the flex store: a block with an anchor stays, and what moves
+-- goes where no anchor lies.
 use Rattle.std.proofs.Common.{ℕ, Bool, List, [], ◌∷◌, ◌≡◌, ◌≤◌, ◌<◌, ◌+◌, ◌-◌, ◌∙◌, true, false, refl, sym, ap, subst, inl, inr, Option, Some, None, length, arith, not, ◌&&◌, ◌⊎◌}
 use Rattle.std.proofs.lemmas.Bool.{both_ways, cases_Bool, cases_eq, false_from_ne_true, false≢true, le-leb, lt-ltb, or_cases, or_from, or_parts, and_parts}
 use Rattle.os_heap_slide.specs.address_map.proofs.Anchors.{none_among}
@@ -28,7 +29,8 @@ use Rattle.os_heap_slide.specs.Slide.{AreBlocks, HoldNoAnchor, HoldNoHeap, IsSli
 use Rattle.flex_kept.specs.Keeping.{AreAnchorsFree, KeepsFlex, beside_images, is_flex_byte, is_in_record, is_in_other_record}
 use Rattle.flex_kept.specs.Laws.{SlidesKeepFlex}
 
--- what slides: a heap of a sound store, no movable block of which holds an anchor, and what memory spells of it afterwards
+-- what slides: a heap of a sound store, no movable block of which holds an anchor, and what memory
+-- spells of it afterwards
 record MaySlideHere (s : Store) (h : HeapList) (movable : List ℕ) : Type 0 where
   sound : IsSound s
   found : find_heap h.start s.heaps ≡ Some h

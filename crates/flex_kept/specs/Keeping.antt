@@ -1,5 +1,6 @@
--- What a call that is none of the flex store's own leaves of that store (Acorn C manual, "flex": the blocks of a program stay what they are until a
--- flex call changes them; what a flex store is of this machine's is this project's own).
+-- What a call that is none of the flex store's own leaves of that store (Acorn C manual, "flex":
+-- the blocks of a program stay what they are until a flex call changes them; what a flex store is
+-- of this machine's is this project's own).
 use Rattle.std.specs.Prelude.{ℕ, ◌≡◌, ◌&&◌, ◌||◌, Bool, true, false, not, List, [], ◌∷◌, if◌then◌else◌}
 use Rattle.std.specs.List.{list_any}
 use Rattle.os_heap_slide.specs.address_map.specs.Bytes.{in_range}
@@ -23,7 +24,8 @@ beside_images (r ∷ rs) = if is_image r.kind then beside_images rs else r ∷ b
 abbrev pub is_flex_byte : Store → ℕ → Bool
 is_flex_byte s a = is_in_flex_store s.others a || s.anchor a
 
--- its bytes, and which words are anchors and headers, are what they were, and so are the ranges recorded beside module images
+-- its bytes, and which words are anchors and headers, are what they were, and so are the ranges
+-- recorded beside module images
 pub record IsFlexKept (s t : Store) : Type 0 where
   pub bytes : (a : ℕ) → is_flex_byte s a ≡ true → t.bytes.at a ≡ s.bytes.at a
   pub anchors : (a : ℕ) → t.anchor a ≡ s.anchor a

@@ -1,4 +1,5 @@
--- The calls on heaps, on areas and on module images keep the flex store, and so do writes beside it: each of them, in every sound store.
+-- The calls on heaps, on areas and on module images keep the flex store, and so do writes beside
+-- it: each of them, in every sound store.
 use Rattle.std.specs.Prelude.{ℕ, ◌≡◌, ◌+◌, ◌-◌, ◌*◌, false, Some, Result, Ok, List, [], ◌∷◌, ◌++◌}
 use Rattle.dynamic_areas.specs.profile.specs.Outcome.{Gives}
 use Rattle.dynamic_areas.specs.profile.specs.declared.error.ErrorNumber.{ErrorNumber}

@@ -17,7 +17,8 @@ pub fn slides_keep_flex()
     ensures { SlidesKeepFlex }
 {}
 
-/// Writes to the system pages and to blocks of the module area, and records of module images, keep the flex store.
+/// Writes to the system pages and to blocks of the module area, and records of module images, keep
+/// the flex store.
 pub fn writes_keep_flex()
     ensures { WritesKeepFlex }
 {}

@@ -1,4 +1,4 @@
-//! The flex store, over calls that are none of its own: they keep its bytes, its anchors and its range.
+//! Frame: calls on heaps, areas and images keep the flex store's bytes, its anchors and its range.
 #![tactic(auto)]
 
 pub mod laws;

@@ -22,7 +22,7 @@ inside_number m o n p e = cc
 inside_offset : (m o n p : ℕ) → Inside m o ≡ Inside n p → o ≡ p
 inside_offset m o n p e = cc
 
--- a place in a block that is none in those behind it
+-- a place in a block that is none in those after it
 no_later : (n o end a : ℕ) (x : Anchor) → IsFound (suc n) end a x → Inside n o ≡ x → ⊥
 no_later n o end a x (AtWord is) e = fixed_inside a n o (sym is ∙ sym e)
 no_later n o end a x (InBlock m p is low high) e = let same : n ≡ m = inside_number n o m p (e ∙ is) in omega (arith, same, low)

@@ -1,4 +1,4 @@
--- Which words are anchors after the blocks behind one moved.
+-- Which words are anchors once the blocks after one have moved.
 use Rattle.std.proofs.Common.{◌≡◌, ℕ, Bool, ◌+◌, ◌-◌, ◌<◌, ◌≤◌, true, false, nat_eq, List, [], ◌∷◌, ◌++◌, arith, sym, ◌∙◌, ap, inl, inr, ◌⊎◌, subst}
 use Rattle.std.proofs.lemmas.Bool.{eqb-true, eq-eqb, false_from_ne_true, false≢true, ne_eqb, or_cases, or_left, or_right}
 use Rattle.flex_store.specs.Blocks.{Block, has_anchor, taken, used}
@@ -39,7 +39,7 @@ module _ (mapped : ℕ → Bool) (start end : ℕ) (front after : List Block) (b
     | inr past ↦ inr (omega (arith, past, end_is))
   ]
 
-  -- words in front, and behind the store
+  -- words before the blocks, and after the store
   pub outer_anchor : (w : ℕ) → (w + 4 ≤ k.at) ⊎ (k.end ≤ w) → has_anchor (following ss after) w ≡ has_anchor after w
   outer_anchor w out = same_tests (has_anchor (following ss after) w) (has_anchor after w)
       (λ has.
@@ -51,7 +51,7 @@ module _ (mapped : ℕ → Bool) (start end : ℕ) (front after : List Block) (b
   pub below_same : (w : ℕ) → w + 4 ≤ k.at → has_anchor (following ss after) w ≡ has_anchor after w
   below_same w low = outer_anchor w (inl low)
 
-  -- words behind
+  -- words after it
   moved_back : (q w g : ℕ) → k.old ≤ w → w + 4 ≤ k.last → g ≡ k.new + (w - k.old) → Place k start front after q g → q ≡ w
   moved_back q w g low high g_is (Below e under _) = absurd (omega (arith, is.low, is.low_fits))
   moved_back q w g low high g_is (Before e from under) = absurd (omega (arith, is.low_fits))

@@ -1,4 +1,5 @@
--- Lists of blocks as they are seen, by what memory holds: those in front of a change and those behind it, and blocks of which one word is seen otherwise.
+-- Lists of blocks as they are seen, by what memory holds: those before a change and those after it,
+-- and blocks of which one word is seen otherwise.
 use Rattle.std.proofs.Common.{◌≡◌, ℕ, Bool, ◌+◌, ◌-◌, ◌%◌, ◌<◌, ◌≤◌, true, false, nat_eq, zero, suc, List, [], ◌∷◌, ◌++◌, length, map, take, Option, None, Some, arith, refl, sym, ◌∙◌, ap, inl, inr, ◌⊎◌}
 use Rattle.std.specs.Prelude.{if◌then◌else◌}
 use Rattle.std.specs.List.{range_with_len}
@@ -89,7 +90,7 @@ byte_alike A B f g a mark same = by (A a) (B a) (f a) (g a) mark same where
   by true false x y mark same = absurd (false≢true mark)
   by false true x y mark same = absurd (false≢true (sym mark))
 
--- The blocks behind a change, where they are then.
+-- The blocks after a change, where they are then.
 pub list_rest : (go : Anchor → Anchor) (ss : Shifts) (A B : ℕ → Bool) (P Q : ℕ → Anchor) (f f1 g : ℕ → ℕ) (h to : ℕ) (ys : List Block) → AreWhole ys
     → Holds f h (text_of ys) → Holds f1 to (text_of (following ss ys)) → ((i : ℕ) → i < used ys → B (to + i) ≡ A (h + i))
     → ((i : ℕ) → i < used ys → B (to + i) ≡ false → g (to + i) ≡ f1 (to + i)) → ((a : ℕ) → has_anchor ys a ≡ true → Q (gone_to ss a) ≡ go (P a))

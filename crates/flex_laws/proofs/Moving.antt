@@ -1,4 +1,5 @@
--- Which bytes are an anchor's after a change, and what stands in those that are none: in front of it as before, and behind it where they went.
+-- Which bytes are an anchor's after a change, and what stands in those that are none: before it as
+-- they were, and after it where they went.
 use Rattle.std.proofs.Common.{◌≡◌, ℕ, Bool, ◌+◌, ◌-◌, ◌%◌, ◌^◌, ◌<◌, ◌≤◌, true, false, ◌||◌, nat_eq, List, ◌∷◌, ◌++◌, length, take, drop, replicate, Option, Some, option_map, arith, refl, sym, ◌∙◌, ap, inl, inr, ◌⊎◌, subst}
 use Rattle.std.proofs.lemmas.Bool.{both_ways, eq-eqb, false_from_ne_true, ne_eqb, or_left, or_parts, or_right}
 use Rattle.std.proofs.lemmas.List.{length-replicate, length-take-le}
@@ -69,7 +70,7 @@ module _ (mapped : ℕ → Bool) (start end : ℕ) (front after : List Block) (b
   pub marks_front : (a : ℕ) → start % 4 ≡ 0 → a < k.at → has_anchor (front ++ new ∷ following ss after) (word_start a) ≡ has_anchor (front ++ b ∷ after) (word_start a)
   marks_front a aligned below = word_below (word_start a) (omega (arith, below, aligned, v.place, used_aligned front))
 
-  -- words behind
+  -- words after it
   word_rest : (w : ℕ) → k.old ≤ w → w + 4 ≤ k.last → has_anchor (front ++ new ∷ following ss after) (k.new + (w - k.old)) ≡ has_anchor (front ++ b ∷ after) w
   word_rest w low high =
       let w' : ℕ = k.new + (w - k.old) in
@@ -211,7 +212,7 @@ module _ (mapped : ℕ → Bool) (start end : ℕ) (front after : List Block) (b
         let f = has_following ss after w has in
         came_none f.0 w p up (omega arith) (omega arith) low high (subst (λ (g : ℕ). Place k start front after f.0 g) f.1.1 (places f.0 f.1.0)))
 
-    -- behind it
+    -- after it
     went_on : (w g j : ℕ) → w % 4 ≡ 0 → k.at + 8 ≤ w → w ≤ k.from + j → k.from + j < w + 4 → j < tail → Place k start front after w g → g ≡ word_start (k.to + j)
     went_on w g j word up low high inside (Below e under _) = absurd (omega arith)
     went_on w g j word up low high inside (Before e begin under) = absurd (omega (arith, c.from))

@@ -1,4 +1,5 @@
--- Where a word is, by the numbers of blocks: in a list end to end, after the blocks moved, and with the bytes that stand in memory.
+-- Where a word is, by the numbers of blocks: in a list end to end, after the blocks moved, and with
+-- the bytes that stand in memory.
 use Rattle.std.proofs.Common.{◌≡◌, ℕ, ◌+◌, ◌-◌, ◌<◌, ◌≤◌, true, false, suc, List, [], ◌∷◌, ◌++◌, length, arith, refl, sym, ◌∙◌, ap, inl, inr, ◌⊎◌, subst}
 use Rattle.std.specs.Prelude.{nat_le, nat_lt, if◌then◌else◌}
 use Rattle.std.proofs.lemmas.Bool.{cases_Bool, false_from_ne_true, false≢true, le-leb, le-ltb, leb-true, ne_eqb, lt-ltb, eq-eqb}
@@ -112,7 +113,7 @@ splice_before number place cut more o low =
 pub splice_past : (number place cut more o : ℕ) → place ≤ o → after_splice number place cut more (Inside number o) ≡ Inside number (place - cut + more + (o - place))
 splice_past number place cut more o high = rw (eq-eqb number number refl, le-leb place o high) refl
 
--- and the blocks behind one that goes have other numbers
+-- and the blocks after one that goes have other numbers
 pub removal_below : (number n end a : ℕ) (x : Anchor) → end ≤ number → IsFound n end a x → after_removal number x ≡ x
 removal_below number n end a x low (AtWord is) = subst (λ (y : Anchor). after_removal number y ≡ y) (sym is) refl
 removal_below number n end a x low (InBlock m o is from below) =
@@ -126,7 +127,7 @@ removal_above number n end a x high (InBlock m o is from below) =
     let e : 1 + m - 1 ≡ m = omega arith in
     subst (λ (y : Anchor). after_removal number (further 1 y) ≡ y) (sym is) (rw some (ap (λ (k : ℕ). Inside k o) e))
 
--- the place of a word in one of the blocks of a list, and in those behind it
+-- the place of a word in one of the blocks of a list, and in those after it
 pub own_place : (start : ℕ) (xs : List Block) (c : Block) (ys : List Block) (a : ℕ) → start + used xs + 8 ≤ a → a + 4 ≤ start + used xs + 8 + c.size
     → anchor_from 0 start (xs ++ c ∷ ys) a ≡ Inside (length xs) (a - (start + used xs + 8))
 own_place start xs c ys a low high =
@@ -141,11 +142,11 @@ rest_place start xs c ys a past =
     from_past 0 start xs (c ∷ ys) a (omega (arith, past))
     ∙ rw (not_held (start + used xs) c a (inr (omega (arith, past)))) (ap (λ (n : ℕ). anchor_from n (start + used xs + taken c.size) ys a) e)
 
--- no word behind the blocks lies in one
+-- no word after the blocks lies in one
 pub none_behind : (start end : ℕ) (bs : List Block) (a : ℕ) → start + used bs ≤ end → end ≤ a → anchor_from 0 start bs a ≡ Fixed a
 none_behind start end bs a fits past = from_none 0 start bs a (inr (omega (arith, fits, past)))
 
--- a word in front of what changes, or behind all blocks, is where it was
+-- a word in front of what changes, or after all blocks, is where it was
 pub outer_place : (start end : ℕ) (front olds news : List Block) (a : ℕ) → start + used (front ++ olds) ≤ end → start + used (front ++ news) ≤ end
     → (a + 4 ≤ start + used front) ⊎ (end ≤ a) → anchor_from 0 start (front ++ news) a ≡ anchor_from 0 start (front ++ olds) a
 outer_place start end front olds news a old_fits new_fits (inl low) = from_front 0 start front news a low ∙ sym (from_front 0 start front olds a low)

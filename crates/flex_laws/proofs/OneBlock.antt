@@ -1,4 +1,5 @@
--- A store of which one block is looked at: those in front of it, the block of an anchor, and those behind.
+-- A store of which one block is looked at: those before it, the block of an anchor, and those after
+-- it.
 use Rattle.std.proofs.Common.{◌≡◌, ℕ, Bool, ◌+◌, ◌-◌, ◌%◌, ◌^◌, ◌≤◌, true, nat_eq, List, [], ◌∷◌, ◌++◌, length, Option, Some, None, arith, refl, sym, ◌∙◌, ap, inl, inr, subst}
 use Rattle.std.proofs.lemmas.Bool.{cases_Bool, eqb-true, eq-eqb, or_left, or_right}
 use Rattle.address_map.specs.Bytes.{AreMapped, word_start}
@@ -34,7 +35,7 @@ split_found anchor bs b found =
     let p : Split anchor bs = split anchor bs (found_has anchor bs b found) in
     (p, subst (λ (x : Block). IsSplit anchor bs p.before x p.after) (same_block p.block b (sym p.is.found ∙ found)) p.is)
 
--- a store in which the block of an anchor stands behind those in front, and before those behind it
+-- a store in which the block of an anchor stands after those before it, and before those after it
 pub record IsOneBlock (t : FlexState) (s : FlexStore) (anchor : ℕ) (front after : List Block) (b : Block) : Type 0 where
   pub words : AreAnchorWords t.bytes.mapped s.start s.end (front ++ b ∷ after)
   pub inner : AreInner s.start s.end (front ++ b ∷ after)

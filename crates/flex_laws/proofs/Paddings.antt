@@ -1,4 +1,5 @@
--- The padding of blocks: no byte of it is one of an anchor's, so it stands in memory as it was laid out.
+-- The padding of blocks: no byte of it is one of an anchor's, so it stands in memory as it was laid
+-- out.
 use Rattle.std.proofs.Common.{◌≡◌, ℕ, Bool, ◌+◌, ◌%◌, ◌<◌, ◌≤◌, false, ◌||◌, zero, suc, List, [], ◌∷◌, ◌++◌, length, drop, slice_index, arith, refl, sym, ◌∙◌, ap, inl, inr}
 use Rattle.std.proofs.lemmas.Bool.{both_ways, false_from_ne_true, or_from, or_parts}
 use Rattle.address_map.specs.Bytes.{bytes_between, with_bytes_at, word_start}
@@ -149,7 +150,8 @@ words_standing mapped start end g at (b ∷ bs) words = (
   words_standing mapped (start + taken b.size) end g (at + taken b.size) bs words.1,
 )
 
--- Blocks behind some that stayed were laid out anew: `f` is what memory held, and `cleared` what it held then, with the same padding of those that stay.
+-- Blocks after some that stayed were laid out anew: `f` is what memory held, and `cleared` what it
+-- held then, with the same padding of those that stay.
 module _ (u : FlexState) (start end : ℕ) (f cleared : ℕ → ℕ) (olds news : List Block)
     (sp : (let s : FlexStore = record { start = start; end = end; blocks = standing (laid_out (start + used olds) news cleared) start (olds ++ news) } in IsSpelledState u s))
     (old_filled : AreFilled olds) (old_text : Holds f start (text_of olds)) (new_filled : AreFilled news) (same : Each (λ a. cleared a ≡ f a) start olds) where

@@ -1,4 +1,4 @@
--- Memory spells the blocks of a store still, after those behind some that stay were laid out anew.
+-- Memory still spells the blocks of a store once those after some that stay were laid out anew.
 use Rattle.std.proofs.Common.{◌≡◌, ℕ, Bool, ◌+◌, ◌≤◌, ◌<◌, ◌^◌, ◌||◌, true, List, ◌++◌, Option, None, arith, refl, sym, ◌∙◌, ap, inl, inr, subst}
 use Rattle.std.proofs.lemmas.Bool.{or_cases, or_left}
 use Rattle.flex_store.specs.Blocks.{Block, FlexStore, has_anchor, is_in_contents, used}

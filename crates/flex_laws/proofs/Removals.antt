@@ -1,4 +1,5 @@
--- A store without one of its blocks: what is seen of the others, by their numbers, and that memory spells these.
+-- A store without one of its blocks: what is seen of the others, by their numbers, and that memory
+-- spells these.
 use Rattle.std.proofs.Common.{◌≡◌, ℕ, Bool, suc, ◌+◌, ◌-◌, ◌%◌, ◌<◌, ◌≤◌, true, false, not, ◌&&◌, ◌||◌, nat_eq, List, [], ◌∷◌, ◌++◌, length, Option, Some, arith, refl, sym, ◌∙◌, ap, inl, inr, ◌⊎◌, subst}
 use Rattle.std.specs.Prelude.{if◌then◌else◌}
 use Rattle.std.proofs.lemmas.Bool.{both_ways, cases_Bool, cases_lt, eqb-true, eq-eqb, ne_eqb, or_cases, or_left, or_parts, or_right}

@@ -1,4 +1,5 @@
--- What a call that was done says: it was not refused, and the blocks that it left have room in the store.
+-- What a call that was done says: it was not refused, and the blocks that it left have room in the
+-- store.
 use Rattle.std.proofs.Common.{◌≡◌, Bool, ◌+◌, ◌≤◌, true, false, List, ◌++◌, Option, Some, Result, Ok, Err, refl, sym, ap}
 use Rattle.std.specs.Prelude.{if◌then◌else◌, nat_le}
 use Rattle.std.proofs.lemmas.Bool.{false≢true, leb-true}

@@ -1,4 +1,5 @@
--- What is seen of blocks after a change: those in front and those behind show what they did, under the names that their anchors have then.
+-- What is seen of blocks after a change: those before and those after show what they did, under the
+-- names that their anchors have then.
 use Rattle.std.proofs.Common.{◌≡◌, ℕ, Bool, ◌+◌, ◌<◌, ◌≤◌, true, false, nat_eq, List, [], ◌∷◌, ◌++◌, length, take, drop, replicate, Option, Some, None, arith, refl, sym, ◌∙◌, ap, inl, inr, suc, zero}
 use Rattle.std.specs.Prelude.{if◌then◌else◌, slice_index}
 use Rattle.std.proofs.lemmas.Bool.{both_ways, cases_Bool, false≢true, eqb-true, eqb-false, eq-eqb, ne_eqb, or_left, or_parts, or_right}
@@ -80,7 +81,7 @@ front_seen A B f g h (b ∷ xs) olds news y whole text marks same has =
           (λ a low high none. same a (omega arith) (omega arith) none) (rw turned at has))
     ]
 
--- Blocks behind it.
+-- Blocks after it.
 pub rest_seen : (k : Move) (start : ℕ) (xs bs : List Block) (ss : Shifts) → IsMove k → (A B : ℕ → Bool) (f f1 g : ℕ → ℕ) (h to : ℕ) (ys : List Block) (y : ℕ)
     → ArePlaced k start xs bs ss ys → AreWhole ys → Holds f h (text_of ys) → Holds f1 to (text_of (following ss ys))
     → ((i : ℕ) → i < used ys → B (to + i) ≡ A (h + i)) → ((i : ℕ) → i < used ys → B (to + i) ≡ false → g (to + i) ≡ f1 (to + i)) → has_anchor ys y ≡ true

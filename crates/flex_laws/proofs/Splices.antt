@@ -1,4 +1,5 @@
--- A change of one block shows all others as they were, by the addresses of anchors and by the numbers of blocks.
+-- A change of one block shows all others as they were, by the addresses of anchors and by the
+-- numbers of blocks.
 use Rattle.std.proofs.Common.{◌≡◌, ℕ, Bool, suc, take, ◌+◌, ◌-◌, ◌%◌, ◌<◌, ◌≤◌, true, false, ◌||◌, nat_eq, List, [], ◌∷◌, ◌++◌, length, Option, Some, option_map, Ok, Err, arith, refl, sym, ◌∙◌, ap, inl, inr, ◌⊎◌, subst}
 use Rattle.std.specs.Prelude.{if◌then◌else◌, nat_le}
 use Rattle.std.proofs.lemmas.Bool.{eqb-true, eq-eqb, or_cases, or_from, or_left, or_right, true≢false}

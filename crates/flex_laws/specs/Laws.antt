@@ -36,8 +36,8 @@ SpliceShowsItsOwn = (t u : FlexState) (s : FlexStore) (anchor : ℕ) (b : Block)
     → cut ≤ place → place ≤ b.size → 0 < cut + more → spliced_at t s anchor b place cut more ≡ Ok (u, true)
     → seen_in u.flex anchor ≡ option_map (λ l. seen_spliced l place cut more) (seen_in (Some s) anchor)
 
--- What a call on an anchor does to words and bytes outside the range of the store: had the anchor a block, is a word an anchor then, if it was, and what a
--- byte is then that is of none.
+-- What a call on an anchor does to words and bytes outside the range of the store: had the anchor a
+-- block, is a word an anchor then, if it was, and what a byte is then that is of none.
 pub record Outside : Type 0 where
   pub anchor : ℕ
   pub had : Bool
@@ -62,7 +62,8 @@ without_anchor anchor = record {
 abbrev pub AreBytes : (ℕ → ℕ) → Type 0
 AreBytes f = (a : ℕ) → f a < 256
 
--- What a call that found room leaves: blocks in the same range, which memory spells, and which are seen by the call's rule.
+-- What a call that found room leaves: blocks in the same range, which memory spells, and which are
+-- seen by the call's rule.
 pub record IsLeftBy (places : Store) (t u : FlexState) (s : FlexStore) (outside : Outside) (rule : List SeenBlock → Type 0) : Type 0 where
   pub blocks : List Block
   pub flex : u.flex ≡ Some (record { start = s.start; end = s.end; blocks = blocks })
@@ -96,7 +97,8 @@ AllocGoesByNumbers = (places : Store) (t u : FlexState) (s : FlexStore) (anchor 
     → ((a : ℕ) → t.bytes.mapped a ≡ true → a < 2 ^ 26) → allocated places t anchor size ≡ Ok (u, true)
     → IsLeftBy places t u s (with_anchor anchor) (IsAddedSeen (place_of s anchor) size (blocks_seen (Some s)))
 
--- A call was done and found room. Where an alloc finds its anchor, the heaps and the ranges are those of a store.
+-- A call was done and found room. Where an alloc finds its anchor, the heaps and the ranges are
+-- those of a store.
 abbrev pub IsDoneIn : Store → FlexState → FlexCall → FlexState → Type 0
 IsDoneIn places t (Alloc anchor size) u = allocated places t anchor size ≡ Ok (u, true)
 IsDoneIn places t (Release anchor) u = released t anchor ≡ Ok (u, tt)
@@ -137,6 +139,7 @@ pub record IsNoChange (t u : FlexState) : Type 0 where
 abbrev pub NoRoomChangesNothing : Type 0
 NoRoomChangesNothing = (t u : FlexState) → IsNoChange t u
 
--- Blocks that memory spells are told apart by their anchors' places, and each place is told by the blocks before.
+-- Blocks that memory spells are told apart by their anchors' places, and each place is told by the
+-- blocks before.
 abbrev pub AnchorsAreApart : Type 0
 AnchorsAreApart = (t : FlexState) (s : FlexStore) → IsSpelledState t s → AreNumbered 0 (blocks_seen (Some s))

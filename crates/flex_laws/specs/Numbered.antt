@@ -1,5 +1,6 @@
--- The blocks of the flex store without an address that lies in it: a block goes by its number in the list, and an anchor that lies in a block by the
--- number of that one, and how far into its contents it is.
+-- The blocks of the flex store without an address that lies in it: a block goes by its number in
+-- the list, and an anchor that lies in a block by the number of that one, and how far into its
+-- contents it is.
 use Rattle.std.specs.Prelude.{ℕ, zero, suc, Bool, ◌≡◌, ◌<◌, ◌+◌, ◌-◌, ◌==◌, ◌&&◌, nat_le, nat_lt, List, [], ◌∷◌, ◌++◌, length, map, Option, None, Some, replicate, if◌then◌else◌}
 use Rattle.address_map.specs.Bytes.{in_range}
 use Rattle.flex_store.specs.Blocks.{Block, contents, cut_of, FlexStore, is_held_word, more_of, taken}
@@ -46,7 +47,8 @@ after_removal number (Inside n o) = if nat_lt number n then Inside (n - 1) o els
 abbrev pub with_places : (Anchor → Anchor) → List SeenBlock → List SeenBlock
 with_places go bs = map (λ b. record { anchor = go b.anchor; bytes = b.bytes }) bs
 
--- The bytes of a block, of which the first is its byte `at`, with each of the four from `offset` on seen as told; and blocks with those of a place.
+-- The bytes of a block, of which the first is its byte `at`, with each of the four from `offset` on
+-- seen as told; and blocks with those of a place.
 abbrev pub word_told : Option ℕ → ℕ → ℕ → List (Option ℕ) → List (Option ℕ)
 word_told byte offset at [] = []
 word_told byte offset at (x ∷ xs) = (if in_range offset 4 at then byte else x) ∷ word_told byte offset (at + 1) xs
@@ -60,7 +62,8 @@ abbrev pub place_told : Option ℕ → Anchor → List SeenBlock → List SeenBl
 place_told byte (Fixed a) bs = bs
 place_told byte (Inside number offset) bs = block_told byte number offset bs
 
--- A splice of the block of some size whose anchor is at a place: it alone shows other bytes, and the anchors in it that lie behind the place move with these.
+-- A splice of the block of some size whose anchor is at a place: it alone shows other bytes, and
+-- the anchors in it that lie after the place move with these.
 pub record IsSplicedSeen (x : Anchor) (size place cut more : ℕ) (p q : List SeenBlock) : Type 0 where
   pub front : List SeenBlock
   pub own : List (Option ℕ)
@@ -69,7 +72,8 @@ pub record IsSplicedSeen (x : Anchor) (size place cut more : ℕ) (p q : List Se
   pub own_size : length own ≡ size
   pub now : q ≡ front ++ record { anchor = x; bytes = seen_spliced own place cut more } ∷ with_places (after_splice (length front) place cut more) rest
 
--- The block goes: its anchor is seen as zeros where it lies in a block, and the blocks behind have the numbers before theirs.
+-- The block goes: its anchor is seen as zeros where it lies in a block, and the blocks after it
+-- have the numbers before theirs.
 pub record IsRemovedSeen (x : Anchor) (p q : List SeenBlock) : Type 0 where
   pub front : List SeenBlock
   pub own : List (Option ℕ)
@@ -77,19 +81,21 @@ pub record IsRemovedSeen (x : Anchor) (p q : List SeenBlock) : Type 0 where
   pub was : p ≡ front ++ record { anchor = x; bytes = own } ∷ rest
   pub now : q ≡ place_told (Some 0) x front ++ with_places (after_removal (length front)) rest
 
--- A block of zeros comes behind all others: its anchor is not seen where it lies in a block.
+-- A block of zeros comes after all others: its anchor is not seen where it lies in a block.
 abbrev pub IsAddedSeen : Anchor → ℕ → List SeenBlock → List SeenBlock → Type 0
 IsAddedSeen x size p q = q ≡ place_told None x p ++ record { anchor = x; bytes = replicate size (Some 0) } ∷ []
 
--- What a call that found room does to the blocks, where its anchor is at a place. A new size cuts bytes off at the end, or appends zeros.
+-- What a call that found room does to the blocks, where its anchor is at a place. A new size cuts
+-- bytes off at the end, or appends zeros.
 abbrev pub IsCalledSeen : FlexCall → Anchor → List SeenBlock → List SeenBlock → Type 0
 IsCalledSeen (Alloc anchor size) x p q = IsAddedSeen x size p q
 IsCalledSeen (Release anchor) x p q = IsRemovedSeen x p q
 IsCalledSeen (Extend anchor size) x p q = (old : ℕ) × IsSplicedSeen x old old (old - size) (size - old) p q
 IsCalledSeen (MidExtend anchor at by) x p q = (old : ℕ) × IsSplicedSeen x old at (cut_of by) (more_of by) p q
 
--- The anchor of each block is a word elsewhere or lies in a block before its own, and no two are at the same place. So each block has a name: the word
--- of its anchor, or the name of the block that holds it with the place in that one. The first of the blocks has this number.
+-- The anchor of each block is a word elsewhere or lies in a block before its own, and no two are at
+-- the same place. So each block has a name: the word of its anchor, or the name of the block that
+-- holds it with the place in that one. The first of the blocks has this number.
 abbrev pub IsBeforeBlock : ℕ → Anchor → Type 0
 IsBeforeBlock number (Fixed a) = Unit {0}
 IsBeforeBlock number (Inside n o) = n < number

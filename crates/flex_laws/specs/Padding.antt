@@ -1,5 +1,6 @@
--- The bytes that fill the last word of each flex block: they are zeros where a block is new or changes its size, and stay as they are in each other
--- block, also where it moves (this project's own).
+-- The bytes that fill the last word of each flex block: they are zeros where a block is new or
+-- changes its size, and stay as they are in each other block, also where it moves (this project's
+-- own).
 use Rattle.std.specs.Prelude.{ℕ, ◌≡◌, ◌+◌, ◌-◌, ◌==◌, true, List, [], ◌∷◌, ◌++◌, drop, length, Option, None, Some, replicate, if◌then◌else◌, ◌<◌, ◌^◌}
 use Rattle.os_heap.specs.Store.{Store}
 use Rattle.flex_store.specs.Blocks.{Block, cut_of, FlexStore, more_of, whole_words}
@@ -8,7 +9,8 @@ use Rattle.flex_store.specs.Runs.{Alloc, Extend, FlexCall, MidExtend, Release}
 use Rattle.flex_laws.specs.Laws.{anchor_of, IsDoneIn, IsOfWords, IsSpelledState}
 use Rattle.flex_laws.specs.Numbered.{Anchor, blocks_seen, place_of, SeenBlock}
 
--- the bytes of a block behind its guest's own ones; those of each block, in the order of the blocks; and those of a store, if there is one
+-- the bytes of a block after its guest's own ones; those of each block, in the order of the blocks;
+-- and those of a store, if there is one
 abbrev pub padding : Block → List ℕ
 padding b = drop b.size b.bytes
 
@@ -20,7 +22,7 @@ abbrev pub all_paddings : Option FlexStore → List (List ℕ)
 all_paddings None = []
 all_paddings (Some s) = paddings s.blocks
 
--- zeros behind so many bytes, up to a whole number of words
+-- zeros after so many bytes, up to a whole number of words
 abbrev pub zero_padding : ℕ → List ℕ
 zero_padding size = replicate (whole_words size - size) 0
 
@@ -35,8 +37,8 @@ pub record BlockAt (x : Anchor) (seen : List SeenBlock) : Type 0 where
   pub rest : List SeenBlock
   pub is : seen ≡ front ++ record { anchor = x; bytes = own } ∷ rest
 
--- All blocks but the one whose anchor is at a place have the padding that they had. Of that one `left` tells, by its size and the padding that it had:
--- it has another, or it is gone.
+-- All blocks but the one whose anchor is at a place have the padding that they had. Of that one
+-- `left` tells, by its size and the padding that it had: it has another, or it is gone.
 pub record IsOwnPadding (x : Anchor) (seen : List SeenBlock) (left : ℕ → List ℕ → List (List ℕ)) (p q : List (List ℕ)) : Type 0 where
   pub block : BlockAt x seen
   pub front : List (List ℕ)
@@ -46,7 +48,8 @@ pub record IsOwnPadding (x : Anchor) (seen : List SeenBlock) (left : ℕ → Lis
   pub was : p ≡ front ++ own ∷ rest
   pub now : q ≡ front ++ (left (length block.own) own ++ rest)
 
--- what a call that found room leaves of the padding of blocks that are seen so before it, where its anchor is at a place
+-- what a call that found room leaves of the padding of blocks that are seen so before it, where its
+-- anchor is at a place
 abbrev pub IsCalledPadding : FlexCall → Anchor → List SeenBlock → List (List ℕ) → List (List ℕ) → Type 0
 IsCalledPadding (Alloc anchor size) x seen p q = q ≡ p ++ zero_padding size ∷ []
 IsCalledPadding (Release anchor) x seen p q = IsOwnPadding x seen (λ old own. []) p q

@@ -1,9 +1,11 @@
--- What a guest sees in the blocks of the flex store: their bytes, but for those of anchors, which hold addresses.
+-- What a guest sees in the blocks of the flex store: their bytes, but for those of anchors, which
+-- hold addresses.
 use Rattle.std.specs.Prelude.{ℕ, Bool, ◌+◌, ◌-◌, ◌==◌, List, [], ◌∷◌, ◌++◌, drop, Option, None, Some, replicate, take, if◌then◌else◌}
 use Rattle.flex_store.specs.Blocks.{Block, contents, FlexStore, taken}
 use Rattle.flex_store.specs.Calls.{is_anchor_byte}
 
--- these bytes, the first of them at `at`; `anchor` tells of each address whether it is one of an anchor's
+-- these bytes, the first of them at `at`; `anchor` tells of each address whether it is one of an
+-- anchor's
 abbrev pub seen_bytes : (ℕ → Bool) → ℕ → List ℕ → List (Option ℕ)
 seen_bytes anchor at [] = []
 seen_bytes anchor at (x ∷ xs) = (if anchor at then None else Some x) ∷ seen_bytes anchor (at + 1) xs

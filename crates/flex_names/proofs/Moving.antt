@@ -62,7 +62,7 @@ own_else n y x l m (b ∷ xs) ys = elim (cases_Bool (same_place b.anchor y)) [
   | inr other ↦ rw other (own_else (suc n) y x l m xs ys)
 ]
 
--- Anchors in front of a block move by nothing that moves those in it or behind it.
+-- Anchors in front of a block move by nothing that moves those in it or after it.
 pub front_stays : (go : Anchor → Anchor) (k : ℕ) → ((c : Anchor) (m : ℕ) → m ≤ k → IsBeforeBlock m c → go c ≡ c) → (n : ℕ) (xs : List SeenBlock) (b : SeenBlock)
     (ys : List SeenBlock) → n + length xs ≡ k → AreNumbered n (xs ++ b ∷ ys) → with_places go (xs ++ b ∷ ys) ≡ xs ++ b ∷ with_places go ys
 front_stays go k stays n [] b ys at numbered =

@@ -72,7 +72,7 @@ before_same : (k m : ℕ) (c : Anchor) → m ≤ k → IsBeforeBlock m c → aft
 before_same k m (Fixed a) low before = refl
 before_same k m (Inside n o) low before = rw (le-ltb k n (omega (arith, low, before))) refl
 
--- numbers behind the block, and in the list
+-- numbers after the block, and in the list
 rest_numbers : (k n : ℕ) (y : Anchor) (bs : List SeenBlock) → k ≤ n → IsOut k y → Every (IsOut k) bs
     → number_from n (after_removal k y) (with_places (after_removal k) bs) ≡ option_and_then (down k) (number_from (suc n) y bs)
 rest_numbers k n y [] high out all = refl
@@ -104,7 +104,7 @@ left_numbers k n y (c ∷ xs) b ys at numbered out all =
       | inr other ↦ rw (same, other) (left_numbers k (suc n) y xs b ys (omega (arith, at)) numbered.1.1 out all.1)
     ]
 
--- what the blocks in front show, and those behind
+-- what the blocks before it show, and those after it
 front_bytes : (m : ℕ) (xs ys zs : List SeenBlock) → m < length xs → bytes_at m (xs ++ ys) ≡ bytes_at m (xs ++ zs)
 front_bytes m [] ys zs low = absurd (omega (arith, low))
 front_bytes zero (b ∷ xs) ys zs low = refl

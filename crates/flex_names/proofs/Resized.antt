@@ -11,7 +11,7 @@ use Rattle.flex_names.proofs.Found.{name_is}
 use Rattle.flex_names.proofs.Moving.{bytes_own, seen_block}
 use Rattle.flex_names.proofs.Splices.{splice_goes_by_names, spliced_number}
 
--- a splice behind all anchors of a block leaves each name what it has
+-- a splice after all anchors of a block leaves each name what it has
 module _ (p : List SeenBlock) (x : Name) (place cut more : ℕ) (free : (o : ℕ) → place - cut ≤ o → number_named p (In x o) ≡ None) where
   inner_number : (o : ℕ) → option_and_then (number_named p) (option_map (In x) (offset_before place cut more o)) ≡ number_named p (In x o)
   inner_number o = elim (cases_lt o (place - cut)) [

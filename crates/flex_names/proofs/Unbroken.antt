@@ -127,7 +127,7 @@ module _ (t : FlexState) (s : FlexStore) (anchor : ℕ) (b : Block) (name : Name
   none_among_bytes from len o clear low high = none_at o (λ fits.
       none_among (is_anchor_byte s) (header_in s anchor + 8 + from) len (header_in s anchor + 8 + o) clear (omega (arith, low)) (omega (arith, high)))
 
--- no anchor lies behind what a block shows
+-- no anchor lies after what a block shows
 pub none_behind : (t : FlexState) (s : FlexStore) (anchor : ℕ) (name : Name) → IsSpelledState t s → place_named (seen s) name ≡ Some (place_of s anchor)
     → has_anchor s.blocks anchor ≡ true → (l : List (Option ℕ)) → contents_named (seen s) name ≡ Some l → (o : ℕ) → length l ≤ o
     → number_named (seen s) (In name o) ≡ None

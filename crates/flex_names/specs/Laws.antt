@@ -15,16 +15,19 @@ abbrev pub NamesTellBlocks : Type 0
 NamesTellBlocks = (p : List SeenBlock) → AreNumbered 0 p → (n : ℕ) → n < length p
     → (y : Name) × ((number_named p y ≡ Some n) × ((z : Name) → number_named p z ≡ Some n → z ≡ y))
 
--- A block of zeros comes at a name: the word of its anchor is seen no more where it lies in a block, and else each name shows what it did.
+-- A block of zeros comes at a name: the word of its anchor is seen no more where it lies in a
+-- block, and else each name shows what it did.
 abbrev pub IsAddedNamed : Name → ℕ → List SeenBlock → List SeenBlock → Type 0
 IsAddedNamed name size p q =
     (y : Name) → contents_named q y ≡ (if same_name y name then Some (replicate size (Some 0)) else told_named None name y (contents_named p y))
 
--- The block of a name goes: the word of its anchor is 0 where it lies in a block, and else each name shows what it did.
+-- The block of a name goes: the word of its anchor is 0 where it lies in a block, and else each
+-- name shows what it did.
 abbrev pub IsRemovedNamed : Name → List SeenBlock → List SeenBlock → Type 0
 IsRemovedNamed name p q = (y : Name) → contents_named q y ≡ (if same_name y name then None else told_named (Some 0) name y (contents_named p y))
 
--- The block of a name shows the splice of what it showed, and each other name what that name showed which the block had before.
+-- The block of a name shows the splice of what it showed, and each other name what that name showed
+-- which the block had before.
 abbrev pub IsSplicedNamed : Name → ℕ → ℕ → ℕ → List SeenBlock → List SeenBlock → Type 0
 IsSplicedNamed name place cut more p q =
     (y : Name) → contents_named q y ≡ (if same_name y name then option_map (λ l. seen_spliced l place cut more) (contents_named p name)
@@ -61,7 +64,8 @@ IsCalledNamed (Release anchor) name p q = IsRemovedNamed name p q
 IsCalledNamed (Extend anchor size) name p q = IsResizedNamed name size p q
 IsCalledNamed (MidExtend anchor at by) name p q = IsSplicedNamed name at (cut_of by) (more_of by) p q
 
--- The name is free for a block that comes, and no anchor lies in what goes, or behind the end of a block that gets a new size.
+-- The name is free for a block that comes, and no anchor lies in what goes, or after the end of a
+-- block that gets a new size.
 abbrev pub IsUnbroken : FlexCall → Name → List SeenBlock → Type 0
 IsUnbroken (Alloc anchor size) name p = number_named p name ≡ None
 IsUnbroken (Release anchor) name p = (o : ℕ) → number_named p (In name o) ≡ None
@@ -74,7 +78,8 @@ abbrev pub CallsGoByNames : Type 0
 CallsGoByNames = (p q : List SeenBlock) (x : Anchor) (call : FlexCall) (name : Name) → AreNumbered 0 p → place_named p name ≡ Some x → IsCalledSeen call x p q
     → IsUnbroken call name p → IsCalledNamed call name p q
 
--- Each call that was done and found room, on an anchor whose word has a name: it breaks nothing, so the blocks that are seen go by names.
+-- Each call that was done and found room, on an anchor whose word has a name: it breaks nothing, so
+-- the blocks that are seen go by names.
 abbrev pub DoneCallsGoByNames : Type 0
 DoneCallsGoByNames = (places : Store) (t u : FlexState) (s : FlexStore) (call : FlexCall) (name : Name) → IsOfWords call → t.flex ≡ Some s → IsSpelledState t s
     → places.bytes ≡ t.bytes → ((a : ℕ) → t.bytes.mapped a ≡ true → a < 2 ^ 26) → IsDoneIn places t call u

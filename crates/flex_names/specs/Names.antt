@@ -1,5 +1,6 @@
--- The blocks of the flex store by names in which no address in the store and no number of a block stands: a block whose anchor is a word elsewhere is
--- named by the address of that word, and one whose anchor lies in another block by the name of that one, and how far into its contents it is.
+-- The blocks of the flex store by names in which no address in the store and no number of a block
+-- stands: a block whose anchor is a word elsewhere is named by the address of that word, and one
+-- whose anchor lies in another block by the name of that one, and how far into its contents it is.
 use Rattle.std.specs.Prelude.{ℕ, zero, suc, Bool, false, ◌+◌, ◌-◌, ◌==◌, ◌&&◌, nat_lt, List, [], ◌∷◌, Option, None, Some, if◌then◌else◌}
 use Rattle.std.specs.Option.{option_and_then, option_map}
 use Rattle.flex_laws.specs.Numbered.{Anchor, Fixed, Inside, SeenBlock, word_told}
@@ -44,7 +45,8 @@ bytes_at (suc n) (b ∷ bs) = bytes_at n bs
 abbrev pub contents_named : List SeenBlock → Name → Option (List (Option ℕ))
 contents_named bs y = option_and_then (λ n. bytes_at n bs) (number_named bs y)
 
--- What blocks show, with each byte of the word of a name seen as told, where that word lies in a block.
+-- What blocks show, with each byte of the word of a name seen as told, where that word lies in a
+-- block.
 abbrev pub told_named : Option ℕ → Name → Name → Option (List (Option ℕ)) → Option (List (Option ℕ))
 told_named byte (At a) y shown = shown
 told_named byte (In z o) y shown = if same_name y z then option_map (word_told byte o 0) shown else shown
@@ -54,7 +56,8 @@ abbrev pub offset_before : ℕ → ℕ → ℕ → ℕ → Option ℕ
 offset_before place cut more o =
     if nat_lt o (place - cut) then Some o else if nat_lt o (place - cut + more) then None else Some (place + (o - (place - cut + more)))
 
--- The name that a block had before a splice of the block of a name, by the name that it has now: only names that go through that one are others.
+-- The name that a block had before a splice of the block of a name, by the name that it has now:
+-- only names that go through that one are others.
 abbrev pub name_before : Name → ℕ → ℕ → ℕ → Name → Option Name
 name_before x place cut more (At a) = Some (At a)
 name_before x place cut more (In y o) =

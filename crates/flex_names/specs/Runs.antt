@@ -21,15 +21,17 @@ FindsNoRoom places t (MidExtend anchor at by) u = mid_extended t anchor at by �
 abbrev pub is_of_store : FlexStore → ℕ → Bool
 is_of_store s a = in_range s.start (s.end - s.start) a || is_anchor_byte s a
 
--- What is done leaves the store where it is, and its bytes and its anchors as they are. All else may be another.
+-- What is done leaves the store where it is, and its bytes and its anchors as they are. All else
+-- may be another.
 pub record IsLeftAlone (t u : FlexState) (s : FlexStore) : Type 0 where
   pub flex : u.flex ≡ t.flex
   pub low : (a : ℕ) → u.bytes.mapped a ≡ true → a < 2 ^ 26
   pub mapped : (a : ℕ) → is_of_store s a ≡ true → u.bytes.mapped a ≡ t.bytes.mapped a
   pub bytes : (a : ℕ) → is_of_store s a ≡ true → u.bytes.at a ≡ t.bytes.at a
 
--- One thing that is done, with the state that it leaves: a call, with the heaps and the ranges that there are then, or what leaves the store alone, as a
--- refused call does, or a slide of other memory.
+-- One thing that is done, with the state that it leaves: a call, with the heaps and the ranges that
+-- there are then, or what leaves the store alone, as a refused call does, or a slide of other
+-- memory.
 pub data Turn : Type 0 where
   Called : Store → FlexCall → FlexState → Turn
   Apart : FlexState → Turn
@@ -55,7 +57,8 @@ left_at_last t (x ∷ xs) = left_at_last (left_by x) xs
 abbrev pub IsNameOf : Name → FlexState → ℕ → Type 0
 IsNameOf name t a = (s : FlexStore) → t.flex ≡ Some s → place_named (blocks_seen t.flex) name ≡ Some (place_of s a)
 
--- A call that answers that there is room goes by its rule, on the name of its word; one that answers that there is none changes nothing.
+-- A call that answers that there is room goes by its rule, on the name of its word; one that
+-- answers that there is none changes nothing.
 pub record GoesByAnswer (places : Store) (t : FlexState) (call : FlexCall) (u : FlexState) : Type 0 where
   pub room : IsDoneIn places t call u
       → (name : Name) × (IsNameOf name t (anchor_of call) × IsCalledNamed call name (blocks_seen t.flex) (blocks_seen u.flex))
@@ -74,7 +77,8 @@ GoByNames t (x ∷ xs) = IsTurnNamed t x × GoByNames (left_by x) xs
 abbrev pub IsSpelled : FlexState → Type 0
 IsSpelled t = (s : FlexStore) × ((t.flex ≡ Some s) × IsSpelledState t s)
 
--- Whatever is done, in whatever order: what names show changes by the rules of the calls alone, and memory spells what is left at last.
+-- Whatever is done, in whatever order: what names show changes by the rules of the calls alone, and
+-- memory spells what is left at last.
 abbrev pub RunsGoByNames : Type 0
 RunsGoByNames = (t : FlexState) (turns : List Turn) → IsSpelled t → ((a : ℕ) → t.bytes.mapped a ≡ true → a < 2 ^ 26) → AreTurns t turns
     → GoByNames t turns × IsSpelled (left_at_last t turns)
@@ -86,7 +90,8 @@ on_anchor a (Release anchor) = Release a
 on_anchor a (Extend anchor size) = Extend a size
 on_anchor a (MidExtend anchor at by) = MidExtend a at by
 
--- What names show after a call is told by what they showed before, by the call's name and by what the call is given: wherever its word lies.
+-- What names show after a call is told by what they showed before, by the call's name and by what
+-- the call is given: wherever its word lies.
 abbrev pub NamesGoAlike : Type 0
 NamesGoAlike = (p q r z : List SeenBlock) (call : FlexCall) (a : ℕ) (name : Name) → ((y : Name) → contents_named r y ≡ contents_named p y)
     → IsCalledNamed call name p q → IsCalledNamed (on_anchor a call) name r z → (y : Name) → contents_named z y ≡ contents_named q y

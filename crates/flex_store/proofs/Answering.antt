@@ -45,7 +45,8 @@ got_state m n e f front news g =
       flex = Some (record { start = g.start i; end = g.end i; blocks = blocks i });
     }
 
--- the anchors of some blocks are those of the store's, or words that may be anchors, or lie in the store
+-- the anchors of some blocks are those of the store's, or words that may be anchors, or lie in the
+-- store
 abbrev pub AreAllowed : AddressMap → Extent → List Block → Type 0
 AreAllowed m e bs = (a : ℕ) → has_anchor bs a ≡ true → IsAllowed m e a
 

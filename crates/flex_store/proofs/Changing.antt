@@ -75,7 +75,8 @@ heads_kept m n e xs olds news b r free clear =
           ]);
     }
 
--- The blocks in front have the bytes that stood there before: one of their words may have been written.
+-- The blocks in front have the bytes that stood there before: one of their words may have been
+-- written.
 pub got : (m n : AddressMap) (e f : Extent) (base : ℕ → ℕ) (front olds news : List Block) → IsBefore m e.start e.end (standing base e.start front) olds news
     → Relaid m n (e.start + used front) olds news → AreHeadless m e news → f.start ≡ e.start → f.end ≡ e.end → f.used ≡ used (front ++ news)
     → GotBlocks m e front news n f

@@ -72,7 +72,7 @@ found m e anchor s live =
     let has : has_anchor (blocks_of m e) anchor ≡ true = sym (has_by m e anchor s aligned) ∙ parts.1 in
     found_by m e anchor s (word_of (is_mapped m) e.start e.end (blocks_of m e) anchor s.store.words has) (split anchor (blocks_of m e) has)
 
--- the block at its place, and those behind it, as memory spells them
+-- the block at its place, and those after it, as memory spells them
 pub record IsPlaced (m : AddressMap) (e : Extent) (anchor header : ℕ) (before : List Block) : Type 0 where
   pub split : IsSplit anchor (blocks_of m e) before (first_at m header) (behind m header (e.start + e.used))
   pub store : IsFlexStore m e.start e.end (before ++ first_at m header ∷ behind m header (e.start + e.used))

@@ -1,4 +1,5 @@
--- Blocks that may be laid out behind some that stay, and what then holds of the store before it is done.
+-- Blocks that may be laid out after some that stay, and what then holds of the store before it is
+-- done.
 use Rattle.std.proofs.Common.{◌≡◌, ℕ, Bool, ◌+◌, ◌<◌, ◌≤◌, true, false, ◌||◌, nat_eq, List, ◌∷◌, ◌++◌, arith, refl, sym, ◌∙◌, ap, inl, inr, ◌⊎◌, subst}
 use Rattle.std.proofs.lemmas.Bool.{both_ways, false_from_ne_true, or_cases, or_left, or_parts}
 use Rattle.address_map.proofs.Bytes.{is_mapped-layout}
@@ -19,7 +20,7 @@ use Rattle.flex_store.proofs.Standing.{all_there, KeepsHeaders, standing_anchore
 use Rattle.flex_store.proofs.Storing.{IsBefore}
 use Rattle.flex_store.proofs.Words.{contents_within, IsHeld, outside_behind, words_apart, words_joined, words_left, word_of, words_right}
 
--- blocks that may be laid out behind those in front, which stay
+-- blocks that may be laid out after those before them, which stay
 pub record MayFollow (mapped : ℕ → Bool) (start end : ℕ) (front news : List Block) : Type 0 where
   pub fits : start + (used front + used news) ≤ end
   pub whole : AreWhole news
@@ -38,7 +39,8 @@ front_inner start end front olds p inner out has up below =
           absurd (elim out [ inl before ↦ omega (arith, h.from) | inr behind ↦ omega arith ])
     ]
 
--- What holds before they are laid out. The blocks in front have the bytes that stand there: one of their words may have been written.
+-- What holds before they are laid out. The blocks in front have the bytes that stand there: one of
+-- their words may have been written.
 pub before_laid : (m m2 : AddressMap) (start end : ℕ) (front olds news : List Block) → IsFlexStore m start end (front ++ olds) → class_of m2 ≡ class_of m
     → layout m2 ≡ layout m → KeepsHeaders (byte_at m) (byte_at m2) start front → AreAnchored (byte_at m2) start front → MayFollow (is_mapped m) start end front news
     → IsBefore m2 start end (standing (byte_at m2) start front) olds news
@@ -85,7 +87,8 @@ before_laid m m2 start end front olds news s marks same kept anchored may =
             | inr new ↦ may.inner p new up below
           ]
 
--- Blocks behind, whose anchors moved: no anchor of a block in front is one of theirs, and theirs lie in contents where they lie in the store.
+-- Later blocks, whose anchors moved: no anchor of a block in front is one of theirs, and theirs lie
+-- in contents where they lie in the store.
 module _ (mapped : ℕ → Bool) (start end : ℕ) (front after : List Block) (b : Block) (k : Move) (is : IsMove k) (ss : List Shift)
     (places : ArePlaced k start front after ss after) (words : AreAnchorWords mapped start end (front ++ b ∷ after)) (at_is : k.at ≡ start + used front) (end_is : k.end ≡ end) where
   -- the block's own anchor, and those in front of it

@@ -1,4 +1,5 @@
--- Anchors that moved with the bytes around them: where each was and is, that those of two blocks differ still, and that they fit the layout to come.
+-- Anchors that moved with the bytes around them: where each was and is, that those of two blocks
+-- differ still, and that they fit the layout to come.
 use Rattle.std.proofs.Common.{◌≡◌, ℕ, Bool, ◌+◌, ◌-◌, ◌%◌, ◌^◌, ◌<◌, ◌≤◌, true, false, nat_eq, List, [], ◌∷◌, arith, refl, sym, ◌∙◌, ap, inl, inr, ◌⊎◌, subst}
 use Rattle.std.proofs.lemmas.Bool.{both_ways, eqb-true, eq-eqb, false_from_ne_true, false≢true, le-leb, or_cases, or_left, or_right}
 use Rattle.address_map.specs.Bytes.{AreMapped}
@@ -8,8 +9,9 @@ use Rattle.flex_store.specs.Shifts.{following, gone_to}
 use Rattle.flex_store.specs.State.{AreAnchorWords, AreWhole, IsAnchorWord}
 use Rattle.flex_store.proofs.Words.{contents_within, held_word, IsHeld}
 
--- The numbers of a change of the block whose header is at `at`. Of its contents what ends up to `low` stays, and what begins at `from` goes to `to`; they
--- end at `held` then. The blocks behind it, from `old` up to `last`, go to `new`. The store ends at `end`.
+-- The numbers of a change of the block whose header is at `at`. Of its contents what ends up to
+-- `low` stays, and what begins at `from` goes to `to`; they end at `held` then. The blocks after
+-- it, from `old` up to `last`, go to `new`. The store ends at `end`.
 pub record Move : Type 0 where
   pub at : ℕ
   pub low : ℕ
@@ -32,8 +34,8 @@ pub record IsMove (k : Move) : Type 0 where
   pub old_aligned : k.old % 4 ≡ 0
   pub new_aligned : k.new % 4 ≡ 0
 
--- Where an anchor was, `a`, and where it is then, `g`: in the blocks `xs` before that block or before the store, in it, in the blocks `bs` behind it, or
--- behind the store.
+-- Where an anchor was, `a`, and where it is then, `g`: in the blocks `xs` before that block or
+-- before the store, in it, in the blocks `bs` after it, or after the store.
 pub data Place (k : Move) (start : ℕ) (xs bs : List Block) (a g : ℕ) : Type 0 where
   Below : g ≡ a → a + 4 ≤ k.at → (start ≤ a → is_in_contents start xs a ≡ true) → Place k start xs bs a g
   Before : g ≡ a → k.at + 8 ≤ a → a + 4 ≤ k.low → Place k start xs bs a g
@@ -102,7 +104,8 @@ has_following ss (b ∷ bs) g has = elim (or_cases (nat_eq g (gone_to ss b.ancho
 abbrev pub ArePlaced : Move → ℕ → List Block → List Block → List Shift → List Block → Type 0
 ArePlaced k start xs bs ss ys = (a : ℕ) → has_anchor ys a ≡ true → Place k start xs bs a (gone_to ss a)
 
--- An anchor is a word of the store's range or of elsewhere then, outside the text from its block's header on.
+-- An anchor is a word of the store's range or of elsewhere then, outside the text from its block's
+-- header on.
 gone_word : (mapped : ℕ → Bool) (k : Move) (start : ℕ) (xs bs : List Block) (h a g : ℕ) → IsMove k → AreMapped mapped k.at (k.end - k.at) → k.end ≤ 2 ^ 26
     → k.old ≤ h → Place k start xs bs a g → IsAnchorWord mapped h k.end a → IsAnchorWord mapped (k.new + (h - k.old)) k.end g
 gone_word mapped k start xs bs h a g is there low past (Below e below _) w = subst (λ (x : ℕ). IsAnchorWord mapped (k.new + (h - k.old)) k.end x) (sym e) (record {
@@ -180,7 +183,8 @@ contents_moved old new ss (b ∷ bs) a held = elim (or_cases (is_held_word old b
       (rw e at (contents_moved (old + taken b.size) (new + taken b.size) ss bs a later))
 ]
 
--- Where an anchor in the store's range is then: in contents of the blocks before, of the block that changed, or of those behind.
+-- Where an anchor in the store's range is then: in contents of the blocks before, of the block that
+-- changed, or of those after it.
 pub data Inside (k : Move) (start : ℕ) (xs bs : List Block) (ss : List Shift) (p : ℕ) : Type 0 where
   InFront : is_in_contents start xs p ≡ true → Inside k start xs bs ss p
   InBlock : k.at + 8 ≤ p → p + 4 ≤ k.held → Inside k start xs bs ss p

@@ -62,7 +62,8 @@ marks_made of_header of_word at (b ∷ bs) classes a apart =
     (λ is. (or_parts (first || second) later (apart (or_right here has is))).1)
     ∙ marked_by of_header of_word (classes a) first second here later has apart
 
--- What becomes of a header's mark, and of an anchor's, where new blocks are marked in place of old ones, behind others. No word is both.
+-- What becomes of a header's mark, and of an anchor's, where new blocks are marked in place of old
+-- ones, after others. No word is both.
 pub header_by : (own : Class) (new_header new_anchor old_header old_anchor before : Bool) → (new_anchor ≡ true → (before || new_header) ≡ false)
     → (old_header ≡ true → before ≡ false) → (old_anchor ≡ true → (before || old_header) ≡ false) → is_flex_header own ≡ (before || old_header)
     → is_flex_header (marked class.FlexHeader new_header (marked class.Anchor new_anchor (marked class.Plain old_header (marked class.Plain old_anchor own)))) ≡ (before || new_header)

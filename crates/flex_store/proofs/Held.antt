@@ -1,5 +1,6 @@
--- A flex store stays one where the words of its headers and its anchors keep their bytes and their marks, and all of it stays mapped and recorded.
--- The bytes of its blocks are then those that stand there: a guest may have written them.
+-- A flex store stays one where the words of its headers and its anchors keep their bytes and their
+-- marks, and all of it stays mapped and recorded. The bytes of its blocks are then those that stand
+-- there: a guest may have written them.
 use Rattle.std.proofs.Common.{◌≡◌, ℕ, Bool, ◌+◌, ◌-◌, true, List, sym, ap, subst, ◌∙◌, arith}
 use Rattle.address_map.specs.Bytes.{AreMapped, word_start}
 use Rattle.address_map.specs.Classes.{is_anchor, is_flex_header}

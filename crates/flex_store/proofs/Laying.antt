@@ -1,4 +1,5 @@
--- Texts that were laid out: the bytes of one block that were changed, with those behind it; a block that went; a block that came.
+-- Texts that were laid out: the bytes of one block that were changed, with those after it; a block
+-- that went; a block that came.
 use Rattle.std.proofs.Common.{◌≡◌, ℕ, ◌+◌, ◌-◌, ◌≤◌, List, [], ◌++◌, length, take, replicate, arith, sym, ◌∙◌, ap, inl, inr}
 use Rattle.std.proofs.lemmas.List.{length-replicate}
 use Rattle.std.proofs.lemmas.List.FromFn.{take-map-range_with_len}
@@ -11,7 +12,7 @@ use Rattle.flex_store.proofs.Holding.{bytes_beside, bytes_held, bytes_written, h
 use Rattle.flex_store.proofs.Reading.{bytes_read}
 use Rattle.flex_store.proofs.Splicing.{between_held, between_length, filled_length, moved_in, moved_out, spliced_length, zeros_in, zeros_out}
 
--- the bytes behind a block move up before its own change, or down after it
+-- the bytes after a block move up before its own change, or down after it
 pub respaced_up : (f g : ℕ → ℕ) (c size w w' r at cut more : ℕ) → at ≤ size → size ≤ w → w ≤ w' → w' ≡ whole_words (at - cut + more + (size - at))
     → ((a : ℕ) → g a ≡ with_bytes_at (with_moved_at f (c + w) (c + w') r) c (filled (spliced (bytes_between (with_moved_at f (c + w) (c + w') r) c size) at cut more)) a)
     → (a : ℕ) → g a ≡ with_bytes_at f c (filled (spliced (bytes_between f c size) at cut more) ++ bytes_between f (c + w) r) a
@@ -57,7 +58,7 @@ respaced_down f g c size w w' r at cut more inside down new h =
 pub contents_between : (f : ℕ → ℕ) (at size : ℕ) → take size (bytes_between f at (whole_words size)) ≡ bytes_between f at size
 contents_between f at size = take-map-range_with_len f at (whole_words size) size (omega arith)
 
--- a block that holds other bytes, and those behind it
+-- a block that holds other bytes, and those after it
 pub replaced : (f f2 g : ℕ → ℕ) (h : ℕ) (b : Block) (xs rest : List ℕ) → Holds f h (word_bytes b.anchor)
     → ((a : ℕ) → f2 a ≡ with_bytes_at f (h + 8) (filled xs ++ rest) a)
     → ((a : ℕ) → g a ≡ with_word_at f2 (h + 4) (length xs) a)
@@ -75,7 +76,7 @@ replaced f f2 g h b xs rest anchor h2 h3 =
     (λ a out. h3 a ∙ (word_beside f2 (h + 4) (length xs) a (elim out [ inl low ↦ inl (omega arith) | inr high ↦ inr (omega arith) ])
     ∙ (h2 a ∙ bytes_beside f (h + 8) (filled xs ++ rest) a (elim out [ inl low ↦ inl (omega arith) | inr high ↦ inr (omega arith) ]))))
 
--- the text behind a block in its place
+-- the text after a block in its place
 pub closed : (f g : ℕ → ℕ) (h next len : ℕ) (text : List ℕ) → length text ≡ len → Holds f next text
     → ((a : ℕ) → g a ≡ with_moved_at f next h len a) → (a : ℕ) → g a ≡ with_bytes_at f h text a
 closed f g h next len text size held moved =

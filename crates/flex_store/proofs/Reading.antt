@@ -11,7 +11,7 @@ use Rattle.flex_store.specs.Memory.{Holds, text_of, block_at, blocks_from, block
 use Rattle.flex_store.specs.State.{AreLow, AreWhole}
 use Rattle.flex_store.proofs.Holding.{holds_left, holds_right, word_read}
 
--- what memory holds of a block, and of those behind it
+-- what memory holds of a block, and of those after it
 pub record IsSpelled (f : ℕ → ℕ) (at : ℕ) (b : Block) (bs : List Block) : Type 0 where
   pub anchor : Holds f at (word_bytes b.anchor)
   pub size : Holds f (at + 4) (word_bytes b.size)

@@ -1,4 +1,5 @@
--- The record of a flex store: it shares no byte with a heap or a range that is recorded already, and keeps all heaps.
+-- The record of a flex store: it shares no byte with a heap or a range that is recorded already,
+-- and keeps all heaps.
 use Rattle.std.proofs.Common.{◌≡◌, ℕ, ◌+◌, ◌-◌, ◌<◌, ◌≤◌, ◌++◌, true, false, List, [], ◌∷◌, length, refl, sym, ap, subst, ◌∙◌, arith, inl, inr}
 use Rattle.std.proofs.lemmas.Bool.{and_parts, cases_Bool, leb-true, ltb-true, lt-ltb, eq-eqb, or_parts, or_right, true≢false}
 use Rattle.address_map.specs.Bytes.{Bytes, in_range, meets}

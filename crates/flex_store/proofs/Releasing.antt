@@ -35,7 +35,7 @@ use Rattle.flex_store.proofs.Standing.{standing_has}
 use Rattle.flex_store.proofs.Texts.{IsFirst, text_first, text_kept, text_next, text_read}
 use Rattle.flex_store.proofs.Words.{anchor_no_header, word_of, words_apart, words_left, words_right, words_within}
 
--- what memory spells first, and what behind that
+-- what memory spells first, and what after that
 pub record IsSpelledAt (m : AddressMap) (h end : ℕ) (b : Block) (after : List Block) : Type 0 where
   pub first : first_at m h ≡ b
   pub rest : behind m h end ≡ after

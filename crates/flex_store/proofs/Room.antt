@@ -41,7 +41,7 @@ stays_room t v s bs answer done fits fewer =
     let given : FlexState × Bool = (v, answer) in
     sym (ap (λ (r : FlexState × Bool). r.1) (same_answer was given done)) ∙ sym (le-leb (s.start + used bs) s.end (omega arith))
 
--- a block in its place, and those behind it with other anchors
+-- a block in its place, and those after it with other anchors
 used_spliced : (anchor : ℕ) (b new : Block) (ss : List Shift) (bs : List Block) → find_block anchor bs ≡ Some b
     → used (before anchor bs ++ new ∷ following ss (behind_of anchor bs)) ≡ used (with_block anchor new bs)
 used_spliced anchor b new ss [] found = absurd (let none : None ≡ Some b = found in cc)

@@ -1,4 +1,5 @@
--- A walk that settles the blocks of a text: it names their anchors anew, marks them and the headers, and writes the blocks' addresses to them.
+-- A walk that settles the blocks of a text: it names their anchors anew, marks them and the
+-- headers, and writes the blocks' addresses to them.
 use Rattle.std.proofs.Common.{◌≡◌, ℕ, Bool, ◌+◌, ◌-◌, ◌^◌, ◌<◌, ◌≤◌, List, [], ◌∷◌, ◌++◌, length, arith, sym, ◌∙◌, ap, inl, inr, ◌⊎◌}
 use Rattle.std.proofs.lemmas.Bool.{cases_lt}
 use Rattle.std.proofs.lemmas.Bool.Decides.{nat_tests}

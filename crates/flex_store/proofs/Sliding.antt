@@ -1,4 +1,5 @@
--- Texts in memory that are laid out anew: what the walk that settles them needs, and what it leaves.
+-- Texts in memory that are laid out anew: what the walk that settles them needs, and what it
+-- leaves.
 use Rattle.std.proofs.Common.{◌≡◌, ℕ, Bool, ◌+◌, ◌-◌, ◌%◌, ◌^◌, ◌<◌, ◌≤◌, true, List, [], ◌∷◌, ◌++◌, length, arith, sym, ◌∙◌, ap, inl, inr, subst}
 use Rattle.std.proofs.lemmas.List.{length-replicate}
 use Rattle.address_map.proofs.Bytes.{is_mapped-layout}
@@ -61,7 +62,8 @@ laid_over at news f g xs a same is =
     ap (λ (k : ℕ → ℕ). with_anchors at news k a) (λ i p. bytes_written f (with_bytes_at g at (text_of news)) at (text_of news) (bytes_held g at (text_of news))
     (λ q out. bytes_beside g at (text_of news) q out ∙ (is q ∙ bytes_beside f at xs q (elim out [ inl low ↦ inl low | inr high ↦ inr (omega arith) ]))) p i)
 
--- The walk that settles a text, whose anchors went where the shifts say, leaves it laid out with their new names.
+-- The walk that settles a text, whose anchors went where the shifts say, leaves it laid out with
+-- their new names.
 pub relaid_from : (shifts : List Shift) (m m3 n : AddressMap) (h end : ℕ) (olds texts : List Block) → IsText (bytes_of m3) h end texts
     → ((a : ℕ) → class_of m3 a ≡ with_marks class.Plain class.Plain h olds (class_of m) a) → layout n ≡ layout m
     → ((a : ℕ) → byte_at m3 a ≡ with_bytes_at (byte_at m) h (text_of texts) a)
@@ -88,7 +90,7 @@ pub unmarked : (m n : AddressMap) (h end : ℕ) (olds : List Block) → IsText (
 unmarked m n h end olds is marks a =
     marks a ∙ ap (λ (l : List Block). with_marks class.Plain class.Plain h l (class_of m) a) (text_read (bytes_of m) h end olds is)
 
--- a block that holds other bytes, with those behind it
+-- a block that holds other bytes, with those after it
 pub record AreNumbers (m : AddressMap) (h end at cut more : ℕ) : Type 0 where
   pub new : length (spliced (contents (first_at m h)) at cut more) ≡ at - cut + more + ((first_at m h).size - at)
   pub old_fits : h + taken (first_at m h).size ≤ end
@@ -175,7 +177,7 @@ room_for m n h end size new at cut more same size_is new_is is k may =
       new_low = omega (arith, k.new_low);
     })
 
--- the room of those behind it
+-- the room of those after it
 pub rest_for : (m n : AddressMap) (h end size new at cut more : ℕ) → layout n ≡ layout m → size ≡ (first_at m h).size → new ≡ at - cut + more + (size - at)
     → IsText (bytes_of m) h end (first_at m h ∷ behind m h end) → AreNumbers m h end at cut more
     → MayLie m h (replaced m h end (record { at = at; cut = cut; more = more }))
@@ -197,7 +199,7 @@ pub short_splice : (m : AddressMap) (h end at cut more : ℕ) → at ≤ (first_
     → AreShort (splice_shifts h end (first_at m h).size at cut more)
 short_splice m h end at cut more inside k = (omega (arith, k.new_low), (omega (arith, k.new_low, k.used_is), tt))
 
--- a block that went, with those behind it in its place
+-- a block that went, with those after it in its place
 pub record AreClosed (m : AddressMap) (h end : ℕ) : Type 0 where
   pub whole : AreWhole (behind m h end)
   pub fits : h + taken (first_at m h).size ≤ end
@@ -307,7 +309,7 @@ replaced_step m m1 m2 m3 h end size new old_total new_total at cut more is insid
     written_text (splice_shifts h end b.size at cut more) m m3 h (h + new_total + (end - (h + old_total))) (holding b xs ∷ behind m h end)
     (replaced_whole m h end at cut more is k) is.low (subst (λ (l : List Block). MayLie m h l) (sym (replaced_is m h end at cut more is words)) may) is.aligned kept bytes end_is
 
--- a block of zeros behind all others
+-- a block of zeros after all others
 pub new_whole : (m : AddressMap) (h anchor size : ℕ) → size < 2 ^ 32 → AreWhole (new_block anchor size ∷ [])
 new_whole m h anchor size fits = ((length-replicate {A = ℕ} (whole_words size) 0, fits), tt)
 

@@ -1,4 +1,5 @@
--- A block's bytes after some of them went, or zeros came: what a copy of its tail and two rows of zeros leave.
+-- A block's bytes after some of them went, or zeros came: what a copy of its tail and two rows of
+-- zeros leave.
 use Rattle.std.proofs.Common.{◌≡◌, ℕ, ◌+◌, ◌-◌, ◌<◌, ◌≤◌, List, ◌++◌, length, take, drop, replicate, arith, refl, sym, ◌∙◌, ap, inl, inr, ◌⊎◌, length-drop}
 use Rattle.std.proofs.lemmas.Bool.Decides.{nat_tests}
 use Rattle.std.proofs.lemmas.List.{length-replicate, get_or-take, get_or-drop, length-take}
@@ -56,7 +57,7 @@ pub filled_length : (bytes : List ℕ) → length (filled bytes) ≡ whole_words
 filled_length bytes =
     omega (arith, length-append bytes (replicate {A = ℕ} (whole_words (length bytes) - length bytes) 0), length-replicate {A = ℕ} (whole_words (length bytes) - length bytes) 0)
 
--- the bytes of three writes, where a tail is copied, and zeros come before and behind it
+-- the bytes of three writes, where a tail is copied, and zeros come before and after it
 abbrev pub after_splice : (ℕ → ℕ) → ℕ → ℕ → ℕ → ℕ → ℕ → ℕ → ℕ
 after_splice f c size at cut more =
     with_zeros_at (with_zeros_at (with_moved_at f (c + at) (c + (at - cut + more)) (size - at)) (c + (at - cut)) more)

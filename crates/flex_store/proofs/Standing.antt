@@ -1,4 +1,5 @@
--- Blocks with the bytes that stand in memory: their anchors and sizes are as they were, and memory spells them where the words of headers stay.
+-- Blocks with the bytes that stand in memory: their anchors and sizes are as they were, and memory
+-- spells them where the words of headers stay.
 use Rattle.std.proofs.Common.{◌≡◌, ℕ, Bool, ◌+◌, ◌%◌, ◌<◌, ◌≤◌, ◌||◌, true, nat_eq, List, [], ◌∷◌, ◌++◌, length, refl, ap, ◌∙◌, arith}
 use Rattle.std.proofs.lemmas.Bool.{eq-eqb, or_left, or_right}
 use Rattle.address_map.specs.raw_store.specs.Region.{word_bytes}

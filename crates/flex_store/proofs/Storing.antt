@@ -1,4 +1,4 @@
--- The store after the blocks behind a place were laid out anew.
+-- The store once the blocks after a place were laid out anew.
 use Rattle.std.proofs.Common.{◌≡◌, ℕ, Bool, ◌+◌, ◌%◌, ◌<◌, ◌≤◌, true, false, ◌||◌, List, [], ◌∷◌, ◌++◌, length, arith, refl, sym, ◌∙◌, ap, inl, inr, ◌⊎◌, subst}
 use Rattle.std.proofs.lemmas.Bool.{both_ways, false_from_ne_true, false≢true, or_parts, or_right}
 use Rattle.std.proofs.Math.ListN.{length-append}
@@ -22,7 +22,7 @@ use Rattle.flex_store.proofs.Lists.{anchor-append, header-append, text-append, t
 use Rattle.flex_store.proofs.Standing.{all_there, standing_anchored, standing_contents, standing_has, standing_header, standing_text, standing_used, standing_whole, standing_words}
 use Rattle.flex_store.proofs.Words.{anchor_no_header, words_left, words_low, words_right, word_of}
 
--- anchors keep what they hold where only bytes behind their blocks change, up to the end
+-- anchors keep what they hold where only bytes after their blocks change, up to the end
 pub anchored_kept : (mapped : ℕ → Bool) (start end place : ℕ) (f g : ℕ → ℕ) (at : ℕ) (bs : List Block) → AreAnchorWords mapped start end bs → start + used bs ≤ place
     → ((a : ℕ) → (a < place) ⊎ (end ≤ a) → g a ≡ f a) → AreAnchored f at bs → AreAnchored g at bs
 anchored_kept mapped start end place f g at [] words room same anchored = tt
@@ -32,7 +32,7 @@ anchored_kept mapped start end place f g at (b ∷ bs) words room same anchored 
   anchored_kept mapped (start + taken b.size) end place f g (at + taken b.size) bs words.1 (omega arith) same anchored.1,
 )
 
--- What stands before a place stays where the blocks behind it are laid out.
+-- What stands before a place stays where the blocks after it are laid out.
 pub laid_behind : (mapped : ℕ → Bool) (start end : ℕ) (f : ℕ → ℕ) (xs ys : List Block) → AreWhole (xs ++ ys) → AreAnchorWords mapped start end (xs ++ ys)
     → start + used (xs ++ ys) ≤ end → Holds f start (text_of xs) → AreAnchored f start xs
     → (a : ℕ) → laid_out (start + used xs) ys f a ≡ laid_out start (xs ++ ys) f a
@@ -57,7 +57,8 @@ laid_behind mapped start end f xs ys whole words fits held anchored a =
     ∙ (ap (λ (h : ℕ → ℕ). with_anchors start (xs ++ ys) h a) (λ i x. one x i)
     ∙ ap (λ (t : List ℕ). with_anchors start (xs ++ ys) (with_bytes_at f start t) a) (sym (text-append xs ys))))
 
--- Blocks that were laid out are there, with the anchors that lie in their contents, and each anchor holds its block's address.
+-- Blocks that were laid out are there, with the anchors that lie in their contents, and each anchor
+-- holds its block's address.
 pub record IsLaid (f : ℕ → ℕ) (start : ℕ) (bs : List Block) : Type 0 where
   pub text : Holds f start (text_of (standing f start bs))
   pub anchored : AreAnchored f start bs
@@ -76,7 +77,8 @@ laid mapped start end f g bs aligned whole words inner fits h =
       anchored = subst (λ (k : ℕ → ℕ). AreAnchored k start bs) (sym same) (anchors_hold mapped start end start bs written words);
     }
 
--- what holds of the part of the store that stays, and of the words that are marked, before the blocks behind it are laid out
+-- what holds of the part of the store that stays, and of the words that are marked, before the
+-- blocks after it are laid out
 pub record IsBefore (m : AddressMap) (start end : ℕ) (xs olds news : List Block) : Type 0 where
   pub range : IsFlexRange (is_mapped m) start end
   pub fits : start + used (xs ++ news) ≤ end

@@ -1,4 +1,4 @@
--- A text of blocks in memory: its first block, what is behind that, and what of it stays.
+-- A text of blocks in memory: its first block, what is after that, and what of it stays.
 use Rattle.std.proofs.Common.{◌≡◌, ℕ, Bool, ◌+◌, ◌%◌, ◌^◌, ◌<◌, ◌≤◌, true, List, ◌∷◌, length, arith, sym, subst}
 use Rattle.address_map.specs.Bytes.{AreMapped, Bytes, word_at}
 use Rattle.flex_store.specs.Blocks.{Block, used, taken, whole_words}
@@ -11,7 +11,7 @@ use Rattle.flex_store.proofs.Reading.{IsSpelled, spelled, reads}
 pub text_read : (b : Bytes) (at end : ℕ) (bs : List Block) → IsText b at end bs → blocks_in b.at at end ≡ bs
 text_read b at end bs is = rw is.length (reads b.at at bs is.whole is.low is.text)
 
--- the text behind the first block
+-- the text after the first block
 pub text_next : (b : Bytes) (at end : ℕ) (x : Block) (bs : List Block) → IsText b at end (x ∷ bs) → IsText b (at + taken x.size) end bs
 text_next b at end x bs is =
     let length_is : end ≡ at + (taken x.size + used bs) = is.length in

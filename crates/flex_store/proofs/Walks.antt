@@ -1,4 +1,5 @@
--- A walk over the blocks of a text, which takes the marks off their headers and anchors; what one that settles them holds on to.
+-- A walk over the blocks of a text, which takes the marks off their headers and anchors; what one
+-- that settles them holds on to.
 use Rattle.std.proofs.Common.{◌≡◌, ℕ, Bool, ◌+◌, ◌-◌, ◌%◌, ◌^◌, ◌<◌, ◌≤◌, true, List, [], ◌∷◌, arith, refl, sym, ◌∙◌, ap, subst}
 use Rattle.address_map.proofs.Bytes.{is_mapped-layout}
 use Rattle.address_map.proofs.Spans.{mapped_below}

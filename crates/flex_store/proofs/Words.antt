@@ -1,4 +1,5 @@
--- Where anchors lie: the anchor of each block outside the text from its own header on, apart from the others, and in no header.
+-- Where anchors lie: the anchor of each block outside the text from its own header on, apart from
+-- the others, and in no header.
 use Rattle.std.proofs.Common.{◌≡◌, ℕ, Bool, ◌+◌, ◌≤◌, true, false, ◌||◌, nat_eq, List, [], ◌∷◌, ◌++◌, arith, refl, sym, ◌∙◌, ap, inl, inr, ◌⊎◌}
 use Rattle.std.specs.Prelude.{nat_le}
 use Rattle.std.proofs.lemmas.Bool.{and_parts, both_ways, cases_lt, eqb-true, eq-eqb, false_from_ne_true, false≢true, leb-true, ne_eqb, or_cases, or_from, or_left, or_parts, or_right}
@@ -113,7 +114,7 @@ anchor_no_header start end bs a fits inner has = elim (cases_lt a start) [
   ]
 ]
 
--- they lie outside what is behind all these blocks, up to the end
+-- they lie outside what is after all these blocks, up to the end
 pub outside_behind : (mapped : ℕ → Bool) (start end : ℕ) (bs : List Block) (p : ℕ) → AreAnchorWords mapped start end bs → has_anchor bs p ≡ true
     → (p + 4 ≤ start + used bs) ⊎ (end ≤ p)
 outside_behind mapped start end [] p words has = absurd (false≢true has)

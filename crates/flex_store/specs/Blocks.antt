@@ -1,7 +1,8 @@
--- The blocks of the flex store, as one list. They lie one after another from the store's start, without gaps. A block
--- is a header of two words, the address of its anchor and its size, then its bytes, filled up to a whole number of
--- words. The anchor is a word that holds the address of the block's bytes; it lies outside the store, or among the
--- bytes of a block before its own (Acorn C manual, "flex"; the layout is this project's own).
+-- The blocks of the flex store, as one list. They lie one after another from the store's start,
+-- without gaps. A block is a header of two words, the address of its anchor and its size, then its
+-- bytes, filled up to a whole number of words. The anchor is a word that holds the address of the
+-- block's bytes; it lies outside the store, or among the bytes of a block before its own (Acorn C
+-- manual, "flex"; the layout is this project's own).
 use Rattle.std.specs.Prelude.{ℕ, ◌^◌, Bool, false, ◌+◌, ◌-◌, ◌*◌, ◌/◌, ◌==◌, ◌&&◌, ◌||◌, nat_le, List, [], ◌∷◌, ◌++◌, length, take, drop, replicate, Option, Some, None, if◌then◌else◌}
 
 pub record Block : Type 0 where
@@ -61,7 +62,7 @@ abbrev pub without_block : ℕ → List Block → List Block
 without_block anchor [] = []
 without_block anchor (b ∷ bs) = if b.anchor == anchor then bs else b ∷ without_block anchor bs
 
--- the blocks before that of an anchor, and those behind it
+-- the blocks before that of an anchor, and those after it
 abbrev pub before : ℕ → List Block → List Block
 before anchor [] = []
 before anchor (b ∷ bs) = if b.anchor == anchor then [] else b ∷ before anchor bs
@@ -74,7 +75,8 @@ behind_of anchor (b ∷ bs) = if b.anchor == anchor then bs else behind_of ancho
 abbrev pub resized : List ℕ → ℕ → List ℕ
 resized bytes size = take size bytes ++ replicate (size - length bytes) 0
 
--- The bytes before `at` without the last `cut` of them, then `more` zeros, then the bytes from `at` on.
+-- The bytes before `at` without the last `cut` of them, then `more` zeros, then the bytes from `at`
+-- on.
 abbrev pub spliced : List ℕ → ℕ → ℕ → ℕ → List ℕ
 spliced bytes at cut more = take (at - cut) bytes ++ (replicate more 0 ++ drop at bytes)
 
@@ -90,7 +92,8 @@ abbrev pub is_header : ℕ → List Block → ℕ → Bool
 is_header at [] a = false
 is_header at (b ∷ bs) a = (a == at || a == at + 4) || is_header (at + taken b.size) bs a
 
--- Do the four bytes from `a` on lie among those that a block has for its guest, where its header is at `at`?
+-- Do the four bytes from `a` on lie among those that a block has for its guest, where its header is
+-- at `at`?
 abbrev pub is_held_word : ℕ → Block → ℕ → Bool
 is_held_word at b a = nat_le (at + 8) a && nat_le (a + 4) (at + 8 + b.size)
 

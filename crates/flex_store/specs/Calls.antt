@@ -1,5 +1,6 @@
--- The flex calls, over memory and the flex store, if there is one. Refusals come in the order of their numbers (Acorn C
--- manual, "flex"; the numbers, this order, and one store in a range that the guest names are this project's own).
+-- The flex calls, over memory and the flex store, if there is one. Refusals come in the order of
+-- their numbers (Acorn C manual, "flex"; the numbers, this order, and one store in a range that the
+-- guest names are this project's own).
 use Rattle.std.specs.Prelude.{ℕ, Bool, true, false, not, ◌+◌, ◌-◌, ◌%◌, ◌==◌, ◌&&◌, ◌||◌, nat_le, nat_lt, Option, Some, None, ok_or, Result, Ok, Err, List, [], ◌∷◌, ◌++◌, if◌then◌else◌}
 use Rattle.std.specs.List.{list_any}
 use Rattle.profile.specs.Outcome.{bind}
@@ -21,9 +22,10 @@ pub record FlexState : Type 0 where
   pub bytes : Bytes
   pub flex : Option FlexStore
 
--- May the word at an address become an anchor? It is mapped, and lies in no recorded range but a heap and the flex store; in a heap it lies among the
--- bytes that a live block holds. The record of a module image in the module area covers all bytes that its block holds, so none of these may be an
--- anchor.
+-- May the word at an address become an anchor? It is mapped, and lies in no recorded range but a
+-- heap and the flex store; in a heap it lies among the bytes that a live block holds. The record of
+-- a module image in the module area covers all bytes that its block holds, so none of these may be
+-- an anchor.
 unfoldable pub is_anchor_place : Store → ℕ → Bool
 is_anchor_place s a = (a % 4 == 0 && s.bytes.mapped a)
     && (not (list_any (λ r. not (is_flex_store r.kind) && meets a 4 r.at r.len) s.others) && not (is_other (payload_of s.heaps a)))
@@ -40,7 +42,8 @@ may_stand s a = not (is_in_store s a) || is_in_contents s.start s.blocks a
 abbrev pub meets_ranges : Store → ℕ → ℕ → Bool
 meets_ranges s at len = list_any (λ h. meets at len h.start h.end) s.heaps || list_any (λ r. meets at len r.at r.len) s.others
 
--- May a range become the flex store? It has whole words, which are mapped, and it meets no heap and no other recorded range.
+-- May a range become the flex store? It has whole words, which are mapped, and it meets no heap and
+-- no other recorded range.
 unfoldable pub is_flex_range : Store → ℕ → ℕ → Bool
 is_flex_range s start end =
     (start % 4 == 0 && end % 4 == 0) && (nat_lt start end && (are_mapped s.bytes.mapped start (end - start) && not (meets_ranges s start (end - start))))
@@ -52,8 +55,8 @@ ready t = ok_or t.flex FlexNotReady
 abbrev pub live : FlexStore → ℕ → Result Block ErrorNumber
 live s anchor = ok_or (find_block anchor s.blocks) FlexBadAnchor
 
--- The state after the blocks behind some of the store's were laid out anew. The anchors' words lie in what stood there too, in blocks of these, so the
--- blocks have the bytes that stand in memory then.
+-- The state once the blocks after some of the store's were laid out anew. The anchors' words lie in
+-- what stood there too, in blocks of these, so the blocks have the bytes that stand in memory then.
 abbrev pub with_blocks : FlexState → FlexStore → List Block → List Block → FlexState
 with_blocks t s olds news =
     let bytes : ℕ → ℕ = laid_out (s.start + used olds) news t.bytes.at in
@@ -62,7 +65,8 @@ with_blocks t s olds news =
       flex = Some (record { start = s.start; end = s.end; blocks = standing bytes s.start (olds ++ news) });
     }
 
--- what is so where the store has room for these blocks; where it has none, nothing is changed, and the answer is false
+-- what is so where the store has room for these blocks; where it has none, nothing is changed, and
+-- the answer is false
 abbrev pub fitted : FlexState → FlexStore → List Block → List Block → FlexState × Bool
 fitted t s olds news = if nat_le (s.start + used (olds ++ news)) s.end then (with_blocks t s olds news, true) else (t, false)
 
@@ -80,7 +84,8 @@ begun_by places t start end None = if is_flex_range places start end then Ok (wi
 unfoldable pub begun : Store → FlexState → ℕ → ℕ → Result (FlexState × Unit {0}) ErrorNumber
 begun places t start end = begun_by places t start end t.flex
 
--- Alloc: a block more, behind all others. The heaps and the recorded ranges say where an anchor may stand.
+-- Alloc: a block more, after all others. The heaps and the recorded ranges say where an anchor may
+-- stand.
 unfoldable pub allocated : Store → FlexState → ℕ → ℕ → Result (FlexState × Bool) ErrorNumber
 allocated places t anchor size =
     bind (ready t) (λ s.
@@ -99,7 +104,8 @@ header_in s anchor = s.start + used (before anchor s.blocks)
 abbrev pub end_in : FlexStore → ℕ
 end_in s = s.start + used s.blocks
 
--- Free: the block goes, and its anchor is 0. Those behind it slide down, and the anchors in them with them.
+-- Free: the block goes, and its anchor is 0. Those after it slide down, and the anchors in them
+-- with them.
 abbrev pub without_anchor : FlexState → ℕ → FlexState
 without_anchor t anchor = record { bytes = with_word t.bytes anchor 0; flex = t.flex }
 
@@ -121,15 +127,16 @@ sized t anchor =
     bind (live s anchor) (λ b.
     Ok b.size))
 
--- Would a change of the contents at `c` take a byte of an anchor away, put bytes inside one, or move one by other than whole words? `anchor` tells of
--- each byte whether it is one of an anchor's.
+-- Would a change of the contents at `c` take a byte of an anchor away, put bytes inside one, or
+-- move one by other than whole words? `anchor` tells of each byte whether it is one of an anchor's.
 abbrev pub breaks_anchor : (ℕ → Bool) → ℕ → ℕ → ℕ → ℕ → ℕ → Bool
 breaks_anchor anchor c size place cut more =
     anchor_among anchor (c + place - cut) cut
     || ((not (more == 0) && (not (place % 4 == 0) && anchor_among anchor (c + place) 1))
     || (not (more % 4 == cut % 4) && anchor_among anchor (c + place) (size - place)))
 
--- The `cut` bytes before the byte `place` of a block go, and `more` zeros come there. The anchors in what moves go with it.
+-- The `cut` bytes before the byte `place` of a block go, and `more` zeros come there. The anchors
+-- in what moves go with it.
 abbrev pub spliced_at : FlexState → FlexStore → ℕ → Block → ℕ → ℕ → ℕ → Result (FlexState × Bool) ErrorNumber
 spliced_at t s anchor b place cut more =
     if breaks_anchor (is_anchor_byte s) (header_in s anchor + 8) b.size place cut more then Err FlexHoldsAnchor else
@@ -137,14 +144,16 @@ spliced_at t s anchor b place cut more =
     (holding b (spliced (contents b) place cut more)
     ∷ following (splice_shifts (header_in s anchor) (end_in s) b.size place cut more) (behind_of anchor s.blocks)))
 
--- Extend: a block is cut, or zeros are appended. Where its size stays, it is as it was, with the bytes that fill it up.
+-- Extend: a block is cut, or zeros are appended. Where its size stays, it is as it was, with the
+-- bytes that fill it up.
 unfoldable pub extended : FlexState → ℕ → ℕ → Result (FlexState × Bool) ErrorNumber
 extended t anchor size =
     bind (ready t) (λ s.
     bind (live s anchor) (λ b.
     if size == b.size then Ok (t, true) else spliced_at t s anchor b b.size (b.size - size) (size - b.size)))
 
--- Midextend: where `by`, a signed word, is above 0, zeros are put in before the byte `at`; where it is below, as many bytes before that one go.
+-- Midextend: where `by`, a signed word, is above 0, zeros are put in before the byte `at`; where it
+-- is below, as many bytes before that one go.
 unfoldable pub mid_extended : FlexState → ℕ → ℕ → ℕ → Result (FlexState × Bool) ErrorNumber
 mid_extended t anchor at by =
     bind (ready t) (λ s.

@@ -7,7 +7,7 @@ use Rattle.flex_store.specs.Blocks.{Block, used}
 use Rattle.flex_store.specs.Memory.{laid_out, standing}
 use Rattle.flex_store.specs.State.{blocks_of, IsStoreAt, KeepsHeads, HasNoHead}
 
--- the store has other blocks behind some that it had
+-- the store has other blocks after some that it had
 pub record GotBlocks (m : AddressMap) (e : Extent) (olds news : List Block) (n : AddressMap) (f : Extent) : Type 0 where
   pub bytes : (a : ℕ) → byte_at n a ≡ laid_out (e.start + used olds) news (byte_at m) a
   pub blocks_are : blocks_of n f ≡ standing (byte_at n) e.start (olds ++ news)

@@ -22,6 +22,7 @@ abbrev pub HasBlocks : Option FlexStore → Type 0
 HasBlocks None = Unit {0}
 HasBlocks (Some s) = AreWhole s.blocks × AreDistinct s.blocks
 
--- Calls of other stores, and a guest's own stores, keep the flex store where they keep its words, their marks, and the record of its range.
+-- Calls of other stores, and a guest's own stores, keep the flex store where they keep its words,
+-- their marks, and the record of its range.
 abbrev pub FlexStays : Type 0
 FlexStays = (m n : AddressMap) (f : Flex) → IsFlex m f → StaysFlex m n f → IsFlex n f

@@ -1,3 +1,5 @@
+-- What the flex calls do to a list of blocks, and how memory spells it. Begin with Blocks and
+-- Calls.
 pub use Rattle.os_heap.specs.os_heap_lists
 pub mod Blocks
 pub mod Calls

@@ -1,4 +1,5 @@
--- The blocks of the flex store as a caller sees them: each with its anchor's address, the address of its bytes, and its size.
+-- The blocks of the flex store as a caller sees them: each with its anchor's address, the address
+-- of its bytes, and its size.
 use Rattle.std.specs.Prelude.{ℕ, ◌+◌, List, [], ◌∷◌, Option, Some, None}
 use Rattle.flex_store.specs.declared.blocks.FlexBlock.{FlexBlock}
 use Rattle.flex_store.specs.Blocks.{Block, FlexStore, taken}

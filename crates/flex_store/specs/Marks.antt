@@ -7,7 +7,8 @@ use Rattle.flex_store.specs.Blocks.{Block, taken}
 abbrev pub marked : Class → Bool → Class → Class
 marked mark is own = if is then mark else own
 
--- the two words of the header at `at` got one class, and the word at `word`, its block's anchor, another
+-- the two words of the header at `at` got one class, and the word at `word`, its block's anchor,
+-- another
 abbrev pub with_block_marks : Class → Class → ℕ → ℕ → (ℕ → Class) → ℕ → Class
 with_block_marks of_header of_word at word classes = with_class (with_class (with_class classes at of_header) (at + 4) of_header) word of_word
 

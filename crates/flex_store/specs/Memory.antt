@@ -4,8 +4,9 @@ use Rattle.address_map.specs.raw_store.specs.Region.{word_bytes}
 use Rattle.address_map.specs.Bytes.{word_at, with_word_at, with_bytes_at, bytes_between}
 use Rattle.flex_store.specs.Blocks.{Block, taken, whole_words}
 
--- The blocks as one text: of each the address of its anchor, its size, and its bytes. An anchor may lie among the bytes
--- of a block before its own; what it is to hold then is written after the text (`laid_out`).
+-- The blocks as one text: of each the address of its anchor, its size, and its bytes. An anchor may
+-- lie among the bytes of a block before its own; what it is to hold then is written after the text
+-- (`laid_out`).
 abbrev pub text_of : List Block → List ℕ
 text_of [] = []
 text_of (b ∷ bs) = word_bytes b.anchor ++ (word_bytes b.size ++ (b.bytes ++ text_of bs))
@@ -14,12 +15,14 @@ text_of (b ∷ bs) = word_bytes b.anchor ++ (word_bytes b.size ++ (b.bytes ++ te
 abbrev pub Holds : (ℕ → ℕ) → ℕ → List ℕ → Type 0
 Holds f at bytes = (k : ℕ) → k < length bytes → f (at + k) ≡ slice_index bytes k
 
--- the bytes after each anchor got the address of its block's bytes, where the first block's header is at `at`
+-- the bytes after each anchor got the address of its block's bytes, where the first block's header
+-- is at `at`
 abbrev pub with_anchors : ℕ → List Block → (ℕ → ℕ) → ℕ → ℕ
 with_anchors at [] f = f
 with_anchors at (b ∷ bs) f = with_anchors (at + taken b.size) bs (with_word_at f b.anchor (at + 8))
 
--- the bytes after these blocks were laid out from `at` on: their text over what stood there, then their anchors
+-- the bytes after these blocks were laid out from `at` on: their text over what stood there, then
+-- their anchors
 unfoldable pub laid_out : ℕ → List Block → (ℕ → ℕ) → ℕ → ℕ
 laid_out at blocks f = with_anchors at blocks (with_bytes_at f at (text_of blocks))
 
@@ -36,8 +39,9 @@ block_at f at = record {
   bytes = bytes_between f (at + 8) (whole_words (word_at f (at + 4)));
 }
 
--- The blocks that the bytes from `at` on spell, up to the address `end`. Each takes up at least 8 bytes, so the first number, which bounds how
--- many are looked at, never ends them where it is as great as the bytes up to the end.
+-- The blocks that the bytes from `at` on spell, up to the address `end`. Each takes up at least 8
+-- bytes, so the first number, which bounds how many are looked at, never ends them where it is as
+-- great as the bytes up to the end.
 abbrev pub blocks_from : ℕ → (ℕ → ℕ) → ℕ → ℕ → List Block
 blocks_from zero f at end = []
 blocks_from (suc most) f at end = if nat_le end at then [] else (block_at f at ∷ blocks_from most f (at + taken (word_at f (at + 4))) end)

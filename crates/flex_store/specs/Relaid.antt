@@ -1,4 +1,4 @@
--- What is left of memory where the blocks behind a place were laid out anew.
+-- What is left of memory where the blocks after a place were laid out anew.
 use Rattle.std.specs.Prelude.{ℕ, ◌≡◌, ◌+◌, List, ◌∷◌}
 use Rattle.address_map.specs.Bytes.{AreMapped}
 use Rattle.address_map.specs.Memory.{byte_at, class_of, is_mapped, layout}
@@ -11,7 +11,7 @@ use Rattle.flex_store.specs.Shifts.{following, removal_shifts, splice_shifts}
 use Rattle.flex_store.specs.State.{AreAnchorWords}
 use Rattle.flex_store.specs.declared.splice.Splice.{Splice}
 
--- the block whose header is at `at`, and those behind it
+-- the block whose header is at `at`, and those after it
 abbrev pub first_at : AddressMap → ℕ → Block
 first_at m at = block_at (byte_at m) at
 
@@ -27,13 +27,15 @@ replaced m at end s =
 abbrev pub closed : AddressMap → ℕ → ℕ → List Block
 closed m at end = following (removal_shifts at end (first_at m at).size) (behind m at end)
 
--- These blocks are laid out from `at` on, and their headers and anchors are marked in place of those of the blocks that stood there.
+-- These blocks are laid out from `at` on, and their headers and anchors are marked in place of
+-- those of the blocks that stood there.
 pub record Relaid (old new : AddressMap) (at : ℕ) (olds news : List Block) : Type 0 where
   pub bytes : (a : ℕ) → byte_at new a ≡ laid_out at news (byte_at old) a
   pub same : layout new ≡ layout old
   pub marks : (a : ℕ) → class_of new a ≡ with_marks class.FlexHeader class.Anchor at news (with_marks class.Plain class.Plain at olds (class_of old)) a
 
--- Blocks may be laid out from `at` on: the bytes up to their end are mapped, and the anchor of each lies outside these from its header on.
+-- Blocks may be laid out from `at` on: the bytes up to their end are mapped, and the anchor of each
+-- lies outside these from its header on.
 pub record MayLie (m : AddressMap) (at : ℕ) (blocks : List Block) : Type 0 where
   pub words : AreAnchorWords (is_mapped m) at (at + used blocks) blocks
   pub there : AreMapped (is_mapped m) at (used blocks)

@@ -5,14 +5,16 @@ use Rattle.flex_store.specs.Blocks.{Block, FlexStore, contents, cut_of, find_blo
 use Rattle.flex_store.specs.Calls.{FlexState, allocated, extended, mid_extended, released}
 use Rattle.flex_store.specs.Laws.{HasBlocks}
 
--- the calls that change blocks, with what they are given: an anchor, and then a size, or a place and a signed word
+-- the calls that change blocks, with what they are given: an anchor, and then a size, or a place
+-- and a signed word
 pub data FlexCall : Type 0 where
   Alloc : ℕ → ℕ → FlexCall
   Release : ℕ → FlexCall
   Extend : ℕ → ℕ → FlexCall
   MidExtend : ℕ → ℕ → ℕ → FlexCall
 
--- A call was not refused, gave this answer, and left this state. Where an alloc finds its anchor, the heaps and the ranges are what they are then.
+-- A call was not refused, gave this answer, and left this state. Where an alloc finds its anchor,
+-- the heaps and the ranges are what they are then.
 abbrev pub IsDone : FlexState → FlexCall → Bool → FlexState → Type 0
 IsDone t (Alloc anchor size) answer u = (places : Store) × (allocated places t anchor size ≡ Ok (u, answer))
 IsDone t (Release anchor) answer u = (answer ≡ true) × (released t anchor ≡ Ok (u, tt))
@@ -30,7 +32,8 @@ blocks_after (Release anchor) bs = without_block anchor bs
 blocks_after (Extend anchor size) bs = blocks_changed anchor (λ c. resized c size) (find_block anchor bs) bs
 blocks_after (MidExtend anchor at by) bs = blocks_changed anchor (λ c. spliced c at (cut_of by) (more_of by)) (find_block anchor bs) bs
 
--- A call answers that there was room just where the blocks that it is to leave fit into the store's range.
+-- A call answers that there was room just where the blocks that it is to leave fit into the store's
+-- range.
 abbrev pub AnswersAreRoom : Type 0
 AnswersAreRoom = (t u : FlexState) (s : FlexStore) (call : FlexCall) (answer : Bool) → HasBlocks t.flex → t.flex ≡ Some s → s.start + used s.blocks ≤ s.end
     → IsDone t call answer u → answer ≡ nat_le (s.start + used (blocks_after call s.blocks)) s.end

@@ -21,8 +21,9 @@ abbrev pub AreShort : List Shift → Type 0
 AreShort [] = Unit {0}
 AreShort (s ∷ ss) = (s.to + (s.end - s.from) ≤ 2 ^ 26) × AreShort ss
 
--- What moves where the `cut` bytes before the byte `place` of a block go, and `more` come there: its bytes from that one on, and the blocks behind it,
--- which end at `end`. The block's header is at `at`, and `size` is how many bytes it had.
+-- What moves where the `cut` bytes before the byte `place` of a block go, and `more` come there:
+-- its bytes from that one on, and the blocks after it, which end at `end`. The block's header is at
+-- `at`, and `size` is how many bytes it had.
 abbrev pub splice_shifts : ℕ → ℕ → ℕ → ℕ → ℕ → ℕ → List Shift
 splice_shifts at end size place cut more =
     record { from = at + 8 + place; end = at + 8 + size; to = at + 8 + (place - cut + more) }

@@ -19,7 +19,8 @@ pub record HasRoom (mapped : ℕ → Bool) (contents size new : ℕ) : Type 0 wh
   pub old_low : contents + whole_words size ≤ 2 ^ 26
   pub new_low : contents + whole_words new ≤ 2 ^ 26
 
--- The bytes from the old end of a block up to `end` are mapped, and so are those that they move to, from its new end on.
+-- The bytes from the old end of a block up to `end` are mapped, and so are those that they move to,
+-- from its new end on.
 pub record IsRest (mapped : ℕ → Bool) (old_end new_end end : ℕ) : Type 0 where
   pub inside : old_end ≤ end
   pub old : AreMapped mapped old_end (end - old_end)

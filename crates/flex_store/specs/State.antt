@@ -49,7 +49,8 @@ pub record IsAnchorWord (mapped : ℕ → Bool) (start end a : ℕ) : Type 0 whe
   pub low : a < 2 ^ 26
   pub outside : (a + 4 ≤ start) ⊎ (end ≤ a)
 
--- The anchor of each block lies outside the text from its own header on, and no two blocks have the same. The first block's header is at `at`.
+-- The anchor of each block lies outside the text from its own header on, and no two blocks have the
+-- same. The first block's header is at `at`.
 abbrev pub AreAnchorWords : (ℕ → Bool) → ℕ → ℕ → List Block → Type 0
 AreAnchorWords mapped at end [] = Unit {0}
 AreAnchorWords mapped at end (b ∷ bs) =
@@ -79,8 +80,8 @@ pub record IsFlexRange (mapped : ℕ → Bool) (start end : ℕ) : Type 0 where
   pub end_aligned : end % 4 ≡ 0
   pub there : AreMapped mapped start (end - start)
 
--- Memory spells these blocks from the store's start on; their anchors hold the addresses of their bytes; and just the words of their headers and
--- their anchors are marked as such.
+-- Memory spells these blocks from the store's start on; their anchors hold the addresses of their
+-- bytes; and just the words of their headers and their anchors are marked as such.
 pub record IsFlexStore (m : AddressMap) (start end : ℕ) (blocks : List Block) : Type 0 where
   pub range : IsFlexRange (is_mapped m) start end
   pub fits : start + used blocks ≤ end
@@ -121,7 +122,8 @@ IsFlexAt m (Some e) = IsRecordedStore m e
 abbrev pub IsFlex : AddressMap → Flex → Type 0
 IsFlex m f = IsFlexAt m f.extent
 
--- a word that may be a new block's anchor: it lies outside what is behind the other blocks, and in contents of one of them where it lies in the store
+-- a word that may be a new block's anchor: it lies outside what is after the other blocks, and in
+-- contents of one of them where it lies in the store
 pub record IsNewAnchor (m : AddressMap) (e : Extent) (anchor : ℕ) : Type 0 where
   pub word : IsAnchorWord (is_mapped m) (e.start + used (blocks_of m e)) e.end anchor
   pub inside : e.start ≤ anchor → anchor < e.end → is_in_contents e.start (blocks_of m e) anchor ≡ true
@@ -140,7 +142,8 @@ pub record KeepsHeads (m n : AddressMap) : Type 0 where
 abbrev pub IsAllowed : AddressMap → Extent → ℕ → Type 0
 IsAllowed m e a = (has_anchor (blocks_of m e) a ≡ true) ⊎ ((is_anchor_place (store_of m) a ≡ true) ⊎ ((e.start ≤ a) × (a < e.end)))
 
--- What each call on a store keeps. An anchor that comes is a word that may be one, or lies in the store.
+-- What each call on a store keeps. An anchor that comes is a word that may be one, or lies in the
+-- store.
 pub record Keeps (m : AddressMap) (e : Extent) (n : AddressMap) (f : Extent) : Type 0 where
   pub store : IsStoreAt n f
   pub same : layout n ≡ layout m

@@ -1,5 +1,5 @@
--- What memory keeps of the flex store where others change it: a guest, or calls on another store. A guest may write into the blocks, so their contents
--- are what stands there then.
+-- What memory keeps of the flex store where others change it: a guest, or calls on another store. A
+-- guest may write into the blocks, so their contents are what stands there then.
 use Rattle.std.specs.Prelude.{ℕ, ◌≡◌, ◌-◌, Bool, true, Option, Some, None}
 use Rattle.address_map.specs.Bytes.{AreMapped}
 use Rattle.address_map.specs.Memory.{byte_at, is_mapped}
@@ -14,7 +14,8 @@ abbrev pub IsExtentThere : (ℕ → Bool) → Option Extent → Type 0
 IsExtentThere mapped None = Unit {0}
 IsExtentThere mapped (Some e) = AreMapped mapped e.start (e.end - e.start)
 
--- The bytes of anchors and of headers stay, and just these bytes are marked so still; they and the store's range are mapped, and its record stays.
+-- The bytes of anchors and of headers stay, and just these bytes are marked so still; they and the
+-- store's range are mapped, and its record stays.
 pub record StaysFlex (m n : AddressMap) (f : Flex) : Type 0 where
   pub bytes : (a : ℕ) → is_flex_word (store_of m) a ≡ true → byte_at n a ≡ byte_at m a
   pub anchors : (a : ℕ) → (store_of n).anchor a ≡ (store_of m).anchor a

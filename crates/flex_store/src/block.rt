@@ -1,3 +1,5 @@
+//! The flex calls on one block: claimed, measured, cut, grown, changed in its midst, released.
+
 ghost use Rattle.std.specs.Prelude.{◌≡◌, ◌≤◌, ◌<◌, ◌+◌, ◌%◌, ◌==◌, ◌&&◌, not, ◌∷◌, [], false, None, MatchOption};
 ghost use Rattle.std.specs.List.{list_any};
 ghost use Rattle.profile.specs.Outcome.{Gives};
@@ -266,7 +268,7 @@ fn is_met(at: u32, start: u32, len: u32) -> bool
     len > 0 && u64::from(at) < end && u64::from(start) < u64::from(at) + 4
 }
 
-/// Makes a block of `size` zeros behind all others, where the store has room for it.
+/// Makes a block of `size` zeros after all others, where the store has room for it.
 fn append_block(map: &mut AddressMap, extent: &mut Extent, anchor: u32, size: u32) -> bool
     requires store { IsStoreAt map.old extent.old }
     requires place { IsNewAnchor map.old extent.old anchor }

@@ -1,3 +1,5 @@
+//! The blocks of the flex store in order of address, one after another.
+
 ghost use Rattle.std.specs.Prelude.{◌≡◌, List};
 ghost use Rattle.std.specs.Iterator.{YieldsFirst, item_count};
 ghost use Rattle.address_map.specs.Memory.{byte_at, bytes_of};
@@ -11,7 +13,8 @@ use crate::walk::{HEADER, SIZE, taken, word};
 use address_map::AddressMap;
 use std::marker::Model;
 
-/// A block of the flex store: the address of its anchor, that of its bytes, and how many of these are its guest's own.
+/// A block of the flex store: the address of its anchor, that of its bytes, and how many of these
+/// are its guest's own.
 #[derive(Clone, Copy, Debug, PartialEq, Eq)]
 pub struct FlexBlock {
     pub anchor: u32,

@@ -1,3 +1,5 @@
+//! The flex store of a machine: where it lies, and the calls on it.
+
 ghost use Rattle.std.specs.Prelude.{ℕ, ◌≡◌, ◌⊎◌, ◌<◌, ◌++◌, ◌∷◌, [], true, false, Some, None, MatchOption, MatchResult, length};
 ghost use Rattle.profile.specs.Outcome.{Gives};
 ghost use Rattle.os_heap.specs.Store.{AreClasses, is_in_flex_store, IsSound, store_of};
@@ -18,7 +20,8 @@ pub(crate) struct Extent {
     pub(crate) used: u32,
 }
 
-/// The flex store of a machine, none before `init`. Its blocks stand in memory alone, each behind a header.
+/// The flex store of a machine, none before `init`. Its blocks stand in memory alone, each after
+/// its header.
 #[derive(Clone, Copy, Debug, Default)]
 pub struct Flex {
     pub(crate) extent: Option<Extent>,
@@ -32,7 +35,8 @@ impl Flex {
         Flex { extent: None }
     }
 
-    /// Where the store starts and ends, and how many bytes its blocks take up, in bytes; `None` before `init`.
+    /// Where the store starts and ends, and how many bytes its blocks take up, in bytes; `None`
+    /// before `init`.
     pub fn range(&self) -> Option<(u32, u32, u32)>
         ensures { MatchOption result (self.now.extent ≡ None)
             (λ r. self.now.extent ≡ Some (record { start = r.0; end = r.1; used = r.2 })) }
@@ -63,8 +67,9 @@ impl Flex {
     ///
     /// # Errors
     ///
-    /// The first of these, and nothing is changed then: `FlexAlready` where there is a store; `FlexBadRange` where the addresses are no multiples of
-    /// 4, the start is not below the end, or not all of the range is mapped or it meets a recorded range.
+    /// The first of these, and nothing is changed then: `FlexAlready` where there is a store;
+    /// `FlexBadRange` where the addresses are no multiples of 4, the start is not below the end, or
+    /// not all of the range is mapped or it meets a recorded range.
     ///
     /// Acorn C manual, "flex", flex_init; that the caller names the range is this project's own.
     #[tactic(auto, unfolding(crate::specs::State::state_of, crate::specs::Calls::begun))]
@@ -100,14 +105,15 @@ impl Flex {
         Ok(())
     }
 
-    /// Makes a block of `size` zeros behind all others, and writes the address of its bytes to the anchor. The answer is false, and nothing is changed,
-    /// where the store has no room for it.
+    /// Makes a block of `size` zeros after all others, and writes the address of its bytes to the
+    /// anchor. The answer is false, and nothing is changed, where the store has no room for it.
     ///
     /// # Errors
     ///
-    /// The first of these, and nothing is changed then: `FlexNotReady` before `init`; `FlexBadAnchor` where the anchor is no multiple of 4, not mapped,
-    /// in the store but not among the bytes of one block, in a system page or in a module image, or inside a heap but not among the bytes that a live
-    /// block holds; `FlexAnchorInUse` where a block has it.
+    /// The first of these, and nothing is changed then: `FlexNotReady` before `init`;
+    /// `FlexBadAnchor` where the anchor is no multiple of 4, not mapped, in the store but not among
+    /// the bytes of one block, in a system page or in a module image, or inside a heap but not
+    /// among the bytes that a live block holds; `FlexAnchorInUse` where a block has it.
     ///
     /// Acorn C manual, "flex", flex_alloc.
     #[tactic(auto, unfolding(crate::specs::State::state_of, crate::specs::Calls::allocated), using(crate::proofs::Keeping::keeping))]
@@ -139,13 +145,13 @@ impl Flex {
         answer
     }
 
-    /// Takes an anchor's block away, and makes its anchor 0. The blocks behind it slide down, their anchors follow, and anchors that lie in them slide
-    /// with them.
+    /// Takes an anchor's block away, and makes its anchor 0. The blocks after it slide down, their
+    /// anchors follow, and anchors that lie in them slide with them.
     ///
     /// # Errors
     ///
-    /// `FlexNotReady` before `init`; `FlexBadAnchor` where no block has the anchor; `FlexHoldsAnchor` where one of its bytes is an anchor's. Nothing is
-    /// changed then.
+    /// `FlexNotReady` before `init`; `FlexBadAnchor` where no block has the anchor;
+    /// `FlexHoldsAnchor` where one of its bytes is an anchor's. Nothing is changed then.
     ///
     /// Acorn C manual, "flex", flex_free.
     #[tactic(auto, unfolding(crate::specs::State::state_of, crate::specs::Calls::released), using(crate::proofs::Keeping::keeping))]
@@ -172,13 +178,15 @@ impl Flex {
         answer
     }
 
-    /// Gives an anchor's block another size: bytes at its end go, or zeros come there. The answer is false, and nothing is changed, where the store has
-    /// no room for it. A block whose size stays is as it was, with the bytes that fill it up to whole words.
+    /// Gives an anchor's block another size: bytes at its end go, or zeros come there. The answer
+    /// is false, and nothing is changed, where the store has no room for it. A block whose size
+    /// stays is as it was, with the bytes that fill it up to whole words.
     ///
     /// # Errors
     ///
-    /// `FlexNotReady` before `init`; `FlexBadAnchor` where no block has the anchor; `FlexHoldsAnchor` where a byte that is to go is an anchor's, whether
-    /// there is room or not. Nothing is changed then.
+    /// `FlexNotReady` before `init`; `FlexBadAnchor` where no block has the anchor;
+    /// `FlexHoldsAnchor` where a byte that is to go is an anchor's, whether there is room or not.
+    /// Nothing is changed then.
     ///
     /// Acorn C manual, "flex", flex_extend.
     #[tactic(auto, unfolding(crate::specs::State::state_of, crate::specs::Calls::extended), using(crate::proofs::Keeping::keeping))]
@@ -210,14 +218,18 @@ impl Flex {
         answer
     }
 
-    /// Puts `by` zeros into an anchor's block before its byte `at`, or takes as many bytes before that one away where `by`, a signed word in two's
-    /// complement, is below 0. The answer is false, and nothing is changed, where the store has no room for it; a `by` of 0 changes nothing.
+    /// Puts `by` zeros into an anchor's block before its byte `at`, or takes as many bytes before
+    /// that one away where `by`, a signed word in two's complement, is below 0. The answer is
+    /// false, and nothing is changed, where the store has no room for it; a `by` of 0 changes
+    /// nothing.
     ///
     /// # Errors
     ///
-    /// The first of these, and nothing is changed then: `FlexNotReady` before `init`; `FlexBadRange` where more bytes would go than stand before
-    /// `at`; `FlexBadAnchor` where no block has the anchor; `FlexBadRange` where `at` is past the block's size; `FlexHoldsAnchor` where a byte that is to
-    /// go is an anchor's, where zeros would come inside one, or where one would move by other than whole words, whether there is room or not.
+    /// The first of these, and nothing is changed then: `FlexNotReady` before `init`;
+    /// `FlexBadRange` where more bytes would go than stand before `at`; `FlexBadAnchor` where no
+    /// block has the anchor; `FlexBadRange` where `at` is past the block's size; `FlexHoldsAnchor`
+    /// where a byte that is to go is an anchor's, where zeros would come inside one, or where one
+    /// would move by other than whole words, whether there is room or not.
     ///
     /// Acorn C manual, "flex", flex_midextend.
     #[tactic(auto, unfolding(crate::specs::State::state_of, crate::specs::Calls::mid_extended), using(crate::proofs::Keeping::keeping))]
@@ -251,7 +263,8 @@ impl Flex {
     }
 }
 
-/// Whether the flex store may be made of a range: of whole words, mapped, and meeting no heap and no other recorded range.
+/// Whether the flex store may be made of a range: of whole words, mapped, and meeting no heap and
+/// no other recorded range.
 #[tactic(auto, unfolding(crate::specs::Calls::is_flex_range))]
 fn is_flex_range(map: &AddressMap, start: u32, end: u32) -> bool
     ensures { result ≡ is_flex_range (store_of map.now) start end }

@@ -1,4 +1,5 @@
-//! The flex store: blocks that slide to fill its gaps, each behind an anchor that follows it.
+//! The flex store, for the flex calls: blocks that slide to fill its gaps, each with an anchor that
+//! follows.
 #![tactic(auto)]
 
 mod block;

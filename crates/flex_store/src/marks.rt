@@ -1,3 +1,6 @@
+//! Marks on the words of a block's header and on its anchor, which no store instruction may write
+//! then.
+
 ghost use Rattle.std.specs.Prelude.{ℕ, ◌≡◌, ◌+◌, ◌%◌, ◌<◌, ◌^◌, true};
 ghost use Rattle.address_map.specs.declared.class.Class.TheVariants.{Anchor, FlexHeader, Plain};
 ghost use Rattle.address_map.specs.Memory.{byte_at, class_of, is_mapped, layout};

@@ -1,3 +1,5 @@
+//! Ranges of bytes that move, and where a word among them goes.
+
 ghost use Rattle.std.specs.Prelude.{◌≡◌, ◌≤◌, ◌+◌, ◌^◌};
 ghost use Rattle.flex_store.specs.Blocks.{taken};
 ghost use Rattle.flex_store.specs.Shifts.{AreShort, gone_to, splice_shifts};
@@ -27,7 +29,8 @@ pub(crate) fn gone_to(shifts: &[Shift], at: u32) -> u32
     at
 }
 
-/// What moves where a block's bytes change: its own behind the change, and the blocks behind it, up to `end`.
+/// What moves where a block's bytes change: its own after the change, and the blocks after it, up
+/// to `end`.
 pub(crate) fn splice_shifts(header: u32, size: u32, splice: &Splice, end: u32) -> [Shift; 2]
     requires splice { IsSplice splice.now size }
     requires old { header + taken size ≤ 2 ^ 26 }

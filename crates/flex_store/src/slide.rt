@@ -1,3 +1,5 @@
+//! Blocks that slide as one before them is changed, appended or removed.
+
 ghost use Rattle.std.specs.Prelude.{ℕ, ◌≡◌, ◌≤◌, ◌<◌, ◌+◌, ◌-◌, ◌%◌, ◌^◌, ◌++◌, [], ◌∷◌, true};
 ghost use Rattle.address_map.specs.Bytes.{AreMapped, bytes_between, with_bytes_at};
 ghost use Rattle.address_map.specs.Memory.{byte_at, bytes_of, class_of, is_mapped, layout};
@@ -11,7 +13,7 @@ use crate::splice::{Splice, splice_bytes};
 use crate::walk::{HEADER, SIZE, settle, taken, unmark, whole_words, word};
 use address_map::AddressMap;
 
-/// Changes a block's bytes, and moves those behind it, up to `end`, to where the block then ends.
+/// Changes a block's bytes, and moves those after it, up to `end`, to where the block then ends.
 fn respace(map: &mut AddressMap, contents: u32, size: u32, splice: &Splice, end: u32)
     requires splice { IsSplice splice.now size }
     requires room { HasRoom (is_mapped map.old) contents size (size_after splice.now size) }
@@ -35,7 +37,8 @@ fn respace(map: &mut AddressMap, contents: u32, size: u32, splice: &Splice, end:
     splice_bytes(map, contents, size, splice);
 }
 
-/// Changes the bytes of the block whose header is at `header`. Those behind it, up to `end`, slide, and the anchors that lie in what moves with them.
+/// Changes the bytes of the block whose header is at `header`. Those after it, up to `end`, slide,
+/// and the anchors that lie in what moves with them.
 pub(crate) fn replace(map: &mut AddressMap, header: u32, splice: &Splice, end: u32)
     requires text { IsText (bytes_of map.old) header end (first_at map.old header ∷ behind map.old header end) }
     requires words { AreAnchorWords (is_mapped map.old) header end (first_at map.old header ∷ behind map.old header end) }
@@ -55,7 +58,8 @@ pub(crate) fn replace(map: &mut AddressMap, header: u32, splice: &Splice, end: u
     settle(map, header, new_next + (end - next), &shifts);
 }
 
-/// Takes the block whose header is at `header` out of the text. Those behind it, up to `end`, slide, and the anchors that lie in them with them.
+/// Takes the block whose header is at `header` out of the text. Those after it, up to `end`, slide,
+/// and the anchors that lie in them with them.
 pub(crate) fn remove(map: &mut AddressMap, header: u32, end: u32)
     requires text { IsText (bytes_of map.old) header end (first_at map.old header ∷ behind map.old header end) }
     requires words { AreAnchorWords (is_mapped map.old) header end (first_at map.old header ∷ behind map.old header end) }
@@ -75,7 +79,7 @@ pub(crate) fn remove(map: &mut AddressMap, header: u32, end: u32)
     settle(map, header, header + (end - next), &[shift]);
 }
 
-/// Makes a block of `size` zeros at `header`, behind all others.
+/// Makes a block of `size` zeros at `header`, after all others.
 pub(crate) fn append(map: &mut AddressMap, header: u32, anchor: u32, size: u32)
     requires aligned { header % 4 ≡ 0 }
     requires room { MayLie map.old header (new_block anchor size ∷ []) }

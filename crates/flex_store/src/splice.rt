@@ -1,3 +1,5 @@
+//! A change in a block's bytes, and whether it would break an anchor that lies there.
+
 ghost use Rattle.std.specs.Prelude.{ℕ, ◌≡◌, ◌≤◌, ◌<◌, ◌+◌, ◌-◌, ◌^◌, ◌++◌, ◌∷◌, true};
 ghost use Rattle.address_map.specs.Bytes.{AreMapped, bytes_between, with_bytes_at};
 ghost use Rattle.address_map.specs.Memory.{anchor_of, byte_at, class_of, is_mapped, layout};
@@ -8,7 +10,8 @@ ghost use Rattle.flex_store.specs.Splices.{size_after, IsSplice, HasRoom};
 use crate::walk::{HEADER, taken, whole_words};
 use address_map::AddressMap;
 
-/// A change of a block's bytes: the `cut` bytes before `at` go, and `more` zeros come in their place.
+/// A change of a block's bytes: the `cut` bytes before `at` go, and `more` zeros come in their
+/// place.
 #[derive(Clone, Copy)]
 pub(crate) struct Splice {
     pub(crate) at: u32,
@@ -25,8 +28,8 @@ impl Splice {
         u64::from(self.at - self.cut) + u64::from(self.more) + u64::from(size - self.at)
     }
 
-    /// Whether it would take a byte of an anchor away, put bytes inside one, or move one by other than whole words. The block's bytes, of which there
-    /// are `size`, begin at `contents`.
+    /// Whether it would take a byte of an anchor away, put bytes inside one, or move one by other
+    /// than whole words. The block's bytes, of which there are `size`, begin at `contents`.
     pub(crate) fn breaks_anchor(&self, map: &AddressMap, contents: u32, size: u32) -> bool
         requires splice { IsSplice self.now size }
         requires low { contents + size ≤ 2 ^ 26 }
@@ -43,7 +46,8 @@ impl Splice {
     }
 }
 
-/// Changes a block's bytes, of which there are `size`. Those that fill it up to whole words become zero.
+/// Changes a block's bytes, of which there are `size`. Those that fill it up to whole words become
+/// zero.
 pub(crate) fn splice_bytes(map: &mut AddressMap, contents: u32, size: u32, splice: &Splice)
     requires splice { IsSplice splice.now size }
     requires room { HasRoom (is_mapped map.old) contents size (size_after splice.now size) }

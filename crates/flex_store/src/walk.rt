@@ -1,3 +1,6 @@
+//! The walk over the headers of the flex store, which finds words among blocks and settles anchors
+//! after a slide.
+
 ghost use Rattle.std.specs.Prelude.{ℕ, ◌≡◌, ◌≤◌, ◌<◌, ◌+◌, ◌%◌, ◌^◌, ◌&&◌, nat_le, true};
 ghost use Rattle.address_map.specs.Bytes.{word_at};
 ghost use Rattle.address_map.specs.Memory.{byte_at, bytes_of, class_of, is_mapped, layout};
@@ -62,8 +65,9 @@ pub(crate) fn unmark(map: &mut AddressMap, at: u32, end: u32)
     }
 }
 
-/// Settles all blocks from `at` up to `end`, whose anchors went where these shifts say: it names each anchor in its block's header anew, marks it and
-/// the header, and writes the address of the block's bytes to it.
+/// Settles all blocks from `at` up to `end`, whose anchors went where these shifts say: it names
+/// each anchor in its block's header anew, marks it and the header, and writes the address of the
+/// block's bytes to it.
 pub(crate) fn settle(map: &mut AddressMap, at: u32, end: u32, shifts: &[Shift])
     requires text { IsText (bytes_of map.old) at end (blocks_in (byte_at map.old) at end) }
     requires words { AreAnchorWords (is_mapped map.old) at end
@@ -87,7 +91,8 @@ pub(crate) fn settle(map: &mut AddressMap, at: u32, end: u32, shifts: &[Shift])
     }
 }
 
-/// Whether a word lies among the bytes that one of the blocks from `at` up to `end` has for its guest.
+/// Whether a word lies among the bytes that one of the blocks from `at` up to `end` has for its
+/// guest.
 pub(crate) fn is_in_contents(map: &AddressMap, at: u32, end: u32, place: u32) -> bool
     requires { IsText (bytes_of map.now) at end (blocks_in (byte_at map.now) at end) }
     ensures { result ≡ is_in_contents at (blocks_in (byte_at map.now) at end) place }

@@ -1,4 +1,5 @@
--- What a call on a heap that is done leaves: the store as it was, or the heap with another list, or with another end.
+-- What a call on a heap that is done leaves: the store as it was, or the heap with another list, or
+-- with another end.
 use Rattle.std.proofs.Common.{ℕ, ◌≡◌, ◌+◌, ◌-◌, ◌%◌, ◌≤◌, ◌<◌, ◌==◌, ◌&&◌, ◌∙◌, Bool, true, false, List, Option, Some, None, ok_or, Result, Ok, Err, refl, sym, subst, inl, inr, arith, if◌then◌else◌}
 use Rattle.std.proofs.lemmas.Bool.{cases_Bool, false≢true, leb-false}
 use Rattle.std.specs.Prelude.{nat_le, nat_lt}
@@ -68,8 +69,9 @@ pub record Leave (P : Store → Type 0) (s : Store) (k : HeapList) : Type 0 wher
       → P (holding (forgot (moved_to s k c block old) block total block) (with_list k c.items) items)
   pub ended : (end : ℕ) → overgrows s k end ≡ false → P (ending s k end)
 
--- The same, by the bytes that the call frees: for a reason that frees none, the store as it was, or the heap with another list or end; for one that
--- frees those of the block from an address on, what is left then, or the block moved, which gets more bytes than it had.
+-- The same, by the bytes that the call frees: for a reason that frees none, the store as it was, or
+-- the heap with another list or end; for one that frees those of the block from an address on, what
+-- is left then, or the block moved, which gets more bytes than it had.
 abbrev pub FreesNone : HeapReason → ℕ → ℕ → Type 0
 FreesNone why block size = (total : ℕ) → freed_from why block total size ≡ None
 

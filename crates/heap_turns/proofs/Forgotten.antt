@@ -1,4 +1,5 @@
--- The heaps that a call forgets are those of which it frees a byte, and those in them; and it changes no byte of these.
+-- The heaps that a call forgets are those of which it frees a byte, and those in them; and it
+-- changes no byte of these.
 use Rattle.std.proofs.Common.{ℕ, ◌≡◌, ◌+◌, ◌-◌, ◌≤◌, ◌<◌, ◌↔◌, ◌∙◌, true, false, List, [], ◌∷◌, ◌==◌, nat_le, Option, Some, None, is_some, Ok, refl, sym, ap, subst, inl, inr, arith}
 use Rattle.std.proofs.lemmas.Bool.{both_ways, cases_Bool, cases_eq, leb-false}
 use Rattle.profile.specs.declared.reason.HeapReason.{HeapReason}
@@ -239,7 +240,8 @@ recorded_still s t k heap why block size answer sound found is still =
     by_found s t k (find_heap k.start t.heaps) still
     (λ none. forgotten_lies s k heap why block size sound found ((calls_forget s t k heap why block size answer sound found is).0 none))
 
--- The bytes that a call leaves which frees some of a block and moves none: those of no word of the new list.
+-- The bytes that a call leaves which frees some of a block and moves none: those of no word of the
+-- new list.
 pub left_bytes : (v : Store) (o g : HeapList) (items : List Item) (a : ℕ) → find_heap o.start v.heaps ≡ Some o
     → (let t : Store = holding v o items in
     IsSound t → find_heap o.start t.heaps ≡ Some g → is_heap_word o.start g.items (word_start a) ≡ false → t.bytes.at a ≡ v.bytes.at a)

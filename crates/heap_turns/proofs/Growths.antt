@@ -50,7 +50,8 @@ module _ (s : Store) (h : HeapList) (sound : IsSound s) (found : find_heap h.sta
   there : IsHeapIn s.bytes h.start h.end h.items
   there = found_heap s.bytes h.start s.heaps h sound.heaps found
 
-  -- a heap that lies round it has its first byte, and one that has it, and starts before, lies round it
+  -- a heap that lies round it has its first byte, and one that has it, and starts before, lies
+  -- round it
   within_before : (k : HeapList) → find_heap k.start s.heaps ≡ Some k → IsWithin k h → has_before h.start k ≡ true
   within_before k found' w =
       let heap : IsHeapIn s.bytes k.start k.end k.items = found_heap s.bytes k.start s.heaps k sound.heaps found' in

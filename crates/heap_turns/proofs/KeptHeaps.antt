@@ -1,4 +1,5 @@
--- A guest's heap after calls on others: its list, bytes and anchors are kept, where it is not forgotten.
+-- A guest's heap after calls on others: its list, bytes and anchors are kept, where it is not
+-- forgotten.
 use Rattle.std.proofs.Common.{ℕ, ◌≡◌, ◌≢◌, ◌+◌, ◌-◌, ◌%◌, ◌≤◌, ◌<◌, ◌==◌, ◌&&◌, ◌⊎◌, ◌∙◌, Bool, true, false, List, [], ◌∷◌, ◌++◌, None, Some, is_some, Ok, refl, sym, ap, subst, inl, inr, arith}
 use Rattle.std.proofs.lemmas.Bool.{both_ways, cases_Bool, eq-eqb, eqb-true, false_from_ne_true, false≢true, le-leb, lt-ltb, ne_eqb}
 use Rattle.profile.specs.declared.reason.HeapReason.{HeapReason}
@@ -30,7 +31,8 @@ use Rattle.heap_turns.specs.Laws.{IsNotForgotten, KeepsHeap, starts_inside}
 use Rattle.heap_turns.specs.Lists.{is_call_to, is_on_heap}
 use Rattle.heap_turns.specs.Turns.{call_on}
 
--- A byte beside a heap, out of its range or in what a block of it holds, is none of the words that it spells.
+-- A byte beside a heap, out of its range or in what a block of it holds, is none of the words that
+-- it spells.
 pub record IsHeld (start : ℕ) (items : List Item) (a : ℕ) : Type 0 where
   pub block : ℕ
   pub total : ℕ
@@ -111,7 +113,8 @@ found_more p (k ∷ hs) h g found = elim (cases_Bool (k.start == p)) [
   | inr away ↦ rw away (found_more p hs h g (rw away at found))
 ]
 
--- A heap, and another that does not lie in it: no byte of the first is in a word that the other spells.
+-- A heap, and another that does not lie in it: no byte of the first is in a word that the other
+-- spells.
 record AreTwo (s : Store) (h k : HeapList) : Type 0 where
   heap : IsHeapIn s.bytes k.start k.end k.items
   beside : (a : ℕ) → in_range h.start h.end a ≡ true → IsBeside k k.items a
@@ -158,7 +161,8 @@ are_two s h k called =
       ];
     }
 
--- Other heaps may be forgotten before: where the heap is found then, it is the same, and no byte was changed.
+-- Other heaps may be forgotten before: where the heap is found then, it is the same, and no byte
+-- was changed.
 held_kept : (s v : Store) (h k : HeapList) (items : List Item) → find_heap h.start v.heaps ≡ Some h → find_heap k.start v.heaps ≡ Some k → h.start ≢ k.start
     → starts_inside h k.start ≡ false → v.bytes ≡ s.bytes → v.anchor ≡ s.anchor → IsSound (holding v k items) → KeepsHeap h s (holding v k items)
 held_kept s v h k items one two apart outside same same' sound =

@@ -1,4 +1,5 @@
--- Where the bytes of a heap's range are the same in two memories, they are the same after its words are written in both.
+-- Where the bytes of a heap's range are the same in two memories, they are the same after its words
+-- are written in both.
 use Rattle.std.proofs.Common.{ℕ, ◌≡◌, ◌+◌, ◌-◌, ◌∙◌, true, List, [], ◌∷◌, Some, Result, Ok, Err, refl, sym, ap, subst, inl, inr}
 use Rattle.std.proofs.lemmas.Bool.{cases_Bool}
 use Rattle.profile.specs.Outcome.{bind}

@@ -1,4 +1,5 @@
--- A guest's heap after a call on it: it is a guest's still, without an anchor and without a heap in it.
+-- A guest's heap after a call on it: it is a guest's still, without an anchor and without a heap in
+-- it.
 use Rattle.std.proofs.Common.{ℕ, ◌≡◌, ◌+◌, ◌-◌, ◌≤◌, ◌<◌, ◌∙◌, true, false, List, refl, sym, subst, inl, inr, arith}
 use Rattle.std.specs.List.{list_any}
 use Rattle.address_map.proofs.Anchors.{none_among}

@@ -1,4 +1,5 @@
--- Where a call on another heap, or one that makes a heap, leaves a heap whole, that other one does not lie in it, so that it is as it was.
+-- Where a call on another heap, or one that makes a heap, leaves a heap whole, that other one does
+-- not lie in it, so that it is as it was.
 use Rattle.std.proofs.Common.{ℕ, ◌≡◌, ◌≢◌, ◌+◌, ◌-◌, ◌≤◌, ◌<◌, ◌∙◌, true, false, [], Some, Ok, refl, sym, ap, subst, inl, inr, arith}
 use Rattle.std.proofs.lemmas.Bool.{both_ways, cases_Bool, false_from_ne_true, le-leb, lt-ltb}
 use Rattle.profile.specs.declared.reason.HeapReason.{HeapReason}

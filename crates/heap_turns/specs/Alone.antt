@@ -1,5 +1,6 @@
--- A heap by itself: its list and the bytes of its range, and what a call on it is given (RISC OS 3 Programmer's Reference Manual, "OS_Heap", reasons
--- 1 to 6; that these calls depend on nothing else is this project's own).
+-- A heap by itself: its list and the bytes of its range, and what a call on it is given (RISC OS 3
+-- Programmer's Reference Manual, "OS_Heap", reasons 1 to 6; that these calls depend on nothing else
+-- is this project's own).
 use Rattle.std.specs.Prelude.{ℕ, ◌+◌, ◌-◌, Bool, nat_lt, Option, Some, None, if◌then◌else◌}
 use Rattle.profile.specs.declared.reason.HeapReason.{HeapReason}
 use Rattle.profile.specs.declared.reason.HeapReason.TheVariants as reason
@@ -21,8 +22,9 @@ pub record Alone : Type 0 where
 abbrev pub alone_in : Store → HeapList → Alone
 alone_in s h = record { heap = h; bytes = bytes_in h.start h.end s.bytes.at }
 
--- What is given for a growth: whether all added bytes are mapped, whether the heap may not grow by them, and what they are. It may not where they
--- meet another recorded range, an anchor or a heap that it does not lie in, nor where a heap that it lies in does not hold them in the same block.
+-- What is given for a growth: whether all added bytes are mapped, whether the heap may not grow by
+-- them, and what they are. It may not where they meet another recorded range, an anchor or a heap
+-- that it does not lie in, nor where a heap that it lies in does not hold them in the same block.
 pub record Growth : Type 0 where
   pub mapped : Bool
   pub meets : Bool
@@ -35,7 +37,8 @@ growth_to s h end = record {
   bytes = bytes_in (h.start + h.end) (end - h.end) s.bytes.at;
 }
 
--- A call on a heap: its reason, a block in R2, a size or a change of one in R3, and what is given for a growth, if it is one.
+-- A call on a heap: its reason, a block in R2, a size or a change of one in R3, and what is given
+-- for a growth, if it is one.
 pub record HeapCall : Type 0 where
   pub reason : HeapReason
   pub block : ℕ

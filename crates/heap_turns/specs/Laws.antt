@@ -16,7 +16,8 @@ use Rattle.heap_turns.specs.Turns.{call_on, left_by, replied, replies, turned}
 abbrev pub HasNoAnchor : Store → HeapList → Type 0
 HasNoAnchor s h = (a : ℕ) → in_range h.start h.end a ≡ true → s.anchor a ≡ false
 
--- Does an address lie in a heap's range, behind its descriptor? Where a heap starts there, it lies in a block of this one.
+-- Does an address lie in a heap's range, after its descriptor? Where a heap starts there, it lies
+-- in a block of this one.
 abbrev pub starts_inside : HeapList → ℕ → Bool
 starts_inside h at = in_range (h.start + 16) (h.end - 16) at
 
@@ -29,7 +30,8 @@ abbrev pub AreImagesFull : List Region → Type 0
 AreImagesFull [] = Unit {0}
 AreImagesFull (r ∷ rs) = (is_image r.kind ≡ true → 0 < r.len) × AreImagesFull rs
 
--- a heap that a guest made, with no anchor in its range and no heap in it, in a store as machines have it
+-- a heap that a guest made, with no anchor in its range and no heap in it, in a store as machines
+-- have it
 pub record IsGuestHeap (s : Store) (h : HeapList) : Type 0 where
   pub sound : IsSound s
   pub found : find_heap h.start s.heaps ≡ Some h
@@ -38,7 +40,8 @@ pub record IsGuestHeap (s : Store) (h : HeapList) : Type 0 where
   pub alone : HoldsNoHeap s h
   pub images : AreImagesFull s.others
 
--- A call on the heap: the reply is that of one turn of the heap alone, and the heap is what that turn leaves.
+-- A call on the heap: the reply is that of one turn of the heap alone, and the heap is what that
+-- turn leaves.
 abbrev pub OwnCallsAreTurns : Type 0
 OwnCallsAreTurns =
     (s : Store) (h : HeapList) (why : HeapReason) (block size : ℕ) → IsGuestHeap s h → is_on_heap why ≡ true
@@ -75,8 +78,9 @@ pub record KeepsHeap (h : HeapList) (s t : Store) : Type 0 where
   pub bytes : (a : ℕ) → in_range h.start h.end a ≡ true → t.bytes.at a ≡ s.bytes.at a
   pub anchors : (a : ℕ) → in_range h.start h.end a ≡ true → t.anchor a ≡ s.anchor a
 
--- So it is after each other call that is done, on another heap or one that makes a heap, where that one does not lie in this one. Only where this one
--- lies in a block can it be forgotten instead. A call on a heap round it changes none of its bytes.
+-- So it is after each other call that is done, on another heap or one that makes a heap, where that
+-- one does not lie in this one. Only where this one lies in a block can it be forgotten instead. A
+-- call on a heap round it changes none of its bytes.
 abbrev pub OtherCallsKeepHeap : Type 0
 OtherCallsKeepHeap =
     (s t : Store) (h : HeapList) (heap : ℕ) (why : HeapReason) (block size : ℕ) (answer : ℕ × ℕ) → IsSound s → IsSound t
@@ -87,24 +91,28 @@ OtherCallsKeepHeap =
 abbrev pub IsLeftWhole : Store → ℕ → Type 0
 IsLeftWhole t start = OfHeap (HoldsNoHeap t) (find_heap start t.heaps)
 
--- So each call of a list leaves it that is on another heap, or makes a heap: none forgets it, and none makes a heap in it.
+-- So each call of a list leaves it that is on another heap, or makes a heap: none forgets it, and
+-- none makes a heap in it.
 abbrev pub AreLeftWhole : Store → ℕ → List StoreCall → Type 0
 AreLeftWhole s start [] = Unit {0}
 AreLeftWhole s start (c ∷ cs) = (is_call_to start c.heap c.why ≡ false → IsLeftWhole (after s c) start) × AreLeftWhole (after s c) start cs
 
--- A list of calls on a heap and on others: the replies of those on it are those of a list of turns of the heap alone, which is then what these leave.
+-- A list of calls on a heap and on others: the replies of those on it are those of a list of turns
+-- of the heap alone, which is then what these leave.
 pub record StandsAlone (s : Store) (start : ℕ) (w : Alone) (cs : List StoreCall) : Type 0 where
   pub replies : replies_on s start cs ≡ replies w (calls_on s start cs)
   pub still : HasHeapStill (after_all s cs) start
   pub now : alone_in (after_all s cs) still.heap ≡ left_by w (calls_on s start cs)
 
--- It is so where each store between is sound, and each call that is not on the heap leaves it whole.
+-- It is so where each store between is sound, and each call that is not on the heap leaves it
+-- whole.
 abbrev pub HeapsStandAlone : Type 0
 HeapsStandAlone =
     (s : Store) (h : HeapList) (cs : List StoreCall) → IsGuestHeap s h → AreSound s cs → AreLeftWhole s h.start cs
     → StandsAlone s h.start (alone_in s h) cs
 
--- So in two stores where the heap alone is the same, two lists of calls that give it the same have the same replies, and leave the same heap.
+-- So in two stores where the heap alone is the same, two lists of calls that give it the same have
+-- the same replies, and leave the same heap.
 pub record AnswerAlike (s t : Store) (start : ℕ) (cs ds : List StoreCall) : Type 0 where
   pub replies : replies_on s start cs ≡ replies_on t start ds
   pub one : HasHeapStill (after_all s cs) start

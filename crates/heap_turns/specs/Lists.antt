@@ -1,4 +1,5 @@
--- Calls of OS_Heap one after another, on any heaps of a store: what they leave, and what those on one heap are given and answer.
+-- Calls of OS_Heap one after another, on any heaps of a store: what they leave, and what those on
+-- one heap are given and answer.
 use Rattle.std.specs.Prelude.{ℕ, ◌==◌, ◌&&◌, Bool, true, false, Option, Some, None, Result, Ok, Err, List, [], ◌∷◌, ◌++◌, if◌then◌else◌}
 use Rattle.profile.specs.declared.error.ErrorNumber.{ErrorNumber}
 use Rattle.profile.specs.declared.reason.HeapReason.{HeapReason}
@@ -35,7 +36,8 @@ abbrev pub AreSound : Store → List StoreCall → Type 0
 AreSound s [] = Unit {0}
 AreSound s (c ∷ cs) = IsSound (after s c) × AreSound (after s c) cs
 
--- Is it a call on a heap that is there? All are but the one that makes a heap. And is it one on the heap at `start`?
+-- Is it a call on a heap that is there? All are but the one that makes a heap. And is it one on the
+-- heap at `start`?
 abbrev pub is_on_heap : HeapReason → Bool
 is_on_heap reason.Initialise = false
 is_on_heap other = true
@@ -43,7 +45,8 @@ is_on_heap other = true
 abbrev pub is_call_to : ℕ → ℕ → HeapReason → Bool
 is_call_to start heap why = is_on_heap why && heap == start
 
--- The calls on the heap that starts at an address, each with what it is given in the store in which it is made.
+-- The calls on the heap that starts at an address, each with what it is given in the store in which
+-- it is made.
 abbrev pub given_in : Store → StoreCall → Option HeapList → List HeapCall
 given_in s c None = []
 given_in s c (Some h) = call_given s h c.why c.block c.size ∷ []

@@ -1,4 +1,5 @@
--- A list of calls on a heap by itself, in turns. A turn is the call as it stands in a store that has this heap and nothing else.
+-- A list of calls on a heap by itself, in turns. A turn is the call as it stands in a store that
+-- has this heap and nothing else.
 use Rattle.std.specs.Prelude.{ℕ, ◌+◌, Bool, true, false, ◌||◌, Option, Some, None, Result, Ok, Err, List, [], ◌∷◌, if◌then◌else◌}
 use Rattle.profile.specs.ErrorNames.{error_code}
 use Rattle.profile.specs.Outcome.{bind}
@@ -13,7 +14,8 @@ use Rattle.os_heap.specs.Calls.{begun, block_sized, changed, described, gave_bac
 use Rattle.os_heap.specs.Store.{Store, find_heap}
 use Rattle.heap_turns.specs.Alone.{Alone, Growth, HeapCall, alone_in}
 
--- OS_Heap in any store: the store, and R2 and R3, as the call leaves them. A register in which nothing is answered stays.
+-- OS_Heap in any store: the store, and R2 and R3, as the call leaves them. A register in which
+-- nothing is answered stays.
 abbrev pub call_on : Store → ℕ → HeapReason → ℕ → ℕ → Result (Store × (ℕ × ℕ)) ErrorNumber
 call_on s heap reason.Initialise block size = bind (begun s heap size) (λ r. Ok (r.0, (block, size)))
 call_on s heap reason.Describe block size = bind (described s heap) (λ r. Ok (s, r))
@@ -23,7 +25,8 @@ call_on s heap reason.Resize block size = bind (resized s heap block size) (λ r
 call_on s heap reason.ChangeSize block size = bind (changed s heap size) (λ r. Ok (r.0, (block, size)))
 call_on s heap reason.BlockSize block size = bind (block_sized s heap block) (λ n. Ok (s, (block, n)))
 
--- The store that has the heap alone, with what is given for a growth. Where it may not grow, a byte behind the heap's end is taken.
+-- The store that has the heap alone, with what is given for a growth. Where it may not grow, a byte
+-- after the heap's end is taken.
 abbrev pub no_growth : Growth
 no_growth = record { mapped = false; meets = false; bytes = λ a. 0 }
 

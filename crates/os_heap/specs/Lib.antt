@@ -1,3 +1,4 @@
+-- What the heap calls do to memory. Begin with Calls and Store.
 pub use Rattle.os_heap_lists
 pub mod Bars
 pub mod Calls

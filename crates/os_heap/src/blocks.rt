@@ -1,3 +1,5 @@
+//! The items of a heap in order of address, one after another.
+
 ghost use Rattle.std.specs.Prelude.{◌≡◌, ◌+◌, ◌≤◌, List};
 ghost use Rattle.std.specs.Iterator.{YieldsFirst, item_count};
 ghost use Rattle.address_map.specs.declared.item.Item.{Item};

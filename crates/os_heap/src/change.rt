@@ -1,3 +1,5 @@
+//! OS_Heap 5: a heap gets another size, where that is allowed.
+
 ghost use Rattle.std.specs.Prelude.{ℕ, ◌≡◌, ◌≤◌, ◌+◌, ◌%◌, true, Some, Err, MatchResult};
 ghost use Rattle.profile.specs.Outcome.{Gives};
 ghost use Rattle.address_map.specs.Memory.{byte_at, mapping, bytes_of};

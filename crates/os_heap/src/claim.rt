@@ -1,3 +1,5 @@
+//! OS_Heap 2: a block is claimed, in the first free item that has room or at the base.
+
 ghost use Rattle.std.specs.Prelude.{◌≡◌, ◌≤◌, ◌-◌, ◌+◌, Ok, Some, None, MatchOption, nat_le, true};
 ghost use Rattle.profile.specs.Outcome.{Gives};
 ghost use Rattle.address_map.specs.Items.{is_total, size_of};

@@ -1,3 +1,5 @@
+//! What a heap call answers, with the count of items that it looked at.
+
 ghost use Rattle.std.specs.Prelude.{◌≡◌, Err};
 
 use profile::ErrorNumber;

@@ -1,3 +1,5 @@
+//! Heaps in a block that is freed or cut: they are recorded no more.
+
 ghost use Rattle.std.specs.Prelude.{◌≡◌, ◌≤◌, ◌+◌, ◌-◌, ◌%◌};
 ghost use Rattle.address_map.specs.Bytes.{Bytes};
 ghost use Rattle.os_heap.specs.Forgetting.{holds_heap, lowest_lost};

@@ -1,3 +1,5 @@
+//! OS_Heap 3: a block is given back, and joins the free items that touch it.
+
 ghost use Rattle.std.specs.Prelude.{◌≡◌, ◌+◌, Ok, true, false, is_some};
 ghost use Rattle.profile.specs.Outcome.{Gives};
 ghost use Rattle.address_map.specs.Memory.{mapping, regions};

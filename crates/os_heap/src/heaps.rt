@@ -1,3 +1,5 @@
+//! The heaps of a machine, and how the record of one is found.
+
 ghost use Rattle.std.specs.Prelude.{◌≡◌, Some, None, MatchOption};
 ghost use Rattle.address_map.specs.Memory.{bytes_of};
 ghost use Rattle.os_heap.specs.Store.{store_of, heap_in, find_heap};

@@ -1,3 +1,5 @@
+//! OS_Heap 0: a heap is made, where that is allowed.
+
 ghost use Rattle.std.specs.Prelude.{ℕ, [], true, ◌≡◌, ◌≤◌, ◌%◌, length, IsTrue, MatchResult, Err};
 ghost use Rattle.profile.specs.Outcome.{Gives};
 ghost use Rattle.address_map.specs.Bytes.{Bytes, AreMapped};

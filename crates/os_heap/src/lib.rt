@@ -1,4 +1,5 @@
-//! Heaps whose only record is the guest's own memory: blocks are found by the words before them, free room by links kept in it.
+//! The heaps of OS_Heap, for the store calls and the module area: their only record is guest
+//! memory. Blocks are found by the words before them, free room by links kept in it.
 #![tactic(auto)]
 
 pub mod blocks;

@@ -1,3 +1,5 @@
+//! The links from free item to free item.
+
 ghost use Rattle.std.specs.Prelude.{◌≡◌, ◌<◌, ◌^◌};
 ghost use Rattle.address_map.specs.Items.{linked};
 

@@ -1,3 +1,5 @@
+//! Marks on the words that a heap's list spells, which no store instruction may write then.
+
 ghost use Rattle.std.specs.Prelude.{ℕ, [], ◌∷◌, ◌++◌, ◌≡◌, ◌≤◌, ◌<◌, ◌+◌, ◌-◌, ◌%◌, ◌^◌, ◌&&◌, true, if◌then◌else◌};
 ghost use Rattle.address_map.specs.Bytes.{AreMapped, in_range, word_start};
 ghost use Rattle.address_map.specs.Classes.{is_heap_class};

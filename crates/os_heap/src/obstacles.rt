@@ -1,3 +1,6 @@
+//! What is in the way of a new or grown heap: other records, anchors, and heaps that it doesn't
+//! wholly lie in.
+
 ghost use Rattle.std.specs.Prelude.{ℕ, ◌≡◌, ◌≤◌, ◌<◌, ◌+◌, ◌^◌, ◌&&◌, nat_lt, true, Some, MatchResult};
 ghost use Rattle.std.specs.List.{list_any};
 ghost use Rattle.std.specs.Option.{option_map};

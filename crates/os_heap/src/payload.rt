@@ -1,3 +1,6 @@
+//! Where a byte lies among the heaps: in the payload of a live block, elsewhere in a heap, or in
+//! none.
+
 ghost use Rattle.std.specs.Prelude.{◌≡◌, ◌≤◌, ◌+◌, ◌^◌, ◌&&◌};
 ghost use Rattle.address_map.specs.Bytes.{in_range};
 ghost use Rattle.address_map.specs.Items.{size_of, total_of};

@@ -1,3 +1,5 @@
+//! A block moved to a larger one, with its bytes.
+
 ghost use Rattle.std.specs.Prelude.{◌≡◌, ◌≢◌, ◌<◌, ◌+◌, ◌-◌, Some, true, is_some};
 ghost use Rattle.profile.specs.Outcome.{Gives};
 ghost use Rattle.os_heap.specs.Calls.{moved};

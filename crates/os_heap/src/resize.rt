@@ -1,3 +1,5 @@
+//! OS_Heap 4: a block gets another size, in place or elsewhere.
+
 ghost use Rattle.std.specs.Prelude.{◌≡◌, ◌≤◌, ◌<◌, ◌+◌, ◌-◌, ◌^◌, is_some, true};
 ghost use Rattle.profile.specs.Outcome.{Gives};
 ghost use Rattle.address_map.specs.Memory.{anchor_of, mapping, regions};

@@ -1,3 +1,5 @@
+//! Where the items of a heap end.
+
 ghost use Rattle.std.specs.Prelude.{◌≡◌, ◌+◌};
 ghost use Rattle.address_map.specs.Items.{size_of};
 ghost use Rattle.os_heap.specs.Outcomes.{HasHeapAt, items_at};

@@ -1,3 +1,5 @@
+//! OS_Heap 6: how many bytes a block holds.
+
 ghost use Rattle.std.specs.Prelude.{◌≡◌, ◌+◌};
 ghost use Rattle.os_heap.specs.Calls.{bytes_held, guests_total, block_sized};
 ghost use Rattle.os_heap.specs.Outcomes.{HasHeapAt, items_at};

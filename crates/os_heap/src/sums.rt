@@ -1,3 +1,5 @@
+//! Sums of sizes: a size after a signed change, and a size rounded up.
+
 ghost use Rattle.std.specs.Prelude.{◌≡◌, ◌<◌, ◌^◌};
 ghost use Rattle.os_heap_lists.specs.Lists.{round_up_8, changed_by};
 

@@ -1,3 +1,5 @@
+//! The walk over a heap's items to the block that a call names, and the free items that it passes.
+
 ghost use Rattle.std.specs.Prelude.{ℕ, ◌≡◌, ◌≤◌, ◌<◌, ◌-◌, ◌+◌};
 ghost use Rattle.address_map.specs.Bytes.{word_at};
 ghost use Rattle.address_map.specs.Memory.{byte_at};

@@ -1,4 +1,5 @@
--- What a claim makes of a list: its lengths, how many bytes it has, and a block that was none before.
+-- What a claim makes of a list: its lengths, how many bytes it has, and a block that was none
+-- before.
 use Rattle.std.proofs.Common.{◌-◌, ◌≡◌, ◌≢◌, ◌+◌, ◌≤◌, ◌<◌, ◌==◌, ◌++◌, ◌∙◌, List, ℕ, [], ◌∷◌, Option, Some, None, nat_le, is_some, true, false, refl, sym, ap, subst, inl, inr, arith}
 use Rattle.std.proofs.lemmas.Bool.{cases_Bool, eqb-true, eqb-false, leb-true, false_from_ne_true}
 use Rattle.address_map.specs.Items.{is_total, size_of}

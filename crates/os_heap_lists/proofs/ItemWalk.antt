@@ -101,7 +101,7 @@ released_past block at (Live t ∷ xs) past =
     released_live-none block at t xs (λ (e : at + 4 ≡ block). omega arith) (released_past block (at + t) xs (omega arith))
 released_past block at (Free t ∷ xs) past = released_free-none block at t xs (released_past block (at + t) xs (omega arith))
 
--- a block's bytes begin behind its length word
+-- a block's bytes begin after its length word
 pub released_before : (block at : ℕ) (xs : List Item) → block < at + 4 → released block at xs ≡ None
 released_before block at [] past = refl
 released_before block at (Live t ∷ xs) past =
@@ -212,7 +212,7 @@ rest_none start at total base [] totals end here = refl
 rest_none start at total base (Live t ∷ xs) totals end here = absurd (omega (arith, total_facts t totals.0))
 rest_none start at total base (Free t ∷ xs) totals end here = absurd (omega (arith, total_facts t totals.0))
 
--- a block behind stays
+-- a later block stays
 pub rest_live : (at total base free : ℕ) (rest : List Item) → free ≡ next_free (at + total) rest 0 → at + total ≢ free → at + total ≢ base
     → base ≡ at + total + size_of rest → (begins_live rest ≡ true) × ((n : ℕ) → freed n rest ≡ Free n ∷ rest)
 rest_live at total base free [] next other inside end = absurd (inside (omega arith))

@@ -115,7 +115,7 @@ replaced b c start end xs old new heap r =
       inside = r.inside;
     }
 
--- the word at the last link of some items leads to the next free item behind them
+-- the word at the last link of some items leads to the next free item after them
 pub link_word : (b : Bytes) (start end : ℕ) (xs old : List Item) → IsHeapIn b start end (xs ++ old)
     → word_at b.at (link_at start (last_free start (start + 16) xs)) ≡ next_free (start + 16 + size_of xs) old 0 - last_free start (start + 16) xs
 link_word b start end xs old heap =

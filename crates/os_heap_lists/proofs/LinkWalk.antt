@@ -12,7 +12,7 @@ use Rattle.os_heap_lists.specs.Heap.{AreTotals, next_free, AreSpaced}
 use Rattle.os_heap_lists.specs.Lists.{live_total, freed, left_free}
 use Rattle.os_heap_lists.specs.Walks.{IsWalkedTo, last_link, IsLinked, IsBlock}
 
--- a block lies behind where it is looked for
+-- a block lies after where it is looked for
 pub live_low : (block at : ℕ) (xs : List Item) → is_some (live_total block at xs) ≡ true → at + 4 ≤ block
 live_low block at [] live = absurd (false≢true live)
 live_low block at (Live t ∷ xs) live = elim (cases_Bool (at + 4 == block)) [

@@ -1,4 +1,5 @@
--- The blocks of a list: a claim leaves each that was there and makes one more; and where their bytes lie.
+-- The blocks of a list: a claim leaves each that was there and makes one more; and where their
+-- bytes lie.
 use Rattle.std.proofs.Common.{◌⊎◌, option_map, add_assoc, ◌-◌, ◌≡◌, ◌+◌, refl, List, ℕ, Some, ◌∷◌, None, Option, arith, ◌≤◌, subst, ◌≢◌, ◌∙◌, sym, inl, [], ◌++◌, nat_le, inr, ◌==◌, true, false, ap, is_some, ◌%◌, ◌<◌}
 use Rattle.std.proofs.lemmas.Bool.{leb-false, eq-eqb, cases_Bool, eqb-true, leb-true, false_from_ne_true, ne_eqb, or_from}
 use Rattle.address_map.specs.Items.{size_of, is_head}

@@ -1,4 +1,5 @@
--- The marks of the words that items spell: lists put end to end, and a part of a list that is replaced.
+-- The marks of the words that items spell: lists put end to end, and a part of a list that is
+-- replaced.
 use Rattle.std.proofs.Common.{◌+◌, ◌≡◌, ℕ, List, [], ◌∷◌, ◌++◌, ◌||◌, ◌==◌, Bool, true, false, refl, sym, ap, ◌∙◌, add-zero, add_assoc, arith, ◌≤◌, subst, cond}
 use Rattle.std.proofs.lemmas.Bool.{true≢false, or_left, or_right, false_from_ne_true}
 use Rattle.address_map.specs.Bytes.{word_start}
@@ -22,7 +23,7 @@ or_none : (a : Bool) → (a || false) ≡ a
 or_none true = refl
 or_none false = refl
 
--- the words of two lists, one behind the other
+-- the words of two lists, one after the other
 pub is_head-append : (at : ℕ) (xs ys : List Item) (p : ℕ) → is_head at (xs ++ ys) p ≡ (is_head at xs p || is_head (at + size_of xs) ys p)
 is_head-append at [] ys p = ap (λ (q : ℕ). is_head q ys p) (sym (add-zero at))
 is_head-append at (Live t ∷ xs) ys p =
@@ -53,7 +54,7 @@ one_more c d e at place items item class e1 one two a =
     let last : is_head (at + size_of items) (item ∷ []) p ≡ is_head_of place item p = is_head-one (at + size_of items) item p ∙ ap (λ (q : ℕ). is_head_of q item p) (sym e1) in
     rw (is_head-append at items (item ∷ []) p, last) (both_marked (is_head at items p) (is_head_of place item p) class (c a) (d a) (e a) (one a) (two a))
 
--- lists of the same size leave what is behind them where it is
+-- lists of the same size leave what is after them where it is
 pub still-same : (at : ℕ) (olds news rest : List Item) → size_of news ≡ size_of olds → AreStill at olds news rest
 still-same at olds news rest same p = ap (λ (s : ℕ). is_head (at + s) rest p) same
 

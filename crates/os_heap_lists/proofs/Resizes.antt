@@ -34,7 +34,7 @@ unreleased block at (Live t ∷ xs) none = elim (cases_Bool (at + 4 == block)) [
 ]
 unreleased block at (Free t ∷ xs) none = unreleased block (at + t) xs (map_none (λ ys. freed t ys) (released block (at + t) xs) none)
 
--- the total of a block behind some items
+-- the total of a block after some items
 pub live_total-at : (block at place t : ℕ) (front rest : List Item) → AreTotals front → place ≡ at + size_of front → place + 4 ≡ block
     → live_total block at (front ++ Live t ∷ rest) ≡ Some t
 live_total-at block at place t [] rest totals there here = rw (eq-eqb (at + 4) block (omega arith)) refl
@@ -123,7 +123,7 @@ left_none n xs none = rw (eq-eqb n 0 none) refl
 pub left_some : (n : ℕ) (xs : List Item) → n ≢ 0 → left_free n ++ xs ≡ Free n ∷ xs
 left_some n xs some = rw (ne_eqb n 0 some) refl
 
--- behind a block that is not the last, and that no free item touches, stands a block
+-- after a block that is not the last, and that no free item touches, stands a block
 pub grown_blocked : (room new at total base free : ℕ) (rest : List Item) → free ≡ next_free (at + total) rest 0 → at + total ≢ free → at + total ≢ base
     → base ≡ at + total + size_of rest → total < new → refitted room new total rest ≡ None
 grown_blocked room new at total base free [] next other inside end larger = absurd (inside (omega arith))

@@ -1,4 +1,5 @@
--- Lists of items and the words that they spell: parts of a list, and a list whose last link changes.
+-- Lists of items and the words that they spell: parts of a list, and a list whose last link
+-- changes.
 use Rattle.std.proofs.Common.{◌-◌, arith, ◌+◌, [], ◌≡◌, List, ◌++◌, ◌∷◌, refl, ◌%◌, true, ℕ, add_assoc, ◌∙◌, add-zero, sym, ap, inl, ◌≤◌, ◌⊎◌, inr, ◌<◌}
 use Rattle.std.proofs.lemmas.Bool.{false≢true}
 use Rattle.std.proofs.lemmas.Bool.Decides.{nat_tests}
@@ -82,7 +83,8 @@ next_free-bounds at (Live t ∷ xs) z h = elim (next_free-bounds (at + t) xs z h
 ]
 next_free-bounds at (Free t ∷ xs) z h = inr (omega arith, omega (arith, total_facts t h.0))
 
--- none of the items is free, and then the next free one lies behind them; or the last free one is among them
+-- none of the items is free, and then the next free one lies after them; or the last free one is
+-- among them
 pub record NoneFree (from at : ℕ) (xs : List Item) : Type 0 where
   pub last : last_free from at xs ≡ from
   pub next : (z : ℕ) → next_free at xs z ≡ z
@@ -178,7 +180,7 @@ spells-relinked v w from at (Free t ∷ xs) y z below totals h link same =
       )
     ]
 
--- the last link leads to what is behind the items
+-- the last link leads to what is after the items
 pub spells-last : (w : ℕ → ℕ) (from at : ℕ) (xs : List Item) (z : ℕ) → from < at → AreTotals xs → Spells w at xs z
     → at ≤ last_free from at xs → w (last_free from at xs) ≡ z - last_free from at xs
 spells-last w from at [] z below totals h low = absurd (omega arith)

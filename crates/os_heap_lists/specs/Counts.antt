@@ -1,5 +1,6 @@
--- What is counted of a heap's list: the items and the free items that a call looks at, and the bytes that are free (RISC OS 3 Programmer's
--- Reference Manual, "OS_Heap", reasons 1 to 6; that a call's work is counted is this project's own).
+-- What is counted of a heap's list: the items and the free items that a call looks at, and the
+-- bytes that are free (RISC OS 3 Programmer's Reference Manual, "OS_Heap", reasons 1 to 6; that a
+-- call's work is counted is this project's own).
 use Rattle.std.specs.Prelude.{ℕ, ◌/◌, ◌*◌, if◌then◌else◌, nat_le, ◌+◌, [], List, ◌∷◌, ◌-◌, nat_lt}
 use Rattle.address_map.specs.declared.item.Item.{Item}
 use Rattle.address_map.specs.declared.item.Item.TheVariants.{Free, Live}
@@ -16,8 +17,9 @@ looked_at n [] = 0
 looked_at n (Live t ∷ xs) = looked_at n xs
 looked_at n (Free t ∷ xs) = if nat_le n t then 1 else 1 + looked_at n xs
 
--- the items that begin at least 4 bytes below the address `block`, where the first is at `at`: a walk to that block passes them, and the block
--- itself too, since its bytes begin behind its length word
+-- the items that begin at least 4 bytes below the address `block`, where the first is at `at`: a
+-- walk to that block passes them, and the block itself too, since its bytes begin after its length
+-- word
 abbrev pub begun_below : ℕ → ℕ → List Item → ℕ
 begun_below block at [] = 0
 begun_below block at (Live t ∷ xs) = if nat_le (at + 4) block then 1 + begun_below block (at + t) xs else 0
@@ -39,8 +41,8 @@ free_count [] = 0
 free_count (Live t ∷ xs) = free_count xs
 free_count (Free t ∷ xs) = 1 + free_count xs
 
--- what a heap says of itself, where `room` bytes lie between its base and its end: all that is free, and the largest block that can be
--- claimed, without its length word
+-- what a heap says of itself, where `room` bytes lie between its base and its end: all that is
+-- free, and the largest block that can be claimed, without its length word
 abbrev pub all_free : ℕ → List Item → ℕ
 all_free room xs = free_total xs + room
 

@@ -1,5 +1,5 @@
--- A heap: where it starts, its end, and its list of items; and what it is for memory to spell it (RISC OS 3 Programmer's Reference Manual,
--- "OS_Heap", the internal format).
+-- A heap: where it starts, its end, and its list of items; and what it is for memory to spell it
+-- (RISC OS 3 Programmer's Reference Manual, "OS_Heap", the internal format).
 use Rattle.std.specs.Prelude.{ℕ, List, ◌+◌, [], ◌∷◌, ◌-◌, ◌≡◌, true, Bool, false, ◌≤◌, ◌%◌}
 use Rattle.address_map.specs.Bytes.{AreMapped, Bytes, word_at, with_word_at}
 use Rattle.address_map.specs.Items.{is_total, size_of}
@@ -7,7 +7,8 @@ use Rattle.address_map.specs.declared.item.Item.{Item}
 use Rattle.address_map.specs.declared.item.Item.TheVariants.{Free, Live}
 use Rattle.address_map.specs.declared.region.Kind.{Kind}
 
--- a heap as a list: its kind tells whether a guest made it or it is the module area, and `end` counts from its start, as its items do from 16 on
+-- a heap as a list: its kind tells whether a guest made it or it is the module area, and `end`
+-- counts from its start, as its items do from 16 on
 pub record HeapList : Type 0 where
   pub kind : Kind
   pub start : ℕ
@@ -20,8 +21,8 @@ next_free at [] other = other
 next_free at (Live t ∷ xs) other = next_free (at + t) xs other
 next_free at (Free t ∷ xs) other = at
 
--- The words of the items from `at` on; `other` is the next free item after all of these, or 0. Addresses of items are above 0, so a link of
--- 0, as `0 - at` is, says that there is none.
+-- The words of the items from `at` on; `other` is the next free item after all of these, or 0.
+-- Addresses of items are above 0, so a link of 0, as `0 - at` is, says that there is none.
 abbrev pub Spells : (ℕ → ℕ) → ℕ → List Item → ℕ → Type 0
 Spells w at [] other = Unit {0}
 Spells w at (Live t ∷ xs) other = (w at ≡ t) × Spells w (at + t) xs other

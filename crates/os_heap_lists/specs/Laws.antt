@@ -10,7 +10,8 @@ use Rattle.os_heap_lists.specs.Lists.{released, claimed, Claim}
 abbrev pub ReadsHeap : Type 0
 ReadsHeap = (b : Bytes) (start end : ℕ) (items : List Item) → IsHeapIn b start end items → items_in (word_at b.at) start ≡ items
 
--- A block that is claimed and given back at once leaves the list as it was; `at` is the address of the first item.
+-- A block that is claimed and given back at once leaves the list as it was; `at` is the address of
+-- the first item.
 abbrev pub GivesBack : Type 0
 GivesBack = (total room at : ℕ) (items : List Item) (claim : Claim) → AreTotals items → AreSpaced items
     → claimed total room items ≡ Some claim → released (at + claim.offset + 4) at claim.items ≡ Some items

@@ -1,5 +1,6 @@
--- Which words only the store calls may write: each word that a heap's list spells is marked as a head, and loses its mark where the list gives
--- it up (RISC OS 3 Programmer's Reference Manual, "OS_Heap", the internal format; that a guest can't store to these words is this project's own).
+-- Which words only the store calls may write: each word that a heap's list spells is marked as a
+-- head, and loses its mark where the list gives it up (RISC OS 3 Programmer's Reference Manual,
+-- "OS_Heap", the internal format; that a guest can't store to these words is this project's own).
 use Rattle.std.specs.Prelude.{ℕ, ◌≡◌, ◌+◌, Bool, true, false, List, if◌then◌else◌}
 use Rattle.std.specs.List.{list_any}
 use Rattle.address_map.specs.Bytes.{word_start}
@@ -13,7 +14,8 @@ use Rattle.os_heap_lists.specs.Heap.{HeapList}
 abbrev pub marked : Bool → Bool → Class → Class
 marked made given_up old = if made then class.Heap else (if given_up then class.Plain else old)
 
--- The words of `olds` were given up, and those of `news` made heads, where the first item of both is at `at`. All other words keep their class.
+-- The words of `olds` were given up, and those of `news` made heads, where the first item of both
+-- is at `at`. All other words keep their class.
 abbrev pub Remarks : (ℕ → Class) → (ℕ → Class) → ℕ → List Item → List Item → Type 0
 Remarks old new at olds news = (a : ℕ) → new a ≡ marked (is_head at news (word_start a)) (is_head at olds (word_start a)) (old a)
 
@@ -33,7 +35,7 @@ with_items_marked at items class old a = if is_head at items (word_start a) then
 abbrev pub AreMarked : (ℕ → Class) → ℕ → List Item → Type 0
 AreMarked classes at items = (a : ℕ) → is_head at items (word_start a) ≡ true → classes a ≡ class.Heap
 
--- the items behind spell the same words, wherever the ones before them end
+-- later items spell the same words, wherever the ones before them end
 abbrev pub AreStill : ℕ → List Item → List Item → List Item → Type 0
 AreStill at olds news rest = (p : ℕ) → is_head (at + size_of news) rest p ≡ is_head (at + size_of olds) rest p
 

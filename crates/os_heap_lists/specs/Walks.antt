@@ -8,8 +8,9 @@ use Rattle.os_heap_lists.specs.Counts.{larger, largest_free, free_total, free_co
 use Rattle.os_heap_lists.specs.Heap.{next_free, Spells, AreTotals, last_free, AreSpaced}
 use Rattle.os_heap_lists.specs.Lists.{Claim, first_fit, left_free, released, glued, live_total, freed}
 
--- The walk stands at the free item at `at`, or at the end, where that is 0. It has passed `count` free items of `total` bytes, the largest
--- of them of `largest`; the others are in the items from `place` on. The heap has `items` and ends at `end`; `w` tells the word at each address.
+-- The walk stands at the free item at `at`, or at the end, where that is 0. It has passed `count`
+-- free items of `total` bytes, the largest of them of `largest`; the others are in the items from
+-- `place` on. The heap has `items` and ends at `end`; `w` tells the word at each address.
 pub record IsTallied (w : ℕ → ℕ) (start end : ℕ) (items : List Item) (at count total largest : ℕ) : Type 0 where
   pub place : ℕ
   pub rest : List Item
@@ -23,13 +24,15 @@ pub record IsTallied (w : ℕ → ℕ) (start end : ℕ) (items : List Item) (at
   pub summed : total + free_total rest ≡ free_total items
   pub most : larger largest (largest_free rest) ≡ largest_free items
 
--- a list that begins with the free item at `free`, where its first item is at `at`; or an empty one, and no free item
+-- a list that begins with the free item at `free`, where its first item is at `at`; or an empty
+-- one, and no free item
 abbrev pub BeginsFree : ℕ → List Item → ℕ → Type 0
 BeginsFree at [] free = free ≡ 0
 BeginsFree at (Live t ∷ xs) free = ⊥
 BeginsFree at (Free t ∷ xs) free = free ≡ at
 
--- A search for `n` bytes has passed a part of the items, the last free one of these at `from`, and comes to that at `at`.
+-- A search for `n` bytes has passed a part of the items, the last free one of these at `from`, and
+-- comes to that at `at`.
 pub record IsSearched (start : ℕ) (items : List Item) (n from at probes : ℕ) : Type 0 where
   pub before : List Item
   pub rest : List Item
@@ -55,8 +58,9 @@ pub record IsFit (start : ℕ) (items : List Item) (n from at total : ℕ) : Typ
 abbrev pub last_link : ℕ → ℕ → ℕ → ℕ
 last_link from at gap = if gap == 0 then from else at - gap
 
--- A walk to the block at `block` has passed some items and comes to `at`. Just before that is a free item of `gap` bytes, if `gap` isn't 0;
--- the last free one before is at `from`, and the next at `free`.
+-- A walk to the block at `block` has passed some items and comes to `at`. Just before that is a
+-- free item of `gap` bytes, if `gap` isn't 0; the last free one before is at `from`, and the next
+-- at `free`.
 pub record IsWalkedTo (start : ℕ) (items : List Item) (block : ℕ) (before rest : List Item) (from at free gap probes : ℕ) : Type 0 where
   pub split : items ≡ (before ++ left_free gap) ++ rest
   pub place : at ≡ start + 16 + size_of (before ++ left_free gap)
@@ -72,7 +76,8 @@ pub record IsWalked (start : ℕ) (items : List Item) (block from at free gap pr
   pub rest : List Item
   pub walk : IsWalkedTo start items block before rest from at free gap probes
 
--- A walk along the links to a block that is there: it has passed `probes` free items, and the items between them unseen.
+-- A walk along the links to a block that is there: it has passed `probes` free items, and the items
+-- between them unseen.
 pub record IsLinked (start : ℕ) (items : List Item) (block from at free gap probes : ℕ) : Type 0 where
   pub passed : ℕ
   pub before : List Item

@@ -1,4 +1,5 @@
--- The words of a heap: which link leads to a free item, and what is left of memory after some of these words were written.
+-- The words of a heap: which link leads to a free item, and what is left of memory after some of
+-- these words were written.
 use Rattle.std.specs.Prelude.{◌==◌, if◌then◌else◌, ℕ, ◌+◌, ◌≤◌, ◌⊎◌, ◌≡◌, ◌-◌, [], List, ◌∷◌}
 use Rattle.address_map.specs.Bytes.{word_at}
 use Rattle.address_map.specs.declared.item.Item.{Item}
@@ -32,8 +33,8 @@ IsOutside at [] a = Unit {0}
 IsOutside at (Live t ∷ xs) a = AreApart a 1 at 4 × IsOutside (at + t) xs a
 IsOutside at (Free t ∷ xs) a = AreApart a 1 at 8 × IsOutside (at + t) xs a
 
--- A block at `at` got the total `total`, and behind it a free item of `left` bytes was written, with the link at `from` that leads to it, and
--- its own link to `next`. No other byte changed.
+-- A block at `at` got the total `total`, and after it a free item of `left` bytes was written, with
+-- the link at `from` that leads to it, and its own link to `next`. No other byte changed.
 pub record IsDivided (old new : ℕ → ℕ) (start from at total left next : ℕ) : Type 0 where
   pub block : word_at new at ≡ total
   pub to_item : word_at new (link_at start from) ≡ at + total - from

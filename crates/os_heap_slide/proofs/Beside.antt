@@ -31,7 +31,8 @@ abbrev pub AreBeside : Bytes → HeapList → List HeapList → Type 0
 AreBeside c h [] = Unit {0}
 AreBeside c h (g ∷ gs) = IsBeside c h g × AreBeside c h gs
 
--- What a slide leaves of memory: no byte out of the heap's range changed, and none that a block holds which stays.
+-- What a slide leaves of memory: no byte out of the heap's range changed, and none that a block
+-- holds which stays.
 pub record KeepsBytes (b c : Bytes) (h : HeapList) (movable : List ℕ) : Type 0 where
   pub mapped : c.mapped ≡ b.mapped
   pub beyond : (a : ℕ) → in_range h.start h.end a ≡ false → c.at a ≡ b.at a

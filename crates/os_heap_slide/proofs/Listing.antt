@@ -9,7 +9,7 @@ use Rattle.os_heap_lists.proofs.Reading.{total_facts}
 use Rattle.os_heap_lists.specs.Heap.{AreTotals}
 use Rattle.os_heap_slide.specs.Slide.{AreBlocks, begins, is_listed, move_of, place_of, without_first}
 
--- an address that is not the first is listed behind it
+-- an address that is not the first is listed after it
 pub listed_rest : (c b : ℕ) (ms : List ℕ) → b ≢ c → is_listed ms b ≡ is_listed (without_first c ms) b
 listed_rest c b [] other = refl
 listed_rest c b (m ∷ ms) other = elim (cases_Bool (m == c)) [

@@ -1,4 +1,5 @@
--- Where blocks are after a slide: each at its new place, in the same order, and none out of the items' range.
+-- Where blocks are after a slide: each at its new place, in the same order, and none out of the
+-- items' range.
 use Rattle.std.proofs.Common.{List, ℕ, Bool, [], ◌∷◌, ◌++◌, ◌≡◌, ◌≢◌, ◌≤◌, ◌<◌, ◌+◌, ◌-◌, ◌%◌, ◌==◌, ◌∙◌, true, false, refl, sym, ap, inl, inr, Some, None, arith}
 use Rattle.std.proofs.lemmas.Bool.{cases_Bool, cases_eq, cases_lt, eqb-true, eq-eqb, ne_eqb}
 use Rattle.address_map.specs.Bytes.{with_moved_at}
@@ -52,7 +53,7 @@ past_still mv top at (Live t ∷ xs) b totals past =
     let least = total_facts t totals.0 in
     one_moved at place (moves_of mv (place + t) (at + t) xs) b (λ (e : at + 4 ≡ b). omega (arith, least.0)) ∙ past_still mv (place + t) (at + t) xs b totals.1 (omega arith)
 
--- the first block that is laid, and those behind it
+-- the first block that is laid, and those after it
 laid_here : (top place t : ℕ) (zs : List Item) → top ≤ place → live_total (place + 4) top (left_free (place - top) ++ Live t ∷ zs) ≡ Some t
 laid_here top place t zs low = elim (cases_Bool (place - top == 0)) [
   | inl none ↦

@@ -105,7 +105,8 @@ within_clear at len b other c size low high clear a inside =
     let here : (at ≤ a) × (a < at + len) = range_parts at len a inside in
     clear a (inside_range b other a (omega (arith, here.0)) (omega (arith, here.1)))
 
--- What a record is to the heap that slides: empty, clear of it and unmoved, or that of an image in it.
+-- What a record is to the heap that slides: empty, clear of it and unmoved, or that of an image in
+-- it.
 pub record IsStill (h : HeapList) (moves : List Move) (r : Region) : Type 0 where
   pub place : moved_place moves r.kind r.at ≡ r.at
   pub clear : AreClear h.start h.end r.at r.len
@@ -245,8 +246,8 @@ pub ranges_apart : (b c : Bytes) (h : HeapList) (hs : List HeapList) (movable : 
     → find_heap h.start hs ≡ Some h → ArePlaced hs rs → AreRangesApart rs → AreRangesApart (moved_regions (moves_in h movable) rs)
 ranges_apart b c h hs movable rs s found placed apart = all_apart b c h movable rs s (all_known b c h hs movable rs s found placed) apart
 
--- An image in the heap that slides holds no other heap at its new place: one that lies in the heap lies in a block that stays, and not in that of
--- the image.
+-- An image in the heap that slides holds no other heap at its new place: one that lies in the heap
+-- lies in a block that stays, and not in that of the image.
 not_round : (b : Bytes) (h g : HeapList) (r : Region) → IsHeapIn b g.start g.end g.items → IsImageBlock h r → (within : IsWithin h g)
     → AreClear r.at r.len g.start g.end ⊎ IsImageBlock g r → r.at ≢ within.block
 not_round b h g r heap image within (inr own) same = both_ways (is_area g.kind) within.guest own.area

@@ -56,7 +56,7 @@ laid_alone gap total none = rw (eq-eqb gap 0 none) refl
 pub laid_behind : (gap total : ℕ) → gap ≢ 0 → laid gap total ≡ Free gap ∷ (Live total ∷ [])
 laid_behind gap total some = rw (ne_eqb gap 0 some) refl
 
--- the words of a free item and of a block behind it, over the base
+-- the words of a free item and of a block after it, over the base
 gapped : (m n : AddressMap) (start end gap k : ℕ) (items : List Item) (g h : ℕ → ℕ)
     → IsHeapIn (bytes_of m) start end (items ++ []) → layout n ≡ layout m → is_total gap ≡ true → is_total k ≡ true → 16 + size_of items + gap + k ≤ end
     → IsFreed (byte_at m) g start (last_free start (start + 16) items) (start + 16 + size_of items) gap 0

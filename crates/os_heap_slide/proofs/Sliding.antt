@@ -1,4 +1,4 @@
--- A slide from item to item: what the words of the next one say, and what holds behind it.
+-- A slide from item to item: what the words of the next one say, and what holds after it.
 use Rattle.std.proofs.Common.{List, ℕ, Bool, [], ◌∷◌, ◌++◌, ◌≡◌, ◌≢◌, ◌≤◌, ◌<◌, ◌+◌, ◌-◌, ◌%◌, ◌==◌, ◌||◌, ◌∙◌, true, false, refl, sym, ap, subst, inl, inr, append_assoc, append-nil, arith, length, cond}
 use Rattle.std.proofs.lemmas.Bool.{cases_Bool, eqb-true, eq-eqb}
 use Rattle.address_map.proofs.Equations.{same_bytes}
@@ -31,7 +31,7 @@ use Rattle.os_heap_slide.proofs.Setting.{laid_alone, laid_behind}
 use Rattle.os_heap_slide.specs.Slide.{AreBlocks, begins, is_listed, move_of, moves_of, place_of, slid, slid_bytes, without_first}
 use Rattle.os_heap_slide.specs.Steps.{IsAllSlid, IsFreeHere, IsLaid, IsRoom, IsSliding, laid}
 
--- words behind which no byte changed
+-- words from which on no byte changed
 word_behind : (f g : ℕ → ℕ) (at p : ℕ) → ((a : ℕ) → at ≤ a → g a ≡ f a) → at ≤ p → word_at g p ≡ word_at f p
 word_behind f g at p same low =
     let b0 = same p low in
@@ -44,7 +44,8 @@ word_behind f g at p same low =
 pub size_split : (items passed rest : List Item) → items ≡ passed ++ rest → size_of items ≡ size_of passed + size_of rest
 size_split items passed rest split = ap size_of split ∙ size_of-append passed rest
 
--- A walk over the items that `m` spells, in a memory `n` whose bytes are the same from the next one on.
+-- A walk over the items that `m` spells, in a memory `n` whose bytes are the same from the next one
+-- on.
 pub record IsPlaced (m n : AddressMap) (start at free : ℕ) : Type 0 where
   pub passed : List Item
   pub rest : List Item
@@ -139,7 +140,8 @@ unfolding placed
 at_live m n start movable left moves from top at free s heap below other =
     live_at m n start at free (placed m n start movable left moves from top at free s) heap below other
 
--- An item was passed, whose words are no heads any more, and items were laid in its place or below it.
+-- An item was passed, whose words are no heads any more, and items were laid in its place or below
+-- it.
 step_word : (before made passed given : Bool) (old mid new : Class) → mid ≡ marked before passed old → new ≡ marked made given mid
     → (given ≡ true → before ≡ true → ⊥) → new ≡ marked (before || made) (passed || given) old
 step_word true true passed given old mid new was change apart = change

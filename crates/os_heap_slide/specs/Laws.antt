@@ -23,7 +23,8 @@ abbrev pub SlideKeeps : Type 0
 SlideKeeps = (movable : ℕ → Bool) (top at : ℕ) (xs : List Item) (bytes : ℕ → ℕ) → top ≤ at
     → KeepsContents movable top at xs bytes (slid_bytes movable top at xs bytes)
 
--- The same of the store, block by block: a live block is live where it went, and holds the same bytes there.
+-- The same of the store, block by block: a live block is live where it went, and holds the same
+-- bytes there.
 abbrev pub SlideKeepsBlocks : Type 0
 SlideKeepsBlocks = (s : Store) (h : HeapList) (movable : List ℕ) → h.start % 4 ≡ 0 → AreTotals h.items
     → (block total : ℕ) → live_total block (h.start + 16) h.items ≡ Some total
@@ -45,8 +46,8 @@ AreMovable movable at (Free t ∷ xs) = AreMovable movable (at + t) xs
 abbrev pub SlideClears : Type 0
 SlideClears = (movable : ℕ → Bool) (top at : ℕ) (xs : List Item) → top ≤ at → AreMovable movable at xs → free_count (slid movable top at xs) ≡ 0
 
--- The heap has no free item then, and all that is free lies between its base and its end, where that is a multiple of 8: what can be claimed of it
--- is all of that without a length word.
+-- The heap has no free item then, and all that is free lies between its base and its end, where
+-- that is a multiple of 8: what can be claimed of it is all of that without a length word.
 abbrev pub SlideDescribes : Type 0
 SlideDescribes = (s : Store) (h : HeapList) (movable : List ℕ) → find_heap h.start s.heaps ≡ Some h → AreTotals h.items → h.end % 8 ≡ 0
     → AreMovable (is_listed movable) (h.start + 16) h.items

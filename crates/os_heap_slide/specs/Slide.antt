@@ -1,6 +1,8 @@
--- The slide of a heap's movable blocks. A fixed block keeps its place, a movable one goes to the end of the live item before it, or to the place of
--- the first item, where there is none. What lies between becomes free, and the base is the end of the last item (RISC OS 3 Programmer's Reference
--- Manual, "OS_Module", reason 8, tidying of the module area; which blocks can be moved is this project's own).
+-- The slide of a heap's movable blocks. A fixed block keeps its place, a movable one goes to the
+-- end of the live item before it, or to the place of the first item, where there is none. What lies
+-- between becomes free, and the base is the end of the last item (RISC OS 3 Programmer's Reference
+-- Manual, "OS_Module", reason 8, tidying of the module area; which blocks can be moved is this
+-- project's own).
 use Rattle.std.specs.Prelude.{ℕ, ◌≡◌, ◌≤◌, Bool, true, false, ◌+◌, ◌-◌, ◌==◌, List, [], ◌∷◌, ◌++◌, length, if◌then◌else◌}
 use Rattle.std.specs.List.{list_any}
 use Rattle.address_map.specs.Bytes.{with_moved_at}
@@ -22,7 +24,8 @@ is_listed movable block = list_any (λ m. m == block) movable
 abbrev pub place_of : Bool → ℕ → ℕ → ℕ
 place_of moves top at = if moves then top else at
 
--- the items after the slide: those before these end at `top` then, and the first of these is at `at` before it
+-- the items after the slide: those before these end at `top` then, and the first of these is at
+-- `at` before it
 abbrev pub slid : (ℕ → Bool) → ℕ → ℕ → List Item → List Item
 slid movable top at [] = []
 slid movable top at (Live t ∷ xs) =
@@ -49,7 +52,7 @@ moves_of movable top at (Live t ∷ xs) =
     move_of at place ++ moves_of movable (place + t) (at + t) xs
 moves_of movable top at (Free t ∷ xs) = moves_of movable top (at + t) xs
 
--- the addresses behind that of a block, where it is the first of them, else all
+-- the addresses after that of a block, where it is the first of them, else all
 abbrev pub begins : ℕ → List ℕ → Bool
 begins block [] = false
 begins block (m ∷ movable) = m == block
@@ -64,7 +67,8 @@ AreBlocks at [] movable = movable ≡ []
 AreBlocks at (Live t ∷ xs) movable = AreBlocks (at + t) xs (without_first (at + 4) movable)
 AreBlocks at (Free t ∷ xs) movable = AreBlocks (at + t) xs movable
 
--- the store after the slide of one heap: the bytes copied, then the words of the new list over them, and the records of images that moved
+-- the store after the slide of one heap: the bytes copied, then the words of the new list over
+-- them, and the records of images that moved
 abbrev pub with_slid : Store → HeapList → List ℕ → Store
 with_slid s h movable =
     let at : ℕ = h.start + 16 in
@@ -86,7 +90,8 @@ abbrev pub HoldNoHeap : List HeapList → HeapList → List ℕ → Type 0
 HoldNoHeap hs h movable =
     (b : ℕ) → is_listed movable b ≡ true → holds_heap hs b (total_or_0 (live_total b (h.start + 16) h.items) - 4) ≡ false
 
--- the blocks that can be moved are live ones of that heap, in order, at most 128, and hold no anchor and no heap
+-- the blocks that can be moved are live ones of that heap, in order, at most 128, and hold no
+-- anchor and no heap
 abbrev pub MaySlide : Store → ℕ → List ℕ → Type 0
 MaySlide s heap movable = OfHeap (λ h.
     AreBlocks (h.start + 16) h.items movable × ((length movable ≤ 128) × (HoldNoAnchor s h movable × HoldNoHeap s.heaps h movable))) (find_heap heap s.heaps)

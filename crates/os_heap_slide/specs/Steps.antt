@@ -1,5 +1,5 @@
--- Where a slide stands: the heap's words spell the items that have their new places, as a list by itself, and those that come next lie behind them
--- as they were.
+-- Where a slide stands: the heap's words spell the items that have their new places, as a list by
+-- itself, and those that come next lie after them as they were.
 use Rattle.std.specs.Prelude.{ℕ, ◌≡◌, ◌≤◌, true, ◌+◌, ◌-◌, ◌%◌, ◌^◌, List, [], ◌∷◌, ◌++◌, length}
 use Rattle.address_map.specs.Bytes.{word_at, with_moved_at, word_start}
 use Rattle.address_map.specs.Items.{is_head, is_head_of, is_total, linked, size_of}
@@ -19,8 +19,8 @@ use Rattle.os_heap_slide.specs.Slide.{AreBlocks, is_listed, moves_of, slid, slid
 abbrev pub laid : ℕ → ℕ → List Item
 laid gap total = left_free gap ++ Live total ∷ []
 
--- A block of `total` bytes can be laid at `to`: the items that have their new places end at `top`, the last free one of them is at `from`, and
--- there is room up to `end`.
+-- A block of `total` bytes can be laid at `to`: the items that have their new places end at `top`,
+-- the last free one of them is at `from`, and there is room up to `end`.
 pub record IsRoom (m : AddressMap) (start from top to total end : ℕ) : Type 0 where
   pub heap : HasHeapAt m start
   pub last : from ≡ last_free start (start + 16) (items_at m start)
@@ -53,8 +53,10 @@ pub record IsFreeHere (m : AddressMap) (start at : ℕ) : Type 0 where
   pub high : at + word_at (byte_at m) (at + 4) ≤ 2 ^ 26
   pub next : linked at (word_at (byte_at m) at) ≤ 2 ^ 26
 
--- A slide has passed some items of the heap, as it was in `m`, and comes to that at `at`; the next free one from there on is at `free`. The items passed have
--- their new places in `n`, up to `top`, the last free one of them at `from`; `moves` are those that moved, and `left` the addresses of `movable` that come next.
+-- A slide has passed some items of the heap, as it was in `m`, and comes to that at `at`; the next
+-- free one from there on is at `free`. The items passed have their new places in `n`, up to `top`,
+-- the last free one of them at `from`; `moves` are those that moved, and `left` the addresses of
+-- `movable` that come next.
 pub record IsSliding (m n : AddressMap) (start : ℕ) (movable left : List ℕ) (moves : List Move) (from top at free : ℕ) : Type 0 where
   pub passed : List Item
   pub rest : List Item

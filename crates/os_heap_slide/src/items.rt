@@ -1,3 +1,5 @@
+//! One step of a slide: a free item is passed, or a block is laid at its new place.
+
 ghost use Rattle.std.specs.Prelude.{ℕ, ◌≡◌, ◌≤◌, ◌<◌, ◌+◌, ◌-◌, ◌%◌, ◌^◌, ◌==◌, false, if◌then◌else◌};
 ghost use Rattle.address_map.specs.Items.{linked};
 ghost use Rattle.address_map.specs.Memory.{byte_at, class_of, layout};
@@ -50,8 +52,8 @@ pub(crate) fn pass_free(map: &mut AddressMap, heap: u32, cursor: &Cursor) -> Cur
     }
 }
 
-/// Gives a live item its new place: copies it there, and makes it the last item of those that have theirs, with a free one before it where there is a
-/// gap.
+/// Gives a live item its new place: copies it there, and makes it the last item of those that have
+/// theirs, with a free one before it where there is a gap.
 pub(crate) fn lay(map: &mut AddressMap, heap: u32, cursor: &Cursor, to: u32, total: u32) -> Cursor
     requires room { IsRoom map.old heap cursor.now.from cursor.now.top to total (cursor.now.at + total) }
     requires high { to ≤ cursor.now.at }
@@ -77,7 +79,8 @@ pub(crate) fn lay(map: &mut AddressMap, heap: u32, cursor: &Cursor, to: u32, tot
     }
 }
 
-/// Writes the words of a block at `to`, and those of a free item before it where there is a gap, as the last items of the heap.
+/// Writes the words of a block at `to`, and those of a free item before it where there is a gap, as
+/// the last items of the heap.
 fn set_down(map: &mut AddressMap, heap: u32, cursor: &Cursor, to: u32, total: u32)
     requires { IsRoom map.old heap cursor.now.from cursor.now.top to total (to + total) }
     ensures { IsSetDown map.old map.new heap cursor.now.top to total }

@@ -13,7 +13,8 @@ pub fn slides_keep_blocks()
     ensures { SlideKeepsBlocks }
 {}
 
-/// After a slide no two free items are side by side, the last item is live, and the heap is no larger.
+/// After a slide no two free items are side by side, the last item is live, and the heap is no
+/// larger.
 #[tactic(auto, using(crate::proofs::LawLemmas::slide_fits))]
 pub fn slides_leave_spaced_items()
     ensures { SlideFits }

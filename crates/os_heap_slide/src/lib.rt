@@ -1,4 +1,5 @@
-//! The slide of a heap's movable blocks towards its start, so that the free room between them becomes one.
+//! The slide of a heap's movable blocks towards its start, for a tidy of the module area. The free
+//! room between them becomes one.
 #![tactic(auto)]
 
 mod items;

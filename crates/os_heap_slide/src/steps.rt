@@ -1,3 +1,5 @@
+//! The walk over a heap's items that slides its blocks, but for the records of images.
+
 ghost use Rattle.std.specs.Prelude.{ℕ, List, [], ◌≡◌, ◌≢◌, ◌≤◌, ◌<◌, ◌+◌, ◌++◌, ◌^◌, length};
 ghost use Rattle.address_map.specs.Bytes.{word_at};
 ghost use Rattle.address_map.specs.Memory.{byte_at};
@@ -54,7 +56,7 @@ fn begin(map: &mut AddressMap, heap: u32) -> Cursor
     }
 }
 
-/// Where the next live item goes, and the addresses of those that can be moved behind it.
+/// Where the next live item goes, and the addresses of those that can be moved after it.
 pub(crate) fn place<'a>(cursor: &Cursor, left: &'a [u32]) -> (u32, &'a [u32])
     requires { cursor.now.at + 4 < 2 ^ 32 }
     ensures to { result.0 ≡ place_of (begins (cursor.now.at + 4) left.now) cursor.now.top cursor.now.at }

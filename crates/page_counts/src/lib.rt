@@ -1,4 +1,4 @@
-//! The law that the areas of a machine, its fixed ranges and its pool are all the pages that its memory has.
+//! Frame: a machine's areas, its fixed ranges and its pool are all the pages that its memory has.
 #![tactic(auto)]
 
 ghost use Rattle.page_counts.specs.Laws.{AreasCountPages};

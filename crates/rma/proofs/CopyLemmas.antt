@@ -20,14 +20,15 @@ use Rattle.rma.specs.Calls.{area_pages}
 use Rattle.rma.specs.Copies.{has_bare, is_bare}
 use Rattle.rma.proofs.GrowthLemmas.{HasArea, area_there}
 
--- a byte before a range, and one behind it
+-- a byte before a range, and one after it
 before_range : (at len a : ℕ) → a < at → in_range at len a ≡ false
 before_range at len a low = rw (lt-leb at a low) refl
 
 behind_range : (at len a : ℕ) → at + len ≤ a → in_range at len a ≡ false
 behind_range at len a high = rw (le-leb at a (omega arith), le-ltb a (at + len) high) refl
 
--- Among the items of a heap a byte is in no block, or in one, whose bytes all are in it; the one behind these is in none.
+-- Among the items of a heap a byte is in no block, or in one, whose bytes all are in it; the one
+-- after these is in none.
 record IsPayload (at : ℕ) (items : List Item) (a block held : ℕ) : Type 0 where
   pub low : at + 4 ≤ block
   pub here : block ≤ a

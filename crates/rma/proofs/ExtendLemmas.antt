@@ -283,7 +283,8 @@ why_refused e block change good full tried holds = sized (block_sized e.store 0x
   sized (Ok size) is held =
       told (rma_base e.store + total_changed size change) size is held refl (grown_to e (rma_base e.store + total_changed size change)) refl
 
--- where the call is full after the area could grow in place, it did not grow: g is the estate then, and f that after the call that was refused
+-- where the call is full after the area could grow in place, it did not grow: g is the estate then,
+-- and f that after the call that was refused
 pub record IsTried (e g f : Estate) (block change : ℕ) : Type 0 where
   pub none : grown_in_place e block change ≡ e
   pub again : grown_in_place f block change ≡ f

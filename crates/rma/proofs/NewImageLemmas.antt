@@ -141,7 +141,8 @@ pub given_done : (s t : Store) (r : Result (Store × ℕ) ErrorNumber) (block : 
 given_done s t (Ok x) block given = λ i. Ok (sym given.0 i, sym given.1 i)
 given_done s t (Err f) block given = absurd given
 
--- and that of the block of a new image: s is the store before, t after the claim, u with the bytes, v with the record
+-- and that of the block of a new image: s is the store before, t after the claim, u with the bytes,
+-- v with the record
 pub made_others : (s t u v : Store) (block total : ℕ) → IsLiveBlock t block total → t.others ≡ s.others → u.heaps ≡ t.heaps → u.others ≡ t.others
     → v ≡ image_recorded u block → has_image block s.others ≡ false
     → v.others ≡ s.others ++ record { kind = kind.Image; at = block; len = total - 4 } ∷ []
@@ -153,7 +154,8 @@ made_others s t u v block total is claimed heaps filled recorded none =
     ap (λ (x : Store). x.others) recorded ∙ recorded_others u block total there own
     ∙ ap (λ (rs : List Region). rs ++ record { kind = kind.Image; at = block; len = total - 4 } ∷ []) same
 
--- its record comes behind all others: m is the memory before, n after the claim, o with the bytes, p with the record
+-- its record comes after all others: m is the memory before, n after the claim, o with the bytes, p
+-- with the record
 pub made_order : (m n o p : AddressMap) (block total : ℕ) → IsLiveBlock (store_of n) block total → (store_of n).others ≡ (store_of m).others
     → (store_of o).heaps ≡ (store_of n).heaps → (store_of o).others ≡ (store_of n).others → KeepsOrder m n → layout o ≡ layout n
     → MatchResult (block_sized (store_of o) 0x01800000 block) (λ _. AddsRecord o p kind.Image block) (λ _. KeepsOrder o p)

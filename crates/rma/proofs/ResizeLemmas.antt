@@ -107,7 +107,8 @@ part_free : (anchor : ℕ → Bool) (at old new : ℕ) → anchor_among anchor a
 part_free anchor at old new none =
     among_none anchor (at + new) (old - new) (λ a low high. none_among anchor at old a none (omega (arith, low)) (omega (arith, low, high)))
 
--- a change of a block's size, where there is room for more in its place, or at the base for one that holds no anchor
+-- a change of a block's size, where there is room for more in its place, or at the base for one
+-- that holds no anchor
 placed_or_moved : (s : Store) (h : HeapList) (block total new : ℕ) → find_heap h.start s.heaps ≡ Some h → AreTotals h.items → IsGuests s h block total
     → (o : Option (List Item))
     → ((is_some o ≡ true) × (total < new))
@@ -229,7 +230,7 @@ in_place_stays block end later new at total (Live t ∷ xs) live other = elim (c
       (in_place_stays block end later new (at + t) total xs live' (λ (e : block + total ≡ at + t + size_of xs + 4). other (omega arith))))
 ]
 
--- the last block gets what bytes there are behind it
+-- the last block gets what bytes there are after it
 some_mapped : (f : List Item → List Item) (o : Option (List Item)) → is_some o ≡ true → is_some (option_map f o) ≡ true
 some_mapped f None some = some
 some_mapped f (Some ys) some = refl

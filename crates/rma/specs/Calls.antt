@@ -1,6 +1,7 @@
--- The relocatable module area: the heap at its base, which grows with its area out of the pool of pages (RISC OS 3 Programmer's Reference Manual,
--- "OS_Module", reasons 5, 6, 7 and 13; the numbers and the order of the refusals, and that the area grows by the fewest pages that suffice, are
--- this project's own). All sums are exact.
+-- The relocatable module area: the heap at its base, which grows with its area out of the pool of
+-- pages (RISC OS 3 Programmer's Reference Manual, "OS_Module", reasons 5, 6, 7 and 13; the numbers
+-- and the order of the refusals, and that the area grows by the fewest pages that suffice, are this
+-- project's own). All sums are exact.
 use Rattle.std.specs.Prelude.{ℕ, Bool, true, false, ◌+◌, ◌-◌, ◌*◌, ◌==◌, nat_le, nat_lt, Option, Some, None, Result, Ok, Err, if◌then◌else◌}
 use Rattle.profile.specs.Outcome.{bind}
 use Rattle.profile.specs.declared.error.ErrorNumber.{ErrorNumber}
@@ -32,7 +33,8 @@ abbrev pub in_area : {A : Type 0} → Estate → Result (Store × A) ErrorNumber
 in_area e (Ok r) = Ok (with_store e r.0, r.1)
 in_area e (Err f) = Err (rma_error f)
 
--- Reason 5, describe: the largest block that can be claimed as the area stands, and all that is free.
+-- Reason 5, describe: the largest block that can be claimed as the area stands, and all that is
+-- free.
 abbrev pub or_nothing : Result (ℕ × ℕ) ErrorNumber → ℕ × ℕ
 or_nothing (Ok r) = r
 or_nothing (Err e) = (0, 0)
@@ -59,7 +61,8 @@ with_pages_more e count = record {
   land = land_more e.land 1 count;
 }
 
--- The area grows so that the heap reaches to `end`, counted from its start: by the fewest pages that suffice, and not at all where it does so.
+-- The area grows so that the heap reaches to `end`, counted from its start: by the fewest pages
+-- that suffice, and not at all where it does so.
 abbrev pub pages_short : Estate → ℕ → ℕ
 pages_short e end = pages_for (end - 4096 * area_pages e)
 
@@ -85,8 +88,8 @@ abbrev pub or_grown : {A : Type 0} → Estate → ℕ → (Store → Result (Sto
     → Result (Estate × A) ErrorNumber
 or_grown e end call answer = if is_full answer then in_grown_area e end call else in_area e answer
 
--- Reason 6, claim: a block of `size` bytes, in free room of the heap, or at its base, for which the area grows. The answer is the address of its
--- first byte.
+-- Reason 6, claim: a block of `size` bytes, in free room of the heap, or at its base, for which the
+-- area grows. The answer is the address of its first byte.
 abbrev pub rma_base : Store → ℕ
 rma_base s = base_offset s 0x01800000
 
@@ -98,14 +101,15 @@ rma_claimed e size =
 unfoldable pub rma_freed : Estate → ℕ → Result (Estate × Unit {0}) ErrorNumber
 rma_freed e block = in_area e (gave_back e.store 0x01800000 block)
 
--- Reason 13, extend: a block's size changes as in a heap. But first the area grows for the last block, where that needs it and can have it, so that
--- it gets its bytes where it stands; and where a block must move, the area grows for its new place if no free room fits. A block in which a heap lies
--- is not moved: that is told where the area could grow, which it does not then.
+-- Reason 13, extend: a block's size changes as in a heap. But first the area grows for the last
+-- block, where that needs it and can have it, so that it gets its bytes where it stands; and where
+-- a block must move, the area grows for its new place if no free room fits. A block in which a heap
+-- lies is not moved: that is told where the area could grow, which it does not then.
 abbrev pub total_changed : ℕ → ℕ → ℕ
 total_changed size change = round_up_8 (changed_by (size + 4) change)
 
--- Where the heap would have to end for the block in its place, if that is the last, or for it at the base; 0 where there is none. A block that ends
--- at the base is the last.
+-- Where the heap would have to end for the block in its place, if that is the last, or for it at
+-- the base; 0 where there is none. A block that ends at the base is the last.
 abbrev pub end_in_place : ℕ → ℕ → ℕ → Result ℕ ErrorNumber → ℕ
 end_in_place base block change (Err f) = 0
 end_in_place base block change (Ok size) =

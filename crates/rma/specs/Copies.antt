@@ -1,5 +1,6 @@
--- Which bytes a copy may be made of, as a module image (RISC OS 3 Programmer's Reference Manual, "OS_Module", reason 11; that of the module area only
--- what live blocks hold is copied is this project's own).
+-- Which bytes a copy may be made of, as a module image (RISC OS 3 Programmer's Reference Manual,
+-- "OS_Module", reason 11; that of the module area only what live blocks hold is copied is this
+-- project's own).
 use Rattle.std.specs.Prelude.{ℕ, ◌*◌, ◌&&◌, not, Bool}
 use Rattle.std.specs.List.{list_any, range_with_len}
 use Rattle.address_map.specs.Bytes.{in_range}
@@ -8,8 +9,8 @@ use Rattle.os_heap.specs.Ranges.{are_mapped}
 use Rattle.flex_kept.specs.dynamic_areas.specs.Ground.{Estate}
 use Rattle.rma.specs.Calls.{area_pages}
 
--- Is a byte one of the module area's that no live block holds: of the heap's own words, of free room, or past the base? What a block holds may be a
--- heap's, with its words.
+-- Is a byte one of the module area's that no live block holds: of the heap's own words, of free
+-- room, or past the base? What a block holds may be a heap's, with its words.
 abbrev pub is_bare : Estate → ℕ → Bool
 is_bare e a = in_range 0x01800000 (4096 * area_pages e) a && is_other (area_payload e.store a)
 

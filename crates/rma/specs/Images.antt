@@ -1,5 +1,6 @@
--- Module images in the module area: each is a live block there, recorded over all bytes that the block holds, which no heap call gives back or
--- moves until the record goes (RISC OS 3 Programmer's Reference Manual, "OS_Module", reasons 1, 4 and 11).
+-- Module images in the module area: each is a live block there, recorded over all bytes that the
+-- block holds, which no heap call gives back or moves until the record goes (RISC OS 3 Programmer's
+-- Reference Manual, "OS_Module", reasons 1, 4 and 11).
 use Rattle.std.specs.Prelude.{ℕ, ◌≡◌, ◌<◌, true, false, length, IfOk, Result, Ok, Err, [], ◌∷◌, ◌++◌}
 use Rattle.profile.specs.declared.error.ErrorNumber.{ErrorNumber}
 use Rattle.address_map.specs.declared.region.Kind.TheVariants as kind
@@ -29,8 +30,8 @@ or_kept s (Err f) = s
 unfoldable pub image_freed : Store → ℕ → Store
 image_freed s at = or_kept (image_dropped s at) (gave_back (image_dropped s at) 0x01800000 at)
 
--- The block at an address can become an image, if one is there: the heap at the module area's place is that area's, there is room for a record more,
--- and no heap lies in the block.
+-- The block at an address can become an image, if one is there: the heap at the module area's place
+-- is that area's, there is room for a record more, and no heap lies in the block.
 pub record CanRecord (s : Store) (at : ℕ) : Type 0 where
   pub area : OfHeap (λ h. is_area h.kind ≡ true) (find_heap 0x01800000 s.heaps)
   pub room : length s.others < 68

@@ -1,4 +1,5 @@
--- What holds of the module area, said another way than its calls are (RISC OS 3 Programmer's Reference Manual, "OS_Module", reasons 6 and 7).
+-- What holds of the module area, said another way than its calls are (RISC OS 3 Programmer's
+-- Reference Manual, "OS_Module", reasons 6 and 7).
 use Rattle.std.specs.Prelude.{ℕ, ◌≡◌, false, Result, Ok, Err}
 use Rattle.profile.specs.declared.error.ErrorNumber.{ErrorNumber}
 use Rattle.os_heap.specs.Calls.{got, items_of}
@@ -11,7 +12,8 @@ abbrev pub IsUndone : Estate → Result (Estate × Unit {0}) ErrorNumber → Typ
 IsUndone e (Err f) = ⊥
 IsUndone e (Ok r) = (items_of r.0.store 0x01800000 ≡ items_of e.store 0x01800000) × ((r.0.pool ≡ e.pool) × (r.0.land ≡ e.land))
 
--- A block that is claimed without growth, and given back at once, leaves blocks, free room and area as they were.
+-- A block that is claimed without growth, and given back at once, leaves blocks, free room and area
+-- as they were.
 abbrev pub FreeUndoesClaim : Type 0
 FreeUndoesClaim = (e g : Estate) (size block : ℕ) → IsEstate e → is_full (got e.store 0x01800000 size) ≡ false → rma_claimed e size ≡ Ok (g, block)
     → has_image block e.store.others ≡ false → IsUndone e (rma_freed g block)

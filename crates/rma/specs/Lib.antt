@@ -1,3 +1,4 @@
+-- The module area as a heap that grows. Begin with Calls.
 pub use Rattle.profile
 pub use Rattle.address_map
 pub use Rattle.os_heap.specs.os_heap_lists

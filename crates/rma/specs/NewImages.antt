@@ -1,5 +1,6 @@
--- New images in the module area: a block is claimed, the image gets its bytes there, and the block is recorded as an image (RISC OS 3 Programmer's
--- Reference Manual, "OS_Module", reasons 1 and 11). An image in place keeps its bytes, and is recorded over exactly these (reason 10).
+-- New images in the module area: a block is claimed, the image gets its bytes there, and the block
+-- is recorded as an image (RISC OS 3 Programmer's Reference Manual, "OS_Module", reasons 1 and 11).
+-- An image in place keeps its bytes, and is recorded over exactly these (reason 10).
 use Rattle.std.specs.Prelude.{ℕ, ◌≡◌, ◌+◌, ◌-◌, ◌==◌, ◌%◌, ◌&&◌, not, Bool, List, length, Some, Result, Ok, [], ◌∷◌, ◌++◌}
 use Rattle.profile.specs.Outcome.{bind}
 use Rattle.profile.specs.declared.error.ErrorNumber.{ErrorNumber}
@@ -37,8 +38,8 @@ image_record at len = record { kind = kind.Image; at = at; len = total_for len -
 abbrev pub IsLiveBlock : Store → ℕ → ℕ → Type 0
 IsLiveBlock s block total = OfHeap (λ h. live_total block (h.start + 16) h.items ≡ Some total) (find_heap 0x01800000 s.heaps)
 
--- Where an image may be in place: from a whole word on, all mapped, and clear of all heaps, of all other recorded ranges, and of anchors. An empty
--- range meets nothing.
+-- Where an image may be in place: from a whole word on, all mapped, and clear of all heaps, of all
+-- other recorded ranges, and of anchors. An empty range meets nothing.
 abbrev pub may_be_in_place : Store → ℕ → ℕ → Bool
 may_be_in_place s at len = (at % 4 == 0 && are_mapped s.bytes.mapped at len) && not (meets_any at len s)
 

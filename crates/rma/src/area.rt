@@ -1,3 +1,5 @@
+//! The module area, and OS_Module 5: what is free in it.
+
 ghost use Rattle.std.specs.Prelude.{◌≡◌, Ok};
 ghost use Rattle.os_heap.specs.Store.{store_of, IsSound};
 ghost use Rattle.rma.specs.Calls.{rma_described};
@@ -17,7 +19,8 @@ impl Rma {
         Rma
     }
 
-    /// The bytes of the largest block that can be claimed as the area stands, and all that are free. It is never refused.
+    /// The bytes of the largest block that can be claimed as the area stands, and all that are
+    /// free. It is never refused.
     ///
     /// RISC OS 3 Programmer's Reference Manual, "OS_Module", reason 5.
     #[tactic(auto, unfolding(crate::specs::Calls::rma_described))]

@@ -1,3 +1,5 @@
+//! OS_Module 6: a block is claimed, and the area grows where no room is left.
+
 ghost use Rattle.std.specs.Prelude.{◌≡◌, ◌+◌, ◌-◌, false, true, IfOk};
 ghost use Rattle.profile.specs.MemoryMap.{module_area_maximum, module_area_start};
 ghost use Rattle.profile.specs.Outcome.{Gives};
@@ -24,12 +26,14 @@ use profile::ErrorNumber;
 use profile::memory_map::RMA_START;
 
 impl Rma {
-    /// Claims a block of `size` bytes, and answers the address of its first byte: in free room of the module area, or at the end of its last
-    /// block, for which the area grows by the fewest pages that suffice.
+    /// Claims a block of `size` bytes, and answers the address of its first byte: in free room of
+    /// the module area, or at the end of its last block, for which the area grows by the fewest
+    /// pages that suffice.
     ///
     /// # Errors
     ///
-    /// `RmaNoRoom` where nothing fits, and the pool or the maximum does not allow that growth. Nothing is changed then.
+    /// `RmaNoRoom` where nothing fits, and the pool or the maximum does not allow that growth.
+    /// Nothing is changed then.
     ///
     /// RISC OS 3 Programmer's Reference Manual, "OS_Module", reason 6.
     pub fn claim(

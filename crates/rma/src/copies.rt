@@ -1,3 +1,5 @@
+//! Whether a range of memory may be copied into the module area as an image.
+
 ghost use Rattle.std.specs.Prelude.{◌≡◌};
 ghost use Rattle.flex_kept.specs.dynamic_areas.specs.Ground.{estate_of, IsEstate};
 ghost use Rattle.rma.specs.Copies.{has_bare, may_be_copied};
@@ -11,10 +13,11 @@ use os_heap::{Heaps, Payload};
 use profile::memory_map::RMA_START;
 
 impl Rma {
-    /// Whether a module image may be a copy of the `len` bytes from an address on: all are mapped, and those of the module area lie in what one live
-    /// block holds.
+    /// Whether a module image may be a copy of the `len` bytes from an address on: all are mapped,
+    /// and those of the module area lie in what one live block holds.
     ///
-    /// RISC OS 3 Programmer's Reference Manual, "OS_Module", reason 11; the part about the module area is this project's own.
+    /// RISC OS 3 Programmer's Reference Manual, "OS_Module", reason 11; the part about the module
+    /// area is this project's own.
     pub fn may_be_copied(&self, map: &AddressMap, areas: &Areas, at: u32, len: u32) -> bool
         requires { IsEstate (estate_of map.now areas.now) }
         ensures { result ≡ may_be_copied (estate_of map.now areas.now) at len }
@@ -23,8 +26,9 @@ impl Rma {
     }
 }
 
-/// Whether one of the `len` bytes from an address on is in the module area, but in nothing that a live block holds. A length word stands between any
-/// two blocks, so those of the bytes that are in the area must all lie in one block.
+/// Whether one of the `len` bytes from an address on is in the module area, but in nothing that a
+/// live block holds. A length word stands between any two blocks, so those of the bytes that are in
+/// the area must all lie in one block.
 fn has_bare(map: &AddressMap, areas: &Areas, at: u32, len: u32) -> bool
     requires { IsEstate (estate_of map.now areas.now) }
     ensures { result ≡ has_bare (estate_of map.now areas.now) at len }

@@ -1,3 +1,5 @@
+//! The errors of a heap under their names in the module area.
+
 ghost use Rattle.std.specs.Prelude.{◌≡◌};
 ghost use Rattle.rma.specs.Calls.{is_no_room, rma_error};
 

@@ -1,3 +1,5 @@
+//! OS_Module 13: a block gets another size, and the area grows where that is needed.
+
 ghost use Rattle.std.specs.Prelude.{◌≡◌, ◌<◌, ◌+◌, ◌^◌, true, is_ok, if◌then◌else◌};
 ghost use Rattle.profile.specs.Outcome.{Gives};
 ghost use Rattle.profile.specs.declared.error.ErrorNumber.TheVariants.{RmaBlockHoldsHeap, RmaNoRoom};
@@ -20,16 +22,20 @@ use profile::ErrorNumber;
 use profile::memory_map::RMA_START;
 
 impl Rma {
-    /// Changes the size of a block by `change` bytes, a signed word in two's complement, and answers the address of its first byte then; or 0
-    /// where no byte is left, and the block is given back. The block stays where it is if there is room; for the last block the area grows, if
-    /// it can. Else it moves to a block that is claimed as `claim` does, and takes its bytes along. The heaps of which bytes are freed or cut off are
-    /// forgotten, and those that lie in them.
+    /// Changes the size of a block by `change` bytes, a signed word in two's complement, and
+    /// answers the address of its first byte then; or 0 where no byte is left, and the block is
+    /// given back. The block stays where it is if there is room; for the last block the area grows,
+    /// if it can. Else it moves to a block that is claimed as `claim` does, and takes its bytes
+    /// along. The heaps of which bytes are freed or cut off are forgotten, and those that lie in
+    /// them.
     ///
     /// # Errors
     ///
-    /// The first of these, and nothing is changed then: `RmaNotABlock` where no block's bytes begin at `block`, or they are a module image;
-    /// `RmaHoldsAnchor` where an anchor of the flex store lies in what is freed, cut off or moved; `RmaNoRoom` where it must move, and nothing
-    /// fits, and the pool or the maximum does not allow the growth that would do; `RmaBlockHoldsHeap` where it must move, and a heap lies in it.
+    /// The first of these, and nothing is changed then: `RmaNotABlock` where no block's bytes begin
+    /// at `block`, or they are a module image; `RmaHoldsAnchor` where an anchor of the flex store
+    /// lies in what is freed, cut off or moved; `RmaNoRoom` where it must move, and nothing fits,
+    /// and the pool or the maximum does not allow the growth that would do; `RmaBlockHoldsHeap`
+    /// where it must move, and a heap lies in it.
     ///
     /// RISC OS 3 Programmer's Reference Manual, "OS_Module", reason 13.
     pub fn extend(
@@ -77,7 +83,8 @@ fn grow_in_place(map: &mut AddressMap, areas: &mut Areas, block: u32, change: u3
     let _ = grow_to(map, areas, end);
 }
 
-/// Moves a block that found no room, once the area is grown. One in which a heap lies is not moved, and the area does not grow for it.
+/// Moves a block that found no room, once the area is grown. One in which a heap lies is not moved,
+/// and the area does not grow for it.
 fn move_grown(
     map: &mut AddressMap,
     areas: &mut Areas,
@@ -123,7 +130,8 @@ fn holds_heap(map: &AddressMap, block: u32) -> bool
     }
 }
 
-/// Why a block in which a heap lies is not moved: because of that heap, where the area could grow for it.
+/// Why a block in which a heap lies is not moved: because of that heap, where the area could grow
+/// for it.
 fn why_unmoved(map: &AddressMap, areas: &Areas, end: u64) -> ErrorNumber
     requires { IsEstate (estate_of map.now areas.now) }
     ensures { result
@@ -136,7 +144,8 @@ fn why_unmoved(map: &AddressMap, areas: &Areas, end: u64) -> ErrorNumber
     }
 }
 
-/// Where the heap would have to end for a change of its last block; 0 where the block is another, or none.
+/// Where the heap would have to end for a change of its last block; 0 where the block is another,
+/// or none.
 fn end_in_place(map: &AddressMap, block: u32, change: u32) -> u64
     requires { IsSound (store_of map.now) }
     ensures { result ≡ end_in_place (rma_base (store_of map.now)) block change

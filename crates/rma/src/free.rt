@@ -1,3 +1,5 @@
+//! OS_Module 7: a block is given back.
+
 ghost use Rattle.std.specs.Prelude.{◌≡◌};
 ghost use Rattle.profile.specs.Outcome.{Gives};
 ghost use Rattle.address_map.specs.Memory.{mapping};
@@ -17,12 +19,14 @@ use profile::ErrorNumber;
 use profile::memory_map::RMA_START;
 
 impl Rma {
-    /// Gives the block whose first byte is at `block` back to the module area, which keeps its size. The heaps that lie in the block are forgotten.
+    /// Gives the block whose first byte is at `block` back to the module area, which keeps its
+    /// size. The heaps that lie in the block are forgotten.
     ///
     /// # Errors
     ///
-    /// `RmaNotABlock` where no block's bytes begin at `block`, or they are a module image; `RmaHoldsAnchor` where an anchor of the flex store
-    /// lies in the block. Nothing is changed then.
+    /// `RmaNotABlock` where no block's bytes begin at `block`, or they are a module image;
+    /// `RmaHoldsAnchor` where an anchor of the flex store lies in the block. Nothing is changed
+    /// then.
     ///
     /// RISC OS 3 Programmer's Reference Manual, "OS_Module", reason 7.
     pub fn free(&self, map: &mut AddressMap, block: u32) -> Result<(), ErrorNumber>

@@ -1,3 +1,5 @@
+//! The module area grown so that its heap reaches to an address, if it can.
+
 ghost use Rattle.std.specs.Prelude.{◌≡◌, ◌*◌, is_ok};
 ghost use Rattle.profile.specs.Outcome.{Leaves};
 ghost use Rattle.os_heap.specs.Order.{KeepsOrder};
@@ -15,8 +17,8 @@ use flex_kept::dynamic_areas::{Areas, MODULE_AREA};
 use profile::ErrorNumber;
 use profile::memory_map::{PAGE_SIZE, RMA_MAXIMUM};
 
-/// Grows the module area so that its heap reaches to `end`, in bytes from its start: by the fewest pages that suffice, and not at all where it
-/// does so.
+/// Grows the module area so that its heap reaches to `end`, in bytes from its start: by the fewest
+/// pages that suffice, and not at all where it does so.
 ///
 /// # Errors
 ///

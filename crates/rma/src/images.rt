@@ -1,3 +1,5 @@
+//! Blocks of the module area recorded as module images, and given back as such.
+
 ghost use Rattle.std.specs.Prelude.{◌≡◌, IfOk, MatchResult};
 ghost use Rattle.std.specs.List.{filter};
 ghost use Rattle.address_map.specs.Memory.{mapping, regions};
@@ -17,8 +19,9 @@ use os_heap::Heaps;
 use profile::memory_map::RMA_START;
 
 impl Rma {
-    /// Records the block whose first byte is at `at`, in which no heap lies, as a module image, over all bytes that it holds; no call gives it back or
-    /// moves it then, but a slide, which the record follows. Where no block of a guest's is there nothing is done.
+    /// Records the block whose first byte is at `at`, in which no heap lies, as a module image,
+    /// over all bytes that it holds; no call gives it back or moves it then, but a slide, which the
+    /// record follows. Where no block of a guest's is there nothing is done.
     pub fn record_image(&self, map: &mut AddressMap, at: u32)
         requires sound { IsSound (store_of map.old) }
         requires may { CanRecord (store_of map.old) at }
@@ -39,7 +42,8 @@ impl Rma {
         }
     }
 
-    /// Takes the record of the image at an address away, if there is one: a block there is a guest's then, and can be given back.
+    /// Takes the record of the image at an address away, if there is one: a block there is a
+    /// guest's then, and can be given back.
     pub fn drop_image(&self, map: &mut AddressMap, at: u32)
         requires { IsSound (store_of map.old) }
         ensures store { store_of map.new ≡ image_dropped (store_of map.old) at }
@@ -53,8 +57,9 @@ impl Rma {
         map.disown(Kind::Image, at);
     }
 
-    /// Gives the block of a module image back: its record goes, and its room is free then. Of a block that is no image the same is done, the heaps in
-    /// it are forgotten, and where no block is nothing more.
+    /// Gives the block of a module image back: its record goes, and its room is free then. Of a
+    /// block that is no image the same is done, the heaps in it are forgotten, and where no block
+    /// is nothing more.
     pub fn free_image(&self, map: &mut AddressMap, at: u32)
         requires sound { IsSound (store_of map.old) }
         requires classes { AreClasses map.old }

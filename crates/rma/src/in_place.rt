@@ -1,3 +1,5 @@
+//! Images that stay where they lie: whether a range may be one, and its record.
+
 ghost use Rattle.std.specs.Prelude.{◌≡◌, ◌<◌, true, length};
 ghost use Rattle.address_map.specs.Memory.{mapping};
 ghost use Rattle.address_map.specs.declared.region.Kind.TheVariants.{Image};
@@ -14,10 +16,11 @@ use crate::area::Rma;
 use address_map::{AddressMap, Kind};
 
 impl Rma {
-    /// Whether the `len` bytes from an address on may be an image in place: they begin at a whole word, all are mapped, and none lies in a recorded
-    /// range or an anchor.
+    /// Whether the `len` bytes from an address on may be an image in place: they begin at a whole
+    /// word, all are mapped, and none lies in a recorded range or an anchor.
     ///
-    /// RISC OS 3 Programmer's Reference Manual, "OS_Module", reason 10; that it meets nothing is this project's own.
+    /// RISC OS 3 Programmer's Reference Manual, "OS_Module", reason 10; that it meets nothing is
+    /// this project's own.
     pub fn may_be_in_place(&self, map: &AddressMap, at: u32, len: u32) -> bool
         ensures { result ≡ may_be_in_place (store_of map.now) at len }
     {

@@ -2,7 +2,8 @@
 
 ghost use Rattle.rma.specs.Laws.{FreeUndoesClaim};
 
-/// A block that is claimed without growth, and given back at once, leaves the module area as it was.
+/// A block that is claimed without growth, and given back at once, leaves the module area as it
+/// was.
 #[tactic(auto, using(crate::proofs::Undoing::free_undoes_claim))]
 pub fn free_undoes_claim()
     ensures { FreeUndoesClaim }

@@ -1,4 +1,4 @@
-//! The relocatable module area: a heap whose blocks modules and programs claim, and which grows with its area.
+//! The relocatable module area, for module calls: a heap that grows as blocks are claimed.
 #![tactic(auto)]
 
 pub mod area;

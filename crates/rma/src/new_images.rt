@@ -1,3 +1,5 @@
+//! New module images in the module area, made of given bytes or copied from memory.
+
 ghost use Rattle.std.specs.Prelude.{◌≡◌, ◌-◌, ◌%◌, ◌≤◌, ◌<◌, ◌++◌, ◌∷◌, [], false, true, length, IfOk, MatchResult};
 ghost use Rattle.profile.specs.MemoryMap.{module_area_maximum, module_area_start};
 ghost use Rattle.profile.specs.Outcome.{Gives};
@@ -21,8 +23,8 @@ use profile::ErrorNumber;
 use profile::memory_map::RMA_MAXIMUM;
 
 impl Rma {
-    /// Makes a module image of these bytes: claims a block, as `claim` does, puts the bytes there, and records the block as an image. The answer is
-    /// the address of the first byte.
+    /// Makes a module image of these bytes: claims a block, as `claim` does, puts the bytes there,
+    /// and records the block as an image. The answer is the address of the first byte.
     ///
     /// # Errors
     ///
@@ -64,8 +66,8 @@ impl Rma {
         Ok(block)
     }
 
-    /// Makes a module image of the `len` bytes from an address on, all mapped and none of them in free room of the module area, as `make_image` makes
-    /// one of bytes that are given.
+    /// Makes a module image of the `len` bytes from an address on, all mapped and none of them in
+    /// free room of the module area, as `make_image` makes one of bytes that are given.
     ///
     /// # Errors
     ///

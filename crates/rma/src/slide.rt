@@ -1,3 +1,5 @@
+//! OS_Module 8: the movable blocks of the module area slide together.
+
 ghost use Rattle.std.specs.Prelude.{◌≡◌};
 ghost use Rattle.address_map.specs.Memory.{mapping, regions};
 ghost use Rattle.address_map.specs.Moves.{moved_regions};
@@ -11,13 +13,16 @@ use flex_kept::os_heap_slide::{Moves, slide};
 use profile::memory_map::RMA_START;
 
 impl Rma {
-    /// Slides blocks of the module area towards its start. `movable` has the addresses of those that can be moved, in order, at most 128, none of which
-    /// holds an anchor of the flex store or a heap. Each of these goes to the end of the block before it, or to the place of the first item, where there
-    /// is none; all others stay. The blocks keep their bytes, and the records of module images follow them.
+    /// Slides blocks of the module area towards its start. `movable` has the addresses of those
+    /// that can be moved, in order, at most 128, none of which holds an anchor of the flex store or
+    /// a heap. Each of these goes to the end of the block before it, or to the place of the first
+    /// item, where there is none; all others stay. The blocks keep their bytes, and the records of
+    /// module images follow them.
     ///
     /// The answer has the old and the new address of each block that moved.
     ///
-    /// RISC OS 3 Programmer's Reference Manual, "OS_Module", reason 8; which blocks can be moved is this project's own.
+    /// RISC OS 3 Programmer's Reference Manual, "OS_Module", reason 8; which blocks can be moved is
+    /// this project's own.
     #[tactic(auto, using(flex_kept::proofs::Slides::slides_keep))]
     pub fn slide(&self, map: &mut AddressMap, movable: &[u32]) -> Moves
         requires sound { IsSound (store_of map.old) }

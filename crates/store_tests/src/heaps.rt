@@ -1,5 +1,5 @@
-//! What no script shows of heaps: how many items a call looks at, the block around an address, the class of a word, and heaps
-//! that lie in blocks.
+//! What no script shows of heaps: how many items a call looks at, the block around an address, the
+//! class of a word, and heaps that lie in blocks.
 
 ghost use Rattle.std.specs.Prelude.{IfOk};
 ghost use Rattle.os_heap.specs.Store.{store_of, AreClasses, IsSound};
@@ -60,8 +60,8 @@ fn a_walk_ends_at_the_block(rt: HostRuntime) -> Result<(), Fail> {
     Ok(())
 }
 
-// The first and the third of four blocks are freed, and two are claimed: one that is too large for either free room, and
-// one that fits in the first.
+// The first and the third of four blocks are freed, and two are claimed: one that is too large for
+// either free room, and one that fits in the first.
 #[test]
 fn links_are_followed_to_the_first_that_fits(rt: HostRuntime) -> Result<(), Fail> {
     let heaps = Heaps::new();
@@ -74,8 +74,8 @@ fn links_are_followed_to_the_first_that_fits(rt: HostRuntime) -> Result<(), Fail
     Ok(())
 }
 
-/// A block, by how much it changes its size, and how many items are looked at: those up to the block, and free room too
-/// where it has to move.
+/// A block, by how much it changes its size, and how many items are looked at: those up to the
+/// block, and free room too where it has to move.
 static RESIZES: [(u32, u32, u32); 6] = [
     (0x9014, 24, 1),
     (0x9014, 25, 2),
@@ -133,8 +133,8 @@ fn owned_words_are_a_heaps(rt: HostRuntime) -> Result<(), Fail> {
     Ok(())
 }
 
-/// A call on the heap at an address: with a size; with a block; with a block and a change of its size; with a change of
-/// the heap's size. A change is a signed word in two's complement.
+/// A call on the heap at an address: with a size; with a block; with a block and a change of its
+/// size; with a change of the heap's size. A change is a signed word in two's complement.
 #[derive(Clone, Copy, Debug)]
 enum Call {
     Init(u32, u32),
@@ -144,12 +144,14 @@ enum Call {
     ChangeSize(u32, u32),
 }
 
-/// A call and its answer, which is a block where the call is answered by one, and 0 where it is not.
+/// A call and its answer, which is a block where the call is answered by one, and 0 where it is
+/// not.
 type Row = (Call, Result<u32, ErrorNumber>);
 
-/// A block of 60 bytes, &9014 to &9050, and one behind it. A heap that begins in the first and ends outside is refused;
-/// one that lies in it has blocks of its own, and grows up to its end. The block cannot be moved as long as the heap is
-/// there, it can be cut behind the heap, and the heap is forgotten as one of its bytes is cut off, or the block is freed.
+/// A block of 60 bytes, &9014 to &9050, and one after it. A heap that begins in the first and ends
+/// outside is refused; one that lies in it has blocks of its own, and grows up to its end. The
+/// block cannot be moved as long as the heap is there, it can be cut after the heap, and the heap
+/// is forgotten as one of its bytes is cut off, or the block is freed.
 static IN_A_BLOCK: [Row; 19] = [
     (Get(HEAP, 60), Ok(0x9014)),
     (Get(HEAP, 20), Ok(0x9054)),
@@ -172,8 +174,9 @@ static IN_A_BLOCK: [Row; 19] = [
     (ChangeSize(0x9018, 0), Err(HeapBadDesc)),
 ];
 
-/// A block of 60 bytes again: regions over its length word, past its end, round the heap, where the heap begins, and in
-/// its free room; then those in a heap that has the whole block, and those in its block.
+/// A block of 60 bytes again: regions over its length word, past its end, round the heap, where the
+/// heap begins, and in its free room; then those in a heap that has the whole block, and those in
+/// its block.
 static REGIONS: [Row; 15] = [
     (Get(HEAP, 60), Ok(0x9014)),
     (Init(0x9010, 16), Err(HeapOverlaps)),
@@ -192,8 +195,8 @@ static REGIONS: [Row; 15] = [
     (Free(0x9014, 0x9028), Err(HeapBadDesc)),
 ];
 
-/// A block that ends with the heap, and a heap in it that ends there too: it grows no further, also where the heap round
-/// it has grown and the block has not.
+/// A block that ends with the heap, and a heap in it that ends there too: it grows no further, also
+/// where the heap round it has grown and the block has not.
 static AT_THE_END: [Row; 11] = [
     (Get(HEAP, 236), Ok(0x9014)),
     (Get(HEAP, 0), Err(HeapNoRoom)),
@@ -208,7 +211,8 @@ static AT_THE_END: [Row; 11] = [
     (Free(HEAP, 0x9014), Ok(0)),
 ];
 
-/// Two heaps in a block: the first grows up to the second, and the second with the block. The heap round them grows.
+/// Two heaps in a block: the first grows up to the second, and the second with the block. The heap
+/// round them grows.
 static TWO_IN_A_BLOCK: [Row; 11] = [
     (Get(HEAP, 60), Ok(0x9014)),
     (Init(0x9014, 32), Ok(0)),
@@ -223,8 +227,8 @@ static TWO_IN_A_BLOCK: [Row; 11] = [
     (Free(HEAP, 0x9014), Ok(0)),
 ];
 
-/// A heap in a block of a heap in a block. As the block round the innermost heap is freed it is forgotten, and may be
-/// made again once there is such a block again.
+/// A heap in a block of a heap in a block. As the block round the innermost heap is freed it is
+/// forgotten, and may be made again once there is such a block again.
 static THREE_DEEP: [Row; 11] = [
     (ChangeSize(HEAP, 256), Ok(0)),
     (Get(HEAP, 300), Ok(0x9014)),
@@ -255,7 +259,8 @@ fn answer_to(map: &mut AddressMap, call: Call) -> Result<u32, ErrorNumber>
     }
 }
 
-/// Makes calls one after another, from the heap at &9000 without blocks on, and asserts the answer to each.
+/// Makes calls one after another, from the heap at &9000 without blocks on, and asserts the answer
+/// to each.
 fn answers(rt: &impl Abort, alloc: Global, rows: &[Row]) -> Result<(), AllocError> {
     let mut map = begin(alloc)?;
     for (index, (call, answer)) in rows.iter().enumerate() {

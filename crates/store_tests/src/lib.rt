@@ -1,6 +1,7 @@
-//! Tests of memory and of heaps in it: the store, the map, and what of a heap's calls no script shows.
+//! Tests: the region of bytes, the address map, and what of a heap's calls no script shows.
 //!
-//! They stand apart from the crates that they test, since a crate with tests is proved once more with them.
+//! They stand apart from the crates that they test, since a crate with tests is proved once more
+//! with them.
 #![tactic(auto)]
 
 #[cfg(test)]

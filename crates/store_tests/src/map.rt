@@ -1,3 +1,5 @@
+//! Tests of the address map: pages, loads and stores, faults, classes, records and moves.
+
 use address_map::{AddressMap, Class, Kind};
 use profile::{Fault, ImageBytes};
 use std::test::Fail;

@@ -1,3 +1,5 @@
+//! Tests of the region of raw bytes: reads, writes, copies, fills and loans.
+
 ghost use Rattle.std.specs.Prelude.{◌<◌, ◌≤◌};
 
 use raw_store::RawStore;
@@ -108,7 +110,8 @@ fn copies_as_the_definition_says(rt: HostRuntime) -> Result<(), Fail> {
     Ok(())
 }
 
-// Copies `len` bytes from place 80: those places hold what stood at the source, and no other changed.
+// Copies `len` bytes from place 80: those places hold what stood at the source, and no other
+// changed.
 fn copies(rt: &impl Abort, alloc: Global, to: usize, len: usize) -> Result<(), AllocError>
     requires { (to ≤ 150) × (len ≤ 200) }
 {
