@@ -1,3 +1,6 @@
+//! Tests of sources and sinks: in memory, and over readers and writers that fail, are interrupted
+//! or take nothing.
+
 use profile::{
     Device, MemorySink, MemorySource, ReadFault, Sink, Source, WriteFault, push_all, push_parts,
 };

@@ -1,3 +1,5 @@
+//! Tests of module headers, good and bad.
+
 ghost use Rattle.std.specs.Prelude.{◌≤◌, ◌+◌};
 
 use module_header::{Header, HeaderFault};
@@ -11,11 +13,11 @@ static BARE: [u8; 30] = *b"\0\0\0\0\0\0\0\0\0\0\0\0\0\0\0\0\x1C\0\0\0\0\0\0\0\0\
 static DOUBLE: [u8; 48] =
     *b"\0\0\0\0\0\0\0\0\0\0\0\0\0\0\0\0\x2C\0\0\0\0\0\0\0\0\0\0\0\0\0\x04\0\x24\0\0\0\0\0\x80\xE0\x0E\xF0\xB0\xE1Dbl\0";
 
-/// An initialise entry behind the title.
+/// An initialise entry after the title.
 static REFUSING: [u8; 47] =
     *b"\0\0\0\0\x20\0\0\0\0\0\0\0\0\0\0\0\x1C\0\0\0\0\0\0\0\0\0\0\0Bad\0\0\0\x8F\xE2\x01\xF2\x9E\xE3\xE8\x03\0\0no\0";
 
-/// A start entry behind the title.
+/// A start entry after the title.
 static STARTING: [u8; 40] =
     *b"\x20\0\0\0\0\0\0\0\0\0\0\0\0\0\0\0\x1C\0\0\0\0\0\0\0\0\0\0\0E\0\0\0\x45\x01\0\xEF\x11\0\0\xEF";
 

@@ -1,3 +1,5 @@
+//! Tests of the table of images: what it takes, and what it refuses and why.
+
 use image_loader::{ImageError, Images};
 use std::alloc::AllocError;
 use std::test::Fail;

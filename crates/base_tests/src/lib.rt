@@ -1,6 +1,7 @@
-//! Tests of what stands low: names, sizes, devices, images by name, headers of modules, and the command line.
+//! Tests: names, sizes, devices, images by name, headers of modules, and the command line.
 //!
-//! They stand apart from the crates that they test, since a crate with tests is proved once more with them.
+//! They stand apart from the crates that they test, since a crate with tests is proved once more
+//! with them.
 #![tactic(auto)]
 
 #[cfg(test)]

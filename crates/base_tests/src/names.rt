@@ -1,3 +1,5 @@
+//! Tests of numbers, names and texts: of errors, faults, devices and SWIs, and the memory map.
+
 use profile::memory_map::*;
 use profile::{ErrorNumber, Fault, ReadFault, SwiName, WriteFault, error_text};
 use std::test::Fail;

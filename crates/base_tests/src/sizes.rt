@@ -1,3 +1,5 @@
+//! Tests of the sizes of a machine, and of hexadecimal text.
+
 use profile::{Config, HexText};
 use std::test::Fail;
 

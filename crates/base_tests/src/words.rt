@@ -1,3 +1,5 @@
+//! Tests of command lines: what their words ask for, and why they are refused.
+
 use command_line::{Files, Settings, SettingsError, line_reason, settings, sizes_reason};
 use profile::Config;
 use std::alloc::Global;

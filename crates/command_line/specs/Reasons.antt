@@ -1,4 +1,5 @@
--- What is told of a command line whose options are there, but have no number, or sizes that no machine can have.
+-- What is told of a command line whose options are there, but have no number, or sizes that no
+-- machine can have.
 use Rattle.std.specs.Prelude.{ℕ, ◌+◌, ◌-◌, ◌^◌, ◌==◌, nat_lt, List, [], ◌++◌, is_none, codes, if◌then◌else◌, unwrap_or, IfSome, ◌≡◌}
 use Rattle.std.specs.Fmt.{debug_str, decimal}
 use Rattle.clap.specs.Words.{Row, first_of}
@@ -29,7 +30,8 @@ sizes_text rows = bad_size_text (size_or_0 rows (codes "pages")) (size_or_0 rows
 abbrev pub text_of : List Row → List ℕ → List ℕ
 text_of rows name = unwrap_or (first_of name rows) []
 
--- An option whose text is no number of at most so much; the text is quoted, where it is of ASCII characters alone.
+-- An option whose text is no number of at most so much; the text is quoted, where it is of ASCII
+-- characters alone.
 abbrev pub TellsBadNumber : List Row → List ℕ → ℕ → List ℕ → Type 0
 TellsBadNumber rows name most told = IfSome (debug_str (text_of rows name)) (λ quoted.
     told ≡ codes "--" ++ (name ++ (codes " takes a number N of at most " ++ (decimal most ++ (codes ", not " ++ quoted)))))

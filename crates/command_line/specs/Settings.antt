@@ -1,5 +1,6 @@
--- The program's command line: `rosm [--pages N] [--app N] [--rma N] [--budget N] [FILE...]`, and what it asks for.
--- Which words go to which option, and which are files, is clap's definition of the matches of a command.
+-- The program's command line: `rosm [--pages N] [--app N] [--rma N] [--budget N] [FILE...]`, and
+-- what it asks for. Which words go to which option, and which are files, is clap's definition of
+-- the matches of a command.
 use Rattle.std.specs.Prelude.{ℕ, ◌^◌, ◌&&◌, Bool, true, false, List, [], ◌∷◌, length, nat_lt, Option, Some, None, Result, Ok, Err}
 use Rattle.std.specs.Prelude.{if◌then◌else◌, codes, unwrap_or, option_and_then}
 use Rattle.std.specs.List.{list_all}
@@ -40,7 +41,8 @@ abbrev pub is_empty : Kinds → Bool
 is_empty [] = true
 is_empty (kind ∷ more) = false
 
--- the words name only what there is, no option twice and none without its value, and ask for no help
+-- the words name only what there is, no option twice and none without its value, and ask for no
+-- help
 unfoldable pub is_line : List (List ℕ) → Bool
 is_line words = is_empty (fault_of rosm words)
 
@@ -63,7 +65,8 @@ number_of bits text =
     let digits = without_leading_plus text in
     if is_numeral bits digits then Some (digits_value 10 digits) else None
 
--- the number of an option: that of its word, or of its default where the words don't have the option
+-- the number of an option: that of its word, or of its default where the words don't have the
+-- option
 unfoldable pub option_number : ℕ → List Row → List ℕ → Option ℕ
 option_number bits rows name = option_and_then (number_of bits) (first_of name rows)
 

@@ -1,4 +1,5 @@
--- The exit status after a script: 0 after OS_Exit, 1 after a fault, and 3 where the last stop was another, or none.
+-- The exit status after a script: 0 after OS_Exit, 1 after a fault, and 3 where the last stop was
+-- another, or none.
 use Rattle.std.specs.Prelude.{ℕ, Option, Some, None}
 use Rattle.profile.specs.declared.stop.Stop.{Stop}
 use Rattle.profile.specs.declared.stop.Stop.TheVariants.{Exit, Fault, Budget, Break}

@@ -1,3 +1,5 @@
+//! The list of files that a command line names.
+
 ghost use Rattle.std.specs.Prelude.{◌≡◌, ◌<◌, ℕ, List, [], IfOk, length, map, slice_get, Some, string_bytes};
 
 use std::alloc::{AllocError, Global};

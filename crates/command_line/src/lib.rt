@@ -1,5 +1,5 @@
-//! The command line of the program `rosm`: what its words ask for, or why they are refused, and the
-//! exit status that a script ends with.
+//! The command line, for the programs: what its words ask for, or why they are refused. It also has
+//! the exit status that a script ends with.
 #![tactic(auto)]
 
 pub mod files;

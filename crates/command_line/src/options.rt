@@ -1,3 +1,5 @@
+//! What a command line asks for, its form, and why one is refused.
+
 ghost use Rattle.std.specs.Prelude.{◌≡◌};
 ghost use Rattle.command_line.specs.declared.options.SettingsError.TheVariants.{Memory};
 

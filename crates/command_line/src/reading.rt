@@ -1,3 +1,5 @@
+//! The words of a command line, read by `clap` into settings.
+
 ghost use Rattle.std.specs.Prelude.{◌≡◌, ◌≢◌, IfOk, IfErr, OnOk, Err, map, true, false, List, codes};
 ghost use Rattle.clap.specs.Words.{app_of, found_of, rows_of, rule_of, with_rule};
 ghost use Rattle.command_line.specs.Settings.{file_rule, files_in, is_line, option_number, option_rule, refusal_of, rosm, rows_for, settings_for};
@@ -13,7 +15,7 @@ use std::alloc::{AllocError, Global};
 /// What the words of a command line ask for; the first is the program's name.
 ///
 /// Each option has a number in decimal digits, its default where the words don't have it, and
-/// stands at most once; all other words are files. Want of memory may come at any words.
+/// stands at most once; all other words are files. Memory may run out at any point.
 ///
 /// # Errors
 ///

@@ -1,3 +1,5 @@
+//! The exit status after a script.
+
 ghost use Rattle.std.specs.Prelude.{◌≡◌};
 ghost use Rattle.command_line.specs.Status.{status_after};
 

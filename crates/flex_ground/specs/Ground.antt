@@ -1,5 +1,6 @@
--- The flex store of a machine: memory spells it, its anchors lie in no recorded range but its own; and beside module images there are recorded the system pages, and
--- the range of the store, if there is one (Acorn C manual, "flex"; the layout is this project's own).
+-- The flex store of a machine: memory spells it, its anchors lie in no recorded range but its own;
+-- and beside module images there are recorded the system pages, and the range of the store, if
+-- there is one (Acorn C manual, "flex"; the layout is this project's own).
 use Rattle.std.specs.Prelude.{ℕ, ◌≡◌, Bool, false, ◌+◌, Option, Some, None, [], ◌∷◌, ◌++◌}
 use Rattle.address_map.specs.Bytes.{word_start}
 use Rattle.address_map.specs.declared.map.AddressMap.{AddressMap}

@@ -1,3 +1,4 @@
+-- What the flex store is on a machine's memory. Begin with Ground; the laws say that calls keep it.
 pub use Rattle.instances_ground.specs.flex_kept
 pub use Rattle.instances_ground.specs.rma
 pub use Rattle.flex_store

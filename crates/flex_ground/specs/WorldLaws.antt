@@ -6,7 +6,8 @@ use Rattle.instances_ground.specs.instances_table.specs.declared.parts.Image.{Im
 use Rattle.instances_ground.specs.Sound.{IsWorld, count_beside}
 use Rattle.instances_ground.specs.World.{World}
 
--- the range of the store was recorded, the second record that is no image; the modules are what they were
+-- the range of the store was recorded, the second record that is no image; the modules are what
+-- they were
 pub record HasBegun (w v : World) (start end : ℕ) : Type 0 where
   pub estate : IsEstate v.estate
   pub others : v.estate.store.others ≡ w.estate.store.others ++ flex_record start end ∷ []

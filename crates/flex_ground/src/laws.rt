@@ -1,4 +1,5 @@
-//! What keeps the flex store of a machine. Each law is the contract of a function that does nothing.
+//! What keeps the flex store of a machine. Each law is the contract of a function that does
+//! nothing.
 
 ghost use Rattle.flex_ground.specs.Laws.{BlocksKept, FlexKept, FlexStarted, FlexStored, FlexUnmade, StoreIsApart};
 
@@ -7,7 +8,8 @@ pub fn calls_keep_flex()
     ensures { FlexKept }
 {}
 
-/// It leaves each block of the store as it is, with its anchor, its size and its bytes, wherever blocks of the module area slide.
+/// It leaves each block of the store as it is, with its anchor, its size and its bytes, wherever
+/// blocks of the module area slide.
 pub fn calls_keep_blocks()
     ensures { BlocksKept }
 {}
@@ -17,7 +19,8 @@ pub fn the_store_shares_no_byte_with_heaps()
     ensures { StoreIsApart }
 {}
 
-/// The flex store is kept by what a guest stores: it may write into blocks, and the store is the same with other contents.
+/// The flex store is kept by what a guest stores: it may write into blocks, and the store is the
+/// same with other contents.
 pub fn stores_keep_flex()
     ensures { FlexStored }
 {}

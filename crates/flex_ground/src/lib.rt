@@ -1,4 +1,4 @@
-//! What the flex store is on a machine's memory, and that all calls keep it.
+//! Frame: what the flex store is on a machine's memory, and that all calls keep it.
 #![tactic(auto)]
 
 pub mod laws;

@@ -1,4 +1,5 @@
-//! What the machine has of its modules once the flex store has begun. Each law is the contract of a function that does nothing.
+//! What the machine has of its modules once the flex store has begun. Each law is the contract of a
+//! function that does nothing.
 
 ghost use Rattle.flex_ground.specs.WorldLaws.{BegunWorld};
 

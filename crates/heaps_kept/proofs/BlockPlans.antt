@@ -37,7 +37,7 @@ use Rattle.heaps_kept.specs.PlanLaws.{AreActionsBelow, AreBelow, IsFitWorld, Wor
 were_all : (s : Store) → WereLive s s
 were_all s = same_were s s (same_all s)
 
--- private words and the environment text lie behind the module area
+-- private words and the environment text lie after the module area
 word_low : (f : ℕ → ℕ) (at value a : ℕ) → a < at → with_word_at f at value a ≡ f a
 word_low f at value a less = rw (
   ne_eqb a at (λ e. omega (arith, less, e)),

@@ -1,4 +1,5 @@
--- Blocks of the module area's heap, where it gets another list or another end, and where bytes beside it are written.
+-- Blocks of the module area's heap, where it gets another list or another end, and where bytes
+-- beside it are written.
 use Rattle.std.proofs.Common.{ℕ, ◌+◌, ◌-◌, ◌%◌, ◌==◌, ◌≡◌, ◌≤◌, ◌<◌, ◌∙◌, true, List, [], ◌∷◌, Option, Some, None, is_some, refl, sym, ap, subst, inl, inr, arith}
 use Rattle.std.proofs.lemmas.Bool.{cases_Bool}
 use Rattle.std.specs.Option.{option_map}

@@ -1,5 +1,6 @@
--- A flex call lays out blocks in the store's range and writes the words of their anchors. So a byte outside the range that was of no anchor stays, and is
--- of none then, unless an alloc names its word.
+-- A flex call lays out blocks in the store's range and writes the words of their anchors. So a byte
+-- outside the range that was of no anchor stays, and is of none then, unless an alloc names its
+-- word.
 use Rattle.std.proofs.Common.{ℕ, ◌||◌, ◌+◌, ◌-◌, ◌%◌, ◌&&◌, ◌≡◌, ◌≤◌, ◌<◌, ◌∙◌, ◌⊎◌, nat_eq, Bool, true, false, List, [], ◌∷◌, ◌++◌, length, Option, Some, None, refl, sym, ap, subst, inl, inr, arith}
 use Rattle.std.specs.Prelude.{if◌then◌else◌, nat_le, nat_lt}
 use Rattle.std.proofs.lemmas.Bool.{and_parts, both_ways, cases_Bool, eq-eqb, eqb-false, leb-true, ltb-true, ne_eqb, or_parts, or_right, true_from_ne_false}
@@ -127,7 +128,7 @@ found_has : (anchor : ℕ) (bs : List Block) (b : Block) → find_block anchor b
 found_has anchor bs b found = true_from_ne_false (has_anchor bs anchor) (λ none.
     let lost : None ≡ Some b = sym (none_found anchor bs none) ∙ found in cc)
 
--- a block that was found, with those before it and behind it
+-- a block that was found, with those before it and after it
 pub split_list : (anchor : ℕ) (bs : List Block) (b : Block) → find_block anchor bs ≡ Some b → bs ≡ before anchor bs ++ b ∷ behind_of anchor bs
 split_list anchor bs b found =
     let p : Split anchor bs = split anchor bs (found_has anchor bs b found) in
@@ -172,7 +173,8 @@ module _ (a : ℕ) where
         (with_still t front news fits filled none (none' fits same) (subst (λ (w : FlexState). HasAligned w.flex) (sym same) aligned))
     fit_still t front news false q room is own filled none none' aligned = still_same t q.0 (ap (λ (r : FlexState × Bool). r.0) is) own
 
-    -- what lay in the store before a change of one block, where that one and those behind it are laid out anew
+    -- what lay in the store before a change of one block, where that one and those after it are
+    -- laid out anew
     parts : (front after : List Block) (b : Block) → s.blocks ≡ front ++ b ∷ after
         → (has_anchor front (word_start a) ≡ false) × ((nat_eq (word_start a) b.anchor ≡ false) × (has_anchor after (word_start a) ≡ false))
     parts front after b list =

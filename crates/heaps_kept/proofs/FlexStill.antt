@@ -1,4 +1,5 @@
--- What each flex call leaves of a byte outside the store: it stays, and no anchor comes to its word but by an alloc that names it.
+-- What each flex call leaves of a byte outside the store: it stays, and no anchor comes to its word
+-- but by an alloc that names it.
 use Rattle.std.proofs.Common.{ℕ, ◌||◌, ◌+◌, ◌-◌, ◌%◌, ◌&&◌, ◌≡◌, ◌≤◌, ◌^◌, ◌∙◌, ◌⊎◌, nat_eq, Bool, true, false, List, [], ◌∷◌, ◌++◌, Option, Some, None, Result, Ok, refl, sym, ap, subst, inl, inr, arith}
 use Rattle.std.specs.Prelude.{if◌then◌else◌, nat_le, nat_lt}
 use Rattle.std.proofs.lemmas.Bool.{and_parts, cases_Bool, le-leb, leb-true, ltb-false, ne_eqb, or_cases, or_left, or_parts, or_right}

@@ -1,4 +1,5 @@
--- Which heaps are found after the module area's heap got another list or another end, and after heaps were forgotten.
+-- Which heaps are found after the module area's heap got another list or another end, and after
+-- heaps were forgotten.
 use Rattle.std.proofs.Common.{ℕ, ◌≡◌, ◌≢◌, ◌+◌, ◌-◌, ◌==◌, ◌≤◌, ◌<◌, ◌∙◌, true, false, List, [], ◌∷◌, None, is_some, refl, sym, ap, inl, inr, arith}
 use Rattle.std.proofs.lemmas.Bool.{both_ways, cases_Bool, eqb-true, false_from_ne_true, false≢true, le-leb, lt-ltb, ne_eqb}
 use Rattle.address_map.specs.Bytes.{in_range}
@@ -58,7 +59,8 @@ left_areas at len (h ∷ hs) place = elim (cases_Bool (starts_in at len h)) [
   | inr kept ↦ rw kept (place.0, left_areas at len hs place.1)
 ]
 
--- a guest's heap that starts in a range is found no more once the heaps there were forgotten, and all others are
+-- a guest's heap that starts in a range is found no more once the heaps there were forgotten, and
+-- all others are
 dropped_none : (at len start : ℕ) (hs : List HeapList) → StandAreas hs → start ≢ 0x01800000 → in_range at len start ≡ true
     → find_heap start (without_heaps at len hs) ≡ None
 dropped_none at len start [] place other here = refl

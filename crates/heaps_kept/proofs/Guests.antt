@@ -1,4 +1,5 @@
--- Where a guest's heap lies: in the application space, in an area that was created, or in a live block of the module area.
+-- Where a guest's heap lies: in the application space, in an area that was created, or in a live
+-- block of the module area.
 use Rattle.std.proofs.Common.{ℕ, ◌+◌, ◌*◌, ◌==◌, ◌≡◌, ◌≢◌, ◌≤◌, ◌<◌, ◌⊎◌, ◌∙◌, true, false, List, [], ◌∷◌, Option, Some, None, is_some, refl, sym, ap, subst, inl, inr, arith}
 use Rattle.std.proofs.lemmas.Bool.{and_parts, both_ways, cases_eq, eq-eqb, false_from_ne_true, false≢true, le-leb, leb-true, lt-ltb, ne_eqb, or_cases}
 use Rattle.std.specs.Prelude.{nat_le}
@@ -71,7 +72,7 @@ system_clear hs (r ∷ rs) placed recorded = elim recorded [
   ]
 ]
 
--- an area that was created lies behind the system pages
+-- an area that was created lies after the system pages
 created_low : (a : Area) → IsRoom a → a.number ≢ 1 → 0x02000000 ≤ a.base
 created_low a room other = leb-true 0x02000000 a.base (and_parts (nat_le 0x02000000 a.base) (nat_le (a.base + a.maximum) 0x03000000)
     (in_window a.number a.base a.maximum other room.place)).0

@@ -28,7 +28,8 @@ use Rattle.heaps_kept.specs.Fits.{IsFitStore, LiesInArea, StaysFit}
 use Rattle.heaps_kept.specs.HeapLaws.{HeapCallsStayFit}
 use Rattle.heap_turns.specs.Laws.{IsNotForgotten}
 
--- what a call that is done leaves, with its answer, has a property; of a refusal there is nothing to say
+-- what a call that is done leaves, with its answer, has a property; of a refusal there is nothing
+-- to say
 abbrev pub OnDone : {A : Type 0} → (Store × A → Type 0) → Result (Store × A) ErrorNumber → Type 0
 OnDone P (Ok x) = P x
 OnDone P (Err e) = Unit {0}
@@ -36,7 +37,8 @@ OnDone P (Err e) = Unit {0}
 abbrev pub LeavesFit : {A : Type 0} → ℕ → Store → Store × A → Type 0
 LeavesFit limit s x = StaysFit limit s x.0
 
--- and a block that is answered lies in the module area, and shares no byte with a heap that lay in a block there
+-- and a block that is answered lies in the module area, and shares no byte with a heap that lay in
+-- a block there
 pub record IsNewBlock (len : ℕ) (s t : Store) (block : ℕ) : Type 0 where
   pub low : 0x01800000 ≤ block
   pub high : block + len ≤ 0x01C00000

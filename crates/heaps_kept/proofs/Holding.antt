@@ -129,7 +129,8 @@ forgot_is_fit limit s h block total from f found before above =
       left,
     )
 
--- a block of the module area has no byte elsewhere, so no heap that starts elsewhere is forgotten with it
+-- a block of the module area has no byte elsewhere, so no heap that starts elsewhere is forgotten
+-- with it
 elsewhere_left : (s : Store) (block total from start : ℕ) → 0x01800000 < block → block + total ≤ 0x01C00004 → block ≤ from → is_module_byte start ≡ false
     → find_heap start (forgot s block total from).heaps ≡ find_heap start s.heaps
 elsewhere_left s block total from start low high above out =
@@ -167,7 +168,8 @@ freed_fit limit s h block total from items f found before within above totals fi
       };
     }
 
--- bytes were written within its range, or in the system pages, and none of a heap that lies in a block there
+-- bytes were written within its range, or in the system pages, and none of a heap that lies in a
+-- block there
 pub written_is_fit : (limit : ℕ) (s : Store) (c : Bytes) → IsFitStore limit s → IsFitStore limit (record s { bytes = c })
 written_is_fit limit s c f = record {
   heap = f.heap;

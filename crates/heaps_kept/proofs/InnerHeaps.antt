@@ -1,5 +1,6 @@
--- Heaps that lie in live blocks of the module area, over the heap calls on it, in stores that need not be sound: where such a heap is not forgotten it
--- lies in a live block still, and no byte of it is another.
+-- Heaps that lie in live blocks of the module area, over the heap calls on it, in stores that need
+-- not be sound: where such a heap is not forgotten it lies in a live block still, and no byte of it
+-- is another.
 use Rattle.std.proofs.Common.{ℕ, ◌≡◌, ◌≢◌, ◌+◌, ◌-◌, ◌%◌, ◌≤◌, ◌<◌, ◌∙◌, true, false, List, Some, is_some, refl, sym, ap, subst, inl, inr, arith}
 use Rattle.std.proofs.lemmas.Bool.{both_ways, cases_eq, cases_lt, false_from_ne_true, false≢true, le-leb, lt-ltb}
 use Rattle.address_map.specs.Bytes.{Bytes, in_range}
@@ -38,7 +39,7 @@ area_start s k has = found_start 0x01800000 s.heaps k has.found
 area_own : (s : Store) (k : HeapList) → HasArea s k → find_heap k.start s.heaps ≡ Some k
 area_own s k has = subst (λ (p : ℕ). find_heap p s.heaps ≡ Some k) (sym (area_start s k has)) has.found
 
--- such a heap starts behind the module area's place
+-- such a heap starts after the module area's place
 pub inner_low : (s : Store) (h : HeapList) → LiesInArea s h → 0x01800014 ≤ h.start
 inner_low s h lies =
     let low : lies.area.start + 16 + 4 ≤ lies.within.block =

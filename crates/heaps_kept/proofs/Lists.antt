@@ -1,4 +1,5 @@
--- Lists that releases and changes of size leave: their lengths are those of items, and they have no more bytes than there is room.
+-- Lists that releases and changes of size leave: their lengths are those of items, and they have no
+-- more bytes than there is room.
 use Rattle.std.proofs.Common.{ℕ, ◌+◌, ◌-◌, ◌%◌, ◌==◌, ◌≡◌, ◌≤◌, ◌++◌, true, List, [], ◌∷◌, Option, Some, None, nat_le, inl, inr, arith}
 use Rattle.std.proofs.lemmas.Bool.{cases_Bool, eqb-false, leb-true}
 use Rattle.std.specs.Option.{option_map}
@@ -78,7 +79,7 @@ glued_room gap room xs whole totals fits = elim (cases_Bool (gap == 0)) [
 block_room : (new room : ℕ) (ys : List Item) → is_total new ≡ true → new ≤ room → HasRoomFor (room - new) ys → HasRoomFor room (Live new ∷ ys)
 block_room new room ys total fits has = ((total, has.0), omega (arith, has.1, fits))
 
--- the list after a block, with what is behind it, got another length
+-- the list once a block, with what is after it, got another length
 refitted_room : (room new old : ℕ) (xs : List Item) → is_total new ≡ true → is_total old ≡ true → AreTotals xs → old + size_of xs ≤ room
     → HasRoomIfSome room (refitted room new old xs)
 refitted_room room new old xs total own totals fits =

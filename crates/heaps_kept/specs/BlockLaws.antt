@@ -1,5 +1,6 @@
--- Blocks of the module area, over the calls that claim, over those that give back, and over the actions of plans (RISC
--- OS 3 Programmer's Reference Manual, "OS_Module", reasons 6 and 7: a block is its claimer's until it is given back).
+-- Blocks of the module area, over the calls that claim, over those that give back, and over the
+-- actions of plans (RISC OS 3 Programmer's Reference Manual, "OS_Module", reasons 6 and 7: a block
+-- is its claimer's until it is given back).
 use Rattle.std.specs.Prelude.{ℕ, ◌≡◌, ◌≤◌, ◌+◌, ◌-◌, true, length, Option, Some, None, Ok, List, [], ◌∷◌}
 use Rattle.address_map.specs.Bytes.{in_range}
 use Rattle.os_heap_lists.specs.Heap.{HeapList}
@@ -21,7 +22,8 @@ abbrev pub total_in : ℕ → Option HeapList → Option ℕ
 total_in block None = None
 total_in block (Some h) = live_total block (h.start + 16) h.items
 
--- how many bytes the live block of the module area has whose bytes begin at an address, its length word among them
+-- how many bytes the live block of the module area has whose bytes begin at an address, its length
+-- word among them
 abbrev pub block_total : Store → ℕ → Option ℕ
 block_total s block = total_in block (find_heap 0x01800000 s.heaps)
 
@@ -57,7 +59,8 @@ HaveNoSlide [] = Unit {0}
 HaveNoSlide (act.Slide ∷ actions) = ⊥
 HaveNoSlide (other ∷ actions) = HaveNoSlide actions
 
--- A plan in which nothing slides brings no block, and each that is live after it holds what it held.
+-- A plan in which nothing slides brings no block, and each that is live after it holds what it
+-- held.
 abbrev pub PlansKeepBlocks : Type 0
 PlansKeepBlocks =
     (w : World) (p : Plan) → IsFitWorld w → AreActionsBelow p.actions → length p.given.text.items ≤ 255

@@ -1,7 +1,7 @@
--- What holds of the module area's heap in the midst of a step too, when it isn't known that the store is sound; and
--- what a change within the module area and the system pages leaves of all else (RISC OS 3 Programmer's Reference
--- Manual, "OS_Heap" and "The relocatable module area"; the places, and that a heap may lie in a block of the module
--- area, are this project's own).
+-- What holds of the module area's heap in the midst of a step too, when it isn't known that the
+-- store is sound; and what a change within the module area and the system pages leaves of all else
+-- (RISC OS 3 Programmer's Reference Manual, "OS_Heap" and "The relocatable module area"; the
+-- places, and that a heap may lie in a block of the module area, are this project's own).
 use Rattle.std.specs.Prelude.{ℕ, ◌≡◌, ◌≢◌, ◌≤◌, ◌<◌, ◌+◌, Bool, true, false, Some}
 use Rattle.address_map.specs.Bytes.{Bytes, in_range}
 use Rattle.address_map.specs.Items.{size_of}
@@ -10,12 +10,12 @@ use Rattle.os_heap.specs.Nesting.{IsWithin}
 use Rattle.os_heap.specs.Store.{StandAreas, Store, find_heap}
 use Rattle.heap_turns.specs.Laws.{IsNotForgotten}
 
--- is a byte in the range that the module area may have, or in the system pages behind it?
+-- is a byte in the range that the module area may have, or in the system pages after it?
 abbrev pub is_module_byte : ℕ → Bool
 is_module_byte a = in_range 0x01800000 0x403000 a
 
--- The module area's heap is there and ends at `limit`, counted from its start. Its items have lengths of items, and
--- room up to there. No other place has a module area.
+-- The module area's heap is there and ends at `limit`, counted from its start. Its items have
+-- lengths of items, and room up to there. No other place has a module area.
 pub record IsFitStore (limit : ℕ) (s : Store) : Type 0 where
   pub heap : HeapList
   pub found : find_heap 0x01800000 s.heaps ≡ Some heap
@@ -37,14 +37,15 @@ pub record StaysInArea (h : HeapList) (s t : Store) : Type 0 where
   pub lies : LiesInArea t h
   pub bytes : (a : ℕ) → in_range h.start h.end a ≡ true → t.bytes.at a ≡ s.bytes.at a
 
--- So does each heap that lies there, unless it was forgotten with the block in which it lay, or with a part of that.
+-- So does each heap that lies there, unless it was forgotten with the block in which it lay, or
+-- with a part of that.
 abbrev pub KeepsInner : Store → Store → Type 0
 KeepsInner s t =
     (h : HeapList) → 0 < h.end → LiesInArea s h → IsNotForgotten t h.start → StaysInArea h s t
 
--- No byte elsewhere changes, and no anchor. No heap that starts elsewhere changes or is forgotten. Of those that start in
--- the module area none changes but that of the area itself, and those that are forgotten; and of a heap that lies in a
--- block there no byte changes either.
+-- No byte elsewhere changes, and no anchor. No heap that starts elsewhere changes or is forgotten.
+-- Of those that start in the module area none changes but that of the area itself, and those that
+-- are forgotten; and of a heap that lies in a block there no byte changes either.
 pub record KeepsOutside (s t : Store) : Type 0 where
   pub bytes : (a : ℕ) → is_module_byte a ≡ false → t.bytes.at a ≡ s.bytes.at a
   pub heaps : (start : ℕ) → start ≢ 0x01800000 → (is_module_byte start ≡ true → IsNotForgotten t start)
@@ -57,7 +58,8 @@ pub record StaysFit (limit : ℕ) (s t : Store) : Type 0 where
   pub fit : IsFitStore limit t
   pub outside : KeepsOutside s t
 
--- Bytes of the module area and the system pages are written, but none of a heap that lies in a block there.
+-- Bytes of the module area and the system pages are written, but none of a heap that lies in a
+-- block there.
 pub record WritesThere (s : Store) (c : Bytes) : Type 0 where
   pub outside : (a : ℕ) → is_module_byte a ≡ false → c.at a ≡ s.bytes.at a
   pub inner : (h : HeapList) (a : ℕ) → LiesInArea s h → in_range h.start h.end a ≡ true → c.at a ≡ s.bytes.at a

@@ -1,5 +1,5 @@
--- The flex calls keep each heap in which no anchor lies, where an alloc names none there: they write the store's own
--- range and the words of anchors (Acorn C manual, "flex").
+-- The flex calls keep each heap in which no anchor lies, where an alloc names none there: they
+-- write the store's own range and the words of anchors (Acorn C manual, "flex").
 use Rattle.std.specs.Prelude.{ℕ, ◌≡◌, Bool, true, false, Some, Ok}
 use Rattle.address_map.specs.Bytes.{in_range}
 use Rattle.os_heap_lists.specs.Heap.{HeapList}

@@ -1,5 +1,6 @@
--- Which heaps the calls on the module area forget, with bytes of its blocks: a claim none, and a release or a change of size just those of which it
--- frees a byte, and those in them. So does the removal of an instance, with the block that its private word names.
+-- Which heaps the calls on the module area forget, with bytes of its blocks: a claim none, and a
+-- release or a change of size just those of which it frees a byte, and those in them. So does the
+-- removal of an instance, with the block that its private word names.
 use Rattle.std.specs.Prelude.{ℕ, ◌≡◌, ◌↔◌, Bool, true, false, is_ok, List, Some, None, Ok}
 use Rattle.profile.specs.declared.reason.HeapReason.TheVariants as reason
 use Rattle.address_map.specs.Bytes.{word_start}
@@ -40,14 +41,15 @@ RemovalsForgetHeaps =
     (d : Estate) (k : HeapList) (slot : ℕ) → IsEstate d → find_heap k.start d.store.heaps ≡ Some k
     → (find_heap k.start (private_freed d slot).store.heaps ≡ None) ↔ GoesWithBlock d slot k.start
 
--- A release changes no byte but those of the words that the area's new list spells: a forgotten heap's bytes stay.
+-- A release changes no byte but those of the words that the area's new list spells: a forgotten
+-- heap's bytes stay.
 abbrev pub ReleasesKeepBytes : Type 0
 ReleasesKeepBytes =
     (d e : Estate) (g : HeapList) (block a : ℕ) → IsEstate d → IsSound e.store → rma_freed d block ≡ Ok (e, tt)
     → find_heap 0x01800000 e.store.heaps ≡ Some g → is_heap_word 0x01800000 g.items (word_start a) ≡ false → e.store.bytes.at a ≡ d.store.bytes.at a
 
--- The actions of a plan that give a block back: an instance is removed, the block of its private word goes, or a new image is given up. No other action
--- forgets a heap, the slide among them.
+-- The actions of a plan that give a block back: an instance is removed, the block of its private
+-- word goes, or a new image is given up. No other action forgets a heap, the slide among them.
 abbrev pub gives_back : Action → Bool
 gives_back (act.Remove slot) = true
 gives_back (act.FreePrivate slot) = true

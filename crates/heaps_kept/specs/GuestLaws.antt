@@ -1,5 +1,6 @@
--- A heap that a guest made has no byte in the module area, nor in the system pages, or it lies in a live block of the
--- module area. What changes there alone keeps it, unless it lies there and is forgotten.
+-- A heap that a guest made has no byte in the module area, nor in the system pages, or it lies in a
+-- live block of the module area. What changes there alone keeps it, unless it lies there and is
+-- forgotten.
 use Rattle.std.specs.Prelude.{ℕ, ◌≡◌, ◌⊎◌, true, false, Some}
 use Rattle.address_map.specs.Bytes.{in_range}
 use Rattle.os_heap_lists.specs.Heap.{HeapList}

@@ -1,3 +1,5 @@
+-- What all other calls leave of a guest's heap. Begin with GuestLaws; each family of calls has a
+-- file of its own.
 pub mod AreaLaws
 pub mod BlockLaws
 pub mod FitEstates

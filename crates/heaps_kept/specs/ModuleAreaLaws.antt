@@ -1,5 +1,5 @@
--- The calls on the module area stay within it, with its growth, and so do new module images there, with the bytes that
--- they get.
+-- The calls on the module area stay within it, with its growth, and so do new module images there,
+-- with the bytes that they get.
 use Rattle.std.specs.Prelude.{ℕ, ◌≡◌, List, Ok}
 use Rattle.dynamic_areas.specs.Ground.{Estate}
 use Rattle.rma.specs.Calls.{grown_to, rma_claimed, rma_extended, rma_freed}

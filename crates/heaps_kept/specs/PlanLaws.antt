@@ -1,5 +1,5 @@
--- The actions of module calls stay in the module area and the system pages: private words, the environment text,
--- images, removals, and the slide.
+-- The actions of module calls stay in the module area and the system pages: private words, the
+-- environment text, images, removals, and the slide.
 use Rattle.std.specs.Prelude.{ℕ, ◌≤◌, ◌<◌, List, [], ◌∷◌, length}
 use Rattle.address_map.specs.Bytes.{Bytes}
 use Rattle.address_map.specs.declared.region.Region.{Region}
@@ -20,7 +20,8 @@ use Rattle.instances.specs.Turns.{module_doing}
 use Rattle.heaps_kept.specs.FitEstates.{EstateStaysFit, IsFitEstate}
 use Rattle.heaps_kept.specs.Fits.{WritesThere}
 
--- What is written to the module area's blocks and the system pages, what is recorded, and what is given back.
+-- What is written to the module area's blocks and the system pages, what is recorded, and what is
+-- given back.
 pub record WordsStayFit (e : Estate) : Type 0 where
   pub bytes : (c : Bytes) → WritesThere e.store c → EstateStaysFit e (with_store e (record e.store { bytes = c }))
   pub records : (others : List Region) → EstateStaysFit e (with_store e (record e.store { others = others }))

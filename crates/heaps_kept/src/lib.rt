@@ -1,4 +1,4 @@
-//! What a call other than a heap's own leaves of that heap: all of it.
+//! Laws: what calls on areas, modules and flex blocks leave of a guest's heap.
 #![tactic(auto)]
 
 pub mod laws;

@@ -1,4 +1,5 @@
--- Program images as a list of names, which all differ, each with its bytes. What a name is made of, and the limits, are this project's own.
+-- Program images as a list of names, which all differ, each with its bytes. What a name is made of,
+-- and the limits, are this project's own.
 use Rattle.std.specs.Prelude.{◌≡◌, ◌≤◌, ℕ, Bool, not, List, [], ◌∷◌, ◌++◌, length, Option, Some, None, is_some, nat_le, nat_lt, ◌&&◌, true, if◌then◌else◌}
 use Rattle.std.specs.List.{list_all}
 use Rattle.std.specs.Str.{bytes_eq}

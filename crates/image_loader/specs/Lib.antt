@@ -1,3 +1,4 @@
+-- The table of images. Begin with Table.
 pub mod Entries
 pub mod ErrorNames
 pub mod Table

@@ -1,3 +1,5 @@
+//! Why an image is not taken.
+
 ghost use Rattle.std.specs.Prelude.{◌≡◌};
 ghost use Rattle.image_loader.specs.declared.error.ImageError.TheVariants.{Memory};
 ghost use Rattle.image_loader.specs.ErrorNames.{image_error_name};

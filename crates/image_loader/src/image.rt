@@ -1,3 +1,5 @@
+//! One image, a copy of a name and its bytes.
+
 ghost use Rattle.std.specs.Prelude.{◌≡◌, ◌≤◌, length, IfOk};
 
 use crate::images::MOST_NAME_BYTES;

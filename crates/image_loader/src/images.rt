@@ -1,3 +1,5 @@
+//! The images of a machine by name: added, looked up and refused.
+
 ghost use Rattle.std.specs.Prelude.{◌≡◌, ◌≤◌, [], length, MatchOption, IfOk, OnOk, OnErr, IsOkUnless, option_map};
 ghost use Rattle.std.specs.List.{list_all};
 ghost use Rattle.image_loader.specs.Entries.{bytes_of, is_name, is_name_byte, refusal_for, with_entry, IsTable};

@@ -1,4 +1,5 @@
-//! Program images by name: bytes that a machine boots or loads as modules.
+//! Program images by name, for scripts and module calls: bytes that are booted or loaded as
+//! modules.
 #![tactic(auto)]
 
 pub mod error;

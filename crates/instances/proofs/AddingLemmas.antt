@@ -1,4 +1,5 @@
--- Calls that add a module: what they read is mapped, and what they leave is a world whose new image is pending.
+-- Calls that add a module: what they read is mapped, and what they leave is a world whose new image
+-- is pending.
 use Rattle.std.proofs.Common.{◌≡◌, ◌%◌, ◌∙◌, ℕ, ◌+◌, ◌-◌, ◌==◌, sym, ap, ◌&&◌, ◌<◌, ◌≤◌, true, false, List, [], ◌∷◌, ◌++◌, length, refl, Ok, Err, inl, inr, arith}
 use Rattle.std.specs.Prelude.{IfOk, Result, nat_lt, not}
 use Rattle.std.proofs.lemmas.Bool.{and_parts, both_ways, cases_Bool, eqb-true, false_from_ne_true, le-leb, lt-ltb, ltb-false, or_from, or_parts}

@@ -1,4 +1,5 @@
--- The plans of calls find what they name: the slots that they are made of are those of instances, and the slot of a new instance is free.
+-- The plans of calls find what they name: the slots that they are made of are those of instances,
+-- and the slot of a new instance is free.
 use Rattle.std.proofs.Common.{◌≡◌, ℕ, ◌<◌, ◌≤◌, ◌==◌, ◌||◌, Bool, true, false, List, [], ◌∷◌, ◌++◌, map, refl, sym, ap, ◌∙◌, inl, inr, zero, suc, arith}
 use Rattle.std.specs.Prelude.{slice_get}
 use Rattle.std.specs.List.{list_any}

@@ -1,4 +1,5 @@
--- A call goes on over changes of the modules that leave all titles, images and slots, and over changes of memory that leave the records.
+-- A call goes on over changes of the modules that leave all titles, images and slots, and over
+-- changes of memory that leave the records.
 use Rattle.std.proofs.Common.{◌≡◌, ◌==◌, ℕ, Bool, true, false, Some, None, Ok, Err, List, [], ◌∷◌, ◌++◌, map, refl, sym, ap, subst, ◌∙◌, inl, inr, zero, suc}
 use Rattle.std.specs.Prelude.{IfOk, Option, Result, if◌then◌else◌, slice_get}
 use Rattle.std.specs.Str.{str_eq_ignore_ascii_case}
@@ -114,7 +115,8 @@ preferring_alike ms full =
     bound (KeepsSlots ms) (slot_at ms place) _ (λ slot.
     preferred_alike place.number slot ms)))
 
--- While module code runs the first action has it, so that no instantiation is left whose name the modules must leave free.
+-- While module code runs the first action has it, so that no instantiation is left whose name the
+-- modules must leave free.
 names_none : (a : Action) → calls_module (Some a) ≡ true → instantiates a ≡ false
 names_none (Finalise s f) calls = refl
 names_none (Remove s) calls = refl

@@ -1,4 +1,5 @@
--- Which instances the plans of calls name: one that is deleted or initialised again, that one alone; one that adds a module, those of its title.
+-- Which instances the plans of calls name: one that is deleted or initialised again, that one
+-- alone; one that adds a module, those of its title.
 use Rattle.std.proofs.Common.{◌≡◌, ℕ, ◌==◌, Bool, true, false, Ok, Err, IfOk, List, [], ◌∷◌, ◌++◌, refl, sym, ap, subst, ◌∙◌, inl, inr}
 use Rattle.std.specs.Prelude.{Result, if◌then◌else◌, length, not}
 use Rattle.std.proofs.lemmas.Bool.{cases_Bool, eqb-true, false≢true, or_parts}

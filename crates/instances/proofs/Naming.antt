@@ -1,4 +1,5 @@
--- A call that is carried on comes to no instance that its plan doesn't name: such a slot is not named later, and is used after as before.
+-- A call that is carried on comes to no instance that its plan doesn't name: such a slot is not
+-- named later, and is used after as before.
 use Rattle.std.proofs.Common.{◌≡◌, ℕ, ◌==◌, ◌||◌, Bool, true, false, Some, None, List, [], ◌∷◌, ◌++◌, map, refl, sym, ap, subst, ◌∙◌, inl, inr, zero, suc, arith}
 use Rattle.std.specs.Prelude.{IfSome, Option, if◌then◌else◌, slice_get}
 use Rattle.std.specs.List.{list_any}

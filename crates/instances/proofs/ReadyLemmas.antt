@@ -1,4 +1,5 @@
--- The plans of calls are ready when they are made: their actions find what they need, and the image of a new module is pending.
+-- The plans of calls are ready when they are made: their actions find what they need, and the image
+-- of a new module is pending.
 use Rattle.std.proofs.Common.{◌≡◌, ℕ, ◌<◌, Bool, true, false, List, [], ◌∷◌, ◌++◌, map, refl, sym, ap, subst, ◌∙◌, Some, None, Ok, Err, inl, inr, zero, suc, get_or}
 use Rattle.std.specs.Prelude.{IfSome, Option, Result, if◌then◌else◌, ok_or, option_map, slice_get}
 use Rattle.std.specs.List.{list_any, position}
@@ -70,7 +71,8 @@ tidy_pending given slots = rw (tidy_none slots slots) refl
 -- the plans of calls on instances that are there find what they need, and have no image
 pub ruleset plans_ready = (delete_ready, reinit_ready, clear_ready, clear_pending, tidy_ready, tidy_pending)
 
--- An instantiation finds the module of its title, whose title is the same but for the case of its letters.
+-- An instantiation finds the module of its title, whose title is the same but for the case of its
+-- letters.
 slot_by : (number : ℕ) (name : List ℕ) (o : Option ℕ) (new : NewInstance)
     → (let room : Result NewInstance ErrorNumber = bind (ok_or o InstanceTableFull)
     (λ slot. Ok (record { number = number; name = record { items = name }; slot = slot })) in room ≡ Ok new) → number ≡ new.number

@@ -1,6 +1,7 @@
--- Calls that add a module or an instance (RISC OS 3 Programmer's Reference Manual, "OS_Module", reasons 1, 10, 11 and 14): what each refuses, in
--- order; what it does at once, which is to make the image; and the plan of the rest. The order of the refusals, the slots, and that an image in place
--- meets nothing else that is recorded, are this project's own.
+-- Calls that add a module or an instance (RISC OS 3 Programmer's Reference Manual, "OS_Module",
+-- reasons 1, 10, 11 and 14): what each refuses, in order; what it does at once, which is to make
+-- the image; and the plan of the rest. The order of the refusals, the slots, and that an image in
+-- place meets nothing else that is recorded, are this project's own.
 use Rattle.std.specs.Prelude.{ℕ, not, List, [], length, ok_or, Result, Ok, Err, if◌then◌else◌}
 use Rattle.profile.specs.Outcome.{bind}
 use Rattle.profile.specs.declared.error.ErrorNumber.{ErrorNumber}
@@ -24,7 +25,8 @@ use Rattle.instances_table.specs.Lookup.{module_at}
 use Rattle.instances_slide.specs.instances_ground.specs.World.{World}
 use Rattle.instances.specs.Given.{given_instance, given_module, is_too_long}
 
--- Reason 14: a new instance of a module that is there, with its name, and a text, which has to be one that can be kept
+-- Reason 14: a new instance of a module that is there, with its name, and a text, which has to be
+-- one that can be kept
 unfoldable pub instantiation : List Module → List ℕ → List ℕ → Result Plan ErrorNumber
 instantiation modules full text =
     if is_too_long text then Err BadString else
@@ -37,7 +39,8 @@ abbrev pub good_header : Result Header HeaderFault → Result Header ErrorNumber
 good_header (Ok header) = Ok header
 good_header (Err fault) = Err ModuleBadHeader
 
--- A new module takes the slots of an older one of its title as free ones, since the instances of that go first.
+-- A new module takes the slots of an older one of its title as free ones, since the instances of
+-- that go first.
 abbrev pub slot_for : List Module → Header → Result ℕ ErrorNumber
 slot_for modules header = ok_or (free_slot_for header.title.items modules) InstanceTableFull
 
@@ -73,6 +76,7 @@ copying w at len =
     let placed : Image = record { at = made.1; len = len } in
     Ok (record w { estate = made.0 }, adding_plan w.modules header placed [] slot))))
 
--- The record of the new image, which begins at an address, comes behind all others, and each of these stands where it stood.
+-- The record of the new image, which begins at an address, comes after all others, and each of
+-- these stands where it stood.
 abbrev pub AddsImage : AddressMap → AddressMap → ℕ → Type 0
 AddsImage m n at = AddsRecord m n kind.Image at

@@ -1,4 +1,5 @@
--- What a call on modules is given that its actions need. What it isn't given is 0, or empty (this project's own).
+-- What a call on modules is given that its actions need. What it isn't given is 0, or empty (this
+-- project's own).
 use Rattle.std.specs.Prelude.{ℕ, Bool, nat_lt, List, [], length}
 use Rattle.arrayvec.specs.ArrayVec.{ArrayVec}
 use Rattle.instances_plans.specs.module_header.specs.declared.header.Header.{Header}

@@ -1,3 +1,4 @@
+-- What the calls on modules and instances answer and leave. Begin with Reading and Adding.
 pub use Rattle.instances_actions
 pub mod Adding
 pub mod Given

@@ -1,4 +1,5 @@
--- The instances that a call on modules may still come to: those that its plan names, by their slots (this project's own).
+-- The instances that a call on modules may still come to: those that its plan names, by their slots
+-- (this project's own).
 use Rattle.std.specs.Prelude.{◌≡◌, ◌==◌, ℕ, true, false, IfSome, Option, Some, None, Result, Ok, Err, List, [], ◌∷◌, ◌++◌}
 use Rattle.instances_plans.specs.module_header.specs.declared.fault.HeaderFault.{HeaderFault}
 use Rattle.instances_plans.specs.module_header.specs.declared.header.Header.{Header}
@@ -42,8 +43,9 @@ abbrev pub NamesTitled : List Module → Plan → Result Header HeaderFault → 
 NamesTitled modules p (Err fault) = ⊥
 NamesTitled modules p (Ok header) = NamesOnly (slots_of (titled header.title.items modules)) modules p
 
--- A call that is carried on comes to no instance that its plan doesn't name: what is left of the plan names none of them, each stays as it was, there or
--- not, and the code that is entered next is of an instance that is there, and none of them.
+-- A call that is carried on comes to no instance that its plan doesn't name: what is left of the
+-- plan names none of them, each stays as it was, there or not, and the code that is entered next is
+-- of an instance that is there, and none of them.
 pub record KeepsOthers (old new : List Module) (p q : Plan) (code : Option Code) : Type 0 where
   pub named : (s : ℕ) → is_used s (slots_of_plan p) ≡ false → is_used s (slots_of_plan q) ≡ false
   pub held : (s : ℕ) → is_used s (slots_of_plan p) ≡ false → is_used s (slots_of new) ≡ is_used s (slots_of old)

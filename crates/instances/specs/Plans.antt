@@ -1,4 +1,5 @@
--- The plans of the calls on instances that are there (RISC OS 3 Programmer's Reference Manual, "OS_Module", reasons 3, 4, 8 and 9).
+-- The plans of the calls on instances that are there (RISC OS 3 Programmer's Reference Manual,
+-- "OS_Module", reasons 3, 4, 8 and 9).
 use Rattle.std.specs.Prelude.{ℕ, List, [], Result, Ok, Err, if◌then◌else◌}
 use Rattle.profile.specs.Outcome.{bind}
 use Rattle.profile.specs.declared.error.ErrorNumber.{ErrorNumber}

@@ -1,4 +1,5 @@
--- What the calls answer that read of the modules and of their private words (RISC OS 3 Programmer's Reference Manual, "OS_Module", reasons 2, 12 and 18).
+-- What the calls answer that read of the modules and of their private words (RISC OS 3 Programmer's
+-- Reference Manual, "OS_Module", reasons 2, 12 and 18).
 use Rattle.std.specs.Prelude.{ℕ, ◌+◌, ◌%◌, ◌^◌, ◌==◌, List, Option, Some, None, Result, Ok, if◌then◌else◌}
 use Rattle.profile.specs.Outcome.{bind}
 use Rattle.profile.specs.declared.error.ErrorNumber.{ErrorNumber}
@@ -11,7 +12,7 @@ use Rattle.instances.specs.declared.answers.Found.{Found}
 use Rattle.instances.specs.declared.answers.Start.{Start}
 use Rattle.instances.specs.declared.answers.Told.{Told}
 
--- OS_Module 12: the place behind an instance, its module's image, and the value of its private word
+-- OS_Module 12: the place after an instance, its module's image, and the value of its private word
 abbrev pub told : (ℕ → ℕ) → List Module → Place → Result Told ErrorNumber
 told bytes modules place =
     bind (information modules place.number place.instance) (λ i.
@@ -25,7 +26,8 @@ found bytes modules full =
     bind (told bytes modules place) (λ t.
     Ok (record { place = place; image = t.image; word = t.word })))
 
--- OS_Module 2: where the module of an instance is entered, at an offset in its image, and the instance's slot. A start of 0 is none.
+-- OS_Module 2: where the module of an instance is entered, at an offset in its image, and the
+-- instance's slot. A start of 0 is none.
 abbrev pub start_in : Module → Option ℕ
 start_in m = if m.header.start == 0 then None else Some ((m.image.at + m.header.start) % 2 ^ 32)
 

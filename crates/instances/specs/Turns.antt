@@ -1,5 +1,5 @@
--- A call that is under way on the world: its plan finds what its actions ask for, and module code runs only where an action has some (this project's
--- own).
+-- A call that is under way on the world: its plan finds what its actions ask for, and module code
+-- runs only where an action has some (this project's own).
 use Rattle.std.specs.Prelude.{◌≡◌, Bool, true, false, Option, Some, None, []}
 use Rattle.instances_plans.specs.declared.action.Action.{Action}
 use Rattle.instances_plans.specs.declared.action.Action.TheVariants.{Finalise, Initialise}

@@ -25,13 +25,16 @@ use instances_table::Image;
 use profile::ErrorNumber;
 
 impl Instances {
-    /// Loads a module: its image gets a block of the module area at once. Then the instances of an older module of its title are finalised and removed,
-    /// and the new one is added, with its first instance, which is initialised with a text.
+    /// Loads a module: its image gets a block of the module area at once. Then the instances of an
+    /// older module of its title are finalised and removed, and the new one is added, with its
+    /// first instance, which is initialised with a text.
     ///
     /// # Errors
     ///
-    /// The first of these, and nothing is changed then: `BadString` where the text is longer than 255 bytes; `ModuleBadHeader` where the image has no good header; `InstanceTableFull` where there are 64
-    /// instances, and none of a module of the title; `RmaNoRoom` where the module area has no room for the image, and can't grow by as much.
+    /// The first of these, and nothing is changed then: `BadString` where the text is longer than
+    /// 255 bytes; `ModuleBadHeader` where the image has no good header; `InstanceTableFull` where
+    /// there are 64 instances, and none of a module of the title; `RmaNoRoom` where the module area
+    /// has no room for the image, and can't grow by as much.
     ///
     /// RISC OS 3 Programmer's Reference Manual, "OS_Module", reason 1.
     #[tactic(auto, unfolding(crate::specs::Adding::loading), using(crate::proofs::Keeping::keeps_same))]

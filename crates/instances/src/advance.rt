@@ -24,10 +24,12 @@ use instances_slide::dynamic_areas::Areas;
 use instances_slide::slide;
 
 impl Instances {
-    /// Carries a call on: the code that was under way, if any was, has come back with this outcome; then actions are done up to the next whose code
-    /// is to be entered, which is the answer, or to the end of the call, where there is none.
+    /// Carries a call on: the code that was under way, if any was, has come back with this outcome;
+    /// then actions are done up to the next whose code is to be entered, which is the answer, or to
+    /// the end of the call, where there is none.
     ///
-    /// RISC OS 3 Programmer's Reference Manual, "Modules"; the order of actions is that of "OS_Module".
+    /// RISC OS 3 Programmer's Reference Manual, "Modules"; the order of actions is that of
+    /// "OS_Module".
     pub fn carry(
         &mut self,
         map: &mut AddressMap,
@@ -57,8 +59,8 @@ impl Instances {
         }
     }
 
-    /// One turn of a call: the code that was under way, if any was, has come back; then one action is done, or its own part is, and its code is to be
-    /// entered.
+    /// One turn of a call: the code that was under way, if any was, has come back; then one action
+    /// is done, or its own part is, and its code is to be entered.
     pub fn advance(
         &mut self,
         map: &mut AddressMap,

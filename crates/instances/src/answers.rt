@@ -1,6 +1,9 @@
+//! What the calls that read of modules answer.
+
 use instances_table::Place;
 
-/// What OS_Module 18 finds: where an instance is, the address of its module's image, and the value of its private word.
+/// What OS_Module 18 finds: where an instance is, the address of its module's image, and the value
+/// of its private word.
 #[derive(Clone, Copy, Debug, PartialEq, Eq)]
 pub struct Found {
     pub place: Place,
@@ -8,7 +11,8 @@ pub struct Found {
     pub word: u32,
 }
 
-/// What OS_Module 12 tells of an instance: the place behind it, the address of its module's image, and the value of its private word.
+/// What OS_Module 12 tells of an instance: the place after it, the address of its module's image,
+/// and the value of its private word.
 #[derive(Clone, Copy, Debug, PartialEq, Eq)]
 pub struct Told {
     pub next: Place,
@@ -16,7 +20,8 @@ pub struct Told {
     pub word: u32,
 }
 
-/// Where the module of an instance is entered as a program, if it has a start, and the instance's slot.
+/// Where the module of an instance is entered as a program, if it has a start, and the instance's
+/// slot.
 #[derive(Clone, Copy, Debug, PartialEq, Eq)]
 pub struct Start {
     pub at: Option<u32>,

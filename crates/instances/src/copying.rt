@@ -20,14 +20,16 @@ use instances_table::Image;
 use profile::ErrorNumber;
 
 impl Instances {
-    /// Inserts a module whose image is a copy of the `len` bytes from an address on: it gets a block of the module area at once. All else is as in
-    /// `load`, with an empty text.
+    /// Inserts a module whose image is a copy of the `len` bytes from an address on: it gets a
+    /// block of the module area at once. All else is as in `load`, with an empty text.
     ///
     /// # Errors
     ///
-    /// The first of these, and nothing is changed then: `BadPointer` where not all of the range is mapped, or it has a byte of the module area that no
-    /// live block holds; `ModuleBadHeader` where the image has no good header; `InstanceTableFull` where there are 64 instances, and none of a module of
-    /// the title; `RmaNoRoom` where the module area has no room for the image, and can't grow by as much.
+    /// The first of these, and nothing is changed then: `BadPointer` where not all of the range is
+    /// mapped, or it has a byte of the module area that no live block holds; `ModuleBadHeader`
+    /// where the image has no good header; `InstanceTableFull` where there are 64 instances, and
+    /// none of a module of the title; `RmaNoRoom` where the module area has no room for the image,
+    /// and can't grow by as much.
     ///
     /// RISC OS 3 Programmer's Reference Manual, "OS_Module", reason 11.
     #[tactic(auto, unfolding(crate::specs::Adding::copying), using(crate::proofs::Keeping::keeps_same))]

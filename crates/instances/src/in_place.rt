@@ -21,14 +21,15 @@ use instances_table::Image;
 use profile::ErrorNumber;
 
 impl Instances {
-    /// Inserts a module whose image is the `len` bytes from an address on, which are recorded as an image at once. All else is as in `load`, with an
-    /// empty text.
+    /// Inserts a module whose image is the `len` bytes from an address on, which are recorded as an
+    /// image at once. All else is as in `load`, with an empty text.
     ///
     /// # Errors
     ///
-    /// The first of these, and nothing is changed then: `BadPointer` where the address is no multiple of 4, or not all of the range is mapped, or it meets
-    /// a recorded range or an anchor; `ModuleBadHeader` where the image has no good header; `InstanceTableFull` where there are 64 instances, and none of a
-    /// module of the title.
+    /// The first of these, and nothing is changed then: `BadPointer` where the address is no
+    /// multiple of 4, or not all of the range is mapped, or it meets a recorded range or an anchor;
+    /// `ModuleBadHeader` where the image has no good header; `InstanceTableFull` where there are 64
+    /// instances, and none of a module of the title.
     ///
     /// RISC OS 3 Programmer's Reference Manual, "OS_Module", reason 10.
     #[tactic(auto, unfolding(crate::specs::Adding::inserting), using(crate::proofs::Keeping::keeps_same))]

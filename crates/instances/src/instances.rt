@@ -1,3 +1,5 @@
+//! The modules of a machine and their instances: looked up, told of, named and preferred.
+
 ghost use Rattle.std.specs.Prelude.{◌≡◌, ◌<◌, [], Option, option_map, slice_get, IfSome};
 ghost use Rattle.profile.specs.Outcome.{Leaves};
 ghost use Rattle.address_map.specs.Bytes.{AreMapped};
@@ -44,8 +46,8 @@ impl Instances {
         }
     }
 
-    /// Titles differ, so do the names of a module's instances and the slots of all, which are below 64, and one instance
-    /// of each module is preferred. The call does nothing but to say so.
+    /// Titles differ, so do the names of a module's instances and the slots of all, which are below
+    /// 64, and one instance of each module is preferred. The call does nothing but to say so.
     pub fn known(&self)
         ensures { AreModules self.now }
     {
@@ -59,14 +61,14 @@ impl Instances {
         self.table.copy_from(&other.table);
     }
 
-    /// What is told of the module of a number, if there is one.
+    /// The module at an index, if there is one.
     pub fn module(&self, number: u32) -> Option<ModuleInfo>
         ensures { result ≡ option_map told_of_module (slice_get self.now number) }
     {
         self.table.module(number)
     }
 
-    /// What is told of an instance, by its module's number and its own, if there is one.
+    /// An instance, by its module's index and its own among that module's, if there is one.
     pub fn instance(&self, number: u32, instance: u32) -> Option<InstanceInfo>
         ensures value { result ≡ told_of_place instance (slice_get self.now number) }
         ensures below { IfSome result (λ i. i.slot < 64) }
@@ -74,7 +76,7 @@ impl Instances {
         self.table.instance(number, instance)
     }
 
-    /// What is told of an instance, its private word's value with it.
+    /// An instance, with the value of its private word.
     ///
     /// # Errors
     ///
@@ -97,7 +99,8 @@ impl Instances {
         })
     }
 
-    /// The instance that a name means: `Title%Name`, or the preferred one of `Title`, whatever the case of the letters.
+    /// The instance that a name means: `Title%Name`, or the preferred one of `Title`, whatever the
+    /// case of the letters.
     ///
     /// # Errors
     ///
@@ -121,8 +124,9 @@ impl Instances {
     ///
     /// # Errors
     ///
-    /// The first of these, and nothing is changed then: `BadString` where the full name has no `%`, or the new name isn't formed like a title;
-    /// `ModuleNotFound` where there is no such instance; `InstanceExists` where an instance of the module has the new name, this one included.
+    /// The first of these, and nothing is changed then: `BadString` where the full name has no `%`,
+    /// or the new name isn't formed like a title; `ModuleNotFound` where there is no such instance;
+    /// `InstanceExists` where an instance of the module has the new name, this one included.
     ///
     /// RISC OS 3 Programmer's Reference Manual, "OS_Module", reason 15.
     pub fn rename(&mut self, full: &[u8], new: &[u8]) -> Result<(), ErrorNumber>
@@ -134,11 +138,13 @@ impl Instances {
         self.table.rename(full, new)
     }
 
-    /// Makes an instance, `Title%Name`, the preferred one of its module. A call that is under way meanwhile goes on.
+    /// Makes an instance, `Title%Name`, the preferred one of its module. A call that is under way
+    /// meanwhile goes on.
     ///
     /// # Errors
     ///
-    /// The first of these, and nothing is changed then: `BadString` where the full name has no `%`; `ModuleNotFound` where there is no such instance.
+    /// The first of these, and nothing is changed then: `BadString` where the full name has no `%`;
+    /// `ModuleNotFound` where there is no such instance.
     ///
     /// RISC OS 3 Programmer's Reference Manual, "OS_Module", reason 16.
     pub fn prefer(&mut self, full: &[u8]) -> Result<(), ErrorNumber>

@@ -14,8 +14,10 @@ impl Instances {
     ///
     /// # Errors
     ///
-    /// The first of these: `BadString` where the text is longer than 255 bytes, the full name has no `%`, or the name behind it isn't formed like a title; `ModuleNotFound` where there is
-    /// no module of the title; `InstanceExists` where the module has an instance of the name; `InstanceTableFull` where there are 64 instances.
+    /// The first of these: `BadString` where the text is longer than 255 bytes, the full name has
+    /// no `%`, or the name after it isn't formed like a title; `ModuleNotFound` where there is no
+    /// module of the title; `InstanceExists` where the module has an instance of the name;
+    /// `InstanceTableFull` where there are 64 instances.
     ///
     /// RISC OS 3 Programmer's Reference Manual, "OS_Module", reason 14.
     #[tactic(auto, unfolding(crate::specs::Adding::instantiation))]

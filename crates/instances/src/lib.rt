@@ -1,4 +1,5 @@
-//! The modules of a machine and their instances, together with the memory that they stand in.
+//! Modules and their instances, together with the memory that they stand in, for the calls of
+//! OS_Module.
 #![tactic(auto)]
 
 pub mod adding;

@@ -37,7 +37,8 @@ impl Instances {
     ///
     /// # Errors
     ///
-    /// The first of these: `BadString` where the text is longer than 255 bytes; `ModuleNotFound` where there is none.
+    /// The first of these: `BadString` where the text is longer than 255 bytes; `ModuleNotFound`
+    /// where there is none.
     ///
     /// RISC OS 3 Programmer's Reference Manual, "OS_Module", reason 3.
     pub fn plan_reinit(&self, full: &[u8], text: &[u8]) -> Result<Plan, ErrorNumber>
@@ -70,7 +71,8 @@ impl Instances {
         Plan::clear(given_only(&[], 0), slots.as_slice())
     }
 
-    /// The module area is tidied, while all instances are finalised; the caller goes on at the return address.
+    /// The module area is tidied, while all instances are finalised; the caller goes on at the
+    /// return address.
     ///
     /// RISC OS 3 Programmer's Reference Manual, "OS_Module", reason 8.
     pub fn plan_tidy(&self, return_address: u32) -> Plan

@@ -22,7 +22,8 @@ impl Instances {
         self.table.count()
     }
 
-    /// How many instances the module of a number has, at most 64; none where there is no such module.
+    /// How many instances the module of a number has, at most 64; none where there is no such
+    /// module.
     pub fn instance_count(&self, number: u32) -> u32
         ensures value { result ≡ instance_count (slice_get self.now number) }
         ensures few { result ≤ 64 }
@@ -42,7 +43,8 @@ impl Instances {
         self.table.handler_of(call)
     }
 
-    /// The slots of the instances of the module of a title, oldest first; none where there is no such module.
+    /// The slots of the instances of the module of a title, oldest first; none where there is no
+    /// such module.
     pub fn slots_of_title(&self, title: &[u8]) -> ArrayVec<u32, MOST_INSTANCES>
         ensures { result.items ≡ slots_of (titled title.now self.now) }
     {
@@ -63,7 +65,8 @@ impl Instances {
         self.table.slot_of(place).ok_or(ErrorNumber::ModuleNotFound)
     }
 
-    /// Where the module of the instance that a name means, as `lookup` takes it, is entered as a program, and the instance's slot.
+    /// Where the module of the instance that a name means, as `lookup` takes it, is entered as a
+    /// program, and the instance's slot.
     ///
     /// # Errors
     ///

@@ -1,4 +1,5 @@
--- The slots of instances, of all modules or of those whose headers pass a test, after each change of the list.
+-- The slots of instances, of all modules or of those whose headers pass a test, after each change
+-- of the list.
 use Rattle.std.proofs.Common.{◌≡◌, ℕ, ◌≤◌, ◌==◌, ◌||◌, Bool, true, false, List, [], ◌∷◌, ◌++◌, map, refl, sym, ap, ◌∙◌, inl, inr, append_assoc, arith}
 use Rattle.std.specs.Prelude.{if◌then◌else◌}
 use Rattle.std.specs.List.{list_any}

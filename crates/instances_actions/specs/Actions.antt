@@ -1,5 +1,6 @@
--- What each action of a plan does to the world, before its code runs (RISC OS 3 Programmer's Reference Manual, "Modules", "Initialisation entry
--- point", "Finalisation entry point", and OS_Module). An action of a slot that no instance has does nothing to the list.
+-- What each action of a plan does to the world, before its code runs (RISC OS 3 Programmer's
+-- Reference Manual, "Modules", "Initialisation entry point", "Finalisation entry point", and
+-- OS_Module). An action of a slot that no instance has does nothing to the list.
 use Rattle.std.specs.Prelude.{ℕ, List, Option}
 use Rattle.instances_plans.specs.declared.action.Action.{Action}
 use Rattle.instances_plans.specs.declared.action.Action.TheVariants as act
@@ -24,7 +25,8 @@ with_new g slot modules = with_module modules g.header (image_given g) slot
 abbrev pub with_another : Given → ℕ → List Module → List Module
 with_another g slot modules = added_to (number_of_title g.header.title.items modules) g.name.items slot modules
 
--- The slide of the module area is a parameter: it takes the return address of the call and the world, and answers the world after it.
+-- The slide of the module area is a parameter: it takes the return address of the call and the
+-- world, and answers the world after it.
 abbrev pub acted : (ℕ → World → World) → Given → World → Action → World
 acted slide g w (act.Finalise slot fatal) = w
 acted slide g w (act.Remove slot) = removed w slot

@@ -1,5 +1,6 @@
--- The code that an action of a plan runs (RISC OS 3 Programmer's Reference Manual, "Modules", "Initialisation entry point", "Finalisation entry
--- point"). An action of a slot that no instance has runs none.
+-- The code that an action of a plan runs (RISC OS 3 Programmer's Reference Manual, "Modules",
+-- "Initialisation entry point", "Finalisation entry point"). An action of a slot that no instance
+-- has runs none.
 use Rattle.std.specs.Prelude.{ℕ, Bool, true, false, ◌+◌, ◌%◌, ◌^◌, ◌==◌, List, Option, Some, None, slice_get, if◌then◌else◌}
 use Rattle.instances_plans.specs.module_header.specs.declared.header.Header.{Header}
 use Rattle.instances_plans.specs.declared.action.Action.{Action}
@@ -12,8 +13,8 @@ use Rattle.instances_table.specs.declared.parts.Place.{Place}
 use Rattle.instances_table.specs.Modules.{Module}
 use Rattle.instances_table.specs.Lookup.{place_of_slot}
 
--- The code of an action, if its entry isn't 0. R10 is the text's address, or at a finalisation 1 where it is fatal, else 0; R11 the number of the
--- instance; R12 the address of its private word.
+-- The code of an action, if its entry isn't 0. R10 is the text's address, or at a finalisation 1
+-- where it is fatal, else 0; R11 the number of the instance; R12 the address of its private word.
 abbrev pub code_at : CodeKind → ℕ → ℕ → ℕ → ℕ → Module → Option Code
 code_at kind slot entry r10 number m =
     if entry == 0 then None

@@ -9,7 +9,8 @@ use Rattle.instances_plans.specs.Plans.{Plan, finished, first_of, refused}
 use Rattle.instances_actions.specs.Actions.{image_given}
 use Rattle.instances_actions.specs.Pending.{AreTitledAfter, IsSettledOnce, pending_of, settles}
 
--- Each call's plan settles the image once, when it is made; a load's, where the older instances that go are all those of the title.
+-- Each call's plan settles the image once, when it is made; a load's, where the older instances
+-- that go are all those of the title.
 abbrev pub LoadSettles : Type 0
 LoadSettles = (given : Given) (titled old : List ℕ) (slot : ℕ) → without_all old titled ≡ [] → IsSettledOnce titled (load_plan given old slot)
 
@@ -34,7 +35,8 @@ abbrev pub StaysSettledRefused : Type 0
 StaysSettledRefused = (titled : List ℕ) (p : Plan) (a : Action) (r0 : ℕ) → first_of p.actions ≡ Some a → IsSettledOnce titled p
     → IsSettledOnce titled (refused p a r0)
 
--- An action that settles nothing leaves the pending image pending; after one that does none is. A refusal leaves it pending.
+-- An action that settles nothing leaves the pending image pending; after one that does none is. A
+-- refusal leaves it pending.
 abbrev pub PendingStays : Type 0
 PendingStays = (p : Plan) (a : Action) → first_of p.actions ≡ Some a → settles a ≡ false → pending_of (finished p a) ≡ pending_of p
 

@@ -1,3 +1,4 @@
+-- What each action of a plan does. Begin with Actions.
 pub mod Actions
 pub mod Asked
 pub mod Codes

@@ -1,5 +1,6 @@
--- The image of a new module while its call is under way: it is recorded, and no module's yet. A plan settles what becomes of it just once: a module
--- gets it, or it is given up (this project's own).
+-- The image of a new module while its call is under way: it is recorded, and no module's yet. A
+-- plan settles what becomes of it just once: a module gets it, or it is given up (this project's
+-- own).
 use Rattle.std.specs.Prelude.{◌≡◌, ℕ, Bool, true, false, List, [], ◌∷◌, ◌++◌, map, if◌then◌else◌}
 use Rattle.std.specs.List.{list_any}
 use Rattle.instances_plans.specs.declared.action.Action.{Action}
@@ -35,9 +36,9 @@ GivesUpOnce (GiveUp ∷ others) = (is_pending others ≡ false) × GivesUpOnce o
 GivesUpOnce (Initialise slot ∷ others) = GivesUpOnce others
 GivesUpOnce _ = ⊥
 
--- Nothing settles the image twice; what is done instead, where a finalisation refuses, settles it just where the rest would have; an insertion comes
--- only when the instances of the older module of that title are gone, whose slots are `titled`, and none comes behind an instantiation
--- or a slide.
+-- Nothing settles the image twice; what is done instead, where a finalisation refuses, settles it
+-- just where the rest would have; an insertion comes only when the instances of the older module of
+-- that title are gone, whose slots are `titled`, and none comes after an instantiation or a slide.
 abbrev pub SettlesOnce : List ℕ → List Action → List Action → Type 0
 SettlesOnce titled instead [] = Unit {0}
 SettlesOnce titled instead (Finalise slot fatal ∷ others) =
@@ -53,7 +54,8 @@ SettlesOnce titled instead (Initialise slot ∷ others) = SettlesOnce titled ins
 abbrev pub IsSettledOnce : List ℕ → Plan → Type 0
 IsSettledOnce titled p = SettlesOnce titled p.instead p.actions
 
--- What an action makes of the slots of a title's instances. Behind an insertion or an instantiation they don't matter.
+-- What an action makes of the slots of a title's instances. After an insertion or an instantiation
+-- they don't matter.
 abbrev pub AreTitledAfter : Action → List ℕ → List ℕ → Type 0
 AreTitledAfter (Remove slot) old new = new ≡ without slot old
 AreTitledAfter (Insert slot) old new = Unit {0}

@@ -1,4 +1,5 @@
--- Plans whose actions all find what they need when their turns come, whatever module code answers (this project's own).
+-- Plans whose actions all find what they need when their turns come, whatever module code answers
+-- (this project's own).
 use Rattle.std.specs.Prelude.{◌≡◌, ◌≢◌, ℕ, Bool, true, false, Some, List, [], ◌∷◌, map}
 use Rattle.std.specs.List.{list_any}
 use Rattle.instances_plans.specs.declared.action.Action.{Action}
@@ -13,7 +14,8 @@ use Rattle.instances_actions.specs.Actions.{with_another, with_new}
 use Rattle.instances_actions.specs.Asked.{CanAct, is_taken}
 use Rattle.instances_actions.specs.Pending.{IsSettledOnce, slots_titled}
 
--- An instantiation stands first, if at all: its name was found free, in a module that was found, when the call was made.
+-- An instantiation stands first, if at all: its name was found free, in a module that was found,
+-- when the call was made.
 abbrev pub instantiates : Action → Bool
 instantiates (Instantiate slot) = true
 instantiates _ = false
@@ -47,7 +49,8 @@ AreAfter g (Instantiate slot) old new = new ≡ with_another g slot old
 AreAfter g Slide old new = IsSlid old new
 AreAfter g _ old new = new ≡ old
 
--- A plan that is ready finds what its next action asks for, and is ready still once that is done, or has refused.
+-- A plan that is ready finds what its next action asks for, and is ready still once that is done,
+-- or has refused.
 abbrev pub ReadyActs : Type 0
 ReadyActs = (modules : List Module) (p : Plan) (a : Action) → AreModules modules → first_of p.actions ≡ Some a → IsReady modules p → a ≢ Slide
     → CanAct p.given modules a
@@ -60,8 +63,8 @@ abbrev pub StaysReadyRefused : Type 0
 StaysReadyRefused = (modules : List Module) (p : Plan) (a : Action) (r0 : ℕ) → first_of p.actions ≡ Some a → IsReady modules p
     → IsReady modules (refused p a r0)
 
--- Each call's plan is ready when it is made, if it is doable: a load's where the older instances that go are all those of the title, an
--- instantiation's where its name is free.
+-- Each call's plan is ready when it is made, if it is doable: a load's where the older instances
+-- that go are all those of the title, an instantiation's where its name is free.
 abbrev pub LoadIsReady : Type 0
 LoadIsReady = (given : Given) (modules : List Module) (old : List ℕ) (slot : ℕ) → IsDoable (slots_of modules) (load_plan given old slot)
     → without_all old (slots_titled given.header.title.items modules) ≡ [] → IsReady modules (load_plan given old slot)

@@ -20,8 +20,8 @@ use instances_ground::put_text;
 use instances_plans::{Action, Given};
 use instances_table::InstanceTable;
 
-/// Does an action's own part, before its code runs; a slide is done elsewhere. The image of a new module is pending until an insertion adds it, or
-/// it is given up.
+/// Does an action's own part, before its code runs; a slide is done elsewhere. The image of a new
+/// module is pending until an insertion adds it, or it is given up.
 #[tactic(auto, using(instances_ground::proofs::Keeping::keeps_same, instances_ground::proofs::Records::loses_same))]
 pub fn act(map: &mut AddressMap, table: &mut InstanceTable, given: &Given, action: Action)
     requires can { CanAct given.now table.old action }

@@ -10,7 +10,8 @@ use instances_table::InstanceTable;
 
 /// The code that an action runs, if the module of its instance has that entry.
 ///
-/// RISC OS 3 Programmer's Reference Manual, "Modules", "Initialisation entry point", "Finalisation entry point".
+/// RISC OS 3 Programmer's Reference Manual, "Modules", "Initialisation entry point", "Finalisation
+/// entry point".
 #[tactic(auto, unfolding(crate::specs::Codes::code_among))]
 pub fn code_of(table: &InstanceTable, action: Action) -> Option<Code>
     ensures { result ≡ code_among table.now action }

@@ -22,7 +22,8 @@ pub fn plans_go_on_settling()
     ensures slides { NoneSlides }
 {}
 
-/// Each action of a plan that is ready finds what it asks for when its turn comes, whatever module code answers.
+/// Each action of a plan that is ready finds what it asks for when its turn comes, whatever module
+/// code answers.
 pub fn plans_stay_ready()
     ensures acts { ReadyActs }
     ensures well { StaysReady }

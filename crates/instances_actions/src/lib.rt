@@ -1,4 +1,5 @@
-//! What each action of a plan does to the world: to the list of modules, to the memory that they stand in, and to the records of their images.
+//! What each action of a plan does to modules, to memory and to the records of images, for
+//! `instances`.
 #![tactic(auto)]
 
 pub mod acting;

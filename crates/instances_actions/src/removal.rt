@@ -18,8 +18,8 @@ use instances_ground::rma::Rma;
 use instances_ground::{private_value, put_private};
 use instances_table::{Image, InstanceTable, is_in_module_area};
 
-/// Removes the instance of a slot: the block that its private word names is given back, the word is 0 then, and the instance is gone; with the last
-/// one of a module its image goes.
+/// Removes the instance of a slot: the block that its private word names is given back, the word is
+/// 0 then, and the instance is gone; with the last one of a module its image goes.
 ///
 /// RISC OS 3 Programmer's Reference Manual, "OS_Module", reason 4.
 pub fn remove(map: &mut AddressMap, table: &mut InstanceTable, slot: u32)
@@ -43,8 +43,9 @@ pub fn remove(map: &mut AddressMap, table: &mut InstanceTable, slot: u32)
     }
 }
 
-/// Gives the block back that the private word of a slot names, with the heaps that lie in it, and makes the word 0. What is no block of the module
-/// area, or a module's image, or holds an anchor of the flex store, stays as it is.
+/// Gives the block back that the private word of a slot names, with the heaps that lie in it, and
+/// makes the word 0. What is no block of the module area, or a module's image, or holds an anchor
+/// of the flex store, stays as it is.
 ///
 /// RISC OS 3 Programmer's Reference Manual, "Modules", "Finalisation entry point".
 pub fn free_private(map: &mut AddressMap, slot: u32)

@@ -1,4 +1,5 @@
--- The records of images: how many there are, that all start at different addresses, and those after a record more or less.
+-- The records of images: how many there are, that all start at different addresses, and those after
+-- a record more or less.
 use Rattle.std.proofs.Common.{◌≡◌, ℕ, Bool, true, false, inl, inr, suc, ◌+◌, ◌%◌, ◌<◌, ◌==◌, List, [], ◌∷◌, ◌++◌, length, refl, ap, arith}
 use Rattle.std.specs.List.{list_any}
 use Rattle.std.proofs.lemmas.Bool.{cases_Bool, eqb-true, false_from_ne_true, both_ways}
@@ -16,7 +17,7 @@ use Rattle.instances_ground.specs.Sound.{AreSolid, count_beside, image_ranges}
 abbrev pub starts_at : ℕ → Region → Bool
 starts_at at r = r.at == at
 
--- each range of a list starts at another address than all behind it
+-- each range of a list starts at another address than all after it
 abbrev pub AreDifferent : List Region → Type 0
 AreDifferent [] = Unit {0}
 AreDifferent (r ∷ rs) = (list_any (starts_at r.at) rs ≡ false) × AreDifferent rs

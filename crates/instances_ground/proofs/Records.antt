@@ -63,7 +63,7 @@ turns_losing GiveUp old new other loses = loses
 turns_losing Slide old new other loses = absurd (other refl)
 turns_losing (Initialise slot) old new other loses = loses
 
--- a turn, and those behind it
+-- a turn, and those after it
 pub carries_on : (actions : List Action) (old mid new : List Region) → MayTurnRecords (first_of actions) old mid
     → CarriesRecords (all_but_first actions) mid new → CarriesRecords actions old new
 carries_on [] old mid new turn later = later ∙ turn

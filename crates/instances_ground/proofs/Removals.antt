@@ -1,4 +1,5 @@
--- The images after one went: that of the module whose last instance was removed, or the pending one.
+-- The images after one went: that of the module whose last instance was removed, or the pending
+-- one.
 use Rattle.std.proofs.Common.{◌≡◌, ℕ, Bool, true, false, inl, inr, ◌+◌, ◌==◌, List, [], ◌∷◌, ◌++◌, map, refl, sym, ap, ◌∙◌, Ok, Err, Some, None}
 use Rattle.std.specs.Prelude.{Option, Result, ok_or, if◌then◌else◌}
 use Rattle.std.specs.List.{list_any}

@@ -1,4 +1,5 @@
--- What calls keep of the world: its estate and its records, with the images in the order of the modules.
+-- What calls keep of the world: its estate and its records, with the images in the order of the
+-- modules.
 use Rattle.std.proofs.Common.{◌≡◌, ℕ, ◌+◌, ◌%◌, ◌≤◌, ◌<◌, List, [], ◌∷◌, ◌++◌, length, map, zero, suc, refl, sym, ap, ◌∙◌, arith, length-append, append-nil, append_assoc}
 use Rattle.std.proofs.lemmas.List.{length-map, map-append}
 use Rattle.rma.specs.address_map.specs.Records.{without_region}

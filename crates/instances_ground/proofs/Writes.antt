@@ -94,7 +94,7 @@ module _ (m n : AddressMap) (slot at value : ℕ) (is : at ≡ private_of slot) 
   unfolding store_of
   private_written kept l = estate_written m n l (with_word_at (byte_at m) (private_of slot) value) kept same word_put
 
--- the environment text, and the zero behind it
+-- the environment text, and the zero after it
 module _ (m k n : AddressMap) (text : List ℕ) (first : layout k ≡ layout m) (second : layout n ≡ layout k)
     (put : (a : ℕ) → byte_at k a ≡ with_bytes_at (byte_at m) 0x01C02200 text a)
     (end : (a : ℕ) → byte_at n a ≡ with_bytes_at (byte_at k) (0x01C02200 + length text) (0 ∷ []) a) where

@@ -8,7 +8,8 @@ use Rattle.instances_table.specs.ModuleArea.{is_in_module_area}
 use Rattle.instances_ground.specs.Sound.{IsWorld, images_of, range_of, recorded_len}
 use Rattle.instances_ground.specs.World.{World}
 
--- An image begins at a multiple of 4, and is recorded with its whole length. In the module area the record covers just what a live block holds, and elsewhere bytes that are no heap's.
+-- An image begins at a multiple of 4, and is recorded with its whole length. In the module area the
+-- record covers just what a live block holds, and elsewhere bytes that are no heap's.
 pub record IsHeld (w : World) (image : Image) : Type 0 where
   pub recorded : IsRecorded (range_of image) w.estate.store.others
   pub whole : image.len ≤ recorded_len image

@@ -1,3 +1,4 @@
+-- What module calls act on. Begin with World, then Sound.
 pub use Rattle.rma.specs.profile
 pub use Rattle.rma.specs.address_map
 pub use Rattle.rma.specs.os_heap

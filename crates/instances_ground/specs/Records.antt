@@ -1,5 +1,6 @@
--- What becomes of the records of ranges, the first recorded first, while a module call goes on. A world has the heaps and the other ranges as two lists;
--- this tells how they stand among each other (this project's own).
+-- What becomes of the records of ranges, the first recorded first, while a module call goes on. A
+-- world has the heaps and the other ranges as two lists; this tells how they stand among each other
+-- (this project's own).
 use Rattle.std.specs.Prelude.{◌≡◌, ◌⊎◌, Option, Some, None, List, [], ◌∷◌}
 use Rattle.rma.specs.address_map.specs.declared.follow.Move.{Move}
 use Rattle.rma.specs.address_map.specs.declared.region.Region.{Region}
@@ -12,7 +13,8 @@ abbrev pub LosesRecords : List Region → List Region → Type 0
 LosesRecords [] new = new ≡ []
 LosesRecords (r ∷ rs) new = LosesRecords rs new ⊎ ((left : List Region) × ((new ≡ r ∷ left) × LosesRecords rs left))
 
--- An action's own part may lose records, of an image or of heaps; a slide loses none, and those of images get the places where their blocks went.
+-- An action's own part may lose records, of an image or of heaps; a slide loses none, and those of
+-- images get the places where their blocks went.
 abbrev pub TurnsRecords : Action → List Region → List Region → Type 0
 TurnsRecords Slide old new = (moves : List Move) × (new ≡ moved_regions moves old)
 TurnsRecords other old new = LosesRecords old new

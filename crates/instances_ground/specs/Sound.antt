@@ -1,5 +1,6 @@
--- What holds of the world of modules between all module calls, and within one (this project's own): each module's image is recorded, with its whole
--- length, one record to a module, in the order of the modules.
+-- What holds of the world of modules between all module calls, and within one (this project's own):
+-- each module's image is recorded, with its whole length, one record to a module, in the order of
+-- the modules.
 use Rattle.std.specs.Prelude.{ℕ, ◌≡◌, ◌≤◌, ◌<◌, ◌-◌, ◌%◌, true, suc, List, [], ◌∷◌, ◌++◌, map, if◌then◌else◌}
 use Rattle.rma.specs.address_map.specs.declared.map.AddressMap.{AddressMap}
 use Rattle.rma.specs.address_map.specs.declared.region.Kind.TheVariants as kind
@@ -32,7 +33,8 @@ abbrev pub AreSolid : List Region → Type 0
 AreSolid [] = Unit {0}
 AreSolid (r ∷ rs) = (is_image r.kind ≡ true → IsSolid r) × AreSolid rs
 
--- How many bytes are recorded for an image: in the module area all that a block holds which is claimed for it, elsewhere just its own.
+-- How many bytes are recorded for an image: in the module area all that a block holds which is
+-- claimed for it, elsewhere just its own.
 abbrev pub recorded_len : Image → ℕ
 recorded_len image = if is_in_module_area image.at then total_for image.len - 4 else image.len
 
@@ -42,9 +44,10 @@ range_of image = record { kind = kind.Image; at = image.at; len = recorded_len i
 abbrev pub images_of : List Module → List Image
 images_of modules = map (λ (m : Module). m.image) modules
 
--- The memory is sound, and the system pages are among its records. The images recorded are those of the modules, and behind these the `pending`
--- ones, which a call under way has recorded and not added to the modules yet. Beside images there are the records of the system pages and of the
--- flex store at most.
+-- The memory is sound, and the system pages are among its records. The images recorded are those of
+-- the modules, and after these the `pending` ones, which a call under way has recorded and not
+-- added to the modules yet. Beside images there are the records of the system pages and of the flex
+-- store at most.
 pub record IsWorld (w : World) (pending : List Image) : Type 0 where
   pub estate : IsEstate w.estate
   pub system : IsRecorded system_pages w.estate.store.others

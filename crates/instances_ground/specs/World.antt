@@ -1,5 +1,6 @@
--- What module calls act on: memory with its heaps and areas, and the list of modules (RISC OS 3 Programmer's Reference Manual, "Modules", "OS_Module").
--- The places of the private words and of the environment text are this project's own.
+-- What module calls act on: memory with its heaps and areas, and the list of modules (RISC OS 3
+-- Programmer's Reference Manual, "Modules", "OS_Module"). The places of the private words and of
+-- the environment text are this project's own.
 use Rattle.std.specs.Prelude.{ℕ, List, [], ◌∷◌, ◌++◌, Result, Ok, Err, if◌then◌else◌}
 use Rattle.rma.specs.profile.specs.declared.error.ErrorNumber.{ErrorNumber}
 use Rattle.rma.specs.address_map.specs.declared.map.AddressMap.{AddressMap}
@@ -25,7 +26,7 @@ world_of m l modules = record { estate = estate_of m l; modules = modules }
 abbrev pub with_bytes : Estate → (ℕ → ℕ) → Estate
 with_bytes e bytes = with_store e (record e.store { bytes = record { mapped = e.store.bytes.mapped; at = bytes } })
 
--- the private word of the instance of a slot, and the environment text with the zero behind it
+-- the private word of the instance of a slot, and the environment text with the zero after it
 abbrev pub private_word : Estate → ℕ → ℕ
 private_word e slot = word_at e.store.bytes.at (private_of slot)
 
@@ -51,7 +52,8 @@ private_freed e slot = with_private (freed e (private_word e slot)) slot 0
 unfoldable pub image_gone : Estate → Image → Estate
 image_gone e image = with_store e (if is_in_module_area image.at then image_freed e.store image.at else image_dropped e.store image.at)
 
--- With the last instance of a module its image goes: the module that has the slot, if nothing of it is left.
+-- With the last instance of a module its image goes: the module that has the slot, if nothing of it
+-- is left.
 abbrev pub image_gone_of : Estate → Module → List Module → Estate
 image_gone_of e m [] = image_gone e m.image
 image_gone_of e m (left ∷ others) = e
@@ -61,8 +63,8 @@ image_gone_with e slot [] = e
 image_gone_with e slot (m ∷ ms) =
     if has_instance slot m then image_gone_of e m (module_without slot m) else image_gone_with e slot ms
 
--- Removal of an instance: its private word's block, then the word, then the instance; and with the last one the image. These are two releases, one
--- after the other.
+-- Removal of an instance: its private word's block, then the word, then the instance; and with the
+-- last one the image. These are two releases, one after the other.
 unfoldable pub removed : World → ℕ → World
 removed w slot = record {
   estate = image_gone_with (private_freed w.estate slot) slot w.modules;

@@ -2,8 +2,9 @@
 
 ghost use Rattle.instances_ground.specs.Laws.{ImagesAreApart, ImagesAreHeld};
 
-/// Each image begins at a multiple of 4, and is recorded with its whole length. Where it stands in the module area the record is all that a live block
-/// there holds; elsewhere it has no byte of a heap.
+/// Each image begins at a multiple of 4, and is recorded with its whole length. Where it stands in
+/// the module area the record is all that a live block there holds; elsewhere it has no byte of a
+/// heap.
 pub fn images_are_held()
     ensures { ImagesAreHeld }
 {}

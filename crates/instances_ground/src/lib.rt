@@ -1,4 +1,5 @@
-//! What module calls act on: memory with its heaps and areas, the private words of instances, and the environment text.
+//! Frame: memory with heaps and areas, private words and environment text, which module calls act
+//! on.
 #![tactic(auto)]
 
 pub mod laws;

@@ -43,7 +43,8 @@ pub fn put_private(map: &mut AddressMap, slot: u32, value: u32)
     map.put_word(private_word(slot), value);
 }
 
-/// Makes a text of at most 255 bytes, with a zero byte behind it, the environment text, which module code finds at its initialisation.
+/// Makes a text of at most 255 bytes, with a zero byte after it, the environment text, which module
+/// code finds at its initialisation.
 pub fn put_text(map: &mut AddressMap, text: &[u8])
     requires short { length text.now ≤ 255 }
     requires system { HasSystemPages map.old }

@@ -1,5 +1,6 @@
--- The plans of the module calls (RISC OS 3 Programmer's Reference Manual, "Modules", OS_Module: load, delete, re-initialise, tidy, clear, insert,
--- copy, new instantiation). Instances are named by slots, oldest first. The order of the actions of a tidy that is refused is this project's own.
+-- The plans of the module calls (RISC OS 3 Programmer's Reference Manual, "Modules", OS_Module:
+-- load, delete, re-initialise, tidy, clear, insert, copy, new instantiation). Instances are named
+-- by slots, oldest first. The order of the actions of a tidy that is refused is this project's own.
 use Rattle.std.specs.Prelude.{ℕ, true, false, List, [], ◌∷◌, ◌++◌}
 use Rattle.instances_plans.specs.declared.action.Action.{Action}
 use Rattle.instances_plans.specs.declared.action.Action.TheVariants as act
@@ -15,7 +16,8 @@ clear_actions (slot ∷ others) = act.Finalise slot true ∷ act.Remove slot ∷
 abbrev pub delete_actions : ℕ → List Action
 delete_actions slot = clear_actions (slot ∷ [])
 
--- The instances of an older module of the title go; then the new one is added, with its first instance, which is initialised.
+-- The instances of an older module of the title go; then the new one is added, with its first
+-- instance, which is initialised.
 abbrev pub load_actions : List ℕ → ℕ → List Action
 load_actions old slot = clear_actions old ++ act.Insert slot ∷ act.Initialise slot ∷ []
 
@@ -39,7 +41,8 @@ initialise_all (slot ∷ others) = act.Initialise slot ∷ initialise_all others
 abbrev pub tidy_actions : List ℕ → List Action
 tidy_actions slots = finalise_all slots ++ act.Slide ∷ initialise_all slots
 
--- Where a finalisation refuses, a load gives its image up, and the other calls end. A tidy then initialises those that it has finalised, by `owed`.
+-- Where a finalisation refuses, a load gives its image up, and the other calls end. A tidy then
+-- initialises those that it has finalised, by `owed`.
 abbrev pub load_plan : Given → List ℕ → ℕ → Plan
 load_plan given old slot = plan_of given (load_actions old slot) (act.GiveUp ∷ [])
 

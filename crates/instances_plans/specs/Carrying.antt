@@ -1,4 +1,5 @@
--- What carrying a plan on comes to. The world that it acts on, what each action does there and which code it runs, belong to those who carry it.
+-- What carrying a plan on comes to. The world that it acts on, what each action does there and
+-- which code it runs, belong to those who carry it.
 use Rattle.std.specs.Prelude.{ℕ, suc, zero, true, false, Option, Some, None, List, [], ◌∷◌}
 use Rattle.instances_plans.specs.declared.action.Action.{Action}
 use Rattle.instances_plans.specs.declared.code.Advance.{Advance}
@@ -32,7 +33,8 @@ carried_from d (a ∷ others) w p = carried_by d w p a others (d.code_of w a) (c
 unfoldable pub carried : {W : Type 0} → Doing W → W → Plan → Carried W
 carried d w p = carried_from d p.actions w p
 
--- One turn: the code that was under way, if any was, has come back; then one action is done, or its code is to be entered.
+-- One turn: the code that was under way, if any was, has come back; then one action is done, or its
+-- code is to be entered.
 pub record Advanced (W : Type 0) : Type 0 where
   pub world : W
   pub rest : Plan
@@ -55,7 +57,8 @@ carried_after d r advance.Next = carried d r.world (settled r.rest Well)
 carried_after d r (advance.Code code) = record { world = r.world; rest = r.rest; code = Some code }
 carried_after d r (advance.End e) = record { world = r.world; rest = r.rest; code = None }
 
--- A whole call whose code never refuses, if at most so many codes run: `run` is what module code makes of the world.
+-- A whole call whose code never refuses, if at most so many codes run: `run` is what module code
+-- makes of the world.
 abbrev pub well_after : {W : Type 0} → (W → Code → W) → Carried W → Option Code → (W → Plan → Carried W) → Carried W
 well_after run c None on = c
 well_after run c (Some code) on = on (run c.world code) (settled c.rest Well)

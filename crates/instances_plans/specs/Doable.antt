@@ -1,5 +1,6 @@
--- Plans that find what they name: each action, when its turn comes, an instance in the slot that it names, and each that adds one a free slot,
--- whatever module code answers (this project's own). `used` lists the slots of all instances.
+-- Plans that find what they name: each action, when its turn comes, an instance in the slot that it
+-- names, and each that adds one a free slot, whatever module code answers (this project's own).
+-- `used` lists the slots of all instances.
 use Rattle.std.specs.Prelude.{◌≡◌, ◌<◌, ℕ, Bool, true, false, ◌==◌, ◌||◌, List, [], ◌∷◌, ◌++◌, if◌then◌else◌}
 use Rattle.instances_plans.specs.declared.action.Action.{Action}
 use Rattle.instances_plans.specs.declared.action.Action.TheVariants.{Finalise, Remove, FreePrivate, Insert, Instantiate, GiveUp, Slide, Initialise}
@@ -20,14 +21,16 @@ used_after used (Insert slot) = used ++ slot ∷ []
 used_after used (Instantiate slot) = used ++ slot ∷ []
 used_after used _ = used
 
--- What stands instead of a plan gives an image up and initialises instances; one that refuses is removed.
+-- What stands instead of a plan gives an image up and initialises instances; one that refuses is
+-- removed.
 abbrev pub StandsInstead : List ℕ → List Action → Type 0
 StandsInstead used [] = Unit {0}
 StandsInstead used (GiveUp ∷ others) = StandsInstead used others
 StandsInstead used (Initialise slot ∷ others) = (is_used slot used ≡ true) × (StandsInstead used others × StandsInstead (without slot used) others)
 StandsInstead used _ = ⊥
 
--- A finalisation may refuse, and what stands instead is done; an initialisation may refuse, and its instance goes.
+-- A finalisation may refuse, and what stands instead is done; an initialisation may refuse, and its
+-- instance goes.
 abbrev pub CanDo : List ℕ → List Action → List Action → Type 0
 CanDo used instead [] = Unit {0}
 CanDo used instead (Finalise slot fatal ∷ others) =

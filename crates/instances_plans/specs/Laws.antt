@@ -1,4 +1,5 @@
--- Laws over plans: what turns come to, what a call does whose code never refuses, and what one does whose finalisation refuses.
+-- Laws over plans: what turns come to, what a call does whose code never refuses, and what one does
+-- whose finalisation refuses.
 use Rattle.std.specs.Prelude.{◌≡◌, ◌≤◌, ◌<◌, ℕ, true, false, Option, Some, None, List, [], ◌∷◌, ◌++◌, length}
 use Rattle.instances_plans.specs.declared.action.Action.{Action}
 use Rattle.instances_plans.specs.declared.action.Action.TheVariants as act
@@ -32,7 +33,8 @@ abbrev pub finalised : List ℕ → Plan → Plan
 finalised [] p = p
 finalised (slot ∷ others) p = finalised others (finished (started p) (act.Finalise slot false))
 
--- A tidy whose next finalisation refuses initialises those that it has finalised, oldest first, and slides nothing.
+-- A tidy whose next finalisation refuses initialises those that it has finalised, oldest first, and
+-- slides nothing.
 abbrev pub TidyGivesUp : Type 0
 TidyGivesUp = (given : Given) (before others : List ℕ) (slot r0 : ℕ)
     → settled (started (finalised before (tidy_plan given (before ++ slot ∷ others)))) (Refused r0)
@@ -49,7 +51,8 @@ ClearStops = (given : Given) (before others : List ℕ) (slot r0 : ℕ)
     → settled (started (cleared before (clear_plan given (before ++ slot ∷ others)))) (Refused r0)
     ≡ record { given = given; actions = []; instead = []; runs = false; first = Some r0 }
 
--- Each call's plan is doable when it is made, if its slots are those of instances, all different, and a slot for a new one is free.
+-- Each call's plan is doable when it is made, if its slots are those of instances, all different,
+-- and a slot for a new one is free.
 abbrev pub LoadIsDoable : Type 0
 LoadIsDoable = (given : Given) (used old : List ℕ) (slot : ℕ) → AreSlots used old → is_used slot (without_all old used) ≡ false → slot < 64
     → IsDoable used (load_plan given old slot)

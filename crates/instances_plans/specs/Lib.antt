@@ -1,3 +1,4 @@
+-- What is left of a module call. Begin with Plans.
 pub use Rattle.module_header
 pub mod Calls
 pub mod Carrying

@@ -1,5 +1,6 @@
--- A plan: the rest of a module call, as a list of actions (RISC OS 3 Programmer's Reference Manual, "Modules", the reasons of OS_Module). An
--- action whose code runs stays the head of the list until that code has come back.
+-- A plan: the rest of a module call, as a list of actions (RISC OS 3 Programmer's Reference Manual,
+-- "Modules", the reasons of OS_Module). An action whose code runs stays the head of the list until
+-- that code has come back.
 use Rattle.std.specs.Prelude.{ℕ, Bool, true, false, Option, Some, None, List, [], ◌∷◌, ◌++◌, if◌then◌else◌}
 use Rattle.instances_plans.specs.declared.action.Action.{Action}
 use Rattle.instances_plans.specs.declared.action.Action.TheVariants.{Finalise, Remove, Initialise}
@@ -9,8 +10,9 @@ use Rattle.instances_plans.specs.declared.code.Outcome.{Outcome}
 use Rattle.instances_plans.specs.declared.code.Outcome.TheVariants.{Well, Refused}
 use Rattle.instances_plans.specs.declared.given.Given.{Given}
 
--- `actions` is what is left to do; `instead` is what is done in place of that where a finalisation refuses; `runs` says that the code of the first
--- action is under way; `first` is the R0 of the first error met.
+-- `actions` is what is left to do; `instead` is what is done in place of that where a finalisation
+-- refuses; `runs` says that the code of the first action is under way; `first` is the R0 of the
+-- first error met.
 pub record Plan : Type 0 where
   pub given : Given
   pub actions : List Action
@@ -30,7 +32,8 @@ abbrev pub all_but_first : List Action → List Action
 all_but_first [] = []
 all_but_first (a ∷ others) = others
 
--- An instance that a tidy has finalised owes its initialisation, should another refuse. A fatal finalisation owes nothing.
+-- An instance that a tidy has finalised owes its initialisation, should another refuse. A fatal
+-- finalisation owes nothing.
 abbrev pub owed : List Action → Action → List Action
 owed instead (Finalise slot false) = instead ++ Initialise slot ∷ []
 owed instead _ = instead
@@ -48,8 +51,9 @@ started p = record p { runs = true }
 abbrev pub finished : Plan → Action → Plan
 finished p a = record p { actions = all_but_first p.actions; instead = owed p.instead a; runs = false }
 
--- The code of the first action refused. After a finalisation the rest isn't done, but what stands in its place; an instance whose initialisation
--- refused is removed, and the rest goes on. No other action has code.
+-- The code of the first action refused. After a finalisation the rest isn't done, but what stands
+-- in its place; an instance whose initialisation refused is removed, and the rest goes on. No other
+-- action has code.
 abbrev pub refused : Plan → Action → ℕ → Plan
 refused p (Finalise slot fatal) r0 = record p { actions = p.instead; instead = []; runs = false; first = first_error p.first r0 }
 refused p (Initialise slot) r0 = record p { actions = Remove slot ∷ all_but_first p.actions; runs = false; first = first_error p.first r0 }

@@ -1,4 +1,7 @@
-/// One action of a module call. Instances are named by their slots, which stay while places in lists move.
+//! The actions of which a module call is made.
+
+/// One action of a module call. Instances are named by their slots, which stay while places in
+/// lists move.
 #[derive(Clone, Copy, Debug, PartialEq, Eq)]
 pub enum Action {
     /// The finalisation entry of an instance runs; the flag says whether it is fatal.

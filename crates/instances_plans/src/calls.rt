@@ -1,4 +1,5 @@
-//! The plans of the module calls, as they are when the call is made. Instances are named by slots, oldest first.
+//! The plans of the module calls, as they are when the call is made. Instances are named by slots,
+//! oldest first.
 
 ghost use Rattle.std.specs.Prelude.{◌≡◌, ◌≤◌, ◌+◌, ◌*◌, [], ◌++◌, length};
 ghost use Rattle.instances_plans.specs.Calls.{clear_actions, clear_plan, delete_plan, finalise_all, initialise_all, instantiate_plan, load_plan, reinit_plan, tidy_plan};
@@ -12,8 +13,9 @@ use arrayvec::ArrayVec;
 type Actions = ArrayVec<Action, MOST_ACTIONS>;
 
 impl Plan {
-    /// A load, an insertion or a copy: the instances of an older module of the title go, then the new module is added with its first instance in
-    /// `slot`. Where a finalisation refuses, the new image is given up.
+    /// A load, an insertion or a copy: the instances of an older module of the title go, then the
+    /// new module is added with its first instance in `slot`. Where a finalisation refuses, the new
+    /// image is given up.
     pub fn load(given: Given, old: &[u32], slot: u32) -> Plan
         requires { length old.now ≤ 64 }
         ensures { result ≡ load_plan given old.now slot }
@@ -43,7 +45,8 @@ impl Plan {
         plan
     }
 
-    /// An instance is finalised for good, the block of its private word is freed, and it is initialised.
+    /// An instance is finalised for good, the block of its private word is freed, and it is
+    /// initialised.
     pub fn reinit(given: Given, slot: u32) -> Plan
         ensures { result ≡ reinit_plan given slot }
     {
@@ -64,8 +67,8 @@ impl Plan {
         plan
     }
 
-    /// All instances are finalised, the module area is tidied, and all are initialised. Where a finalisation refuses, those finalised before it
-    /// are initialised again, and nothing slides.
+    /// All instances are finalised, the module area is tidied, and all are initialised. Where a
+    /// finalisation refuses, those finalised before it are initialised again, and nothing slides.
     pub fn tidy(given: Given, slots: &[u32]) -> Plan
         requires { length slots.now ≤ 64 }
         ensures { result ≡ tidy_plan given slots.now }

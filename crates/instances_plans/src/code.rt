@@ -13,8 +13,9 @@ pub enum CodeKind {
     Finalise,
 }
 
-/// Module code that is to be entered: the instance's slot, the address, and R10 to R12 on entry (RISC OS 3 Programmer's Reference Manual,
-/// "Modules", "Initialisation entry point" and "Finalisation entry point").
+/// Module code that is to be entered: the instance's slot, the address, and R10 to R12 on entry
+/// (RISC OS 3 Programmer's Reference Manual, "Modules", "Initialisation entry point" and
+/// "Finalisation entry point").
 #[derive(Clone, Copy, Debug, PartialEq, Eq)]
 pub struct Code {
     pub kind: CodeKind,
@@ -25,14 +26,16 @@ pub struct Code {
     pub r12: u32,
 }
 
-/// What module code left: `Well`, or its own error with the R0 that it left. Where no code ran it is `Well`.
+/// What module code left: `Well`, or its own error with the R0 that it left. Where no code ran it
+/// is `Well`.
 #[derive(Clone, Copy, Debug, PartialEq, Eq)]
 pub enum Outcome {
     Well,
     Refused(u32),
 }
 
-/// How a call ends: without an error, with one of the system, or with a module's own, whose R0 stands in R0 then.
+/// How a call ends: without an error, with one of the system, or with a module's own, whose R0
+/// stands in R0 then.
 #[derive(Clone, Copy, Debug, PartialEq, Eq)]
 pub enum Ended {
     Well,
@@ -40,7 +43,8 @@ pub enum Ended {
     Own(u32),
 }
 
-/// What one turn of a plan asks for: the next turn, the entry of module code, or the end of the call.
+/// What one turn of a plan asks for: the next turn, the entry of module code, or the end of the
+/// call.
 #[derive(Clone, Copy, Debug, PartialEq, Eq)]
 pub enum Advance {
     Next,

@@ -1,3 +1,5 @@
+//! What a module call is given that its later actions need.
+
 use arrayvec::ArrayVec;
 use module_header::Header;
 
@@ -18,7 +20,7 @@ pub struct Given {
     pub len: u32,
     /// The name of the new instance.
     pub name: ArrayVec<u8, MOST_NAME_BYTES>,
-    /// The text behind the name, for the environment buffer.
+    /// The text after the name, for the environment buffer.
     pub text: ArrayVec<u8, MOST_TEXT_BYTES>,
     /// Where the caller goes on.
     pub return_address: u32,

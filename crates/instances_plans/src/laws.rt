@@ -14,14 +14,16 @@ pub fn plans_do_all_their_actions<W>()
     ensures { DoesAll W }
 {}
 
-/// A tidy whose finalisation refuses initialises again what it has finalised, and a clearing stops there.
+/// A tidy whose finalisation refuses initialises again what it has finalised, and a clearing stops
+/// there.
 #[tactic(auto, using(crate::proofs::Refusing::refusing))]
 pub fn refused_plans_give_up()
     ensures tidy { TidyGivesUp }
     ensures clear { ClearStops }
 {}
 
-/// Each action of a call's plan finds the instance that it names, or a free slot for one that it adds, whatever module code answers.
+/// Each action of a call's plan finds the instance that it names, or a free slot for one that it
+/// adds, whatever module code answers.
 #[tactic(auto, using(crate::proofs::Doable::reinit_is_doable))]
 pub fn plans_find_their_instances()
     ensures load { LoadIsDoable }

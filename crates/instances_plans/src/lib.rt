@@ -1,4 +1,4 @@
-//! Plans: what of a module call is still to be done, since module code runs in between.
+//! Plans of module calls: what is still to be done of one, since module code runs in between.
 #![tactic(auto)]
 
 pub mod action;

@@ -1,3 +1,5 @@
+//! The plan of a module call: which actions are left, and what has been met so far.
+
 ghost use Rattle.std.specs.Prelude.{◌≡◌, Some};
 ghost use Rattle.instances_plans.specs.Plans.{end_by, finished, first_of, refused, settled, started};
 
@@ -11,8 +13,8 @@ use std::mem::swap;
 /// The most actions of a plan: two for each of 64 instances, and those of the new module.
 pub(crate) const MOST_ACTIONS: usize = 132;
 
-/// The rest of a module call: what is left to do, in order, and what has been met so far. While module code runs, the action that it belongs to
-/// stays the first one.
+/// The rest of a module call: what is left to do, in order, and what has been met so far. While
+/// module code runs, the action that it belongs to stays the first one.
 #[derive(Drop)]
 pub struct Plan {
     pub(crate) given: Given,

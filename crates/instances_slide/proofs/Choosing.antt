@@ -1,4 +1,5 @@
--- The blocks that can be moved: they are live ones, in order, that pass the test, and no more than there are images and words.
+-- The blocks that can be moved: they are live ones, in order, that pass the test, and no more than
+-- there are images and words.
 use Rattle.std.proofs.Common.{◌≡◌, ◌≤◌, ◌<◌, ◌+◌, ◌-◌, ◌==◌, ◌&&◌, ◌||◌, ◌∙◌, ℕ, Bool, true, false, not, List, [], ◌∷◌, length, Some, nat_le, inl, inr, refl, sym, arith}
 use Rattle.std.specs.List.{count_by, list_any}
 use Rattle.std.proofs.lemmas.Bool.{and_parts, cases_Bool, eq-eqb, eqb-true, false≢true, leb-true, le-leb, ne_eqb}

@@ -68,7 +68,8 @@ ranges_moved moves (r ∷ rs) = elim (cases_Bool (is_image r.kind)) [
   | inr other ↦ rw other (ranges_moved moves rs)
 ]
 
--- each image stays on its side of the module area's edge, and so keeps the length that is recorded for it
+-- each image stays on its side of the module area's edge, and so keeps the length that is recorded
+-- for it
 image_moved_is : (moves : List Move) (m : Module) → is_in_module_area (moved_to moves m.image.at) ≡ is_in_module_area m.image.at
     → range_of (image_moved moves m).image ≡ moved_region moves (range_of m.image)
 image_moved_is moves m side = λ i. record {

@@ -1,4 +1,5 @@
--- A slide keeps each address on its side of the module area's edge: blocks go from one place in that area to another.
+-- A slide keeps each address on its side of the module area's edge: blocks go from one place in
+-- that area to another.
 use Rattle.std.proofs.Common.{◌≡◌, ℕ, Bool, true, ◌+◌, ◌≤◌, ◌<◌, ◌==◌, ◌∙◌, List, [], ◌∷◌, refl, sym, Option, Some, None, inl, inr, arith}
 use Rattle.std.proofs.lemmas.Bool.{cases_Bool, eq-eqb, eqb-true}
 use Rattle.address_map.specs.Items.{size_of}

@@ -154,7 +154,8 @@ blocks_sound w h movable world found sound =
       few = rw (beside_moved (moves_in h movable) s.others) world.few;
     }
 
--- The same of maps: `k` is memory after the blocks slid, and `new` are the modules whose images followed.
+-- The same of maps: `k` is memory after the blocks slid, and `new` are the modules whose images
+-- followed.
 pub record IsBlocksSlid (m k : AddressMap) (l : Land) (modules new : List Module) (movable : List ℕ) (moves : List Move) : Type 0 where
   pub heap : HeapList
   pub found : find_heap 0x01800000 (store_of m).heaps ≡ Some heap

@@ -31,16 +31,16 @@ tidy_moves return_address w = tidy_moves_in return_address w (find_heap 0x018000
 abbrev pub IsLive : Store → ℕ → ℕ → Type 0
 IsLive s block total = OfHeap (λ h. live_total block (h.start + 16) h.items ≡ Some total) (find_heap 0x01800000 s.heaps)
 
--- Each live block of the module area is live afterwards too, where it went, and holds there what it held: the images of modules, and the blocks that
--- private words name.
+-- Each live block of the module area is live afterwards too, where it went, and holds there what it
+-- held: the images of modules, and the blocks that private words name.
 abbrev pub TidyKeepsBlocks : Type 0
 TidyKeepsBlocks = (return_address : ℕ) (w : World) → IsWorld w [] → (block total : ℕ) → IsLive w.estate.store block total
     → IsLive (world_slid return_address w).estate.store (moved_to (tidy_moves return_address w) block) total
     × ((k : ℕ) → k + 4 < total
     → (world_slid return_address w).estate.store.bytes.at (moved_to (tidy_moves return_address w) block + k) ≡ w.estate.store.bytes.at (block + k))
 
--- Where no live block is fixed the module area has no free item afterwards, and the largest block that can be claimed is all that is free, without its
--- length word.
+-- Where no live block is fixed the module area has no free item afterwards, and the largest block
+-- that can be claimed is all that is free, without its length word.
 abbrev pub TidyJoinsRoom : Type 0
 TidyJoinsRoom = (return_address : ℕ) (w : World) (h g : HeapList) → IsWorld w [] → find_heap 0x01800000 w.estate.store.heaps ≡ Some h
     → AreMovable (is_listed (movable_blocks w.estate.store w.modules (private_words w) return_address h)) (h.start + 16) h.items
@@ -57,7 +57,8 @@ TidyKeepsNames = (return_address : ℕ) (w : World) → IsWorld w [] → AreModu
     → (slot : ℕ) → is_held slot w.modules ≡ true
     → private_word (world_slid return_address w).estate slot ≡ moved_to (tidy_moves return_address w) (private_word w.estate slot)
 
--- A block that lay in the module area lies there afterwards, and what lay elsewhere does so still: an image keeps its side.
+-- A block that lay in the module area lies there afterwards, and what lay elsewhere does so still:
+-- an image keeps its side.
 abbrev pub TidyKeepsSides : Type 0
 TidyKeepsSides = (return_address : ℕ) (w : World) → IsWorld w [] → (block : ℕ)
     → is_in_module_area (moved_to (tidy_moves return_address w) block) ≡ is_in_module_area block

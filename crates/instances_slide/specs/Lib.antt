@@ -1,3 +1,4 @@
+-- A tidy of the module area. Begin with Slid.
 pub use Rattle.os_heap_lists
 pub use Rattle.instances_ground.specs.os_heap
 pub use Rattle.instances_ground.specs.dynamic_areas

@@ -1,6 +1,7 @@
--- Which blocks of the module area can be moved when it is tidied: the images of modules, and each block that exactly one private word of an instance
--- names, if they hold neither an anchor of the flex store, nor a heap, nor the return address of the call (RISC OS 3 Programmer's Reference Manual, "OS_Module",
--- reason 8; which blocks can be moved is this project's own).
+-- Which blocks of the module area can be moved when it is tidied: the images of modules, and each
+-- block that exactly one private word of an instance names, if they hold neither an anchor of the
+-- flex store, nor a heap, nor the return address of the call (RISC OS 3 Programmer's Reference
+-- Manual, "OS_Module", reason 8; which blocks can be moved is this project's own).
 use Rattle.std.specs.Prelude.{ℕ, Bool, not, ◌+◌, ◌==◌, ◌&&◌, ◌||◌, List, [], ◌∷◌, Option, Some, None, if◌then◌else◌}
 use Rattle.std.specs.List.{count_by}
 use Rattle.address_map.specs.Bytes.{in_range}
@@ -17,8 +18,9 @@ use Rattle.instances_table.specs.Modules.{Module}
 abbrev pub is_named_once : List ℕ → ℕ → Bool
 is_named_once words block = count_by (λ (w : ℕ). w == block) words == 1
 
--- Can the block of `total` bytes be moved whose length word is at `at`? It holds what lies in any of these bytes. `anchor` tells of each byte whether it
--- is an anchor's, and `holds` of each range whether a heap starts in it.
+-- Can the block of `total` bytes be moved whose length word is at `at`? It holds what lies in any
+-- of these bytes. `anchor` tells of each byte whether it is an anchor's, and `holds` of each range
+-- whether a heap starts in it.
 abbrev pub can_move : (ℕ → Bool) → (ℕ → ℕ → Bool) → List Module → List ℕ → ℕ → ℕ → ℕ → Bool
 can_move anchor holds modules words return_address at total =
     (has_image_at (at + 4) modules || is_named_once words (at + 4))

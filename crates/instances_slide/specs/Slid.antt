@@ -1,5 +1,6 @@
--- The module area after it was tidied: its heap slid, the private words that named blocks that moved, and the images of modules, where they went
--- (RISC OS 3 Programmer's Reference Manual, "OS_Module", reason 8).
+-- The module area after it was tidied: its heap slid, the private words that named blocks that
+-- moved, and the images of modules, where they went (RISC OS 3 Programmer's Reference Manual,
+-- "OS_Module", reason 8).
 use Rattle.std.specs.Prelude.{ℕ, ◌+◌, List, [], ◌∷◌, map, Option, Some, None}
 use Rattle.address_map.specs.Bytes.{word_at}
 use Rattle.address_map.specs.Moves.{moved_to}
@@ -22,7 +23,8 @@ words_at bytes slots = map (λ slot. word_at bytes (private_of slot)) slots
 abbrev pub private_words : World → List ℕ
 private_words w = words_at w.estate.store.bytes.at (slots_of w.modules)
 
--- The private words of some slots, one after another: one that named a block that moved names it where it went, and all others stay.
+-- The private words of some slots, one after another: one that named a block that moved names it
+-- where it went, and all others stay.
 abbrev pub words_moved : List Move → List ℕ → Estate → Estate
 words_moved moves [] e = e
 words_moved moves (slot ∷ slots) e = words_moved moves slots (with_private e slot (moved_to moves (private_word e slot)))

@@ -1,4 +1,5 @@
-//! The module area is tidied: its movable blocks slide together, and the private words and images that named them follow.
+//! A tidy of the module area, for module calls: blocks slide together, private words and images
+//! follow. The private words and images are those that named the blocks.
 #![tactic(auto)]
 
 mod follow;

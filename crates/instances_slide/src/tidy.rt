@@ -16,11 +16,14 @@ use instances_ground::dynamic_areas::Areas;
 use instances_ground::rma::Rma;
 use instances_table::InstanceTable;
 
-/// Tidies the module area: slides its movable blocks together, so that the free room between them becomes one. Movable are the images of modules, and
-/// each block that exactly one private word of an instance names, if they hold neither an anchor of the flex store, nor a heap, nor the return address
-/// of the call; all others stay. Private words that name blocks that moved follow them, and so do the images of modules, wherever these are told of.
+/// Tidies the module area: slides its movable blocks together, so that the free room between them
+/// becomes one. Movable are the images of modules, and each block that exactly one private word of
+/// an instance names, if they hold neither an anchor of the flex store, nor a heap, nor the return
+/// address of the call; all others stay. Private words that name blocks that moved follow them, and
+/// so do the images of modules, wherever these are told of.
 ///
-/// RISC OS 3 Programmer's Reference Manual, "OS_Module", reason 8; which blocks can be moved is this project's own.
+/// RISC OS 3 Programmer's Reference Manual, "OS_Module", reason 8; which blocks can be moved is
+/// this project's own.
 pub fn slide(map: &mut AddressMap, areas: &Areas, table: &mut InstanceTable, return_address: u32)
     requires sound { IsWorld (world_of map.old areas.now table.old) [] }
     requires classes { AreClasses map.old }

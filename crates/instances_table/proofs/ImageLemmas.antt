@@ -51,7 +51,7 @@ still_none : (slot : ℕ) (m : Module) (left : List Instance) → 0 < length lef
 still_none slot m [] some = absurd (omega arith)
 still_none slot m (i ∷ is) some = refl
 
--- what is told of the module of a table
+-- the module at an index of a table
 pub last_told : (names : List (ArrayVec ℕ)) (slot : ℕ) (ms : List Loaded) (k : ℕ) (l : Loaded) → position (has_slot_in slot) ms ≡ Some k
     → slice_get ms k ≡ Some l → length l.slots.items ≤ 1 → last_image slot (modules_of names ms) ≡ Some l.image
 last_told names slot ms k l found there few =

@@ -9,7 +9,8 @@ use Rattle.instances_table.specs.Changes.{holds, is_named, with_name, with_names
 use Rattle.instances_table.proofs.RoomLemmas.{at_most_one, below_64}
 use Rattle.instances_table.proofs.Counting.{count_none, count_some, count_same, count-map, same_test}
 
--- how many instances have a name afterwards: one more at most where it is the new one, and no more where it is another
+-- how many instances have a name afterwards: one more at most where it is the new one, and no more
+-- where it is another
 named_same : (slot : ℕ) (name n : List ℕ) (is : List Instance) → str_eq_ignore_ascii_case name n ≡ true
     → number_of (has_name n) (map (with_name slot name) is) ≤ number_of (has_name n) is + number_of (has_slot slot) is
 named_same slot name n [] same = omega arith
@@ -49,7 +50,8 @@ any_named s slot name (i ∷ is) some =
           elim (cases_Bool (i.slot == slot)) [ inl f ↦ rw (f, e) rest | inr f ↦ rw (f, e) rest ]
     ]
 
--- a module without the slot keeps its names, and the one with it gets a name that none of its instances has
+-- a module without the slot keeps its names, and the one with it gets a name that none of its
+-- instances has
 unnamed_module : (slot : ℕ) (name : List ℕ) (m : Module) → number_of (has_slot slot) m.instances ≡ 0 → IsModule m → IsModule (with_names slot name m)
 unnamed_module slot name m none is = record {
   names = λ n. elim (cases_Bool (str_eq_ignore_ascii_case name n)) [

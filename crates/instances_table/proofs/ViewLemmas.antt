@@ -1,4 +1,5 @@
--- What is asked of the list that a table stands for, and of the table itself; and what a change of the table is there.
+-- What is asked of the list that a table stands for, and of the table itself; and what a change of
+-- the table is there.
 use Rattle.std.proofs.Common.{◌≡◌, ◌≢◌, ℕ, ◌+◌, ◌<◌, ◌≤◌, ◌||◌, ◌==◌, Bool, true, false, List, [], ◌∷◌, ◌++◌, length, map, get_or, set, refl, sym, ap, subst, ◌∙◌, not, cond, zero, suc, Some, None, inl, inr, append-nil, arith}
 use Rattle.std.specs.Prelude.{Option, slice_get, option_map, IfSome}
 use Rattle.std.specs.List.{position, position_or_len, list_any, insert, remove, refill}

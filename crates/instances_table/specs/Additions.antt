@@ -1,5 +1,5 @@
--- An instance that is added to the module of a title, in a slot that is known already (RISC OS 3 Programmer's Reference Manual, "OS_Module", reason
--- 14).
+-- An instance that is added to the module of a title, in a slot that is known already (RISC OS 3
+-- Programmer's Reference Manual, "OS_Module", reason 14).
 use Rattle.std.specs.Prelude.{ℕ, Bool, false, List, Option, Some, None, slice_get}
 use Rattle.instances_table.specs.Modules.{Module, changed_at}
 use Rattle.instances_table.specs.Changes.{is_named, with_instance}

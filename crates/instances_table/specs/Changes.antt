@@ -1,5 +1,6 @@
--- What changes the list of modules (RISC OS 3 Programmer's Reference Manual, "OS_Module", reasons 1, 4, 14, 15 and 16; the order of the refusals, the
--- lowest slot, and who is preferred, are this project's own).
+-- What changes the list of modules (RISC OS 3 Programmer's Reference Manual, "OS_Module", reasons
+-- 1, 4, 14, 15 and 16; the order of the refusals, the lowest slot, and who is preferred, are this
+-- project's own).
 use Rattle.std.specs.Prelude.{ℕ, ◌≡◌, ◌≤◌, ◌<◌, Bool, false, filter, not, length, ◌+◌, ◌==◌, ◌&&◌, nat_lt, List, [], ◌∷◌, ◌++◌, map, Option, Some, None, ok_or, slice_get, Result, Ok, Err, zero, suc, codes, if◌then◌else◌}
 use Rattle.std.specs.List.{list_any}
 use Rattle.module_header.specs.profile.specs.Outcome.{bind}
@@ -30,7 +31,8 @@ titled title modules = filter (has_title title) modules
 abbrev pub titled_otherwise : List ℕ → List Module → List Module
 titled_otherwise title modules = filter (λ m. not (has_title title m)) modules
 
--- The lowest slot for an instance of a new module of a title: those of an older module of the title count as free, since that module goes first.
+-- The lowest slot for an instance of a new module of a title: those of an older module of the title
+-- count as free, since that module goes first.
 abbrev pub free_slot_for : List ℕ → List Module → Option ℕ
 free_slot_for title modules = free_slot (titled_otherwise title modules)
 
@@ -43,7 +45,8 @@ new_module header image slot = record {
   preferred = slot;
 }
 
--- A new module is the youngest. It isn't put in where one of its title is there, or its slot isn't free.
+-- A new module is the youngest. It isn't put in where one of its title is there, or its slot isn't
+-- free.
 abbrev pub is_new : List ℕ → ℕ → List Module → Bool
 is_new title slot modules = nat_lt slot 64 && not (is_held slot modules) && not (list_any (has_title title) modules)
 
@@ -65,7 +68,8 @@ abbrev pub holds : ℕ → Option Module → Bool
 holds slot None = false
 holds slot (Some m) = has_instance slot m
 
--- OS_Module 14, as far as the table knows it: which module the new instance is of, its name, and its slot, which is the lowest free one.
+-- OS_Module 14, as far as the table knows it: which module the new instance is of, its name, and
+-- its slot, which is the lowest free one.
 unfoldable pub instance_room : List Module → List ℕ → Result NewInstance ErrorNumber
 instance_room modules full =
     bind (name_given (parted full).name) (λ given.
@@ -90,7 +94,8 @@ with_new_instance new modules = changed_at new.number (with_instance new.name.it
 unfoldable pub instantiated : List Module → List ℕ → Result (List Module × ℕ) ErrorNumber
 instantiated modules full = bind (instance_room modules full) (λ new. Ok (with_new_instance new modules, new.slot))
 
--- OS_Module 15: an instance gets another name, formed like a title, that no instance of the module has, itself included. It is found by its slot.
+-- OS_Module 15: an instance gets another name, formed like a title, that no instance of the module
+-- has, itself included. It is found by its slot.
 abbrev pub with_name : ℕ → List ℕ → Instance → Instance
 with_name slot name i = if has_slot slot i then record i { name = name } else i
 
@@ -119,7 +124,8 @@ preferring modules full =
     bind (slot_at modules place) (λ slot.
     Ok (changed_at place.number (with_preferred slot) modules))))
 
--- A module without the instance of a slot: the oldest one left becomes preferred if the preferred one went. With its last instance the module goes.
+-- A module without the instance of a slot: the oldest one left becomes preferred if the preferred
+-- one went. With its last instance the module goes.
 abbrev pub without_first : {X : Type 0} → (X → Bool) → List X → List X
 without_first test [] = []
 without_first test (x ∷ xs) = if test x then xs else x ∷ without_first test xs

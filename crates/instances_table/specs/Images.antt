@@ -1,4 +1,5 @@
--- The images of modules, which go with their last instances (RISC OS 3 Programmer's Reference Manual, "OS_Module", reason 4).
+-- The images of modules, which go with their last instances (RISC OS 3 Programmer's Reference
+-- Manual, "OS_Module", reason 4).
 use Rattle.std.specs.Prelude.{ℕ, List, [], ◌∷◌, Option, Some, None, if◌then◌else◌}
 use Rattle.instances_table.specs.declared.parts.Image.{Image}
 use Rattle.instances_table.specs.Modules.{Module, has_instance}

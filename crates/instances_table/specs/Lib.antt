@@ -1,3 +1,4 @@
+-- The list of modules and their instances. Begin with Modules, then Lookup and Additions.
 pub mod Additions
 pub mod Changes
 pub mod Images

@@ -1,5 +1,6 @@
--- What is found in the list of modules (RISC OS 3 Programmer's Reference Manual, "OS_Module", reasons 12 and 18, and "Modules", "SWI chunk base
--- number"). Modules and instances are numbered by their places in the lists, from 0.
+-- What is found in the list of modules (RISC OS 3 Programmer's Reference Manual, "OS_Module",
+-- reasons 12 and 18, and "Modules", "SWI chunk base number"). Modules and instances are numbered by
+-- their places in the lists, from 0.
 use Rattle.std.specs.Prelude.{ℕ, Bool, not, ◌+◌, ◌-◌, ◌%◌, ◌^◌, ◌==◌, ◌&&◌, nat_lt, List, length, Option, Some, None, option_map, ok_or, slice_get, Result, Ok, if◌then◌else◌}
 use Rattle.std.specs.List.{list_any, position}
 use Rattle.module_header.specs.profile.specs.Outcome.{bind}
@@ -65,7 +66,8 @@ information modules number i =
     bind (instance_at m i) (λ instance.
     Ok (record { next = place_behind m number i; image = m.image.at; slot = instance.slot })))
 
--- the module whose chunk has the number of a SWI, the oldest first; without a handler a module has no SWIs
+-- the module whose chunk has the number of a SWI, the oldest first; without a handler a module has
+-- no SWIs
 abbrev pub has_call : ℕ → Module → Bool
 has_call call m = m.header.chunk == call - call % 64 && not (m.header.handler == 0)
 

@@ -1,5 +1,6 @@
--- The modules of a machine as a list, oldest first, each with its instances, oldest first (RISC OS 3 Programmer's Reference Manual, "Modules", "Module
--- instantiation"). A slot is the place of an instance's private word; that there are 64 of them is this project's own.
+-- The modules of a machine as a list, oldest first, each with its instances, oldest first (RISC OS
+-- 3 Programmer's Reference Manual, "Modules", "Module instantiation"). A slot is the place of an
+-- instance's private word; that there are 64 of them is this project's own.
 use Rattle.std.specs.Prelude.{ℕ, ◌≡◌, ◌≤◌, ◌+◌, ◌==◌, Bool, true, List, [], ◌∷◌, zero, suc, cond, nat_lt, ◌++◌, map}
 use Rattle.std.specs.List.{list_any}
 use Rattle.std.specs.Str.{str_eq_ignore_ascii_case}
@@ -54,7 +55,8 @@ abbrev pub EachIsModule : List Module → Type 0
 EachIsModule [] = Unit {0}
 EachIsModule (m ∷ ms) = IsModule m × EachIsModule ms
 
--- What holds of every list of modules: each module has a title of its own, each instance a slot of its own below 64.
+-- What holds of every list of modules: each module has a title of its own, each instance a slot of
+-- its own below 64.
 pub record AreModules (modules : List Module) : Type 0 where
   pub titles : (title : List ℕ) → number_of (has_title title) modules ≤ 1
   pub slots : (slot : ℕ) → slot_count slot modules ≤ cond (nat_lt slot 64) 1 0

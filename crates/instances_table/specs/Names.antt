@@ -1,12 +1,13 @@
--- Full names: a module's title, and behind the first `%` an instance's name (RISC OS 3 Programmer's Reference Manual, "Modules", "Module
--- instantiation"). That an instance's name is formed like a title is this project's own.
+-- Full names: a module's title, and after the first `%` an instance's name (RISC OS 3 Programmer's
+-- Reference Manual, "Modules", "Module instantiation"). That an instance's name is formed like a
+-- title is this project's own.
 use Rattle.std.specs.Prelude.{ℕ, Bool, ◌+◌, ◌==◌, ◌&&◌, nat_le, List, length, take, drop, Option, Some, None, Result, Ok, Err, if◌then◌else◌}
 use Rattle.std.specs.List.{position, list_all}
 use Rattle.module_header.specs.profile.specs.declared.error.ErrorNumber.{ErrorNumber}
 use Rattle.module_header.specs.profile.specs.declared.error.ErrorNumber.TheVariants.{BadString}
 use Rattle.module_header.specs.Title.{is_title_byte}
 
--- no name stands behind a title alone
+-- no name stands after a title alone
 pub record FullName : Type 0 where
   pub title : List ℕ
   pub name : Option (List ℕ)

@@ -1,4 +1,5 @@
--- The table as the list that it stands for: the names of all instances stand by slots, and each module has the slots of its instances.
+-- The table as the list that it stands for: the names of all instances stand by slots, and each
+-- module has the slots of its instances.
 use Rattle.std.specs.Prelude.{ℕ, List, [], ◌∷◌, ◌++◌, ◌==◌, map, slice_index_or, if◌then◌else◌}
 use Rattle.std.specs.Str.{str_eq_ignore_ascii_case}
 use Rattle.arrayvec.specs.ArrayVec.{ArrayVec}

@@ -8,7 +8,8 @@ ghost use Rattle.instances_table.specs.Lookup.{number_of_title};
 use crate::table::InstanceTable;
 
 impl InstanceTable {
-    /// Adds an instance to the module of a title, the youngest, in a slot. Where no module has the title nothing is done.
+    /// Adds an instance to the module of a title, the youngest, in a slot. Where no module has the
+    /// title nothing is done.
     ///
     /// RISC OS 3 Programmer's Reference Manual, "OS_Module", reason 14.
     pub fn add_to(&mut self, title: &[u8], name: &[u8], slot: u32)

@@ -37,8 +37,9 @@ impl InstanceTable {
         None
     }
 
-    /// Puts a new module in, the youngest, with its first instance, `Base`, which is preferred. Nothing is done, and the answer is no, where a module
-    /// of its title is there, or where the slot isn't free.
+    /// Puts a new module in, the youngest, with its first instance, `Base`, which is preferred.
+    /// Nothing is done, and the answer is no, where a module of its title is there, or where the
+    /// slot isn't free.
     #[tactic(auto, unfolding(crate::specs::Changes::with_module))]
     pub fn insert(&mut self, header: Header, image: Image, slot: u32) -> bool
         ensures table { self.new ≡ with_module self.old header image slot }
@@ -72,13 +73,15 @@ impl InstanceTable {
         self.modules.push(new_module(header, image, slot));
     }
 
-    /// Makes a new instance of a module, `Title%Name`, the youngest. It takes the lowest free slot, which is the answer.
+    /// Makes a new instance of a module, `Title%Name`, the youngest. It takes the lowest free slot,
+    /// which is the answer.
     ///
     /// # Errors
     ///
-    /// The first of these, and nothing is changed then: `BadString` where the full name has no `%`, or the name behind it isn't formed like a title;
-    /// `ModuleNotFound` where there is no module of the title; `InstanceExists` where the module has an instance of the name; `InstanceTableFull` where no
-    /// slot is free.
+    /// The first of these, and nothing is changed then: `BadString` where the full name has no `%`,
+    /// or the name after it isn't formed like a title; `ModuleNotFound` where there is no module of
+    /// the title; `InstanceExists` where the module has an instance of the name;
+    /// `InstanceTableFull` where no slot is free.
     ///
     /// RISC OS 3 Programmer's Reference Manual, "OS_Module", reason 14.
     #[tactic(auto, unfolding(crate::specs::Changes::instantiated))]
@@ -117,8 +120,9 @@ impl InstanceTable {
     ///
     /// # Errors
     ///
-    /// The first of these, and nothing is changed then: `BadString` where the full name has no `%`, or the new name isn't formed like a title;
-    /// `ModuleNotFound` where there is no such instance; `InstanceExists` where an instance of the module has the new name, this one included.
+    /// The first of these, and nothing is changed then: `BadString` where the full name has no `%`,
+    /// or the new name isn't formed like a title; `ModuleNotFound` where there is no such instance;
+    /// `InstanceExists` where an instance of the module has the new name, this one included.
     ///
     /// RISC OS 3 Programmer's Reference Manual, "OS_Module", reason 15.
     #[tactic(auto, unfolding(crate::specs::Changes::renamed))]
@@ -152,7 +156,8 @@ impl InstanceTable {
     ///
     /// # Errors
     ///
-    /// The first of these, and nothing is changed then: `BadString` where the full name has no `%`; `ModuleNotFound` where there is no such instance.
+    /// The first of these, and nothing is changed then: `BadString` where the full name has no `%`;
+    /// `ModuleNotFound` where there is no such instance.
     ///
     /// RISC OS 3 Programmer's Reference Manual, "OS_Module", reason 16.
     #[tactic(auto, unfolding(crate::specs::Changes::preferring))]
@@ -176,7 +181,8 @@ impl InstanceTable {
         set_preferred(&mut self.modules, number as usize, slot);
     }
 
-    /// Takes the instance of a slot out, if there is one. If it was preferred, the oldest one left becomes so; with its last instance a module goes.
+    /// Takes the instance of a slot out, if there is one. If it was preferred, the oldest one left
+    /// becomes so; with its last instance a module goes.
     pub fn remove(&mut self, slot: u32)
         ensures { self.new ≡ without_instance slot self.old }
     {

@@ -13,7 +13,8 @@ use crate::table::InstanceTable;
 use module_header::profile::memory_map::{RMA_MAXIMUM, RMA_START};
 
 impl InstanceTable {
-    /// The image that goes with the instance of a slot, if there is one: its module's, where it has no other instance.
+    /// The image that goes with the instance of a slot, if there is one: its module's, where it has
+    /// no other instance.
     ///
     /// RISC OS 3 Programmer's Reference Manual, "OS_Module", reason 4.
     pub fn last_image(&self, slot: u32) -> Option<Image>
@@ -48,7 +49,8 @@ fn has_image_at(modules: &[Loaded], at: u32) -> bool
     modules.iter().any(|loaded| is_in_module_area(loaded.image.at) && loaded.image.at == at)
 }
 
-/// Whether an address is one of the module area: an image that begins there is a block of it, and any other was inserted in place.
+/// Whether an address is one of the module area: an image that begins there is a block of it, and
+/// any other was inserted in place.
 pub fn is_in_module_area(at: u32) -> bool
     ensures { result ≡ is_in_module_area at }
 {

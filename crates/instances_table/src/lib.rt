@@ -1,4 +1,5 @@
-//! The table of modules: each module that is loaded, with its header, its image, and its instances. No memory is touched here.
+//! The table of loaded modules, for module calls: each with its header, its image, and its
+//! instances. No memory is touched here.
 #![tactic(auto)]
 
 pub mod additions;

@@ -7,7 +7,7 @@ ghost use Rattle.instances_table.specs.Names.{FullName, parted, is_percent, is_i
 use crate::parts::{MOST_NAME_BYTES, Name};
 use module_header::is_title_byte;
 
-/// A full name: a title, and the instance's name behind the first `%`, if there is one.
+/// A full name: a title, and the instance's name after the first `%`, if there is one.
 #[derive(Clone, Copy)]
 pub(crate) struct FullName<'a> {
     pub(crate) title: &'a [u8],

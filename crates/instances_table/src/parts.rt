@@ -8,7 +8,8 @@ pub const MOST_NAME_BYTES: usize = 31;
 /// A title, or an instance's name: 1 to 31 characters from `!` to `~`, and no `%`.
 pub type Name = ArrayVec<u8, MOST_NAME_BYTES>;
 
-/// Where a module's image stands: its address, and its length in bytes. One in the module area is a block there, and any other was inserted in place.
+/// Where a module's image stands: its address, and its length in bytes. One in the module area is a
+/// block there, and any other was inserted in place.
 #[derive(Clone, Copy, Debug, Default, PartialEq, Eq)]
 pub struct Image {
     pub at: u32,
@@ -22,7 +23,8 @@ pub struct Place {
     pub instance: u32,
 }
 
-/// What OS_Module 12 tells of an instance: the place behind it, its module's image, and the slot of its private word.
+/// What OS_Module 12 tells of an instance: the place after it, its module's image, and the slot of
+/// its private word.
 #[derive(Clone, Copy, Debug, PartialEq, Eq)]
 pub struct Information {
     pub next: Place,
@@ -41,7 +43,8 @@ pub struct ModuleInfo {
     pub handler: u32,
 }
 
-/// Where a SWI of a module is handled: the address of its handler, and the slot of its preferred instance.
+/// Where a SWI of a module is handled: the address of its handler, and the slot of its preferred
+/// instance.
 #[derive(Clone, Copy, Debug, PartialEq, Eq)]
 pub struct Handler {
     pub at: u32,
@@ -56,7 +59,8 @@ pub struct NewInstance {
     pub slot: u32,
 }
 
-/// An instance: its name, the slot of its private word, and whether it is the preferred one of its module.
+/// An instance: its name, the slot of its private word, and whether it is the preferred one of its
+/// module.
 #[derive(Drop)]
 pub struct InstanceInfo {
     pub name: Name,

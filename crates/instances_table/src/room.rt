@@ -15,8 +15,10 @@ impl InstanceTable {
     ///
     /// # Errors
     ///
-    /// The first of these: `BadString` where the full name has no `%`, or the name behind it isn't formed like a title; `ModuleNotFound` where there is
-    /// no module of the title; `InstanceExists` where the module has an instance of the name; `InstanceTableFull` where no slot is free.
+    /// The first of these: `BadString` where the full name has no `%`, or the name after it isn't
+    /// formed like a title; `ModuleNotFound` where there is no module of the title;
+    /// `InstanceExists` where the module has an instance of the name; `InstanceTableFull` where no
+    /// slot is free.
     ///
     /// RISC OS 3 Programmer's Reference Manual, "OS_Module", reason 14.
     #[tactic(auto, unfolding(crate::specs::Changes::instance_room))]
@@ -43,7 +45,8 @@ impl InstanceTable {
         })
     }
 
-    /// The slots of the instances of the module of a title, oldest first; none where there is no such module.
+    /// The slots of the instances of the module of a title, oldest first; none where there is no
+    /// such module.
     pub fn slots_of_title(&self, title: &[u8]) -> ArrayVec<u32, MOST_INSTANCES>
         ensures value { result.items ≡ slots_of (titled title.now self.now) }
         ensures table { AreModules self.now }
@@ -51,7 +54,8 @@ impl InstanceTable {
         slots_of_title(self.modules.as_slice(), title)
     }
 
-    /// The lowest slot for the first instance of a new module of a title, if there is one. The slots of an older module of the title count as free.
+    /// The lowest slot for the first instance of a new module of a title, if there is one. The
+    /// slots of an older module of the title count as free.
     #[tactic(auto, using(crate::proofs::SlotLemmas::free_here, crate::proofs::SlotLemmas::none_free))]
     pub fn free_slot_for(&self, title: &[u8]) -> Option<u32>
         ensures value { result ≡ free_slot_for title.now self.now }

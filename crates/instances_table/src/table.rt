@@ -20,8 +20,9 @@ use module_header::profile::ErrorNumber;
 use std::array;
 use std::marker::Model;
 
-/// The modules of a machine, oldest first, each with its instances, oldest first: at most 64 instances of all modules together, each with a slot
-/// of its own, from 0 to 63. Modules and instances are numbered by their places, from 0.
+/// The modules of a machine, oldest first, each with its instances, oldest first: at most 64
+/// instances of all modules together, each with a slot of its own, from 0 to 63. Modules and
+/// instances are numbered by their places, from 0.
 ///
 /// RISC OS 3 Programmer's Reference Manual, "Modules".
 #[derive(Drop)]
@@ -60,7 +61,7 @@ impl InstanceTable {
         let _ = &self.names;
     }
 
-    /// What is told of the module of a number, if there is one.
+    /// The module at an index, if there is one.
     pub fn module(&self, number: u32) -> Option<ModuleInfo>
         ensures { result ≡ option_map told_of_module (slice_get self.now number) }
     {
@@ -68,7 +69,7 @@ impl InstanceTable {
         Some(loaded.told())
     }
 
-    /// The header of the module of a number, if there is one.
+    /// The header of the module at an index, if there is one.
     pub fn header(&self, number: u32) -> Option<&Header>
         ensures { option_copied result ≡ option_map (λ (m : Module). m.header) (slice_get self.now number) }
     {
@@ -119,7 +120,8 @@ impl InstanceTable {
         Some(loaded.handled())
     }
 
-    /// The instance that a name means: `Title%Name`, or the preferred one of `Title`, whatever the case of the letters.
+    /// The instance that a name means: `Title%Name`, or the preferred one of `Title`, whatever the
+    /// case of the letters.
     ///
     /// # Errors
     ///
@@ -164,8 +166,9 @@ impl InstanceTable {
         loaded.place_meant(&self.names, name)
     }
 
-    /// What OS_Module 12 tells of an instance, the value of its private word aside. The place behind an instance is the next one of the module, or
-    /// instance 0 of the next module's number, there or not.
+    /// What OS_Module 12 tells of an instance, the value of its private word aside. The place after
+    /// an instance is the next one of the module, or instance 0 of the next module's number, there
+    /// or not.
     ///
     /// # Errors
     ///
@@ -204,7 +207,7 @@ impl InstanceTable {
         })
     }
 
-    /// What is told of an instance, by its module's number and its own, if there is one.
+    /// An instance, by its module's index and its own among that module's, if there is one.
     pub fn instance(&self, number: u32, instance: u32) -> Option<InstanceInfo>
         ensures value { result ≡ told_of_place instance (slice_get self.now number) }
         ensures below { IfSome result (λ i. i.slot < 64) }

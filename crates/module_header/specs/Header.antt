@@ -1,6 +1,7 @@
--- A module's header as a function of its image's bytes (RISC OS 3 Programmer's Reference Manual, "Modules", "Module header format"): words at
--- &00 the start, &04 initialise, &08 finalise, &10 the title, &1C the SWI chunk base, &20 the SWI handler. The faults are this project's
--- own, the first of a fixed order. A start word that is no entry counts as none.
+-- A module's header as a function of its image's bytes (RISC OS 3 Programmer's Reference Manual,
+-- "Modules", "Module header format"): words at &00 the start, &04 initialise, &08 finalise, &10 the
+-- title, &1C the SWI chunk base, &20 the SWI handler. The faults are this project's own, the first
+-- of a fixed order. A start word that is no entry counts as none.
 use Rattle.std.specs.Prelude.{ℕ, List, length, Result, Ok, Err, nat_lt, if◌then◌else◌, unwrap_or}
 use Rattle.std.specs.Option.{ok_or}
 use Rattle.profile.specs.Outcome.{bind}

@@ -1,3 +1,4 @@
+-- A module's header, as its image's bytes spell it. Begin with Header.
 pub use Rattle.profile
 pub mod Header
 pub mod Swis

@@ -1,5 +1,6 @@
--- The SWIs of a module: a chunk of 64 numbers from a base on (Programmer's Reference Manual, "Modules", "SWI chunk base number"), and the
--- entry that handles them. A module has them where its image is long enough for both words, and both are good; else neither is used.
+-- The SWIs of a module: a chunk of 64 numbers from a base on (Programmer's Reference Manual,
+-- "Modules", "SWI chunk base number"), and the entry that handles them. A module has them where its
+-- image is long enough for both words, and both are good; else neither is used.
 use Rattle.std.specs.Prelude.{ℕ, Bool, not, List, length, ◌%◌, ◌==◌, ◌&&◌, nat_le}
 use Rattle.profile.specs.Word.{bit_of}
 use Rattle.module_header.specs.Words.{word_at, is_entry}

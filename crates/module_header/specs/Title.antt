@@ -1,5 +1,6 @@
--- A module's title: 1 to 31 printing ASCII characters other than the space and `%`, which parts a title from an instance's name, with
--- a zero behind them inside the image. The limit is this project's own.
+-- A module's title: 1 to 31 printing ASCII characters other than the space and `%`, which parts a
+-- title from an instance's name, with a zero after them inside the image. The limit is this
+-- project's own.
 use Rattle.std.specs.Prelude.{ℕ, Bool, not, List, length, take, drop, slice_index, Option, Some, None, ◌+◌, ◌==◌, ◌&&◌, nat_le, nat_lt, if◌then◌else◌}
 use Rattle.std.specs.List.{prefix_len}
 

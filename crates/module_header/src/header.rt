@@ -1,3 +1,5 @@
+//! A module's header: the words of an image and its title, read and checked.
+
 ghost use Rattle.std.specs.Prelude.{◌≡◌, ◌≤◌, length};
 ghost use Rattle.module_header.specs.Swis.{has_swis, is_chunk_base};
 

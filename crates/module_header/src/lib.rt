@@ -1,4 +1,4 @@
-//! The header of a relocatable module, read from the bytes of its image.
+//! The header of a relocatable module, read from the bytes of its image, for the table of modules.
 #![tactic(auto)]
 
 pub mod fault;

@@ -19,8 +19,8 @@ pub(crate) fn word_at<B: ImageBytes>(image: &B, at: usize) -> u32
     ])
 }
 
-/// The offset of an entry that the word at a place gives, 0 for no entry, or `None` where it is no
-/// offset of a word in the image.
+/// The offset of an entry that the word at a place gives, 0 for no entry, or `None` where it is not
+/// the offset of a word in the image.
 pub(crate) fn entry_at<B: ImageBytes>(image: &B, at: usize) -> Option<u32>
     requires inside { at + 4 ≤ length (B.bytes image.now) }
     requires header { at ≤ 32 }

@@ -1,4 +1,4 @@
--- What is written to the system pages behind the private words is no part of what the stores mean.
+-- What is written to the system pages after the private words is no part of what the stores mean.
 use Rattle.std.proofs.Common.{ℕ, true, false, ◌+◌, ◌==◌, ◌≡◌, ◌≤◌, ◌<◌, ◌∙◌, List, [], ◌∷◌, Option, Some, None, refl, sym, ap, subst, inl, inr, arith}
 use Rattle.std.specs.Prelude.{if◌then◌else◌}
 use Rattle.std.proofs.lemmas.Bool.{both_ways, cases_Bool, false_from_ne_true, false≢true, le-leb, lt-ltb, true≢false}

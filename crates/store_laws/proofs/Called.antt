@@ -1,4 +1,5 @@
--- A flex call leaves the module area, the images and the private words: no byte of these is the store's, and anchors lie in blocks alone.
+-- A flex call leaves the module area, the images and the private words: no byte of these is the
+-- store's, and anchors lie in blocks alone.
 use Rattle.std.proofs.Common.{ℕ, Bool, true, false, not, nat_eq, ◌-◌, ◌&&◌, ◌||◌, ◌⊎◌, ◌+◌, ◌%◌, ◌≡◌, ◌≤◌, ◌<◌, ◌∙◌, List, [], ◌∷◌, replicate, Option, Some, None, is_some, option_map, refl, sym, ap, subst, inl, inr, arith}
 use Rattle.std.specs.Prelude.{if◌then◌else◌}
 use Rattle.std.proofs.lemmas.Bool.{both_ways, cases_Bool, cases_lt, eq-eqb, false_from_ne_true, false≢true, le-leb, lt-ltb, ne_eqb, or_left, or_right}

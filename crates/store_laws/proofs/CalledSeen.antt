@@ -1,4 +1,5 @@
--- What is seen of a byte outside the store before a flex call and after it, and which words are anchors.
+-- What is seen of a byte outside the store before a flex call and after it, and which words are
+-- anchors.
 use Rattle.std.proofs.Common.{ℕ, Bool, true, false, not, nat_eq, ◌+◌, ◌%◌, ◌&&◌, ◌||◌, ◌≡◌, ◌≤◌, ◌<◌, ◌⊎◌, ◌∙◌, List, [], ◌∷◌, Option, Some, None, is_some, option_map, refl, sym, ap, subst, inl, inr, arith}
 use Rattle.std.specs.Prelude.{if◌then◌else◌}
 use Rattle.std.proofs.lemmas.Bool.{both_ways, cases_Bool, cases_lt, eq-eqb, eqb-false, eqb-true, false_from_ne_true, false≢true, le-leb, lt-ltb, ne_eqb}

@@ -1,4 +1,5 @@
--- The store after a flex call: its words spell the blocks that the call left, and all that holds of stores between calls holds of it.
+-- The store after a flex call: its words spell the blocks that the call left, and all that holds of
+-- stores between calls holds of it.
 use Rattle.std.proofs.Common.{ℕ, Bool, true, false, ◌+◌, ◌-◌, ◌%◌, ◌^◌, ◌≡◌, ◌≤◌, ◌<◌, ◌⊎◌, ◌∙◌, List, Option, Some, refl, sym, ap, subst, inl, inr, arith}
 use Rattle.std.proofs.lemmas.Bool.{both_ways, cases_lt, false_from_ne_true}
 use Rattle.address_map.specs.Bytes.{Bytes, word_start}

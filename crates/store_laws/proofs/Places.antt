@@ -57,7 +57,7 @@ payloads_alike f g at (Live t ∷ xs) totals same =
     let rest = payloads_alike f g (at + t) xs totals.1 (λ a low high. same a (omega (arith, low)) (omega (arith, high))) in
     rw (here, rest) refl
 
--- a place behind the first block
+-- a place after the first block
 further : (byte : Option ℕ) (o : Option Place) (b : List (Option ℕ)) (bs : List (List (Option ℕ)))
     → with_place_seen byte (option_map one_further o) (b ∷ bs) ≡ b ∷ with_place_seen byte o bs
 further byte None b bs = refl

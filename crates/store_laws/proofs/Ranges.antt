@@ -1,4 +1,5 @@
--- Recorded ranges: two different ones share no byte, and one that is not the flex store's has no byte of that.
+-- Recorded ranges: two different ones share no byte, and one that is not the flex store's has no
+-- byte of that.
 use Rattle.std.proofs.Common.{ℕ, true, false, ◌&&◌, ◌≡◌, List, [], ◌∷◌, refl, sym, ap, subst, ◌∙◌, inl, inr}
 use Rattle.std.proofs.lemmas.Bool.{and_parts, both_ways, false_from_ne_true, false≢true, or_cases}
 use Rattle.address_map.specs.Bytes.{in_range}

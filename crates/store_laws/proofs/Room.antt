@@ -37,7 +37,8 @@ turned a b c = omega arith
 onward : (a b c d e : ℕ) → b + c ≡ d + e → a + b + c ≡ a + d + e
 onward a b c d e same = omega (arith, same)
 
--- The store's end after a block got another size, counted from its start, and the room that this takes.
+-- The store's end after a block got another size, counted from its start, and the room that this
+-- takes.
 room_by : (start end total before after old new : ℕ) → before ≡ total → start + before ≤ end → 8 + old ≤ before → after + (8 + old) ≡ before + (8 + new)
     → start + after ≤ end → total - old + new ≤ end - start
 room_by start end total before after old new same fits own sum low = omega (arith, same, fits, own, sum, low)

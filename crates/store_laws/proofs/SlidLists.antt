@@ -1,4 +1,5 @@
--- The live items of a list that slides: each holds what it held, at the same place among the live ones.
+-- The live items of a list that slides: each holds what it held, at the same place among the live
+-- ones.
 use Rattle.std.proofs.Common.{ℕ, Bool, true, false, zero, suc, ◌+◌, ◌-◌, ◌==◌, ◌≡◌, ◌≢◌, ◌≤◌, ◌<◌, ◌∙◌, List, [], ◌∷◌, ◌++◌, map, Option, Some, None, is_some, option_map, refl, sym, ap, inl, inr, arith}
 use Rattle.std.specs.Prelude.{if◌then◌else◌}
 use Rattle.std.specs.List.{range_with_len}
@@ -32,7 +33,7 @@ map_same f g from to (suc n) same =
     ap g new ∙ same (k + 1) (omega (arith, less)) ∙ ap f old) in
     rw (first, rest) refl
 
--- what is laid: a gap, if there is one, and a live item behind it
+-- what is laid: a gap, if there is one, and a live item after it
 payloads_laid : (byte : ℕ → Option ℕ) (top place t : ℕ) (zs : List Item) → top ≤ place
     → payloads byte top (left_free (place - top) ++ Live t ∷ zs) ≡ map byte (range_with_len (place + 4) (t - 4)) ∷ payloads byte (place + t) zs
 payloads_laid byte top place t zs low = elim (cases_Bool (place - top == 0)) [
@@ -45,8 +46,8 @@ payloads_laid byte top place t zs low = elim (cases_Bool (place - top == 0)) [
       rw (some, k) refl
 ]
 
--- A list can slide with what its items hold: those that hold anchors stay, what lies between the items before and these holds none, and each block's bytes
--- stand where it went.
+-- A list can slide with what its items hold: those that hold anchors stay, what lies between the
+-- items before and these holds none, and each block's bytes stand where it went.
 pub record CanSlide (mv anchor : ℕ → Bool) (old new : ℕ → ℕ) (top at : ℕ) (xs : List Item) : Type 0 where
   pub low : top ≤ at
   pub totals : AreTotals xs
@@ -87,7 +88,7 @@ module _ (mv anchor : ℕ → Bool) (old new : ℕ → ℕ) where
       let past : at + t + 4 ≤ b = some_low b (at + t) u xs live in
       rw (ne_eqb (at + 4) b (λ (e : at + 4 ≡ b). omega (arith, past, least))) live
 
-  -- an anchor that lies behind the first item lies in a block behind it
+  -- an anchor that lies after the first item lies in a block after it
   held_later : (at t : ℕ) (xs : List Item) (a : ℕ) → at + t ≤ a → IsInBlock at (Live t ∷ xs) a → IsInBlock (at + t) xs a
   held_later at t xs a low h = elim (cases_Bool (at + 4 == h.block)) [
     | inl here ↦

@@ -1,4 +1,5 @@
--- A world whose module area was tidied holds all that holds of worlds between calls, and its flex store is kept.
+-- A world whose module area was tidied holds all that holds of worlds between calls, and its flex
+-- store is kept.
 use Rattle.std.proofs.Common.{ℕ, Bool, true, false, ◌+◌, cond, ◌-◌, ◌^◌, ◌==◌, ◌≡◌, ◌≤◌, ◌<◌, ◌⊎◌, List, [], ◌∷◌, map, length, Some, refl, sym, ap, subst, inl, inr, arith}
 use Rattle.std.proofs.lemmas.Bool.{both_ways, cases_Bool, eq-eqb, false≢true}
 use Rattle.std.proofs.lemmas.List.{length-map}

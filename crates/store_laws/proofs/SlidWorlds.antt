@@ -96,7 +96,8 @@ held_moved : (slot : ℕ) (moves : List Move) (modules : List Module) → is_hel
 held_moved slot moves [] = refl
 held_moved slot moves (m ∷ ms) = ap (λ (b : Bool). has_instance slot m || b) (held_moved slot moves ms)
 
--- What a word says, where it goes to `to` and then names the block that it named, if it named one, and stays, if it named none.
+-- What a word says, where it goes to `to` and then names the block that it named, if it named one,
+-- and stays, if it named none.
 said_still : (word to : ℕ) (o n : Option ℕ) → (is_some o ≡ true → n ≡ o) → (o ≡ None → to ≡ word) → IsStillNamed (Some (word_said word o)) (Some (word_said to n))
 said_still word to (Some k) n same stays = ap (λ (x : Option ℕ). let said : Option PrivateWord = Some (word_said to x) in said) (same refl)
 said_still word to None None same stays = inl (ap (λ (v : ℕ). let said : Option PrivateWord = Some (Value v) in said) (stays refl))

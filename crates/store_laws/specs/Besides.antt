@@ -1,5 +1,5 @@
--- What of memory is no part of what the stores mean: an error's block and the environment text, which stand in the
--- system pages behind the private words (the places are this project's own).
+-- What of memory is no part of what the stores mean: an error's block and the environment text,
+-- which stand in the system pages after the private words (the places are this project's own).
 use Rattle.std.specs.Prelude.{ℕ, ◌≡◌, true, false}
 use Rattle.address_map.specs.Bytes.{Bytes, in_range}
 use Rattle.instances_ground.specs.World.{private_word}

@@ -1,7 +1,7 @@
--- The flex store of a machine, told of its store alone: its words spell the blocks, the anchors hold the addresses of
--- the blocks' bytes, and just the words of headers and anchors are marked as such; no anchor lies in a recorded range
--- but the store's own
--- (Acorn C manual, "flex"; the layout is this project's own).
+-- The flex store of a machine, told of its store alone: its words spell the blocks, the anchors
+-- hold the addresses of the blocks' bytes, and just the words of headers and anchors are marked as
+-- such; no anchor lies in a recorded range but the store's own (Acorn C manual, "flex"; the layout
+-- is this project's own).
 use Rattle.std.specs.Prelude.{ℕ, ◌≡◌, ◌≤◌, ◌+◌, true, false, List, Option, Some, None}
 use Rattle.address_map.specs.Bytes.{word_start}
 use Rattle.os_heap.specs.Store.{Store}
@@ -40,7 +40,8 @@ abbrev pub IsSpelledAt : Store → Option Extent → Type 0
 IsSpelledAt s None = IsUnmade s
 IsSpelledAt s (Some e) = IsSpelled s e
 
--- beside module images there are recorded the system pages, and the range of the store, if there is one
+-- beside module images there are recorded the system pages, and the range of the store, if there is
+-- one
 pub record HasFlexStore (s : Store) (f : Flex) : Type 0 where
   pub is : IsSpelledAt s f.extent
   pub free : AreAnchorsFree s

@@ -1,5 +1,5 @@
--- Over lists of flex calls and slides the meaning of a machine's stores moves by rules in which no address of a block
--- stands.
+-- Over lists of flex calls and slides the meaning of a machine's stores moves by rules in which no
+-- address of a block stands.
 use Rattle.std.specs.Prelude.{ℕ, ◌≡◌, ◌≤◌, length, List, [], ◌∷◌, map, Some}
 use Rattle.address_map.specs.declared.map.AddressMap.{AddressMap}
 use Rattle.dynamic_areas.specs.Areas.{Land}
@@ -17,9 +17,10 @@ use Rattle.store_laws.specs.Turning.{AreAllowed, Turn, answered, placed, turned}
 abbrev pub unplaced : Module → Module
 unplaced m = record m { image = record m.image { at = 0 } }
 
--- A turn moves the meaning of the stores by its rule. A private word that had a value has it still, and the modules are
--- what they were, but for where their images stand. What has to hold of stores holds of those that it leaves; the same
--- memory is mapped, with as many pages in the pool and the same areas, and what is pending is pending still.
+-- A turn moves the meaning of the stores by its rule. A private word that had a value has it still,
+-- and the modules are what they were, but for where their images stand. What has to hold of stores
+-- holds of those that it leaves; the same memory is mapped, with as many pages in the pool and the
+-- same areas, and what is pending is pending still.
 pub record IsFollowed (turn : Turn) (x y : Stores) : Type 0 where
   pub rule : IsTurned turn (placed turn x) (answered turn x) (meaning_of x) (meaning_of y)
   pub words : (slot word : ℕ) → (meaning_of x).names slot ≡ Some (Value word)
@@ -36,8 +37,8 @@ abbrev pub AreFollowed : Stores → List Turn → Type 0
 AreFollowed x [] = Unit {0}
 AreFollowed x (turn ∷ turns) = IsFollowed turn x (turned turn x) × AreFollowed (turned turn x) turns
 
--- Whatever is called and slid in whatever order, each turn leads from the meaning of the stores before it to that of
--- the stores after it by its rule.
+-- Whatever is called and slid in whatever order, each turn leads from the meaning of the stores
+-- before it to that of the stores after it by its rule.
 abbrev pub TurnsFollowRules : Type 0
 TurnsFollowRules = (x : Stores) (turns : List Turn) → AreStores x → AreAllowed x.pending turns → AreFollowed x turns
 

@@ -1,3 +1,4 @@
+-- The rules of flex calls and slides, without addresses. Begin with Meaning and Rules, then Laws.
 pub mod Besides
 pub mod FlexStore
 pub mod Laws

@@ -1,6 +1,7 @@
--- What the stores of a machine mean without the addresses at which flex blocks and blocks of the module area stand: a
--- flex block goes by its number in the list, a block of the module area by its place among the live ones, an image by its place
--- among the images, and a private word by its slot (this project's own).
+-- What the stores of a machine mean without the addresses at which flex blocks and blocks of the
+-- module area stand: a flex block goes by its number in the list, a block of the module area by its
+-- place among the live ones, an image by its place among the images, and a private word by its slot
+-- (this project's own).
 use Rattle.std.specs.Prelude.{ℕ, suc, ◌≡◌, ◌≤◌, ◌<◌, ◌+◌, ◌-◌, ◌^◌, ◌==◌, Bool, true, map, length, List, [], ◌∷◌}
 use Rattle.std.specs.Prelude.{Option, Some, None, is_some, if◌then◌else◌}
 use Rattle.std.specs.List.{range_with_len}
@@ -24,8 +25,9 @@ use Rattle.instances_ground.specs.World.{World, private_word}
 use Rattle.instances_slide.specs.Laws.{AreBytes}
 use Rattle.store_laws.specs.FlexStore.{HasFlexStore}
 
--- A machine's memory with its areas and its modules, and where its flex store is; and the images that a call under way
--- has recorded and not added to the modules yet: one while a load, an insert or a copy is under way, else none.
+-- A machine's memory with its areas and its modules, and where its flex store is; and the images
+-- that a call under way has recorded and not added to the modules yet: one while a load, an insert
+-- or a copy is under way, else none.
 pub record Stores : Type 0 where
   pub world : World
   pub flex : Flex
@@ -48,8 +50,8 @@ pub record AreStores (x : Stores) : Type 0 where
   pub memory : IsMemory (store_in x).bytes
   pub one : length x.pending ≤ 1
 
--- A byte as a block of the module area holds it. Those of a word that is an anchor are an address of the flex store,
--- and are left out.
+-- A byte as a block of the module area holds it. Those of a word that is an anchor are an address
+-- of the flex store, and are left out.
 abbrev pub seen : (ℕ → Bool) → (ℕ → ℕ) → ℕ → Option ℕ
 seen anchor bytes a = if anchor a then None else Some (bytes a)
 
@@ -59,7 +61,8 @@ payloads byte at [] = []
 payloads byte at (Live t ∷ xs) = map byte (range_with_len (at + 4) (t - 4)) ∷ payloads byte (at + t) xs
 payloads byte at (Free t ∷ xs) = payloads byte (at + t) xs
 
--- A place among what the live items hold: which of these, by how many are before it, and which of its bytes.
+-- A place among what the live items hold: which of these, by how many are before it, and which of
+-- its bytes.
 pub record Place : Type 0 where
   pub block : ℕ
   pub offset : ℕ
@@ -95,8 +98,8 @@ abbrev pub place_in : ℕ → Option HeapList → Option Place
 place_in a None = None
 place_in a (Some h) = place_among a (h.start + 16) h.items
 
--- What a private word says: which live block of the module area it names, by how many are before that one; or its
--- value, where it names none.
+-- What a private word says: which live block of the module area it names, by how many are before
+-- that one; or its value, where it names none.
 pub data PrivateWord : Type 0 where
   BlockNumber : ℕ → PrivateWord
   Value : ℕ → PrivateWord
@@ -111,12 +114,12 @@ images_in bytes [] = []
 images_in bytes (r ∷ rs) =
     if is_image r.kind then bytes_between bytes r.at r.len ∷ images_in bytes rs else images_in bytes rs
 
--- `flex` has the flex blocks in order, each with the place of its anchor and its contents, but for the bytes of anchors
--- in these; `padding` has the bytes that fill the last word of each of them; `places` where among `blocks` each anchor
--- is that lies in one,
--- `blocks` what the live blocks of the module area hold, `images` the images of modules, and `names` for each slot
--- what the instance's private word says, if there is such an instance: which of `blocks` it names, or its value, where
--- it names none.
+-- `flex` has the flex blocks in order, each with the place of its anchor and its contents, but for
+-- the bytes of anchors in these; `padding` has the bytes that fill the last word of each of them;
+-- `places` where among `blocks` each anchor is that lies in one, `blocks` what the live blocks of
+-- the module area hold, `images` the images of modules, and `names` for each slot what the
+-- instance's private word says, if there is such an instance: which of `blocks` it names, or its
+-- value, where it names none.
 pub record Meaning : Type 0 where
   pub flex : List SeenBlock
   pub padding : List (List ℕ)

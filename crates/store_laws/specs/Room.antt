@@ -1,5 +1,6 @@
--- When a flex call that was not refused answers that there was room: in the numbers of the store and of the block, all
--- exact (Acorn C manual, "flex"; the header and the filling up are this project's own).
+-- When a flex call that was not refused answers that there was room: in the numbers of the store
+-- and of the block, all exact (Acorn C manual, "flex"; the header and the filling up are this
+-- project's own).
 use Rattle.std.specs.Prelude.{ℕ, ◌≡◌, ◌≤◌, ◌↔◌, ◌+◌, ◌-◌, ◌*◌, ◌/◌, Bool, true, List, length, Some, Ok}
 use Rattle.os_heap.specs.Store.{Store}
 use Rattle.flex_store.specs.Blocks.{cut_of, more_of}
@@ -8,7 +9,8 @@ use Rattle.flex_store.specs.declared.flex.Extent.{Extent}
 use Rattle.flex_ground.specs.Ground.{flex_state}
 use Rattle.store_laws.specs.Meaning.{AreStores, Stores, contents_of, store_in}
 
--- the bytes of the store's range, those of a block's header, and a number of bytes rounded up to a multiple of 4
+-- the bytes of the store's range, those of a block's header, and a number of bytes rounded up to a
+-- multiple of 4
 abbrev pub store_size : Extent → ℕ
 store_size e = e.end - e.start
 
@@ -18,7 +20,8 @@ header_size = 8
 abbrev pub round_up_4 : ℕ → ℕ
 round_up_4 n = 4 * ((n + 3) / 4)
 
--- Alloc: there was room just where the used bytes, a header and the block's bytes are at most the store's size.
+-- Alloc: there was room just where the used bytes, a header and the block's bytes are at most the
+-- store's size.
 abbrev pub AllocHasRoom : Type 0
 AllocHasRoom =
     (x : Stores) (e : Extent) (places : Store) (after : FlexState) (anchor size : ℕ) (answer : Bool)

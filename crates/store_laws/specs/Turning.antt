@@ -1,5 +1,5 @@
--- The turns that stores take: flex calls, and slides of the module area, each as its definition has it (Acorn C
--- manual, "flex"; RISC OS 3 Programmer's Reference Manual, "OS_Module", reason 8).
+-- The turns that stores take: flex calls, and slides of the module area, each as its definition has
+-- it (Acorn C manual, "flex"; RISC OS 3 Programmer's Reference Manual, "OS_Module", reason 8).
 use Rattle.std.specs.Prelude.{ℕ, ◌≡◌, Bool, true, List, [], ◌∷◌, Option, None, Some, Result, Ok, Err}
 use Rattle.rma.specs.profile.specs.Outcome.{bind}
 use Rattle.rma.specs.profile.specs.declared.error.ErrorNumber.{ErrorNumber}
@@ -16,14 +16,15 @@ use Rattle.instances_table.specs.declared.parts.Image.{Image}
 use Rattle.instances_slide.specs.Slid.{world_slid}
 use Rattle.store_laws.specs.Meaning.{Stores, store_in}
 
--- Flex_Init of the range from a start up to an end; another flex call; or a slide, in a call that returns to an address
+-- Flex_Init of the range from a start up to an end; another flex call; or a slide, in a call that
+-- returns to an address
 pub data Turn : Type 0 where
   Init : ℕ → ℕ → Turn
   Call : FlexCall → Turn
   Slide : ℕ → Turn
 
--- What a call leaves of the flex store, with its answer, or why it was refused. Init and release have nothing to
--- answer, and always room.
+-- What a call leaves of the flex store, with its answer, or why it was refused. Init and release
+-- have nothing to answer, and always room.
 abbrev pub begun_with : Store → Flex → ℕ → ℕ → Result (FlexState × Bool) ErrorNumber
 begun_with s f start end = bind (begun s (flex_state s f) start end) (λ r. Ok (r.0, true))
 
@@ -69,7 +70,8 @@ placed (Init start end) x = Fixed 0
 placed (Call call) x = place_by (flex_state (store_in x) x.flex).flex (anchor_of call)
 placed (Slide return_address) x = Fixed 0
 
--- A slide is made only where no image is pending; flex calls are made at any time, and what they are given are words.
+-- A slide is made only where no image is pending; flex calls are made at any time, and what they
+-- are given are words.
 abbrev pub IsAllowed : List Image → Turn → Type 0
 IsAllowed pending (Init start end) = Unit {0}
 IsAllowed pending (Call call) = IsOfWords call

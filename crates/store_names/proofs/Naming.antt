@@ -62,7 +62,8 @@ unfolding meaning_of
 done_by x call v true is are words rule = room_by x call v x.flex.extent are words refl is
 done_by x call v false is are words rule = ap (λ (m : Meaning). m.flex) rule
 
--- each turn by its answer: what is changed is told by the rule of the turn but for a call that finds room
+-- each turn by its answer: what is changed is told by the rule of the turn but for a call that
+-- finds room
 call_by : (x : Stores) (call : FlexCall) (r : Result (FlexState × Bool) ErrorNumber) → called (store_in x) x.flex call ≡ r → AreStores x → IsOfWords call
     → IsTurned (Call call) (placed (Call call) x) (answer_of r) (meaning_of x) (meaning_of (left_by x (store_in x) r))
     → IsTurnByNames (Call call) (answer_of r) (placed (Call call) x) (meaning_of x).flex (meaning_of (left_by x (store_in x) r)).flex

@@ -1,1 +1,2 @@
+-- The same rules by names of flex blocks.
 pub mod Named

@@ -1,5 +1,6 @@
--- What a flex call and a slide of the module area do to the flex blocks of a store, by names in which no address in the
--- store stands (Acorn C manual, "flex"; RISC OS 3 Programmer's Reference Manual, "OS_Module", reason 8).
+-- What a flex call and a slide of the module area do to the flex blocks of a store, by names in
+-- which no address in the store stands (Acorn C manual, "flex"; RISC OS 3 Programmer's Reference
+-- Manual, "OS_Module", reason 8).
 use Rattle.std.specs.Prelude.{◌≡◌, Bool, true, false, List, [], ◌∷◌, Some, Result, Ok, Err}
 use Rattle.profile.specs.declared.error.ErrorNumber.{ErrorNumber}
 use Rattle.flex_store.specs.Runs.{FlexCall}
@@ -15,9 +16,10 @@ pub record IsCallByNames (call : FlexCall) (x : Anchor) (p q : List SeenBlock) :
   pub is : place_named p name ≡ Some x
   pub goes : IsCalledNamed call name p q
 
--- What a turn with an answer does, where its anchor is at a place, if it has one. A call that is refused, or answers
--- that there is no room, changes nothing; one that answers that there is room goes by its rule. Flex_Init makes a store
--- without blocks, where there was none. A slide keeps all blocks.
+-- What a turn with an answer does, where its anchor is at a place, if it has one. A call that is
+-- refused, or answers that there is no room, changes nothing; one that answers that there is room
+-- goes by its rule. Flex_Init makes a store without blocks, where there was none. A slide keeps all
+-- blocks.
 abbrev pub IsTurnByNames : Turn → Result Bool ErrorNumber → Anchor → List SeenBlock → List SeenBlock → Type 0
 IsTurnByNames turn (Err e) x p q = q ≡ p
 IsTurnByNames turn (Ok false) x p q = q ≡ p

@@ -1,4 +1,4 @@
-//! What lists of flex calls and slides of the module area do to the flex blocks of a store, by the names of blocks.
+//! Laws: what lists of flex calls and slides of the module area do to flex blocks, by their names.
 #![tactic(auto)]
 
 pub mod laws;
