@@ -1,4 +1,5 @@
--- What a call that isn't of OS_Module leaves of a heap that isn't the one it is made on: all of it, where it leaves it whole.
+-- What a call that isn't of OS_Module leaves of a heap that isn't the one it is made on: all of it,
+-- where it leaves it whole.
 use Rattle.std.proofs.Common.{ℕ, ◌≡◌, ◌==◌, Bool, true, false, length, List, option_map, Option, Some, None, Result, Ok, Err, refl, sym, subst, if◌then◌else◌}
 use Rattle.std.proofs.lemmas.Bool.{true≢false}
 use Rattle.profile.specs.Outcome.{bind}

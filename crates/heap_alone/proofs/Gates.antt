@@ -1,4 +1,5 @@
--- A step at the return gate, where module code comes back, keeps each guest's heap that is recorded after it.
+-- A step at the return gate, where module code comes back, keeps each guest's heap that is recorded
+-- after it.
 use Rattle.std.proofs.Common.{ℕ, ◌≡◌, ◌≤◌, ◌==◌, Bool, true, false, length, Option, Some, None, refl, sym, subst}
 use Rattle.std.specs.Prelude.{IfSome, if◌then◌else◌}
 use Rattle.profile.specs.declared.fault.Fault.TheVariants.{StackChanged}

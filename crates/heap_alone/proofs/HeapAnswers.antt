@@ -1,4 +1,5 @@
--- What OS_Heap does to the core and to memory is what the call on the heap comes to, whatever heap that is.
+-- What OS_Heap does to the core and to memory is what the call on the heap comes to, whatever heap
+-- that is.
 use Rattle.std.proofs.Common.{ℕ, ◌≡◌, ◌∙◌, Bool, Some, Result, Ok, Err, length, refl, arith, get_or-set_other, get_or-set_same}
 use Rattle.profile.specs.Outcome.{bind}
 use Rattle.profile.specs.declared.error.ErrorNumber.{ErrorNumber}

@@ -1,4 +1,5 @@
--- What keeps a heap: nothing that happens to its store, or an error of the system, whose block no heap has a byte of.
+-- What keeps a heap: nothing that happens to its store, or an error of the system, whose block no
+-- heap has a byte of.
 use Rattle.std.proofs.Common.{ℕ, ◌≡◌, ◌≤◌, ◌∙◌, Bool, true, false, List, [], ◌∷◌, ◌++◌, length, option_map, Option, Some, None, Result, Ok, Err, refl, sym, ap, inl, inr, arith}
 use Rattle.std.proofs.lemmas.Bool.{both_ways, false_from_ne_true, true≢false}
 use Rattle.std.proofs.lemmas.Bool.Decides.{nat_tests}

@@ -1,4 +1,5 @@
--- Over any move, the blocks of a heap that a guest made, and in which no heap lies or is made, keep what they hold, but for what an instruction stores.
+-- Over any move, the blocks of a heap that a guest made, and in which no heap lies or is made, keep
+-- what they hold, but for what an instruction stores.
 use Rattle.std.proofs.Common.{ℕ, ◌≡◌, ◌≢◌, ◌-◌, ◌+◌, ◌%◌, ◌^◌, ◌∙◌, ◌⊎◌, Bool, true, false, List, Option, Some, Result, Ok, Err, refl, sym, ap, subst, inl, inr}
 use Rattle.std.proofs.lemmas.Bool.{cases_Bool, cases_eq, true≢false}
 use Rattle.profile.specs.SwiNames.{swi_of}

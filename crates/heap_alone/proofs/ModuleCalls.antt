@@ -1,4 +1,5 @@
--- The calls of OS_Module, and of the SWIs of modules, keep each guest's heap that they don't forget: done, or refused with an error.
+-- The calls of OS_Module, and of the SWIs of modules, keep each guest's heap that they don't
+-- forget: done, or refused with an error.
 use Rattle.std.proofs.Common.{ℕ, ◌≡◌, ◌≤◌, ◌==◌, Bool, true, false, length, List, Option, Some, None, Result, Ok, Err, refl}
 use Rattle.std.specs.Prelude.{IfOk, if◌then◌else◌, ok_or}
 use Rattle.profile.specs.Outcome.{bind}

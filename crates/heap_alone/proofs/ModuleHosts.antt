@@ -1,5 +1,5 @@
--- Machines whose module area is fit: what a plan that is carried on, and texts, leave of a guest's heap. They may forget one that lies in a block of the
--- module area.
+-- Machines whose module area is fit: what a plan that is carried on, and texts, leave of a guest's
+-- heap. They may forget one that lies in a block of the module area.
 use Rattle.std.proofs.Common.{ℕ, ◌≡◌, ◌≤◌, Bool, true, false, length, List, [], ◌∷◌, Option, Some, None, Result, Ok, Err, refl, sym, subst}
 use Rattle.std.specs.Prelude.{IfSome}
 use Rattle.profile.specs.declared.error.ErrorNumber.{ErrorNumber}
@@ -86,7 +86,8 @@ pub record IsHost (s : MachineState) (h : HeapList) : Type 0 where
 pub host_off : (s : MachineState) (h : HeapList) → IsHost s h → IsOffSystem h
 host_off s h host = off_system s h host.modules.store host.found
 
--- the heap is as it was in a store; where it lay in the module area, in one in which it is recorded still
+-- the heap is as it was in a store; where it lay in the module area, in one in which it is recorded
+-- still
 abbrev pub KeepsRecorded : HeapList → Store → Store → Type 0
 KeepsRecorded h s t = (LiesInArea s h → IsNotForgotten t h.start) → KeepsHeap h s t
 

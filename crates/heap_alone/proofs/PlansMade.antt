@@ -1,4 +1,5 @@
--- What the calls that may run module code plan, and what they do at once: in the module area, with slots below 64, and a text that can be kept.
+-- What the calls that may run module code plan, and what they do at once: in the module area, with
+-- slots below 64, and a text that can be kept.
 use Rattle.std.proofs.Common.{ℕ, ◌+◌, ◌≡◌, ◌≤◌, ◌<◌, ◌&&◌, ◌++◌, not, nat_lt, Bool, true, false, zero, suc, length, List, [], ◌∷◌, Option, Some, None, Result, Ok, Err, refl, arith, lit≤}
 use Rattle.std.specs.Prelude.{IfOk, IfSome, if◌then◌else◌, option_map}
 use Rattle.profile.specs.Outcome.{bind}

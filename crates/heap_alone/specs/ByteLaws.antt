@@ -1,6 +1,7 @@
--- Which bytes of live blocks change: those that an instruction stores to, where no store call keeps records; by a call of OS_Heap those of a heap that
--- lies in the block, and no others; and for a heap that a guest made and in which no heap lies, no others by any move (RISC OS 3 Programmer's Reference
--- Manual, "OS_Heap": a block is its claimer's until it is given back).
+-- Which bytes of live blocks change: those that an instruction stores to, where no store call keeps
+-- records; by a call of OS_Heap those of a heap that lies in the block, and no others; and for a
+-- heap that a guest made and in which no heap lies, no others by any move (RISC OS 3 Programmer's
+-- Reference Manual, "OS_Heap": a block is its claimer's until it is given back).
 use Rattle.std.specs.Prelude.{ℕ, ◌≡◌, ◌-◌, ◌+◌, ◌⊎◌, true, false, List, Some, None, Ok}
 use Rattle.profile.specs.declared.swi.SwiName.TheVariants as swi
 use Rattle.address_map.specs.Bytes.{Bytes, in_range}
@@ -17,25 +18,29 @@ use Rattle.heap_alone.specs.Laws.{HasHeap, IsState}
 use Rattle.heap_alone.specs.Moves.{Move, Step, core_of, moved, swi_made}
 use Rattle.heap_alone.specs.Storing.{is_stored}
 
--- the instruction at the program counter stores to a byte, and the byte belongs to no record that store calls keep
+-- the instruction at the program counter stores to a byte, and the byte belongs to no record that
+-- store calls keep
 abbrev pub IsStoredPlain : MachineState → ℕ → Type 0
 IsStoredPlain s a = (is_stored s.cpu s.store.bytes a ≡ true) × (owned_in s.store a ≡ false)
 
--- A step that does an instruction changes a byte only where the instruction stores, and only in a word that isn't owned.
+-- A step that does an instruction changes a byte only where the instruction stores, and only in a
+-- word that isn't owned.
 abbrev pub InstructionsChangeStored : Type 0
 InstructionsChangeStored =
     (images : List Entry) (s : MachineState) (w : State × Bytes) (a : ℕ) → s.halt ≡ None → instructed s ≡ Ok w
     → ((moved images s Step).store.bytes.at a ≡ s.store.bytes.at a) ⊎ IsStoredPlain s a
 
--- A call of OS_Heap, from outside or by an instruction, done or refused: a block of the heap in R1 that was live and is so still holds what it held, and
--- so does each block of each other heap, but for bytes that the heap in R1 has in its range.
+-- A call of OS_Heap, from outside or by an instruction, done or refused: a block of the heap in R1
+-- that was live and is so still holds what it held, and so does each block of each other heap, but
+-- for bytes that the heap in R1 has in its range.
 abbrev pub HeapCallsKeepLiveBytes : Type 0
 HeapCallsKeepLiveBytes =
     (images : List Entry) (s : MachineState) (m : Move) → IsState s → s.halt ≡ None → swi_made s m ≡ Some swi.Heap → IsState (moved images s m)
     → KeepsPayloads s.store (moved images s m).store (register_of (core_of s m) 1)
 
--- Of a heap that a guest made, in which no anchor lies or is named, and no heap lies, nor is made by the move: over each move, a block that was live and
--- is so still holds what it held, but for bytes that the move's instruction stores to.
+-- Of a heap that a guest made, in which no anchor lies or is named, and no heap lies, nor is made
+-- by the move: over each move, a block that was live and is so still holds what it held, but for
+-- bytes that the move's instruction stores to.
 abbrev pub MovesKeepLiveBytes : Type 0
 MovesKeepLiveBytes =
     (images : List Entry) (s : MachineState) (h g : HeapList) (m : Move) (block total new_total a : ℕ) → HasHeap s h → IsState (moved images s m)

@@ -1,5 +1,7 @@
--- Which heaps that guests made are recorded after a move: each that lies in no block of another heap; each where the move calls neither OS_Heap nor
--- OS_Module, and no module code comes back; and where OS_Heap is called, each of which the call frees no byte, and that lies in no heap of which it does.
+-- Which heaps that guests made are recorded after a move: each that lies in no block of another
+-- heap; each where the move calls neither OS_Heap nor OS_Module, and no module code comes back; and
+-- where OS_Heap is called, each of which the call frees no byte, and that lies in no heap of which
+-- it does.
 use Rattle.std.specs.Prelude.{ℕ, ◌≡◌, ◌≢◌, false, Some, None, List}
 use Rattle.profile.specs.Reasons.{heap_reason}
 use Rattle.profile.specs.declared.reason.HeapReason.{HeapReason}

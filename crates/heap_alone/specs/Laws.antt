@@ -1,5 +1,5 @@
--- A guest's heap stands alone: whatever else a machine does, short of making a heap in it or freeing the block that it lies in, calls on the heap answer
--- by the heap's own list and bytes.
+-- A guest's heap stands alone: whatever else a machine does, short of making a heap in it or
+-- freeing the block that it lies in, calls on the heap answer by the heap's own list and bytes.
 use Rattle.std.specs.Prelude.{ℕ, ◌≡◌, ◌≢◌, true, false, Option, Some, None, option_map, List, [], ◌∷◌}
 use Rattle.profile.specs.declared.swi.SwiName.TheVariants as swi
 use Rattle.address_map.specs.Bytes.{in_range}
@@ -22,7 +22,8 @@ pub record IsState (s : MachineState) : Type 0 where
   pub is : state_of parts ≡ s
   pub machine : IsMachine parts
 
--- A machine that isn't halted, with a heap that a guest made and in which no anchor and no heap lies. It may lie in a block itself.
+-- A machine that isn't halted, with a heap that a guest made and in which no anchor and no heap
+-- lies. It may lie in a block itself.
 pub record HasHeap (s : MachineState) (h : HeapList) : Type 0 where
   pub state : IsState s
   pub goes : s.halt ≡ None
@@ -31,14 +32,16 @@ pub record HasHeap (s : MachineState) (h : HeapList) : Type 0 where
   pub anchors : HasNoAnchor s.store h
   pub alone : HoldsNoHeap s.store h
 
--- A move that leaves the heap to itself: no instruction stores into it, no step calls OS_Heap with it in R1, and no flex block gets an anchor in it.
+-- A move that leaves the heap to itself: no instruction stores into it, no step calls OS_Heap with
+-- it in R1, and no flex block gets an anchor in it.
 pub record IsAside (s : MachineState) (h : HeapList) (m : Move) : Type 0 where
   pub stores : m ≡ Step → (a : ℕ) → in_range h.start h.end a ≡ true → is_stored s.cpu s.store.bytes a ≡ false
   pub calls : m ≡ Step → swi_made s m ≡ Some swi.Heap → register_of s.cpu 1 ≢ h.start
   pub anchors : swi_made s m ≡ Some swi.FlexAlloc → in_range h.start h.end (register_of (core_of s m) 0) ≡ false
 
--- Each move of a list leaves the heap that is found at `start` to itself, and goes on in a machine's state that isn't halted. Those that are no calls on
--- it from outside leave it whole: none forgets it, and none makes a heap in it.
+-- Each move of a list leaves the heap that is found at `start` to itself, and goes on in a
+-- machine's state that isn't halted. Those that are no calls on it from outside leave it whole:
+-- none forgets it, and none makes a heap in it.
 pub record IsMoveDone (images : List Entry) (start : ℕ) (s : MachineState) (m : Move) : Type 0 where
   pub aside : (h : HeapList) → find_heap start s.store.heaps ≡ Some h → IsAside s h m
   pub left : is_own start s m ≡ false → IsLeftWhole (moved images s m).store start
@@ -53,7 +56,8 @@ AreMovesDone images start s (m ∷ ms) = IsMoveDone images start s m × AreMoves
 abbrev pub alone_at : ℕ → Store → Option Alone
 alone_at start s = option_map (alone_in s) (find_heap start s.heaps)
 
--- The answers to the heap's own calls are those that the heap gives alone, and at the end the heap is what these calls alone leave of it.
+-- The answers to the heap's own calls are those that the heap gives alone, and at the end the heap
+-- is what these calls alone leave of it.
 pub record StandsAlone (images : List Entry) (s : MachineState) (h : HeapList) (moves : List Move) : Type 0 where
   pub answers : answers_in images h.start s moves ≡ replies (alone_in s.store h) (calls_in images h.start s moves)
   pub heap : alone_at h.start (moved_all images s moves).store ≡ Some (left_by (alone_in s.store h) (calls_in images h.start s moves))
@@ -64,8 +68,8 @@ HeapsStandAlone =
     (images : List Entry) (s : MachineState) (h : HeapList) (moves : List Move) → HasHeap s h → AreMovesDone images h.start s moves
     → StandsAlone images s h moves
 
--- So two machines in which the heap alone is the same, and is asked the same, with other moves between: their answers are the same, and so is the heap
--- at the end.
+-- So two machines in which the heap alone is the same, and is asked the same, with other moves
+-- between: their answers are the same, and so is the heap at the end.
 pub record AnswerAlike (images images' : List Entry) (s t : MachineState) (h k : HeapList) (moves moves' : List Move) : Type 0 where
   pub answers : answers_in images h.start s moves ≡ answers_in images' k.start t moves'
   pub heap : alone_at h.start (moved_all images s moves).store ≡ alone_at k.start (moved_all images' t moves').store

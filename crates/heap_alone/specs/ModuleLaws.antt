@@ -1,6 +1,7 @@
--- Calls of OS_Module, calls of SWIs of modules, modules that are loaded from outside, and steps in which module code comes back, keep each heap that a
--- guest made: done, or refused with an error. One that lies in a block of the module area is kept unless it is forgotten, as it is with the block, or
--- with what is cut off that.
+-- Calls of OS_Module, calls of SWIs of modules, modules that are loaded from outside, and steps in
+-- which module code comes back, keep each heap that a guest made: done, or refused with an error.
+-- One that lies in a block of the module area is kept unless it is forgotten, as it is with the
+-- block, or with what is cut off that.
 use Rattle.std.specs.Prelude.{ℕ, ◌≡◌, Bool, true, Option, Some, None, List}
 use Rattle.image_loader.specs.Entries.{Entry}
 use Rattle.os_heap_lists.specs.Heap.{HeapList}
@@ -23,14 +24,16 @@ pub record HasAnyHeap (s : MachineState) (h : HeapList) : Type 0 where
   pub found : find_heap h.start s.store.heaps ≡ Some h
   pub own : has_own_size h.kind ≡ true
 
--- A call is made with words in the first registers, or by an instruction, with none: with the X bit or without.
+-- A call is made with words in the first registers, or by an instruction, with none: with the X bit
+-- or without.
 abbrev pub ModuleCallsKeepHeap : Type 0
 ModuleCallsKeepHeap =
     (images : List Entry) (s : MachineState) (h : HeapList) (words : List ℕ) (x : Bool) (next number : ℕ) → HasAnyHeap s h
     → (LiesInArea s.store h → IsNotForgotten (os_module_called images (given s words) x next number).now.store h.start)
     → KeepsHeap h s.store (os_module_called images (given s words) x next number).now.store
 
--- The handler of a module's SWI is entered, unless none has the number or too many frames are open. So no heap is forgotten.
+-- The handler of a module's SWI is entered, unless none has the number or too many frames are open.
+-- So no heap is forgotten.
 abbrev pub ModuleSwisKeepHeap : Type 0
 ModuleSwisKeepHeap =
     (s : MachineState) (h : HeapList) (words : List ℕ) (x : Bool) (next number : ℕ) (handler : Option Handler) → HasAnyHeap s h
@@ -42,7 +45,8 @@ LoadsKeepHeap =
     → (LiesInArea s.store h → IsNotForgotten (module_loaded images s text).now.store h.start)
     → KeepsHeap h s.store (module_loaded images s text).now.store
 
--- Module code comes back: a SWI goes back, or an initialisation or a finalisation, whose call is carried on.
+-- Module code comes back: a SWI goes back, or an initialisation or a finalisation, whose call is
+-- carried on.
 abbrev pub GatesKeepHeap : Type 0
 GatesKeepHeap =
     (s : MachineState) (h : HeapList) → HasAnyHeap s h → (LiesInArea s.store h → IsNotForgotten (gated s).now.store h.start)

@@ -1,5 +1,6 @@
--- Moves of a machine: store calls that a user makes from outside, and steps. Which of them are calls on one heap, what they ask and what they answer
--- (RISC OS 3 Programmer's Reference Manual, "OS_Heap", reasons 1 to 6: the heap in R1, a block in R2, a size in R3).
+-- Moves of a machine: store calls that a user makes from outside, and steps. Which of them are
+-- calls on one heap, what they ask and what they answer (RISC OS 3 Programmer's Reference Manual,
+-- "OS_Heap", reasons 1 to 6: the heap in R1, a block in R2, a size in R3).
 use Rattle.std.specs.Prelude.{ℕ, ◌+◌, ◌%◌, ◌^◌, ◌==◌, ◌&&◌, ◌++◌, Bool, true, false, Option, Some, None, Result, Err, List, [], ◌∷◌, if◌then◌else◌}
 use Rattle.profile.specs.Reasons.{heap_reason}
 use Rattle.profile.specs.SwiNames.{swi_of}
@@ -21,7 +22,8 @@ use Rattle.swi_dispatch.specs.Errors.{error_number}
 use Rattle.swi_dispatch.specs.MachineState.{MachineState}
 use Rattle.swi_dispatch.specs.Step.{instructed, machine_step, store_called, without_x}
 
--- A call by its number and the words of R0 and the registers behind it; or a step: an instruction, a SWI or a gate action of the guest.
+-- A call by its number and the words of R0 and the registers after it; or a step: an instruction, a
+-- SWI or a gate action of the guest.
 pub data Move : Type 0 where
   Call : ℕ → List ℕ → Move
   Step : Move
@@ -50,7 +52,7 @@ abbrev pub is_heap_swi : Option SwiName → Bool
 is_heap_swi (Some swi.Heap) = true
 is_heap_swi other = false
 
--- Is OS_Heap called on the heap at `start`? Reason 0 makes a heap, and is none of these calls.
+-- Is OS_Heap called on the heap at `start`? Reason 0 makes a heap and doesn't count.
 abbrev pub is_for_heap : Option HeapReason → Bool
 is_for_heap None = false
 is_for_heap (Some why) = is_on_heap why
@@ -63,7 +65,8 @@ abbrev pub is_own : ℕ → MachineState → Move → Bool
 is_own start s (Call number words) = is_heap_swi (outside_name number) && is_call_to start (given s words).cpu
 is_own start s Step = false
 
--- What it asks of the heap that is found there, and what it answers: R2 and R3, or with V set the error's number.
+-- What it asks of the heap that is found there, and what it answers: R2 and R3, or with V set the
+-- error's number.
 abbrev pub asked : Store → State → Option HeapReason → Option HeapList → List HeapCall
 asked s cpu (Some why) (Some h) = call_given s h why (register_of cpu 2) (register_of cpu 3) ∷ []
 asked s cpu why found = []

@@ -1,4 +1,5 @@
--- Which bytes the instruction at the program counter stores to, by its decoded form (ARM2 data sheet, "Single data transfer" and "Block data transfer").
+-- Which bytes the instruction at the program counter stores to, by its decoded form (ARM2 data
+-- sheet, "Single data transfer" and "Block data transfer").
 use Rattle.std.specs.Prelude.{ℕ, Bool, true, false, not, ◌&&◌, ◌*◌, ◌==◌, Result, Ok, Err, ◌≡◌}
 use Rattle.profile.specs.declared.fault.Fault.{Fault}
 use Rattle.address_map.specs.Bytes.{Bytes, in_range, word_loaded, word_start}

@@ -1,4 +1,5 @@
--- How a list of moves ends: at its end, by a move that halts the machine, or by one whose answer has no room.
+-- How a list of moves ends: at its end, by a move that halts the machine, or by one whose answer
+-- has no room.
 use Rattle.std.proofs.Common.{ℕ, ◌≡◌, ◌≤◌, ◌<◌, ◌+◌, ◌-◌, ◌++◌, ◌∙◌, Bool, true, List, [], ◌∷◌, length, take, option_map, Some, None, get_or, refl, sym, ap, subst, arith, length-append, if◌then◌else◌}
 use Rattle.std.proofs.Math.Seq.{take-length}
 use Rattle.std.proofs.lemmas.List.{length-map}

@@ -1,5 +1,6 @@
--- Lists of store calls from outside alone: each leaves a heap to itself that doesn't give a flex block an anchor there. That it leaves the heap whole is
--- another matter: a call may forget the heap, or make one in it.
+-- Lists of store calls from outside alone: each leaves a heap to itself that doesn't give a flex
+-- block an anchor there. That it leaves the heap whole is another matter: a call may forget the
+-- heap, or make one in it.
 use Rattle.std.specs.Prelude.{ℕ, ◌≡◌, ◌&&◌, not, Bool, true, false, Option, Some, List, [], ◌∷◌}
 use Rattle.profile.specs.declared.swi.SwiName.{SwiName}
 use Rattle.profile.specs.declared.swi.SwiName.TheVariants as swi

@@ -1,3 +1,4 @@
+-- Lists of moves on a machine, and on two. Begin with Making.
 pub use Rattle.heap_alone
 pub mod Calls
 pub mod Making

@@ -1,5 +1,5 @@
--- A list of moves made on a machine: how far it was made, what the machine then is, and what the heap at an address answered, which is what it
--- answers by itself.
+-- A list of moves made on a machine: how far it was made, what the machine then is, and what the
+-- heap at an address answered, which is what it answers by itself.
 use Rattle.std.specs.Prelude.{ℕ, ◌≡◌, ◌≤◌, ◌<◌, ◌+◌, ◌-◌, true, false, Option, Some, None, option_map, List, [], ◌∷◌, length, take}
 use Rattle.profile.specs.declared.stop.Stop.{Stop}
 use Rattle.image_loader.specs.Entries.{Entry}
@@ -18,7 +18,8 @@ use Rattle.heap_moves.specs.declared.moves.End.TheVariants as end
 use Rattle.heap_moves.specs.declared.moves.Reply.{Reply}
 use Rattle.heap_moves.specs.Moves.{noted_all}
 
--- Of a list the moves that were made, and those of them that were done: where it ended early, all but the last.
+-- Of a list the moves that were made, and those of them that were done: where it ended early, all
+-- but the last.
 abbrev pub made_of : End → ℕ → List Move → List Move
 made_of end.All count moves = moves
 made_of end.Full count moves = take count moves
@@ -53,7 +54,8 @@ AreAside images start s [] = Unit {0}
 AreAside images start s (m ∷ ms) =
     ((h : HeapList) → find_heap start s.store.heaps ≡ Some h → IsAside s h m) × AreAside images start (moved images s m) ms
 
--- Each that is no call on that heap from outside leaves it whole: none forgets it, and none makes a heap in it.
+-- Each that is no call on that heap from outside leaves it whole: none forgets it, and none makes a
+-- heap in it.
 abbrev pub LeaveWhole : List Entry → ℕ → MachineState → List Move → Type 0
 LeaveWhole images start s [] = Unit {0}
 LeaveWhole images start s (m ∷ ms) =
@@ -68,7 +70,8 @@ abbrev pub StandsByItself : List Entry → ℕ → MachineState → List Move �
 StandsByItself images start s moves told =
     (h : HeapList) → HasHeapAt s start h → AreAside images start s moves → LeaveWhole images start s moves → IsByItself images s h moves told
 
--- Why it ended, after so many of all moves: the last of these asked for one answer more than there is room for, or the machine is halted.
+-- Why it ended, after so many of all moves: the last of these asked for one answer more than there
+-- is room for, or the machine is halted.
 abbrev pub EndsBy : End → (count all asked most : ℕ) → Option Halt → Type 0
 EndsBy end.All count all asked most halt = (count ≡ all) × (halt ≡ None)
 EndsBy end.Full count all asked most halt = (count ≤ all) × (asked ≡ most + 1) × (halt ≡ None)

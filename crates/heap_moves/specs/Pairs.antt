@@ -1,4 +1,5 @@
--- Lists of moves made on two machines: where the heap alone is the same and is asked the same, it answers the same, whatever else goes on in each.
+-- Lists of moves made on two machines: where the heap alone is the same and is asked the same, it
+-- answers the same, whatever else goes on in each.
 use Rattle.std.specs.Prelude.{ℕ, ◌≡◌, List}
 use Rattle.image_loader.specs.Entries.{Entry}
 use Rattle.os_heap_lists.specs.Heap.{HeapList}

@@ -1,4 +1,5 @@
-//! Lists of moves on real machines: what a guest's heap answers to the calls on it is what it answers alone.
+//! Laws: over lists of moves on real machines, what a guest's heap answers is what it answers
+//! alone.
 #![tactic(auto)]
 
 pub mod laws;

@@ -12,9 +12,9 @@ use arrayvec::ArrayVec;
 use image_loader::Images;
 use swi_dispatch::Machine;
 
-/// Makes the moves in turn, until the machine is halted or there is no room for an answer. If a guest's heap with no
-/// anchor and no heap in it stands at `start`, and the moves leave it to itself, neither forget it nor make a heap in it,
-/// then what it answers is what it answers alone.
+/// Makes the moves in turn, until the machine is halted or there is no room for an answer. If a
+/// guest's heap with no anchor and no heap in it stands at `start`, and the moves leave it to
+/// itself, neither forget it nor make a heap in it, then what it answers is what it answers alone.
 pub fn make_moves<const MOST: usize>(machine: &mut Machine, moves: &Moves) -> Made<MOST>
     ensures made { AreMade moves.now.images.now moves.now.start (state_of machine.old) (state_of machine.new)
         (written_all moves.now.list.now) MOST result.count result.end result.answers.items }
@@ -79,7 +79,8 @@ fn make_move(machine: &mut Machine, images: &Images, start: u32, next: &Move) ->
     is_own
 }
 
-/// Notes what the machine answered, if that was to a call on the heap. Answers whether there was room for it.
+/// Notes what the machine answered, if that was to a call on the heap. Answers whether there was
+/// room for it.
 fn note<const MOST: usize>(
     answers: &mut ArrayVec<Reply, MOST>,
     machine: &Machine,
@@ -100,7 +101,7 @@ fn note<const MOST: usize>(
     true
 }
 
-/// Sets R0 and the registers behind it.
+/// Sets R0 and the registers after it.
 fn set_registers(machine: &mut Machine, words: &[u32])
     requires { length words.now ≤ 15 }
     ensures state { state_of machine.new ≡ given (state_of machine.old) words.now }

@@ -45,7 +45,8 @@ impl Default for Reply {
 pub enum End {
     /// All were made, and the machine goes on.
     All,
-    /// The last move that was made is a call on the heap, for whose answer there is no room. The machine still has it.
+    /// The last move that was made is a call on the heap, for whose answer there is no room. The
+    /// machine still has it.
     Full,
     /// The machine is halted: by the last move that was made, or before any was.
     Halted(Stop),
@@ -57,6 +58,7 @@ pub struct Made<const MOST: usize> {
     /// How many moves were made.
     pub count: usize,
     pub end: End,
-    /// What the heap answered to its own calls, those of reasons 1 to 6 on it from outside, in turn.
+    /// What the heap answered to its own calls, those of reasons 1 to 6 on it from outside, in
+    /// turn.
     pub answers: ArrayVec<Reply, MOST>,
 }

@@ -15,7 +15,8 @@ use swi_dispatch::arm_step::Cpu;
 /// The bit of a call's number that asks for errors to be returned.
 const X_BIT: u32 = 1 << 17;
 
-/// Whether the registers and the number of a call from outside make it one on the heap at `start`, by a reason from 1 to 6.
+/// Whether the registers and the number of a call from outside make it one on the heap at `start`,
+/// by a reason from 1 to 6.
 pub(crate) fn is_own_call(cpu: &Cpu, number: u32, start: u32) -> bool
     ensures { result ≡ (is_heap_swi (outside_name number) && is_call_to start cpu.now) }
 {

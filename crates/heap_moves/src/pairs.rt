@@ -10,9 +10,9 @@ use crate::making::make_moves;
 use crate::moves::{Made, Moves};
 use swi_dispatch::Machine;
 
-/// Makes a list of moves on each of two machines. Where a guest's heap is the same in both, and is asked the same, it
-/// answers the same and is left the same, whatever else the moves do in each, so long as they leave it to itself, do not
-/// forget it and make no heap in it.
+/// Makes a list of moves on each of two machines. Where a guest's heap is the same in both, and is
+/// asked the same, it answers the same and is left the same, whatever else the moves do in each, so
+/// long as they leave it to itself, do not forget it and make no heap in it.
 pub fn make_in_two<const MOST: usize>(
     one: &mut Machine,
     moves: &Moves,

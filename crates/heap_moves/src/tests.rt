@@ -9,9 +9,9 @@ use std::process::Abort;
 use std::test::Fail;
 use swi_dispatch::Machine;
 
-/// OS_Heap on a heap of 256 bytes at &9000, by R0, R2 and R3, with the answers worked out by hand: all reasons but 0, and
-/// each error that comes at a heap without anchors. Blocks of 20, 40, 44 and 64 bytes take 24, 48, 48 and 72; the second
-/// heap, at &9200, is in the way of 260 bytes more.
+/// OS_Heap on a heap of 256 bytes at &9000, by R0, R2 and R3, with the answers worked out by hand:
+/// all reasons but 0, and each error that comes at a heap without anchors. Blocks of 20, 40, 44 and
+/// 64 bytes take 24, 48, 48 and 72; the second heap, at &9200, is in the way of 260 bytes more.
 static CALLS: [(u32, u32, u32, Reply); 14] = [
     (1, 7, 7, Answered(236, 240)),
     (2, 7, 20, Answered(0x9014, 20)),
@@ -29,9 +29,9 @@ static CALLS: [(u32, u32, u32, Reply); 14] = [
     (2, 7, 64, Answered(0x9014, 64)),
 ];
 
-/// What these calls leave of the heap: its first four words, then the lengths of its two blocks, one of 72 bytes and one of
-/// 48, and behind the first length that of the free block that was there before. The word that stood in the first block
-/// went along as that was moved.
+/// What these calls leave of the heap: its first four words, then the lengths of its two blocks,
+/// one of 72 bytes and one of 48, and after the first length that of the free block that was there
+/// before. The word that stood in the first block went along as that was moved.
 static LAST_WORDS: [(u32, u32); 8] = [
     (0x9000, 0x7061_6548),
     (0x9004, 0),
@@ -46,8 +46,9 @@ static LAST_WORDS: [(u32, u32); 8] = [
 /// A store call with R0 to R3, and before which of the calls on the heap it is made.
 type Other = (usize, u32, [u32; 4]);
 
-/// A module that is loaded, and its SWI; a third heap, two flex blocks, an area that is made, grows, shrinks and goes;
-/// three claims of the module area, of which the first, below the module, is freed before a tidy.
+/// A module that is loaded, and its SWI; a third heap, two flex blocks, an area that is made,
+/// grows, shrinks and goes; three claims of the module area, of which the first, below the module,
+/// is freed before a tidy.
 static OTHERS: [Other; 22] = [
     (0, 0x1E, [6, 0, 0, 20]),
     (1, 0x1E, [1, 0xB000, 0, 0]),
@@ -73,8 +74,8 @@ static OTHERS: [Other; 22] = [
     (13, 0x40003, [21, 0, 0, 0]),
 ];
 
-/// A header, whose title is "Dbl" and whose SWIs are from &40000 on, and a handler of two instructions: ADD R0,R0,R0 and
-/// MOVS PC,R14.
+/// A header, whose title is "Dbl" and whose SWIs are from &40000 on, and a handler of two
+/// instructions: ADD R0,R0,R0 and MOVS PC,R14.
 static DOUBLES: [u8; 48] = [
     0, 0, 0, 0, 0, 0, 0, 0, 0, 0, 0, 0, 0, 0, 0, 0, 0x2C, 0, 0, 0, 0, 0, 0, 0, 0, 0, 0, 0, 0, 0, 4,
     0, 0x24, 0, 0, 0, 0, 0, 0x80, 0xE0, 0x0E, 0xF0, 0xB0, 0xE1, b'D', b'b', b'l', 0,
@@ -85,8 +86,8 @@ fn call(number: u32, [r0, r1, r2, r3]: [u32; 4]) -> Move {
     Move::Call(number, [r0, r1, r2, r3, 0, 8192, 0, 0, 0xB000])
 }
 
-/// The calls on the heap, with others between them, each of these with three steps after it: those of a SWI of the
-/// module that it enters, or of memory that is 0.
+/// The calls on the heap, with others between them, each of these with three steps after it: those
+/// of a SWI of the module that it enters, or of memory that is 0.
 fn calls_between(alloc: Global, others: &[Other]) -> Result<Vec<Move>, Fail> {
     let mut moves = Vec::new(alloc);
     for (index, (reason, block, size, _)) in CALLS.iter().enumerate() {
@@ -103,8 +104,8 @@ fn calls_between(alloc: Global, others: &[Other]) -> Result<Vec<Move>, Fail> {
     Ok(moves)
 }
 
-/// A machine with the name of an image at &B000, and heaps at &9000 and &9200; and a word where the first block of the
-/// former will be.
+/// A machine with the name of an image at &B000, and heaps at &9000 and &9200; and a word where the
+/// first block of the former will be.
 fn machine_with_heaps(rt: &impl Abort, alloc: Global) -> Result<Machine, Fail> {
     let mut machine = Machine::new(alloc, Config::new(256, 64, 16).ok_or("sizes")?)?;
     assert!(rt; machine.poke(0xB000, 0x64).is_ok());
@@ -119,7 +120,8 @@ fn machine_with_heaps(rt: &impl Abort, alloc: Global) -> Result<Machine, Fail> {
     Ok(machine)
 }
 
-/// Both machines have the same bytes in the range that the heap at &9000 has then, and these words among them.
+/// Both machines have the same bytes in the range that the heap at &9000 has then, and these words
+/// among them.
 fn expect_last_bytes(rt: &impl Abort, one: &Machine, two: &Machine) {
     for at in 0x9000..0x9140 {
         assert!(rt;

@@ -1,4 +1,5 @@
--- What the calls leave that are none of OS_Heap, of OS_Module or of flex: nothing is changed, or areas are, or an error's block is written.
+-- What the calls leave that are none of OS_Heap, of OS_Module or of flex: nothing is changed, or
+-- areas are, or an error's block is written.
 use Rattle.std.proofs.Common.{ℕ, ◌≡◌, ◌==◌, Bool, true, false, length, List, Option, Some, None, Result, Ok, Err}
 use Rattle.std.specs.Prelude.{if◌then◌else◌}
 use Rattle.std.proofs.lemmas.Bool.{true≢false}
@@ -39,7 +40,8 @@ use Rattle.live_bytes.specs.AreaLaws.{AreaCallHas}
 abbrev pub IsOther : Option SwiName → Type 0
 IsOther name = (is_module_name name ≡ false) × ((is_heap_swi name ≡ false) × (is_flex_call name ≡ false))
 
--- A property of stores that holds where nothing is changed, of an error's block, and of what a call on areas leaves.
+-- A property of stores that holds where nothing is changed, of an error's block, and of what a call
+-- on areas leaves.
 module _ (s : MachineState) (P : Store → Type 0) (same : P s.store) (error : (t : MachineState) (e : Refusal) → P t.store → P (with_error t e).store)
     (calls : (e : Estate) → AreaCallHas (machine_estate s) P e) where
   abbrev Left : Answer → Type 0

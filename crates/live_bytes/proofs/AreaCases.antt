@@ -1,4 +1,5 @@
--- The calls that change areas, case by case: a property of stores that holds after each of their parts holds after each call.
+-- The calls that change areas, case by case: a property of stores that holds after each of their
+-- parts holds after each call.
 use Rattle.std.proofs.Common.{if◌then◌else◌, ℕ, ◌+◌, ◌-◌, ◌*◌, ◌/◌, ◌==◌, ◌||◌, ◌≡◌, ◌≢◌, ◌≤◌, ◌∙◌, true, false, Option, Some, None, Ok, Err, refl, sym, ap, subst, inl, inr, arith}
 use Rattle.std.proofs.Math.Nat.{min-le_right}
 use Rattle.std.proofs.lemmas.Bool.{cases_Bool, eqb-false, eqb-true, ltb-false, or_parts}
@@ -17,7 +18,8 @@ use Rattle.dynamic_areas.specs.Remapped.{with_pages_at, without_pages_at}
 use Rattle.heaps_kept.proofs.Guests.{estates_fit}
 use Rattle.live_bytes.specs.AreaLaws.{AreaCallHas}
 
--- nothing is changed; pages are mapped; the module area grows; pages go that can; the module area shrinks
+-- nothing is changed; pages are mapped; the module area grows; pages go that can; the module area
+-- shrinks
 pub record HoldsAfter (d : Estate) (P : Store → Type 0) : Type 0 where
   pub same : P d.store
   pub more : (at len : ℕ) → P (with_pages_at d.store at len)

@@ -1,4 +1,5 @@
--- The calls on areas as the machine makes them, done or refused: a property of stores that holds after each holds of what is left.
+-- The calls on areas as the machine makes them, done or refused: a property of stores that holds
+-- after each holds of what is left.
 use Rattle.std.proofs.Common.{ℕ, ◌≡◌, ◌*◌, codes, List, Option, Some, None, Result, Ok, Err, refl}
 use Rattle.profile.specs.Outcome.{bind}
 use Rattle.profile.specs.Reasons.{area_reason}

@@ -1,4 +1,5 @@
--- What a call on modules that is carried on leaves of the module area's blocks, and a step in which module code comes back, where nothing slides.
+-- What a call on modules that is carried on leaves of the module area's blocks, and a step in which
+-- module code comes back, where nothing slides.
 use Rattle.std.proofs.Common.{ℕ, ◌*◌, ◌≡◌, ◌++◌, Bool, true, false, List, [], ◌∷◌, Option, Some, None, Result, Ok, Err, refl, arith}
 use Rattle.std.proofs.lemmas.Bool.{lt-leb, true≢false}
 use Rattle.profile.specs.declared.error.ErrorNumber.{ErrorNumber}

@@ -1,4 +1,5 @@
--- Over any move but a flex call, and but for what an instruction stores, the bytes of the flex store stay.
+-- Over any move but a flex call, and but for what an instruction stores, the bytes of the flex
+-- store stay.
 use Rattle.std.proofs.Common.{ℕ, ◌≡◌, ◌*◌, ◌+◌, ◌%◌, ◌^◌, ◌∙◌, ◌⊎◌, Bool, true, false, List, Option, Some, None, Result, Ok, Err, refl, sym, ap, subst, inl, inr}
 use Rattle.std.specs.Prelude.{IfOk, if◌then◌else◌, ok_or}
 use Rattle.std.proofs.lemmas.Bool.{cases_Bool, false≢true, or_left}
@@ -81,7 +82,8 @@ any_planned None = tt
 any_planned (Some (Ok w)) = tt
 any_planned (Some (Err e)) = tt
 
--- calls of OS_Module, and steps in which module code comes back, write the module area and the system pages alone
+-- calls of OS_Module, and steps in which module code comes back, write the module area and the
+-- system pages alone
 module _ (s : MachineState) (has : HasModules s) where
   fit : IsFitWorld (machine_world s)
   fit = fit_world s has

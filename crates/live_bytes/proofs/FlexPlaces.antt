@@ -1,4 +1,5 @@
--- Over any move but a flex call the blocks of the flex store stay where they are: no word of a header changes.
+-- Over any move but a flex call the blocks of the flex store stay where they are: no word of a
+-- header changes.
 use Rattle.std.proofs.Common.{ℕ, zero, suc, ◌≡◌, ◌+◌, ◌-◌, ◌%◌, ◌^◌, ◌==◌, ◌||◌, ◌∙◌, ◌⊎◌, Bool, true, false, List, [], ◌∷◌, Option, Some, None, refl, sym, ap, subst, inl, inr, arith}
 use Rattle.std.specs.Prelude.{nat_le, ok_or}
 use Rattle.std.specs.List.{list_any}

@@ -1,4 +1,5 @@
--- What a flex call leaves of a byte outside the flex store and the system pages: what it was, or the byte is an anchor's.
+-- What a flex call leaves of a byte outside the flex store and the system pages: what it was, or
+-- the byte is an anchor's.
 use Rattle.std.proofs.Common.{ℕ, ◌≡◌, ◌⊎◌, Bool, true, false, Option, Some, Result, Ok, Err, refl, subst, inl, inr}
 use Rattle.std.proofs.lemmas.Bool.{false≢true}
 use Rattle.profile.specs.Outcome.{bind}

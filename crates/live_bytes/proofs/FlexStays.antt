@@ -1,4 +1,5 @@
--- A byte of the flex store's range: what the calls on areas leave of it, and that it lies outside the module area and the system pages.
+-- A byte of the flex store's range: what the calls on areas leave of it, and that it lies outside
+-- the module area and the system pages.
 use Rattle.std.proofs.Common.{ℕ, ◌+◌, ◌-◌, ◌*◌, ◌==◌, ◌&&◌, ◌≡◌, ◌≢◌, ◌≤◌, ◌<◌, ◌∙◌, Bool, true, false, List, [], ◌∷◌, Option, Some, refl, sym, ap, subst, inl, inr, arith}
 use Rattle.std.proofs.lemmas.Bool.{and_parts, both_ways, cases_eq, eq-eqb, false_from_ne_true, false≢true, leb-true, ne_eqb, or_cases}
 use Rattle.std.specs.List.{list_any}
@@ -76,7 +77,7 @@ flex_mapped mapped (r ∷ rs) a all is = elim (or_cases (is_flex_store r.kind &&
       all.0 a byte.0 byte.1
 ]
 
--- an area that was created lies behind the system pages
+-- an area that was created lies after the system pages
 created_low : (a : Area) → IsRoom a → a.number ≢ 1 → 0x02000000 ≤ a.base
 created_low a room other = leb-true 0x02000000 a.base (and_parts (nat_le 0x02000000 a.base) (nat_le (a.base + a.maximum) 0x03000000)
     (in_window a.number a.base a.maximum other room.place)).0

@@ -1,4 +1,5 @@
--- What a step leaves in which module code comes back: nothing is changed, or its call is carried on.
+-- What a step leaves in which module code comes back: nothing is changed, or its call is carried
+-- on.
 use Rattle.std.proofs.Common.{ℕ, ◌≡◌, ◌≤◌, ◌==◌, Bool, true, false, length, Option, Some, None, refl, sym, subst}
 use Rattle.std.specs.Prelude.{IfSome, if◌then◌else◌}
 use Rattle.profile.specs.declared.fault.Fault.TheVariants.{StackChanged}
@@ -59,7 +60,8 @@ settled_fit s p o has going few =
       text = subst (λ (g : Given). length g.text.items ≤ 255) (sym (settled_given p o)) few;
     }
 
--- A property of stores that holds of the store before, and of what is left of a call that is carried on.
+-- A property of stores that holds of the store before, and of what is left of a call that is
+-- carried on.
 module _ (s : MachineState) (has : HasModules s) (P : Store → Type 0) (same : P s.store) where
   abbrev pub Goes : Option Plan → Type 0
   Goes None = Unit {0}

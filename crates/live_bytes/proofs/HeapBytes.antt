@@ -1,4 +1,5 @@
--- Over a call of OS_Heap, what live blocks hold stays, but for what the call writes in a block that its heap lies in.
+-- Over a call of OS_Heap, what live blocks hold stays, but for what the call writes in a block that
+-- its heap lies in.
 use Rattle.std.proofs.Common.{ℕ, ◌≡◌, ◌≢◌, ◌+◌, ◌-◌, ◌≤◌, ◌<◌, ◌∙◌, ◌⊎◌, Bool, true, false, List, Option, Some, None, refl, sym, ap, subst, inl, inr, arith}
 use Rattle.std.proofs.lemmas.Bool.{both_ways, cases_Bool, cases_eq, false_from_ne_true}
 use Rattle.profile.specs.SwiNames.{swi_of}

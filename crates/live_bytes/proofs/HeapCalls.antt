@@ -1,4 +1,5 @@
--- What a step or a call from outside writes that calls OS_Heap: nothing, an error's block, or what the call that is done writes.
+-- What a step or a call from outside writes that calls OS_Heap: nothing, an error's block, or what
+-- the call that is done writes.
 use Rattle.std.proofs.Common.{ℕ, ◌≡◌, ◌∙◌, ◌⊎◌, Bool, true, false, List, Option, Some, None, Result, Ok, Err, refl, sym, ap, subst, inl, inr, if◌then◌else◌}
 use Rattle.profile.specs.Reasons.{heap_reason}
 use Rattle.profile.specs.SwiNames.{swi_of}

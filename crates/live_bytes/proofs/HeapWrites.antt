@@ -1,4 +1,5 @@
--- What a call of OS_Heap writes that is done: words of its heap's list, and where it moves a block, what it copies.
+-- What a call of OS_Heap writes that is done: words of its heap's list, and where it moves a block,
+-- what it copies.
 use Rattle.std.proofs.Common.{ℕ, ◌≡◌, ◌+◌, ◌-◌, ◌%◌, ◌≤◌, ◌<◌, ◌==◌, ◌&&◌, ◌∙◌, ◌⊎◌, not, Bool, true, false, List, [], ◌∷◌, ◌++◌, Option, Some, None, ok_or, Result, Ok, Err, refl, sym, ap, subst, inl, inr, arith, if◌then◌else◌}
 use Rattle.std.specs.Prelude.{nat_le, nat_lt}
 use Rattle.std.proofs.lemmas.Bool.{cases_Bool, leb-false, not-false}

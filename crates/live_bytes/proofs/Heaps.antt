@@ -1,4 +1,5 @@
--- The heaps of a machine are those that guests made, and that of the module area: what leaves the blocks of both leaves all.
+-- The heaps of a machine are those that guests made, and that of the module area: what leaves the
+-- blocks of both leaves all.
 use Rattle.std.proofs.Common.{ℕ, ◌+◌, ◌-◌, ◌≡◌, ◌==◌, ◌∙◌, ◌⊎◌, true, List, [], ◌∷◌, is_some, Some, refl, sym, ap, subst, inl, inr}
 use Rattle.std.proofs.lemmas.Bool.{cases_Bool, false≢true}
 use Rattle.address_map.specs.Bytes.{Bytes, in_range}
@@ -85,7 +86,8 @@ given_heaps s t has same = record {
   kinds = λ start h found. has.kinds start h (ap (λ (u : Store). find_heap start u.heaps) (sym (given_stays s t same)) ∙ found);
 }
 
--- A block of any heap that is live in both stores holds the same in both, as far as it holds it in both.
+-- A block of any heap that is live in both stores holds the same in both, as far as it holds it in
+-- both.
 abbrev pub KeepsBlocks : Store → Store → Type 0
 KeepsBlocks s t =
     (h g : HeapList) (block total new_total a : ℕ) → find_heap h.start s.heaps ≡ Some h → find_heap h.start t.heaps ≡ Some g
@@ -128,7 +130,8 @@ pub held_recorded : (s t : Store) (start a : ℕ) (held : IsHeld s t start a) �
 held_recorded s t start a held =
     subst (IsNotForgotten t) (sym (found_start start s.heaps held.old held.found)) (ap is_some held.left)
 
--- what leaves each guest's heap that is not forgotten, and the blocks of the module area, leaves all blocks
+-- what leaves each guest's heap that is not forgotten, and the blocks of the module area, leaves
+-- all blocks
 pub all_kept : (s : MachineState) (t : Store) → HasHeaps s → ((h : HeapList) → IsHost s h → IsNotForgotten t h.start → KeepsHeap h s.store t)
     → KeepsBoth s.store t → KeepsBlocks s.store t
 all_kept s t has guests area h g block total new_total a found found' live live' here there = elim (has.kinds h.start h found) [

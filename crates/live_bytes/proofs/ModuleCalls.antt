@@ -1,4 +1,5 @@
--- What a call of OS_Module leaves: nothing is changed, or an error's block is written, or what its reason does.
+-- What a call of OS_Module leaves: nothing is changed, or an error's block is written, or what its
+-- reason does.
 use Rattle.std.proofs.Common.{ℕ, ◌≤◌, Bool, true, false, length, List, Option, Some, None, Result, Ok, Err}
 use Rattle.std.specs.Prelude.{IfOk}
 use Rattle.profile.specs.Outcome.{bind}
@@ -51,7 +52,8 @@ abbrev pub Planning : (Planned → Type 0) → Option (Result Planned ErrorNumbe
 Planning Q (Some r) = IfOk r Q
 Planning Q None = Unit {0}
 
--- A property of stores, and one of what is planned from which it follows of a call that is carried on.
+-- A property of stores, and one of what is planned from which it follows of a call that is carried
+-- on.
 pub record HoldsOver (s : MachineState) (P : Store → Type 0) (Q : Planned → Type 0) : Type 0 where
   pub same : P s.store
   pub error : (e : Refusal) → P (with_error s e).store

@@ -43,7 +43,8 @@ use Rattle.live_bytes.specs.Changes.{IsHeld, IsOfInnerHeap, LiveBytesStay, MayCh
 use Rattle.live_bytes.specs.FlexLaws.{IsAnchorByte}
 
 module _ (images : List Entry) (s : MachineState) (has : HasHeaps s) (start a : ℕ) where
-  -- what a call leaves of the byte; `slides` says whether it may move blocks of the module area together
+  -- what a call leaves of the byte; `slides` says whether it may move blocks of the module area
+  -- together
   abbrev CallChanges : Option SwiName → Bool → MachineState → Type 0
   CallChanges name slides t =
       (t.store.bytes.at a ≡ s.store.bytes.at a)

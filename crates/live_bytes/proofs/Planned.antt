@@ -1,4 +1,5 @@
--- What the calls that may run module code do at once leaves all blocks of the module area, and no plan but that of a tidy has a slide.
+-- What the calls that may run module code do at once leaves all blocks of the module area, and no
+-- plan but that of a tidy has a slide.
 use Rattle.std.proofs.Common.{ℕ, ◌≡◌, ◌++◌, not, Bool, List, [], ◌∷◌, length, Result, Ok, Err, refl}
 use Rattle.std.specs.Prelude.{IfOk}
 use Rattle.profile.specs.Outcome.{bind}

@@ -1,4 +1,5 @@
--- What the calls that are none of OS_Heap, of OS_Module or of flex leave of what live blocks hold: all of it.
+-- What the calls that are none of OS_Heap, of OS_Module or of flex leave of what live blocks hold:
+-- all of it.
 use Rattle.std.proofs.Common.{ℕ, ◌≡◌, ◌≤◌, ◌∙◌, Bool, false, length, List, [], ◌∷◌, ◌++◌, refl, arith}
 use Rattle.std.proofs.lemmas.Bool.Decides.{nat_tests}
 use Rattle.profile.specs.ErrorNames.{error_code, error_name}

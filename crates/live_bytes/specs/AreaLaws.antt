@@ -1,5 +1,5 @@
--- Blocks of the module area over a change of size there, and over the calls that change areas (RISC OS 3 Programmer's
--- Reference Manual, "OS_Module", reason 13; "OS_ChangeDynamicArea").
+-- Blocks of the module area over a change of size there, and over the calls that change areas (RISC
+-- OS 3 Programmer's Reference Manual, "OS_Module", reason 13; "OS_ChangeDynamicArea").
 use Rattle.std.specs.Prelude.{ℕ, ◌≡◌, ◌-◌, ◌*◌, true, List, Some, Ok}
 use Rattle.address_map.specs.Bytes.{in_range}
 use Rattle.os_heap.specs.Store.{Store}
@@ -14,7 +14,8 @@ use Rattle.rma.specs.Calls.{rma_extended}
 use Rattle.heaps_kept.specs.BlockLaws.{block_total}
 use Rattle.heaps_kept.specs.FitEstates.{IsFitEstate}
 
--- A block of the module area that is live in both stores holds the same in both, as far as it holds it in both.
+-- A block of the module area that is live in both stores holds the same in both, as far as it holds
+-- it in both.
 abbrev pub KeepsBoth : Store → Store → Type 0
 KeepsBoth s t =
     (block total new_total a : ℕ) → block_total s block ≡ Some total → block_total t block ≡ Some new_total
@@ -26,7 +27,8 @@ ExtendsKeepBlocks =
     (d e : Estate) (block change new : ℕ) → IsFitEstate d → rma_extended d block change ≡ Ok (e, new)
     → KeepsBoth d.store e.store
 
--- What each call on a dynamic area leaves that is done, one on the module area too, has a property of stores.
+-- What each call on a dynamic area leaves that is done, one on the module area too, has a property
+-- of stores.
 pub record AreaCallHas (d : Estate) (P : Store → Type 0) (e : Estate) : Type 0 where
   pub create : (w : Wanted) (name : List ℕ) (made : Created) → created d.land d.pool w name ≡ Ok (e.land, made)
       → e.store ≡ with_pages_at d.store made.base (4096 * pages_for w.size) → P e.store

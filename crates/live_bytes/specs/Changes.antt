@@ -1,7 +1,8 @@
--- Which bytes that live blocks hold may change over a move of a machine, a store call from outside or a step: those
--- that its instruction stores to; words of anchors, by flex calls; those of the module area where its blocks are moved
--- together; and those that a call of OS_Heap writes on a heap in the block, or one that makes it there (RISC OS 3
--- Programmer's Reference Manual, "OS_Heap" and "OS_Module"; Acorn C manual, "flex").
+-- Which bytes that live blocks hold may change over a move of a machine, a store call from outside
+-- or a step: those that its instruction stores to; words of anchors, by flex calls; those of the
+-- module area where its blocks are moved together; and those that a call of OS_Heap writes on a
+-- heap in the block, or one that makes it there (RISC OS 3 Programmer's Reference Manual, "OS_Heap"
+-- and "OS_Module"; Acorn C manual, "flex").
 use Rattle.std.specs.Prelude.{ℕ, ◌≡◌, ◌-◌, ◌+◌, ◌%◌, ◌^◌, ◌&&◌, ◌||◌, ◌⊎◌, is_ok, Bool, true, false, List, [], ◌∷◌, Option, Some, None, Ok}
 use Rattle.profile.specs.Reasons.{module_reason}
 use Rattle.profile.specs.declared.reason.ModuleReason.{ModuleReason}
@@ -30,8 +31,8 @@ use Rattle.heap_alone.specs.Moves.{Call, Move, Step, core_of, given, moved, outs
 use Rattle.live_bytes.specs.FlexLaws.{IsAnchorByte}
 use Rattle.live_bytes.specs.HeapWrites.{IsWrittenByCall}
 
--- A byte that a block of the heap at `start` holds in two stores: the block is live in both, with its bytes at one
--- address, and of any size.
+-- A byte that a block of the heap at `start` holds in two stores: the block is live in both, with
+-- its bytes at one address, and of any size.
 pub record IsHeld (s t : Store) (start a : ℕ) : Type 0 where
   pub old : HeapList
   pub new : HeapList
@@ -53,8 +54,8 @@ is_flex_name (Some swi.FlexExtend) = true
 is_flex_name (Some swi.FlexMidExtend) = true
 is_flex_name other = false
 
--- A tidy moves the blocks of the module area together. It may do so in the call of OS_Module, or where module code comes
--- back that it had entered.
+-- A tidy moves the blocks of the module area together. It may do so in the call of OS_Module, or
+-- where module code comes back that it had entered.
 abbrev pub has_slide : List Action → Bool
 has_slide [] = false
 has_slide (act.Slide ∷ actions) = true
@@ -68,7 +69,8 @@ abbrev pub is_tidy : Option ModuleReason → Bool
 is_tidy (Some reason.Tidy) = true
 is_tidy other = false
 
--- A tidy is called, and isn't refused. It goes back to `next`, which says nothing of whether it is refused.
+-- A tidy is called, and isn't refused. It goes back to `next`, which says nothing of whether it is
+-- refused.
 abbrev pub begins_tidy : MachineState → ℕ → Bool
 begins_tidy s next = is_tidy (module_reason (register_of s.cpu 0)) && is_ok (tidy_planned (setting_of s) next)
 
@@ -80,8 +82,8 @@ abbrev pub may_slide : MachineState → Move → Bool
 may_slide s (Call number words) = calls_tidy s (Call number words)
 may_slide s Step = calls_tidy s Step || (is_at_gate (instructed s) && slides_on s.cpu s.tables.plan)
 
--- A call of OS_Heap wrote the byte, on the heap that starts at R1 after it. That one lies in a block of the heap at
--- `start`, and the byte is in its range.
+-- A call of OS_Heap wrote the byte, on the heap that starts at R1 after it. That one lies in a
+-- block of the heap at `start`, and the byte is in its range.
 pub record IsOfInnerHeap (name : Option SwiName) (cpu : State) (s : Store) (t : MachineState) (start a : ℕ) : Type 0 where
   pub call : name ≡ Some swi.Heap
   pub inner : HeapList
@@ -100,17 +102,18 @@ MayChange s t m start a =
     ⊎ (((start ≡ 0x01800000) × (may_slide s m ≡ true))
     ⊎ IsOfInnerHeap (swi_made s m) (core_of s m) s.store t start a))
 
--- Over each move, of blocks of all heaps and of the module area, no other byte changes. So a call of OS_Heap changes no
--- byte of a block, in whatever heap, but words of the list of a heap that lies in that block, and, where it moves a block
--- of that heap, what it copies there. A refused call, a refused tidy too, changes none.
+-- Over each move, of blocks of all heaps and of the module area, no other byte changes. So a call
+-- of OS_Heap changes no byte of a block, in whatever heap, but words of the list of a heap that
+-- lies in that block, and, where it moves a block of that heap, what it copies there. A refused
+-- call, a refused tidy too, changes none.
 abbrev pub LiveBytesStay : Type 0
 LiveBytesStay =
     (images : List Entry) (s : MachineState) (m : Move) (start a : ℕ) → IsState s → IsState (moved images s m)
     → IsHeld s.store (moved images s m).store start a
     → ((moved images s m).store.bytes.at a ≡ s.store.bytes.at a) ⊎ MayChange s (moved images s m) m start a
 
--- Of the bytes of the flex store none changes over any move but these calls, a tidy neither, unless an instruction
--- stores there.
+-- Of the bytes of the flex store none changes over any move but these calls, a tidy neither, unless
+-- an instruction stores there.
 abbrev pub FlexBytesStay : Type 0
 FlexBytesStay =
     (images : List Entry) (s : MachineState) (m : Move) (a : ℕ) → IsState s → IsState (moved images s m)

@@ -1,4 +1,5 @@
--- Which bytes outside the flex store a flex call changes: those of anchors' words (Acorn C manual, "flex").
+-- Which bytes outside the flex store a flex call changes: those of anchors' words (Acorn C manual,
+-- "flex").
 use Rattle.std.specs.Prelude.{ℕ, ◌≡◌, ◌⊎◌, true, false}
 use Rattle.os_heap.specs.Store.{Store, is_in_flex_store}
 use Rattle.flex_store.specs.Runs.{FlexCall}

@@ -1,5 +1,6 @@
--- Where the flex store is, and the list of its blocks, over moves that call none of its calls: printing, areas, heaps,
--- modules and their tidies, and instructions (Acorn C manual, "flex": blocks stand until a flex call changes them).
+-- Where the flex store is, and the list of its blocks, over moves that call none of its calls:
+-- printing, areas, heaps, modules and their tidies, and instructions (Acorn C manual, "flex":
+-- blocks stand until a flex call changes them).
 use Rattle.std.specs.Prelude.{ℕ, ◌≡◌, Bool, true, false, Option, Some, List}
 use Rattle.profile.specs.declared.swi.SwiName.{SwiName}
 use Rattle.profile.specs.declared.swi.SwiName.TheVariants as swi
@@ -22,9 +23,9 @@ may_change_flex other = is_flex_name other
 abbrev pub flex_listed : MachineState → List FlexBlock
 flex_listed s = all_listed (spelled_store s.store.bytes.at s.tables.flex.extent)
 
--- The store is where it was, with as many bytes used, or there is none still. Its blocks are those that it had, each at
--- its place and with its anchor, and just the same words are anchors and headers. So no anchor moves, in a tidy neither,
--- wherever it lies.
+-- The store is where it was, with as many bytes used, or there is none still. Its blocks are those
+-- that it had, each at its place and with its anchor, and just the same words are anchors and
+-- headers. So no anchor moves, in a tidy neither, wherever it lies.
 pub record KeepsFlexStore (s t : MachineState) : Type 0 where
   pub extent : t.tables.flex ≡ s.tables.flex
   pub blocks : flex_listed t ≡ flex_listed s

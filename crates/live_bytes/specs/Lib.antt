@@ -1,3 +1,4 @@
+-- Which bytes of live blocks change. Begin with Changes, then Runs.
 pub use Rattle.heap_alone
 pub use Rattle.heaps_kept
 pub mod AreaLaws

@@ -1,6 +1,6 @@
--- What a refused store call leaves: all but the error's block, R0, V, the return address in R14 of supervisor mode, and the
--- program counter (RISC OS 3 Programmer's Reference Manual, "Generating and handling errors"; where the block is, and that
--- R14 is set, are this project's own).
+-- What a refused store call leaves: all but the error's block, R0, V, the return address in R14 of
+-- supervisor mode, and the program counter (RISC OS 3 Programmer's Reference Manual, "Generating
+-- and handling errors"; where the block is, and that R14 is set, are this project's own).
 use Rattle.std.specs.Prelude.{ℕ, ◌≡◌, ◌≢◌, ◌+◌, ◌%◌, ◌^◌, Bool, true, false, Option, Some, None, List, slice_index}
 use Rattle.profile.specs.Reasons.{module_reason}
 use Rattle.profile.specs.declared.reason.ModuleReason.{ModuleReason}
@@ -36,8 +36,8 @@ may_change_and_err swi.ChangeDynamicArea why = true
 may_change_and_err swi.Module why = runs_modules why
 may_change_and_err name why = false
 
--- What is left of the machine on which the call was made, where the guest goes on at `next`. The registers are those of
--- the whole file, the banks of all modes: R0 is that of the caller's mode.
+-- What is left of the machine on which the call was made, where the guest goes on at `next`. The
+-- registers are those of the whole file, the banks of all modes: R0 is that of the caller's mode.
 pub record LeavesAllButError (s : MachineState) (next : ℕ) (t : MachineState) : Type 0 where
   pub tables : t.tables ≡ s.tables
   pub pool : t.pool ≡ s.pool

@@ -1,4 +1,4 @@
-//! Which bytes of live blocks change, over whatever a machine does.
+//! Laws: which bytes of live blocks change, over whatever a machine does.
 #![tactic(auto)]
 
 pub mod laws;

@@ -55,7 +55,8 @@ use Rattle.swi_dispatch.specs.Step.{begun, begun_alone, call_of, call_refused, c
 use Rattle.machine_halts.proofs.Answering.{answer_left}
 use Rattle.machine_halts.specs.Halts.{Exits, ExitsAreCalls, HaltsChangeNothing, NoFaultFromOutside, stopped_as_it_was}
 
--- What ends in no call of OS_Exit leaves the halt, or where no error is answered ends in a fault at once.
+-- What ends in no call of OS_Exit leaves the halt, or where no error is answered ends in a fault at
+-- once.
 abbrev Goes : Bool → MachineState → Outcome → Type 0
 Goes x s o = (o.now.halt ≡ s.halt) ⊎ ((x ≡ false) × ((f : Fault) × (o ≡ halted s (halt.Fault f))))
 

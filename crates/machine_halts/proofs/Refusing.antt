@@ -1,4 +1,5 @@
--- A store call that is refused leaves all but the block of its error, and what it tells in the core.
+-- A store call that is refused leaves all but the block of its error, and what it tells in the
+-- core.
 use Rattle.std.proofs.Common.{ℕ, true, false, ◌≡◌, ◌∙◌, ◌+◌, ◌==◌, ◌++◌, List, [], ◌∷◌, length, Option, Some, None, Result, Ok, Err, refl, sym, ap, subst, inl, inr, ◌⊎◌, ◌≤◌, ◌<◌, arith, get_or-set_other}
 use Rattle.std.specs.Prelude.{slice_index}
 use Rattle.std.proofs.lemmas.Bool.{both_ways, cases_Bool, false≢true, true≢false}

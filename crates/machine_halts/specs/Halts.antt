@@ -13,8 +13,9 @@ use Rattle.swi_dispatch.specs.Step.{instructed, machine_step, module_loaded, sto
 abbrev pub stopped_as_it_was : MachineState → Halt → Outcome
 stopped_as_it_was s h = record { now = record s { halt = Some h }; printed = [] }
 
--- A step that ends in a halt, a fault or OS_Exit, changes nothing but that: a call without X that is refused after it
--- did something too, and the end of module code whose caller takes no error. A halted machine stays as it is.
+-- A step that ends in a halt, a fault or OS_Exit, changes nothing but that: a call without X that
+-- is refused after it did something too, and the end of module code whose caller takes no error. A
+-- halted machine stays as it is.
 abbrev pub HaltsChangeNothing : Type 0
 HaltsChangeNothing =
     (images : List Entry) (s : MachineState) (h : Halt) → (machine_step images s).now.halt ≡ Some h
@@ -26,14 +27,15 @@ pub record Exits (s : MachineState) : Type 0 where
   pub is : instructed s ≡ Err (turn.Swi number)
   pub name : swi_of (without_x number) ≡ Some swi.Exit
 
--- The guest is at its end just where it calls OS_Exit, with X or without: every other halt is a fault.
+-- The guest is at its end just where it calls OS_Exit, with X or without: every other halt is a
+-- fault.
 abbrev pub ExitsAreCalls : Type 0
 ExitsAreCalls =
     (images : List Entry) (s : MachineState) → s.halt ≡ None
     → ((machine_step images s).now.halt ≡ Some halt.Exit) ↔ Exits s
 
--- What a user does from outside never ends in a fault: a call halts the machine just where it is OS_Exit, and changes
--- nothing then; a load never does.
+-- What a user does from outside never ends in a fault: a call halts the machine just where it is
+-- OS_Exit, and changes nothing then; a load never does.
 pub record HaltsFromOutside (images : List Entry) (s : MachineState) (number : ℕ) (text : List ℕ) : Type 0 where
   pub exit : swi_of (without_x (number % 2 ^ 24)) ≡ Some swi.Exit
       → store_called images s number ≡ stopped_as_it_was s halt.Exit

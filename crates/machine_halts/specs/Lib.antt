@@ -1,2 +1,3 @@
+-- What halts and refusals leave. Begin with Halts.
 pub mod Halts
 pub mod Refusals

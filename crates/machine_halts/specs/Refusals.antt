@@ -1,5 +1,6 @@
--- What a store call that is refused leaves (RISC OS 3 Programmer's Reference Manual, "Generating and handling errors";
--- the place of an error's block, and that R14 of supervisor mode is set, are this project's own).
+-- What a store call that is refused leaves (RISC OS 3 Programmer's Reference Manual, "Generating
+-- and handling errors"; the place of an error's block, and that R14 of supervisor mode is set, are
+-- this project's own).
 use Rattle.std.specs.Prelude.{ℕ, ◌≡◌, ◌≢◌, Bool, true, false, Option, Some, List, slice_index}
 use Rattle.profile.specs.SwiNames.{swi_of}
 use Rattle.profile.specs.Reasons.{module_reason}
@@ -13,8 +14,8 @@ use Rattle.image_loader.specs.Entries.{Entry}
 use Rattle.swi_dispatch.specs.MachineState.{MachineState}
 use Rattle.swi_dispatch.specs.Step.{called}
 
--- All is as it was but for the block of an error, R0, R14 of supervisor mode, V and the program counter: of the core's
--- 26 registers R0 is the first, and R14 of supervisor mode the last.
+-- All is as it was but for the block of an error, R0, R14 of supervisor mode, V and the program
+-- counter: of the core's 26 registers R0 is the first, and R14 of supervisor mode the last.
 pub record IsRefusal (s t : MachineState) : Type 0 where
   pub bytes : (a : ℕ) → in_range 0x01C02100 0x100 a ≡ false → t.store.bytes.at a ≡ s.store.bytes.at a
   pub mapped : t.store.bytes.mapped ≡ s.store.bytes.mapped
@@ -28,8 +29,8 @@ pub record IsRefusal (s t : MachineState) : Type 0 where
   pub registers : (k : ℕ) → k ≢ 0 → k ≢ 25 → slice_index t.cpu.file k ≡ slice_index s.cpu.file k
   pub status : t.cpu.psr ≡ record s.cpu.psr { overflow = true }
 
--- the calls that may have done something before the error that they end with: OS_ChangeDynamicArea, and the reasons of
--- OS_Module in which module code may run
+-- the calls that may have done something before the error that they end with: OS_ChangeDynamicArea,
+-- and the reasons of OS_Module in which module code may run
 abbrev pub may_run_code : Option ModuleReason → Bool
 may_run_code (Some reason.Run) = true
 may_run_code (Some reason.Load) = true

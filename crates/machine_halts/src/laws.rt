@@ -18,8 +18,9 @@ pub fn no_fault_from_outside()
     ensures { NoFaultFromOutside }
 {}
 
-/// A store call with the X bit that is refused changes nothing but the block of an error, R0, R14 of supervisor mode, V
-/// and the program counter, unless it is one of those that may end with an error after they did something.
+/// A store call with the X bit that is refused changes nothing but the block of an error, R0, R14
+/// of supervisor mode, V and the program counter, unless it is one of those that may end with an
+/// error after they did something.
 pub fn refusals_change_nothing()
     ensures { RefusalsChangeNothing }
 {}

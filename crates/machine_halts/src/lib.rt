@@ -1,4 +1,4 @@
-//! Which steps and calls of a machine halt it or are refused, and what they leave then.
+//! Laws: which steps and calls of a machine halt it or are refused, and what they leave then.
 #![tactic(auto)]
 
 pub mod laws;

@@ -1,4 +1,5 @@
--- Stores that differ in what stands in the system pages behind the private words, and in nothing else.
+-- Stores that differ in what stands in the system pages after the private words, and in nothing
+-- else.
 use Rattle.std.proofs.Common.{ℕ, Bool, true, false, ◌+◌, ◌≡◌, ◌≤◌, ◌∙◌, ◌||◌, List, [], ◌∷◌, ◌++◌, map, length, Some, None, refl, sym, ap, subst, inl, inr, arith}
 use Rattle.std.proofs.Common.{length-append}
 use Rattle.std.proofs.lemmas.Bool.{both_ways, cases_Bool}

@@ -1,4 +1,5 @@
--- A call on modules that is carried on: what it leaves of the machine beside what its actions do to the world.
+-- A call on modules that is carried on: what it leaves of the machine beside what its actions do to
+-- the world.
 use Rattle.std.proofs.Common.{ℕ, Bool, true, false, ◌≡◌, ◌≤◌, List, Option, Some, None, Result, Ok, Err, length, refl}
 use Rattle.profile.specs.declared.error.ErrorNumber.{ErrorNumber}
 use Rattle.instances_plans.specs.declared.code.Code.{Code}

@@ -103,7 +103,7 @@ calls_as images f s x next number name =
     ap (λ (o : Option SwiName). (if is_exit o then halted s halt.Exit else called_by images s x next number o).now) name
     ∙ ends_as images f s x next number
 
--- the block of an error stands behind the private words
+-- the block of an error stands after the private words
 word_outside : (f : ℕ → ℕ) (value a : ℕ) → in_range 0x01C02100 0xF00 a ≡ false → with_word_at f 0x01C02100 value a ≡ f a
 word_outside f value a out = elim (in_range-cases 0x01C02100 0xF00 a) [
   | inl r ↦ absurd (both_ways (in_range 0x01C02100 0xF00 a) out r.0)

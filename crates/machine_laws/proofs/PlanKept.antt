@@ -1,4 +1,5 @@
--- While the plan of a call is kept no other step touches it: a call that would make a plan is refused.
+-- While the plan of a call is kept no other step touches it: a call that would make a plan is
+-- refused.
 use Rattle.std.proofs.Common.{ℕ, Bool, true, false, not, ◌+◌, ◌%◌, ◌^◌, ◌==◌, ◌≡◌, List, [], ◌∷◌, length, Option, Some, None, is_some, Result, Ok, Err, refl, inl, inr}
 use Rattle.std.specs.Prelude.{if◌then◌else◌, ok_or}
 use Rattle.std.proofs.lemmas.Bool.{cases_Bool}

@@ -1,4 +1,5 @@
--- What is carried on of a tidy: it waits for module code before its slide, or has slid, and only texts were written.
+-- What is carried on of a tidy: it waits for module code before its slide, or has slid, and only
+-- texts were written.
 use Rattle.std.proofs.Common.{ℕ, Bool, true, false, ◌≡◌, ◌≤◌, ◌⊎◌, ◌∙◌, List, [], ◌∷◌, ◌++◌, length, Option, Some, None, refl, sym, ap, subst, inl, inr}
 use Rattle.std.specs.List.{list_any}
 use Rattle.instances_plans.specs.declared.action.Action.{Action}

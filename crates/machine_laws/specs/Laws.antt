@@ -1,4 +1,5 @@
--- Flex calls and tidies of a machine are turns of its stores, whose meaning moves by the rules of these.
+-- Flex calls and tidies of a machine are turns of its stores, whose meaning moves by the rules of
+-- these.
 use Rattle.std.specs.Prelude.{ℕ, ◌≡◌, ◌+◌, ◌%◌, ◌^◌, Bool, true, Some, None, is_some, Ok, Err, List}
 use Rattle.profile.specs.declared.swi.SwiName.TheVariants as swi
 use Rattle.profile.specs.declared.reason.ModuleReason.TheVariants as reason
@@ -18,8 +19,8 @@ use Rattle.swi_dispatch.specs.Step.{without_x}
 use Rattle.machine_laws.specs.MachineStores.{stores_of}
 use Rattle.machine_laws.specs.Turns.{AreStill, FlexSwi, IsTidied, IsTidyKept, IsTurnMade, flex_name, flex_turn}
 
--- A call by its number, after which the guest goes on at `next`: a flex call is its turn, and a tidy that isn't refused
--- begins, and slides at once where no instance has a finalisation.
+-- A call by its number, after which the guest goes on at `next`: a flex call is its turn, and a
+-- tidy that isn't refused begins, and slides at once where no instance has a finalisation.
 pub record IsTurn (next number : ℕ) (s t : MachineState) : Type 0 where
   pub flex : (f : FlexSwi) → swi_of number ≡ Some (flex_name f) → IsTurnMade (flex_turn f s.cpu) s t
   pub tidy : (p : Plan) → swi_of number ≡ Some swi.Module → module_reason (register_of s.cpu 0) ≡ Some reason.Tidy
@@ -45,8 +46,8 @@ StoreCallsAreTurns =
     → state_of q ≡ (store_called images (state_of p) number).now
     → IsTurn p.cpu.pc (without_x (number % 2 ^ 24)) (state_of p) (state_of q)
 
--- Where module code comes back while a tidy is under way that has not slid, the step is one of a tidy, unless a
--- finalisation refused: then nothing slides.
+-- Where module code comes back while a tidy is under way that has not slid, the step is one of a
+-- tidy, unless a finalisation refused: then nothing slides.
 pub record GoesOn (return_address : ℕ) (s t : MachineState) : Type 0 where
   pub well : outcome_left s.cpu ≡ Well → IsTidied return_address s t
   pub refused : (r0 : ℕ) → outcome_left s.cpu ≡ Refused r0 → AreStill (stores_of s) (stores_of t)
@@ -58,8 +59,9 @@ TidiesGoOn =
     → IsTidyKept return_address p.tables.plan
     → state_of q ≡ (machine_step images (state_of p)).now → GoesOn return_address (state_of p) (state_of q)
 
--- While the plan of a call on modules is kept each step leaves it but one in which module code comes back, and so does
--- each call from outside: so a tidy whose module code makes flex calls is the same tidy when that code comes back.
+-- While the plan of a call on modules is kept each step leaves it but one in which module code
+-- comes back, and so does each call from outside: so a tidy whose module code makes flex calls is
+-- the same tidy when that code comes back.
 abbrev pub PlansStay : Type 0
 PlansStay =
     (images : List Entry) (s : MachineState) → is_some s.tables.plan ≡ true → (instructed s ≡ Err turn.Gate → ⊥)

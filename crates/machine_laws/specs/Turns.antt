@@ -1,5 +1,6 @@
--- Which steps of a machine are turns of its stores: each flex call but Flex_Size, and the step of a tidy in which the
--- module area slides (Acorn C manual, "flex"; RISC OS 3 Programmer's Reference Manual, "OS_Module", reason 8).
+-- Which steps of a machine are turns of its stores: each flex call but Flex_Size, and the step of a
+-- tidy in which the module area slides (Acorn C manual, "flex"; RISC OS 3 Programmer's Reference
+-- Manual, "OS_Module", reason 8).
 use Rattle.std.specs.Prelude.{ℕ, ◌≡◌, Bool, true, false, Option, Some, None, Ok, List, [], ◌∷◌}
 use Rattle.std.specs.List.{list_any}
 use Rattle.profile.specs.declared.swi.SwiName.{SwiName}
@@ -40,14 +41,15 @@ flex_turn Freed cpu = Call (Release (register_of cpu 0))
 flex_turn Extended cpu = Call (Extend (register_of cpu 0) (register_of cpu 1))
 flex_turn MidExtended cpu = Call (MidExtend (register_of cpu 0) (register_of cpu 1) (register_of cpu 2))
 
--- The machine's stores follow the turn. Where it wasn't refused they are just those that it leaves. What is left of a
--- call on modules that is under way stays.
+-- The machine's stores follow the turn. Where it wasn't refused they are just those that it leaves.
+-- What is left of a call on modules that is under way stays.
 pub record IsTurnMade (turn : Turn) (s t : MachineState) : Type 0 where
   pub followed : IsFollowed turn (stores_of s) (stores_of t)
   pub exact : (room : Bool) → answered turn (stores_of s) ≡ Ok room → stores_of t ≡ turned turn (stores_of s)
   pub plan : t.tables.plan ≡ s.tables.plan
 
--- Stores that mean what those before them do. The private words of instances are the same, and the modules.
+-- Stores that mean what those before them do. The private words of instances are the same, and the
+-- modules.
 pub record AreStill (x y : Stores) : Type 0 where
   pub meaning : meaning_of y ≡ meaning_of x
   pub words : (slot : ℕ) → is_held slot x.world.modules ≡ true
@@ -59,8 +61,8 @@ pub record AreStill (x y : Stores) : Type 0 where
   pub land : y.world.estate.land ≡ x.world.estate.land
   pub pending : y.pending ≡ x.pending
 
--- What is left of a tidy that has not slid yet: finalisations, the slide, and initialisations; or where a finalisation
--- refuses, initialisations alone.
+-- What is left of a tidy that has not slid yet: finalisations, the slide, and initialisations; or
+-- where a finalisation refuses, initialisations alone.
 abbrev pub AreInitialisations : List Action → Type 0
 AreInitialisations [] = Unit {0}
 AreInitialisations (act.Initialise slot ∷ others) = AreInitialisations others
@@ -89,8 +91,8 @@ abbrev pub is_to_slide : Option Plan → Bool
 is_to_slide None = false
 is_to_slide (Some p) = list_any is_slide p.actions
 
--- A step of a tidy: as long as the slide is to be made the stores stay as they are, and the tidy is kept; else it was
--- made in this step.
+-- A step of a tidy: as long as the slide is to be made the stores stay as they are, and the tidy is
+-- kept; else it was made in this step.
 pub record IsTidied (return_address : ℕ) (s t : MachineState) : Type 0 where
   pub waits : is_to_slide t.tables.plan ≡ true
       → IsTidyKept return_address t.tables.plan × AreStill (stores_of s) (stores_of t)

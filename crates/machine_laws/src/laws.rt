@@ -9,7 +9,8 @@ pub fn states_have_stores()
     ensures { StatesHaveStores }
 {}
 
-/// A flex call is a turn of the machine's stores, and so is the step of a tidy in which the module area slides.
+/// A flex call is a turn of the machine's stores, and so is the step of a tidy in which the module
+/// area slides.
 pub fn calls_are_turns()
     ensures { CallsAreTurns }
 {}
@@ -24,13 +25,14 @@ pub fn store_calls_are_turns()
     ensures { StoreCallsAreTurns }
 {}
 
-/// A tidy whose module code comes back goes on: the step in which the module area slides is a turn, and all others
-/// leave what the stores mean.
+/// A tidy whose module code comes back goes on: the step in which the module area slides is a turn,
+/// and all others leave what the stores mean.
 pub fn tidies_go_on()
     ensures { TidiesGoOn }
 {}
 
-/// While the plan of a call on modules is kept each step leaves it but one in which module code comes back.
+/// While the plan of a call on modules is kept each step leaves it but one in which module code
+/// comes back.
 pub fn plans_stay()
     ensures { PlansStay }
 {}

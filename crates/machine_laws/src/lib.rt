@@ -1,4 +1,4 @@
-//! Which steps of a machine are turns of its stores.
+//! Laws: which steps of a machine are flex calls or slides in the sense of `store_laws`.
 #![tactic(auto)]
 
 pub mod laws;

@@ -6,7 +6,8 @@ use instances_table::{Image, InstanceTable};
 use module_header::Header;
 use std::test::Fail;
 
-// The module `W` at &01800014, whose instances are initialised at &40 and finalised at &80: the first has slot 3, the second slot 0.
+// The module `W` at &01800014, whose instances are initialised at &40 and finalised at &80: the
+// first has slot 3, the second slot 0.
 #[test]
 fn entries_are_code(rt: HostRuntime) -> Result<(), Fail> {
     let mut header = Header::default();

@@ -1,4 +1,5 @@
-//! The status that a frame leaves: a script sees it only once the call has ended, with V by how it went.
+//! The status that a frame leaves: a script sees it only once the call has ended, with V by how it
+//! went.
 
 use arm_step::{Cpu, Mode, Psr};
 use instances_plans::{Code, CodeKind};

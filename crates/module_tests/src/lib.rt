@@ -1,6 +1,8 @@
-//! Tests of what no script shows of modules: their table by slots, the entries of actions without code, and the status that a frame leaves.
+//! Tests: what no script shows of modules. These are the table by slots, the entries of actions
+//! without code, and the status that a frame leaves.
 //!
-//! They stand apart from the crates that they test, since a crate with tests is proved once more with them.
+//! They stand apart from the crates that they test, since a crate with tests is proved once more
+//! with them.
 #![tactic(auto)]
 
 #[cfg(test)]

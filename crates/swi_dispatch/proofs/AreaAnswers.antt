@@ -1,4 +1,5 @@
--- OS_ChangeDynamicArea: what it answers, and that without the X bit it is a fault before anything moves.
+-- OS_ChangeDynamicArea: what it answers, and that without the X bit it is a fault before anything
+-- moves.
 use Rattle.std.proofs.Common.{◌≡◌, ℕ, true, false, length, Option, Some, None, Result, Ok, Err, refl, sym, ◌∙◌, ap}
 use Rattle.std.proofs.lemmas.List.{length-set}
 use Rattle.std.specs.Prelude.{OnErr, option_map}

@@ -1,5 +1,5 @@
--- The frames beneath a call on modules, while the call goes on: no SWI among them is of an instance that its plan
--- names.
+-- The frames beneath a call on modules, while the call goes on: no SWI among them is of an instance
+-- that its plan names.
 use Rattle.std.proofs.Common.{◌≡◌, false, Option, Some, None, Ok, Err, List, ◌∷◌, refl, sym, ap, ◌∙◌}
 use Rattle.std.specs.Prelude.{Result, is_some, if◌then◌else◌}
 use Rattle.arm_step.specs.State.{State}
@@ -65,7 +65,8 @@ left_beneath t f p are kept last entry =
           ∙ entry_spares (slots_of t.modules) (slots_of_kept t.plan) t.frames f held are.spared last entry;
     }
 
--- the frames after the call was carried on: no other instance went, and that whose code is entered is there
+-- the frames after the call was carried on: no other instance went, and that whose code is entered
+-- is there
 still_held : (old new : List Module) (p q : Plan) (code : Option Code) (fs : List Frame) → AreBeneath old p fs
     → KeepsOthers old new p q code → AreHeld new fs
 still_held old new p q code fs beneath others =

@@ -1,4 +1,5 @@
--- The flex calls of the machine: what they ask of it, that it is well-formed after them, and what they leave of it.
+-- The flex calls of the machine: what they ask of it, that it is well-formed after them, and what
+-- they leave of it.
 use Rattle.std.proofs.Common.{◌≡◌, ◌≤◌, ◌<◌, Bool, true, false, List, [], Option, Some, None, Result, Ok, Err}
 use Rattle.std.proofs.Common.{length, lit≤, refl, sym, ◌∙◌, ap, subst}
 use Rattle.std.proofs.lemmas.Bool.{true≢false}

@@ -1,4 +1,5 @@
--- Calls on modules that are carried on: what they keep, and that the steps of the code are those of the definitions.
+-- Calls on modules that are carried on: what they keep, and that the steps of the code are those of
+-- the definitions.
 use Rattle.std.proofs.Common.{◌≡◌, ℕ, true, false, Some, None, Ok, Err, List, [], ◌∷◌, refl, sym}
 use Rattle.std.proofs.Common.{ap, subst, ◌∙◌}
 use Rattle.std.specs.Prelude.{Option, Result}
@@ -121,7 +122,8 @@ pub entry_stops : (s : MachineState) (f : Frame) (kept : Option Plan) (number : 
 entry_stops s f None number is = cc
 entry_stops s f (Some p) number is = rw is refl
 
--- a leaf of the machine that carries a call on: its invariant, its state, and the plan if that has ended
+-- a leaf of the machine that carries a call on: its invariant, its state, and the plan if that has
+-- ended
 pub carried_well : (old new : Parts) (w : World) (p q : Plan) (code : Option Code) (plans : Option Plan × Option Plan)
     → plans ≡ (kept_by q code, ended_by q code)
     → new.tables.plan ≡ plans.0 → carried module_doing w p ≡ record { world = parts_world new; rest = q; code = code }

@@ -59,7 +59,8 @@ pub keeps_kept : (m n : AddressMap) (b : Bytes) → layout n ≡ layout m → cl
 keeps_kept m n b same marks sound e keeps =
     heads_kept m n same marks sound (λ a is. ap (λ (c : Bytes). c.at a) e ∙ keeps.bytes a (spelled_owned (store_of m) a is))
 
--- what an instruction or a word that is put leaves: the lists, and every byte of the words that only store calls may write
+-- what an instruction or a word that is put leaves: the lists, and every byte of the words that
+-- only store calls may write
 pub record IsStored (m n : AddressMap) : Type 0 where
   pub kept : IsKept m n
   pub owned : (a : ℕ) → owned_in (store_of m) a ≡ true → byte_at n a ≡ byte_at m a
@@ -198,7 +199,8 @@ pub flex_by : (old new : Parts) → IsWellFormed old → AreAreas (store_of new.
 flex_by old new well areas keeps flex =
     rw flex (flex_kept old.map new.map old.tables.flex (free_pages new.map) new.tables.land well.flex well.areas.ground.sound keeps areas)
 
--- the parts of a machine after a call that kept the other records, the modules, the plan and the frames
+-- the parts of a machine after a call that kept the other records, the modules, the plan and the
+-- frames
 pub well_by : (old new : Parts) → IsWellFormed old → AreAreas (store_of new.map) (free_pages new.map) new.tables.land → AreClasses new.map
     → (store_of new.map).others ≡ (store_of old.map).others → new.tables.modules ≡ old.tables.modules → new.tables.plan ≡ old.tables.plan
     → new.tables.frames ≡ old.tables.frames → HasFlex new.map new.tables.flex

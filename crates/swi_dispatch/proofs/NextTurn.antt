@@ -31,7 +31,8 @@ one_done images s s' x awake h = ap left_by (sym h ∙ one_run images [] s awake
 none_done : (images : List Entry) (s s' : MachineState) (x : Stop) → s.halt ≡ None → ran images [] 0 s ≡ quiet_run s' 0 x → s' ≡ s
 none_done images s s' x awake h = ap (λ (r : Run). r.now) (sym h ∙ ran-none images [] s awake)
 
--- What a run of at most one step leaves for the machine to do: its turn, where one is known, and else nothing.
+-- What a run of at most one step leaves for the machine to do: its turn, where one is known, and
+-- else nothing.
 pub turn_left : (images : List Entry) (s s' : MachineState) (n : ℕ) (t : Turn) → s.halt ≡ None → s'.halt ≡ None
     → ran images [] n s ≡ quiet_run s' n stop.Budget → n < 1 → TakesTurn s' t s' → turn_end images s' t ≡ machine_step images s
 turn_left images s s' n t awake awake' h fewer next =

@@ -187,7 +187,8 @@ plan_there t f are none last entry =
     let idle : entries t.frames ≡ 0 = are.kept ∙ ap (λ (p : Option Plan). if is_some p then 1 else 0) none in
     no_entry (closed t.frames) [] f (ap entries (sym (innermost_last t.frames f last)) ∙ idle) entry
 
--- An entry's frame is closed: none is left, and no SWI under way is of an instance that its plan names.
+-- An entry's frame is closed: none is left, and no SWI under way is of an instance that its plan
+-- names.
 pub entry_closes : (xs : List Frame) (f : Frame) → entries xs ≡ 1 → innermost xs ≡ Some f → is_swi f.kind ≡ false
     → entries (closed xs) ≡ 0
 entry_closes xs f one there entry =

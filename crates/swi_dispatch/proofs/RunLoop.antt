@@ -1,4 +1,5 @@
--- The loop of a run, step by step: what stands after some steps and one more is what the written run says.
+-- The loop of a run, step by step: what stands after some steps and one more is what the written
+-- run says.
 use Rattle.std.proofs.Common.{◌≡◌, ◌≢◌, ◌<◌, ◌≤◌, ℕ, Bool, true, false, zero, suc, ◌+◌, ◌-◌, Option, Some, None, List, [], ◌++◌, refl, sym, ◌∙◌, ap, subst, arith, if◌then◌else◌, ◌&&◌, ◌==◌}
 use Rattle.std.proofs.lemmas.Bool.Decides.{nat_tests}
 use Rattle.std.proofs.lemmas.List.{append-nil}

@@ -1,5 +1,5 @@
--- OS_Module, the reasons that add a module: what each does at once, and the plan of the rest (RISC OS 3 Programmer's
--- Reference Manual, "OS_Module", reasons 0, 1, 10 and 11).
+-- OS_Module, the reasons that add a module: what each does at once, and the plan of the rest (RISC
+-- OS 3 Programmer's Reference Manual, "OS_Module", reasons 0, 1, 10 and 11).
 use Rattle.std.specs.Prelude.{◌≡◌, ℕ, Bool, List, Option, Result, Ok, Err}
 use Rattle.profile.specs.Outcome.{bind}
 use Rattle.profile.specs.declared.error.ErrorNumber.{ErrorNumber}
@@ -25,8 +25,8 @@ plan_alone s p = record { world = machine_world s; plan = p }
 abbrev pub planned : Result (World × Plan) ErrorNumber → Result Planned ErrorNumber
 planned r = bind r (λ w. Ok (record { world = w.0; plan = w.1 }))
 
--- an image of those that are given, and a text: a load that enters its module at its end may begin only while no
--- module code is under way
+-- an image of those that are given, and a text: a load that enters its module at its end may begin
+-- only while no module code is under way
 abbrev pub image_planned : MachineState → List ℕ → List ℕ → Result Planned ErrorNumber
 image_planned s image text = planned (loading (machine_world s) image text)
 

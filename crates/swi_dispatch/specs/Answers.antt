@@ -4,8 +4,9 @@ use Rattle.arm_step.specs.State.{with_register}
 use Rattle.swi_dispatch_answers.specs.declared.refusal.Refusal.{Refusal}
 use Rattle.swi_dispatch.specs.MachineState.{MachineState, Outcome, quiet}
 
--- What a call answers: what it leaves, the machine but for what every call does to the core and the bytes printed, where the guest goes on, and the
--- error, if there is one. So a call may change something and err.
+-- What a call answers: what it leaves, the machine but for what every call does to the core and the
+-- bytes printed, where the guest goes on, and the error, if there is one. So a call may change
+-- something and err.
 pub record Answer : Type 0 where
   pub left : Outcome
   pub next : ℕ

@@ -1,4 +1,5 @@
--- A program is copied to the start of the application space of a machine that is still as it was made.
+-- A program is copied to the start of the application space of a machine that is still as it was
+-- made.
 use Rattle.std.specs.Prelude.{ℕ, Bool, true, false, ◌*◌, nat_le, Result, Ok, Err, List, length, if◌then◌else◌}
 use Rattle.profile.specs.Sizes.{Sizes}
 use Rattle.address_map.specs.Bytes.{with_bytes}
@@ -21,7 +22,8 @@ unfoldable pub booted : Sizes → Bool → MachineState → List ℕ → Result 
 booted sizes false s program = Err Booted
 booted sizes true s program = if fits_application sizes program then Ok (with_program s program) else Err TooLarge
 
--- what a user does to a machine from outside: one register set, or one word stored as a guest's store instruction would
+-- what a user does to a machine from outside: one register set, or one word stored as a guest's
+-- store instruction would
 unfoldable pub registered : MachineState → ℕ → ℕ → MachineState
 registered s n v = record s { cpu = with_register s.cpu n v }
 

@@ -1,6 +1,6 @@
--- The store calls: what each answers, by the registers of the caller's mode, and what it leaves (RISC OS 3 Programmer's
--- Reference Manual, the chapters on character output, program environment, generating and handling errors, memory
--- management, and "OS_Heap").
+-- The store calls: what each answers, by the registers of the caller's mode, and what it leaves
+-- (RISC OS 3 Programmer's Reference Manual, the chapters on character output, program environment,
+-- generating and handling errors, memory management, and "OS_Heap").
 use Rattle.std.specs.Prelude.{ℕ, ◌+◌, ◌%◌, ◌==◌, ◌&&◌, Option, Some, None, option_map, Result, Ok, List, [], ◌∷◌}
 use Rattle.std.specs.Prelude.{length, if◌then◌else◌}
 use Rattle.profile.specs.Outcome.{bind}
@@ -33,7 +33,8 @@ in_supervisor s = record s { cpu = with_mode s.cpu Supervisor }
 abbrev pub printable_at : Bytes → ℕ → Option (List ℕ)
 printable_at b at = text_at (ends end.Zero) 4096 b at
 
--- OS_WriteS prints the text after its own instruction, and the guest goes on at the next word after it.
+-- OS_WriteS prints the text after its own instruction, and the guest goes on at the next word after
+-- it.
 abbrev pub wrote_text_after : MachineState → ℕ → Option (List ℕ) → Answer
 wrote_text_after s next None = refused s next (refusal.System BadString)
 wrote_text_after s next (Some text) = done s text (next_word (next + length text + 1))
@@ -47,8 +48,8 @@ wrote_text_at s next at (Some text) = done (with_answer s 0 (at + length text + 
 abbrev pub generated : MachineState → ℕ → Refusal
 generated s at = if at % 4 == 0 && s.store.bytes.mapped at then refusal.Own else refusal.System BadPointer
 
--- The machine with what a family of calls leaves of the parts that it acts on: the core, and the store, the estate, the
--- world, or the store with the flex store.
+-- The machine with what a family of calls leaves of the parts that it acts on: the core, and the
+-- store, the estate, the world, or the store with the flex store.
 abbrev pub on_store : MachineState → Result (State × Store) Refusal → Result MachineState Refusal
 on_store s r = bind r (λ q. Ok (record s { cpu = q.0; store = q.1 }))
 
@@ -83,8 +84,8 @@ abbrev pub moving_error : MachineState → Option SwiName → Option ErrorNumber
 moving_error s (Some swi.ChangeDynamicArea) = (change_asked s.cpu (machine_estate s)).error
 moving_error s name = None
 
--- A call by its name and its number without the X bit; `next` is where the guest goes on. What is none of the others is
--- a flex call, or unknown.
+-- A call by its name and its number without the X bit; `next` is where the guest goes on. What is
+-- none of the others is a flex call, or unknown.
 unfoldable pub call_answer : MachineState → ℕ → ℕ → Option SwiName → Answer
 call_answer s next number (Some swi.WriteC) = done s (register_of s.cpu 0 % 256 ∷ []) next
 call_answer s next number (Some swi.WriteS) = wrote_text_after s next (printable_at s.store.bytes next)

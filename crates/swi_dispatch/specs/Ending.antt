@@ -8,7 +8,8 @@ use Rattle.image_loader.specs.Entries.{Entry}
 use Rattle.swi_dispatch.specs.MachineState.{MachineState}
 use Rattle.swi_dispatch.specs.Run.{Run, ran, last_or}
 
--- The machine, the bytes written, what it printed last, the count and the stop are the run's. `shown` is what the machine printed last before.
+-- The machine, the bytes written, what it printed last, the count and the stop are the run's.
+-- `shown` is what the machine printed last before.
 pub record Ends (r : Run) (now : MachineState) (shown output : List ℕ) (before after : Option (List ℕ)) (taken : ℕ) (end : Stop) : Type 0 where
   pub machine : now ≡ r.now
   pub text : Appends before after r.printed
@@ -16,8 +17,9 @@ pub record Ends (r : Run) (now : MachineState) (shown output : List ℕ) (before
   pub count : taken ≡ r.taken
   pub stop : end ≡ r.stop
 
--- Where the writer failed, the machine stands after the step whose output failed, one of those of the budget. What stands written is all that
--- the steps before it printed and a front of what it printed, but not all of that.
+-- Where the writer failed, the machine stands after the step whose output failed, one of those of
+-- the budget. What stands written is all that the steps before it printed and a front of what it
+-- printed, but not all of that.
 pub record StandsAfter (images : List Entry) (breaks : List ℕ) (budget : ℕ) (start now : MachineState) (output : List ℕ)
     (before after : Option (List ℕ)) : Type 0 where
   pub taken : ℕ

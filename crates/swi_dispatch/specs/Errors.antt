@@ -1,4 +1,5 @@
--- Errors that guests see: R0 points to an error's block (RISC OS 3 Programmer's Reference Manual, "Generating and handling errors").
+-- Errors that guests see: R0 points to an error's block (RISC OS 3 Programmer's Reference Manual,
+-- "Generating and handling errors").
 use Rattle.std.specs.Prelude.{ℕ}
 use Rattle.profile.specs.ErrorNames.{error_code, error_name}
 use Rattle.arm_step.specs.State.{register_of, with_register}
@@ -10,7 +11,8 @@ use Rattle.swi_dispatch.specs.MachineState.{MachineState, with_memory}
 abbrev pub error_number : MachineState → ℕ
 error_number s = error_at s.store.bytes (register_of s.cpu 0)
 
--- An error of the system goes to its block, and R0 points there. The guest's own stands where R0 points already.
+-- An error of the system goes to its block, and R0 points there. The guest's own stands where R0
+-- points already.
 abbrev pub with_error : MachineState → Refusal → MachineState
 with_error s (refusal.System e) = record s {
   cpu = with_register s.cpu 0 0x01C02100;

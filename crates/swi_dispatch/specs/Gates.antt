@@ -1,7 +1,7 @@
--- Calls on modules whose code runs in between: how such a call begins, is carried on from one entry of module code to
--- the next, and ends; and the return gate, where module code comes back (RISC OS 3 Programmer's Reference Manual,
--- "Modules" and "OS_Module"; frames, the gate, and that a call that gives its caller no error does nothing where there
--- is one, are this project's own).
+-- Calls on modules whose code runs in between: how such a call begins, is carried on from one entry
+-- of module code to the next, and ends; and the return gate, where module code comes back (RISC OS
+-- 3 Programmer's Reference Manual, "Modules" and "OS_Module"; frames, the gate, and that a call
+-- that gives its caller no error does nothing where there is one, are this project's own).
 use Rattle.std.specs.Prelude.{◌≡◌, ℕ, Bool, true, false, ◌==◌, ◌&&◌, not, ◌++◌, ◌∷◌, [], List, Option, Some, None}
 use Rattle.std.specs.Prelude.{Result, Ok, Err, if◌then◌else◌}
 use Rattle.profile.specs.declared.error.ErrorNumber.{ErrorNumber}
@@ -42,7 +42,8 @@ entered_with s text (Err e) = s
 abbrev pub loaded_entered : MachineState → Given → MachineState
 loaded_entered s g = entered_with s g.text.items (start_found s.tables.modules g.header.title.items)
 
--- Where nothing of a call is left it goes back. The error of a module stands in R0 as the module gave it.
+-- Where nothing of a call is left it goes back. The error of a module stands in R0 as the module
+-- gave it.
 abbrev pub entered_if : Bool → MachineState → Given → MachineState
 entered_if true s g = loaded_entered s g
 entered_if false s g = s
@@ -54,8 +55,8 @@ call_ended_by s call g None = entered_if call.enters (gone_back call.caller s fa
 abbrev pub call_ended : MachineState → Call → Plan → MachineState
 call_ended s call p = call_ended_by s call p.given p.first
 
--- What a call that was carried on comes to. Its next code, if any is left, is entered in a frame of the call, and the
--- plan is kept while that runs; else the plan has ended.
+-- What a call that was carried on comes to. Its next code, if any is left, is entered in a frame of
+-- the call, and the plan is kept while that runs; else the plan has ended.
 abbrev pub core_by : State → Option Code → State
 core_by cpu (Some code) = code_entered cpu code
 core_by cpu None = cpu
@@ -91,12 +92,13 @@ finished s call None = s
 abbrev pub carried_on : MachineState → Call → Plan → MachineState
 carried_on s call p = (let c = world_carried (machine_world s) p in finished (opened s call c) call (ended_of c))
 
--- Module code has come back: the core is the caller's again, but for what a SWI leaves, and the frame is closed.
+-- Module code has come back: the core is the caller's again, but for what a SWI leaves, and the
+-- frame is closed.
 abbrev pub come_back : MachineState → Frame → MachineState
 come_back s f = record s { cpu = left s.cpu f; tables = record s.tables { frames = closed s.tables.frames } }
 
--- A SWI of a module goes back. Where V is set it was refused: the error is the module's own, which stands where R0
--- points.
+-- A SWI of a module goes back. Where V is set it was refused: the error is the module's own, which
+-- stands where R0 points.
 abbrev pub returned_from : State → Frame → State
 returned_from cpu f = returned f.call.caller (left cpu f) cpu.psr.overflow f.call.next
 
@@ -111,8 +113,8 @@ swi_left s f =
     let answered : Outcome = quiet (frame_closed s f) in
     if s.cpu.psr.overflow then erred s f.call.is_x answered else answered
 
--- The two ways in which a SWI of a module can go back: the core is the caller's again, or its caller takes no error and
--- there is one, of this number.
+-- The two ways in which a SWI of a module can go back: the core is the caller's again, or its
+-- caller takes no error and there is one, of this number.
 pub record GoesBack (cpu : State) (f : Frame) (back : State) : Type 0 where
   pub taken : (cpu.psr.overflow && not f.call.is_x) ≡ false
   pub core : back ≡ returned_from cpu f
@@ -125,8 +127,8 @@ pub record IsUntaken (cpu : State) (b : Bytes) (f : Frame) (number : ℕ) : Type
 abbrev pub outcome_left : State → CodeOutcome
 outcome_left cpu = if cpu.psr.overflow then Refused (register_of cpu 0) else Well
 
--- The call whose entry it was is carried on. Where its caller takes no error, and there is one, the step is a fault,
--- and nothing of it is done.
+-- The call whose entry it was is carried on. Where its caller takes no error, and there is one, the
+-- step is a fault, and nothing of it is done.
 abbrev pub fault_ahead : Call → World → Plan → Option ℕ
 fault_ahead call w p = if call.is_x then None else error_ahead w p
 
@@ -137,8 +139,8 @@ unless_fault s (Some number) t = halted s (halt.Fault (ErrorStop number))
 abbrev pub entry_left : MachineState → Frame → Plan → Outcome
 entry_left s f p = unless_fault s (fault_ahead f.call (machine_world s) p) (carried_on (come_back s f) f.call p)
 
--- A plan is kept while the code of an entry runs, so the first of these is for no machine; it is as where no frame is
--- open.
+-- A plan is kept while the code of an entry runs, so the first of these is for no machine; it is as
+-- where no frame is open.
 abbrev pub plan_left : MachineState → Frame → Option Plan → Outcome
 plan_left s f None = halted s (halt.Fault FetchUnmapped)
 plan_left s f (Some p) = entry_left s f (settled p (outcome_left s.cpu))
@@ -157,7 +159,8 @@ gated_by s (Some f) =
 abbrev pub gated : MachineState → Outcome
 gated s = gated_by s (innermost s.tables.frames)
 
--- what a call comes to once its entry came back with an outcome, before it goes back if it has ended; a plan is kept
+-- what a call comes to once its entry came back with an outcome, before it goes back if it has
+-- ended; a plan is kept
 abbrev pub Resumes : MachineState → Frame → CodeOutcome → Option Plan → Option Plan → MachineState → Type 0
 Resumes s f o (Some p) ended t =
     (let c = world_carried (machine_world s) (settled p o) in

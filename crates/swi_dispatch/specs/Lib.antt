@@ -1,3 +1,5 @@
+-- The written machine. Begin with MachineState and Step; Run has many steps, Parts ties it to the
+-- real machine.
 pub use Rattle.swi_dispatch_answers
 pub use Rattle.swi_dispatch_breaks
 pub use Rattle.swi_dispatch_flex

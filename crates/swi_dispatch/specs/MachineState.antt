@@ -1,6 +1,6 @@
--- The written machine: its core, its store (memory as a function from addresses to bytes, the lists of all heaps, and
--- the other recorded ranges), how many pages are in the pool, what stands beside core and memory, and the halt that
--- keeps it from further steps.
+-- The written machine: its core, its store (memory as a function from addresses to bytes, the lists
+-- of all heaps, and the other recorded ranges), how many pages are in the pool, what stands beside
+-- core and memory, and the halt that keeps it from further steps.
 use Rattle.std.specs.Prelude.{ℕ, Option, None, List, []}
 use Rattle.profile.specs.declared.stop.Stop.{Stop}
 use Rattle.profile.specs.declared.stop.Stop.TheVariants as stop
@@ -20,8 +20,9 @@ use Rattle.swi_dispatch_plans.specs.Setting.{Setting}
 use Rattle.swi_dispatch.specs.declared.halt.Halt.{Halt}
 use Rattle.swi_dispatch.specs.declared.halt.Halt.TheVariants as halt
 
--- what stands beside the core and the memory: the areas, the modules, the frames of module code that is under way,
--- what is left to do of a call on modules whose code is under way, and where the flex store is, if there is one
+-- what stands beside the core and the memory: the areas, the modules, the frames of module code
+-- that is under way, what is left to do of a call on modules whose code is under way, and where the
+-- flex store is, if there is one
 pub record Tables : Type 0 where
   pub land : Land
   pub modules : List Module

@@ -1,12 +1,12 @@
--- OS_Module 2, enter: a module is started as a program (RISC OS 3 Programmer's Reference Manual, "OS_Module", reason
--- 2; that R10 has the address of the text is this project's own).
+-- OS_Module 2, enter: a module is started as a program (RISC OS 3 Programmer's Reference Manual,
+-- "OS_Module", reason 2; that R10 has the address of the text is this project's own).
 use Rattle.std.specs.Prelude.{ℕ, List, Option, Some, None}
 use Rattle.flex_ground.specs.instances_ground.specs.World.{with_text}
 use Rattle.swi_dispatch_plans.specs.Openings.{as_user}
 use Rattle.swi_dispatch_plans.specs.declared.openings.Opening.{Opening}
 use Rattle.swi_dispatch.specs.MachineState.{MachineState, machine_estate, with_estate}
 
--- The text, with a zero behind it, becomes the environment text.
+-- The text, with a zero after it, becomes the environment text.
 abbrev pub with_environment : MachineState → List ℕ → MachineState
 with_environment s text = with_estate s (with_text (machine_estate s) text)
 

@@ -12,9 +12,9 @@ AreSpared slots frames =
     (below above : List Frame) (entry : Frame) → frames ≡ below ++ entry ∷ above → is_swi entry.kind ≡ false
     → has_swi_of (entry.slot ∷ slots) below ≡ false
 
--- One initialisation or finalisation is under way while the plan of a call is kept, and else none. Each frame is of an
--- instance that is there. No SWI that waits for an initialisation or a finalisation is of its instance, nor of one that
--- the plan names.
+-- One initialisation or finalisation is under way while the plan of a call is kept, and else none.
+-- Each frame is of an instance that is there. No SWI that waits for an initialisation or a
+-- finalisation is of its instance, nor of one that the plan names.
 pub record AreFrames (t : Tables) : Type 0 where
   pub kept : entries t.frames ≡ (if is_some t.plan then 1 else 0)
   pub held : AreHeld t.modules t.frames

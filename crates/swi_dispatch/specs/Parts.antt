@@ -37,7 +37,8 @@ state_of p = record { cpu = p.cpu; store = store_of p.map; pool = free_pages p.m
 abbrev pub outcome_of : Parts → Outcome
 outcome_of p = record { now = state_of p; printed = p.printed }
 
--- A call of the real machine, by its result, answers so: on an error the guest goes on after the call.
+-- A call of the real machine, by its result, answers so: on an error the guest goes on after the
+-- call.
 abbrev pub Answers : Answer → ℕ → Result ℕ Refusal → Outcome → Type 0
 Answers a next (Ok to) o = (o ≡ a.left) × ((to ≡ a.next) × (a.error ≡ None))
 Answers a next (Err e) o = (o ≡ a.left) × ((next ≡ a.next) × (a.error ≡ Some e))
@@ -46,13 +47,14 @@ Answers a next (Err e) o = (o ≡ a.left) × ((next ≡ a.next) × (a.error ≡ 
 abbrev pub parts_world : Parts → World
 parts_world p = world_of p.map p.tables.land p.tables.modules
 
--- What holds of every machine, whatever its guest does: the areas stand on its memory, so that memory spells the lists
--- of all heaps; the words that these lists spell are those that are marked; the system pages are recorded; the
--- recorded images are the modules', and the plan that is kept while module code runs finds all that it asks for; one
--- initialisation or finalisation is under way while a plan is kept, and else none; each frame is of an instance
--- that is there, and no SWI that waits for an initialisation or a finalisation is of its instance, nor of one that the
--- plan names; memory spells the flex store, if there is one; a machine that can still be booted stands as at the
--- start; and the areas are those of a machine of its sizes.
+-- What holds of every machine, whatever its guest does: the areas stand on its memory, so that
+-- memory spells the lists of all heaps; the words that these lists spell are those that are marked;
+-- the system pages are recorded; the recorded images are the modules', and the plan that is kept
+-- while module code runs finds all that it asks for; one initialisation or finalisation is under
+-- way while a plan is kept, and else none; each frame is of an instance that is there, and no SWI
+-- that waits for an initialisation or a finalisation is of its instance, nor of one that the plan
+-- names; memory spells the flex store, if there is one; a machine that can still be booted stands
+-- as at the start; and the areas are those of a machine of its sizes.
 pub record IsWellFormed (p : Parts) : Type 0 where
   pub areas : AreAreas (store_of p.map) (free_pages p.map) p.tables.land
   pub classes : AreClasses p.map
@@ -63,12 +65,13 @@ pub record IsWellFormed (p : Parts) : Type 0 where
   pub fresh : p.is_fresh ≡ true → state_of p ≡ start_of p.sizes
   pub sized : p.tables.land.sizes ≡ p.sizes
 
--- All that holds of every machine, whatever its guest does. Beside what its steps keep: the core has 26 registers, those
--- of all banks, each a word, and its program counter is a multiple of 4 below 2^26; bytes are below 256; the areas are a good table
--- of at most 32; titles, names and slots of modules differ, slots are below 64, and each module has a preferred
--- instance; at most 32 frames are open; and the text of a call that is under way has at most 255 bytes. (The slots that
--- its plan names are those of instances, or below 64 where it is to add one: that is said with the plan, in `modules` of
--- `IsWellFormed`.)
+-- All that holds of every machine, whatever its guest does. Beside what its steps keep: the core
+-- has 26 registers, those of all banks, each a word, and its program counter is a multiple of 4
+-- below 2^26; bytes are below 256; the areas are a good table of at most 32; titles, names and
+-- slots of modules differ, slots are below 64, and each module has a preferred instance; at most 32
+-- frames are open; and the text of a call that is under way has at most 255 bytes. (The slots that
+-- its plan names are those of instances, or below 64 where it is to add one: that is said with the
+-- plan, in `modules` of `IsWellFormed`.)
 pub record IsMachine (p : Parts) : Type 0 where
   pub well_formed : IsWellFormed p
   pub core : IsCore p.cpu

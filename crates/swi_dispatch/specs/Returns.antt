@@ -1,5 +1,6 @@
--- How a call goes back to its caller, and what an error is to a caller that takes none (RISC OS 3 Programmer's Reference Manual, "An introduction to
--- SWIs" and "Generating and handling errors"; that nothing is done then is this project's own).
+-- How a call goes back to its caller, and what an error is to a caller that takes none (RISC OS 3
+-- Programmer's Reference Manual, "An introduction to SWIs" and "Generating and handling errors";
+-- that nothing is done then is this project's own).
 use Rattle.std.specs.Prelude.{ℕ, Bool, true, false, Some}
 use Rattle.profile.specs.declared.fault.Fault.TheVariants.{ErrorStop}
 use Rattle.arm_step.specs.declared.psr.Psr.{Psr}
@@ -20,7 +21,8 @@ gone_back caller s overflow next = record s { cpu = returned caller s.cpu overfl
 abbrev pub error_answered : Psr → Outcome → ℕ → Refusal → Outcome
 error_answered caller o next e = record o { now = gone_back caller (with_error o.now e) true next }
 
--- With the X bit an error is answered. Without, the step is a fault: nothing of that is done, and the fault has the number that R0 would point to.
+-- With the X bit an error is answered. Without, the step is a fault: nothing of that is done, and
+-- the fault has the number that R0 would point to.
 abbrev pub erred : MachineState → Bool → Outcome → Outcome
 erred s true answered = answered
 erred s false answered = halted s (halt.Fault (ErrorStop (error_number answered.now)))

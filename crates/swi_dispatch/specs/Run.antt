@@ -1,6 +1,6 @@
--- A run: steps until the machine is halted, or the new program counter is among the breaks, or the budget is used up,
--- tested in that order after each step. A start on a break isn't tested. A step that ends in a fault isn't counted;
--- that of OS_Exit is.
+-- A run: steps until the machine is halted, or the new program counter is among the breaks, or the
+-- budget is used up, tested in that order after each step. A start on a break isn't tested. A step
+-- that ends in a fault isn't counted; that of OS_Exit is.
 use Rattle.std.specs.Prelude.{◌≡◌, ℕ, zero, suc, ◌+◌, Option, Some, None, Result, Ok, Err, List, [], ◌++◌, if◌then◌else◌}
 use Rattle.profile.specs.declared.stop.Stop.{Stop}
 use Rattle.profile.specs.declared.stop.Stop.TheVariants as stop
@@ -12,8 +12,8 @@ use Rattle.swi_dispatch.specs.declared.halt.Halt.TheVariants as halt
 use Rattle.swi_dispatch.specs.MachineState.{MachineState, Outcome, stop_of}
 use Rattle.swi_dispatch.specs.Step.{machine_step}
 
--- what a run leaves: the machine, all that was printed, what the last step printed, if there was a step, the steps
--- that count, and why it ended
+-- what a run leaves: the machine, all that was printed, what the last step printed, if there was a
+-- step, the steps that count, and why it ended
 pub record Run : Type 0 where
   pub now : MachineState
   pub printed : List ℕ
@@ -88,7 +88,8 @@ abbrev pub quiet_last : ℕ → Option (List ℕ)
 quiet_last zero = None
 quiet_last (suc n) = Some []
 
--- why it ended: where another turn comes next that was no break, and so only for the steps that were asked for
+-- why it ended: where another turn comes next that was no break, and so only for the steps that
+-- were asked for
 abbrev pub quiet_stop : Result Turn Stop → Stop
 quiet_stop (Ok next) = stop.Budget
 quiet_stop (Err x) = x

@@ -1,5 +1,5 @@
--- One step of the machine: an instruction, or a store call. A fault changes nothing but that the machine is halted
--- with it.
+-- One step of the machine: an instruction, or a store call. A fault changes nothing but that the
+-- machine is halted with it.
 use Rattle.std.specs.Prelude.{◌≡◌, ℕ, Bool, true, false, ◌+◌, ◌-◌, ◌%◌, ◌^◌, ◌==◌, Option, Some, None, ok_or, Result}
 use Rattle.std.specs.Prelude.{Ok, Err, List, length, ◌++◌, ◌∷◌, [], if◌then◌else◌}
 use Rattle.profile.specs.declared.error.ErrorNumber.{ErrorNumber}
@@ -48,8 +48,8 @@ use Rattle.swi_dispatch.specs.Returns.{erred, error_answered, gone_back, halted}
 abbrev pub moved_on : MachineState → State × Bytes → Outcome
 moved_on s w = quiet (record s { cpu = w.0; store = with_memory s.store w.1 })
 
--- The number of a store call without its X bit, which is bit 17 (RISC OS 3 Programmer's Reference Manual, "An
--- introduction to SWIs").
+-- The number of a store call without its X bit, which is bit 17 (RISC OS 3 Programmer's Reference
+-- Manual, "An introduction to SWIs").
 abbrev pub without_x : ℕ → ℕ
 without_x n = if bit_of n 17 then n - 2 ^ 17 else n
 
@@ -72,7 +72,8 @@ handler_entered s call number h = record s {
   tables = record s.tables { frames = s.tables.frames ++ frame_of s.cpu call Swi h.slot ∷ [] };
 }
 
--- what the end of a call needs to know of its begin; `enters` says whether a module that it loads is entered then
+-- what the end of a call needs to know of its begin; `enters` says whether a module that it loads
+-- is entered then
 abbrev pub call_of : MachineState → Bool → ℕ → Bool → Call
 call_of s x next enters = record { is_x = x; caller = s.cpu.psr; next = next; enters = enters }
 
@@ -104,8 +105,8 @@ begun_by s call (Ok ended) = quiet (finished s call ended)
 abbrev pub begun_alone : MachineState → Bool → ℕ → Result Plan ErrorNumber → Outcome
 begun_alone s x next r = begun s x next false (bind r (λ p. Ok (plan_alone s p)))
 
--- OS_Module, by its reason in R0: where no module code is to run, and where there is no such reason, it is a call as
--- any other.
+-- OS_Module, by its reason in R0: where no module code is to run, and where there is no such
+-- reason, it is a call as any other.
 abbrev pub os_module_called_for : List Entry → MachineState → Bool → ℕ → ℕ → Option ModuleReason → Outcome
 os_module_called_for images s x next number (Some reason.Run) = begun s x next true (named_load_planned images s true)
 os_module_called_for images s x next number (Some reason.Load) =
@@ -168,13 +169,13 @@ unless_halted s None a = a
 unfoldable pub machine_step : List Entry → MachineState → Outcome
 machine_step images s = unless_halted s s.halt (turned images s (instructed s))
 
--- A store call that a user makes from outside acts as one with the X bit, at the present program counter; bits 31 to
--- 24 of its number and its X bit are left out.
+-- A store call that a user makes from outside acts as one with the X bit, at the present program
+-- counter; bits 31 to 24 of its number and its X bit are left out.
 unfoldable pub store_called : List Entry → MachineState → ℕ → Outcome
 store_called images s number = unless_halted s s.halt (called images s true s.cpu.pc (without_x (number % 2 ^ 24)))
 
--- A module that a user loads from outside: as reason 1 of OS_Module with the X bit does, at the present program
--- counter, with these words for the string.
+-- A module that a user loads from outside: as reason 1 of OS_Module with the X bit does, at the
+-- present program counter, with these words for the string.
 unfoldable pub module_loaded : List Entry → MachineState → List ℕ → Outcome
 module_loaded images s text = unless_halted s s.halt (begun s true s.cpu.pc false
     (bind (ok_or (host_string text) BadString) (λ words. load_planned images s words false)))

@@ -1,5 +1,5 @@
-//! OS_Module, the reasons that add a module: its image is recorded at once, and the call begins (RISC OS 3 Programmer's
-//! Reference Manual, "OS_Module", reasons 0, 1, 10 and 11).
+//! OS_Module, the reasons that add a module: its image is recorded at once, and the call begins
+//! (RISC OS 3 Programmer's Reference Manual, "OS_Module", reasons 0, 1, 10 and 11).
 
 ghost use Rattle.std.specs.Prelude.{◌≡◌, ◌<◌, ◌^◌, false};
 ghost use Rattle.module_header.specs.Header.{header_of};
@@ -11,7 +11,8 @@ use instances_plans::{Outcome, Plan};
 use profile::ErrorNumber;
 use swi_dispatch_frames::Call;
 
-/// What a call that adds a module has come to, if it isn't refused: its plan if that has ended; else its code runs.
+/// What a call that adds a module has come to, if it isn't refused: its plan if that has ended;
+/// else its code runs.
 type Started = Result<Option<Plan>, ErrorNumber>;
 
 impl Machine {
@@ -23,8 +24,8 @@ impl Machine {
     ghost use Rattle.swi_dispatch_plans.specs.ImagePlans.{SparesRange};
     ghost use Rattle.swi_dispatch.specs.Step.{begun, begun_by};
 
-    /// OS_Module 0 and 1: R1 points to the name of an image and a text. `enters` says whether the module is entered at
-    /// the end.
+    /// OS_Module 0 and 1: R1 points to the name of an image and a text. `enters` says whether the
+    /// module is entered at the end.
     #[tactic(auto, unfolding(crate::specs::Step::begun))]
     pub(crate) fn load_named(&mut self, images: &Images, is_x: bool, next: u32, enters: bool)
         requires step { IsInStep self.old }
@@ -145,7 +146,8 @@ impl Machine {
         Ok(ended)
     }
 
-    // A copy of an image that stands in memory gets a block of the module area, and the plan of its call is begun.
+    // A copy of an image that stands in memory gets a block of the module area, and the plan of its
+    // call is begun.
     fn place_copy(&mut self, call: Call, at: u32, len: u32) -> Started
         requires stepped { self.old.is_fresh ≡ false }
         requires free { IsFree (setting_of (state_of self.old)) }

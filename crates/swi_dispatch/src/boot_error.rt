@@ -1,3 +1,5 @@
+//! Why a program was not booted.
+
 use thiserror::Error;
 
 /// Why a program was not copied into the application space.

@@ -1,5 +1,5 @@
-//! Errors: how a call that errs ends, and the block that the error stands in (RISC OS 3 Programmer's Reference Manual,
-//! "Generating and handling errors").
+//! Errors: how a call that errs ends, and the block that the error stands in (RISC OS 3
+//! Programmer's Reference Manual, "Generating and handling errors").
 
 ghost use Rattle.std.specs.Prelude.{ℕ, ◌≡◌, false, true};
 
@@ -19,7 +19,8 @@ impl Machine {
     ghost use Rattle.arm_step.specs.State.{register_of};
     ghost use Rattle.arm_step.specs.declared.psr.Psr.{Psr};
 
-    /// The number of the error that R0 points to, or that of `BadPointer` where no block can stand there.
+    /// The number of the error that R0 points to, or that of `BadPointer` where no block can stand
+    /// there.
     pub fn error_number(&self) -> u32
         ensures { result ≡ error_number (state_of self.now) }
     {
@@ -41,8 +42,8 @@ impl Machine {
         self.go_back(caller, true, next);
     }
 
-    // The number that R0 would point to once an error is answered, wherever the guest goes on. To the guest's own it
-    // points already.
+    // The number that R0 would point to once an error is answered, wherever the guest goes on. To
+    // the guest's own it points already.
     #[tactic(auto, using(crate::proofs::ErrorNumbers::number_kept))]
     fn answered_number(&self, refusal: Refusal) -> u32
         ensures { (caller : Psr) (next : ℕ) → result

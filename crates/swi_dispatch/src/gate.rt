@@ -43,7 +43,8 @@ impl Machine {
         }
     }
 
-    // The call whose entry it was is carried on. Where its caller takes no error, and there is one, nothing is changed.
+    // The call whose entry it was is carried on. Where its caller takes no error, and there is one,
+    // nothing is changed.
     #[tactic(auto, using(crate::proofs::GateLemmas::entry_went_on))]
     #[inline(never)]
     fn leave_entry(&mut self, frame: Frame)
@@ -61,8 +62,8 @@ impl Machine {
         self.finish(frame.call, ended);
     }
 
-    // The core is the caller's again, the frame is closed, and the plan that is kept, as one is while an entry's frame
-    // is open, is carried on. Answers it if it has ended.
+    // The core is the caller's again, the frame is closed, and the plan that is kept, as one is
+    // while an entry's frame is open, is carried on. Answers it if it has ended.
     fn resume(&mut self, frame: Frame, outcome: Outcome) -> Option<Plan>
         requires stepped { self.old.is_fresh ≡ false }
         requires last { innermost (state_of self.old).tables.frames ≡ Some frame }
@@ -81,8 +82,8 @@ impl Machine {
         ended
     }
 
-    // The number of the error that a call ends with whose entry comes back with this outcome, if it ends with one that
-    // its caller doesn't take.
+    // The number of the error that a call ends with whose entry comes back with this outcome, if it
+    // ends with one that its caller doesn't take.
     fn fault_ahead(&mut self, call: Call, outcome: Outcome) -> Option<u32>
         ensures value { let s = state_of self.old in result ≡ fault_kept call (machine_world s) outcome s.tables.plan }
         ensures same { self.new ≡ self.old }
@@ -96,8 +97,8 @@ impl Machine {
     }
 }
 
-// The core goes back from a SWI of a module to its caller. Where that was refused and its caller takes no error, nothing
-// is changed, and the answer is the error's number.
+// The core goes back from a SWI of a module to its caller. Where that was refused and its caller
+// takes no error, nothing is changed, and the answer is the error's number.
 #[tactic(auto, using(crate::proofs::GateReturns::r0_kept))]
 fn leave_swi(cpu: &mut Cpu, memory: &AddressMap, frame: &Frame) -> Result<(), u32>
     requires { is_swi frame.now.kind ≡ true }

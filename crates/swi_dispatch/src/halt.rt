@@ -1,3 +1,5 @@
+//! What halts a machine for good.
+
 ghost use Rattle.std.specs.Prelude.{◌≡◌};
 
 use profile::{Fault, Stop};

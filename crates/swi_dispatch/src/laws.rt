@@ -6,7 +6,8 @@ ghost use Rattle.swi_dispatch.specs.MachineState.{MachineState};
 ghost use Rattle.swi_dispatch.specs.Run.{RunsOn};
 
 /// Runs add up: where a run of `n` steps ends with its budget used up, that run and one of `m`
-/// steps after it are the run of `n + m`, in the machine, the bytes printed, the count and the stop.
+/// steps after it are the run of `n + m`, in the machine, the bytes printed, the count and the
+/// stop.
 pub fn runs_add_up()
     ensures { (images : List Entry) (breaks : List ℕ) (s : MachineState) (n m : ℕ) → RunsOn images breaks s n m }
 {}

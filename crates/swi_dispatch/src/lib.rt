@@ -1,4 +1,5 @@
-//! The machine: the core over its memory, the store calls, one step at a time or many.
+//! The machine, for the debugger and the shell: core, memory and store calls, one step at a time or
+//! many.
 #![tactic(auto)]
 
 pub mod additions;

@@ -1,3 +1,5 @@
+//! The machine: how it is made and booted, one step of it, and what a script sets in it.
+
 ghost use Rattle.std.specs.Prelude.{◌≡◌, ◌≤◌, ◌%◌, ◌&&◌, true, false, [], Some, None, IfOk, IfSome, IsSome, is_err, length};
 ghost use Rattle.std.specs.Option.{option_map};
 ghost use Rattle.profile.specs.Outcome.{Leaves};
@@ -83,7 +85,8 @@ impl Machine {
     ghost use Rattle.swi_dispatch.specs.Returns.{halted};
 
     /// A machine of these sizes at its start: user mode at &8000, each register 0 but the stack
-    /// pointer of supervisor mode, all mapped memory 0 but the descriptor of the module area's heap.
+    /// pointer of supervisor mode, all mapped memory 0 but the descriptor of the module area's
+    /// heap.
     pub fn new(alloc: Global, config: Config) -> Result<Machine, AllocError>
         ensures start { IfOk result (λ m. state_of m ≡ start_of config) }
         ensures sizes { IfOk result (λ m. m.sizes ≡ config) }
@@ -182,9 +185,9 @@ impl Machine {
         self.known_stop()
     }
 
-    /// Loads a module as OS_Module 1 does with the X bit, with these words in place of the string that R1 points to:
-    /// the name of an image and a text. The guest goes on at the present program counter. A halted machine stays as it
-    /// is.
+    /// Loads a module as OS_Module 1 does with the X bit, with these words in place of the string
+    /// that R1 points to: the name of an image and a text. The guest goes on at the present program
+    /// counter. A halted machine stays as it is.
     #[tactic(auto, unfolding(crate::specs::Step::module_loaded, crate::specs::Step::begun))]
     pub fn load_module(&mut self, images: &Images, text: &[u8]) -> Option<Stop>
         ensures after { outcome_of self.new ≡ module_loaded images.now (state_of self.old) text.now }

@@ -1,5 +1,5 @@
-//! OS_Module 2, enter: a module is started as a program (RISC OS 3 Programmer's Reference Manual, "OS_Module", reason
-//! 2).
+//! OS_Module 2, enter: a module is started as a program (RISC OS 3 Programmer's Reference Manual,
+//! "OS_Module", reason 2).
 
 ghost use Rattle.std.specs.Prelude.{◌≡◌, ◌<◌, ◌≤◌, ◌^◌, false, length};
 

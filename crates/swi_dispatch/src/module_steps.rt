@@ -1,5 +1,5 @@
-//! Calls on modules that may run module code, step by step: how such a call begins, goes on and ends (RISC OS 3
-//! Programmer's Reference Manual, "Modules" and "OS_Module").
+//! Calls on modules that may run module code, step by step: how such a call begins, goes on and
+//! ends (RISC OS 3 Programmer's Reference Manual, "Modules" and "OS_Module").
 
 ghost use Rattle.std.specs.Prelude.{◌≡◌, ◌<◌, false, length, IfOk};
 ghost use Rattle.swi_dispatch.specs.Gates.{call_ended, carried_on, core_by, ended_by, ended_of, finished, frames_by};
@@ -44,7 +44,8 @@ impl Machine {
         self.finish(call, ended);
     }
 
-    /// What the end of a call needs to know of its begin; `enters` says whether a module that it loads is entered then.
+    /// What the end of a call needs to know of its begin; `enters` says whether a module that it
+    /// loads is entered then.
     pub(crate) fn call_of(&self, is_x: bool, next: u32, enters: bool) -> Call
         ensures { result ≡ call_of (state_of self.now) is_x next enters }
     {
@@ -56,7 +57,8 @@ impl Machine {
         }
     }
 
-    // What the plan of a new call does first. Answers the plan if it has ended; else it is kept, and its code runs.
+    // What the plan of a new call does first. Answers the plan if it has ended; else it is kept,
+    // and its code runs.
     fn carry_first(&mut self, call: Call, plan: Plan) -> Option<Plan>
         requires stepped { self.old.is_fresh ≡ false }
         requires begins { CanBegin (setting_of (state_of self.old)) plan }
@@ -117,8 +119,8 @@ impl Machine {
     }
 }
 
-/// Enters the next code of a call that was carried on, in a frame of the call. Answers the plan that is kept while that
-/// runs; or, where there is no code, the plan that has ended.
+/// Enters the next code of a call that was carried on, in a frame of the call. Answers the plan
+/// that is kept while that runs; or, where there is no code, the plan that has ended.
 pub(crate) fn open_code(
     cpu: &mut Cpu,
     frames: &mut Frames,

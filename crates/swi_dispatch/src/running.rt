@@ -1,3 +1,5 @@
+//! Runs of steps, within a budget and up to a break, and what they print.
+
 ghost use Rattle.std.specs.Prelude.{◌≡◌, ◌≢◌, ◌<◌, ◌&&◌, ◌==◌, ◌≤◌, ◌↔◌, None, Some, Err, List, false, true, IsTrue, IfOk};
 ghost use Rattle.std.specs.Prelude.{OnOk, OnErr};
 ghost use Rattle.std.specs.Option.{option_map};
@@ -84,8 +86,9 @@ impl Machine {
         Ok(Ran { stop, taken })
     }
 
-    // Takes steps as long as each is an instruction that the core does by itself, which prints nothing
-    // and halts nothing. Answers how many, and the turn that comes next, or why the run ended before.
+    // Takes steps as long as each is an instruction that the core does by itself, which prints
+    // nothing and halts nothing. Answers how many, and the turn that comes next, or why the run
+    // ended before.
     fn run_quietly(&mut self, breaks: &Breaks, most: u64) -> (u64, Result<Turn, Stop>)
         requires some { 0 < most }
         requires awake { (state_of self.old).halt ≡ None }
@@ -111,10 +114,11 @@ impl Machine {
         (taken, next)
     }
 
-    // Takes up to so many steps, as long as each is an instruction that is done, and no further than to
-    // a break. Answers how many, and the turn that comes next where that is another, or why a run of
-    // these steps ends. No other function asks the core, so that its code stands in this loop. One count
-    // says when to look up from it: after each step where there are breaks, else after the last.
+    // Takes up to so many steps, as long as each is an instruction that is done, and no further
+    // than to a break. Answers how many, and the turn that comes next where that is another, or why
+    // a run of these steps ends. No other function asks the core, so that its code stands in this
+    // loop. One count says when to look up from it: after each step where there are breaks, else
+    // after the last.
     pub(crate) fn take_instructions(
         &mut self,
         breaks: &Breaks,
@@ -202,7 +206,8 @@ impl Machine {
         Ok(self.ran_one(breaks, halt))
     }
 
-    // Writes what the last step printed. Mostly it is nothing, and then nothing is asked of the sink.
+    // Writes what the last step printed. Mostly it is nothing, and then nothing is asked of the
+    // sink.
     fn write_output<W: Sink>(&self, sink: &mut W) -> Result<(), WriteFault>
         ensures text { OnOk result (Appends (W.contents sink.old) (W.contents sink.new) self.now.printed) }
         ensures part { OnErr result (AddsPart (W.contents sink.old) (W.contents sink.new) self.now.printed) }

@@ -1,4 +1,5 @@
-//! The calls on heaps, areas, modules and the flex store, on the parts of the machine that they act on.
+//! The calls on heaps, areas, modules and the flex store, on the parts of the machine that they act
+//! on.
 
 ghost use Rattle.std.specs.Prelude.{ℕ, ◌≡◌, ◌≤◌, [], Some, false};
 ghost use Rattle.profile.specs.Outcome.{Leaves};
@@ -108,8 +109,8 @@ impl Machine {
         call_flex(&mut self.cpu, &mut self.memory, &mut self.flex, name)
     }
 
-    /// The error with which a call would end after it changed something. Without the X bit it is a fault instead, and
-    /// nothing is changed.
+    /// The error with which a call would end after it changed something. Without the X bit it is a
+    /// fault instead, and nothing is changed.
     #[tactic(auto, using(crate::proofs::AreaAnswers::moving_stop))]
     pub(crate) fn moving_error(&self, name: Option<SwiName>) -> Option<ErrorNumber>
         ensures value { result ≡ moving_error (state_of self.now) name }

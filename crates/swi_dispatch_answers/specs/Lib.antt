@@ -1,3 +1,4 @@
+-- What all store calls share. Begin with Strings and Errors.
 pub use Rattle.arm_step
 pub use Rattle.address_map
 pub mod Errors

@@ -1,15 +1,18 @@
--- How a call goes back to its caller (RISC OS 3 Programmer's Reference Manual, "An introduction to SWIs").
+-- How a call goes back to its caller (RISC OS 3 Programmer's Reference Manual, "An introduction to
+-- SWIs").
 use Rattle.std.specs.Prelude.{ℕ, Bool, ◌+◌, ◌*◌, ◌/◌, ◌%◌, ◌^◌}
 use Rattle.arm_step.specs.declared.psr.Mode.TheVariants.{Supervisor}
 use Rattle.arm_step.specs.declared.psr.Psr.{Psr}
 use Rattle.arm_step.specs.Psr.{psr_bits}
 use Rattle.arm_step.specs.State.{State, with_register_in, with_overflow, with_pc}
 
--- The return address in the link register of supervisor mode, with the caller's status (the status before the call).
+-- The return address in the link register of supervisor mode, with the caller's status (the status
+-- before the call).
 abbrev pub return_word : Psr → ℕ → ℕ
 return_word caller next = psr_bits caller + next / 4 % 2 ^ 24 * 4
 
--- A call goes back: V says whether it was refused, R14 of supervisor mode is the return address, and the guest goes on there.
+-- A call goes back: V says whether it was refused, R14 of supervisor mode is the return address,
+-- and the guest goes on there.
 unfoldable pub returned : Psr → State → Bool → ℕ → State
 returned caller cpu overflow next =
     with_pc (with_register_in Supervisor (with_overflow cpu overflow) 14 (return_word caller next)) next

@@ -1,5 +1,6 @@
--- Strings in memory: bytes up to one that ends them, and not more than so many (RISC OS 3 Programmer's Reference Manual, "OS_Write0", "OS_CLI"; the
--- limits, 4096 bytes of a string to be printed and 255 of any other, are this project's own).
+-- Strings in memory: bytes up to one that ends them, and not more than so many (RISC OS 3
+-- Programmer's Reference Manual, "OS_Write0", "OS_CLI"; the limits, 4096 bytes of a string to be
+-- printed and 255 of any other, are this project's own).
 use Rattle.std.specs.Prelude.{ℕ, Bool, zero, suc, ◌+◌, ◌*◌, ◌/◌, ◌==◌, ◌&&◌, nat_lt, Option, Some, None, List, [], ◌∷◌, ok_or, Result, Ok, Err, if◌then◌else◌}
 use Rattle.std.specs.Option.{option_map}
 use Rattle.arrayvec.specs.ArrayVec.{ArrayVec}
@@ -15,7 +16,8 @@ abbrev pub ends : TextEnd → ℕ → Bool
 ends end.Zero byte = byte == 0
 ends end.Control byte = nat_lt byte 32
 
--- the bytes from `at` on up to the first that ends them, if all are mapped and there are at most so many
+-- the bytes from `at` on up to the first that ends them, if all are mapped and there are at most so
+-- many
 unfoldable pub text_at : (ℕ → Bool) → ℕ → Bytes → ℕ → Option (List ℕ)
 text_at is_end zero b at = if b.mapped at && is_end (b.at at) then Some [] else None
 text_at is_end (suc most) b at =

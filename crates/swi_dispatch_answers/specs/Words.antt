@@ -1,5 +1,5 @@
--- A string of a name and a text: the name ends before the first space, and the text is what follows all spaces there (RISC OS 3 Programmer's Reference
--- Manual, "OS_Module", reasons 0, 1, 3 and 14).
+-- A string of a name and a text: the name ends before the first space, and the text is what follows
+-- all spaces there (RISC OS 3 Programmer's Reference Manual, "OS_Module", reasons 0, 1, 3 and 14).
 use Rattle.std.specs.Prelude.{ℕ, Bool, not, ◌==◌, nat_lt, nat_le, List, [], length, take, drop, Option, Some, None, if◌then◌else◌}
 use Rattle.std.specs.List.{position}
 

@@ -1,5 +1,5 @@
-//! The block that an error stands in: its number and then its text (RISC OS 3 Programmer's Reference Manual, "Generating and handling
-//! errors").
+//! The block that an error stands in: its number and then its text (RISC OS 3 Programmer's
+//! Reference Manual, "Generating and handling errors").
 
 ghost use Rattle.std.specs.Prelude.{◌≡◌};
 ghost use Rattle.profile.specs.ErrorNames.{error_code, error_name};
@@ -11,7 +11,8 @@ use address_map::AddressMap;
 use profile::memory_map::ERROR_BLOCK;
 use profile::{ErrorNumber, error_text};
 
-/// The number of the error whose block stands at an address, or that of `BadPointer` where none can stand there.
+/// The number of the error whose block stands at an address, or that of `BadPointer` where none can
+/// stand there.
 #[tactic(auto, unfolding(crate::specs::Errors::error_at))]
 pub fn error_at(memory: &AddressMap, at: u32) -> u32
     ensures { result ≡ error_at (bytes_of memory.now) at }

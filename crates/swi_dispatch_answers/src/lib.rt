@@ -1,7 +1,8 @@
-//! What all store calls share: the strings that guests give, how a call is refused, and the block that an error stands in.
+//! What all store calls share: guests' strings, how a call is refused, and the block of an error.
 //!
-//! Its calls read strings (`text_at`, `string_in`) and the words in them (`name_part`, `text_part`), read and write error blocks
-//! (`error_at`, `write_error`), and bring a guest back from a call (`return_to`). None keeps anything between calls.
+//! Its calls read strings (`text_at`, `string_in`) and the words in them (`name_part`,
+//! `text_part`), read and write error blocks (`error_at`, `write_error`), and bring a guest back
+//! from a call (`return_to`). None keeps anything between calls.
 #![tactic(auto)]
 
 pub mod errors;

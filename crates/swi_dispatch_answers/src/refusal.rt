@@ -1,3 +1,5 @@
+//! Why a store call is refused: an error of the system, or one of the guest's own.
+
 ghost use Rattle.std.specs.Prelude.{◌≡◌};
 
 use profile::ErrorNumber;

@@ -1,4 +1,5 @@
-//! How a guest comes back from a call (RISC OS 3 Programmer's Reference Manual, "An introduction to SWIs").
+//! How a guest comes back from a call (RISC OS 3 Programmer's Reference Manual, "An introduction to
+//! SWIs").
 
 ghost use Rattle.std.specs.Prelude.{◌≡◌, ◌<◌, ◌^◌};
 ghost use Rattle.swi_dispatch_answers.specs.Returns.{returned};

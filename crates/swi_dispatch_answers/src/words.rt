@@ -1,4 +1,5 @@
-//! Strings of a name and a text (RISC OS 3 Programmer's Reference Manual, "OS_Module", reasons 0, 1, 3 and 14).
+//! Strings of a name and a text (RISC OS 3 Programmer's Reference Manual, "OS_Module", reasons 0,
+//! 1, 3 and 14).
 
 ghost use Rattle.std.specs.Prelude.{◌≡◌, ◌≤◌, length, option_map, IfSome};
 ghost use Rattle.std.specs.List.{position};
@@ -16,7 +17,7 @@ pub fn name_part(words: &[u8]) -> &[u8]
     }
 }
 
-/// The text: what follows all the spaces behind the name.
+/// The text: what follows all the spaces after the name.
 #[tactic(auto, using(crate::proofs::WordLemmas::take_rest))]
 pub fn text_part(words: &[u8]) -> &[u8]
     ensures value { result.now ≡ text_part words.now }
@@ -63,7 +64,8 @@ fn is_word(byte: u8) -> bool
     byte != b' '
 }
 
-/// A string that a host gives: it ends before its first control byte. There is none where that is longer than 255 bytes.
+/// A string that a host gives: it ends before its first control byte. There is none where that is
+/// longer than 255 bytes.
 pub fn host_string(text: &[u8]) -> Option<&[u8]>
     ensures value { option_map (λ s. s.now) result ≡ host_string text.now }
     ensures short { IfSome result (λ s. length s.now ≤ 255) }

@@ -1,1 +1,2 @@
+-- The addresses at which a run stops.
 pub mod Breaks

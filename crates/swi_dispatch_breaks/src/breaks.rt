@@ -1,3 +1,5 @@
+//! The table of breaks: set, taken away, and asked at each step.
+
 ghost use Rattle.std.specs.Prelude.{◌≡◌, ◌==◌, ◌↔◌, ◌<◌, ℕ, [], List, IsTrue};
 ghost use Rattle.std.specs.List.{position};
 ghost use Rattle.profile.specs.Outcome.{Leaves};
@@ -30,8 +32,8 @@ const MARKS: usize = 64;
 #[derive(Drop)]
 pub struct Breaks {
     addresses: ArrayVec<u32, MOST_BREAKS>,
-    /// Set for each address that is there, so that most that aren't are known by one look. A mark stays when its
-    /// address is taken away.
+    /// Set for each address that is there, so that most that aren't are known by one look. A mark
+    /// stays when its address is taken away.
     marks: [bool; MARKS],
 }
 

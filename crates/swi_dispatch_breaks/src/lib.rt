@@ -1,4 +1,4 @@
-//! The addresses at which a run of the machine stops.
+//! Breaks, for runs of the machine: the addresses at which a run stops.
 #![tactic(auto)]
 
 pub mod breaks;

@@ -1,4 +1,5 @@
--- The calls on a flex store that there is: what each keeps, and that it leaves what its definition says.
+-- The calls on a flex store that there is: what each keeps, and that it leaves what its definition
+-- says.
 use Rattle.std.proofs.Common.{◌≡◌, Result, Ok, Err, refl, subst}
 use Rattle.profile.specs.Outcome.{Gives}
 use Rattle.profile.specs.declared.error.ErrorNumber.{ErrorNumber}

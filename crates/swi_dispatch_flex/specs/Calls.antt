@@ -1,6 +1,7 @@
--- The flex calls: the flex store is a range that a guest names once, and in it lie blocks without gaps, each behind an
--- anchor, a word that holds the address of the block's bytes and lies outside the store or in a block before its own
--- (Acorn C manual, "flex"; that they are SWIs, their numbers, registers and refusals are this project's own).
+-- The flex calls: the flex store is a range that a guest names once, and in it lie blocks without
+-- gaps, each reached through an anchor, a word that holds the address of the block's bytes and lies
+-- outside the store or in a block before its own (Acorn C manual, "flex"; that they are SWIs, their
+-- numbers, registers and refusals are this project's own).
 use Rattle.std.specs.Prelude.{ℕ, Bool, true, false, Option, Some, Result, Ok}
 use Rattle.profile.specs.Outcome.{bind}
 use Rattle.profile.specs.declared.error.ErrorNumber.{ErrorNumber}
@@ -25,7 +26,8 @@ pub record FlexMemory : Type 0 where
 abbrev pub memory_of : AddressMap → Flex → FlexMemory
 memory_of m f = record { store = store_of m; flex = f }
 
--- as the calls of `flex_store` have it, and after one of them, whose anchors and headers are marked in its store
+-- as the calls of `flex_store` have it, and after one of them, whose anchors and headers are marked
+-- in its store
 abbrev pub state_in : FlexMemory → FlexState
 state_in s = flex_state s.store s.flex
 
@@ -68,7 +70,8 @@ flex_sized cpu s = bind (or_error (sized (state_in s) (register_of cpu 0))) (λ 
 abbrev pub flex_extended : State → FlexMemory → Result (State × FlexMemory) Refusal
 flex_extended cpu s = fit_told cpu (left_by s.store (extended (state_in s) (register_of cpu 0) (register_of cpu 1)))
 
--- Flex_MidExtend: R0 has an anchor's address, R1 a place in its block, R2 how many bytes come there, or go before it.
+-- Flex_MidExtend: R0 has an anchor's address, R1 a place in its block, R2 how many bytes come
+-- there, or go before it.
 abbrev pub flex_mid_extended : State → FlexMemory → Result (State × FlexMemory) Refusal
 flex_mid_extended cpu s =
     fit_told cpu

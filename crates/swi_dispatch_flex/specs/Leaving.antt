@@ -17,8 +17,8 @@ pub record CanCallFlex (m : AddressMap) (f : Flex) : Type 0 where
   pub classes : AreClasses m
   pub few : length (store_of m).others < 68
 
--- Memory after a call, and where the flex store is then: memory spells it, the marked words are those of the lists, and
--- whatever areas and modules stood on the memory still do.
+-- Memory after a call, and where the flex store is then: memory spells it, the marked words are
+-- those of the lists, and whatever areas and modules stood on the memory still do.
 pub record LeavesFlex (m n : AddressMap) (g : Flex) : Type 0 where
   pub flex : HasFlex n g
   pub classes : AreClasses n

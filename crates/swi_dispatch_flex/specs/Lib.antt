@@ -1,2 +1,3 @@
+-- The flex calls as SWIs. Begin with Calls.
 pub mod Calls
 pub mod Leaving

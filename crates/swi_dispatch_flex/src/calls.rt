@@ -14,11 +14,13 @@ use flex_ground::flex_store::Flex;
 use profile::{ErrorNumber, SwiName};
 use swi_dispatch_answers::Refusal;
 
-/// A flex call by its name; any other is unknown. What it asks for is in R0 to R2; what it answers goes to R0.
+/// A flex call by its name; any other is unknown. What it asks for is in R0 to R2; what it answers
+/// goes to R0.
 ///
 /// # Errors
 ///
-/// As the call of `Flex` refuses it, or `SwiUnknown` where the name is of no flex call; nothing is changed then.
+/// As the call of `Flex` refuses it, or `SwiUnknown` where the name is of no flex call; nothing is
+/// changed then.
 #[tactic(auto, unfolding(crate::specs::Calls::flex_called))]
 pub fn call_flex(
     cpu: &mut Cpu,

@@ -1,5 +1,6 @@
--- The core on its way into module code (RISC OS 3 Programmer's Reference Manual, "Modules", "SWI handler code", "Initialisation entry point",
--- "Finalisation entry point"; the return gate is this project's own): supervisor mode, V clear, the other flags and the masks as the caller has them,
+-- The core on its way into module code (RISC OS 3 Programmer's Reference Manual, "Modules", "SWI
+-- handler code", "Initialisation entry point", "Finalisation entry point"; the return gate is this
+-- project's own): supervisor mode, V clear, the other flags and the masks as the caller has them,
 -- and R14 of supervisor mode the gate with that status.
 use Rattle.std.specs.Prelude.{ℕ, false, ◌+◌, ◌%◌}
 use Rattle.arm_step.specs.declared.psr.Mode.TheVariants.{User, Supervisor}

@@ -1,4 +1,5 @@
--- Frames of module code that is under way, the innermost last, and what each keeps (this project's own).
+-- Frames of module code that is under way, the innermost last, and what each keeps (this project's
+-- own).
 use Rattle.std.specs.Prelude.{ℕ, ◌-◌, Option, List, length, take, slice_get}
 use Rattle.arm_step.specs.declared.psr.Mode.TheVariants.{Supervisor}
 use Rattle.arm_step.specs.State.{State, register_in}

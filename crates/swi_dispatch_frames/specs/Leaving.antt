@@ -1,6 +1,7 @@
--- The core on its way out of module code (RISC OS 3 Programmer's Reference Manual, "Modules", "SWI handler code"; what is restored is this project's
--- own). After a SWI R10 to R12 get their old words, R0 to R9 and the flags stay as the code left them, and the mode and the masks are the caller's. After
--- another entry R0 to R12 and the whole status are the caller's.
+-- The core on its way out of module code (RISC OS 3 Programmer's Reference Manual, "Modules", "SWI
+-- handler code"; what is restored is this project's own). After a SWI R10 to R12 get their old
+-- words, R0 to R9 and the flags stay as the code left them, and the mode and the masks are the
+-- caller's. After another entry R0 to R12 and the whole status are the caller's.
 use Rattle.std.specs.Prelude.{ℕ, zero, suc, ◌+◌, ◌-◌, List, slice_index}
 use Rattle.arm_step.specs.declared.psr.Mode.TheVariants.{User}
 use Rattle.arm_step.specs.declared.psr.Psr.{Psr}

@@ -1,3 +1,5 @@
+//! What a store call keeps from its begin to its end.
+
 use arm_step::{Mode, Psr};
 
 /// What the end of a call needs to know of its begin.

@@ -1,3 +1,5 @@
+//! A frame: what was saved as module code was entered.
+
 ghost use Rattle.std.specs.Prelude.{◌≡◌, ◌==◌};
 ghost use Rattle.arm_step.specs.State.{register_in};
 ghost use Rattle.arm_step.specs.declared.psr.Mode.TheVariants.{Supervisor};

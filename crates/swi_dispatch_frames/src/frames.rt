@@ -1,3 +1,5 @@
+//! The frames that are open.
+
 ghost use Rattle.std.specs.Prelude.{◌≡◌, ◌<◌, ◌≤◌, [], ◌∷◌, ◌++◌, None, Some, MatchOption, length};
 ghost use Rattle.swi_dispatch_frames.specs.Frames.{innermost, closed};
 

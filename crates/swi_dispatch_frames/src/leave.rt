@@ -7,8 +7,9 @@ use crate::frame::{Frame, FrameKind, SAVED_REGISTERS};
 use arm_step::{Cpu, Mode, Psr};
 
 impl Frame {
-    /// The core comes back from module code to where the call goes on. After a SWI, R0 to R9 and the flags N, Z, C and V stay as the code left
-    /// them; after another entry nothing does, and whether it refused is for the caller to read before.
+    /// The core comes back from module code to where the call goes on. After a SWI, R0 to R9 and
+    /// the flags N, Z, C and V stay as the code left them; after another entry nothing does, and
+    /// whether it refused is for the caller to read before.
     #[tactic(auto, unfolding(crate::specs::Leaving::left))]
     pub fn leave(&self, cpu: &mut Cpu)
         ensures { cpu.new ≡ left cpu.old self.now }

@@ -1,4 +1,5 @@
-//! Frames: module code that has been entered and has not come back yet, and what the core is like on its way in and out.
+//! Frames: module code that was entered and has not come back yet, and the core on its way in and
+//! out.
 #![tactic(auto)]
 
 pub mod busy;

@@ -1,5 +1,6 @@
--- OS_Module, by its reason in R0, where no module code is to run (RISC OS 3 Programmer's Reference Manual, "OS_Module"; the numbers of the
--- errors are this project's own). All other reasons are unknown here.
+-- OS_Module, by its reason in R0, where no module code is to run (RISC OS 3 Programmer's Reference
+-- Manual, "OS_Module"; the numbers of the errors are this project's own). All other reasons are
+-- unknown here.
 use Rattle.std.specs.Prelude.{Option, Some, Result}
 use Rattle.profile.specs.Reasons.{module_reason}
 use Rattle.profile.specs.declared.error.ErrorNumber.TheVariants.{ModuleBadReason}

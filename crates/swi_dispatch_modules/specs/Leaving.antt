@@ -8,7 +8,8 @@ use Rattle.instances.specs.Turns.{MayGoOn}
 use Rattle.instances_plans.specs.Plans.{Plan}
 use Rattle.instances_table.specs.Modules.{Module, slots_of}
 
--- Memory, areas and modules after a call: memory and areas as sound as before, the same instances, and a call under way that could go on still can.
+-- Memory, areas and modules after a call: memory and areas as sound as before, the same instances,
+-- and a call under way that could go on still can.
 pub record LeavesWorld (m n : AddressMap) (k l : Land) (old new : List Module) : Type 0 where
   pub memory : LeavesSound m n l
   pub slots : slots_of new ≡ slots_of old

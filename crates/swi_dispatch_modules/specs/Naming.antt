@@ -1,5 +1,6 @@
--- OS_Module, the reasons that tell of instances, name them and prefer them: 12, 15, 16 and 18 (RISC OS 3 Programmer's Reference Manual,
--- "OS_Module"). Strings are read first of all; a name is the whole string.
+-- OS_Module, the reasons that tell of instances, name them and prefer them: 12, 15, 16 and 18 (RISC
+-- OS 3 Programmer's Reference Manual, "OS_Module"). Strings are read first of all; a name is the
+-- whole string.
 use Rattle.std.specs.Prelude.{Result, Ok, List, ℕ}
 use Rattle.profile.specs.Outcome.{bind}
 use Rattle.profile.specs.declared.error.ErrorNumber.{ErrorNumber}
@@ -14,8 +15,8 @@ use Rattle.instances_ground.specs.World.{World}
 use Rattle.instances_table.specs.declared.parts.Place.{Place}
 use Rattle.instances_table.specs.Changes.{preferring, renamed}
 
--- reason 12, information: R1 and R2 have the numbers of a module and of an instance, and those of the next instance then; R3 the address of the
--- image, and R4 the value of the private word
+-- reason 12, information: R1 and R2 have the numbers of a module and of an instance, and those of
+-- the next instance then; R3 the address of the image, and R4 the value of the private word
 abbrev pub place_asked : State → Place
 place_asked cpu = record { number = register_of cpu 1; instance = register_of cpu 2 }
 
@@ -43,7 +44,8 @@ abbrev pub instance_preferred : State → World → Result (State × World) Refu
 instance_preferred cpu w =
     bind (or_error (string_in w.estate.store.bytes cpu 1)) (λ full. or_error (made_preferred cpu w full))
 
--- reason 18, look up: R1 points to a name; R1 and R2 have the numbers then, R3 and R4 are as in reason 12
+-- reason 18, look up: R1 points to a name; R1 and R2 have the numbers then, R3 and R4 are as in
+-- reason 12
 abbrev pub with_found : State → Found → State
 with_found cpu f =
     with_register (with_register (with_register (with_register cpu 1 f.place.number) 2 f.place.instance) 3 f.image) 4 f.word

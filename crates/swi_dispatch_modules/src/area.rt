@@ -1,4 +1,5 @@
-//! OS_Module, the reasons that act on the relocatable module area: 5, 6, 7 and 13 (RISC OS 3 Programmer's Reference Manual, "OS_Module").
+//! OS_Module, the reasons that act on the relocatable module area: 5, 6, 7 and 13 (RISC OS 3
+//! Programmer's Reference Manual, "OS_Module").
 
 ghost use Rattle.std.specs.Prelude.{◌≡◌, List};
 ghost use Rattle.profile.specs.Outcome.{Leaves};
@@ -66,7 +67,8 @@ pub(crate) fn free_block(
     Ok(())
 }
 
-/// Reason 13: the block of the address in R2 changes by R3 bytes, and R2 has its address then, or 0.
+/// Reason 13: the block of the address in R2 changes by R3 bytes, and R2 has its address then, or
+/// 0.
 pub(crate) fn extend_block(
     cpu: &mut Cpu,
     memory: &mut AddressMap,

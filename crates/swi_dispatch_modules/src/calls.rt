@@ -1,3 +1,5 @@
+//! OS_Module by its reason, where no module code is to run.
+
 ghost use Rattle.std.specs.Prelude.{◌≡◌};
 ghost use Rattle.profile.specs.Outcome.{Leaves};
 ghost use Rattle.instances_ground.specs.rma.specs.os_heap.specs.Store.{AreClasses};
@@ -15,13 +17,13 @@ use instances_ground::rma::dynamic_areas::Areas;
 use profile::{ErrorNumber, ModuleReason};
 use swi_dispatch_store::swi_dispatch_answers::Refusal;
 
-/// OS_Module, by its reason in R0, where no module code is to run. A block is in R2, a size or a change of one in R3; names are strings
-/// (RISC OS 3 Programmer's Reference Manual, "OS_Module").
+/// OS_Module, by its reason in R0, where no module code is to run. A block is in R2, a size or a
+/// change of one in R3; names are strings (RISC OS 3 Programmer's Reference Manual, "OS_Module").
 ///
 /// # Errors
 ///
-/// `ModuleBadReason` where it is none of these reasons, `BadString` where a string can't be read, else as the call of `rma` or of `instances`
-/// refuses it; nothing is changed then.
+/// `ModuleBadReason` where it is none of these reasons, `BadString` where a string can't be read,
+/// else as the call of `rma` or of `instances` refuses it; nothing is changed then.
 #[tactic(auto, unfolding(crate::specs::Calls::module_called))]
 pub fn call_module(
     cpu: &mut Cpu,

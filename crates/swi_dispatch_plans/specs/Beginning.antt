@@ -25,9 +25,9 @@ entries (f ∷ fs) = if is_swi f.kind then entries fs else 1 + entries fs
 abbrev pub AreHeld : List Module → List Frame → Type 0
 AreHeld modules frames = All (λ (f : Frame). is_used f.slot (slots_of modules) ≡ true) frames
 
--- What holds of every setting: the areas stand on the memory; the plan that is kept while module code runs finds all
--- that it asks for; no entry of a module is under way while none is kept; and each frame is of an instance that is
--- there.
+-- What holds of every setting: the areas stand on the memory; the plan that is kept while module
+-- code runs finds all that it asks for; no entry of a module is under way while none is kept; and
+-- each frame is of an instance that is there.
 pub record IsSetting (s : Setting) : Type 0 where
   pub estate : IsEstate s.world.estate
   pub modules : MayGoOn s.world s.plan
@@ -42,14 +42,16 @@ pub record IsFree (s : Setting) : Type 0 where
   pub held : AreHeld s.world.modules s.frames
   pub world : IsWorld s.world []
 
--- A call on modules may begin: its plan is ready, and no SWI is under way of an instance that it names.
+-- A call on modules may begin: its plan is ready, and no SWI is under way of an instance that it
+-- names.
 pub record CanBegin (s : Setting) (p : Plan) : Type 0 where
   pub going : IsUnderWay s.world p
   pub rests : p.runs ≡ false
   pub free : IsFree s
   pub spared : has_swi_of (slots_of_plan p) s.frames ≡ false
 
--- No SWI is under way of an instance of the module that one of a title, or one with a header, takes the place of.
+-- No SWI is under way of an instance of the module that one of a title, or one with a header, takes
+-- the place of.
 abbrev pub SparesTitled : Setting → List ℕ → Type 0
 SparesTitled s title = has_swi_of (slots_of (titled title s.world.modules)) s.frames ≡ false
 

@@ -1,7 +1,7 @@
--- OS_Module, the reasons that add a module or an instance: what is refused before anything is done (RISC OS 3
--- Programmer's Reference Manual, "OS_Module", reasons 0, 1, 10, 11 and 14; which calls are refused while module code
--- is under way, and the order of the refusals, are this project's own). What each does then, and what it refuses at
--- that, stands in `instances`.
+-- OS_Module, the reasons that add a module or an instance: what is refused before anything is done
+-- (RISC OS 3 Programmer's Reference Manual, "OS_Module", reasons 0, 1, 10, 11 and 14; which calls
+-- are refused while module code is under way, and the order of the refusals, are this project's
+-- own). What each does then, and what it refuses at that, stands in `instances`.
 use Rattle.std.specs.Prelude.{ℕ, Bool, not, List, [], ok_or, Result, Ok, Err, if◌then◌else◌}
 use Rattle.profile.specs.Outcome.{bind}
 use Rattle.profile.specs.declared.error.ErrorNumber.{ErrorNumber}
@@ -25,7 +25,8 @@ use Rattle.swi_dispatch_plans.specs.declared.image_plans.Load.{Load}
 use Rattle.swi_dispatch_plans.specs.ModulePlans.{may_begin_alone, may_finalise}
 use Rattle.swi_dispatch_plans.specs.Setting.{Setting, string_asked}
 
--- A module that is added takes the place of an older one of its title, whose instances are finalised.
+-- A module that is added takes the place of an older one of its title, whose instances are
+-- finalised.
 abbrev pub may_replace : List ℕ → Setting → Result (Unit {0}) ErrorNumber
 may_replace title s = may_finalise (slots_of (titled title s.world.modules)) s
 
@@ -82,8 +83,8 @@ copy_asked s =
     if not (may_be_copied s.world.estate range.at range.len) then Err BadPointer else
     bind (may_add s range) (λ _. Ok range)
 
--- Reason 14, instantiate: R1 points to a full name and a text. A bad name and an unknown module are refused first, but
--- an instance that exists and a full table only where module code may run.
+-- Reason 14, instantiate: R1 points to a full name and a text. A bad name and an unknown module are
+-- refused first, but an instance that exists and a full table only where module code may run.
 abbrev pub well_named : Result Plan ErrorNumber → Result (Unit {0}) ErrorNumber
 well_named (Err BadString) = Err BadString
 well_named (Err ModuleNotFound) = Err ModuleNotFound

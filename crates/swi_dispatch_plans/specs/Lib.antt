@@ -1,3 +1,4 @@
+-- OS_Module, what is refused first and what is planned. Begin with ModulePlans and ImagePlans.
 pub use Rattle.swi_dispatch_modules.specs.instances
 pub use Rattle.swi_dispatch_modules.specs.swi_dispatch_store
 pub use Rattle.swi_dispatch_modules

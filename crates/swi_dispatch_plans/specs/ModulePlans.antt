@@ -1,6 +1,6 @@
--- OS_Module, the reasons that may run module code: what each refuses before anything is done, and the plan that it
--- makes (RISC OS 3 Programmer's Reference Manual, "OS_Module"; which calls are refused while module code is under way,
--- and the order of the refusals, are this project's own).
+-- OS_Module, the reasons that may run module code: what each refuses before anything is done, and
+-- the plan that it makes (RISC OS 3 Programmer's Reference Manual, "OS_Module"; which calls are
+-- refused while module code is under way, and the order of the refusals, are this project's own).
 use Rattle.std.specs.Prelude.{ℕ, is_some, ◌==◌, ◌||◌, nat_lt, List, [], ◌∷◌, length, Result, Ok, Err, if◌then◌else◌}
 use Rattle.profile.specs.Outcome.{bind}
 use Rattle.profile.specs.declared.error.ErrorNumber.{ErrorNumber}
@@ -12,9 +12,9 @@ use Rattle.swi_dispatch_modules.specs.instances.specs.Plans.{clearing, deletion,
 use Rattle.swi_dispatch_modules.specs.instances.specs.Reading.{slot_meant}
 use Rattle.swi_dispatch_plans.specs.Setting.{Setting, string_asked}
 
--- A call that may run module code is refused while an initialisation or a finalisation is under way, which is as long
--- as a plan is kept, or a SWI of an instance that it finalises; then where no frame more can be opened, whether or not
--- the call would open one.
+-- A call that may run module code is refused while an initialisation or a finalisation is under
+-- way, which is as long as a plan is kept, or a SWI of an instance that it finalises; then where no
+-- frame more can be opened, whether or not the call would open one.
 unfoldable pub may_finalise : List ℕ → Setting → Result (Unit {0}) ErrorNumber
 may_finalise slots s =
     if is_some s.plan || has_swi_of slots s.frames then Err ModuleBusy else (

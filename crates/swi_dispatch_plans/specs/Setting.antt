@@ -10,8 +10,8 @@ use Rattle.instances_table.specs.Modules.{Module}
 use Rattle.swi_dispatch_answers.specs.Strings.{string_in}
 use Rattle.swi_dispatch_frames.specs.declared.frame.Frame.{Frame}
 
--- The core, the modules and what they stand on, the frames of module code that is under way, and what is left to do of
--- a call on modules whose code is under way.
+-- The core, the modules and what they stand on, the frames of module code that is under way, and
+-- what is left to do of a call on modules whose code is under way.
 pub record Setting : Type 0 where
   pub cpu : State
   pub world : World

@@ -1,4 +1,5 @@
--- A call under way that is tried on a copy: what it comes to, and the error that it would end with (this project's own).
+-- A call under way that is tried on a copy: what it comes to, and the error that it would end with
+-- (this project's own).
 use Rattle.std.specs.Prelude.{ℕ, Option, Some, None, option_map}
 use Rattle.instances_ground.specs.World.{World}
 use Rattle.instances_plans.specs.declared.code.Code.{Code}
@@ -10,7 +11,8 @@ use Rattle.swi_dispatch_modules.specs.instances.specs.Turns.{module_doing}
 abbrev pub world_carried : World → Plan → Carried World
 world_carried w p = carried module_doing w p
 
--- The number of the error that a call ends with, if it is carried on to its end: the word where R0 points to then.
+-- The number of the error that a call ends with, if it is carried on to its end: the word where R0
+-- points to then.
 abbrev pub error_left : Carried World → Option Code → Option ℕ
 error_left c (Some code) = None
 error_left c None = option_map (error_at c.world.estate.store.bytes) c.rest.first

@@ -1,5 +1,5 @@
-//! OS_Module, the reasons that add a module or an instance (RISC OS 3 Programmer's Reference Manual, "OS_Module",
-//! reasons 0, 1, 10, 11 and 14).
+//! OS_Module, the reasons that add a module or an instance (RISC OS 3 Programmer's Reference
+//! Manual, "OS_Module", reasons 0, 1, 10, 11 and 14).
 #![tactic(auto, unfolding(crate::specs::ImagePlans::load_asked, crate::specs::ImagePlans::insertion_asked, crate::specs::ImagePlans::copy_asked, crate::specs::ImagePlans::instantiation_planned))]
 
 ghost use Rattle.std.specs.Prelude.{◌≡◌, ◌≤◌, length, IfOk};
@@ -35,14 +35,14 @@ pub struct ImageRange {
 }
 
 impl<'a> Planner<'a> {
-    /// OS_Module 0 and 1: the words are the name of an image and a text. A load that must be alone begins only while no
-    /// module code is under way.
+    /// OS_Module 0 and 1: the words are the name of an image and a text. A load that must be alone
+    /// begins only while no module code is under way.
     ///
     /// # Errors
     ///
-    /// The first of these: `ImageUnknown` where there is no image of the name; `ModuleBadHeader` where the image has no
-    /// good header; `ModuleBusy` while module code is under way that the load may not meet; `FrameLimit` where no frame
-    /// more can be opened.
+    /// The first of these: `ImageUnknown` where there is no image of the name; `ModuleBadHeader`
+    /// where the image has no good header; `ModuleBusy` while module code is under way that the
+    /// load may not meet; `FrameLimit` where no frame more can be opened.
     pub fn load<'b>(
         &self,
         images: &'b Images,
@@ -71,9 +71,10 @@ impl<'a> Planner<'a> {
     ///
     /// # Errors
     ///
-    /// The first of these: `BadPointer` where no image may be in place there; `ModuleBadHeader` where the image has no
-    /// good header; `ModuleBusy` while an initialisation or a finalisation is under way, or a SWI of a module of the
-    /// title; `FrameLimit` where no frame more can be opened.
+    /// The first of these: `BadPointer` where no image may be in place there; `ModuleBadHeader`
+    /// where the image has no good header; `ModuleBusy` while an initialisation or a finalisation
+    /// is under way, or a SWI of a module of the title; `FrameLimit` where no frame more can be
+    /// opened.
     pub fn insertion(&self) -> Result<ImageRange, ErrorNumber>
         ensures value { result ≡ insertion_asked (setting_in self.now) }
         ensures free { IfOk result (λ _. IsFree (setting_in self.now)) }
@@ -91,7 +92,8 @@ impl<'a> Planner<'a> {
     ///
     /// # Errors
     ///
-    /// The first of these: `BadPointer` where an image can't be a copy of these bytes; all others as in `insertion`.
+    /// The first of these: `BadPointer` where an image can't be a copy of these bytes; all others
+    /// as in `insertion`.
     pub fn copy(&self) -> Result<ImageRange, ErrorNumber>
         ensures value { result ≡ copy_asked (setting_in self.now) }
         ensures free { IfOk result (λ _. IsFree (setting_in self.now)) }
@@ -109,10 +111,11 @@ impl<'a> Planner<'a> {
     ///
     /// # Errors
     ///
-    /// The first of these: `BadString` where the string can't be read, or has no good full name; `ModuleNotFound` where
-    /// there is no module of the title; `ModuleBusy` while an initialisation or a finalisation is under way;
-    /// `FrameLimit` where no frame more can be opened; `InstanceExists` where the module has an instance of the name;
-    /// `InstanceTableFull` where there are 64 instances.
+    /// The first of these: `BadString` where the string can't be read, or has no good full name;
+    /// `ModuleNotFound` where there is no module of the title; `ModuleBusy` while an initialisation
+    /// or a finalisation is under way; `FrameLimit` where no frame more can be opened;
+    /// `InstanceExists` where the module has an instance of the name; `InstanceTableFull` where
+    /// there are 64 instances.
     pub fn instantiation(&self) -> Result<Plan, ErrorNumber>
         ensures value { result ≡ instantiation_planned (setting_in self.now) }
         ensures begins { IfOk result (CanBegin (setting_in self.now)) }

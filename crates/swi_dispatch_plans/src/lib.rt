@@ -1,8 +1,10 @@
-//! The calls on modules that may run module code, before they begin: what each refuses, and the plan that it makes.
+//! Module calls that may run module code, before they begin: what each refuses, and the plan that
+//! it makes.
 //!
-//! A `Planner` is made from the parts of a machine that these calls read; it changes none of them. What holds between
-//! calls is its invariant (`IsSetting`), so that a plan of its may begin (`CanBegin`) on what it was made from. A `Spare`
-//! tries a call that is under way on a copy, to tell whether it ends with an error.
+//! A `Planner` is made from the parts of a machine that these calls read; it changes none of them.
+//! What holds between calls is its invariant (`IsSetting`), so that a plan of its may begin
+//! (`CanBegin`) on what it was made from. A `Spare` tries a call that is under way on a copy, to
+//! tell whether it ends with an error.
 #![tactic(auto)]
 
 pub mod image_plans;

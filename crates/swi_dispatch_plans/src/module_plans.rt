@@ -1,5 +1,5 @@
-//! OS_Module, the reasons that may run module code of instances that are there (RISC OS 3 Programmer's Reference
-//! Manual, "OS_Module", reasons 3, 4, 8 and 9).
+//! OS_Module, the reasons that may run module code of instances that are there (RISC OS 3
+//! Programmer's Reference Manual, "OS_Module", reasons 3, 4, 8 and 9).
 #![tactic(auto, using(crate::proofs::Beginning::alone_begins), unfolding(crate::specs::ModulePlans::reinit_planned, crate::specs::ModulePlans::delete_planned, crate::specs::ModulePlans::tidy_planned, crate::specs::ModulePlans::clear_planned))]
 
 ghost use Rattle.std.specs.Prelude.{◌≡◌, IfOk};
@@ -17,9 +17,9 @@ impl<'a> Planner<'a> {
     ///
     /// # Errors
     ///
-    /// The first of these: `BadString` where the string can't be read; `ModuleNotFound` where there is no instance of
-    /// the name; `ModuleBusy` while an initialisation or a finalisation is under way, or a SWI of the instance;
-    /// `FrameLimit` where no frame more can be opened.
+    /// The first of these: `BadString` where the string can't be read; `ModuleNotFound` where there
+    /// is no instance of the name; `ModuleBusy` while an initialisation or a finalisation is under
+    /// way, or a SWI of the instance; `FrameLimit` where no frame more can be opened.
     pub fn reinit(&self) -> Result<Plan, ErrorNumber>
         ensures value { result ≡ reinit_planned (setting_in self.now) }
         ensures begins { IfOk result (CanBegin (setting_in self.now)) }

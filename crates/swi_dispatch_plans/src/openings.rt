@@ -1,5 +1,5 @@
-//! OS_Module 2, enter: what it is given, what it refuses, and the core as a module is started (RISC OS 3 Programmer's
-//! Reference Manual, "OS_Module", reason 2).
+//! OS_Module 2, enter: what it is given, what it refuses, and the core as a module is started (RISC
+//! OS 3 Programmer's Reference Manual, "OS_Module", reason 2).
 #![tactic(auto, unfolding(crate::specs::Openings::opening_asked))]
 
 ghost use Rattle.std.specs.Prelude.{◌≡◌, ◌<◌, IfOk};
@@ -38,8 +38,8 @@ impl<'a> Planner<'a> {
     ///
     /// # Errors
     ///
-    /// The first of these: `BadString` where a string can't be read; `ModuleNotFound` where there is no instance of the
-    /// name; `ModuleBusy` while a frame is open.
+    /// The first of these: `BadString` where a string can't be read; `ModuleNotFound` where there
+    /// is no instance of the name; `ModuleBusy` while a frame is open.
     pub fn opening(&self) -> Result<Opening, ErrorNumber>
         ensures value { result ≡ opening_asked (setting_in self.now) }
         ensures below { IfOk result (λ o. o.start.slot < 64) }

@@ -18,8 +18,9 @@ use swi_dispatch_answers::strings::string_in;
 use swi_dispatch_frames::Frames;
 use swi_dispatch_modules::instances::Instances;
 
-/// The parts of a machine that a call on modules reads as it begins: the core, the memory, the areas and the modules on
-/// it, the frames of module code that is under way, and what is left to do of a call whose code is under way.
+/// The parts of a machine that a call on modules reads as it begins: the core, the memory, the
+/// areas and the modules on it, the frames of module code that is under way, and what is left to do
+/// of a call whose code is under way.
 #[derive(Drop)]
 pub struct Planner<'a> {
     pub(crate) cpu: &'a Cpu,

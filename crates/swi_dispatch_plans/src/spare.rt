@@ -1,4 +1,5 @@
-//! A second memory, on which a call is tried before it is carried on, where its caller takes no error.
+//! A second memory, on which a call is tried before it is carried on, where its caller takes no
+//! error.
 
 ghost use Rattle.std.specs.Prelude.{◌≡◌, IfOk};
 ghost use Rattle.profile.specs.Sizes.{AreGood};
@@ -18,8 +19,8 @@ use std::marker::Model;
 use swi_dispatch_answers::errors::error_at;
 use swi_dispatch_modules::instances::Instances;
 
-/// What a call is tried on: a memory as large as the machine's, which is kept for the next call. The list of modules is
-/// no part of it: each trial makes its own.
+/// What a call is tried on: a memory as large as the machine's, which is kept for the next call.
+/// The list of modules is no part of it: each trial makes its own.
 #[derive(Drop)]
 pub struct Spare {
     memory: AddressMap,
@@ -61,9 +62,9 @@ impl Spare {
         self.sizes.app()
     }
 
-    /// The number of the error that a call ends with whose entry comes back with an outcome, if it ends so before more
-    /// module code runs. The copy of the modules is a local: this function has a large frame, so it is a call of its
-    /// own.
+    /// The number of the error that a call ends with whose entry comes back with an outcome, if it
+    /// ends so before more module code runs. The copy of the modules is a local: this function has
+    /// a large frame, so it is a call of its own.
     #[inline(never)]
     pub fn error_after(
         &mut self,

@@ -1,5 +1,6 @@
--- The calls on dynamic areas (RISC OS 3 Programmer's Reference Manual, "OS_ChangeDynamicArea", "OS_ReadDynamicArea", and its supplement,
--- "OS_DynamicArea"; what each refuses, and in which order, is this project's own).
+-- The calls on dynamic areas (RISC OS 3 Programmer's Reference Manual, "OS_ChangeDynamicArea",
+-- "OS_ReadDynamicArea", and its supplement, "OS_DynamicArea"; what each refuses, and in which
+-- order, is this project's own).
 use Rattle.std.specs.Prelude.{ℕ, ◌*◌, Option, Some, None, Result, Ok, List, codes}
 use Rattle.profile.specs.Outcome.{bind}
 use Rattle.profile.specs.Reasons.{area_reason}
@@ -26,7 +27,8 @@ use Rattle.swi_dispatch_answers.specs.Strings.{name_at}
 abbrev pub with_land : Store → Land → Estate
 with_land s l = record { store = s; pool = pool_of l; land = l }
 
--- OS_ReadDynamicArea: R0 has the area's number on entry, and its base then; R1 has its size, and R2 its maximum, where that is told.
+-- OS_ReadDynamicArea: R0 has the area's number on entry, and its base then; R1 has its size, and R2
+-- its maximum, where that is told.
 abbrev pub with_maximum : State → Option ℕ → State
 with_maximum cpu None = cpu
 with_maximum cpu (Some maximum) = with_register cpu 2 maximum
@@ -37,8 +39,8 @@ with_extent cpu x = with_maximum (with_register (with_register cpu 0 x.base) 1 x
 unfoldable pub area_read : State → Estate → Result (State × Estate) Refusal
 area_read cpu e = bind (or_error (extent_asked e.land.areas (register_of cpu 0))) (λ x. Ok (with_extent cpu x, e))
 
--- OS_DynamicArea, by its reason in R0. Reason 0, create: R1 to R7 are the words of a new area, and R8 points to its name. Its number, base and
--- maximum go to R1, R3 and R5.
+-- OS_DynamicArea, by its reason in R0. Reason 0, create: R1 to R7 are the words of a new area, and
+-- R8 points to its name. Its number, base and maximum go to R1, R3 and R5.
 abbrev pub wanted_of : State → Wanted
 wanted_of cpu = record {
   number = register_of cpu 1;
@@ -71,7 +73,8 @@ area_removed cpu e =
     bind (or_error (removed e.land e.store number)) (λ l.
     Ok (cpu, with_land (store_emptied e.store (find_area number e.land.areas)) l))
 
--- reason 2, read: R1 has the number; size, base, flags, maximum, 0 for the handler, and workspace go to R2 to R7
+-- reason 2, read: R1 has the number; size, base, flags, maximum, 0 for the handler, and workspace
+-- go to R2 to R7
 abbrev pub with_area_told : State → Area → State
 with_area_told cpu a =
     let extent : State = with_register (with_register cpu 2 (4096 * a.pages)) 3 a.base in
@@ -102,7 +105,8 @@ area_called_for cpu e None = system_error AreaBadReason
 unfoldable pub area_called : State → Estate → Result (State × Estate) Refusal
 area_called cpu e = area_called_for cpu e (area_reason (register_of cpu 0))
 
--- OS_ChangeDynamicArea: R0 has the number, R1 the change. Pages move even where not all can; R1 tells how many bytes did, where there is the area.
+-- OS_ChangeDynamicArea: R0 has the number, R1 the change. Pages move even where not all can; R1
+-- tells how many bytes did, where there is the area.
 abbrev pub change_asked : State → Estate → Changed
 change_asked cpu e = change_answer e.land.areas e.store e.pool (register_of cpu 0) (register_of cpu 1)
 

@@ -1,5 +1,5 @@
--- OS_Heap, by its reason in R0: the heap is in R1, a block in R2, a size or a change of one in R3; what is answered goes to R2 and R3 (RISC OS 3
--- Programmer's Reference Manual, "OS_Heap").
+-- OS_Heap, by its reason in R0: the heap is in R1, a block in R2, a size or a change of one in R3;
+-- what is answered goes to R2 and R3 (RISC OS 3 Programmer's Reference Manual, "OS_Heap").
 use Rattle.std.specs.Prelude.{Option, Some, None, Result, Ok}
 use Rattle.profile.specs.Outcome.{bind}
 use Rattle.profile.specs.Reasons.{heap_reason}

@@ -6,8 +6,8 @@ use Rattle.flex_kept.specs.dynamic_areas.specs.Areas.{Land}
 use Rattle.flex_kept.specs.dynamic_areas.specs.Ground.{IsEstate, estate_of}
 use Rattle.flex_kept.specs.Keeping.{KeepsFlex}
 
--- Memory and areas after a call: the areas stand on the memory, the marked words are those of the heaps' lists, the other recorded ranges and the
--- flex store are as before.
+-- Memory and areas after a call: the areas stand on the memory, the marked words are those of the
+-- heaps' lists, the other recorded ranges and the flex store are as before.
 pub record LeavesSound (m n : AddressMap) (l : Land) : Type 0 where
   pub estate : IsEstate (estate_of n l)
   pub classes : AreClasses n

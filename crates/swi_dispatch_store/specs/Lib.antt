@@ -1,3 +1,4 @@
+-- The calls on heaps and areas as SWIs. Begin with Heaps and Areas.
 pub use Rattle.swi_dispatch_answers
 pub use Rattle.flex_kept
 pub use Rattle.flex_kept.specs.dynamic_areas

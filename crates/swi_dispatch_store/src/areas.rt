@@ -1,5 +1,5 @@
-//! The calls on dynamic areas (RISC OS 3 Programmer's Reference Manual, "OS_ChangeDynamicArea", "OS_ReadDynamicArea", and its supplement,
-//! "OS_DynamicArea").
+//! The calls on dynamic areas (RISC OS 3 Programmer's Reference Manual, "OS_ChangeDynamicArea",
+//! "OS_ReadDynamicArea", and its supplement, "OS_DynamicArea").
 
 ghost use Rattle.std.specs.Prelude.{◌≡◌, Some, None, Err};
 ghost use Rattle.profile.specs.Outcome.{Leaves};
@@ -43,8 +43,9 @@ pub fn read_area(cpu: &mut Cpu, memory: &AddressMap, areas: &Areas) -> Result<()
 ///
 /// # Errors
 ///
-/// `AreaBadReason` where there is no such reason, else as the call of `dynamic_areas` refuses it, or `BadString` where nothing speaks against a
-/// new area but that its name can't be read; nothing is changed then.
+/// `AreaBadReason` where there is no such reason, else as the call of `dynamic_areas` refuses it,
+/// or `BadString` where a new area would be allowed but that its name can't be read; nothing is
+/// changed then.
 #[tactic(auto, unfolding(crate::specs::Areas::area_called))]
 pub fn call_area(cpu: &mut Cpu, memory: &mut AddressMap, areas: &mut Areas) -> Result<(), Refusal>
     requires estate { IsEstate (estate_of memory.old areas.old) }
@@ -119,7 +120,7 @@ fn make_area(
     Ok(())
 }
 
-// A name that can't be read counts only where nothing else speaks against the area.
+// A name that can't be read counts only where the area would be allowed otherwise.
 fn unnamed_error(cpu: &Cpu, memory: &AddressMap, areas: &Areas, wanted: &Wanted) -> Refusal
     ensures { area_named cpu.now (estate_of memory.now areas.now) wanted.now None ≡ Err result }
 {
@@ -181,8 +182,9 @@ fn renumber_area(cpu: &mut Cpu, memory: &AddressMap, areas: &mut Areas) -> Resul
     Ok(())
 }
 
-/// OS_ChangeDynamicArea: the area of the number in R0 changes by R1 bytes. Pages move even where not all can, so the call may change something
-/// and err. Answers the error with which it ends, if it does.
+/// OS_ChangeDynamicArea: the area of the number in R0 changes by R1 bytes. Pages move even where
+/// not all can, so the call may change something and err. Answers the error with which it ends, if
+/// it does.
 pub fn change_area(cpu: &mut Cpu, memory: &mut AddressMap, areas: &mut Areas) -> Option<ErrorNumber>
     requires estate { IsEstate (estate_of memory.old areas.old) }
     requires classes { AreClasses memory.old }

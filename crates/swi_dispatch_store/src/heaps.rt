@@ -12,11 +12,13 @@ use os_heap::Heaps;
 use profile::{ErrorNumber, HeapReason};
 use swi_dispatch_answers::Refusal;
 
-/// A heap call by its reason in R0. The heap is in R1, a block in R2, a size or a change of one in R3; what is answered goes to R2 and R3.
+/// A heap call by its reason in R0. The heap is in R1, a block in R2, a size or a change of one in
+/// R3; what is answered goes to R2 and R3.
 ///
 /// # Errors
 ///
-/// `HeapBadReason` where there is no such reason, else as the call of `os_heap` refuses it; nothing is changed then.
+/// `HeapBadReason` where there is no such reason, else as the call of `os_heap` refuses it; nothing
+/// is changed then.
 #[tactic(auto, unfolding(crate::specs::Heaps::heap_called))]
 pub fn call_heap(cpu: &mut Cpu, memory: &mut AddressMap) -> Result<(), Refusal>
     requires sound { IsSound (store_of memory.old) }

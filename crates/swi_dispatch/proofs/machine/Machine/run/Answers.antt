@@ -22,7 +22,7 @@ loop-taken-init g c =
       same_flag = refl;
     }
 
--- the steps so far and the quiet ones behind them
+-- the steps so far and the quiet ones after them
 pub returns-in-Err-clause-ends : goal.returns-in-Err-clause-ends
 returns-in-Err-clause-ends g c =
     let quiet = c.run_quietly-quiet.ensures in
