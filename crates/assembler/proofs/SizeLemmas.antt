@@ -8,7 +8,7 @@ use Rattle.std.specs.List.{list_all}
 use Rattle.std.specs.Str.Parse.{digits_value_after}
 use Rattle.assembler.specs.Directives.{size_of, with_digit}
 
--- digits behind those of `size`
+-- digits after those of `size`
 unfoldable pub digits_onto : ℕ → ℕ → List ℕ → Option ℕ
 digits_onto radix size ds =
     if list_all (λ c. is_digit c radix) ds then Some (min (digits_value_after radix size ds) 1048577) else None

@@ -1,5 +1,6 @@
--- What directives are written as; they are this project's own, in the manner of Acorn's assemblers. `DCD 1,loop` is two words,
--- `DCB "Hi",0` three bytes, `SPACE 8` eight zero bytes, and `ALIGN` zero bytes up to the next multiple of 4.
+-- What directives are written as; they are this project's own, in the manner of Acorn's assemblers.
+-- `DCD 1,loop` is two words, `DCB "Hi",0` three bytes, `SPACE 8` eight zero bytes, and `ALIGN` zero
+-- bytes up to the next multiple of 4.
 use Rattle.std.specs.Prelude.{ℕ, zero, suc, ◌+◌, ◌*◌, ◌==◌, ◌&&◌, not, min, List, length, take, drop, codes, nat_le, nat_lt, Bool, Option, None, Some, if◌then◌else◌}
 use Rattle.std.specs.Char.{is_digit, digit_value}
 use Rattle.std.specs.List.{list_all, prefix_len}
@@ -56,7 +57,8 @@ next_item others kind labels written text (Some after) = do
   item ← item_at kind labels written after
   others item.0 item.1
 
--- the items after a comma each, as many as there are; the count, which is never used up, is the length of a text that holds them
+-- the items after a comma each, as many as there are; the count, which is never used up, is the
+-- length of a text that holds them
 unfoldable pub more_items : ℕ → Data → Lookup → Written → List ℕ → Option (Written × List ℕ)
 more_items zero kind labels written text = Some (written, text)
 more_items (suc n) kind labels written text = next_item (more_items n kind labels) kind labels written text (comma text)
@@ -67,11 +69,12 @@ items kind labels written text = do
   first ← item_at kind labels written text
   more_items (length first.1) kind labels first.0 first.1
 
--- a size with one more digit behind it
+-- a size with one more digit after it
 unfoldable pub with_digit : ℕ → ℕ → ℕ → Option ℕ
 with_digit radix size digit = if is_digit digit radix then Some (min (size * radix + digit_value digit) 1048577) else None
 
--- the number that digits spell, where 1,048,577 stands for all greater ones: so many bytes are too many
+-- the number that digits spell, where 1,048,577 stands for all greater ones: so many bytes are too
+-- many
 unfoldable pub size_of : ℕ → List ℕ → Option ℕ
 size_of radix digits =
     if nat_lt 0 (length digits) && list_all (λ c. is_digit c radix) digits then Some (min (digits_value radix digits) 1048577) else None

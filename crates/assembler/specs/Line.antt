@@ -1,5 +1,5 @@
--- A line: a label or none, and then, after spaces, an instruction or a directive or nothing, and a comment or none. `loop SUBS R0,R0,#1 ; count`
--- is a label, an instruction and a comment.
+-- A line: a label or none, and then, after spaces, an instruction or a directive or nothing, and a
+-- comment or none. `loop SUBS R0,R0,#1 ; count` is a label, an instruction and a comment.
 use Rattle.std.specs.Prelude.{ℕ, ◌+◌, ◌==◌, ◌||◌, List, ◌++◌, length, replicate, Option, None, Some, if◌then◌else◌}
 use Rattle.assembler_names.specs.Words.{◌>>=◌, word, after_word, spaces, is_end}
 use Rattle.assembler_names.specs.Labels.{is_label}
@@ -12,7 +12,8 @@ use Rattle.assembler.specs.declared.directives.Data.TheVariants.{Words, Bytes}
 use Rattle.assembler.specs.Written.{Written, unrefused, with_item, instruction_item, aligned}
 use Rattle.assembler.specs.Directives.{directive_named, items, size}
 
--- the address where a label on the line stands, and the program with what the line is written as at its end
+-- the address where a label on the line stands, and the program with what the line is written as at
+-- its end
 pub record Statement : Type 0 where
   pub place : ℕ
   pub written : Written

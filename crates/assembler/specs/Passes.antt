@@ -1,5 +1,6 @@
--- What a source means at an origin: its program, or the first line that is refused and why. Both passes read each line; the first knows no
--- label and finds the places of all, the second knows them all and gives the bytes.
+-- What a source means at an origin: its program, or the first line that is refused and why. Both
+-- passes read each line; the first knows no label and finds the places of all, the second knows
+-- them all and gives the bytes.
 use Rattle.std.specs.Prelude.{ℕ, ◌+◌, ◌^◌, ◌==◌, ◌||◌, List, [], ◌∷◌, ◌++◌, length, nat_lt, Bool, false, Option, None, Some, is_some, Result, Ok, Err, if◌then◌else◌}
 use Rattle.std.specs.Str.Lines.{lines}
 use Rattle.profile.specs.Outcome.{bind}
@@ -24,7 +25,8 @@ abbrev pub leaving : {A U : Type 0} → A → Result U Reason → Result A Reaso
 leaving after (Ok u) = Ok after
 leaving after (Err reason) = Err reason
 
--- the labels so far with their addresses, in the order of the source, and the program so far, with zeros for values that need labels
+-- the labels so far with their addresses, in the order of the source, and the program so far, with
+-- zeros for values that need labels
 pub record Measured : Type 0 where
   pub entries : Entries
   pub program : List ℕ
@@ -67,6 +69,7 @@ unfoldable pub means_lines : List (List ℕ) → ℕ → Result (List ℕ) AsmEr
 means_lines texts origin = bind (first_pass origin 1 (record { entries = []; program = [] }) texts)
     (λ entries. second_pass (address_of entries) origin 1 [] texts)
 
--- The program of a source, or the line and the reason; lines end in LF or CR LF, and the last may lack it.
+-- The program of a source, or the line and the reason; lines end in LF or CR LF, and the last may
+-- lack it.
 unfoldable pub means : List ℕ → ℕ → Result (List ℕ) AsmError
 means source origin = means_lines (lines source) origin

@@ -42,6 +42,7 @@ abbrev pub instruction_item : Result ℕ Reason → Written
 instruction_item (Ok word) = record { bytes = to_le_bytes w32 word; fault = None }
 instruction_item (Err reason) = record { bytes = to_le_bytes w32 0; fault = Some reason }
 
--- the program with zero bytes up to the next multiple of 4: five bytes get three more, four get none
+-- the program with zero bytes up to the next multiple of 4: five bytes get three more, four get
+-- none
 abbrev pub aligned : List ℕ → List ℕ
 aligned program = program ++ replicate ((4 - length program % 4) % 4) 0

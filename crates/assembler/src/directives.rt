@@ -1,3 +1,5 @@
+//! The directives: DCD, DCB, SPACE and ALIGN, and the number after SPACE.
+
 ghost use Rattle.std.specs.Prelude.{◌≡◌, ◌≤◌, IfSome, option_map};
 ghost use Rattle.assembler.specs.Directives.{directive_named, size, size_after, size_of, with_digit};
 
@@ -79,7 +81,7 @@ fn size_of(radix: u32, digits: &[u8]) -> Option<usize>
     Some(size)
 }
 
-// One more digit behind a size.
+// One more digit after a size.
 #[tactic(auto, unfolding(crate::specs::Directives::with_digit))]
 fn with_digit(size: usize, digit: u8, radix: u32) -> Option<usize>
     requires low { 2 ≤ radix }

@@ -1,3 +1,5 @@
+//! The line of a source that is refused, and why.
+
 ghost use Rattle.std.specs.Prelude.{◌≡◌};
 
 use assembler_names::Reason;

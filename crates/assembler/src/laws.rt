@@ -1,5 +1,5 @@
-//! The law of the assembler and the disassembler, over their definitions alone: a function that does
-//! nothing, with the law as its contract.
+//! The law of the assembler and the disassembler, over their definitions alone: a function that
+//! does nothing, with the law as its contract.
 ghost use Rattle.assembler.specs.Laws.{PrintedWordsAreAssembled};
 
 /// What `disassemble` writes of a word, of any word, is assembled to that word: a source that is a

@@ -1,4 +1,4 @@
-//! The assembler: the text of a program to its bytes at an address.
+//! The assembler, for scripts: the text of a program to its bytes at an address.
 //!
 //! `docs/ASSEMBLER.md` has the grammar by example.
 #![tactic(auto)]

@@ -1,3 +1,5 @@
+//! The bytes of an assembled program.
+
 ghost use Rattle.std.specs.Prelude.{◌≡◌};
 
 use std::marker::Model;

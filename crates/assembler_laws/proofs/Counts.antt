@@ -19,7 +19,7 @@ one_more_length text = omega arith
 no_byte : {P : Type 0} (c : ℕ) (rest : List ℕ) → length (c ∷ rest) ≤ 0 → P
 no_byte c rest short = let more : suc (length rest) ≤ 0 = short in absurd (omega (arith, more))
 
--- one reading, and the same others behind it
+-- one reading, and the same others after it
 then_same : {A B : Type 0} (n : ℕ) (o : Option (A × List ℕ)) (f g : A × List ℕ → Option (B × List ℕ)) → LeavesAtMost n o
     → ((a : A) (rest : List ℕ) → length rest ≤ n → f (a, rest) ≡ g (a, rest)) → (o >>= f) ≡ (o >>= g)
 then_same n None f g within same = refl

@@ -15,7 +15,7 @@ use Rattle.assembler_laws.proofs.Parts.{line_is, piece_behind, piece_of}
 use Rattle.assembler_laws.proofs.Splits.{one_more}
 use Rattle.assembler_laws.proofs.Tables.{entries-append, entries_of, entry, no_table, not_twice, twice, with_entry}
 
--- what the pass has behind pieces
+-- what the pass has after pieces
 abbrev pub after : List Piece → Measured
 after qs = record { entries = entries_of qs; program = bytes_of qs }
 
@@ -57,7 +57,7 @@ once qs rs q own t =
     = ap (λ (ps : List Piece). ps ++ (q ∷ rs)) t.1.among ∙ append_assoc t.1.before (t.1.piece ∷ t.1.after) (q ∷ rs) in
     t.1.some (sym t.1.label ∙ own t.1.before t.1.after rs t.1.piece q whole t.1.label)
 
--- The pass goes over lines that are laid out behind others.
+-- The pass goes over lines that are laid out after others.
 pub first_over : (qs seen : List Piece) (origin : ℕ) (rest : List (List ℕ)) → AreInPlace no_labels origin (seen ++ qs) → HaveOwnLabels (seen ++ qs)
     → FitsMemory origin (bytes_of (seen ++ qs))
     → first_pass origin (length seen + 1) (after seen) (texts_of qs ++ rest) ≡ first_pass origin (length (seen ++ qs) + 1) (after (seen ++ qs)) rest

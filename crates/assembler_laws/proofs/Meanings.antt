@@ -1,4 +1,5 @@
--- Each source is a program of pieces or is refused at its first line that can't be one, and its meaning says so.
+-- Each source is a program of pieces or is refused at its first line that can't be one, and its
+-- meaning says so.
 use Rattle.std.proofs.Common.{◌≡◌, ◌≤◌, ℕ, ◌+◌, ◌^◌, List, [], ◌∷◌, ◌++◌, length, Option, Some, None, Result, Ok, Err, refl, ap, sym, subst, ◌∙◌, ◌⊎◌, inl, inr}
 use Rattle.std.proofs.lemmas.List.{append-nil, append_assoc, map-append}
 use Rattle.std.proofs.lemmas.List.Elements.{All-cons, All-nil}

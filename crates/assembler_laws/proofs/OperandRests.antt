@@ -18,7 +18,7 @@ use Rattle.assembler_reading.specs.Operands.{Outcome, amount_at, immediate, most
 use Rattle.assembler_reading.specs.Operating.{operate_at, operate_behind, operate_on, operate_with}
 use Rattle.assembler_laws.proofs.Rests.{by_test, expression_rests, made_rests, rest_of, rests_then}
 
--- two readings behind the same one
+-- two readings after the same one
 pub rests_behind : {A B : Type 0} (o : Option A) (f g : A → Option (B × List ℕ)) → ((a : A) → rest_of (f a) ≡ rest_of (g a))
     → rest_of (o >>= f) ≡ rest_of (o >>= g)
 rests_behind None f g same = refl

@@ -1,4 +1,4 @@
--- A line's piece as a function of its place, and the line behind any program from it.
+-- A line's piece as a function of its place, and the line after any program from it.
 use Rattle.std.proofs.Common.{◌≡◌, ℕ, zero, suc, ◌+◌, ◌-◌, ◌%◌, Bool, true, false, List, [], ◌++◌, length, take, drop, Option, Some, None, refl, ap, sym, ◌∙◌, append_assoc, length-append}
 use Rattle.std.proofs.lemmas.List.{append-nil}
 use Rattle.std.specs.Prelude.{replicate, if◌then◌else◌}
@@ -17,7 +17,7 @@ use Rattle.assembler.specs.declared.directives.Directive.{Directive}
 use Rattle.assembler.specs.declared.directives.Directive.TheVariants as directive
 use Rattle.assembler_laws.specs.Pieces.{Piece, line_behind}
 
--- what is written, behind a program
+-- what is written, after a program
 abbrev pub onto : List ℕ → Written → Written
 onto program w = record { bytes = program ++ w.bytes; fault = w.fault }
 
@@ -81,14 +81,14 @@ rest_part labels origin place text = if is_end text then Some (part (origin + pl
 abbrev pub piece : List ℕ → List ℕ → Statement → Piece
 piece text name s = record { text = text; label = name; address = s.place; bytes = s.written.bytes; fault = s.written.fault }
 
--- the piece of a line, so many bytes behind the origin
+-- the piece of a line, so many bytes after the origin
 unfoldable pub piece_of : Lookup → ℕ → ℕ → List ℕ → Option Piece
 piece_of labels origin place text = do
   name ← label_of text
   read ← rest_part labels origin place (after_word text)
   Some (piece text name read)
 
--- Items go behind what stands written.
+-- Items go after what stands written.
 pub fault_alone : (f : Option Reason) → with_fault None f ≡ f
 fault_alone None = refl
 fault_alone (Some reason) = refl
@@ -146,7 +146,7 @@ items_onto kind labels start w text =
     ∙ items_then start (item_at kind labels w text) (λ item. more_items (length item.1) kind labels item.0 item.1)
     (λ v rest. more_onto (length rest) kind labels start v rest)
 
--- The statements of a line go behind the program.
+-- The statements of a line go after the program.
 then_behind : {A : Type 0} (program : List ℕ) (o : Option A) (f g : A → Option (Statement × List ℕ)) → ((a : A) → f a ≡ read_behind program (g a))
     → (o >>= f) ≡ read_behind program (o >>= g)
 then_behind program None f g same = refl
@@ -251,7 +251,7 @@ rest_behind labels origin program text = by (is_end text) (spaces text)
         ap ended (directed_behind labels origin program rest (directive_named (word rest)))
         ∙ ended_behind program (statement_part labels origin (length program) rest)
 
--- the line behind a program
+-- the line after a program
 abbrev pub piece_behind : List ℕ → Option Piece → Option Line
 piece_behind program None = None
 piece_behind program (Some q) = Some (line_behind program q)

@@ -64,6 +64,6 @@ split_map f (x ∷ xs) (b ∷ bs) y after e =
       backs = s.backs;
     }
 
--- one more element behind others
+-- one more element after others
 pub one_more : {A : Type 0} (xs : List A) (x : A) (ys : List A) → (xs ++ (x ∷ [])) ++ ys ≡ xs ++ (x ∷ ys)
 one_more xs x ys = append_assoc xs (x ∷ []) ys

@@ -1,5 +1,5 @@
--- What an assembled source is, without passes: laws over the definitions alone. The origin is an address below 2^26, or
--- 2^26 itself.
+-- What an assembled source is, without passes: laws over the definitions alone. The origin is an
+-- address below 2^26, or 2^26 itself.
 use Rattle.std.specs.Prelude.{ℕ, ◌≡◌, ◌≤◌, ◌^◌, ◌↔◌, List, length, Ok, Err}
 use Rattle.std.specs.Str.Lines.{lines}
 use Rattle.assembler_names.specs.Expressions.{Lookup}
@@ -21,7 +21,8 @@ ProgramsArePieces =
     (source program : List ℕ) (origin : ℕ)
     → origin ≤ 2 ^ 26 → (means source origin ≡ Ok program) ↔ IsProgram (lines source) origin program
 
--- Lines are refused exactly at the first that can't be laid out, or else at the first whose piece is refused.
+-- Lines are refused exactly at the first that can't be laid out, or else at the first whose piece
+-- is refused.
 abbrev pub LinesAreRefused : Type 0
 LinesAreRefused =
     (texts : List (List ℕ)) (error : AsmError) (origin : ℕ)
@@ -40,7 +41,7 @@ pub record IsLike (q r : Piece) : Type 0 where
   pub address : r.address ≡ q.address
   pub size : length r.bytes ≡ length q.bytes
 
--- What labels stand for changes neither whether a line is read nor where the lines behind it stand.
+-- What labels stand for changes neither whether a line is read nor where the lines after it stand.
 abbrev pub LabelsMoveNothing : Type 0
 LabelsMoveNothing =
     (labels others : Lookup) (origin place : ℕ) (q : Piece)

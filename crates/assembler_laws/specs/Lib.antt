@@ -1,3 +1,5 @@
+-- The meaning of a source, told without passes. Begin with Programs and Refusals; Laws ties them to
+-- the passes.
 pub mod Laws
 pub mod Lists
 pub mod Pieces

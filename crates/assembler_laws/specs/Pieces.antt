@@ -1,13 +1,13 @@
--- What each line of a source gives to a program: its piece, which is told by the line's text, the place where it begins
--- and the addresses of labels.
+-- What each line of a source gives to a program: its piece, which is told by the line's text, the
+-- place where it begins and the addresses of labels.
 use Rattle.std.specs.Prelude.{ℕ, ◌≡◌, ◌≢◌, List, [], ◌∷◌, ◌++◌, length, Option, Some}
 use Rattle.std.specs.List.{flat_map}
 use Rattle.assembler_names.specs.Expressions.{Lookup}
 use Rattle.assembler_names.specs.declared.reason.Reason.{Reason}
 use Rattle.assembler.specs.Line.{Line, line}
 
--- a line's text; its label, where [] is none, and the address where that stands; the bytes, and what they are refused
--- for, with zeros for what has no value
+-- a line's text; its label, where [] is none, and the address where that stands; the bytes, and
+-- what they are refused for, with zeros for what has no value
 pub record Piece : Type 0 where
   pub text : List ℕ
   pub label : List ℕ
@@ -15,21 +15,21 @@ pub record Piece : Type 0 where
   pub bytes : List ℕ
   pub fault : Option Reason
 
--- what the grammar reads of a line whose piece goes behind a program
+-- what the grammar reads of a line whose piece goes after a program
 abbrev pub line_behind : List ℕ → Piece → Line
 line_behind program q = record {
   label = q.label;
   statement = record { place = q.address; written = record { bytes = program ++ q.bytes; fault = q.fault } };
 }
 
--- The piece is what its line means, under these labels, so many bytes behind the origin: whatever the bytes before it
--- are, the line is read, and puts the piece behind them.
+-- The piece is what its line means, under these labels, so many bytes after the origin: whatever
+-- the bytes before it are, the line is read, and puts the piece after them.
 abbrev pub IsPiece : Lookup → ℕ → ℕ → Piece → Type 0
 IsPiece labels origin place q =
     (program : List ℕ) → length program ≡ place
     → line labels origin program q.text ≡ Some (line_behind program q)
 
--- the bytes of pieces, one behind another
+-- the bytes of pieces, one after another
 abbrev pub bytes_of : List Piece → List ℕ
 bytes_of pieces = flat_map (λ q. q.bytes) pieces
 

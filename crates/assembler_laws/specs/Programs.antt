@@ -24,8 +24,8 @@ IsUnrefused q = q.fault ≡ None
 abbrev pub IsTable : Lookup → List Piece → Type 0
 IsTable labels pieces = (name : List ℕ) (address : ℕ) → (labels name ≡ Some address) ↔ HasLabel pieces name address
 
--- The lines make this program at the origin: they are laid out under the table of their own labels, and no piece is
--- refused.
+-- The lines make this program at the origin: they are laid out under the table of their own labels,
+-- and no piece is refused.
 pub record IsProgram (texts : List (List ℕ)) (origin : ℕ) (program : List ℕ) : Type 0 where
   pub labels : Lookup
   pub pieces : List Piece

@@ -1,4 +1,5 @@
--- The first line that is refused, and why, without passes. Lines that can't be laid out count before values.
+-- The first line that is refused, and why, without passes. Lines that can't be laid out count
+-- before values.
 use Rattle.std.specs.Prelude.{ℕ, ◌≡◌, ◌+◌, ◌⊎◌, List, ◌∷◌, ◌++◌, length, map, Some, None}
 use Rattle.std.specs.List.{All}
 use Rattle.assembler_names.specs.Expressions.{Lookup}
@@ -12,7 +13,7 @@ use Rattle.assembler_laws.specs.Programs.{AreLaidOut, FitsMemory, IsTable, IsUnr
 abbrev pub no_labels : Lookup
 no_labels name = None
 
--- the piece of a line behind others
+-- the piece of a line after others
 pub record Follows (origin : ℕ) (pieces : List Piece) (text : List ℕ) (q : Piece) : Type 0 where
   pub line : q.text ≡ text
   pub piece : IsPiece no_labels origin (length (bytes_of pieces)) q
@@ -21,8 +22,8 @@ pub record Follows (origin : ℕ) (pieces : List Piece) (text : List ℕ) (q : P
 abbrev pub IsTwice : List Piece → Piece → Type 0
 IsTwice pieces q = (address : ℕ) × HasLabel pieces q.label address
 
--- Why a line can't be laid out behind others, the reasons in this order: it is not of the grammar; it has a label of an
--- earlier line; it ends too far.
+-- Why a line can't be laid out after others, the reasons in this order: it is not of the grammar;
+-- it has a label of an earlier line; it ends too far.
 abbrev pub IsUnplacedFor : ℕ → List Piece → List ℕ → Reason → Type 0
 IsUnplacedFor origin pieces text Syntax = (q : Piece) → Follows origin pieces text q → ⊥
 IsUnplacedFor origin pieces text LabelTwice = (q : Piece) × (Follows origin pieces text q × IsTwice pieces q)
@@ -40,7 +41,8 @@ pub record IsUnplaced (texts : List (List ℕ)) (origin : ℕ) (error : AsmError
   pub number : error.line ≡ length pieces + 1
   pub reason : IsUnplacedFor origin pieces text error.reason
 
--- All lines are laid out under the table of their own labels, and this piece is the first that is refused.
+-- All lines are laid out under the table of their own labels, and this piece is the first that is
+-- refused.
 pub record IsUnvalued (texts : List (List ℕ)) (origin : ℕ) (error : AsmError) : Type 0 where
   pub labels : Lookup
   pub pieces : List Piece

@@ -6,7 +6,7 @@ ghost use Rattle.assembler_laws.specs.Lists.{ItemsGoOn, RegistersGoOn, TermsGoOn
 /// A source means a program exactly where there are labels and pieces, one for each line: each is
 /// what its line means at the place where the pieces before it end, under these labels; each label
 /// is on one line, and has the address where that line's piece puts it; no piece is refused, all
-/// fit into memory, and one behind another they are the program.
+/// fit into memory, and one after another they are the program.
 pub fn programs_are_pieces()
     ensures lines { LinesArePieces }
     ensures source { ProgramsArePieces }
@@ -25,7 +25,7 @@ pub fn labels_move_nothing()
 {}
 
 /// The terms of a number, the items of DCD and DCB, and the registers of LDM and STM are read one
-/// behind another up to the end of their list, however many there are: the counts that bound these
+/// after another up to the end of their list, however many there are: the counts that bound these
 /// readings in the assembler's definitions end none of them.
 pub fn lists_go_on()
     ensures terms { TermsGoOn }

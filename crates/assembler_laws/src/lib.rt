@@ -1,4 +1,4 @@
-//! What an assembled program is, told without passes: the pieces of its lines, one behind another.
+//! Laws: what an assembled program is, told without passes, by the pieces of its lines.
 #![tactic(auto)]
 
 pub mod laws;

@@ -8,7 +8,7 @@ use Rattle.std.specs.List.{list_all}
 use Rattle.std.specs.Str.Parse.{digits_value_after}
 use Rattle.assembler_names.specs.Expressions.{numeral, with_digit}
 
--- digits behind those of `value`
+-- digits after those of `value`
 unfoldable pub digits_onto : ℕ → ℕ → List ℕ → Option ℕ
 digits_onto radix value ds =
     if list_all (λ c. is_digit c radix) ds then Some (digits_value_after radix value ds % 2 ^ 32) else None
@@ -19,7 +19,7 @@ same_sum x y d e = omega arith
 same_product : (a b r : ℕ) → a % 2 ^ 32 ≡ b % 2 ^ 32 → (a * r) % 2 ^ 32 ≡ (b * r) % 2 ^ 32
 same_product a b r e = sym (mul-mod_first a r (2 ^ 32)) ∙ ap (λ (m : ℕ). (m * r) % 2 ^ 32) e ∙ mul-mod_first b r (2 ^ 32)
 
--- numbers that are the same modulo 2^32 stay so behind further digits
+-- numbers that are the same modulo 2^32 stay so after further digits
 pub same_value : (radix a b : ℕ) (ds : List ℕ) → a % 2 ^ 32 ≡ b % 2 ^ 32
     → digits_value_after radix a ds % 2 ^ 32 ≡ digits_value_after radix b ds % 2 ^ 32
 same_value radix a b [] e = e

@@ -1,5 +1,6 @@
--- Numbers, and sums and differences of numbers and labels. The value of a text is a word, or `None` where a label in it is unknown. Every
--- value is modulo 2^32. There is no sign at the front and no space inside.
+-- Numbers, and sums and differences of numbers and labels. The value of a text is a word, or `None`
+-- where a label in it is unknown. Every value is modulo 2^32. There is no sign at the front and no
+-- space inside.
 use Rattle.std.specs.Prelude.{ℕ, zero, suc, Bool, true, false, ◌+◌, ◌-◌, ◌*◌, ◌%◌, ◌^◌, ◌==◌, ◌&&◌, nat_lt, List, [], ◌∷◌, length, Option, Some, None, option_map, if◌then◌else◌}
 use Rattle.std.specs.Char.{is_digit, digit_value}
 use Rattle.std.specs.Int.{is_in_range}
@@ -16,11 +17,12 @@ Lookup = List ℕ → Option ℕ
 abbrev pub Value : Type 0
 Value = Option ℕ
 
--- a number with one more digit behind it
+-- a number with one more digit after it
 unfoldable pub with_digit : ℕ → ℕ → ℕ → Option ℕ
 with_digit radix value digit = if is_digit digit radix then Some ((value * radix + digit_value digit) % 2 ^ 32) else None
 
--- the number that digits of this radix spell, at least one; of hexadecimal digits the letters are of either case
+-- the number that digits of this radix spell, at least one; of hexadecimal digits the letters are
+-- of either case
 unfoldable pub numeral : ℕ → List ℕ → Option ℕ
 numeral radix digits =
     if nat_lt 0 (length digits) && list_all (λ c. is_digit c radix) digits then Some (digits_value radix digits % 2 ^ 32) else None
@@ -70,7 +72,8 @@ next_term others labels sum text (Some s) = do
   t ← term labels s.1
   others (combined s.0 sum t.0) t.1
 
--- the terms behind a sum, as many as there are; the count, which is never used up, is the length of a text that holds them
+-- the terms after a sum, as many as there are; the count, which is never used up, is the length of
+-- a text that holds them
 unfoldable pub more_terms : ℕ → Lookup → Value → List ℕ → Option (Value × List ℕ)
 more_terms zero labels sum text = Some (sum, text)
 more_terms (suc n) labels sum text = next_term (more_terms n labels) labels sum text (sign text)

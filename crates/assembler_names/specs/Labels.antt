@@ -21,7 +21,8 @@ abbrev pub begins_with_digit : List ℕ → Bool
 begins_with_digit [] = false
 begins_with_digit (c ∷ rest) = is_ascii_digit c
 
--- A word that may be a label: 1 to 63 letters, digits and `_`, no digit first, and no register's name.
+-- A word that may be a label: 1 to 63 letters, digits and `_`, no digit first, and no register's
+-- name.
 abbrev pub is_label : List ℕ → Bool
 is_label name =
     nat_le 1 (length name) && nat_le (length name) 63 && not (begins_with_digit name) && is_none (register_named name)

@@ -1,6 +1,7 @@
--- The words that name an instruction: a name, a condition or none, and suffixes (ARM2 data sheet, "Assembler syntax" of each instruction).
--- No suffix is two letters of a condition, so two such letters behind the name are one. `BLS` is B with LS, `BLE` is B with LE, since BL has
--- no suffix; `BLLS` is BL with LS.
+-- The words that name an instruction: a name, a condition or none, and suffixes (ARM2 data sheet,
+-- "Assembler syntax" of each instruction). No suffix is two letters of a condition, so two such
+-- letters after the name are one. `BLS` is B with LS, `BLE` is B with LE, since BL has no suffix;
+-- `BLLS` is BL with LS.
 use Rattle.std.specs.Prelude.{ℕ, Bool, true, false, List, [], ◌∷◌, take, drop, codes, Option, Some, None, if◌then◌else◌}
 use Rattle.assembler_text.specs.arm_decode.specs.Refusals.{is_test}
 use Rattle.assembler_text.specs.arm_decode.specs.declared.condition.Condition.{Condition}
@@ -19,11 +20,12 @@ abbrev pub or_always : List ℕ → Option Condition → Condition × List ℕ
 or_always letters (Some c) = (c, drop 2 letters)
 or_always letters None = (Always, letters)
 
--- the condition at the front and the letters that follow it: of `EQS` Equal and `S`, of `S` Always and `S`
+-- the condition at the front and the letters that follow it: of `EQS` Equal and `S`, of `S` Always
+-- and `S`
 abbrev pub conditioned : List ℕ → Condition × List ℕ
 conditioned letters = or_always letters (condition_named (take 2 letters))
 
--- a suffix that is there or not, with nothing behind it
+-- a suffix that is there or not, with nothing after it
 abbrev pub suffix : List ℕ → List ℕ → Option Bool
 suffix name [] = Some false
 suffix name (c ∷ letters) = if is_name (c ∷ letters) name then Some true else None
@@ -78,7 +80,7 @@ swi_mnemonic name = do
   condition ← if is_name (take 3 name) (codes "SWI") then condition_named (drop 3 name) else None
   Some (mnemonic condition command.SoftwareInterrupt)
 
--- BL with a condition or none behind it, or else B, as `BLEQ`, `BLE`
+-- BL with a condition or none after it, or else B, as `BLEQ`, `BLE`
 abbrev pub linked_branch : List ℕ → Option Mnemonic
 linked_branch name = do
   condition ← if is_name (take 2 name) (codes "BL") then condition_named (drop 2 name) else None

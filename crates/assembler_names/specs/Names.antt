@@ -1,5 +1,6 @@
--- The names of registers, conditions, operations, shifts and block modes, in letters of either case (ARM2 data sheet, "Assembler syntax").
--- A name is looked up among the texts that the disassembler prints.
+-- The names of registers, conditions, operations, shifts and block modes, in letters of either case
+-- (ARM2 data sheet, "Assembler syntax"). A name is looked up among the texts that the disassembler
+-- prints.
 use Rattle.std.specs.Prelude.{ℕ, Bool, true, false, ◌-◌, ◌==◌, ◌&&◌, ◌||◌, List, [], ◌∷◌, codes, Option, Some, None, find, if◌then◌else◌}
 use Rattle.std.specs.Char.{to_ascii_lowercase}
 use Rattle.std.specs.Int.{is_in_range}
@@ -57,7 +58,8 @@ names_shift name s = is_name name (shift_text s)
 unfoldable pub shift_named : List ℕ → Option Shift
 shift_named name = find (names_shift name) shifts
 
--- The names of a stack: F for full or E for empty, D for descending or A for ascending. What STM pushes, LDM of the same name pulls.
+-- The names of a stack: F for full or E for empty, D for descending or A for ascending. What STM
+-- pushes, LDM of the same name pulls.
 abbrev pub stack_text : Bool → BlockMode → List ℕ
 stack_text true IncrementAfter = codes "FD"
 stack_text true DecrementAfter = codes "FA"

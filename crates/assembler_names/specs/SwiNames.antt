@@ -1,5 +1,6 @@
--- The names of store calls, for SWI (RISC OS 3 Programmer's Reference Manual, "SWI calls by number"). With X before it a name means the call
--- that answers an error with V set: bit 17 of its number. Capitals and small letters differ.
+-- The names of store calls, for SWI (RISC OS 3 Programmer's Reference Manual, "SWI calls by
+-- number"). With X before it a name means the call that answers an error with V set: bit 17 of its
+-- number. Capitals and small letters differ.
 use Rattle.std.specs.Prelude.{ℕ, Bool, false, ◌==◌, bit_or, List, [], ◌∷◌, Option, Some, None, find, option_map, bytes_eq, if◌then◌else◌}
 use Rattle.assembler_text.specs.profile.specs.SwiNames.{swi_of, swi_name}
 use Rattle.assembler_text.specs.profile.specs.declared.swi.SwiName.{SwiName}

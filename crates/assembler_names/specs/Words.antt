@@ -1,5 +1,6 @@
--- The pieces of a line of assembler text. A reader takes a text from the front: it answers what it read and what follows, or `None` where
--- the text isn't what it reads (ARM2 data sheet, "Assembler syntax"; spaces, comments and the letters of a word are this project's own).
+-- The pieces of a line of assembler text. A reader takes a text from the front: it answers what it
+-- read and what follows, or `None` where the text isn't what it reads (ARM2 data sheet, "Assembler
+-- syntax"; spaces, comments and the letters of a word are this project's own).
 use Rattle.std.specs.Prelude.{ℕ, Bool, true, ◌==◌, ◌||◌, List, [], ◌∷◌, take, drop, Option, Some, None, option_and_then, is_some, option_map, unwrap_or, if◌then◌else◌}
 use Rattle.std.specs.Borrow.{Bor}
 use Rattle.std.specs.Char.{is_ascii_alphanumeric}
@@ -42,7 +43,8 @@ unfoldable pub byte : ℕ → List ℕ → Option (List ℕ)
 byte c [] = None
 byte c (x ∷ rest) = if x == c then Some rest else None
 
--- whether this byte stands here, and what follows it or where it would stand: of `!,{R0}` at `!`, yes and `,{R0}`
+-- whether this byte stands here, and what follows it or where it would stand: of `!,{R0}` at `!`,
+-- yes and `,{R0}`
 abbrev pub is_marked : ℕ → List ℕ → Bool
 is_marked c text = is_some (byte c text)
 

@@ -21,7 +21,7 @@ pub fn expression<'t>(labels: &Labels, text: &'t [u8]) -> Read<'t, Value>
     more_terms(labels, rest.len(), first, rest)
 }
 
-// The terms behind a sum, at most `count`.
+// The terms after a sum, at most `count`.
 #[tactic(auto, using(crate::proofs::Terms::term_steps))]
 fn more_terms<'t>(labels: &Labels, count: usize, first: Value, text: &'t [u8]) -> Read<'t, Value>
     ensures { read_of result ≡ more_terms count (address_of labels.now) first text.now }

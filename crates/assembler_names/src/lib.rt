@@ -1,4 +1,4 @@
-//! The words of assembler text: pieces of a line, names, numbers and labels.
+//! The words of assembler text, for reading it: pieces of a line, names, numbers and labels.
 #![tactic(auto)]
 
 pub mod expressions;

@@ -166,7 +166,7 @@ fn conditioned(letters: &[u8]) -> (Condition, &[u8])
     }
 }
 
-// Whether a suffix is there, with nothing behind it.
+// Whether a suffix is there, with nothing after it.
 fn suffix(name: &[u8], letters: &[u8]) -> Option<bool>
     ensures { result ≡ suffix name.now letters.now }
 {
@@ -221,7 +221,7 @@ fn front(name: &[u8], count: usize) -> &[u8]
     &name[..count.min(name.len())]
 }
 
-// The letters behind the first.
+// The letters after the first.
 fn behind(name: &[u8], count: usize) -> &[u8]
     ensures { result.now ≡ drop count name.now }
 {

@@ -1,3 +1,5 @@
+//! The reasons for which a source is refused.
+
 use thiserror::Error;
 
 /// Why a source has no program. The text of a reason is its name.

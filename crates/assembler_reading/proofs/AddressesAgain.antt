@@ -158,7 +158,7 @@ before_read labels w rn d o fits =
       after_marked w,
     ) refl
 
--- behind the bracket that opens
+-- after the bracket that opens
 post_shape : (user : Bool) (d : Direction) (rn : ℕ) (o : Offset) → after_text (placed (Post user) d rn o) ≡ 91 ∷ (register_text rn ++ (93 ∷ (44 ∷ offset_text d o)))
 post_shape user d rn o = ap (λ (t : List ℕ). 91 ∷ t) (append_assoc (register_text rn) (codes "],") (offset_text d o))
 

@@ -19,7 +19,7 @@ pub record IsDigitOf (radix value c : ℕ) : Type 0 where
   pub digit : is_digit c radix ≡ true
   pub letter : is_word_byte c ≡ true
 
--- digits that make a number behind those of `start`
+-- digits that make a number after those of `start`
 pub record Spells (radix start n : ℕ) (digits : List ℕ) : Type 0 where
   pub letters : list_all is_word_byte digits ≡ true
   pub digits_all : list_all (λ c. is_digit c radix) digits ≡ true

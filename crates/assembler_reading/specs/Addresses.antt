@@ -35,7 +35,7 @@ number_offset labels to text = do
   n ← expression labels text
   Some (offset_of to n.0, n.1)
 
--- a register shifted by a number; one shifted by a register is no offset
+-- a register shifted by a number; an offset can't be shifted by a register
 abbrev pub operand_offset : Direction → Operand → Option (Outcome (Direction × Offset))
 operand_offset to (operand.Shifted s) = Some (Ok (to, offset.Shifted s))
 operand_offset to _ = None
@@ -55,8 +55,8 @@ abbrev pub signed_direction : Bool → Direction
 signed_direction true = Down
 signed_direction false = Up
 
--- `#n`, `#-n`, or a register with its shift, with a minus or without. All that follows the minus is subtracted: `#-1+2` is 3 down, and
--- `#-0` is 0 down.
+-- `#n`, `#-n`, or a register with its shift, with a minus or without. All that follows the minus is
+-- subtracted: `#-1+2` is 3 down, and `#-0` is 0 down.
 abbrev pub offset_at : Lookup → List ℕ → Option (List ℕ) → Option (Outcome (Direction × Offset) × List ℕ)
 offset_at labels text (Some after) = number_offset labels (signed_direction (is_marked 45 after)) (after_mark 45 after)
 offset_at labels text None = shifted_offset labels (signed_direction (is_marked 45 text)) (after_mark 45 text)
@@ -64,7 +64,7 @@ offset_at labels text None = shifted_offset labels (signed_direction (is_marked 
 unfoldable pub offset_in : Lookup → List ℕ → Option (Outcome (Direction × Offset) × List ℕ)
 offset_in labels text = offset_at labels text (byte 35 text)
 
--- behind `[Rn]`: a comma and the offset, or nothing, which T forbids
+-- after `[Rn]`: a comma and the offset, or nothing, which T forbids
 abbrev pub closed : Lookup → Bool → ℕ → List ℕ → Option (List ℕ) → Option (Outcome Address × List ℕ)
 closed labels translates base text (Some after) = do
   by ← offset_in labels after
@@ -72,7 +72,7 @@ closed labels translates base text (Some after) = do
 closed labels false base text None = Some (Ok (placed (Pre false) Up base (offset.Immediate 0)), text)
 closed labels true base text None = None
 
--- behind `[Rn`: a comma, the offset, `]` (93), and `!` (33) where the address is written back
+-- after `[Rn`: a comma, the offset, `]` (93), and `!` (33) where the address is written back
 abbrev pub before_bracket : Lookup → ℕ → List ℕ → Option (Outcome Address × List ℕ)
 before_bracket labels base text = do
   rest ← comma text
@@ -84,12 +84,12 @@ abbrev pub unless_translated : {A : Type 0} → Bool → Option A → Option A
 unless_translated false read = read
 unless_translated true read = None
 
--- behind `[Rn`
+-- after `[Rn`
 abbrev pub based : Lookup → Bool → ℕ → List ℕ → Option (List ℕ) → Option (Outcome Address × List ℕ)
 based labels translates base text (Some after) = closed labels translates base after (comma after)
 based labels translates base text None = unless_translated translates (before_bracket labels base text)
 
--- behind `[`
+-- after `[`
 unfoldable pub bracketed : Lookup → Bool → List ℕ → Option (Outcome Address × List ℕ)
 bracketed labels translates text = do
   rn ← register text

@@ -1,6 +1,7 @@
--- An instruction as it is written: a mnemonic, spaces and operands (ARM2 data sheet, "Assembler syntax" of each instruction). A reader answers
--- the instruction's word, or the reason why it has none, and what follows. Of several reasons the first is an unknown label, then a number
--- without a form, then an address out of reach, then an instruction that would be refused when it runs.
+-- An instruction as it is written: a mnemonic, spaces and operands (ARM2 data sheet, "Assembler
+-- syntax" of each instruction). A reader answers the instruction's word, or the reason why it has
+-- none, and what follows. Of several reasons the first is an unknown label, then a number without a
+-- form, then an address out of reach, then an instruction that would be refused when it runs.
 use Rattle.std.specs.Prelude.{ℕ, Bool, ◌+◌, ◌-◌, ◌/◌, ◌%◌, ◌^◌, ◌==◌, ◌&&◌, nat_lt, List, Option, Some, None, is_some, Result, Ok, Err, if◌then◌else◌}
 use Rattle.profile.specs.declared.fault.Fault.{Fault}
 use Rattle.arm_decode.specs.Decoded.{checked}
@@ -20,7 +21,8 @@ use Rattle.assembler_reading.specs.Operands.{Outcome}
 use Rattle.assembler_reading.specs.Operating.{operate_at, multiply_at}
 use Rattle.assembler_reading.specs.RegisterLists.{block_at}
 
--- a branch to a multiple of 4 below 2^26, as the number of words from the address plus 8, modulo 2^24
+-- a branch to a multiple of 4 below 2^26, as the number of words from the address plus 8, modulo
+-- 2^24
 abbrev pub branch_to : ℕ → Bool → Value → Outcome Action
 branch_to address links None = Err UnknownLabel
 branch_to address links (Some target) =
@@ -38,14 +40,14 @@ abbrev pub swi_action : Value → Outcome Action
 swi_action None = Err UnknownLabel
 swi_action (Some n) = if nat_lt n (2 ^ 24) then Ok (action.SoftwareInterrupt n) else Err BadImmediate
 
--- the name of a call behind a double quote (34), with another behind it
+-- the name of a call after a double quote (34), with another after it
 abbrev pub quoted_call : List ℕ → Option (Value × List ℕ)
 quoted_call text = do
   number ← swi_named (word text)
   rest ← byte 34 (after_word text)
   Some (Some number, rest)
 
--- a word that names a call, unless `+` or `-` stands behind it
+-- a word that names a call, unless `+` or `-` stands after it
 abbrev pub plain_call : List ℕ → Option ℕ
 plain_call text = if is_some (sign (after_word text)) then None else swi_named (word text)
 

@@ -1,4 +1,5 @@
--- What is printed is read as it was meant, whatever labels there are: laws over the definitions alone.
+-- What is printed is read as it was meant, whatever labels there are: laws over the definitions
+-- alone.
 use Rattle.std.specs.Prelude.{◌≡◌, ℕ, ◌<◌, ◌%◌, ◌^◌, [], ◌∷◌, ◌++◌, codes, Some, Ok, Err}
 use Rattle.profile.specs.Digits.{hex_word}
 use Rattle.profile.specs.declared.fault.Fault.{Fault}

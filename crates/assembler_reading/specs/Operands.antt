@@ -1,5 +1,6 @@
--- The second operand of data processing as it is written (ARM2 data sheet, "Data processing", "Assembler syntax"). A reader answers what it
--- read, or the reason why that has no form, and what follows it.
+-- The second operand of data processing as it is written (ARM2 data sheet, "Data processing",
+-- "Assembler syntax"). A reader answers what it read, or the reason why that has no form, and what
+-- follows it.
 use Rattle.std.specs.Prelude.{ℕ, Bool, ◌/◌, ◌%◌, ◌==◌, ◌&&◌, nat_le, List, codes, Option, Some, None, Result, Ok, Err, if◌then◌else◌}
 use Rattle.arm_decode.specs.declared.operand.Operand.{Operand}
 use Rattle.arm_decode.specs.declared.operand.Operand.TheVariants as operand
@@ -34,7 +35,7 @@ abbrev pub rotated_of : Value → Value → Outcome Operand
 rotated_of (Some b) (Some r) = if is_rotated_byte b r then Ok (operand.Immediate (r / 2) b) else Err BadImmediate
 rotated_of _ _ = Err UnknownLabel
 
--- what stands behind a value: a comma and the rotation, or nothing
+-- what stands after a value: a comma and the rotation, or nothing
 abbrev pub rotation_at : Lookup → Value → List ℕ → Option (List ℕ) → Option (Outcome Operand × List ℕ)
 rotation_at labels value text None = Some (immediate_of value, text)
 rotation_at labels value text (Some after) = do
@@ -62,7 +63,7 @@ places_of rm s None = Err UnknownLabel
 places_of rm s (Some n) =
     if nat_le 1 n && nat_le n (most_places s) then Ok (operand.Shifted (shifted_by rm s (n % 32))) else Err BadImmediate
 
--- `#n` or a register, behind `Rm,LSL `
+-- `#n` or a register, after `Rm,LSL `
 abbrev pub amount_at : Lookup → ℕ → Shift → List ℕ → Option (List ℕ) → Option (Outcome Operand × List ℕ)
 amount_at labels rm s text (Some after) = do
   places ← expression labels after
@@ -92,7 +93,7 @@ shifted labels text = do
   rm ← register text
   shift_at labels rm.0 rm.1 (comma rm.1)
 
--- a number behind `#`, or a register
+-- a number after `#`, or a register
 abbrev pub operand_at : Lookup → List ℕ → Option (List ℕ) → Option (Outcome Operand × List ℕ)
 operand_at labels text (Some after) = immediate labels after
 operand_at labels text None = shifted labels text

@@ -1,5 +1,5 @@
--- The operands of data processing and of multiplication (ARM2 data sheet, "Data processing", "Multiply and multiply-accumulate", "Assembler
--- syntax").
+-- The operands of data processing and of multiplication (ARM2 data sheet, "Data processing",
+-- "Multiply and multiply-accumulate", "Assembler syntax").
 use Rattle.std.specs.Prelude.{ℕ, Bool, true, false, List, Option, Some, Ok, Err, if◌then◌else◌}
 use Rattle.arm_decode.specs.Refusals.{is_test, is_move}
 use Rattle.arm_decode.specs.declared.action.Action.{Action}
@@ -20,20 +20,21 @@ abbrev pub operated : Operation → Bool → ℕ → ℕ → Outcome Operand →
 operated what sets n d (Ok second) = Ok (action.Operate (operating what sets n d second))
 operated what sets n d (Err reason) = Err reason
 
--- the second operand, behind the registers
+-- the second operand, after the registers
 abbrev pub operate_with : Lookup → Operation → Bool → ℕ → ℕ → List ℕ → Option (Outcome Action × List ℕ)
 operate_with labels what sets n d text = do
   second ← second_operand labels text
   Some (operated what sets n d second.0, second.1)
 
--- `Rn,` and the second operand, behind `Rd,`
+-- `Rn,` and the second operand, after `Rd,`
 abbrev pub operate_on : Lookup → Operation → Bool → ℕ → List ℕ → Option (Outcome Action × List ℕ)
 operate_on labels what sets d text = do
   rn ← register text
   rest ← comma rn.1
   operate_with labels what sets rn.0 d rest
 
--- Behind the first register: of a test that is Rn, and P means an Rd field of 15; of a move it is Rd, and there is no Rn.
+-- After the first register: of a test that is Rn, and P means an Rd field of 15; of a move it is
+-- Rd, and there is no Rn.
 abbrev pub operate_behind : Lookup → Operation → Bool → ℕ → List ℕ → Option (Outcome Action × List ℕ)
 operate_behind labels what flag first text =
     if is_test what then operate_with labels what true first (if flag then 15 else 0) text else (

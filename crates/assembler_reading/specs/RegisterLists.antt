@@ -1,5 +1,5 @@
--- The register lists of LDM and STM (ARM2 data sheet, "Block data transfer", "Assembler syntax"). A list is the number whose bit n is set
--- where Rn is in it.
+-- The register lists of LDM and STM (ARM2 data sheet, "Block data transfer", "Assembler syntax"). A
+-- list is the number whose bit n is set where Rn is in it.
 use Rattle.std.specs.Prelude.{ℕ, zero, suc, Bool, ◌+◌, ◌-◌, ◌^◌, nat_le, List, length, fold, Option, Some, None, Ok, if◌then◌else◌}
 use Rattle.std.specs.List.{range_with_len}
 use Rattle.profile.specs.Word.{bit_of}
@@ -17,7 +17,8 @@ with_register list n = if bit_of list n then list else list + 2 ^ n
 unfoldable pub with_range : ℕ → ℕ → ℕ → ℕ
 with_range list first last = fold with_register list (range_with_len first (last + 1 - first))
 
--- the last register of a range that begins with a register: behind a minus one that is no lower, else the first itself
+-- the last register of a range that begins with a register: after a minus one that is no lower,
+-- else the first itself
 abbrev pub last_register : ℕ → List ℕ → Option (List ℕ) → Option (ℕ × List ℕ)
 last_register first text None = Some (first, text)
 last_register first text (Some after) = do
@@ -31,14 +32,15 @@ register_range text = do
   last ← last_register first.0 first.1 (byte 45 first.1)
   Some ((first.0, last.0), last.1)
 
--- behind a comma more registers, else the closing brace (125)
+-- after a comma more registers, else the closing brace (125)
 abbrev pub next_registers : (ℕ → List ℕ → Option (ℕ × List ℕ)) → ℕ → List ℕ → Option (List ℕ) → Option (ℕ × List ℕ)
 next_registers others list text (Some after) = others list after
 next_registers others list text None = do
   rest ← byte 125 text
   Some (list, rest)
 
--- the registers and ranges of a list, as many as there are; the count, which is never used up, is the length of a text that holds them
+-- the registers and ranges of a list, as many as there are; the count, which is never used up, is
+-- the length of a text that holds them
 unfoldable pub more_registers : ℕ → ℕ → List ℕ → Option (ℕ × List ℕ)
 more_registers zero list text = None
 more_registers (suc n) list text = do

@@ -110,7 +110,7 @@ fn from_pc(direction: Direction, number: u32) -> Address
     }
 }
 
-// Behind `[`.
+// After `[`.
 #[tactic(auto, unfolding(crate::specs::Addresses::bracketed))]
 fn bracketed<'t>(labels: &Labels, translates: bool, text: &'t [u8]) -> Read<'t, Outcome<Address>>
     ensures { read_of result ≡ bracketed (address_of labels.now) translates text.now }
@@ -121,7 +121,7 @@ fn bracketed<'t>(labels: &Labels, translates: bool, text: &'t [u8]) -> Read<'t, 
     based(labels, translates, rn, rest)
 }
 
-// Behind `[Rn`.
+// After `[Rn`.
 fn based<'t>(
     labels: &Labels,
     translates: bool,
@@ -138,7 +138,7 @@ fn based<'t>(
     }
 }
 
-// Behind `[Rn]`: a comma and the offset, or nothing, which T forbids.
+// After `[Rn]`: a comma and the offset, or nothing, which T forbids.
 fn closed<'t>(
     labels: &Labels,
     translates: bool,
@@ -171,7 +171,7 @@ fn at_base(rn: Register) -> Address
     }
 }
 
-// Behind `[Rn`: a comma, the offset, `]`, and `!` where the address is written back.
+// After `[Rn`: a comma, the offset, `]`, and `!` where the address is written back.
 fn before_bracket<'t>(labels: &Labels, rn: Register, text: &'t [u8]) -> Read<'t, Outcome<Address>>
     ensures { read_of result ≡ before_bracket (address_of labels.now) rn text.now }
 {
@@ -273,7 +273,7 @@ fn as_offset(direction: Direction, operand: Outcome<Operand>) -> Option<Outcome<
     }
 }
 
-// A register shifted by another is no offset.
+// An offset can't be shifted by a register.
 fn operand_offset(direction: Direction, operand: Operand) -> Option<Outcome<SignedOffset>>
     ensures { result ≡ operand_offset direction operand }
 {

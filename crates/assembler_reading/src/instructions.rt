@@ -141,7 +141,7 @@ fn call_or_number<'t>(labels: &Labels, text: &'t [u8]) -> Read<'t, Value>
     }
 }
 
-// The name of a call behind a double quote, with another behind it.
+// The name of a call after a double quote, with another after it.
 fn quoted_call(text: &[u8]) -> Read<'_, Value>
     ensures { read_of result ≡ quoted_call text.now }
 {
@@ -149,7 +149,7 @@ fn quoted_call(text: &[u8]) -> Read<'_, Value>
     Some((Some(number), byte(b'"', after_word(text))?))
 }
 
-// A word that names a call, unless `+` or `-` stands behind it.
+// A word that names a call, unless `+` or `-` stands after it.
 fn plain_call(text: &[u8]) -> Option<u32>
     ensures { result ≡ plain_call text.now }
 {

@@ -1,4 +1,4 @@
-//! Instructions as they are written, read into their words.
+//! Instructions as they are written, read into their words, for the assembler.
 #![tactic(auto)]
 
 pub mod addresses;

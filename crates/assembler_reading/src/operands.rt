@@ -34,7 +34,7 @@ fn immediate<'t>(labels: &Labels, text: &'t [u8]) -> Read<'t, Outcome<Operand>>
     rotation_at(labels, value, rest)
 }
 
-// What stands behind a value: a comma and the rotation, or nothing.
+// What stands after a value: a comma and the rotation, or nothing.
 fn rotation_at<'t>(labels: &Labels, value: Value, text: &'t [u8]) -> Read<'t, Outcome<Operand>>
     ensures { read_of result ≡ rotation_at (address_of labels.now) value text.now (comma text.now) }
 {
@@ -116,7 +116,7 @@ fn named_shift<'t>(labels: &Labels, rm: Register, text: &'t [u8]) -> Read<'t, Ou
     amount_at(labels, rm, shift, amount)
 }
 
-// `#n` or a register, behind `Rm,LSL `.
+// `#n` or a register, after `Rm,LSL `.
 fn amount_at<'t>(
     labels: &Labels,
     rm: Register,

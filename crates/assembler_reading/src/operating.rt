@@ -27,7 +27,7 @@ pub fn operate_at<'t>(
     operate_behind(labels, operation, flag, first, comma(rest)?)
 }
 
-// Behind the first register, which of a test is Rn.
+// After the first register, which of a test is Rn.
 fn operate_behind<'t>(
     labels: &Labels,
     operation: Operation,

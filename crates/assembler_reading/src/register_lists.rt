@@ -75,7 +75,7 @@ fn register_range(text: &[u8]) -> Read<'_, (Register, Register)>
     Some(((first, last), rest))
 }
 
-// Behind a register a minus and one that is no lower, or else the register itself.
+// After a register a minus and one that is no lower, or else the register itself.
 fn last_register(first: Register, text: &[u8]) -> Read<'_, Register>
     ensures { read_of result ≡ last_register first text.now (byte 45 text.now) }
 {

@@ -1,6 +1,7 @@
-//! Tests of assembler text: words printed, instructions read, and whole sources.
+//! Tests: words printed as assembler text, instructions read, and whole sources.
 //!
-//! They stand apart from the crates that they test, since a crate with tests is proved once more with them.
+//! They stand apart from the crates that they test, since a crate with tests is proved once more
+//! with them.
 #![tactic(auto)]
 
 #[cfg(test)]

@@ -1,5 +1,5 @@
--- Numbers in an instruction: in hexadecimal after `&`, but shift amounts and rotations in decimal; and the immediate operands of data
--- processing (ARM2 data sheet, "Immediate operand rotates").
+-- Numbers in an instruction: in hexadecimal after `&`, but shift amounts and rotations in decimal;
+-- and the immediate operands of data processing (ARM2 data sheet, "Immediate operand rotates").
 use Rattle.std.specs.Prelude.{ℕ, Bool, false, ◌-◌, ◌*◌, ◌==◌, nat_le, List, ◌++◌, codes, decimal, Option, Some, None, find, if◌then◌else◌}
 use Rattle.std.specs.List.{range_with_len}
 use Rattle.arm_decode.specs.profile.specs.Digits.{hex_number}
@@ -12,7 +12,8 @@ number_text n = codes "&" ++ hex_number n
 abbrev pub immediate_value : ℕ → ℕ → ℕ
 immediate_value rotation byte = rotated_right byte (2 * rotation)
 
--- the byte that gives a value under a rotation field, if it is one: the value rotated back to the left
+-- the byte that gives a value under a rotation field, if it is one: the value rotated back to the
+-- left
 abbrev pub rotated_back : ℕ → ℕ → ℕ
 rotated_back value rotation = rotated_right value (32 - 2 * rotation)
 

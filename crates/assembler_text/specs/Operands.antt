@@ -12,7 +12,8 @@ use Rattle.assembler_text.specs.Numbers.{immediate_text}
 abbrev pub amount_text : Shift → ℕ → List ℕ
 amount_text s n = codes "," ++ (shift_text s ++ (codes " #" ++ decimal n))
 
--- What follows a register that is shifted by the number in the instruction, of which 0 means no shift, 32, 32, and RRX.
+-- What follows a register that is shifted by the number in the instruction, of which 0 means no
+-- shift, 32, 32, and RRX.
 abbrev pub shifting_text : Shift → ℕ → List ℕ
 shifting_text shift.LogicalLeft n = if n == 0 then [] else amount_text shift.LogicalLeft n
 shifting_text shift.LogicalRight n = amount_text shift.LogicalRight (if n == 0 then 32 else n)

@@ -1,5 +1,6 @@
--- The one text of each word at its address (ARM2 data sheet, "Assembler syntax" of each instruction; where that leaves a choice, as between
--- `#&FF000000` and `#&FF,8`, between `LDR R0,[R1]` and `LDR R0,[R1,#0]` or in the bases of numbers, the choice is this project's own).
+-- The one text of each word at its address (ARM2 data sheet, "Assembler syntax" of each
+-- instruction; where that leaves a choice, as between `#&FF000000` and `#&FF,8`, between
+-- `LDR R0,[R1]` and `LDR R0,[R1,#0]` or in the bases of numbers, the choice is this project's own).
 use Rattle.std.specs.Prelude.{ℕ, Bool, ◌+◌, ◌*◌, ◌%◌, ◌^◌, List, ◌++◌, codes, Result, Ok, Err, if◌then◌else◌}
 use Rattle.arm_decode.specs.profile.specs.Digits.{hex_word}
 use Rattle.arm_decode.specs.profile.specs.declared.fault.Fault.{Fault}

@@ -1,5 +1,5 @@
--- The addresses of LDR and STR, and the register lists of LDM and STM, as text (ARM2 data sheet, "Single data transfer" and "Block data
--- transfer", "Assembler syntax").
+-- The addresses of LDR and STR, and the register lists of LDM and STM, as text (ARM2 data sheet,
+-- "Single data transfer" and "Block data transfer", "Assembler syntax").
 use Rattle.std.specs.Prelude.{ℕ, Bool, false, ◌-◌, ◌&&◌, ◌==◌, not, List, [], ◌∷◌, ◌++◌, codes, filter, if◌then◌else◌}
 use Rattle.std.specs.List.{range_with_len}
 use Rattle.arm_decode.specs.profile.specs.Word.{bit_of}

@@ -1,4 +1,4 @@
-//! The text of instructions: each word has one at its address.
+//! The text of instructions, for views and the assembler: each word has one at its address.
 #![tactic(auto)]
 
 pub mod names;

@@ -1,4 +1,5 @@
--- No line takes an image away, so after some lines of a script the images are a front of those after all of them.
+-- No line takes an image away, so after some lines of a script the images are a front of those
+-- after all of them.
 use Rattle.std.proofs.Common.{◌≡◌, ℕ, zero, suc, ◌+◌, Bool, true, false, List, [], ◌∷◌, ◌++◌, Option, Some, None, Result, Ok, length}
 use Rattle.std.proofs.Common.{Err, sym, ◌∙◌, refl, subst, inl, inr}
 use Rattle.std.specs.Prelude.{IfSome, OnErr, codes, ◌⊎◌}

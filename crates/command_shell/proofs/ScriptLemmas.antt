@@ -193,8 +193,8 @@ state_on_start machine sizes images budget start same fresh = λ i. record {
   last = None;
 }
 
--- What is so of what the lines of a script that was read are told, on a machine that was just made, is so of what the
--- script is told.
+-- What is so of what the lines of a script that was read are told, on a machine that was just made,
+-- is so of what the script is told.
 pub told_of : (P : Answered → Type 0) (o : Option (List ℕ)) (sizes : Sizes) (images : List Entry) (budget : ℕ)
     (read text : List ℕ) (session : Session) (machine : Parts)
     → IfSome o (λ script. read ≡ script) → text ≡ read

@@ -72,8 +72,8 @@ stop_text stop.Budget pc = codes "stop Budget\n"
 stop_text (stop.Break address) pc = codes "stop Break" ++ (address_text address ++ codes "\n")
 stop_text (stop.Fault fault) pc = fault_text fault pc
 
--- What follows on the steps of a STEP line: where the machine stands if all of them could be taken and were, else the
--- stop line.
+-- What follows on the steps of a STEP line: where the machine stands if all of them could be taken
+-- and were, else the stop line.
 abbrev pub stepped_text : Bool → Stop → ℕ → List ℕ
 stepped_text true stop.Budget pc = at_text pc
 stepped_text could_all stop pc = stop_text stop pc

@@ -1,5 +1,5 @@
--- The lines CALL and LOAD: a store call or the loading of a module, made from outside, and then the steps of the module
--- code that it enters, until that code has come back.
+-- The lines CALL and LOAD: a store call or the loading of a module, made from outside, and then the
+-- steps of the module code that it enters, until that code has come back.
 use Rattle.std.specs.Prelude.{ℕ, zero, suc, false, ◌-◌, ◌==◌, List, length, Option, Some, None, if◌then◌else◌}
 use Rattle.image_loader.specs.Entries.{Entry}
 use Rattle.profile.specs.declared.stop.Stop.{Stop}
@@ -32,8 +32,9 @@ call_text s = if s.cpu.psr.overflow then call_error_text (error_number s) else o
 abbrev pub stop_told : ScriptState → Stop → Answered
 stop_told s stop = answer (record s { last = Some stop }) (stop_text stop s.machine.cpu.pc)
 
--- Why a call goes no further after a step, if so many frames were open before it. It is tested in this order: the
--- machine is halted; the call has come back; the program counter is among the breaks; the budget is used up.
+-- Why a call goes no further after a step, if so many frames were open before it. It is tested in
+-- this order: the machine is halted; the call has come back; the program counter is among the
+-- breaks; the budget is used up.
 abbrev pub call_end_by : ScriptState → ℕ → Option Halt → Option CallEnd
 call_end_by s frames (Some halt) = Some (end.Stopped (stop_of halt))
 call_end_by s frames None =

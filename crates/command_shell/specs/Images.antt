@@ -23,7 +23,8 @@ image_added s word name bytes None =
 abbrev pub image_sized : ScriptState → List ℕ → List ℕ → List ℕ → Answered
 image_sized s word name bytes = image_added s word name bytes (refusal_for s.images name (length bytes))
 
--- The name and the table are tested before the block is read; where they allow it, the answer is what its lines mean.
+-- The name and the table are tested before the block is read; where they allow it, the answer is
+-- what its lines mean.
 abbrev pub image_opened : ScriptState → List ℕ → List ℕ → Answered → Option ImageError → Answered
 image_opened s word name meant (Some error) = answer s (image_refused_text word name (image_error_name error))
 image_opened s word name meant None = meant
@@ -46,8 +47,8 @@ abbrev pub asm_told : ScriptState → List ℕ → ℕ → List (List ℕ) → A
 asm_told s name origin block =
     image_opened s (codes "asm ") name (asm_block s name (means_lines block origin)) (refusal_for s.images name 0)
 
--- BOOT: the image must be there, the machine as it was made, and the image no longer than the application space, in
--- this order.
+-- BOOT: the image must be there, the machine as it was made, and the image no longer than the
+-- application space, in this order.
 abbrev pub boot_refusal_name : BootError → List ℕ
 boot_refusal_name boot.Booted = codes "Booted"
 boot_refusal_name boot.TooLarge = codes "TooLarge"

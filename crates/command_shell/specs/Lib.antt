@@ -1,3 +1,4 @@
+-- What a script is answered. Begin with Script; each family of lines has a file of its own.
 pub mod Answers
 pub mod Calls
 pub mod Error

@@ -37,7 +37,8 @@ request_told s number Modules block = modules_told s
 request_told s number Flex block = flex_told s
 request_told s number Unknown block = answer s (unknown_text number)
 
--- a block whose end has not come yet: the request that opened it, the number of its line, and the block's lines so far
+-- a block whose end has not come yet: the request that opened it, the number of its line, and the
+-- block's lines so far
 pub record OpenBlock : Type 0 where
   pub request : Request
   pub number : ℕ

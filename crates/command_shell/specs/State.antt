@@ -6,8 +6,8 @@ use Rattle.profile.specs.declared.stop.Stop.{Stop}
 use Rattle.image_loader.specs.Entries.{Entry}
 use Rattle.debugger.specs.swi_dispatch.specs.MachineState.{MachineState, start_of}
 
--- What a script works on: the machine, whether it still stands as it was made, the images, the breaks, what is left of
--- the budget, and the last stop that a line was answered with.
+-- What a script works on: the machine, whether it still stands as it was made, the images, the
+-- breaks, what is left of the budget, and the last stop that a line was answered with.
 pub record ScriptState : Type 0 where
   pub machine : MachineState
   pub is_fresh : Bool
@@ -25,7 +25,8 @@ pub record Answered : Type 0 where
 abbrev pub answer : ScriptState → List ℕ → Answered
 answer s text = record { state = s; text = text }
 
--- A writer and a script after an answer: what was written is its text, and the script stands in its state.
+-- A writer and a script after an answer: what was written is its text, and the script stands in its
+-- state.
 pub record IsAnswered (before after : Option (List ℕ)) (now : ScriptState) (told : Answered) : Type 0 where
   pub text : Appends before after told.text
   pub state : now ≡ told.state

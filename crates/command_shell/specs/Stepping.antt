@@ -1,4 +1,5 @@
--- The lines that take steps, RUN and STEP, and those that set the breaks at which steps stop: BREAK and UNBREAK.
+-- The lines that take steps, RUN and STEP, and those that set the breaks at which steps stop: BREAK
+-- and UNBREAK.
 use Rattle.std.specs.Prelude.{ℕ, ◌-◌, ◌==◌, ◌&&◌, nat_le, min, List, ◌++◌, codes, Some, Result, Ok, Err}
 use Rattle.debugger.specs.swi_dispatch.specs.swi_dispatch_breaks.specs.declared.breaks.BreakError.{BreakError}
 use Rattle.debugger.specs.swi_dispatch.specs.swi_dispatch_breaks.specs.declared.breaks.BreakError.TheVariants as break
@@ -7,7 +8,8 @@ use Rattle.debugger.specs.swi_dispatch.specs.Run as machine
 use Rattle.command_shell.specs.Answers.{break_text, unbreak_text, refused_text, stop_text, stepped_text}
 use Rattle.command_shell.specs.State.{ScriptState, Answered, answer}
 
--- RUN: all that is left of the budget may be used. What the guest prints comes first, then the stop line.
+-- RUN: all that is left of the budget may be used. What the guest prints comes first, then the stop
+-- line.
 abbrev pub run_done : ScriptState → machine.Run → Answered
 run_done s r =
     answer (record s {

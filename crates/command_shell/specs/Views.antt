@@ -1,4 +1,5 @@
--- The lines that look at the machine and change nothing: REGS, MEM, CODE, HEAP, AREAS, MODULES and FLEX.
+-- The lines that look at the machine and change nothing: REGS, MEM, CODE, HEAP, AREAS, MODULES and
+-- FLEX.
 use Rattle.std.specs.Prelude.{ℕ, List, codes, Option, Some, None}
 use Rattle.debugger.specs.Areas.{areas_text}
 use Rattle.debugger.specs.Code.{code_text}

@@ -187,8 +187,8 @@ pub fn tell_stop<W: Sink>(sink: &mut W, stop: Stop, pc: u32) -> Result<(), Write
     }
 }
 
-/// What follows on the steps of a STEP line: where the machine stands, if all of them could be taken
-/// and were, else the stop line.
+/// What follows on the steps of a STEP line: where the machine stands, if all of them could be
+/// taken and were, else the stop line.
 pub fn tell_stepped<W: Sink>(
     sink: &mut W,
     could_all: bool,

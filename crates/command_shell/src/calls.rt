@@ -166,7 +166,8 @@ impl Session {
         }
     }
 
-    // Why a call that is under way goes no further, if it does not. So many frames were open before it.
+    // Why a call that is under way goes no further, if it does not. So many frames were open before
+    // it.
     #[tactic(auto, unfolding(crate::specs::Calls::call_end))]
     fn call_end(&self, frames: usize) -> Option<CallEnd>
         ensures { (images : List Entry) → result ≡ call_end (script_state self.now images) frames }

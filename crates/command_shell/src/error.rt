@@ -1,3 +1,5 @@
+//! Why the run of a script ended before its end.
+
 ghost use Rattle.std.specs.Prelude.{◌≡◌};
 ghost use Rattle.command_shell.specs.declared.error.RunError.TheVariants.{Memory, WriteFault as IsWriteFault};
 ghost use Rattle.command_shell.specs.Error.{reading_end};

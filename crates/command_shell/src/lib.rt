@@ -1,5 +1,5 @@
-//! Scripts: lines that build images, boot and run a machine and look at it, and what they are
-//! answered with.
+//! Scripts, for the programs: lines that build images, run a machine and look at it, and their
+//! answers.
 #![tactic(auto)]
 
 mod answers;

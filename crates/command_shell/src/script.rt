@@ -1,3 +1,5 @@
+//! A script read whole and answered line by line on a fresh machine.
+
 ghost use Rattle.std.specs.Prelude.{◌≡◌, ◌≤◌, ◌<◌, true, false, None, length, IfOk, IfErr, IfSome, IsErr, OnOk, OnErr};
 ghost use Rattle.std.specs.Str.Lines.{lines};
 ghost use Rattle.std.specs.Io.KnownBytes.{Appends};
@@ -32,9 +34,9 @@ pub struct Summary {
 ///
 /// # Errors
 ///
-/// `ReadFault` and `ScriptTooLong`, past 1,048,576 bytes, before anything is written; `Memory`, when
-/// a part of the answers may stand written; `WriteFault`. The images are then those of before and
-/// some of those that the script adds, in order.
+/// `ReadFault` and `ScriptTooLong`, past 1,048,576 bytes, before anything is written; `Memory`,
+/// when a part of the answers may stand written; `WriteFault`. The images are then those of before
+/// and some of those that the script adds, in order.
 #[tactic(auto, using(crate::proofs::ScriptLemmas::whole_steps), unfolding(crate::specs::Script::script_told))]
 pub fn run_script<R: Source, W: Sink>(
     alloc: Global,

@@ -1,3 +1,5 @@
+//! What the lines of a script work on, and how one is answered.
+
 ghost use Rattle.std.specs.Prelude.{◌≡◌, ◌+◌, true, List, IfErr, OnOk, OnErr};
 ghost use Rattle.command_shell_lines.specs.Blocks.{block_lines, lines_after, lines_taken};
 ghost use Rattle.command_shell.specs.Error.{IsLineError};

@@ -1,4 +1,5 @@
-//! The lines that look at the machine and change nothing: REGS, MEM, CODE, HEAP, AREAS, MODULES and FLEX.
+//! The lines that look at the machine and change nothing: REGS, MEM, CODE, HEAP, AREAS, MODULES and
+//! FLEX.
 
 ghost use Rattle.std.specs.Prelude.{◌≡◌, true, List, OnOk, OnErr};
 

@@ -9,7 +9,7 @@ use Rattle.std.specs.List.{list_all}
 use Rattle.std.specs.Str.Parse.{digits_value_after}
 use Rattle.command_shell_lines.specs.Numbers.{number_in, with_digit}
 
--- digits behind those of `value`
+-- digits after those of `value`
 unfoldable pub digits_onto : ℕ → ℕ → List ℕ → Option ℕ
 digits_onto radix value ds =
     if list_all (λ c. is_digit c radix) ds && nat_lt (digits_value_after radix value ds) (2 ^ 32)

@@ -25,13 +25,14 @@ joined_bytes number None more = Err number
 joined_bytes number (Some bytes) (Ok more) = Ok (bytes ++ more)
 joined_bytes number (Some bytes) (Err later) = Err later
 
--- The bytes that the lines of a HEX block spell, where `number` lines came before; or the number of the first line that
--- isn't whole pairs.
+-- The bytes that the lines of a HEX block spell, where `number` lines came before; or the number of
+-- the first line that isn't whole pairs.
 unfoldable pub block_bytes : ℕ → List (List ℕ) → Result (List ℕ) ℕ
 block_bytes number [] = Ok []
 block_bytes number (line ∷ rest) = joined_bytes (number + 1) (spelled line) (block_bytes (number + 1) rest)
 
--- the lines that follow a request, without its block if it opens one, and how many lines the block takes
+-- the lines that follow a request, without its block if it opens one, and how many lines the block
+-- takes
 abbrev pub lines_after : Bool → List (List ℕ) → List (List ℕ)
 lines_after false rest = rest
 lines_after true rest = after_block rest

@@ -1,5 +1,5 @@
--- The bytes that a line of hexadecimal digits spells: pairs of adjacent digits in either case. Any number of spaces may
--- stand before, between and after the pairs, and none inside one.
+-- The bytes that a line of hexadecimal digits spells: pairs of adjacent digits in either case. Any
+-- number of spaces may stand before, between and after the pairs, and none inside one.
 use Rattle.std.specs.Prelude.{ℕ, ◌+◌, ◌*◌, ◌==◌, ◌&&◌, List, [], ◌∷◌, Option, Some, None, if◌then◌else◌}
 use Rattle.std.specs.Char.{is_digit, digit_value}
 use Rattle.std.specs.Io.KnownBytes.{prepend_known}

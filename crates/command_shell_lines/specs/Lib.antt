@@ -1,3 +1,4 @@
+-- What each line of a script asks for. Begin with Requests.
 pub use Rattle.text_lines
 pub mod Blocks
 pub mod HexPairs

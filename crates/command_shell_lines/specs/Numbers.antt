@@ -1,5 +1,5 @@
--- The numbers of a script, by their exact values: decimal digits, or `&` and hexadecimal digits in either case; at
--- least one digit, and a value below 2^32. Leading zeros add nothing.
+-- The numbers of a script, by their exact values: decimal digits, or `&` and hexadecimal digits in
+-- either case; at least one digit, and a value below 2^32. Leading zeros add nothing.
 use Rattle.std.specs.Prelude.{ℕ, ◌+◌, ◌*◌, ◌^◌, ◌==◌, ◌&&◌, nat_lt, List, [], ◌∷◌, length, Option, Some, None}
 use Rattle.std.specs.Prelude.{if◌then◌else◌}
 use Rattle.std.specs.Char.{is_digit, digit_value}
@@ -13,7 +13,7 @@ number_in radix digits =
     && (list_all (λ c. is_digit c radix) digits && nat_lt (digits_value radix digits) (2 ^ 32))
     then Some (digits_value radix digits) else None
 
--- a number with one more digit behind it, where it stays below 2^32
+-- a number with one more digit after it, where it stays below 2^32
 abbrev pub with_digit : ℕ → ℕ → ℕ → Option ℕ
 with_digit radix value digit =
     if is_digit digit radix && nat_lt (value * radix + digit_value digit) (2 ^ 32)

@@ -1,5 +1,5 @@
--- What a line of a script asks for, by its words. Words are parted by single spaces; a command word may be in upper or
--- lower case.
+-- What a line of a script asks for, by its words. Words are parted by single spaces; a command word
+-- may be in upper or lower case.
 use Rattle.std.specs.Prelude.{ℕ, Bool, true, false, ◌==◌, ◌&&◌, nat_lt, Option, Some, None, if◌then◌else◌}
 use Rattle.std.specs.Prelude.{List, [], ◌∷◌, length, map, take, drop, codes}
 use Rattle.std.specs.Char.{to_ascii_lowercase}

@@ -1,3 +1,5 @@
+//! The lines of a block, after HEX or ASM: read as bytes, or passed over.
+
 ghost use Rattle.std.specs.Prelude.{◌≡◌, ◌+◌, length, take, IfOk, OnOk};
 ghost use Rattle.command_shell_lines.specs.Blocks.{block_lines, after_block, block_size, block_bytes, result_of_block};
 

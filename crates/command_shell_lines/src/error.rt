@@ -1,3 +1,5 @@
+//! Why a script is not read to its end.
+
 ghost use Rattle.std.specs.Prelude.{◌≡◌};
 ghost use Rattle.command_shell_lines.specs.declared.error.ReadingError.TheVariants.{Memory, ReadFault as IsReadFault};
 

@@ -1,4 +1,4 @@
-//! The lines of a script: reading them, and what each asks for. It knows no machine.
+//! The lines of a script, for the shell: reading them, and what each asks for. It knows no machine.
 #![tactic(auto)]
 
 mod blocks;

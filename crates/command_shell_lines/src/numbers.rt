@@ -1,8 +1,10 @@
+//! Numbers of a script, in decimal or after `&` in hexadecimal.
+
 ghost use Rattle.std.specs.Prelude.{◌≡◌, ◌≤◌};
 ghost use Rattle.command_shell_lines.specs.Numbers.{number_in, number_of, with_digit};
 
-/// The number that a word spells: decimal digits, or `&` and hexadecimal digits in either case. None
-/// for a word without digits, with anything else in it, or of a value of 2^32 and more.
+/// The number that a word spells: decimal digits, or `&` and hexadecimal digits in either case.
+/// None for a word without digits, with anything else in it, or of a value of 2^32 and more.
 pub fn number_of(word: &[u8]) -> Option<u32>
     ensures { result ≡ number_of word.now }
 {
@@ -30,7 +32,7 @@ fn number_in(digits: &[u8], radix: u32) -> Option<u32>
     Some(value)
 }
 
-// One more digit behind a number, if that is still below 2^32.
+// One more digit after a number, if that is still below 2^32.
 fn with_digit(value: u32, digit: u8, radix: u32) -> Option<u32>
     requires low { 2 ≤ radix }
     requires high { radix ≤ 36 }

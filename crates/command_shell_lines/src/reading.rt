@@ -1,3 +1,5 @@
+//! A script read whole, up to the longest that is taken.
+
 ghost use Rattle.std.specs.Prelude.{◌≡◌, ◌≤◌, ◌<◌, true, length, IfOk, IfSome};
 ghost use Rattle.profile.specs.Pulls.{PullsAtMost};
 

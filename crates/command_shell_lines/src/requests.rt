@@ -1,3 +1,5 @@
+//! What each line of a script asks for.
+
 ghost use Rattle.std.specs.Prelude.{◌≡◌, ◌<◌, true, [], ◌∷◌, length};
 ghost use Rattle.command_shell_lines.specs.Numbers.{number_of};
 ghost use Rattle.command_shell_lines.specs.Operands.{register_named, word_address, origin_of, count_up_to};

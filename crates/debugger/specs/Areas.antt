@@ -1,5 +1,6 @@
--- Areas as text: a line for each by number, with its base as eight hexadecimal digits, its size and its maximum in bytes, and its name; then
--- the pages of the pool (RISC OS 3 Programmer's Reference Manual, supplement, "OS_DynamicArea"; the text is this project's own).
+-- Areas as text: a line for each by number, with its base as eight hexadecimal digits, its size and
+-- its maximum in bytes, and its name; then the pages of the pool (RISC OS 3 Programmer's Reference
+-- Manual, supplement, "OS_DynamicArea"; the text is this project's own).
 use Rattle.std.specs.Prelude.{ℕ, ◌*◌, ◌++◌, List, codes}
 use Rattle.std.specs.Fmt.{decimal}
 use Rattle.std.specs.List.{flat_map}

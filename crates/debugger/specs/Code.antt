@@ -1,5 +1,5 @@
--- Memory as instructions: a line for each word, with its address, its eight digits and its text; or a word that isn't mapped. Addresses
--- count modulo 2^32.
+-- Memory as instructions: a line for each word, with its address, its eight digits and its text; or
+-- a word that isn't mapped. Addresses count modulo 2^32.
 use Rattle.std.specs.Prelude.{ℕ, zero, suc, ◌+◌, ◌%◌, ◌^◌, List, [], ◌++◌, codes, Result, Ok, Err}
 use Rattle.profile.specs.Digits.{hex_word}
 use Rattle.profile.specs.declared.fault.Fault.{Fault}

@@ -1,6 +1,7 @@
--- The flex store as text: a line with the addresses where its range starts and ends, and how many bytes of it its blocks take up; then a line for each
--- block by address, with the addresses of its anchor and of its bytes, and its size; and of an anchor that lies in the bytes of a block, where these are,
--- and how far into them it is (Acorn C manual, "flex"; the text is this project's own).
+-- The flex store as text: a line with the addresses where its range starts and ends, and how many
+-- bytes of it its blocks take up; then a line for each block by address, with the addresses of its
+-- anchor and of its bytes, and its size; and of an anchor that lies in the bytes of a block, where
+-- these are, and how far into them it is (Acorn C manual, "flex"; the text is this project's own).
 use Rattle.std.specs.Prelude.{ℕ, ◌+◌, ◌-◌, ◌&&◌, nat_le, ◌++◌, List, [], ◌∷◌, codes, Option, Some, None, if◌then◌else◌}
 use Rattle.std.specs.Fmt.{decimal}
 use Rattle.std.specs.List.{flat_map}

@@ -1,6 +1,7 @@
--- A heap as text: a line with the address of its descriptor, and its base and its end in bytes from there; then a line for each item by address,
--- live or free, with the item's address and its total (RISC OS 3 Programmer's Reference Manual, "OS_Heap", the internal format; the text is
--- this project's own).
+-- A heap as text: a line with the address of its descriptor, and its base and its end in bytes from
+-- there; then a line for each item by address, live or free, with the item's address and its total
+-- (RISC OS 3 Programmer's Reference Manual, "OS_Heap", the internal format; the text is this
+-- project's own).
 use Rattle.std.specs.Prelude.{ℕ, ◌+◌, ◌++◌, List, [], ◌∷◌, codes, Option}
 use Rattle.std.specs.Option.{option_map}
 use Rattle.std.specs.Fmt.{decimal}

@@ -1,3 +1,4 @@
+-- The text of each view, a file for each.
 pub use Rattle.address_map
 pub use Rattle.swi_dispatch.specs.flex_store
 pub use Rattle.swi_dispatch

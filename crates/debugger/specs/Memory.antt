@@ -1,5 +1,5 @@
--- Memory as text: lines of 16 bytes, each line with the address of its first byte. A byte is two hexadecimal digits after a space, or
--- `--` where no memory is mapped. Addresses count modulo 2^32.
+-- Memory as text: lines of 16 bytes, each line with the address of its first byte. A byte is two
+-- hexadecimal digits after a space, or `--` where no memory is mapped. Addresses count modulo 2^32.
 use Rattle.std.specs.Prelude.{ℕ, zero, suc, ◌+◌, ◌-◌, ◌/◌, ◌%◌, ◌^◌, ◌++◌, min, List, [], ◌∷◌, codes, Result, Ok, Err}
 use Rattle.profile.specs.Digits.{hex_digit, hex_word}
 use Rattle.profile.specs.declared.fault.Fault.{Fault}

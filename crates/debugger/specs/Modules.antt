@@ -1,6 +1,7 @@
--- Modules as text: a line for each, oldest first, with its title and its image's address and length in bytes; and under it a line for each
--- instance, oldest first, with its name, its private word's address and the value there, and whether it is preferred (RISC OS 3 Programmer's
--- Reference Manual, "OS_Module", reason 12; the text is this project's own).
+-- Modules as text: a line for each, oldest first, with its title and its image's address and length
+-- in bytes; and under it a line for each instance, oldest first, with its name, its private word's
+-- address and the value there, and whether it is preferred (RISC OS 3 Programmer's Reference
+-- Manual, "OS_Module", reason 12; the text is this project's own).
 use Rattle.std.specs.Prelude.{ℕ, Bool, true, false, ◌+◌, ◌*◌, ◌++◌, List, [], codes, Option, Some, None}
 use Rattle.std.specs.Fmt.{decimal}
 use Rattle.std.specs.List.{flat_map}

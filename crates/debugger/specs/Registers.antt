@@ -1,5 +1,5 @@
--- The registers as text: four lines of four, each a name of three places and eight hexadecimal digits, and a line of the status, a set
--- flag in capitals.
+-- The registers as text: four lines of four, each a name of three places and eight hexadecimal
+-- digits, and a line of the status, a set flag in capitals.
 use Rattle.std.specs.Prelude.{ℕ, Bool, ◌+◌, ◌++◌, nat_lt, List, [], ◌∷◌, codes, if◌then◌else◌}
 use Rattle.profile.specs.Digits.{hex_word}
 use Rattle.swi_dispatch.specs.arm_step.specs.declared.psr.Mode.{Mode}

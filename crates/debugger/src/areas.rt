@@ -1,3 +1,5 @@
+//! The view AREAS: each dynamic area, and the pool.
+
 ghost use Rattle.std.specs.List.{flat_map};
 ghost use Rattle.profile.specs.Output.{Writes};
 ghost use Rattle.swi_dispatch.specs.Parts.{state_of};
@@ -9,8 +11,8 @@ use profile::{HexText, Sink, WriteFault, push_parts};
 use swi_dispatch::Machine;
 use swi_dispatch::dynamic_areas::Area;
 
-/// Writes a line for each area by number, `area 1 base 01800000 size 65536 max 4194304 RMA`, with its
-/// size and its maximum in bytes, and then how many pages are in the pool, `pool 173 pages`.
+/// Writes a line for each area by number, `area 1 base 01800000 size 65536 max 4194304 RMA`, with
+/// its size and its maximum in bytes, and then how many pages are in the pool, `pool 173 pages`.
 pub fn show_areas<W: Sink>(machine: &Machine, sink: &mut W) -> Result<(), WriteFault>
     ensures writes { Writes W.contents W.has_failed sink.old sink.new result
         (areas_text (state_of machine.now).tables.land.areas (state_of machine.now).pool) }

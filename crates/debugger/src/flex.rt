@@ -1,3 +1,5 @@
+//! The view FLEX: the flex store, its blocks, and the anchors that lie in blocks.
+
 ghost use Rattle.std.specs.Prelude.{◌≡◌, ◌+◌, ◌&&◌, nat_le, ◌++◌, [], IfOk, is_some, unwrap_or};
 ghost use Rattle.address_map.specs.Memory.{bytes_of};
 ghost use Rattle.swi_dispatch.specs.flex_store.specs.Listed.{all_listed};
@@ -12,9 +14,10 @@ use profile::{HexText, Sink, WriteFault, push_parts};
 use swi_dispatch::Machine;
 use swi_dispatch::flex_store::{Flex, FlexBlock, FlexBlocks};
 
-/// Writes the flex store, `flex 0000A000 0000A400 used 48`, and its blocks by address, as `block anchor
-/// 00009000 at 0000A008 size 10`, and ` in 0000A008 offset 8` at the end where the anchor lies in the bytes of a
-/// block. Answers whether there is a store; nothing is written where there is none.
+/// Writes the flex store, `flex 0000A000 0000A400 used 48`, and its blocks by address, as `block
+/// anchor 00009000 at 0000A008 size 10`, and ` in 0000A008 offset 8` at the end where the anchor
+/// lies in the bytes of a block. Answers whether there is a store; nothing is written where there
+/// is none.
 pub fn show_flex<W: Sink>(machine: &Machine, sink: &mut W) -> Result<bool, WriteFault>
     ensures found { let s = state_of machine.now in
         IfOk result (λ is_there. is_there ≡ is_some (flex_text s.store.bytes s.tables.flex)) }

@@ -1,3 +1,5 @@
+//! The view HEAP: a heap's limits and its items.
+
 ghost use Rattle.std.specs.Prelude.{◌≡◌, ◌≤◌, ◌+◌, ◌^◌, true, [], IsSome, IfOk, IfSome, OnOk, OnErr, is_some, unwrap_or};
 ghost use Rattle.std.specs.Io.KnownBytes.{Appends};
 ghost use Rattle.profile.specs.Output.{Writes};

@@ -1,4 +1,5 @@
-//! Printed views of the machine.
+//! Views of the machine, printed for scripts: registers, memory, heaps, areas, modules and flex
+//! blocks.
 #![tactic(auto)]
 
 mod areas;

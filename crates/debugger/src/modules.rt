@@ -1,3 +1,5 @@
+//! The view MODULES: each module and its instances.
+
 ghost use Rattle.std.specs.Prelude.{◌≡◌, ◌<◌, slice_get};
 ghost use Rattle.address_map.specs.Memory.{bytes_of};
 ghost use Rattle.profile.specs.Output.{Writes};
@@ -13,9 +15,9 @@ use profile::{HexText, Sink, WriteFault, push_parts};
 use swi_dispatch::Machine;
 use swi_dispatch::instances::{InstanceInfo, Instances, ModuleInfo};
 
-/// Writes a line for each module, oldest first, `module Title at 01800014 length 47`, and under it a
-/// line for each of its instances, `  Base word 01C02000 00000000 preferred`, with the address of its
-/// private word and what stands there.
+/// Writes a line for each module, oldest first, `module Title at 01800014 length 47`, and under it
+/// a line for each of its instances, `  Base word 01C02000 00000000 preferred`, with the address of
+/// its private word and what stands there.
 pub fn show_modules<W: Sink>(machine: &Machine, sink: &mut W) -> Result<(), WriteFault>
     ensures writes { let s = state_of machine.now in Writes W.contents W.has_failed sink.old sink.new result
         (modules_text s.store.bytes s.tables.modules) }

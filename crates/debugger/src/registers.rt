@@ -1,3 +1,5 @@
+//! The view REGS: the registers of the present mode and the status.
+
 ghost use Rattle.std.specs.Prelude.{◌≡◌, ◌≤◌};
 ghost use Rattle.profile.specs.Output.{Writes};
 ghost use Rattle.swi_dispatch.specs.Parts.{state_of};

@@ -20,7 +20,7 @@ pub struct Case {
     pub name: String,
     /// The exit status.
     pub status: u8,
-    /// What is typed behind what each case begins with.
+    /// What is typed after what each case begins with.
     pub session: Session,
 }
 
@@ -33,7 +33,7 @@ impl Session {
         }
     }
 
-    /// Takes in lines: those behind `> ` are typed, all others are answers.
+    /// Takes in lines: those after `> ` are typed, all others are answers.
     pub fn take_lines(&mut self, text: &[u8]) -> Result<(), AllocError> {
         for line in text.split_inclusive(|byte| *byte == b'\n') {
             self.take_line(line)?;
@@ -48,7 +48,7 @@ impl Session {
         }
     }
 
-    /// This session, and another behind it.
+    /// This session, and another after it.
     pub fn then(&self, alloc: Global, other: &Session) -> Result<Session, AllocError> {
         let mut all = Session {
             typed: Vec::from_slice(alloc, self.typed.as_slice())?,
@@ -80,8 +80,9 @@ impl Case {
         self.error_number().is_some()
     }
 
-    /// The digits of the error's number, where it is the first answer. A case whose error is a module's own
-    /// looks at the machine before the call: as an instruction that takes more than a step.
+    /// The digits of the error's number, where it is the first answer. A case whose error is a
+    /// module's own looks at the machine before the call: as an instruction that takes more than a
+    /// step.
     pub fn error_number(&self) -> Option<&[u8]> {
         let first = self
             .session

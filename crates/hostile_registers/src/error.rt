@@ -1,3 +1,5 @@
+//! Why a case can't be read or run.
+
 use command_shell::RunError;
 use std::alloc::AllocError;
 use thiserror::Error;

@@ -50,8 +50,8 @@ fn hexadecimal(digits: &[u8]) -> Option<u32> {
     u32::from_str_radix(text.trim_end(), 16).ok()
 }
 
-/// A script that makes the call by an instruction without the X bit, and looks at the machine before it
-/// and after it.
+/// A script that makes the call by an instruction without the X bit, and looks at the machine
+/// before it and after it.
 pub fn script_of(alloc: Global, begin: &Session, case: &Case) -> Result<Vec<u8>, CaseError> {
     let parts = Parts::of(alloc, case)?;
     let call = parts.call.ok_or(CaseError::Call)?;
@@ -66,8 +66,8 @@ pub fn script_of(alloc: Global, begin: &Session, case: &Case) -> Result<Vec<u8>,
     Ok(script)
 }
 
-/// Whether such a script's answers are the views, `stop ErrorStop` with the number of the error, and the
-/// very same views: nothing of the machine has changed.
+/// Whether such a script's answers are the views, `stop ErrorStop` with the number of the error,
+/// and the very same views: nothing of the machine has changed.
 pub fn is_stopped(
     alloc: Global,
     answer: &[u8],
@@ -84,13 +84,13 @@ pub fn is_stopped(
     }
 }
 
-// What stands behind a beginning.
+// What stands after a beginning.
 fn behind<'a>(bytes: &'a [u8], front: &[u8]) -> Option<&'a [u8]> {
     let (found, rest) = bytes.split_at_checked(front.len())?;
     if found == front { Some(rest) } else { None }
 }
 
-// Whether a text stands before the middle and behind it.
+// Whether a text stands before the middle and after it.
 fn is_twice_about(bytes: &[u8], middle: &[u8]) -> bool {
     let half = bytes.len().saturating_sub(middle.len()) / 2;
     let Some((before, rest)) = bytes.split_at_checked(half) else {

@@ -1,9 +1,11 @@
-//! Runs cases of hostile registers against the shell: each store call with each of its registers at
-//! values that it is not meant for, and each case that ends in an error once more, as an instruction.
+//! Gate: runs store calls against the shell, with registers at values that they are not meant for.
+//! Each store call is run with each of its registers so, and each case that ends in an error once
+//! more, as an instruction.
 //!
 //! `hostile_registers BEGIN FILE...`
 //!
-//! BEGIN is what each case of the files behind it begins with, up to the next file that has no cases.
+//! BEGIN is what each case of the files after it begins with, up to the next file that has no
+//! cases.
 #![tactic(auto)]
 
 mod cases;
@@ -22,7 +24,8 @@ const DIFFERS: u8 = 1;
 
 const NOT_RUN: u8 = 2;
 
-/// How many cases were run, how many of them once more as an instruction, and how many were as they say.
+/// How many cases were run, how many of them once more as an instruction, and how many were as they
+/// say.
 #[derive(Clone, Copy)]
 struct Tally {
     run: u64,
@@ -41,8 +44,8 @@ fn main(rt: HostRuntime) -> ExitCode {
     }
 }
 
-// Runs each file that the command line names, behind what its cases begin with, and tells whether all
-// cases are as they say.
+// Runs each file that the command line names, after what its cases begin with, and tells whether
+// all cases are as they say.
 fn run_files<R>(rt: &R) -> anyhow::Result<bool>
 where
     R: AllocGlobal + fs::Files + env::Env + Print,

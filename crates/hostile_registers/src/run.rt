@@ -1,3 +1,5 @@
+//! A case run, as a call and as an instruction, and what is not as it says.
+
 use crate::cases::{Case, Session};
 use crate::error::CaseError;
 use crate::instructions::{is_stopped, script_of};
@@ -7,7 +9,8 @@ use script_outcomes::{Outcome, outcome_of};
 use std::alloc::Global;
 use std::fmt;
 
-/// The sizes of the machine, in pages: all, those of the application space, those of the module area.
+/// The sizes of the machine, in pages: all, those of the application space, those of the module
+/// area.
 const SIZES: (u32, u32, u32) = (256, 64, 16);
 
 /// How many steps a script may take in all.

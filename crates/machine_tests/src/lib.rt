@@ -1,6 +1,7 @@
-//! Tests of the machine and of its views: store calls and steps, with values worked out by hand.
+//! Tests: store calls, steps and views of the machine, with values worked out by hand.
 //!
-//! They stand apart from the crates that they test, since a crate with tests is proved once more with them.
+//! They stand apart from the crates that they test, since a crate with tests is proved once more
+//! with them.
 #![tactic(auto)]
 
 #[cfg(test)]

@@ -25,11 +25,12 @@ const SIX_WORDS: [u8; 24] = [
     0xFB, 0xFF, 0xFF, 0x1A, 0x11, 0x00, 0x00, 0xEF,
 ];
 
-/// What a test does to a machine, or finds there. An address comes before what it holds, a register before its value, and what is asked for
-/// before the answer.
+/// What a test does to a machine, or finds there. An address comes before what it holds, a register
+/// before its value, and what is asked for before the answer.
 #[derive(Clone, Copy)]
 pub(crate) enum Line {
-    /// A new machine of some pages, of which the application space and the module area have so many.
+    /// A new machine of some pages, of which the application space and the module area have so
+    /// many.
     New(u32, u32, u32),
     /// The six words are booted, or refused.
     Boot(Option<BootError>),
@@ -123,7 +124,8 @@ fn acts(machine: &mut Machine, alloc: Global, line: &Line) -> Result<bool, Alloc
     Ok(true)
 }
 
-/// Takes the steps of a line that has some, and answers whether the machine stops as the line has it.
+/// Takes the steps of a line that has some, and answers whether the machine stops as the line has
+/// it.
 fn takes_steps(machine: &mut Machine, line: &Line) -> bool {
     match *line {
         Line::Step(stop) => machine.step(&Images::new()) == stop,
@@ -133,7 +135,8 @@ fn takes_steps(machine: &mut Machine, line: &Line) -> bool {
     }
 }
 
-/// Pokes the word that holds an address, for a line that does, and answers whether that ends as the line has it.
+/// Pokes the word that holds an address, for a line that does, and answers whether that ends as the
+/// line has it.
 fn pokes(machine: &mut Machine, line: &Line) -> bool {
     match *line {
         Line::Put(address, word) => machine.poke(address - address % 4, word).is_ok(),

@@ -1,3 +1,5 @@
+//! Tests of views whose writer fails.
+
 use debugger::swi_dispatch::Machine;
 use debugger::{show_blocks, show_memory, show_regs};
 use image_loader::Images;

@@ -40,7 +40,8 @@ first_of (c ∷ rest) = c
 abbrev pub byte_at : ℕ → List ℕ → ℕ
 byte_at place text = 16 * hex_value (first_of (drop place text)) + hex_value (first_of (drop (place + 1) text))
 
--- The bytes that a text of so many characters at most shows, where every `&` begins a reference by a number or a mark.
+-- The bytes that a text of so many characters at most shows, where every `&` begins a reference by
+-- a number or a mark.
 unfoldable pub shown_in : ℕ → List ℕ → List ℕ
 shown_in zero text = []
 shown_in (suc most) [] = []

@@ -1,3 +1,4 @@
+-- HTML and SVG as bytes. Begin with Escape and Svg.
 pub mod Escape
 pub mod Grid
 pub mod Markup

@@ -49,7 +49,8 @@ block_line anchor holder base =
 abbrev pub name_line : ℕ → List ℕ → ℕ → List ℕ
 name_line left name base = svg_text (codes "size") left base name
 
--- the anchor of a flex block, the name of an area or a module, or what a private word has and whose it is
+-- the anchor of a flex block, the name of an area or a module, or what a private word has and whose
+-- it is
 abbrev pub second_line : Kind → PictureBox → ℕ → List ℕ
 second_line kind.Block b base = block_line b.detail b.holder base
 second_line kind.Area b base = name_line 82 (take 28 b.name.now) base

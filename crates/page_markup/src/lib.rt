@@ -1,4 +1,5 @@
-//! Bytes and pictures as they stand in an HTML file: bytes escaped, boxes and rows of memory as SVG.
+//! Bytes and pictures as they stand in an HTML file, for pages: bytes escaped, boxes and rows as
+//! SVG.
 #![tactic(auto)]
 
 pub mod escape;

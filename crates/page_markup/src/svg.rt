@@ -1,5 +1,5 @@
-//! A picture as SVG: boxes from low addresses to high, their heights to scale where there is room for
-//! their words.
+//! A picture as SVG: boxes from low addresses to high, their heights to scale where there is room
+//! for their words.
 
 ghost use Rattle.std.specs.Prelude.{◌≡◌, ◌<◌, ◌^◌, take};
 ghost use Rattle.profile.specs.Digits.{hex_word};
@@ -14,7 +14,8 @@ use itoa::Buffer;
 use profile::{HexText, Sink, WriteFault, push_all, push_parts};
 use view_pictures::{Drawn, Kind, Layout, PictureBox};
 
-// The right edge of the addresses, and the left one of the boxes and of what stands in and beside them.
+// The right edge of the addresses, and the left one of the boxes and of what stands in and beside
+// them.
 const ADDRESS_EDGE: u64 = 68;
 
 const BOX_LEFT: u64 = 74;

@@ -1,7 +1,7 @@
-//! Tests of pages of scripts: what stands under a view, and bytes that HTML would take for its own.
+//! Tests: pages of scripts, what stands under a view, and bytes that HTML would take for its own.
 //!
-//! These tests stand apart from the crates that they test, since a crate with tests is proved once more
-//! with them.
+//! These tests stand apart from the crates that they test, since a crate with tests is proved once
+//! more with them.
 #![tactic(auto)]
 
 #[cfg(test)]

@@ -1,4 +1,5 @@
-//! Pages of short scripts. The answers are those of `docs/VIEWS.md`; the bars are worked out by hand.
+//! Pages of short scripts. The answers are those of `docs/VIEWS.md`; the bars are worked out by
+//! hand.
 
 use profile::Config;
 use script_page::{Form, Setting, page_of, push_page};
@@ -6,8 +7,8 @@ use std::process::Abort;
 use std::test::Fail;
 use view_pictures::{TextSink, view_of};
 
-/// Of 774,144 bytes, 65,536 have 5 characters of 60, and the 173 pages of the pool have 54; what the area
-/// may grow by has 4 always. No room is left for the address of that behind the area's own.
+/// Of 774,144 bytes, 65,536 have 5 characters of 60, and the 173 pages of the pool have 54; what
+/// the area may grow by has 4 always. No room is left for the address of that after the area's own.
 const AREAS_PAGE: &str = "    1  AREAS
        area 1 base 01800000 size 65536 max 4194304 RMA
        pool 173 pages
@@ -32,8 +33,8 @@ const MEM_PAGE: &str = "    1  POKE &9000 &12345678
        p page pool, w private word, ^ under what has changed
 ";
 
-/// Of 112 bytes, 20 have 10 characters of 60, 12 have 6, and the room behind them 42; then of 120 bytes 12
-/// have 6 and the room 54. A block's bytes lie behind 8 of its header.
+/// Of 112 bytes, 20 have 10 characters of 60, 12 have 6, and the room after them 42; then of 120
+/// bytes 12 have 6 and the room 54. A block's bytes lie after 8 of its header.
 const FLEX_SCRIPT: &str = "SET R0 &A000
 SET R1 &A080
 CALL &C0000
@@ -97,8 +98,8 @@ CALL &C0001
 FLEX
 ";
 
-/// Of an image of 28 bytes of header and 2 of title, 30 of 34 bytes have 52 characters of 60, and the
-/// private word has 7.
+/// Of an image of 28 bytes of header and 2 of title, 30 of 34 bytes have 52 characters of 60, and
+/// the private word has 7.
 const MODULES_PAGE: &str = "    1  ASM w 0
     2          DCD     0,0,0,0,title,0,0
     3  title   DCB     \"W\",0
@@ -116,7 +117,7 @@ const MODULES_PAGE: &str = "    1  ASM w 0
        p page pool, w private word, ^ under what has changed
 ";
 
-/// The program prints A and ends; nothing stands behind what it prints.
+/// The program prints A and ends; nothing stands after what it prints.
 const GUEST_PAGE: &str = "    1  HEX p
     2  41 00 A0 E3 00 00 00 EF 11 00 00 EF
     3  END

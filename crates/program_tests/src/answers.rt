@@ -1,3 +1,5 @@
+//! Tests of whole runs of the program: answers, exit status, and failures of files and writers.
+
 use image_loader::{ImageError, Images};
 use profile::{Device, MemorySink, MemorySource, Stop};
 use rosm_settings::image_files::{FileError, add_image};

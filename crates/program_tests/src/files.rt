@@ -1,3 +1,5 @@
+//! Tests of files taken in as images.
+
 use image_loader::{ImageError, Images};
 use profile::memory_map::MOST_BYTES;
 use rosm_settings::image_files::{FileError, add_image};

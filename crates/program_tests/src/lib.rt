@@ -1,6 +1,7 @@
-//! Tests of the program's files, its answers and its endings.
+//! Tests: the program's files, its answers and its endings.
 //!
-//! They stand apart from the crate that they test, since a crate with tests is proved once more with them.
+//! They stand apart from the crate that they test, since a crate with tests is proved once more
+//! with them.
 #![tactic(auto)]
 
 #[cfg(test)]

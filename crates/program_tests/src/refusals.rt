@@ -1,3 +1,5 @@
+//! Tests of refusals: their exit status and their line.
+
 use image_loader::ImageError;
 use rosm_settings::image_files::FileError;
 use rosm_settings::{Refusal, RunError, SettingsError};

@@ -1,3 +1,5 @@
+//! Tests of settings that the words of the program give or are refused for.
+
 use rosm_settings::{SettingsError, settings};
 use std::test::Fail;
 

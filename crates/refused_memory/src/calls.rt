@@ -1,4 +1,5 @@
-//! The calls by their names: those that take host memory, each behind some takings of it, and those that take none.
+//! The calls by their names: those that take host memory, each after some takings of it, and those
+//! that take none.
 
 use crate::outcome::{Outcome, take_and_give_back};
 use crate::rows::{ERROR_AT_START, SIX_WORDS, TIDY};
@@ -13,7 +14,7 @@ use raw_store::RawStore;
 use std::alloc::Global;
 use swi_dispatch::Machine;
 
-/// How the call of this name ends behind so many takings of memory.
+/// How the call of this name ends after so many takings of memory.
 pub fn outcome_of(alloc: Global, call: &str, takings: u32) -> Outcome {
     match call {
         "region" => region(alloc, takings),

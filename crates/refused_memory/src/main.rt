@@ -1,9 +1,9 @@
-//! Calls for which host memory is refused, each told to come behind some takings of memory.
+//! Gate: makes calls for which host memory is refused, each after some takings of memory.
 //!
-//! Standard input has lines `CALL TAKINGS`. The program makes what the call is handed, takes host memory so many times,
-//! gives it back, makes the call, and tells by one word how that ended. `tools/refuse_memory` runs it where one taking
-//! of memory, by its number, is refused: by the number of takings before the call it is the call's first, second and
-//! so on.
+//! Standard input has lines `CALL TAKINGS`. The program makes what the call is handed, takes host
+//! memory so many times, gives it back, makes the call, and tells by one word how that ended.
+//! `tools/refuse_memory` runs it where one taking of memory, by its number, is refused: by the
+//! number of takings before the call it is the call's first, second and so on.
 #![tactic(auto)]
 
 mod calls;

@@ -1,4 +1,4 @@
-//! Scripts run behind some takings of memory.
+//! Scripts run after some takings of memory.
 
 use crate::outcome::{Outcome, take_and_give_back};
 use crate::rows::Row;
@@ -47,7 +47,8 @@ fn is_all(written: &[u8], answer: &[u8]) -> bool {
     written == answer
 }
 
-/// Whether there are the image that was handed in and the script's own, which may be missing where memory was.
+/// Whether there are the image that was handed in and the script's own, which may be missing where
+/// memory was.
 fn has_images(images: &Images, row: &Row, may_lack: bool) -> bool {
     let has_own = match images.get(row.image.as_bytes()) {
         Some(bytes) => bytes.len() == row.len,

@@ -1,5 +1,5 @@
-//! Calls that take no host memory: many of them on a machine, and then takings of memory. Where these are refused from
-//! tells how many were taken before.
+//! Calls that take no host memory: many of them on a machine, and then takings of memory. Where
+//! these are refused from tells how many were taken before.
 
 use crate::outcome::{Outcome, take_and_give_back};
 use debugger::{
@@ -21,7 +21,8 @@ pub enum Done {
 
 const TIMES: u32 = 16;
 
-/// A loop of five instructions behind the first: it counts in R0, stores that and loads it, and stores four registers.
+/// A loop of five instructions after the first: it counts in R0, stores that and loads it, and
+/// stores four registers.
 static PROGRAM: [u8; 24] = [
     0x09, 0x1A, 0xA0, 0xE3, // MOV R1,#&9000
     0x01, 0x00, 0x80, 0xE2, // ADD R0,R0,#1
@@ -83,8 +84,8 @@ fn call(machine: &mut Machine, images: &Images, number: u32, words: [u32; 4]) ->
     machine.store_call(images, number).is_none() && !machine.cpu().psr().overflow
 }
 
-/// A heap, and in each round a block of it and one of the module area, both given back; a page of the module area more and
-/// one less; a module loaded and taken away.
+/// A heap, and in each round a block of it and one of the module area, both given back; a page of
+/// the module area more and one less; a module loaded and taken away.
 fn store_calls(machine: &mut Machine, images: &Images) -> bool {
     if !call(machine, images, 0x1D, [0, HEAP, 0, 4096]) {
         return false;

@@ -15,8 +15,8 @@ use Rattle.rosm_settings.specs.declared.refusal.Refusal.TheVariants as refusal
 abbrev pub answers_to : Settings → List Entry → List ℕ → Answered
 answers_to settings images script = script_told settings.config images settings.budget script
 
--- With the files' images there from the start, the answers to the script are appended to what was written before, all
--- of them, and the last stop is the script's.
+-- With the files' images there from the start, the answers to the script are appended to what was
+-- written before, all of them, and the last stop is the script's.
 pub record AnswersScript {F : Type 0} (of_file : F → Option (List ℕ)) (settings : Settings)
     (script before after : Option (List ℕ)) (last : Option Stop) : Type 0 where
   pub images : List Entry
@@ -50,7 +50,8 @@ RefusesFiles of_file paths r r' w w' (refusal.File path error) =
     StopsBeforeScript of_file paths r r' w w' (refusal.File path error)
 RefusesFiles of_file paths r r' w w' _ = Unit {0}
 
--- The last stop is that of a script that a reader tells, with the files' images there from the start.
+-- The last stop is that of a script that a reader tells, with the files' images there from the
+-- start.
 pub record StopsWithScript {F R : Type 0} (of_file : F → Option (List ℕ)) (of_reader : R → Option (List ℕ))
     (settings : Settings) (last : Option Stop) : Type 0 where
   pub reader : R

@@ -1,5 +1,5 @@
--- Why words are refused, and the exit status of the program: 2 for a command line that can't be, 4 for anything else that keeps a
--- script from running whole, and else that of its last stop.
+-- Why words are refused, and the exit status of the program: 2 for a command line that can't be, 4
+-- for anything else that keeps a script from running whole, and else that of its last stop.
 use Rattle.std.specs.Prelude.{◌≡◌, ℕ, Bool, false, List, ◌++◌, Option, Result, Ok, Err, codes}
 use Rattle.std.specs.Io.KnownBytes.{Appends}
 use Rattle.std.specs.declared.io.ErrorKind.{ErrorKind}
@@ -12,7 +12,7 @@ use Rattle.command_line.specs.declared.options.SettingsError.TheVariants as refu
 use Rattle.rosm_settings.specs.declared.refusal.Refusal.{Refusal}
 use Rattle.rosm_settings.specs.declared.refusal.Refusal.TheVariants as refusal
 
--- The refusal is that of the words; want of memory may come at any words.
+-- The refusal is that of the words; memory may run out at any point.
 abbrev pub IsRefusalOf : Result Settings SettingsError → Refusal → Type 0
 IsRefusalOf answer refusal.Memory = Unit {0}
 IsRefusalOf answer (refusal.Line reason) = answer ≡ Err refused.Line
@@ -41,7 +41,8 @@ pub record TellsLine (before after : Option (List ℕ)) : Type 0 where
   pub text : List ℕ
   pub line : Appends before after (codes "rosm: " ++ (text ++ codes "\n"))
 
--- What stands on standard error at the end: nothing after a script that ran whole, and else one line, if it could be written.
+-- What stands on standard error at the end: nothing after a script that ran whole, and else one
+-- line, if it could be written.
 abbrev pub TellsEnding : {W : Type 0} → (W → Option (List ℕ)) → (W → Bool) → W → W → Result (Option Stop) Refusal → Type 0
 TellsEnding contents has_failed before after (Ok last) = after ≡ before
 TellsEnding contents has_failed before after (Err refused) =

@@ -1,4 +1,5 @@
--- Files as images: a file's image is named by the last part of its path, and has the bytes that its reader tells.
+-- Files as images: a file's image is named by the last part of its path, and has the bytes that its
+-- reader tells.
 use Rattle.std.specs.Prelude.{◌≡◌, ℕ, Bool, true, false, List, [], ◌∷◌, length, map, take, slice_get, Option, Some, None}
 use Rattle.std.specs.Prelude.{IfSome, option_map}
 use Rattle.std.specs.Path.{path_file_name}
@@ -44,7 +45,8 @@ named_refusal entries (Some name) bytes = option_map file.Image (refusal_for ent
 abbrev pub file_refusal : List Entry → List ℕ → List ℕ → Option FileError
 file_refusal entries path bytes = named_refusal entries (path_file_name path) bytes
 
--- the file of that path is taken into the table, with all the bytes that its reader tells, as far as they are known
+-- the file of that path is taken into the table, with all the bytes that its reader tells, as far
+-- as they are known
 pub record AddsImage (old : List Entry) (path : List ℕ) (known : Option (List ℕ)) (new : List Entry) : Type 0 where
   pub name : List ℕ
   pub bytes : List ℕ
@@ -90,8 +92,8 @@ abbrev pub IsOfFile : Refusal → List ℕ → FileError → Type 0
 IsOfFile (refusal.File at error) path told = (at.now ≡ path) × (error ≡ told)
 IsOfFile _ path told = ⊥
 
--- The files before the first one that gives no image are taken in; it is the one that is told of, and its error is the
--- host's or the table's at that time.
+-- The files before the first one that gives no image are taken in; it is the one that is told of,
+-- and its error is the host's or the table's at that time.
 pub record StopsAtFile {F : Type 0} (remaining : F → Option (List ℕ)) (old new : List Entry) (paths : List (List ℕ))
     (told : Refusal) : Type 0 where
   pub place : ℕ

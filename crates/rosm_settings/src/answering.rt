@@ -1,3 +1,5 @@
+//! The program's run between its settings and its exit status: files, script, answers.
+
 ghost use Rattle.std.specs.Prelude.{◌≡◌, ◌<◌, false, true, length, Err, IfErr, IfOk, IfSome, IsErr, OnErr, OnOk};
 ghost use Rattle.std.specs.Io.KnownBytes.{Appends};
 ghost use Rattle.profile.specs.Devices.{device_failed, device_inner};

@@ -1,5 +1,5 @@
-//! What the program `rosm` does: it takes files in as images, runs a script from standard input to
-//! its answers on standard output, and ends with an exit status.
+//! What `rosm` does, for its `main` and `rosm_show`: files as images, a script, its answers, an
+//! exit status.
 #![tactic(auto)]
 
 pub mod answering;

@@ -1,3 +1,5 @@
+//! Why `rosm` ends without having run its script whole, with the line and the exit status for that.
+
 ghost use Rattle.std.specs.Prelude.{◌≡◌};
 
 use crate::image_files::FileError;

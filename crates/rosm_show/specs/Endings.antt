@@ -1,5 +1,6 @@
--- What words ask for, why they are refused, and the exit status: 2 for a command line that can't be, 4 for anything else that
--- keeps a page from being written whole, and else that of the script's last stop.
+-- What words ask for, why they are refused, and the exit status: 2 for a command line that can't
+-- be, 4 for anything else that keeps a page from being written whole, and else that of the script's
+-- last stop.
 use Rattle.std.specs.Prelude.{◌≡◌, ℕ, false, List, Option, Some, None, Result, Ok, Err}
 use Rattle.std.specs.declared.io.ErrorKind.{ErrorKind}
 use Rattle.std.specs.declared.io.ErrorKind.TheVariants.{OutOfMemory}
@@ -20,7 +21,7 @@ pub record Asks (words : List (List ℕ)) (wanted : Wanted) : Type 0 where
   pub form : form_of (forms_from false words) ≡ Some wanted.form
   pub settings : settings_for (others_from false words) ≡ Ok wanted.settings
 
--- The refusal is this one of the words of `rosm`; want of memory may come at any words.
+-- The refusal is this one of the words of `rosm`; memory may run out at any point.
 abbrev pub IsRefusedBy : Result Settings SettingsError → Refusal → Type 0
 IsRefusedBy answer refusal.Memory = Unit {0}
 IsRefusedBy answer (refusal.Line reason) = answer ≡ Err refused.Line

@@ -1,3 +1,4 @@
+-- The whole run of the program that writes pages. Begin with Showing.
 pub mod Endings
 pub mod Showing
 pub mod Words

@@ -14,8 +14,9 @@ use Rattle.rosm_show.specs.declared.words.Wanted.{Wanted}
 abbrev pub names_in : List NamedImage → List (Option (List ℕ))
 names_in images = map (λ (i : NamedImage). Some i.name.now) images
 
--- With the files' images there from the start, the page of the script, in the form that is asked for, is appended to what was
--- written before, all of it; the steps of its entries are those that they took; and the last stop is the script's.
+-- With the files' images there from the start, the page of the script, in the form that is asked
+-- for, is appended to what was written before, all of it; the steps of its entries are those that
+-- they took; and the last stop is the script's.
 pub record ShowsPage (front back : List ℕ) (wanted : Wanted) (script before after : Option (List ℕ)) (last : Option Stop) : Type 0 where
   pub setting : Setting
   pub entries : List Entry

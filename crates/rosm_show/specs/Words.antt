@@ -1,4 +1,5 @@
--- The words of the program: those that ask for a form of the page, and all others, which are the words of `rosm`.
+-- The words of the program: those that ask for a form of the page, and all others, which are the
+-- words of `rosm`.
 use Rattle.std.specs.Prelude.{ℕ, ◌||◌, Bool, List, [], ◌∷◌, Option, Some, None, codes, if◌then◌else◌}
 use Rattle.std.specs.Str.{bytes_eq}
 use Rattle.script_page.specs.declared.form.Form.{Form}
@@ -11,11 +12,11 @@ form_asked word =
     if bytes_eq word (codes "--html") then Some form.Html else (
     if bytes_eq word (codes "--transcript") then Some form.Transcript else None))
 
--- whether all words behind one are files
+-- whether all words after one are files
 abbrev pub ends_options : List ℕ → Bool
 ends_options word = bytes_eq word (codes "--")
 
--- behind a word `--` none asks for a form
+-- after a word `--` none asks for a form
 abbrev pub form_at : Bool → List ℕ → Option Form
 form_at are_files word = if are_files then None else form_asked word
 

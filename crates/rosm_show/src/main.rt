@@ -1,7 +1,8 @@
 //! The program `rosm_show`: a script from standard input and its answers, as a page on standard
 //! output.
 //!
-//! `rosm_show [--text | --html | --transcript] [--pages N] [--app N] [--rma N] [--budget N] [FILE...] <SCRIPT`
+//! `rosm_show [--text | --html | --transcript] [--pages N] [--app N] [--rma N] [--budget N]
+//! [FILE...] <SCRIPT`
 #![tactic(auto)]
 
 mod form;

@@ -1,3 +1,5 @@
+//! Why `rosm_show` ends without a page, with the line and the exit status for that.
+
 ghost use Rattle.std.specs.Prelude.{◌≡◌};
 
 use command_line::SettingsError;

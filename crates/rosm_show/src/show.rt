@@ -21,8 +21,8 @@ use std::fs;
 use std::io::Write;
 use std::path::Path;
 
-/// Takes in the files, answers the script of `reader`, writes its page to `writer`, and gives the last
-/// stop. What the writer holds back is handed on before that.
+/// Takes in the files, answers the script of `reader`, writes its page to `writer`, and gives the
+/// last stop. What the writer holds back is handed on before that.
 ///
 /// # Errors
 ///

@@ -1,4 +1,4 @@
-//! Runs a script on a fresh machine, and keeps what it wrote.
+//! Gate: runs a script on a fresh machine, and keeps what it wrote, for the programs of the gate.
 #![tactic(auto)]
 
 ghost use Rattle.std.specs.Prelude.{◌≡◌, IfOk};

@@ -73,7 +73,7 @@ page_more text old new front rest lines before after answer steps one split more
 behind_place : (end : ℕ) (lines : List ℕ) → take (length lines - end) (drop end lines) ≡ drop end lines
 behind_place end lines = take_all (length lines - end) (drop end lines) (omega (arith, length-drop end lines))
 
--- the lines behind a place, and what is answered behind
+-- the lines after a place, and what is answered to them
 pub goes_by_one : (old new : List Entry) (end : ℕ) (lines before after answer : List ℕ) (steps : ℕ)
     → OneMore old new (take (length lines - end) (drop end lines)) answer steps → after ≡ before ++ answer
     → GoesOn old new (take end lines) lines before after
@@ -120,7 +120,7 @@ has_more left old new rest answer steps one has is =
     subst P (sym one.whole)
     (steps_mapped old one.entry ∙ (λ i. has i ++ own i ∷ []) ∙ sym (steps_more left [] old one.entry))
 
--- of the lines behind a place
+-- of the lines after a place
 pub steps_by_one : (old new : List Entry) (end : ℕ) (lines answer : List ℕ) (most before after steps : ℕ)
     → OneMore old new (take (length lines - end) (drop end lines)) answer steps → steps ≡ before - after
     → AddsSteps old new (take end lines) lines most before after

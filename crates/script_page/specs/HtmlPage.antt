@@ -18,14 +18,15 @@ typed_line line = escaped line ++ codes "\n"
 abbrev pub typed_lines : List (List ℕ) → List ℕ
 typed_lines lines = flat_map typed_line lines
 
--- A part of an answer, with something in it. HTML takes away a line feed that comes first, so there is one more.
+-- A part of an answer, with something in it. HTML takes away a line feed that comes first, so there
+-- is one more.
 unfoldable pub part_html : List ℕ → List ℕ → List ℕ
 part_html class part = codes "<pre class=\"" ++ (class ++ (codes "\">\n" ++ (escaped part ++ codes "</pre>")))
 
 abbrev pub answer_part : List ℕ → List ℕ → List ℕ
 answer_part class part = if length part == 0 then [] else part_html class part
 
--- what the guest printed, the answer behind that, and the steps
+-- what the guest printed, the answer after that, and the steps
 unfoldable pub told_html : List ℕ → List ℕ → List ℕ → List ℕ
 told_html guest answer steps = codes "<div class=\"told\">" ++ (guest ++ (answer ++ (steps ++ codes "</div>")))
 

@@ -1,3 +1,4 @@
+-- What a page is and how it is written. Begin with Page, then Writing.
 pub mod HtmlPage
 pub mod Page
 pub mod Pictures

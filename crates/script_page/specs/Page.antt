@@ -20,8 +20,8 @@ lines_of entries = flat_map (λ (e : Entry). e.lines.now) entries
 abbrev pub answers_of : List Entry → List ℕ
 answers_of entries = flat_map (λ (e : Entry). e.answer.items) entries
 
--- The entries have all lines of the script, in order, and however many of them are taken from the first on, their answers are
--- the text of just their lines: so each has its own.
+-- The entries have all lines of the script, in order, and however many of them are taken from the
+-- first on, their answers are the text of just their lines: so each has its own.
 pub record IsPageBy (text : List ℕ → List ℕ) (script : List ℕ) (entries : List Entry) : Type 0 where
   pub lines : lines_of entries ≡ script
   pub answers : (count : ℕ) → answers_of (take count entries) ≡ text (lines_of (take count entries))
@@ -42,8 +42,8 @@ steps_behind left front (e ∷ rest) = (left front - left (front ++ e.lines.now)
 abbrev pub HasSteps : (List ℕ → ℕ) → List Entry → Type 0
 HasSteps left entries = map (λ (e : Entry). e.steps) entries ≡ steps_behind left [] entries
 
--- From entries up to a place to those of all lines, where so many steps are left before the first line, before these lines
--- and after them.
+-- From entries up to a place to those of all lines, where so many steps are left before the first
+-- line, before these lines and after them.
 unfoldable pub AddsSteps : List Entry → List Entry → List ℕ → List ℕ → ℕ → ℕ → ℕ → Type 0
 AddsSteps old new front lines most before after =
     (left : List ℕ → ℕ) → HasSteps left old → lines_of old ≡ front → most ≡ left [] → before ≡ left front → after ≡ left lines
@@ -57,7 +57,8 @@ pub record OneMore (old new : List Entry) (lines answer : List ℕ) (steps : ℕ
   pub own_answer : entry.answer.items ≡ answer
   pub own_steps : entry.steps ≡ steps
 
--- From a page of the lines up to a place to one of all lines, where both are answered so, by whatever rule.
+-- From a page of the lines up to a place to one of all lines, where both are answered so, by
+-- whatever rule.
 unfoldable pub GoesOn : List Entry → List Entry → List ℕ → List ℕ → List ℕ → List ℕ → Type 0
 GoesOn old new front lines before after =
     (text : List ℕ → List ℕ) → IsPageBy text front old → before ≡ text front → after ≡ text lines → IsPageBy text lines new
@@ -83,8 +84,8 @@ steps_text kind.Steps (suc (suc n)) = decimal (suc (suc n)) ++ codes " steps"
 steps_text kind.View n = []
 steps_text kind.Other n = []
 
--- What is shown of each entry, in order: its lines by their numbers, what the guest printed, and the answer behind that;
--- its steps; and the picture of what that tells.
+-- What is shown of each entry, in order: its lines by their numbers, what the guest printed, and
+-- the answer after that; its steps; and the picture of what that tells.
 pub record AreShown (form : Form) (entries : List Entry) (shown : List Shown) : Type 0 where
   pub numbers : map (λ (s : Shown). s.number) shown ≡ numbers_from 1 entries
   pub lines : map (λ (s : Shown). s.lines.now) shown ≡ map (λ (e : Entry). e.lines.now) entries

@@ -31,8 +31,8 @@ rows_text form.Text rows = flat_map (mark_lines front) rows
 rows_text form.Html rows = grid_svg rows
 rows_text form.Transcript rows = []
 
--- A picture of boxes under an answer: the answer is the text of items, the boxes are at the items' places, each as large
--- as its item, and drawn to scale, one below another.
+-- A picture of boxes under an answer: the answer is the text of items, the boxes are at the items'
+-- places, each as large as its item, and drawn to scale, one below another.
 pub record IsOfBoxes (f : Form) (answer picture : List ℕ) : Type 0 where
   pub items : List Item
   pub boxes : List PictureBox

@@ -30,7 +30,7 @@ numbered number (line ∷ rest) = numbered_line number line ++ numbered (number_
 abbrev pub line_behind : List ℕ → List ℕ → List ℕ
 line_behind front line = front ++ whole_line line
 
--- lines, each behind these signs
+-- lines, each after these signs
 abbrev pub behind : List ℕ → List (List ℕ) → List ℕ
 behind front lines = flat_map (line_behind front) lines
 

@@ -22,7 +22,7 @@ sign_of s is_first byte = if is_first then first_sign s byte else []
 abbrev pub spelt_in : Side → Bool → ℕ → List ℕ
 spelt_in s is_first byte = sign_of s is_first byte ++ spelt (byte ∷ [])
 
--- behind a line without an end
+-- after a line without an end
 abbrev pub end_text : Bool → List ℕ
 end_text is_first = if is_first then [] else codes "\\\n"
 

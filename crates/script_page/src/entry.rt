@@ -54,8 +54,8 @@ impl<'a> Entry<'a> {
     }
 }
 
-/// How many bytes from the front of a text are its first line, and the block of that where it is HEX
-/// or ASM, with the ends of these lines.
+/// How many bytes from the front of a text are its first line, and the block of that where it is
+/// HEX or ASM, with the ends of these lines.
 pub fn size_of_request(text: &[u8]) -> usize
     requires { 0 < length text.now }
     ensures some { 0 < result }

@@ -1,3 +1,5 @@
+//! The forms that a page is written in.
+
 /// What a page is written as.
 #[derive(Clone, Copy, Debug, PartialEq, Eq)]
 pub enum Form {

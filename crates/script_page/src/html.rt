@@ -13,9 +13,9 @@ use page_markup::markup::push_decimal;
 use page_markup::push_escaped;
 use profile::{Sink, WriteFault, push_all};
 
-/// Writes the page between what it begins and ends with: each line with its number, its answer, what
-/// the guest printed apart, and beside each view its picture. Nothing of a script or of a guest is
-/// taken for HTML's own.
+/// Writes the page between what it begins and ends with: each line with its number, its answer,
+/// what the guest printed apart, and beside each view its picture. Nothing of a script or of a
+/// guest is taken for HTML's own.
 pub fn push_html<W: Sink>(
     sink: &mut W,
     front: &[u8],

@@ -1,5 +1,6 @@
-//! A script and its answers as a page: each line with what it was answered, what the guest printed
-//! apart, and after each view its picture. As text, as HTML, or as a transcript that can be run again.
+//! A script and its answers as a page, for `rosm_show`. Each line stands with what it was answered,
+//! what the guest printed apart, and after each view its picture: as text, as HTML, or as a
+//! transcript that can be run again.
 #![tactic(auto)]
 
 pub mod answers;

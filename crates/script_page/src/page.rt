@@ -61,9 +61,9 @@ pub fn page_of<'a>(
     })
 }
 
-// Adds the lines behind those that end there, by what both are answered. What a line is answered never
-// changes what those before it are; if it did, all of them would stand together. Before the first line
-// `most` steps are left.
+// Adds the lines after those that end there, by what both are answered. What a line is answered
+// never changes what those before it are; if it did, all of them would stand together. Before the
+// first line `most` steps are left.
 #[tactic(auto, using(crate::proofs::PageLemmas::entry_steps))]
 fn add_entry<'a>(
     alloc: Global,

@@ -18,7 +18,7 @@ use view_pictures::{
 // What stands before each line of a picture in a text.
 const FRONT: &[u8] = b"       ";
 
-/// The picture of an entry, in a page of that form, behind these entries; empty where its line asks
+/// The picture of an entry, in a page of that form, after these entries; empty where its line asks
 /// for no view, or its answer is none.
 ///
 /// # Errors

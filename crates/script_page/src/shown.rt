@@ -20,7 +20,7 @@ pub struct Shown<'a> {
     pub lines: &'a [u8],
     /// What the guest printed.
     pub printed: &'a [u8],
-    /// The answer behind that.
+    /// The answer after that.
     pub answer: &'a [u8],
     /// How many steps it took, as `12 steps`, where it took more than one.
     pub steps: Vec<u8>,
@@ -51,14 +51,14 @@ pub fn shown_of<'a>(
     Ok(all)
 }
 
-// The number of the line behind an entry.
+// The number of the line after an entry.
 fn number_behind(number: usize, entry: &Entry<'_>) -> usize
     ensures { result ≡ number_after number (length (lines entry.now.lines.now)) }
 {
     number.saturating_add(Lines::new(entry.lines).count())
 }
 
-// What is shown of an entry behind these.
+// What is shown of an entry after these.
 #[tactic(auto, using(crate::proofs::PictureLemmas::shows))]
 fn shown_entry<'a>(
     alloc: Global,

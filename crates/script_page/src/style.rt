@@ -1,4 +1,5 @@
-//! What an HTML page begins and ends with: its style, light and dark, and the patterns of its pictures.
+//! What an HTML page begins and ends with: its style, light and dark, and the patterns of its
+//! pictures.
 
 /// Up to the first line of the script.
 pub const FRONT: &[u8] = br##"<!DOCTYPE html>
@@ -70,5 +71,5 @@ svg rect.change { fill: none; stroke: var(--change); stroke-width: 2; }
 <ol>
 "##;
 
-/// Behind the last line of the script.
+/// After the last line of the script.
 pub const BACK: &[u8] = b"</ol>\n</main>\n</body>\n</html>\n";

@@ -21,9 +21,10 @@ const GUEST: &[u8] = b"     : ";
 
 const STEPS: &[u8] = b"     = ";
 
-/// Writes the page: each line under its number, its answer under it, what the guest printed behind a
-/// colon, and behind an equals sign how many steps it took, if more than one. Bytes that are no characters to show stand as `\x1B`. Where there is a picture, the page ends
-/// with what the signs of pictures mean.
+/// Writes the page: each line under its number, its answer under it, what the guest printed after a
+/// colon, and after an equals sign how many steps it took, if more than one. Bytes that are no
+/// characters to show stand as `\x1B`. Where there is a picture, the page ends with what the signs
+/// of pictures mean.
 pub fn push_text_page<W: Sink>(sink: &mut W, shown: &[Shown<'_>]) -> Result<(), WriteFault>
     ensures { Writes W.contents W.has_failed sink.old sink.new result (text_page shown.now) }
 {
@@ -125,7 +126,7 @@ fn blanks_before(digits: &[u8]) -> &'static [u8]
     &b"     "[digits.len().min(5)..]
 }
 
-// The lines of a text, each behind these signs.
+// The lines of a text, each after these signs.
 fn push_behind<W: Sink>(sink: &mut W, front: &[u8], text: &[u8]) -> Result<(), WriteFault>
     ensures { Writes W.contents W.has_failed sink.old sink.new result (behind front.now (lines text.now)) }
 {

@@ -1,5 +1,5 @@
-//! The page as a transcript: each line that is typed, and the answers below it, so that a program can
-//! run it again and compare.
+//! The page as a transcript: each line that is typed, and the answers below it, so that a program
+//! can run it again and compare.
 
 ghost use Rattle.std.specs.Prelude.{◌≡◌, true};
 ghost use Rattle.profile.specs.Output.{Writes};
@@ -18,8 +18,8 @@ pub enum Side {
     Told,
 }
 
-/// Writes the entries as a transcript: `> ` before what is typed, answers as they are, and bytes that
-/// are no characters to show as `\x1B`. A line without an end has `\` behind it.
+/// Writes the entries as a transcript: `> ` before what is typed, answers as they are, and bytes
+/// that are no characters to show as `\x1B`. A line without an end has `\` after it.
 #[tactic(auto, using(crate::proofs::TextLemmas::text_steps))]
 pub fn push_transcript<W: Sink>(sink: &mut W, entries: &[Entry<'_>]) -> Result<(), WriteFault>
     ensures { Writes W.contents W.has_failed sink.old sink.new result (transcript entries.now) }
@@ -37,7 +37,7 @@ fn push_entry<W: Sink>(sink: &mut W, entry: &Entry<'_>) -> Result<(), WriteFault
     push_side(sink, Side::Told, entry.answer.as_slice())
 }
 
-// Writes a text: the sign of its side before each line, and behind the last `\` where it has no end.
+// Writes a text: the sign of its side before each line, and after the last `\` where it has no end.
 #[tactic(auto, using(crate::proofs::TranscriptLemmas::side_steps))]
 fn push_side<W: Sink>(sink: &mut W, side: Side, text: &[u8]) -> Result<(), WriteFault>
     ensures { Writes W.contents W.has_failed sink.old sink.new result (spelt_from side true text.now) }
@@ -57,8 +57,8 @@ fn push_byte<W: Sink>(sink: &mut W, side: Side, is_first: bool, byte: u8) -> Res
     push_spelt(sink, &[byte])
 }
 
-// What stands before a byte: where it is the first of its line, `> ` or `>` of what is typed, and `\` of
-// an answer whose sign would have a meaning in a transcript.
+// What stands before a byte: where it is the first of its line, `> ` or `>` of what is typed, and
+// `\` of an answer whose sign would have a meaning in a transcript.
 fn sign_of(side: Side, is_first: bool, byte: u8) -> &'static [u8]
     ensures { result.now ≡ sign_of side is_first byte }
 {

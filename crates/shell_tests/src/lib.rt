@@ -1,7 +1,7 @@
-//! Tests of the shell where a reader or a writer fails, memory is refused, or a script is too long or random.
+//! Tests: the shell where a device fails, memory is refused, or a script is too long or random.
 //!
-//! What a script is answered with stands in the transcripts of `worked_scripts`. These tests stand apart
-//! from the crates that they test, since a crate with tests is proved once more with them.
+//! What a script is answered with stands in the transcripts of `worked_scripts`. These tests stand
+//! apart from the crates that they test, since a crate with tests is proved once more with them.
 #![tactic(auto)]
 
 #[cfg(test)]

@@ -25,7 +25,8 @@ impl Script {
     }
 }
 
-/// Numbers that look random, each from the one before (Knuth, "The Art of Computer Programming", 3.3.4).
+/// Numbers that look random, each from the one before (Knuth, "The Art of Computer Programming",
+/// 3.3.4).
 #[derive(Drop)]
 struct Numbers {
     last: u32,
@@ -46,8 +47,8 @@ impl Numbers {
     }
 }
 
-/// Up to 16 lines of up to 24 bytes each, which end in LF or CR LF. Each that isn't empty is outside the table: that
-/// one is a command is as good as impossible.
+/// Up to 16 lines of up to 24 bytes each, which end in LF or CR LF. Each that isn't empty is
+/// outside the table: that one is a command is as good as impossible.
 fn random_script(alloc: Global, numbers: &mut Numbers) -> Result<Script, Fail> {
     let mut script = Script::new(alloc);
     for line in 1..numbers.below(17) {
@@ -72,7 +73,8 @@ fn random_script(alloc: Global, numbers: &mut Numbers) -> Result<Script, Fail> {
     Ok(script)
 }
 
-/// Runs a script, which must come to its end, writes its answers behind what stands there, and answers the exit status.
+/// Runs a script, which must come to its end, writes its answers after what stands there, and
+/// answers the exit status.
 fn run_whole(
     alloc: Global,
     script: &[u8],

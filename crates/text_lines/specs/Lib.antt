@@ -1,1 +1,2 @@
+-- Where the reading of lines stands.
 pub mod Lines

@@ -1,4 +1,4 @@
-//! Text as lines, read one after another.
+//! Text as lines, read one after another, for scripts, the assembler and pages.
 #![tactic(auto)]
 
 pub mod lines;

@@ -19,7 +19,7 @@ bar boxes = codes "|" ++ (flat_map bar_box boxes ++ codes "\n")
 abbrev pub has_changed : Drawn → Bool
 has_changed d = not (length d.change.now == 0)
 
--- the marks under a box, behind so many blanks
+-- the marks under a box, after so many blanks
 abbrev pub mark_of : Bool → ℕ → ℕ → List ℕ
 mark_of true width blanks = replicate blanks 32 ++ replicate width 94
 mark_of false width blanks = []
@@ -29,7 +29,7 @@ abbrev pub blanks_after : Bool → ℕ → ℕ → ℕ
 blanks_after true width blanks = 1
 blanks_after false width blanks = min (min (blanks + width) (2 ^ 32 - 1) + 1) (2 ^ 32 - 1)
 
--- `^` under each box that has changed, behind so many blanks
+-- `^` under each box that has changed, after so many blanks
 abbrev pub marks : ℕ → List Drawn → List ℕ
 marks blanks [] = []
 marks blanks (d ∷ rest) =
@@ -42,12 +42,12 @@ mark_line front boxes = if list_any has_changed boxes then front ++ (marks 1 box
 abbrev pub further : ℕ → ℕ → ℕ
 further place count = min (place + count) (2 ^ 32 - 1)
 
--- Whether the address of a box can stand under its first character: what is written ends before, and the page pool is at no
--- address.
+-- Whether the address of a box can stand under its first character: what is written ends before,
+-- and the page pool is at no address.
 abbrev pub has_room : ℕ → ℕ → PictureBox → Bool
 has_room written place b = nat_lt written place && not (is_pool b.kind)
 
--- digits at a place of a line, behind what is written
+-- digits at a place of a line, after what is written
 abbrev pub digits_at : Bool → ℕ → ℕ → List ℕ → List ℕ
 digits_at true written place digits = replicate (place - written) 32 ++ digits
 digits_at false written place digits = []

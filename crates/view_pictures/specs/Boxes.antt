@@ -1,4 +1,5 @@
--- Which boxes the picture of a view has: what each stands for, where that begins and how many bytes it has.
+-- Which boxes the picture of a view has: what each stands for, where that begins and how many bytes
+-- it has.
 use Rattle.std.specs.Prelude.{ℕ, ◌+◌, ◌-◌, ◌*◌, ◌^◌, ◌&&◌, nat_lt, List, [], ◌∷◌, ◌++◌, Option, Some, None, if◌then◌else◌}
 use Rattle.std.specs.Option.{option_to_list}
 use Rattle.std.specs.List.{flat_map}
@@ -44,7 +45,7 @@ growth_place other = None
 abbrev pub item_places : Item → List Place
 item_places i = option_to_list (own_place i) ++ option_to_list (growth_place i)
 
--- the room behind the last used byte of a heap or the flex store
+-- the room after the last used byte of a heap or the flex store
 abbrev pub room_place : Item → Option Place
 room_place (item.Heap start base end) = between kind.Room (start + base) (start + end)
 room_place (item.Flex start end used) = between kind.Room (start + used) end

@@ -33,9 +33,9 @@ abbrev pub is_word : Kind → Bool
 is_word kind.Word = true
 is_word other = false
 
--- Whether a box stands for an older one: what a heap has at the same address, the flex block of the same anchor, the module of
--- the same title, the area or the private word at the same address. A descriptor, a pool and what an area may grow by are always
--- stood for.
+-- Whether a box stands for an older one: what a heap has at the same address, the flex block of the
+-- same anchor, the module of the same title, the area or the private word at the same address. A
+-- descriptor, a pool and what an area may grow by are always stood for.
 abbrev pub stands_by : Kind → PictureBox → PictureBox → Bool
 stands_by kind.Live new old = is_carved new.kind && (new.address == old.address)
 stands_by kind.Free new old = is_carved new.kind && (new.address == old.address)

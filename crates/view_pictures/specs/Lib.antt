@@ -1,3 +1,4 @@
+-- The pictures of views. Begin with Items and Boxes, then Bars.
 pub mod Bars
 pub mod Boxes
 pub mod Gone

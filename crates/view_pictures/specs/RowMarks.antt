@@ -9,7 +9,7 @@ unfoldable pub any_from : ℕ → (ℕ → Bool) → ℕ → Bool
 any_from zero is number = false
 any_from (suc left) is number = is number || any_from left is (number + 1)
 
--- the mark under a byte, behind so many blanks
+-- the mark under a byte, after so many blanks
 abbrev pub mark_of : Bool → ℕ → List ℕ
 mark_of true blanks = replicate blanks 32 ++ codes "^^"
 mark_of false blanks = []
@@ -19,7 +19,7 @@ abbrev pub blanks_after : Bool → ℕ → ℕ
 blanks_after true blanks = 1
 blanks_after false blanks = min (blanks + 3) (2 ^ 32 - 1)
 
--- `^^` under each byte that has changed, from one number on, behind so many blanks
+-- `^^` under each byte that has changed, from one number on, after so many blanks
 unfoldable pub marks : ℕ → GridRow → ℕ → ℕ → List ℕ
 marks zero r number blanks = []
 marks (suc left) r number blanks =

@@ -1,5 +1,5 @@
-//! A picture for a terminal: a bar of characters, and below it a mark under each box that has changed,
-//! the addresses of the boxes, and lines that tell what has become of some.
+//! A picture for a terminal: a bar of characters, and below it a mark under each box that has
+//! changed, the addresses of the boxes, and lines that tell what has become of some.
 
 ghost use Rattle.std.specs.Prelude.{◌≡◌};
 ghost use Rattle.std.specs.List.{flat_map, list_any};
@@ -233,7 +233,7 @@ fn has_room(written: u32, place: u32, own: &PictureBox<'_>) -> bool
     written < place && !own.kind.is_pool()
 }
 
-// Digits at a place of a line, behind what is written.
+// Digits at a place of a line, after what is written.
 fn push_digits<W: Sink>(
     sink: &mut W,
     fits: bool,

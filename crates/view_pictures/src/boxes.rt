@@ -1,4 +1,5 @@
-//! The boxes of a picture: one for each thing that a view tells of, and one for the room that is left.
+//! The boxes of a picture: one for each thing that a view tells of, and one for the room that is
+//! left.
 
 ghost use Rattle.std.specs.Prelude.{◌≡◌, ◌+◌, ◌++◌, IfOk, OnOk, map};
 ghost use Rattle.std.specs.Option.{option_map, option_to_list};
@@ -18,7 +19,7 @@ pub enum Kind {
     Live,
     /// Room between the blocks of a heap.
     Free,
-    /// Room behind the last used byte.
+    /// Room after the last used byte.
     Room,
     /// A block of the flex store.
     Block,
@@ -121,8 +122,8 @@ impl<'a> PictureBox<'a> {
         }
     }
 
-    /// Whether this is the other box too. Which block holds its anchor is not asked: where that has changed, a block
-    /// has come, gone, slid or changed its size, and that is told of that block.
+    /// Whether this is the other box too. Which block holds its anchor is not asked: where that has
+    /// changed, a block has come, gone, slid or changed its size, and that is told of that block.
     pub fn is_same(&self, other: &PictureBox<'_>) -> bool {
         self.kind == other.kind
             && self.address == other.address
@@ -133,7 +134,7 @@ impl<'a> PictureBox<'a> {
 }
 
 /// The boxes of the items of a view, in order: one for each item that has a place in memory, one
-/// behind an area for what it may grow by, and the last for the room behind a heap's or the flex
+/// after an area for what it may grow by, and the last for the room after a heap's or the flex
 /// store's last used byte.
 ///
 /// # Errors
@@ -233,7 +234,7 @@ fn growth_of<'a>(item: &Item<'a>) -> Option<PictureBox<'a>>
     }
 }
 
-// The room behind the last used byte of what begins a view.
+// The room after the last used byte of what begins a view.
 fn room_of<'a>(item: &Item<'a>) -> Option<PictureBox<'a>>
     ensures { option_map place_of result ≡ room_place item.entry.now }
 {
@@ -248,7 +249,7 @@ fn room_of<'a>(item: &Item<'a>) -> Option<PictureBox<'a>>
     }
 }
 
-// The address so many bytes behind one.
+// The address so many bytes after one.
 fn behind(start: u32, size: u32) -> u64
     ensures { result ≡ start + size }
 {

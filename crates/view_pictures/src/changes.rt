@@ -31,7 +31,7 @@ pub fn change_of(own: &PictureBox<'_>, before: Option<&View<'_>>) -> Option<&'st
     }
 }
 
-// Of room that is left, and of the pool, how much there was tells.
+// Room that is left, and the pool, are compared by size.
 fn size_change(own: &PictureBox<'_>, boxes: &[PictureBox<'_>]) -> Option<&'static [u8]> {
     for old in boxes {
         if old.kind == own.kind {

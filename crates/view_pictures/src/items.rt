@@ -19,8 +19,8 @@ pub enum Item<'a> {
     Free(u32, u32),
     /// `flex 0000A000 0000A400 used 20`: where the range starts and ends, and how much is used.
     Flex(u32, u32, u32),
-    /// `block anchor 00009000 at 0000A008 size 10`, and ` in 0000A008 offset 8` behind it where the anchor lies
-    /// in the bytes of a block.
+    /// `block anchor 00009000 at 0000A008 size 10`, and ` in 0000A008 offset 8` after it where the
+    /// anchor lies in the bytes of a block.
     Block(u32, u32, u32, Option<Holder>),
     /// `area 1 base 01800000 size 65536 max 4194304 RMA`.
     Area(u32, u32, u32, u32, &'a [u8]),
@@ -109,7 +109,7 @@ fn area_item(mut words: Words<'_>) -> Option<Item<'_>> {
     Some(Item::Area(number, base, size, max, words.rest()?))
 }
 
-// A title may have any bytes, so what is known stands behind it.
+// A title may have any bytes, so what is known stands after it.
 fn module_item(rest: &[u8]) -> Option<Item<'_>> {
     let (title, place) = cut_last(rest, b" at ")?;
     let mut words = Words::new(place);

@@ -47,7 +47,7 @@ pub struct Layout<'a> {
     pub boxes: Vec<Drawn<'a>>,
     /// The lower edge of the last.
     pub bottom: u32,
-    /// The address behind the last, where they lie one after another up to it.
+    /// The address after the last, where they lie one after another up to it.
     pub end: Option<u32>,
     /// The boxes of the view from before that none of these stands for.
     pub gone: Vec<PictureBox<'a>>,

@@ -1,5 +1,5 @@
-//! What the views of a script show, read from their text as data, where its boxes stand, and how they
-//! are drawn for a terminal, as a bar of characters. It knows no machine.
+//! What views show, read from their text as data, for pages: where boxes stand, and a bar for a
+//! terminal. It knows no machine.
 #![tactic(auto)]
 
 pub mod bars;

@@ -60,8 +60,8 @@ fn has_changed(row: &GridRow<'_>) -> bool
     false
 }
 
-// `^^` under each byte that has changed. Blanks are written only before a mark, so that none ends the
-// line.
+// `^^` under each byte that has changed. Blanks are written only before a mark, so that none ends
+// the line.
 #[tactic(auto, using(crate::proofs::RowLemmas::mark_steps))]
 fn push_row_marks<W: Sink>(sink: &mut W, row: &GridRow<'_>) -> Result<(), WriteFault>
     ensures { Writes W.contents W.has_failed sink.old sink.new result (marks 16 row.now 0 1) }

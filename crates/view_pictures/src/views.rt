@@ -25,8 +25,8 @@ impl View<'_> {
         matches!(self.items.first(), Some(Item::Row(_, _)))
     }
 
-    /// Whether both look at the same thing: the heap or the memory of one address, or the one store,
-    /// all areas or all modules.
+    /// Whether both look at the same thing: the heap or the memory of one address, or the one
+    /// store, all areas or all modules.
     pub fn is_of(&self, other: &View<'_>) -> bool {
         match (self.items.first(), other.items.first()) {
             (Some(Item::Heap(start, _, _)), Some(Item::Heap(other, _, _))) => start == other,

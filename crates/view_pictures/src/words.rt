@@ -64,7 +64,7 @@ fn address_of(digits: &[u8]) -> Option<u32> {
     Some(value)
 }
 
-/// What stands before a mark and behind it, where it stands last in a text.
+/// What stands before a mark and after it, where it stands last in a text.
 pub fn cut_last<'a>(text: &'a [u8], mark: &[u8]) -> Option<(&'a [u8], &'a [u8])> {
     let mut found = None;
     for place in 0..text.len() {

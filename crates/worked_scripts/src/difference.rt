@@ -1,3 +1,5 @@
+//! What differs between a transcript and what is found, and how that is told.
+
 use crate::escapes::spelling;
 use std::alloc::{AllocError, Global};
 use std::fmt;

@@ -1,3 +1,5 @@
+//! Why a transcript can't be read or run.
+
 use command_shell::RunError;
 use image_loader::ImageError;
 use std::alloc::AllocError;

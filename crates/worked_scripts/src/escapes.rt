@@ -1,4 +1,4 @@
-//! Bytes as a transcript spells them: `\r`, `\t`, `\xNN`, and a sign that has a meaning behind `\`.
+//! Bytes as a transcript spells them: `\r`, `\t`, `\xNN`, and a sign that has a meaning after `\`.
 
 ghost use Rattle.std.specs.Prelude.{◌<◌, IfSome};
 
@@ -9,9 +9,9 @@ use std::alloc::{AllocError, Global};
 #[derive(Clone, Copy, Debug)]
 enum State {
     Plain,
-    // Behind a backslash.
+    // After a backslash.
     Escape,
-    // Behind `\x`, and behind one digit more.
+    // After `\x`, and after one digit more.
     HighDigit,
     LowDigit(u8),
 }
@@ -22,7 +22,8 @@ struct Unescaper {
     state: State,
 }
 
-/// The bytes that a text spells, and a line feed after them; a backslash at its end takes that away.
+/// The bytes that a text spells, and a line feed after them; a backslash at its end takes that
+/// away.
 ///
 /// # Errors
 ///

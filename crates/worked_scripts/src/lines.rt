@@ -28,7 +28,7 @@ pub enum Line<'a> {
     Typed(&'a str),
     /// `= status N`.
     Status(&'a str),
-    /// `! TEXT`: what is told of a transcript that is wrong on purpose.
+    /// `! TEXT`: the complaint that a transcript must get that is wrong on purpose.
     Wrong(&'a str),
     /// Any other: a line of the answer.
     Answer(&'a str),

@@ -1,8 +1,9 @@
-//! Runs transcripts against the shell: what is typed, and the answer under each line.
+//! Gate: runs transcripts against the shell: what is typed, and the answer under each line.
 //!
 //! `worked_scripts FILE... [--malformed FILE...]`
 //!
-//! The script of a transcript behind `--malformed` is cut off behind each of its bytes, too, and changed.
+//! The script of a transcript after `--malformed` is cut off after each of its bytes, too, and
+//! changed.
 #![tactic(auto)]
 
 mod difference;

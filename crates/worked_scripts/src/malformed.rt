@@ -1,4 +1,4 @@
-//! Scripts that are malformed: cut off behind each of their bytes, or changed.
+//! Scripts that are malformed: cut off after each of their bytes, or changed.
 
 mod changes;
 mod cuts;

@@ -1,3 +1,5 @@
+//! A transcript run and compared with what it says.
+
 ghost use Rattle.std.specs.Prelude.{◌≡◌, IfOk, None};
 
 use crate::difference::Difference;

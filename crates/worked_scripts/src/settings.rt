@@ -1,3 +1,5 @@
+//! The sizes, budget and images that a transcript's script runs with.
+
 use crate::error::LineError;
 use crate::escapes::digit;
 use image_loader::Images;

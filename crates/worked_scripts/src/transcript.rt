@@ -1,3 +1,5 @@
+//! A transcript read from its text: the script as typed, its answer and its exit status.
+
 use crate::error::{LineError, TranscriptError};
 use crate::escapes::line_bytes;
 use crate::lines::{Line, Part};
@@ -19,7 +21,7 @@ pub struct Transcript {
     pub status_line: usize,
     /// The exit status.
     pub status: u8,
-    /// What is told of it, where it is wrong on purpose.
+    /// The complaint that it must get, where it is wrong on purpose.
     pub wrong: Option<String>,
     // The part that the last line was of; none before the first line.
     part: Option<Part>,
@@ -82,8 +84,8 @@ impl Transcript {
         Ok(())
     }
 
-    // A comment comes first, parts come in their order, and an answer has something typed before it.
-    // What stands behind the session are single lines.
+    // A comment comes first, parts come in their order, and an answer has something typed before
+    // it. What stands after the session are single lines.
     fn can_take(&self, line: &Line<'_>) -> bool {
         let part = line.part();
         match self.part {

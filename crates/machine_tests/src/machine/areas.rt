@@ -33,7 +33,8 @@ static CHANGES: [Line; 41] = [
     Has(1, 0xBC000),
     Holds(0x0180_000C, 4096),
     Lacks(0x0180_1000),
-    // without the X bit nothing moves where not all can: the registers, the area and the error block stay
+    // without the X bit nothing moves where not all can: the registers, the area and the error
+    // block stay
     New(256, 64, 16),
     Put(0x8000, 0xEF00_002A),
     Put(0x01C0_2100, 77),
@@ -109,7 +110,8 @@ static CREATIONS: [Line; 80] = [
     Call(0x66, None),
     Has(1, 0x101),
     Has(3, 0x0200_3000),
-    // a size over the maximum is told before a number that is taken, a name of a wrong form too, and a name that can't be read after it
+    // a size over the maximum is told before a number that is taken, a name of a wrong form too,
+    // and a name that can't be read after it
     Registers(0, 0x100, 20000, NONE),
     Others(0, 10000, 0, 0, NAME),
     Call(0x66, None),
@@ -146,7 +148,8 @@ static CREATIONS: [Line; 80] = [
     Call(0x66, None),
     Has(4, 3),
     Has(7, 5),
-    // other numbers: an area that isn't there is told before a number that is bad, a bad number before one that is taken
+    // other numbers: an area that isn't there is told before a number that is bad, a bad number
+    // before one that is taken
     Registers(4, 5, 1, 7),
     Call(0x66, None),
     Errs(Some(ErrorNumber::AreaUnknown)),

@@ -1,5 +1,6 @@
-//! Every store call with doubtful words in its registers, each answered by its row of the manual. Doubtful are 0, all bits, the last word of the
-//! address space, a word that a heap owns (the module area's link), and one of a system page.
+//! Every store call with doubtful words in its registers, each answered by its row of the manual.
+//! Doubtful are 0, all bits, the last word of the address space, a word that a heap owns (the
+//! module area's link), and one of a system page.
 
 use crate::machine::{set_registers, usual_machine};
 use debugger::swi_dispatch::{BreakError, Breaks, Machine};
@@ -95,7 +96,8 @@ static CALLS: [(u32, u32, u32, u32, u32, u32); 78] = [
     (0x1FF, 0x01C0_2100, 0x01C0_2100, 0, 0, 0),
 ];
 
-/// Makes a row's call, and answers whether it ends as the row has it. The next row starts with an empty error block.
+/// Makes a row's call, and answers whether it ends as the row has it. The next row starts with an
+/// empty error block.
 fn is_answered(machine: &mut Machine, row: &(u32, u32, u32, u32, u32, u32)) -> bool {
     let (number, r0, r1, r2, r3, error) = *row;
     set_registers(machine, r0, r1, r2, r3);

@@ -36,7 +36,8 @@ fn run(machine: &mut Machine, images: &Images, breaks: &Breaks, budget: u64) -> 
     Ok(ran.map_err(|_| "printed")?)
 }
 
-/// The pages that are mapped: two of the application space, one of the module area, three of the system.
+/// The pages that are mapped: two of the application space, one of the module area, three of the
+/// system.
 static PAGES: [u32; 6] = [
     0x8000,
     0x9000,
@@ -159,7 +160,8 @@ impl Whole {
         Ok(machine.cpu().pc())
     }
 
-    /// Whether runs that end each time that the machine comes to an address are several, and end like the whole.
+    /// Whether runs that end each time that the machine comes to an address are several, and end
+    /// like the whole.
     fn is_like_a_break(&self, alloc: Global, at: u32) -> Result<bool, Fail> {
         let mut breaks = Breaks::new();
         breaks.add(at).map_err(|_| "a break")?;
@@ -214,8 +216,8 @@ fn refused(alloc: Global) -> Result<Whole, Fail> {
     Whole::new(alloc, REFUSES, images)
 }
 
-// The number in the error block of SWI &40043, and how much of the module area is used; the private words of a tidy;
-// the length of a free block, which stays where a module refuses to go.
+// The number in the error block of SWI &40043, and how much of the module area is used; the private
+// words of a tidy; the length of a free block, which stays where a module refuses to go.
 #[test]
 fn programs_run_in_one_piece(rt: HostRuntime) -> Result<(), Fail> {
     let module_called = module_called(rt.alloc())?;
@@ -236,7 +238,8 @@ fn cut_at_each_step(rt: &impl Abort, alloc: Global, whole: &Whole) -> Result<(),
     Ok(())
 }
 
-/// Breaks a run behind each step. A break where it starts would be of no use: a run takes a step before it looks.
+/// Breaks a run after each step. A break where it starts would be of no use: a run takes a step
+/// before it looks.
 fn break_at_each_step(rt: &impl Abort, alloc: Global, whole: &Whole) -> Result<(), Fail> {
     for steps in 1..whole.taken {
         let at = whole.address_after(alloc, steps)?;
@@ -262,8 +265,8 @@ fn runs_go_on_past_breaks(rt: HostRuntime) -> Result<(), Fail> {
 /// What `PRINTS` writes.
 static PRINTED: &[u8] = b"Hi!\n\r";
 
-/// The call, of one byte each, at which the writer fails; where the machine stands then; how many steps are left, and
-/// what these print.
+/// The call, of one byte each, at which the writer fails; where the machine stands then; how many
+/// steps are left, and what these print.
 static FAILURES: [(u64, u32, u64, &str); 5] = [
     (1, 0x8008, 3, "!\n\r"),
     (2, 0x8008, 3, "!\n\r"),
@@ -272,7 +275,8 @@ static FAILURES: [(u64, u32, u64, &str); 5] = [
     (5, 0x8010, 1, ""),
 ];
 
-/// Whether a run whose writer fails from this call on ends so, with one byte less written, and where it stands.
+/// Whether a run whose writer fails from this call on ends so, with one byte less written, and
+/// where it stands.
 fn fails_at(machine: &mut Machine, failing: u64) -> bool {
     let mut room = [0u8; 8];
     let mut sink = MemorySink::new(&mut room, 1, failing.max(1));

@@ -1,4 +1,5 @@
-//! What no script shows of the module area and of modules: the pages of the pool, and frames that are open.
+//! What no script shows of the module area and of modules: the pages of the pool, and frames that
+//! are open.
 
 use crate::machine::cuts::programs::CALLS_ITSELF;
 use crate::machine::{add, set_registers, usual_machine};
@@ -7,7 +8,8 @@ use image_loader::Images;
 use profile::{Fault, Stop};
 use std::test::Fail;
 
-/// Claims a block of some bytes, and answers whether that is refused and how many pages the pool has then.
+/// Claims a block of some bytes, and answers whether that is refused and how many pages the pool
+/// has then.
 fn claim(machine: &mut Machine, size: u32) -> (Option<Stop>, bool, u32) {
     set_registers(machine, 6, 7, 7, size);
     let stop = machine.store_call(&Images::new(), 0x1E);
@@ -27,7 +29,8 @@ fn the_module_area_takes_pages(rt: HostRuntime) -> Result<(), Fail> {
     Ok(())
 }
 
-// The call enters the handler, and each of 31 instructions once more; the next finds all 32 frames open.
+// The call enters the handler, and each of 31 instructions once more; the next finds all 32 frames
+// open.
 #[test]
 fn a_handler_that_calls_itself_fills_all_frames(rt: HostRuntime) -> Result<(), Fail> {
     let mut images = Images::new();

@@ -11,7 +11,8 @@ use profile::{Fault, Stop};
 use std::test::Fail;
 
 static LINES: [Line; 139] = [
-    // the six words: a loop of three turns, and OS_Exit; nothing is written, and a halted machine stays as it is
+    // the six words: a loop of three turns, and OS_Exit; nothing is written, and a halted machine
+    // stays as it is
     Boot(None),
     Run(1_000_000, Stop::Exit, 14, ""),
     Has(0, 0),
@@ -82,7 +83,8 @@ static LINES: [Line; 139] = [
     Text(0x01C0_2104, "SwiUnknown\0"),
     Boot(Some(BootError::Booted)),
     Call(0x11, Some(Stop::Exit)),
-    // OS_GenerateError: an error of the guest keeps its block, and one whose pointer is bad is another
+    // OS_GenerateError: an error of the guest keeps its block, and one whose pointer is bad is
+    // another
     New(256, 64, 16),
     Set(0, 0x9000),
     Put(0x9000, 0x123),
@@ -93,7 +95,8 @@ static LINES: [Line; 139] = [
     Set(0, 0x9002),
     Call(0x2B, None),
     Holds(0x01C0_2100, 82),
-    // without the X bit the step ends with the number of that block, or with that of a bad pointer, and nothing is written
+    // without the X bit the step ends with the number of that block, or with that of a bad pointer,
+    // and nothing is written
     New(256, 64, 16),
     Put(0x8000, 0xEF00_002B),
     Put(0x9000, 0x123),

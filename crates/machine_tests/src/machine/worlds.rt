@@ -1,4 +1,5 @@
-//! A heap answers by its own calls alone: alike in two machines, in one of which all else goes on between them.
+//! A heap answers by its own calls alone: alike in two machines, in one of which all else goes on
+//! between them.
 
 use crate::machine::cuts::programs::DOUBLES;
 use crate::machine::worlds::Reply::{Answered, Refused};
@@ -18,9 +19,9 @@ enum Reply {
     Refused(u32),
 }
 
-/// OS_Heap on the heap at &9000, by R0, R2 and R3: all its reasons and one that is none, and each error that comes at a
-/// heap in which neither an anchor nor another heap lies. Blocks of 20, 40 and 44 bytes take 24, 48 and 48; the second
-/// heap, at &9200, is in the way of 260 bytes more.
+/// OS_Heap on the heap at &9000, by R0, R2 and R3: all its reasons and one that is none, and each
+/// error that comes at a heap in which neither an anchor nor another heap lies. Blocks of 20, 40
+/// and 44 bytes take 24, 48 and 48; the second heap, at &9200, is in the way of 260 bytes more.
 static CALLS: [(u32, u32, u32, Reply); 14] = [
     (0, 7, 256, Answered(7, 256)),
     (2, 7, 20, Answered(0x9014, 20)),
@@ -44,8 +45,9 @@ type Other = (usize, u32, [u32; 4]);
 /// The heap at &9200 alone.
 static ALONE: [Other; 1] = [(0, 0x1D, [0, 0x9200, 0, 64])];
 
-/// That heap; a module that is loaded, and its SWI; a third heap, two flex blocks, an area that is made, grows, shrinks
-/// and goes; five claims of the module area, of which the first, below the module, is freed before a tidy.
+/// That heap; a module that is loaded, and its SWI; a third heap, two flex blocks, an area that is
+/// made, grows, shrinks and goes; five claims of the module area, of which the first, below the
+/// module, is freed before a tidy.
 static BESIDE: [Other; 29] = [
     (0, 0x1D, [0, 0x9200, 0, 64]),
     (0, 0x1E, [6, 0, 0, 20]),
@@ -78,7 +80,8 @@ static BESIDE: [Other; 29] = [
     (13, 0x66, [1, 0x100, 0, 0]),
 ];
 
-/// Makes a store call, and takes the steps of a module that it enters. Answers whether it ends without an error.
+/// Makes a store call, and takes the steps of a module that it enters. Answers whether it ends
+/// without an error.
 fn is_done(machine: &mut Machine, images: &Images, number: u32, registers: [u32; 4]) -> bool {
     let [r0, r1, r2, r3] = registers;
     set_registers(machine, r0, r1, r2, r3);

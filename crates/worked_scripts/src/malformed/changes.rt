@@ -9,7 +9,8 @@ use std::alloc::Global;
 /// How many times a script is changed.
 const CHANGES: u32 = 200;
 
-/// Numbers that look random, each from the one before (Knuth, "The Art of Computer Programming", 3.3.4).
+/// Numbers that look random, each from the one before (Knuth, "The Art of Computer Programming",
+/// 3.3.4).
 #[derive(Drop)]
 struct Numbers {
     last: u32,
@@ -23,8 +24,8 @@ struct Script {
     is_changed: bool,
 }
 
-/// The number of a change of a transcript's script, from 0, that is answered otherwise than it must be: the lines before
-/// it as they stand there, and the exit status as the last stop has it.
+/// The number of a change of a transcript's script, from 0, that is answered otherwise than it must
+/// be: the lines before it as they stand there, and the exit status as the last stop has it.
 pub(super) fn wrong_change(
     alloc: Global,
     text: &str,

@@ -1,4 +1,4 @@
-//! Scripts that are cut off behind each of their bytes.
+//! Scripts that are cut off after each of their bytes.
 
 use super::Runs;
 use crate::error::TranscriptError;
@@ -17,7 +17,8 @@ struct Typed {
     is_block: bool,
 }
 
-/// The line of a transcript at which its script, cut off behind one of its bytes, is answered otherwise than it must be.
+/// The line of a transcript at which its script, cut off after one of its bytes, is answered
+/// otherwise than it must be.
 pub(super) fn wrong_line(
     alloc: Global,
     text: &str,
@@ -45,7 +46,8 @@ impl Typed {
         }
     }
 
-    /// Takes in a line of the transcript, and answers whether the answers held behind each byte up to it.
+    /// Takes in a line of the transcript, and answers whether the answers held after each byte up
+    /// to it.
     fn take_line(
         &mut self,
         alloc: Global,
@@ -70,8 +72,8 @@ impl Typed {
         }
     }
 
-    /// Whether what a script is answered with behind the answers to its whole lines is as it must be: one line for a
-    /// block that has no end, and nothing else.
+    /// Whether what a script is answered with after the answers to its whole lines is as it must
+    /// be: one line for a block that has no end, and nothing else.
     fn holds(&self, alloc: Global, runs: &Runs, script: &[u8]) -> Result<bool, TranscriptError> {
         let outcome = runs.outcome(alloc, script)?;
         Ok(
@@ -95,7 +97,8 @@ impl Typed {
         )
     }
 
-    /// Whether the answers hold where the script is cut off within a line, which then is outside the table or not.
+    /// Whether the answers hold where the script is cut off within a line, which then is outside
+    /// the table or not.
     fn holds_within(
         &self,
         alloc: Global,
@@ -116,8 +119,9 @@ impl Typed {
         )
     }
 
-    /// Types a line, and answers whether the answers held behind each of its bytes but the last and the line's end. Its
-    /// first word alone is outside the table as long as more has to follow, and so is a line that ends in a space.
+    /// Types a line, and answers whether the answers held after each of its bytes but the last and
+    /// the line's end. Its first word alone is outside the table as long as more has to follow, and
+    /// so is a line that ends in a space.
     fn type_line(
         &mut self,
         alloc: Global,

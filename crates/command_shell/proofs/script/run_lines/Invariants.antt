@@ -6,7 +6,8 @@ use Rattle.command_shell.specs.Script.{lines_told}
 use Rattle.command_shell.specs.Session.{script_state}
 use Rattle.command_shell.proofs.script.run_lines.Given as goal
 
--- What stands written, and the answers to the lines that are left, are those of the whole script; and no image is gone.
+-- What stands written, and the answers to the lines that are left, are those of the whole script;
+-- and no image is gone.
 abbrev pub invariant-loop-line : goal.invariant-loop-line
 invariant-loop-line g l = record {
   text : AddsAllBut (g.W.Sink.contents l.fn.sink) (g.W.Sink.contents l.sink)

@@ -39,8 +39,8 @@ here  ADD R1,PC,#name-here-8
 name  DCB \"d\",0
 ";
 
-/// Loads a module, makes a second instance of it and claims five blocks. Private words name two of them; the first and
-/// the fourth are freed, and a tidy moves those that are named.
+/// Loads a module, makes a second instance of it and claims five blocks. Private words name two of
+/// them; the first and the fourth are freed, and a tidy moves those that are named.
 pub(super) static TIDIES: &str = "      MOV R0,#1
 here  ADD R1,PC,#name-here-8
       SWI XOS_Module
@@ -79,7 +79,8 @@ fifth  DCD &0180009C
 name  DCB \"w\",0
 ";
 
-/// Loads two modules with a block between them, frees the block, and asks for a tidy, which the second module refuses.
+/// Loads two modules with a block between them, frees the block, and asks for a tidy, which the
+/// second module refuses.
 pub(super) static REFUSES: &str = "      MOV R0,#1
 here  ADD R1,PC,#name-here-8
       SWI XOS_Module

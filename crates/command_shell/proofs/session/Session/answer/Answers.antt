@@ -1,4 +1,5 @@
--- The lines that tell the same whatever the images are: their answers hold with those that the script has.
+-- The lines that tell the same whatever the images are: their answers hold with those that the
+-- script has.
 use Rattle.profile.proofs.OutputLemmas.{Appends-nothing}
 use Rattle.command_shell.proofs.session.Session.answer.Goals as goal
 
