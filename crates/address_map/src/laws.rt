@@ -1,4 +1,5 @@
-//! A law over the definitions, the contract of a function that does nothing.
+//! A law of pages: those that are free and those that are mapped are all of a store's. It is the
+//! contract of a function that does nothing.
 
 ghost use Rattle.address_map.specs.Counts.{PagesAreCounted};
 

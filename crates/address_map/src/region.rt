@@ -61,8 +61,8 @@ pub struct Region {
 }
 
 impl Region {
-    /// Whether this is the record of a range of that kind that starts at `at`. No record is a
-    /// word's.
+    /// Whether this is the record of a range of that kind that starts at `at`. Marked words have no
+    /// records.
     pub(crate) fn is_record(&self, kind: Kind, at: u32) -> bool
         ensures { result ≡ is_record kind at self.now }
     {

@@ -1,4 +1,5 @@
-//! Laws over the definitions, each the contract of a function that does nothing.
+//! Laws of instructions that go another way than their definitions: conditions, sums, rotations,
+//! LDM and STM. Each is the contract of a function that does nothing.
 
 ghost use Rattle.std.specs.Prelude.{ℕ, Bool};
 ghost use Rattle.arm_step.specs.Back.{ComesBack};

@@ -9,7 +9,7 @@ use Rattle.profile.specs.declared.error.ErrorNumber.TheVariants.{AreaUnknown, Ar
 use Rattle.dynamic_areas.specs.declared.area.Area.{Area}
 use Rattle.dynamic_areas.specs.declared.area.Extent.{Extent}
 
--- the sizes of the machine, and its areas in the order of their numbers
+-- The land: the sizes of the machine, and its areas in the order of their numbers.
 pub record Land : Type 0 where
   pub sizes : Sizes
   pub areas : List Area
@@ -77,7 +77,7 @@ pages_of [] = 0
 pages_of (a ∷ others) = a.pages + pages_of others
 
 -- OS_ReadDynamicArea: bit 7 of a number below 256 is no part of it, but asks for the maximum; from
--- 256 on that is told too.
+-- 256 on the answer has that too.
 abbrev pub asked_number : ℕ → ℕ
 asked_number word = if nat_le 128 word && nat_lt word 256 then word - 128 else word
 

@@ -7,8 +7,8 @@ use profile::ErrorNumber;
 pub const MOST_NAME_BYTES: usize = 31;
 
 /// A dynamic area: `pages` pages of 4096 bytes from the address `base` on are mapped for it, and no
-/// other area gets an address up to its `maximum`, in bytes. What flags and workspace mean is their
-/// maker's matter.
+/// other area gets an address up to its `maximum`, in bytes. What flags and workspace mean is up to
+/// whoever made the area.
 #[derive(Default, Drop)]
 pub struct Area {
     pub number: u32,
@@ -20,7 +20,7 @@ pub struct Area {
     pub workspace: u32,
 }
 
-/// Where an area lies, in bytes. The maximum is told where it was asked for.
+/// Where an area lies, in bytes. The maximum is there where it was asked for.
 #[derive(Clone, Copy, Debug, PartialEq, Eq)]
 pub struct Extent {
     pub base: u32,

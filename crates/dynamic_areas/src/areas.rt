@@ -69,7 +69,7 @@ impl Areas {
     }
 
     /// Where an area lies, in bytes, as OS_ReadDynamicArea tells it: from 128 to 255 a number means
-    /// the area that is 128 less; from 128 on the maximum is told too.
+    /// the area that is 128 less; from 128 on the answer has the maximum too.
     ///
     /// # Errors
     ///

@@ -28,9 +28,9 @@ impl Areas {
     /// The first of these, and nothing is changed then: `AreaBad` where the number is not within
     /// &100 to &7FFFFFFF, the size is greater than the maximum, the maximum is 0 or greater than
     /// 16,777,216, the handler is not 0, the base is no page address from which the maximum lies in
-    /// the window, or the name has not 1 to 31 bytes from space to `~`; `AreaTaken` where an area
-    /// has the number or an address, or no gap holds the maximum; `AreaTableFull` where there are
-    /// 32 areas; `AreaNoPages` where the pool is smaller.
+    /// the window, or the name doesn't have 1 to 31 bytes from space to `~`; `AreaTaken` where an
+    /// area has the number or an address, or no gap holds the maximum; `AreaTableFull` where there
+    /// are 32 areas; `AreaNoPages` where the pool is smaller.
     ///
     /// RISC OS 3 Programmer's Reference Manual, supplement, "OS_DynamicArea", reason 0.
     #[tactic(auto, unfolding(crate::specs::Creating::created))]

@@ -1,4 +1,5 @@
-//! Laws over the definitions, each the contract of a function that does nothing.
+//! Laws of areas: the gap and the number that are chosen, and the pages that go. Each is the
+//! contract of a function that does nothing.
 
 ghost use Rattle.dynamic_areas.specs.Laws.{LeastNumberIsChosen, LowestGapIsChosen, ShrinksToFirstHeld};
 

@@ -119,7 +119,7 @@ fn held_pages(map: &AddressMap, area: &Area) -> u32
 }
 
 /// Whether the page at an address must stay an area's: it has a byte of a recorded range or of an
-/// anchor, or in the module area of what is below its base.
+/// anchor, or, in the module area, of what lies below its heap's base.
 #[tactic(auto, unfolding(crate::specs::Changing::must_stay))]
 fn must_stay(map: &AddressMap, number: u32, page: u32) -> bool
     requires sound { IsSound (store_of map.now) }

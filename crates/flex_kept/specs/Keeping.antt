@@ -1,6 +1,6 @@
--- What a call that is none of the flex store's own leaves of that store (Acorn C manual, "flex":
--- the blocks of a program stay what they are until a flex call changes them; what a flex store is
--- of this machine's is this project's own).
+-- What calls other than the flex calls leave of the flex store (Acorn C manual, "flex": the blocks
+-- of a program stay what they are until a flex call changes them; what a flex store is on this
+-- machine is this project's own).
 use Rattle.std.specs.Prelude.{ℕ, ◌≡◌, ◌&&◌, ◌||◌, Bool, true, false, not, List, [], ◌∷◌, if◌then◌else◌}
 use Rattle.std.specs.List.{list_any}
 use Rattle.os_heap_slide.specs.address_map.specs.Bytes.{in_range}

@@ -9,7 +9,7 @@ use Rattle.flex_store.specs.Runs.{Alloc, Extend, FlexCall, MidExtend, Release}
 use Rattle.flex_laws.specs.Laws.{anchor_of, IsDoneIn, IsOfWords, IsSpelledState}
 use Rattle.flex_laws.specs.Numbered.{Anchor, blocks_seen, place_of, SeenBlock}
 
--- the bytes of a block after its guest's own ones; those of each block, in the order of the blocks;
+-- the bytes of a block after its guest's own; those of each block, in the order of the blocks;
 -- and those of a store, if there is one
 abbrev pub padding : Block → List ℕ
 padding b = drop b.size b.bytes

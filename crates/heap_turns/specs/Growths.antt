@@ -27,7 +27,7 @@ pub record MayGrow (s : Store) (h : HeapList) (end : ℕ) : Type 0 where
   pub others : list_any (λ r. meets (h.start + h.end) (end - h.end) r.at r.len) s.others ≡ false
   pub anchors : anchor_among s.anchor (h.start + h.end) (end - h.end) ≡ false
 
--- What is told of a growth, whether the heap may not grow, is this. For a heap that lies in no
+-- Whether a heap may not grow is tested so. For a heap that lies in no
 -- other it is whether the added bytes meet a heap, another recorded range or an anchor, as those of
 -- a heap that is made.
 abbrev pub GrowthsAreJudged : Type 0

@@ -1,4 +1,5 @@
-//! Laws over the definitions, each the contract of a function that does nothing.
+//! Laws of calls on heaps: those on one heap are turns of that heap alone, and no other changes it.
+//! Each is the contract of a function that does nothing.
 
 ghost use Rattle.heap_turns.specs.Forgotten.{CallsForgetHeaps, ForgottenLieInBlocks, FreesKeepBytes};
 ghost use Rattle.heap_turns.specs.Growths.{GrowthsAreJudged, GrowthsAreRefused, OuterGrowthsMeet};

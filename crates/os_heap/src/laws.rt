@@ -1,4 +1,5 @@
-//! Laws over the definitions, each the contract of a function that does nothing.
+//! Laws of live blocks, of forgotten heaps, and of heaps that lie in others. Each is the contract
+//! of a function that does nothing.
 
 ghost use Rattle.os_heap.specs.Laws.{CallsKeepPayloads, ForgettingKeeps, ForgottenAreLost, InnermostTells, LiveBlocksAreApart, RecordsAreTold};
 

@@ -1,4 +1,4 @@
--- What holds of the definitions of heaps, said another way than they are.
+-- Laws of heaps as lists, said in other words than the definitions.
 use Rattle.std.specs.Prelude.{◌≡◌, List, ℕ, ◌+◌, Some}
 use Rattle.address_map.specs.Bytes.{Bytes, word_at}
 use Rattle.address_map.specs.Items.{items_in}

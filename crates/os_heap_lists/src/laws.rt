@@ -1,4 +1,5 @@
-//! Laws over the definitions, each the contract of a function that does nothing.
+//! Laws of heaps as lists: a heap is read back from memory, and a release undoes a claim. Each is
+//! the contract of a function that does nothing.
 
 ghost use Rattle.os_heap_lists.specs.Laws.{ReadsHeap, GivesBack};
 

@@ -1,4 +1,4 @@
--- What holds of every slide, said another way than its definition.
+-- Laws of every slide, said in other words than its definition.
 use Rattle.std.specs.Prelude.{ℕ, ◌≡◌, ◌≤◌, ◌<◌, Bool, true, ◌+◌, ◌-◌, ◌%◌, List, [], ◌∷◌, Some, Ok}
 use Rattle.address_map.specs.Items.{size_of}
 use Rattle.address_map.specs.Moves.{moved_to}

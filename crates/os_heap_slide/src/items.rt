@@ -29,7 +29,7 @@ pub(crate) struct Cursor {
     pub(crate) free: u32,
 }
 
-/// Passes a free item, which is one no more.
+/// Passes a free item, which is an item no more.
 pub(crate) fn pass_free(map: &mut AddressMap, heap: u32, cursor: &Cursor) -> Cursor
     requires { IsFreeHere map.old heap cursor.now.at }
     ensures from { result.from ≡ cursor.now.from }

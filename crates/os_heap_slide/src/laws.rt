@@ -1,4 +1,5 @@
-//! Laws over the definitions, each the contract of a function that does nothing.
+//! Laws of slides: blocks keep their bytes, and free room becomes one. Each is the contract of a
+//! function that does nothing.
 
 ghost use Rattle.os_heap_slide.specs.Laws.{SlideClears, SlideDescribes, SlideFits, SlideKeeps, SlideKeepsBlocks};
 

@@ -1,5 +1,5 @@
--- Devices over the readers and writers of the standard library: what a device holds, and which
--- failures of a call pass by themselves.
+-- Devices over the readers and writers of the standard library: what a device holds, and after
+-- which failures a call is tried again.
 use Rattle.std.specs.Prelude.{Bool, true, false}
 use Rattle.std.specs.declared.io.ErrorKind.{ErrorKind}
 use Rattle.std.specs.declared.io.ErrorKind.TheVariants.{Interrupted}

@@ -1,5 +1,5 @@
--- Words, names, numbers and devices. MemoryMap and Word are what most crates cite; Outcome is what
--- refusals are told by.
+-- Words, names, numbers and devices. MemoryMap and Word are what most crates cite; Outcome is for
+-- calls that may refuse.
 pub mod Devices
 pub mod Digits
 pub mod ErrorNames

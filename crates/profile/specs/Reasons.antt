@@ -1,4 +1,4 @@
--- The reasons of the calls that are many in one, by the number in R0 (RISC OS 3 Programmer's
+-- The reasons of calls that do many things, by the number in R0 (RISC OS 3 Programmer's
 -- Reference Manual, "OS_Heap" and "OS_Module", and its supplement, "OS_DynamicArea").
 use Rattle.std.specs.Prelude.{ℕ, Option, Some, None, ◌==◌, if◌then◌else◌}
 use Rattle.profile.specs.declared.reason.AreaReason.{AreaReason}

@@ -1,4 +1,4 @@
-//! The sizes of a machine, in pages, and which of them can be.
+//! The sizes of a machine, in pages, and their limits.
 
 ghost use Rattle.std.specs.Prelude.{◌≡◌, ◌≤◌, ◌+◌};
 ghost use Rattle.profile.specs.Sizes.{Sizes, AreGood};

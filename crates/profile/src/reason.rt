@@ -1,4 +1,4 @@
-//! The reasons of the calls that are many in one: what a call does is told by a number in R0.
+//! The reasons of calls that do many things: a number in R0 says which.
 
 ghost use Rattle.std.specs.Prelude.{◌≡◌};
 ghost use Rattle.profile.specs.Reasons.{area_reason, heap_reason, module_reason};
@@ -8,7 +8,7 @@ ghost use Rattle.profile.specs.Reasons.{area_reason, heap_reason, module_reason}
 pub enum HeapReason {
     /// 0: a heap is made.
     Initialise,
-    /// 1: its largest free block and all that is free are told.
+    /// 1: its largest free block and all that is free are asked for.
     Describe,
     /// 2: a block is claimed.
     Get,
@@ -18,7 +18,7 @@ pub enum HeapReason {
     Resize,
     /// 5: the heap becomes larger or smaller.
     ChangeSize,
-    /// 6: the size of a block is told.
+    /// 6: the size of a block is asked for.
     BlockSize,
 }
 
@@ -48,9 +48,9 @@ pub enum AreaReason {
     Create,
     /// 1: an area is taken away.
     Remove,
-    /// 2: what an area is like.
+    /// 2: an area is asked about.
     Info,
-    /// 3: the next area's number is told.
+    /// 3: the next area's number is asked for.
     Enumerate,
     /// 4: an area gets another number.
     Renumber,
@@ -86,7 +86,7 @@ pub enum ModuleReason {
     Reinit,
     /// 4: an instance is taken away.
     Delete,
-    /// 5: the largest free block of the module area and all that is free in it are told.
+    /// 5: the largest free block of the module area and all that is free in it are asked for.
     DescribeArea,
     /// 6: a block of the module area is claimed.
     Claim,
@@ -100,7 +100,7 @@ pub enum ModuleReason {
     Insert,
     /// 11: a copy of an image is added.
     InsertCopy,
-    /// 12: what an instance is like.
+    /// 12: an instance is asked about.
     Info,
     /// 13: a block of the module area becomes larger or smaller.
     Extend,

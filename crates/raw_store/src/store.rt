@@ -90,7 +90,8 @@ impl RawStore {
         })
     }
 
-    /// Writes zeros after the bytes, until `len` were written. Where as many were, nothing is done.
+    /// Writes zeros after the bytes, until `len` were written. Where that many were written
+    /// already, nothing is done.
     pub fn grow(&mut self, len: usize)
         requires { len ≤ length self.old.items + self.old.spare }
         ensures bytes { self.new.items ≡ grown self.old.items len }
@@ -102,8 +103,8 @@ impl RawStore {
         }
     }
 
-    /// Makes `len` bytes zero, those too that were not written yet; bytes before them that were not
-    /// written are then zero as well.
+    /// Makes `len` bytes zero, including those that were not written yet; bytes before them that
+    /// were not written are then zero as well.
     pub fn write_zeros(&mut self, at: usize, len: usize)
         requires { at + len ≤ length self.old.items + self.old.spare }
         ensures bytes { self.new.items ≡ zeroed (grown self.old.items (at + len)) at len }

@@ -62,7 +62,7 @@ with_pages_more e count = record {
 }
 
 -- The area grows so that the heap reaches to `end`, counted from its start: by the fewest pages
--- that suffice, and not at all where it does so.
+-- that suffice, and not at all where it does already.
 abbrev pub pages_short : Estate → ℕ → ℕ
 pages_short e end = pages_for (end - 4096 * area_pages e)
 
@@ -104,7 +104,7 @@ rma_freed e block = in_area e (gave_back e.store 0x01800000 block)
 -- Reason 13, extend: a block's size changes as in a heap. But first the area grows for the last
 -- block, where that needs it and can have it, so that it gets its bytes where it stands; and where
 -- a block must move, the area grows for its new place if no free room fits. A block in which a heap
--- lies is not moved: that is told where the area could grow, which it does not then.
+-- lies is not moved: that is the error where the area could have grown, which it does not then.
 abbrev pub total_changed : ℕ → ℕ → ℕ
 total_changed size change = round_up_8 (changed_by (size + 4) change)
 

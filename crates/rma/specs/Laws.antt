@@ -1,4 +1,4 @@
--- What holds of the module area, said another way than its calls are (RISC OS 3 Programmer's
+-- Laws of the module area, said in other words than its calls (RISC OS 3 Programmer's
 -- Reference Manual, "OS_Module", reasons 6 and 7).
 use Rattle.std.specs.Prelude.{ℕ, ◌≡◌, false, Result, Ok, Err}
 use Rattle.profile.specs.declared.error.ErrorNumber.{ErrorNumber}

@@ -18,7 +18,7 @@ use profile::ErrorNumber;
 use profile::memory_map::{PAGE_SIZE, RMA_MAXIMUM};
 
 /// Grows the module area so that its heap reaches to `end`, in bytes from its start: by the fewest
-/// pages that suffice, and not at all where it does so.
+/// pages that suffice, and not at all where it does already.
 ///
 /// # Errors
 ///

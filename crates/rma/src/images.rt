@@ -21,7 +21,7 @@ use profile::memory_map::RMA_START;
 impl Rma {
     /// Records the block whose first byte is at `at`, in which no heap lies, as a module image,
     /// over all bytes that it holds; no call gives it back or moves it then, but a slide, which the
-    /// record follows. Where no block of a guest's is there nothing is done.
+    /// record follows. Where no block of a guest's is there, nothing is done.
     pub fn record_image(&self, map: &mut AddressMap, at: u32)
         requires sound { IsSound (store_of map.old) }
         requires may { CanRecord (store_of map.old) at }
@@ -57,9 +57,9 @@ impl Rma {
         map.disown(Kind::Image, at);
     }
 
-    /// Gives the block of a module image back: its record goes, and its room is free then. Of a
-    /// block that is no image the same is done, the heaps in it are forgotten, and where no block
-    /// is nothing more.
+    /// Gives the block of a module image back: its record goes, and its room is free then. The same
+    /// is done to a block that is no image, and the heaps in it are forgotten; where there is no
+    /// block, nothing more is done.
     pub fn free_image(&self, map: &mut AddressMap, at: u32)
         requires sound { IsSound (store_of map.old) }
         requires classes { AreClasses map.old }

@@ -1,4 +1,5 @@
-//! Laws over the definitions, each the contract of a function that does nothing.
+//! A law of the module area: giving a block back undoes its claim. It is the contract of a function
+//! that does nothing.
 
 ghost use Rattle.rma.specs.Laws.{FreeUndoesClaim};
 
