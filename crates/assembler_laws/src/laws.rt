@@ -1,4 +1,5 @@
-//! Laws over the definitions of the assembler, each the contract of a function that does nothing.
+//! Laws of assembled programs and of the first line that is refused. Each is the contract of a
+//! function that does nothing.
 
 ghost use Rattle.assembler_laws.specs.Laws.{LabelsMoveNothing, LinesArePieces, LinesAreRefused, ProgramsArePieces, RefusalsAreFirst};
 ghost use Rattle.assembler_laws.specs.Lists.{ItemsGoOn, RegistersGoOn, TermsGoOn};

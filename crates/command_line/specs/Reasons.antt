@@ -1,5 +1,5 @@
--- What is told of a command line whose options are there, but have no number, or sizes that no
--- machine can have.
+-- What the user is told of a command line whose options are there, but have no number, or sizes
+-- that no machine can have.
 use Rattle.std.specs.Prelude.{ℕ, ◌+◌, ◌-◌, ◌^◌, ◌==◌, nat_lt, List, [], ◌++◌, is_none, codes, if◌then◌else◌, unwrap_or, IfSome, ◌≡◌}
 use Rattle.std.specs.Fmt.{debug_str, decimal}
 use Rattle.clap.specs.Words.{Row, first_of}

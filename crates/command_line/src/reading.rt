@@ -19,8 +19,8 @@ use std::alloc::{AllocError, Global};
 ///
 /// # Errors
 ///
-/// `Line` where the words are no command line, ask for help, or have a number that is none or too
-/// large; then `Sizes`, as [`Config::new`] refuses them; `Memory` where memory ran out.
+/// `Line` where the words are no command line, ask for help, or have a number that isn't one or is
+/// too large; then `Sizes`, as [`Config::new`] refuses them; `Memory` where memory ran out.
 #[tactic(auto, unfolding(crate::specs::Settings::settings_for))]
 pub fn settings(alloc: Global, words: &[&str]) -> Result<Settings, SettingsError>
     ensures { result ≢ Err SettingsError.Memory → result ≡ settings_for (map (λ w. w.now) words.now) }
@@ -45,7 +45,7 @@ fn settings_in(alloc: Global, matches: &ArgMatches<'_>) -> Result<Settings, Sett
     })
 }
 
-// The number of an option, or `None` where its text is none.
+// The number of an option, or `None` where its text is no number.
 pub(crate) fn size(matches: &ArgMatches<'_>, name: &str) -> Option<u32>
     ensures { result ≡ option_number 32 (rows_of (found_of matches.now)) name.now }
 {

@@ -18,7 +18,7 @@ const MOST_SIZE: u64 = u32::MAX as u64;
 const HELP: &str = "the script is standard input, and each FILE is an image for it";
 
 /// What is wrong with words that are no command line, in one line: clap's reason, or the option
-/// whose number is none.
+/// whose text is no number.
 ///
 /// # Errors
 ///

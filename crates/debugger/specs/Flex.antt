@@ -24,7 +24,7 @@ abbrev pub holder_in : ℕ → List FlexBlock → Option FlexBlock
 holder_in a [] = None
 holder_in a (b ∷ bs) = if nat_le b.at a && nat_le (a + 4) (b.at + b.size) then Some b else holder_in a bs
 
--- what is told of the word then: ` in 0000A008 offset 8`
+-- what is printed of the word then: ` in 0000A008 offset 8`
 abbrev pub holder_text : ℕ → Option FlexBlock → List ℕ
 holder_text a None = codes "\n"
 holder_text a (Some b) = codes " in " ++ (hex_word b.at ++ (codes " offset " ++ (decimal (a - b.at) ++ codes "\n")))

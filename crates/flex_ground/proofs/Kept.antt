@@ -1,4 +1,4 @@
--- The flex store of a machine over calls that are none of its own, over what guests store, and at
+-- The flex store of a machine over calls other than its own, over what guests store, and at
 -- the start.
 use Rattle.std.proofs.Common.{◌≡◌, ◌≤◌, ◌<◌, ℕ, ◌+◌, ◌-◌, ◌&&◌, ◌||◌, ◌==◌, Bool, true, false, List, [], ◌∷◌, Option, Some, None, length, suc, inl, inr, is_some, refl, sym, ap, subst, ◌∙◌, arith}
 use Rattle.std.proofs.lemmas.Bool.{and_parts, both_ways, cases_Bool, false_from_ne_true, eqb-true, false≢true, or_left, or_right}

@@ -1,4 +1,4 @@
--- The flex store over calls that are none of its own, over what guests store, and at the start of a
+-- The flex store over calls other than its own, over what guests store, and at the start of a
 -- machine.
 use Rattle.std.specs.Prelude.{ℕ, ◌≡◌, ◌≤◌, ◌<◌, ◌+◌, ◌-◌, true, false, Some, None}
 use Rattle.instances_ground.specs.profile.specs.Sizes.{Sizes}

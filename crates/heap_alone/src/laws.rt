@@ -1,4 +1,5 @@
-//! Laws over the definitions, each the contract of a function that does nothing.
+//! Laws of moves of a machine: a guest's heap answers by itself, and live blocks hold what they
+//! held. Each is the contract of a function that does nothing.
 
 ghost use Rattle.heap_alone.specs.AreaByteLaws.{ClaimsKeepLiveBytes};
 ghost use Rattle.heap_alone.specs.ByteLaws.{HeapCallsKeepLiveBytes, InstructionsChangeStored, MovesKeepLiveBytes};

@@ -1,4 +1,5 @@
--- The same of an estate: memory with its pages and its areas.
+-- What holds of the module area in the midst of a step, of an estate: memory with its pages and its
+-- areas.
 use Rattle.std.specs.Prelude.{◌≡◌, ◌≤◌, ◌*◌, Some}
 use Rattle.dynamic_areas.specs.declared.area.Area.{Area}
 use Rattle.dynamic_areas.specs.Areas.{find_area}

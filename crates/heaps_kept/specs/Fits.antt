@@ -14,8 +14,9 @@ use Rattle.heap_turns.specs.Laws.{IsNotForgotten}
 abbrev pub is_module_byte : ℕ → Bool
 is_module_byte a = in_range 0x01800000 0x403000 a
 
--- The module area's heap is there and ends at `limit`, counted from its start. Its items have
--- lengths of items, and room up to there. No other place has a module area.
+-- A store is fit for calls on the module area: that area's heap is there and ends at `limit`,
+-- counted from its start. Its items have lengths of items, and room up to there. No other place has
+-- a module area.
 pub record IsFitStore (limit : ℕ) (s : Store) : Type 0 where
   pub heap : HeapList
   pub found : find_heap 0x01800000 s.heaps ≡ Some heap

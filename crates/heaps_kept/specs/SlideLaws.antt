@@ -1,5 +1,5 @@
--- So does a slide of the module area's heap, whichever of its blocks move, where no heap lies in
--- one of these.
+-- A slide of the module area's heap stays within the module area, whichever of its blocks move,
+-- where no heap lies in one of these.
 use Rattle.std.specs.Prelude.{ℕ, ◌≡◌, List, Some}
 use Rattle.os_heap_lists.specs.Heap.{HeapList}
 use Rattle.os_heap.specs.Store.{Store, find_heap}

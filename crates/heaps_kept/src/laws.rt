@@ -1,4 +1,5 @@
-//! Laws over the definitions of calls, each the contract of a function that does nothing.
+//! Laws of calls other than a heap's own: which heaps they keep, and which they forget. Each is the
+//! contract of a function that does nothing.
 
 ghost use Rattle.heaps_kept.specs.AreaLaws.{AreaCallsKeepHeap};
 ghost use Rattle.heaps_kept.specs.BlockLaws.{BlockCallsKeep, PlansKeepBlocks};

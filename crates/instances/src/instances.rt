@@ -1,4 +1,4 @@
-//! The modules of a machine and their instances: looked up, told of, named and preferred.
+//! The modules of a machine and their instances: looked up, described, named and preferred.
 
 ghost use Rattle.std.specs.Prelude.{◌≡◌, ◌<◌, [], Option, option_map, slice_get, IfSome};
 ghost use Rattle.profile.specs.Outcome.{Leaves};
@@ -47,7 +47,7 @@ impl Instances {
     }
 
     /// Titles differ, so do the names of a module's instances and the slots of all, which are below
-    /// 64, and one instance of each module is preferred. The call does nothing but to say so.
+    /// 64, and one instance of each module is preferred. The call does nothing but say so.
     pub fn known(&self)
         ensures { AreModules self.now }
     {

@@ -1,4 +1,5 @@
-//! Laws over the definitions, each the contract of a function that does nothing.
+//! Laws of plans: they settle what becomes of a new image, and their actions find what they ask
+//! for. Each is the contract of a function that does nothing.
 
 ghost use Rattle.instances_actions.specs.Laws.{ClearSettles, InstantiateSettles, LoadSettles, NoneSlides, PendingIsSettled, PendingOutlastsRefusal, PendingStays, ReinitSettles, StaysSettled, StaysSettledRefused, TidySettles};
 ghost use Rattle.instances_actions.specs.Ready.{AllGo, ClearIsReady, InstantiateIsReady, LoadIsReady, ReadyActs, ReinitIsReady, StaysReady, StaysReadyRefused, TidyIsReady};

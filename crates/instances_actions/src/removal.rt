@@ -44,8 +44,8 @@ pub fn remove(map: &mut AddressMap, table: &mut InstanceTable, slot: u32)
 }
 
 /// Gives the block back that the private word of a slot names, with the heaps that lie in it, and
-/// makes the word 0. What is no block of the module area, or a module's image, or holds an anchor
-/// of the flex store, stays as it is.
+/// makes the word 0. What is not a block of the module area, is a module's image, or holds an
+/// anchor of the flex store, stays as it is.
 ///
 /// RISC OS 3 Programmer's Reference Manual, "Modules", "Finalisation entry point".
 pub fn free_private(map: &mut AddressMap, slot: u32)

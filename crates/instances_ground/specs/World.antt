@@ -15,6 +15,7 @@ use Rattle.instances_table.specs.ModuleArea.{is_in_module_area}
 use Rattle.instances_table.specs.Modules.{Module, has_instance}
 use Rattle.instances_table.specs.Changes.{module_without, without_instance}
 
+-- The world of module calls: an estate, and the modules that stand in it, oldest first.
 pub record World : Type 0 where
   pub estate : Estate
   pub modules : List Module

@@ -1,4 +1,5 @@
-//! Laws over the definitions, each the contract of a function that does nothing.
+//! Laws of module images: each is recorded whole, and no two share a byte. Each is the contract of
+//! a function that does nothing.
 
 ghost use Rattle.instances_ground.specs.Laws.{ImagesAreApart, ImagesAreHeld};
 

@@ -1,4 +1,5 @@
-//! Laws over the definitions, each the contract of a function that does nothing.
+//! Laws of plans: which actions are done, and what a refusal leaves to do. Each is the contract of
+//! a function that does nothing.
 
 ghost use Rattle.instances_plans.specs.Laws.{CarriesByTurns, ClearIsDoable, ClearStops, DoesAll, InstantiateIsDoable, LoadIsDoable, ReinitIsDoable, StaysDoable, StaysDoableRefused, TidyGivesUp, TidyIsDoable};
 

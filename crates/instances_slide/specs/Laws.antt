@@ -1,4 +1,4 @@
--- What holds of every tidied module area, said another way than its definition.
+-- Laws of every tidied module area, said in other words than its definition.
 use Rattle.std.specs.Prelude.{ℕ, ◌≡◌, ◌<◌, ◌+◌, ◌-◌, true, List, [], Option, Some, None}
 use Rattle.address_map.specs.Items.{size_of}
 use Rattle.address_map.specs.Moves.{moved_to}

@@ -1,4 +1,5 @@
-//! Laws over the definitions, each the contract of a function that does nothing.
+//! Laws of a tidy: blocks and private words after it, and the free room. Each is the contract of a
+//! function that does nothing.
 
 ghost use Rattle.instances_slide.specs.Laws.{TidyJoinsRoom, TidyKeepsBlocks, TidyKeepsNames, TidyKeepsSides};
 

@@ -98,7 +98,7 @@ place_in slot modules (Some number) =
 abbrev pub place_of_slot : ℕ → List Module → Option Place
 place_of_slot slot modules = place_in slot modules (position (has_instance slot) modules)
 
--- what is told of a module, and of an instance
+-- what the table answers about a module, and about an instance
 abbrev pub told_of_module : Module → ModuleInfo
 told_of_module m = record {
   title = m.header.title;

@@ -1,4 +1,4 @@
--- The same over lists of moves, and runs as such lists.
+-- Which bytes of live blocks change over lists of moves, and runs as such lists.
 use Rattle.std.specs.Prelude.{ℕ, zero, suc, ◌≡◌, ◌⊎◌, List, [], ◌∷◌}
 use Rattle.image_loader.specs.Entries.{Entry}
 use Rattle.swi_dispatch.specs.MachineState.{MachineState}

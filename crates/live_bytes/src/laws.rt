@@ -1,4 +1,5 @@
-//! Laws over the definitions, each the contract of a function that does nothing.
+//! Laws of moves of a machine: which bytes of live blocks and of the flex store change. Each is the
+//! contract of a function that does nothing.
 
 ghost use Rattle.live_bytes.specs.AreaLaws.{AreaCallsKeepBoth, ExtendsKeepBlocks};
 ghost use Rattle.live_bytes.specs.Changes.{FlexBytesStay, LiveBytesStay, LoadsKeepLiveBytes, PokesChangeOneWord};

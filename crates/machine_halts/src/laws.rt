@@ -1,4 +1,5 @@
-//! Laws over the definitions, each the contract of a function that does nothing.
+//! Laws of steps and calls that halt a machine or are refused. Each is the contract of a function
+//! that does nothing.
 
 ghost use Rattle.machine_halts.specs.Halts.{ExitsAreCalls, HaltsChangeNothing, NoFaultFromOutside};
 ghost use Rattle.machine_halts.specs.Refusals.{RefusalsChangeNothing};

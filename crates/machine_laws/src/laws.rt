@@ -1,4 +1,5 @@
-//! Laws over the definitions, each the contract of a function that does nothing.
+//! Laws of a machine's flex calls and tidies: they are turns of its stores. Each is the contract of
+//! a function that does nothing.
 
 ghost use Rattle.machine_laws.specs.Laws.{CallsAreTurns, StepsAreTurns, PlansStay, PlansStayFromOutside, TidiesGoOn};
 ghost use Rattle.machine_laws.specs.Laws.{StoreCallsAreTurns};

@@ -8,7 +8,7 @@ use profile::{Sink, WriteFault, push_all};
 use view_pictures::digit;
 
 /// Writes bytes so that HTML shows them and takes nothing in them for its own. `<`, `>`, `&` and
-/// `"` become references by their number; a byte that is no character to show, its two digits in
+/// `"` become references by their number; an unprintable byte, its two digits in
 /// hexadecimal between `⟨` and `⟩`. Line feeds stay.
 #[tactic(auto, using(crate::proofs::EscapeLemmas::escape_steps))]
 pub fn push_escaped<W: Sink>(sink: &mut W, bytes: &[u8]) -> Result<(), WriteFault>

@@ -37,7 +37,8 @@ is_of_run (refusal.File path error) = true
 is_of_run (refusal.Script error) = true
 is_of_run _ = false
 
--- The first file that gives no image is told of; nothing was read of the script then, nor written.
+-- The first file that gives no image is reported; nothing of the script has been read by then, and
+-- nothing written.
 pub record StopsBeforeScript {F R W : Type 0} (of_file : F → Option (List ℕ)) (paths : List (List ℕ)) (r r' : R)
     (w w' : W) (told : Refusal) : Type 0 where
   pub images : List Entry

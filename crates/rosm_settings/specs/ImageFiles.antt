@@ -92,7 +92,7 @@ abbrev pub IsOfFile : Refusal → List ℕ → FileError → Type 0
 IsOfFile (refusal.File at error) path told = (at.now ≡ path) × (error ≡ told)
 IsOfFile _ path told = ⊥
 
--- The files before the first one that gives no image are taken in; it is the one that is told of,
+-- The files before the first one that gives no image are taken in; it is the one that is reported,
 -- and its error is the host's or the table's at that time.
 pub record StopsAtFile {F : Type 0} (remaining : F → Option (List ℕ)) (old new : List Entry) (paths : List (List ℕ))
     (told : Refusal) : Type 0 where

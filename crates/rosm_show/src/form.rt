@@ -17,7 +17,7 @@ pub struct Parted<'a> {
     pub others: Vec<&'a str>,
 }
 
-/// Parts the words that ask for a form from all others; after a word `--` none does.
+/// Separates the words that ask for a form from all others; after a word `--` none does.
 ///
 /// # Errors
 ///

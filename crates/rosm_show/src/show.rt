@@ -26,7 +26,7 @@ use std::path::Path;
 ///
 /// # Errors
 ///
-/// As of the program `rosm`; nothing is written before the last line is answered.
+/// As for the program `rosm`; nothing is written before the last line is answered.
 pub fn show<'a, F, R, W>(
     files: &F,
     wanted: &'a Wanted,

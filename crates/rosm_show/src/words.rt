@@ -26,7 +26,7 @@ pub struct Wanted {
 ///
 /// # Errors
 ///
-/// `NotText`, `Line`, `Sizes` and `Memory`, as of the program `rosm`; a second form is `Line` too.
+/// `NotText`, `Line`, `Sizes` and `Memory`, as for the program `rosm`; a second form is `Line` too.
 pub fn read_words<R: Env + AllocGlobal>(rt: &R) -> Result<Wanted, Refusal<'static>> {
     let alloc = rt.alloc();
     let args = match env::args(rt) {

@@ -19,7 +19,7 @@ use view_pictures::{
 const FRONT: &[u8] = b"       ";
 
 /// The picture of an entry, in a page of that form, after these entries; empty where its line asks
-/// for no view, or its answer is none.
+/// for no view, or its answer isn't a view's.
 ///
 /// # Errors
 ///

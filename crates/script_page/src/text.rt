@@ -22,9 +22,8 @@ const GUEST: &[u8] = b"     : ";
 const STEPS: &[u8] = b"     = ";
 
 /// Writes the page: each line under its number, its answer under it, what the guest printed after a
-/// colon, and after an equals sign how many steps it took, if more than one. Bytes that are no
-/// characters to show stand as `\x1B`. Where there is a picture, the page ends with what the signs
-/// of pictures mean.
+/// colon, and after an equals sign how many steps it took, if more than one. Unprintable bytes
+/// stand as `\x1B`. Where there is a picture, the page ends with what the signs of pictures mean.
 pub fn push_text_page<W: Sink>(sink: &mut W, shown: &[Shown<'_>]) -> Result<(), WriteFault>
     ensures { Writes W.contents W.has_failed sink.old sink.new result (text_page shown.now) }
 {

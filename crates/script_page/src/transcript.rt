@@ -18,8 +18,8 @@ pub enum Side {
     Told,
 }
 
-/// Writes the entries as a transcript: `> ` before what is typed, answers as they are, and bytes
-/// that are no characters to show as `\x1B`. A line without an end has `\` after it.
+/// Writes the entries as a transcript: `> ` before what is typed, answers as they are, and
+/// unprintable bytes as `\x1B`. A line without an end has `\` after it.
 #[tactic(auto, using(crate::proofs::TextLemmas::text_steps))]
 pub fn push_transcript<W: Sink>(sink: &mut W, entries: &[Entry<'_>]) -> Result<(), WriteFault>
     ensures { Writes W.contents W.has_failed sink.old sink.new result (transcript entries.now) }

@@ -1,4 +1,5 @@
-//! Laws over the definitions, each the contract of a function that does nothing.
+//! Laws of flex calls and slides of the module area, told without addresses. Each is the contract
+//! of a function that does nothing.
 
 ghost use Rattle.store_laws.specs.Besides.{StaysBehind};
 ghost use Rattle.store_laws.specs.Laws.{MachinesHaveStores, TurnsFollowRules};

@@ -1,4 +1,5 @@
-//! Laws over the definitions, each the contract of a function that does nothing.
+//! A law of flex calls and slides of the module area, told by the names of flex blocks. It is the
+//! contract of a function that does nothing.
 
 ghost use Rattle.store_names.specs.Named.{TurnsGoByNames};
 

@@ -193,7 +193,7 @@ error_kept m n number text same marks sound others short e =
 pub kept_classes : (m n : AddressMap) → IsKept m n → class_of n ≡ class_of m → AreClasses m → AreClasses n
 kept_classes m n kept marks same = classes_same m n (ap (λ (s : Store). s.heaps) kept.store) (λ a i. marks i a) same
 
--- the flex store after a call that is none of its own
+-- the flex store after a call other than its own
 pub flex_by : (old new : Parts) → IsWellFormed old → AreAreas (store_of new.map) (free_pages new.map) new.tables.land
     → KeepsFlex (store_of old.map) (store_of new.map) → new.tables.flex ≡ old.tables.flex → HasFlex new.map new.tables.flex
 flex_by old new well areas keeps flex =

@@ -42,6 +42,7 @@ pub record Outcome : Type 0 where
   pub now : MachineState
   pub printed : List ℕ
 
+-- what is left where nothing is printed
 abbrev pub quiet : MachineState → Outcome
 quiet s = record { now = s; printed = [] }
 

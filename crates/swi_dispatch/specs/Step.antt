@@ -72,7 +72,7 @@ handler_entered s call number h = record s {
   tables = record s.tables { frames = s.tables.frames ++ frame_of s.cpu call Swi h.slot ∷ [] };
 }
 
--- what the end of a call needs to know of its begin; `enters` says whether a module that it loads
+-- what the end of a call needs to know of its start; `enters` says whether a module that it loads
 -- is entered then
 abbrev pub call_of : MachineState → Bool → ℕ → Bool → Call
 call_of s x next enters = record { is_x = x; caller = s.cpu.psr; next = next; enters = enters }

@@ -42,8 +42,8 @@ impl Machine {
         self.go_back(caller, true, next);
     }
 
-    // The number that R0 would point to once an error is answered, wherever the guest goes on. To
-    // the guest's own it points already.
+    // The number that R0 would point to once an error is answered, wherever the guest goes on. It
+    // already points to an error of the guest's own.
     #[tactic(auto, using(crate::proofs::ErrorNumbers::number_kept))]
     fn answered_number(&self, refusal: Refusal) -> u32
         ensures { (caller : Psr) (next : ℕ) → result

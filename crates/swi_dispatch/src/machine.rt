@@ -250,7 +250,7 @@ impl Machine {
         Ok(())
     }
 
-    /// What holds of every machine, whatever its guest does. The call does nothing but to say so.
+    /// What holds of every machine, whatever its guest does. The call does nothing but say so.
     pub fn known(&self)
         ensures { IsMachine self.now }
     {

@@ -44,7 +44,7 @@ impl Machine {
         self.finish(call, ended);
     }
 
-    /// What the end of a call needs to know of its begin; `enters` says whether a module that it
+    /// What the end of a call needs to know of its start; `enters` says whether a module that it
     /// loads is entered then.
     pub(crate) fn call_of(&self, is_x: bool, next: u32, enters: bool) -> Call
         ensures { result ≡ call_of (state_of self.now) is_x next enters }

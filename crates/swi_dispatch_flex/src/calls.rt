@@ -19,7 +19,7 @@ use swi_dispatch_answers::Refusal;
 ///
 /// # Errors
 ///
-/// As the call of `Flex` refuses it, or `SwiUnknown` where the name is of no flex call; nothing is
+/// As the call of `Flex` refuses it, or `SwiUnknown` where the name is no flex call's; nothing is
 /// changed then.
 #[tactic(auto, unfolding(crate::specs::Calls::flex_called))]
 pub fn call_flex(

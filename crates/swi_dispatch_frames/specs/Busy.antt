@@ -1,4 +1,4 @@
--- Which frames keep a call on modules from what it would do (this project's own).
+-- Which open frames forbid a call on modules (this project's own).
 use Rattle.std.specs.Prelude.{ℕ, Bool, true, false, ◌==◌, ◌&&◌, List}
 use Rattle.std.specs.List.{list_any}
 use Rattle.swi_dispatch_frames.specs.declared.frame.Frame.{Frame}

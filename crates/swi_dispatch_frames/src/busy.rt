@@ -1,4 +1,4 @@
-//! Which frames keep a call on modules from what it would do.
+//! Which open frames forbid a call on modules.
 
 ghost use Rattle.std.specs.Prelude.{◌≡◌, ◌==◌, ◌&&◌};
 ghost use Rattle.std.specs.List.{list_any};

@@ -1,8 +1,8 @@
-//! What a store call keeps from its begin to its end.
+//! What a store call keeps from its start to its end.
 
 use arm_step::{Mode, Psr};
 
-/// What the end of a call needs to know of its begin.
+/// What the end of a call needs to know of its start.
 #[derive(Clone, Copy, Debug, PartialEq, Eq)]
 pub struct Call {
     /// Whether an error goes back to the caller.

@@ -1,4 +1,4 @@
--- OS_Module, the reasons that tell of instances, name them and prefer them: 12, 15, 16 and 18 (RISC
+-- OS_Module, the reasons that look up instances, name them and prefer them: 12, 15, 16 and 18 (RISC
 -- OS 3 Programmer's Reference Manual, "OS_Module"). Strings are read first of all; a name is the
 -- whole string.
 use Rattle.std.specs.Prelude.{Result, Ok, List, ℕ}

@@ -1,4 +1,4 @@
-//! OS_Module, the reasons that tell of instances, name them and prefer them: 12, 15, 16 and 18
+//! OS_Module, the reasons that look up instances, name them and prefer them: 12, 15, 16 and 18
 //! (RISC OS 3 Programmer's Reference Manual, "OS_Module").
 #![tactic(auto, unfolding(os_heap::specs::Store::store_of))]
 

@@ -28,7 +28,7 @@ abbrev pub with_land : Store → Land → Estate
 with_land s l = record { store = s; pool = pool_of l; land = l }
 
 -- OS_ReadDynamicArea: R0 has the area's number on entry, and its base then; R1 has its size, and R2
--- its maximum, where that is told.
+-- its maximum, where that was asked for.
 abbrev pub with_maximum : State → Option ℕ → State
 with_maximum cpu None = cpu
 with_maximum cpu (Some maximum) = with_register cpu 2 maximum

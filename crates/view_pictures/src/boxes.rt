@@ -123,7 +123,8 @@ impl<'a> PictureBox<'a> {
     }
 
     /// Whether this is the other box too. Which block holds its anchor is not asked: where that has
-    /// changed, a block has come, gone, slid or changed its size, and that is told of that block.
+    /// changed, a block has come, gone, slid or changed its size, and the picture says so at that
+    /// block.
     pub fn is_same(&self, other: &PictureBox<'_>) -> bool {
         self.kind == other.kind
             && self.address == other.address

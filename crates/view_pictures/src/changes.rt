@@ -3,8 +3,8 @@
 use crate::boxes::{Kind, PictureBox};
 use crate::views::View;
 
-/// What has become of a box, in a word, where it isn't as it was; nothing where there is no picture
-/// from before, and of boxes that tell of no memory, or always the same.
+/// What has become of a box, in a word, where it has changed; nothing where there is no earlier
+/// picture, or where the box stands for no memory, or always for the same.
 pub fn change_of(own: &PictureBox<'_>, before: Option<&View<'_>>) -> Option<&'static [u8]> {
     let boxes = before?.boxes.as_slice();
     match own.kind {
@@ -47,7 +47,7 @@ fn size_change(own: &PictureBox<'_>, boxes: &[PictureBox<'_>]) -> Option<&'stati
     Some(b"new")
 }
 
-// Free room is what is left of older room, or has some of that in it, or was none.
+// Free room is what is left of older room, or has some of that in it, or was not free before.
 fn free_change(own: &PictureBox<'_>, boxes: &[PictureBox<'_>]) -> &'static [u8] {
     if boxes
         .iter()

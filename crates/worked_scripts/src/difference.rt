@@ -1,4 +1,4 @@
-//! What differs between a transcript and what is found, and how that is told.
+//! What differs between a transcript and what is found, and how that is reported.
 
 use crate::escapes::spelling;
 use std::alloc::{AllocError, Global};

@@ -9,7 +9,7 @@ use script_outcomes::{Outcome, outcome_of};
 use std::alloc::{AllocError, Global};
 
 /// What is wrong with a transcript, or `None` where all is as it says. One that is wrong on purpose
-/// says what is to be told of it.
+/// says which complaint it must get.
 ///
 /// # Errors
 ///

@@ -110,7 +110,7 @@ static CREATIONS: [Line; 80] = [
     Call(0x66, None),
     Has(1, 0x101),
     Has(3, 0x0200_3000),
-    // a size over the maximum is told before a number that is taken, a name of a wrong form too,
+    // a size over the maximum is refused before a number that is taken, a name of a wrong form too,
     // and a name that can't be read after it
     Registers(0, 0x100, 20000, NONE),
     Others(0, 10000, 0, 0, NAME),
@@ -143,12 +143,12 @@ static CREATIONS: [Line; 80] = [
     Registers(3, 5, 7, 7),
     Call(0x66, None),
     Errs(Some(ErrorNumber::AreaUnknown)),
-    // flags and workspace are told as they were given
+    // flags and workspace are answered as they were given
     Registers(2, 0x101, 7, 7),
     Call(0x66, None),
     Has(4, 3),
     Has(7, 5),
-    // other numbers: an area that isn't there is told before a number that is bad, a bad number
+    // other numbers: an area that isn't there is refused before a number that is bad, a bad number
     // before one that is taken
     Registers(4, 5, 1, 7),
     Call(0x66, None),

@@ -19,9 +19,9 @@ enum Reply {
     Refused(u32),
 }
 
-/// OS_Heap on the heap at &9000, by R0, R2 and R3: all its reasons and one that is none, and each
-/// error that comes at a heap in which neither an anchor nor another heap lies. Blocks of 20, 40
-/// and 44 bytes take 24, 48 and 48; the second heap, at &9200, is in the way of 260 bytes more.
+/// OS_Heap on the heap at &9000, by R0, R2 and R3: all its reasons and one that there is not, and
+/// each error that comes at a heap in which neither an anchor nor another heap lies. Blocks of 20,
+/// 40 and 44 bytes take 24, 48 and 48; the second heap, at &9200, is in the way of 260 bytes more.
 static CALLS: [(u32, u32, u32, Reply); 14] = [
     (0, 7, 256, Answered(7, 256)),
     (2, 7, 20, Answered(0x9014, 20)),
