@@ -93,8 +93,8 @@ impl Areas {
         })
     }
 
-    /// The least number of an area that is greater than that of an area, or than none where that is
-    /// -1; after the last it is -1.
+    /// The next greater number of an area, or the least where the given one is -1; the answer is -1
+    /// after the last.
     ///
     /// # Errors
     ///

@@ -1,5 +1,5 @@
-//! Frames: module code that was entered and has not come back yet, and the core on its way in and
-//! out.
+//! Module code that was entered and has not come back: its frames, and the core on its way in and
+//! out, for the machine.
 #![tactic(auto)]
 
 pub mod busy;
