@@ -1,5 +1,5 @@
 //! Module code that was entered and has not come back: its frames, and the core on its way in and
-//! out, for the machine.
+//! out.
 #![tactic(auto)]
 
 pub mod busy;
