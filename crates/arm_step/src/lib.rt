@@ -1,24 +1,14 @@
-//! The core of the ARM2: its registers and status, and one instruction at a time over the memory map.
+//! One instruction of the ARM2 at a time, over its core and the memory map.
 #![tactic(auto)]
 
 pub mod block;
-pub mod condition;
-pub mod cpu;
-pub mod effect;
 pub mod execute;
 pub mod laws;
-pub mod operand;
-pub mod operate;
 pub mod page_block;
 pub mod page_words;
-pub mod psr;
-pub mod registers;
 pub mod transfer;
-pub mod turn;
 pub mod words;
 
-pub use cpu::Cpu;
+pub use arm_core::{Cpu, Mode, Psr, Turn};
 pub use execute::step;
 pub use profile;
-pub use psr::{Mode, Psr};
-pub use turn::Turn;

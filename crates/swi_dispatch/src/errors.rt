@@ -16,8 +16,8 @@ impl Machine {
     ghost use Rattle.swi_dispatch.specs.Calls.{generated};
     ghost use Rattle.swi_dispatch.specs.Errors.{error_number, with_error};
     ghost use Rattle.swi_dispatch.specs.Returns.{gone_back, error_answered, erred};
-    ghost use Rattle.arm_step.specs.State.{register_of};
-    ghost use Rattle.arm_step.specs.declared.psr.Psr.{Psr};
+    ghost use Rattle.arm_core.specs.State.{register_of};
+    ghost use Rattle.arm_core.specs.declared.psr.Psr.{Psr};
 
     /// The number of the error that R0 points to, or that of `BadPointer` where no block can stand there.
     pub fn error_number(&self) -> u32

@@ -1,6 +1,6 @@
 ghost use Rattle.std.specs.Prelude.{◌≡◌, ◌==◌};
-ghost use Rattle.arm_step.specs.State.{register_in};
-ghost use Rattle.arm_step.specs.declared.psr.Mode.TheVariants.{Supervisor};
+ghost use Rattle.arm_core.specs.State.{register_in};
+ghost use Rattle.arm_core.specs.declared.psr.Mode.TheVariants.{Supervisor};
 ghost use Rattle.swi_dispatch_frames.specs.Frames.{frame_of, shared_registers};
 
 use crate::call::Call;
