@@ -1,3 +1,4 @@
+pub use Rattle.arm_core
 pub use Rattle.arm_step
 pub use Rattle.os_heap
 pub use Rattle.heap_turns

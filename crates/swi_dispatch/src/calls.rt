@@ -5,7 +5,7 @@ ghost use Rattle.swi_dispatch.specs.Step.{called, ended, is_exit, os_module_call
 
 use crate::halt::Halt;
 use crate::machine::{MOST_PRINTED, Machine};
-use arm_step::{Mode, Psr};
+use arm_core::{Mode, Psr};
 use arrayvec::ArrayVec;
 use image_loader::Images;
 use profile::{ErrorNumber, Fault, ModuleReason, SwiName};

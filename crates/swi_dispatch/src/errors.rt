@@ -5,7 +5,7 @@ ghost use Rattle.std.specs.Prelude.{ℕ, ◌≡◌, false, true};
 
 use crate::halt::Halt;
 use crate::machine::Machine;
-use arm_step::Psr;
+use arm_core::Psr;
 use profile::memory_map::ERROR_BLOCK;
 use profile::{ErrorNumber, Fault};
 use swi_dispatch_answers::Refusal;

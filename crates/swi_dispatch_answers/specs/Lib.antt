@@ -1,4 +1,4 @@
-pub use Rattle.arm_step
+pub use Rattle.arm_core
 pub use Rattle.address_map
 pub mod Errors
 pub mod Refusals

@@ -1,4 +1,4 @@
-use arm_step::{Mode, Psr};
+use arm_core::{Mode, Psr};
 
 /// What the end of a call needs to know of its begin.
 #[derive(Clone, Copy, Debug, PartialEq, Eq)]
