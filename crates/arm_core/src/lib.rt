@@ -1,4 +1,5 @@
-//! The core of the ARM2: its registers and status, and what an instruction that needs no memory leaves of them.
+//! The core of the ARM2: its registers and status, and what an instruction that needs no memory
+//! leaves of them.
 #![tactic(auto)]
 
 pub mod condition;

@@ -7,8 +7,9 @@ ghost use Rattle.address_map.specs.Memory.{bytes_of, is_owned, layout, class_of}
 ghost use Rattle.arm_decode.specs.Fields.{block_transfer_in};
 ghost use Rattle.arm_step.specs.PageWords.{are_in_page};
 ghost use Rattle.arm_core.specs.Listed.{listed};
-ghost use Rattle.arm_step.specs.Blocks.{lowest, stepped_base, block_size, block_start, block_base, loads_status, bank_of, with_block_base, with_loaded, with_block_status, block_loaded, stores_new_base, block_values, block_stored, block_transferred};
+ghost use Rattle.arm_step.specs.Blocks.{lowest, stepped_base, block_size, block_start, block_base, with_loaded, with_block_status, block_loaded, block_values, block_stored, block_transferred};
 
+use crate::block_fields::{bank_of, loads_status, stores_new_base, write_block_base};
 use crate::page_block::{load_from_page, store_to_page};
 use crate::page_words::are_in_page;
 use crate::words::{MOST_WORDS, load_words, store_words};
@@ -38,45 +39,6 @@ fn reach(mode: BlockMode, base: u32, count: u32) -> (u32, u32)
         (start.wrapping_add(4), end)
     } else {
         (start, end)
-    }
-}
-
-/// Whether a block transfer loads the status with R15.
-#[inline(always)]
-pub(crate) fn loads_status(block: &BlockTransfer) -> bool
-    ensures { result ≡ loads_status block.now }
-{
-    block.psr_or_user && (block.loads && block.list.contains_pc())
-}
-
-/// Whether a store finds the base already written back: where a lower register is listed.
-#[inline(always)]
-pub(crate) fn stores_new_base(block: &BlockTransfer) -> bool
-    ensures { result ≡ stores_new_base block.now }
-{
-    block.writes_back && block.list.bits() % (1 << block.rn.number()) != 0
-}
-
-/// The bank that a block transfer means: with S, where it does not load the status, that of
-/// user mode.
-#[inline(always)]
-pub(crate) fn bank_of(cpu: &Cpu, block: &BlockTransfer) -> Mode
-    ensures { result ≡ bank_of cpu.now block.now }
-{
-    if block.psr_or_user && !loads_status(block) {
-        Mode::User
-    } else {
-        cpu.psr().mode
-    }
-}
-
-/// Writes the base of a block transfer back where it does that.
-#[inline(always)]
-pub(crate) fn write_block_base(cpu: &mut Cpu, block: &BlockTransfer, base: u32)
-    ensures { cpu.new ≡ with_block_base cpu.old block.now base }
-{
-    if block.writes_back {
-        cpu.set_result(block.rn, base);
     }
 }
 
@@ -253,7 +215,8 @@ pub(crate) fn transfer_block(
     block: &BlockTransfer,
 ) -> Result<(), Fault>
     requires { block.now ≡ block_transfer_in word }
-    ensures state { let moved = block_transferred (is_owned memory.old) cpu.old (bytes_of memory.old) block.now in
+    ensures state { let moved = block_transferred (is_owned memory.old) cpu.old (bytes_of memory.old)
+        block.now in
         Leaves (cpu.old, bytes_of memory.old) moved result (cpu.new, bytes_of memory.new) }
     ensures layout { layout memory.new ≡ layout memory.old }
     ensures marks { class_of memory.new ≡ class_of memory.old }

@@ -25,8 +25,8 @@ use profile::word::is_bit_set;
 ///
 /// The turn is the first of these that applies: the gate; a fetch where nothing is mapped; nothing
 /// done, where the condition fails; a word that is refused; a software interrupt;
-/// `AddressException`, `DataUnmapped`, `OwnedWord`, each over all words of the transfer. All but `Done` leave core and
-/// memory as they were.
+/// `AddressException`, `DataUnmapped`, `OwnedWord`, each over all words of the transfer. All but
+/// `Done` leave core and memory as they were.
 #[tactic(auto, unfolding(crate::specs::Step::stepped))]
 #[inline(always)]
 pub fn step(cpu: &mut Cpu, memory: &mut AddressMap) -> Turn
@@ -34,7 +34,8 @@ pub fn step(cpu: &mut Cpu, memory: &mut AddressMap) -> Turn
         (stepped (is_owned memory.old) cpu.old (bytes_of memory.old)) result (cpu.new, bytes_of memory.new) }
     ensures layout { layout memory.new ≡ layout memory.old }
     ensures marks { class_of memory.new ≡ class_of memory.old }
-    ensures unchanged { result ≢ Turn.Done → (cpu.new ≡ cpu.old) × (bytes_of memory.new ≡ bytes_of memory.old) }
+    ensures unchanged { result ≢ Turn.Done →
+        (cpu.new ≡ cpu.old) × (bytes_of memory.new ≡ bytes_of memory.old) }
 {
     let pc = cpu.pc();
     if pc == RETURN_GATE {

@@ -2,6 +2,7 @@
 #![tactic(auto)]
 
 pub mod block;
+pub mod block_fields;
 pub mod execute;
 pub mod laws;
 pub mod page_block;

@@ -12,7 +12,7 @@ ghost use Rattle.arm_step.specs.StoredBase.{changed_base, value_by};
 ghost use Rattle.arm_core.specs.Listed.{listed};
 ghost use Rattle.arm_step.specs.Blocks.{block_size, block_start, block_base, bank_of, with_loaded, with_block_status, block_loaded, stores_new_base, block_values, block_stored};
 
-use crate::block::{bank_of, loads_status, stores_new_base, write_block_base};
+use crate::block_fields::{bank_of, loads_status, stores_new_base, write_block_base};
 use crate::page_words::{free_place, lend_words, word_in};
 use address_map::AddressMap;
 use arm_core::registers::{size_of, split_lowest};
@@ -164,7 +164,8 @@ fn put_registers(
     requires aligned { first % 4 ≡ 0 }
     requires page { are_in_page first (block_size block.now) ≡ true }
     requires place { place memory.old first ≡ Some at }
-    ensures bytes { bytes_of memory.new ≡ with_words (bytes_of memory.old) first (block_values cpu.now block.now) }
+    ensures bytes { bytes_of memory.new ≡
+        with_words (bytes_of memory.old) first (block_values cpu.now block.now) }
     ensures layout { layout memory.new ≡ layout memory.old }
     ensures marks { class_of memory.new ≡ class_of memory.old }
 {
@@ -195,7 +196,8 @@ fn put_each(
     requires aligned { first % 4 ≡ 0 }
     requires page { are_in_page first (block_size block.now) ≡ true }
     requires place { place memory.old first ≡ Some at }
-    ensures bytes { bytes_of memory.new ≡ with_words (bytes_of memory.old) first (block_values cpu.now block.now) }
+    ensures bytes { bytes_of memory.new ≡
+        with_words (bytes_of memory.old) first (block_values cpu.now block.now) }
     ensures layout { layout memory.new ≡ layout memory.old }
     ensures marks { class_of memory.new ≡ class_of memory.old }
 {
@@ -220,7 +222,8 @@ fn put_low(cpu: &Cpu, memory: &mut AddressMap, block: &BlockTransfer, first: u32
     requires aligned { first % 4 ≡ 0 }
     requires page { are_in_page first (block_size block.now) ≡ true }
     requires place { place memory.old first ≡ Some at }
-    ensures bytes { bytes_of memory.new ≡ with_words (bytes_of memory.old) first (block_values cpu.now block.now) }
+    ensures bytes { bytes_of memory.new ≡
+        with_words (bytes_of memory.old) first (block_values cpu.now block.now) }
     ensures layout { layout memory.new ≡ layout memory.old }
     ensures marks { class_of memory.new ≡ class_of memory.old }
 {
